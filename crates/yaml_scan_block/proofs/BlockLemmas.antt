@@ -1,5 +1,5 @@
 -- Block scalars' lines, a step at a time.
-use Rattle.std.proofs.Common.{◌≡◌, ◌≢◌, ℕ, min, zero, suc, ◌+◌, ◌-◌, ◌<◌, ◌≤◌, ◌==◌, nat_lt, ◌&&◌, ◌||◌, true, false, not, List, length, refl, ap, sym, ◌∙◌, inl, inr, arith}
+use Rattle.std.proofs.Common.{◌≡◌, ◌≢◌, ℕ, min, zero, suc, ◌+◌, ◌-◌, ◌<◌, ◌≤◌, ◌==◌, nat_lt, ◌&&◌, ◌||◌, true, false, not, List, length, refl, ap, sym, ◌∙◌, arith, rules}
 use Rattle.std.proofs.lemmas.Bool.{cases_lt}
 use Rattle.std.specs.Prelude.{slice_range}
 use Rattle.yaml_scan_block.proofs.Words.{nat_tests, lt-ltb, byte, break_width, column_at, break_value, feed_at, is_text, line_end, column_more, no_end-blank, within, past_some, Empty, Words, spaces, spot_behind, Stops, Line, Tab}
@@ -59,11 +59,7 @@ spaces_within (suc m) n text p few past =
 pub spaces_lesser : (n : ℕ) (text : List ℕ) (p : ℕ) → p ≤ length text
     → (p + min n (length text - p) ≤ length text)
     × (spaces n text p ≡ spaces (min n (length text - p)) text p)
-spaces_lesser n text p inside =
-    elim (cases_lt n (length text - p)) [
-      | inl few ↦ let same : min n (length text - p) ≡ n = omega arith in rw same (omega arith, refl)
-      | inr more ↦ (omega arith, spaces_within (min n (length text - p)) n text p (omega arith) (omega arith))
-    ]
+spaces_lesser n text p inside = search (rules, cases_lt, spaces_within)
 
 pub one_space : (text : List ℕ) (p : ℕ) → byte text p ≡ 32 → (k : ℕ) → p ≤ k → k < p + 1
     → byte text k ≡ 32
@@ -72,11 +68,7 @@ one_space text p h k after before = let same : k ≡ p = omega arith in rw same 
 -- those up to a place, and those behind it
 pub spaces_join : (text : List ℕ) (p q r : ℕ) → ((k : ℕ) → p ≤ k → k < q → byte text k ≡ 32)
     → ((k : ℕ) → q ≤ k → k < r → byte text k ≡ 32) → (k : ℕ) → p ≤ k → k < r → byte text k ≡ 32
-spaces_join text p q r front behind k after before =
-    elim (cases_lt k q) [
-      | inl less ↦ front k after less
-      | inr more ↦ behind k more before
-    ]
+spaces_join text p q r front behind k after before = search (rules, cases_lt)
 
 pub tab_spot : (c : ℕ) (text : List ℕ) (q : ℕ)
     → (byte text q == 9 && nat_lt (column_at text q) c) ≡ true → spot_behind c text q ≡ Tab q

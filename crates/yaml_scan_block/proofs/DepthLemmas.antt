@@ -1,5 +1,5 @@
 -- The column of a block scalar's text, a line at a time.
-use Rattle.std.proofs.Common.{◌≡◌, ◌≢◌, ℕ, zero, suc, ◌+◌, ◌-◌, ◌<◌, ◌≤◌, ◌==◌, false, List, length, Result, Ok, Err, refl, sym, ap, ◌∙◌, arith}
+use Rattle.std.proofs.Common.{◌≡◌, ◌≢◌, ℕ, zero, suc, ◌+◌, ◌-◌, ◌<◌, ◌≤◌, ◌==◌, false, List, length, Result, Ok, Err, refl, sym, ap, arith, rules}
 use Rattle.yaml_scan_block.proofs.Words.{nat_tests, eq-eqb, ne_eqb, lt-ltb, byte, break_width, column_at, past_spaces, is_space_there, Wrong, past_break, past-le, in_block, larger, larger_of, deepest, column_of}
 use Rattle.yaml_scan_model.specs.declared.problem.Problem.TheVariants as problems
 
@@ -42,16 +42,8 @@ pub depth_more : (n : ℕ) (text : List ℕ) (p d : ℕ) (whole : Result ℕ Wro
     → (m : ℕ) × (length text ≤ past_spaces text p + break_width text (past_spaces text p) + m)
     × (whole ≡ larger_of (larger d (column_at text (past_spaces text p)))
     (deepest (suc m) text (past_spaces text p + break_width text (past_spaces text p))))
-depth_more zero text p d whole room eq-eqb h w =
-    let le = past-le is_space_there (length text) text p in
-    absurd (omega (arith, (past_break text (past_spaces text p) w).inside))
-depth_more (suc n) text p d whole room eq-eqb h w =
-    let le = past-le is_space_there (length text) text p in (
-      n,
-      omega arith,
-      eq-eqb ∙ ap (λ r. larger_of d r) (depth_line (suc n) text p h w)
-          ∙ larger_more d (column_at text (past_spaces text p)) (deepest (suc n) text (past_spaces text p + break_width text (past_spaces text p))),
-    )
+depth_more zero text p d whole room eq-eqb h w = search (rules, past-le, past_break)
+depth_more (suc n) text p d whole room eq-eqb h w = search (rules, depth_line, eq-eqb, larger_more, past-le)
 
 pub spaces-le : (text : List ℕ) (p : ℕ) → p ≤ past_spaces text p
 spaces-le text p = past-le is_space_there (length text) text p

@@ -1,7 +1,7 @@
 -- Where runs end, and the deepest indentation of the lines in front.
-use Rattle.std.proofs.Common.{◌≡◌, ◌≢◌, ℕ, zero, suc, ◌+◌, ◌<◌, ◌≤◌, Bool, true, false, List, length, Result, Ok, Err, refl, sym, ap, subst, ◌∙◌, inl, inr, ◌⊎◌, arith}
-use Rattle.std.proofs.lemmas.Bool.{cases_eq, cases_order, true≢false}
-use Rattle.yaml_scan_block.proofs.Words.{nat_tests, byte, break_width, past, is_blank_there, is_space_there, is_text, past_spaces, Wrong, within, past_break, no_break, past_more, past_stop, text_parts, in_block, larger, larger_of, deepest, EndsBlockRun, RunsEnd, RunEndsOnce, LeadsTo, at_once, behind_blank, indent_at, Deepest, DeepestIs, DeepestIsOne}
+use Rattle.std.proofs.Common.{◌≡◌, ◌≢◌, ℕ, zero, suc, ◌+◌, ◌<◌, ◌≤◌, Bool, true, false, List, length, Result, Ok, Err, refl, sym, ap, subst, ◌∙◌, inl, inr, ◌⊎◌, arith, rules}
+use Rattle.std.proofs.lemmas.Bool.{cases_eq, cases_order}
+use Rattle.yaml_scan_block.proofs.Words.{nat_tests, byte, break_width, past, past_spaces, Wrong, within, past_break, no_break, past_more, past_stop, text_parts, in_block, larger, larger_of, deepest, EndsBlockRun, RunsEnd, RunEndsOnce, LeadsTo, at_once, behind_blank, indent_at, Deepest, DeepestIs, DeepestIsOne}
 use Rattle.yaml_scan_model.specs.declared.problem.Problem.TheVariants as problems
 use Rattle.yaml_scan_block.proofs.DepthLemmas.{larger_zero, larger_start, depth_tab, depth_done, depth_more, spaces-le}
 
@@ -9,16 +9,7 @@ use Rattle.yaml_scan_block.proofs.DepthLemmas.{larger_zero, larger_start, depth_
 
 longer : (kind : List ℕ → ℕ → Bool) (text : List ℕ) (p q : ℕ) → kind text p ≡ true
     → EndsBlockRun kind text (p + 1) q → EndsBlockRun kind text p q
-longer kind text p q e h =
-    let after = h.after in
-    let each = h.each in record {
-      after = omega arith;
-      each = λ k a b. elim (cases_eq k p) [
-        | inl s ↦ rw s e
-        | inr n ↦ each k (omega (arith, a, n)) b
-      ];
-      stops = h.stops;
-    }
+longer kind text p q e h = search (rules, cases_eq)
 
 empty_run : (kind : List ℕ → ℕ → Bool) (text : List ℕ) (p : ℕ) → kind text p ≡ false
     → EndsBlockRun kind text p p
@@ -37,19 +28,10 @@ ends_by (suc n) kind inside text p true e room =
     (longer kind text p (past kind n text (p + 1)) e (ends_by n kind inside text (p + 1) (kind text (p + 1)) refl (omega (arith, room))))
 
 pub runs_end : RunsEnd
-runs_end text p = (
-  ends_by (length text) is_blank_there (λ text p e. within text p (grind (arith, nat_tests, e))) text p _ refl (omega arith),
-  ends_by (length text) is_space_there (λ text p e. within text p (grind (arith, nat_tests, e))) text p _ refl (omega arith),
-  ends_by (length text) is_text (λ text p e. within text p (text_parts text p e).0) text p _ refl (omega arith),
-)
+runs_end text p = search (rules, ends_by, text_parts, within)
 
 pub run_ends_once : RunEndsOnce
-run_ends_once kind text p q r a b =
-    elim (cases_order q r) [
-      | inl e ↦ e
-      | inr (inl l) ↦ absurd (true≢false (sym (b.each q a.after l) ∙ a.stops))
-      | inr (inr g) ↦ absurd (true≢false (sym (a.each r b.after g) ∙ b.stops))
-    ]
+run_ends_once kind text p q r a b = search (rules, cases_order)
 
 -- ---- indentation
 
@@ -64,13 +46,7 @@ alone text p q z (behind_blank x y w l) = absurd (omega (arith, w, z))
 
 one_line : (text : List ℕ) (p : ℕ) → byte text (past_spaces text p) ≢ 9
     → break_width text (past_spaces text p) ≡ 0 → Deepest text p (Ok (indent_at text p))
-one_line text p n z = record {
-  line = p;
-  led = at_once p;
-  reached = refl;
-  most = λ q l. rw (alone text p q z l) (omega arith);
-  no_tab = λ q l. rw (alone text p q z l) n;
-}
+one_line text p n z = search (rules, alone, at_once)
 
 chosen : (a b : ℕ) → ((larger a b ≡ b) × (a ≤ b)) ⊎ ((larger a b ≡ a) × (b ≤ a))
 unfolding larger
@@ -149,9 +125,7 @@ same_line text p q r (behind_blank x y w l) (at_once z) e f = let none = no_brea
 same_line text p q r (behind_blank x y w l) (behind_blank z u v m) e f = same_line text _ y u l m e f
 
 both : (text : List ℕ) (p : ℕ) (r s : Result ℕ Wrong) → Deepest text p r → Deepest text p s → r ≡ s
-both text p (Ok c) (Ok d) a b =
-    let v = b.reached in
-    ap (λ (k : ℕ). Ok k) (omega (arith, a.most b.line b.led, b.most a.line a.led, a.reached, v))
+both text p (Ok c) (Ok d) a b = search rules
 both text p (Ok c) (Err w) a b = absurd (a.no_tab b.line b.led b.tab)
 both text p (Err w) (Ok c) a b = absurd (b.no_tab a.line a.led a.tab)
 both text p (Err w) (Err x) a b = ap (λ (z : Wrong). Err z) (a.told ∙ ap (λ (q : ℕ). in_block problems.TabForSpace (past_spaces text q)) (same_line text p a.line b.line a.led b.led a.tab b.tab) ∙ sym b.told)

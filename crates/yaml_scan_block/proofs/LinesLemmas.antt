@@ -1,5 +1,5 @@
 -- Block scalars, a line at a time.
-use Rattle.std.proofs.Common.{◌≡◌, ℕ, suc, ◌<◌, true, false, List, [], ◌∷◌, length, Result, Ok, Err, refl, ap}
+use Rattle.std.proofs.Common.{◌≡◌, ℕ, suc, ◌<◌, true, false, List, [], ◌∷◌, length, Result, Ok, Err, refl, ap, rules}
 use Rattle.yaml_scan_block.proofs.Words.{Place, mark_at, yaml_mark_t, Chomp, Stacking, ScanError, Wrong, IsMemory, BlockLine, LineSpot, Stops, Line, Tab, Lines, with_line, lines_from, line_spot, block_with, BlockText, stacked, LineSteps, ReadsLines}
 use Rattle.yaml_scan_model.specs.declared.problem.ScanError.TheVariants as errors
 
@@ -50,11 +50,4 @@ pub lines_more : (n c : ℕ) (text : List ℕ) (start : yaml_mark_t) (p end : �
 unfolding lines_from
 lines_more n c text start p end old new place (Stops q) is h = absurd h
 lines_more n c text start p end old new place (Tab q) is h = absurd h
-lines_more n c text start p end old new place (Line l q) is (e, f, i, j) =
-    let at : place.at ≡ q = ap (λ (y : Place). y.at) e in
-    record {
-      same = ap (λ (y : Place). y.text) e;
-      further = rw at i;
-      inside = j;
-      rest = rw (is, at) (λ chomp. front (stacked old chomp) (stacked new chomp) l (lines_from n c text q q) (f chomp));
-    }
+lines_more n c text start p end old new place (Line l q) is (e, f, i, j) = search (rules, front)

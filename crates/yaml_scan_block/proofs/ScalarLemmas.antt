@@ -1,5 +1,5 @@
 -- Block scalars, from their header, their column and their lines.
-use Rattle.std.proofs.Common.{◌≡◌, ℕ, suc, ◌+◌, ◌==◌, List, [], length, Result, Ok, Err, refl, ◌∙◌, ◌⊎◌, inl, inr, arith}
+use Rattle.std.proofs.Common.{◌≡◌, ℕ, suc, ◌+◌, ◌==◌, List, [], length, Result, Ok, Err, refl, ◌∙◌, ◌⊎◌, inl, inr, arith, rules}
 use Rattle.yaml_scan_block.proofs.Words.{yaml_mark_t, ScanError, Place, byte, break_of, mark_at, Wrong, no_break, Chomp, Stacking, BlockLine, block_value, Lines, lines_from, HeaderText, header_at, BlockText, block_at, block_with, column_of, style_at, stacked, ReadsHeader, ReadsLines, ReadsBlock, FindsColumn}
 use Rattle.yaml_scan_block.specs.declared.block.Block.{Block}
 use Rattle.yaml_scan_block.specs.declared.header.Header.{Header}
@@ -34,11 +34,7 @@ pub scalar_read : (level : ℕ) (text : List ℕ) (p c : ℕ) (start : yaml_mark
     place.at))
     → ReadsLines text start h.chomp new behind r (block_at level text p)
 scalar_read level text p c start h old new place behind r (Err w) e k f v l = absurd k
-scalar_read level text p c start h old new place behind r (Ok x) e (chomp, digit, there) f v l =
-    let column = found_column text start c (column_of level text x.digit x.place) (rw (there, digit) at f) in
-    let all = lines_from (suc (length text)) c text x.place x.place in
-    let here : ReadsLines text start h.chomp new behind r (block_with (stacked old h.chomp) all) = rw there at l in
-    rw (block_found level text p c x e column, ← chomp) (rw (block_with-same (stacked old h.chomp) (block_value (byte text p == 62) h.chomp) all v) at here)
+scalar_read level text p c start h old new place behind r (Ok x) e (chomp, digit, there) f v l = search (rules, block_found, block_with-same, found_column)
 
 pub block_refused : (text : List ℕ) (p : ℕ) (start : yaml_mark_t) (chomp : Chomp) (new : Stacking)
     (place : Place) (e : ScanError) (r : Result BlockText Wrong) → start ≡ mark_at text p

@@ -39,7 +39,3 @@ stack_done folded blank done feed empties chomp = rw (append-nil empties) refl
 pub space_or_some : (xs : List ℕ) → (0 < length xs) → [] ++ xs ≡ space_or xs
 space_or_some [] h = absurd (omega arith)
 space_or_some (x ∷ xs) h = refl
-
-pub space_or_none : (xs : List ℕ) → length xs ≡ 0 → (32 ∷ []) ++ xs ≡ space_or xs
-space_or_none [] h = refl
-space_or_none (x ∷ xs) h = absurd (omega (arith, h))

@@ -1,6 +1,6 @@
 -- The bound on steps is never met.
-use Rattle.std.proofs.Common.{◌≡◌, ℕ, zero, suc, ◌+◌, ◌-◌, ◌<◌, ◌≤◌, ◌==◌, ◌&&◌, ◌||◌, not, nat_lt, Bool, true, false, List, length, Result, refl, sym, ap, subst, ◌∙◌, inl, inr, arith}
-use Rattle.yaml_scan_block.proofs.Words.{cases_Bool, nat_tests, byte, break_of, break_width, column_at, Wrong, within, spaces, LineSpot, Stops, Line, Tab, spot_behind, line_spot, Lines, with_line, line_then, lines_from, AreLinesFrom, stops, goes_on, has_tab, LinesAre, LinesAreOne, ltb-true}
+use Rattle.std.proofs.Common.{◌≡◌, ℕ, zero, suc, ◌+◌, ◌-◌, ◌<◌, ◌≤◌, ◌==◌, ◌||◌, Bool, true, false, List, length, Result, refl, sym, ap, subst, ◌∙◌, arith, rules}
+use Rattle.yaml_scan_block.proofs.Words.{cases_Bool, nat_tests, break_of, column_at, Wrong, within, spaces, LineSpot, Stops, Line, Tab, spot_behind, line_spot, Lines, with_line, line_then, lines_from, AreLinesFrom, stops, goes_on, has_tab, LinesAre, LinesAreOne, ltb-true}
 use Rattle.yaml_scan_block.proofs.BlockLemmas.{text_long}
 
 break_first : (b c d : ℕ) → 0 < break_of b c d → 0 < b
@@ -19,23 +19,7 @@ Moves text p (Tab q) = Unit {0}
 
 behind_moves : (c : ℕ) (text : List ℕ) (p q : ℕ) → p ≤ q → Moves text p (spot_behind c text q)
 unfolding spot_behind
-behind_moves c text p q le =
-    elim (cases_Bool (byte text q == 9 && nat_lt (column_at text q) c)) [
-      | inl a ↦ rw a tt
-      | inr a ↦ elim (cases_Bool (nat_lt 0 (break_width text q))) [
-        | inl b ↦
-            let w = ltb-true 0 (break_width text q) b in
-            let inside = within text q (break_first (byte text q) (byte text (q + 1)) (byte text (q + 2)) w) in
-            rw (a, b) (omega (arith, w, le), omega (arith, inside, le))
-        | inr b ↦ elim (cases_Bool (byte text q == 0 || not (column_at text q == c))) [
-          | inl d ↦ rw (a, b, d) tt
-          | inr d ↦
-              let some = some_byte (byte text q) (not (column_at text q == c)) d in
-              let long = text_long text q (omega (arith, some)) (grind (arith, nat_tests, b)) in
-              rw (a, b, d) (omega (arith, long, le), omega (arith, within text q some, le))
-        ]
-      ]
-    ]
+behind_moves c text p q le = search (rules, break_first, cases_Bool, ltb-true, some_byte, text_long, within)
 
 moves : (c : ℕ) (text : List ℕ) (p : ℕ) → Moves text p (line_spot c text p)
 moves c text p = behind_moves c text p (p + spaces (c - column_at text p) text p) (omega arith)

@@ -19,8 +19,8 @@ pub use Rattle.yaml_scan_block.specs.declared.stacking.Stacking.{Stacking}
 pub use Rattle.yaml_scan_model.proofs.BreaksLemmas.{feed_some, no_end-blank}
 pub use Rattle.yaml_scan_model.proofs.MarksLemmas.{column_more, no_break, past_break, within}
 pub use Rattle.yaml_scan_model.proofs.RunsLemmas.{past-le, past_more, past_some, past_stop, text_parts}
-pub use Rattle.yaml_scan_model.specs.Breaks.{break_value, feed_at, is_feed}
-pub use Rattle.yaml_scan_model.specs.Marks.{Place, break_width, byte, column_at, is_blank, mark_at}
+pub use Rattle.yaml_scan_model.specs.Breaks.{break_value, feed_at}
+pub use Rattle.yaml_scan_model.specs.Marks.{Place, break_width, byte, column_at, mark_at}
 unfoldable pub use Rattle.yaml_scan_model.specs.Marks.{break_of}
 pub use Rattle.yaml_scan_model.specs.Runs.{is_blank_there, is_space_there, is_text, line_end, past, past_spaces}
 pub use Rattle.yaml_scan_model.specs.Wrong.{IsMemory, Wrong}

@@ -27,6 +27,7 @@ pub struct Block {
 /// The block scalar whose indicator stands here. The level is the column of the innermost open block level and one, or 0
 /// where none is open. The reader is left where the scalar's lines stop, behind spaces that may follow its end. The value may take the
 /// room of a spare text.
+#[tactic(auto, using(crate::proofs::ScalarLemmas::indicator_no_break))]
 pub fn block_scalar(
     spares: &mut Spares,
     reader: &mut Reader,
@@ -90,6 +91,7 @@ fn column_of(reader: &Reader, level: u64, digit: u64, start: yaml_mark_t) -> Res
 }
 
 /// The greatest column that spaces reach in the blank lines here and in the line behind them.
+#[tactic(auto, using(crate::proofs::DepthLemmas::depth_tab, crate::proofs::DepthLemmas::depth_done))]
 fn deepest(reader: &Reader, start: yaml_mark_t) -> Result<u64, ScanError>
     ensures { FindsColumn reader.now.text start result (spec.deepest (suc (length reader.now.text))
         reader.now.text reader.now.at) }

@@ -30,6 +30,7 @@ pub(crate) struct Header {
 }
 
 /// Past the header whose indicator stands before this place, and past its break.
+#[tactic(auto, using(crate::proofs::HeaderLemmas::digit_there, crate::proofs::HeaderLemmas::chomping_there, crate::proofs::HeaderLemmas::zero_header, crate::proofs::HeaderLemmas::wrong_header, crate::proofs::HeaderLemmas::whole_header))]
 pub(crate) fn read_header(reader: &mut Reader, start: yaml_mark_t) -> Result<Header, ScanError>
     ensures value { ReadsHeader reader.old.text start reader.new result
         (spec.header_at reader.old.text reader.old.at) }
@@ -109,13 +110,13 @@ fn digit_of(byte: u8) -> u64
 }
 
 /// The refusal of the digit 0, which stands here or behind a chomping indicator.
+#[tactic(auto, using(crate::proofs::HeaderLemmas::chomping_parts))]
 fn zero_digit(reader: &mut Reader, start: yaml_mark_t) -> ScanError
     ensures { result ≡ refused Problem.ZeroIndentation Context.BlockScalar start
         (mark_at reader.old.text (spec.digit_place reader.old.text reader.old.at)) }
 {
     if is_chomping(reader.here()) {
         reader.skip();
-        return wrong_block(Problem::ZeroIndentation, start, reader.mark());
     }
     wrong_block(Problem::ZeroIndentation, start, reader.mark())
 }
@@ -135,6 +136,7 @@ fn indicators(first: u8, second: u8) -> usize
 }
 
 /// Past the chomping indicator and the digit here.
+#[tactic(auto, using(crate::proofs::HeaderLemmas::first_parts, crate::proofs::HeaderLemmas::second_parts, crate::proofs::HeaderLemmas::second_two))]
 fn skip_indicators(reader: &mut Reader)
     ensures { reader.new ≡ record reader.old {
       at = reader.old.at + spec.indicators (byte reader.old.text reader.old.at)

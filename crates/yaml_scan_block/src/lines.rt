@@ -17,6 +17,7 @@ use yaml_scan_model::{Problem, Reader, ScanError, leap, skip_text, yaml_mark_t};
 const ROW: usize = 4;
 
 /// The lines from here on whose text stands at the column, and the place after the last one.
+#[tactic(auto, using(crate::proofs::LinesLemmas::lines_done))]
 pub(crate) fn read_lines(
     reader: &mut Reader,
     stacking: &mut Stacking,
@@ -68,6 +69,7 @@ fn indent(reader: &mut Reader, column: u64)
 /// The place behind the spaces that stand there, at most so many: by rows of four, and then one by one.
 // Inlined: the place and the text stay in registers.
 #[inline(always)]
+#[tactic(auto, using(crate::proofs::BlockLemmas::one_space, crate::proofs::BlockLemmas::spaces_join, crate::proofs::BlockLemmas::spaces_lesser, crate::proofs::BlockLemmas::spaces_other, crate::proofs::BlockLemmas::spaces_run))]
 fn past_indent(text: &[u8], from: usize, asked: u64) -> usize
     requires { from ≤ length text.now }
     ensures value { result ≡ from + spec.spaces asked text.now from }
@@ -106,15 +108,8 @@ fn has_row(text: &[u8], at: usize, left: u64) -> bool
     spaces
 }
 
-/// Whether a tab stands here, before the column.
-fn is_tab_before(reader: &Reader, column: u64) -> bool
-    ensures { result ≡ (byte reader.now.text reader.now.at == ascii.tab
-        && nat_lt (column_at reader.now.text reader.now.at) column) }
-{
-    reader.here() == b'\t' && reader.mark().column < column
-}
-
 /// Takes what stands behind the indentation.
+#[tactic(auto, using(crate::proofs::Words::err_from_is_err_and, crate::proofs::Words::feed_some, crate::proofs::Words::past_break, crate::proofs::Words::within, crate::proofs::BlockLemmas::tab_spot, crate::proofs::BlockLemmas::empty_spot, crate::proofs::BlockLemmas::end_spot, crate::proofs::BlockLemmas::text_spot, crate::proofs::BlockLemmas::stop_end, crate::proofs::BlockLemmas::stop_short, crate::proofs::BlockLemmas::no_stop, crate::proofs::BlockLemmas::text_long))]
 fn behind(
     reader: &mut Reader,
     stacking: &mut Stacking,
@@ -124,7 +119,7 @@ fn behind(
     ensures { (p : ℕ) → p ≤ reader.old.at → LineSteps reader.old.text start p stacking.old
         stacking.new reader.new result (spec.spot_behind column reader.old.text reader.old.at) }
 {
-    if is_tab_before(reader, column) {
+    if reader.here() == b'\t' && reader.mark().column < column {
         return Err(wrong_block(Problem::TabForSpace, start, reader.mark()));
     }
     if reader.break_width() > 0 {

@@ -27,6 +27,7 @@ pub(crate) struct Stacking {
 
 impl Stacking {
     /// With no lines, in the room of spare texts.
+    #[tactic(auto, using(crate::proofs::StackingLemmas::stack_start), unfolding(crate::specs::Stacked::stacked_with))]
     pub(crate) fn new(spares: &mut Spares, folded: bool) -> Stacking
         ensures { (chomp : Chomp) (ls : List BlockLine) → stacked result chomp ls ≡ block_value
             folded chomp ls }
@@ -41,6 +42,7 @@ impl Stacking {
     }
 
     /// An empty line, by the bytes that its break reads as.
+    #[tactic(auto, using(crate::proofs::StackingLemmas::stack_empty))]
     pub(crate) fn empty(&mut self, bytes: &[u8]) -> Result<(), AllocError>
         ensures { OnOk result ((chomp : Chomp) (ls : List BlockLine) → stacked self.new chomp ls
             ≡ stacked self.old chomp (Empty bytes.now ∷ ls)) }
@@ -51,6 +53,7 @@ impl Stacking {
     }
 
     /// What stands before a line that begins with a blank or doesn't.
+    #[tactic(auto, unfolding(crate::specs::Value::between))]
     fn glue(&mut self, blank: bool) -> Result<(), AllocError>
         ensures rest { OnOk result (self.new ≡ record self.old { done = self.new.done }) }
         ensures done { OnOk result (self.new.done.items ≡ self.old.done.items ++ glue self.old
@@ -64,12 +67,16 @@ impl Stacking {
     }
 
     /// A line with text, and the bytes that its break reads as.
+    #[tactic(auto, using(crate::proofs::StackingLemmas::stack_line))]
     pub(crate) fn line(&mut self, words: &[u8], feed: &'static [u8]) -> Result<(), AllocError>
         ensures { OnOk result ((chomp : Chomp) (ls : List BlockLine) → stacked self.new chomp ls
             ≡ stacked self.old chomp (Words words.now feed.now ∷ ls)) }
     {
         let blank = starts_blank(words);
-        make_first_room(&mut self.done, words.len())?;
+        // The first line with text gets room for a break behind it as well: many scalars have no other line.
+        if self.done.is_empty() && self.done.capacity() <= words.len() {
+            self.done.reserve_exact(words.len().saturating_add(1))?;
+        }
         self.glue(blank)?;
         self.done.extend_from_slice(words)?;
         self.empties.clear();
@@ -79,6 +86,7 @@ impl Stacking {
     }
 
     /// The value, where no line follows. The room of the empty lines is kept.
+    #[tactic(auto, using(crate::proofs::StackingLemmas::stack_done))]
     pub(crate) fn finish(self, spares: &mut Spares, chomp: Chomp) -> Result<Vec<u8>, AllocError>
         ensures { IfOk result (λ v. v.items ≡ stacked self chomp []) }
     {
@@ -90,22 +98,6 @@ impl Stacking {
         spares.keep(empties);
         Ok(done)
     }
-}
-
-/// Room for the first line with text and a break behind it: many have no other one.
-// Inlined: mostly there is room, or it isn't the first.
-#[inline(always)]
-fn make_first_room(done: &mut Vec<u8>, count: usize) -> Result<(), AllocError>
-    ensures { OnOk result (done.new.items ≡ done.old.items) }
-{
-    if !done.is_empty() {
-        return Ok(());
-    }
-    if count < done.capacity() {
-        return Ok(());
-    }
-    done.reserve_exact(count.saturating_add(1))?;
-    Ok(())
 }
 
 /// Both texts behind the others.
@@ -155,22 +147,12 @@ fn starts_blank(words: &[u8]) -> bool
     is_blank_byte(words[0])
 }
 
-/// Whether the break reads as a line feed.
-fn reads_feed(bytes: &[u8]) -> bool
-    ensures { result ≡ is_feed bytes.now }
-{
-    if bytes.is_empty() {
-        return false;
-    }
-    bytes[0] == b'\n'
-}
-
 /// Whether the break between two texts is folded.
 fn folds(folded: bool, before: bool, after: bool, feed: &[u8]) -> bool
     ensures { result ≡ (folded && ((not before && not after) && is_feed feed.now)) }
 {
-    if !folded || before || after {
+    if !folded || before || after || feed.is_empty() {
         return false;
     }
-    reads_feed(feed)
+    feed[0] == b'\n'
 }

@@ -1,5 +1,5 @@
 -- What spells a text is decoded to it.
-use Rattle.std.proofs.Common.{◌≡◌, ◌⊎◌, inl, inr, ℕ, suc, ◌+◌, ◌-◌, ◌*◌, ◌/◌, ◌%◌, ◌<◌, ◌≤◌, true, false, not, ◌&&◌, ◌==◌, nat_lt, List, [], ◌∷◌, ◌++◌, drop, get_or, length, Result, Ok, Err, refl, sym, ap, ◌∙◌, arith, add-zero, append_assoc, append-nil, length-drop, length-append, get_or-drop}
+use Rattle.std.proofs.Common.{◌≡◌, ◌⊎◌, inl, inr, ℕ, suc, ◌+◌, ◌-◌, ◌*◌, ◌/◌, ◌%◌, ◌<◌, ◌≤◌, true, false, not, ◌&&◌, nat_lt, List, [], ◌∷◌, ◌++◌, drop, get_or, length, Result, Ok, Err, refl, sym, ap, ◌∙◌, arith, add-zero, append_assoc, append-nil, length-drop, length-append, get_or-drop, rules}
 use Rattle.std.proofs.lemmas.Bool.{cases_lt, cond_both}
 use Rattle.std.proofs.lemmas.Bool.Decides.{nat_tests}
 use Rattle.std.proofs.lemmas.List.{drop-drop, drop_at, take_all}
@@ -16,13 +16,13 @@ use Rattle.yaml_scan_characters.specs.declared.offence.Offence.{Offence}
 use Rattle.yaml_scan_characters.specs.declared.utf16.ByteOrder.{ByteOrder}
 use Rattle.yaml_scan_characters.specs.declared.utf16.ByteOrder.TheVariants.{LowFirst, HighFirst}
 use Rattle.std.specs.Result.{result_err}
-use Rattle.yaml_scan_characters.specs.Encodings.{begins_low_first, begins_high_first, encoding_of, mark_length}
-use Rattle.yaml_scan_characters.specs.Characters.{is_allowed, allowed_at, valued_at, least_code, is_trailing, sequence_of, utf8_code, leading_bits, utf8_of, utf8_at, unit_at, is_low_surrogate, is_high_surrogate, utf16_of, utf16_at, character_at}
+use Rattle.yaml_scan_characters.specs.Encodings.{encoding_of, mark_length}
+use Rattle.yaml_scan_characters.specs.Characters.{is_allowed, allowed_at, valued_at, least_code, is_trailing, sequence_of, utf8_code, leading_bits, utf8_of, utf8_at, unit_at, utf16_of, utf16_at, character_at}
 use Rattle.yaml_scan_characters.specs.Decoding.{before, characters, in_utf8, decoded_characters, decoded_text, first_offence}
 use Rattle.yaml_scan_characters.specs.Spelling.{unit_bytes, units_bytes, spelling, spellings, Spells}
 use Rattle.yaml_scan_characters.specs.Steps.{outcome}
-use Rattle.yaml_scan_characters.proofs.DecodeLemmas.{AreBytes}
-use Rattle.yaml_scan_characters.proofs.SpellingLemmas.{ended, turn, sound, utf8_text}
+use Rattle.yaml_scan_characters.proofs.DecodeLemmas.{AreBytes, character_some}
+use Rattle.yaml_scan_characters.proofs.SpellingLemmas.{characters_on, ended, turn, sound, utf8_text}
 
 -- ---- the call
 -- bytes in no 16-bit units are UTF-8
@@ -30,9 +30,7 @@ pub encoding_utf8 : (s : yaml_encoding_t) (bytes : List ℕ)
     → (encoding_of s bytes ≡ YAML_UTF16LE_ENCODING → ⊥)
     → (encoding_of s bytes ≡ YAML_UTF16BE_ENCODING → ⊥) → encoding_of s bytes ≡ YAML_UTF8_ENCODING
 unfolding encoding_of
-encoding_utf8 YAML_ANY_ENCODING bytes low high =
-    let P : yaml_encoding_t → Type 0 = λ e. (e ≡ YAML_UTF16LE_ENCODING → ⊥) → (e ≡ YAML_UTF16BE_ENCODING → ⊥) → e ≡ YAML_UTF8_ENCODING in
-    cond_both (begins_low_first bytes) _ _ P (λ _ l h. absurd (l refl)) (λ _. cond_both (begins_high_first bytes) _ _ P (λ _ l h. absurd (h refl)) (λ _ l h. refl)) low high
+encoding_utf8 YAML_ANY_ENCODING bytes low high = search (rules, cond_both)
 encoding_utf8 YAML_UTF8_ENCODING bytes low high = refl
 encoding_utf8 YAML_UTF16LE_ENCODING bytes low high = absurd (low refl)
 encoding_utf8 YAML_UTF16BE_ENCODING bytes low high = absurd (high refl)
@@ -88,10 +86,7 @@ utf8_good : (left p b c d e width code : ℕ) → width_of b ≡ width → 0 < w
     → utf8_code width b c d e ≡ code → least_code width ≤ code → is_allowed code ≡ true
     → utf8_of left p b c d e ≡ Ok record { code = code; width = width }
 unfolding utf8_of sequence_of
-utf8_good left p b c d e width code w some enough s t u is low allowed =
-    let z : (width == 0) ≡ false = grind (arith, nat_tests) in
-    let l : nat_lt left width ≡ false = grind (arith, nat_tests) in
-    rw (w, z, l, s, t, u, is) (valued_good p width code low allowed)
+utf8_good left p b c d e width code w some enough s t u is low allowed = search (rules, valued_good)
 
 -- a trailing byte is one
 trails : (x : ℕ) → x < 64 → (true && not (is_trailing (128 + x))) ≡ false
@@ -185,14 +180,7 @@ pair_good : (left p x y c : ℕ) → 4 ≤ left → x < 1024 → y < 1024 → 65
     → is_allowed c ≡ true
     → utf16_of left p (0xD800 + x) (0xDC00 + y) ≡ Ok record { code = c; width = 4 }
 unfolding utf16_of allowed_at
-pair_good left p x y c enough a b is allowed =
-    let s : 0x1_0000 + (0xD800 + x - 0xD800) * 0x400 + (0xDC00 + y - 0xDC00) ≡ c = omega arith in
-    let n : nat_lt left 2 ≡ false = grind (arith, nat_tests) in
-    let m : nat_lt left 4 ≡ false = grind (arith, nat_tests) in
-    let t : is_low_surrogate (0xD800 + x) ≡ false = grind (arith, nat_tests) in
-    let u : is_high_surrogate (0xD800 + x) ≡ true = grind (arith, nat_tests) in
-    let v : is_low_surrogate (0xDC00 + y) ≡ true = grind (arith, nat_tests) in
-    rw (n, t, u, m, v, s, allowed) refl
+pair_good left p x y c enough a b is allowed = search rules
 
 utf16_spelled : (order : ByteOrder) (bytes : List ℕ) (p c : ℕ) (rest : List ℕ) → is_allowed c ≡ true
     → drop p bytes ≡ units_bytes order (encode_utf16 c) ++ rest
@@ -228,43 +216,25 @@ character_spelled YAML_UTF16LE_ENCODING bytes p c rest allowed h = utf16_spelled
 character_spelled YAML_UTF16BE_ENCODING bytes p c rest allowed h = utf16_spelled HighFirst bytes p c rest allowed h
 character_spelled _ bytes p c rest allowed h = utf8_spelled bytes p c rest allowed h
 
-utf8_some : (c : ℕ) → 0 < length (encode_utf8 c)
-unfolding encode_utf8
-utf8_some c = grind (arith, nat_tests)
-
-utf16_some : (order : ByteOrder) (c : ℕ) → 0 < length (units_bytes order (encode_utf16 c))
-utf16_some order c = by (encode_utf16 c) (grind (arith, nat_tests))
-  where
-    by : (us : List ℕ) → 0 < length us → 0 < length (units_bytes order us)
-    by [] h = absurd (omega arith)
-    by (u ∷ us) h = omega (arith, length-append (unit_bytes order u) (units_bytes order us), length-unit order u)
-
-spelling_some : (e : yaml_encoding_t) (c : ℕ) → 0 < length (spelling e c)
-spelling_some YAML_UTF16LE_ENCODING c = utf16_some LowFirst c
-spelling_some YAML_UTF16BE_ENCODING c = utf16_some HighFirst c
-spelling_some _ c = utf8_some c
-
 -- characters that are spelled are read
-pub complete : (n : ℕ) (e : yaml_encoding_t) (bytes : List ℕ) (p : ℕ) (cs : List ℕ)
-    → length bytes ≤ p + n → AllPass is_allowed cs → drop p bytes ≡ spellings e cs
-    → characters n e bytes p ≡ Ok cs
-complete n e bytes p [] room allowed h = ended n e bytes p (omega (arith, length-drop p bytes, ap length h))
-complete n e bytes p (c ∷ cs) room allowed h =
+complete : (e : yaml_encoding_t) (bytes : List ℕ) (p : ℕ) (cs : List ℕ) → AllPass is_allowed cs
+    → drop p bytes ≡ spellings e cs → characters_on e bytes p ≡ Ok cs
+complete e bytes p [] allowed h = ended (length bytes) e bytes p (omega (arith, length-drop p bytes, ap length h))
+complete e bytes p (c ∷ cs) allowed h =
     let first = All-head (λ x. is_allowed x ≡ true) c cs allowed in
     let stands = character_spelled e bytes p c (spellings e cs) first h in
-    let some : 0 < length (spelling e c) = spelling_some e c in
+    let some : 0 < length (spelling e c) = character_some e bytes p record { code = c; width = length (spelling e c) } stands in
     let all : length bytes - p ≡ length (spelling e c) + length (spellings e cs) = sym (length-drop p bytes) ∙ ap length h ∙ length-append (spelling e c) (spellings e cs) in
-    let t = turn n e bytes p record { code = c; width = length (spelling e c) } (omega arith) room some stands in
     let next : drop (p + length (spelling e c)) bytes ≡ spellings e cs =
     sym (drop-drop (length (spelling e c)) p bytes) ∙ ap (λ (l : List ℕ). drop (length (spelling e c)) l) h ∙ drop_at (spelling e c) (spellings e cs) _ refl in
-    let rest = complete t.fuel e bytes (p + length (spelling e c)) cs t.enough (All-tail (λ x. is_allowed x ≡ true) c cs allowed) next in
-    t.same ∙ ap (before c) rest
+    turn e bytes p record { code = c; width = length (spelling e c) } (omega arith) stands
+    ∙ ap (before c) (complete e bytes (p + length (spelling e c)) cs (All-tail (λ x. is_allowed x ≡ true) c cs allowed) next)
 
 -- the law: bytes are decoded to a text exactly where they spell it
 pub spells_decoded : (s : yaml_encoding_t) (bytes text : List ℕ) → Spells s bytes text
     → decoded_text s bytes ≡ Ok text
 spells_decoded s bytes text k =
-    rw k.is (ap in_utf8 (complete (length bytes) (encoding_of s bytes) bytes (mark_length s bytes) k.characters (omega arith) k.allowed k.spelled))
+    rw k.is (ap in_utf8 (complete (encoding_of s bytes) bytes (mark_length s bytes) k.characters k.allowed k.spelled))
 
 spelled_by : (s : yaml_encoding_t) (bytes text : List ℕ) (r : Result (List ℕ) Offence)
     → AreBytes bytes → decoded_characters s bytes ≡ r → in_utf8 r ≡ Ok text → Spells s bytes text

@@ -1,5 +1,5 @@
 -- Decoding, a character at a time: what a character that stands at a place tells.
-use Rattle.std.proofs.Common.{◌≡◌, ℕ, pos, zero, suc, ◌+◌, ◌-◌, ◌*◌, ◌/◌, ◌%◌, ◌<◌, ◌≤◌, Bool, true, false, not, ◌&&◌, ◌==◌, nat_lt, cond, List, [], ◌∷◌, ◌++◌, take, drop, length, Result, Ok, Err, refl, arith, add-one, add-zero, drop-cons}
+use Rattle.std.proofs.Common.{◌≡◌, ℕ, pos, zero, suc, ◌+◌, ◌-◌, ◌*◌, ◌<◌, ◌≤◌, Bool, true, false, not, ◌&&◌, ◌==◌, nat_lt, cond, List, [], ◌∷◌, ◌++◌, take, drop, length, Result, Ok, Err, refl, arith, add-one, add-zero, drop-cons, rules}
 use Rattle.std.proofs.lemmas.Bool.Decides.{nat_tests}
 use Rattle.std.specs.Char.{encode_utf8}
 use Rattle.std.specs.Char.Escape.{encode_utf16}
@@ -40,11 +40,7 @@ valued_gives : (p width code : ℕ) (ch : Character) → valued_at p width code 
     → (nat_lt code (least_code width) ≡ false) × (is_allowed code ≡ true)
     × (ch ≡ record { code = code; width = width })
 unfolding valued_at
-valued_gives p width code ch h =
-    let (long, h1) = passed _ _ _ ch h in
-    let (scalar, h2) = passed _ _ _ ch h1 in
-    let (allowed, e) = allowed_gives p width code ch h2 in
-    (long, allowed, e)
+valued_gives p width code ch h = search (rules, allowed_gives, passed)
 
 -- what the first bytes spell
 bytes_1 : (b : ℕ) → width_of b ≡ 1 → encode_utf8 b ≡ b ∷ []
@@ -54,31 +50,19 @@ bytes_1 b h = grind (arith, nat_tests)
 two_bytes : (x y : ℕ) → 2 ≤ x → x < 32 → y < 64
     → encode_utf8 (x * 64 + y) ≡ (192 + x) ∷ (128 + y) ∷ []
 unfolding encode_utf8
-two_bytes x y low high small =
-    let a : (x * 64 + y) / 64 ≡ x = omega arith in
-    let b : (x * 64 + y) % 64 ≡ y = omega arith in
-    grind (arith, nat_tests)
+two_bytes x y low high small = search rules
 
 three_bytes : (x y z : ℕ) → 2048 ≤ (x * 64 + y) * 64 + z → x < 16 → y < 64 → z < 64
     → encode_utf8 ((x * 64 + y) * 64 + z) ≡ (224 + x) ∷ (128 + y) ∷ (128 + z) ∷ []
 unfolding encode_utf8
-three_bytes x y z low high small last =
-    let a : ((x * 64 + y) * 64 + z) / 4096 ≡ x = omega arith in
-    let b : ((x * 64 + y) * 64 + z) / 64 % 64 ≡ y = omega arith in
-    let c : ((x * 64 + y) * 64 + z) % 64 ≡ z = omega arith in
-    grind (arith, nat_tests)
+three_bytes x y z low high small last = search rules
 
 four_bytes : (x y z w : ℕ) → 65536 ≤ ((x * 64 + y) * 64 + z) * 64 + w → x < 8 → y < 64 → z < 64
     → w < 64
     → encode_utf8 (((x * 64 + y) * 64 + z) * 64 + w) ≡ (240 + x) ∷ (128 + y) ∷ (128 + z) ∷ (128 + w)
     ∷ []
 unfolding encode_utf8
-four_bytes x y z w low high small less last =
-    let a : (((x * 64 + y) * 64 + z) * 64 + w) / 262144 ≡ x = omega arith in
-    let b : (((x * 64 + y) * 64 + z) * 64 + w) / 4096 % 64 ≡ y = omega arith in
-    let c : (((x * 64 + y) * 64 + z) * 64 + w) / 64 % 64 ≡ z = omega arith in
-    let d : (((x * 64 + y) * 64 + z) * 64 + w) % 64 ≡ w = omega arith in
-    grind (arith, nat_tests)
+four_bytes x y z w low high small less last = search rules
 
 -- drop one byte
 pub drop_one : (bytes : List ℕ) (p : ℕ) → p < length bytes
@@ -87,11 +71,7 @@ drop_one bytes p h = rw (add-one, drop-cons bytes p 0)
 
 drop_two : (bytes : List ℕ) (p : ℕ) → p + 1 < length bytes
     → drop p bytes ≡ byte bytes p ∷ byte bytes (p + 1) ∷ drop (p + 2) bytes
-drop_two bytes p h =
-    let a = drop_one bytes p (omega arith) in
-    let b = drop_one bytes (p + 1) h in
-    let e : p + 1 + 1 ≡ p + 2 = omega arith in
-    cc
+drop_two bytes p h = search (rules, drop_one)
 
 -- those four bytes
 abbrev four : ℕ → ℕ → ℕ → ℕ → List ℕ
@@ -116,49 +96,19 @@ code_2 : (b c d e : ℕ) → width_of b ≡ 2 → is_trailing c ≡ true
     → nat_lt (utf8_code 2 b c d e) (least_code 2) ≡ false
     → encode_utf8 (utf8_code 2 b c d e) ≡ b ∷ c ∷ []
 unfolding utf8_code leading_bits width_of least_code
-code_2 b c d e h tc long =
-    let low : 192 ≤ b = grind (arith, nat_tests) in
-    let high : b < 224 = grind (arith, nat_tests) in
-    let (from, below) = tail_range c tc in
-    let least : 128 ≤ (b - 192) * 64 + (c - 128) = grind (arith, nat_tests) in
-    let all = two_bytes (b - 192) (c - 128) (omega arith) (omega arith) (omega arith) in
-    let x : 192 + (b - 192) ≡ b = omega arith in
-    let y : 128 + (c - 128) ≡ c = omega arith in
-    cc
+code_2 b c d e h tc long = search (rules, tail_range, two_bytes)
 
 code_3 : (b c d e : ℕ) → width_of b ≡ 3 → is_trailing c ≡ true → is_trailing d ≡ true
     → nat_lt (utf8_code 3 b c d e) (least_code 3) ≡ false
     → encode_utf8 (utf8_code 3 b c d e) ≡ b ∷ c ∷ d ∷ []
 unfolding utf8_code leading_bits width_of least_code
-code_3 b c d e h tc td long =
-    let low : 224 ≤ b = grind (arith, nat_tests) in
-    let high : b < 240 = grind (arith, nat_tests) in
-    let (from, below) = tail_range c tc in
-    let (from_d, below_d) = tail_range d td in
-    let least : 2048 ≤ ((b - 224) * 64 + (c - 128)) * 64 + (d - 128) = grind (arith, nat_tests) in
-    let all = three_bytes (b - 224) (c - 128) (d - 128) least (omega arith) (omega arith) (omega arith) in
-    let x : 224 + (b - 224) ≡ b = omega arith in
-    let y : 128 + (c - 128) ≡ c = omega arith in
-    let z : 128 + (d - 128) ≡ d = omega arith in
-    cc
+code_3 b c d e h tc td long = search (rules, tail_range, three_bytes)
 
 code_4 : (b c d e : ℕ) → width_of b ≡ 4 → is_trailing c ≡ true → is_trailing d ≡ true
     → is_trailing e ≡ true → nat_lt (utf8_code 4 b c d e) (least_code 4) ≡ false
     → encode_utf8 (utf8_code 4 b c d e) ≡ b ∷ c ∷ d ∷ e ∷ []
 unfolding utf8_code leading_bits width_of least_code
-code_4 b c d e h tc td te long =
-    let low : 240 ≤ b = grind (arith, nat_tests) in
-    let high : b < 248 = grind (arith, nat_tests) in
-    let (from, below) = tail_range c tc in
-    let (from_d, below_d) = tail_range d td in
-    let (from_e, below_e) = tail_range e te in
-    let least : 65536 ≤ (((b - 240) * 64 + (c - 128)) * 64 + (d - 128)) * 64 + (e - 128) = grind (arith, nat_tests) in
-    let all = four_bytes (b - 240) (c - 128) (d - 128) (e - 128) least (omega arith) (omega arith) (omega arith) (omega arith) in
-    let x : 240 + (b - 240) ≡ b = omega arith in
-    let y : 128 + (c - 128) ≡ c = omega arith in
-    let z : 128 + (d - 128) ≡ d = omega arith in
-    let w : 128 + (e - 128) ≡ e = omega arith in
-    cc
+code_4 b c d e h tc td te long = search (rules, four_bytes, tail_range)
 
 trails : (c : ℕ) → (true && not (is_trailing c)) ≡ false → is_trailing c ≡ true
 trails c h = grind (arith, nat_tests)
@@ -211,17 +161,8 @@ front : (bytes : List ℕ) (p w : ℕ) → w ≤ 4 → p + w ≤ length bytes
 front bytes p zero few inside = rw add-zero refl
 front bytes p (suc zero) few inside = drop_one bytes p (omega arith)
 front bytes p (suc (suc zero)) few inside = drop_two bytes p (omega arith)
-front bytes p (suc (suc (suc zero))) few inside =
-    let a = drop_two bytes p (omega arith) in
-    let b = drop_one bytes (p + 2) (omega arith) in
-    let e : p + 2 + 1 ≡ p + 3 = omega arith in
-    cc
-front bytes p (suc (suc (suc (suc zero)))) few inside =
-    let a = drop_two bytes p (omega arith) in
-    let b = drop_two bytes (p + 2) (omega arith) in
-    let e : p + 2 + 1 ≡ p + 3 = omega arith in
-    let f : p + 2 + 2 ≡ p + 4 = omega arith in
-    cc
+front bytes p (suc (suc (suc zero))) few inside = search (rules, drop_one, drop_two)
+front bytes p (suc (suc (suc (suc zero)))) few inside = search (rules, drop_two)
 front bytes p (suc (suc (suc (suc (suc n))))) few inside = absurd (omega arith)
 
 -- A character that UTF-8 has at a place stands there by its bytes.
@@ -239,18 +180,8 @@ AreBytes bytes = (k : ℕ) → byte bytes k < 256
 unit_spelled : (order : ByteOrder) (bytes : List ℕ) (p : ℕ) → AreBytes bytes
     → unit_bytes order (unit_at order bytes p) ≡ byte bytes p ∷ byte bytes (p + 1) ∷ []
 unfolding unit_at
-unit_spelled LowFirst bytes p are =
-    let b = are p in
-    let c = are (p + 1) in
-    let x : (byte bytes p + byte bytes (p + 1) * 256) % 256 ≡ byte bytes p = omega arith in
-    let y : (byte bytes p + byte bytes (p + 1) * 256) / 256 ≡ byte bytes (p + 1) = omega arith in
-    cc
-unit_spelled HighFirst bytes p are =
-    let b = are p in
-    let c = are (p + 1) in
-    let x : (byte bytes p * 256 + byte bytes (p + 1)) / 256 ≡ byte bytes p = omega arith in
-    let y : (byte bytes p * 256 + byte bytes (p + 1)) % 256 ≡ byte bytes (p + 1) = omega arith in
-    cc
+unit_spelled LowFirst bytes p are = search rules
+unit_spelled HighFirst bytes p are = search rules
 
 unit_small : (order : ByteOrder) (bytes : List ℕ) (p : ℕ) → AreBytes bytes
     → unit_at order bytes p < 65536
@@ -267,15 +198,7 @@ data Units (left u v : ℕ) (ch : Character) : Type 0 where
 
 pair_units : (u v : ℕ) → is_high_surrogate u ≡ true → is_low_surrogate v ≡ true
     → encode_utf16 (0x1_0000 + (u - 0xD800) * 0x400 + (v - 0xDC00)) ≡ u ∷ v ∷ []
-pair_units u v high low =
-    let a : 0xD800 ≤ u = grind (arith, nat_tests) in
-    let b : u ≤ 0xDBFF = grind (arith, nat_tests) in
-    let c : 0xDC00 ≤ v = grind (arith, nat_tests) in
-    let d : v ≤ 0xDFFF = grind (arith, nat_tests) in
-    let e : 0x1_0000 + (u - 0xD800) * 0x400 + (v - 0xDC00) - 0x1_0000 ≡ (u - 0xD800) * 0x400 + (v - 0xDC00) = omega arith in
-    let f : 0xD800 + ((u - 0xD800) * 0x400 + (v - 0xDC00)) / 0x400 ≡ u = omega arith in
-    let g : 0xDC00 + ((u - 0xD800) * 0x400 + (v - 0xDC00)) % 0x400 ≡ v = omega arith in
-    grind (arith, nat_tests)
+pair_units u v high low = search rules
 
 one_unit : (u : ℕ) → u < 65536 → encode_utf16 u ≡ u ∷ []
 one_unit u h = grind (arith, nat_tests)
@@ -335,3 +258,14 @@ pub character_stands : (e : yaml_encoding_t) (bytes : List ℕ) (p : ℕ) (ch : 
 character_stands YAML_UTF16LE_ENCODING bytes p ch are h e = utf16_stands LowFirst bytes p ch are h e
 character_stands YAML_UTF16BE_ENCODING bytes p ch are h e = utf16_stands HighFirst bytes p ch are h e
 character_stands _ bytes p ch are h e = utf8_stands bytes p ch h e
+
+units_some : (left u v : ℕ) (ch : Character) → Units left u v ch → 0 < ch.width
+units_some left u v ch (one room allowed is) = rw is (omega arith)
+units_some left u v ch (pair room allowed width code) = omega arith
+
+-- a character takes a byte at least
+pub character_some : (e : yaml_encoding_t) (bytes : List ℕ) (p : ℕ) (ch : Character)
+    → character_at e bytes p ≡ Ok ch → 0 < ch.width
+character_some YAML_UTF16LE_ENCODING bytes p ch h = units_some _ _ _ ch (utf16_gives _ _ _ _ ch h)
+character_some YAML_UTF16BE_ENCODING bytes p ch h = units_some _ _ _ ch (utf16_gives _ _ _ _ ch h)
+character_some _ bytes p ch h = (utf8_gives _ _ _ _ _ _ ch h).some

@@ -1,12 +1,12 @@
 -- Decoding, over all characters.
-use Rattle.std.proofs.Common.{◌≡◌, ℕ, zero, suc, ◌+◌, ◌-◌, ◌<◌, ◌≤◌, Bool, true, false, ◌&&◌, nat_lt, cond, List, [], ◌∷◌, ◌++◌, drop, length, Result, Ok, Err, refl, sym, ap, ◌∙◌, arith, append_assoc, append-nil, add-zero, add-one}
+use Rattle.std.proofs.Common.{◌≡◌, ℕ, zero, suc, ◌+◌, ◌-◌, ◌<◌, ◌≤◌, true, nat_lt, if◌then◌else◌, List, [], ◌∷◌, ◌++◌, drop, length, Result, Ok, Err, refl, sym, ap, ◌∙◌, arith, append_assoc, append-nil, add-zero, rules}
 use Rattle.std.proofs.lemmas.Bool.Decides.{nat_tests}
 use Rattle.std.proofs.Math.ListN.{drop_of_length-le}
 use Rattle.std.proofs.lemmas.List.Elements.{All-nil, All-cons}
 use Rattle.std.specs.List.{AllPass}
 use Rattle.std.specs.Char.{IsScalar}
 use Rattle.std.specs.Prelude.{encode_utf8, encode_utf8_all}
-use Rattle.std.proofs.lemmas.Bool.{cond_both, ltb-true, ltb-false, lt-ltb, le-ltb, and_parts}
+use Rattle.std.proofs.lemmas.Bool.{cond_both, ltb-true, ltb-false, lt-ltb, le-ltb}
 use Rattle.yaml_scan_model.specs.declared.name.yaml_encoding_t.{yaml_encoding_t}
 use Rattle.yaml_scan_model.specs.declared.name.yaml_encoding_t.TheVariants.{YAML_UTF8_ENCODING}
 use Rattle.yaml_scan_model.specs.Marks.{byte}
@@ -20,7 +20,7 @@ use Rattle.yaml_scan_characters.specs.Steps.{is_plain}
 use Rattle.yaml_scan_characters.specs.Decoding.{before, led_by, characters, in_utf8}
 use Rattle.yaml_scan_characters.specs.Spelling.{spelling, spellings}
 use Rattle.yaml_scan_characters.specs.Steps.{outcome, outcome_at, behind}
-use Rattle.yaml_scan_characters.proofs.DecodeLemmas.{AreBytes, utf8_stands, character_stands}
+use Rattle.yaml_scan_characters.proofs.DecodeLemmas.{AreBytes, character_some, character_stands}
 
 -- a character that a stream may hold is a Unicode scalar value
 pub allowed_scalar : (c : ℕ) → is_allowed c ≡ true → IsScalar c
@@ -39,25 +39,39 @@ unfolding characters
 ended zero e bytes p h = refl
 ended (suc n) e bytes p h = rw (le-ltb p (length bytes) h) refl
 
+-- the characters from the place on, or the first offence
+abbrev pub characters_on : yaml_encoding_t → List ℕ → ℕ → Result (List ℕ) Offence
+characters_on e bytes p = characters (length bytes) e bytes p
+
+led_same : (f g : ℕ → Result (List ℕ) Offence) (p : ℕ) (r : Result Character Offence)
+    → ((ch : Character) → r ≡ Ok ch → f (p + ch.width) ≡ g (p + ch.width))
+    → led_by f p r ≡ led_by g p r
+led_same f g p (Ok ch) h = ap (before ch.code) (h ch refl)
+led_same f g p (Err o) h = refl
+
+-- no more characters are asked for than bytes are left
+enough : (n : ℕ) (e : yaml_encoding_t) (bytes : List ℕ) (p : ℕ) → length bytes ≤ p + n
+    → characters n e bytes p ≡ characters (suc n) e bytes p
+unfolding characters
+enough zero e bytes p room = sym (ended 1 e bytes p (omega arith))
+enough (suc n) e bytes p room =
+    ap (λ (r : Result (List ℕ) Offence). if nat_lt p (length bytes) then r else Ok [])
+    (led_same (characters n e bytes) (characters (suc n) e bytes) p (character_at e bytes p) (λ ch is. enough n e bytes (p + ch.width) (omega (arith, character_some e bytes p ch is))))
+
+here : (e : yaml_encoding_t) (bytes : List ℕ) (p : ℕ) → p < length bytes
+    → characters_on e bytes p ≡ led_by (characters_on e bytes) p (character_at e bytes p)
+unfolding characters
+here e bytes p inside = search (rules, enough, led_by, lt-ltb)
+
 -- a character, and those behind it
-pub record GoesOn (n : ℕ) (e : yaml_encoding_t) (bytes : List ℕ) (p : ℕ) (ch : Character) : Type 0 where
-  pub fuel : ℕ
-  pub enough : length bytes ≤ p + ch.width + fuel
-  pub same : characters n e bytes p ≡ before ch.code (characters fuel e bytes (p + ch.width))
+pub turn : (e : yaml_encoding_t) (bytes : List ℕ) (p : ℕ) (ch : Character) → p < length bytes
+    → character_at e bytes p ≡ Ok ch
+    → characters_on e bytes p ≡ before ch.code (characters_on e bytes (p + ch.width))
+turn e bytes p ch inside h = rw h at (here e bytes p inside)
 
-pub turn : (n : ℕ) (e : yaml_encoding_t) (bytes : List ℕ) (p : ℕ) (ch : Character)
-    → p < length bytes → length bytes ≤ p + n → 0 < ch.width → character_at e bytes p ≡ Ok ch
-    → GoesOn n e bytes p ch
-unfolding characters
-turn zero e bytes p ch inside room some h = absurd (omega arith)
-turn (suc n) e bytes p ch inside room some h = record { fuel = n; enough = omega arith; same = rw (lt-ltb p (length bytes) inside, h) refl }
-
-pub refused : (n : ℕ) (e : yaml_encoding_t) (bytes : List ℕ) (p : ℕ) (o : Offence)
-    → p < length bytes → length bytes ≤ p + n → character_at e bytes p ≡ Err o
-    → characters n e bytes p ≡ Err o
-unfolding characters
-refused zero e bytes p o inside room h = absurd (omega arith)
-refused (suc n) e bytes p o inside room h = rw (lt-ltb p (length bytes) inside, h) refl
+refused : (e : yaml_encoding_t) (bytes : List ℕ) (p : ℕ) (o : Offence) → p < length bytes
+    → character_at e bytes p ≡ Err o → characters_on e bytes p ≡ Err o
+refused e bytes p o inside h = rw h at (here e bytes p inside)
 
 -- a plain byte is a character of its own
 pub plain_stands : (bytes : List ℕ) (p : ℕ) → p < length bytes → is_plain (byte bytes p) ≡ true
@@ -78,103 +92,55 @@ in_utf8-before : (xs : List ℕ) (c : ℕ) (r : Result (List ℕ) Offence)
 in_utf8-before xs c (Ok cs) = ap (λ (text : List ℕ). Ok text) (sym (append_assoc xs (encode_utf8 c) (encode_utf8_all cs)))
 in_utf8-before xs c (Err o) = refl
 
-pub behind-nothing : (r : Result (List ℕ) Offence) → behind [] r ≡ r
+behind-nothing : (r : Result (List ℕ) Offence) → behind [] r ≡ r
 behind-nothing (Ok cs) = refl
 behind-nothing (Err o) = refl
 
 -- the characters from p on are checked up to q
-pub record Checks (n : ℕ) (e : yaml_encoding_t) (bytes : List ℕ) (p q : ℕ) : Type 0 where
-  pub fuel : ℕ
-  pub enough : length bytes ≤ q + fuel
-  pub same : outcome (characters n e bytes p) ≡ outcome (characters fuel e bytes q)
+pub checks_more : (bytes : List ℕ) (p q : ℕ) (ch : Character)
+    → outcome_at bytes p ≡ outcome_at bytes q → q < length bytes → utf8_at bytes q ≡ Ok ch
+    → outcome_at bytes p ≡ outcome_at bytes (q + ch.width)
+unfolding outcome_at
+checks_more bytes p q ch front inside h =
+    front ∙ ap outcome (turn YAML_UTF8_ENCODING bytes q ch inside h) ∙ outcome-before ch.code (characters_on YAML_UTF8_ENCODING bytes (q + ch.width))
 
-pub checks_more : (n : ℕ) (e : yaml_encoding_t) (bytes : List ℕ) (p q : ℕ) (ch : Character)
-    → Checks n e bytes p q → q < length bytes → 0 < ch.width → character_at e bytes q ≡ Ok ch
-    → Checks n e bytes p (q + ch.width)
-checks_more n e bytes p q ch k inside some h =
-    let t = turn k.fuel e bytes q ch inside k.enough some h in
-    record { fuel = t.fuel; enough = t.enough; same = k.same ∙ ap outcome t.same ∙ outcome-before ch.code (characters t.fuel e bytes (q + ch.width)) }
-
-pub checks_refused : (n : ℕ) (e : yaml_encoding_t) (bytes : List ℕ) (p q : ℕ) (o : Offence)
-    → Checks n e bytes p q → q < length bytes → character_at e bytes q ≡ Err o
-    → outcome (characters n e bytes p) ≡ Err o
-checks_refused n e bytes p q o k inside h = k.same ∙ ap outcome (refused k.fuel e bytes q o inside k.enough h)
+pub checks_refused : (bytes : List ℕ) (p q : ℕ) (o : Offence)
+    → outcome_at bytes p ≡ outcome_at bytes q → q < length bytes → utf8_at bytes q ≡ Err o
+    → outcome_at bytes p ≡ Err o
+unfolding outcome_at
+checks_refused bytes p q o front inside h = front ∙ ap outcome (refused YAML_UTF8_ENCODING bytes q o inside h)
 
 -- plain bytes are checked
-pub checks_run : (k n : ℕ) (bytes : List ℕ) (p q : ℕ) → Checks n YAML_UTF8_ENCODING bytes p q
-    → q + k ≤ length bytes → ((j : ℕ) → q ≤ j → j < q + k → is_plain (byte bytes j) ≡ true)
-    → Checks n YAML_UTF8_ENCODING bytes p (q + k)
-checks_run zero n bytes p q c inside each = rw add-zero c
-checks_run (suc k) n bytes p q c inside each =
-    let front = checks_run k n bytes p q c (omega arith) (λ j a b. each j a (omega arith)) in
-    let here : q + k < length bytes = omega arith in
-    let next : q + suc k ≡ q + k + 1 = omega arith in
-    rw next (checks_more n YAML_UTF8_ENCODING bytes p (q + k) record { code = byte bytes (q + k); width = 1 } front here (omega arith) (plain_stands bytes (q + k) here (each (q + k) (omega arith) (omega arith))))
-
--- no more characters are asked for than bytes are left
-fuel_enough : (n m : ℕ) (bytes : List ℕ) (p : ℕ) → length bytes ≤ p + n → length bytes ≤ p + m
-    → characters n YAML_UTF8_ENCODING bytes p ≡ characters m YAML_UTF8_ENCODING bytes p
-unfolding characters
-fuel_enough zero m bytes p h g = sym (ended m YAML_UTF8_ENCODING bytes p (omega arith))
-fuel_enough (suc n) zero bytes p h g = ended (suc n) YAML_UTF8_ENCODING bytes p (omega arith)
-fuel_enough (suc n) (suc m) bytes p h g = by (λ q past. fuel_enough n m bytes (p + q) (omega (arith, past)) (omega (arith, past))) (nat_lt p (length bytes)) refl
-  where
-    after : ((w : ℕ) → 0 < w → characters n YAML_UTF8_ENCODING bytes (p + w)
-        ≡ characters m YAML_UTF8_ENCODING bytes (p + w)) → (r : Result Character Offence)
-        → p < length bytes → utf8_at bytes p ≡ r
-        → led_by (characters n YAML_UTF8_ENCODING bytes) p r
-        ≡ led_by (characters m YAML_UTF8_ENCODING bytes) p r
-    after more (Err o) inside is = refl
-    after more (Ok ch) inside is =
-        let s = utf8_stands bytes p ch inside is in
-        ap (before ch.code) (more ch.width s.some)
-
-    by : ((w : ℕ) → 0 < w → characters n YAML_UTF8_ENCODING bytes (p + w)
-        ≡ characters m YAML_UTF8_ENCODING bytes (p + w)) → (t : Bool) → nat_lt p (length bytes) ≡ t
-        → cond t (led_by (characters n YAML_UTF8_ENCODING bytes) p (utf8_at bytes p)) (Ok [])
-        ≡ cond t (led_by (characters m YAML_UTF8_ENCODING bytes) p (utf8_at bytes p)) (Ok [])
-    by more false is = refl
-    by more true is = after more (utf8_at bytes p) (grind (arith, nat_tests)) refl
-
-pub checks_none : (bytes : List ℕ) (p : ℕ) → Checks (length bytes) YAML_UTF8_ENCODING bytes p p
-checks_none bytes p = record { fuel = length bytes; enough = omega arith; same = refl }
-
--- what is checked goes there
-pub checks_goes : (bytes : List ℕ) (p q : ℕ) → Checks (length bytes) YAML_UTF8_ENCODING bytes p q
-    → outcome_at bytes p ≡ outcome_at bytes q
-unfolding outcome_at
-checks_goes bytes p q c = c.same ∙ ap outcome (fuel_enough c.fuel (length bytes) bytes q c.enough (omega arith))
+pub checks_run : (k : ℕ) (bytes : List ℕ) (p : ℕ) → p + k ≤ length bytes
+    → ((j : ℕ) → p ≤ j → j < p + k → is_plain (byte bytes j) ≡ true)
+    → outcome_at bytes p ≡ outcome_at bytes (p + k)
+checks_run zero bytes p inside each = rw add-zero refl
+checks_run (suc k) bytes p inside each =
+    let front = checks_run k bytes p (omega arith) (λ j a b. each j a (omega arith)) in
+    let next : p + suc k ≡ p + k + 1 = omega arith in
+    rw next (checks_more bytes p (p + k) record { code = byte bytes (p + k); width = 1 } front (omega arith) (plain_stands bytes (p + k) (omega arith) (each (p + k) (omega arith) (omega arith))))
 
 -- the characters from p on are written up to q
-pub record Writes (n : ℕ) (e : yaml_encoding_t) (bytes : List ℕ) (p q : ℕ) (text : List ℕ) : Type 0 where
-  pub fuel : ℕ
-  pub enough : length bytes ≤ q + fuel
-  pub same : in_utf8 (characters n e bytes p) ≡ behind text (in_utf8 (characters fuel e bytes q))
+abbrev pub Writes : yaml_encoding_t → List ℕ → ℕ → ℕ → List ℕ → Type 0
+Writes e bytes p q text = in_utf8 (characters_on e bytes p) ≡ behind text (in_utf8 (characters_on e bytes q))
 
-pub writes_none : (n : ℕ) (e : yaml_encoding_t) (bytes : List ℕ) (p : ℕ) → length bytes ≤ p + n
-    → Writes n e bytes p p []
-writes_none n e bytes p room = record { fuel = n; enough = room; same = sym (behind-nothing (in_utf8 (characters n e bytes p))) }
+pub writes_none : (e : yaml_encoding_t) (bytes : List ℕ) (p : ℕ) → Writes e bytes p p []
+writes_none e bytes p = sym (behind-nothing (in_utf8 (characters_on e bytes p)))
 
-pub writes_more : (n : ℕ) (e : yaml_encoding_t) (bytes : List ℕ) (p q : ℕ) (ch : Character)
-    (text : List ℕ) → Writes n e bytes p q text → q < length bytes → 0 < ch.width
-    → character_at e bytes q ≡ Ok ch
-    → Writes n e bytes p (q + ch.width) (text ++ encode_utf8 ch.code)
-writes_more n e bytes p q ch text k inside some h =
-    let t = turn k.fuel e bytes q ch inside k.enough some h in
-    record {
-      fuel = t.fuel;
-      enough = t.enough;
-      same = k.same ∙ ap (λ r. behind text (in_utf8 r)) t.same ∙ in_utf8-before text ch.code (characters t.fuel e bytes (q + ch.width));
-    }
+pub writes_more : (e : yaml_encoding_t) (bytes : List ℕ) (p q : ℕ) (ch : Character)
+    (text : List ℕ) → Writes e bytes p q text → q < length bytes → character_at e bytes q ≡ Ok ch
+    → Writes e bytes p (q + ch.width) (text ++ encode_utf8 ch.code)
+writes_more e bytes p q ch text front inside h =
+    front ∙ ap (λ r. behind text (in_utf8 r)) (turn e bytes q ch inside h) ∙ in_utf8-before text ch.code (characters_on e bytes (q + ch.width))
 
-pub writes_done : (n : ℕ) (e : yaml_encoding_t) (bytes : List ℕ) (p q : ℕ) (text : List ℕ)
-    → Writes n e bytes p q text → length bytes ≤ q → in_utf8 (characters n e bytes p) ≡ Ok text
-writes_done n e bytes p q text k past = k.same ∙ ap (λ r. behind text (in_utf8 r)) (ended k.fuel e bytes q past) ∙ ap (λ (t : List ℕ). Ok t) (append-nil text)
+pub writes_done : (e : yaml_encoding_t) (bytes : List ℕ) (p q : ℕ) (text : List ℕ)
+    → Writes e bytes p q text → length bytes ≤ q → in_utf8 (characters_on e bytes p) ≡ Ok text
+writes_done e bytes p q text front past = front ∙ ap (λ r. behind text (in_utf8 r)) (ended (length bytes) e bytes q past) ∙ ap (λ (t : List ℕ). Ok t) (append-nil text)
 
-pub writes_refused : (n : ℕ) (e : yaml_encoding_t) (bytes : List ℕ) (p q : ℕ) (text : List ℕ)
-    (o : Offence) → Writes n e bytes p q text → q < length bytes → character_at e bytes q ≡ Err o
-    → in_utf8 (characters n e bytes p) ≡ Err o
-writes_refused n e bytes p q text o k inside h = k.same ∙ ap (λ r. behind text (in_utf8 r)) (refused k.fuel e bytes q o inside k.enough h)
+pub writes_refused : (e : yaml_encoding_t) (bytes : List ℕ) (p q : ℕ) (text : List ℕ) (o : Offence)
+    → Writes e bytes p q text → q < length bytes → character_at e bytes q ≡ Err o
+    → in_utf8 (characters_on e bytes p) ≡ Err o
+writes_refused e bytes p q text o front inside h = front ∙ ap (λ r. behind text (in_utf8 r)) (refused e bytes q o inside h)
 
 -- ---- the characters that are read are spelled by the bytes
 before_gives : (c : ℕ) (r : Result (List ℕ) Offence) (cs : List ℕ) → before c r ≡ Ok cs

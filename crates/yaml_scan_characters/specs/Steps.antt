@@ -1,5 +1,5 @@
 -- What the parts of decoding answer.
-use Rattle.std.specs.Prelude.{ℕ, zero, suc, ◌≡◌, pos, ◌+◌, ◌-◌, ◌<◌, Bool, true, not, ◌&&◌, nat_lt, if◌then◌else◌, List, ◌++◌, length, Result, Ok, Err, Vec}
+use Rattle.std.specs.Prelude.{ℕ, ◌≡◌, pos, ◌+◌, ◌-◌, ◌<◌, Bool, not, ◌&&◌, nat_lt, if◌then◌else◌, List, ◌++◌, length, Result, Ok, Err, Vec}
 use Rattle.std.specs.Global.{Global}
 use Rattle.yaml_scan_model.specs.declared.name.yaml_encoding_t.TheVariants.{YAML_UTF8_ENCODING}
 use Rattle.yaml_scan_model.specs.Marks.{byte}

@@ -111,6 +111,7 @@ fn push(text: &mut String, code: u32) -> Result<(), AllocError>
 }
 
 /// The text that the units from that place on spell, in UTF-8.
+#[tactic(auto, using(crate::proofs::DecodeLemmas::utf16_stands, crate::proofs::SpellingLemmas::character_by, crate::proofs::SpellingLemmas::writes_none, crate::proofs::SpellingLemmas::writes_more, crate::proofs::SpellingLemmas::writes_done))]
 pub fn decode_utf16(
     alloc: Global,
     bytes: &[u8],

@@ -143,6 +143,7 @@ fn is_plain_chunk(bytes: &[u8], at: usize) -> bool
 }
 
 // The place behind the characters that begin before the end, one by one.
+#[tactic(auto, using(crate::proofs::DecodeLemmas::utf8_stands, crate::proofs::SpellingLemmas::checks_more, crate::proofs::SpellingLemmas::checks_refused))]
 fn characters_to(bytes: &[u8], start: usize, end: usize) -> Result<usize, Offence>
     requires some { start < end }
     requires inside { end ≤ length bytes.now }
@@ -160,6 +161,7 @@ fn characters_to(bytes: &[u8], start: usize, end: usize) -> Result<usize, Offenc
 }
 
 // The place behind the characters that begin in the next bytes, at most a chunk of them.
+#[tactic(auto, using(crate::proofs::SpellingLemmas::checks_run))]
 fn checked_part(bytes: &[u8], at: usize) -> Result<usize, Offence>
     requires { at < length bytes.now }
     ensures { GoesTo bytes.now at result }
@@ -174,6 +176,7 @@ fn checked_part(bytes: &[u8], at: usize) -> Result<usize, Offence>
 }
 
 /// Checks the characters from that place on.
+#[tactic(auto, using(crate::proofs::SpellingLemmas::ended), unfolding(crate::specs::Steps::outcome_at))]
 pub fn check_utf8(bytes: &[u8], start: usize) -> Result<(), Offence>
     ensures { result ≡ outcome (characters (length bytes.now) YAML_UTF8_ENCODING bytes.now start) }
 {

@@ -1,5 +1,5 @@
 -- Breaks: what they read as, and where they end.
-use Rattle.std.proofs.Common.{◌≡◌, ◌≢◌, ℕ, ◌+◌, ◌-◌, ◌<◌, ◌≤◌, ◌==◌, true, false, List, [], ◌∷◌, length, refl, sym, inl, inr, arith}
+use Rattle.std.proofs.Common.{◌≡◌, ◌≢◌, ℕ, ◌+◌, ◌-◌, ◌<◌, ◌≤◌, ◌==◌, true, false, List, [], ◌∷◌, length, refl, sym, arith, rules}
 use Rattle.std.proofs.lemmas.Bool.{cases_Bool, lt-ltb}
 use Rattle.std.proofs.lemmas.Bool.Decides.{nat_tests}
 use Rattle.yaml_scan_model.specs.Marks.{byte, break_of, ends_of, break_width, ends_break, is_blank}
@@ -39,10 +39,7 @@ feed_some text p h = rw (lt-ltb 0 (break_width text p) h) refl
 -- A break's value has a byte at least.
 pub value_long : (text : List ℕ) (p : ℕ) → 0 < length (break_value text p)
 unfolding break_value
-value_long text p = elim (cases_Bool (break_width text p == 3)) [
-  | inl w ↦ rw w (omega arith)
-  | inr w ↦ rw w (omega arith)
-]
+value_long text p = search (rules, cases_Bool)
 
 -- a blank ends no break
 pub no_end-blank : (x y b c : ℕ) → is_blank b ≡ true → ends_of x y b c ≡ false
@@ -85,10 +82,4 @@ last_three text p h =
 -- A break's end is its last byte.
 pub last_of : (text : List ℕ) (p : ℕ) → 0 < break_width text p
     → Last text p (p + break_width text p)
-last_of text p h =
-    elim (widths (byte text p) (byte text (p + 1)) (byte text (p + 2))) [
-      | inl z ↦ absurd (omega (arith, z))
-      | inr (inl z) ↦ rw z (last_one text p z)
-      | inr (inr (inl z)) ↦ rw z (last_two text p z)
-      | inr (inr (inr z)) ↦ rw z (last_three text p z)
-    ]
+last_of text p h = search (rules, last_one, last_three, last_two, widths)

@@ -1,5 +1,5 @@
 -- Marks, a step at a time.
-use Rattle.std.proofs.Common.{◌≡◌, ◌≢◌, ℕ, zero, suc, ◌+◌, ◌-◌, ◌<◌, ◌≤◌, true, false, List, length, refl, inl, inr, ◌⊎◌, arith, add-one}
+use Rattle.std.proofs.Common.{◌≡◌, ◌≢◌, ℕ, zero, suc, ◌+◌, ◌-◌, ◌<◌, ◌≤◌, true, false, List, length, refl, inl, inr, ◌⊎◌, arith, add-one, rules}
 use Rattle.std.proofs.lemmas.Bool.{cases_Bool, cases_lt}
 use Rattle.std.proofs.lemmas.Bool.Decides.{nat_tests}
 use Rattle.std.proofs.lemmas.List.{get_or_past}
@@ -18,11 +18,7 @@ no_split x y b c d h k = grind (arith, nat_tests)
 
 -- A byte that isn't 0 stands within the text.
 pub within : (text : List ℕ) (p : ℕ) → 0 < byte text p → p < length text
-within text p h =
-    elim (cases_lt p (length text)) [
-      | inl more ↦ more
-      | inr past ↦ let e = get_or_past text p 0 past in absurd (omega (arith, e))
-    ]
+within text p h = search (rules, cases_lt, get_or_past)
 
 -- A byte that ends no break keeps the line.
 pub line_more : (text : List ℕ) (p : ℕ) → ends_break text p ≡ false
@@ -58,10 +54,7 @@ unfolding line_at
 line_at-le text zero = omega arith
 line_at-le text (suc p) =
     let before = line_at-le text p in
-    elim (cases_Bool (ends_break text p)) [
-      | inl e ↦ rw e (omega arith)
-      | inr e ↦ rw e (omega arith)
-    ]
+    search (rules, cases_Bool, before)
 
 -- No column is larger than its place.
 pub column_at-le : (text : List ℕ) (p : ℕ) → column_at text p ≤ p
@@ -69,13 +62,7 @@ unfolding column_at
 column_at-le text zero = omega arith
 column_at-le text (suc p) =
     let before = column_at-le text p in
-    elim (cases_Bool (ends_break text p)) [
-      | inl e ↦ rw e (omega arith)
-      | inr e ↦ elim (cases_Bool (starts (byte text p))) [
-        | inl k ↦ rw (e, k) (omega arith)
-        | inr k ↦ rw (e, k) (omega arith)
-      ]
-    ]
+    search (rules, cases_Bool, starts, before)
 
 -- A byte that is no break ends none.
 pub end_next : (text : List ℕ) (p : ℕ) → splits_break text p ≡ false → break_width text p ≡ 0
@@ -85,11 +72,7 @@ end_next text p h k = no_end _ _ _ _ _ h k
 -- A byte that is no break doesn't part one.
 pub split_next : (text : List ℕ) (p : ℕ) → splits_break text p ≡ false → break_width text p ≡ 0
     → splits_break text (p + 1) ≡ false
-split_next text p h k =
-    let e : p + 1 - 1 ≡ p = omega arith in
-    let f : p + 1 - 2 ≡ p - 1 = omega arith in
-    let g : p + 1 + 1 ≡ p + 2 = omega arith in
-    rw (e, f, g) (no_split (byte text (p - 2)) _ _ _ _ h k)
+split_next text p h k = search (rules, no_split)
 
 pub widths : (b c d : ℕ)
     → (break_of b c d ≡ 0) ⊎ ((break_of b c d ≡ 1) ⊎ ((break_of b c d ≡ 2) ⊎ (break_of b c d ≡ 3)))

@@ -1,5 +1,5 @@
 -- Runs of text: of printed ASCII, the space too, and of bytes that are text whatever follows.
-use Rattle.std.proofs.Common.{◌≡◌, ◌≢◌, if◌then◌else◌, ℕ, zero, suc, ◌+◌, ◌-◌, ◌<◌, ◌≤◌, ◌==◌, ◌||◌, nat_lt, not, Bool, true, false, List, length, refl, inl, inr, ◌∙◌, sym, arith, add-one}
+use Rattle.std.proofs.Common.{◌≡◌, ◌≢◌, if◌then◌else◌, ℕ, zero, suc, ◌+◌, ◌-◌, ◌<◌, ◌≤◌, ◌==◌, ◌||◌, nat_lt, not, Bool, true, false, List, length, refl, sym, arith, add-one, rules}
 use Rattle.std.proofs.lemmas.Bool.{cases_Bool}
 use Rattle.std.proofs.lemmas.Bool.Decides.{nat_tests}
 use Rattle.yaml_scan_model.specs.Marks.{byte, break_of, ends_break, splits_break, starts, line_at, column_at}
@@ -26,11 +26,7 @@ more_columns : (n : ℕ) (text : List ℕ) (p : ℕ)
     → ends_break text (p + n) ≡ false
     → column_at text (p + n + 1) ≡ column_at text p + columns_over (suc n) text p
 unfolding columns_over
-more_columns n text p before ends =
-    elim (cases_Bool (starts (byte text (p + n)))) [
-      | inl s ↦ rw (column_more text (p + n) ends s, s) (omega (arith, before))
-      | inr s ↦ rw (column_same text (p + n) ends s, s) (omega (arith, before))
-    ]
+more_columns n text p before ends = search (rules, cases_Bool, column_more, column_same, starts)
 
 pub behind : (n : ℕ) (text : List ℕ) (p : ℕ) → p ≤ length text → splits_break text p ≡ false
     → ((k : ℕ) → p ≤ k → k < p + n → is_text text k ≡ true) → IsBehind text p n
@@ -43,12 +39,7 @@ behind (suc n) text p room whole each =
     let far = within text (p + n) some in
     let ends = end_next text (p + n) before.whole none in
     let next : p + suc n ≡ p + n + 1 = omega arith in
-    record {
-      inside = omega arith;
-      line = rw next (line_more text (p + n) ends ∙ before.line);
-      column = rw next (more_columns n text p before.column ends);
-      whole = rw next (split_next text (p + n) before.whole none);
-    }
+    search (rules, end_next, line_more, more_columns, split_next, text_parts, within, before, some, far, ends, next)
 
 -- each printed byte is a column
 printed_columns : (n : ℕ) (text : List ℕ) (p : ℕ)
@@ -60,9 +51,7 @@ printed_columns (suc n) text p high =
     rw (starts_printed _ (high (p + n) (omega arith) (omega arith))) (omega (arith, before))
 
 plain_text : (b c d : ℕ) → 31 < b → b < 127 → not (b == 0 || nat_lt 0 (break_of b c d)) ≡ true
-plain_text b c d low high =
-    let none : break_of b c d ≡ 0 = no_break b c d (omega arith) (omega arith) (omega arith) (omega arith) in
-    rw none (grind (arith, nat_tests))
+plain_text b c d low high = search (rules, no_break)
 
 -- what a leap over printed bytes leaves behind it
 pub record IsLeap (text : List ℕ) (p q : ℕ) : Type 0 where
@@ -87,10 +76,7 @@ passed_parts true b h = (grind (arith, nat_tests), grind (arith, nat_tests), gri
 
 passed_of : (wide : Bool) (b c d : ℕ) → passes wide b ≡ true
     → not (b == 0 || nat_lt 0 (break_of b c d)) ≡ true
-passed_of wide b c d h =
-    let (low, two, three) = passed_parts wide b h in
-    let none : break_of b c d ≡ 0 = no_break b c d (omega arith) (omega arith) two three in
-    rw none (grind (arith, nat_tests))
+passed_of wide b c d h = search (rules, no_break, passed_parts)
 
 -- A byte that is passed is text.
 pub passed_text : (wide : Bool) (text : List ℕ) (p : ℕ) → passes wide (byte text p) ≡ true

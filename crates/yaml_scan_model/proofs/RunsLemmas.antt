@@ -1,5 +1,5 @@
 -- Runs of bytes, a byte at a time.
-use Rattle.std.proofs.Common.{if◌then◌else◌, ◌-◌, ◌≡◌, ◌≢◌, ℕ, zero, suc, ◌+◌, ◌<◌, ◌≤◌, ◌==◌, ◌||◌, nat_lt, Bool, true, false, not, List, length, refl, ◌∙◌, inl, inr, arith}
+use Rattle.std.proofs.Common.{if◌then◌else◌, ◌-◌, ◌≡◌, ◌≢◌, ℕ, zero, suc, ◌+◌, ◌<◌, ◌≤◌, ◌==◌, ◌||◌, nat_lt, Bool, true, false, not, List, length, refl, ◌∙◌, inl, inr, arith, rules}
 use Rattle.std.proofs.lemmas.Bool.{cases_Bool}
 use Rattle.std.proofs.lemmas.Bool.Decides.{nat_tests}
 use Rattle.yaml_scan_model.specs.Marks.{byte, break_of, break_width, is_blank}
@@ -36,10 +36,7 @@ step kind text a p (suc n) room same k some = (n, omega arith, same ∙ past_mor
 
 pub run_more : (kind : List ℕ → ℕ → Bool) (text : List ℕ) (a p : ℕ) → InRun kind text a p
     → kind text p ≡ true → 0 < byte text p → InRun kind text a (p + 1)
-run_more kind text a p h k some =
-    let (n, room, same) = h.rest in
-    let after = h.after in
-    record { after = omega arith; rest = step kind text a p n room same k some }
+run_more kind text a p h k some = search (rules, step)
 
 pub run_done : (kind : List ℕ → ℕ → Bool) (text : List ℕ) (a p : ℕ) → InRun kind text a p
     → kind text p ≡ false → past kind (length text) text a ≡ p
@@ -87,9 +84,7 @@ blank_bounds : (b : ℕ) → is_blank b ≡ true → (0 < b) × (b ≢ 13) × (b
 blank_bounds b h = (grind (arith, nat_tests), grind (arith, nat_tests), grind (arith, nat_tests), grind (arith, nat_tests))
 
 pub blank_parts : (b c d : ℕ) → is_blank b ≡ true → (0 < b) × (break_of b c d ≡ 0)
-blank_parts b c d h =
-    let (some, cr, lf, small) = blank_bounds b h in
-    (some, no_break b c d cr lf (omega arith) (omega arith))
+blank_parts b c d h = search (rules, blank_bounds, no_break)
 
 -- A space is a byte, no break, and found as itself.
 pub space_parts : (b c d : ℕ) → b ≡ 32 → (0 < b) × (break_of b c d ≡ 0) × ((b == 32) ≡ true)

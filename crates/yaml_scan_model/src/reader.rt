@@ -54,6 +54,7 @@ impl<'a> Model for Reader<'a> {
 
 impl<'a> Reader<'a> {
     /// The start of a text.
+    #[tactic(auto, using(crate::proofs::MarksLemmas::start_line, crate::proofs::MarksLemmas::start_column, crate::proofs::MarksLemmas::start_whole))]
     pub fn new(text: &'a [u8]) -> Reader<'a>
         ensures { result ≡ record { text = text.now; at = 0 } }
     {
@@ -178,6 +179,7 @@ impl<'a> Reader<'a> {
     }
 
     /// How many bytes the break has that stands here, or 0; a byte that begins none ends none.
+    #[tactic(auto, using(crate::proofs::MarksLemmas::end_next))]
     pub fn break_here(&self) -> usize
         ensures value { result ≡ break_width self.now.text self.now.at }
         ensures none { result ≡ 0 → ends_break self.now.text self.now.at ≡ false }
@@ -189,6 +191,7 @@ impl<'a> Reader<'a> {
 
     /// What the break here reads as: CR LF, CR, LF and NEL as a line feed, LS and PS as themselves; nothing where no
     /// break stands.
+    #[tactic(auto, using(crate::proofs::BreaksLemmas::feed_first, crate::proofs::BreaksLemmas::feed_second, crate::proofs::BreaksLemmas::feed_other))]
     pub fn feed(&self) -> &'static [u8]
         ensures { result.now ≡ feed_at self.now.text self.now.at }
     {
@@ -229,6 +232,7 @@ impl<'a> Reader<'a> {
     }
 
     /// Past a byte that is no break.
+    #[tactic(auto, using(crate::proofs::MarksLemmas::within, crate::proofs::MarksLemmas::end_next, crate::proofs::MarksLemmas::split_next, crate::proofs::MarksLemmas::line_more, crate::proofs::MarksLemmas::column_more, crate::proofs::MarksLemmas::column_same))]
     pub fn skip(&mut self)
         requires inside { 0 < byte self.old.text self.old.at }
         requires no_break { break_width self.old.text self.old.at ≡ 0 }
@@ -242,6 +246,7 @@ impl<'a> Reader<'a> {
     }
 
     /// Past the break that stands here.
+    #[tactic(auto, using(crate::proofs::MarksLemmas::past_break))]
     pub fn skip_break(&mut self)
         requires { 0 < break_width self.old.text self.old.at }
         ensures { self.new ≡ record self.old {

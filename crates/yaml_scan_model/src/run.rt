@@ -22,6 +22,7 @@ pub fn is_text(reader: &Reader) -> bool
 }
 
 /// Past the blanks here.
+#[tactic(auto, using(crate::proofs::RunsLemmas::blank_parts))]
 pub fn skip_blanks(reader: &mut Reader)
     ensures { reader.new ≡ record reader.old {
       at = spec.past_blanks reader.old.text reader.old.at;
@@ -33,6 +34,7 @@ pub fn skip_blanks(reader: &mut Reader)
 }
 
 /// Past the spaces here.
+#[tactic(auto, using(crate::proofs::RunsLemmas::space_parts))]
 pub fn skip_spaces(reader: &mut Reader)
     ensures { reader.new ≡ record reader.old {
       at = spec.past_spaces reader.old.text reader.old.at;
@@ -185,6 +187,7 @@ fn pass_row(reader: &mut Reader)
 /// How many characters begin in the row that stands there.
 // Inlined; in one byte, so that they are counted side by side.
 #[inline(always)]
+#[tactic(auto, using(crate::proofs::PrintedLemmas::columns_more), unfolding(crate::specs::Runs::columns_over))]
 fn columns_in_row(text: &[u8], at: usize) -> u8
     requires { at + 16 ≤ length text.now }
     ensures { result ≡ spec.columns_over 16 text.now at }

@@ -16,6 +16,7 @@ const CHUNK: usize = 16;
 /// A copy of bytes that stand in the text from that place on, in the room of a spare text where they fit.
 // Inlined: mostly one move.
 #[inline(always)]
+#[tactic(auto, using(crate::proofs::SparesLemmas::cut_holds))]
 pub fn copied(
     spares: &mut Spares,
     text: &[u8],

@@ -1,7 +1,7 @@
 -- Escapes, a digit at a time.
-use Rattle.std.proofs.Common.{◌≡◌, ℕ, zero, suc, ◌+◌, ◌-◌, ◌*◌, ◌<◌, ◌≤◌, true, List, Some, None, nat_lt, ◌^◌, refl, arith, add-one, add-zero, add-suc}
+use Rattle.std.proofs.Common.{◌≡◌, ℕ, zero, suc, ◌+◌, ◌-◌, ◌*◌, ◌<◌, ◌≤◌, List, Some, None, ◌^◌, refl, arith, add-one, add-zero, add-suc, rules}
 use Rattle.std.proofs.Math.Nat.{pow-le-pow_right, pow-suc}
-use Rattle.yaml_scan_scalars.proofs.Words.{nat_tests, byte, break_width, hex_digit, hex_value, hex_len, simple_escape, escape_at, coded}
+use Rattle.yaml_scan_scalars.proofs.Words.{byte, break_width, hex_digit, hex_value, hex_len, simple_escape, escape_at, coded}
 
 pub hex_more : (text : List ℕ) (p k v d : ℕ) → hex_value text p k ≡ Some v
     → hex_digit (byte text (p + k)) ≡ Some d → hex_value text p (k + 1) ≡ Some (v * 16 + d)
@@ -25,10 +25,7 @@ pub power-more : (k : ℕ) → 16 ^ (k + 1) ≡ 16 ^ k * 16
 power-more k = rw add-one (pow-suc 16 k)
 
 pub power-room : (k : ℕ) → k < 8 → 16 ^ k * 16 ≤ 4294967296
-power-room k h =
-    let more = pow-suc 16 k in
-    let most : 16 ^ suc k ≤ 4294967296 = pow-le-pow_right {n = 16} (omega arith) h in
-    omega arith
+power-room k h = search (rules, pow-le-pow_right, pow-suc)
 
 pub hex_len-zero : hex_len 0 ≡ 0
 unfolding hex_len
@@ -46,6 +43,4 @@ pub escape_code : (text : List ℕ) (p : ℕ) → break_width text (p + 1) ≡ 0
     → escape_at text p ≡ coded (p + 2) (p + 2 + hex_len (byte text (p + 1)))
     (hex_value text (p + 2) (hex_len (byte text (p + 1))))
 unfolding escape_at
-escape_code text p z h =
-    let e : nat_lt 0 (hex_len (byte text (p + 1))) ≡ true = grind (arith, nat_tests) in
-    rw (z, e) refl
+escape_code text p z h = search rules

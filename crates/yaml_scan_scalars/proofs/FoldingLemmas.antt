@@ -1,5 +1,5 @@
 -- Folding, a piece at a time.
-use Rattle.std.proofs.Common.{◌≡◌, ℕ, ◌<◌, true, false, List, [], ◌∷◌, ◌++◌, length, map, refl, sym, ap, ◌∙◌, arith, append_assoc, append-nil}
+use Rattle.std.proofs.Common.{◌≡◌, ℕ, ◌<◌, true, false, List, [], ◌∷◌, ◌++◌, length, map, refl, sym, ap, ◌∙◌, arith, append_assoc, append-nil, rules}
 use Rattle.yaml_scan_scalars.proofs.Words.{Piece, Kept, Blank, Break, Line, lines, is_empty, text, trim_end, gap, rest_of, folded, value, is_feed, behind, resumed, Gap}
 use Rattle.yaml_scan_scalars.specs.declared.folding.Gap.TheVariants as gaps
 
@@ -86,20 +86,14 @@ behind-feed first ps h = rw (gap-feed first (rest_of (lines ps).first (lines ps)
 
 pub behind-other : (first : List ℕ) (ps : List Piece) → is_feed first ≡ false
     → behind first ps ≡ first ++ behind [] ps
-behind-other first ps h =
-    let r = rest_of (lines ps).first (lines ps).others in
-    rw (gap-other first r.breaks h, gap-other [] r.breaks refl) (append_assoc first r.breaks r.value)
+behind-other first ps h = search (rules, append_assoc, gap-other)
 
 pub behind-more : (b : List ℕ) (ps : List Piece) → 0 < length b
     → behind (10 ∷ []) (Break b ∷ ps) ≡ b ++ behind [] ps
-behind-more b ps h =
-    let r = rest_of (lines ps).first (lines ps).others in
-    rw (gap-more b r.breaks h, gap-other [] r.breaks refl) (append_assoc b r.breaks r.value)
+behind-more b ps h = search (rules, append_assoc, gap-more, gap-other)
 
 pub behind-again : (b : List ℕ) (ps : List Piece) → behind [] (Break b ∷ ps) ≡ b ++ behind [] ps
-behind-again b ps =
-    let r = rest_of (lines ps).first (lines ps).others in
-    rw (gap-other [] (b ++ r.breaks) refl, gap-other [] r.breaks refl) (append_assoc b r.breaks r.value)
+behind-again b ps = search (rules, append_assoc, gap-other)
 
 pub resume_start : (ps : List Piece) → resumed [] [] gaps.Line ps ≡ value ps
 unfolding resumed

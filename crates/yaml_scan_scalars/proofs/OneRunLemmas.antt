@@ -1,6 +1,6 @@
 -- Scalars of one run.
-use Rattle.std.proofs.Common.{◌≡◌, ℕ, zero, suc, nat_lt, ◌+◌, ◌-◌, ◌<◌, ◌==◌, ◌&&◌, ◌||◌, not, Bool, true, false, List, [], ◌++◌, length, Result, Ok, refl, sym, ap, subst, ◌∙◌, ◌⊎◌, inl, inr, arith}
-use Rattle.yaml_scan_scalars.proofs.Words.{append-nil, cases_Bool, eqb-true, lt-ltb, nat_tests, yaml_mark_t, ScanError, Wrong, ReadsPlain, Place, byte, mark_at, column_at, break_of, break_width, is_blank, is_blank_or_end, past, past_spaces, is_space_there, is_document_indicator, Piece, value, bytes_at, run_pieces, ends_kept, IsRun, plain_kind, quoted_kind, quote_at, quoted_at, valued, Ends, Words, PlainText, is_bracket, with_run, plain_text, plain_at, spot_at, ends_at, leads, after_white}
+use Rattle.std.proofs.Common.{◌≡◌, ℕ, zero, suc, ◌+◌, ◌-◌, ◌<◌, ◌==◌, ◌&&◌, ◌||◌, not, Bool, true, false, List, [], ◌++◌, length, Result, Ok, refl, sym, ap, subst, ◌∙◌, ◌⊎◌, inl, inr, arith, rules}
+use Rattle.yaml_scan_scalars.proofs.Words.{append-nil, cases_Bool, eqb-true, lt-ltb, nat_tests, yaml_mark_t, ScanError, Wrong, ReadsPlain, Place, byte, mark_at, column_at, break_of, break_width, is_blank, is_blank_or_end, past, past_spaces, is_space_there, is_document_indicator, Piece, value, bytes_at, run_pieces, ends_kept, IsRun, plain_kind, quoted_kind, quote_at, quoted_at, valued, Ends, Words, PlainText, is_bracket, with_run, plain_text, plain_at, spot_at, ends_at, leads}
 use Rattle.yaml_scan_scalars.specs.declared.scalar.PlainScalar.{PlainScalar}
 use Rattle.yaml_scan_model.proofs.RunsLemmas.{past_more, past_stop}
 use Rattle.yaml_scan_scalars.proofs.PlainLemmas.{spot_ends, spot_blank, spot_break, lead_break, leads-blank, words_on, words_here}
@@ -20,9 +20,7 @@ pieces_close : (quote : ℕ) (text : List ℕ) (p : ℕ) → byte text p ≡ quo
     → (quote ≡ 34) ⊎ (quote ≡ 39) → (quote == 39 && byte text (p + 1) == 39) ≡ false
     → pieces_on quote text p ≡ Ok ([], p + 1)
 unfolding quote_at
-pieces_close quote text p e q d =
-    let some = quote_some quote (byte text p) e q in
-    rw (pieces_here quote text p, standing_quote quote text p (quote_no_mark quote text p e q) (omega arith) e, d) refl
+pieces_close quote text p e q d = search (rules, pieces_here, quote_no_mark, quote_some, standing_quote)
 
 run_value : (bs : List ℕ) → ends_kept bs ≡ true → value (run_pieces bs ++ []) ≡ bs
 run_value bs h = value_run bs [] h ∙ append-nil bs
@@ -87,9 +85,7 @@ plain_one flow level text p place inside calm first run ends =
 pub colon_ends : (flow : Bool) (level : ℕ) (text : List ℕ) (p : ℕ) → byte text p ≡ 58
     → is_blank_or_end text (p + 1) ≡ true → spot_at flow level text p ≡ Ends
 unfolding ends_at
-colon_ends flow level text p e h =
-    let calm = calm_between (byte text p) (omega arith) (omega arith) in
-    spot_ends flow level text p (calm_no_break _ _ _ calm) (calm_no_blank _ calm) (grind (arith, nat_tests))
+colon_ends flow level text p e h = search (rules, calm_between, calm_no_blank, calm_no_break, spot_ends)
 
 bracket_test : (x y z k : Bool) → k ≡ true → (x || (y || (z || k))) ≡ true
 bracket_test x y z k h = grind (arith, nat_tests)
@@ -101,9 +97,7 @@ bracket_calm b h = calm_between b (grind (arith, nat_tests)) (grind (arith, nat_
 pub bracket_ends : (level : ℕ) (text : List ℕ) (p : ℕ) → is_bracket (byte text p) ≡ true
     → spot_at true level text p ≡ Ends
 unfolding ends_at
-bracket_ends level text p h =
-    let calm = bracket_calm (byte text p) h in
-    spot_ends true level text p (calm_no_break _ _ _ calm) (calm_no_blank _ calm) (bracket_test (byte text p == 0 || is_document_indicator text p) (byte text p == 35 && after_white text p) (byte text p == 58 && is_blank_or_end text (p + 1)) _ h)
+bracket_ends level text p h = search (rules, bracket_calm, bracket_test, calm_no_blank, calm_no_break, spot_ends)
 
 -- a mark tells its own place
 pub own_mark : (text : List ℕ) (p : ℕ) (m : yaml_mark_t) → m ≡ mark_at text p
@@ -160,12 +154,7 @@ over_word : (level : ℕ) (text : List ℕ) (q : ℕ) → 33 < byte text q → b
     → column_at text q < level → leads text q ≡ true
     → words_on false level text q ≡ Ok (nothing_at q false)
 unfolding ends_at
-over_word level text q low high less lead =
-    let less_is : nat_lt (column_at text q) level ≡ true = lt-ltb _ _ less in
-    let both : (leads text q && nat_lt (column_at text q) level) ≡ true = rw (lead, less_is) refl in
-    let calm = calm_between (byte text q) (omega arith) high in
-    words_end false level text q (spot_ends false level text q (calm_no_break _ _ _ calm) (calm_no_blank _ calm)
-    (bracket_test (byte text q == 0 || is_document_indicator text q) (byte text q == 35 && after_white text q) (byte text q == 58 && is_blank_or_end text (q + 1)) _ both))
+over_word level text q low high less lead = search (rules, bracket_test, calm_between, calm_no_blank, calm_no_break, lt-ltb, spot_ends, words_end)
 
 pub feed_width : (b c d : ℕ) → b ≡ 10 → break_of b c d ≡ 1
 unfolding break_of

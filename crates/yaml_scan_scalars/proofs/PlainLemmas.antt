@@ -1,6 +1,6 @@
 -- Plain scalars, a step at a time.
-use Rattle.std.proofs.Common.{◌≡◌, ℕ, zero, suc, ◌+◌, ◌-◌, ◌<◌, ◌≤◌, Bool, true, false, List, [], ◌∷◌, length, take, Result, Ok, Err, refl, sym, ap, ◌∙◌, inl, inr, ◌==◌, nat_lt, ◌||◌, ◌&&◌, arith, add-one}
-use Rattle.yaml_scan_scalars.proofs.Words.{cases_Bool, cases_lt, cond_both, ltb-true, true≢false, lt-ltb, nat_tests, take_all, Piece, Kept, Blank, Break, resume, Place, byte, mark_at, break_width, ends_break, is_blank, column_at, yaml_mark_t, Folding, Joining, ScanError, feed_at, Wrong, IsMemory, PlainSpot, Ends, Takes, Faulty, Words, is_bracket, with_piece, words_from, follows, words, starts_plain, plain_at, plain_text, plain_with, PlainText, spot_at, ends_at, leads, after_white, is_nothing, joined, IsJoining, Steps, ReadsPlain, within, past_break, end_not_blank, last_of}
+use Rattle.std.proofs.Common.{◌≡◌, ℕ, zero, suc, ◌+◌, ◌-◌, ◌<◌, ◌≤◌, Bool, true, false, List, [], ◌∷◌, length, take, Result, Ok, Err, refl, sym, ap, ◌∙◌, ◌==◌, nat_lt, ◌||◌, ◌&&◌, arith, add-one, rules}
+use Rattle.yaml_scan_scalars.proofs.Words.{cases_Bool, cases_lt, cond_both, ltb-true, lt-ltb, nat_tests, take_all, Piece, Kept, Blank, Break, resume, Place, byte, mark_at, break_width, ends_break, is_blank, column_at, yaml_mark_t, Folding, Joining, ScanError, feed_at, Wrong, IsMemory, PlainSpot, Ends, Takes, Faulty, Words, is_bracket, with_piece, words_from, follows, words, starts_plain, plain_at, plain_text, plain_with, PlainText, spot_at, ends_at, leads, after_white, is_nothing, joined, IsJoining, Steps, ReadsPlain, within, past_break, end_not_blank, last_of}
 use Rattle.std.proofs.Math.Bool.{or-false, or-true}
 use Rattle.yaml_scan_scalars.specs.declared.folding.Gap.TheVariants as gaps
 use Rattle.yaml_scan_model.specs.declared.problem.ScanError.TheVariants as errors
@@ -17,10 +17,7 @@ pub blank_parts : (old : Joining) (f : Folding) (b q : ℕ) (w : Words)
     ≡ take n old.folding.done.items)
     → joined (record old { folding = f; white = true }) w ≡ joined old (with_piece (Blank b) q w)
 unfolding joined
-blank_parts old f b q w k h g = elim (cases_Bool (is_nothing w.pieces)) [
-  | inl e ↦ rw (e, e, g old.kept k) refl
-  | inr e ↦ rw (e, h w.pieces) refl
-]
+blank_parts old f b q w k h g = search (rules, cases_Bool)
 
 pub break_parts : (old : Joining) (f : Folding) (b : List ℕ) (q : ℕ) (w : Words)
     → old.kept ≤ length old.folding.done.items
@@ -30,10 +27,7 @@ pub break_parts : (old : Joining) (f : Folding) (b : List ℕ) (q : ℕ) (w : Wo
     → joined (record old { folding = f; broke = true; white = true }) w
     ≡ joined old (with_piece (Break b) q w)
 unfolding joined
-break_parts old f b q w k h g = elim (cases_Bool (is_nothing w.pieces)) [
-  | inl e ↦ rw (e, g old.kept k, or-true old.broke) refl
-  | inr e ↦ rw (e, h w.pieces) refl
-]
+break_parts old f b q w k h g = search (rules, cases_Bool, or-true)
 
 pub keep_parts : (old new : Joining) (bytes : List ℕ) (w : Words)
     → ((qs : List Piece) → resume new.folding qs ≡ resume old.folding (Kept bytes ∷ qs))
@@ -41,13 +35,7 @@ pub keep_parts : (old new : Joining) (bytes : List ℕ) (w : Words)
     → length new.folding.done.items ≤ new.kept → new.broke ≡ false
     → joined new w ≡ joined old (with_piece (Kept bytes) new.end.index w)
 unfolding joined
-keep_parts old new bytes w h g b l none = elim (cases_Bool (is_nothing w.pieces)) [
-  | inl e ↦
-      let empty : w.pieces ≡ [] = nothing_is w.pieces e in
-      let whole : resume old.folding (Kept bytes ∷ []) ≡ new.folding.done.items = sym (h []) ∙ rw (g, b) (end_line new.folding.done.items) in
-      rw (empty, take_all new.kept new.folding.done.items l, whole, none) refl
-  | inr e ↦ rw (e, h w.pieces) refl
-]
+keep_parts old new bytes w h g b l none = search (rules, cases_Bool, end_line, nothing_is, take_all)
 
 -- behind a character nothing white stands
 pub seated : (text : List ℕ) (q : ℕ) (j : Joining) → j.kept ≤ length j.folding.done.items
@@ -128,11 +116,7 @@ spot_kept flow level text p z h t k = rw (z, h, t, k) refl
 pub not_ended : (flow : Bool) (level : ℕ) (text : List ℕ) (p : ℕ)
     → ends_at flow level text p ≡ false → 0 < byte text p
 unfolding ends_at
-not_ended flow level text p h =
-    elim (cases_lt 0 (byte text p)) [
-      | inl l ↦ l
-      | inr l ↦ let z : byte text p ≡ 0 = omega arith in absurd (true≢false (rw z at h))
-    ]
+not_ended flow level text p h = search (rules, cases_lt)
 
 pub blank_inside : (text : List ℕ) (p : ℕ) → is_blank (byte text p) ≡ true → p < length text
 blank_inside text p h = within text p (grind (arith, nat_tests))
@@ -170,9 +154,7 @@ follows_same f g p (Faulty w) h = refl
 words_enough : (n : ℕ) (flow : Bool) (level : ℕ) (text : List ℕ) (p : ℕ) → length text ≤ p + n
     → words (suc n) flow level text p ≡ words (suc (suc n)) flow level text p
 unfolding words
-words_enough zero flow level text p room =
-    follows_same (words 0 flow level text) (words 1 flow level text) p (spot_at flow level text p)
-    (λ x q e. absurd {0} (let (far, inside) = rw e at (spot_moves flow level text p) in omega arith))
+words_enough zero flow level text p room = search (rules, follows_same, spot_moves)
 words_enough (suc n) flow level text p room =
     follows_same (words (suc n) flow level text) (words (suc (suc n)) flow level text) p (spot_at flow level text p)
     (λ x q e. let (far, inside) = rw e at (spot_moves flow level text p) in words_enough n flow level text q (omega arith))
@@ -202,39 +184,17 @@ only_memory text a place errors.Memory (Ok x) h = tt
 only_memory text a place errors.Memory (Err w) h = tt
 only_memory text a place (errors.Fault f) r h = absurd h
 
-refused : (text : List ℕ) (a p : ℕ) (old new : Joining) (place : Place) (e : ScanError)
-    (s : PlainSpot) (more : ℕ → Result Words Wrong)
-    → Steps text (mark_at text a) p old new place (Err e) s
-    → ReadsPlain text a place (Err e) (plain_with (joined old) (follows more p s))
-refused text a p old new place e Ends more h = absurd h
-refused text a p old new place e (Takes x q) more h = only_memory text a place e (plain_with (joined old) (follows more p (Takes x q))) h
-refused text a p old new place e (Faulty w) more h = h
-
 pub turn_refused : (flow : Bool) (level : ℕ) (text : List ℕ) (a p : ℕ) (old new : Joining)
-    (place : Place) (e : ScanError)
-    → Steps text (mark_at text a) p old new place (Err e) (spot_at flow level text p)
+    (place : Place) (e : ScanError) (s : PlainSpot) → spot_at flow level text p ≡ s
+    → Steps text (mark_at text a) p old new place (Err e) s
     → ReadsPlain text a place (Err e) (plain_with (joined old) (words_on flow level text p))
-turn_refused flow level text a p old new place e h = rw (words_here flow level text p) (refused text a p old new place e (spot_at flow level text p) (words_on flow level text) h)
-
-done : (text : List ℕ) (start : yaml_mark_t) (p : ℕ) (old new : Joining) (place : Place)
-    (s : PlainSpot) (more : ℕ → Result Words Wrong)
-    → Steps text start p old new place (Ok false) s
-    → (place ≡ record { text = text; at = p }) × (new ≡ old)
-    × (plain_with (joined old) (follows more p s)
-    ≡ Ok record {
-      value = take old.kept old.folding.done.items;
-      end = old.end.index;
-      place = p;
-      broke = old.broke;
-    })
-unfolding joined
-done text start p old new place (Takes x q) more h = absurd h
-done text start p old new place (Faulty w) more h = absurd h
-done text start p old new place Ends more (e, f) = (e, f, rw (or-false old.broke) refl)
+turn_refused flow level text a p old new place e Ends is h = absurd h
+turn_refused flow level text a p old new place e (Takes x q) is h = only_memory text a place e (plain_with (joined old) (words_on flow level text p)) h
+turn_refused flow level text a p old new place e (Faulty w) is h = rw (words_here flow level text p, is) h
 
 pub turn_done : (flow : Bool) (level : ℕ) (text : List ℕ) (start : yaml_mark_t) (p : ℕ)
-    (old new : Joining) (place : Place)
-    → Steps text start p old new place (Ok false) (spot_at flow level text p)
+    (old new : Joining) (place : Place) (s : PlainSpot) → spot_at flow level text p ≡ s
+    → Steps text start p old new place (Ok false) s
     → (place ≡ record { text = text; at = p }) × (new ≡ old)
     × (plain_with (joined old) (words_on flow level text p)
     ≡ Ok record {
@@ -243,15 +203,18 @@ pub turn_done : (flow : Bool) (level : ℕ) (text : List ℕ) (start : yaml_mark
       place = p;
       broke = old.broke;
     })
-turn_done flow level text start p old new place h = rw (words_here flow level text p) (done text start p old new place (spot_at flow level text p) (words_on flow level text) h)
+unfolding joined
+turn_done flow level text start p old new place (Takes x q) is h = absurd h
+turn_done flow level text start p old new place (Faulty w) is h = absurd h
+turn_done flow level text start p old new place Ends is (e, f) = (e, f, rw (words_here flow level text p, is, or-false old.broke) refl)
 
 -- what a step that goes on leaves
-pub record GoesOn (flow : Bool) (level : ℕ) (text : List ℕ) (p : ℕ) (old new : Joining) (place : Place) (whole : Result Words Wrong) : Type 0 where
+pub record GoesOn (flow : Bool) (level : ℕ) (text : List ℕ) (p : ℕ) (old new : Joining) (place : Place) : Type 0 where
   pub same : place.text ≡ text
   pub further : p < place.at
   pub inside : p < length text
   pub seat : IsJoining text place.at new
-  pub rest : plain_with (joined old) whole ≡ plain_with (joined new) (words_on flow level text place.at)
+  pub rest : plain_with (joined old) (words_on flow level text p) ≡ plain_with (joined new) (words_on flow level text place.at)
 
 front : (old new : Joining) (x : Piece) (q : ℕ) (r : Result Words Wrong)
     → ((w : Words) → joined new w ≡ joined old (with_piece x q w))
@@ -259,20 +222,12 @@ front : (old new : Joining) (x : Piece) (q : ℕ) (r : Result Words Wrong)
 front old new x q (Ok w) h = rw (h w) refl
 front old new x q (Err e) h = refl
 
-step : (flow : Bool) (level : ℕ) (text : List ℕ) (start : yaml_mark_t) (p : ℕ) (old new : Joining)
-    (place : Place) (s : PlainSpot) → Steps text start p old new place (Ok true) s
-    → GoesOn flow level text p old new place (follows (words_on flow level text) p s)
-step flow level text start p old new place Ends h = absurd h
-step flow level text start p old new place (Faulty w) h = absurd h
-step flow level text start p old new place (Takes x q) (e, f, seat, l, i) =
-    let at : place.at ≡ q = ap (λ (y : Place). y.at) e in
-    record { same = ap (λ (y : Place). y.text) e; further = rw at l; inside = i; seat = rw at seat; rest = rw at (front old new x q (words_on flow level text q) f) }
-
 pub turn_more : (flow : Bool) (level : ℕ) (text : List ℕ) (start : yaml_mark_t) (p : ℕ)
-    (old new : Joining) (place : Place)
-    → Steps text start p old new place (Ok true) (spot_at flow level text p)
-    → GoesOn flow level text p old new place (words_on flow level text p)
-turn_more flow level text start p old new place h = rw (words_here flow level text p) (step flow level text start p old new place (spot_at flow level text p) h)
+    (old new : Joining) (place : Place) (s : PlainSpot) → spot_at flow level text p ≡ s
+    → Steps text start p old new place (Ok true) s → GoesOn flow level text p old new place
+turn_more flow level text start p old new place Ends is h = absurd h
+turn_more flow level text start p old new place (Faulty w) is h = absurd h
+turn_more flow level text start p old new place (Takes x q) is (e, f, seat, l, i) = search (rules, front, words_here)
 
 -- what a plain scalar starts with
 

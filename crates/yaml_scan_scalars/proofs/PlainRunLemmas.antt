@@ -1,7 +1,7 @@
 -- Runs of ordinary bytes in plain scalars.
 use Rattle.std.proofs.Math.Bool.{and-false}
-use Rattle.std.proofs.Common.{◌≡◌, ℕ, zero, suc, ◌+◌, ◌-◌, ◌<◌, ◌≤◌, ◌==◌, ◌&&◌, if◌then◌else◌, Bool, true, false, List, [], ◌∷◌, ◌++◌, length, Result, Ok, Err, refl, sym, ap, ◌∙◌, inl, inr, ◌⊎◌, arith}
-use Rattle.yaml_scan_scalars.proofs.Words.{cases_Bool, ne_eqb, nat_tests, Place, byte, ends_break, is_blank, Wrong, Joining, Piece, Kept, value, is_ordinary, is_common, is_narrow, is_odd, parts_flow, plain_kind, is_document_indicator, is_sign, in_run, bytes_at, piece_of, run_pieces, ends_kept, starts_kept, IsRun, Takes, Words, is_bracket, is_nothing, with_piece, with_run, words_from, plain_with, plain_text, plain_at, spot_at, ends_at, leads, after_white, joined, TookWords}
+use Rattle.std.proofs.Common.{◌≡◌, ℕ, zero, suc, ◌+◌, ◌-◌, ◌<◌, ◌≤◌, ◌==◌, ◌&&◌, if◌then◌else◌, Bool, true, false, List, [], ◌∷◌, ◌++◌, length, Result, Ok, Err, refl, sym, ap, ◌∙◌, inl, inr, ◌⊎◌, arith, rules}
+use Rattle.yaml_scan_scalars.proofs.Words.{cases_Bool, ne_eqb, nat_tests, Place, byte, ends_break, is_blank, Wrong, Joining, Piece, Kept, value, is_ordinary, is_common, is_narrow, is_odd, plain_kind, is_document_indicator, is_sign, in_run, bytes_at, piece_of, run_pieces, ends_kept, starts_kept, IsRun, Takes, Words, is_bracket, is_nothing, with_piece, with_run, words_from, plain_with, plain_text, plain_at, spot_at, ends_at, leads, after_white, joined, TookWords}
 use Rattle.yaml_scan_scalars.specs.declared.folding.Gap.TheVariants as gaps
 use Rattle.yaml_scan_scalars.proofs.RunLemmas.{IsCalm, calm_no_break, calm_ends_none, calm_no_blank, calm_no_space, ordinary_calm, ordinary_no_mark, sign_calm, no_mark_here, link_cases, run_parts, space_here, bytes_none, bytes_more, ends_bytes, resume_run, value_run, same_or}
 use Rattle.yaml_scan_scalars.proofs.FoldingLemmas.{value-kept}
@@ -12,10 +12,7 @@ use Rattle.yaml_scan_scalars.proofs.PlainLemmas.{spot_kept, spot_blank, lead_tex
 with_piece_some : (b q e place : ℕ) (broke : Bool) (qs : List Piece) → is_nothing qs ≡ false
     → with_piece (piece_of b) q (record { pieces = qs; end = e; place = place; broke = broke })
     ≡ record { pieces = piece_of b ∷ qs; end = e; place = place; broke = broke }
-with_piece_some b q e place broke qs h = elim (cases_Bool (b == 32)) [
-  | inl s ↦ rw (s, h) refl
-  | inr n ↦ rw (n, h) refl
-]
+with_piece_some b q e place broke qs h = search (rules, cases_Bool)
 
 pub with_run_is : (text : List ℕ) (p d : ℕ) (w : Words) → (byte text (p + d) == 32) ≡ false
     → with_run text p (suc d) w ≡ record {
@@ -35,9 +32,7 @@ with_run_is text p (suc d) w h =
     let f : p + suc d ≡ p + 1 + d = omega arith in
     let more = with_run_is text (p + 1) d w (rw f at h) in
     let qs = run_pieces (bytes_at text (p + 1) (suc d)) ++ w.pieces in
-    ap (λ x. with_piece (piece_of (byte text p)) (p + 1) x) more
-    ∙ with_piece_some (byte text p) (p + 1) (if is_nothing w.pieces then p + 1 + suc d else w.end) w.place w.broke qs (rw (bytes_more text (p + 1) d) refl)
-    ∙ rw (bytes_more text p (suc d), e) refl
+    search (rules, bytes_more, with_piece_some, e, f, more, qs)
 
 joined_parts : (j : Joining) (bs : List ℕ) (e place : ℕ) (broke : Bool) (ps : List Piece)
     → (j.folding.gap ≡ gaps.Line) ⊎ (starts_kept bs ≡ true) → ends_kept bs ≡ true → 0 < length bs
@@ -64,9 +59,7 @@ pub first_text : (text : List ℕ) (p d q : ℕ) (w : Words) → q ≡ p + suc d
     → (byte text (p + d) == 32) ≡ false
     → plain_text (with_piece (Kept (bytes_at text p (suc d))) q w)
     ≡ plain_text (with_run text p (suc d) w)
-first_text text p d q w e last =
-    let same = ap (λ v. record { value = v; end = if is_nothing w.pieces then p + suc d else w.end; place = w.place; broke = w.broke }) (first_value (bytes_at text p (suc d)) w.pieces (ends_bytes text p d last)) in
-    rw e (same ∙ sym (ap (λ v. plain_text v) (with_run_is text p d w last)))
+first_text text p d q w e last = search (rules, ends_bytes, first_value, plain_text, with_run_is)
 
 -- what follows a run
 
@@ -77,7 +70,7 @@ record IsText (flow : Bool) (b : ℕ) : Type 0 where
   no_part : (flow && is_bracket b) ≡ false
 
 text_is : (flow : Bool) (b : ℕ) → is_ordinary (plain_kind flow) b ≡ true → IsText flow b
-unfolding is_common is_narrow is_odd parts_flow is_bracket
+unfolding is_common is_narrow is_odd is_bracket
 text_is true b h = record { no_hash = grind (arith, nat_tests); no_colon = grind (arith, nat_tests); no_part = grind (arith, nat_tests) }
 text_is false b h = record { no_hash = grind (arith, nat_tests); no_colon = grind (arith, nat_tests); no_part = refl }
 
@@ -110,9 +103,7 @@ calm_next kind text p h = let o = ordinary_calm kind (byte text p) h in lead_tex
 pub calm_behind : (kind : ℕ) (text : List ℕ) (p : ℕ) (place : Place) → IsRun kind text p place
     → p < place.at
     → (false ≡ leads text place.at) × (false ≡ after_white text place.at)
-calm_behind kind text p place run h =
-    let last : place.at - 1 + 1 ≡ place.at = omega arith in
-    rw last at (calm_next kind text (place.at - 1) (run.last h))
+calm_behind kind text p place run h = search (rules, calm_next)
 
 -- behind a character and a run
 pub behind_first : (kind : ℕ) (text : List ℕ) (p : ℕ) (place : Place)

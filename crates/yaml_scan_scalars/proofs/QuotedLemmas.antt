@@ -1,6 +1,6 @@
 -- Quoted scalars, a step at a time.
-use Rattle.std.proofs.Common.{◌≡◌, ◌≢◌, ℕ, zero, suc, ◌+◌, ◌-◌, ◌<◌, ◌≤◌, nat_lt, true, false, List, [], ◌∷◌, ◌++◌, length, Some, None, Result, Ok, Err, refl, ap, inl, inr, ◌⊎◌, ◌==◌, ◌&&◌, arith}
-use Rattle.yaml_scan_scalars.proofs.Words.{cond_both, eqb-false, ltb-true, nat_tests, ne_eqb, yaml_mark_t, ScanError, Place, byte, mark_at, break_of, break_width, is_blank, is_document_indicator, Wrong, IsMemory, no_break, within, Piece, Kept, Blank, value, Took, Reads, QuotedSpot, Closing, Pieces, Bad, is_scalar, coded, hex_len, hex_value, simple_escape, escaped, with_front, followed, pieces, valued, quoted_at, quote_at, standing_at, escape_at, eq-eqb}
+use Rattle.std.proofs.Common.{◌≡◌, ◌≢◌, ℕ, zero, suc, ◌+◌, ◌-◌, ◌<◌, ◌≤◌, true, false, List, [], ◌∷◌, ◌++◌, length, Result, Ok, Err, refl, ap, inl, inr, ◌⊎◌, ◌==◌, ◌&&◌, arith, rules}
+use Rattle.yaml_scan_scalars.proofs.Words.{cond_both, eqb-false, ltb-true, nat_tests, ne_eqb, yaml_mark_t, ScanError, Place, byte, mark_at, break_of, break_width, is_blank, is_document_indicator, Wrong, IsMemory, no_break, within, Piece, Kept, Blank, value, Took, Reads, QuotedSpot, Closing, Pieces, Bad, with_front, followed, pieces, valued, quoted_at, quote_at, standing_at, escape_at, eq-eqb}
 use Rattle.yaml_scan_model.specs.declared.problem.ScanError.TheVariants as errors
 
 -- ---- what goes on moves
@@ -12,30 +12,11 @@ Moved text p (Bad w) = Unit {0}
 
 escape_moves : (text : List ℕ) (p : ℕ) → p < length text → Moved text p (escape_at text p)
 unfolding escape_at
-escape_moves text p g =
-    let b = byte text (p + 1) in
-    cond_both (nat_lt 0 (break_width text (p + 1))) _ _ (Moved text p) (λ w. (omega arith, g)) (λ w.
-    cond_both (nat_lt 0 (hex_len b)) _ _ (Moved text p) (λ x.
-    elim (hex_value text (p + 2) (hex_len b)) as (λ o. Moved text p (coded (p + 2) (p + 2 + hex_len b) o)) [
-      | None ↦ tt
-      | Some c ↦ cond_both (is_scalar c) _ _ (Moved text p) (λ s. (omega arith, g)) (λ s. tt)
-    ]) (λ x.
-    elim (simple_escape b) as (λ o. Moved text p (escaped p o)) [
-      | None ↦ tt
-      | Some bytes ↦ (omega arith, g)
-    ]))
+escape_moves text p g = search (rules, cond_both)
 
 pub standing_moves : (quote : ℕ) (text : List ℕ) (p : ℕ) → Moved text p (standing_at quote text p)
 unfolding standing_at quote_at
-standing_moves quote text p =
-    cond_both (is_document_indicator text p) _ _ (Moved text p) (λ a. tt) (λ a.
-    cond_both (byte text p == 0) _ _ (Moved text p) (λ b. tt) (λ b.
-    let g : p < length text = within text p (omega (arith, eqb-false (byte text p) 0 b)) in
-    cond_both (byte text p == quote) _ _ (Moved text p) (λ c.
-    cond_both (quote == 39 && byte text (p + 1) == 39) _ _ (Moved text p) (λ d. (omega arith, g)) (λ d. tt)) (λ c.
-    cond_both (nat_lt 0 (break_width text p)) _ _ (Moved text p) (λ d. (omega (arith, ltb-true 0 (break_width text p) d), g)) (λ d.
-    cond_both (is_blank (byte text p)) _ _ (Moved text p) (λ e. (omega arith, g)) (λ e.
-    cond_both (quote == 34 && byte text p == 92) _ _ (Moved text p) (λ f. escape_moves text p g) (λ f. (omega arith, g)))))))
+standing_moves quote text p = search (rules, cond_both, eqb-false, escape_moves, ltb-true, within)
 
 -- ---- as many steps as reach the end
 
@@ -48,9 +29,7 @@ followed_same f g p (Bad w) h = refl
 pieces_more : (n quote : ℕ) (text : List ℕ) (p : ℕ) → length text ≤ p + n
     → pieces (suc n) quote text p ≡ pieces (suc (suc n)) quote text p
 unfolding pieces
-pieces_more zero quote text p room =
-    followed_same (pieces 0 quote text) (pieces 1 quote text) p (standing_at quote text p)
-    (λ ps q e. absurd {0} (let (far, inside) = rw e at (standing_moves quote text p) in omega arith))
+pieces_more zero quote text p room = search (rules, followed_same, standing_moves)
 pieces_more (suc n) quote text p room =
     followed_same (pieces (suc n) quote text) (pieces (suc (suc n)) quote text) p (standing_at quote text p)
     (λ ps q e. let (far, inside) = rw e at (standing_moves quote text p) in pieces_more n quote text q (omega arith))
@@ -78,42 +57,27 @@ front old new qs (Ok x) h = rw (h x.0) refl
 front old new qs (Err e) h = refl
 
 -- what a step that goes on leaves
-pub record GoesOn (quote : ℕ) (text : List ℕ) (p : ℕ) (old new : List Piece → List ℕ) (place : Place) (whole : Result (List Piece × ℕ) Wrong) : Type 0 where
+pub record GoesOn (quote : ℕ) (text : List ℕ) (p : ℕ) (old new : List Piece → List ℕ) (place : Place) : Type 0 where
   pub same : place.text ≡ text
   pub further : p < place.at
   pub inside : p < length text
-  pub rest : valued old whole ≡ valued new (pieces_on quote text place.at)
-
-step : (text : List ℕ) (start : yaml_mark_t) (quote p : ℕ) (old new : List Piece → List ℕ)
-    (place : Place) (s : QuotedSpot) → Took text start p old new place (Ok true) s
-    → GoesOn quote text p old new place (followed (pieces_on quote text) p s)
-step text start quote p old new place Closing h = absurd h
-step text start quote p old new place (Bad w) h = absurd h
-step text start quote p old new place (Pieces qs q) (e, f, l, i) =
-    let at : place.at ≡ q = ap (λ (x : Place). x.at) e in
-    record { same = ap (λ (x : Place). x.text) e; further = rw at l; inside = i; rest = rw at (front old new qs (pieces_on quote text q) f) }
+  pub rest : valued old (pieces_on quote text p) ≡ valued new (pieces_on quote text place.at)
 
 pub turn_more : (text : List ℕ) (start : yaml_mark_t) (quote p : ℕ)
-    (old new : List Piece → List ℕ) (place : Place)
-    → Took text start p old new place (Ok true) (standing_at quote text p)
-    → GoesOn quote text p old new place (pieces_on quote text p)
-turn_more text start quote p old new place h = rw (pieces_here quote text p) (step text start quote p old new place (standing_at quote text p) h)
-
-done : (text : List ℕ) (start : yaml_mark_t) (p : ℕ) (old new : List Piece → List ℕ) (place : Place)
-    (s : QuotedSpot) (more : ℕ → Result (List Piece × ℕ) Wrong)
-    → Took text start p old new place (Ok false) s
-    → (place ≡ record { text = text; at = p + 1 })
-    × (valued old (followed more p s) ≡ Ok (new [], p + 1))
-done text start p old new place (Pieces qs q) more h = absurd h
-done text start p old new place (Bad w) more h = absurd h
-done text start p old new place Closing more (e, f) = (e, rw (f []) refl)
+    (old new : List Piece → List ℕ) (place : Place) (s : QuotedSpot) → standing_at quote text p ≡ s
+    → Took text start p old new place (Ok true) s → GoesOn quote text p old new place
+turn_more text start quote p old new place Closing is h = absurd h
+turn_more text start quote p old new place (Bad w) is h = absurd h
+turn_more text start quote p old new place (Pieces qs q) is (e, f, l, i) = search (rules, front, pieces_here)
 
 pub turn_done : (text : List ℕ) (start : yaml_mark_t) (quote p : ℕ)
-    (old new : List Piece → List ℕ) (place : Place)
-    → Took text start p old new place (Ok false) (standing_at quote text p)
+    (old new : List Piece → List ℕ) (place : Place) (s : QuotedSpot) → standing_at quote text p ≡ s
+    → Took text start p old new place (Ok false) s
     → (place ≡ record { text = text; at = p + 1 })
     × (valued old (pieces_on quote text p) ≡ Ok (new [], p + 1))
-turn_done text start quote p old new place h = rw (pieces_here quote text p) (done text start p old new place (standing_at quote text p) (pieces_on quote text) h)
+turn_done text start quote p old new place (Pieces qs q) is h = absurd h
+turn_done text start quote p old new place (Bad w) is h = absurd h
+turn_done text start quote p old new place Closing is (e, f) = (e, rw (pieces_here quote text p, is, f []) refl)
 
 only_memory : (text : List ℕ) (a : ℕ) (place : Place) (e : ScanError)
     (r : Result (List ℕ × ℕ) Wrong) → IsMemory e → Reads text a place (Err e) r
@@ -121,19 +85,13 @@ only_memory text a place errors.Memory (Ok x) h = tt
 only_memory text a place errors.Memory (Err w) h = tt
 only_memory text a place (errors.Fault f) r h = absurd h
 
-refused : (text : List ℕ) (a p : ℕ) (old new : List Piece → List ℕ) (place : Place) (e : ScanError)
-    (s : QuotedSpot) (more : ℕ → Result (List Piece × ℕ) Wrong)
-    → Took text (mark_at text a) p old new place (Err e) s
-    → Reads text a place (Err e) (valued old (followed more p s))
-refused text a p old new place e (Pieces qs q) more h = only_memory text a place e (valued old (followed more p (Pieces qs q))) h
-refused text a p old new place e Closing more h = absurd h
-refused text a p old new place e (Bad w) more h = h
-
 pub turn_refused : (text : List ℕ) (quote a p : ℕ) (old new : List Piece → List ℕ) (place : Place)
-    (e : ScanError)
-    → Took text (mark_at text a) p old new place (Err e) (standing_at quote text p)
+    (e : ScanError) (s : QuotedSpot) → standing_at quote text p ≡ s
+    → Took text (mark_at text a) p old new place (Err e) s
     → Reads text a place (Err e) (valued old (pieces_on quote text p))
-turn_refused text quote a p old new place e h = rw (pieces_here quote text p) (refused text a p old new place e (standing_at quote text p) (pieces_on quote text) h)
+turn_refused text quote a p old new place e (Pieces qs q) is h = only_memory text a place e (valued old (pieces_on quote text p)) h
+turn_refused text quote a p old new place e Closing is h = absurd h
+turn_refused text quote a p old new place e (Bad w) is h = rw (pieces_here quote text p, is) h
 
 -- ---- quotes are no breaks
 

@@ -1,5 +1,5 @@
 -- Runs of ordinary bytes.
-use Rattle.std.proofs.Common.{◌≡◌, ◌≢◌, ℕ, zero, suc, ◌+◌, ◌-◌, ◌<◌, ◌≤◌, ◌==◌, ◌&&◌, ◌||◌, Bool, true, false, List, [], ◌∷◌, ◌++◌, length, take, drop, Result, Ok, Err, refl, sym, ap, ◌∙◌, inl, inr, ◌⊎◌, append_assoc, arith}
+use Rattle.std.proofs.Common.{◌≡◌, ◌≢◌, ℕ, zero, suc, ◌+◌, ◌-◌, ◌<◌, ◌≤◌, ◌==◌, ◌&&◌, ◌||◌, Bool, true, false, List, [], ◌∷◌, ◌++◌, length, take, drop, Result, Ok, Err, refl, sym, ap, ◌∙◌, inl, inr, ◌⊎◌, append_assoc, arith, rules}
 use Rattle.yaml_scan_scalars.proofs.Words.{and_parts, cases_Bool, cases_lt, eqb-true, ne_eqb, or_cases, or_from, or_right, not-true, nat_tests, drop_more, Place, byte, break_of, ends_of, is_blank, is_document_indicator, Wrong, no_break, Folding, Gap, Piece, Kept, Blank, Line, lines, is_empty, folded, value, resume, resumed, is_ordinary, is_common, is_narrow, is_odd, quoted_kind, is_sign, is_link, is_linked, in_run, bytes_at, piece_of, run_pieces, starts_kept, ends_kept, IsRun, TookRun, Pieces, with_front, valued, standing_at}
 use Rattle.yaml_scan_scalars.specs.declared.folding.Gap.TheVariants as gaps
 use Rattle.yaml_scan_scalars.proofs.FoldingLemmas.{value-kept, blanks_of, keep_line, keep_feed, keep_kept}
@@ -22,12 +22,7 @@ calm_no_break b c d h = no_break b c d (omega (arith, h.high)) (omega (arith, h.
 
 pub calm_ends_none : (x y b c : ℕ) → IsCalm b → ends_of x y b c ≡ false
 unfolding ends_of
-calm_ends_none x y b c h =
-    let high = h.high in
-    let next = h.no_next in
-    let line = h.no_line in
-    let paragraph = h.no_paragraph in
-    grind (arith, nat_tests)
+calm_ends_none x y b c h = search rules
 
 pub calm_no_blank : (b : ℕ) → IsCalm b → is_blank b ≡ false
 calm_no_blank b h = or_from _ _ (ne_eqb b 32 (omega (arith, h.high))) (ne_eqb b 9 (omega (arith, h.high)))
@@ -37,14 +32,7 @@ calm_no_space b h = ne_eqb b 32 (omega (arith, h.high))
 
 pub ordinary_calm : (kind b : ℕ) → is_ordinary kind b ≡ true → IsCalm b
 unfolding is_common is_narrow
-ordinary_calm kind b h = record {
-  high = grind (arith, nat_tests);
-  no_c2 = grind (arith, nat_tests);
-  no_e2 = grind (arith, nat_tests);
-  no_next = grind (arith, nat_tests);
-  no_line = grind (arith, nat_tests);
-  no_paragraph = grind (arith, nat_tests);
-}
+ordinary_calm kind b h = search rules
 
 ordinary_no_sign : (kind b : ℕ) → is_ordinary kind b ≡ true → (b ≢ 45) × (b ≢ 46)
 unfolding is_common is_narrow
@@ -110,10 +98,7 @@ run_parts kind text p h = linked_or (is_ordinary kind (byte text p)) (is_link (b
 
 pub link_cases : (b : ℕ) → is_link b ≡ true → (b ≡ 32) ⊎ (is_sign b ≡ true)
 unfolding is_link
-link_cases b h = elim (or_cases (b == 32) (is_sign b) h) [
-  | inl e ↦ inl (eqb-true b 32 e)
-  | inr s ↦ inr s
-]
+link_cases b h = search (rules, eqb-true, or_cases)
 
 pub ordinary_in : (kind : ℕ) (text : List ℕ) (p : ℕ) → is_ordinary kind (byte text p) ≡ true
     → in_run kind text p ≡ true
@@ -156,11 +141,7 @@ run_start kind text p = record { same = refl; after = omega arith; each = λ k h
 -- what holds up to a place, and behind it
 pub each_join : (test : ℕ → Bool) (p q r : ℕ) → ((k : ℕ) → p ≤ k → k < q → test k ≡ true)
     → ((k : ℕ) → q ≤ k → k < r → test k ≡ true) → (k : ℕ) → p ≤ k → k < r → test k ≡ true
-each_join test p q r front back k after before =
-    elim (cases_lt k q) [
-      | inl less ↦ front k after less
-      | inr more ↦ back k more before
-    ]
+each_join test p q r front back k after before = search (rules, cases_lt, front)
 
 -- what holds up to a place, and there
 pub each_more : (test : ℕ → Bool) (p q : ℕ) → ((k : ℕ) → p ≤ k → k < q → test k ≡ true)
@@ -170,10 +151,7 @@ each_more test p q front here = each_join test p q (q + 1) front (λ k a b. let 
 pub run_more : (kind : ℕ) (text : List ℕ) (p : ℕ) (place : Place) → IsRun kind text p place
     → is_ordinary kind (byte text place.at) ≡ true
     → IsRun kind text p (record { text = place.text; at = place.at + 1 })
-run_more kind text p place r h =
-    let after = r.after in
-    let e : place.at + 1 - 1 ≡ place.at = omega arith in
-    record { same = r.same; after = omega arith; each = each_more (in_run kind text) p place.at r.each (ordinary_in kind text place.at h); last = λ l. rw e h }
+run_more kind text p place r h = search (rules, each_more, ordinary_in)
 
 pub same_or : (p q : ℕ) → p ≤ q → (q ≡ p) ⊎ (p < q)
 same_or p q h = grind arith
@@ -181,26 +159,14 @@ same_or p q h = grind arith
 -- a run and the run behind it
 pub run_join : (kind : ℕ) (text : List ℕ) (p : ℕ) (place last : Place) → IsRun kind text p place
     → IsRun kind place.text place.at last → IsRun kind text p last
-run_join kind text p place last r s =
-    let after = r.after in
-    record {
-      same = s.same ∙ r.same;
-      after = omega arith;
-      each = each_join (in_run kind text) p place.at last.at r.each (rw r.same at s.each);
-      last = λ b. elim (same_or place.at last.at s.after) [
-        | inl e ↦ rw e (r.last (omega arith))
-        | inr l ↦ rw r.same at (s.last l)
-      ];
-    }
+run_join kind text p place last r s = search (rules, each_join, same_or)
 
 -- the last byte of a run is no space
 
 pub ends_bytes : (text : List ℕ) (p d : ℕ) → (byte text (p + d) == 32) ≡ false
     → ends_kept (bytes_at text p (suc d)) ≡ true
 unfolding bytes_at
-ends_bytes text p zero h =
-    let e : p + 0 ≡ p = omega arith in
-    rw (rw e at h) refl
+ends_bytes text p zero h = search rules
 ends_bytes text p (suc d) h =
     let e : p + suc d ≡ p + 1 + d = omega arith in
     ends_bytes text (p + 1) d (rw e at h)
@@ -219,21 +185,7 @@ run_ends kind text p place run =
 -- nor that of a run with the byte before it
 pub first_last : (kind : ℕ) (text : List ℕ) (p : ℕ) (place : Place) → IsRun kind text (p + 1) place
     → (byte text p == 32) ≡ false → (byte text (p + (place.at - (p + 1))) == 32) ≡ false
-first_last kind text p place run h =
-    elim (same_or (p + 1) place.at run.after) [
-      | inl s ↦ let e : p + (place.at - (p + 1)) ≡ p = omega arith in rw e h
-      | inr l ↦
-          let e : p + (place.at - (p + 1)) ≡ place.at - 1 = omega arith in
-          rw e (calm_no_space _ (ordinary_calm kind _ (run.last l)))
-    ]
-
-starts_first : (b : ℕ) (bs : List ℕ) → (b == 32) ≡ false → starts_kept (b ∷ bs) ≡ true
-starts_first b bs h = rw h refl
-
-pub starts_bytes : (text : List ℕ) (p d : ℕ) → (byte text p == 32) ≡ false
-    → starts_kept (bytes_at text p d) ≡ true
-starts_bytes text p zero h = rw (bytes_none text p) refl
-starts_bytes text p (suc d) h = rw (bytes_more text p d) (starts_first (byte text p) (bytes_at text (p + 1) d) h)
+first_last kind text p place run h = search (rules, calm_no_space, ordinary_calm, same_or)
 
 -- a run as one piece
 
@@ -298,13 +250,7 @@ line_value done ps = refl
 -- behind a break no space comes first
 resume_kept : (f : Folding) (b : ℕ) (bs : List ℕ) (ps : List Piece) → (b == 32) ≡ false
     → ends_kept bs ≡ true → resume f (Kept (b ∷ bs) ∷ ps) ≡ resume f (run_pieces (b ∷ bs) ++ ps)
-resume_kept f b bs ps n h =
-    let s = stem f.done.items f.blanks.items f.gap in
-    let left : resume f (Kept (b ∷ bs) ∷ ps) ≡ s ++ (b ∷ (bs ++ value ps)) =
-    kept_stem f.done.items f.blanks.items (b ∷ bs) f.gap ps ∙ line_value (s ++ (b ∷ bs)) ps ∙ append_assoc s (b ∷ bs) (value ps) in
-    let right : resume f (Kept (b ∷ []) ∷ (run_pieces bs ++ ps)) ≡ s ++ (b ∷ value (run_pieces bs ++ ps)) =
-    kept_stem f.done.items f.blanks.items (b ∷ []) f.gap (run_pieces bs ++ ps) ∙ line_value (s ++ (b ∷ [])) (run_pieces bs ++ ps) ∙ append_assoc s (b ∷ []) (value (run_pieces bs ++ ps)) in
-    rw n (left ∙ sym (right ∙ ap (λ x. s ++ (b ∷ x)) (value_run bs ps h)))
+resume_kept f b bs ps n h = search (rules, append_assoc, kept_stem, line_value, value_run)
 
 resumed_line : (done blanks : List ℕ) (ps : List Piece) → is_empty (lines ps).first ≡ false
     → resumed done blanks gaps.Line ps ≡ done ++ (blanks ++ value ps)
@@ -332,11 +278,6 @@ pub resume_bytes : (f : Folding) (bs : List ℕ) (ps : List Piece)
     → resume f (Kept bs ∷ ps) ≡ resume f (run_pieces bs ++ ps)
 resume_bytes f [] ps s e h = absurd (omega arith)
 resume_bytes f (b ∷ bs) ps s e h = resume_run f b bs ps s e
-
-pub resume_none : (f : Folding) (bs : List ℕ) (ps : List Piece) → length bs ≡ 0
-    → resume f ps ≡ resume f (run_pieces bs ++ ps)
-resume_none f [] ps h = refl
-resume_none f (b ∷ bs) ps h = absurd (omega (arith, h))
 
 -- a run between quotes
 
@@ -390,15 +331,10 @@ pub pieces_run : (d quote : ℕ) (text : List ℕ) (p : ℕ) → (quote ≡ 34) 
     → ((k : ℕ) → p ≤ k → k < p + d → in_run (quoted_kind quote) text k ≡ true)
     → pieces_on quote text p
     ≡ with_front (run_pieces (bytes_at text p d)) (pieces_on quote text (p + d))
-pieces_run zero quote text p q o =
-    let f : p + 0 ≡ p = omega arith in
-    rw (f, bytes_none text p) (front_none (pieces_on quote text p))
+pieces_run zero quote text p q o = search (rules, bytes_none, front_none)
 pieces_run (suc d) quote text p q o =
-    let f : p + suc d ≡ p + 1 + d = omega arith in
-    let x = piece_of (byte text p) in
-    let here = rw (standing_run quote text p q (o p (omega arith) (omega arith))) at (pieces_here quote text p) in
     let more = pieces_run d quote text (p + 1) q (λ k a b. o k (omega arith) (omega arith)) in
-    rw (f, bytes_more text p d) (here ∙ ap (λ r. with_front (x ∷ []) r) more ∙ front_more x (run_pieces (bytes_at text (p + 1) d)) (pieces_on quote text (p + 1 + d)))
+    search (rules, bytes_more, front_more, pieces_here, standing_run, more)
 
 pub quoted_run : (quote : ℕ) (text : List ℕ) (p : ℕ) (old new : List Piece → List ℕ)
     (place : Place) → (quote ≡ 34) ⊎ (quote ≡ 39) → TookRun (quoted_kind quote) text p old new place

@@ -1,15 +1,11 @@
 -- The table of ordinary bytes, and the marks behind a run of them.
-use Rattle.std.proofs.Common.{◌≡◌, ℕ, ◌+◌, ◌<◌, ◌≤◌, if◌then◌else◌, Bool, true, false, ◌&&◌, ◌||◌, ◌-◌, ◌∙◌, List, length, refl, sym, inl, inr, arith}
-use Rattle.yaml_scan_scalars.proofs.Words.{nat_tests, cases_Bool, cases_lt, and_parts, true≢false, or_cases, or_parts, byte, break_of, ends_break, splits_break, starts, line_at, column_at, within, end_next, split_next, line_more, column_more, column_same, is_ordinary, is_common, is_narrow, is_odd, parts_flow, is_link, is_linked, in_run, IsRun}
-use Rattle.yaml_scan_scalars.proofs.RunLemmas.{calm_no_break, common_ordinary, narrow_ordinary, ordinary_calm, link_cases, ordinary_in, linked_in, run_parts}
+use Rattle.std.proofs.Common.{◌≡◌, ℕ, ◌+◌, ◌<◌, ◌≤◌, if◌then◌else◌, Bool, true, false, ◌&&◌, ◌||◌, ◌-◌, List, length, refl, inl, inr, arith, rules}
+use Rattle.yaml_scan_scalars.proofs.Words.{nat_tests, cases_Bool, cases_lt, and_parts, or_cases, or_parts, byte, break_of, ends_break, splits_break, starts, line_at, column_at, within, end_next, split_next, line_more, column_more, column_same, is_ordinary, is_common, is_narrow, is_odd, is_link, is_linked, in_run, IsRun, is_bracket}
+use Rattle.yaml_scan_scalars.proofs.RunLemmas.{common_ordinary, narrow_ordinary, ordinary_calm, link_cases, ordinary_in, linked_in, run_parts}
 
 column_behind : (text : List ℕ) (p : ℕ) → ends_break text p ≡ false
     → column_at text (p + 1) ≡ column_at text p + (if starts (byte text p) then 1 else 0)
-column_behind text p e =
-    elim (cases_Bool (starts (byte text p))) [
-      | inl s ↦ rw s (column_more text p e s)
-      | inr s ↦ rw s (column_same text p e s ∙ omega arith)
-    ]
+column_behind text p e = search (rules, cases_Bool, column_more, column_same, starts)
 
 -- what the mark is behind an ordinary byte
 pub record Behind (text : List ℕ) (p : ℕ) : Type 0 where
@@ -20,26 +16,16 @@ pub record Behind (text : List ℕ) (p : ℕ) : Type 0 where
 pub behind_none : (text : List ℕ) (p : ℕ)
     → break_of (byte text p) (byte text (p + 1)) (byte text (p + 2)) ≡ 0
     → splits_break text p ≡ false → Behind text p
-behind_none text p none whole =
-    let e = end_next text p whole none in
-    record { line = line_more text p e; column = column_behind text p e; whole = split_next text p whole none }
-
-pub behind : (text : List ℕ) (p : ℕ) → is_common (byte text p) ≡ true
-    → splits_break text p ≡ false → Behind text p
-behind text p o whole = behind_none text p (calm_no_break _ _ _ (ordinary_calm 1 _ (common_ordinary 1 (byte text p) o))) whole
+behind_none text p none whole = search (rules, column_behind, end_next, line_more, split_next)
 
 -- a byte of a test that 0 isn't of stands within the text
 beyond : (test : ℕ → Bool) (text : List ℕ) (p : ℕ) → test 0 ≡ false → length text ≤ p
     → test (byte text p) ≡ false
-beyond test text p none h =
-    elim (cases_lt 0 (byte text p)) [
-      | inl some ↦ let inside = within text p some in absurd (omega arith)
-      | inr end ↦ let z : byte text p ≡ 0 = omega arith in rw z none
-    ]
+beyond test text p none h = search (rules, cases_lt, within)
 
 -- behind the end
 pub past_common : (text : List ℕ) (p : ℕ) → length text ≤ p → is_common (byte text p) ≡ false
-unfolding is_common is_narrow is_odd parts_flow
+unfolding is_common is_narrow is_odd is_bracket
 past_common text p h = beyond is_common text p refl h
 
 pub common_inside : (text : List ℕ) (p : ℕ) → is_common (byte text p) ≡ true → p < length text
@@ -78,9 +64,7 @@ pub record Passes (kind : ℕ) (text : List ℕ) (p : ℕ) : Type 0 where
 
 passes_narrow : (kind : ℕ) (text : List ℕ) (p : ℕ) → is_narrow kind (byte text p) ≡ true
     → Passes kind text p
-passes_narrow kind text p h =
-    let (low, high) = narrow_range kind (byte text p) h in
-    record { each = ordinary_in kind text p (narrow_ordinary kind (byte text p) h); low = omega arith; high = high }
+passes_narrow kind text p h = search (rules, narrow_ordinary, narrow_range, ordinary_in)
 
 passes_link : (kind : ℕ) (text : List ℕ) (p : ℕ) → is_linked kind text p ≡ true → Passes kind text p
 passes_link kind text p h =
@@ -98,21 +82,9 @@ passes kind text p h = elim (or_cases (is_narrow kind (byte text p)) (is_linked 
 -- before a byte that isn't ordinary, or behind the end, the run's last byte is no space
 last_ordinary : (kind : ℕ) (text : List ℕ) (q : ℕ) → 0 < q → in_run kind text (q - 1) ≡ true
     → is_narrow kind (byte text q) ≡ false → is_ordinary kind (byte text (q - 1)) ≡ true
-last_ordinary kind text q l h n =
-    let e : q - 1 + 1 ≡ q = omega arith in
-    elim (run_parts kind text (q - 1) h) [
-      | inl o ↦ o
-      | inr s ↦ absurd (true≢false (sym (rw e at s.1) ∙ n))
-    ]
+last_ordinary kind text q l h n = search (rules, run_parts)
 
 pub run_of : (kind : ℕ) (text : List ℕ) (p q : ℕ) → p ≤ q
     → ((k : ℕ) → p ≤ k → k < q → is_passed kind text k ≡ true) → is_passed kind text q ≡ false
     → IsRun kind text p (record { text = text; at = q })
-run_of kind text p q after passed stops =
-    let each : (k : ℕ) → p ≤ k → k < q → in_run kind text k ≡ true = λ k a b. (passes kind text k (passed k a b)).each in
-    record {
-      same = refl;
-      after = after;
-      each = each;
-      last = λ l. last_ordinary kind text q (omega arith) (each (q - 1) (omega arith) (omega arith)) (or_parts _ _ stops).0;
-    }
+run_of kind text p q after passed stops = search (rules, last_ordinary, or_parts, passes)

@@ -2,7 +2,8 @@
 use Rattle.std.specs.Prelude.{ℕ, zero, suc, ◌+◌, ◌-◌, ◌<◌, ◌≤◌, ◌≡◌, ◌==◌, Bool, true, not, ◌&&◌, ◌||◌, if◌then◌else◌, nat_le, List, [], ◌∷◌, ◌++◌}
 use Rattle.yaml_scan_model.specs.Ascii as ascii
 use Rattle.yaml_scan_model.specs.Marks.{Place, byte}
-use Rattle.yaml_scan_scalars.specs.Pieces.{Piece, Kept, Blank}
+use Rattle.yaml_scan_scalars.specs.Pieces.{Piece, piece_of}
+use Rattle.yaml_scan_scalars.specs.Plain.{is_bracket}
 
 -- The kinds of runs: 1 in a line of a plain scalar in block context, 2 in flow context, 4 between single quotes, 8 between double
 -- quotes.
@@ -19,17 +20,12 @@ quoted_kind quote = if quote == ascii.quote then 8 else 4
 abbrev pub is_sign : ℕ → Bool
 is_sign b = b == ascii.hyphen || b == ascii.dot
 
--- one of `, [ ] { }`
-unfoldable pub parts_flow : ℕ → Bool
-parts_flow b = (b == ascii.comma || (b == ascii.open_bracket || b == ascii.close_bracket))
-    || (b == ascii.open_brace || b == ascii.close_brace)
-
 -- in a run of the kind it does not stand for itself, or not everywhere
 unfoldable pub is_odd : ℕ → ℕ → Bool
 is_odd kind b =
     if kind == 8 then b == ascii.quote || b == ascii.backslash
     else if kind == 4 then b == ascii.apostrophe
-    else (b == ascii.hash || b == ascii.colon) || (kind == 2 && parts_flow b)
+    else (b == ascii.hash || b == ascii.colon) || (kind == 2 && is_bracket b)
 
 -- a byte of ASCII that stands for itself in a run of the kind, whatever stands beside it
 unfoldable pub is_narrow : ℕ → ℕ → Bool
@@ -72,10 +68,6 @@ pub record IsRun (kind : ℕ) (text : List ℕ) (p : ℕ) (place : Place) : Type
   pub after : p ≤ place.at
   pub each : (k : ℕ) → p ≤ k → k < place.at → in_run kind text k ≡ true
   pub last : p < place.at → is_ordinary kind (byte text (place.at - 1)) ≡ true
-
--- a byte of a run as a piece
-abbrev pub piece_of : ℕ → Piece
-piece_of b = if b == ascii.space then Blank b else Kept (b ∷ [])
 
 -- each of the bytes as a piece
 abbrev pub run_pieces : List ℕ → List Piece

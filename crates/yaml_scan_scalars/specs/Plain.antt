@@ -7,8 +7,7 @@ use Rattle.yaml_scan_model.specs.declared.problem.Context.TheVariants as context
 use Rattle.yaml_scan_model.specs.Marks.{byte, break_width, ends_break, column_at, is_blank, is_blank_or_end}
 use Rattle.yaml_scan_model.specs.Breaks.{break_value, is_document_indicator}
 use Rattle.yaml_scan_model.specs.Wrong.{Wrong}
-use Rattle.yaml_scan_scalars.specs.Pieces.{Piece, Kept, Blank, Break, value}
-use Rattle.yaml_scan_scalars.specs.Ordinary.{piece_of}
+use Rattle.yaml_scan_scalars.specs.Pieces.{Piece, Kept, Blank, Break, piece_of, value}
 
 -- one of `, [ ] { }`
 unfoldable pub is_bracket : ℕ → Bool

@@ -19,7 +19,7 @@ fn wrong_escape(problem: Problem, start: yaml_mark_t, place: yaml_mark_t) -> Sca
 }
 
 /// Takes what begins with the backslash that stands here.
-#[tactic(auto, unfolding(crate::specs::Quoted::escape_at))]
+#[tactic(auto, using(crate::proofs::Words::no_break), unfolding(crate::specs::Quoted::escape_at))]
 pub(crate) fn escape(
     reader: &mut Reader,
     folding: &mut Folding,
@@ -65,7 +65,7 @@ fn hex_len(letter: u8) -> usize
 }
 
 /// The value of the byte as a hexadecimal digit.
-#[tactic(auto, unfolding(crate::specs::Quoted::hex_digit))]
+#[tactic(auto, using(crate::proofs::Words::no_break_between), unfolding(crate::specs::Quoted::hex_digit))]
 fn hex_digit(byte: u8) -> Option<u32>
     ensures value { result ≡ spec.hex_digit byte }
     ensures small { IfSome result (λ d. d < 16) }
@@ -106,6 +106,7 @@ fn coded(
 }
 
 /// The number that the digits spell, which stand here.
+#[tactic(auto, using(crate::proofs::EscapeLemmas::hex_refused, crate::proofs::Digits::none_read))]
 fn hex_value(reader: &mut Reader, len: usize) -> Option<u32>
     requires few { len ≤ 8 }
     ensures value { result ≡ spec.hex_value reader.old.text reader.old.at len }

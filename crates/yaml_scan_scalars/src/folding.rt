@@ -30,6 +30,7 @@ impl Folding {
     ghost use Rattle.yaml_scan_scalars.specs.Resume.{resume};
 
     /// With no pieces, in the room of a text.
+    #[tactic(auto, using(crate::proofs::FoldingLemmas::resume_start))]
     pub(crate) fn new(text: Vec<u8>) -> Folding
         ensures value { (ps : List Piece) → resume result ps ≡ value ps }
         ensures line { result.gap ≡ Gap.Line }
@@ -52,6 +53,7 @@ impl Folding {
     }
 
     /// A blank.
+    #[tactic(auto, using(crate::proofs::FoldingLemmas::blank_line, crate::proofs::FoldingLemmas::blank_feed, crate::proofs::FoldingLemmas::blank_kept))]
     pub(crate) fn blank(&mut self, byte: u8) -> Result<(), AllocError>
         ensures value { OnOk result ((ps : List Piece) → resume self.new ps ≡ resume self.old
             (Blank byte ∷ ps)) }
@@ -72,6 +74,7 @@ impl Folding {
     /// Bytes that stay.
     // Inlined: what is kept is mostly one run, appended where it is found.
     #[inline(always)]
+    #[tactic(auto, using(crate::proofs::FoldingLemmas::keep_line, crate::proofs::FoldingLemmas::keep_feed, crate::proofs::FoldingLemmas::keep_kept))]
     pub(crate) fn keep(&mut self, bytes: &[u8]) -> Result<(), AllocError>
         ensures value { OnOk result ((ps : List Piece) → resume self.new ps ≡ resume self.old
             (Kept bytes.now ∷ ps)) }
@@ -89,6 +92,7 @@ impl Folding {
     }
 
     /// A break, by the bytes that it reads as.
+    #[tactic(auto, using(crate::proofs::FoldingLemmas::break_feed, crate::proofs::FoldingLemmas::break_more))]
     pub(crate) fn break_line(&mut self, bytes: &[u8]) -> Result<(), AllocError>
         requires { 0 < length bytes.now }
         ensures value { OnOk result ((ps : List Piece) → resume self.new ps ≡ resume self.old
@@ -112,6 +116,7 @@ impl Folding {
     }
 
     /// A backslash before a break: content with no bytes, and a break that reads as nothing.
+    #[tactic(auto, using(crate::proofs::FoldingLemmas::join_line))]
     pub(crate) fn join_line(&mut self) -> Result<(), AllocError>
         ensures { OnOk result ((ps : List Piece) → resume self.new ps ≡ resume self.old
             (Kept [] ∷ Break [] ∷ ps)) }

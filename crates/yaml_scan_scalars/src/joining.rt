@@ -27,6 +27,7 @@ pub(crate) struct Joining {
 
 impl Joining {
     /// With bytes of characters, and the place after them.
+    #[tactic(auto, unfolding(crate::specs::Joined::joined))]
     pub(crate) fn new(
         spares: &mut Spares,
         bytes: &[u8],

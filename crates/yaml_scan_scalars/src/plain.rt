@@ -23,6 +23,7 @@ use yaml_scan_model::{
 /// value may take the room of a spare text.
 // Inlined into the way of its kind.
 #[inline(always)]
+#[tactic(auto, using(crate::proofs::Words::within, crate::proofs::PlainLemmas::plain_start, crate::proofs::PlainLemmas::lead_text, crate::proofs::OneRunLemmas::own_mark, crate::proofs::OneRunLemmas::no_space, crate::proofs::OneRunLemmas::plain_one, crate::proofs::OneRunLemmas::reads_in, crate::proofs::OneRunLemmas::run_whole))]
 pub fn plain_scalar(
     spares: &mut Spares,
     reader: &mut Reader,
@@ -62,6 +63,7 @@ fn plain_kind(flow: bool) -> u8
 /// Past the scalar's first character and the run behind it, and those bytes.
 // Inlined: a loop of a load and a comparison a byte.
 #[inline(always)]
+#[tactic(auto, using(crate::proofs::RunLemmas::slice_bytes))]
 fn first_run<'a>(kind: u8, reader: &mut Reader<'a>) -> &'a [u8]
     requires kind { is_kind kind ≡ true }
     requires some { 0 < byte reader.old.text reader.old.at }
@@ -81,6 +83,7 @@ fn first_run<'a>(kind: u8, reader: &mut Reader<'a>) -> &'a [u8]
 /// Whether a sign stands here that ends the scalar before it: a `:` as a mapping has it or, in flow context, a bracket or a comma.
 // Inlined: a look at two bytes.
 #[inline(always)]
+#[tactic(auto, using(crate::proofs::OneRunLemmas::colon_ends, crate::proofs::OneRunLemmas::bracket_ends))]
 fn is_followed(reader: &Reader, flow: bool) -> bool
     ensures { result ≡ true → (level : ℕ) → spec.spot_at flow level reader.now.text reader.now.at
         ≡ spec.Ends }
@@ -124,6 +127,7 @@ fn one_run(
 /// block context.
 // Inlined: mostly a look at two bytes.
 #[inline(always)]
+#[tactic(auto, using(crate::proofs::OneRunLemmas::feed_breaks, crate::proofs::OneRunLemmas::line_ends))]
 fn passes_line(reader: &mut Reader, level: u64) -> bool
     ensures same { reader.new.text ≡ reader.old.text }
     ensures ends { result ≡ true
@@ -135,15 +139,9 @@ fn passes_line(reader: &mut Reader, level: u64) -> bool
     }
     reader.skip_break();
     skip_spaces(reader);
-    begins_word(reader.here()) && reader.mark().column < level
-}
-
-/// Whether the byte is surely no white, no break and no comment's sign.
-fn begins_word(byte: u8) -> bool
-    ensures low { result ≡ true → ascii.exclamation < byte }
-    ensures high { result ≡ true → byte < 128 }
-{
-    byte > b'#' && byte < 128 || byte == b'"'
+    let byte = reader.here();
+    // Surely no white, no break and no comment's sign.
+    (byte > b'#' && byte < 128 || byte == b'"') && reader.mark().column < level
 }
 
 /// The scalar that starts at the mark and has those bytes, where the reader stands behind them, and is left at the word behind
@@ -255,7 +253,7 @@ fn keep_run(kind: u8, reader: &mut Reader, joining: &mut Joining) -> Result<(), 
 }
 
 /// Takes what stands here, and answers whether it belongs to the scalar.
-#[tactic(auto, unfolding(crate::specs::Plain::spot_at))]
+#[tactic(auto, using(crate::proofs::Words::feed_some, crate::proofs::Words::value_long, crate::proofs::Words::within, crate::proofs::PlainLemmas::lead_text, crate::proofs::PlainLemmas::spot_kept, crate::proofs::PlainLemmas::not_ended, crate::proofs::PlainLemmas::seated), unfolding(crate::specs::Plain::spot_at))]
 fn piece(
     reader: &mut Reader,
     joining: &mut Joining,
@@ -284,7 +282,7 @@ fn piece(
     if ends(reader, joining, flow, level) {
         return Ok(false);
     }
-    if is_bad_colon(flow, byte, reader.byte(1)) {
+    if flow && byte == b':' && (is_bracket(reader.byte(1)) || reader.byte(1) == b'?') {
         return Err(wrong_plain(Problem::UnexpectedColon, start, reader.mark()));
     }
     reader.skip();
@@ -312,14 +310,6 @@ fn is_bad_tab(byte: u8, broke: bool, column: u64, level: u64) -> bool
     ensures { result ≡ (byte == ascii.tab && (broke && nat_lt column level)) }
 {
     byte == b'\t' && broke && column < level
-}
-
-/// Whether the byte is a colon that cannot stand in flow context before the next one.
-fn is_bad_colon(flow: bool, byte: u8, next: u8) -> bool
-    ensures { result ≡ (flow
-        && (byte == ascii.colon && (spec.is_bracket next || next == ascii.question))) }
-{
-    flow && byte == b':' && (is_bracket(next) || next == b'?')
 }
 
 /// Whether the scalar ends before what stands here, which is no blank and no break.

@@ -48,6 +48,7 @@ pub fn single_quoted(spares: &mut Spares, reader: &mut Reader) -> Result<Vec<u8>
 /// The value of the scalar whose opening quote stands here, of that byte.
 // Inlined: the byte is known where it is called.
 #[inline(always)]
+#[tactic(auto, using(crate::proofs::Words::within, crate::proofs::QuotedLemmas::quote_no_break, crate::proofs::QuotedLemmas::quote_some, crate::proofs::OneRunLemmas::closes_both, crate::proofs::OneRunLemmas::quoted_one, crate::proofs::OneRunLemmas::some_quote))]
 fn quoted(spares: &mut Spares, reader: &mut Reader, quote: u8) -> Result<Vec<u8>, ScanError>
     requires opened { byte reader.old.text reader.old.at ≡ quote }
     requires quote { (quote ≡ ascii.quote) ⊎ (quote ≡ ascii.apostrophe) }
@@ -115,6 +116,7 @@ fn many_runs(
 /// Folds the runs of the scalar that starts at the mark, where the reader stands behind the first one, of those bytes.
 // Out of line: most scalars have one run.
 #[inline(never)]
+#[tactic(auto, using(crate::proofs::OneRunLemmas::quoted_first))]
 fn fold_runs(
     spares: &mut Spares,
     reader: &mut Reader,
@@ -146,21 +148,14 @@ fn keep_run(kind: u8, reader: &mut Reader, folding: &mut Folding) -> Result<(), 
     ensures { OnOk result (TookRun kind reader.old.text reader.old.at (resume folding.old)
         (resume folding.new) reader.new) }
 {
-    if !keeps_space(reader, folding) {
+    if !folding.keeps_blanks() && reader.here() == b' ' {
         return Ok(());
     }
     keep_some(folding, ordinary_run(kind, reader))
 }
 
-/// Whether a space that stands here is kept, or none stands here.
-fn keeps_space(reader: &Reader, folding: &Folding) -> bool
-    ensures { result ≡ true → (folding.now.gap ≡ gaps.Line)
-        ⊎ ((byte reader.now.text reader.now.at == ascii.space) ≡ false) }
-{
-    folding.keeps_blanks() || reader.here() != b' '
-}
-
 /// Takes the bytes of a run. There may be none.
+#[tactic(auto, using(crate::proofs::RunLemmas::resume_bytes))]
 fn keep_some(folding: &mut Folding, bytes: &[u8]) -> Result<(), AllocError>
     requires first { (folding.old.gap ≡ gaps.Line) ⊎ (starts_kept bytes.now ≡ true) }
     requires last { ends_kept bytes.now ≡ true }
@@ -175,7 +170,7 @@ fn keep_some(folding: &mut Folding, bytes: &[u8]) -> Result<(), AllocError>
 }
 
 /// Takes what stands here, and answers whether more follows.
-#[tactic(auto, unfolding(crate::specs::Quoted::standing_at))]
+#[tactic(auto, using(crate::proofs::Words::feed_some, crate::proofs::Words::value_long), unfolding(crate::specs::Quoted::standing_at))]
 fn piece(
     reader: &mut Reader,
     folding: &mut Folding,
@@ -206,7 +201,7 @@ fn piece(
         reader.skip();
         return Ok(true);
     }
-    if is_escape(quote, byte) {
+    if quote == b'"' && byte == b'\\' {
         return escape(reader, folding, start);
     }
     folding.keep(&[byte])?;
@@ -221,13 +216,6 @@ fn wrong_scalar(problem: Problem, start: yaml_mark_t, place: yaml_mark_t) -> Sca
     ScanError::refusal(problem, Context::QuotedScalar, start, place)
 }
 
-/// Whether the byte begins an escape between those quotes.
-fn is_escape(quote: u8, byte: u8) -> bool
-    ensures { result ≡ (quote == ascii.quote && byte == ascii.backslash) }
-{
-    quote == b'"' && byte == b'\\'
-}
-
 /// Whether single quotes follow one another.
 fn is_doubled(quote: u8, next: u8) -> bool
     ensures { result ≡ (quote == ascii.apostrophe && next == ascii.apostrophe) }
@@ -236,7 +224,7 @@ fn is_doubled(quote: u8, next: u8) -> bool
 }
 
 /// Takes the quote that stands here: the closing one, or the first of two.
-#[tactic(auto, unfolding(crate::specs::Quoted::quote_at))]
+#[tactic(auto, using(crate::proofs::QuotedLemmas::quote_no_break, crate::proofs::QuotedLemmas::doubled_next), unfolding(crate::specs::Quoted::quote_at))]
 fn ending(reader: &mut Reader, folding: &mut Folding, quote: u8) -> Result<bool, ScanError>
     requires opened { byte reader.old.text reader.old.at ≡ quote }
     requires quote { (quote ≡ ascii.quote) ⊎ (quote ≡ ascii.apostrophe) }

@@ -45,6 +45,7 @@ fn is_narrow(kind: u8, byte: u8) -> bool
 /// Whether a byte stands there that stands for itself in a run of any kind, whatever stands beside it.
 // Inlined into the loop over bytes.
 #[inline(always)]
+#[tactic(auto, using(crate::proofs::TableLemmas::past_common))]
 fn common_at(text: &[u8], place: usize) -> bool
     ensures { result ≡ spec.is_common (byte text.now place) }
 {
@@ -63,6 +64,7 @@ fn is_link(byte: u8) -> bool
 /// Whether a byte of ASCII stands there that a run goes over: such a one, or a space, a dash or a dot before such a one.
 // Inlined into the loop over bytes.
 #[inline(always)]
+#[tactic(auto, using(crate::proofs::TableLemmas::past_narrow, crate::proofs::TableLemmas::past_linked))]
 fn passes_at(kind: u8, text: &[u8], place: usize) -> bool
     requires { spec.is_kind kind ≡ true }
     ensures { result ≡ (spec.is_narrow kind (byte text.now place)
@@ -86,6 +88,7 @@ fn begun(byte: u8) -> u64
 /// Past the byte here, which is no break.
 // Inlined: it stands inside the text, so nothing is asked of its place.
 #[inline(always)]
+#[tactic(auto, using(crate::proofs::TableLemmas::behind_none))]
 pub(crate) fn pass_byte(reader: &mut Reader)
     requires some { 0 < byte reader.old.text reader.old.at }
     requires no_break { break_width reader.old.text reader.old.at ≡ 0 }
@@ -105,6 +108,7 @@ pub(crate) fn pass_byte(reader: &mut Reader)
 /// Past the run that stands here, and its bytes: ordinary ones, and single spaces, dashes and dots between them or before the first.
 // Inlined: a loop of a load and a comparison a byte.
 #[inline(always)]
+#[tactic(auto, using(crate::proofs::RunLemmas::slice_bytes))]
 pub(crate) fn ordinary_run<'a>(kind: u8, reader: &mut Reader<'a>) -> &'a [u8]
     requires { spec.is_kind kind ≡ true }
     ensures place { spec.IsRun kind reader.old.text reader.old.at reader.new }
@@ -185,22 +189,14 @@ fn wide_apart(reader: &mut Reader)
 /// Past the ordinary bytes that stand here.
 // Out of line: most runs are of ASCII.
 #[inline(never)]
+#[tactic(auto, using(crate::proofs::RunLemmas::run_start))]
 fn wide_run(reader: &mut Reader)
     ensures run { (kind : ℕ) → spec.IsRun kind reader.old.text reader.old.at reader.new }
     ensures inside { reader.new.at ≤ length reader.old.text }
 {
-    let here = reader.stop();
-    let text = reader.text();
-    let mut end = reader.place();
-    let mut column = here.column;
-    'bytes: while common_at(text, end) {
-        column += begun(text[end]);
-        end += 1;
+    // Read for the clauses: the place that is reached stands inside the text.
+    let _here = reader.stop();
+    'bytes: while common_at(reader.text(), reader.place()) {
+        pass_byte(reader);
     }
-    let mark = yaml_mark_t {
-        index: end as u64,
-        line: here.line,
-        column,
-    };
-    *reader = Reader::resume(text, mark);
 }

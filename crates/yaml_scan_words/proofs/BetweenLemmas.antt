@@ -1,5 +1,5 @@
 -- Gaps between lexemes, a step at a time.
-use Rattle.std.proofs.Common.{◌≡◌, ◌≢◌, ℕ, zero, suc, ◌+◌, ◌<◌, ◌≤◌, ◌==◌, ◌&&◌, ◌||◌, nat_lt, Bool, true, false, not, List, length, refl, sym, ap, ◌∙◌, inl, inr, ◌⊎◌, arith}
+use Rattle.std.proofs.Common.{◌≡◌, ◌≢◌, ℕ, zero, suc, ◌+◌, ◌<◌, ◌≤◌, ◌==◌, ◌&&◌, ◌||◌, nat_lt, Bool, true, false, not, List, length, refl, ap, inl, inr, ◌⊎◌, arith, rules}
 use Rattle.yaml_scan_words.proofs.Words.{cond_both, and_parts, eqb-true, lt-ltb, ltb-true, ne_eqb, nat_tests, byte, break_of, break_width, is_blank, is_bom, no_break_between, past-inside, past_break, past_some, text_parts, within, is_text, GapSpot, GapStep, step_at, is_skipped, Gap, gap_at, gap_behind, with_break, gap_within}
 use Rattle.yaml_scan_words.specs.declared.between.GapSpot.TheVariants as gap_spots
 use Rattle.yaml_scan_words.proofs.RunsLemmas.{blank_parts}
@@ -55,9 +55,7 @@ pub skipped_here : (tabs : Bool) (text : List ℕ) (p : ℕ) → is_skipped tabs
 skipped_here tabs text p h = blank_parts _ _ _ (skipped_blank (byte text p) tabs h)
 
 hash_text : (text : List ℕ) (p : ℕ) → byte text p ≡ 35 → is_text text p ≡ true
-hash_text text p h =
-    let none : break_width text p ≡ 0 = no_break_between _ 35 35 _ _ (omega arith) (omega arith) (omega arith) (omega arith) in
-    rw (none, h) refl
+hash_text text p h = search (rules, no_break_between)
 
 -- ---- steps
 
@@ -71,24 +69,19 @@ space_here tabs text p h = rw (no_bom text p (omega arith), h) refl
 pub break_here : (tabs : Bool) (text : List ℕ) (p : ℕ) → 0 < break_width text p
     → step_at tabs text p ≡ record { standing = gap_spots.Break; place = p + break_width text p }
 unfolding step_at
-break_here tabs text p h =
-    let (bom, space, tab, hash) = break_parts _ _ _ h in
-    rw (no_bom text p bom, no_skip tabs (byte text p) space tab, ne_eqb (byte text p) 35 hash, lt-ltb 0 (break_width text p) h) refl
+break_here tabs text p h = search (rules, break_parts, lt-ltb, ne_eqb, no_bom, no_skip)
 
 -- a line feed is passed
 pub feed_here : (tabs : Bool) (text : List ℕ) (p : ℕ) → byte text p ≡ 10
     → step_at tabs text p ≡ record { standing = gap_spots.Break; place = p + 1 }
-feed_here tabs text p h =
-    let one = feed_width text p h in
-    rw one at (break_here tabs text p (omega arith))
+feed_here tabs text p h = search (rules, break_here, feed_width)
 
 -- what begins neither white nor a comment nor a break, stays
 pub stays : (tabs : Bool) (text : List ℕ) (p : ℕ) → byte text p ≢ 32 → byte text p ≢ 9
     → byte text p ≢ 35 → nat_lt 0 (break_width text p) ≡ false → (p == 0 && is_bom text p) ≡ false
     → step_at tabs text p ≡ record { standing = gap_spots.Lexeme; place = p }
 unfolding step_at
-stays tabs text p space tab hash none first =
-    rw (first, no_skip tabs (byte text p) space tab, ne_eqb (byte text p) 35 hash, none) refl
+stays tabs text p space tab hash none first = search (rules, ne_eqb, no_skip)
 
 byte_parts : (b : ℕ) → (nat_lt 32 b && (nat_lt b 128 && not (b == 35))) ≡ true
     → (32 < b) × (b < 128) × (b ≢ 35)
@@ -98,10 +91,7 @@ byte_parts b h = (grind (arith, nat_tests), grind (arith, nat_tests), grind (ari
 pub lexeme_here : (tabs : Bool) (text : List ℕ) (p : ℕ)
     → (nat_lt 32 (byte text p) && (nat_lt (byte text p) 128 && not (byte text p == 35))) ≡ true
     → step_at tabs text p ≡ record { standing = gap_spots.Lexeme; place = p }
-lexeme_here tabs text p h =
-    let (low, high, hash) = byte_parts (byte text p) h in
-    let none : break_width text p ≡ 0 = no_break_between _ 33 127 _ _ (omega arith) (omega arith) (omega arith) (omega arith) in
-    stays tabs text p (omega arith) (omega arith) hash (rw none refl) (no_bom text p (omega arith))
+lexeme_here tabs text p h = search (rules, byte_parts, no_bom, no_break_between, stays)
 
 -- a step stops at a lexeme, or goes on inside the text
 abbrev Moved : List ℕ → ℕ → GapStep → Type 0
@@ -129,11 +119,7 @@ step_moves tabs text p =
 pub moves_on : (tabs : Bool) (text : List ℕ) (p : ℕ) (s : GapSpot) (q : ℕ)
     → ◌≡◌ {A = GapStep} (step_at tabs text p) (record { standing = s; place = q })
     → s ≢ gap_spots.Lexeme → (p < q) × (q ≤ length text)
-moves_on tabs text p s q h other =
-    elim (step_moves tabs text p) [
-      | inl e ↦ absurd (other (ap (λ (s : GapStep). s.standing) (sym h ∙ e)))
-      | inr more ↦ rw h at more
-    ]
+moves_on tabs text p s q h other = search (rules, step_moves)
 
 -- ---- gaps
 
@@ -150,11 +136,7 @@ gap_turn : (n : ℕ) (flow allowed : Bool) (text : List ℕ) (p : ℕ) → lengt
     ≡ gap_behind (λ key q. gap_within n flow key text q) flow allowed
     (step_at (flow || not allowed) text p).standing (step_at (flow || not allowed) text p).place
 unfolding gap_within
-gap_turn zero flow allowed text p room =
-    elim (step_moves (flow || not allowed) text p) [
-      | inl e ↦ rw e refl
-      | inr (far, inside) ↦ absurd (omega arith)
-    ]
+gap_turn zero flow allowed text p room = search (rules, step_moves)
 gap_turn (suc n) flow allowed text p room =
     elim (step_moves (flow || not allowed) text p) [
       | inl e ↦ rw e refl

@@ -1,5 +1,5 @@
 -- Directives, a part at a time.
-use Rattle.std.proofs.Common.{◌≡◌, ℕ, ◌+◌, ◌-◌, ◌*◌, ◌^◌, ◌<◌, ◌≤◌, true, false, List, length, Result, Ok, Err, refl, arith, add-one, pow-suc}
+use Rattle.std.proofs.Common.{◌≡◌, ℕ, ◌+◌, ◌-◌, ◌*◌, ◌^◌, ◌<◌, ◌≤◌, true, false, List, length, Result, Ok, Err, refl, arith, add-one, pow-suc, rules}
 use Rattle.std.proofs.Math.Nat.{pow-le-pow_right}
 use Rattle.yaml_scan_words.proofs.Words.{eq-eqb, le-ltb, lt-ltb, ne_eqb, nat_tests, Place, byte, is_digit_byte, Wrong, IsMemory, belongs, run_end, ReadsAs, decimal, number_at}
 use Rattle.yaml_scan_model.specs.declared.record.yaml_mark_t.{yaml_mark_t}
@@ -64,9 +64,7 @@ number_none text p stop = rw (run_stop (length text) runs.Digits text p stop, eq
 pub number_done : (text : List ℕ) (p k : ℕ) → AreDigits text p (p + k)
     → belongs runs.Digits text (p + k) ≡ false → 0 < k → k ≤ 9
     → number_at text p ≡ Ok (decimal text p k, p + k)
-number_done text p k each stop some few =
-    let count : p + k - p ≡ k = omega arith in
-    rw (run_is runs.Digits text p (p + k) (omega arith) each stop, ne_eqb (p + k) p (omega arith), le-ltb (p + 9) (p + k) (omega arith), count) refl
+number_done text p k each stop some few = search (rules, le-ltb, ne_eqb, run_is)
 
 -- Want of memory refuses whatever stands there.
 pub memory_given : {X Y : Type 0} (Is : X → Y → Type 0) (behind : Y → ℕ) (text : List ℕ)

@@ -1,6 +1,6 @@
 -- Gaps that are written.
-use Rattle.std.proofs.Common.{◌≡◌, ◌≢◌, ℕ, zero, suc, ◌+◌, ◌≤◌, ◌==◌, ◌&&◌, ◌||◌, nat_lt, Bool, true, false, not, List, [], ◌∷◌, length, refl, ap, ◌∙◌, inl, inr, ◌⊎◌, arith}
-use Rattle.yaml_scan_words.proofs.Words.{not-true, and_parts, nat_tests, byte, break_of, break_width, is_bom, with_break, gap_at, HasAt, are_gap, has_break, begins_lexeme}
+use Rattle.std.proofs.Common.{◌≡◌, ◌≢◌, ℕ, zero, suc, ◌+◌, ◌≤◌, ◌==◌, ◌&&◌, ◌||◌, nat_lt, Bool, true, false, not, List, [], ◌∷◌, length, refl, ◌∙◌, inl, inr, ◌⊎◌, arith, rules}
+use Rattle.yaml_scan_words.proofs.Words.{not-true, and_parts, nat_tests, byte, break_of, break_width, is_bom, gap_at, HasAt, are_gap, has_break, begins_lexeme}
 pub use Rattle.yaml_scan_words.proofs.BetweenLemmas.{break_parts, no_bom, no_skip}
 use Rattle.yaml_scan_words.proofs.BetweenLemmas.{space_here, break_here, feed_width, stays, gap_here}
 use Rattle.yaml_scan_words.proofs.HasLemmas.{Has, has}
@@ -12,12 +12,7 @@ unequal b n h = grind (arith, nat_tests)
 pub lexeme_parts : (b c : Bool) (d : ℕ)
     → (not (d == 32) && (not (d == 9) && (not (d == 35) && (not b && not c)))) ≡ true
     → (d ≢ 32) × (d ≢ 9) × (d ≢ 35) × (b ≡ false) × (c ≡ false)
-lexeme_parts b c d h =
-    let (space, h1) = and_parts (not (d == 32)) (not (d == 9) && (not (d == 35) && (not b && not c))) h in
-    let (tab, h2) = and_parts (not (d == 9)) (not (d == 35) && (not b && not c)) h1 in
-    let (hash, h3) = and_parts (not (d == 35)) (not b && not c) h2 in
-    let (none, first) = and_parts (not b) (not c) h3 in
-    (unequal d 32 space, unequal d 9 tab, unequal d 35 hash, not-true b none, not-true c first)
+lexeme_parts b c d h = search (rules, and_parts, not-true, unequal)
 
 -- CR without LF is one byte
 pub cr_width : (c d : ℕ) → c ≢ 10 → break_of 13 c d ≡ 1
@@ -43,9 +38,7 @@ with_width : (flow allowed : Bool) (text : List ℕ) (p w e : ℕ) (broke : Bool
     → break_width text p ≡ suc w
     → gap_at flow (allowed || not flow) text (p + suc w) ≡ record { place = e; broke = broke }
     → gap_at flow allowed text p ≡ record { place = e; broke = true }
-with_width flow allowed text p w e broke h rest =
-    let step = rw h at (break_here (flow || not allowed) text p (omega (arith, h))) in
-    rw step at (gap_here flow allowed text p) ∙ ap (with_break true) rest
+with_width flow allowed text p w e broke h rest = search (rules, break_here, gap_here)
 
 -- gaps of at most k bytes are read
 abbrev Reads : ℕ → Type 0

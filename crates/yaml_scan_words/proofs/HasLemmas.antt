@@ -1,5 +1,5 @@
 -- Texts that have some bytes.
-use Rattle.std.proofs.Common.{◌≡◌, ℕ, zero, suc, ◌+◌, ◌-◌, ◌≤◌, List, [], ◌∷◌, ◌++◌, length, get_or, take, drop, slice_range, refl, ap, subst, ◌∙◌, arith, add-zero}
+use Rattle.std.proofs.Common.{◌≡◌, ℕ, zero, suc, ◌+◌, ◌-◌, ◌≤◌, List, [], ◌∷◌, ◌++◌, length, get_or, take, drop, slice_range, refl, ap, subst, ◌∙◌, arith, add-zero, rules}
 use Rattle.yaml_scan_words.proofs.Words.{drop_more, byte, HasAt}
 
 -- the text has these bytes from the place on, by recursion
@@ -43,6 +43,4 @@ takes text p (x ∷ xs) (e, h) l = rw (drop_more text p 0 (omega arith), e) (ap 
 -- what stands between two places
 pub range_reads : (text : List ℕ) (p : ℕ) (xs : List ℕ) → Has text p xs
     → p + length xs ≤ length text → slice_range text p (p + length xs) ≡ xs
-range_reads text p xs h l =
-    let count : p + length xs - p ≡ length xs = omega arith in
-    rw count (takes text p xs h l)
+range_reads text p xs h l = search (rules, takes)

@@ -1,5 +1,5 @@
 -- Names that are written.
-use Rattle.std.proofs.Common.{◌≡◌, ℕ, suc, ◌+◌, ◌<◌, ◌≤◌, ◌==◌, ◌||◌, true, false, List, [], ◌∷◌, length, Ok, refl, sym, ◌∙◌, arith}
+use Rattle.std.proofs.Common.{◌≡◌, ℕ, suc, ◌+◌, ◌<◌, ◌≤◌, ◌==◌, ◌||◌, true, false, List, [], ◌∷◌, length, Ok, refl, sym, ◌∙◌, arith, rules}
 use Rattle.yaml_scan_words.proofs.Words.{false_from_ne_true, ne_eqb, no_break_between, true≢false, and_parts, nat_tests, Context, byte, is_blank, is_alpha_byte, is_digit_byte, belongs, run_within, run_end, anchor_at, may_end_name, HasAt, are_alphas, is_name_end, break_width}
 use Rattle.yaml_scan_words.specs.declared.run.Run.TheVariants as runs
 use Rattle.yaml_scan_words.proofs.RunsLemmas.{alpha_range, belongs_inside, run_more, run_stop, run_within-le}
@@ -21,10 +21,7 @@ pub alphas_run : (name : List ℕ) (n : ℕ) (text : List ℕ) (p : ℕ) → Has
     → are_alphas name ≡ true → belongs runs.Alphas text (p + length name) ≡ false
     → length text ≤ p + n
     → run_within n runs.Alphas text p ≡ p + length name
-alphas_run [] n text p h are stop room =
-    let z : p + 0 ≡ p = omega arith in
-    let here : belongs runs.Alphas text p ≡ false = rw z at stop in
-    rw z (run_stop n runs.Alphas text p here)
+alphas_run [] n text p h are stop room = search (rules, run_stop)
 alphas_run (b ∷ bs) n text p (e, h) are stop room =
     let (front, back) = and_parts (is_alpha_byte b) (are_alphas bs) are in
     let end : p + suc (length bs) ≡ p + 1 + length bs = omega arith in

@@ -1,5 +1,5 @@
 -- Runs, a byte at a time.
-use Rattle.std.proofs.Common.{◌≡◌, ◌≢◌, ℕ, zero, suc, ◌+◌, ◌<◌, ◌≤◌, Bool, true, false, List, length, refl, ◌∙◌, inl, inr, ◌⊎◌, arith}
+use Rattle.std.proofs.Common.{◌≡◌, ◌≢◌, ℕ, zero, suc, ◌+◌, ◌<◌, ◌≤◌, Bool, true, false, List, length, refl, ◌∙◌, inl, inr, ◌⊎◌, arith, rules}
 use Rattle.yaml_scan_words.proofs.Words.{cases_Bool, cases_lt, false_from_ne_true, nat_tests, byte, break_of, break_width, is_blank, is_alpha_byte, is_digit_byte, no_break_between, within, IsPrinted, Run, belongs, run_within, run_end}
 use Rattle.yaml_scan_words.specs.declared.run.Run.TheVariants as runs
 
@@ -24,12 +24,8 @@ blank_parts b c d h = elim (blank_cases b h) [ inl e ↦ rw e (omega arith, refl
 pub belongs_here : (run : Run) (text : List ℕ) (p : ℕ) → belongs run text p ≡ true
     → (0 < byte text p) × (break_width text p ≡ 0)
 unfolding belongs
-belongs_here runs.Alphas text p h =
-    let (low, high, angle) = alpha_range (byte text p) h in
-    (omega arith, no_break_between _ 45 122 _ _ low high (omega arith) (omega arith))
-belongs_here runs.Digits text p h =
-    let (low, high) = digit_range (byte text p) h in
-    (omega arith, no_break_between _ 48 57 _ _ low high (omega arith) (omega arith))
+belongs_here runs.Alphas text p h = search (rules, alpha_range, no_break_between)
+belongs_here runs.Digits text p h = search (rules, digit_range, no_break_between)
 belongs_here runs.Blanks text p h = blank_parts _ _ _ h
 
 -- A byte of a run stands within the text.
@@ -107,11 +103,7 @@ run_stops (suc n) run text p room =
 -- what holds up to a place, and behind it
 pub each_join : (test : ℕ → Bool) (p q r : ℕ) → ((k : ℕ) → p ≤ k → k < q → test k ≡ true)
     → ((k : ℕ) → q ≤ k → k < r → test k ≡ true) → (k : ℕ) → p ≤ k → k < r → test k ≡ true
-each_join test p q r front back k after before =
-    elim (cases_lt k q) [
-      | inl less ↦ front k after less
-      | inr more ↦ back k more before
-    ]
+each_join test p q r front back k after before = search (rules, cases_lt)
 
 -- what holds up to a place, and there
 pub each_more : (test : ℕ → Bool) (p q : ℕ) → ((k : ℕ) → p ≤ k → k < q → test k ≡ true)
@@ -152,12 +144,4 @@ digit_printed text p h = let (low, high) = digit_range (byte text p) h in (omega
 -- an indicator and the alphas that follow it
 pub name_printed : (text : List ℕ) (p : ℕ) → (32 < byte text p) × (byte text p < 127)
     → IsPrinted text p (run_end runs.Alphas text (p + 1))
-name_printed text p first =
-    let ge = run_within-ge (length text) runs.Alphas text (p + 1) in
-    record {
-      forward = omega arith;
-      each = λ k after before. elim (cases_lt p k) [
-        | inl more ↦ alpha_printed text k (run_each (length text) runs.Alphas text (p + 1) k (omega arith) before)
-        | inr here ↦ let same : k ≡ p = omega arith in rw same first
-      ];
-    }
+name_printed text p first = search (rules, alpha_printed, cases_lt, run_each, run_within-ge)

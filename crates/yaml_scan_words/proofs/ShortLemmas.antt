@@ -1,5 +1,5 @@
 -- Tags in a short form without escapes.
-use Rattle.std.proofs.Common.{◌≡◌, ℕ, max, ◌+◌, ◌-◌, ◌<◌, ◌≤◌, ◌==◌, ◌&&◌, Bool, true, false, not, List, [], ◌∷◌, length, take, drop, slice_range, Ok, refl, inl, inr, arith}
+use Rattle.std.proofs.Common.{◌≡◌, ℕ, max, ◌+◌, ◌-◌, ◌<◌, ◌≤◌, ◌==◌, ◌&&◌, Bool, true, false, not, List, [], ◌∷◌, length, take, drop, slice_range, Ok, refl, inl, inr, arith, rules}
 use Rattle.yaml_scan_words.proofs.Words.{and_parts, cases_Bool, cases_lt, cond_both, eqb-false, eqb-true, not-true, or_left, length-drop, length-take-le, byte, within, IsKept, IsPrinted, belongs, is_uri, name_end, handle_end, parts_at, may_end_tag, tag_at, ne_eqb}
 use Rattle.yaml_scan_model.specs.declared.problem.Context.TheVariants as contexts
 use Rattle.yaml_scan_words.specs.declared.run.Run.TheVariants as runs
@@ -10,9 +10,7 @@ use Rattle.yaml_scan_words.proofs.TagsRead.{ends_other}
 
 -- the handle of a short form stands in front of its suffix
 pub handle_forward : (text : List ℕ) (p : ℕ) → p < handle_end text p
-handle_forward text p =
-    let ge = run_within-ge (length text) runs.Alphas text (p + 1) in
-    cond_both (byte text (name_end text p) == 33) _ _ (λ m. p < m) (λ e. omega arith) (λ e. omega arith)
+handle_forward text p = search (rules, cond_both, run_within-ge)
 
 -- a URI holds the alphas of a name as they are
 name_kept : (text : List ℕ) (p k : ℕ) → p < k → k < name_end text p → is_uri false text k ≡ true
@@ -23,21 +21,12 @@ name_kept text p k after before = or_left _ _ (run_each (length text) runs.Alpha
 pub short_by : (text : List ℕ) (p q : ℕ)
     → IsKept false text (max (name_end text p) (handle_end text p)) q
     → IsKept false text (handle_end text p) q
-short_by text p q h =
-    let forward = handle_forward text p in
-    record {
-      forward = omega (arith, h.forward);
-      kept = each_join (is_uri false text) (handle_end text p) (max (name_end text p) (handle_end text p)) q (λ k after before. name_kept text p k (omega arith) (omega arith)) h.kept;
-      stop = h.stop;
-    }
+short_by text p q h = search (rules, each_join, handle_forward, name_kept)
 
 -- behind the alphas of a handle stands its mark
 handle_last : (text : List ℕ) (p k : ℕ) → name_end text p ≤ k → k < handle_end text p
     → byte text k ≡ 33
-handle_last text p k after =
-    let ge = run_within-ge (length text) runs.Alphas text (p + 1) in
-    cond_both (byte text (name_end text p) == 33) _ _ (λ m. k < m → byte text k ≡ 33) (λ e before.
-    let same : k ≡ name_end text p = omega arith in rw same (eqb-true _ _ e)) (λ e before. absurd (omega arith))
+handle_last text p k after = search (rules, cond_both, eqb-true, run_within-ge)
 
 -- a short form is printed
 pub short_printed : (text : List ℕ) (p q : ℕ) → byte text p ≡ 33

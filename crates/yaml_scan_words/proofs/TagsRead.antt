@@ -1,6 +1,6 @@
 -- Tags that are written.
-use Rattle.std.proofs.Common.{◌≡◌, ◌≢◌, ℕ, suc, ◌+◌, ◌<◌, ◌≤◌, ◌==◌, ◌&&◌, ◌||◌, Bool, true, false, not, List, [], ◌∷◌, ◌++◌, length, slice_range, Ok, refl, sym, ◌∙◌, inl, inr, append_assoc, arith, length-append}
-use Rattle.yaml_scan_words.proofs.Words.{and_right, cases_Bool, true≢false, eqb-false, false_from_ne_true, not-true, no_break_between, or_cases, or_from, and_parts, ne_eqb, nat_tests, byte, break_width, is_alpha_byte, is_digit_byte, within, belongs, run_within, is_punctuation, is_wide_punctuation, is_uri, name_end, parts_at, may_end_tag, tag_at, HasAt, are_alphas, UriPiece, raw, escape, uri_text, uri_bytes, is_kept, IsUri, has_no_mark, is_blank}
+use Rattle.std.proofs.Common.{◌≡◌, ◌≢◌, ℕ, suc, ◌+◌, ◌<◌, ◌≤◌, ◌==◌, ◌&&◌, ◌||◌, Bool, true, false, not, List, [], ◌∷◌, ◌++◌, length, slice_range, Ok, refl, sym, ◌∙◌, inl, inr, append_assoc, arith, length-append, rules}
+use Rattle.yaml_scan_words.proofs.Words.{and_right, cases_Bool, true≢false, eqb-false, false_from_ne_true, not-true, no_break_between, or_cases, or_from, and_parts, ne_eqb, nat_tests, byte, is_alpha_byte, is_digit_byte, within, belongs, run_within, is_punctuation, is_wide_punctuation, is_uri, name_end, parts_at, may_end_tag, tag_at, HasAt, are_alphas, UriPiece, raw, escape, uri_text, uri_bytes, is_kept, IsUri, has_no_mark}
 use Rattle.yaml_scan_model.specs.declared.problem.Context.TheVariants as contexts
 use Rattle.yaml_scan_words.specs.declared.run.Run.TheVariants as runs
 use Rattle.yaml_scan_words.proofs.RunsLemmas.{alpha_range, run_more, run_stop}
@@ -22,10 +22,7 @@ kept_comma b h =
 -- a printed character that is no `,` ends no tag
 goes_on : (flow : Bool) (text : List ℕ) (p : ℕ) → 32 < byte text p → byte text p < 127
     → byte text p ≢ 44 → may_end_tag flow text p ≡ false
-goes_on flow text p low high comma =
-    let none : break_width text p ≡ 0 = no_break_between _ 33 126 _ _ low (omega arith) (omega arith) (omega arith) in
-    let blank : (is_blank (byte text p) || byte text p == 0) ≡ false = grind (arith, nat_tests) in
-    rw (blank, none, and_right flow _ (ne_eqb _ 44 comma)) refl
+goes_on flow text p low high comma = search (rules, and_right, ne_eqb, no_break_between)
 
 pub ends_other : (flow : Bool) (text : List ℕ) (p : ℕ) → may_end_tag flow text p ≡ true
     → 32 < byte text p → byte text p < 127 → byte text p ≢ 44 → ⊥
@@ -40,10 +37,7 @@ uri_stops flow text p h =
 
 alpha_stops : (flow : Bool) (text : List ℕ) (p : ℕ) → may_end_tag flow text p ≡ true
     → belongs runs.Alphas text p ≡ false
-alpha_stops flow text p h =
-    no_alpha_at text p (false_from_ne_true _ (λ a.
-    let (low, high, angle) = alpha_range (byte text p) a in
-    ends_other flow text p h (omega arith) (omega arith) (omega arith)))
+alpha_stops flow text p h = search (rules, alpha_range, ends_other, false_from_ne_true, no_alpha_at)
 
 mark_alpha : is_alpha_byte 33 ≡ false
 unfolding is_alpha_byte is_digit_byte
@@ -137,10 +131,7 @@ verbatim_is_read flow text p pieces h some is stop =
 no_angle_name : (name rest : List ℕ) (text : List ℕ) (p : ℕ) → Has text p (name ++ (33 ∷ rest))
     → are_alphas name ≡ true → byte text p ≢ 60
 no_angle_name [] rest text p (e, h) are = rw e (omega arith)
-no_angle_name (b ∷ bs) rest text p (e, h) are =
-    let (front, back) = and_parts (is_alpha_byte b) (are_alphas bs) are in
-    let (low, high, angle) = alpha_range b front in
-    rw e angle
+no_angle_name (b ∷ bs) rest text p (e, h) are = search (rules, alpha_range, and_parts)
 
 -- A tag with a named handle reads back.
 pub named_is_read : (flow : Bool) (text : List ℕ) (p : ℕ) (name : List ℕ) (pieces : List UriPiece)

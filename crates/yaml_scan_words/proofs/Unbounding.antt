@@ -1,5 +1,5 @@
 -- The bound on steps is never met.
-use Rattle.std.proofs.Common.{◌≡◌, ℕ, zero, suc, ◌+◌, ◌≤◌, Bool, true, not, ◌||◌, List, [], ◌∷◌, length, Result, refl, sym, ap, ◌∙◌, arith}
+use Rattle.std.proofs.Common.{◌≡◌, ℕ, zero, suc, ◌+◌, ◌≤◌, Bool, true, not, ◌||◌, List, [], ◌∷◌, length, Result, refl, sym, ap, ◌∙◌, arith, rules}
 use Rattle.yaml_scan_words.proofs.Words.{Context, Wrong, GapSpot, GapStep, Gap, gap_at, gap_behind, with_break, step_at, UriSpot, Spells, Ends, Faulty, spot_at, uri_from, with_bytes}
 use Rattle.yaml_scan_words.specs.declared.between.GapSpot.TheVariants as gap_spots
 use Rattle.yaml_scan_words.proofs.BetweenLemmas.{moves_on, gap_here}
@@ -10,11 +10,7 @@ use Rattle.yaml_scan_words.specs.Unbounded.{RunEnds, RunEndIsOne, LeadsOverGap, 
 -- ---- runs
 
 pub run_ends : RunEnds
-run_ends run text p = record {
-  after = run_within-ge (length text) run text p;
-  each = run_each (length text) run text p;
-  stops = run_stops (length text) run text p (omega arith);
-}
+run_ends run text p = search (rules, run_each, run_stops, run_within-ge)
 
 pub run_end_is_one : RunEndIsOne
 run_end_is_one run text p q h = sym (run_is run text p q h.after h.each h.stops)

@@ -1,6 +1,6 @@
 -- URIs, a byte at a time.
-use Rattle.std.proofs.Common.{◌≡◌, ◌≢◌, ℕ, zero, suc, ◌+◌, ◌<◌, ◌≤◌, ◌==◌, ◌&&◌, ◌||◌, nat_lt, Bool, true, false, List, [], ◌∷◌, ◌++◌, length, take, drop, slice_range, Option, Some, None, IsSome, Result, Ok, Err, refl, sym, ap, ◌∙◌, ◌-◌, inl, inr, append_assoc, append-nil, arith}
-use Rattle.yaml_scan_words.proofs.Words.{cond_both, false_from_ne_true, ne_eqb, true≢false, or_cases, nat_tests, drop_more, Context, byte, is_alpha_byte, Wrong, within, IsKept, IsPrinted, is_punctuation, is_wide_punctuation, is_kept, is_uri, hex_digit, octet_of, octet_at, due_behind, UriSpot, Spells, Ends, Faulty, escape_spot, octet_spot, spot_at, with_bytes, uri_from, uri_within, uri_at}
+use Rattle.std.proofs.Common.{◌≡◌, ◌≢◌, ℕ, zero, suc, ◌+◌, ◌<◌, ◌≤◌, ◌==◌, ◌&&◌, ◌||◌, nat_lt, Bool, true, false, List, [], ◌∷◌, ◌++◌, length, take, drop, slice_range, Option, Some, None, IsSome, Result, Ok, Err, refl, sym, ap, ◌∙◌, ◌-◌, inl, inr, append_assoc, append-nil, arith, rules}
+use Rattle.yaml_scan_words.proofs.Words.{cond_both, false_from_ne_true, ne_eqb, true≢false, or_cases, nat_tests, drop_more, Context, byte, is_alpha_byte, Wrong, within, IsKept, IsPrinted, is_punctuation, is_wide_punctuation, is_kept, is_uri, hex_digit, octet_of, octet_at, UriSpot, Spells, Ends, Faulty, octet_spot, spot_at, with_bytes, uri_from, uri_within, uri_at}
 use Rattle.yaml_scan_words.proofs.RunsLemmas.{alpha_range}
 
 -- ---- bytes
@@ -49,9 +49,7 @@ pub octet_digits : (text : List ℕ) (p : ℕ) → IsSome (octet_at text p)
     → ((32 < byte text (p + 1)) × (byte text (p + 1) < 127))
     × ((32 < byte text (p + 2)) × (byte text (p + 2) < 127))
 unfolding octet_at
-octet_digits text p h =
-    let (high, low) = both (hex_digit (byte text (p + 1))) (hex_digit (byte text (p + 2))) h in
-    (hex_range (byte text (p + 1)) high, hex_range (byte text (p + 2)) low)
+octet_digits text p h = search (rules, both, hex_range)
 
 -- ---- spots
 
@@ -63,11 +61,7 @@ Moved text p (Faulty problem q) = Unit {0}
 
 octet_moves : (text : List ℕ) (p due : ℕ) (o : Option ℕ) → (IsSome o → p + 3 ≤ length text)
     → Moved text p (octet_spot due p o)
-octet_moves text p due (Some b) l =
-    elim (due_behind b due) as (λ r. Moved text p (escape_spot b p r)) [
-      | Ok next ↦ (omega arith, l refl)
-      | Err problem ↦ tt
-    ]
+octet_moves text p due (Some b) l = search rules
 octet_moves text p due None l = tt
 
 pub spot_moves : (wide : Bool) (due : ℕ) (text : List ℕ) (p : ℕ)
@@ -85,9 +79,7 @@ spot_moves wide due text p =
 pub spot_kept : (wide : Bool) (text : List ℕ) (p : ℕ) → is_uri wide text p ≡ true
     → spot_at wide 0 text p ≡ Spells (byte text p) 0 (p + 1)
 unfolding spot_at
-spot_kept wide text p h =
-    let (low, high, mark, angle) = kept_parts wide (byte text p) h in
-    rw (ne_eqb _ 37 mark, h) refl
+spot_kept wide text p h = search (rules, kept_parts, ne_eqb)
 
 pub spot_ends : (wide : Bool) (text : List ℕ) (p : ℕ) → (byte text p == 37) ≡ false
     → is_uri wide text p ≡ false → spot_at wide 0 text p ≡ Ends p
@@ -119,9 +111,7 @@ uri_turn : (n : ℕ) (context : Context) (wide : Bool) (due : ℕ) (text : List 
     ≡ uri_from (λ next q. uri_within (suc n) context wide next text q) context
     (spot_at wide due text p)
 unfolding uri_within
-uri_turn zero context wide due text p room =
-    from_same (λ next q. uri_within 0 context wide next text q) (λ next q. uri_within 1 context wide next text q) context (spot_at wide due text p)
-    (λ b next q e. absurd {0} (let (far, inside) = rw e at (spot_moves wide due text p) in omega arith))
+uri_turn zero context wide due text p room = search (rules, from_same, spot_moves)
 uri_turn (suc n) context wide due text p room =
     from_same (λ next q. uri_within (suc n) context wide next text q) (λ next q. uri_within (suc (suc n)) context wide next text q) context (spot_at wide due text p)
     (λ b next q e. let (far, inside) = rw e at (spot_moves wide due text p) in uri_turn n context wide next text q (omega arith))

@@ -1,5 +1,5 @@
 -- URIs that are written.
-use Rattle.std.proofs.Common.{◌≡◌, ℕ, suc, ◌+◌, ◌*◌, ◌/◌, ◌%◌, ◌<◌, ◌==◌, ◌||◌, Bool, false, List, [], ◌∷◌, length, Some, Ok, refl, ap, ◌∙◌, arith}
+use Rattle.std.proofs.Common.{◌≡◌, ℕ, suc, ◌+◌, ◌/◌, ◌%◌, ◌<◌, ◌==◌, ◌||◌, Bool, false, List, [], ◌∷◌, length, Some, Ok, refl, ap, ◌∙◌, arith, rules}
 use Rattle.yaml_scan_words.proofs.Words.{or_parts, nat_tests, Context, byte, is_uri, hex_digit, octet_at, Spells, Ends, spot_at, with_bytes, uri_at, UriPiece, raw, escape, capital, uri_text, uri_bytes, IsUri, due_behind}
 use Rattle.yaml_scan_words.proofs.UrisLemmas.{spot_kept, spot_ends, uri_due, uri_here}
 use Rattle.yaml_scan_words.proofs.HasLemmas.{Has}
@@ -11,9 +11,7 @@ capital_digit d h = grind (arith, nat_tests)
 octet_read : (text : List ℕ) (p b : ℕ) → byte text (p + 1) ≡ capital (b / 16)
     → byte text (p + 2) ≡ capital (b % 16) → b < 256 → octet_at text p ≡ Some b
 unfolding octet_at
-octet_read text p b e f h =
-    let whole : b / 16 * 16 + b % 16 ≡ b = omega arith in
-    rw (e, f, capital_digit (b / 16) (omega arith), capital_digit (b % 16) (omega arith)) (ap Some whole)
+octet_read text p b e f h = search (rules, capital_digit)
 
 escape_read : (wide : Bool) (due next : ℕ) (text : List ℕ) (p b : ℕ) → byte text p ≡ 37
     → octet_at text p ≡ Some b → due_behind b due ≡ Ok next
@@ -46,6 +44,4 @@ pub uri_is_read : (context : Context) (wide : Bool) (text : List ℕ) (p : ℕ) 
     → (byte text (p + length (uri_text pieces)) == 37
     || is_uri wide text (p + length (uri_text pieces))) ≡ false
     → uri_at context wide text p ≡ Ok (uri_bytes pieces, p + length (uri_text pieces))
-uri_is_read context wide text p pieces h is stop =
-    let (mark, kept) = or_parts _ _ stop in
-    pieces_read pieces context wide 0 text p h is (spot_ends wide text (p + length (uri_text pieces)) mark kept)
+uri_is_read context wide text p pieces h is stop = search (rules, or_parts, pieces_read, spot_ends)

@@ -16,6 +16,7 @@ use yaml_scan_model::{Context, Problem, Reader, ScanError, Spares, mark_again};
 /// refused at its end. The name may take the room of a spare text.
 // Inlined into its two callers, each a call of its own.
 #[inline(always)]
+#[tactic(auto, using(crate::proofs::RunsLemmas::name_printed))]
 pub fn anchor(spares: &mut Spares, reader: &mut Reader, context: Context) -> Result<Word, ScanError>
     requires { (byte reader.old.text reader.old.at ≡ ascii.ampersand)
         ⊎ (byte reader.old.text reader.old.at ≡ ascii.asterisk) }

@@ -23,6 +23,7 @@ pub(crate) enum GapSpot {
 ///
 /// U+FEFF is skipped at the start of the text alone, and takes a column. Tabs are skipped in flow context, and where no key
 /// is allowed; a break that is passed in block context allows one. `#` starts a comment wherever it stands here.
+#[tactic(auto, using(crate::proofs::BetweenLemmas::gap_here))]
 pub fn skip_gap(reader: &mut Reader, flow: bool, key_allowed: bool) -> bool
     ensures gap { spec.gap_at flow key_allowed reader.old.text reader.old.at
         ≡ record { place = reader.new.at; broke = result } }
@@ -57,7 +58,7 @@ fn allows_key(flow: bool, allowed: bool) -> bool
 }
 
 /// Past what stands here, where it is no lexeme. Spaces and the lexeme behind them, which are met most, are asked first.
-#[tactic(auto, unfolding(crate::specs::Between::step_at))]
+#[tactic(auto, using(crate::proofs::BetweenLemmas::lexeme_here, crate::proofs::BetweenLemmas::space_byte, crate::proofs::BetweenLemmas::skipped_here), unfolding(crate::specs::Between::step_at))]
 fn pass_one(reader: &mut Reader, tabs: bool) -> GapSpot
     ensures step { spec.step_at tabs reader.old.text reader.old.at
         ≡ record { standing = result; place = reader.new.at } }
@@ -123,6 +124,7 @@ fn is_skipped(reader: &Reader, tabs: bool) -> bool
 }
 
 /// Past U+FEFF, which stands here.
+#[tactic(auto, using(crate::proofs::Words::no_break, crate::proofs::BetweenLemmas::bom_bytes))]
 fn skip_bom(reader: &mut Reader)
     requires { is_bom reader.old.text reader.old.at ≡ true }
     ensures { reader.new ≡ record reader.old { at = reader.old.at + 3 } }

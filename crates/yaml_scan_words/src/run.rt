@@ -38,6 +38,7 @@ pub(crate) fn belongs(run: Run, reader: &Reader) -> bool
 }
 
 /// Past the run that stands here.
+#[tactic(auto, using(crate::proofs::RunsLemmas::belongs_here, crate::proofs::RunsLemmas::belongs_inside, crate::proofs::RunsLemmas::run_is))]
 pub(crate) fn skip_run(run: Run, reader: &mut Reader)
     ensures { reader.new ≡ record reader.old {
       at = spec.run_end run reader.old.text reader.old.at;
@@ -99,6 +100,7 @@ fn is_alpha_at(text: &[u8], place: usize) -> bool
 /// The place behind the alphas that stand there.
 // Inlined: a loop of a load and a comparison a byte.
 #[inline(always)]
+#[tactic(auto, using(crate::proofs::RunsLemmas::each_join, crate::proofs::RunsLemmas::run_is))]
 pub(crate) fn alphas_end(text: &[u8], from: usize) -> usize
     ensures { result ≡ spec.run_end runs.Alphas text.now from }
 {
@@ -145,6 +147,7 @@ pub(crate) fn name_end(reader: &Reader) -> usize
 }
 
 /// Past an ASCII character that is printed and no space.
+#[tactic(auto, using(crate::proofs::Words::no_break))]
 pub(crate) fn skip_indicator(reader: &mut Reader)
     requires low { ascii.space < byte reader.old.text reader.old.at }
     requires high { byte reader.old.text reader.old.at < ascii.delete }

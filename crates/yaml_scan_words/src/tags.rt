@@ -27,6 +27,7 @@ pub(crate) struct TagParts {
 /// A short form without escapes is read here, in which the handle's end is where its suffix begins; all else by `whole_tag`.
 // Inlined into its one caller, which is a call of its own.
 #[inline(always)]
+#[tactic(auto, using(crate::proofs::ShortLemmas::short_by, crate::proofs::ShortLemmas::short_printed, crate::proofs::ShortLemmas::short_tag, crate::proofs::ShortLemmas::handle_forward))]
 pub fn tag(spares: &mut Spares, reader: &mut Reader, flow: bool) -> Result<TagWord, ScanError>
     requires { byte reader.old.text reader.old.at ≡ ascii.exclamation }
     ensures { ReadsAs (IsTagWord reader.old.text reader.old.at) spec.tag_end reader.old.text
@@ -166,6 +167,7 @@ fn verbatim(
 }
 
 /// The tag with a handle `!alphas!` that stands here; the alphas end at that place.
+#[tactic(auto, using(crate::proofs::RunsLemmas::name_printed))]
 fn named(
     spares: &mut Spares,
     reader: &mut Reader,

@@ -41,6 +41,7 @@ pub(crate) fn some_uri(
 /// The bytes that the URI spells which stands here, none where no URI does.
 // Inlined into its callers, which are calls of their own.
 #[inline(always)]
+#[tactic(auto, using(crate::proofs::UrisLemmas::uri_behind, crate::proofs::UrisLemmas::uri_plain))]
 pub(crate) fn uri(
     spares: &mut Spares,
     reader: &mut Reader,
@@ -63,6 +64,7 @@ pub(crate) fn uri(
 /// The bytes that were read of a URI, and those that the rest of it spells, which stands here.
 // Out of line: few tags have an escape.
 #[inline(never)]
+#[tactic(auto, using(crate::proofs::UrisLemmas::bytes_twice, crate::proofs::UrisLemmas::spot_moves, crate::proofs::UrisLemmas::uri_due, crate::proofs::UrisLemmas::uri_here))]
 fn escaped(
     reader: &mut Reader,
     read: Vec<u8>,
@@ -88,7 +90,7 @@ fn escaped(
 }
 
 /// Takes the byte that is spelled here, where so many escapes are due. Nothing is taken where the URI ends or has a problem.
-#[tactic(auto, unfolding(crate::specs::Uris::spot_at))]
+#[tactic(auto, using(crate::proofs::UrisLemmas::uri_range), unfolding(crate::specs::Uris::spot_at))]
 fn next_byte(reader: &mut Reader, wide: bool, due: usize) -> Result<Option<Spelling>, Problem>
     ensures spot { spec.spot_at wide due reader.old.text reader.old.at ≡ spot_of result
         reader.new.at }
@@ -129,6 +131,7 @@ fn percent_octet(reader: &mut Reader, due: usize) -> Result<Option<Spelling>, Pr
 }
 
 /// Past the escape whose `%` stands here.
+#[tactic(auto, using(crate::proofs::UrisLemmas::octet_digits))]
 fn skip_escape(reader: &mut Reader)
     requires mark { byte reader.old.text reader.old.at ≡ ascii.percent }
     requires digits { IsSome (spec.octet_at reader.old.text reader.old.at) }
@@ -186,6 +189,7 @@ fn due_behind(octet: u8, due: usize) -> Result<usize, Problem>
 /// The place behind the characters there that a URI holds as they are.
 // Inlined: a loop of a load and a comparison a byte.
 #[inline(always)]
+#[tactic(auto, using(crate::proofs::UrisLemmas::past_uri))]
 pub(crate) fn kept_end(text: &[u8], from: usize, wide: bool) -> usize
     ensures { spec.IsKept wide text.now from result }
 {

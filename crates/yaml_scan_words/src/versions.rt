@@ -40,6 +40,7 @@ fn minor(reader: &mut Reader, major: i32, start: yaml_mark_t) -> Result<Directiv
 }
 
 /// The number that stands here, of one to nine digits.
+#[tactic(auto, using(crate::proofs::RunsLemmas::digit_printed, crate::proofs::DirectivesLemmas::decimal_none, crate::proofs::DirectivesLemmas::number_long, crate::proofs::DirectivesLemmas::number_none))]
 fn number(reader: &mut Reader, start: yaml_mark_t) -> Result<i32, ScanError>
     ensures { ReadsAs IsNumber spec.number_behind reader.old.text start reader.new result
         (spec.number_at reader.old.text reader.old.at) }

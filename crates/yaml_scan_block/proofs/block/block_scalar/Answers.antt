@@ -1,10 +1,7 @@
 use Rattle.std.proofs.Common.{◌≡◌, ◌+◌, ◌==◌, List, refl, Ok, Err}
 use Rattle.yaml_scan_block.proofs.Words.{err_from_is_err_and, byte, BlockLine, block_at, block_value, header_at, stacked, ReadsHeader}
-use Rattle.yaml_scan_block.proofs.ScalarLemmas.{scalar_read, block_refused, block_read, indicator_no_break}
+use Rattle.yaml_scan_block.proofs.ScalarLemmas.{scalar_read, block_refused, block_read}
 use Rattle.yaml_scan_block.proofs.block.block_scalar.Goals as goal
-
-pub skip-requires-clause-no_break : goal.skip-requires-clause-no_break
-skip-requires-clause-no_break c = indicator_no_break _ _ _ c.requires.indicator
 
 pub returns-in_err-end_mark : goal.returns-in_err-end_mark
 returns-in_err-end_mark c =

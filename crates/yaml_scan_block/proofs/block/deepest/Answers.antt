@@ -1,28 +1,10 @@
-use Rattle.std.proofs.Common.{◌≡◌, ◌≢◌, sym, ◌∙◌, refl, ap, length, arith}
+use Rattle.std.proofs.Common.{◌≡◌, ◌≢◌, refl, ap, length, arith}
 use Rattle.yaml_scan_block.proofs.Words.{byte, break_width, column_at, past_spaces, past_break}
-use Rattle.yaml_scan_block.proofs.DepthLemmas.{larger_start, depth_tab, depth_done, depth_more, spaces-le}
+use Rattle.yaml_scan_block.proofs.DepthLemmas.{larger_start, depth_more, spaces-le}
 use Rattle.yaml_scan_block.proofs.block.deepest.Goals as goal
 
 pub lines-init : goal.lines-init
 lines-init c = rw c.ahead-ahead.ensures record { text = refl; rest = (length c.args.reader.now.text, omega arith, larger_start _) }
-
-pub returns-then-here-eq9 : goal.returns-then-here-eq9
-returns-then-here-eq9 c =
-    let text = c.args.reader.now.text in
-    let (n, room, same) = c.lines.invariant.rest in
-    let q = rw c.lines.invariant.text at c.skip_spaces.ensures in
-    let b : byte text (past_spaces text c.lines.ahead.at) ≡ 9 = rw q at (sym c.here.ensures ∙ c.if-here-eq9.true) in
-    rw (same, depth_tab n text c.lines.ahead.at c.lines.depth b, c.wrong_block.ensures, rw q at c.mark.ensures) refl
-
-pub returns-then-break_width-eq0 : goal.returns-then-break_width-eq0
-returns-then-break_width-eq0 c =
-    let text = c.args.reader.now.text in
-    let (n, room, same) = c.lines.invariant.rest in
-    let q = rw c.lines.invariant.text at c.skip_spaces.ensures in
-    let b : byte text (past_spaces text c.lines.ahead.at) ≢ 9 = rw (c.here.ensures, q) at c.if-here-eq9.false in
-    let z : break_width text (past_spaces text c.lines.ahead.at) ≡ 0 = rw q at (sym c.break_width.ensures ∙ c.if-break_width-eq0.true) in
-    let m : c.mark-in-lines.result.column ≡ column_at text (past_spaces text c.lines.ahead.at) = rw q at (ap (λ k. k.column) c.mark-in-lines.ensures) in
-    rw (same, depth_done n text c.lines.ahead.at c.lines.depth b z, ← m) c.larger-depth.ensures
 
 pub lines-smaller : goal.lines-smaller
 lines-smaller c =

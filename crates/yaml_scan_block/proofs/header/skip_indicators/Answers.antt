@@ -1,21 +1,10 @@
-use Rattle.std.proofs.Common.{◌≡◌, ◌+◌, refl, arith}
+use Rattle.std.proofs.Common.{◌+◌}
 use Rattle.yaml_scan_block.proofs.Words.{byte}
-use Rattle.yaml_scan_block.proofs.HeaderLemmas.{first_parts, second_parts, second_two}
+use Rattle.yaml_scan_block.proofs.HeaderLemmas.{first_parts, second_parts}
 use Rattle.yaml_scan_block.proofs.header.skip_indicators.Goals as goal
 
 pub skip-requires-clause-inside : goal.skip-requires-clause-inside
 skip-requires-clause-inside c = (first_parts (byte c.args.reader.now.text c.args.reader.now.at) (byte c.args.reader.now.text (c.args.reader.now.at + 1)) 0 0 _ (rw (c.here.ensures, c.byte.ensures) at c.indicators-count.ensures) c.if-count-eq0.false).0
 
-pub skip-requires-clause-no_break : goal.skip-requires-clause-no_break
-skip-requires-clause-no_break c = (first_parts (byte c.args.reader.now.text c.args.reader.now.at) (byte c.args.reader.now.text (c.args.reader.now.at + 1)) _ _ _ (rw (c.here.ensures, c.byte.ensures) at c.indicators-count.ensures) c.if-count-eq0.false).1
-
 pub skip-requires-2-clause-inside : goal.skip-requires-2-clause-inside
 skip-requires-2-clause-inside c = rw c.skip.ensures (second_parts (byte c.args.reader.now.text c.args.reader.now.at) (byte c.args.reader.now.text (c.args.reader.now.at + 1)) 0 0 _ (rw (c.here.ensures, c.byte.ensures) at c.indicators-count.ensures) c.if-count-eq0.false c.if-count-eq1.false).0
-
-pub skip-requires-2-clause-no_break : goal.skip-requires-2-clause-no_break
-skip-requires-2-clause-no_break c = rw c.skip.ensures (second_parts (byte c.args.reader.now.text c.args.reader.now.at) (byte c.args.reader.now.text (c.args.reader.now.at + 1)) _ _ _ (rw (c.here.ensures, c.byte.ensures) at c.indicators-count.ensures) c.if-count-eq0.false c.if-count-eq1.false).1
-
-pub returns : goal.returns
-returns c =
-    let y : c.args.reader.now.at + 1 + 1 ≡ c.args.reader.now.at + 2 = omega arith in
-    rw (second_two (byte c.args.reader.now.text c.args.reader.now.at) (byte c.args.reader.now.text (c.args.reader.now.at + 1)) _ (rw (c.here.ensures, c.byte.ensures) at c.indicators-count.ensures) c.if-count-eq0.false c.if-count-eq1.false, c.skip-2.ensures, c.skip.ensures, y) refl

@@ -7,8 +7,3 @@ pub skip-requires-clause-inside : goal.skip-requires-clause-inside
 skip-requires-clause-inside c =
     let s : is_chomping (byte c.args.reader.now.text c.args.reader.now.at) ≡ true = rw c.here.ensures at (sym c.is_chomping.ensures ∙ c.if-is_chomping.true) in
     (chomping_parts _ 0 0 s).0
-
-pub skip-requires-clause-no_break : goal.skip-requires-clause-no_break
-skip-requires-clause-no_break c =
-    let s : is_chomping (byte c.args.reader.now.text c.args.reader.now.at) ≡ true = rw c.here.ensures at (sym c.is_chomping.ensures ∙ c.if-is_chomping.true) in
-    (chomping_parts _ _ _ s).1

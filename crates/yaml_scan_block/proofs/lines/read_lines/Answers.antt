@@ -1,6 +1,6 @@
 use Rattle.std.proofs.Common.{refl, arith, ◌∙◌, ◌≡◌, ◌-◌, suc, length}
 use Rattle.yaml_scan_block.proofs.Words.{err_from_is_err_and}
-use Rattle.yaml_scan_block.proofs.LinesLemmas.{lines_more, lines_done, lines_refused}
+use Rattle.yaml_scan_block.proofs.LinesLemmas.{lines_more, lines_refused}
 use Rattle.yaml_scan_block.proofs.lines.read_lines.Goals as goal
 
 pub lines-init : goal.lines-init
@@ -12,11 +12,6 @@ returns-in_err-more c = λ chomp.
     let e = err_from_is_err_and c.from_residual.result c.from_residual.ensures.1 in
     let took = rw c.lines.invariant.text at c.in_err-more.ensures in
     rw (e.1, e.2, same chomp) (lines_refused n c.args.column c.args.reader.now.text c.args.start chomp c.lines.reader.at c.lines.end.index c.lines.stacking c.line.new.stacking c.line.new.reader c.in_err-more.field-0.0 _ refl took)
-
-pub returns-then-not-more : goal.returns-then-not-more
-returns-then-not-more c = λ chomp.
-    let (n, room, same) = c.lines.invariant.rest in
-    rw (same chomp) (lines_done n c.args.column c.args.reader.now.text c.args.start chomp c.lines.reader.at c.lines.end c.lines.stacking c.line.new.stacking c.line.new.reader _ refl (rw (← c.lines.invariant.text) (rw c.if-not-more.true at c.in_ok-more.ensures)) c.lines.invariant.end)
 
 pub lines-preserved : goal.lines-preserved
 lines-preserved c =

@@ -5,7 +5,7 @@ use Rattle.yaml_scan_characters.proofs.SpellingLemmas.{Writes}
 use Rattle.yaml_scan_characters.proofs.utf16.decode_utf16.Given as goal
 
 abbrev pub invariant-characters : goal.invariant-characters
-invariant-characters l = Writes (length l.bytes) (encoding_by l.order) l.bytes l.start l.at (string_bytes l.text)
+invariant-characters l = Writes (encoding_by l.order) l.bytes l.start l.at (string_bytes l.text)
 
 abbrev pub decreases-characters : goal.decreases-characters
 decreases-characters l = length l.bytes - l.at

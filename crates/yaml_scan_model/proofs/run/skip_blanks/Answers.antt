@@ -7,11 +7,6 @@ use Rattle.yaml_scan_model.proofs.run.skip_blanks.Goals as goal
 pub bytes-init : goal.bytes-init
 bytes-init c = record { text = refl; run = run_start _ _ _ }
 
-pub skip-requires-clause-no_break : goal.skip-requires-clause-no_break
-skip-requires-clause-no_break c =
-    let k : is_blank (byte c.bytes.reader.text c.bytes.reader.at) ≡ true = rw c.here.ensures at (sym c.is_blank.ensures ∙ c.bytes-test.true) in
-    (blank_parts _ _ _ k).1
-
 pub bytes-preserved : goal.bytes-preserved
 bytes-preserved c =
     let k : is_blank (byte c.args.reader.now.text c.bytes.reader.at) ≡ true = rw (c.here.ensures, c.bytes.invariant.text) at (sym c.is_blank.ensures ∙ c.bytes-test.true) in

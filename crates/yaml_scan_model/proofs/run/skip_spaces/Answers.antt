@@ -7,11 +7,6 @@ use Rattle.yaml_scan_model.proofs.run.skip_spaces.Goals as goal
 pub bytes-init : goal.bytes-init
 bytes-init c = record { text = refl; run = run_start _ _ _ }
 
-pub skip-requires-clause-no_break : goal.skip-requires-clause-no_break
-skip-requires-clause-no_break c =
-    let b : byte c.bytes.reader.text c.bytes.reader.at ≡ 32 = sym c.here.ensures ∙ c.bytes-test.true in
-    (space_parts _ _ _ b).1
-
 pub bytes-preserved : goal.bytes-preserved
 bytes-preserved c =
     let b : byte c.args.reader.now.text c.bytes.reader.at ≡ 32 = rw c.bytes.invariant.text at (sym c.here.ensures ∙ c.bytes-test.true) in

@@ -1,10 +1,7 @@
 use Rattle.std.proofs.Common.{arith, ◌≡◌, ◌+◌, None}
-use Rattle.yaml_scan_scalars.proofs.Words.{hex_len, simple_escape, byte, break_width, no_break, within}
+use Rattle.yaml_scan_scalars.proofs.Words.{hex_len, simple_escape, byte, break_width, within}
 use Rattle.yaml_scan_scalars.proofs.EscapeLemmas.{hex_len-zero, simple_escape-zero, not_zero, escape_code}
 use Rattle.yaml_scan_scalars.proofs.escape.escape.Goals as goal
-
-pub skip-requires-clause-no_break : goal.skip-requires-clause-no_break
-skip-requires-clause-no_break c = no_break _ _ _ (omega (arith, c.requires)) (omega (arith, c.requires)) (omega (arith, c.requires)) (omega (arith, c.requires))
 
 pub skip-requires-then-len-gt0-clause-inside : goal.skip-requires-then-len-gt0-clause-inside
 skip-requires-then-len-gt0-clause-inside c =

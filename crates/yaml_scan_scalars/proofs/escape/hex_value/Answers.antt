@@ -1,19 +1,7 @@
-use Rattle.std.proofs.Common.{refl, arith, ◌∙◌, sym, ◌≡◌, ◌+◌, None, Some}
+use Rattle.std.proofs.Common.{refl, arith, ◌∙◌, sym, ◌≡◌, ◌+◌, Some}
 use Rattle.yaml_scan_scalars.proofs.Words.{hex_digit, byte}
-use Rattle.yaml_scan_scalars.proofs.EscapeLemmas.{hex_more, hex_refused, power-room, power-more}
+use Rattle.yaml_scan_scalars.proofs.EscapeLemmas.{hex_more, power-room, power-more}
 use Rattle.yaml_scan_scalars.proofs.escape.hex_value.Goals as goal
-use Rattle.yaml_scan_scalars.proofs.Digits.{none_read}
-
-pub loop-k-init : goal.loop-k-init
-loop-k-init c =
-    let z : c.args.reader.now.at + 0 ≡ c.args.reader.now.at = omega arith in
-    record { place = rw z refl; spelled = none_read _ _; small = omega arith }
-
-pub returns-in_err-digit-clause-value : goal.returns-in_err-digit-clause-value
-returns-in_err-digit-clause-value c =
-    let b = rw c.loop-k.invariant.place at c.here.ensures in
-    let d : hex_digit (byte c.args.reader.now.text (c.args.reader.now.at + c.loop-k.k)) ≡ None = rw b at (sym c.in_err-digit.ensures.value) in
-    c.from_residual.ensures ∙ sym (hex_refused _ _ _ _ _ c.loop-k.invariant.spelled d c.loop-k-test.true)
 
 pub overflow_mul-value : goal.overflow_mul-value
 overflow_mul-value c =

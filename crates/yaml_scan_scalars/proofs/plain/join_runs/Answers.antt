@@ -31,34 +31,21 @@ pub returns-in_err-more : goal.returns-in_err-more
 returns-in_err-more c =
     let e = err_from_is_err_and c.from_residual-in_err-more.result c.from_residual-in_err-more.ensures.1 in
     let took = rw (c.pieces.invariant.text, c.requires.own) at c.in_err-more.ensures in
-    rw (e.1, e.2, c.pieces.invariant.rest) (turn_refused c.args.flow c.args.level c.args.reader.now.text c.args.start.index c.pieces.reader.at c.pieces.joining c.piece.new.joining c.piece.new.reader c.in_err-more.field-0.0 took)
+    rw (e.1, e.2, c.pieces.invariant.rest) (turn_refused c.args.flow c.args.level c.args.reader.now.text c.args.start.index c.pieces.reader.at c.pieces.joining c.piece.new.joining c.piece.new.reader c.in_err-more.field-0.0 _ refl took)
 
 pub returns-then-not-more : goal.returns-then-not-more
 returns-then-not-more c =
-    let (place, kept, value) = turn_done c.args.flow c.args.level c.args.reader.now.text c.args.start c.pieces.reader.at c.pieces.joining c.piece.new.joining c.piece.new.reader (rw (← c.pieces.invariant.text) (rw c.if-not-more.true at c.in_ok-more.ensures)) in
+    let (place, kept, value) = turn_done c.args.flow c.args.level c.args.reader.now.text c.args.start c.pieces.reader.at c.pieces.joining c.piece.new.joining c.piece.new.reader _ refl (rw (← c.pieces.invariant.text) (rw c.if-not-more.true at c.in_ok-more.ensures)) in
     let seat = rw c.pieces.invariant.text at c.pieces.invariant.seat.end in
     let all = rw kept at c.finish.ensures in
     rw (c.pieces.invariant.rest, value) (record { value = all; start_mark = c.requires.own; end_mark = rw kept seat; broke = rw kept refl }, place)
 
 pub pieces-preserved : goal.pieces-preserved
 pieces-preserved c =
-    let next = turn_more c.args.flow c.args.level c.args.reader.now.text c.args.start c.pieces.reader.at c.pieces.joining c.piece.new.joining c.piece.new.reader (rw (← c.pieces.invariant.text) (rw c.if-not-more.false at c.in_ok-more.ensures)) in
+    let next = turn_more c.args.flow c.args.level c.args.reader.now.text c.args.start c.pieces.reader.at c.pieces.joining c.piece.new.joining c.piece.new.reader _ refl (rw (← c.pieces.invariant.text) (rw c.if-not-more.false at c.in_ok-more.ensures)) in
     let ran : TookWords (plain_kind c.args.flow) c.args.reader.now.text c.piece.new.reader.at c.piece.new.joining c.keep_run.new.joining c.keep_run.new.reader = rw (next.same, c.plain_kind.ensures.same) at c.in_ok-keep_run.ensures in
     record {
       text = ran.run.same;
       seat = rw ran.run.same ran.seat;
       rest = c.pieces.invariant.rest ∙ next.rest ∙ plain_run c.args.flow c.args.level c.args.reader.now.text c.piece.new.reader.at c.piece.new.joining c.keep_run.new.joining c.keep_run.new.reader ran;
     }
-
-pub keep_run-requires-clause-seat : goal.keep_run-requires-clause-seat
-keep_run-requires-clause-seat c =
-    let next = turn_more c.args.flow c.args.level c.args.reader.now.text c.args.start c.pieces.reader.at c.pieces.joining c.piece.new.joining c.piece.new.reader (rw (← c.pieces.invariant.text) (rw c.if-not-more.false at c.in_ok-more.ensures)) in
-    rw next.same next.seat
-
-pub pieces-smaller : goal.pieces-smaller
-pieces-smaller c =
-    let next = turn_more c.args.flow c.args.level c.args.reader.now.text c.args.start c.pieces.reader.at c.pieces.joining c.piece.new.joining c.piece.new.reader (rw (← c.pieces.invariant.text) (rw c.if-not-more.false at c.in_ok-more.ensures)) in
-    let further = next.further in
-    let inside = next.inside in
-    let after = c.in_ok-keep_run.ensures.run.after in
-    omega arith

@@ -1,15 +1,9 @@
 use Rattle.std.proofs.Common.{◌≡◌, ◌∙◌, ◌+◌, ◌-◌, ◌<◌, sym, refl, length, arith}
 use Rattle.yaml_scan_scalars.proofs.Words.{nat_tests, bytes_at}
-use Rattle.yaml_scan_scalars.proofs.RunLemmas.{run_start, bytes_long, calm_no_space, ordinary_calm}
+use Rattle.yaml_scan_scalars.proofs.RunLemmas.{bytes_long, calm_no_space, ordinary_calm}
 use Rattle.yaml_scan_scalars.proofs.PlainLemmas.{seated}
 use Rattle.yaml_scan_scalars.proofs.PlainRunLemmas.{joined_run, calm_behind}
 use Rattle.yaml_scan_scalars.proofs.plain.keep_run.Goals as goal
-
-pub returns-then-joining : goal.returns-then-joining
-returns-then-joining c =
-    let p = c.args.reader.now.at in
-    let z : p - p ≡ 0 = omega arith in
-    record { run = run_start c.args.kind c.args.reader.now.text p; calm = λ l. absurd (omega arith); value = λ w. rw z refl; seat = c.requires.seat }
 
 pub returns-then-is_empty : goal.returns-then-is_empty
 returns-then-is_empty c =

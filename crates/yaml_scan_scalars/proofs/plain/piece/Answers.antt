@@ -1,15 +1,7 @@
-use Rattle.std.proofs.Common.{arith, ◌∙◌, sym, ◌≡◌, ◌+◌, ◌<◌, ◌==◌, ◌&&◌, true, false, nat_lt, ◌||◌}
-use Rattle.yaml_scan_scalars.proofs.Words.{true≢false, byte, break_width, is_blank, column_at, feed_some, value_long, leads, ends_at, is_bracket, within}
-use Rattle.yaml_scan_scalars.proofs.PlainLemmas.{blank_inside, lead_text, spot_break, spot_blank, spot_kept, not_ended, seated, lead_break, leads-blank, white-blank}
+use Rattle.std.proofs.Common.{arith, ◌∙◌, sym, ◌≡◌, ◌+◌, ◌<◌, ◌==◌, ◌&&◌, true, false, nat_lt}
+use Rattle.yaml_scan_scalars.proofs.Words.{true≢false, byte, break_width, is_blank, column_at, leads}
+use Rattle.yaml_scan_scalars.proofs.PlainLemmas.{blank_inside, spot_break, spot_blank, lead_break, leads-blank, white-blank}
 use Rattle.yaml_scan_scalars.proofs.plain.piece.Goals as goal
-
-pub break_line-requires-clause-some : goal.break_line-requires-clause-some
-break_line-requires-clause-some c =
-    let text = c.args.reader.now.text in
-    let p = c.args.reader.now.at in
-    let some : 0 < break_width text p = omega (arith, c.break_here.ensures.value, c.if-break_here-gt0.true) in
-    let v = value_long text p in
-    rw (c.feed.ensures, feed_some text p some) v
 
 pub returns-then-break_here-gt0 : goal.returns-then-break_here-gt0
 returns-then-break_here-gt0 c =
@@ -53,31 +45,4 @@ returns-then-is_blank c =
       },
       omega arith,
       blank_inside text p k,
-    )
-
-pub skip-requires-2-clause-inside : goal.skip-requires-2-clause-inside
-skip-requires-2-clause-inside c =
-    let text = c.args.reader.now.text in
-    let p = c.args.reader.now.at in
-    not_ended c.args.flow c.args.level text p (sym c.ends.ensures ∙ c.if-ends.false)
-
-pub returns : goal.returns
-returns c =
-    let text = c.args.reader.now.text in
-    let p = c.args.reader.now.at in
-    let b : c.here-byte.result ≡ byte text p = c.here-byte.ensures in
-    let z : break_width text p ≡ 0 = omega (arith, c.break_here.ensures.value, c.if-break_here-gt0.false) in
-    let k : is_blank (byte text p) ≡ false = rw b at (sym c.is_blank.ensures ∙ c.if-is_blank.false) in
-    let n : ends_at c.args.flow c.args.level text p ≡ false = sym c.ends.ensures ∙ c.if-ends.false in
-    let o : (c.args.flow && (byte text p == 58 && (is_bracket (byte text (p + 1)) || byte text (p + 1) == 63))) ≡ false = rw (b, c.byte.ensures) at (sym c.is_bad_colon.ensures ∙ c.if-is_bad_colon.false) in
-    let none = lead_text text p k (c.break_here.ensures.none (c.break_here.ensures.value ∙ z)) in
-    let m = rw c.skip-2.ensures at c.mark-2.ensures in
-    let value = rw (b, m) at c.in_ok-keep.ensures.value in
-    let seat = rw m at c.in_ok-keep.ensures.seat in
-    rw (spot_kept c.args.flow c.args.level text p z k n o) (
-      c.skip-2.ensures,
-      value,
-      seated text (p + 1) _ c.in_ok-keep.ensures.kept seat c.in_ok-keep.ensures.line none,
-      omega arith,
-      within text p (not_ended c.args.flow c.args.level text p n),
     )

@@ -1,41 +1,8 @@
-use Rattle.std.proofs.Common.{◌+◌, ◌∙◌, ap, sym, true, false}
-use Rattle.yaml_scan_scalars.proofs.Words.{IsRun, plain_kind, Place, within}
+use Rattle.std.proofs.Common.{◌+◌, ◌∙◌, sym, true, false}
+use Rattle.yaml_scan_scalars.proofs.Words.{IsRun, plain_kind, within}
 use Rattle.yaml_scan_scalars.proofs.PlainLemmas.{plain_start, lead_text}
-use Rattle.yaml_scan_scalars.proofs.OneRunLemmas.{own_mark, no_space, plain_one, plain_then, reads_in, run_whole}
+use Rattle.yaml_scan_scalars.proofs.OneRunLemmas.{own_mark, no_space, plain_then, reads_in}
 use Rattle.yaml_scan_scalars.proofs.plain.plain_scalar.Goals as goal
-
-pub first_run-bytes-requires-clause-some : goal.first_run-bytes-requires-clause-some
-first_run-bytes-requires-clause-some c = (plain_start c.args.flow c.args.reader.now.text c.args.reader.now.at c.requires).1
-
-pub first_run-bytes-requires-clause-no_break : goal.first_run-bytes-requires-clause-no_break
-first_run-bytes-requires-clause-no_break c = (plain_start c.args.flow c.args.reader.now.text c.args.reader.now.at c.requires).2
-
-pub one_run-requires-clause-start : goal.one_run-requires-clause-start
-one_run-requires-clause-start c = rw c.first_run-bytes.ensures.run.same (own_mark c.args.reader.now.text _ _ c.mark-start.ensures).0
-
-pub one_run-requires-clause-stands : goal.one_run-requires-clause-stands
-one_run-requires-clause-stands c = rw (c.first_run-bytes.ensures.run.same, c.mark-start.ensures) c.first_run-bytes.ensures.stands
-
-pub returns-then-is_followed : goal.returns-then-is_followed
-returns-then-is_followed c =
-    let text = c.args.reader.now.text in
-    let p = c.args.reader.now.at in
-    let (blank, some, z) = plain_start c.args.flow text p c.requires in
-    let ends = c.break_here-width.ensures.none (c.break_here-width.ensures.value ∙ z) in
-    let run : IsRun (plain_kind c.args.flow) text (p + 1) c.first_run-bytes.new.reader = rw c.plain_kind.ensures.same at c.first_run-bytes.ensures.run in
-    let followed = rw run.same at (c.is_followed.ensures c.if-is_followed.true c.args.level) in
-    let one = plain_one c.args.flow c.args.level text p c.first_run-bytes.new.reader (within text p some) (sym (lead_text text p blank ends).0) (no_space _ blank) run followed in
-    let at = (own_mark text p _ c.mark-start.ensures).1 in
-    rw (one, ← c.first_run-bytes.ensures.bytes) (reads_in text p _ _ c.first_run-bytes.new.reader _ _ run.same at c.one_run.ensures)
-
-pub one_line-requires-clause-start : goal.one_line-requires-clause-start
-one_line-requires-clause-start c = rw c.first_run-bytes.ensures.run.same (own_mark c.args.reader.now.text _ _ c.mark-start.ensures).0
-
-pub one_line-requires-clause-stands : goal.one_line-requires-clause-stands
-one_line-requires-clause-stands c = rw (c.first_run-bytes.ensures.run.same, c.mark-start.ensures) c.first_run-bytes.ensures.stands
-
-pub one_line-requires-clause-same : goal.one_line-requires-clause-same
-one_line-requires-clause-same c = c.passes_line.ensures.same ∙ ap (λ (x : Place). x.text) c.ahead-ahead.ensures
 
 pub returns-then-passes_line : goal.returns-then-passes_line
 returns-then-passes_line c =
@@ -48,23 +15,3 @@ returns-then-passes_line c =
     let one = plain_then false c.args.level text p c.passes_line.new.reader.at c.passes_line.new.reader.at true c.first_run-bytes.new.reader (within text p some) (sym (lead_text text p blank ends).0) (no_space _ blank) run follow in
     let at = (own_mark text p _ c.mark-start.ensures).1 in
     rw (c.if-not-flow.true, one, ← c.first_run-bytes.ensures.bytes) (reads_in text p _ _ c.first_run-bytes.new.reader _ _ run.same at c.one_line.ensures)
-
-pub many_runs-requires : goal.many_runs-requires
-many_runs-requires c =
-    let text = c.args.reader.now.text in
-    let p = c.args.reader.now.at in
-    let same = c.first_run-bytes.ensures.run.same in
-    let (blank, some, z) = plain_start c.args.flow text p c.requires in
-    record {
-      inside = rw (same, c.mark-start.ensures) (within text p some);
-      own = rw same (own_mark text _ _ c.mark-start.ensures).0;
-      no_blank = rw (same, c.mark-start.ensures) blank;
-      no_end = rw (same, c.mark-start.ensures) (c.break_here-width.ensures.none (c.break_here-width.ensures.value ∙ z));
-      run = rw (same, c.mark-start.ensures) (run_whole (plain_kind c.args.flow) _ _ _ (rw c.plain_kind.ensures.same at c.first_run-bytes.ensures.run));
-      are = rw (same, c.mark-start.ensures) c.first_run-bytes.ensures.bytes;
-    }
-
-pub returns : goal.returns
-returns c =
-    let at = (own_mark c.args.reader.now.text _ _ c.mark-start.ensures).1 in
-    rw (c.first_run-bytes.ensures.run.same, at) at c.many_runs.ensures

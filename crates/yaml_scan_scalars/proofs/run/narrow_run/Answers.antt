@@ -4,15 +4,6 @@ use Rattle.yaml_scan_scalars.proofs.RunLemmas.{each_join, each_more}
 use Rattle.yaml_scan_scalars.proofs.TableLemmas.{is_passed, passes, run_of}
 use Rattle.yaml_scan_scalars.proofs.run.narrow_run.Goals as goal
 
-pub bytes-init : goal.bytes-init
-bytes-init c =
-    let text = c.args.reader.now.text in
-    let p = c.args.reader.now.at in
-    let past = c.past_narrow-end.ensures in
-    let narrow : (k : ℕ) → p ≤ k → k < c.past_narrow-end.result → is_narrow c.args.kind (byte text k) ≡ true = rw (c.text-text.ensures, c.place.ensures) at past.each in
-    let inside : p ≤ length text → c.past_narrow-end.result ≤ length text = rw (c.text-text.ensures, c.place.ensures) at past.inside in
-    record { after = rw c.place.ensures at past.forward; each = λ k a b. rw (narrow k a b) refl; inside = inside c.stop-here.ensures.inside }
-
 pub bytes-smaller : goal.bytes-smaller
 bytes-smaller c =
     let text = c.args.reader.now.text in

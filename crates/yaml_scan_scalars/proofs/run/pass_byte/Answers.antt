@@ -1,10 +1,7 @@
-use Rattle.std.proofs.Common.{◌≡◌, ◌≤◌, ℕ, List, length, refl, ap, if◌then◌else◌, arith}
-use Rattle.yaml_scan_scalars.proofs.Words.{yaml_mark_t, byte, starts, column_at, within, column_at-le}
+use Rattle.std.proofs.Common.{◌≡◌, ◌≤◌, ℕ, List, length, ap, arith}
+use Rattle.yaml_scan_scalars.proofs.Words.{yaml_mark_t, column_at, within, column_at-le}
 use Rattle.yaml_scan_scalars.proofs.TableLemmas.{behind_none, one_at_most}
 use Rattle.yaml_scan_scalars.proofs.run.pass_byte.Goals as goal
-
-pub bounds-text-place : goal.bounds-text-place
-bounds-text-place c = rw (c.text-text.ensures, c.place.ensures) (within c.args.reader.now.text c.args.reader.now.at c.requires.some)
 
 pub overflow_add-mark-2 : goal.overflow_add-mark-2
 overflow_add-mark-2 c =
@@ -16,23 +13,7 @@ overflow_add-mark-2 c =
     let some : c.begun.result ≤ 1 = rw c.begun.ensures (one_at_most _) in
     omega (arith, column, column_at-le text p, inside, now, some)
 
-pub resume-requires-clause-inside : goal.resume-requires-clause-inside
-resume-requires-clause-inside c =
-    let inside = within c.args.reader.now.text c.args.reader.now.at c.requires.some in
-    rw (c.text-text.ensures, c.stop-here.ensures.mark) (omega (arith, inside))
-
-pub resume-requires-clause-mark : goal.resume-requires-clause-mark
-resume-requires-clause-mark c =
-    let text = c.args.reader.now.text in
-    let p = c.args.reader.now.at in
-    let b = behind_none text p c.requires.no_break c.stop-here.ensures.whole in
-    let begun : c.begun.result ≡ (if starts (byte text p) then 1 else 0) = rw (c.text-text.ensures, c.place.ensures) at c.begun.ensures in
-    rw (c.text-text.ensures, c.stop-here.ensures.mark, begun, b.line, b.column) refl
-
 pub resume-requires-clause-whole : goal.resume-requires-clause-whole
 resume-requires-clause-whole c =
     let b = behind_none c.args.reader.now.text c.args.reader.now.at c.requires.no_break c.stop-here.ensures.whole in
     rw (c.text-text.ensures, c.stop-here.ensures.mark) b.whole
-
-pub returns : goal.returns
-returns c = rw (c.resume.ensures, c.text-text.ensures, c.stop-here.ensures.mark) refl

@@ -3,16 +3,6 @@ use Rattle.yaml_scan_words.proofs.Words.{no_break}
 use Rattle.yaml_scan_words.proofs.BetweenLemmas.{bom_bytes}
 use Rattle.yaml_scan_words.proofs.between.skip_bom.Goals as goal
 
-pub skip-requires-clause-no_break : goal.skip-requires-clause-no_break
-skip-requires-clause-no_break c =
-    let (a, b, d) = bom_bytes c.args.reader.now.text c.args.reader.now.at c.requires in
-    no_break _ _ _ (omega arith) (omega arith) (omega arith) (omega arith)
-
-pub skip-requires-2-clause-no_break : goal.skip-requires-2-clause-no_break
-skip-requires-2-clause-no_break c =
-    let (a, b, d) = bom_bytes c.args.reader.now.text c.args.reader.now.at c.requires in
-    rw c.skip.ensures (no_break _ _ _ (omega arith) (omega arith) (omega arith) (omega arith))
-
 pub skip-requires-3-clause-no_break : goal.skip-requires-3-clause-no_break
 skip-requires-3-clause-no_break c =
     let (a, b, d) = bom_bytes c.args.reader.now.text c.args.reader.now.at c.requires in

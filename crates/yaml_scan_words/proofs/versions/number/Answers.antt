@@ -2,26 +2,9 @@ use Rattle.std.proofs.Common.{◌≡◌, ◌+◌, ◌-◌, ◌∙◌, sym, refl,
 use Rattle.yaml_scan_words.proofs.Words.{to_z_pos, byte, belongs}
 use mir.Syntax.{w32}
 use Rattle.yaml_scan_words.specs.declared.run.Run.TheVariants as runs
-use Rattle.yaml_scan_words.proofs.RunsLemmas.{digit_printed, each_more}
-use Rattle.yaml_scan_words.proofs.DirectivesLemmas.{power-more, power-room, digit_here, decimal_none, decimal_more, number_long, number_none, number_done}
+use Rattle.yaml_scan_words.proofs.RunsLemmas.{each_more}
+use Rattle.yaml_scan_words.proofs.DirectivesLemmas.{power-more, power-room, digit_here, decimal_more, number_done}
 use Rattle.yaml_scan_words.proofs.versions.number.Goals as goal
-
-pub digits-init : goal.digits-init
-digits-init c =
-    let z : c.args.reader.now.at + 0 ≡ c.args.reader.now.at = omega arith in
-    rw z record {
-      text = refl;
-      place = refl;
-      value = decimal_none c.args.reader.now.text c.args.reader.now.at;
-      few = omega arith;
-      small = omega arith;
-      each = λ k after before. absurd (omega arith);
-    }
-
-pub returns-then-count-eq9 : goal.returns-then-count-eq9
-returns-then-count-eq9 c =
-    let here = rw (c.digits.invariant.text, c.digits.invariant.place, c.if-count-eq9.true) at (sym c.belongs.ensures ∙ c.digits-test.true) in
-    rw (number_long c.args.reader.now.text c.args.reader.now.at (rw c.if-count-eq9.true at c.digits.invariant.each) here, c.refusal.ensures, c.digits.invariant.text, c.digits.invariant.place, c.if-count-eq9.true) refl
 
 pub overflow_mul-value : goal.overflow_mul-value
 overflow_mul-value c =
@@ -36,12 +19,6 @@ overflow_add-value c =
     let digit = digit_here c.digits.reader.text c.digits.reader.at (sym c.belongs.ensures ∙ c.digits-test.true) in
     let value : c.digit.result ≡ byte c.digits.reader.text c.digits.reader.at - 48 = rw c.here.ensures at c.digit.ensures in
     omega (arith, c.digits.invariant.small)
-
-pub skip_indicator-requires-clause-low : goal.skip_indicator-requires-clause-low
-skip_indicator-requires-clause-low c = (digit_printed _ _ (sym c.belongs.ensures ∙ c.digits-test.true)).0
-
-pub skip_indicator-requires-clause-high : goal.skip_indicator-requires-clause-high
-skip_indicator-requires-clause-high c = (digit_printed _ _ (sym c.belongs.ensures ∙ c.digits-test.true)).1
 
 pub digits-preserved : goal.digits-preserved
 digits-preserved c =
@@ -58,17 +35,6 @@ digits-preserved c =
       small = omega (arith, c.digits.invariant.small, digit_here text p here);
       each = each_more (belongs runs.Digits text) c.args.reader.now.at p c.digits.invariant.each here;
     }
-
-pub returns-then-count-eq0 : goal.returns-then-count-eq0
-returns-then-count-eq0 c =
-    let z : c.args.reader.now.at + 0 ≡ c.args.reader.now.at = omega arith in
-    let stop = rw (c.digits.invariant.text, c.digits.invariant.place, c.if-count-eq0.true, z) at (sym c.belongs.ensures ∙ c.digits-test.false) in
-    rw (number_none c.args.reader.now.text c.args.reader.now.at stop, c.refusal-then-count-eq0.ensures, c.digits.invariant.text, c.digits.invariant.place, c.if-count-eq0.true, z) refl
-
-pub overflow_cast-result : goal.overflow_cast-result
-overflow_cast-result c =
-    let room = power-room c.digits.count c.digits.invariant.few in
-    omega (arith, c.digits.invariant.small)
 
 pub returns : goal.returns
 returns c =

@@ -196,7 +196,10 @@ fn wide_run(reader: &mut Reader)
 {
     // Read for the clauses: the place that is reached stands inside the text.
     let _here = reader.stop();
-    'bytes: while common_at(reader.text(), reader.place()) {
-        pass_byte(reader);
+    // A reader of its own: one that is lent lies in memory.
+    let mut ahead = reader.ahead();
+    'bytes: while common_at(ahead.text(), ahead.place()) {
+        pass_byte(&mut ahead);
     }
+    *reader = ahead;
 }

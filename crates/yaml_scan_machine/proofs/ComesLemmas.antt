@@ -1,6 +1,6 @@
 -- Where a machine stops.
-use Rattle.std.proofs.Common.{◌≡◌, ℕ, ◌+◌, ◌≤◌, true, false, List, [], ◌∷◌, length, get_or, Result, Ok, Err, refl, sym, ap, subst, ◌∙◌, inl, inr, ◌⊎◌, arith, Some, ◌≢◌}
-use Rattle.yaml_scan_machine.proofs.Words.{cases_Bool, nat_tests, length-map, option_map, yaml_encoding_t, ScanError, scanner_fault, text_bytes, decoding_fault, decoded_characters, in_utf8, Offence, reader_fault, Reader, Fault, memory_fault, result_err, encoding_of, Token, GivesFirst, scanned, scanned_in, left_in, left_from, IsTold, IsLocated, Lexeme, entries, first_open, Next, Read, Fails, Ends, next, Remaining, remaining, length-entries, first_open-le, front_none, Machine, Waiting, KeptLexeme, kept_of, Answer, IsMachine, ReadsOneMore, WantsMore, ready_in, is_ready, Fields, fields_of, IsShown, read, settled_in, history_of, stream_of, GivesNext, Stops, to_come}
+use Rattle.std.proofs.Common.{◌≡◌, ℕ, ◌+◌, ◌<◌, ◌≤◌, true, false, List, [], ◌∷◌, length, get_or, Result, Ok, Err, refl, sym, ap, subst, ◌∙◌, inl, inr, ◌⊎◌, arith, Some, ◌≢◌}
+use Rattle.yaml_scan_machine.proofs.Words.{cases_Bool, nat_tests, length-map, option_map, yaml_encoding_t, ScanError, scanner_fault, text_bytes, decoding_fault, decoded_characters, in_utf8, Offence, reader_fault, Reader, Fault, memory_fault, result_err, encoding_of, Token, GivesFirst, scanned, scanned_in, left_in, left_from, IsTold, IsLocated, Lexeme, entries, first_open, Next, Read, Fails, Ends, next, Remaining, remaining, length-entries, first_open-le, front_none, Machine, Waiting, KeptLexeme, kept_of, Answer, IsMachine, ReadsMore, WantsMore, ready_in, is_ready, Fields, fields_of, IsShown, read, settled_in, history_of, stream_of, GivesNext, Stops, to_come}
 use Rattle.std.specs.Prelude.{IfErr}
 use Rattle.yaml_scan_model.specs.declared.name.yaml_encoding_t.TheVariants.{YAML_UTF8_ENCODING}
 use Rattle.yaml_scan_model.specs.declared.name.yaml_error_type_t.TheVariants.{YAML_READER_ERROR, YAML_MEMORY_ERROR}
@@ -31,7 +31,7 @@ refused_any m (Ok r) g = tt
 refused_any m (Err e) g = refused_by m e g
 
 -- what is to come stays
-pub goes_same : (old new : Machine) → ReadsOneMore old new → to_come new ≡ to_come old
+pub goes_same : (old new : Machine) → ReadsMore old new → to_come new ≡ to_come old
 goes_same old new g =
     ap (λ (x : yaml_encoding_t). remaining record { encoding = x; text = text_bytes new.text } new.dropped new.given) g.encoding
     ∙ ap (λ (t : List ℕ). remaining record { encoding = old.encoding; text = t } new.dropped new.given) (ap text_bytes g.text)
@@ -82,6 +82,18 @@ waits_short m l i wants more is =
     let first = settled_first (fields_of m) s more in
     let few = few_wait (text_bytes m.text) (m.dropped + length (fields_of m).waiting) l is in
     omega (arith, few, first, wants.few, s.count, len)
+
+-- and one fewer, where some are read ahead
+pub waits_shorter : (m : Machine) (l : Lexeme) → IsMachine m → WantsMore m → m.ended ≡ false
+    → 0 < m.ahead → next (text_bytes m.text) (history_of m) ≡ Read l
+    → length m.waiting.items ≤ 1023 + m.ahead
+unfolding read
+waits_shorter m l i wants more some is =
+    let s = i.shown in
+    let len = length-map m.waiting.items (λ (x : Waiting). kept_of x) in
+    let first = settled_first (fields_of m) s more in
+    let few = few_wait (text_bytes m.text) (m.dropped + length (fields_of m).waiting) l is in
+    omega (arith, few, first, wants.few, s.count, len, some)
 
 -- at a fault nothing is left but the fault
 pub fault_machine : (m : Machine) (e : ScanError) → IsMachine m → is_ready m ≡ false

@@ -1,6 +1,6 @@
 -- Reading on behind a machine of which the same is to come.
 use Rattle.std.proofs.Common.{◌≡◌, ◌<◌, ◌≤◌, ◌+◌, ◌⊎◌, ℕ, zero, suc, Bool, true, false, List, [], ◌∷◌, length, refl, sym, ap, subst, ◌∙◌, inl, inr, arith, Option, Some, Result, Ok, Err}
-use Rattle.yaml_scan_machine.proofs.Words.{cases_lt, cases_Bool, yaml_encoding_t, Reader, ScanError, Fault, memory_fault, option_map, result_err, Offence, reader_fault, decoded_characters, in_utf8, text_bytes, decoding_fault, encoding_of, Remaining, Machine, Waiting, left_in, IsTold, IsLocated, IsMachine, ReadsOneMore, StaysShort, WantsMore, is_ready, ready_in, MayReadAt, Kind, HasMore, Token}
+use Rattle.yaml_scan_machine.proofs.Words.{cases_lt, cases_Bool, yaml_encoding_t, Reader, ScanError, Fault, memory_fault, option_map, result_err, Offence, reader_fault, decoded_characters, in_utf8, text_bytes, decoding_fault, encoding_of, Remaining, Machine, Waiting, left_in, IsTold, IsLocated, IsMachine, ReadsMore, StaysShort, WantsMore, is_ready, ready_in, MayReadAt, Kind, HasMore, Token}
 use Rattle.yaml_scan_machine.specs.Stood.{Steps}
 use Rattle.std.proofs.lemmas.Bool.{lt-ltb, ltb-true, true≢false}
 use Rattle.yaml_scan_model.specs.declared.fault.yaml_origin_t.TheVariants.{Scanner}
@@ -14,6 +14,7 @@ use Rattle.yaml_scan_machine.specs.declared.reading.Sought.TheVariants as found
 use Rattle.yaml_scan_machine.proofs.ComesLemmas.{left_is, reader_wide, goes_same, told_error, fault_machine, end_machine}
 use Rattle.yaml_scan_machine.specs.Comes.{Refused}
 use Rattle.yaml_scan_machine.proofs.MoreLemmas.{machine_more}
+use Rattle.yaml_scan_machine.proofs.PushLemmas.{paused}
 use Rattle.yaml_scan_machine.proofs.SettledLemmas.{machine_tells}
 
 -- whether n lexemes settle what comes next
@@ -48,7 +49,7 @@ reads_both old mid new left a b = record {
 }
 
 -- a lexeme more is read where the next token isn't known, or some are read ahead
-pub reads_more : (m new : Machine) → IsMachine m → WantsMore m → ReadsOneMore m new
+pub reads_more : (m new : Machine) → IsMachine m → WantsMore m → ReadsMore m new
     → ReadsAsNeeded m new
 reads_more m new i wants on = record {
   setting = on.setting;
@@ -56,7 +57,7 @@ reads_more m new i wants on = record {
   ahead = on.ahead;
   further = omega (arith, on.dropped, on.further);
   needed = λ none n least most.
-      let same : n ≡ read_by m = omega (arith, on.dropped, on.further, least, most) in
+      let same : n ≡ read_by m = omega (arith, on.dropped, on.one none, least, most) in
       ap (λ k. settles_in m k) same ∙ sym (machine_tells m i).is ∙ wants.needed none;
 }
 
@@ -113,15 +114,26 @@ pub record ReadsFrom (first m : Machine) : Type 0 where
 pub reads_start : (m : Machine) → IsMachine m → m.started ≡ true → ReadsFrom m m
 reads_start m i on = record { stands = i; started = on; left = refl; reads = reads_itself m }
 
--- a step reads one lexeme more
+-- how many are enough is no matter
+pub reads_paused : (m : Machine) (n : ℕ) → IsMachine m → m.started ≡ true
+    → ReadsFrom m (record m { enough = n })
+reads_paused m n i on = record {
+  stands = paused m n i;
+  started = on;
+  left = refl;
+  reads = record { setting = refl; bytes = refl; ahead = refl; further = omega arith; needed = λ none k least most. absurd (omega (arith, least, most)) };
+}
+
+-- a step reads lexemes more
 pub steps_on : (first m new : Machine) (f : Fault) (b : Bool) → ReadsFrom first m
     → WantsMore m → b ≡ true → Steps m new f b
-    → ReadsFrom first new × (0 < length new.waiting.items) × (new.dropped + new.ahead ≡ m.dropped + m.ahead)
+    → ReadsFrom first new × (0 < length new.waiting.items)
+    × (m.enough ≤ m.dropped + m.ahead → new.enough ≤ new.dropped + new.ahead)
 steps_on first m new f false r wants done s = cc
 steps_on first m new f true r wants done (stands, on) =
     let still = on.started ∙ r.started in
     let left = left_is new still ∙ goes_same m new on ∙ sym (left_is m r.started) ∙ r.left in
-    (record { stands = stands; started = still; left = left; reads = reads_both first m new r.left r.reads (reads_more m new r.stands wants on) }, omega (arith, on.further), omega (arith, on.dropped, on.ahead))
+    (record { stands = stands; started = still; left = left; reads = reads_both first m new r.left r.reads (reads_more m new r.stands wants on) }, omega (arith, on.further), λ few. omega (arith, few, on.enough, on.dropped, on.ahead))
 
 -- A machine that is refused a lexeme and isn't out of memory stands as it stood.
 pub still_stands : (m new : Machine) (f : Fault) (b : Bool) → IsMachine m → b ≡ false

@@ -10,6 +10,7 @@ mod KindLemmas
 mod PushLemmas
 mod SpellLemmas
 mod GivenLemmas
+mod PairLemmas
 mod WordLemmas
 mod ComesLemmas
 pub mod TakeLemmas
@@ -17,3 +18,6 @@ pub mod SettledLemmas
 pub mod ToldLemmas
 pub mod FoundLemmas
 mod MoreLemmas
+mod ColonLemmas
+mod PairRows
+mod PairPush

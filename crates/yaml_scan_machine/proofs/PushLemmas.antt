@@ -1,8 +1,9 @@
 -- The fields behind one more lexeme, and the lexemes that wait, where one of them is told what a later one makes of it.
 use Rattle.std.proofs.Common.{◌≡◌, ℕ, ◌<◌, ◌≤◌, List, length, get_or, ap, sym, subst, ◌∙◌, inl, inr, arith, refl, Result, Ok, Err, ◌+◌, ◌-◌, Bool, true, false, cond, ltb, eqb, ◌&&◌, ◌||◌, not, ◌∷◌, drop, Option, Some, None}
-use Rattle.yaml_scan_machine.proofs.Words.{set, Opens, Line, Waiting, marked, IsShort, StaysShort, AreInside, cases_Bool, map, is_some, Kind, Lexeme, is_value, is_start, is_end, allows_key, Candidate, candidate, has, first_open, entries, entry_of, levels, key_allowed, found_by, inside, start_of, opens_at, opened, Read, next, yaml_mark_t, TokenBody, body_in, Machine, Fields, fields_of, IsShown, all_kept, kept_in, read, settled_in, spelled, Picks, history_of, stream_of, KeptLexeme, kept_of, opens_for, keyed_by, get_or_default, fresh_is}
+use Rattle.yaml_scan_machine.proofs.Words.{set, Opens, Line, Waiting, marked, IsShort, StaysShort, AreInside, cases_Bool, map, is_some, Kind, Lexeme, is_value, is_start, is_end, allows_key, Candidate, candidate, has, first_open, entries, entry_of, levels, key_allowed, found_by, inside, start_of, opens_at, opened, Read, next, yaml_mark_t, TokenBody, body_in, Machine, Fields, fields_of, IsShown, all_kept, kept_in, read, settled_in, spelled, Picks, history_of, stream_of, KeptLexeme, kept_of, opens_for, keyed_by, get_or_default, fresh_is, IsMachine, ReadsMore, Answer, Next, Fails, Ends, GivesNext, text_bytes}
 use Rattle.std.proofs.lemmas.List.{length-set}
-use Rattle.std.specs.Prelude.{OnErr}
+use Rattle.std.specs.Prelude.{OnErr, OnOk}
+use Rattle.yaml_scan_machine.specs.Stood.{ComesNext}
 use Rattle.yaml_scan_queue.specs.Line.{Grows}
 use Rattle.yaml_scan_history.specs.History.{level_of, opens_of}
 use Rattle.yaml_scan_laws_order.proofs.HistoryForward.{steps_below}
@@ -47,6 +48,57 @@ stays m n e short = (e, subst (λ a. IsShort a n.waiting) (sym e) short)
 pub on_err : {X Y : Type 0} → (r : Result X Y) (P : Type 0) → P → OnErr r P
 on_err (Ok x) P p = tt
 on_err (Err e) P p = p
+
+-- ---- how many are enough says nothing of what was read
+
+pub paused : (m : Machine) (n : ℕ) → IsMachine m → IsMachine (record m { enough = n })
+paused m n i = record {
+  long = i.long;
+  few = i.few;
+  short = i.short;
+  ahead = i.ahead;
+  taken = i.taken;
+  settled = i.settled;
+  depth = i.depth;
+  levels = i.levels;
+  inside = i.inside;
+  place = i.place;
+  begun = i.begun;
+  fresh = i.fresh;
+  decoded = i.decoded;
+  spelled = i.spelled;
+  shown = i.shown;
+  first = i.first;
+  due = i.due;
+  given = i.given;
+}
+
+picks_paused : (m : Machine) (n : ℕ) (o : Option Candidate) (key : Option ℕ) → Picks m o key
+    → Picks (record m { enough = n }) o key
+picks_paused m n o None e = e
+picks_paused m n o (Some i) (low, (c, is, at)) = (low, (c, is, record { number = at.number; start = at.start }))
+
+gives_paused : (m : Machine) (n : ℕ) (r : Answer) (x : Next) → GivesNext m (Ok r) x
+    → GivesNext (record m { enough = n }) (Ok r) x
+gives_paused m n r (Read l) g = record { lexeme = g.lexeme; spoken = g.spoken; key = picks_paused m n (keyed_by l.kind (found_by l (history_of m))) r.key g.key }
+gives_paused m n r (Fails p) g = g
+gives_paused m n r Ends g = g
+
+pub comes_paused : (m : Machine) (n : ℕ) (r : Answer) → ComesNext m r
+    → ComesNext (record m { enough = n }) r
+comes_paused m n r g = record {
+  safe = record { column = g.safe.column; depth = g.safe.depth; key = g.safe.key; left = g.safe.left; place = g.safe.place };
+  exact = gives_paused m n r (next (text_bytes m.text) (history_of m)) g.exact;
+}
+
+-- what is read where fewer are enough
+pub more_paused : (m new : Machine) (n : ℕ) → n ≤ m.enough → ReadsMore (record m { enough = n }) new
+    → ReadsMore m new
+more_paused m new n low g = record { text = g.text; dropped = g.dropped; given = g.given; ahead = g.ahead; enough = omega (arith, low, g.enough); encoding = g.encoding; started = g.started; setting = g.setting; bytes = g.bytes; further = g.further; one = g.one }
+
+pub on_ok_by : {X Y : Type 0} → (r : Result X Y) (P Q : Type 0) → (P → Q) → OnOk r P → OnOk r Q
+on_ok_by (Ok x) P Q f p = f p
+on_ok_by (Err e) P Q f p = tt
 
 -- ---- the fields behind one more lexeme
 

@@ -43,7 +43,7 @@ pub use Rattle.yaml_scan_machine.specs.Shows.{Fields, IsShown, Picks, ShowsMachi
 unfoldable pub use Rattle.yaml_scan_machine.specs.Shows.{read, settled_in}
 pub use Rattle.yaml_scan_machine.specs.Stands.{Stands, Told}
 unfoldable pub use Rattle.yaml_scan_machine.specs.Stands.{is_letter}
-pub use Rattle.yaml_scan_machine.specs.State.{AreInside, IsMachine, IsNarrow, IsPlace, IsShort, ReadsOneMore, StaysShort, WantsMore, is_ready, ready_in}
+pub use Rattle.yaml_scan_machine.specs.State.{AreInside, IsMachine, IsNarrow, IsPlace, IsShort, ReadsMore, StaysShort, WantsMore, is_ready, ready_in}
 pub use Rattle.yaml_scan_machine.specs.Stood.{MayReadAt}
 pub use Rattle.yaml_scan_machine.specs.Taken.{front_count, fronted, given_in, own_token}
 pub use Rattle.yaml_scan_machine.specs.declared.keys.Key.{Key}

@@ -8,6 +8,7 @@ pub mod Reads
 pub mod Comes
 pub mod Left
 pub mod State
+pub mod Keyed
 pub mod Stood
 pub mod Settled
 pub mod Found

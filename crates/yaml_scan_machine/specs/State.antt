@@ -1,5 +1,5 @@
 -- What the fields of a machine say.
-use Rattle.std.specs.Prelude.{ℕ, ◌+◌, ◌^◌, ◌≡◌, ◌<◌, ◌≤◌, Bool, false, ◌||◌, nat_lt, List, [], ◌∷◌, length, take, slice_index, slice_index_or, IfSome, Some, Ok, true}
+use Rattle.std.specs.Prelude.{ℕ, ◌+◌, ◌-◌, ◌^◌, ◌≡◌, ◌<◌, ◌≤◌, Bool, false, ◌||◌, nat_lt, List, [], ◌∷◌, length, take, slice_index, slice_index_or, IfSome, Some, Ok, true}
 use Rattle.yaml_scan_model.specs.declared.record.yaml_mark_t.{yaml_mark_t}
 use Rattle.yaml_scan_model.specs.declared.name.yaml_encoding_t.TheVariants.{YAML_UTF8_ENCODING}
 use Rattle.yaml_scan_model.specs.Faults.{Fault}
@@ -73,7 +73,7 @@ is_ready m = ready_in m.dropped m.settled m.given m.waiting.items
 
 -- A further lexeme may be read: of those that wait few are settled, and where none is read ahead the next token isn't known.
 pub record WantsMore (m : Machine) : Type 0 where
-  pub few : m.settled ≤ m.dropped + m.ahead
+  pub few : m.settled ≤ m.dropped + (m.ahead - 1)
   pub needed : m.ahead ≡ 0 → is_ready m ≡ false
 
 -- So many levels a lexeme leaves open that stands at a depth and a column.
@@ -89,17 +89,19 @@ pub record IsNext (m : Machine) (r : Read) : Type 0 where
   pub left : Leaves r.lexeme.kind r.lexeme.depth r.lexeme.start.column m.levels r.left
   pub place : is_end r.lexeme.kind ≡ false → IsPlace (text_bytes m.text) r.lexeme.reached
 
--- one lexeme more waits
-pub record ReadsOneMore (old new : Machine) : Type 0 where
+-- Lexemes more wait; one, where none is read ahead.
+pub record ReadsMore (old new : Machine) : Type 0 where
   pub text : new.text ≡ old.text
   pub dropped : new.dropped ≡ old.dropped
   pub given : new.given ≡ old.given
   pub ahead : new.ahead ≡ old.ahead
+  pub enough : new.enough ≤ old.enough
   pub encoding : new.encoding ≡ old.encoding
   pub started : new.started ≡ old.started
   pub setting : new.setting ≡ old.setting
   pub bytes : new.input.now ≡ old.input.now
-  pub further : length new.waiting.items ≡ length old.waiting.items + 1
+  pub further : length old.waiting.items < length new.waiting.items
+  pub one : old.ahead ≡ 0 → length new.waiting.items ≡ length old.waiting.items + 1
 
 -- UTF-8 takes no memory: where it spells no text, that is told.
 abbrev pub TellsUtf8 : Machine → Fault → Type 0

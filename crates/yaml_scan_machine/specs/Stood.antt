@@ -18,7 +18,7 @@ use Rattle.yaml_scan_machine.specs.Shows.{history_of}
 use Rattle.yaml_scan_machine.specs.Reads.{required_in, late, GivesNext}
 use Rattle.yaml_scan_machine.specs.Comes.{Refused}
 use Rattle.yaml_scan_machine.specs.Left.{IsLocated}
-use Rattle.yaml_scan_machine.specs.State.{IsPlace, StaysShort, IsMachine, IsNext, ReadsOneMore, WantsMore}
+use Rattle.yaml_scan_machine.specs.State.{IsPlace, StaysShort, IsMachine, IsNext, ReadsMore, WantsMore}
 
 -- a lexeme of a kind stands there, and comes next
 pub record StandsAsNext (m : Machine) (k : Kind) (s : LexemeSpot) : Type 0 where
@@ -56,11 +56,11 @@ pub record MayReadAt (m : Machine) (k : Kind) (s : LexemeSpot) : Type 0 where
 abbrev pub IsRefused : Machine → Fault → Type 0
 IsRefused m f = (e : ScanError) × (Refused m e) × (IsLocated e f)
 
--- One lexeme more waits (true), or that fault is answered: all is as before, or memory ran out.
+-- Lexemes more wait (true), or that fault is answered: all is as before, or memory ran out.
 -- all is as before, or memory ran out
 abbrev pub LeavesWhole : Machine → Machine → Fault → Type 0
 LeavesWhole old new f = (f ≡ memory_fault Scanner) ⊎ (new ≡ old)
 
 abbrev pub Steps : Machine → Machine → Fault → Bool → Type 0
-Steps old new f true = IsMachine new × ReadsOneMore old new
+Steps old new f true = IsMachine new × ReadsMore old new
 Steps old new f false = IsRefused old f × StaysShort old new × LeavesWhole old new f

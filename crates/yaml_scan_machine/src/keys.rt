@@ -342,7 +342,21 @@ impl Keys {
         ensures first { IsFirst self.old → IsFirst self.new }
         ensures due { IsDue self.old → IsDue self.new }
     {
+        self.give_up();
+    }
+
+    /// The innermost depth has no candidate any more, and so none whose `:` must come, which a bracket that opens asks.
+    // Inlined: two stores.
+    #[inline(always)]
+    pub(crate) fn give_up(&mut self)
+        ensures same { self.new ≡ record self.old {
+          innermost = record self.old.innermost { possible = false; required = false };
+        } }
+        ensures first { IsFirst self.old → IsFirst self.new }
+        ensures due { IsDue self.old → IsDue self.new }
+    {
         self.innermost.possible = false;
+        self.innermost.required = false;
     }
 
     /// A bracket opens: the depth inside it has no candidate.

@@ -79,6 +79,8 @@ impl Levels {
     }
 
     /// Opens a level where the column passes the indent, and answers whether it does.
+    // Inlined: mostly a comparison.
+    #[inline(always)]
     pub(crate) fn open(&mut self, column: u64) -> Result<bool, AllocError>
         ensures levels { OnOk result (self.new ≡ opened true column self.old) }
         ensures opens { IfOk result (λ b. b ≡ nat_lt (indent self.old) column) }

@@ -6,6 +6,7 @@ mod keys;
 mod levels;
 mod machine;
 mod next;
+mod pair;
 mod reading;
 mod readings;
 mod stand;

@@ -14,13 +14,16 @@ use yaml_scan_decode::{stream_encoding, yaml_decode, yaml_text_t};
 use yaml_scan_history::{Kind, Lexeme, Opens};
 use yaml_scan_model::{
     ScanError, Spares, yaml_encoding_t, yaml_fault_t, yaml_mark_t, yaml_memory_fault,
-    yaml_origin_t, yaml_token_t,
+    yaml_origin_t, yaml_token_body_t, yaml_token_t,
 };
 use yaml_scan_queue::Queue;
 use yaml_scan_slot::TokenSlot;
 
 /// How many lexemes are read until they are settled, where some are read before they are needed.
 pub const READ_AHEAD: usize = 8;
+
+/// Behind a text of more bytes no lexeme is read before it is needed, so that few such texts wait.
+const LONG_TEXT: usize = 4096;
 
 /// The state between two lexemes.
 #[derive(Drop)]
@@ -42,6 +45,8 @@ pub struct Machine<'a> {
     pub settled: usize,
     /// How many lexemes are read until they are settled; or 0, and none is read before it is needed.
     pub ahead: usize,
+    /// Where so many of all lexemes are settled and the next token is known, no more are read; 0 behind a long text.
+    pub enough: usize,
     /// The candidate of each open depth.
     pub keys: Keys,
     /// The place that is reached.
@@ -140,6 +145,7 @@ impl<'a> Machine<'a> {
             given: 0,
             settled: 0,
             ahead,
+            enough: 0,
             keys: Keys::new(alloc),
             place: yaml_mark_t {
                 index: 0,
@@ -343,6 +349,18 @@ impl<'a> Machine<'a> {
         Ok(level_of(lexeme.kind))
     }
 
+    /// Has no lexeme read before it is needed behind a long text.
+    // Inlined: the kind is known where it is called, and of a text it is a comparison.
+    #[inline(always)]
+    pub(crate) fn pause_behind(&mut self, body: &yaml_token_body_t)
+        ensures same { self.new ≡ record self.old { enough = self.new.enough } }
+        ensures lesser { self.new.enough ≤ self.old.enough }
+    {
+        if is_long(body) {
+            self.enough = 0;
+        }
+    }
+
     /// How many lexemes were read.
     // Inlined: two additions.
     #[inline(always)]
@@ -351,6 +369,16 @@ impl<'a> Machine<'a> {
         ensures { result ≡ self.now.dropped + length self.now.waiting.items }
     {
         self.dropped + self.waiting.len()
+    }
+}
+
+/// Whether a token carries a long text.
+// Inlined: its kind is known where it is called.
+#[inline(always)]
+fn is_long(body: &yaml_token_body_t) -> bool {
+    match body {
+        yaml_token_body_t::Scalar { value, .. } => LONG_TEXT < value.len(),
+        _ => false,
     }
 }
 

@@ -150,7 +150,7 @@ fn fill_further(machine: &mut Machine, spares: &mut Spares, fault: &mut yaml_fau
     ensures { ReadsOn machine.old machine.new (fault_of fault.new) result }
 {
     let mut spot = LexemeSpot::blank();
-    let enough = machine.dropped + machine.ahead;
+    machine.enough = machine.dropped + machine.ahead;
     'steps: loop {
         if machine.ended {
             if machine.has_token() {
@@ -161,7 +161,7 @@ fn fill_further(machine: &mut Machine, spares: &mut Spares, fault: &mut yaml_fau
         if !read_one_more(machine, &mut spot, spares, fault) {
             return refused(machine, fault);
         }
-        if enough <= machine.settled {
+        if machine.enough <= machine.settled {
             if machine.has_token_waiting() {
                 return Sought::Known;
             }

@@ -13,7 +13,7 @@ use yaml_scan_model::{ScanError, Spares, yaml_fault_t, yaml_mark_t};
 use yaml_scan_queue::ReadLexeme;
 
 impl<'a> Machine<'a> {
-    ghost use Rattle.yaml_scan_machine.specs.State.{StaysShort, IsMachine, ReadsOneMore, WantsMore};
+    ghost use Rattle.yaml_scan_machine.specs.State.{StaysShort, IsMachine, ReadsMore, WantsMore};
     ghost use Rattle.yaml_scan_machine.specs.Stood.{ComesNext, MayReadAt, Steps};
     ghost use Rattle.yaml_scan_machine.specs.Shows.{history_of};
     ghost use Rattle.yaml_scan_machine.specs.Reads.{required_in};
@@ -60,7 +60,7 @@ impl<'a> Machine<'a> {
     /// Whether a lexeme of that kind may be refused for what stands before it.
     // Inlined: the kind is known where it is called.
     #[inline(always)]
-    fn may_refuse(&self, kind: Kind, spot: LexemeSpot) -> bool {
+    pub(crate) fn may_refuse(&self, kind: Kind, spot: LexemeSpot) -> bool {
         spot.required || kind.is_start() && self.depth == 0 && !spot.allowed
     }
 
@@ -109,16 +109,32 @@ impl<'a> Machine<'a> {
         }
     }
 
-    /// Puts a lexeme that was read behind those that wait.
+    /// Puts a lexeme that was read behind those that wait. Behind a long text no more are read than are needed.
     // Inlined: its kind is known where it is called.
     #[inline(always)]
-    fn push(&mut self, read: Read) -> Result<(), AllocError>
+    pub(crate) fn push(&mut self, read: Read) -> Result<(), AllocError>
         requires stands { IsMachine self.old }
         requires started { self.old.started ≡ true }
         requires wants { WantsMore self.old }
         requires more { self.old.ended ≡ false }
         requires next { ComesNext self.old read }
-        ensures ok { OnOk result (IsMachine self.new × ReadsOneMore self.old self.new) }
+        ensures ok { OnOk result (IsMachine self.new × ReadsMore self.old self.new) }
+        ensures few { OnErr result (StaysShort self.old self.new) }
+    {
+        self.pause_behind(&read.body);
+        self.put(read)
+    }
+
+    /// Puts a lexeme that was read behind those that wait.
+    // Inlined: its kind is known where it is called.
+    #[inline(always)]
+    fn put(&mut self, read: Read) -> Result<(), AllocError>
+        requires stands { IsMachine self.old }
+        requires started { self.old.started ≡ true }
+        requires wants { WantsMore self.old }
+        requires more { self.old.ended ≡ false }
+        requires next { ComesNext self.old read }
+        ensures ok { OnOk result (IsMachine self.new × ReadsMore self.old self.new) }
         ensures few { OnErr result (StaysShort self.old self.new) }
     {
         let Read {
@@ -141,6 +157,7 @@ impl<'a> Machine<'a> {
             end: lexeme.end,
             ends,
             opens: opens_here(opens, found),
+            key: false,
             body,
         });
         self.place = lexeme.reached;
@@ -155,7 +172,7 @@ impl<'a> Machine<'a> {
 /// Puts the fault that memory ran out into a slot.
 // Out of line: in line the room of its copy would be set to zero for each token.
 #[inline(never)]
-fn put_memory(slot: &mut yaml_fault_t)
+pub(crate) fn put_memory(slot: &mut yaml_fault_t)
     ensures { IsLocated ScanError.Memory (fault_of slot.new) }
 {
     put_fault(slot, ScanError::Memory);
@@ -164,7 +181,7 @@ fn put_memory(slot: &mut yaml_fault_t)
 /// Puts the fault that a refusal is answered as into a slot.
 // Inlined: so the refusal that is lent to the call has a place of its own, and the answer of reading none in memory.
 #[inline(always)]
-fn put_refusal(slot: &mut yaml_fault_t, error: ScanError)
+pub(crate) fn put_refusal(slot: &mut yaml_fault_t, error: ScanError)
     ensures { IsLocated error (fault_of slot.new) }
 {
     let refusal = error;

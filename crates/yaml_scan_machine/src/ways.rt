@@ -37,14 +37,14 @@ impl<'a> Machine<'a> {
     {
         match kind {
             Kind::FlowEntry => self.step_at(&Kind::FlowEntry, spot, spares, fault),
-            Kind::ValueMark => self.step_at(&Kind::ValueMark, spot, spares, fault),
-            Kind::Plain => self.step_at(&PlainReading, spot, spares, fault),
-            Kind::DoubleQuoted => self.step_at(&DoubleQuotedReading, spot, spares, fault),
+            Kind::Plain => self.step_key(&PlainReading, spot, spares, fault),
+            Kind::DoubleQuoted => self.step_key(&DoubleQuotedReading, spot, spares, fault),
             Kind::FlowSequenceEnd => self.step_at(&Kind::FlowSequenceEnd, spot, spares, fault),
             Kind::FlowMappingEnd => self.step_at(&Kind::FlowMappingEnd, spot, spares, fault),
             Kind::FlowSequenceStart => self.step_at(&Kind::FlowSequenceStart, spot, spares, fault),
             Kind::FlowMappingStart => self.step_at(&Kind::FlowMappingStart, spot, spares, fault),
             Kind::BlockEntry => self.step_at(&Kind::BlockEntry, spot, spares, fault),
+            Kind::ValueMark => self.apart(&Kind::ValueMark, spot, spares, fault),
             Kind::SingleQuoted => self.apart(&SingleQuotedReading, spot, spares, fault),
             Kind::Anchor => self.apart(&AnchorReading, spot, spares, fault),
             Kind::Alias => self.apart(&AliasReading, spot, spares, fault),

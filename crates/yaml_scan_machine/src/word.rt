@@ -245,7 +245,7 @@ fn read_indicator(reader: &mut Reader, body: yaml_token_body_t) -> Word
 /// Past a byte of ASCII that is no break: what is behind it is known without a look at it.
 // Inlined: two additions.
 #[inline(always)]
-fn go_past(reader: &mut Reader)
+pub(crate) fn go_past(reader: &mut Reader)
     requires some { 0 < byte reader.old.text reader.old.at }
     requires no_break { break_width reader.old.text reader.old.at ≡ 0 }
     requires ascii { byte reader.old.text reader.old.at < 128 }

@@ -30,14 +30,14 @@ kept_of w = record {
 abbrev pub keyed : Opens → Waiting → Waiting
 keyed opens w = record w { opens = opens; key = true }
 
--- the same of a lexeme that was just read: its `:` hasn't come
+-- the same of a lexeme that was just read
 abbrev pub kept_in_read : ReadLexeme → KeptLexeme
 kept_in_read r = record {
   start = r.start;
   end = r.end;
   ends = r.ends;
   opens = r.opens;
-  key = false;
+  key = r.key;
   body = body_of r.body;
 }
 

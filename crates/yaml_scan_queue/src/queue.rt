@@ -318,12 +318,13 @@ fn put_read(slot: &mut Waiting, read: ReadLexeme)
         end,
         ends,
         opens,
+        key,
         body,
     } = read;
     slot.start = mark_again(&start);
     slot.end = mark_again(&end);
     slot.ends = ends;
     slot.opens = opens;
-    slot.key = false;
+    slot.key = key;
     slot.body.put(body);
 }

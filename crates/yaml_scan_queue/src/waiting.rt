@@ -28,7 +28,7 @@ pub struct Waiting {
     pub body: BodySlot,
 }
 
-/// A lexeme that was just read, before it waits. Its `:` hasn't come.
+/// A lexeme that was just read, before it waits.
 #[derive(Drop)]
 pub struct ReadLexeme {
     /// Its own token's marks.
@@ -38,6 +38,8 @@ pub struct ReadLexeme {
     pub ends: usize,
     /// The level that it opens.
     pub opens: Opens,
+    /// Its `:` was read with it.
+    pub key: bool,
     /// What its own token carries.
     pub body: yaml_token_body_t,
 }

@@ -1,32 +1,36 @@
-use Rattle.std.proofs.Common.{◌≡◌, ◌+◌, ◌<◌, length, refl, sym, ◌∙◌, arith}
+use Rattle.std.proofs.Common.{◌+◌, ◌<◌, ◌≤◌, length, sym, ◌∙◌, arith}
 use Rattle.yaml_scan_machine.proofs.Words.{fault_of}
 use Rattle.yaml_scan_machine.proofs.ComesLemmas.{wants_more}
-use Rattle.yaml_scan_machine.proofs.FoundLemmas.{ReadsFrom, reads_start, steps_back, steps_end, steps_on, still_stands}
+use Rattle.yaml_scan_machine.proofs.FoundLemmas.{ReadsFrom, reads_paused, steps_back, steps_end, steps_on, still_stands}
 use Rattle.yaml_scan_machine.proofs.reading.fill_further.Goals.{Else-not-read_one_more}
 use Rattle.yaml_scan_machine.proofs.reading.fill_further.Goals as goal
 
 -- one lexeme more was read
 stepped : (c : Else-not-read_one_more) → ReadsFrom c.args.machine.now c.read_one_more.new.machine
     × (0 < length c.read_one_more.new.machine.waiting.items)
-    × (c.read_one_more.new.machine.dropped + c.read_one_more.new.machine.ahead ≡ c.steps.machine.dropped + c.steps.machine.ahead)
+    × (c.steps.machine.enough ≤ c.steps.machine.dropped + c.steps.machine.ahead
+    → c.read_one_more.new.machine.enough ≤ c.read_one_more.new.machine.dropped + c.read_one_more.new.machine.ahead)
 stepped c = steps_on c.args.machine.now c.steps.machine c.read_one_more.new.machine (fault_of c.read_one_more.new.fault) c.read_one_more.result c.steps.invariant.from c.steps.invariant.wants c.if-not-read_one_more.false c.read_one_more.ensures
 
 pub steps-init : goal.steps-init
-steps-init c = record { from = reads_start c.args.machine.now c.requires.stands c.requires.started; wants = wants_more c.args.machine.now c.requires.stands c.requires.sought; enough = refl; some = c.requires.some }
+steps-init c =
+    let m = c.args.machine.now in
+    let wants = wants_more m c.requires.stands c.requires.sought in
+    record { from = reads_paused m (m.dropped + m.ahead) c.requires.stands c.requires.started; wants = record { few = wants.few; needed = wants.needed }; enough = omega arith; some = c.requires.some }
 
 pub steps-preserved-else-has_token_waiting : goal.steps-preserved-else-has_token_waiting
 steps-preserved-else-has_token_waiting c =
     let (r, some, enough) = stepped (goal.at.steps-preserved-else-has_token_waiting c).Else-not-read_one_more in
-    record { from = r; wants = wants_more c.read_one_more.new.machine r.stands (sym c.has_token_waiting.ensures ∙ c.if-has_token_waiting.false); enough = c.steps.invariant.enough ∙ sym enough; some = omega arith }
+    record { from = r; wants = wants_more c.read_one_more.new.machine r.stands (sym c.has_token_waiting.ensures ∙ c.if-has_token_waiting.false); enough = enough c.steps.invariant.enough; some = omega arith }
 
 pub steps-preserved : goal.steps-preserved
 steps-preserved c =
     let (r, some, enough) = stepped (goal.at.steps-preserved c).Else-not-read_one_more in
-    let past = c.steps.invariant.enough in
+    let past = enough c.steps.invariant.enough in
     record {
       from = r;
-      wants = record { few = omega (arith, past, enough, c.if-enough-machine.false); needed = λ none. absurd (omega (arith, past, enough, none, r.stands.taken, c.if-enough-machine.false)) };
-      enough = past ∙ sym enough;
+      wants = record { few = omega (arith, past, r.stands.taken, c.if-machine-2.false); needed = λ none. absurd (omega (arith, past, none, r.stands.taken, c.if-machine-2.false)) };
+      enough = past;
       some = omega arith;
     }
 

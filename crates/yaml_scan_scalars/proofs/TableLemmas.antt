@@ -1,7 +1,7 @@
 -- The table of ordinary bytes, and the marks behind a run of them.
-use Rattle.std.proofs.Common.{◌≡◌, ℕ, ◌+◌, ◌<◌, ◌≤◌, if◌then◌else◌, Bool, true, false, ◌&&◌, ◌||◌, ◌-◌, List, length, refl, inl, inr, arith, rules}
-use Rattle.yaml_scan_scalars.proofs.Words.{nat_tests, cases_Bool, cases_lt, and_parts, or_cases, or_parts, byte, break_of, ends_break, splits_break, starts, line_at, column_at, within, end_next, split_next, line_more, column_more, column_same, is_ordinary, is_common, is_narrow, is_odd, is_link, is_linked, in_run, IsRun, is_bracket}
-use Rattle.yaml_scan_scalars.proofs.RunLemmas.{common_ordinary, narrow_ordinary, ordinary_calm, link_cases, ordinary_in, linked_in, run_parts}
+use Rattle.std.proofs.Common.{◌≡◌, ℕ, zero, suc, ◌+◌, ◌<◌, ◌≤◌, if◌then◌else◌, Bool, true, false, ◌&&◌, ◌||◌, ◌-◌, List, length, refl, sym, ◌∙◌, inl, inr, arith, rules}
+use Rattle.yaml_scan_scalars.proofs.Words.{nat_tests, cases_Bool, cases_lt, and_parts, or_cases, or_parts, Place, byte, break_of, ends_of, ends_break, splits_break, starts, line_at, column_at, within, end_next, split_next, line_more, column_more, column_same, is_ordinary, is_common, is_narrow, is_odd, is_link, is_linked, in_run, IsRun, is_bracket}
+use Rattle.yaml_scan_scalars.proofs.RunLemmas.{calm_ends_none, common_ordinary, narrow_ordinary, ordinary_calm, sign_calm, link_cases, ordinary_in, linked_in, run_parts}
 
 column_behind : (text : List ℕ) (p : ℕ) → ends_break text p ≡ false
     → column_at text (p + 1) ≡ column_at text p + (if starts (byte text p) then 1 else 0)
@@ -88,3 +88,35 @@ pub run_of : (kind : ℕ) (text : List ℕ) (p q : ℕ) → p ≤ q
     → ((k : ℕ) → p ≤ k → k < q → is_passed kind text k ≡ true) → is_passed kind text q ≡ false
     → IsRun kind text p (record { text = text; at = q })
 run_of kind text p q after passed stops = search (rules, last_ordinary, or_parts, passes)
+
+-- a run stays in its line
+
+-- no break ends with a space
+space_ends_none : (x y b c : ℕ) → b ≡ 32 → ends_of x y b c ≡ false
+unfolding ends_of
+space_ends_none x y b c e = rw e refl
+
+in_run_line : (kind : ℕ) (text : List ℕ) (p : ℕ) → in_run kind text p ≡ true
+    → line_at text (p + 1) ≡ line_at text p
+in_run_line kind text p h = line_more text p (elim (run_parts kind text p h) [
+  | inl o ↦ calm_ends_none _ _ _ _ (ordinary_calm kind _ o)
+  | inr (l, n) ↦ elim (link_cases (byte text p) l) [
+    | inl e ↦ space_ends_none _ _ _ _ e
+    | inr s ↦ calm_ends_none _ _ _ _ (sign_calm _ s)
+  ]
+])
+
+line_over : (d kind : ℕ) (text : List ℕ) (p : ℕ)
+    → ((k : ℕ) → p ≤ k → k < p + d → in_run kind text k ≡ true)
+    → line_at text p ≡ line_at text (p + d)
+line_over zero kind text p each = let z : p + 0 ≡ p = omega arith in rw z refl
+line_over (suc d) kind text p each =
+    let next : p + 1 + d ≡ p + suc d = omega arith in
+    let here = in_run_line kind text p (each p (omega arith) (omega arith)) in
+    rw next at (sym here ∙ line_over d kind text (p + 1) (λ k a b. each k (omega arith) (omega arith)))
+
+pub run_line : (kind : ℕ) (text : List ℕ) (p : ℕ) (place : Place) → IsRun kind text p place
+    → line_at text p ≡ line_at text place.at
+run_line kind text p place run =
+    let at : p + (place.at - p) ≡ place.at = omega (arith, run.after) in
+    rw at at (line_over (place.at - p) kind text p (λ k a b. run.each k a (rw at at b)))

@@ -175,19 +175,29 @@ fn past_narrow(kind: u8, text: &[u8], from: usize) -> usize
 }
 
 /// Past the ordinary bytes that stand here.
-// Inlined: the call out of line is lent a copy of the reader, since one that is lent lies in memory.
+// Inlined: the call out of line is lent a copy of the reader, since one that is lent lies in memory. The text and the line stay
+// those in front of it, so that nothing has to choose between two of them behind it.
 #[inline(always)]
 fn wide_apart(reader: &mut Reader)
     ensures run { (kind : ℕ) → spec.IsRun kind reader.old.text reader.old.at reader.new }
     ensures inside { reader.new.at ≤ length reader.old.text }
 {
+    let here = reader.stop();
+    let text = reader.text();
     let mut copy = reader.ahead();
     wide_run(&mut copy);
-    *reader = copy;
+    let behind = copy.stop();
+    let mark = yaml_mark_t {
+        index: behind.index,
+        line: here.line,
+        column: behind.column,
+    };
+    *reader = Reader::resume(text, mark);
 }
 
 /// Past the ordinary bytes that stand here.
-// Out of line: most runs are of ASCII.
+// Out of line and cold: most runs are of ASCII.
+#[cold]
 #[inline(never)]
 #[tactic(auto, using(crate::proofs::RunLemmas::run_start))]
 fn wide_run(reader: &mut Reader)

@@ -91,15 +91,17 @@ fn pass_one(reader: &mut Reader, tabs: bool) -> GapSpot
 }
 
 /// Up to the break or the end behind the comment that stands here.
-// A copy is lent: a reader that is lent to a call out of line lives in memory, and so it would for each gap.
+// A copy is lent: a reader that is lent to a call out of line lives in memory, and so it would for each gap. The text stays the
+// one in front of it, so that nothing has to choose between two of them behind it.
 // Inlined always: the room of the copy is set to zero where a comment stands, and not where the caller begins.
 #[inline(always)]
 fn pass_remark(reader: &mut Reader)
     ensures { reader.new ≡ record reader.old { at = line_end reader.old.text reader.old.at } }
 {
+    let text = reader.text();
     let mut copy = reader.ahead();
     skip_text(&mut copy);
-    *reader = copy;
+    *reader = Reader::resume(text, copy.stop());
 }
 
 /// Whether the byte begins no blank, comment, break or U+FEFF, as nearly all bytes of lexemes.

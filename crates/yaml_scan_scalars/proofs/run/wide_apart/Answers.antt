@@ -1,4 +1,18 @@
+use Rattle.std.proofs.Common.{refl}
+use Rattle.yaml_scan_scalars.proofs.TableLemmas.{run_line}
 use Rattle.yaml_scan_scalars.proofs.run.wide_apart.Goals as goal
 
+pub resume-requires-clause-mark : goal.resume-requires-clause-mark
+resume-requires-clause-mark c =
+    let run = rw c.ahead-copy.ensures at (c.wide_run.ensures.run 1) in
+    rw (c.text-text.ensures, c.stop-here.ensures.mark, c.stop-behind.ensures.mark, run.same, run_line 1 _ _ _ run) refl
+
+pub resume-requires-clause-whole : goal.resume-requires-clause-whole
+resume-requires-clause-whole c =
+    let run = rw c.ahead-copy.ensures at (c.wide_run.ensures.run 1) in
+    rw (c.text-text.ensures, c.stop-behind.ensures.mark, ← run.same) c.stop-behind.ensures.whole
+
 pub returns-clause-run : goal.returns-clause-run
-returns-clause-run c = λ kind. rw c.ahead-copy.ensures at (c.wide_run.ensures.run kind)
+returns-clause-run c = λ kind.
+    let run = rw c.ahead-copy.ensures at (c.wide_run.ensures.run kind) in
+    rw (c.resume.ensures, c.text-text.ensures, c.stop-behind.ensures.mark) (record { same = refl; after = run.after; each = run.each; last = run.last })

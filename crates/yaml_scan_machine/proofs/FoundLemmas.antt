@@ -1,6 +1,6 @@
 -- Reading on behind a machine of which the same is to come.
 use Rattle.std.proofs.Common.{◌≡◌, ◌<◌, ◌≤◌, ◌+◌, ◌⊎◌, ℕ, zero, suc, Bool, true, false, List, [], ◌∷◌, length, refl, sym, ap, subst, ◌∙◌, inl, inr, arith, Option, Some, Result, Ok, Err}
-use Rattle.yaml_scan_machine.proofs.Words.{cases_lt, cases_Bool, yaml_encoding_t, Reader, ScanError, Fault, memory_fault, option_map, result_err, Offence, reader_fault, decoded_characters, in_utf8, text_bytes, decoding_fault, encoding_of, Remaining, Machine, Waiting, left_in, IsTold, IsLocated, IsMachine, ReadsMore, StaysShort, WantsMore, is_ready, ready_in, MayReadAt, Kind, HasMore, Token}
+use Rattle.yaml_scan_machine.proofs.Words.{Line, cases_lt, cases_Bool, Reader, ScanError, Fault, memory_fault, option_map, result_err, Offence, reader_fault, decoded_characters, in_utf8, text_bytes, Remaining, Machine, Waiting, left_in, IsTold, IsLocated, IsMachine, ReadsMore, WantsMore, is_ready, ready_in, MayReadAt, Kind, HasMore, Token}
 use Rattle.yaml_scan_machine.specs.Stood.{Steps}
 use Rattle.std.proofs.lemmas.Bool.{lt-ltb, ltb-true, true≢false}
 use Rattle.yaml_scan_model.specs.declared.fault.yaml_origin_t.TheVariants.{Scanner}
@@ -14,19 +14,8 @@ use Rattle.yaml_scan_machine.specs.declared.reading.Sought.TheVariants as found
 use Rattle.yaml_scan_machine.proofs.ComesLemmas.{left_is, reader_wide, goes_same, told_error, fault_machine, end_machine}
 use Rattle.yaml_scan_machine.specs.Comes.{Refused}
 use Rattle.yaml_scan_machine.proofs.MoreLemmas.{machine_more}
-use Rattle.yaml_scan_machine.proofs.PushLemmas.{paused}
+use Rattle.yaml_scan_machine.proofs.PushLemmas.{rewound}
 use Rattle.yaml_scan_machine.proofs.SettledLemmas.{machine_tells}
-
--- whether n lexemes settle what comes next
-abbrev settles_in : Machine → ℕ → Bool
-settles_in m n = settles m.setting m.input.now (left_in m).tokens n
-
-settles_same : (m first : Machine) (n : ℕ) → m.setting ≡ first.setting
-    → m.input.now ≡ first.input.now → left_in m ≡ left_in first → settles_in m n ≡ settles_in first n
-settles_same m first n setting input left =
-    ap (λ (s : yaml_encoding_t). settles s m.input.now (left_in m).tokens n) setting
-    ∙ ap (λ (bytes : List ℕ). settles first.setting bytes (left_in m).tokens n) input
-    ∙ ap (λ (c : Remaining). settles first.setting first.input.now c.tokens n) left
 
 -- nothing is read
 pub reads_none : (old new : Machine) → KeepsInput old new → ReadsAsNeeded old new
@@ -42,10 +31,7 @@ reads_both old mid new left a b = record {
   bytes = b.bytes ∙ a.bytes;
   ahead = b.ahead ∙ a.ahead;
   further = omega (arith, a.further, b.further);
-  needed = λ none n least most. elim (cases_lt n (read_by mid)) [
-    | inl below ↦ a.needed none n least below
-    | inr past ↦ sym (settles_same mid old n a.setting a.bytes left) ∙ b.needed (a.ahead ∙ none) n past most
-  ];
+  needed = λ none n least most. elim (cases_lt n (read_by mid)) [ inl below ↦ a.needed none n least below | inr past ↦ rw (← left, ← a.setting, ← a.bytes) (b.needed (a.ahead ∙ none) n past most) ];
 }
 
 -- a lexeme more is read where the next token isn't known, or some are read ahead
@@ -58,25 +44,18 @@ reads_more m new i wants on = record {
   further = omega (arith, on.dropped, on.further);
   needed = λ none n least most.
       let same : n ≡ read_by m = omega (arith, on.dropped, on.one none, least, most) in
-      ap (λ k. settles_in m k) same ∙ sym (machine_tells m i).is ∙ wants.needed none;
+      ap (λ k. settles m.setting m.input.now (left_in m).tokens k) same ∙ sym (machine_tells m i).is ∙ wants.needed none;
 }
 
 reader_behind : (old mid : Machine) (f : Fault) → ReadsAsNeeded old mid → ReaderLacks mid f
     → ReaderLacks old f
 reader_behind old mid f a lacks is =
     let (none, wide) = lacks is in
-    (omega (arith, none, a.further), λ utf8. wide (ap (λ (s : yaml_encoding_t). encoding_of s mid.input.now) a.setting ∙ ap (λ (bytes : List ℕ). encoding_of old.setting bytes) a.bytes ∙ utf8))
+    (omega (arith, none, a.further), λ utf8. wide (rw (a.setting, a.bytes) utf8))
 
 plain_behind : (old mid : Machine) (f : Fault) → ReadsAsNeeded old mid → PlainIsTold mid f
     → PlainIsTold old f
-plain_behind old mid f a plain g utf8 is =
-    plain g
-    (ap (λ (s : yaml_encoding_t). encoding_of s mid.input.now) a.setting ∙ ap (λ (bytes : List ℕ). encoding_of old.setting bytes) a.bytes ∙ utf8)
-    (ap (λ (s : yaml_encoding_t). decoding_fault s mid.input.now) a.setting ∙ ap (λ (bytes : List ℕ). decoding_fault old.setting bytes) a.bytes ∙ is)
-
-short_behind : (old mid new : Machine) → mid.ahead ≡ old.ahead → StaysShort mid new
-    → StaysShort old new
-short_behind old mid new same (kept, short) = (kept ∙ same, short)
+plain_behind old mid f a plain g utf8 is = plain g (rw (a.setting, a.bytes) utf8) (rw (a.setting, a.bytes) is)
 
 pub reads_behind : (old mid new : Machine) (f : Fault) (s : Sought) → left_in mid ≡ left_in old
     → is_ready mid ≡ is_ready old → ReadsAsNeeded old mid → ReadsOn mid new f s → ReadsOn old new f s
@@ -88,7 +67,7 @@ reads_behind old mid new f found.Refused left ready a r = record {
   told = subst (λ (c : Remaining). IsTold c f) left r.told;
   reader = reader_behind old mid f a r.reader;
   plain = plain_behind old mid f a r.plain;
-  few = short_behind old mid new a.ahead r.few;
+  few = (r.few.0 ∙ a.ahead, r.few.1);
 }
 
 no_scanner_reader : (e : ScanError) (f : Fault) → IsLocated e f → f ≡ memory_fault Reader → ⊥
@@ -114,15 +93,11 @@ pub record ReadsFrom (first m : Machine) : Type 0 where
 pub reads_start : (m : Machine) → IsMachine m → m.started ≡ true → ReadsFrom m m
 reads_start m i on = record { stands = i; started = on; left = refl; reads = reads_itself m }
 
--- how many are enough is no matter
-pub reads_paused : (m : Machine) (n : ℕ) → IsMachine m → m.started ≡ true
-    → ReadsFrom m (record m { enough = n })
-reads_paused m n i on = record {
-  stands = paused m n i;
-  started = on;
-  left = refl;
-  reads = record { setting = refl; bytes = refl; ahead = refl; further = omega arith; needed = λ none k least most. absurd (omega (arith, least, most)) };
-}
+-- how many are enough is no matter, nor where in its row stands what waits
+pub reads_rewound : (m : Machine) (n : ℕ) (q : Line) → q.items ≡ m.waiting.items
+    → q.slots ≡ m.waiting.slots → IsMachine m → m.started ≡ true
+    → ReadsFrom m (record m { enough = n; waiting = q })
+reads_rewound m n q items slots i on = record { stands = rewound m n q items slots i; started = on; left = refl; reads = reads_none m (record m { enough = n; waiting = q }) record { setting = refl; bytes = refl; ahead = refl; read = ap (λ (ws : List Waiting). m.dropped + length ws) items } }
 
 -- a step reads lexemes more
 pub steps_on : (first m new : Machine) (f : Fault) (b : Bool) → ReadsFrom first m
@@ -147,11 +122,6 @@ some_more : (ts : List Token) (f : Option Fault) (u : ℕ) → u < length ts →
 some_more [] f u less = absurd (omega (arith, less))
 some_more (t ∷ ts) f u less = tt
 
--- where the next token is known, one is to come
-ready_more : (m : Machine) → IsMachine m → is_ready m ≡ true
-    → HasMore (left_in m).tokens (left_in m).fault
-ready_more m i ready = let t = machine_tells m i in some_more (left_in m).tokens (left_in m).fault _ (ltb-true _ _ (sym t.is ∙ ready))
-
 -- Memory ran out, or the next token isn't known: so a refusal may be told.
 abbrev MayTell : Machine → Fault → Type 0
 MayTell m f = (is_lack f.kind ≡ true) ⊎ (is_ready m ≡ false)
@@ -170,8 +140,8 @@ pub steps_off : (first m new : Machine) (f : Fault) (b : Bool) → ReadsFrom fir
 steps_off first m new f true r more sought failed s why = cc
 steps_off first m new f false r more sought failed ((e, refused, is), few, whole) why =
     let any : HasMore (left_in m).tokens (left_in m).fault = elim (cases_Bool (is_ready m)) [
-      | inl ready ↦ ready_more m r.stands ready
-      | inr stuck ↦ let left = sym (left_is m r.started) in subst (λ (c : Remaining). HasMore c.tokens c.fault) left (machine_more m r.stands stuck more)
+      | inl ready ↦ some_more (left_in m).tokens (left_in m).fault _ (ltb-true _ _ (sym (machine_tells m r.stands).is ∙ ready))
+      | inr stuck ↦ rw (left_is m r.started) (machine_more m r.stands stuck more)
     ] in
     record {
       sought = sought;
@@ -179,7 +149,7 @@ steps_off first m new f false r more sought failed ((e, refused, is), few, whole
       told = subst (λ (c : Remaining). IsTold c f) r.left (told_unless m e f r.stands r.started more refused is why);
       reader = λ same. absurd (no_scanner_reader e f is same);
       plain = plain_behind first m f r.reads (decoded_plain m f r.stands r.started);
-      few = short_behind first m new r.reads.ahead few;
+      few = (few.0 ∙ r.reads.ahead, few.1);
     }
 
 may_tell : (m new : Machine) (f : Fault) (b : Bool) → b ≡ false → Steps m new f b → MayTell new f
@@ -204,14 +174,10 @@ steps_back first m new f b found.Refused r more sought failed step back = steps_
 pub steps_end : (first m : Machine) → ReadsFrom first m → is_ready m ≡ false → m.ended ≡ true
     → Finishes first m
 steps_end first m r stuck over =
-    let none = left_is m r.started ∙ end_machine m r.stands stuck over in
-    record { stands = r.stands; left = sym r.left ∙ none; none = none; reads = r.reads }
-
-some_is : (o : Option Fault) (f g : Fault) → o ≡ Some f → o ≡ Some g → f ≡ g
-some_is o f g e h = cc
+    let none = left_is m r.started ∙ end_machine m r.stands stuck over in record { stands = r.stands; left = sym r.left ∙ none; none = none; reads = r.reads }
 
 pub fresh_plain : (m : Machine) (f : Fault) → TellsUtf8 m f → PlainIsTold m f
-fresh_plain m f tells g utf8 is = some_is (decoding_fault m.setting m.input.now) f g (tells utf8) is
+fresh_plain m f tells g utf8 is = let told = tells utf8 in cc
 
 -- before the input is decoded no lexeme is read
 pub fresh_none : (m : Machine) → IsMachine m → m.started ≡ false
@@ -221,15 +187,12 @@ fresh_none m i off = let long : length m.waiting.items ≡ 0 = ap length (i.begu
 -- an input of which a lexeme was read is decoded
 pub read_started : (m : Machine) → IsMachine m → 0 < m.dropped + length m.waiting.items
     → m.started ≡ true
-read_started m i some = elim (cases_Bool m.started) [
-  | inl on ↦ on
-  | inr off ↦ absurd (omega (arith, some, fresh_none m i off))
-]
+read_started m i some = elim (cases_Bool m.started) [ inl on ↦ on | inr off ↦ absurd (omega (arith, some, fresh_none m i off)) ]
 
 -- where the input isn't decoded yet
 pub fresh_lacks : (m : Machine) (f : Fault) → IsMachine m → m.started ≡ false
     → TellsUtf8 m f → ReaderLacks m f
-fresh_lacks m f i off tells is = let long : length m.waiting.items ≡ 0 = ap length (i.begun off) in (omega (arith, long, i.fresh off), reader_wide m.setting m.input.now f tells is)
+fresh_lacks m f i off tells is = (fresh_none m i off, reader_wide m.setting m.input.now f tells is)
 
 -- where a lexeme was taken
 pub some_taken : (a b : ℕ) → (a ≡ 0 → ⊥) → 0 < a + b

@@ -1,6 +1,6 @@
 -- What is taken of the waiting list and of the lexeme that waits first, and how many levels a lexeme closes.
-use Rattle.std.proofs.Common.{◌≡◌, ℕ, ◌+◌, ◌<◌, false, List, [], ◌∷◌, length, drop, refl, sym, ap, subst, ◌∙◌, arith, suc, ◌-◌, ◌≤◌, Bool, true, ◌&&◌, not, ltb, leb, take, get_or, Some, None, inl, inr, length-append}
-use Rattle.yaml_scan_machine.proofs.Words.{map, zero_mark, Lexeme, yaml_encoding_t, entries, first_open, levels, history, Waiting, KeptLexeme, kept_of, KeyStack, AreKeys, Fields, ShowsMachine, IsShown, all_kept, read, settled_in, spelled, cases_lt, get_or-drop, get_or-map, TokenBody, Kind, Entry, is_start, left_by, keeps, opened, opens_at, found_by, inside, keyed, entry_of, Read, next, first_lexeme, GoesForward, length-entries, length-keyed, entries_ends, IsMachine, is_ready, ready_in, fields_of, history_of, kept_in, stream_of, Machine, front_at, front_count, given_in, get_or_at}
+use Rattle.std.proofs.Common.{◌≡◌, ℕ, ◌+◌, ◌<◌, false, List, [], ◌∷◌, length, drop, refl, sym, ap, subst, ◌∙◌, arith, suc, ◌-◌, ◌≤◌, Bool, true, leb, take, get_or, Some, None, inl, inr, length-append}
+use Rattle.yaml_scan_machine.proofs.Words.{map, zero_mark, Lexeme, entries, first_open, levels, history, Waiting, KeptLexeme, kept_of, AreKeys, Fields, ShowsMachine, IsShown, all_kept, read, settled_in, spelled, cases_lt, get_or-drop, get_or-map, TokenBody, Entry, keeps, opens_at, found_by, inside, keyed, entry_of, Read, next, first_lexeme, GoesForward, length-entries, length-keyed, entries_ends, IsMachine, is_ready, ready_in, fields_of, history_of, kept_in, stream_of, Machine, front_at, front_count, given_in, get_or_at}
 use Rattle.std.proofs.lemmas.List.{drop-drop, get_or-take}
 use Rattle.std.specs.Prelude.{filter}
 use Rattle.yaml_scan_history.proofs.HistoryLemmas.{take-entries}
@@ -11,44 +11,35 @@ use Rattle.yaml_scan_machine.proofs.MarkLemmas.{further_on, settled_open}
 use Rattle.yaml_scan_machine.proofs.SpellLemmas.{Counts, front_counts}
 
 -- before the first lexeme
-pub shown_start : (encoding : yaml_encoding_t) (text : List ℕ) (ws : List Waiting) (ls : List ℕ)
-    (ks : KeyStack) → ws ≡ [] → ls ≡ [] → AreKeys ks [] zero_mark
-    → IsShown record {
-      encoding = encoding;
-      text = text;
-      waiting = map (λ (x : Waiting). kept_of x)
-          ws;
-      keys = ks;
-      dropped = 0;
-      given = 0;
-      settled = 0;
-      place = zero_mark;
-      depth = 0;
-      levels = ls;
-      allowed = false;
-      ended = false;
-    }
+pub shown_start : (m : Fields) → m.waiting ≡ [] → m.levels ≡ [] → m.dropped ≡ 0 → m.settled ≡ 0
+    → m.place ≡ zero_mark → m.depth ≡ 0 → m.allowed ≡ false → m.ended ≡ false
+    → AreKeys m.keys [] m.place → IsShown m
 unfolding read history entries first_open settled_in levels
-shown_start encoding text ws ls ks none no_level keys = rw (none, no_level) record { count = refl; waiting = refl; settled = refl; taken = omega arith; place = refl; levels = refl; depth = refl; allowed = refl; ended = refl; keys = keys }
+shown_start m none flat drops settles place depth allowed ended keys =
+    let h : read m.text m.dropped m.waiting ≡ [] = rw (drops, none) refl in
+    subst (λ (x : List Lexeme). ShowsMachine x m) (sym h) record { count = omega (arith, drops, ap length none); waiting = rw (none, drops) refl; settled = settles; taken = omega (arith, drops); place = place; levels = flat; depth = depth; allowed = allowed; ended = ended; keys = keys }
 
 pub shown_given : (m : Fields) (n : ℕ) → IsShown m → IsShown record m { given = n }
 shown_given m n s = record { count = s.count; waiting = s.waiting; settled = s.settled; taken = s.taken; place = s.place; levels = s.levels; depth = s.depth; allowed = s.allowed; ended = s.ended; keys = s.keys }
 
-read_rest : (text : List ℕ) (d : ℕ) (e : KeptLexeme) (es : List KeptLexeme)
-    → read text (d + 1) es ≡ read text d (e ∷ es)
-unfolding read
-read_rest text d e es = let k : d + 1 + length es ≡ d + length (e ∷ es) = omega arith in rw k refl
-
 -- what is left where the first one is taken
-shown_rest : (m : Fields) (e : KeptLexeme) (es : List KeptLexeme) → IsShown m → m.waiting ≡ e ∷ es
-    → m.dropped < m.settled → IsShown record m { waiting = es; dropped = m.dropped + 1; given = 0 }
-shown_rest m e es s wait low =
+pub shown_popped : (m : Fields) (ws : List Waiting) (w : Waiting) (rest : List Waiting) → IsShown m
+    → m.waiting ≡ map (λ (x : Waiting). kept_of x) ws → ws ≡ w ∷ rest → m.dropped < m.settled
+    → IsShown record m {
+      waiting = map (λ (x : Waiting). kept_of x) rest;
+      dropped = m.dropped + 1;
+      given = 0;
+    }
+unfolding read
+shown_popped m ws w rest s is items low =
     let h = read m.text m.dropped m.waiting in
-    let len : length m.waiting ≡ length es + 1 = ap length wait ∙ omega arith in
-    let same : read m.text (m.dropped + 1) es ≡ h = read_rest m.text m.dropped e es ∙ ap (λ xs. read m.text m.dropped xs) (sym wait) in
+    let es = map (λ (x : Waiting). kept_of x) rest in
+    let wait : m.waiting ≡ kept_of w ∷ es = is ∙ ap (λ xs. map (λ (x : Waiting). kept_of x) xs) items in
+    let k : m.dropped + 1 + length es ≡ m.dropped + length m.waiting = omega (arith, ap length wait) in
+    let same : read m.text (m.dropped + 1) es ≡ h = rw k refl in
     let n : Fields = record m { waiting = es; dropped = m.dropped + 1; given = 0 } in
     subst (λ (x : List Lexeme). ShowsMachine x n) (sym same) record {
-      count = omega (arith, s.count, len);
+      count = omega (arith, s.count, ap length wait);
       waiting = ap (λ xs. drop 1 xs) (sym wait) ∙ ap (λ xs. drop 1 xs) s.waiting ∙ drop-drop 1 m.dropped (all_kept (spelled m) (entries h));
       settled = s.settled;
       taken = omega arith;
@@ -60,16 +51,6 @@ shown_rest m e es s wait low =
       keys = s.keys;
     }
 
-pub shown_popped : (m : Fields) (ws : List Waiting) (w : Waiting) (rest : List Waiting) → IsShown m
-    → m.waiting ≡ map (λ (x : Waiting). kept_of x) ws → ws ≡ w ∷ rest → m.dropped < m.settled
-    → IsShown record m {
-      waiting = map (λ (x : Waiting). kept_of x) rest;
-      dropped = m.dropped + 1;
-      given = 0;
-    }
-shown_popped m ws w rest s wait is low =
-    shown_rest m (kept_of w) (map (λ (x : Waiting). kept_of x) rest) s (wait ∙ ap (λ xs. map (λ (x : Waiting). kept_of x) xs) is) low
-
 -- ---- what is taken of the first lexeme that waits, and how many levels a lexeme closes
 
 -- the first lexeme that waits is the one of that number
@@ -80,11 +61,9 @@ pub front_is : (m : Fields) (k : KeptLexeme) (ks : List KeptLexeme) (x : Entry) 
 front_is m k ks x s wait =
     let h = read m.text m.dropped m.waiting in
     let f : Entry → KeptLexeme = λ e. kept_in (spelled m) e in
-    let len : length m.waiting ≡ length ks + 1 = ap (λ (xs : List KeptLexeme). length xs) wait ∙ omega arith in
-    let low : m.dropped < length h = omega (arith, s.count, len) in
-    let z : m.dropped + 0 ≡ m.dropped = omega arith in
+    let low : m.dropped < length h = omega (arith, s.count, ap (λ (xs : List KeptLexeme). length xs) wait) in
     let here : get_or (map f (entries h)) (m.dropped + 0) (f x) ≡ k = sym (get_or-drop m.dropped (map f (entries h)) 0 (f x)) ∙ ap (λ xs. get_or xs 0 (f x)) (sym s.waiting ∙ wait) in
-    (sym (get_or-map f (entries h) m.dropped x (f x) (omega (arith, low, length-entries h))) ∙ ap (λ j. get_or (map f (entries h)) j (f x)) (sym z) ∙ here, low)
+    (sym (get_or-map f (entries h) m.dropped x (f x) (omega (arith, low, length-entries h))) ∙ ap (λ j. get_or (map f (entries h)) j (f x)) {x = m.dropped} {y = m.dropped + 0} (omega arith) ∙ here, low)
 
 -- an entry for the places behind a list
 abbrev pub no_entry : Entry
@@ -181,22 +160,11 @@ filter_few : (p : ℕ → Bool) (xs : List ℕ) → length (filter p xs) ≤ len
 filter_few p [] = omega arith
 filter_few p (x ∷ xs) = grind (arith, filter_few p xs)
 
-left_few : (k : Kind) (d c : ℕ) (xs : List ℕ) → length (left_by k d c xs) ≤ length xs
-left_few k d c xs = grind (arith, filter_few (λ x. leb x (keeps k c)) xs)
-
-opened_few : (may : Bool) (c : ℕ) (xs : List ℕ) → length (opened may c xs) ≤ length xs + 1
-opened_few false c xs = omega arith
-opened_few true c xs = grind (arith, length-append xs (c ∷ []))
-
 -- each lexeme opens at most one level
 levels_few : (h : List Lexeme) → length (levels h) ≤ length h
 unfolding levels
 levels_few [] = omega arith
-levels_few (l ∷ h) =
-    let rest = levels_few h in
-    let left = left_few l.kind l.depth l.start.column (levels h) in
-    let now = opened_few (is_start l.kind && not (ltb 0 l.depth)) (opens_at (found_by l h) l.kind l.start.column) (inside l h) in
-    omega (arith, rest, left, now)
+levels_few (l ∷ h) = grind (arith, levels_few h, filter_few (λ x. leb x (keeps l.kind l.start.column)) (levels h), length-append (inside l h) (opens_at (found_by l h) l.kind l.start.column ∷ []))
 
 -- no lexeme closes more levels than lexemes are read
 pub ends_few : (h : List Lexeme) (k : ℕ) (e : Entry) → k < length h
@@ -208,7 +176,6 @@ ends_few (l ∷ h) k e low =
       | inl below ↦ grind (arith, entries_ends l h k e below, ends_few h k e below)
       | inr past ↦
           let here : length (keyed l h (entries h)) ≡ k = omega (arith, length-keyed l h (entries h), length-entries h, past, low) in
-          let is : get_or (entries (l ∷ h)) k e ≡ entry_of l h = get_or_at (keyed l h (entries h)) (entry_of l h) [] e k here in
-          let ends : (get_or (entries (l ∷ h)) k e).ends ≡ length (levels h) - length (inside l h) = ap (λ (x : Entry). x.ends) is in
+          let ends : (get_or (entries (l ∷ h)) k e).ends ≡ length (levels h) - length (inside l h) = ap (λ (x : Entry). x.ends) (get_or_at (keyed l h (entries h)) (entry_of l h) [] e k here) in
           omega (arith, ends, levels_few h)
     ]

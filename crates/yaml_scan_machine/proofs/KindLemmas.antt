@@ -1,6 +1,7 @@
 -- Reading the lexeme of a kind.
 use Rattle.std.proofs.Common.{◌≡◌, ℕ, ◌+◌, ◌<◌, ◌≤◌, Bool, true, false, cond, ltb, ◌&&◌, ◌||◌, not, List, [], ◌∷◌, length, Option, Some, None, Result, Ok, Err, refl, sym, ap, subst, ◌∙◌, arith}
-use Rattle.yaml_scan_machine.proofs.Words.{and_parts, length-map, is_some, yaml_mark_t, ScanFault, ScanError, Place, mark_at, splits_break, body_of, zero_mark, Wrong, Gap, gap_at, Kind, Lexeme, is_value, is_start, is_end, may_be_key, Candidate, candidate, fresh, has, reached, depth, placed, levels, found_by, WordText, word_at, kind_at, Next, Read, Fails, Ends, colon_missing, next, history, first_lexeme, allowed_behind, finished, misplaced, missed, lost_by, behind, unless_missed, no_colon, unless_wrong, unless_lost, of_kind, SpelledText, body_in, Machine, Waiting, kept_of, Answer, IsPlace, ReadsWord, Fields, fields_of, IsShown, read, Picks, history_of, stream_of, required_in, late, lost, required_behind, keyed_by, GivesNext, Stops, text_bytes, Upto}
+use Rattle.yaml_scan_machine.proofs.Words.{and_parts, length-map, is_some, yaml_mark_t, ScanFault, ScanError, Place, mark_at, splits_break, body_of, zero_mark, Wrong, Gap, gap_at, Kind, Lexeme, is_value, is_start, is_end, may_be_key, Candidate, candidate, fresh, has, reached, depth, placed, levels, found_by, WordText, word_at, kind_at, Next, Read, Fails, colon_missing, next, history, first_lexeme, allowed_behind, finished, misplaced, missed, lost_by, behind, unless_missed, no_colon, unless_wrong, unless_lost, of_kind, SpelledText, body_in, Machine, Waiting, kept_of, Answer, IsPlace, ReadsWord, Fields, fields_of, IsShown, read, Picks, history_of, stream_of, required_in, late, lost, required_behind, keyed_by, GivesNext, Stops, text_bytes, Upto}
+use Rattle.std.proofs.lemmas.List.{nil_from_length}
 use Rattle.std.specs.Prelude.{IfOk}
 use Rattle.yaml_scan_model.specs.declared.token.yaml_token_body_t.{yaml_token_body_t}
 use Rattle.yaml_scan_model.specs.Tokens.{stream_start}
@@ -18,9 +19,7 @@ use Rattle.yaml_scan_machine.proofs.NextLemmas.{tested_same, lost_same, late_sam
 pub kind_misplaced : (text : List ℕ) (gap : Gap) (h : List Lexeme) (k : Kind) (m : yaml_mark_t)
     (a : Bool) → mark_at text gap.place ≡ m → allowed_behind h gap ≡ a → misplaced k m a h ≡ true
     → of_kind (Some k) text gap h ≡ not_allowed k m
-kind_misplaced text gap h k m a at allow bad =
-    let here : misplaced k (mark_at text gap.place) (allowed_behind h gap) h ≡ true = rw (at, allow) bad in
-    rw (here, at) refl
+kind_misplaced text gap h k m a at allow bad = rw (at, allow, bad) refl
 
 pub first_of : (ws : List Waiting) (i : ℕ) → i < length ws → Waiting
 first_of [] i lt = absurd (omega arith)
@@ -36,9 +35,7 @@ picks_has m k o (Some i) (inside, (it, c, at)) = grind arith
 pub misplaced_is : (mc : Machine) (k : Kind) (m : yaml_mark_t) (a : Bool) (h : List Lexeme) (d : ℕ)
     (key : Option ℕ) → depth h ≡ d → Picks mc (keyed_by k (fresh (candidate d h) m)) key
     → misplaced k m a h ≡ ((not (ltb 0 d) && not a) && (is_start k && not (is_some key)))
-misplaced_is mc k m a h d key deep picks =
-    let found = picks_has mc k (fresh (candidate d h) m) key picks in
-    rw (deep, found) refl
+misplaced_is mc k m a h d key deep picks = rw (deep, picks_has mc k (fresh (candidate d h) m) key picks) refl
 
 -- no word stands wrong at the end
 right_end : (k : Kind) (flow : Bool) (level : ℕ) (text : List ℕ) (p : ℕ) (w : Wrong)
@@ -51,30 +48,15 @@ right_end _ flow level text p w e = refl
 abbrev by_test : Option yaml_mark_t → Lexeme → Next
 by_test o l = elim o as (λ _. Next) [ Some start ↦ no_colon start l.reached | None ↦ Read l ]
 
-tested_memory : (o : Option yaml_mark_t) (l : Lexeme) → Stops errors.Memory (by_test o l)
-tested_memory (Some s) l = tt
-tested_memory None l = tt
-
-must_end : (text : List ℕ) (l : Lexeme) (w : WordText) → (l.required ≡ true → l.saved ≡ true)
-    → (finished text l w).required ≡ true → (finished text l w).saved ≡ true
-must_end text l w must e = let same = finished_same text l w in same.saved ∙ must (sym same.required ∙ e)
-
 pub wrong_gives : (s : SpelledText) (text : List ℕ) (at : ℕ) (place : Place) (e : ScanError)
     (x : Result WordText Wrong) (l : Lexeme) (h : List Lexeme)
     → x ≡ word_at l.kind (ltb 0 l.depth) l.level text at
     → (is_end l.kind ≡ false → l.start ≡ mark_at text at) → ReadsWord text at place (Err e) x
     → GivesLexeme s (Err e) (unless_wrong x text l h)
-wrong_gives s text at place errors.Memory (Ok w) l h is start r = tested_memory (missed (candidate 0 (finished text l w ∷ h)) (finished text l w).reached) (finished text l w)
+wrong_gives s text at place errors.Memory (Ok w) l h is start r = elim (missed (candidate 0 (finished text l w ∷ h)) (finished text l w).reached) as (λ o. Stops errors.Memory (by_test o (finished text l w))) [ Some m ↦ tt | None ↦ tt ]
 wrong_gives s text at place (errors.Fault f) (Ok w) l h is start r = absurd r
 wrong_gives s text at place errors.Memory (Err w) l h is start r = tt
-wrong_gives s text at place (errors.Fault f) (Err w) l h is start r =
-    let here : l.start ≡ mark_at text at = start (right_end l.kind (ltb 0 l.depth) l.level text at w (sym is)) in
-    rw here r
-
--- a lexeme with its end, by its word
-ended_is : (text : List ℕ) (l : Lexeme) (word : Word) (w : WordText) (r : yaml_mark_t)
-    → IsWord text word w → r ≡ mark_at text w.reached → ended_by l word r ≡ finished text l w
-ended_is text l word w r is at = rw (is.end, is.broke, at) refl
+wrong_gives s text at place (errors.Fault f) (Err w) l h is start r = rw (start (right_end l.kind (ltb 0 l.depth) l.level text at w (sym is))) r
 
 body_other : (k : Kind) (s : SpelledText) (l : Lexeme) → (k ≡ kinds.StreamStart → ⊥)
     → body_by k s l ≡ body_of_word (word_at k (ltb 0 l.depth) l.level s.text l.start.index)
@@ -96,8 +78,9 @@ word_tested : (text : List ℕ) (n : ℕ) (word : Word) (w : WordText) (l : Lexe
     → (y ≡ x) × (missed (candidate 0 (x ∷ h)) x.reached ≡ late (required_behind required y) y.reached)
 word_tested text n word w l reach required must req wd stop =
     let x = finished text l w in
-    let same = ended_is text l word w reach wd stop in
-    (same, rw (same, req) (sym (tested_same text n x x.reached (must_end text l w must))))
+    let starts = finished_same text l w in
+    let same : ended_by l word reach ≡ x = rw (wd.end, wd.broke, stop) refl in
+    (same, rw (same, req) (sym (tested_same text n x x.reached (λ e. starts.saved ∙ must (sym starts.required ∙ e)))))
 
 -- a lexeme whose word is read
 pub word_gives : (s : SpelledText) (n : ℕ) (place : Place) (word : Word) (x : Result WordText Wrong)
@@ -117,17 +100,11 @@ word_gives s n place word (Ok w) l reach required (Err e) is other must req (wd,
     let (same, test) = word_tested s.text n word w l reach required must req wd (at ∙ ap (λ (p : Place). mark_at p.text p.at) there) in
     subst (λ o. Stops e (by_test o (finished s.text l w))) (sym (test ∙ some)) (rw err (ap (λ (y : Lexeme). colon_missing start y.reached) same))
 
-ends_at : (text : List ℕ) (l : Lexeme) (word : Word) (reach : yaml_mark_t) → IsPlace text reach
-    → EndsAt text l (ended_by l word reach)
-ends_at text l word reach place =
-    let same = ended_same l word.end reach word.broke in
-    record { kind = same.kind; start = same.start; depth = same.depth; saved = same.saved; place = λ e. rw e place }
-
 pub finished_safe : (text : List ℕ) (l : Lexeme) (word : Word) (reach : yaml_mark_t)
     (required : Option yaml_mark_t) (result : Result (Lexeme × yaml_token_body_t) ScanError)
     → IsPlace text reach → Finishes l word reach required result
     → IfOk result (λ r. EndsAt text l r.0)
-finished_safe text l word reach required (Ok r) place (a, b, none) = subst (λ (x : Lexeme). EndsAt text l x) (sym a) (ends_at text l word reach place)
+finished_safe text l word reach required (Ok r) place (a, b, none) = let same = ended_same l word.end reach word.broke in rw a record { kind = same.kind; start = same.start; depth = same.depth; saved = same.saved; place = λ e. rw e place }
 finished_safe text l word reach required (Err e) place f = tt
 
 pub read_text : (text : List ℕ) (at : ℕ) (place : Place) (word : Word) (x : Result WordText Wrong)
@@ -137,8 +114,7 @@ read_text text at place word (Err w) r = absurd r
 
 pub stop_place : (text t : List ℕ) (a : ℕ) (r : yaml_mark_t) → t ≡ text → r ≡ mark_at t a
     → a ≤ length t → splits_break t a ≡ false → IsPlace text r
-stop_place text t a r same is inside whole =
-    subst (λ (x : List ℕ). IsPlace x r) same (subst (λ (m : yaml_mark_t). IsPlace t m) (sym is) record { inside = inside; mark = refl; whole = whole })
+stop_place text t a r same is inside whole = rw (← same, is) record { inside = inside; mark = refl; whole = whole }
 
 pub placed_index : (k : Kind) (m : yaml_mark_t) → (placed k m).index ≡ m.index
 placed_index k m = elim (is_end k && ltb 0 m.column) as (λ b. (cond b record { index = m.index; line = m.line + 1; column = 0 } m).index ≡ m.index) [ true ↦ refl | false ↦ refl ]
@@ -161,8 +137,7 @@ kind_at_place text n gap k m at a d ls required l here mark allow deep lev good 
     let spot : mark_at text gap.place ≡ m = ap (λ p. mark_at text p) here ∙ sym mark in
     let right : misplaced k (mark_at text gap.place) (allowed_behind h gap) h ≡ false = rw (spot, allow) good in
     let one : of_kind (Some k) text gap h ≡ unless_lost (lost_by b (fresh (candidate (depth h) h) m)) text gap.place b h = rw (← spot, ← allow, ← deep, ← lev, right) refl in
-    let early_in : late (required_in (fresh (candidate 0 h) (reached h))) m ≡ None = ap (λ o. late o m) (sym req) ∙ early in
-    let two = lost_same text n m b (sym deep) up early_in in
+    let two = lost_same text n m b (sym deep) up (ap (λ o. late o m) (sym req) ∙ early) in
     let three : gap.place ≡ (placed k m).index = here ∙ sym (ap (λ (x : yaml_mark_t). x.index) mark) ∙ sym (placed_index k m) in
     one ∙ ap (λ o. unless_lost o text gap.place b h) (sym two) ∙ ap (λ p. unless_lost (lost (required_in (fresh (candidate 0 h) (reached h))) b) text p b h) three
     ∙ ap (λ o. unless_lost (lost o b) text (placed k m).index b h) (sym req) ∙ ap (λ (x : Lexeme). unless_lost (lost required x) text x.start.index x h) (sym is)
@@ -179,30 +154,18 @@ pub ok_gives : (mc : Machine) (x : Next) (r : Answer) (b : Lexeme) (k : Kind) (m
     → EndsAt (stream_of mc).text b r.lexeme
     → Picks mc (keyed_by k (fresh (candidate mc.depth (history_of mc)) m)) r.key
     → GivesNext mc (Ok r) x
-ok_gives mc (Fails p) r b k m a ls is g e key = g
-ok_gives mc Ends r b k m a ls is g e key = g
 ok_gives mc (Read l) r b k m a ls is (same, spoken) e key =
-    let T : Option Candidate → Type 0 = λ o. Picks mc o r.key in
     let kind : k ≡ l.kind = cc in
     let deep : mc.depth ≡ l.depth = cc in
     let start : placed k m ≡ l.start = cc in
-    record { lexeme = same; spoken = spoken; key = subst T (sym (keyed_same k (candidate mc.depth (history_of mc)) m) ∙ rw (← start, ← deep, ← kind) refl) key }
-
-reached_none : (h : List Lexeme) → length h ≡ 0 → reached h ≡ zero_mark
-reached_none [] e = refl
-reached_none (l ∷ h) e = absurd (omega arith)
-
-levels_none : (h : List Lexeme) → length h ≡ 0 → levels h ≡ []
-unfolding levels
-levels_none [] e = refl
-levels_none (l ∷ h) e = absurd (omega arith)
+    record { lexeme = same; spoken = spoken; key = rw (← start, ← deep, ← kind, keyed_same k (candidate mc.depth (history_of mc)) m) key }
+ok_gives mc _ r b k m a ls is g e key = g
 
 -- where nothing was read, no level is open
 pub leaves_none : (m : Machine) (k : Kind) (d column left : ℕ) → IsShown (fields_of m)
     → length (history_of m) ≡ 0 → left ≡ 0 → d ≡ 0 → Leaves k d column m.levels left
-leaves_none m k d column left s none z flat =
-    let empty : m.levels ≡ [] = s.levels ∙ levels_none (history_of m) none in
-    rw (empty, z, flat) (omega arith, refl)
+unfolding levels
+leaves_none m k d column left s none z flat = rw (s.levels ∙ ap levels (nil_from_length (history_of m) none), z, flat) (omega arith, refl)
 
 -- a lexeme with its end leaves open what it leaves without
 pub leaves_ends : (k : Kind) (mark : yaml_mark_t) (allowed : Bool) (d : ℕ) (xs : List ℕ) (left : ℕ)
@@ -216,32 +179,13 @@ pub first_gives : (m : Machine) (r : Answer) → IsShown (fields_of m) → lengt
     → body_of r.body ≡ stream_start m.encoding → r.key ≡ None
     → GivesNext m (Ok r) (next (text_bytes m.text) (history_of m))
 first_gives m r s none is body key =
-    let zero_at : m.place ≡ zero_mark = s.place ∙ reached_none (history_of m) none in
+    let zero_at : m.place ≡ zero_mark = s.place ∙ ap reached (nil_from_length (history_of m) none) in
     let same : r.lexeme ≡ first_lexeme = is ∙ ap (λ (p : yaml_mark_t). record first_lexeme { start = p; end = p; reached = p }) zero_at in
-    let T : Option ℕ → Type 0 = λ k. Picks m None k in
-    rw (next_first (text_bytes m.text) (history_of m) none) record { lexeme = same; spoken = body; key = subst T (sym key) refl }
-
--- the gap behind what was read
-pub gap_by : (m : Fields) (g : Gap) → IsShown m
-    → gap_at (ltb 0 m.depth) m.allowed m.text m.place.index ≡ g
-    → gap_of m.text (read m.text m.dropped m.waiting) ≡ g
-gap_by m g s is = rw (← s.depth, ← s.allowed, ← s.place) is
-
--- what stands behind the gap, by the required candidate
-pub next_behind : (m : Fields) (g : Gap) (mark : yaml_mark_t) (required : Option yaml_mark_t)
-    → IsShown m → 0 < m.dropped + length m.waiting → m.ended ≡ false
-    → let h = read m.text m.dropped m.waiting in
-    gap_of m.text h ≡ g → mark ≡ mark_at m.text g.place → required ≡ required_in (fresh (candidate 0 h) (reached h)) → next m.text h ≡ unless_missed (late required mark) m.text g h
-next_behind m g mark required s some more gap is req =
-    let h = read m.text m.dropped m.waiting in
-    next_at m.text h (omega (arith, s.count)) (sym s.ended ∙ more) ∙ ap (λ (y : Gap). behind m.text y h) gap
-    ∙ ap (λ o. unless_missed o m.text g h) (sym (late_same (fresh (candidate 0 h) (reached h)) (mark_at m.text g.place)) ∙ ap (λ o. late o (mark_at m.text g.place)) (sym req) ∙ ap (λ y. late required y) (sym is))
+    rw (next_first (text_bytes m.text) (history_of m) none) record { lexeme = same; spoken = body; key = rw key refl }
 
 pub required_saved : (k : Kind) (start : yaml_mark_t) (a : Bool) (d : ℕ) (ls : List ℕ) (l : Lexeme)
     → l ≡ begun_in k start a d ls → l.required ≡ true → l.saved ≡ true
-required_saved k start a d ls l is must =
-    let (both, rest) = and_parts (a && may_be_key k) _ (sym (ap (λ (x : Lexeme). x.required) is) ∙ must) in
-    ap (λ (x : Lexeme). x.saved) is ∙ both
+required_saved k start a d ls l is must = rw is (and_parts (a && may_be_key k) _ (rw is at must)).0
 
 -- what comes next, by the fields of a machine and what its calls answer
 pub next_machine : (mc : Machine) (r q : Place) (t : List ℕ) (broke : Bool) (mark : yaml_mark_t)
@@ -257,24 +201,20 @@ pub next_machine : (mc : Machine) (r q : Place) (t : List ℕ) (broke : Bool) (m
     ≡ unless_missed (late required mark) (text_bytes mc.text) record { place = q.at; broke = broke }
     (history_of mc))
 next_machine mc r q t broke mark required s some more lent start gap kept is req =
+    let h = history_of mc in
     let len = length-map mc.waiting.items (λ (x : Waiting). kept_of x) in
     let text : r.text ≡ text_bytes mc.text = ap (λ (p : Place). p.text) start ∙ lent in
     let at : r.at ≡ mc.place.index = ap (λ (p : Place). p.at) start in
-    let here : gap_at (ltb 0 mc.depth) mc.allowed (text_bytes mc.text) mc.place.index ≡ record { place = q.at; broke = broke } =
-    ap (λ p. gap_at (ltb 0 mc.depth) mc.allowed (text_bytes mc.text) p) (sym at) ∙ ap (λ x. gap_at (ltb 0 mc.depth) mc.allowed x r.at) (sym text) ∙ gap in
-    let between = gap_by (fields_of mc) record { place = q.at; broke = broke } s here in
+    let between : gap_of (text_bytes mc.text) h ≡ record { place = q.at; broke = broke } = rw (← s.depth, ← s.allowed, ← s.place) (rw (text, at) at gap) in
     let spot : mark ≡ mark_at (text_bytes mc.text) q.at = is ∙ ap (λ x. mark_at x q.at) (kept ∙ text) in
-    (between, kept ∙ text, spot, next_behind (fields_of mc) record { place = q.at; broke = broke } mark required s (omega (arith, len)) more between spot req)
+    let test : late required mark ≡ missed (fresh (candidate 0 h) (reached h)) (mark_at (text_bytes mc.text) q.at) = ap (λ o. late o mark) req ∙ ap (λ y. late (required_in (fresh (candidate 0 h) (reached h))) y) spot ∙ late_same (fresh (candidate 0 h) (reached h)) (mark_at (text_bytes mc.text) q.at) in
+    (between, kept ∙ text, spot, next_at (text_bytes mc.text) h (omega (arith, s.count, len)) (sym s.ended ∙ more) ∙ ap (λ (y : Gap). behind (text_bytes mc.text) y h) between ∙ ap (λ o. unless_missed o (text_bytes mc.text) record { place = q.at; broke = broke } h) (sym test))
 
 -- the gap goes forward
 pub forward_machine : (mc : Machine) (g : Gap) (mark : yaml_mark_t) → IsShown (fields_of mc)
     → IsPlace (text_bytes mc.text) mc.place → gap_of (text_bytes mc.text) (history_of mc) ≡ g
     → mark ≡ mark_at (text_bytes mc.text) g.place → Upto (reached (history_of mc)) mark
-forward_machine mc g mark s place gap is =
-    let P : yaml_mark_t → Type 0 = λ p. (p ≡ mark_at (text_bytes mc.text) p.index) × (p.index ≤ length (text_bytes mc.text)) in
-    let (at, inside) = subst P s.place (place.mark, place.inside) in
-    let up = upto_gap (text_bytes mc.text) (history_of mc) at inside in
-    subst (λ (m : yaml_mark_t). Upto (reached (history_of mc)) m) (sym (is ∙ ap (λ (x : Gap). mark_at (text_bytes mc.text) x.place) (sym gap))) up
+forward_machine mc g mark s place gap is = rw (is, ← gap) (upto_gap (text_bytes mc.text) (history_of mc) (rw (← s.place) place.mark) (rw (← s.place) place.inside))
 
 pub allow_by : (m : Fields) (g : Gap) (b : Bool) → IsShown m
     → b ≡ (m.allowed || (g.broke && not (ltb 0 m.depth)))
@@ -285,15 +225,10 @@ allow_by m g b s e = rw (← s.allowed, ← s.depth) (sym e)
 pub ok_read : (mc : Machine) (r : Answer) (x : Next) → GivesNext mc (Ok r) x
     → (x ≡ Read r.lexeme) × (body_of r.body ≡ body_in (stream_of mc) r.lexeme)
     × Picks mc (keyed_by r.lexeme.kind (found_by r.lexeme (history_of mc))) r.key
-ok_read mc r (Fails p) g = absurd g
-ok_read mc r Ends g = absurd g
-ok_read mc r (Read l) g =
-    let P : Lexeme → Type 0 = λ y. (Read l ≡ Read y) × (body_of r.body ≡ body_in (stream_of mc) y) × Picks mc (keyed_by y.kind (found_by y (history_of mc))) r.key in
-    subst P (sym g.lexeme) (refl, g.spoken, g.key)
+ok_read mc r (Read l) g = rw g.lexeme (refl, g.spoken, g.key)
+ok_read mc r _ g = absurd g
 
 pub kind_found : (m : Fields) (g : Gap) (o : Option Kind) → IsShown m
     → kind_at (ltb 0 m.depth) m.text g.place ≡ o → let h = read m.text m.dropped m.waiting in
     unless_missed None m.text g h ≡ of_kind o m.text g h
-kind_found m g o s e =
-    let h = read m.text m.dropped m.waiting in
-    ap (λ x. of_kind x m.text g h) (ap (λ d. kind_at (ltb 0 d) m.text g.place) (sym s.depth) ∙ e)
+kind_found m g o s e = rw (← s.depth, e) refl

@@ -19,5 +19,3 @@ pub mod ToldLemmas
 pub mod FoundLemmas
 mod MoreLemmas
 mod ColonLemmas
-mod PairRows
-mod PairPush

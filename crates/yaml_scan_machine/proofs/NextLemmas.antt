@@ -84,7 +84,7 @@ first_unmissed : missed (candidate 0 (first_lexeme ∷ [])) first_lexeme.reached
 unfolding candidate
 first_unmissed = refl
 
-unmissed_next : (text : List ℕ) (h : List Lexeme) (l : Lexeme) → next text h ≡ Read l
+pub unmissed_next : (text : List ℕ) (h : List Lexeme) (l : Lexeme) → next text h ≡ Read l
     → missed (candidate 0 (l ∷ h)) l.reached ≡ None
 unmissed_next text [] l e = subst (λ (x : Lexeme). missed (candidate 0 (x ∷ [])) x.reached ≡ None) (sym (first_is text l e)) first_unmissed
 unmissed_next text (y ∷ h) l e = let r = next_is text y h l e in r.tested
@@ -101,7 +101,7 @@ pub required_fresh : (o : Option Candidate) (p : yaml_mark_t) → missed o p ≡
 required_fresh None p e = refl
 required_fresh (Some c) p e = grind arith
 
-missed_fresh : (o : Option Candidate) (q p : yaml_mark_t) → missed o q ≡ None
+pub missed_fresh : (o : Option Candidate) (q p : yaml_mark_t) → missed o q ≡ None
     → missed (fresh o q) p ≡ missed o p
 missed_fresh o q p e = sym (late_same (fresh o q) p) ∙ ap (λ r. late r p) (required_fresh o q e) ∙ late_same o p
 

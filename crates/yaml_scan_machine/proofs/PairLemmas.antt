@@ -1,31 +1,67 @@
--- A key and the `:` directly behind it, where both are read in one go.
-use Rattle.std.proofs.Common.{◌≡◌, ℕ, suc, ◌+◌, ◌≤◌, true, false, ◌&&◌, List, [], ◌∷◌, ◌++◌, length, drop, refl, sym, ap, subst, ◌∙◌, arith, length-drop}
-use Rattle.yaml_scan_machine.proofs.Words.{Kind, Lexeme, Entry, cancels, is_value, is_start, is_end, depth_after, depth, entries, entry_of, levels, key_allowed, reached, history, Read, next, Upto, GoesForward, yaml_mark_t, yaml_encoding_t, SpelledText, Key, KeyStack, AreKeys, AreKeysTo, Fields, ShowsMachine, IsShown, KeptLexeme, all_kept, kept_in, read, settled_in, spelled, length-map, length-entries}
+-- A key and the `:` directly behind it: two lexemes more, one behind the other.
+use Rattle.std.proofs.Common.{◌≡◌, ℕ, zero, suc, ◌+◌, ◌-◌, ◌≤◌, true, false, ltb, List, [], ◌∷◌, ◌++◌, length, drop, Some, refl, sym, ap, subst, ◌∙◌, inl, inr, arith}
+use Rattle.yaml_scan_machine.proofs.Words.{cases_Bool, cases_lt, nat_tests, is_some, map, length-map, map-append, yaml_mark_t, mark_at, line_at, column_at, Kind, Lexeme, Entry, Opens, TokenBody, candidate, cancels, depth, depth_after, entries, entry_of, first_lexeme, found_by, fresh, inside, is_end, is_start, is_value, keeps, key_allowed, keyed, left_by, left_of, levels, mark_key, reached, start_of, AreKeysTo, Read, history, next, word_at, body_in, length-entries, opens_for, required_in, Fields, IsShown, kept_in, read, settled_in, spelled, KeptLexeme}
+use Rattle.std.proofs.lemmas.List.{drop-append-le}
+use Rattle.yaml_scan_model.specs.Tokens as tokens
+use Rattle.yaml_scan_history.specs.History.{as_key, marked, opens_of}
 use Rattle.yaml_scan_history.specs.declared.kind.Kind.TheVariants as kinds
+use Rattle.yaml_scan_history.specs.declared.lexeme.Opens.TheVariants as opening
+use Rattle.yaml_scan_laws_order.proofs.HistoryForward.{goes_forward, history_stands, stand_in, takes_bytes}
 use Rattle.yaml_scan_machine.specs.Keyed.{IsKeyed, colon_of}
-use Rattle.yaml_scan_machine.specs.Taken.{IsGiven}
 use Rattle.yaml_scan_machine.proofs.StepLemmas.{saved_keeps}
-use Rattle.yaml_scan_machine.proofs.NextLemmas.{upto_later}
-use Rattle.yaml_scan_machine.proofs.MarkLemmas.{IsPushed, depth_of, further_on, kept_entries, read_pushed, settled_grows, shown_by}
+use Rattle.yaml_scan_machine.proofs.NextLemmas.{next_first, upto_later}
+use Rattle.yaml_scan_machine.proofs.MarkLemmas.{IsPushed, kept_entries, read_pushed, shown_by}
 use Rattle.yaml_scan_machine.proofs.CandidatesLemmas.{with_key}
-use Rattle.yaml_scan_machine.proofs.KeysLemmas.{cancelled_turns, saved_turns}
-use Rattle.yaml_scan_machine.proofs.GivenLemmas.{given_goes}
+use Rattle.yaml_scan_machine.proofs.KeysLemmas.{put_keys, saved_turns}
+use Rattle.yaml_scan_machine.proofs.ColonLemmas.{colon_next, key_found, key_of}
 
--- a kind that ends no candidate starts no level
+-- ---- the columns and the levels
+
+-- on a line the column grows
+column_grows : (text : List ℕ) (p q : ℕ) → p ≤ q → line_at text q ≤ line_at text p
+    → column_at text p ≤ column_at text q
+unfolding line_at column_at
+column_grows text p zero le on = let z : p ≡ 0 = omega arith in rw z (omega arith)
+column_grows text p (suc q) le on = elim (cases_lt p (suc q)) [
+  | inl low ↦ let down = (upto_later text p q (omega arith)).1 in grind (arith, down, on, column_grows text p q (omega arith))
+  | inr high ↦ let z : p ≡ suc q = omega arith in rw z (omega arith)
+]
+
+-- a key stands no further right than its `:`
+key_left : (text : List ℕ) (n : ℕ) (l : Lexeme) → next text (history text n) ≡ Read l
+    → IsKeyed text l → l.start.column ≤ l.reached.column
+key_left text n l e k = elim (cases_lt 0 (length (history text n))) [
+  | inl some ↦
+      let t = takes_bytes text l (stand_in text (history text n) l some (history_stands text n) e).1 k.more in
+      let near : l.reached.line ≤ l.start.line = grind (arith, nat_tests, k.fresh) in
+      let right = column_grows text l.start.index l.reached.index (omega (arith, t.some, t.order)) (omega (arith, near, ap (λ (m : yaml_mark_t). m.line) t.start, ap (λ (m : yaml_mark_t). m.line) t.reached)) in
+      omega (arith, right, ap (λ (m : yaml_mark_t). m.column) t.start, ap (λ (m : yaml_mark_t). m.column) t.reached)
+  | inr none ↦
+      let first : Read first_lexeme ≡ Read l = sym (next_first text (history text n) (omega (arith, none))) ∙ e in
+      let same : first_lexeme ≡ l = cc in
+      let bad : false ≡ true = ap (λ (x : Lexeme). x.saved) same ∙ k.saved in cc
+]
+
+left_again : (b c : ℕ) (xs : List ℕ) → b ≤ c → left_of c (left_of b xs) ≡ left_of b xs
+left_again b c [] le = refl
+left_again b c (x ∷ xs) le = grind (arith, nat_tests, left_again b c xs le)
+
+-- a `:` leaves what is left no further right
+left_twice : (k : Kind) (d a b : ℕ) (xs : List ℕ) → a ≤ b
+    → left_by kinds.ValueMark d b (left_by k d a xs) ≡ left_by k d a xs
+left_twice k d a b xs le =
+    let low : keeps k a ≤ b + 1 = grind (arith, le) in
+    let again = left_again (keeps k a) (b + 1) xs low in
+    elim (cases_Bool (ltb 0 d)) [ inl deep ↦ rw deep refl | inr flat ↦ rw flat again ]
+
+-- what cancels no candidate is no `:`, and opens no level
 starts_none : (k : Kind) → cancels k ≡ false → (is_value k ≡ false) × (is_start k ≡ false)
 starts_none kinds.BlockEntry e = cc
 starts_none kinds.KeyMark e = cc
 starts_none kinds.ValueMark e = cc
 starts_none _ e = (refl, refl)
 
--- what may be a key cancels none, and starts no level
-pub saved_plain : (text : List ℕ) (h : List Lexeme) (l : Lexeme) → next text h ≡ Read l
-    → l.saved ≡ true
-    → (cancels l.kind ≡ false) × (is_value l.kind ≡ false) × (is_start l.kind ≡ false)
-saved_plain text h l e saved =
-    let idle : cancels l.kind ≡ false = ap (λ b. b && cancels l.kind) (sym saved) ∙ saved_keeps text h l e in
-    let (value, start) = starts_none l.kind idle in
-    (idle, value, start)
+-- ---- the two lexemes
 
 -- the lexemes that were read
 abbrev pub read_in : Fields → List Lexeme
@@ -35,49 +71,11 @@ read_in m = read m.text m.dropped m.waiting
 abbrev pub colon_in : Fields → Lexeme → Lexeme
 colon_in m l = colon_of m.text l (read_in m)
 
--- the lexemes behind the key and its `:`
-abbrev pub pair_in : Fields → Lexeme → List Lexeme
-pair_in m l = colon_in m l ∷ l ∷ read_in m
-
--- a key comes next, and then its `:`
-pub record IsPaired (m : Fields) (l : Lexeme) : Type 0 where
-  pub go : GoesForward m.text
-  pub shown : IsShown m
-  pub key : next m.text (read_in m) ≡ Read l
-  pub keyed : IsKeyed m.text l
-  pub colon : next m.text (l ∷ read_in m) ≡ Read (colon_in m l)
-
--- ---- behind the key alone
-
--- the keys behind the key
-abbrev keys_between : Fields → Lexeme → KeyStack
-keys_between m l = with_key m.keys record {
-  number = length (read_in m);
-  start = l.start;
-  possible = true;
-  required = l.required;
-}
-
-keys_after : (m : Fields) (l : Lexeme) → IsPaired m l
-    → AreKeys (keys_between m l) (l ∷ read_in m) l.reached
-keys_after m l p =
-    let h = read_in m in
-    let t = keys_between m l in
-    let at = depth_of m.text h l p.key in
-    let (near, far) = further_on m.text m.dropped m.waiting l p.go p.key in
-    let up : Upto (reached h) l.reached = (omega (arith, near.0, far.0), omega (arith, near.1, far.1)) in
-    let old : AreKeys m.keys h (reached h) = subst (λ q. AreKeys m.keys h q) p.shown.place p.shown.keys in
-    subst (λ d. AreKeysTo d t (l ∷ h) l.reached) (sym (p.keyed.depth ∙ at)) (saved_turns l (length h) m.keys t t.innermost p.keyed.saved refl refl (depth h) h (reached h) old up at refl)
-
--- the fields behind the key
-abbrev between : Fields → Lexeme → Fields
-between m l = record {
-  encoding = m.encoding;
-  text = m.text;
+-- the fields behind the key alone
+abbrev pub between : Fields → Lexeme → Fields
+between m l = record m {
   waiting = kept_entries m l ++ kept_in (spelled m) (entry_of l (read_in m)) ∷ [];
-  keys = keys_between m l;
-  dropped = m.dropped;
-  given = m.given;
+  keys = with_key m.keys record { number = m.dropped + length m.waiting; start = l.start; possible = true; required = l.required };
   settled = settled_in (l ∷ read_in m);
   place = l.reached;
   depth = depth_after l.kind l.depth;
@@ -86,123 +84,91 @@ between m l = record {
   ended = is_end l.kind;
 }
 
-pushed_between : (m : Fields) (l : Lexeme) → IsPaired m l → IsPushed m l (between m l)
-pushed_between m l p = record {
-  encoding = refl;
-  text = refl;
-  waiting = refl;
-  keys = keys_after m l p;
-  dropped = refl;
-  place = refl;
-  depth = refl;
-  levels = refl;
-  allowed = refl;
-  ended = refl;
-}
+-- the lexemes that were read with the key
+abbrev pub with_key_in : Fields → Lexeme → List Lexeme
+with_key_in m l = read_in (between m l)
 
-shown_between : (m : Fields) (l : Lexeme) → IsPaired m l → IsShown (between m l)
-shown_between m l p = shown_by m (between m l) l p.go p.shown p.key (pushed_between m l p) refl
+-- behind a key its `:` comes next, which finds it and closes no level
+pub record IsPaired (m : Fields) (l : Lexeme) : Type 0 where
+  pub shown : IsShown (between m l)
+  pub read : with_key_in m l ≡ l ∷ read_in m
+  pub colon : next m.text (with_key_in m l) ≡ Read (colon_in m l)
+  pub plain : is_value l.kind ≡ false
+  pub finds : found_by (colon_in m l) (with_key_in m l) ≡ Some (key_of l (read_in m))
+  pub opens : levels (with_key_in m l) ≡ inside l (read_in m)
+  pub leaves : inside (colon_in m l) (with_key_in m l) ≡ inside l (read_in m)
 
-read_between : (m : Fields) (l : Lexeme) → IsPaired m l
-    → read_in (between m l) ≡ l ∷ read_in m
-read_between m l p = read_pushed m (between m l) l p.shown p.key (pushed_between m l p)
-
--- the `:` comes behind it
-next_between : (m : Fields) (l : Lexeme) → IsPaired m l
-    → next m.text (read_in (between m l)) ≡ Read (colon_in m l)
-next_between m l p = ap (λ g. next m.text g) (read_between m l p) ∙ p.colon
-
--- ---- behind both
-
--- behind both the key's depth has no candidate, and the others have theirs
-pub pair_keys : (m : Fields) (l : Lexeme) → IsPaired m l → (k : Key) → k.possible ≡ false
-    → AreKeys (record m.keys { innermost = k }) (pair_in m l) (colon_in m l).reached
-pair_keys m l p k none =
-    let g = l ∷ read_in m in
-    let c = colon_in m l in
-    let s = keys_between m l in
-    let t = with_key s k in
-    let up : Upto l.reached c.reached = subst (λ (q : yaml_mark_t). Upto q c.reached) (sym p.keyed.place.mark) (upto_later m.text l.reached.index (l.reached.index + 1) (omega arith)) in
-    subst (λ d. AreKeysTo d t (c ∷ g) c.reached) p.keyed.depth (cancelled_turns c (length g) s t k refl refl none refl (depth g) g l.reached (keys_after m l p) up (sym p.keyed.depth) refl)
-
--- so many lexemes are these
-pub pair_read : (m : Fields) (l : Lexeme) → IsPaired m l → (ws : List KeptLexeme)
-    → length ws ≡ length m.waiting + 2 → read m.text m.dropped ws ≡ pair_in m l
-unfolding read history
-pair_read m l p ws len =
-    let n : m.dropped + length ws ≡ suc (suc (m.dropped + length m.waiting)) = omega arith in
-    rw (n, p.key, p.colon) refl
-
--- what is settled grows, and is read
-pub pair_settled : (m : Fields) (l : Lexeme) → IsPaired m l
-    → (m.settled ≤ settled_in (pair_in m l))
-    × (settled_in (pair_in m l) ≤ m.dropped + length m.waiting + 2)
-pair_settled m l p =
-    let c = colon_in m l in
-    let one = settled_grows m l p.go p.shown p.key in
-    let two = settled_grows (between m l) c p.go (shown_between m l p) (next_between m l p) in
-    let same = read_between m l p in
-    let now : settled_in (c ∷ read_in (between m l)) ≡ settled_in (pair_in m l) = ap (λ g. settled_in (c ∷ g)) same in
-    let long : length (read_in (between m l)) ≡ length (read_in m) + 1 = ap (λ (g : List Lexeme). length g) same ∙ omega arith in
-    (omega (arith, one.0, two.0, now), omega (arith, two.1, now, long, p.shown.count))
-
--- the fields x are those behind both, but what is settled
-pub record IsPushedPair (m : Fields) (l : Lexeme) (x : Fields) : Type 0 where
-  pub encoding : x.encoding ≡ m.encoding
-  pub text : x.text ≡ m.text
-  pub dropped : x.dropped ≡ m.dropped
-  pub waiting : x.waiting ≡ drop m.dropped (all_kept (spelled m) (entries (pair_in m l)))
-  pub keys : AreKeys x.keys (pair_in m l) x.place
-  pub place : x.place ≡ (colon_in m l).reached
-  pub depth : x.depth ≡ depth (pair_in m l)
-  pub levels : x.levels ≡ levels (pair_in m l)
-  pub allowed : x.allowed ≡ key_allowed (pair_in m l)
-  pub ended : x.ended ≡ false
-
--- two lexemes more wait
-pub pair_length : (m : Fields) (l : Lexeme) (x : Fields) → IsShown m → IsPushedPair m l x
-    → length x.waiting ≡ length m.waiting + 2
-pair_length m l x s q =
-    let all = entries (pair_in m l) in
-    let len : length x.waiting ≡ length (drop m.dropped (all_kept (spelled m) all)) = ap (λ (ks : List KeptLexeme). length ks) q.waiting in
-    omega (arith, len, length-drop m.dropped (all_kept (spelled m) all), length-map all (λ (e : Entry). kept_in (spelled m) e), length-entries (pair_in m l), s.count)
-
--- the lexemes that these fields have read
-pub pair_pushed : (m : Fields) (l : Lexeme) (x : Fields) → IsPaired m l → IsPushedPair m l x
-    → read x.text x.dropped x.waiting ≡ pair_in m l
-pair_pushed m l x p q = ap (λ t. read t x.dropped x.waiting) q.text ∙ ap (λ d. read m.text d x.waiting) q.dropped ∙ pair_read m l p x.waiting (pair_length m l x p.shown q)
-
-pub pair_shown : (m : Fields) (l : Lexeme) (x : Fields) → IsPaired m l → IsPushedPair m l x
-    → x.settled ≡ settled_in (pair_in m l) → IsShown x
-pair_shown m l x p q now =
-    let g = pair_in m l in
-    let s = p.shown in
-    let same : spelled m ≡ spelled x = ap (λ (t : List ℕ). record { encoding = m.encoding; text = t }) (sym q.text) ∙ ap (λ (n : yaml_encoding_t). record { encoding = n; text = x.text }) (sym q.encoding) in
-    let grows = pair_settled m l p in
-    subst (λ (y : List Lexeme). ShowsMachine y x) (sym (pair_pushed m l x p q)) record {
-      count = omega (arith, s.count, q.dropped, pair_length m l x s q);
-      waiting = q.waiting ∙ ap (λ d. drop d (all_kept (spelled m) (entries g))) (sym q.dropped) ∙ ap (λ (t : SpelledText). drop x.dropped (all_kept t (entries g))) same;
-      settled = now;
-      taken = omega (arith, q.dropped, now, grows.0, s.taken);
-      place = q.place;
-      levels = q.levels;
-      depth = q.depth;
-      allowed = q.allowed;
-      ended = q.ended;
-      keys = q.keys;
+-- a key that is read next and has its `:`
+pub paired : (m : Fields) (l : Lexeme) → IsShown m → next m.text (read_in m) ≡ Read l
+    → IsKeyed m.text l
+    → is_some (required_in (fresh (candidate 0 (read_in m)) (reached (read_in m)))) ≡ false
+    → IsPaired m l
+unfolding read levels
+paired m l s e k none =
+    let h = read_in m in
+    let y = between m l in
+    let n = m.dropped + length m.waiting in
+    let go = goes_forward m.text in
+    let idle : cancels l.kind ≡ false = let both = saved_keeps m.text h l e in rw k.saved at both in
+    let (other, begins) = starts_none l.kind idle in
+    let stays : levels (l ∷ h) ≡ inside l h = rw begins refl in
+    let keys = put_keys m l m.keys y.keys n go s e refl refl (λ h p a u at count. subst (λ d. AreKeysTo d y.keys (l ∷ h) l.reached) (sym (k.depth ∙ at)) (saved_turns l n m.keys y.keys y.keys.innermost k.saved refl refl (depth h) h p a u at count)) in
+    let pushed : IsPushed m l y = record { encoding = refl; text = refl; waiting = refl; keys = keys; dropped = refl; place = refl; depth = refl; levels = refl; allowed = refl; ended = refl } in
+    let more = read_pushed m y l s e pushed in
+    let leaves = ap (λ ls. left_by kinds.ValueMark l.depth l.reached.column ls) stays ∙ left_twice l.kind l.depth l.start.column l.reached.column (levels h) (key_left m.text n l e k) in
+    record {
+      shown = shown_by m y l go s e pushed refl;
+      read = more;
+      colon = ap (λ g. next m.text g) more ∙ colon_next m.text n l e k none;
+      plain = other;
+      finds = ap (λ g. found_by (colon_in m l) g) more ∙ key_found m.text l h k;
+      opens = ap (λ g. levels g) more ∙ stays;
+      leaves = ap (λ g. inside (colon_in m l) g) more ∙ leaves;
     }
 
--- they leave how much of the first lexeme that waits is taken
-pub pair_given : (m : Fields) (l : Lexeme) (x : Fields) → IsPaired m l → IsPushedPair m l x
-    → x.settled ≡ settled_in (pair_in m l) → x.given ≡ m.given → IsGiven m → IsGiven x
-pair_given m l x p q now same given =
-    let y = between m l in
+-- ---- the row
+
+mark_last : (ls : List ℕ) (es : List Entry) (e : Entry) (n : ℕ) → n ≡ length es
+    → mark_key ls (es ++ e ∷ []) n ≡ es ++ as_key ls e ∷ []
+unfolding mark_key
+mark_last ls [] e n is = rw is refl
+mark_last ls (x ∷ es) e n is = rw is (ap (λ r. x ∷ r) (mark_last ls es e (length es) refl))
+
+-- what waits behind the key, of which the `:` makes one
+pub key_row : (m : Fields) (l : Lexeme) (ends : ℕ) (o : Opens) (b : TokenBody) (lv : List ℕ)
+    → IsShown m → IsPaired m l → lv ≡ inside l (read_in m) → ends ≡ length m.levels - length lv
+    → o ≡ opens_for kinds.ValueMark l.depth (l.start.column + 1) lv → b ≡ body_in (spelled m) l
+    → m.waiting ++ record { start = l.start; end = l.end; ends = ends; opens = o; key = true; body = b } ∷ []
+    ≡ kept_entries (between m l) (colon_in m l)
+unfolding entries
+key_row m l ends o b lv s p left many opens body =
+    let h = read_in m in
+    let g = with_key_in m l in
     let c = colon_in m l in
-    let t = shown_between m l p in
-    let e = next_between m l p in
-    let before = read_between m l p in
-    let one = settled_grows m l p.go p.shown p.key in
-    let two = settled_grows y c p.go t e in
-    let grows : settled_in (c ∷ read_in y) ≡ settled_in (pair_in m l) = ap (λ g. settled_in (c ∷ g)) before in
-    let first : IsGiven y = given_goes m y l p.shown t p.go p.key before refl refl one.0 given in
-    given_goes y x c t (pair_shown m l x p q now) p.go e (pair_pushed m l x p q ∙ ap (λ g. c ∷ g) (sym before)) q.dropped same (omega (arith, two.0, grows, now)) first
+    let es = entries h in
+    let ls = inside l h in
+    let a = as_key ls (entry_of l h) in
+    let f : Entry → KeptLexeme = λ e. kept_in (spelled m) e in
+    let closed : ends ≡ length (levels h) - length ls = rw (many, left, s.levels) refl in
+    let begun : o ≡ start_of l.depth (l.start.column + 1) ls opening.Mapping = opens ∙ ap (λ xs. opens_for kinds.ValueMark l.depth (l.start.column + 1) xs) left ∙ grind arith in
+    let own : entries g ≡ es ++ entry_of l h ∷ [] = ap (λ x. entries x) p.read ∙ rw p.plain refl in
+    let all : keyed c g (entries g) ≡ es ++ a ∷ [] = ap (λ o. marked o (inside c g) (entries g)) p.finds ∙ ap (λ xs. mark_key xs (entries g) (length h)) p.leaves ∙ ap (λ xs. mark_key ls xs (length h)) own ∙ mark_last ls es (entry_of l h) (length h) (sym (length-entries h)) in
+    let low : m.dropped ≤ length (map f es) = omega (arith, length-map es f, length-entries h, s.count) in
+    let row : record { start = l.start; end = l.end; ends = ends; opens = o; key = true; body = b } ≡ f a = rw (closed, begun, body) refl in
+    ap (λ (k : KeptLexeme). m.waiting ++ k ∷ []) row ∙ ap (λ (ks : List KeptLexeme). ks ++ f a ∷ []) s.waiting ∙ sym (drop-append-le m.dropped (map f es) (f a ∷ []) low)
+    ∙ ap (λ (ks : List KeptLexeme). drop m.dropped ks) (sym (map-append f es (a ∷ []))) ∙ ap (λ (xs : List Entry). drop m.dropped (map f xs)) (sym all)
+
+-- what is kept of a `:` behind its key
+abbrev pub colon_row : yaml_mark_t → yaml_mark_t → KeptLexeme
+colon_row start end = record { start = start; end = end; ends = 0; opens = opening.Nothing; key = false; body = tokens.value }
+
+pub colon_kept : (m : Fields) (l : Lexeme) → IsPaired m l
+    → colon_row l.reached (mark_at m.text (l.reached.index + 1))
+    ≡ kept_in (spelled m) (entry_of (colon_in m l) (with_key_in m l))
+unfolding word_at
+colon_kept m l p =
+    let c = colon_in m l in
+    let g = with_key_in m l in
+    let none : 0 ≡ length (levels g) - length (inside c g) = omega (arith, ap (λ (ls : List ℕ). length ls) (p.opens ∙ sym p.leaves)) in
+    let k : ℕ → Opens → KeptLexeme = λ n o. record { start = c.start; end = c.end; ends = n; opens = o; key = false; body = tokens.value } in
+    ap (λ n. k n opening.Nothing) none ∙ ap (λ o. k (length (levels g) - length (inside c g)) (opens_of o c (inside c g))) (sym p.finds)

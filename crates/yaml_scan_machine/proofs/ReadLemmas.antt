@@ -53,7 +53,7 @@ wrong_is : (r : Result WordText Wrong) (text : List ℕ) (l : Lexeme) (h : List 
 wrong_is (Err w) text l h x e = cc
 wrong_is (Ok w) text l h x e =
     let (same, none) = tested_from (missed (candidate 0 (finished text l w ∷ h)) (finished text l w).reached) (finished text l w) x e in
-    (w, refl, same, subst (λ (y : Lexeme). missed (candidate 0 (y ∷ h)) y.reached ≡ None) (sym same) none)
+    (w, refl, same, rw same none)
 
 lost_is : (o : Option yaml_mark_t) (text : List ℕ) (p : ℕ) (l : Lexeme) (h : List Lexeme)
     (x : Lexeme) → unless_lost o text p l h ≡ Read x
@@ -82,21 +82,6 @@ of_kind_is (Some k) text gap h x e =
           (k, refl, lost_is (lost_by b (fresh (candidate (depth h) h) (mark_at text gap.place))) text gap.place b h x (rw good at e))
     ]
 
-pub read_of : (text : List ℕ) (h : List Lexeme) (x : Lexeme) (k : Kind) (w : WordText)
-    → kind_at (ltb 0 (depth h)) text (gap_of text h).place ≡ Some k
-    → word_at k (ltb 0 (depth h)) (begun_at text h k).level text (gap_of text h).place ≡ Ok w
-    → x ≡ finished text (begun_at text h k) w → missed (candidate 0 (x ∷ h)) x.reached ≡ None
-    → IsNextRead text h x
-read_of text h x k w some reads is none =
-    let kind : k ≡ x.kind = sym (ap (λ (y : Lexeme). y.kind) is ∙ (finished_same text (begun_at text h k) w).kind) in
-    record {
-      kind = some ∙ ap Some kind;
-      word = w;
-      reads = subst (λ (y : Kind). word_at y (ltb 0 (depth h)) (begun_at text h y).level text (gap_of text h).place ≡ Ok w) kind reads;
-      is = subst (λ (y : Kind). x ≡ finished text (begun_at text h y) w) kind is;
-      tested = none;
-    }
-
 -- what is read next behind a lexeme
 pub next_is : (text : List ℕ) (y : Lexeme) (h : List Lexeme) (x : Lexeme)
     → next text (y ∷ h) ≡ Read x → IsNextRead text (y ∷ h) x
@@ -110,7 +95,14 @@ next_is text y h x e =
           let here : coming (kind_behind text all) text all ≡ Read x = rw more at e in
           let (k, some, rest) = of_kind_is (kind_at (ltb 0 (depth all)) text gap.place) text gap all x (missed_is (missed (fresh (candidate 0 all) (reached all)) (mark_at text gap.place)) text gap all x (sym (stepwise text all) ∙ here)) in
           let (w, reads, same, none) = wrong_is _ text (begun_at text all k) all x rest in
-          read_of text all x k w some reads same none
+          let kind : k ≡ x.kind = sym (ap (λ (y : Lexeme). y.kind) same ∙ (finished_same text (begun_at text all k) w).kind) in
+          record {
+            kind = some ∙ ap Some kind;
+            word = w;
+            reads = subst (λ (y : Kind). word_at y (ltb 0 (depth all)) (begun_at text all y).level text gap.place ≡ Ok w) kind reads;
+            is = subst (λ (y : Kind). x ≡ finished text (begun_at text all y) w) kind same;
+            tested = none;
+          }
     ]
 
 pub saved_is : (text : List ℕ) (y : Lexeme) (h : List Lexeme) (x : Lexeme)

@@ -1,8 +1,8 @@
 -- Levels as lists of columns; places, levels and waiting lexemes stay inside the text.
-use Rattle.std.proofs.Common.{◌≡◌, ℕ, suc, ◌<◌, ◌≤◌, true, leb, List, [], ◌∷◌, ◌++◌, length, take, get_or, refl, sym, ◌∙◌, inl, inr, arith, get_or-take, length-append, zero, ◌+◌, Bool, false, cond, ltb, ap}
-use Rattle.yaml_scan_machine.proofs.Words.{get_or_at, cases_lt, nat_tests, length-take-le, get_or_append_left, slice_index, indent, IsRising, left_of, cases_Bool, yaml_mark_t, line_at, column_at, starts, byte, Kind, depth_after, opened, placed, keeps, left_by, Waiting, IsPlace, IsNarrow, AreInside, ready_in}
+use Rattle.std.proofs.Common.{◌≡◌, ℕ, suc, ◌<◌, ◌≤◌, true, List, [], ◌∷◌, ◌++◌, length, take, get_or, refl, sym, ◌∙◌, inl, inr, arith, get_or-take, length-append, zero, ◌+◌, Bool, false, ap}
+use Rattle.yaml_scan_machine.proofs.Words.{get_or_at, cases_lt, nat_tests, length-take-le, get_or_append_left, slice_index, indent, IsRising, left_of, yaml_mark_t, line_at, column_at, Kind, depth_after, opened, placed, keeps, left_by, Waiting, IsPlace, IsNarrow, AreInside, ready_in}
 use Rattle.std.specs.Prelude.{slice_set}
-use Rattle.yaml_scan_model.specs.Marks.{splits_of, ends_break}
+use Rattle.yaml_scan_model.specs.Marks.{splits_of}
 use Rattle.yaml_scan_history.specs.declared.kind.Kind.TheVariants as kinds
 
 -- the innermost level stands last
@@ -18,10 +18,6 @@ indent_end (x ∷ xs) n e = let same : n ≡ length xs = omega (arith, e) in rw 
 pub indent_take : (xs : List ℕ) (n : ℕ) → n < length xs → get_or xs n 0 ≡ indent (take (suc n) xs)
 indent_take xs n lt = sym (get_or-take (suc n) xs n 0 (omega arith)) ∙ indent_end (take (suc n) xs) n (length-take-le (suc n) xs (omega arith))
 
-pub indent_none : (xs : List ℕ) → indent (take 0 xs) ≡ 0
-unfolding indent
-indent_none xs = refl
-
 -- all that is not right of a column is left
 pub left_all : (c : ℕ) (xs : List ℕ) → ((k : ℕ) → k < length xs → slice_index xs k ≤ c)
     → left_of c xs ≡ xs
@@ -29,21 +25,13 @@ left_all c [] h = refl
 left_all c (x ∷ xs) h =
     let first : x ≤ c = h 0 (omega arith) in
     let rest = left_all c xs (λ k lt. h (suc k) (omega arith)) in
-    let t : leb x c ≡ true = grind (arith, nat_tests) in
-    rw (t, rest) refl
+    grind (arith, nat_tests)
 
 -- each level is at most the innermost one
 pub below_indent : (xs : List ℕ) (i : ℕ) → IsRising xs → i < length xs
     → slice_index xs i ≤ indent xs
 below_indent [] i r lt = absurd (omega arith)
-below_indent (x ∷ xs) i r lt =
-    let last = indent_last x xs in
-    let low = r i (length xs) (omega arith) (omega arith) in
-    omega (arith, low, last)
-
-pub snoc_at : (xs : List ℕ) (c : ℕ) → get_or (xs ++ c ∷ []) (length xs) 0 ≡ c
-snoc_at [] c = refl
-snoc_at (x ∷ xs) c = snoc_at xs c
+below_indent (x ∷ xs) i r lt = omega (arith, r i (length xs) (omega arith) (omega arith), indent_last x xs)
 
 -- a level right of the indent stands at the end
 pub rising_more : (xs : List ℕ) (c : ℕ) → IsRising xs → indent xs < c → IsRising (xs ++ c ∷ [])
@@ -62,35 +50,21 @@ rising_more xs c r more = λ i j le lt.
 
 -- ---- places, levels and waiting lexemes stay inside the text
 
-more-le : (b : Bool) (n m : ℕ) → n ≤ m → n + cond b 1 0 ≤ suc m
-more-le true n m h = omega (arith, h)
-more-le false n m h = omega (arith, h)
-
-less-le : (b : Bool) (n m : ℕ) → n ≤ m → cond b 0 n ≤ m
-less-le true n m h = omega (arith, h)
-less-le false n m h = h
-
 pub line-le : (text : List ℕ) (p : ℕ) → line_at text p ≤ p
 unfolding line_at
 line-le text zero = omega arith
-line-le text (suc p) = more-le (ends_break text p) (line_at text p) p (line-le text p)
+line-le text (suc p) = grind (arith, line-le text p)
 
 pub column-le : (text : List ℕ) (p : ℕ) → column_at text p ≤ p
 unfolding column_at
 column-le text zero = omega arith
-column-le text (suc p) = less-le (ends_break text p) (column_at text p + cond (starts (byte text p)) 1 0) (suc p) (more-le (starts (byte text p)) (column_at text p) p (column-le text p))
+column-le text (suc p) = grind (arith, column-le text p)
 
 pub mark_line : (text : List ℕ) (m : yaml_mark_t) → IsPlace text m → m.line ≤ length text
-mark_line text m h =
-    let low = line-le text m.index in
-    let is : m.line ≡ line_at text m.index = ap (λ (x : yaml_mark_t). x.line) h.mark in
-    omega (arith, low, is, h.inside)
+mark_line text m h = omega (arith, line-le text m.index, ap (λ (x : yaml_mark_t). x.line) h.mark, h.inside)
 
 pub mark_column : (text : List ℕ) (m : yaml_mark_t) → IsPlace text m → m.column ≤ length text
-mark_column text m h =
-    let low = column-le text m.index in
-    let is : m.column ≡ column_at text m.index = ap (λ (x : yaml_mark_t). x.column) h.mark in
-    omega (arith, low, is, h.inside)
+mark_column text m h = omega (arith, column-le text m.index, ap (λ (x : yaml_mark_t). x.column) h.mark, h.inside)
 
 pub placed_column : (k : Kind) (m : yaml_mark_t) → (placed k m).column ≤ m.column
 placed_column k m = grind arith
@@ -108,20 +82,13 @@ narrow_cons : (n x : ℕ) (xs : List ℕ) → x ≤ n → IsNarrow n xs → IsNa
 narrow_cons n x xs low h zero = low
 narrow_cons n x xs low h (suc k) = h k
 
-pub narrow_none : (n : ℕ) → IsNarrow n []
-narrow_none n k = omega arith
-
 pub narrow_left : (n c : ℕ) (xs : List ℕ) → IsNarrow n xs → IsNarrow n (left_of c xs)
 narrow_left n c [] h = h
 narrow_left n c (x ∷ xs) h = grind (arith, narrow_cons n x (left_of c xs) (h 0), narrow_left n c xs (λ k. h (suc k)))
 
 pub narrow_left_by : (n : ℕ) (k : Kind) (d column : ℕ) (xs : List ℕ) → IsNarrow n xs
     → IsNarrow n (left_by k d column xs)
-narrow_left_by n k d column xs h =
-    elim (cases_Bool (ltb 0 d)) [
-      | inl deep ↦ rw deep h
-      | inr flat ↦ rw flat (narrow_left n (keeps k column) xs h)
-    ]
+narrow_left_by n k d column xs h = grind (arith, narrow_left n (keeps k column) xs h)
 
 narrow_snoc : (n c : ℕ) (xs : List ℕ) → c ≤ n → IsNarrow n xs → IsNarrow n (xs ++ c ∷ [])
 narrow_snoc n c [] low h = narrow_cons n c [] low h

@@ -1,10 +1,10 @@
 -- The next token is known where the lexemes that were read settle it.
 use Rattle.std.proofs.Common.{◌≡◌, ℕ, zero, suc, ◌+◌, ◌-◌, ◌<◌, ◌≤◌, Bool, true, false, ltb, List, [], ◌∷◌, ◌++◌, length, take, drop, get_or, Result, Ok, Err, refl, sym, ap, subst, ◌∙◌, inl, inr, arith, length-append}
-use Rattle.yaml_scan_machine.proofs.Words.{cases_Bool, cases_lt, nat_tests, length-map, length-drop, map, flat_map, yaml_encoding_t, Token, text_bytes, Offence, encoding_of, decoded_text, Lexeme, Entry, entries, first_open, next, history, SpelledText, all, handed, spell, front_ends, Remaining, remaining, offline, scanned_in, length-entries, tokens_is, front_none, ends_token, Machine, Waiting, KeptLexeme, given_in, to_come, left_in, fields_of, read, settled_in, kept_in, stream_of, IsMachine, ready_in, is_ready, settled_tokens}
+use Rattle.yaml_scan_machine.proofs.Words.{cases_Bool, cases_lt, nat_tests, length-map, length-drop, map, flat_map, yaml_encoding_t, Token, Offence, encoding_of, decoded_text, Lexeme, Entry, entries, first_open, next, history, SpelledText, all, handed, spell, front_ends, Remaining, remaining, offline, scanned_in, length-entries, tokens_is, front_none, ends_token, Machine, Waiting, KeptLexeme, given_in, to_come, left_in, fields_of, read, settled_in, kept_in, stream_of, IsMachine, ready_in, is_ready, settled_tokens}
 use Rattle.yaml_scan_history.specs.Remaining.{kept_of}
 use Rattle.yaml_scan_laws_order.proofs.RemainingForward.{Known, known_settled, known_ended, known_next, front_count}
 use Rattle.yaml_scan_queue.specs.Waits.{kept_of as waits_as}
-use Rattle.yaml_scan_machine.specs.Taken.{front_count as count_in_front}
+use Rattle.yaml_scan_queue.specs.Front.{front_count as count_in_front}
 use Rattle.yaml_scan_machine.specs.Settled.{open_of, open_count}
 use Rattle.yaml_scan_machine.proofs.MarkLemmas.{next_ended}
 use Rattle.yaml_scan_machine.proofs.SpellLemmas.{spell_length}
@@ -19,11 +19,7 @@ count_split : (s : SpelledText) (n : ℕ) (es : List Entry)
     → count s es ≡ count s (take n es) + count s (drop n es)
 count_split s zero es = omega arith
 count_split s (suc n) [] = omega arith
-count_split s (suc n) (e ∷ es) =
-    let rest = count_split s n es in
-    let a = length-append (spell s e) (flat_map (spell s) es) in
-    let b = length-append (spell s e) (flat_map (spell s) (take n es)) in
-    omega (arith, rest, a, b)
+count_split s (suc n) (e ∷ es) = omega (arith, count_split s n es, length-append (spell s e) (flat_map (spell s) es), length-append (spell s e) (flat_map (spell s) (take n es)))
 
 count_less : (s : SpelledText) (j f : ℕ) (es : List Entry) → j ≤ f
     → count s (drop f es) ≤ count s (drop j es)
@@ -37,15 +33,11 @@ abbrev kept : SpelledText → List Token
 kept s = kept_of (next s.text (all s.text)) (all s.text)
 
 abbrev from : SpelledText → ℕ → ℕ
-from s k = length (flat_map (spell s) (drop k (handed s.text)) ++ kept s)
-
-from_is : (s : SpelledText) (k : ℕ)
-    → from s k ≡ count s (drop k (handed s.text)) + length (kept s)
-from_is s k = length-append (flat_map (spell s) (drop k (handed s.text))) (kept s)
+from s k = count s (drop k (handed s.text)) + length (kept s)
 
 left_length : (s : SpelledText) (k given : ℕ)
     → length (remaining s k given).tokens ≡ from s k - given
-left_length s k given = ap length (tokens_is s k given) ∙ length-drop given _
+left_length s k given = omega (arith, ap length (tokens_is s k given), length-drop given (flat_map (spell s) (drop k (handed s.text)) ++ kept s), length-append (flat_map (spell s) (drop k (handed s.text))) (kept s))
 
 -- what is known of the lexemes that no later one changes
 pub known_upto : (text : List ℕ) (n m : ℕ) → m ≤ settled_in (history text n) → Known text n m
@@ -60,55 +52,33 @@ settled_open h low = grind arith
 abbrev fronts : List Lexeme → ℕ
 fronts h = length (front_ends (drop (settled_in h) (entries h)))
 
-one_left : (c d : Remaining) (t : Token) → c.tokens ≡ t ∷ d.tokens → 0 < length c.tokens
-one_left c d t e = rw e (omega arith)
-
 fronts_come : (s : SpelledText) (n : ℕ)
     → fronts (history s.text n) ≤ from s (settled_in (history s.text n))
 fronts_come s n =
     let h = history s.text n in
     let f = settled_in h in
     elim (cases_lt f (length h)) [
-      | inr past ↦ let none = front_none (entries h) f (omega (arith, past, length-entries h)) in omega (arith, none)
+      | inr past ↦ omega (arith, front_none (entries h) f (omega (arith, past, length-entries h)))
       | inl low ↦
           let is = front_count (entries h) f no_entry (omega (arith, low, length-entries h)) in
-          let unset = settled_open h low in
           elim (cases_lt 0 (fronts h)) [
             | inr none ↦ omega (arith, none)
             | inl some ↦
-                let (tokens, fault) = ends_token s n f (fronts h - 1) no_entry (omega (arith, unset)) low (omega (arith, is, some)) in
-                let least = one_left (remaining s f (fronts h - 1)) (remaining s f (fronts h - 1 + 1)) _ tokens in
-                let long = left_length s f (fronts h - 1) in
-                omega (arith, least, long, some)
+                let (tokens, fault) = ends_token s n f (fronts h - 1) no_entry (omega (arith, settled_open h low)) low (omega (arith, is, some)) in
+                let least : 0 < length (remaining s f (fronts h - 1)).tokens = rw tokens (omega arith) in
+                omega (arith, least, left_length s f (fronts h - 1), some)
           ]
     ]
-
--- how many tokens are settled, and how many there are
-settled_length : (s : SpelledText) (n : ℕ) → let h = history s.text n in
-    length (settled_tokens s n) ≡ count s (take (settled_in h) (entries h)) + fronts h
-unfolding settled_tokens
-settled_length s n = let h = history s.text n in length-append (flat_map (spell s) (take (settled_in h) (entries h))) (front_ends (drop (settled_in h) (entries h)))
-
-whole_length : (s : SpelledText) (n : ℕ) → let h = history s.text n in
-    length (offline s).tokens ≡ count s (take (settled_in h) (entries h)) + from s (settled_in h)
-whole_length s n =
-    let h = history s.text n in
-    let f = settled_in h in
-    let known = known_upto s.text n f (omega arith) in
-    let same : count s (take f (handed s.text)) ≡ count s (take f (entries h)) = ap (λ es. count s es) known.same in
-    let split = count_split s f (handed s.text) in
-    let long = left_length s 0 0 in
-    let a = from_is s 0 in
-    let b = from_is s f in
-    omega (arith, same, split, long, a, b)
 
 -- how many tokens are open: those from the first lexeme that isn't settled on, but for BLOCK-END in front of it
 open_is : (s : SpelledText) (n : ℕ) → let h = history s.text n in
     length (offline s).tokens - length (settled_tokens s n) ≡ from s (settled_in h) - fronts h
+unfolding settled_tokens
 open_is s n =
-    let a = settled_length s n in
-    let b = whole_length s n in
-    omega (arith, a, b)
+    let h = history s.text n in
+    let f = settled_in h in
+    let same : count s (take f (handed s.text)) ≡ count s (take f (entries h)) = ap (λ es. count s es) (known_upto s.text n f (omega arith)).same in
+    omega (arith, same, count_split s f (handed s.text), left_length s 0 0, length-append (flat_map (spell s) (take f (entries h))) (front_ends (drop f (entries h))))
 
 -- in front of it more are to come
 before_open : (s : SpelledText) (n k given : ℕ) → let h = history s.text n in k < settled_in h
@@ -116,14 +86,10 @@ before_open : (s : SpelledText) (n k given : ℕ) → let h = history s.text n i
     → from s (settled_in h) < from s k - given
 before_open s n k given low few =
     let h = history s.text n in
-    let x = get_or (entries h) k no_entry in
-    let known = known_upto s.text n (suc k) (omega (arith, low)) in
-    let here = known_next s.text n k no_entry known in
-    let first : count s (drop k (handed s.text)) ≡ length (spell s x) + count s (drop (k + 1) (handed s.text)) = ap (λ es. count s es) here ∙ length-append (spell s x) (flat_map (spell s) (drop (k + 1) (handed s.text))) in
-    let less = count_less s (k + 1) (settled_in h) (handed s.text) (omega (arith, low)) in
-    let a = from_is s k in
-    let b = from_is s (settled_in h) in
-    omega (arith, first, less, a, b, few)
+    let here = known_next s.text n k no_entry (known_upto s.text n (suc k) (omega (arith, low))) in
+    let rest = drop (k + 1) (handed s.text) in
+    let first : count s (drop k (handed s.text)) ≡ length (spell s (get_or (entries h) k no_entry)) + count s rest = ap (λ es. count s es) here ∙ length-append (spell s (get_or (entries h) k no_entry)) (flat_map (spell s) rest) in
+    omega (arith, first, count_less s (k + 1) (settled_in h) (handed s.text) (omega (arith, low)), few)
 
 -- so many are open, and so many to come; whether the next one is settled
 pub record Tells (ready : Bool) (unsettled left : ℕ) : Type 0 where
@@ -144,20 +110,16 @@ by_items : (m : Machine) (ws : List Waiting) → m.waiting.items ≡ ws → IsMa
 unfolding read
 by_items m [] items i =
     let s = stream_of m in
-    let f = fields_of m in
-    let n : ℕ = m.dropped + length f.waiting in
+    let n : ℕ = m.dropped + length (fields_of m).waiting in
     let h = history s.text n in
-    let wait : f.waiting ≡ [] = ap (λ (ws : List Waiting). map (λ (x : Waiting). waits_as x) ws) items in
-    let none : length f.waiting ≡ 0 = ap length wait in
+    let wait : (fields_of m).waiting ≡ [] = ap (λ (ws : List Waiting). map (λ (x : Waiting). waits_as x) ws) items in
+    let none : length (fields_of m).waiting ≡ 0 = ap length wait in
     let given : m.given ≡ 0 = subst (λ (ks : List KeptLexeme). given_in m.dropped m.settled m.given ks) wait i.given in
-    let long : length m.waiting.items ≡ 0 = ap length items in
-    let at : settled_in h ≡ m.dropped = omega (arith, i.shown.settled, i.taken, i.settled, long) in
+    let at : settled_in h ≡ m.dropped = omega (arith, i.shown.settled, i.taken, i.settled, ap (λ (ws : List Waiting). length ws) items) in
     let gone = front_none (entries h) (settled_in h) (omega (arith, at, i.shown.count, none, length-entries h)) in
-    let unset = open_is s n in
     let left = left_length s m.dropped m.given in
     let same : from s (settled_in h) ≡ from s m.dropped = ap (λ k. from s k) at in
-    let number : n ≡ m.dropped + 0 = omega (arith, none) in
-    let opened : length (offline s).tokens - length (settled_tokens s (m.dropped + 0)) ≡ from s m.dropped = ap (λ k. length (offline s).tokens - length (settled_tokens s k)) (sym number) ∙ omega (arith, unset, gone, same) in
+    let opened : length (offline s).tokens - length (settled_tokens s (m.dropped + 0)) ≡ from s m.dropped = ap (λ k. length (offline s).tokens - length (settled_tokens s k)) {x = m.dropped + 0} {y = n} (omega (arith, none)) ∙ omega (arith, open_is s n, gone, same) in
     record { is = (let equal : length (to_come m).tokens ≡ from s m.dropped = omega (arith, left, given) in grind (arith, nat_tests)); few = omega (arith, opened, left, given) }
 by_items m (w ∷ ws) items i =
     let s = stream_of m in
@@ -172,37 +134,23 @@ by_items m (w ∷ ws) items i =
       | inl low ↦
           let few = given_few m.dropped m.settled m.given (waits_as w) (map (λ (x : Waiting). waits_as x) ws) f.given in
           let count : count_in_front (kept_in s x) ≡ count_in_front (waits_as w) = ap (λ (y : KeptLexeme). count_in_front y) f.here in
-          let spelled = spell_length s x in
-          let more = before_open s n m.dropped m.given (omega (arith, low, i.shown.settled)) (omega (arith, few, count, spelled)) in
+          let more = before_open s n m.dropped m.given (omega (arith, low, i.shown.settled)) (omega (arith, few, count, spell_length s x)) in
           let t : ltb m.dropped m.settled ≡ true = grind (arith, nat_tests) in
           rw t (tells_true _ _ (omega (arith, unset, left, more)))
       | inr high ↦
           let at : settled_in h ≡ m.dropped = omega (arith, i.shown.settled, i.taken, high) in
           let same : from s (settled_in h) ≡ from s m.dropped = ap (λ k. from s k) at in
           let ends : fronts h ≡ w.ends = ap (λ k. length (front_ends (drop k (entries h)))) at ∙ front_count (entries h) m.dropped no_entry (omega (arith, f.inside, length-entries h)) ∙ ap (λ (y : KeptLexeme). y.ends) f.here in
-          let room = fronts_come s n in
-          let upto : m.given ≤ w.ends = elim f.given [
-            | inl few ↦ few
-            | inr (low, few) ↦ absurd (omega (arith, low, high))
-          ] in
+          let upto : m.given ≤ w.ends = elim f.given [ inl few ↦ few | inr (low, few) ↦ absurd (omega (arith, low, high)) ] in
           let t : ltb m.dropped m.settled ≡ false = grind (arith, nat_tests) in
-          rw t (tells_by _ _ m.given w.ends (from s m.dropped) (omega (arith, unset, same, ends)) left (omega (arith, room, same, ends)) upto)
+          rw t (tells_by _ _ m.given w.ends (from s m.dropped) (omega (arith, unset, same, ends)) left (omega (arith, fronts_come s n, same, ends)) upto)
     ]
-
--- where the input is decoded
-of_decoded : (setting : yaml_encoding_t) (bytes text : List ℕ) (e : yaml_encoding_t) (n : ℕ)
-    → decoded_text setting bytes ≡ Ok text → e ≡ encoding_of setting bytes
-    → open_count setting bytes n ≡ open_of e (Ok text) n
-of_decoded setting bytes text e n d same = ap (λ r. open_of (encoding_of setting bytes) r n) d ∙ ap (λ x. open_of x (Ok text) n) (sym same)
-
-none_settled : (s : SpelledText) → length (settled_tokens s 0) ≡ 0
-unfolding settled_tokens history settled_in entries first_open
-none_settled s = refl
 
 -- before any lexeme is read nothing is settled
 open_first : (e : yaml_encoding_t) (r : Result (List ℕ) Offence)
     → open_of e r 0 ≡ length (scanned_in e r).tokens
-open_first e (Ok text) = let none = none_settled record { encoding = e; text = text } in omega (arith, none)
+unfolding settled_tokens history settled_in entries first_open
+open_first e (Ok text) = omega arith
 open_first e (Err o) = omega arith
 
 -- a machine knows the next token exactly where the lexemes that it has read settle it, and never more are open than are to come
@@ -211,14 +159,10 @@ pub machine_tells : (m : Machine) → IsMachine m
     (length (left_in m).tokens)
 machine_tells m i =
     elim (cases_Bool m.started) [
-      | inl on ↦
-          let all = left_is m on in
-          let unset = of_decoded m.setting m.input.now (text_bytes m.text) m.encoding (m.dropped + length m.waiting.items) (i.decoded on) i.spelled in
-          subst (λ (u : ℕ). Tells (is_ready m) u (length (left_in m).tokens)) (sym unset) (subst (λ (c : Remaining). Tells (is_ready m) (open_of m.encoding (Ok (text_bytes m.text)) (m.dropped + length m.waiting.items)) (length c.tokens)) (sym all) (by_items m m.waiting.items refl i))
+      | inl on ↦ rw (left_is m on, i.decoded on, ← i.spelled) (by_items m m.waiting.items refl i)
       | inr off ↦
-          let whole = left_whole m off in
           let none : m.dropped + length m.waiting.items ≡ 0 = let long : length m.waiting.items ≡ 0 = ap length (i.begun off) in omega (arith, long, i.fresh off) in
-          let unset : open_count m.setting m.input.now (m.dropped + length m.waiting.items) ≡ length (left_in m).tokens = ap (λ n. open_count m.setting m.input.now n) none ∙ open_first (encoding_of m.setting m.input.now) (decoded_text m.setting m.input.now) ∙ ap (λ (c : Remaining). length c.tokens) (sym whole) in
+          let unset : open_count m.setting m.input.now (m.dropped + length m.waiting.items) ≡ length (left_in m).tokens = ap (λ n. open_count m.setting m.input.now n) none ∙ open_first (encoding_of m.setting m.input.now) (decoded_text m.setting m.input.now) ∙ ap (λ (c : Remaining). length c.tokens) (sym (left_whole m off)) in
           let idle : is_ready m ≡ false = ap (λ (ws : List Waiting). ready_in m.dropped m.settled m.given ws) (i.begun off) in
           record { is = idle ∙ grind (arith, nat_tests); few = omega (arith, unset) }
     ]

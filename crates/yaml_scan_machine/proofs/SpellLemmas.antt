@@ -1,10 +1,9 @@
 -- How a lexeme is spelled out, a token at a time.
-use Rattle.std.proofs.Common.{◌≡◌, ℕ, zero, suc, ◌+◌, ◌-◌, ◌<◌, ◌≤◌, Bool, true, false, cond, ltb, eqb, List, [], ◌∷◌, ◌++◌, length, get_or, Option, Some, None, refl, ap, ◌∙◌, inl, inr, arith, append_assoc, length-append}
+use Rattle.std.proofs.Common.{◌≡◌, ℕ, zero, suc, ◌+◌, ◌-◌, ◌<◌, ◌≤◌, Bool, true, false, cond, ltb, List, [], ◌∷◌, ◌++◌, length, get_or, Option, Some, None, refl, ap, ◌∙◌, inl, inr, arith, append_assoc, length-append}
 use Rattle.yaml_scan_machine.proofs.Words.{cases_lt, nat_tests, get_or_append_left, get_or-append_right, Token, TokenBody, block_end, key, Lexeme, Entry, Opens, SpelledText, before, start_tokens, end_tokens, spell, front_at, KeptLexeme, kept_in, front_count, fronted}
 use Rattle.std.proofs.lemmas.List.{length-replicate, get_or-replicate}
-use Rattle.yaml_scan_model.specs.Tokens.{block_sequence_start, block_mapping_start}
 use Rattle.yaml_scan_history.specs.Remaining.{token_in, own_tokens}
-use Rattle.yaml_scan_queue.specs.Front.{key_at, start_at, start_count, key_count}
+use Rattle.yaml_scan_queue.specs.Front.{start_at, start_count, key_count}
 use Rattle.yaml_scan_history.specs.declared.lexeme.Opens.TheVariants as opening
 
 -- a token is in front where fewer are taken than stand in front
@@ -16,19 +15,10 @@ counts_behind : (a c n : ℕ) (o : Option TokenBody) → a ≤ n → Counts c (n
 counts_behind a c n None low h = omega (arith, h)
 counts_behind a c n (Some b) low h = omega (arith, h)
 
-key_counts : (k : Bool) (n : ℕ) → Counts (key_count k) n (key_at k n)
-key_counts false n = omega arith
-key_counts true n = grind (arith, nat_tests)
-
-behind_counts : (b : TokenBody) (k : Bool) (n : ℕ)
-    → Counts (1 + key_count k) n (cond (eqb n 0) (Some b) (key_at k (n - 1)))
-behind_counts b k n = grind (arith, nat_tests, counts_behind 1 (key_count k) n (key_at k (n - 1)), key_counts k (n - 1))
-
 start_counts : (o : Opens) (k : Bool) (n : ℕ)
     → Counts (start_count o + key_count k) n (start_at o k n)
-start_counts opening.Nothing k n = let z : 0 + key_count k ≡ key_count k = omega arith in rw z (key_counts k n)
-start_counts opening.Sequence k n = behind_counts block_sequence_start k n
-start_counts opening.Mapping k n = behind_counts block_mapping_start k n
+start_counts opening.Nothing false n = omega arith
+start_counts _ _ n = grind (arith, nat_tests)
 
 pub front_counts : (e : KeptLexeme) (n : ℕ) → Counts (front_count e) n (front_at e n)
 front_counts e n =
@@ -36,10 +26,8 @@ front_counts e n =
     grind (arith, nat_tests)
 
 start_count-le : (o : Opens) (k : Bool) → start_count o + key_count k ≤ 2
-start_count-le opening.Nothing false = omega arith
-start_count-le opening.Nothing true = omega arith
-start_count-le _ false = omega arith
-start_count-le _ true = omega arith
+start_count-le opening.Nothing k = grind arith
+start_count-le _ k = grind arith
 
 -- at most a block start and KEY stand behind the levels that a lexeme closes
 pub front_count-le : (e : KeptLexeme) → front_count e ≤ e.ends + 2
@@ -51,10 +39,8 @@ own s l k = cond k (before key l ∷ token_in s l ∷ []) (token_in s l ∷ [])
 
 start_length : (s : SpelledText) (l : Lexeme) (o : Opens) (k : Bool)
     → length (start_tokens o l) + length (own s l k) ≡ start_count o + key_count k + 1
-start_length s l opening.Nothing false = refl
-start_length s l opening.Nothing true = refl
-start_length s l _ false = refl
-start_length s l _ true = refl
+start_length s l opening.Nothing k = grind arith
+start_length s l _ k = grind arith
 
 -- A lexeme is spelled as what stands in front of it, and itself.
 pub spell_length : (s : SpelledText) (e : Entry)

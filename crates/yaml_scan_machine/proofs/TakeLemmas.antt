@@ -1,5 +1,5 @@
 -- What a token that is taken leaves to come.
-use Rattle.std.proofs.Common.{Bool, ◌≡◌, ℕ, suc, ◌+◌, ◌-◌, ◌<◌, true, false, ltb, List, [], ◌∷◌, length, drop, get_or, Some, None, refl, sym, ap, subst, ◌∙◌, inl, inr, arith, ◌^◌}
+use Rattle.std.proofs.Common.{Bool, ◌≡◌, ℕ, suc, ◌+◌, ◌-◌, ◌<◌, ◌≤◌, true, false, ltb, List, [], ◌∷◌, length, drop, get_or, Some, None, refl, sym, ap, subst, ◌∙◌, inl, inr, arith, ◌^◌}
 use Rattle.yaml_scan_machine.proofs.Words.{Line, cases_Bool, cases_lt, nat_tests, length-map, map, Token, TokenBody, block_end, no_token, entries, Remaining, remaining, spell, GivesFirst, ends_token, Machine, Waiting, KeptLexeme, kept_of, IsMachine, is_ready, ready_in, fields_of, kept_in, read, history_of, stream_of, front_at, front_count, fronted, given_in, own_token, to_come, left_in, cases_Option}
 use Rattle.yaml_scan_queue.specs.Hands.{Hands}
 use Rattle.yaml_scan_slot.specs.declared.slot.TokenSlot.{TokenSlot}
@@ -72,21 +72,39 @@ gives_own m w rest i items low none =
     subst (λ (c : Remaining). GivesFirst (to_come m) (own_token (kept_of w)) c) (done none) (subst (λ o. GivesFirst (to_come m) (fronted (own_token (kept_of w)) o) (remaining (stream_of m) m.dropped (m.given + 1))) none gives)
 
 -- so few tokens stand in front of a lexeme
-pub given_room : (m : Machine) (w : Waiting) (rest : List Waiting) (b : TokenBody) → IsMachine m
-    → m.waiting.items ≡ w ∷ rest → front_at (kept_of w) m.given ≡ Some b → m.given < 2 ^ 64 - 1
-given_room m w rest b i items some =
+pub front_few : (m : Machine) (w : Waiting) (rest : List Waiting) → IsMachine m
+    → m.waiting.items ≡ w ∷ rest → front_count (kept_of w) < 2 ^ 64
+front_few m w rest i items =
     let f = first_is m w rest i items in
     let few = ends_few (history_of m) m.dropped no_entry f.inside in
     let ends : (get_or (entries (history_of m)) m.dropped no_entry).ends ≡ w.ends = ap (λ (x : KeptLexeme). x.ends) f.here in
     let long = length-map m.waiting.items (λ (x : Waiting). kept_of x) in
-    let room = front_room (kept_of w) m.given b some in
     let two = front_count-le (kept_of w) in
-    omega (arith, few, ends, long, room, two, i.shown.count, i.few, i.long)
+    omega (arith, few, ends, long, two, i.shown.count, i.few, i.long)
+
+-- of them so few are given that one more may be
+pub given_room : (m : Machine) (w : Waiting) (rest : List Waiting) (b : TokenBody) → IsMachine m
+    → m.waiting.items ≡ w ∷ rest → front_at (kept_of w) m.given ≡ Some b → m.given < 2 ^ 64 - 1
+given_room m w rest b i items some =
+    let few = front_few m w rest i items in
+    let room = front_room (kept_of w) m.given b some in
+    omega (arith, few, room)
 
 pub first_waits : (d s g : ℕ) (ws : List Waiting) → ready_in d s g ws ≡ true
     → (w : Waiting) × (rest : List Waiting) × (ws ≡ w ∷ rest)
 first_waits d s g [] e = cc
 first_waits d s g (w ∷ ws) e = (w, ws, refl)
+
+-- What waits first is asked with any default: of its tokens no more are given than stand in front, which are few.
+pub first_fits : (m : Machine) → IsMachine m → is_ready m ≡ true → (w : Waiting)
+    → (m.given ≤ front_count (kept_of (get_or m.waiting.items 0 w)))
+    × (front_count (kept_of (get_or m.waiting.items 0 w)) < 2 ^ 64)
+first_fits m i ready w =
+    let (front, rest, items) = first_waits m.dropped m.settled m.given m.waiting.items ready in
+    let here : front_count (kept_of (get_or m.waiting.items 0 w)) ≡ front_count (kept_of front) = ap (λ (ws : List Waiting). front_count (kept_of (get_or ws 0 w))) items in
+    let few = given_few m.dropped m.settled m.given (kept_of front) (map (λ (x : Waiting). kept_of x) rest) (first_is m front rest i items).given in
+    let room = front_few m front rest i items in
+    (omega (arith, here, few), omega (arith, here, room))
 
 -- a token of what waits first is handed out
 pub hands_first : (m : Machine) (q : Line) (slot : TokenSlot) (r b : Bool) → is_ready m ≡ true

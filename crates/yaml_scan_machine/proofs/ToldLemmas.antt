@@ -1,6 +1,6 @@
 -- What is settled is told, whatever follows.
-use Rattle.std.proofs.Common.{◌≡◌, ℕ, zero, suc, cond, ◌+◌, ◌-◌, ◌<◌, ◌≤◌, List, [], ◌∷◌, ◌++◌, length, take, drop, get_or, refl, sym, ap, ◌∙◌, inl, inr, arith, append_assoc}
-use Rattle.yaml_scan_machine.proofs.Words.{cases_lt, flat_map, Token, TokenBody, block_end, key, Entry, entries, next, history, SpelledText, all, handed, before, body_in, end_tokens, start_tokens, spell, front_ends, remaining, offline, length-entries, tokens_is, ends_token, settled_in, settled_tokens}
+use Rattle.std.proofs.Common.{◌≡◌, ℕ, zero, suc, ◌+◌, ◌-◌, ◌<◌, ◌≤◌, List, [], ◌∷◌, ◌++◌, length, take, drop, get_or, refl, sym, ap, ◌∙◌, inl, inr, arith, append_assoc}
+use Rattle.yaml_scan_machine.proofs.Words.{cases_lt, flat_map, Token, block_end, Entry, entries, next, history, SpelledText, all, handed, before, body_in, end_tokens, spell, front_ends, remaining, offline, length-entries, tokens_is, ends_token, settled_in, settled_tokens}
 use Rattle.std.proofs.lemmas.List.{take-append-drop, drop_more}
 use Rattle.std.proofs.lemmas.List.Concat.{flat_map-append}
 use Rattle.std.proofs.lemmas.List.Elements.{All-head, All-tail, All-take}
@@ -55,32 +55,17 @@ own_first s n =
     let (rest, fronts) = fronts_first s n in
     let kept = kept_of (next s.text (all s.text)) (all s.text) in
     let front = flat_map (spell s) (take f (entries h)) in
-    let split : flat_map (spell s) (handed s.text) ≡ flat_map (spell s) (take f (handed s.text)) ++ flat_map (spell s) (drop f (handed s.text)) = ap (λ es. flat_map (spell s) es) (sym (take-append-drop f (handed s.text))) ∙ flat_map-append (spell s) (take f (handed s.text)) (drop f (handed s.text)) in
-    let same : flat_map (spell s) (take f (handed s.text)) ≡ front = ap (λ es. flat_map (spell s) es) known.same in
-    let behind : flat_map (spell s) (drop f (handed s.text)) ++ kept ≡ front_ends (drop f (entries h)) ++ rest = sym (tokens_is s f 0) ∙ fronts in (
-      rest,
-      tokens_is s 0 0 ∙ ap (λ ts. ts ++ kept) (split ∙ ap (λ ts. ts ++ flat_map (spell s) (drop f (handed s.text))) same)
-          ∙ append_assoc front (flat_map (spell s) (drop f (handed s.text))) kept ∙ ap (λ ts. front ++ ts) behind
-          ∙ sym (append_assoc front (front_ends (drop f (entries h))) rest),
-    )
-
-abbrev own_by : TokenBody → Entry → List Token
-own_by b e = cond e.key (before key e.lexeme ∷ record { body = b; start_mark = e.lexeme.start; end_mark = e.lexeme.end } ∷ [])
-    (record { body = b; start_mark = e.lexeme.start; end_mark = e.lexeme.end } ∷ [])
+    let behind = flat_map (spell s) (drop f (handed s.text)) in
+    let split : flat_map (spell s) (handed s.text) ≡ front ++ behind = ap (λ es. flat_map (spell s) es) (sym (take-append-drop f (handed s.text))) ∙ flat_map-append (spell s) (take f (handed s.text)) (drop f (handed s.text)) ∙ ap (λ es. flat_map (spell s) es ++ behind) known.same in
+    let last : behind ++ kept ≡ front_ends (drop f (entries h)) ++ rest = sym (tokens_is s f 0) ∙ fronts in
+    (rest, tokens_is s 0 0 ∙ ap (λ ts. ts ++ kept) split ∙ append_assoc front behind kept ∙ ap (λ ts. front ++ ts) last ∙ sym (append_assoc front (front_ends (drop f (entries h))) rest))
 
 -- Entries whose lexemes carry the same are spelled out in the same tokens.
-spell_same : (s t : SpelledText) (e : Entry) → body_in t e.lexeme ≡ body_in s e.lexeme
-    → spell t e ≡ spell s e
-spell_same s t e same =
-    ap (λ (b : TokenBody). (end_tokens e ++ start_tokens e.opens e.lexeme) ++ own_by b e) same
-
 spelled_same : (s t : SpelledText) (es : List Entry)
     → All (λ e. body_in t e.lexeme ≡ body_in s e.lexeme) es
     → flat_map (spell t) es ≡ flat_map (spell s) es
 spelled_same s t [] h = refl
-spelled_same s t (e ∷ es) h =
-    ap (λ ts. ts ++ flat_map (spell t) es) (spell_same s t e (All-head (λ e. body_in t e.lexeme ≡ body_in s e.lexeme) e es h))
-    ∙ ap (λ ts. spell s e ++ ts) (spelled_same s t es (All-tail (λ e. body_in t e.lexeme ≡ body_in s e.lexeme) e es h))
+spelled_same s t (e ∷ es) h = rw (All-head (λ e. body_in t e.lexeme ≡ body_in s e.lexeme) e es h, spelled_same s t es (All-tail (λ e. body_in t e.lexeme ≡ body_in s e.lexeme) e es h)) refl
 
 -- whatever follows, what so many lexemes settle is told first
 pub whatever_follows : (s t : SpelledText) (n : ℕ) → history t.text n ≡ history s.text n

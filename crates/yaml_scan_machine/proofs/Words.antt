@@ -45,7 +45,7 @@ pub use Rattle.yaml_scan_machine.specs.Stands.{Stands, Told}
 unfoldable pub use Rattle.yaml_scan_machine.specs.Stands.{is_letter}
 pub use Rattle.yaml_scan_machine.specs.State.{AreInside, IsMachine, IsNarrow, IsPlace, IsShort, ReadsMore, StaysShort, WantsMore, is_ready, ready_in}
 pub use Rattle.yaml_scan_machine.specs.Stood.{MayReadAt}
-pub use Rattle.yaml_scan_machine.specs.Taken.{front_count, fronted, given_in, own_token}
+pub use Rattle.yaml_scan_machine.specs.Taken.{fronted, given_in, own_token}
 pub use Rattle.yaml_scan_machine.specs.declared.keys.Key.{Key}
 pub use Rattle.yaml_scan_machine.specs.declared.machine.Machine.{Machine}
 pub use Rattle.yaml_scan_machine.specs.declared.next.Read.{Read as Answer}
@@ -61,7 +61,7 @@ pub use Rattle.yaml_scan_model.specs.declared.name.yaml_encoding_t.{yaml_encodin
 pub use Rattle.yaml_scan_model.specs.declared.problem.ScanError.{ScanError}
 pub use Rattle.yaml_scan_model.specs.declared.problem.ScanFault.{ScanFault}
 pub use Rattle.yaml_scan_model.specs.declared.record.yaml_mark_t.{yaml_mark_t}
-pub use Rattle.yaml_scan_queue.specs.Front.{front_at}
+pub use Rattle.yaml_scan_queue.specs.Front.{front_at, front_count}
 pub use Rattle.yaml_scan_queue.specs.Line.{Line}
 pub use Rattle.yaml_scan_queue.specs.Waits.{KeptLexeme, kept_of, keyed as marked}
 pub use Rattle.yaml_scan_queue.specs.declared.waiting.Waiting.{Waiting}

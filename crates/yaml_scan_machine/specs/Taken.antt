@@ -1,13 +1,9 @@
--- How many tokens stand in front of a lexeme's own one, and how many of them are taken.
-use Rattle.std.specs.Prelude.{ℕ, ◌+◌, ◌≡◌, ◌<◌, ◌≤◌, ◌⊎◌, List, [], ◌∷◌, Option, Some, None}
+-- A lexeme's tokens, and how many of those in front of its own one are taken.
+use Rattle.std.specs.Prelude.{ℕ, ◌≡◌, ◌<◌, ◌≤◌, ◌⊎◌, List, [], ◌∷◌, Option, Some, None}
 use Rattle.yaml_scan_model.specs.Tokens.{Token, TokenBody}
-use Rattle.yaml_scan_queue.specs.Front.{start_count, key_count}
+use Rattle.yaml_scan_queue.specs.Front.{front_count}
 use Rattle.yaml_scan_queue.specs.Waits.{KeptLexeme}
 use Rattle.yaml_scan_machine.specs.Shows.{Fields}
-
--- how many tokens stand in front of a lexeme's own one
-abbrev pub front_count : KeptLexeme → ℕ
-front_count k = k.ends + (start_count k.opens + key_count k.key)
 
 -- a lexeme's own token
 abbrev pub own_token : KeptLexeme → Token

@@ -151,6 +151,7 @@ fn fill_further(machine: &mut Machine, spares: &mut Spares, fault: &mut yaml_fau
 {
     let mut spot = LexemeSpot::blank();
     machine.enough = machine.dropped + machine.ahead;
+    machine.waiting.rewind();
     'steps: loop {
         if machine.ended {
             if machine.has_token() {
@@ -195,7 +196,8 @@ fn is_lack(kind: yaml_error_type_t) -> bool
     matches!(kind, yaml_error_type_t::YAML_MEMORY_ERROR)
 }
 
-/// Reads one lexeme more, or puts the fault into the slot that was lent. The place where the lexeme stands gets a slot too.
+/// Reads one lexeme more, and with a key the `:` behind it where lexemes are read ahead; or puts the fault into the slot that was lent.
+/// The place where the lexeme stands gets a slot too.
 // Inlined: it is called at one place.
 #[inline(always)]
 fn read_one_more(

@@ -1,7 +1,7 @@
 //! Ways for the kinds of lexemes. The kinds that are met most have a way of their own, which is the general one with its
-//! kind known: so the compiler leaves out of it what the kind doesn't ask for. Those of indicators, plain and double quoted
-//! scalars are inlined: a call would cost a quarter of an indicator's, and an eighth of a quoted scalar's. The others are out of
-//! line, or all would be kept in one frame whose parts are set to zero for each lexeme. These are lent a copy of the lexeme's
+//! kind known: so the compiler leaves out of it what the kind doesn't ask for. Those of indicators but `:`, which is mostly read with its
+//! key, of plain and of double quoted scalars are inlined: a call would cost a quarter of an indicator's, and an eighth of a quoted
+//! scalar's. The others are out of line, or all would be kept in one frame whose parts are set to zero for each lexeme. These are lent a copy of the lexeme's
 //! place, which is made where they are called: a place that itself is lent to a call lies in memory, and is written there for
 //! each lexeme.
 

@@ -1,8 +1,13 @@
 -- The part of a row of slots that holds what waits, and the slots beside it.
-use Rattle.std.proofs.Common.{◌≡◌, ℕ, zero, suc, ◌+◌, ◌-◌, ◌<◌, ◌≤◌, List, [], ◌∷◌, ◌++◌, length, take, drop, get_or, Option, Some, None, refl, ap, sym, ◌∙◌, arith}
+use Rattle.std.proofs.Common.{◌≡◌, ℕ, zero, suc, Bool, true, false, ltb, ◌+◌, ◌-◌, ◌<◌, ◌≤◌, List, [], ◌∷◌, ◌++◌, length, take, drop, get_or, None, refl, ap, sym, ◌∙◌, arith}
 use Rattle.std.proofs.Math.ListN.{set}
 use Rattle.std.proofs.Math.Seq.{take-set-lt}
-use Rattle.std.proofs.lemmas.List.{get_or-drop, get_or-take, get_or_default, take-append-le, drop-append-le, drop-take, drop-set-add, drop-set-lt, drop-drop, drop_all, length-take-le, length-drop}
+use Rattle.std.proofs.lemmas.List.{get_or-drop, get_or-take, get_or_default, take-append-le, drop-append-le, drop-take, drop-set-add, drop-set-lt, drop-drop, length-take-le, length-drop}
+use Rattle.std.proofs.lemmas.Bool.Decides.{nat_tests}
+use Rattle.yaml_scan_history.specs.declared.lexeme.Opens.{Opens}
+use Rattle.yaml_scan_history.specs.declared.lexeme.Opens.TheVariants as opening
+use Rattle.yaml_scan_queue.specs.Front.{front_at, start_at, start_count, key_count}
+use Rattle.yaml_scan_queue.specs.Waits.{KeptLexeme}
 use Rattle.yaml_scan_queue.specs.declared.waiting.Waiting.{Waiting}
 
 pub part_length : {X : Type 0} → (xs : List X) (f l : ℕ) → l ≤ length xs
@@ -45,15 +50,6 @@ pub part_pop : {X : Type 0} → (xs : List X) (f l : ℕ) (y : X) → f < l
 part_pop xs f l y lt =
     ap (λ ys. drop (f + 1) ys) (take-set-lt l xs f y lt) ∙ drop-set-lt (f + 1) (take l xs) f y (omega arith) ∙ sym (drop-drop 1 f (take l xs))
 
-taken_size : (n : ℕ) (xs : List Waiting) → length (take n xs) ≤ n
-taken_size zero xs = omega arith
-taken_size (suc n) [] = omega arith
-taken_size (suc n) (x ∷ xs) = omega (arith, taken_size n xs)
-
--- where what waits first is the last, nothing is left
-pub part_last : (xs : List Waiting) (f l : ℕ) → f + 1 ≡ l → [] ≡ drop (f + 1) (take l xs)
-part_last xs f l last = sym (drop_all (f + 1) (take l xs) (omega (arith, last, taken_size l xs)))
-
 -- A row is turned until its part comes first.
 pub part_turn : {X : Type 0} → (xs : List X) (f l : ℕ) → f ≤ l → l ≤ length xs
     → take (l - f) (drop f xs ++ take f xs) ≡ drop f (take l xs)
@@ -74,7 +70,18 @@ pub part_put : (xs : List Waiting) (f l : ℕ) (y : Waiting) (items : List Waiti
 part_put xs f l y items is low lt =
     ap (λ (n : ℕ). drop f (take n (set xs l y))) {x = l + 1} {y = suc l} (omega arith) ∙ ap (λ (zs : List Waiting). drop f zs) (put_last xs l y lt) ∙ drop-append-le f (take l xs) (y ∷ []) (omega (arith, low, length-take-le l xs (omega (arith, lt)))) ∙ ap (λ (zs : List Waiting). zs ++ y ∷ []) is
 
--- what is no value is none
-pub none_left : {A : Type 0} (o : Option A) → ((x : A) → o ≡ Some x → ⊥) → o ≡ None
-none_left None not_some = refl
-none_left (Some x) not_some = absurd (not_some x refl)
+start_done : (o : Opens) (k : Bool) → start_at o k (start_count o + key_count k) ≡ None
+start_done opening.Nothing false = refl
+start_done opening.Nothing true = refl
+start_done opening.Sequence false = refl
+start_done opening.Sequence true = refl
+start_done opening.Mapping false = refl
+start_done opening.Mapping true = refl
+
+-- behind all that stand in front none does
+pub front_done : (k : KeptLexeme) (n : ℕ) → k.ends + (start_count k.opens + key_count k.key) ≡ n
+    → front_at k n ≡ None
+front_done k n all =
+    let past : ltb n k.ends ≡ false = grind (arith, nat_tests, all) in
+    let left : n - k.ends ≡ start_count k.opens + key_count k.key = omega (arith, all) in
+    rw past (ap (λ (i : ℕ). start_at k.opens k.key i) left ∙ start_done k.opens k.key)

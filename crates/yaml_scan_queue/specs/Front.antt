@@ -1,5 +1,5 @@
 -- The tokens that stand in front of a lexeme's own one: BLOCK-END, a block start, KEY.
-use Rattle.std.specs.Prelude.{ℕ, ◌-◌, ◌==◌, ◌&&◌, nat_lt, if◌then◌else◌, Bool, true, false, Option, Some, None}
+use Rattle.std.specs.Prelude.{ℕ, ◌+◌, ◌-◌, ◌==◌, ◌&&◌, nat_lt, if◌then◌else◌, Bool, true, false, Option, Some, None}
 use Rattle.yaml_scan_model.specs.Tokens.{TokenBody, block_end, block_sequence_start, block_mapping_start, key}
 use Rattle.yaml_scan_history.specs.declared.lexeme.Opens.{Opens}
 use Rattle.yaml_scan_history.specs.declared.lexeme.Opens.TheVariants as opening
@@ -21,12 +21,6 @@ abbrev pub front_at : KeptLexeme → ℕ → Option TokenBody
 front_at k given = if nat_lt given k.ends then Some block_end else start_at k.opens k.key
     (given - k.ends)
 
--- a number that is 0 where nothing is opened
-abbrev pub opens_number : Opens → ℕ
-opens_number opening.Nothing = 0
-opens_number opening.Sequence = 1
-opens_number opening.Mapping = 2
-
 -- how many of block start and KEY stand in front of a lexeme's own token
 abbrev pub start_count : Opens → ℕ
 start_count opening.Nothing = 0
@@ -36,3 +30,7 @@ start_count opening.Mapping = 1
 abbrev pub key_count : Bool → ℕ
 key_count true = 1
 key_count false = 0
+
+-- how many tokens stand in front of a lexeme's own one
+abbrev pub front_count : KeptLexeme → ℕ
+front_count k = k.ends + (start_count k.opens + key_count k.key)

@@ -1,5 +1,5 @@
 -- What is kept of a lexeme that waits, and what a later `:` makes of it.
-use Rattle.std.specs.Prelude.{ℕ, ◌≡◌, ◌++◌, ◌∷◌, [], Bool, true, false, List}
+use Rattle.std.specs.Prelude.{ℕ, ◌≡◌, ◌++◌, ◌∷◌, [], Bool, true, List}
 use Rattle.yaml_scan_model.specs.declared.record.yaml_mark_t.{yaml_mark_t}
 use Rattle.yaml_scan_model.specs.Tokens.{TokenBody, body_of}
 use Rattle.yaml_scan_history.specs.declared.lexeme.Opens.{Opens}

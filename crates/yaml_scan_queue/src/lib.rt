@@ -5,4 +5,4 @@ mod queue;
 mod waiting;
 
 pub use queue::Queue;
-pub use waiting::{Before, ReadLexeme, Waiting};
+pub use waiting::{ReadLexeme, Waiting};

@@ -1,8 +1,9 @@
 //! The list of the lexemes that wait. It grows at its back alone.
 
-ghost use Rattle.std.specs.Prelude.{◌≡◌, ◌+◌, ◌++◌, ◌∷◌, [], ◌<◌, ◌≤◌, ◌↔◌, List, OnOk, IfSome, IsSome, true, false, length, drop, take, slice_index_or, slice_set};
+ghost use Rattle.std.specs.Prelude.{◌≡◌, ◌+◌, ◌^◌, ◌++◌, ◌∷◌, [], ◌<◌, ◌≤◌, ◌↔◌, OnOk, IfSome, IsSome, true, false, length, slice_index_or, slice_set};
 ghost use Rattle.yaml_scan_slot.specs.Slots.{body_in_slot, extra_of};
 ghost use Rattle.yaml_scan_queue.specs.Bare.{is_kind};
+ghost use Rattle.yaml_scan_queue.specs.Front.{front_count};
 ghost use Rattle.yaml_scan_queue.specs.Hands.{Hands};
 ghost use Rattle.yaml_scan_queue.specs.Line.{Grows};
 ghost use Rattle.yaml_scan_queue.specs.declared.waiting.Waiting.{Waiting};
@@ -130,6 +131,20 @@ impl Queue {
         self.last += 1;
     }
 
+    /// Begins at the first slot again, where nothing waits.
+    // Asked where more is read, and not for each token that is taken.
+    // Inlined: a comparison and two stores.
+    #[inline(always)]
+    pub fn rewind(&mut self)
+        ensures items { self.new.items ≡ self.old.items }
+        ensures slots { self.new.slots ≡ self.old.slots }
+    {
+        if self.first == self.last {
+            self.first = 0;
+            self.last = 0;
+        }
+    }
+
     /// The first lexeme.
     // Inlined: a comparison, asked for each token.
     #[inline(always)]
@@ -150,42 +165,28 @@ impl Queue {
     // Inlined: it is called at one place, for each token.
     #[inline(always)]
     pub fn pop_token(&mut self, given: usize, slot: &mut TokenSlot, spares: &mut Spares) -> bool
-        requires { 0 < length self.old.items }
+        requires some { 0 < length self.old.items }
+        requires given { (w : Waiting)
+            → given ≤ front_count (kept_of (slice_index_or self.old.items 0 w)) }
+        requires room { (w : Waiting)
+            → front_count (kept_of (slice_index_or self.old.items 0 w)) < 2 ^ 64 }
         ensures { (w : Waiting) → Hands given (slice_index_or self.old.items 0 w) self.old self.new
             slot.new result }
     {
         let at = self.first;
         let first = &self.slots[at];
         slot.start_mark = mark_again(&first.start);
-        if let Some(before) = first.before(given) {
+        if first.fronts() != given {
             slot.end_mark = mark_again(&first.start);
-            slot.body.kind = before.kind();
+            slot.body.kind = first.kind_before(given);
             return false;
         }
         slot.end_mark = mark_again(&first.end);
-        pass(&mut self.first, &mut self.last);
+        // Read for the sum: a number that is read is within its type.
+        let _last = self.last;
+        self.first += 1;
         hand_out(&mut self.slots[at].body, &mut slot.body, spares);
         true
-    }
-}
-
-/// Past the first lexeme of those that wait. Where none is left, the row begins at its first slot again.
-// Inlined: a comparison and a store.
-#[inline(always)]
-fn pass(first: &mut usize, last: &mut usize)
-    requires { first.old < last.old }
-    ensures part { (xs : List Waiting) → drop first.new (take last.new xs)
-        ≡ drop (first.old + 1) (take last.old xs) }
-    ensures first { first.new ≤ last.new }
-    ensures last { last.new ≤ last.old }
-{
-    // Read for the sum: a number that is read is within its type.
-    let _last = *last;
-    if *first + 1 == *last {
-        *first = 0;
-        *last = 0;
-    } else {
-        *first += 1;
     }
 }
 

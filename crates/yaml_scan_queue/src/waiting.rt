@@ -1,10 +1,8 @@
 //! The lexemes that wait, and the tokens that they are spelled out in.
 
-ghost use Rattle.std.specs.Prelude.{◌≡◌, ◌&&◌, ◌==◌, if◌then◌else◌, true, Some, None, option_map, ℕ, List};
+ghost use Rattle.std.specs.Prelude.{◌≡◌, ◌+◌, ◌^◌, ◌<◌, Bool, Some, ℕ, List};
 ghost use Rattle.yaml_scan_slot.specs.Slots.{Extra, body_by};
-ghost use Rattle.yaml_scan_queue.specs.Front.{front_at, key_count, opens_number, start_at};
-ghost use Rattle.yaml_scan_model.specs.Tokens.{key};
-ghost use Rattle.yaml_scan_queue.specs.Fronted.{token_before};
+ghost use Rattle.yaml_scan_queue.specs.Front.{front_at, front_count, key_count, start_at, start_count};
 ghost use Rattle.yaml_scan_queue.specs.Waits.{kept_of, keyed};
 
 use std::alloc::Global;
@@ -72,54 +70,60 @@ impl Waiting {
         self.opens = opens;
     }
 
-    /// The token in front of its own one, where `given` tokens were taken: BLOCK-END tokens, a block start, KEY.
-    pub fn before(&self, given: usize) -> Option<Before>
-        ensures { option_map token_before result ≡ front_at (kept_of self.now) given }
+    /// How many tokens stand in front of its own one: BLOCK-END tokens, a block start, KEY.
+    // Inlined: two sums, of which the first is of two bytes.
+    #[inline(always)]
+    pub fn fronts(&self) -> usize
+        requires { front_count (kept_of self.now) < 2 ^ 64 }
+        ensures { result ≡ front_count (kept_of self.now) }
+    {
+        self.ends + (start_number(self.opens) + key_number(self.key)) as usize
+    }
+
+    /// The kind of the token in front of its own one, where `given` tokens were taken.
+    // A kind, and no token: a token that is moved is copied whole.
+    // Inlined: it is called at one place.
+    #[inline(always)]
+    pub fn kind_before(&self, given: usize) -> yaml_token_type_t
+        requires { given < front_count (kept_of self.now) }
+        ensures { (x y : List ℕ) → (e : Extra)
+            → front_at (kept_of self.now) given ≡ Some (body_by result x y e) }
     {
         if given < self.ends {
-            return Some(Before::BlockEnd);
+            return yaml_token_type_t::YAML_BLOCK_END_TOKEN;
         }
-        if stands_alone(self.opens, self.key) {
-            return None;
+        if given == self.ends {
+            return first_kind(self.opens);
         }
-        start(self.opens, self.key, given - self.ends)
+        yaml_token_type_t::YAML_KEY_TOKEN
     }
 }
 
-/// A token in front of a lexeme's own.
-// A name, and no token: a token that is moved is copied whole.
-#[derive(Clone, Copy)]
-pub enum Before {
-    BlockEnd,
-    BlockSequenceStart,
-    BlockMappingStart,
-    Key,
-}
-
-impl Before {
-    /// That token's kind.
-    pub fn kind(self) -> yaml_token_type_t
-        ensures { (x y : List ℕ) → (e : Extra) → body_by result x y e ≡ token_before self }
-    {
-        match self {
-            Before::BlockEnd => yaml_token_type_t::YAML_BLOCK_END_TOKEN,
-            Before::BlockSequenceStart => yaml_token_type_t::YAML_BLOCK_SEQUENCE_START_TOKEN,
-            Before::BlockMappingStart => yaml_token_type_t::YAML_BLOCK_MAPPING_START_TOKEN,
-            Before::Key => yaml_token_type_t::YAML_KEY_TOKEN,
-        }
-    }
-}
-
-/// A number that is 0 where nothing is opened.
-// Inlined: it is the number of the variant.
+/// The kind of the first token behind the levels that a lexeme closes: the block start, or else KEY.
+// Inlined: it is called at one place.
 #[inline(always)]
-fn opens_number(opens: Opens) -> u8
-    ensures { result ≡ opens_number opens }
+fn first_kind(opens: Opens) -> yaml_token_type_t
+    ensures { (x y : List ℕ) → (e : Extra) → (is_key : Bool)
+        → 0 < start_count opens + key_count is_key
+        → start_at opens is_key 0 ≡ Some (body_by result x y e) }
+{
+    match opens {
+        Opens::Nothing => yaml_token_type_t::YAML_KEY_TOKEN,
+        Opens::Sequence => yaml_token_type_t::YAML_BLOCK_SEQUENCE_START_TOKEN,
+        Opens::Mapping => yaml_token_type_t::YAML_BLOCK_MAPPING_START_TOKEN,
+    }
+}
+
+/// How many block starts stand in front of a lexeme's own token.
+// Inlined: a comparison of the number of the variant.
+#[inline(always)]
+fn start_number(opens: Opens) -> u8
+    ensures { result ≡ start_count opens }
 {
     match opens {
         Opens::Nothing => 0,
         Opens::Sequence => 1,
-        Opens::Mapping => 2,
+        Opens::Mapping => 1,
     }
 }
 
@@ -130,48 +134,4 @@ fn key_number(is_key: bool) -> u8
     ensures { result ≡ key_count is_key }
 {
     if is_key { 1 } else { 0 }
-}
-
-/// Whether neither block start nor KEY stands in front of a lexeme's own token, as mostly.
-// Inlined: the sum of two numbers is compared with 0, where two tests would each be made into a bool.
-#[inline(always)]
-fn stands_alone(opens: Opens, is_key: bool) -> bool
-    ensures { result ≡ true → (taken : ℕ) → start_at opens is_key taken ≡ None }
-{
-    opens_number(opens) + key_number(is_key) == 0
-}
-
-/// The block start, and then KEY, behind so many of them.
-// Inlined: it is called at one place.
-#[inline(always)]
-fn start(opens: Opens, is_key: bool, taken: usize) -> Option<Before>
-    ensures { option_map token_before result ≡ start_at opens is_key taken }
-{
-    match opens {
-        Opens::Nothing => key(is_key, taken == 0),
-        Opens::Sequence => {
-            if taken == 0 {
-                return Some(Before::BlockSequenceStart);
-            }
-            key(is_key, taken - 1 == 0)
-        }
-        Opens::Mapping => {
-            if taken == 0 {
-                return Some(Before::BlockMappingStart);
-            }
-            key(is_key, taken - 1 == 0)
-        }
-    }
-}
-
-/// KEY, where it is its turn.
-// Inlined: a comparison.
-#[inline(always)]
-fn key(is_key: bool, here: bool) -> Option<Before>
-    ensures { option_map token_before result ≡ (if is_key && here then Some key else None) }
-{
-    if is_key && here {
-        return Some(Before::Key);
-    }
-    None
 }

@@ -1,9 +1,11 @@
-use Rattle.std.proofs.Common.{◌≡◌, ◌-◌, suc, sym, arith}
-use Rattle.yaml_scan_machine.proofs.SafeLemmas.{indent_take, indent_none}
+use Rattle.std.proofs.Common.{◌≡◌, ◌-◌, suc, refl, arith}
+use Rattle.yaml_scan_machine.proofs.Words.{indent}
+use Rattle.yaml_scan_machine.proofs.SafeLemmas.{indent_take}
 use Rattle.yaml_scan_machine.proofs.levels.innermost.Goals as goal
 
 pub returns-then-n-eq0 : goal.returns-then-n-eq0
-returns-then-n-eq0 c = rw c.if-n-eq0.true (sym (indent_none c.args.columns.now))
+unfolding indent
+returns-then-n-eq0 c = rw c.if-n-eq0.true refl
 
 pub returns : goal.returns
 returns c =

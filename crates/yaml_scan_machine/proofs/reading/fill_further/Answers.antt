@@ -1,7 +1,7 @@
-use Rattle.std.proofs.Common.{◌+◌, ◌<◌, ◌≤◌, length, sym, ◌∙◌, arith}
-use Rattle.yaml_scan_machine.proofs.Words.{fault_of}
+use Rattle.std.proofs.Common.{◌≡◌, ◌+◌, ◌<◌, ◌≤◌, List, length, sym, ap, ◌∙◌, arith}
+use Rattle.yaml_scan_machine.proofs.Words.{Waiting, fault_of, is_ready, ready_in}
 use Rattle.yaml_scan_machine.proofs.ComesLemmas.{wants_more}
-use Rattle.yaml_scan_machine.proofs.FoundLemmas.{ReadsFrom, reads_paused, steps_back, steps_end, steps_on, still_stands}
+use Rattle.yaml_scan_machine.proofs.FoundLemmas.{ReadsFrom, reads_rewound, steps_back, steps_end, steps_on, still_stands}
 use Rattle.yaml_scan_machine.proofs.reading.fill_further.Goals.{Else-not-read_one_more}
 use Rattle.yaml_scan_machine.proofs.reading.fill_further.Goals as goal
 
@@ -15,8 +15,15 @@ stepped c = steps_on c.args.machine.now c.steps.machine c.read_one_more.new.mach
 pub steps-init : goal.steps-init
 steps-init c =
     let m = c.args.machine.now in
+    let q = c.rewind.new.self in
     let wants = wants_more m c.requires.stands c.requires.sought in
-    record { from = reads_paused m (m.dropped + m.ahead) c.requires.stands c.requires.started; wants = record { few = wants.few; needed = wants.needed }; enough = omega arith; some = c.requires.some }
+    let ready : is_ready record m { enough = m.dropped + m.ahead; waiting = q } ≡ is_ready m = ap (λ (ws : List Waiting). ready_in m.dropped m.settled m.given ws) c.rewind.ensures.items in
+    record {
+      from = reads_rewound m (m.dropped + m.ahead) q c.rewind.ensures.items c.rewind.ensures.slots c.requires.stands c.requires.started;
+      wants = record { few = wants.few; needed = λ none. ready ∙ wants.needed none };
+      enough = omega arith;
+      some = omega (arith, c.requires.some, ap (λ (ws : List Waiting). length ws) c.rewind.ensures.items);
+    }
 
 pub steps-preserved-else-has_token_waiting : goal.steps-preserved-else-has_token_waiting
 steps-preserved-else-has_token_waiting c =

@@ -1,10 +1,11 @@
 use Rattle.std.proofs.Common.{◌≡◌, ◌∙◌, ◌<◌, ℕ, inl, inr, false, refl, ap, subst, sym, List, [], ◌∷◌, ◌++◌, ◌+◌, arith, get_or, length}
 use Rattle.std.proofs.lemmas.Bool.{cases_lt}
-use Rattle.std.proofs.lemmas.List.{length-append}
+use Rattle.std.proofs.lemmas.List.{length-append, nil_from_length}
 use Rattle.yaml_scan_machine.proofs.Words.{Key, get_or_append_left, get_or_default, stack_of}
 use Rattle.yaml_scan_machine.specs.declared.keys.Keys.{Keys}
 use Rattle.yaml_scan_machine.specs.Candidates.{IsDue, IsFirst}
-use Rattle.yaml_scan_machine.proofs.KeysLemmas.{due_first, due_kept, first_moved, forgotten_turns, no_keys, opened_turns}
+use Rattle.yaml_scan_machine.proofs.KeysLemmas.{due_first, due_kept, first_moved}
+use Rattle.yaml_scan_machine.proofs.CandidatesLemmas.{opened_turns}
 use Rattle.yaml_scan_machine.proofs.keys.Keys.open.Goals.{After-tell_due}
 use Rattle.yaml_scan_machine.proofs.keys.Keys.open.Goals as goal
 
@@ -36,12 +37,10 @@ stays c i low =
 pub returns-clause-turns : goal.returns-clause-turns
 returns-clause-turns c =
     let at = (goal.at.returns-clause-turns c).After-tell_due in
-    let s = stack_of c.args.self.now in
-    let f = stack_of c.spare.new.self in
     let m = stack_of c.save.new.self in
     let k : Key = record m.innermost { possible = false } in
-    let t = stack_of c.tell_due.new.self in
-    forgotten_turns c.args.lexeme c.args.number (λ n. n + 1) s f t c.spare.ensures.forgets (opened_turns c.args.lexeme c.args.number f m t k c.save.ensures.turns refl (ap stack_of c.tell_due.ensures.same ∙ ap (λ (x : List Key). record { gone = m.gone; outer = x; innermost = k; stale = m.stale }) (longer at)))
+    let turns = opened_turns c.args.lexeme c.args.number (stack_of c.spare.new.self) m (stack_of c.tell_due.new.self) k c.save.ensures.turns refl (ap stack_of c.tell_due.ensures.same ∙ ap (λ (x : List Key). record { gone = m.gone; outer = x; innermost = k; stale = m.stale }) (longer at)) in
+    λ n h p a. turns n h p (c.spare.ensures.forgets n h p a)
 
 pub returns-clause-first : goal.returns-clause-first
 returns-clause-first c = λ is.
@@ -56,6 +55,6 @@ returns-clause-due c = λ is.
     subst (λ (k : Keys). IsDue k) (sym c.tell_due.ensures.same) (
     elim (cases_lt 0 (length m.outer.items)) as (λ (x : _). IsDue (pushed at)) [
       | inl some ↦ due_kept m (pushed at) (c.tell_due.ensures.more (omega (arith, some, one_more at))) (λ low. (some, refl, stays at 0 some)) (c.save.ensures.due (c.spare.ensures.due is))
-      | inr none ↦ due_first (pushed at) m.innermost (longer at ∙ ap (λ (ks : List Key). ks ++ m.innermost ∷ []) (no_keys m.outer.items (omega (arith, none)))) (c.tell_due.ensures.one (omega (arith, none, one_more at)))
+      | inr none ↦ due_first (pushed at) m.innermost (longer at ∙ ap (λ (ks : List Key). ks ++ m.innermost ∷ []) (nil_from_length m.outer.items (omega (arith, none)))) (c.tell_due.ensures.one (omega (arith, none, one_more at)))
     ]
     )

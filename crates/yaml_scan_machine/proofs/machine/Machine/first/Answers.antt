@@ -1,5 +1,5 @@
-use Rattle.std.proofs.Common.{◌≡◌, ℕ, ◌<◌, length, Option, sym, ap, subst, arith}
-use Rattle.yaml_scan_machine.proofs.Words.{IfSome, yaml_mark_t, text_bytes, Lexeme, history_of, IsPlace, length-map, Waiting, kept_of}
+use Rattle.std.proofs.Common.{◌≡◌, length, ap, arith}
+use Rattle.yaml_scan_machine.proofs.Words.{text_bytes, Lexeme, history_of, length-map, Waiting, kept_of}
 use Rattle.yaml_scan_machine.proofs.SafeLemmas.{mark_column}
 use Rattle.yaml_scan_machine.proofs.KindLemmas.{first_gives, leaves_none}
 use Rattle.yaml_scan_machine.proofs.machine.Machine.first.Goals as goal
@@ -19,12 +19,10 @@ returns-clause-safe c =
     let low = mark_column (text_bytes m.text) m.place (c.requires.stands.place c.requires.more) in
     let column : c.stream_start.result.lexeme.start.column ≡ m.place.column = ap (λ (x : Lexeme). x.start.column) l in
     let depth : c.stream_start.result.lexeme.depth ≡ 0 = ap (λ (x : Lexeme). x.depth) l in
-    let AtKey : Option ℕ → Type 0 = λ o. IfSome o (λ i. i < length m.waiting.items) in
-    let AtPlace : yaml_mark_t → Type 0 = λ y. IsPlace (text_bytes m.text) y in
     record {
       column = omega (arith, column, low);
       depth = omega (arith, depth, c.requires.stands.depth, c.requires.none);
-      key = subst AtKey (sym c.stream_start.ensures.key) tt;
+      key = rw c.stream_start.ensures.key tt;
       left = leaves_none m c.stream_start.result.lexeme.kind c.stream_start.result.lexeme.depth c.stream_start.result.lexeme.start.column c.stream_start.result.left c.requires.stands.shown none c.stream_start.ensures.left depth;
-      place = λ e. subst AtPlace (sym (ap (λ (x : Lexeme). x.reached) l)) (c.requires.stands.place c.requires.more);
+      place = λ e. rw l (c.requires.stands.place c.requires.more);
     }

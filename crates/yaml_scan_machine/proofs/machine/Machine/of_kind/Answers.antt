@@ -1,5 +1,5 @@
-use Rattle.std.proofs.Common.{◌≡◌, ◌≤◌, ◌+◌, ℕ, length, nat_lt, Some, None, Ok, sym, ap, subst, ◌∙◌}
-use Rattle.yaml_scan_machine.proofs.Words.{mark_at, yaml_mark_t, text_bytes, Gap, Kind, Lexeme, is_end, placed, Next, allowed_behind, colon_missing, of_kind, unless_lost, Answer, Stands, fields_of, history_of, read, GivesNext, Stops, lost}
+use Rattle.std.proofs.Common.{◌≡◌, ◌+◌, ℕ, length, Some, None, Ok, sym, ap, subst, ◌∙◌}
+use Rattle.yaml_scan_machine.proofs.Words.{mark_at, yaml_mark_t, text_bytes, Gap, Lexeme, is_end, placed, Next, allowed_behind, colon_missing, of_kind, unless_lost, Answer, fields_of, history_of, read, GivesNext, Stops, lost}
 use Rattle.yaml_scan_history.specs.Next.{not_allowed_there}
 use Rattle.yaml_scan_laws_order.proofs.NextForward.{placed_same}
 use Rattle.yaml_scan_machine.proofs.KindLemmas.{kind_at_place, kind_misplaced, misplaced_is, fault_stops, ok_gives, required_saved, placed_index, leaves_ends}
@@ -48,11 +48,7 @@ read-requires-clause-start g c = λ e.
     ap (λ (x : Lexeme). x.start) value ∙ placed_same c.args.spot.kind c.args.spot.mark (sym (ap (λ (x : Lexeme). is_end x.kind) value) ∙ e) ∙ c.requires.mark
 
 pub read-requires-clause-kind : goal.read-requires-clause-kind
-read-requires-clause-kind g c =
-    let value = c.lexeme_at-lexeme.ensures.value in
-    let K : Kind → Type 0 = λ k. Stands k (nat_lt 0 c.args.self.now.depth) c.args.reader.now.text c.args.reader.now.at in
-    let D : ℕ → Type 0 = λ d. Stands c.lexeme_at-lexeme.result.kind (nat_lt 0 d) c.args.reader.now.text c.args.reader.now.at in
-    subst D (sym (ap (λ (x : Lexeme). x.depth) value)) (subst K (sym (ap (λ (x : Lexeme). x.kind) value)) c.requires.kind)
+read-requires-clause-kind g c = rw c.lexeme_at-lexeme.ensures.value c.requires.kind
 
 pub read-requires-clause-saved : goal.read-requires-clause-saved
 read-requires-clause-saved g c = required_saved c.args.spot.kind (placed c.args.spot.kind c.args.spot.mark) c.args.spot.allowed c.args.self.now.depth c.args.self.now.levels c.lexeme_at-lexeme.result c.lexeme_at-lexeme.ensures.value
@@ -63,11 +59,8 @@ returns-in-Ok-clause-safe g c =
     let k = c.args.spot.kind in
     let value = c.lexeme_at-lexeme.ensures.value in
     let e = c.in-Ok.ensures.safe in
-    let n : ℕ = length (text_bytes m.text) in
-    let low : c.lexeme_at-lexeme.result.start.column ≤ n = c.lexeme_at-lexeme.ensures.column in
-    let At : yaml_mark_t → Type 0 = λ y. y.column ≤ n in
     record {
-      column = subst At (sym e.start) low;
+      column = rw e.start c.lexeme_at-lexeme.ensures.column;
       depth = e.depth ∙ ap (λ (x : Lexeme). x.depth) value;
       key = c.key-key.ensures.inside;
       left = leaves_ends k c.args.spot.mark c.args.spot.allowed m.depth m.levels c.left_at-left.result (text_bytes m.text) c.lexeme_at-lexeme.result c.in-Ok.lexeme value e c.left_at-left.ensures;

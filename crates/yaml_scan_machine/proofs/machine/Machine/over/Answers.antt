@@ -1,13 +1,12 @@
-use Rattle.std.proofs.Common.{◌≡◌, ℕ, List, refl, sym, ap, subst, arith, ◌+◌, length}
-use Rattle.yaml_scan_machine.proofs.Words.{map, text_bytes, yaml_encoding_t, remaining, scanned, left_from, IsNarrow, zero_mark, stack_of, Waiting, kept_of}
-use Rattle.yaml_scan_machine.proofs.SafeLemmas.{start_place, narrow_none}
+use Rattle.std.proofs.Common.{◌≡◌, ℕ, List, refl, ap, arith, length}
+use Rattle.yaml_scan_machine.proofs.Words.{map, text_bytes, yaml_encoding_t, remaining, scanned, left_from, zero_mark, stack_of, Waiting, kept_of}
+use Rattle.yaml_scan_machine.proofs.SafeLemmas.{start_place}
 use Rattle.yaml_scan_machine.proofs.GivenLemmas.{shown_start, given_none}
 use Rattle.yaml_scan_machine.proofs.KeysLemmas.{start_keys}
 use Rattle.yaml_scan_machine.proofs.machine.Machine.over.Goals as goal
 
 pub returns-clause-stands : goal.returns-clause-stands
 returns-clause-stands c =
-    let P : List ℕ → Type 0 = λ xs. IsNarrow (length (text_bytes c.args.text) + 1) xs in
     record {
       long = (let same : length c.as_slice-length.result.now ≡ length (text_bytes c.args.text) = ap (λ (t : List ℕ). length t) c.as_slice-length.ensures in omega (arith, same));
       few = rw c.new.ensures.items (omega arith);
@@ -16,7 +15,7 @@ returns-clause-stands c =
       taken = omega arith;
       settled = omega arith;
       depth = omega arith;
-      levels = subst P (sym c.new-3.ensures) (narrow_none (length (text_bytes c.args.text) + 1));
+      levels = rw c.new-3.ensures (λ k. omega arith);
       inside = λ k w lt. absurd (let bad = rw c.new.ensures.items at lt in omega (arith, bad));
       place = λ _. start_place (text_bytes c.args.text);
       begun = λ off. c.new.ensures.items;
@@ -26,7 +25,7 @@ returns-clause-stands c =
       first = c.new-2.ensures.first;
       due = c.new-2.ensures.due;
       given = given_none 0 0 (map (λ (x : Waiting). kept_of x) c.new.result.items);
-      shown = shown_start c.stream_encoding.result (text_bytes c.args.text) c.new.result.items c.new-3.result (stack_of c.new-2.result) c.new.ensures.items c.new-3.ensures (start_keys (stack_of c.new-2.result) zero_mark c.new-2.ensures.gone c.new-2.ensures.outer c.new-2.ensures.none c.new-2.ensures.stale);
+      shown = shown_start _ (ap (λ (ws : List Waiting). map (λ (x : Waiting). kept_of x) ws) c.new.ensures.items) c.new-3.ensures refl refl refl refl refl refl (start_keys (stack_of c.new-2.result) zero_mark c.new-2.ensures.gone c.new-2.ensures.outer c.new-2.ensures.none c.new-2.ensures.stale);
     }
 
 pub returns-clause-left : goal.returns-clause-left

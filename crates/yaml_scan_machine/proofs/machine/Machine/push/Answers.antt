@@ -2,7 +2,8 @@ use Rattle.std.proofs.Common.{sym, ap, subst, ◌∙◌}
 use Rattle.std.specs.Prelude.{OnErr, OnOk}
 use Rattle.yaml_scan_machine.proofs.Words.{Machine, IsMachine, ReadsMore, StaysShort, WantsMore}
 use Rattle.yaml_scan_machine.specs.Stood.{ComesNext}
-use Rattle.yaml_scan_machine.proofs.PushLemmas.{comes_paused, more_paused, on_ok_by, paused}
+use Rattle.yaml_scan_machine.proofs.PushLemmas.{comes_paused, more_paused, paused}
+use Rattle.yaml_scan_machine.proofs.KeysLemmas.{on_ok}
 use Rattle.yaml_scan_machine.proofs.machine.Machine.push.Goals as goal
 
 pub put-requires : goal.put-requires
@@ -23,7 +24,7 @@ returns-clause-ok c =
     let m = c.args.self.now in
     let new = c.put.new.self in
     let n = c.pause_behind.new.self.enough in
-    on_ok_by c.put.result (IsMachine new × ReadsMore (record m { enough = n }) new) (IsMachine new × ReadsMore m new) (λ (i, r). (i, more_paused m new n c.pause_behind.ensures.lesser r)) (subst (λ (y : Machine). OnOk c.put.result (IsMachine new × ReadsMore y new)) c.pause_behind.ensures.same c.put.ensures.ok)
+    on_ok c.put.result (IsMachine new × ReadsMore (record m { enough = n }) new) (IsMachine new × ReadsMore m new) (λ (i, r). (i, more_paused m new n c.pause_behind.ensures.lesser r)) (subst (λ (y : Machine). OnOk c.put.result (IsMachine new × ReadsMore y new)) c.pause_behind.ensures.same c.put.ensures.ok)
 
 pub returns-clause-few : goal.returns-clause-few
 returns-clause-few c = subst (λ (y : Machine). OnErr c.put.result (StaysShort y c.put.new.self)) c.pause_behind.ensures.same c.put.ensures.few

@@ -17,12 +17,6 @@ over-requires-clause-few c = c.requires.ahead
 
 pub returns-in-Ok-clause-keeps : goal.returns-in-Ok-clause-keeps
 returns-in-Ok-clause-keeps c =
-    let i = c.requires in
-    let none = ap (λ (ws : List Waiting). length ws) (i.begun c.if-self.false) in
-    let fresh = i.fresh c.if-self.false in
-    record {
-      setting = c.over.ensures.setting;
-      bytes = c.over.ensures.bytes;
-      ahead = c.over.ensures.ahead;
-      read = omega (arith, none, fresh, c.over.ensures.dropped, c.over.ensures.waiting);
-    }
+    let long = ap (λ (ws : List Waiting). length ws) (c.requires.begun c.if-self.false) in
+    let e = c.over.ensures in
+    record { setting = e.setting; bytes = e.bytes; ahead = e.ahead; read = omega (arith, long, c.requires.fresh c.if-self.false, e.dropped, e.waiting) }

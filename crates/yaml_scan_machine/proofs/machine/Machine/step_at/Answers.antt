@@ -1,9 +1,7 @@
-use Rattle.std.proofs.Common.{sym, subst}
-use Rattle.yaml_scan_machine.proofs.Words.{Kind, MayReadAt}
 use Rattle.yaml_scan_machine.proofs.machine.Machine.step_at.Goals as goal
 
 pub of_rare-requires : goal.of_rare-requires
-of_rare-requires g c = subst (λ (k : Kind). MayReadAt c.args.self.now k c.args.spot.now) (sym c.kind-kind.ensures) c.requires
+of_rare-requires g c = rw c.kind-kind.ensures c.requires
 
 pub required_where-required-requires-clause-stands :
     goal.required_where-required-requires-clause-stands

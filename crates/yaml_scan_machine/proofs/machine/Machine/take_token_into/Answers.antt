@@ -3,16 +3,22 @@ use Rattle.yaml_scan_machine.proofs.Words.{map, text_bytes, Token, token_in_slot
 use Rattle.yaml_scan_slot.specs.Slots.{body_in_slot}
 use Rattle.yaml_scan_machine.proofs.SafeLemmas.{inside_rest}
 use Rattle.yaml_scan_machine.proofs.GivenLemmas.{shown_popped, first_is, given_none, own_settled}
-use Rattle.yaml_scan_machine.proofs.TakeLemmas.{first_waits, hands_first, popped_waits, gives_front, gives_own, given_room, stands_more}
+use Rattle.yaml_scan_machine.proofs.TakeLemmas.{first_fits, first_waits, hands_first, popped_waits, gives_front, gives_own, given_room, stands_more}
 use Rattle.yaml_scan_machine.proofs.ComesLemmas.{left_gives, ready_started}
 use Rattle.yaml_scan_machine.proofs.machine.Machine.take_token_into.Goals as goal
 
-pub pop_token-requires : goal.pop_token-requires
-pop_token-requires c =
+pub pop_token-requires-clause-some : goal.pop_token-requires-clause-some
+pop_token-requires-clause-some c =
     let m = c.args.self.now in
     let (front, rest, items) = first_waits m.dropped m.settled m.given m.waiting.items c.requires.ready in
     let len : length m.waiting.items ≡ length rest + 1 = ap (λ (ws : List Waiting). length ws) items ∙ omega arith in
     omega (arith, len)
+
+pub pop_token-requires-clause-given : goal.pop_token-requires-clause-given
+pop_token-requires-clause-given c w = (first_fits c.args.self.now c.requires.stands c.requires.ready w).0
+
+pub pop_token-requires-clause-room : goal.pop_token-requires-clause-room
+pop_token-requires-clause-room c w = (first_fits c.args.self.now c.requires.stands c.requires.ready w).1
 
 pub overflow_add-self-else-pop_token : goal.overflow_add-self-else-pop_token
 overflow_add-self-else-pop_token c =

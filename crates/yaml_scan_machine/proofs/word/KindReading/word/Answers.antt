@@ -1,6 +1,6 @@
 use Rattle.std.proofs.Common.{◌≡◌, Some, Ok, sym, ap, subst, ◌∙◌, arith}
 use Rattle.yaml_scan_machine.proofs.Words.{option_map, body_of, indicator_at, ReadsWord}
-use Rattle.yaml_scan_machine.proofs.WordLemmas.{indicator_stands, unbroken, indicator_word}
+use Rattle.yaml_scan_machine.proofs.WordLemmas.{indicator_stands, indicator_word, plain_byte}
 use Rattle.yaml_scan_machine.proofs.word.KindReading.word.Goals.{In-Some}
 use Rattle.yaml_scan_machine.proofs.word.KindReading.word.Goals as goal
 
@@ -11,8 +11,8 @@ told c = sym c.indicator_body.ensures ∙ ap (option_map body_of) c.in-Some.is
 pub read_indicator-requires : goal.read_indicator-requires
 read_indicator-requires c =
     let is = told (goal.at.read_indicator-requires c).In-Some in
-    let s = indicator_stands c.args.self.now (body_of c.in-Some.body) c.args.at.flow c.args.reader.now.text c.args.reader.now.at is c.requires.stands in
-    record { some = omega (arith, s.low); no_break = unbroken c.args.self.now c.args.reader.now.text c.args.reader.now.at s; ascii = s.high }
+    let (low, high) = indicator_stands c.args.self.now (body_of c.in-Some.body) c.args.at.flow c.args.reader.now.text c.args.reader.now.at is c.requires.stands in
+    record { some = omega (arith, low); no_break = plain_byte _ _ _ low high; ascii = high }
 
 pub returns-in-Some : goal.returns-in-Some
 returns-in-Some c =

@@ -1,5 +1,5 @@
 -- The token that an adapter gives, and the texts of what is left.
-use Rattle.std.proofs.Common.{◌≡◌, ◌≤◌, ℕ, Bool, true, false, true≢false, List, [], ◌∷◌, Option, Some, None, Result, Ok, Err, refl, sym, inl, inr, All, ap, ◌∙◌, arith}
+use Rattle.std.proofs.Common.{◌≡◌, ◌≤◌, ℕ, false, true≢false, List, [], ◌∷◌, Option, Some, None, Result, Ok, Err, refl, sym, subst, inl, inr, All, ap, ◌∙◌, arith}
 use Rattle.std.proofs.lemmas.List.Elements.{All-nil, All-head, All-tail}
 use Rattle.yaml_scan.specs.declared.yaml_encoding_t.{yaml_encoding_t}
 use Rattle.yaml_scan.specs.Tokens.{Token, no_token}
@@ -12,13 +12,13 @@ use Rattle.yaml_scan.proofs.CompleteLemmas.{decoded_spells}
 use Rattle.yaml_round_laws_adapted.specs.scan_laws_texts.Utf8Texts.{HasTexts}
 use Rattle.yaml_round_laws_adapted.proofs.Decoded.{spelled_utf8}
 use Rattle.yaml_round_laws_adapted.proofs.TokensUtf8.{remaining_sound}
-use Rattle.yaml_scan.specs.scan_history.Remaining.{Remaining}
+use Rattle.yaml_scan.specs.scan_history.Remaining.{Remaining, nothing}
 use Rattle.yaml_scan.specs.Scanned.{scanned_in, scanned}
 use Rattle.yaml_scan.specs.Session as session
-use Rattle.yaml_scan.specs.Session.{View, HoldsLittle, begun, first_of, others_of, behind_first}
+use Rattle.yaml_scan.specs.Session.{View, Takes, HoldsLittle, EndsAnswered, begun, ended, first_of, others_of, behind_first}
 use Rattle.yaml_parse_model.specs.Source.{front_of, rest_of, MayAnswer, HasMore, GivesToken, GivesFault}
-use Rattle.yaml_round_adapter.specs.Adapted.{adapted}
-use Rattle.yaml_round_adapter.specs.Adapter.{Adapter, TakesText, Stops, IsStep, remaining_of}
+use Rattle.yaml_round_adapter.specs.Adapted.{adapted, spells_text, tag_fault}
+use Rattle.yaml_round_adapter.specs.Adapter.{TakesText, Stops}
 use Rattle.yaml_round_laws_adapted.proofs.AdaptedLemmas.{taken, refused, failed}
 
 abbrev pub HaveTexts : Remaining → Type 0
@@ -71,7 +71,7 @@ same_more [] (Some f) more = tt
 same_more (t ∷ ts) fault more = tt
 
 -- a token whose tag is UTF-8 is given
-gives_text : (old new : View) (t : Token) → HaveTexts old.remaining → TakesText old t new
+pub gives_text : (old new : View) (t : Token) → HaveTexts old.remaining → TakesText old t new
     → GivesToken (adapted old.remaining).tokens (adapted old.remaining).fault t
     (adapted new.remaining).tokens (adapted new.remaining).fault
 gives_text old new t texts g =
@@ -83,15 +83,36 @@ gives_text old new t texts g =
     (let own : HasTexts (first_of old.remaining.tokens).body = first_texts old.remaining.tokens texts in rw g.takes.token own)
     g.text
 
-abbrev pub adapter_by : View → Bool → Adapter
-adapter_by s over = record { session = s; over = over }
+-- Where a token's tag isn't UTF-8 no fault was answered: behind one comes the empty token, which has none.
+unanswered : (old : View) (t : Token) (a : Option Fault) → old.answered ≡ a → EndsAnswered old
+    → t ≡ first_of old.remaining.tokens → spells_text t.body ≡ false → old.answered ≡ None
+unanswered old t None e over first bytes = e
+unanswered old t (Some f) e over first bytes =
+    let empty : t ≡ no_token = first ∙ ap (λ (c : Remaining). first_of c.tokens) (over f e) in
+    absurd (true≢false (sym (ap (λ (x : Token). spells_text x.body) empty) ∙ bytes))
 
-pub gives_token : (over : Bool) (old new : View) (was : Adapter) (t : Token) → over ≡ false
-    → adapter_by old over ≡ was → HaveTexts old.remaining → TakesText old t new
-    → GivesToken (remaining_of was).tokens (remaining_of was).fault t
-    (remaining_of (adapter_by new over)).tokens (remaining_of (adapter_by new over)).fault
-gives_token true old new was t o e texts g = absurd (true≢false o)
-gives_token false old new was t o e texts g = rw (← e) (gives_text old new t texts g)
+-- a token whose tag isn't UTF-8, and the session that its fault ended
+pub other_bytes : (old behind new : View) (t : Token) (f : Fault) → Takes old t behind
+    → (spells_text t.body ≡ false) × (f ≡ tag_fault t.start_mark) → new ≡ ended behind f
+    → Stops old f new
+other_bytes old behind new t f g (bytes, told) ends = inr record {
+  token = t;
+  behind = behind;
+  takes = g;
+  bytes = bytes;
+  told = told;
+  once = unanswered old t old.answered refl g.over g.token bytes;
+  ends = ends;
+}
+
+-- behind a fault nothing is left
+stopped : (old new : View) (f : Fault) → Stops old f new → new.remaining ≡ nothing
+stopped old new f (inl r) = r.over
+stopped old new f (inr b) = ap (λ (v : View). v.remaining) b.ends
+
+-- where nothing is left
+pub no_texts : (c : Remaining) → c ≡ nothing → HaveTexts c
+no_texts c e = subst HaveTexts (sym e) (All-nil (λ t. HasTexts t.body))
 
 -- the session's own fault is given, or that of the next token's tag
 gives_stop : (old new : View) (f : Fault) → Stops old f new
@@ -99,33 +120,7 @@ gives_stop : (old new : View) (f : Fault) → Stops old f new
 gives_stop old new f (inl r) = failed old.remaining f (same_more old.remaining.tokens old.remaining.fault r.more) r.told
 gives_stop old new f (inr b) = rw b.told (refused old.remaining b.token (b.takes.token ∙ first_front old.remaining.tokens) b.bytes)
 
-pub gives_fault : (over : Bool) (old new : View) (was : Adapter) (f : Fault) → over ≡ false
-    → adapter_by old over ≡ was → Stops old f new
-    → GivesFault (remaining_of was).tokens (remaining_of was).fault f [] None
-gives_fault true old new was f o e s = absurd (true≢false o)
-gives_fault false old new was f o e s = rw (← e) (gives_stop old new f s)
-
--- behind a fault the empty token is given
-pub gives_over : (over : Bool) (old : View) (was : Adapter) (t : Token) → over ≡ true
-    → adapter_by old over ≡ was → t ≡ no_token
-    → GivesToken (remaining_of was).tokens (remaining_of was).fault t (remaining_of was).tokens
-    (remaining_of was).fault
-gives_over true old was t o e empty = rw (← e, empty) (record { given = refl; rest = refl; same = refl; may = refl; utf8 = tt })
-gives_over false old was t o e empty = absurd (true≢false (sym o))
-
--- a call as a step of the session: a token, the empty one behind a fault, and a refusal
-pub step_token : (over : Bool) (old new : View) (was : Adapter) (t : Token) → over ≡ false
-    → adapter_by old over ≡ was → TakesText old t new → HoldsLittle new
-    → IsStep was (Ok t) (adapter_by new over)
-step_token true old new was t o e g little = absurd (true≢false o)
-step_token false old new was t o e g little = rw (← e) ((refl, g), little)
-
-pub step_over : (over : Bool) (old : View) (was : Adapter) (t : Token) → over ≡ true
-    → adapter_by old over ≡ was → t ≡ no_token → HoldsLittle old → IsStep was (Ok t) was
-step_over true old was t o e empty little = rw (← e) ((empty, refl), little)
-step_over false old was t o e empty little = absurd (true≢false (sym o))
-
-pub step_fault : (over : Bool) (old new : View) (was : Adapter) (f : Fault) → over ≡ false
-    → adapter_by old over ≡ was → Stops old f new → HoldsLittle new
-    → IsStep was (Err f) (adapter_by new true)
-step_fault over old new was f o e s little = rw (← e) (o, refl, s, little)
+pub gives_fault : (old new : View) (f : Fault) → Stops old f new
+    → GivesFault (adapted old.remaining).tokens (adapted old.remaining).fault f
+    (adapted new.remaining).tokens (adapted new.remaining).fault
+gives_fault old new f s = subst (λ (c : Remaining). GivesFault (adapted old.remaining).tokens (adapted old.remaining).fault f (adapted c).tokens (adapted c).fault) (sym (stopped old new f s)) (gives_stop old new f s)

@@ -1,21 +1,20 @@
 //! The adapter.
 
 ghost use Rattle.std.specs.Prelude.{◌≡◌, true, false};
-ghost use Rattle.yaml_scan.specs.Tokens.{no_token};
 ghost use Rattle.yaml_scan.specs.Slots.{token_in_slot};
 ghost use Rattle.yaml_scan.specs.Faults.{fault_of};
-ghost use Rattle.yaml_scan.specs.Session.{HoldsLittle, begun};
+ghost use Rattle.yaml_scan.specs.Session.{begun};
 ghost use Rattle.yaml_scan.specs.Settled.{most_ahead};
 ghost use Rattle.yaml_scan.specs.Scanned.{scanned};
 ghost use Rattle.yaml_round_adapter.specs.Adapted.{adapted, spells_text};
-ghost use Rattle.yaml_round_adapter.specs.Adapter.{Checks, Adapts, IsStep, is_tag, remaining_of};
+ghost use Rattle.yaml_round_adapter.specs.Adapter.{Checks, IsStep, is_tag, remaining_of};
 
 use crate::refusal::{has_plain_suffix, slot_spells_text, yaml_tag_fault};
 use std::alloc::Global;
 use std::marker::Model;
 use yaml_parse_model::yaml_token_source_t;
 use yaml_scan::{
-    TokenSlot, yaml_encoding_t, yaml_fault_t, yaml_memory_fault, yaml_origin_t,
+    TokenSlot, yaml_encoding_t, yaml_fault_t, yaml_memory_fault, yaml_origin_t, yaml_parser_end,
     yaml_parser_scan_into, yaml_parser_t, yaml_token_t, yaml_token_type_t,
 };
 
@@ -23,14 +22,12 @@ use yaml_scan::{
 #[derive(Drop)]
 pub struct yaml_adapter_t<'a> {
     session: yaml_parser_t<'a>,
-    // A fault was answered: nothing comes behind it.
-    over: bool,
 }
 
 impl<'a> Model for yaml_adapter_t<'a> {
-    ghost use Rattle.yaml_round_adapter.specs.Adapter.{Adapter};
+    ghost use Rattle.yaml_scan.specs.Session.{View};
 
-    ghost Value = { Adapter };
+    ghost Value = { View };
 
     ghost use Rattle.yaml_round_adapter.specs.AdapterView.{adapter_view, IsAdapter};
 
@@ -43,12 +40,11 @@ impl<'a> yaml_adapter_t<'a> {
     /// An adapter over a session of its own, that input's in that encoding, of which nothing is read. What is to come is what is
     /// of the session, up to the first tag that isn't UTF-8.
     pub fn new(alloc: Global, input: &'a [u8], encoding: yaml_encoding_t) -> yaml_adapter_t<'a>
-        ensures begun { result ≡ record { session = begun encoding input.now 0; over = false } }
+        ensures begun { result ≡ begun encoding input.now 0 }
         ensures comes { remaining_of result ≡ adapted (scanned encoding input.now) }
     {
         yaml_adapter_t {
             session: yaml_parser_t::new(alloc, input, encoding),
-            over: false,
         }
     }
 
@@ -59,15 +55,11 @@ impl<'a> yaml_adapter_t<'a> {
         input: &'a [u8],
         encoding: yaml_encoding_t,
     ) -> yaml_adapter_t<'a>
-        ensures begun { result ≡ record {
-          session = begun encoding input.now most_ahead;
-          over = false;
-        } }
+        ensures begun { result ≡ begun encoding input.now most_ahead }
         ensures comes { remaining_of result ≡ adapted (scanned encoding input.now) }
     {
         let session = yaml_parser_t::reading_ahead(alloc, input, encoding);
-        let over = false;
-        yaml_adapter_t { session, over }
+        yaml_adapter_t { session }
     }
 }
 
@@ -167,34 +159,6 @@ fn checked_rare(token: &TokenSlot, fault: &mut yaml_fault_t) -> bool
     false
 }
 
-// The session's next token, or its fault, or that of its tag.
-// Inlined, as its callers are.
-#[inline(always)]
-fn scan_checked(
-    session: &mut yaml_parser_t,
-    token: &mut TokenSlot,
-    fault: &mut yaml_fault_t,
-) -> bool
-    ensures adapts { Adapts session.old session.new result (token_in_slot token.new)
-        (fault_of fault.new) }
-    ensures little { HoldsLittle session.new }
-{
-    if yaml_parser_scan_into(session, token, fault) {
-        checked(token, fault)
-    } else {
-        false
-    }
-}
-
-// Puts the empty token into a slot.
-// Out of line: it is put there behind a fault alone.
-#[inline(never)]
-fn put_empty(token: &mut TokenSlot)
-    ensures { token_in_slot token.new ≡ no_token }
-{
-    token.clear();
-}
-
 impl<'a> yaml_token_source_t for yaml_adapter_t<'a> {
     ghost to_come = { λ a. (remaining_of a).tokens };
 
@@ -215,14 +179,13 @@ impl<'a> yaml_token_source_t for yaml_adapter_t<'a> {
     // Inlined: the parser calls it at one place, for each token. So is what it calls, or that would stay a call.
     #[inline(always)]
     fn next_token_into(&mut self, token: &mut TokenSlot, fault: &mut yaml_fault_t) -> bool {
-        if self.over {
-            put_empty(token);
-            return true;
+        if yaml_parser_scan_into(&mut self.session, token, fault) {
+            if checked(token, fault) {
+                return true;
+            }
+            yaml_parser_end(&mut self.session, fault);
+            return false;
         }
-        if scan_checked(&mut self.session, token, fault) {
-            return true;
-        }
-        self.over = true;
         false
     }
 }

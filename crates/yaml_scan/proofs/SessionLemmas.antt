@@ -15,7 +15,7 @@ use Rattle.yaml_scan_machine.specs.declared.machine.Machine.{Machine}
 use Rattle.yaml_scan_machine.specs.State.{IsShort, IsMachine, is_ready}
 use Rattle.yaml_scan_machine.specs.Left.{left_in}
 use Rattle.yaml_scan_machine.proofs.TakeLemmas.{ready_gives}
-use Rattle.yaml_scan.specs.Session.{View, HasFirst, ReadsNeeded, Takes, Lends, Refuses, ScansInto, MayAnswer, begun, first_of, behind_first, is_settled}
+use Rattle.yaml_scan.specs.Session.{View, HasFirst, ReadsNeeded, Takes, Lends, Refuses, ScansInto, MayAnswer, begun, ended, first_of, behind_first, is_settled}
 use Rattle.yaml_scan_machine.specs.Settled.{open_count}
 use Rattle.yaml_scan_machine.specs.Found.{ReadsAsNeeded, Gives, Lacks, Denies, read_by}
 use Rattle.yaml_scan_machine.proofs.SettledLemmas.{machine_tells}
@@ -120,15 +120,15 @@ own_reads x y None p true after s t m n e off r = cc
 own_reads x y (Some f) p aside after s t m n e off r = cc
 
 -- behind a fault that was answered, the empty token is taken
-pub takes_over : (x y : List ℕ) (o : Option yaml_fault_t) (aside : Bool) (s t : Token) (m : Machine)
-    → is_some o ≡ true → t ≡ no_token → Takes (view_by m o s aside x) t (view_by m o s aside y)
-takes_over x y None aside s t m e empty = cc
-takes_over x y (Some f) aside s t m e empty = record { token = empty; rest = refl; may = refl; same = refl; reads = same_reads (view_by m (Some f) s aside x) (view_by m (Some f) s aside y) refl refl refl refl; over = λ g is. refl }
+pub takes_over : (x : List ℕ) (o : Option yaml_fault_t) (aside : Bool) (s t : Token) (m : Machine)
+    → is_some o ≡ true → t ≡ no_token → Takes (view_by m o s aside x) t (view_by m o s aside x)
+takes_over x None aside s t m e empty = cc
+takes_over x (Some f) aside s t m e empty = record { token = empty; rest = refl; may = refl; same = refl; reads = same_reads (view_by m (Some f) s aside x) (view_by m (Some f) s aside x) refl refl refl refl; over = λ g is. refl; still = λ g is. refl }
 
 -- the token that was put aside is taken
 pub takes_held : (x y : List ℕ) (o : Option yaml_fault_t) (aside : Bool) (s t : Token) (m : Machine)
     → is_some o ≡ false → aside ≡ true → Takes (view_by m o s aside x) s (view_by m o t false y)
-takes_held x y None true s t m e on = record { token = refl; rest = refl; may = tt; same = refl; reads = same_reads (view_by m None s true x) (view_by m None t false y) refl refl refl refl; over = λ g bad. cc }
+takes_held x y None true s t m e on = record { token = refl; rest = refl; may = tt; same = refl; reads = same_reads (view_by m None s true x) (view_by m None t false y) refl refl refl refl; over = λ g bad. cc; still = λ g bad. cc }
 takes_held x y None false s t m e on = cc
 takes_held x y (Some f) aside s t m e on = cc
 
@@ -144,6 +144,7 @@ takes_own x y None false s t m n e off g = record {
   same = refl;
   reads = own_reads x y None None false false s s m n refl refl g.reads;
   over = λ f bad. cc;
+  still = λ f bad. cc;
 }
 takes_own x y None true s t m n e off g = cc
 takes_own x y (Some f) aside s t m n e off g = cc
@@ -169,6 +170,7 @@ takes_none x y None false s t m n e off l = record {
   same = refl;
   reads = own_reads x y None None false false s s m n refl refl l.finishes.reads;
   over = λ g bad. cc;
+  still = λ g bad. cc;
 }
 takes_none x y None true s t m n e off l = cc
 takes_none x y (Some f) aside s t m n e off l = cc
@@ -243,6 +245,12 @@ pub whole_refused : (o : Option yaml_fault_t) (m : Machine) (s t : yaml_token_t)
     → IsWhole m o t true
 whole_refused None m s t f e same empty few = cc
 whole_refused (Some g) m s t f e same empty few = record { machine = λ bad. cc; free = λ bad. cc; over = λ g is. same ∙ empty; idle = λ bad. cc; short = few }
+
+-- a session that a fault ended
+pub ends : (x : List ℕ) (o p : Option yaml_fault_t) (aside after : Bool) (s t : Token) (m : Machine)
+    (f : yaml_fault_t) → p ≡ Some f
+    → view_by m p t after x ≡ ended (view_by m o s aside x) (fault_of f)
+ends x o p aside after s t m f e = ap (λ (q : Option yaml_fault_t). view_by m q t after x) e
 
 -- a session whose token that was put aside is taken
 pub whole_idle : (o : Option yaml_fault_t) (aside : Bool) (m : Machine) (s t : yaml_token_t)

@@ -123,7 +123,7 @@ pub record Refuses (old : View) (f : Fault) (new : View) : Type 0 where
   pub kept : new.answered ≡ Some f
   pub over : new.remaining ≡ nothing
 
--- a token was taken: the first to come
+-- a token was taken: the first to come; behind a fault the empty one, and nothing changes
 pub record Takes (old : View) (t : Token) (new : View) : Type 0 where
   pub token : t ≡ first_of old.remaining.tokens
   pub rest : new.remaining ≡ behind_first old.remaining
@@ -131,6 +131,11 @@ pub record Takes (old : View) (t : Token) (new : View) : Type 0 where
   pub same : new.answered ≡ old.answered
   pub reads : ReadsNeeded old new
   pub over : EndsAnswered old
+  pub still : (f : Fault) → old.answered ≡ Some f → new ≡ old
+
+-- a session that this fault ended: it is kept as the one that was answered, and nothing comes behind it
+abbrev pub ended : View → Fault → View
+ended v f = record v { remaining = nothing; answered = Some f }
 
 -- a token was lent: the first to come, and none is taken
 pub record Lends (old : View) (t : Token) (new : View) : Type 0 where

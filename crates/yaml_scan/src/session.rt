@@ -9,7 +9,7 @@ ghost use Rattle.yaml_scan_slot.specs.Slots.{token_in_slot};
 ghost use Rattle.yaml_scan_model.specs.Faults.{fault_of};
 ghost use Rattle.yaml_scan_model.specs.Rooms.{KeepsFew, rooms_of};
 ghost use Rattle.yaml_scan.specs.contracts.session.yaml_parser_t.{the_row};
-ghost use Rattle.yaml_scan.specs.Session.{HasFirst, ReadsNeeded, Scans, ScansInto, Looks, Shows, Peeks, HoldsLittle, begun, behind_first, is_settled};
+ghost use Rattle.yaml_scan.specs.Session.{HasFirst, ReadsNeeded, Scans, ScansInto, Looks, Shows, Peeks, HoldsLittle, begun, behind_first, ended, is_settled};
 ghost use Rattle.yaml_scan.specs.SessionView.{IsWhole, view_of};
 ghost use Rattle.yaml_scan_machine.specs.Settled.{most_ahead};
 
@@ -227,6 +227,20 @@ pub fn yaml_parser_skip(parser: &mut yaml_parser_t)
         return;
     }
     drop(parser.machine.take_token(&mut parser.spares));
+}
+
+/// Ends a session by a fault that its caller found, in a token that was taken: it is kept as the one that was answered, in the
+/// place of one that was kept, and behind it comes the empty token. A session's own fault ends it without this call.
+// Out of line and cold: it is called once.
+#[cold]
+#[inline(never)]
+pub fn yaml_parser_end(parser: &mut yaml_parser_t, found: &yaml_fault_t)
+    ensures ends { parser.new ≡ ended parser.old (fault_of found.now) }
+    ensures few { HoldsLittle parser.new }
+{
+    keep(&mut parser.fault, found);
+    parser.aside = true;
+    put_over(&mut parser.shown, yaml_token_t::empty());
 }
 
 /// The fault that was answered, if one was.

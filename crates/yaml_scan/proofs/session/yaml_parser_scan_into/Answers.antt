@@ -9,7 +9,7 @@ use Rattle.yaml_scan.proofs.session.yaml_parser_scan_into.Goals as goal
 pub returns-then-is_some-clause-scans : goal.returns-then-is_some-clause-scans
 returns-then-is_some-clause-scans c =
     let s = c.parser.inside in
-    rw (← c.parser.view_is) (takes_over (rooms_of s.spares) (rooms_of s.spares) s.fault s.aside (token_of s.shown) (token_in_slot c.put_empty.new.slot) s.machine (sym c.is_some.ensures ∙ c.if-is_some.true) c.put_empty.ensures)
+    rw (← c.parser.view_is) (takes_over (rooms_of s.spares) s.fault s.aside (token_of s.shown) (token_in_slot c.put_empty.new.slot) s.machine (sym c.is_some.ensures ∙ c.if-is_some.true) c.put_empty.ensures)
 
 pub invariant_of-parser : goal.invariant_of-parser
 invariant_of-parser c =

@@ -11,10 +11,9 @@ ghost use Rattle.yaml_parse_core.specs.Views.{shape_at, node_item};
 ghost use Rattle.yaml_parse_resolve.specs.Bare.{OwnsNothing};
 ghost use Rattle.yaml_parse_resolve.specs.Settles.{named_event};
 
-use crate::room::{clears, keep_properties, moved_if, vacate};
+use crate::room::{clears, exchange_texts, keep_properties, moved_if, vacate};
 use crate::scalars::{bare, named};
 use crate::slots::{start_mapping, start_sequence};
-use std::mem;
 use yaml_parse_core::{Shape, Waiting};
 use yaml_parse_model::{
     BodySlot, TokenSlot, mark_again, yaml_event_body_t, yaml_event_t, yaml_mapping_style_t,
@@ -128,7 +127,7 @@ fn leave_suffix(waiting: &mut Waiting, room: &mut Vec<u8>)
     ensures { waiting.new ≡ record waiting.old { suffix = waiting.new.suffix } }
 {
     if waiting.has_tag {
-        mem::swap(&mut waiting.suffix, room);
+        exchange_texts(&mut waiting.suffix, room);
     }
 }
 

@@ -9,6 +9,7 @@ use std::alloc::Global;
 use std::mem;
 use yaml_parse_core::Waiting;
 use yaml_parse_model::{moved, yaml_event_body_t};
+use yaml_scan_model::{lifted, put_back};
 
 /// Whether a slot of events holds no text.
 // Inlined: a look at the kind.
@@ -106,17 +107,12 @@ pub(crate) fn keep_properties(earlier: &mut yaml_event_body_t, waiting: &mut Wai
     }
 }
 
-// Takes the text, if there is one, and leaves it in a place that has no room.
-// Inlined: some moves.
+// Leaves the text, if there is one, in a place that has no room.
+// Inlined: some moves. Whether there is one is asked for first: to take none sets its place to zero once more.
 #[inline(always)]
 fn leave_in(text: &mut Option<Vec<u8>>, place: &mut Vec<u8>) {
-    match text.take() {
-        None => {}
-        Some(it) => {
-            if place.capacity() == 0 {
-                *place = it;
-            }
-        }
+    if place.capacity() == 0 && text.is_some() {
+        *place = taken_or_empty(*place.allocator(), text);
     }
 }
 
@@ -142,17 +138,17 @@ pub(crate) fn taken_room(alloc: Global, earlier: &mut yaml_event_body_t) -> Vec<
             value,
             ..
         } => {
-            *anchor = None;
-            *tag = None;
-            moved(value)
+            let_text_go(anchor);
+            let_text_go(tag);
+            lifted(value)
         }
-        yaml_event_body_t::Alias { anchor } => moved(anchor),
+        yaml_event_body_t::Alias { anchor } => lifted(anchor),
         yaml_event_body_t::SequenceStart { anchor, tag, .. } => {
-            *tag = None;
+            let_text_go(tag);
             taken_or_empty(alloc, anchor)
         }
         yaml_event_body_t::MappingStart { anchor, tag, .. } => {
-            *tag = None;
+            let_text_go(tag);
             taken_or_empty(alloc, anchor)
         }
         yaml_event_body_t::DocumentStart { .. } => {
@@ -160,6 +156,17 @@ pub(crate) fn taken_room(alloc: Global, earlier: &mut yaml_event_body_t) -> Vec<
             Vec::new(alloc)
         }
         _ => Vec::new(alloc),
+    }
+}
+
+// Lets a text go, if there is one.
+// Inlined: mostly a look at whether there is one.
+#[inline(always)]
+fn let_text_go(text: &mut Option<Vec<u8>>)
+    ensures { text.new ≡ None }
+{
+    if text.is_some() {
+        *text = None;
     }
 }
 
@@ -175,6 +182,16 @@ fn taken_or_empty(alloc: Global, text: &mut Option<Vec<u8>>) -> Vec<u8>
     }
 }
 
+/// Exchanges two texts.
+// No hint: LLVM inlines it, since it is short.
+pub(crate) fn exchange_texts(x: &mut Vec<u8>, y: &mut Vec<u8>)
+    ensures { x.new.items ≡ y.old.items }
+{
+    let own = lifted(x);
+    put_back(x, lifted(y));
+    put_back(y, own);
+}
+
 /// The text, if it is one that is to be there, in a place for one, in whose place the room of the earlier one is left.
 // Inlined: mostly it is known whether it is to be there.
 #[inline(always)]
@@ -183,14 +200,11 @@ pub(crate) fn exchange(place: &mut Option<Vec<u8>>, is_there: bool, text: &mut V
 {
     if is_there {
         match place {
-            None => mem::forget(mem::replace(place, Some(moved(text)))),
-            Some(last) => mem::swap(last, text),
+            None => mem::forget(mem::replace(place, Some(lifted(text)))),
+            Some(last) => exchange_texts(last, text),
         }
-    } else {
-        match place.take() {
-            None => {}
-            Some(last) => *text = last,
-        }
+    } else if place.is_some() {
+        *text = taken_or_empty(*text.allocator(), place);
     }
 }
 
@@ -200,5 +214,5 @@ pub(crate) fn exchange(place: &mut Option<Vec<u8>>, is_there: bool, text: &mut V
 pub(crate) fn moved_if(is_there: bool, text: &mut Vec<u8>) -> Option<Vec<u8>>
     ensures { text_of result ≡ text_if is_there text.old.items }
 {
-    if is_there { Some(moved(text)) } else { None }
+    if is_there { Some(lifted(text)) } else { None }
 }

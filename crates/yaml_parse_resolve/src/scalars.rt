@@ -10,11 +10,12 @@ ghost use Rattle.yaml_parse_core.specs.Views.{text_if};
 ghost use Rattle.yaml_parse_resolve.specs.Bare.{IsScalar, OwnsNothing};
 ghost use Rattle.yaml_parse_resolve.specs.Settles.{named_event};
 
-use crate::room::{exchange, is_bare, put_bare, taken_room};
+use crate::room::{exchange, exchange_texts, is_bare, put_bare, taken_room};
 use std::alloc::Global;
 use std::mem;
 use yaml_parse_core::Waiting;
 use yaml_parse_model::{moved, yaml_event_body_t, yaml_scalar_style_t};
+use yaml_scan_model::lifted;
 
 // How a scalar may be written with its tag left out, in plain style and in every other one, and its own style.
 #[derive(Clone, Copy)]
@@ -110,7 +111,7 @@ fn fill_scalar(
         } => {
             exchange(last_anchor, has_anchor, &mut waiting.anchor);
             exchange(last_tag, has_tag, &mut waiting.handle);
-            mem::swap(last, value);
+            exchange_texts(last, value);
             *plain = form.plain;
             *quoted = form.quoted;
             *last_style = form.style;
@@ -167,8 +168,8 @@ fn other_bare(
     ensures { body_of event.new ≡ node_event None None (item.scalar value.old.items style) }
 {
     if is_bare(event) {
-        let text = mem::replace(value, moved(&mut waiting.anchor));
-        start_bare(text, style, event);
+        let room = lifted(&mut waiting.anchor);
+        start_bare(mem::replace(value, room), style, event);
     } else {
         bare_over(waiting, value, style, event);
     }
@@ -214,7 +215,7 @@ pub(crate) fn bare(
             quoted_implicit: ref mut quoted,
             style: ref mut last_style,
         } => {
-            mem::swap(last, value);
+            exchange_texts(last, value);
             *plain = is_plain(style);
             *quoted = !is_plain(style);
             *last_style = style;

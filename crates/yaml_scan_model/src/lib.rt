@@ -26,7 +26,7 @@ pub use run::{is_text, leap, skip_blanks, skip_spaces, skip_text};
 pub use spares::{copied, copied_whole, room, spare};
 pub use token::{yaml_token_body_t, yaml_token_t};
 pub use yaml_types::{
-    DEFAULT_INDENT, DEFAULT_WIDTH, SHORT, followed, is_short, moved, put_back, put_between,
-    put_each, put_many, put_near, put_short, refilled, room_of, stands_in_front, with_room,
-    yaml_memory_fault, yaml_parser_state_t, yaml_token_delete,
+    DEFAULT_INDENT, DEFAULT_WIDTH, SHORT, followed, is_short, lifted, moved, put_back, put_between,
+    put_each, put_many, put_near, put_short, refilled, room_of, stands_in_front, yaml_memory_fault,
+    yaml_parser_state_t, yaml_token_delete,
 };

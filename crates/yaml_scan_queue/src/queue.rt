@@ -12,9 +12,8 @@ ghost use Rattle.yaml_scan_queue.specs.Waits.{Pushes, kept_of, kept_in_read, key
 use crate::waiting::{ReadLexeme, Waiting};
 use std::alloc::{AllocError, Global};
 use std::marker::Model;
-use std::mem;
 use yaml_scan_history::Opens;
-use yaml_scan_model::{Spares, mark_again, moved, yaml_token_type_t};
+use yaml_scan_model::{Spares, lifted, mark_again, moved, put_back, yaml_token_type_t};
 use yaml_scan_slot::{BodySlot, TokenSlot};
 
 /// A row of slots, of which those from `first` to `last` hold the lexemes that wait. The others are used again. A text goes out of
@@ -281,7 +280,10 @@ fn give_back(text: &mut Vec<u8>, spares: &mut Spares) {
 fn hand_text(from: &mut Vec<u8>, to: &mut Vec<u8>, spares: &mut Spares)
     ensures { to.new.items ≡ from.old.items }
 {
-    spares.keep(mem::replace(to, moved(from)));
+    let text = lifted(from);
+    let room = lifted(to);
+    put_back(to, text);
+    spares.keep(room);
 }
 
 /// Whether a kind says all of its token.

@@ -5,13 +5,13 @@ ghost use Rattle.yaml_scan_model.specs.Ascii as ascii;
 ghost use Rattle.yaml_parse_model.specs.Events.{event_of, text_of};
 ghost use Rattle.yaml_scan_model.specs.Ends.{IsShort, given_length};
 ghost use Rattle.yaml_round_lines.specs.Runs.{IsPlain, IsPlainGiven};
-ghost use Rattle.yaml_round_lines.specs.EventLine.{escaped, anchor_part, tag_part, indicator_of, mark_part, event_line};
+ghost use Rattle.yaml_round_lines.specs.EventLine.{escaped, anchor_part, tag_part, indicator_of, mark_part, event_line, PutsBare};
 
-use crate::runs::{is_plain, put_runs};
+use crate::runs::{are_kept_ends, is_plain, put_runs};
 use std::alloc::AllocError;
 use yaml_parse_model::{yaml_event_body_t, yaml_event_t};
 use yaml_scan_model::{
-    SHORT, is_short, moved, put_back, put_between, put_each, put_near, put_short, with_room,
+    SHORT, is_short, moved, put_back, put_between, put_each, put_near, put_short,
     yaml_scalar_style_t,
 };
 
@@ -196,19 +196,6 @@ fn put_node(
     put_tag(line, tag, plain);
 }
 
-// Pushes the line of an event that its word alone tells.
-// Inlined: some stores, for words of a fixed length.
-#[inline(always)]
-fn push_word(line: &mut Vec<u8>, word: &[u8]) -> Result<(), AllocError>
-    requires { length word.now < 16 }
-    ensures { OnOk result (line.new.items ≡ line.old.items ++ (word.now ++ ascii.line_feed ∷ [])) }
-{
-    line.reserve(word.len() + 1)?;
-    put_each(line, word);
-    line.push_reserved(b'\n');
-    Ok(())
-}
-
 // Pushes the line of a scalar of any length.
 // Out of line: most are short, and have no byte that is escaped.
 #[inline(never)]
@@ -343,7 +330,7 @@ fn push_document(
     Ok(())
 }
 
-// Pushes the line of a scalar without properties that isn't plain.
+// Pushes the line of a scalar without properties of any length.
 // Out of line: most are short, and have no byte that is escaped.
 #[inline(never)]
 fn push_long_bare(
@@ -354,29 +341,89 @@ fn push_long_bare(
     ensures { OnOk result (line.new.items ≡ line.old.items
         ++ (codes "=VAL " ++ indicator_of style ∷ (escaped value.now ++ ascii.line_feed ∷ []))) }
 {
-    reserve_twice(line, 7, value.len())?;
+    reserve_twice(line, ROOM, value.len())?;
     put_each(line, b"=VAL");
     put_part(line, style_indicator(style), value, b'\n', false);
     Ok(())
 }
 
-// Pushes the line of a plain scalar without properties.
-// Inlined: most scalars are such.
+// Puts what stands before the value of a scalar without properties.
+// Inlined: two stores where it is plain, which is asked for first.
 #[inline(always)]
-fn push_plain_bare(
-    line: &mut Vec<u8>,
-    value: &[u8],
-    style: yaml_scalar_style_t,
-) -> Result<(), AllocError>
-    requires { IsPlain value.now }
-    ensures { OnOk result (line.new.items ≡ line.old.items
-        ++ (codes "=VAL " ++ indicator_of style ∷ (escaped value.now ++ ascii.line_feed ∷ []))) }
+fn put_front(line: &mut Vec<u8>, style: yaml_scalar_style_t)
+    requires { vec_len line.old + 6 ≤ vec_capacity line.old }
+    ensures items { line.new.items ≡ line.old.items ++ (codes "=VAL " ++ indicator_of style ∷ []) }
+    ensures len { vec_len line.new ≡ vec_len line.old + 6 }
+    ensures room { vec_capacity line.new ≡ vec_capacity line.old }
 {
-    let mut own = with_room(line, 2 * SHORT + 7)?;
-    put_each(&mut own, b"=VAL");
-    put_part(&mut own, style_indicator(style), value, b'\n', true);
+    match style {
+        yaml_scalar_style_t::YAML_PLAIN_SCALAR_STYLE => put_each(line, b"=VAL :"),
+        _ => {
+            put_each(line, b"=VAL ");
+            line.push_reserved(style_indicator(style));
+        }
+    }
+}
+
+// Puts the line of a plain scalar without properties.
+// Inlined: some stores. The line is lifted here, for each length: so LLVM sees that nothing reads what is left in its place.
+#[inline(always)]
+fn put_plain_bare(line: &mut Vec<u8>, value: &[u8], style: yaml_scalar_style_t)
+    requires plain { IsPlain value.now }
+    requires room { vec_len line.old + (SHORT + 7) ≤ vec_capacity line.old }
+    ensures { line.new.items ≡ line.old.items
+        ++ (codes "=VAL " ++ indicator_of style ∷ (escaped value.now ++ ascii.line_feed ∷ [])) }
+{
+    let mut own = moved(line);
+    put_front(&mut own, style);
+    put_short(&mut own, value);
+    own.push_reserved(b'\n');
     put_back(line, own);
-    Ok(())
+}
+
+// The same, where the value's front and end, of so many bytes each, are all of it, and none of them is escaped; else nothing.
+// Inlined: see `is_kept_run`.
+#[inline(always)]
+fn put_kept(line: &mut Vec<u8>, value: &[u8], style: yaml_scalar_style_t, size: usize) -> bool
+    requires least { size ≤ length value.now }
+    requires most { length value.now ≤ size + size }
+    requires half { size ≤ 16 }
+    requires room { vec_len line.old + (SHORT + 7) ≤ vec_capacity line.old }
+    ensures { PutsBare result line.old.items value.now style line.new.items }
+{
+    if !are_kept_ends(value, size) {
+        return false;
+    }
+    put_plain_bare(line, value, style);
+    true
+}
+
+// The same, whatever the value's length and the room are. Shorter ones are asked for first: they are more.
+// No hint: LLVM inlines it, since it has one caller.
+fn put_bare(line: &mut Vec<u8>, value: &[u8], style: yaml_scalar_style_t) -> bool
+    ensures { PutsBare result line.old.items value.now style line.new.items }
+{
+    if !has_room(line, SHORT + 7) {
+        return false;
+    }
+    let count = value.len();
+    if count < 4 {
+        if count == 0 {
+            put_kept(line, value, style, 0)
+        } else if count < 2 {
+            put_kept(line, value, style, 1)
+        } else {
+            put_kept(line, value, style, 2)
+        }
+    } else if count < 8 {
+        put_kept(line, value, style, 4)
+    } else if count < 16 {
+        put_kept(line, value, style, 8)
+    } else if count <= SHORT {
+        put_kept(line, value, style, 16)
+    } else {
+        false
+    }
 }
 
 // Pushes the line of a scalar without properties.
@@ -387,8 +434,8 @@ fn push_bare(line: &mut Vec<u8>, value: &[u8], style: yaml_scalar_style_t) -> Re
     ensures { OnOk result (line.new.items ≡ line.old.items
         ++ (codes "=VAL " ++ indicator_of style ∷ (escaped value.now ++ ascii.line_feed ∷ []))) }
 {
-    if is_plain(value) {
-        return push_plain_bare(line, value, style);
+    if put_bare(line, value, style) {
+        return Ok(());
     }
     if push_long_bare(line, value, style).is_err() {
         line.clear();
@@ -397,14 +444,32 @@ fn push_bare(line: &mut Vec<u8>, value: &[u8], style: yaml_scalar_style_t) -> Re
     Ok(())
 }
 
-// Pushes the line of an event that its word alone tells, and that is rare.
+// Pushes the line of an event that its word alone tells, and that is rare or has no room yet.
 // Out of line: see `push_alias`.
 #[inline(never)]
 fn push_rare(line: &mut Vec<u8>, word: &[u8]) -> Result<(), AllocError>
     requires { length word.now < 16 }
     ensures { OnOk result (line.new.items ≡ line.old.items ++ (word.now ++ ascii.line_feed ∷ [])) }
 {
-    push_word(line, word)
+    line.reserve(word.len() + 1)?;
+    put_each(line, word);
+    line.push_reserved(b'\n');
+    Ok(())
+}
+
+// Pushes the line of an event that its word alone tells.
+// Inlined: some stores, for words of a fixed length.
+#[inline(always)]
+fn push_word(line: &mut Vec<u8>, word: &[u8]) -> Result<(), AllocError>
+    requires { length word.now < 16 }
+    ensures { OnOk result (line.new.items ≡ line.old.items ++ (word.now ++ ascii.line_feed ∷ [])) }
+{
+    if has_room(line, word.len() + 1) {
+        put_each(line, word);
+        line.push_reserved(b'\n');
+        return Ok(());
+    }
+    push_rare(line, word)
 }
 
 // Pushes the line of any event.

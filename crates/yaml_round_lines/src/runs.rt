@@ -74,10 +74,10 @@ fn is_kept_run(text: &[u8], at: usize, size: usize) -> bool
     kept
 }
 
-// Whether all bytes of a text are kept whose front and end, of so many bytes each, are all of it.
+/// Whether all bytes of a text are kept whose front and end, of so many bytes each, are all of it.
 // Inlined: see `is_kept_run`.
 #[inline(always)]
-fn are_kept_ends(text: &[u8], size: usize) -> bool
+pub(crate) fn are_kept_ends(text: &[u8], size: usize) -> bool
     requires least { size ≤ length text.now }
     requires most { length text.now ≤ size + size }
     ensures { result ≡ true → escaped text.now ≡ text.now }

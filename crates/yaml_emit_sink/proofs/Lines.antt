@@ -1,6 +1,6 @@
 -- A break and the spaces behind it.
 use Rattle.std.proofs.Common.{◌≡◌, ℕ, ◌+◌, ◌-◌, ◌≤◌, List, [], ◌∷◌, ◌++◌, take, length, length-append, Bool, true, false, ◌<◌, refl, sym, subst, ◌∙◌, ap, append_assoc, arith}
-use Rattle.std.specs.Prelude.{zero, suc, replicate, ◌&&◌, ◌||◌, ◌==◌, nat_lt, nat_le, Option, None, Some}
+use Rattle.std.specs.Prelude.{zero, suc, replicate, ◌&&◌, ◌||◌, ◌==◌, nat_lt, nat_le}
 use Rattle.std.specs.Str.{IsAscii}
 use Rattle.std.proofs.lemmas.Bool.{false≢true, or_parts, cond_both, leb-true, ltb-false, eq-eqb}
 use Rattle.std.proofs.lemmas.Str.{IsAscii-append}
@@ -16,7 +16,7 @@ use Rattle.yaml_emit_sink.specs.Layout.{Layout, Rest, ◌▹◌, when, char, bla
 use Rattle.yaml_emit_sink.specs.Appends.{indented, blanked, lettered}
 use Rattle.yaml_emit_sink.specs.Sink.{Output, Puts}
 use Rattle.yaml_emit_sink.specs.declared.feed.LineStart.{LineStart}
-use Rattle.yaml_emit_sink.specs.LineStarts.{enough, commas, marks, signs, line_start_bytes, line_start_text}
+use Rattle.yaml_emit_sink.specs.LineStarts.{enough, commas, marks, sign_of, signs, line_start_bytes, line_start_text}
 use Rattle.yaml_emit_sink.proofs.Ascii.{puts_near, puts_byte, letters_both}
 use Rattle.yaml_emit_sink.proofs.Sinks.{puts_as, puts_both, puts_sure, cond_true, cond_false, stepped, stepped_none, stepped_is, Leads, blanks_lead}
 
@@ -204,9 +204,14 @@ puts_comma true n signs xs a b m g x t e l v s p o r k =
     (puts_byte a mid 44 (lettered 1) g x (omega arith) (omega (arith, r)) refl refl refl refl refl)
     (puts_led n signs xs mid b refl g x t e l v s p (o ∙ sym (append_assoc a.bytes (44 ∷ []) (((10 ∷ replicate n 32) ++ signs) ++ xs))) (omega (arith, r, more)) k)
 
-few_marks : (m : Option ℕ) → length (marks m) ≤ 2
-few_marks None = omega arith
-few_marks (Some m) = omega arith
+-- one that is due
+pub some_mark : (m : ℕ) → (m ≡ 0 → ⊥) → marks m ≡ m ∷ 32 ∷ []
+some_mark zero h = absurd (h refl)
+some_mark (suc m) h = refl
+
+pub few_marks : (m : ℕ) → length (marks m) ≤ 2
+few_marks zero = omega arith
+few_marks (suc m) = omega arith
 
 pub puts_line_start : (t : LineStart) (xs : List ℕ) (a b : Output)
     → (t.comma || must_break t.indent a.cursor) ≡ true → t.line_break ≡ Lf → t.indent ≤ 80
@@ -217,8 +222,8 @@ pub puts_line_start : (t : LineStart) (xs : List ℕ) (a b : Output)
     → Puts a b (line_start_text t ▹ letters xs)
 puts_line_start t xs a b m q i g x h e l v s p w o r k =
     let mark = few_marks t.mark in
-    let sign = few_marks t.sign in
-    let both = length-append (marks t.mark) (marks t.sign) in
+    let sign = few_marks (sign_of t.signed) in
+    let both = length-append (marks t.mark) (marks (sign_of t.signed)) in
     let P : LineBreak → Type 0 = λ z. Puts a b (when t.comma (char 44) ▹ (line z t.indent ▹ (letters (signs t) ▹ letters xs))) in
     subst P (sym q) (puts_comma t.comma t.indent (signs t) xs a b m g x h e l v s p o (omega (arith, r, i, w, mark, sign, both)) k)
 

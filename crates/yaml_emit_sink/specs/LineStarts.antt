@@ -1,5 +1,5 @@
 -- What a line begins with.
-use Rattle.std.specs.Prelude.{ℕ, nat_le, if◌then◌else◌, Bool, true, false, List, [], ◌∷◌, ◌++◌, replicate, Option, None, Some}
+use Rattle.std.specs.Prelude.{ℕ, zero, suc, nat_le, if◌then◌else◌, Bool, true, false, List, [], ◌∷◌, ◌++◌, replicate}
 use Rattle.yaml_types.specs.Ascii as ascii
 use Rattle.yaml_emit_sink.specs.declared.feed.LineStart.{LineStart}
 use Rattle.yaml_emit_sink.specs.Layout.{Layout, ◌▹◌, stay, when, char, letters, word, line}
@@ -13,19 +13,24 @@ abbrev pub commas : Bool → List ℕ
 commas true = ascii.comma ∷ []
 commas false = []
 
--- a character with a space behind it, where one is due
-abbrev pub marks : Option ℕ → List ℕ
-marks None = []
-marks (Some m) = m ∷ ascii.space ∷ []
+-- a character with a space behind it, where one is due: 0 is none
+abbrev pub marks : ℕ → List ℕ
+marks zero = []
+marks (suc m) = suc m ∷ ascii.space ∷ []
 
 -- the same as a word, behind which a space is due
-abbrev pub mark_word : Option ℕ → Layout
-mark_word None = stay
-mark_word (Some m) = word (m ∷ [])
+abbrev pub mark_word : ℕ → Layout
+mark_word zero = stay
+mark_word (suc m) = word (suc m ∷ [])
+
+-- the sign, where it is due
+abbrev pub sign_of : Bool → ℕ
+sign_of true = ascii.exclamation
+sign_of false = 0
 
 -- what stands behind the indentation
 abbrev pub signs : LineStart → List ℕ
-signs t = marks t.mark ++ marks t.sign
+signs t = marks t.mark ++ marks (sign_of t.signed)
 
 -- its bytes, where the break is a line feed that comes
 abbrev pub line_start_bytes : LineStart → List ℕ

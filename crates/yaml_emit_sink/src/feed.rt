@@ -3,20 +3,20 @@
 ghost use Rattle.std.specs.Prelude.{◌≡◌, ◌<◌, ◌≤◌, ◌+◌, ◌∷◌, ◌++◌, length, replicate, true, None, Some};
 ghost use Rattle.std.specs.Vec.{vec_len, vec_capacity};
 ghost use Rattle.yaml_types.specs.Ascii as ascii;
-ghost use Rattle.yaml_emit_sink.specs.LineStarts.{enough, commas, marks, signs, line_start_bytes};
+ghost use Rattle.yaml_emit_sink.specs.LineStarts.{enough, commas, marks, sign_of, signs, line_start_bytes};
 
 use crate::settings::LineBreak;
 use yaml_types::{SHORT, moved, put_back, put_each, put_short};
 
 /// What a line begins with: a comma in the line before it, where one is due, the break and the indentation, and two characters,
-/// each with a space behind it, where they are due.
+/// each with a space behind it, where they are due: a mark, of which 0 is none, and a sign.
 #[derive(Clone, Copy)]
 pub struct LineStart {
     pub comma: bool,
     pub line_break: LineBreak,
     pub indent: u64,
-    pub mark: Option<u8>,
-    pub sign: Option<u8>,
+    pub mark: u8,
+    pub signed: bool,
 }
 
 /// Whether there is room for so many bytes more, one at least.
@@ -25,7 +25,7 @@ pub struct LineStart {
 pub fn has_room(output: &Vec<u8>, fast_limit: u64, count: u64) -> bool
     ensures { result ≡ true → 0 < count → length output.now.items + count ≤ fast_limit }
 {
-    count <= fast_limit.saturating_sub(output.len() as u64)
+    count <= fast_limit && output.len() as u64 <= fast_limit - count
 }
 
 /// Whether a line is a line feed and at most eighty spaces, and there is room for all of these, a short text and few characters
@@ -115,25 +115,13 @@ pub fn put_fresh_line(output: &mut Vec<u8>, count: u64)
     put_back(output, own);
 }
 
-/// How many bytes a character with a space behind it is, where one is due.
-// Inlined: a test.
+/// The sign, or 0.
+// Inlined: whether it is due is asked where it is put.
 #[inline(always)]
-pub fn mark_size(mark: Option<u8>) -> usize
-    ensures { result ≡ length (marks mark) }
+pub fn sign_of(signed: bool) -> u8
+    ensures { result ≡ sign_of signed }
 {
-    match mark {
-        None => 0,
-        Some(_) => 2,
-    }
-}
-
-/// How many bytes stand behind the indentation of what a line begins with.
-// Inlined: two tests.
-#[inline]
-pub fn signs_size(start: &LineStart) -> usize
-    ensures { result ≡ length (signs start.now) }
-{
-    mark_size(start.mark) + mark_size(start.sign)
+    if signed { b'!' } else { 0 }
 }
 
 // A comma, where one is due.
@@ -153,38 +141,40 @@ fn put_comma(output: &mut Vec<u8>, due: bool)
 // A character with a space behind it, where one is due.
 // Inlined: a test in front of two stores.
 #[inline]
-fn put_mark(output: &mut Vec<u8>, mark: Option<u8>)
+fn put_mark(output: &mut Vec<u8>, mark: u8)
     requires { vec_len output.old + 2 ≤ vec_capacity output.old }
     ensures items { output.new.items ≡ output.old.items ++ marks mark }
-    ensures len { vec_len output.new ≤ vec_len output.old + 2 }
+    ensures len { vec_len output.new ≡ vec_len output.old + length (marks mark) }
     ensures room { vec_capacity output.old ≤ vec_capacity output.new }
 {
-    match mark {
-        None => (),
-        Some(mark) => {
-            output.push_reserved(mark);
-            output.push_reserved(b' ');
-        }
+    if mark != 0 {
+        output.push_reserved(mark);
+        output.push_reserved(b' ');
     }
 }
 
-// What a line begins with, where it is a line feed and at most eighty spaces, and there is room for eighty and for all else.
+// What a line begins with, where it is a line feed and at most eighty spaces, and there is room for eighty and for all else. The
+// answer is where its indentation ends.
 // Inlined: some stores.
 #[inline(always)]
-fn put_line_start(output: &mut Vec<u8>, start: &LineStart)
+fn put_line_start(output: &mut Vec<u8>, start: &LineStart) -> usize
     requires inside { vec_len output.old + 86 ≤ vec_capacity output.old }
     requires few { start.now.indent ≤ 80 }
     ensures items { output.new.items ≡ output.old.items ++ line_start_bytes start.now }
     ensures len { vec_len output.new ≤ vec_len output.old + 86 }
+    ensures begun { vec_len output.new ≡ result + length (signs start.now) }
     ensures room { vec_capacity output.old ≤ vec_capacity output.new }
 {
     put_comma(output, start.comma);
     put_feed(output, start.indent);
+    let begun = output.len();
     put_mark(output, start.mark);
-    put_mark(output, start.sign);
+    put_mark(output, sign_of(start.signed));
+    begun
 }
 
-/// The same, and behind it few characters of known numbers, a short text and few more.
+/// The same, and behind it few characters of known numbers, a short text and few more. The answer is how many bytes stand behind
+/// the indentation.
 // Inlined: the numbers are known.
 #[inline(always)]
 pub fn put_line_between(
@@ -193,37 +183,45 @@ pub fn put_line_between(
     front: &[u8],
     text: &[u8],
     end: &[u8],
-)
+) -> usize
     requires inside { vec_len output.old + (86 + (length front.now + (length text.now
         + length end.now))) ≤ vec_capacity output.old }
     requires few { start.now.indent ≤ 80 }
     requires short { length text.now ≤ 32 }
     ensures items { output.new.items ≡ output.old.items ++ (line_start_bytes start.now
         ++ (front.now ++ (text.now ++ end.now))) }
+    ensures count { result ≡ length (signs start.now) + length (front.now ++ (text.now
+        ++ end.now)) }
     ensures room { vec_capacity output.old ≤ vec_capacity output.new }
 {
     let mut own = moved(output);
-    put_line_start(&mut own, start);
+    let begun = put_line_start(&mut own, start);
     put_each(&mut own, front);
     put_short(&mut own, text);
     put_each(&mut own, end);
+    let count = own.len() - begun;
     put_back(output, own);
+    count
 }
 
-/// What a line begins with, and behind it few characters of a known number.
+/// What a line begins with, and behind it few characters of a known number. The answer is how many bytes stand behind the
+/// indentation.
 // Inlined: the number is known.
 #[inline(always)]
-pub fn put_line_with(output: &mut Vec<u8>, start: &LineStart, front: &[u8])
+pub fn put_line_with(output: &mut Vec<u8>, start: &LineStart, front: &[u8]) -> usize
     requires inside { vec_len output.old + (86 + length front.now) ≤ vec_capacity output.old }
     requires few { start.now.indent ≤ 80 }
     ensures items { output.new.items ≡ output.old.items
         ++ (line_start_bytes start.now ++ front.now) }
+    ensures count { result ≡ length (signs start.now) + length front.now }
     ensures room { vec_capacity output.old ≤ vec_capacity output.new }
 {
     let mut own = moved(output);
-    put_line_start(&mut own, start);
+    let begun = put_line_start(&mut own, start);
     put_each(&mut own, front);
+    let count = own.len() - begun;
     put_back(output, own);
+    count
 }
 
 /// At most sixteen spaces, where there is room for sixteen: all are put at once, and what is too much is cut off.

@@ -18,7 +18,7 @@ use Rattle.yaml_emit_layout.specs.declared.Level.{Level}
 use Rattle.yaml_emit_layout.specs.declared.NodePosition.{NodePosition}
 use Rattle.yaml_emit_layout.specs.Content.{Scalar, scalar, Start, sequence_start, mapping_start}
 use Rattle.yaml_emit_layout.specs.Grammar.{event_problem, last_problem, place_problem, problem_by}
-use Rattle.yaml_emit_layout.specs.State.{is_simple_event, among, before_at, before_node, levels_behind, position_of, top_of, start_text, text_at, next_at, depth_at}
+use Rattle.yaml_emit_layout.specs.State.{State, is_simple_event, among, before_at, before_node, levels_behind, position_of, top_of, start_text, text_at, next_at, depth_at}
 use Rattle.yaml_emit_layout.specs.Nodes.{Context, context_of, is_simple_scalar, checked, deeper, page_at, scalar_layout, style_of, turned, before_item, before_key, before_value, is_simple_start, is_flow}
 use Rattle.yaml_emit_state.specs.declared.state.Core.{Core}
 use Rattle.yaml_emit_state.specs.Due.{is_key}
@@ -27,12 +27,12 @@ use Rattle.yaml_emit_state.specs.Steps.{state_of, settings_of, LaysOut, LaysOutR
 use Rattle.yaml_emit_state.proofs.Keyed.{no_keys, lays_scalar, lays_in_place}
 use Rattle.std.proofs.lemmas.Bool.{and_parts}
 use Rattle.yaml_emit_text.specs.Tame.{IsLined}
-use Rattle.yaml_emit_text.specs.LineStarts.{mark_word, line_start_text}
+use Rattle.yaml_emit_text.specs.LineStarts.{mark_word, sign_of, line_start_text}
 use Rattle.yaml_emit_text.proofs.LineStarts.{Worded, puts_signed, quoted_worded, tagged_worded, word_worded, lined_ascii, tagged_ascii}
 use Rattle.yaml_emit_layout.specs.declared.Phase.{Phase}
 use Rattle.yaml_emit_layout.specs.declared.Phase.TheVariants.{Items, Keys, Value}
 use Rattle.yaml_emit_state.specs.Bare.{has_none}
-use Rattle.yaml_emit_state.specs.Framed.{has_comma, mark_of, is_behind_simple, sign_of, line_start, BeginsLine, is_free, IsFramed, front_text, framed_text}
+use Rattle.yaml_emit_state.specs.Framed.{has_comma, mark_of, is_behind_simple, line_start, BeginsLine, is_free, IsFramed, front_text, framed_text}
 use Rattle.yaml_emit_state.specs.Stack.{stack_of}
 use Rattle.yaml_emit_state.proofs.Unmarked.{Parts, parts_right, none_given, unchecked_behind}
 use Rattle.yaml_emit_state.proofs.Noting.{lays_right}
@@ -59,7 +59,8 @@ before_is s (Keys fresh) n e h = rw e refl
 before_is s (Value false) n e h = rw e refl
 before_is s (Value true) n e h = absurd (cc)
 
-sign_is : (quoted : Bool) → mark_word (sign_of quoted) ≡ when (not quoted) (word (33 ∷ []))
+sign_is : (quoted : Bool)
+    → mark_word (sign_of (not quoted)) ≡ when (not quoted) (word (33 ∷ []))
 sign_is true = refl
 sign_is false = refl
 
@@ -74,15 +75,15 @@ front_ascii true n width v h = tagged_ascii n width v h
 front_ascii false n width v h = lined_ascii n width v h
 
 -- what its line begins with and what is one word behind it
-begun : (s : Settings) (l : Level) (sign : Option ℕ) (x : Layout) (y : ℕ) (ys : List ℕ)
+begun : (s : Settings) (l : Level) (signed : Bool) (x : Layout) (y : ℕ) (ys : List ℕ)
     (z : Layout) (a b : Output) → BeginsLine s l → Worded (l.indent + 4) x (y ∷ ys) z
-    → Puts a b ((line_start_text (line_start s l sign) ▹ letters (y ∷ ys)) ▹ z)
-    → Puts a b (before_at s l.phase l.flow l.indent false ▹ (mark_word sign ▹ x))
-begun s l sign x y ys z a b t w p = rw (t.flow, before_is s l.phase l.indent t.form t.breaks) (puts_signed (line_start s l sign) x y ys z a b w p)
+    → Puts a b ((line_start_text (line_start s l signed) ▹ letters (y ∷ ys)) ▹ z)
+    → Puts a b (before_at s l.phase l.flow l.indent false ▹ (mark_word (sign_of signed) ▹ x))
+begun s l signed x y ys z a b t w p = rw (t.flow, before_is s l.phase l.indent t.form t.breaks) (puts_signed (line_start s l signed) x y ys z a b w p)
 
 pub puts_framed : (tagged : Bool) (s : Settings) (l : Level) (quoted : Bool) (v : List ℕ)
     (a b : Output) → BeginsLine s l → IsLined l.indent s.width v
-    → Puts a b (line_start_text (line_start s l (sign_of (tagged || quoted)))
+    → Puts a b (line_start_text (line_start s l (not tagged && not quoted))
     ▹ letters (front tagged ++ (v ++ 34 ∷ [])))
     → Puts a b (framed_text s (Some l) tagged [] quoted v)
 puts_framed false s l quoted v a b t w p =
@@ -91,21 +92,21 @@ puts_framed false s l quoted v a b t w p =
     let before : Layout = before_at s l.phase l.flow l.indent false in
     let C : Layout → Type 0 = λ z. Puts a b (before ▹ (z ▹ x)) in
     unchecked_behind (deeper s pos.around) a b (before ▹ front_text false [] quoted) x t.shallow
-    (subst C (sign_is quoted) (begun s l (sign_of quoted) x 34 (v ++ 34 ∷ []) stay a b t (quoted_worded l.indent (page_at s pos) v w) p))
+    (subst C (sign_is quoted) (begun s l (not quoted) x 34 (v ++ 34 ∷ []) stay a b t (quoted_worded l.indent (page_at s pos) v w) p))
 puts_framed true s l quoted v a b t w p =
     let pos : NodePosition = position_of (Some l) false in
     let q : Layout = double_quoted (page_at s pos) (chars v) in
     let before : Layout = before_at s l.phase l.flow l.indent false in
     let C : List ℕ → Type 0 = λ z. Puts a b (before ▹ (word z ▹ q)) in
     unchecked_behind (deeper s pos.around) a b (before ▹ front_text true [] quoted) q t.shallow
-    (subst C (sym str_spelled) (begun s l None (word (33 ∷ 33 ∷ 115 ∷ 116 ∷ 114 ∷ []) ▹ q) 33 (33 ∷ 115 ∷ 116 ∷ 114 ∷ 32 ∷ 34 ∷ (v ++ 34 ∷ [])) stay a b t (tagged_worded l.indent (page_at s pos) v w) p))
+    (subst C (sym str_spelled) (begun s l false (word (33 ∷ 33 ∷ 115 ∷ 116 ∷ 114 ∷ []) ▹ q) 33 (33 ∷ 115 ∷ 116 ∷ 114 ∷ 32 ∷ 34 ∷ (v ++ 34 ∷ [])) stay a b t (tagged_worded l.indent (page_at s pos) v w) p))
 
 -- what opens a collection was written
 pub puts_bracket : (s : Settings) (l : Level) (x : ℕ) (a b : Output) → BeginsLine s l
-    → Puts a b ((line_start_text (line_start s l None) ▹ letters (x ∷ [])) ▹ after_block)
+    → Puts a b ((line_start_text (line_start s l false) ▹ letters (x ∷ [])) ▹ after_block)
     → Puts a b (before_node s (Some l) false ▹ opener x)
 unfolding letters
-puts_bracket s l x a b t p = begun s l None (word (x ∷ []) ▹ after_block) x [] after_block a b t (word_worded (l.indent + 4) (x ∷ []) after_block) p
+puts_bracket s l x a b t p = begun s l false (word (x ∷ []) ▹ after_block) x [] after_block a b t (word_worded (l.indent + 4) (x ∷ []) after_block) p
 
 -- ---- that it is laid out
 
@@ -133,6 +134,14 @@ unfolding problem_by event_problem place_problem last_problem
 framed_right false canonical place top x e h f = parts_right canonical place top x h (frees x f)
 framed_right true canonical place None x e h f = rw (e, h, f.0, f.1) refl
 framed_right true canonical place (Some l) x e h f = rw (e, h, f.0, f.1) refl
+
+-- behind one in a collection a node is due
+pub stays_due : (place : Expected) (old ls : List Level) (l : Level) (ds : List TagDirective)
+    → place ≡ at.Node → Some l ≡ top_of old → ls ≡ levels_behind old false
+    → let s : State = record { place = place; levels = ls; directives = ds } in
+    s ≡ among ds (levels_behind old false)
+stays_due place [] ls l ds due is e = absurd (cc)
+stays_due place (x ∷ xs) ls l ds due is e = rw (e, due) refl
 
 pub lays_framed : (tagged : Bool) (old new : Core) (o : Output) (s : Settings) (top : Option Level)
     (ds : List TagDirective) (quoted : Bool) (v : List ℕ) (x : Scalar) (empty : Bool)

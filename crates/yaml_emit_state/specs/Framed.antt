@@ -24,27 +24,23 @@ has_comma (Items fresh) = not fresh
 has_comma (Keys fresh) = not fresh
 has_comma (Value was_simple) = false
 
-abbrev pub mark_of : Phase → Option ℕ
-mark_of (Items fresh) = None
-mark_of (Keys fresh) = Some ascii.question
-mark_of (Value was_simple) = Some ascii.colon
+abbrev pub mark_of : Phase → ℕ
+mark_of (Items fresh) = 0
+mark_of (Keys fresh) = ascii.question
+mark_of (Value was_simple) = ascii.colon
 
 abbrev pub is_behind_simple : Phase → Bool
 is_behind_simple (Items fresh) = false
 is_behind_simple (Keys fresh) = false
 is_behind_simple (Value was_simple) = was_simple
 
-abbrev pub sign_of : Bool → Option ℕ
-sign_of true = None
-sign_of false = Some ascii.exclamation
-
-abbrev pub line_start : Settings → Level → Option ℕ → LineStart
-line_start s l sign = record {
+abbrev pub line_start : Settings → Level → Bool → LineStart
+line_start s l signed = record {
   comma = has_comma l.phase;
   line_break = s.line_break;
   indent = l.indent;
   mark = mark_of l.phase;
-  sign = sign;
+  signed = signed;
 }
 
 -- a node in a collection begins a line, and isn't too deep

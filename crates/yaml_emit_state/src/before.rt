@@ -1,5 +1,5 @@
 //! What comes before nodes in their collections, and what ends these.
-ghost use Rattle.std.specs.Prelude.{◌≡◌, None, Some, true, false, not, ◌&&◌, ◌-◌, ◌<◌};
+ghost use Rattle.std.specs.Prelude.{◌≡◌, None, Some, true, false, not, nat_le, ◌&&◌, ◌+◌, ◌-◌, ◌<◌};
 ghost use Rattle.yaml_types.specs.Ascii as ascii;
 ghost use Rattle.yaml_emit_text.specs.Sink.{Puts};
 ghost use Rattle.yaml_emit_text.specs.Layout.{◌▹◌, when, char};
@@ -8,9 +8,11 @@ ghost use Rattle.yaml_emit_layout.specs.State.{before_node, closer_at, is_fresh}
 ghost use Rattle.yaml_emit_state.specs.Framed.{has_comma, mark_of, is_behind_simple, line_start, BeginsLine};
 ghost use Rattle.yaml_emit_state.specs.Given.{opening_bracket, closing_bracket};
 
-use crate::indent::is_not_deep;
 use yaml_emit_layout::{Level, Phase};
 use yaml_emit_text::{LineStart, Settings, Sink};
+
+// How many columns are few.
+const NEAR: u64 = 80;
 
 // Inlined: it is a byte, or a test in front of one.
 #[inline(always)]
@@ -138,8 +140,8 @@ fn put_end(sink: &mut Sink, due: bool, settings: &Settings, indent: u64, c: u8)
             comma: true,
             line_break: settings.line_break,
             indent,
-            mark: None,
-            sign: None,
+            mark: 0,
+            signed: false,
         };
         sink.put_led(&start, &[c]);
     } else {
@@ -211,14 +213,21 @@ fn has_comma(phase: Phase) -> bool
     }
 }
 
-fn mark_of(phase: Phase) -> Option<u8>
+fn mark_of(phase: Phase) -> u8
     ensures { result ≡ mark_of phase }
 {
     match phase {
-        Phase::Items(_) => None,
-        Phase::Keys(_) => Some(b'?'),
-        Phase::Value(_) => Some(b':'),
+        Phase::Items(_) => 0,
+        Phase::Keys(_) => b'?',
+        Phase::Value(_) => b':',
     }
+}
+
+// Whether that indentation, and one that is deeper by as much as is set, are far from too deep.
+fn are_near(indent: u64, more: u64) -> bool
+    ensures { result ≡ true → nat_le (indent + more) 2147483647 ≡ true }
+{
+    indent <= NEAR && more <= NEAR
 }
 
 fn is_behind_simple(phase: Phase) -> bool
@@ -233,26 +242,26 @@ fn is_behind_simple(phase: Phase) -> bool
 /// Whether a node in a collection begins a line in canonical form, and isn't too deep.
 // Inlined: some tests.
 #[inline(always)]
-pub fn begins_line(settings: &Settings, level: Level) -> bool
-    ensures { result ≡ true → BeginsLine settings.now level }
+pub fn begins_line(settings: &Settings, level: &Level) -> bool
+    ensures { result ≡ true → BeginsLine settings.now level.now }
 {
     settings.canonical
         && level.flow
         && !is_behind_simple(level.phase)
-        && is_not_deep(level.indent, settings.indent)
+        && are_near(level.indent, settings.indent)
 }
 
 /// What that line begins with.
 // Inlined: some tests.
 #[inline(always)]
-pub fn line_start_of(settings: &Settings, level: Level, sign: Option<u8>) -> LineStart
-    ensures { result ≡ line_start settings.now level sign }
+pub fn line_start_of(settings: &Settings, level: &Level, signed: bool) -> LineStart
+    ensures { result ≡ line_start settings.now level.now signed }
 {
     LineStart {
         comma: has_comma(level.phase),
         line_break: settings.line_break,
         indent: level.indent,
         mark: mark_of(level.phase),
-        sign,
+        signed,
     }
 }

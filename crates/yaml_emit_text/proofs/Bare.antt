@@ -1,7 +1,6 @@
 -- Tame texts that are written plain at once: alone, or behind a character and a space.
 use Rattle.std.proofs.Common.{◌≡◌, ℕ, ◌+◌, ◌≤◌, ◌<◌, length, length-append, append_assoc, get_or, List, [], ◌∷◌, ◌++◌, Bool, true, false, refl, sym, subst, ◌∙◌, ap, arith}
-use Rattle.std.specs.Prelude.{zero, suc, ◌==◌, nat_lt, if◌then◌else◌, Option, None}
-use Rattle.std.specs.Bool.{then_some}
+use Rattle.std.specs.Prelude.{zero, suc, ◌==◌, nat_lt, if◌then◌else◌}
 use Rattle.std.specs.List.{list_all}
 use Rattle.std.specs.Str.{chars, IsAscii}
 use Rattle.std.proofs.lemmas.Bool.{or_from, le-ltb}
@@ -241,8 +240,8 @@ puts_standing quoted pre framed f v e a b p q r put =
     let P : List ℕ → Type 0 = λ t. Puts a b (letters t) in
     subst P (joined_is quoted pre framed f v e p q r) put
 
-pub lead_signs : (item : Bool) (m : Option ℕ) → m ≡ then_some item 45
-    → marks m ++ marks None ≡ lead item
+pub lead_signs : (item : Bool) (m : ℕ) → m ≡ (if item then 45 else 0)
+    → marks m ++ marks 0 ≡ lead item
 lead_signs true m e = rw e refl
 lead_signs false m e = rw e refl
 
@@ -250,10 +249,10 @@ pub lead_ascii : (item : Bool) → IsAscii (lead item)
 lead_ascii true = IsAscii-cons 45 (32 ∷ []) (omega arith) (IsAscii-cons 32 [] (omega arith) IsAscii-nil)
 lead_ascii false = IsAscii-nil
 
-pub puts_behind_line : (item quoted : Bool) (m : Option ℕ) (f v e : List ℕ) (k : LineBreak) (n : ℕ)
-    (a b : Output) → m ≡ then_some item 45 → f ≡ beside quoted [] (34 ∷ [])
+pub puts_behind_line : (item quoted : Bool) (m : ℕ) (f v e : List ℕ) (k : LineBreak) (n : ℕ)
+    (a b : Output) → m ≡ (if item then 45 else 0) → f ≡ beside quoted [] (34 ∷ [])
     → e ≡ beside quoted [] (34 ∷ [])
-    → Puts a b (line k n ▹ (letters (marks m ++ marks None) ▹ letters (f ++ (v ++ e))))
+    → Puts a b (line k n ▹ (letters (marks m ++ marks 0) ▹ letters (f ++ (v ++ e))))
     → Puts a b (line k n ▹ letters (lead item ++ standing quoted v))
 puts_behind_line item quoted m f v e k n a b l p q put =
     let P : List ℕ → Type 0 = λ t. Puts a b (line k n ▹ (letters t ▹ letters (f ++ (v ++ e)))) in

@@ -1,6 +1,5 @@
 -- What stands behind what a line begins with.
-use Rattle.std.proofs.Common.{◌≡◌, inl, inr, ℕ, ◌+◌, ◌≤◌, length-append, List, [], ◌∷◌, ◌++◌, Bool, true, false, refl, sym, ◌∙◌, ap, arith}
-use Rattle.std.specs.Prelude.{Option, Some, None}
+use Rattle.std.proofs.Common.{◌≡◌, inl, inr, ℕ, zero, suc, ◌+◌, ◌≤◌, length-append, List, [], ◌∷◌, ◌++◌, Bool, true, false, refl, sym, ◌∙◌, ap, arith}
 use Rattle.std.specs.Str.{chars, IsAscii}
 use Rattle.std.proofs.lemmas.Str.Ascii.{IsAscii-cons}
 use Rattle.yaml_emit_sink.specs.declared.Cursor.{Cursor}
@@ -9,7 +8,7 @@ use Rattle.yaml_emit_sink.specs.declared.LineStart.{LineStart}
 use Rattle.yaml_emit_sink.specs.Text.{Item, letter}
 use Rattle.yaml_emit_sink.specs.Layout.{Layout, Rest, ◌▹◌, stay, when, char, letters, word, line}
 use Rattle.yaml_emit_sink.specs.Sink.{Output, Puts}
-use Rattle.yaml_emit_sink.specs.LineStarts.{marks, mark_word, line_start_text}
+use Rattle.yaml_emit_sink.specs.LineStarts.{marks, mark_word, sign_of, line_start_text}
 use Rattle.yaml_emit_sink.proofs.Ascii.{parted}
 use Rattle.yaml_emit_sink.proofs.Lines.{line_lands}
 use Rattle.yaml_emit_sink.proofs.Sinks.{puts_as, cond_true, cond_false}
@@ -28,17 +27,17 @@ unfolding Worded
 word_worded n q z = λ c rest l. refl
 
 -- behind the signs
-signed_at : (n : ℕ) (m s : Option ℕ) (x : Layout) (y : ℕ) (ys : List ℕ) (z : Layout) (kept : Bool)
+signed_at : (n : ℕ) (m s : ℕ) (x : Layout) (y : ℕ) (ys : List ℕ) (z : Layout) (kept : Bool)
     (rest : Rest) → Worded (n + 4) x (y ∷ ys) z
     → (mark_word m ▹ (mark_word s ▹ x)) (record { column = n; white = true; bare = true; kept = kept }) rest
     ≡ (letters (marks m ++ marks s) ▹ (letters (y ∷ ys) ▹ z)) (record { column = n; white = true; bare = true; kept = kept }) rest
 unfolding Worded letters
-signed_at n None None x y ys z kept rest h = h _ rest (omega arith)
-signed_at n (Some m) None x y ys z kept rest h = ap (λ (t : List Item). letter m ∷ t) (h _ rest (omega arith))
-signed_at n None (Some s) x y ys z kept rest h = ap (λ (t : List Item). letter s ∷ t) (h _ rest (omega arith))
-signed_at n (Some m) (Some s) x y ys z kept rest h = ap (λ (t : List Item). letter m ∷ letter 32 ∷ letter s ∷ t) (h _ rest (omega arith))
+signed_at n zero zero x y ys z kept rest h = h _ rest (omega arith)
+signed_at n (suc m) zero x y ys z kept rest h = ap (λ (t : List Item). letter (suc m) ∷ t) (h _ rest (omega arith))
+signed_at n zero (suc s) x y ys z kept rest h = ap (λ (t : List Item). letter (suc s) ∷ t) (h _ rest (omega arith))
+signed_at n (suc m) (suc s) x y ys z kept rest h = ap (λ (t : List Item). letter (suc m) ∷ letter 32 ∷ letter (suc s) ∷ t) (h _ rest (omega arith))
 
-signed_by : (comma : Bool) (k : LineBreak) (n : ℕ) (m s : Option ℕ) (x : Layout) (y : ℕ)
+signed_by : (comma : Bool) (k : LineBreak) (n : ℕ) (m s : ℕ) (x : Layout) (y : ℕ)
     (ys : List ℕ) (z : Layout) (c : Cursor) (rest : Rest) → Worded (n + 4) x (y ∷ ys) z
     → (when comma (char 44) ▹ (line k n ▹ (mark_word m ▹ (mark_word s ▹ x)))) c rest
     ≡ (when comma (char 44) ▹ (line k n ▹ (letters (marks m ++ marks s) ▹ (letters (y ∷ ys) ▹ z)))) c rest
@@ -50,10 +49,10 @@ signed_by true k n m s x y ys z c rest h =
 -- what stands there was written
 pub puts_signed : (t : LineStart) (x : Layout) (y : ℕ) (ys : List ℕ) (z : Layout) (a b : Output)
     → Worded (t.indent + 4) x (y ∷ ys) z → Puts a b ((line_start_text t ▹ letters (y ∷ ys)) ▹ z)
-    → Puts a b (when t.comma (char 44) ▹ (line t.line_break t.indent ▹ (mark_word t.mark ▹ (mark_word t.sign ▹ x))))
+    → Puts a b (when t.comma (char 44) ▹ (line t.line_break t.indent ▹ (mark_word t.mark ▹ (mark_word (sign_of t.signed) ▹ x))))
 puts_signed t x y ys z a b h p =
-    puts_as a b ((line_start_text t ▹ letters (y ∷ ys)) ▹ z) (when t.comma (char 44) ▹ (line t.line_break t.indent ▹ (mark_word t.mark ▹ (mark_word t.sign ▹ x))))
-    (λ rest. signed_by t.comma t.line_break t.indent t.mark t.sign x y ys z a.cursor rest h) p
+    puts_as a b ((line_start_text t ▹ letters (y ∷ ys)) ▹ z) (when t.comma (char 44) ▹ (line t.line_break t.indent ▹ (mark_word t.mark ▹ (mark_word (sign_of t.signed) ▹ x))))
+    (λ rest. signed_by t.comma t.line_break t.indent t.mark (sign_of t.signed) x y ys z a.cursor rest h) p
 
 quoted_by : (n : ℕ) (page : Page) (v : List ℕ) (c : Cursor) (rest : Rest) → IsLined n page.width v
     → c.column ≤ n + 14 → double_quoted page (chars v) c rest ≡ word (34 ∷ (v ++ 34 ∷ [])) c rest

@@ -184,6 +184,15 @@ pub fn put_standing(sink: &mut Sink, front: &[u8], framed: &[u8], quoted: bool, 
     );
 }
 
+// What stands in front of an item, or 0.
+// Inlined: it is known.
+#[inline(always)]
+fn item_mark(item: bool) -> u8
+    ensures { result ≡ (if item then ascii.hyphen else 0) }
+{
+    if item { b'-' } else { 0 }
+}
+
 /// The same at the start of a line, by whether it is an item.
 // Inlined: the numbers are known.
 #[inline(always)]
@@ -203,8 +212,8 @@ pub fn put_in_line(
         comma: false,
         line_break,
         indent,
-        mark: item.then_some(b'-'),
-        sign: None,
+        mark: item_mark(item),
+        signed: false,
     };
     sink.put_lined(
         &start,

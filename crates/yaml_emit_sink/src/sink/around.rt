@@ -4,10 +4,23 @@ ghost use Rattle.yaml_types.specs.Ascii as ascii;
 
 use super::Sink;
 use crate::append::{indented, lettered};
-use crate::feed::{
-    LineStart, has_room, is_brief_start, put_line_between, put_line_with, signs_size,
-};
+use crate::feed::{LineStart, has_room, is_brief_start, put_line_between, put_line_with, sign_of};
 use yaml_types::put_between;
+
+// The same, number by number: what lies between them isn't copied.
+// Inlined: some moves.
+#[inline(always)]
+fn again(start: &LineStart) -> LineStart
+    ensures { result ≡ start.now }
+{
+    LineStart {
+        comma: start.comma,
+        line_break: start.line_break,
+        indent: start.indent,
+        mark: start.mark,
+        signed: start.signed,
+    }
+}
 
 impl Sink {
     ghost use Rattle.std.specs.Str.{IsAscii};
@@ -54,15 +67,12 @@ impl Sink {
     }
 
     // A character with a space behind it, where one is due.
-    fn put_mark(&mut self, mark: Option<u8>)
+    fn put_mark(&mut self, mark: u8)
         ensures { Puts self.old self.new (letters (marks mark)) }
     {
-        match mark {
-            None => (),
-            Some(mark) => {
-                self.put(mark as char);
-                self.put(' ');
-            }
+        if mark != 0 {
+            self.put(mark as char);
+            self.put(' ');
         }
     }
 
@@ -79,7 +89,7 @@ impl Sink {
         self.put_comma(start.comma);
         self.put_line(start.line_break, start.indent);
         self.put_mark(start.mark);
-        self.put_mark(start.sign);
+        self.put_mark(sign_of(start.signed));
         self.put_joined(front, text, end);
     }
 
@@ -89,7 +99,7 @@ impl Sink {
     fn is_broken(&self, start: &LineStart) -> bool
         ensures { result ≡ (start.now.comma || must_break start.now.indent self.now.cursor) }
     {
-        start.comma || self.must_break(start.indent)
+        !self.cursor.bare || self.must_break(start.indent) || start.comma
     }
 
     /// What a line begins with, and behind it few characters of known numbers, a text and few more, in ASCII, one at least: at
@@ -105,14 +115,11 @@ impl Sink {
             ▹ letters (front.now ++ (text.now ++ end.now))) }
     {
         if self.is_broken(start) && is_brief_start(&self.output, self.fast_limit, start, text) {
-            put_line_between(&mut self.output, start, front, text, end);
+            let count = put_line_between(&mut self.output, start, front, text, end);
             indented(&mut self.cursor, start.indent);
-            lettered(
-                &mut self.cursor,
-                (signs_size(start) + front.len() + text.len() + end.len()) as u64,
-            );
+            lettered(&mut self.cursor, count as u64);
         } else {
-            self.put_lined_far(*start, front, text, end);
+            self.put_lined_far(again(start), front, text, end);
         }
     }
 
@@ -128,11 +135,11 @@ impl Sink {
         ensures { Puts self.old self.new (line_start_text start.now ▹ letters front.now) }
     {
         if self.is_broken(start) && is_brief_start(&self.output, self.fast_limit, start, front) {
-            put_line_with(&mut self.output, start, front);
+            let count = put_line_with(&mut self.output, start, front);
             indented(&mut self.cursor, start.indent);
-            lettered(&mut self.cursor, (signs_size(start) + front.len()) as u64);
+            lettered(&mut self.cursor, count as u64);
         } else {
-            self.put_lined_far(*start, front, b"", b"");
+            self.put_lined_far(again(start), front, b"", b"");
         }
     }
 

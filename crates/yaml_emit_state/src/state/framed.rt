@@ -1,7 +1,6 @@
 //! Laying out a scalar in canonical form: at once, where it stands in its line and has no properties, or the default tag alone.
-ghost use Rattle.std.specs.Prelude.{◌≡◌, [], ◌||◌, if◌then◌else◌, Bool, true, false, IsUtf8};
+ghost use Rattle.std.specs.Prelude.{◌≡◌, [], not, ◌&&◌, if◌then◌else◌, Bool, true, false, IsUtf8};
 ghost use Rattle.yaml_parse_model.specs.Constructors.{HasUtf8};
-ghost use Rattle.yaml_emit_state.specs.Framed.{sign_of};
 
 use super::Core;
 use crate::bare::is_free;
@@ -12,10 +11,11 @@ use yaml_emit_tags::put_tag;
 use yaml_emit_text::{Style, is_lined};
 use yaml_parse_model::{YAML_STR_TAG, yaml_event_body_t};
 
-fn sign_of(tagged: bool, quoted: bool) -> Option<u8>
-    ensures { result ≡ sign_of (tagged || quoted) }
+// Whether the sign of a value that may not be quoted stands in front of it: a tag stands for it.
+fn is_signed(tagged: bool, quoted: bool) -> bool
+    ensures { result ≡ (not tagged && not quoted) }
 {
-    if tagged || quoted { None } else { Some(b'!') }
+    !tagged && !quoted
 }
 
 // What stands in front of a value, by whether the default tag is written.
@@ -50,20 +50,33 @@ impl Core {
         ensures same { result ≡ false → self.new ≡ self.old }
     {
         let settings = self.settings(true);
-        match self.levels.top() {
+        match self.levels.innermost() {
             None => false,
             Some(level) => {
                 if begins_line(&settings, level) && is_lined(settings.width, level.indent, value) {
-                    let start = line_start_of(&settings, level, sign_of(tagged, quoted));
+                    let start = line_start_of(&settings, level, is_signed(tagged, quoted));
                     let front = front_of(tagged, b"\"", b"!!str \"");
+                    self.levels.step(false);
                     self.sink.put_lined(&start, front, value, b"\"");
-                    self.step(false);
                     true
                 } else {
                     false
                 }
             }
         }
+    }
+
+    // A scalar without properties.
+    // Out of line: what it needs is in registers.
+    #[inline(never)]
+    fn place_bare(&mut self, quoted: bool, value: &[u8]) -> bool
+        requires form { self.old.settings.canonical ≡ true }
+        requires due { self.old.place ≡ at.Node }
+        ensures laid { result ≡ true → (x : SaidScalar) (empty : Bool) → IsFramed false x
+            → x.quoted ≡ quoted → x.value ≡ value.now → LaysOut self.old self.new (scalar x) empty }
+        ensures same { result ≡ false → self.new ≡ self.old }
+    {
+        self.place_framed(false, quoted, value)
     }
 
     // A scalar in the general way.
@@ -98,7 +111,7 @@ impl Core {
             } => {
                 let quoted = *quoted_implicit;
                 if self.awaits_node() && is_free(anchor, tag, *plain_implicit, quoted) {
-                    if !self.place_framed(false, quoted, value) {
+                    if !self.place_bare(quoted, value) {
                         self.lay_named_scalar(event, empty);
                     }
                 } else {

@@ -106,11 +106,11 @@ impl Core {
             return false;
         }
         let settings = self.settings(true);
-        match self.levels.top() {
+        match self.levels.innermost() {
             None => false,
             Some(level) => {
                 if begins_line(&settings, level) {
-                    let start = line_start_of(&settings, level, None);
+                    let start = line_start_of(&settings, level, false);
                     self.sink.put_led(&start, &[opening_bracket(sequence)]);
                     self.sink.set_after_block();
                     self.open_by(&settings, false, true, sequence);

@@ -1,4 +1,4 @@
-use Rattle.std.proofs.Common.{◌≡◌, ◌+◌, ◌++◌, refl, sym, ◌∙◌, ap, arith, length, length-append}
+use Rattle.std.proofs.Common.{◌+◌, ◌++◌, refl, sym, ◌∙◌, ap, arith, length, length-append}
 use Rattle.yaml_emit_sink.specs.declared.cursor.Cursor.{Cursor}
 use Rattle.yaml_emit_sink.specs.Appends.{lettered}
 use Rattle.yaml_emit_sink.specs.LineStarts.{signs}
@@ -15,11 +15,10 @@ returns-then-is_brief_start c =
     let behind = length-append text end in
     let some = c.requires.some in
     let few = c.requires.few in
-    let size = c.signs_size.ensures in
-    let count : c.signs_size.result + length front + length text + length end ≡ length (signs start) + length (front ++ (text ++ end)) = omega (arith, whole, behind, size) in
+    let count = c.put_line_between-count.ensures.count in
     let line = c.is_brief_start.ensures.line c.if-is_brief_start.true in
     let near = c.is_brief_start.ensures.near c.if-is_brief_start.true in
     let short = c.is_brief_start.ensures.short c.if-is_brief_start.true in
     let fast = c.self.invariant.fast_limit (omega (arith, near)) in
     let broken = sym c.is_broken.ensures ∙ c.if-is_broken.true in
-    rw (← c.self.view_is) (puts_line_start start _ _ _ (rw (← c.self.view_is) at broken) line.0 line.1 fast.1.0 fast.1.1 refl refl refl c.requires.signs c.requires.ascii (omega (arith, some, whole, behind)) (omega (arith, short, few, whole, behind)) c.put_line_between.ensures.items (omega (arith, near, fast.0)) ((rw count at c.lettered.ensures) ∙ ap (λ (k : Cursor). lettered (length (signs start) + length (front ++ (text ++ end))) k) c.indented.ensures))
+    rw (← c.self.view_is) (puts_line_start start _ _ _ (rw (← c.self.view_is) at broken) line.0 line.1 fast.1.0 fast.1.1 refl refl refl c.requires.signs c.requires.ascii (omega (arith, some, whole, behind)) (omega (arith, short, few, whole, behind)) c.put_line_between-count.ensures.items (omega (arith, near, fast.0)) ((rw count at c.lettered.ensures) ∙ ap (λ (k : Cursor). lettered (length (signs start) + length (front ++ (text ++ end))) k) c.indented.ensures))

@@ -9,5 +9,5 @@ returns-then-begins_line-clause-laid c = λ h q empty anchor tag.
     let none = none_given _ _ (sym c.has_none.ensures ∙ c.if-not-has_none.false) in
     let begins = c.begins_line.ensures c.if-begins_line.true in
     let put = puts_both _ _ _ _ _ (rw c.line_start_of-start.ensures at c.put_led.ensures) c.set_after_block.ensures in
-    lays_bracket c.args.self.now c.open_by.new.self _ _ _ _ c.args.sequence q empty c.settings-settings.ensures (sym c.in-Some.is ∙ c.top.ensures) c.opening_bracket.ensures c.requires.form (c.awaits_node.ensures c.if-not-awaits_node.false) (anchor ∙ none.0) (tag ∙ none.1)
+    lays_bracket c.args.self.now c.open_by.new.self _ _ _ _ c.args.sequence q empty c.settings-settings.ensures (sym c.in-Some.is ∙ c.innermost.ensures) c.opening_bracket.ensures c.requires.form (c.awaits_node.ensures c.if-not-awaits_node.false) (anchor ∙ none.0) (tag ∙ none.1)
     (puts_bracket c.settings-settings.result _ _ _ _ begins put) c.open_by.ensures

@@ -1,5 +1,5 @@
 -- The words of the definitions, and the lemmas on them from below, that the files of lemmas share.
-pub use Rattle.std.proofs.lemmas.Bool.{agree_below_at, and_parts, and_right, cases_Bool, cases_lt, cond_both, eq-eqb, eqb-false, eqb-true, false_from_ne_true, le-ltb, lt-ltb, ltb-true, ne_eqb, not-true, or_cases, or_from, or_left, or_parts, true≢false}
+pub use Rattle.std.proofs.lemmas.Bool.{agree_below_at, and_parts, and_right, cases_Bool, cases_lt, cond_both, eq-eqb, eqb-false, eqb-true, false_from_ne_true, le-ltb, lt-ltb, ltb-true, ne_eqb, not-true, or_cases, or_from, or_left, or_parts, or_right, true≢false}
 pub use Rattle.std.proofs.lemmas.Bool.Decides.{nat_tests}
 pub use Rattle.std.proofs.lemmas.Int.{to_z-of_z, to_z_pos}
 pub use Rattle.std.proofs.lemmas.List.{drop_more, length-drop, length-take-le}
@@ -32,4 +32,5 @@ unfoldable pub use Rattle.yaml_scan_words.specs.Written.{capital}
 pub use Rattle.yaml_scan_words.specs.declared.between.GapSpot.{GapSpot}
 pub use Rattle.yaml_scan_words.specs.declared.directives.DirectiveName.{DirectiveName}
 pub use Rattle.yaml_scan_words.specs.declared.run.Run.{Run}
+pub use Rattle.yaml_scan_words.specs.declared.anchors.TheConstants.{ENDS}
 pub use Rattle.yaml_scan_words.specs.declared.run.TheConstants.{RANKS}

@@ -1,6 +1,6 @@
 //! Anchors and aliases.
 
-ghost use Rattle.std.specs.Prelude.{◌≡◌, ◌⊎◌, ◌||◌, ◌==◌, not};
+ghost use Rattle.std.specs.Prelude.{◌≡◌, ◌⊎◌, ◌||◌, ◌==◌, ◌∷◌, [], not};
 ghost use Rattle.yaml_scan_model.specs.Ascii as ascii;
 ghost use Rattle.yaml_scan_model.specs.Marks.{byte, mark_at};
 ghost use Rattle.yaml_scan_words.specs.Anchors as spec;
@@ -51,15 +51,31 @@ fn is_wrong(reader: &Reader, from: usize, to: usize) -> bool
 }
 
 /// Whether a name may end here.
-// Inlined: one look at a byte.
+// Inlined: mostly one look at a byte.
 #[inline(always)]
-#[tactic(auto, unfolding(crate::specs::Anchors::may_end_name))]
+#[tactic(auto, using(crate::proofs::NamesRead::ends_alone, crate::proofs::NamesRead::ends_wide))]
 fn may_end_name(reader: &Reader) -> bool
     ensures { result ≡ spec.may_end_name reader.now.text reader.now.at }
 {
-    reader.is_blank_or_end(0)
-        || matches!(
-            reader.here(),
-            b'?' | b':' | b',' | b']' | b'}' | b'%' | b'@' | b'`'
-        )
+    ends_at_once(reader.here()) || reader.is_blank_or_end(0)
+}
+
+/// Which bytes end a name whatever follows them: `1` a blank, a break of one byte, the end or one of ``? : , ] } % @ ` ``.
+static ENDS: [u8; 256] = *b"\
+    10000000011001000000000000000000\
+    10000100000010000000000000100001\
+    10000000000000000000000000000100\
+    10000000000000000000000000000100\
+    00000000000000000000000000000000\
+    00000000000000000000000000000000\
+    00000000000000000000000000000000\
+    00000000000000000000000000000000";
+
+/// Whether the byte ends a name by itself, and so whatever follows it.
+// Inlined: one load.
+#[inline(always)]
+fn ends_at_once(byte: u8) -> bool
+    ensures { result ≡ spec.may_end_name (byte ∷ []) 0 }
+{
+    ENDS[byte as usize] == b'1'
 }

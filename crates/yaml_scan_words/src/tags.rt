@@ -41,7 +41,7 @@ pub fn tag(spares: &mut Spares, reader: &mut Reader, flow: bool) -> Result<TagWo
     let mut behind = reader.ahead();
     leap_over(&mut behind, end);
     if !is_short_form(reader.byte(1), middle, &behind, flow) {
-        return whole_tag(spares, reader, flow);
+        return tag_apart(spares, reader, flow);
     }
     let handle = copied_run(spares, reader.text(), reader.place(), middle)?;
     let suffix = copied_since(spares, &behind, middle)?;
@@ -78,6 +78,21 @@ fn is_short_form(second: u8, middle: usize, behind: &Reader, flow: bool) -> bool
         && spec.may_end_tag flow behind.now.text behind.now.at)) }
 {
     second != b'<' && (middle != behind.place() && ends_tag(behind, flow))
+}
+
+/// The tag that stands here, in any form, by a reader of its own.
+// Inlined: so what is lent to the call, and its answer, have places of their own, which are written where it is called.
+#[inline(always)]
+fn tag_apart(spares: &mut Spares, reader: &mut Reader, flow: bool) -> Result<TagWord, ScanError>
+    requires { byte reader.old.text reader.old.at ≡ ascii.exclamation }
+    ensures { ReadsAs (IsTagWord reader.old.text reader.old.at) spec.tag_end reader.old.text
+        (mark_at reader.old.text reader.old.at) reader.new result
+        (spec.tag_at flow reader.old.text reader.old.at) }
+{
+    let mut lent = reader.ahead();
+    let word = whole_tag(spares, &mut lent, flow)?;
+    *reader = lent;
+    Ok(word)
 }
 
 /// The tag that stands here, in any form.

@@ -10,10 +10,10 @@ use yaml_round_device::{yaml_run_fault_t, yaml_std_output_t, yaml_write_all};
 /// How the words name standard input.
 pub(crate) const STANDARD: &'static str = "-";
 
-/// How many bytes of a file are read at once: each call of the system costs some microseconds.
-pub(crate) const READ_AHEAD: usize = 65_536;
+// How many bytes are read at once of a file that is read whole: each call of the system costs a part of a microsecond.
+const READ_AHEAD: usize = 65_536;
 
-/// How many are read first: many files have no more.
+// How many are read first: many files have no more.
 const READ_FIRST: usize = 4096;
 
 // How many times a read that is interrupted is made in all.

@@ -3,7 +3,7 @@
 use crate::compare::compare;
 use crate::engine::{Ended, Engine};
 use crate::fault::{FAILED, run_failed, told_wrong};
-use crate::file::{READ_AHEAD, STANDARD, Streams};
+use crate::file::{STANDARD, Streams};
 use crate::judge::judge_all;
 use crate::order::{Does, Order, Task, order_in};
 use crate::words::{matches_of, tell};
@@ -11,34 +11,9 @@ use clap::ArgMatches;
 use std::alloc::Global;
 use std::convert::AsStr;
 use std::fs;
-use std::fs::OpenFile;
-use std::io::{BufReader, Read, Write};
+use std::io::{Read, Write};
 use std::rt::Files;
 use yaml_round_device::{yaml_command_t, yaml_form_t, yaml_run_fault_t};
-
-// How many bytes of a file are to be read ahead. Room for them is set to zero, and what goes through it is copied once more, so there
-// is none for a file on a disk that wouldn't fill it. Of one that has more by then all the same is read.
-fn ahead_of<F: OpenFile>(file: &F) -> usize {
-    match file.metadata() {
-        Ok(told) if told.is_file() && told.len() < READ_AHEAD as u64 => 0,
-        _ => READ_AHEAD,
-    }
-}
-
-// Runs a command over a file, of which more is read at once than the engine asks for, where there is room for that.
-fn run_over_file<G: Engine, F: Read + OpenFile, W: Write>(
-    engine: &G,
-    alloc: Global,
-    task: &Task,
-    file: &mut F,
-    writer: &mut W,
-) -> Ended {
-    let ahead = ahead_of(file);
-    if let Ok(mut ahead) = BufReader::with_capacity(alloc, ahead, &mut *file) {
-        return engine.run(alloc, task, &mut ahead, writer);
-    }
-    engine.run(alloc, task, file, writer)
-}
 
 // Runs a command over a file, or over standard input.
 fn run_path<G: Engine, H: Files, R: Read, W: Write, E>(
@@ -52,7 +27,7 @@ fn run_path<G: Engine, H: Files, R: Read, W: Write, E>(
         return engine.run(streams.alloc, task, &mut streams.input, &mut streams.output);
     }
     match fs::open(rt, path) {
-        Ok(mut file) => run_over_file(engine, streams.alloc, task, &mut file, &mut streams.output),
+        Ok(mut file) => engine.run(streams.alloc, task, &mut file, &mut streams.output),
         Err(_) => Err(yaml_run_fault_t::Read),
     }
 }

@@ -66,7 +66,8 @@ pub fn yaml_events(
     match reading_of(alloc, input, from) {
         Err(refusal) => Err(refusal),
         Ok(mut reading) => {
-            let answer = lines_of(alloc, &mut reading);
+            // Mostly the lines have at most twice the input's bytes.
+            let answer = lines_of(alloc, &mut reading, input.len().saturating_mul(2));
             let_go(reading);
             answer
         }

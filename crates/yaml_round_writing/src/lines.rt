@@ -1,6 +1,6 @@
 //! The lines of an input's events.
 
-ghost use Rattle.std.specs.Prelude.{ℕ, List};
+ghost use Rattle.std.specs.Prelude.{◌≡◌, ℕ, List, []};
 ghost use Rattle.yaml_parse.specs.Faults.{Answers};
 ghost use Rattle.yaml_round_laws_documents.specs.round_content.Input.{ReadsInput};
 ghost use Rattle.yaml_round_reading.specs.Reading.{AreReal};
@@ -34,14 +34,29 @@ fn push_lines(reading: &mut Reading<'_>, lines: &mut Vec<u8>) -> Result<(), yaml
     }
 }
 
-/// The lines of a reading's events.
+// No lines, and room for so many bytes of them, if there is so much.
+fn empty_lines(alloc: Global, room: usize) -> Vec<u8>
+    ensures { result.items ≡ [] }
+{
+    match Vec::with_capacity(alloc, room) {
+        Ok(lines) => lines,
+        Err(_) => Vec::new(alloc),
+    }
+}
+
+/// The lines of a reading's events, for so many bytes of which room is asked for at first: where there is less it is asked for as they
+/// come.
 #[tactic(auto, using(crate::proofs::Judging::listed, crate::proofs::Judging::not_listed))]
-pub fn lines_of(alloc: Global, reading: &mut Reading<'_>) -> Result<Vec<u8>, yaml_fault_t>
+pub fn lines_of(
+    alloc: Global,
+    reading: &mut Reading<'_>,
+    room: usize,
+) -> Result<Vec<u8>, yaml_fault_t>
     requires { AreReal reading.old.parser.events }
     ensures { (from : yaml_encoding_t) (input : List ℕ) → ReadsInput from input reading.old.parser
         → Answers list_layers bytes_of (IsListed from input) result }
 {
-    let mut lines = Vec::new(alloc);
+    let mut lines = empty_lines(alloc, room);
     match push_lines(reading, &mut lines) {
         Err(fault) => Err(fault),
         Ok(()) => Ok(lines),

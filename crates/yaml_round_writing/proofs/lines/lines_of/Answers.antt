@@ -6,4 +6,4 @@ returns-in-Err c = λ from input h. not_listed from input c.args.reading.now.par
 
 pub returns-in-Ok : goal.returns-in-Ok
 returns-in-Ok c = λ from input h.
-    listed from input c.args.reading.now.parser c.push_lines.new.lines.items c.new-lines.result.items h c.new-lines.ensures.items c.in-Ok.ensures.0 c.in-Ok.ensures.1
+    listed from input c.args.reading.now.parser c.push_lines.new.lines.items c.empty_lines-lines.result.items h c.empty_lines-lines.ensures c.in-Ok.ensures.0 c.in-Ok.ensures.1

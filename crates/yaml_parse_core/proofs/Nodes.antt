@@ -219,14 +219,23 @@ pub anywhere : (z : Await) (b : yaml_mark_t) (q : Properties) (k : yaml_token_ty
 anywhere z b q k u s new r a e i h c =
     node_anywhere z b q (wants_of (site_of z)) k u s new r a e refl h (bare_node (wants_of (site_of z)) k u s new r a i (c _))
 
--- the rest of a node, whatever it is
+-- the rest of a node, by what is awaited
+pub known_behind : (z : Await) (b : yaml_mark_t) (q : Properties) (t : Token) (s : List State)
+    (new : Properties → List State) (r : Seen) (a : Around) → (z ≡ await.Nothing → ⊥)
+    → is_begun z ≡ true → ((w : Wants) → ((y : yaml_mark_t) (p : Properties)
+    → await_of z y p ≡ state.with_properties w p ∷ [])
+    → Turns (state.with_properties w q) t s r a new)
+    → TurnsOn (await_of z b q ++ s) t r a new
+known_behind await.Nothing b q t s new r a n e h = absurd (n refl)
+known_behind await.Rest b q t s new r a n e h = h (Block None) (λ y p. refl)
+known_behind await.RestOfKey b q t s new r a n e h = h (Block (Some side.Key)) (λ y p. refl)
+known_behind await.RestOfValue b q t s new r a n e h = h (Block (Some side.Value)) (λ y p. refl)
+known_behind await.RestInside b q t s new r a n e h = h Flow (λ y p. refl)
+known_behind z b q t s new r a n e h = absurd (false≢true e)
+
+-- the same, whatever it is
 pub behind : (z : Await) (b : yaml_mark_t) (q : Properties) (t : Token) (s : List State)
     (new : Properties → List State) (r : Seen) (a : Around) → (z ≡ await.Nothing → ⊥)
     → is_begun z ≡ true → ((w : Wants) → Turns (state.with_properties w q) t s r a new)
     → TurnsOn (await_of z b q ++ s) t r a new
-behind await.Nothing b q t s new r a n e h = absurd (n refl)
-behind await.Rest b q t s new r a n e h = h (Block None)
-behind await.RestOfKey b q t s new r a n e h = h (Block (Some side.Key))
-behind await.RestOfValue b q t s new r a n e h = h (Block (Some side.Value))
-behind await.RestInside b q t s new r a n e h = h Flow
-behind z b q t s new r a n e h = absurd (false≢true e)
+behind z b q t s new r a n e h = known_behind z b q t s new r a n e (λ w i. h w)

@@ -301,6 +301,29 @@ fn alone(machine: &mut Machine) -> Turn
     Turn::LeftProperties
 }
 
+// An anchor behind properties.
+// Inlined into its two callers, which are out of line.
+#[inline(always)]
+pub(crate) fn rest_anchor(
+    machine: &mut Machine,
+    waiting: &mut Waiting,
+    token: &mut TokenSlot,
+) -> Turn
+    ensures turns { (w : Wants) (k : yaml_token_type_t) → k ≡ kinds.YAML_ANCHOR_TOKEN
+        → ((b : yaml_mark_t) (p : Properties)
+        → await_of machine.old.awaited b p ≡ state.with_properties w p ∷ [])
+        → TurnsTo (state.with_properties w (properties_of waiting.old) ∷ open_of machine.old)
+        (whole_of k token.old) (seen result) machine.new waiting.new }
+    ensures kept { keeps (seen result) ≡ true → token.new ≡ token.old }
+{
+    if waiting.has_anchor {
+        alone(machine)
+    } else {
+        join_anchor(waiting, token);
+        Turn::Silent
+    }
+}
+
 // The rest of a node behind properties.
 #[inline(always)]
 pub(crate) fn at_rest(
@@ -318,14 +341,7 @@ pub(crate) fn at_rest(
     ensures kept { keeps (seen result) ≡ true → token.new ≡ token.old }
 {
     match kind {
-        yaml_token_type_t::YAML_ANCHOR_TOKEN => {
-            if waiting.has_anchor {
-                alone(machine)
-            } else {
-                join_anchor(waiting, token);
-                Turn::Silent
-            }
-        }
+        yaml_token_type_t::YAML_ANCHOR_TOKEN => rest_anchor(machine, waiting, token),
         yaml_token_type_t::YAML_TAG_TOKEN => {
             if waiting.has_tag {
                 alone(machine)

@@ -11,7 +11,7 @@ ghost use Rattle.yaml_parse_core.specs.Turns.{keeps, TurnsTo};
 use crate::document::{at_directives, at_document, at_documents, at_first, at_stream};
 use crate::level::{Await, Level};
 use crate::machine::{Machine, Turn};
-use crate::node::{at_rest, flow_mapping, flow_sequence, node, scalar};
+use crate::node::{at_rest, flow_mapping, flow_sequence, node, rest_anchor, scalar};
 use crate::part::{at_colon, at_entries, at_mapping_more, at_others, at_pairs, at_sequence_more};
 use crate::place::{at_mapping_items, at_optional, at_sequence_items, wants_of};
 use crate::told::Waiting;
@@ -119,6 +119,28 @@ fn at_kind(
     }
 }
 
+// What follows properties: mostly, where it is no scalar, another one.
+// Out of line: few nodes have properties.
+#[tactic(auto, using(crate::proofs::Nodes::known_behind))]
+#[inline(never)]
+fn behind_properties(
+    machine: &mut Machine,
+    waiting: &mut Waiting,
+    token: &mut TokenSlot,
+    kind: yaml_token_type_t,
+) -> Turn
+    requires awaited { machine.old.awaited ≡ Nothing → ⊥ }
+    requires begun { views.is_begun machine.old.awaited ≡ true }
+    ensures turns { TurnsTo (states_of machine.old waiting.old) (whole_of kind token.old)
+        (seen result) machine.new waiting.new }
+    ensures kept { keeps (seen result) ≡ true → token.new ≡ token.old }
+{
+    match kind {
+        yaml_token_type_t::YAML_ANCHOR_TOKEN => rest_anchor(machine, waiting, token),
+        _ => at_kind(machine, waiting, token, kind),
+    }
+}
+
 // Whether no node is awaited, or properties of it have come.
 #[inline(always)]
 fn is_begun(awaited: Await) -> bool
@@ -151,7 +173,7 @@ fn at_awaited(
                 machine.awaited = Await::Nothing;
                 Turn::NamedScalar
             }
-            _ => at_kind(machine, waiting, token, kind),
+            _ => behind_properties(machine, waiting, token, kind),
         };
     }
     match kind {

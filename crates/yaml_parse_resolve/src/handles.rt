@@ -50,7 +50,8 @@ impl TagDirectives {
         if self.list.as_slice().is_empty() {
             return None;
         }
-        self.prefix_among(handle)
+        let told = self.prefix_among(handle);
+        told
     }
 
     /// The prefix that one of some directives gives the handle.

@@ -19,6 +19,7 @@ use yaml_parse_model::{
     BodySlot, TokenSlot, mark_again, yaml_event_body_t, yaml_event_t, yaml_mapping_style_t,
     yaml_scalar_style_t, yaml_sequence_style_t, yaml_token_type_t,
 };
+use yaml_scan_model::lifted;
 
 // The style of the token's text. Where the token is no scalar it has neither: the machine says that it is one.
 // Inlined: mostly the token's kind is known.
@@ -142,10 +143,13 @@ fn tell_named_collection(
     ensures { (b : TokenBody) → body_of event.new ≡ named_event waiting.old (shape_at shape b) }
 {
     let anchor = moved_if(waiting.has_anchor, &mut waiting.anchor);
-    let tag = moved_if(waiting.has_tag, &mut waiting.handle);
     keep_properties(event, waiting);
     vacate(event, &mut token.text, &mut token.other);
-    start(shape, anchor, tag, event);
+    if waiting.has_tag {
+        start(shape, anchor, Some(lifted(&mut waiting.handle)), event);
+    } else {
+        start(shape, anchor, None, event);
+    }
 }
 
 // The event of a node behind properties. Its tag stands in full in the place of its handle.

@@ -20,7 +20,7 @@ use crate::nodes::tell_named;
 use crate::room::vacate;
 use crate::scalars::empty;
 use crate::slots::{end_collection, put};
-use std::alloc::{AllocError, Global};
+use std::alloc::Global;
 use yaml_parse_core::{Implied, Shape, Waiting};
 use yaml_parse_grammar::{ParseFault, ParseProblem};
 use yaml_parse_model::{
@@ -28,7 +28,7 @@ use yaml_parse_model::{
     yaml_event_t, yaml_fault_t, yaml_mark_t, yaml_memory_fault, yaml_origin_t,
     yaml_version_directive_t,
 };
-use yaml_scan_model::{followed, put_back, refilled};
+use yaml_scan_model::{followed, put_back, put_each};
 
 /// The directives of a document.
 #[derive(Drop)]
@@ -65,55 +65,79 @@ pub fn lack_memory(fault: &mut yaml_fault_t)
 #[inline(never)]
 pub fn refuse(
     problem: ParseProblem,
-    problem_mark: yaml_mark_t,
-    context_mark: yaml_mark_t,
+    problem_mark: &yaml_mark_t,
+    context_mark: &yaml_mark_t,
     fault: &mut yaml_fault_t,
 )
-    ensures { fault_of fault.new ≡ parser_fault problem problem_mark context_mark }
+    ensures { fault_of fault.new ≡ parser_fault problem problem_mark.now context_mark.now }
 {
     let refused = ParseFault {
         problem,
-        problem_mark,
-        context_mark,
+        problem_mark: *problem_mark,
+        context_mark: *context_mark,
     };
     *fault = refused.located();
 }
 
-// What a handle stands for where no directive says it.
-fn find_default(handle: &[u8]) -> Option<&'static [u8]>
-    ensures { option_map (λ t. t.now) result ≡ default_prefix handle.now }
-{
-    if handle == b"!".as_slice() {
-        Some(b"!".as_slice())
-    } else if handle == b"!!".as_slice() {
-        Some(SECONDARY_PREFIX)
-    } else {
-        None
-    }
-}
-
-// The prefix and then the suffix, in the room of a text that is done with.
-// Inlined: each tag of a scalar is joined once.
+// Puts the prefix and then the suffix in the place of the tag's handle.
+// Inlined: where the prefix is known, it is two moves.
 #[inline(always)]
-fn join(room: &mut Vec<u8>, prefix: &[u8], suffix: &[u8]) -> Result<(), AllocError>
-    ensures { OnOk result (room.new.items ≡ prefix.now ++ suffix.now) }
+fn join(waiting: &mut Waiting, prefix: &[u8], fault: &mut yaml_fault_t) -> bool
+    ensures joined { result ≡ true
+        → waiting.new.handle.items ≡ prefix.now ++ waiting.old.suffix.items }
+    ensures none { result ≡ false → fault_of fault.new ≡ memory_fault Parser }
+    ensures same { waiting.new ≡ record waiting.old { handle = waiting.new.handle } }
 {
-    let own = refilled(room, prefix, suffix.len())?;
-    put_back(room, followed(own, suffix));
-    Ok(())
+    let suffix = waiting.suffix.as_slice();
+    waiting.handle.clear();
+    match waiting.handle.reserve(prefix.len() + suffix.len()) {
+        Ok(()) => {
+            let mut own = moved(&mut waiting.handle);
+            put_each(&mut own, prefix);
+            put_back(&mut waiting.handle, followed(own, suffix));
+            true
+        }
+        Err(_) => {
+            lack_memory(fault);
+            false
+        }
+    }
 }
 
-// What stands before the suffix of a tag in full: nothing, where it has no handle.
-fn prefix_of_tag<'a>(tags: &'a TagDirectives, handle: &[u8]) -> Option<&'a [u8]>
-    ensures { (suffix : List ℕ) → option_map (λ t. t.now ++ suffix) result ≡ resolved tags.now
-        handle.now suffix }
+// The same behind a prefix that is none of the default ones.
+// Out of line: most tags have one of these.
+#[inline(never)]
+fn join_other(waiting: &mut Waiting, prefix: &[u8], fault: &mut yaml_fault_t) -> bool
+    ensures joined { result ≡ true
+        → waiting.new.handle.items ≡ prefix.now ++ waiting.old.suffix.items }
+    ensures none { result ≡ false → fault_of fault.new ≡ memory_fault Parser }
+    ensures same { waiting.new ≡ record waiting.old { handle = waiting.new.handle } }
 {
-    if handle.is_empty() {
-        return Some(b"".as_slice());
-    }
-    match tags.prefix_of(handle) {
-        Some(prefix) => Some(prefix),
-        None => find_default(handle),
+    join(waiting, prefix, fault)
+}
+
+// Puts the tag in full in the place of its handle, of which no directive says what it stands for.
+// Inlined: some comparisons.
+#[inline(always)]
+fn resolve_default(waiting: &mut Waiting, fault: &mut yaml_fault_t) -> bool
+    ensures resolves { Resolves (option_map (λ prefix. prefix ++ waiting.old.suffix.items)
+        (default_prefix waiting.old.handle.items)) waiting.old.tag_from waiting.old.from result
+        waiting.new.handle.items (fault_of fault.new) }
+    ensures same { waiting.new ≡ record waiting.old { handle = waiting.new.handle } }
+{
+    let handle = waiting.handle.as_slice();
+    if handle == b"!".as_slice() {
+        join(waiting, b"!".as_slice(), fault)
+    } else if handle == b"!!".as_slice() {
+        join(waiting, SECONDARY_PREFIX, fault)
+    } else {
+        refuse(
+            ParseProblem::UndefinedHandle,
+            &waiting.tag_from,
+            &waiting.from,
+            fault,
+        );
+        false
     }
 }
 
@@ -126,23 +150,13 @@ fn resolve(tags: &TagDirectives, waiting: &mut Waiting, fault: &mut yaml_fault_t
         waiting.new.handle.items (fault_of fault.new) }
     ensures same { waiting.new ≡ record waiting.old { handle = waiting.new.handle } }
 {
-    match prefix_of_tag(tags, waiting.handle.as_slice()) {
-        Some(prefix) => match join(&mut waiting.handle, prefix, waiting.suffix.as_slice()) {
-            Ok(()) => true,
-            Err(_) => {
-                lack_memory(fault);
-                false
-            }
-        },
-        None => {
-            refuse(
-                ParseProblem::UndefinedHandle,
-                waiting.tag_from,
-                waiting.from,
-                fault,
-            );
-            false
-        }
+    let handle = waiting.handle.as_slice();
+    if handle.is_empty() {
+        return join_other(waiting, b"".as_slice(), fault);
+    }
+    match tags.prefix_of(handle) {
+        Some(prefix) => join_other(waiting, prefix, fault),
+        None => resolve_default(waiting, fault),
     }
 }
 
@@ -185,7 +199,7 @@ pub(crate) fn note_version(
 {
     match directives.version {
         Some(_) => {
-            refuse(ParseProblem::DuplicateVersion, at, at, fault);
+            refuse(ParseProblem::DuplicateVersion, &at, &at, fault);
             Settled::Refused
         }
         None => {
@@ -193,7 +207,7 @@ pub(crate) fn note_version(
                 directives.version = Some(yaml_version_directive_t { major, minor });
                 Settled::Noted
             } else {
-                refuse(ParseProblem::IncompatibleVersion, at, at, fault);
+                refuse(ParseProblem::IncompatibleVersion, &at, &at, fault);
                 Settled::Refused
             }
         }
@@ -214,7 +228,7 @@ pub(crate) fn note_tag(
 {
     match directives.tags.prefix_of(handle.as_slice()) {
         Some(_) => {
-            refuse(ParseProblem::DuplicateHandle, at, at, fault);
+            refuse(ParseProblem::DuplicateHandle, &at, &at, fault);
             Settled::Refused
         }
         None => match directives

@@ -1,6 +1,6 @@
 //! The room of texts that are done with.
 
-ghost use Rattle.std.specs.Prelude.{◌≡◌, None, true};
+ghost use Rattle.std.specs.Prelude.{◌≡◌, None, true, IfSome};
 ghost use Rattle.yaml_parse_model.specs.Events.{text_of};
 ghost use Rattle.yaml_parse_core.specs.Views.{text_if};
 ghost use Rattle.yaml_parse_resolve.specs.Bare.{OwnsNothing};
@@ -77,9 +77,9 @@ pub(crate) fn clears(earlier: &mut yaml_event_body_t, room: &mut Vec<u8>) -> boo
 #[inline(always)]
 fn leave_room(text: Vec<u8>, place: &mut Vec<u8>, other: &mut Vec<u8>) {
     if place.capacity() == 0 {
-        *place = text;
+        put_back(place, text);
     } else if other.capacity() == 0 {
-        *other = text;
+        put_back(other, text);
     }
 }
 
@@ -95,9 +95,12 @@ pub(crate) fn vacate(earlier: &mut yaml_event_body_t, place: &mut Vec<u8>, other
 
 /// Takes the properties out of a scalar, if the slot of events holds one. Their room is left in the places of an anchor and of a
 /// suffix that are done with, as far as these have none.
-// Inlined into its one caller, which is out of line.
+// Inlined: mostly some comparisons.
 #[inline(always)]
-pub(crate) fn keep_properties(earlier: &mut yaml_event_body_t, waiting: &mut Waiting) {
+pub(crate) fn keep_properties(earlier: &mut yaml_event_body_t, waiting: &mut Waiting)
+    ensures handle { waiting.new.handle ≡ waiting.old.handle }
+    ensures has_tag { waiting.new.has_tag ≡ waiting.old.has_tag }
+{
     match earlier {
         yaml_event_body_t::Scalar { anchor, tag, .. } => {
             leave_in(anchor, &mut waiting.anchor);
@@ -112,61 +115,64 @@ pub(crate) fn keep_properties(earlier: &mut yaml_event_body_t, waiting: &mut Wai
 #[inline(always)]
 fn leave_in(text: &mut Option<Vec<u8>>, place: &mut Vec<u8>) {
     if place.capacity() == 0 && text.is_some() {
-        *place = taken_or_empty(*place.allocator(), text);
+        put_back(place, taken_or_empty(*place.allocator(), text));
     }
 }
 
-// Lets go of what a slot of events holds.
-// Out of line: few slots hold directives.
+/// Lets go of what a slot of events holds.
+// Out of line, and cold: few slots hold directives, or more than one text.
+#[cold]
 #[inline(never)]
-fn clear(earlier: &mut yaml_event_body_t)
+pub(crate) fn clear(earlier: &mut yaml_event_body_t)
     ensures { OwnsNothing earlier.new }
 {
     *earlier = yaml_event_body_t::No;
 }
 
-/// Takes the texts out of a slot of events, and answers the room of one, or an empty text.
-// Inlined into its callers, which are out of line.
+/// Takes the one text out of a slot of events, or answers an empty one; nothing, where the slot holds more.
+// Inlined: some moves.
+#[inline(always)]
+pub(crate) fn one_room(alloc: Global, earlier: &mut yaml_event_body_t) -> Option<Vec<u8>>
+    ensures { IfSome result (λ _. OwnsNothing earlier.new) }
+{
+    match *earlier {
+        yaml_event_body_t::Scalar {
+            anchor: None,
+            tag: None,
+            ref mut value,
+            ..
+        } => Some(lifted(value)),
+        yaml_event_body_t::Alias { ref mut anchor } => Some(lifted(anchor)),
+        yaml_event_body_t::SequenceStart {
+            ref mut anchor,
+            tag: None,
+            ..
+        } => Some(taken_or_empty(alloc, anchor)),
+        yaml_event_body_t::MappingStart {
+            ref mut anchor,
+            tag: None,
+            ..
+        } => Some(taken_or_empty(alloc, anchor)),
+        yaml_event_body_t::Scalar { .. }
+        | yaml_event_body_t::SequenceStart { .. }
+        | yaml_event_body_t::MappingStart { .. }
+        | yaml_event_body_t::DocumentStart { .. } => None,
+        _ => Some(Vec::new(alloc)),
+    }
+}
+
+/// Takes the texts out of a slot of events, and answers the room of one, or an empty text where there are more.
+// Inlined: see `one_room`.
 #[inline(always)]
 pub(crate) fn taken_room(alloc: Global, earlier: &mut yaml_event_body_t) -> Vec<u8>
     ensures { OwnsNothing earlier.new }
 {
-    match earlier {
-        yaml_event_body_t::Scalar {
-            anchor,
-            tag,
-            value,
-            ..
-        } => {
-            let_text_go(anchor);
-            let_text_go(tag);
-            lifted(value)
-        }
-        yaml_event_body_t::Alias { anchor } => lifted(anchor),
-        yaml_event_body_t::SequenceStart { anchor, tag, .. } => {
-            let_text_go(tag);
-            taken_or_empty(alloc, anchor)
-        }
-        yaml_event_body_t::MappingStart { anchor, tag, .. } => {
-            let_text_go(tag);
-            taken_or_empty(alloc, anchor)
-        }
-        yaml_event_body_t::DocumentStart { .. } => {
+    match one_room(alloc, earlier) {
+        Some(room) => room,
+        None => {
             clear(earlier);
             Vec::new(alloc)
         }
-        _ => Vec::new(alloc),
-    }
-}
-
-// Lets a text go, if there is one.
-// Inlined: mostly a look at whether there is one.
-#[inline(always)]
-fn let_text_go(text: &mut Option<Vec<u8>>)
-    ensures { text.new ≡ None }
-{
-    if text.is_some() {
-        *text = None;
     }
 }
 
@@ -176,9 +182,13 @@ fn let_text_go(text: &mut Option<Vec<u8>>)
 fn taken_or_empty(alloc: Global, text: &mut Option<Vec<u8>>) -> Vec<u8>
     ensures { text.new ≡ None }
 {
-    match text.take() {
+    match text {
         None => Vec::new(alloc),
-        Some(it) => it,
+        Some(it) => {
+            let own = lifted(it);
+            mem::forget(mem::replace(text, None));
+            own
+        }
     }
 }
 

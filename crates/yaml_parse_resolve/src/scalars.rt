@@ -10,7 +10,9 @@ ghost use Rattle.yaml_parse_core.specs.Views.{text_if};
 ghost use Rattle.yaml_parse_resolve.specs.Bare.{IsScalar, OwnsNothing};
 ghost use Rattle.yaml_parse_resolve.specs.Settles.{named_event};
 
-use crate::room::{exchange, exchange_texts, is_bare, put_bare, taken_room};
+use crate::room::{
+    clear, exchange, exchange_texts, is_bare, keep_properties, one_room, put_bare, taken_room,
+};
 use std::alloc::Global;
 use std::mem;
 use yaml_parse_core::Waiting;
@@ -65,7 +67,8 @@ fn make_scalar(alloc: Global, event: &mut yaml_event_body_t)
     }
 }
 
-// A scalar with the anchor that waited, and the tag in full in the place of its handle, where it has them.
+// A scalar with the anchor that waited, and the tag in full in the place of its handle, where it has them. The texts of an earlier one
+// are left in place of the new ones.
 // Inlined: some loads and stores.
 #[inline(always)]
 fn put_scalar(
@@ -81,25 +84,6 @@ fn put_scalar(
         form.style }
 {
     make_scalar(*value.allocator(), event);
-    fill_scalar(waiting, has_anchor, has_tag, value, form, event);
-}
-
-// The same, where the slot holds a scalar. The texts of that one are left in place of the new ones.
-// Inlined: some loads and stores.
-#[inline(always)]
-fn fill_scalar(
-    waiting: &mut Waiting,
-    has_anchor: bool,
-    has_tag: bool,
-    value: &mut Vec<u8>,
-    form: Form,
-    event: &mut yaml_event_body_t,
-)
-    requires { IsScalar event.old }
-    ensures { body_of event.new ≡ told.scalar (text_if has_anchor waiting.old.anchor.items)
-        (text_if has_tag waiting.old.handle.items) value.old.items form.plain form.quoted
-        form.style }
-{
     match *event {
         yaml_event_body_t::Scalar {
             anchor: ref mut last_anchor,
@@ -186,13 +170,21 @@ fn bare_over(
 )
     ensures { body_of event.new ≡ node_event None None (item.scalar value.old.items style) }
 {
-    match *event {
-        yaml_event_body_t::Scalar { .. } => untagged(waiting, false, value, style, event),
-        _ => {
-            let room = taken_room(*value.allocator(), event);
-            start_bare(mem::replace(value, room), style, event);
-        }
+    keep_properties(event, waiting);
+    match one_room(*value.allocator(), event) {
+        Some(room) => start_bare(mem::replace(value, room), style, event),
+        None => bare_over_more(value, style, event),
     }
+}
+
+// The same, where it holds more than one.
+// Out of line: see `alias_over`.
+#[inline(never)]
+fn bare_over_more(value: &mut Vec<u8>, style: yaml_scalar_style_t, event: &mut yaml_event_body_t)
+    ensures { body_of event.new ≡ node_event None None (item.scalar value.old.items style) }
+{
+    clear(event);
+    start_bare(moved(value), style, event);
 }
 
 /// A scalar without properties. The texts of an earlier scalar are left in place of the new one, and in the room of properties.
@@ -222,28 +214,6 @@ pub(crate) fn bare(
         }
         _ => other_bare(waiting, value, style, event),
     }
-}
-
-// A scalar without a tag, and with that anchor if it has one.
-// Inlined into its two callers.
-#[inline(always)]
-fn untagged(
-    waiting: &mut Waiting,
-    has_anchor: bool,
-    value: &mut Vec<u8>,
-    style: yaml_scalar_style_t,
-    event: &mut yaml_event_body_t,
-)
-    ensures { body_of event.new ≡ node_event (text_if has_anchor waiting.old.anchor.items) None
-        (item.scalar value.old.items style) }
-{
-    let plain = is_plain(style);
-    let form = Form {
-        plain,
-        quoted: !plain,
-        style,
-    };
-    put_scalar(waiting, has_anchor, false, value, form, event);
 }
 
 // A scalar with the tag that stands in full in the place of its handle. The tag `!` says that it has none.
@@ -284,7 +254,13 @@ pub(crate) fn named(
         tagged(waiting, value, style, event);
     } else {
         let has_anchor = waiting.has_anchor;
-        untagged(waiting, has_anchor, value, style, event);
+        let plain = is_plain(style);
+        let form = Form {
+            plain,
+            quoted: !plain,
+            style,
+        };
+        put_scalar(waiting, has_anchor, false, value, form, event);
     }
 }
 

@@ -7,10 +7,10 @@ ghost use Rattle.yaml_parse_grammar.specs.Items as item;
 ghost use Rattle.yaml_parse_grammar.specs.Resolve.{node_event};
 ghost use Rattle.yaml_parse_resolve.specs.Bare.{OwnsNothing};
 
-use crate::room::{put_bare, taken_room};
+use crate::room::{clear, one_room, put_bare};
 use std::mem;
 use yaml_parse_model::{
-    yaml_event_body_t, yaml_event_t, yaml_mapping_style_t, yaml_sequence_style_t,
+    moved, yaml_event_body_t, yaml_event_t, yaml_mapping_style_t, yaml_sequence_style_t,
 };
 
 /// Another event in the slot.
@@ -49,8 +49,20 @@ pub(crate) fn end_collection(is_sequence: bool, slot: &mut yaml_event_body_t)
 pub(crate) fn put_alias(slot: &mut yaml_event_body_t, name: &mut Vec<u8>)
     ensures { body_of slot.new ≡ told.alias name.old.items }
 {
-    let room = taken_room(*name.allocator(), slot);
-    start_alias(slot, mem::replace(name, room));
+    match one_room(*name.allocator(), slot) {
+        Some(room) => start_alias(slot, mem::replace(name, room)),
+        None => alias_over(slot, name),
+    }
+}
+
+// The same, where the slot holds more than one text.
+// Out of line: the call that clears it would have registers put aside for each alias.
+#[inline(never)]
+fn alias_over(slot: &mut yaml_event_body_t, name: &mut Vec<u8>)
+    ensures { body_of slot.new ≡ told.alias name.old.items }
+{
+    clear(slot);
+    start_alias(slot, moved(name));
 }
 
 // An alias, in a slot that holds no text.

@@ -251,8 +251,8 @@ fn refused(problem: ParseProblem, buffers: &mut StepBuffers, fault: &mut yaml_fa
     let at = buffers.token.start_mark;
     refuse(
         problem,
-        at,
-        context(problem, buffers.machine.top.opener, at),
+        &at,
+        &context(problem, buffers.machine.top.opener, at),
         fault,
     );
     finish(&mut buffers.machine);

@@ -1,5 +1,5 @@
 -- Bytes of a tag or a value that are added as they are.
-use Rattle.std.specs.Prelude.{◌≡◌, ◌≤◌, ℕ, zero, suc, ◌+◌, ◌*◌, Bool, true, not, ◌&&◌, ◌==◌, nat_lt, List, ◌++◌, length, slice_index, Option, None, Some, Vec, vec_len, vec_capacity}
+use Rattle.std.specs.Prelude.{◌≡◌, ◌≤◌, ℕ, zero, suc, ◌+◌, ◌*◌, Bool, true, not, ◌&&◌, ◌==◌, nat_lt, List, ◌++◌, length, slice_index, Vec, vec_len, vec_capacity}
 use Rattle.std.specs.Global.{Global}
 use Rattle.yaml_scan_model.specs.Ascii as ascii
 use Rattle.yaml_scan_model.specs.Ends.{most_short}
@@ -17,11 +17,6 @@ kept_run (suc n) text p = kept_run n text p && is_kept (slice_index text (p + n)
 -- it is short, and added as it is
 abbrev pub IsPlain : List ℕ → Type 0
 IsPlain text = (length text ≤ most_short) × (escaped text ≡ text)
-
--- there is none, or it is such
-abbrev pub IsPlainGiven : Option (List ℕ) → Type 0
-IsPlainGiven None = Unit {0}
-IsPlainGiven (Some text) = IsPlain text
 
 -- what was put before the rest tells the text: each byte took two at most of the room, which stays
 pub record PutsFront (old new : Vec ℕ Global) (text rest : List ℕ) : Type 0 where

@@ -3,21 +3,28 @@
 ghost use Rattle.std.specs.Prelude.{◌≡◌, ◌+◌, ◌*◌, ◌^◌, ◌<◌, ◌≤◌, ◌++◌, [], ◌∷◌, true, length, codes, vec_len, vec_capacity, OnOk};
 ghost use Rattle.yaml_scan_model.specs.Ascii as ascii;
 ghost use Rattle.yaml_parse_model.specs.Events.{event_of, text_of};
-ghost use Rattle.yaml_scan_model.specs.Ends.{IsShort, given_length};
-ghost use Rattle.yaml_round_lines.specs.Runs.{IsPlain, IsPlainGiven};
-ghost use Rattle.yaml_round_lines.specs.EventLine.{escaped, anchor_part, tag_part, indicator_of, mark_part, event_line, PutsBare};
+ghost use Rattle.yaml_scan_model.specs.Ends.{given_length};
+ghost use Rattle.yaml_round_lines.specs.Runs.{IsPlain};
+ghost use Rattle.yaml_round_lines.specs.EventLine.{escaped, anchor_part, tag_part, indicator_of, mark_part, event_line, Puts, PutsOver};
 
-use crate::runs::{are_kept_ends, is_plain, put_runs};
+use crate::parts::{put_node, put_part, put_plain_node, put_plain_part};
+use crate::runs::are_kept_ends;
 use std::alloc::AllocError;
 use yaml_parse_model::{yaml_event_body_t, yaml_event_t};
 use yaml_scan_model::{
-    SHORT, is_short, moved, put_back, put_between, put_each, put_near, put_short,
-    yaml_scalar_style_t,
+    SHORT, moved, put_back, put_between, put_each, put_short, yaml_scalar_style_t,
 };
 
 // What the line of a node takes at most where its texts are short: twelve beside them, and twice of a tag and of a value. For a
 // longer one so much is made as well: then the short ones behind it have room.
 const ROOM: usize = 12 + 5 * SHORT;
+
+// The parts of which `put_plain_part` has a copy each.
+struct ScalarTag;
+
+struct ScalarValue;
+
+struct StartTag;
 
 fn style_indicator(style: yaml_scalar_style_t) -> u8
     ensures { result ≡ indicator_of style }
@@ -62,140 +69,6 @@ fn has_room(line: &Vec<u8>, count: usize) -> bool
     line.len() + count <= line.capacity()
 }
 
-// Whether a tag that may be left out is plain.
-// Inlined: see `is_kept_run`.
-#[inline(always)]
-fn is_plain_tag(tag: &Option<Vec<u8>>) -> bool
-    ensures plain { result ≡ true → IsPlainGiven (text_of tag.now) }
-    ensures short { result ≡ true → IsShort tag.now }
-{
-    match tag {
-        None => true,
-        Some(tag) => is_plain(tag),
-    }
-}
-
-// Whether a node's texts are plain, and its anchor is short.
-// Inlined: see `is_kept_run`.
-#[inline(always)]
-fn are_plain(anchor: &Option<Vec<u8>>, tag: &Option<Vec<u8>>) -> bool
-    ensures { result ≡ true → (IsShort anchor.now × IsShort tag.now)
-        × IsPlainGiven (text_of tag.now) }
-{
-    is_short(anchor) && is_plain_tag(tag)
-}
-
-// Puts a name, by few moves where it is short.
-// Inlined: the way is known.
-#[inline(always)]
-fn put_name(line: &mut Vec<u8>, name: &[u8], short: bool)
-    requires short { short ≡ true → length name.now ≤ SHORT }
-    requires room { vec_len line.old + length name.now ≤ vec_capacity line.old }
-    ensures items { line.new.items ≡ line.old.items ++ name.now }
-    ensures len { vec_len line.new ≤ vec_len line.old + length name.now }
-    ensures room { vec_capacity line.old ≤ vec_capacity line.new }
-{
-    if short {
-        put_short(line, name);
-    } else {
-        put_near(line, name);
-    }
-}
-
-// Puts the bytes of a tag or a value, by few moves where it is plain.
-// Inlined: the way is known.
-#[inline(always)]
-fn put_escaped(line: &mut Vec<u8>, text: &[u8], plain: bool)
-    requires plain { plain ≡ true → IsPlain text.now }
-    requires room { vec_len line.old + 2 * length text.now ≤ vec_capacity line.old }
-    ensures items { line.new.items ≡ line.old.items ++ escaped text.now }
-    ensures len { vec_len line.new ≤ vec_len line.old + 2 * length text.now }
-    ensures room { vec_capacity line.old ≤ vec_capacity line.new }
-{
-    if plain {
-        put_short(line, text);
-    } else {
-        put_runs(line, text);
-    }
-}
-
-// Puts a text behind a space and an indicator, and a byte that ends it.
-// Inlined: some stores, and a call where the text isn't plain.
-#[inline(always)]
-fn put_part(line: &mut Vec<u8>, indicator: u8, text: &[u8], end: u8, plain: bool)
-    requires plain { plain ≡ true → IsPlain text.now }
-    requires room { vec_len line.old + (2 * length text.now + 3) ≤ vec_capacity line.old }
-    ensures items { line.new.items ≡ line.old.items
-        ++ (ascii.space ∷ indicator ∷ (escaped text.now ++ end ∷ [])) }
-    ensures len { vec_len line.new ≤ vec_len line.old + (2 * length text.now + 3) }
-    ensures room { vec_capacity line.old ≤ vec_capacity line.new }
-{
-    line.push_reserved(b' ');
-    line.push_reserved(indicator);
-    put_escaped(line, text, plain);
-    line.push_reserved(end);
-}
-
-// Puts an anchor, if there is one.
-// Inlined: some stores, and a call where it isn't short.
-#[inline(always)]
-fn put_anchor(line: &mut Vec<u8>, anchor: &Option<Vec<u8>>, short: bool)
-    requires short { short ≡ true → IsShort anchor.now }
-    requires room { vec_len line.old + (given_length anchor.now + 2) ≤ vec_capacity line.old }
-    ensures items { line.new.items ≡ line.old.items ++ anchor_part (text_of anchor.now) }
-    ensures len { vec_len line.new ≤ vec_len line.old + (given_length anchor.now + 2) }
-    ensures room { vec_capacity line.old ≤ vec_capacity line.new }
-{
-    match anchor {
-        None => {}
-        Some(anchor) => {
-            put_each(line, b" &");
-            put_name(line, anchor, short);
-        }
-    }
-}
-
-// Puts a tag, if there is one.
-// Inlined: see `put_part`.
-#[inline(always)]
-fn put_tag(line: &mut Vec<u8>, tag: &Option<Vec<u8>>, plain: bool)
-    requires plain { plain ≡ true → IsPlainGiven (text_of tag.now) }
-    requires room { vec_len line.old + (2 * given_length tag.now + 3) ≤ vec_capacity line.old }
-    ensures items { line.new.items ≡ line.old.items ++ tag_part (text_of tag.now) }
-    ensures len { vec_len line.new ≤ vec_len line.old + (2 * given_length tag.now + 3) }
-    ensures room { vec_capacity line.old ≤ vec_capacity line.new }
-{
-    match tag {
-        None => {}
-        Some(tag) => put_part(line, b'<', tag, b'>', plain),
-    }
-}
-
-// Puts a node's word, its anchor and its tag, by few moves where they are short and plain.
-// Inlined: see `put_part`.
-#[inline(always)]
-fn put_node(
-    line: &mut Vec<u8>,
-    word: &[u8; 4],
-    anchor: &Option<Vec<u8>>,
-    tag: &Option<Vec<u8>>,
-    plain: bool,
-)
-    requires short { plain ≡ true → IsShort anchor.now }
-    requires plain { plain ≡ true → IsPlainGiven (text_of tag.now) }
-    requires room { vec_len line.old + (given_length anchor.now + 2 * given_length tag.now + 9)
-        ≤ vec_capacity line.old }
-    ensures items { line.new.items ≡ line.old.items
-        ++ (word.now ++ (anchor_part (text_of anchor.now) ++ tag_part (text_of tag.now))) }
-    ensures len { vec_len line.new ≤ vec_len line.old
-        + (given_length anchor.now + 2 * given_length tag.now + 9) }
-    ensures room { vec_capacity line.old ≤ vec_capacity line.new }
-{
-    put_each(line, word);
-    put_anchor(line, anchor, plain);
-    put_tag(line, tag, plain);
-}
-
 // Pushes the line of a scalar of any length.
 // Out of line: most are short, and have no byte that is escaped.
 #[inline(never)]
@@ -211,33 +84,60 @@ fn push_long_scalar(
         ++ ascii.space ∷ indicator_of style ∷ (escaped value.now ++ ascii.line_feed ∷ []))) }
 {
     reserve_twice(line, ROOM + length_of(anchor), length_of(tag) + value.len())?;
-    put_node(line, b"=VAL", anchor, tag, false);
-    put_part(line, style_indicator(style), value, b'\n', false);
+    put_node(line, b"=VAL", anchor, tag);
+    put_part(line, style_indicator(style), value, b'\n');
     Ok(())
 }
 
-// Pushes the line of a scalar.
-// Out of line: see `push_alias`.
-#[inline(never)]
-fn push_scalar(
+// Puts the line of a scalar, where its anchor is short and its tag and value are plain; else something that is cut off again.
+// Inlined into its one caller.
+#[inline(always)]
+fn put_plain_scalar(
     line: &mut Vec<u8>,
     anchor: &Option<Vec<u8>>,
     tag: &Option<Vec<u8>>,
     value: &[u8],
     style: yaml_scalar_style_t,
-) -> Result<(), AllocError>
-    ensures { OnOk result (line.new.items ≡ line.old.items
-        ++ (codes "=VAL" ++ (anchor_part (text_of anchor.now) ++ tag_part (text_of tag.now))
-        ++ ascii.space ∷ indicator_of style ∷ (escaped value.now ++ ascii.line_feed ∷ []))) }
+) -> bool
+    requires { vec_len line.old + ROOM ≤ vec_capacity line.old }
+    ensures { PutsOver result line.old.items
+        (codes "=VAL" ++ (anchor_part (text_of anchor.now) ++ tag_part (text_of tag.now))
+        ++ ascii.space ∷ indicator_of style ∷ (escaped value.now ++ ascii.line_feed ∷ []))
+        line.new.items }
 {
-    if are_plain(anchor, tag) && is_plain(value) && has_room(line, ROOM) {
-        let mut own = moved(line);
-        put_node(&mut own, b"=VAL", anchor, tag, true);
-        put_part(&mut own, style_indicator(style), value, b'\n', true);
-        put_back(line, own);
-        return Ok(());
+    if !put_plain_node::<ScalarTag>(line, b"=VAL", anchor, tag) {
+        return false;
     }
-    push_long_scalar(line, anchor, tag, value, style)
+    put_plain_part::<ScalarValue>(line, style_indicator(style), value, b'\n')
+}
+
+// The same where there is room; else nothing.
+// Out of line: see `put_alias`. It leaves what isn't plain to its caller, so that no argument is kept for that.
+#[inline(never)]
+fn put_named_scalar(
+    line: &mut Vec<u8>,
+    anchor: &Option<Vec<u8>>,
+    tag: &Option<Vec<u8>>,
+    value: &[u8],
+    style: yaml_scalar_style_t,
+) -> bool
+    ensures { Puts result line.old.items
+        (codes "=VAL" ++ (anchor_part (text_of anchor.now) ++ tag_part (text_of tag.now))
+        ++ ascii.space ∷ indicator_of style ∷ (escaped value.now ++ ascii.line_feed ∷ []))
+        line.new.items }
+{
+    if !has_room(line, ROOM) {
+        return false;
+    }
+    let mut own = moved(line);
+    let from = own.len();
+    if put_plain_scalar(&mut own, anchor, tag, value, style) {
+        put_back(line, own);
+        return true;
+    }
+    own.truncate(from);
+    put_back(line, own);
+    false
 }
 
 // Pushes the line of a collection's start, of any length.
@@ -254,36 +154,41 @@ fn push_long_start(
         ++ ascii.line_feed ∷ [])) }
 {
     reserve_twice(line, ROOM + length_of(anchor), length_of(tag))?;
-    put_node(line, word, anchor, tag, false);
+    put_node(line, word, anchor, tag);
     line.push_reserved(b'\n');
     Ok(())
 }
 
-// Pushes the line of a collection's start.
-// Out of line: see `push_alias`.
+// Puts the line of a collection's start, where there is room, its anchor is short and its tag is plain; else nothing.
+// Out of line: see `put_named_scalar`.
 #[inline(never)]
-fn push_start(
+fn put_named_start(
     line: &mut Vec<u8>,
     word: &[u8; 4],
     anchor: &Option<Vec<u8>>,
     tag: &Option<Vec<u8>>,
-) -> Result<(), AllocError>
-    ensures { OnOk result (line.new.items ≡ line.old.items
-        ++ (word.now ++ (anchor_part (text_of anchor.now) ++ tag_part (text_of tag.now))
-        ++ ascii.line_feed ∷ [])) }
+) -> bool
+    ensures { Puts result line.old.items
+        (word.now ++ (anchor_part (text_of anchor.now) ++ tag_part (text_of tag.now))
+        ++ ascii.line_feed ∷ []) line.new.items }
 {
-    if are_plain(anchor, tag) && has_room(line, ROOM) {
-        let mut own = moved(line);
-        put_node(&mut own, word, anchor, tag, true);
+    if !has_room(line, ROOM) {
+        return false;
+    }
+    let mut own = moved(line);
+    let from = own.len();
+    if put_plain_node::<StartTag>(&mut own, word, anchor, tag) {
         own.push_reserved(b'\n');
         put_back(line, own);
-        return Ok(());
+        return true;
     }
-    push_long_start(line, word, anchor, tag)
+    own.truncate(from);
+    put_back(line, own);
+    false
 }
 
 // Pushes the line of an alias of any length.
-// Out of line: most are short, and have room.
+// Out of line: see `push_long_scalar`.
 #[inline(never)]
 fn push_long_alias(line: &mut Vec<u8>, name: &[u8]) -> Result<(), AllocError>
     ensures { OnOk result (line.new.items ≡ line.old.items
@@ -294,23 +199,27 @@ fn push_long_alias(line: &mut Vec<u8>, name: &[u8]) -> Result<(), AllocError>
     Ok(())
 }
 
-// Pushes the line of an alias.
+// Puts the line of an alias where there is room and its name is short; else nothing.
 // Out of line, as each arm of the function that calls it: LLVM looks at a hundred uses of the line at most to see that
 // nobody keeps it, and reads its place again behind each byte where it can't.
 #[inline(never)]
-fn push_alias(line: &mut Vec<u8>, name: &[u8]) -> Result<(), AllocError>
-    ensures { OnOk result (line.new.items ≡ line.old.items
-        ++ (codes "=ALI *" ++ name.now ++ ascii.line_feed ∷ [])) }
+fn put_alias(line: &mut Vec<u8>, name: &[u8]) -> bool
+    ensures { Puts result line.old.items (codes "=ALI *" ++ name.now ++ ascii.line_feed ∷ [])
+        line.new.items }
 {
-    if name.len() <= SHORT && has_room(line, SHORT + 7) {
-        put_between(line, b"=ALI *", name, b"\n");
-        return Ok(());
+    if name.len() > SHORT || !has_room(line, SHORT + 7) {
+        return false;
     }
-    push_long_alias(line, name)
+    let mut own = moved(line);
+    put_each(&mut own, b"=ALI *");
+    put_short(&mut own, name);
+    own.push_reserved(b'\n');
+    put_back(line, own);
+    true
 }
 
 // Pushes the line of a document's start or end: a word, and a mark where it isn't left out.
-// Out of line: see `push_alias`.
+// Out of line: see `put_alias`.
 #[inline(never)]
 fn push_document(
     line: &mut Vec<u8>,
@@ -343,7 +252,7 @@ fn push_long_bare(
 {
     reserve_twice(line, ROOM, value.len())?;
     put_each(line, b"=VAL");
-    put_part(line, style_indicator(style), value, b'\n', false);
+    put_part(line, style_indicator(style), value, b'\n');
     Ok(())
 }
 
@@ -389,7 +298,9 @@ fn put_kept(line: &mut Vec<u8>, value: &[u8], style: yaml_scalar_style_t, size: 
     requires most { length value.now ≤ size + size }
     requires half { size ≤ 16 }
     requires room { vec_len line.old + (SHORT + 7) ≤ vec_capacity line.old }
-    ensures { PutsBare result line.old.items value.now style line.new.items }
+    ensures { Puts result line.old.items
+        (codes "=VAL " ++ indicator_of style ∷ (escaped value.now ++ ascii.line_feed ∷ []))
+        line.new.items }
 {
     if !are_kept_ends(value, size) {
         return false;
@@ -401,7 +312,9 @@ fn put_kept(line: &mut Vec<u8>, value: &[u8], style: yaml_scalar_style_t, size: 
 // The same, whatever the value's length and the room are. Shorter ones are asked for first: they are more.
 // No hint: LLVM inlines it, since it has one caller.
 fn put_bare(line: &mut Vec<u8>, value: &[u8], style: yaml_scalar_style_t) -> bool
-    ensures { PutsBare result line.old.items value.now style line.new.items }
+    ensures { Puts result line.old.items
+        (codes "=VAL " ++ indicator_of style ∷ (escaped value.now ++ ascii.line_feed ∷ []))
+        line.new.items }
 {
     if !has_room(line, SHORT + 7) {
         return false;
@@ -445,7 +358,7 @@ fn push_bare(line: &mut Vec<u8>, value: &[u8], style: yaml_scalar_style_t) -> Re
 }
 
 // Pushes the line of an event that its word alone tells, and that is rare or has no room yet.
-// Out of line: see `push_alias`.
+// Out of line: see `put_alias`.
 #[inline(never)]
 fn push_rare(line: &mut Vec<u8>, word: &[u8]) -> Result<(), AllocError>
     requires { length word.now < 16 }
@@ -472,9 +385,34 @@ fn push_word(line: &mut Vec<u8>, word: &[u8]) -> Result<(), AllocError>
     push_rare(line, word)
 }
 
-// Pushes the line of any event.
+// Puts the line of an event with a name, where there is room, and its texts are short and plain; else nothing.
 // Inlined into its one caller, so that the kind is looked at once.
 #[inline(always)]
+fn put_named(line: &mut Vec<u8>, event: &yaml_event_t) -> bool
+    ensures { Puts result line.old.items (event_line (event_of event.now).body) line.new.items }
+{
+    match &event.body {
+        yaml_event_body_t::Alias { anchor } => put_alias(line, anchor),
+        yaml_event_body_t::Scalar {
+            anchor,
+            tag,
+            value,
+            style,
+            ..
+        } => put_named_scalar(line, anchor, tag, value, *style),
+        yaml_event_body_t::SequenceStart { anchor, tag, .. } => {
+            put_named_start(line, b"+SEQ", anchor, tag)
+        }
+        yaml_event_body_t::MappingStart { anchor, tag, .. } => {
+            put_named_start(line, b"+MAP", anchor, tag)
+        }
+        _ => false,
+    }
+}
+
+// Pushes the line of any event.
+// Out of line: it is that of a rare event, of a long one, or of one that has no room yet.
+#[inline(never)]
 fn push_any(line: &mut Vec<u8>, event: &yaml_event_t) -> Result<(), AllocError>
     ensures { OnOk result (line.new.items ≡ line.old.items ++ event_line
         (event_of event.now).body) }
@@ -489,32 +427,35 @@ fn push_any(line: &mut Vec<u8>, event: &yaml_event_t) -> Result<(), AllocError>
         yaml_event_body_t::DocumentEnd { implicit } => push_document(
             line, b"-DOC", *implicit, b" ...",
         ),
-        yaml_event_body_t::Alias { anchor } => push_alias(line, anchor),
+        yaml_event_body_t::Alias { anchor } => push_long_alias(line, anchor),
         yaml_event_body_t::Scalar {
             anchor,
             tag,
             value,
             style,
             ..
-        } => push_scalar(line, anchor, tag, value, *style),
+        } => push_long_scalar(line, anchor, tag, value, *style),
         yaml_event_body_t::SequenceStart { anchor, tag, .. } => {
-            push_start(line, b"+SEQ", anchor, tag)
+            push_long_start(line, b"+SEQ", anchor, tag)
         }
         yaml_event_body_t::SequenceEnd => push_rare(line, b"-SEQ"),
         yaml_event_body_t::MappingStart { anchor, tag, .. } => {
-            push_start(line, b"+MAP", anchor, tag)
+            push_long_start(line, b"+MAP", anchor, tag)
         }
         yaml_event_body_t::MappingEnd => push_rare(line, b"-MAP"),
     }
 }
 
 // Pushes the line of an event that isn't met most.
-// Inlined: see `push_any` and `push_bare`.
+// Inlined: see `put_named` and `push_bare`.
 #[inline(always)]
 fn push_other(line: &mut Vec<u8>, event: &yaml_event_t) -> Result<(), AllocError>
     ensures { OnOk result (line.new.items ≡ line.old.items ++ event_line
         (event_of event.now).body) }
 {
+    if put_named(line, event) {
+        return Ok(());
+    }
     if push_any(line, event).is_err() {
         line.clear();
         return Err(AllocError);

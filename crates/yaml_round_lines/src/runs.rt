@@ -85,32 +85,6 @@ pub(crate) fn are_kept_ends(text: &[u8], size: usize) -> bool
     is_kept_run(text, 0, size) & is_kept_run(text, text.len() - size, size)
 }
 
-/// Whether the text is short, and none of its bytes is escaped.
-// Inlined: see `is_kept_run`. Shorter ones are asked for first: they are more.
-#[inline(always)]
-pub(crate) fn is_plain(text: &[u8]) -> bool
-    ensures { result ≡ true → IsPlain text.now }
-{
-    let count = text.len();
-    if count < 4 {
-        if count == 0 {
-            true
-        } else if count < 2 {
-            are_kept_ends(text, 1)
-        } else {
-            are_kept_ends(text, 2)
-        }
-    } else if count < 8 {
-        are_kept_ends(text, 4)
-    } else if count < 16 {
-        are_kept_ends(text, 8)
-    } else if count <= SHORT {
-        are_kept_ends(text, 16)
-    } else {
-        false
-    }
-}
-
 // Puts the chunks in front that have kept bytes alone; the answer is the rest.
 // Inlined: the line is the caller's own, so that a chunk is a load, some vector instructions and its stores.
 #[inline(always)]

@@ -108,6 +108,13 @@ pub puts_bracket : (s : Settings) (l : Level) (x : ℕ) (a b : Output) → Begin
 unfolding letters
 puts_bracket s l x a b t p = begun s l false (word (x ∷ []) ▹ after_block) x [] after_block a b t (word_worded (l.indent + 4) (x ∷ []) after_block) p
 
+-- a name was written
+pub puts_led_name : (s : Settings) (l : Level) (i : ℕ) (name : List ℕ) (simple : Bool)
+    (a b : Output) → BeginsLine s l → simple ≡ false
+    → Puts a b (line_start_text (line_start s l false) ▹ letters (i ∷ name))
+    → Puts a b (before_node s (Some l) simple ▹ word (i ∷ name))
+puts_led_name s l i name simple a b t e p = rw e (begun s l false (word (i ∷ name)) i name stay a b t (word_worded (l.indent + 4) (i ∷ name) stay) p)
+
 -- ---- that it is laid out
 
 frees : (x : Scalar) → is_free x ≡ true → Parts x

@@ -73,13 +73,18 @@ some_bytes v t = let some = tame_some v t in grind (arith, nat_tests, some)
 few_bytes : (v : List ℕ) → length v ≤ 80 → nat_le (0 + 0 + length v) 128 ≡ true
 few_bytes v h = grind (arith, nat_tests, h)
 
+pub tame_style : (s : Settings) (ds : List TagDirective) (pos : NodePosition) (x : Scalar)
+    → s.canonical ≡ false → IsTame x.value → asks_plain x.style ≡ true
+    → (has (scalar_tag false x) || x.plain) ≡ true
+    → style_of (context_of s ds) pos x ≡ style.Plain
+unfolding style_of
+tame_style s ds pos x e t asked untagged = rw e (tame_taken _ x.value _ _ pos.flow _ _ t asked untagged (some_bytes x.value t))
+
 bare_style : (s : Settings) (ds : List TagDirective) (pos : NodePosition) (x : Scalar)
     → s.canonical ≡ false → IsInline false x → style_of (context_of s ds) pos x ≡ style.Plain
-unfolding style_of
 bare_style s ds pos x e b =
     let p = plainly x b in
-    let untagged : (has (scalar_tag false x) || x.plain) ≡ true = ap (λ (k : Bool). has (scalar_tag false x) || k) p.0 ∙ or-true (has (scalar_tag false x)) in
-    rw e (tame_taken _ x.value _ _ pos.flow _ _ b.stands p.1 untagged (some_bytes x.value b.stands))
+    tame_style s ds pos x e b.stands p.1 (ap (λ (k : Bool). has (scalar_tag false x) || k) p.0 ∙ or-true (has (scalar_tag false x)))
 
 double_taken : (a : Allowed) (s : yaml_scalar_style_t) (untagged flow simple empty : Bool)
     → is_double s ≡ true → taken a s untagged flow simple empty ≡ style.Double

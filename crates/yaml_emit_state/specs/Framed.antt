@@ -34,6 +34,12 @@ is_behind_simple (Items fresh) = false
 is_behind_simple (Keys fresh) = false
 is_behind_simple (Value was_simple) = was_simple
 
+-- an item of a block sequence, by the phase of its collection and whether that is flow
+abbrev pub is_block_item : Phase → Bool → Bool
+is_block_item (Items fresh) flow = not flow
+is_block_item (Keys fresh) flow = false
+is_block_item (Value was_simple) flow = false
+
 abbrev pub line_start : Settings → Level → Bool → LineStart
 line_start s l signed = record {
   comma = has_comma l.phase;

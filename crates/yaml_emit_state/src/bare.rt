@@ -25,7 +25,8 @@ pub fn is_given(text: &Option<Vec<u8>>) -> bool
     }
 }
 
-fn asks_plain(style: yaml_scalar_style_t) -> bool
+/// Whether a style may be plain.
+pub fn asks_plain(style: yaml_scalar_style_t) -> bool
     ensures { result ≡ asks_plain style }
 {
     match style {

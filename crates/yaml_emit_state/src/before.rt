@@ -5,7 +5,7 @@ ghost use Rattle.yaml_emit_text.specs.Sink.{Puts};
 ghost use Rattle.yaml_emit_text.specs.Layout.{◌▹◌, when, char};
 ghost use Rattle.yaml_emit_layout.specs.Nodes.{comma, turned, question, before_item, before_key, before_value, closer, line_at};
 ghost use Rattle.yaml_emit_layout.specs.State.{before_node, closer_at, is_fresh};
-ghost use Rattle.yaml_emit_state.specs.Framed.{has_comma, mark_of, is_behind_simple, line_start, BeginsLine};
+ghost use Rattle.yaml_emit_state.specs.Framed.{has_comma, mark_of, is_behind_simple, is_block_item, line_start, BeginsLine};
 ghost use Rattle.yaml_emit_state.specs.Given.{opening_bracket, closing_bracket};
 
 use yaml_emit_layout::{Level, Phase};
@@ -230,11 +230,22 @@ fn are_near(indent: u64, more: u64) -> bool
     indent <= NEAR && more <= NEAR
 }
 
-fn is_behind_simple(phase: Phase) -> bool
+/// Whether a node is a value behind a simple key.
+pub fn is_behind_simple(phase: Phase) -> bool
     ensures { result ≡ is_behind_simple phase }
 {
     match phase {
         Phase::Value(was_simple) => was_simple,
+        _ => false,
+    }
+}
+
+/// Whether a node is an item of a block sequence.
+pub fn is_block_item(level: &Level) -> bool
+    ensures { result ≡ is_block_item level.now.phase level.now.flow }
+{
+    match level.phase {
+        Phase::Items(_) => !level.flow,
         _ => false,
     }
 }

@@ -1,7 +1,5 @@
 //! What is wrong with an event: its names, its tag, its place, and its directives or flags.
-ghost use Rattle.std.specs.List.{list_all};
 ghost use Rattle.std.specs.Prelude.{◌≡◌, [], None, Some, true, false, if◌then◌else◌, ◌&&◌, ◌||◌, map, IfOk, OnOk, OnErr};
-ghost use Rattle.yaml_scan_model.specs.Classes.{is_alpha_byte};
 ghost use Rattle.yaml_parse_model.specs.Events.{text_of, directive_of, body_of};
 ghost use Rattle.yaml_emit_layout.specs.Content.{emitter_event};
 ghost use Rattle.yaml_emit_layout.specs.Grammar.{name_problem, anchor_problem, tag_problem, kept_tag, event_problem, version_problem, handle_problem, directives_problem, last_problem, ends_phase, begins_node, node_problem, place_problem, problem_by, or_else};
@@ -12,40 +10,11 @@ use crate::bare::is_given;
 use std::alloc::{AllocError, Global};
 use std::collections::BTreeSet;
 use yaml_emit_layout::{Expected, Level, Phase, Problem};
+use yaml_emit_text::are_alphas;
 use yaml_parse_model::yaml_event_body_t;
 use yaml_scan_model::{yaml_tag_directive_t, yaml_version_directive_t};
 
-// Whether each byte is one of `0-9 A-Z a-z _ -`, `1`.
-static ALPHAS: [u8; 256] = *b"\
-    00000000000000000000000000000000\
-    00000000000001001111111111000000\
-    01111111111111111111111111100001\
-    01111111111111111111111111100000\
-    00000000000000000000000000000000\
-    00000000000000000000000000000000\
-    00000000000000000000000000000000\
-    00000000000000000000000000000000";
-
-// Inlined into the loop over bytes.
-#[inline(always)]
-fn is_alpha(byte: u8) -> bool
-    ensures { result ≡ is_alpha_byte byte }
-{
-    ALPHAS[byte as usize] == b'1'
-}
-
-fn are_alphas(name: &[u8]) -> bool
-    ensures { result ≡ list_all is_alpha_byte name.now }
-{
-    for i in 0..name.len() {
-        if !is_alpha(name[i]) {
-            return false;
-        }
-    }
-    true
-}
-
-// Out of line: with its loop in them, the ways that know an event's kind get so long that they ask for it again.
+// Out of line: with its comparisons in them, the ways that know an event's kind get so long that they ask for it again.
 #[inline(never)]
 fn name_problem(empty: Problem, characters: Problem, name: &[u8]) -> Option<Problem>
     ensures { result ≡ name_problem empty characters name.now }

@@ -9,6 +9,7 @@ mod indent;
 mod judge;
 mod keys;
 mod levels;
+mod named;
 mod nodes;
 mod state;
 

@@ -4,30 +4,74 @@ ghost use Rattle.yaml_types.specs.Ascii as ascii;
 ghost use Rattle.std.specs.Str.{chars, IsAscii};
 ghost use Rattle.yaml_parse_model.specs.Events.{text_of};
 ghost use Rattle.yaml_emit_text.specs.Sink.{Puts};
-ghost use Rattle.yaml_emit_text.specs.Tame.{IsTame};
+ghost use Rattle.yaml_emit_text.specs.Tame.{IsTame, asks_plain};
 ghost use Rattle.yaml_emit_text.specs.Layout.{◌▹◌, when, char, word, opener};
 ghost use Rattle.yaml_emit_text.specs.Scalars.{scalar_text};
-ghost use Rattle.yaml_emit_layout.specs.Grammar.{kept_if, kept_tag, has};
-ghost use Rattle.yaml_emit_layout.specs.Nodes.{alias_layout, anchor_text, tag_text, properties_text, mark_text, scalar_layout, style_of, is_plain, checked, deeper, page_at, is_flow};
+ghost use Rattle.yaml_emit_layout.specs.Grammar.{kept_if, kept_tag, has, scalar_tag};
+ghost use Rattle.yaml_emit_layout.specs.Nodes.{alias_layout, anchor_text, tag_text, mark_text, scalar_layout, style_of, is_plain, checked, deeper, page_at, is_flow};
 ghost use Rattle.yaml_emit_layout.specs.State.{before_node, position_of, start_text};
 ghost use Rattle.yaml_emit_state.specs.Given.{lent_context, lent_scalar, lent_start, IsNamed};
 
-use crate::bare::is_given;
-use crate::before::put_before;
+use crate::bare::{asks_plain, is_given};
+use crate::before::{begins_line, is_behind_simple, is_block_item, line_start_of, put_before};
 use crate::given::{Context, Scalar, Start};
 use crate::indent::{deeper, is_flow, is_simple_part, position_of};
+use crate::named::{put_item_name, put_led_name, put_name, put_value_name};
 use yaml_emit_layout::{Level, NodePosition};
 use yaml_emit_tags::{DirectiveTable, put_tag};
-use yaml_emit_text::{Page, Settings, Sink, Style, allowed_by, put_styled, put_tame, taken, text};
+use yaml_emit_text::{Page, Settings, Sink, Style, allowed_by, put_bare, put_styled, taken, text};
 
-// Out of line: few registers are needed.
+// A name in the innermost collection, with what comes before it.
+// Out of line: the rare way, beside the short ones.
 #[inline(never)]
-fn put_name(sink: &mut Sink, indicator: u8, name: &[u8])
+fn put_named_far(
+    sink: &mut Sink,
+    settings: Settings,
+    top: &Option<Level>,
+    simple: bool,
+    indicator: u8,
+    name: &[u8],
+)
     requires one { indicator < 128 }
     requires ascii { IsAscii name.now }
-    ensures { Puts sink.old sink.new (word (indicator ∷ name.now)) }
+    ensures { Puts sink.old sink.new (before_node settings top.now simple
+        ▹ word (indicator ∷ name.now)) }
 {
-    sink.put_around(&[indicator], &[b' ', indicator], name, b"");
+    put_before(sink, &settings, top, simple);
+    put_name(sink, indicator, name);
+}
+
+// The same: at once where it begins a line or stands behind a simple key.
+// Inlined: a call for each way.
+#[inline(always)]
+fn put_named(
+    sink: &mut Sink,
+    settings: &Settings,
+    top: &Option<Level>,
+    simple: bool,
+    indicator: u8,
+    name: &[u8],
+)
+    requires one { indicator < 128 }
+    requires ascii { IsAscii name.now }
+    ensures { Puts sink.old sink.new (before_node settings.now top.now simple
+        ▹ word (indicator ∷ name.now)) }
+{
+    match top {
+        None => put_name(sink, indicator, name),
+        Some(level) => {
+            if is_block_item(level) {
+                put_item_name(sink, settings.line_break, level.indent, indicator, name);
+            } else if is_behind_simple(level.phase) {
+                put_value_name(sink, indicator, name);
+            } else if begins_line(settings, level) && !simple {
+                let start = line_start_of(settings, level, false);
+                put_led_name(sink, &start, indicator, name);
+            } else {
+                put_named_far(sink, *settings, top, simple, indicator, name);
+            }
+        }
+    }
 }
 
 /// An alias in the innermost collection, with what comes before it.
@@ -45,20 +89,29 @@ pub fn put_alias_node(
     ensures { Puts sink.old sink.new (before_node settings.now top.now simple
         ▹ alias_layout (position_of top.now simple) name.now) }
 {
-    put_before(sink, settings, top, simple);
-    put_name(sink, b'*', name);
+    put_named(sink, settings, top, simple, b'*', name);
     if is_simple_part(position_of(*top, simple).part) {
         sink.put(' ');
     }
 }
 
-fn put_anchor_if(sink: &mut Sink, anchor: &Option<Vec<u8>>)
+// What comes before a node in the innermost collection, and its anchor.
+// Inlined: mostly no anchor is there, and it is asked so in place.
+#[inline(always)]
+fn put_front(
+    sink: &mut Sink,
+    settings: &Settings,
+    top: &Option<Level>,
+    simple: bool,
+    anchor: &Option<Vec<u8>>,
+)
     requires { IsNamed (text_of anchor.now) }
-    ensures { Puts sink.old sink.new (anchor_text (text_of anchor.now)) }
+    ensures { Puts sink.old sink.new (before_node settings.now top.now simple
+        ▹ anchor_text (text_of anchor.now)) }
 {
     match anchor {
-        None => (),
-        Some(name) => put_name(sink, b'&', name),
+        None => put_before(sink, settings, top, simple),
+        Some(name) => put_named(sink, settings, top, simple, b'&', name),
     }
 }
 
@@ -74,34 +127,18 @@ fn put_tag_if(sink: &mut Sink, context: &Context, kept: bool, tag: &Option<Vec<u
     }
 }
 
+// Whether a scalar's tag may be left out.
+fn is_left_out(scalar: &Scalar) -> bool
+    ensures { result ≡ (scalar.now.plain || scalar.now.quoted) }
+{
+    scalar.plain || scalar.quoted
+}
+
 // In pretty form a tag that may be left out isn't written.
 fn is_kept(canonical: bool, left_out: bool) -> bool
     ensures { result ≡ (canonical || not left_out) }
 {
     canonical || !left_out
-}
-
-// Inlined: most nodes have no property, and are asked so in place.
-#[inline(always)]
-fn put_properties(
-    sink: &mut Sink,
-    context: &Context,
-    anchor: &Option<Vec<u8>>,
-    left_out: bool,
-    tag: &Option<Vec<u8>>,
-)
-    requires { IsNamed (text_of anchor.now) }
-    ensures { Puts sink.old sink.new (properties_text (lent_context context.now)
-        (text_of anchor.now)
-        (kept_tag context.now.settings.now.canonical left_out (text_of tag.now))) }
-{
-    put_anchor_if(sink, anchor);
-    put_tag_if(
-        sink,
-        context,
-        is_kept(context.settings.canonical, left_out),
-        tag,
-    );
 }
 
 // Whether a tag is written.
@@ -124,6 +161,20 @@ fn is_plain(style: Style) -> bool
     }
 }
 
+// Whether a scalar may be plain: it has a tag that is written, or needs none.
+fn may_be_plain(scalar: &Scalar) -> bool
+    ensures { result ≡ (has (scalar_tag false (lent_scalar scalar.now)) || scalar.now.plain) }
+{
+    is_written(false, is_left_out(scalar), scalar.tag) || scalar.plain
+}
+
+// Whether a scalar is tame and is plain where it is asked to be, by whether it may be.
+fn is_plainly_tame(scalar: &Scalar, plain: bool) -> bool
+    ensures { result ≡ (scalar.now.tame && (asks_plain scalar.now.style && plain)) }
+{
+    scalar.tame && asks_plain(scalar.style) && plain
+}
+
 // Inlined: then what it is given needn't stand in memory.
 #[inline(always)]
 #[tactic(auto, unfolding(yaml_emit_layout::specs::Nodes::style_of))]
@@ -133,12 +184,16 @@ fn style_of(context: &Context, position: NodePosition, scalar: &Scalar) -> Style
     ensures { result ≡ style_of (lent_context context.now) position (lent_scalar scalar.now) }
 {
     if context.settings.canonical {
-        Style::Double
+        return Style::Double;
+    }
+    let plain = may_be_plain(scalar);
+    if is_plainly_tame(scalar, plain) {
+        Style::Plain
     } else {
         taken(
             allowed_by(context.settings.unicode, scalar.value, scalar.tame),
             scalar.style,
-            is_written(false, scalar.plain || scalar.quoted, scalar.tag) || scalar.plain,
+            plain,
             position.flow,
             is_simple_part(position.part),
             scalar.value.is_empty(),
@@ -152,11 +207,8 @@ fn put_untagged_mark(sink: &mut Sink, context: &Context, scalar: &Scalar, chosen
     ensures { Puts sink.old sink.new (mark_text (lent_context context.now)
         (lent_scalar scalar.now) chosen) }
 {
-    if !is_written(
-        context.settings.canonical,
-        scalar.plain || scalar.quoted,
-        scalar.tag,
-    ) && !scalar.quoted
+    if !is_written(context.settings.canonical, is_left_out(scalar), scalar.tag)
+        && !scalar.quoted
         && !is_plain(chosen)
     {
         sink.put_inline_indicator('!');
@@ -190,15 +242,8 @@ pub fn put_lines(
                 cuts: !is_simple_part(position.part),
                 line_break: settings.line_break,
             };
-            if tame {
-                put_tame(
-                    sink,
-                    page,
-                    settings.indent,
-                    position.flow,
-                    style,
-                    text(value),
-                );
+            if tame && is_plain(style) {
+                put_bare(sink, page, text(value));
             } else {
                 put_styled(
                     sink,
@@ -222,31 +267,6 @@ pub fn are_none(directives: &DirectiveTable) -> bool
     directives.list().is_empty()
 }
 
-// A scalar, with its anchor and tag.
-// Inlined: where the form is known, and most of what it is given.
-#[inline(always)]
-#[tactic(auto, unfolding(yaml_emit_layout::specs::Nodes::scalar_layout))]
-fn put_scalar(sink: &mut Sink, context: &Context, position: NodePosition, scalar: &Scalar)
-    requires utf8 { IsUtf8 scalar.now.value.now }
-    requires named { IsNamed (text_of scalar.now.anchor.now) }
-    requires tame { scalar.now.tame ≡ true → IsTame scalar.now.value.now }
-    ensures { Puts sink.old sink.new (scalar_layout (lent_context context.now) position
-        (lent_scalar scalar.now)) }
-{
-    let Scalar {
-        anchor,
-        tag,
-        value,
-        plain,
-        quoted,
-        ..
-    } = *scalar;
-    let chosen = style_of(context, position, scalar);
-    put_properties(sink, context, anchor, plain || quoted, tag);
-    put_untagged_mark(sink, context, scalar, chosen);
-    put_lines(sink, context.settings, position, chosen, value, scalar.tame);
-}
-
 /// A scalar in the innermost collection, with its anchor and tag, and what comes before it.
 // Inlined: where the form is known it is shorter.
 #[inline(always)]
@@ -264,8 +284,20 @@ pub fn put_scalar_node(
         ▹ scalar_layout (lent_context context.now) (position_of top.now simple)
         (lent_scalar scalar.now)) }
 {
-    put_before(sink, context.settings, top, simple);
-    put_scalar(sink, context, position_of(*top, simple), scalar);
+    let position = position_of(*top, simple);
+    put_front(sink, context.settings, top, simple, scalar.anchor);
+    let chosen = style_of(context, position, scalar);
+    let kept = is_kept(context.settings.canonical, is_left_out(scalar));
+    put_tag_if(sink, context, kept, scalar.tag);
+    put_untagged_mark(sink, context, scalar, chosen);
+    put_lines(
+        sink,
+        context.settings,
+        position,
+        chosen,
+        scalar.value,
+        scalar.tame,
+    );
 }
 
 // Inlined: it is a byte or two, for which there is room.
@@ -295,8 +327,13 @@ pub fn put_start_node(
         (lent_start start.now)
         start.now.empty) }
 {
-    put_before(sink, context.settings, top, simple);
-    put_properties(sink, context, start.anchor, start.implicit, start.tag);
+    put_front(sink, context.settings, top, simple, start.anchor);
+    put_tag_if(
+        sink,
+        context,
+        is_kept(context.settings.canonical, start.implicit),
+        start.tag,
+    );
     let position = position_of(*top, simple);
     let flow = is_flow(context.settings, position, start.flow, start.empty);
     put_opener_if(sink, flow, c);

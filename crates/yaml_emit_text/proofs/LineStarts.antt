@@ -6,7 +6,7 @@ use Rattle.yaml_emit_sink.specs.declared.Cursor.{Cursor}
 use Rattle.yaml_emit_sink.specs.declared.LineBreak.{LineBreak}
 use Rattle.yaml_emit_sink.specs.declared.LineStart.{LineStart}
 use Rattle.yaml_emit_sink.specs.Text.{Item, letter}
-use Rattle.yaml_emit_sink.specs.Layout.{Layout, Rest, ◌▹◌, stay, when, char, letters, word, line}
+use Rattle.yaml_emit_sink.specs.Layout.{Layout, Rest, ◌▹◌, stay, when, char, letters, word, indicator, line}
 use Rattle.yaml_emit_sink.specs.Sink.{Output, Puts}
 use Rattle.yaml_emit_sink.specs.LineStarts.{marks, mark_word, sign_of, line_start_text}
 use Rattle.yaml_emit_sink.proofs.Ascii.{parted}
@@ -53,6 +53,15 @@ pub puts_signed : (t : LineStart) (x : Layout) (y : ℕ) (ys : List ℕ) (z : La
 puts_signed t x y ys z a b h p =
     puts_as a b ((line_start_text t ▹ letters (y ∷ ys)) ▹ z) (when t.comma (char 44) ▹ (line t.line_break t.indent ▹ (mark_word t.mark ▹ (mark_word (sign_of t.signed) ▹ x))))
     (λ rest. signed_by t.comma t.line_break t.indent t.mark (sign_of t.signed) x y ys z a.cursor rest h) p
+
+-- a word behind the hyphen of an item
+pub puts_item : (t : LineStart) (y : ℕ) (ys : List ℕ) (a b : Output) → t.comma ≡ false
+    → t.mark ≡ 45 → t.signed ≡ false → Puts a b (line_start_text t ▹ letters (y ∷ ys))
+    → Puts a b ((line t.line_break t.indent ▹ indicator 45) ▹ word (y ∷ ys))
+unfolding letters
+puts_item t y ys a b bare mark plain p =
+    puts_as a b (line t.line_break t.indent ▹ (letters (45 ∷ 32 ∷ []) ▹ letters (y ∷ ys))) ((line t.line_break t.indent ▹ indicator 45) ▹ word (y ∷ ys))
+    (λ rest. line_lands t.line_break t.indent (indicator 45 ▹ word (y ∷ ys)) (letters (45 ∷ 32 ∷ []) ▹ letters (y ∷ ys)) rest (λ kept. refl) a.cursor) (rw (bare, mark, plain) at p)
 
 quoted_by : (n : ℕ) (page : Page) (v : List ℕ) (c : Cursor) (rest : Rest) → IsLined n page.width v
     → c.column ≤ n + 14 → double_quoted page (chars v) c rest ≡ word (34 ∷ (v ++ 34 ∷ [])) c rest

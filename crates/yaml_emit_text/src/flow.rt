@@ -118,10 +118,10 @@ fn flow_bounds(page: Page, quote: bool) -> Bounds
     }
 }
 
-// What stands behind the first run.
+// What stands behind the first run, or behind a space.
 // Out of line: most values are one run.
 #[inline(never)]
-fn put_flow_rest(sink: &mut Sink, page: Page, quote: bool, before: char, value: &str)
+pub(crate) fn put_flow_rest(sink: &mut Sink, page: Page, quote: bool, before: char, value: &str)
     ensures { Puts sink.old sink.new (flow_body page quote before (chars value.now)) }
 {
     let mut last = before;

@@ -1,18 +1,19 @@
 //! Double quoted scalars (YAML 1.1, 9.1.1), with escapes (5.6).
 
-ghost use Rattle.std.specs.Prelude.{◌≡◌, ◌<◌};
+ghost use Rattle.std.specs.List.{list_all};
+ghost use Rattle.std.specs.Prelude.{◌≡◌, ◌<◌, true};
 ghost use Rattle.yaml_types.specs.Ascii as ascii;
 ghost use Rattle.std.specs.Str.{chars};
 ghost use Rattle.yaml_emit_sink.specs.Sink.{Puts};
 ghost use Rattle.yaml_emit_sink.specs.Text.{is_break};
 ghost use Rattle.yaml_emit_sink.specs.Layout.{choose, when, char, letters, is_past};
-ghost use Rattle.yaml_emit_text.specs.Runs.{quoted_bounds};
+ghost use Rattle.yaml_emit_text.specs.Runs.{quoted_bounds, is_solid};
 ghost use Rattle.yaml_emit_text.specs.Quoted.{is_printable, needs_escape, escape_letter, hex_4, hex_8, escape_text, first, is_empty, may_fold, fold, escaped, quoted_char, quoted_body, double_quoted};
 
 use crate::letters::{first, is_break, is_empty, split_first};
 use crate::page::Page;
+use crate::passing::are_solid;
 use crate::run::{Bounds, put_run};
-use crate::solid::{are_solid, put_solid};
 use yaml_emit_sink::{Sink, put_hex_2};
 
 fn put_hex_4(sink: &mut Sink, n: u32)
@@ -175,6 +176,16 @@ fn put_quoted_body(sink: &mut Sink, page: Page, value: &str)
         last = latest;
         left = behind;
     }
+}
+
+// A double quoted scalar whose bytes all stand as they are, with a space in front where one is due.
+// Out of line: few registers are needed.
+#[inline(never)]
+fn put_solid(sink: &mut Sink, value: &[u8])
+    requires { list_all is_solid value.now ≡ true }
+    ensures { (page : Page) → Puts sink.old sink.new (double_quoted page (chars value.now)) }
+{
+    sink.put_around(b"\"", b" \"", value, b"\"");
 }
 
 // A double quoted scalar of any bytes.

@@ -5,16 +5,15 @@ ghost use Rattle.yaml_types.specs.Ascii as ascii;
 ghost use Rattle.std.specs.Str.{chars, IsAscii};
 ghost use Rattle.yaml_emit_sink.specs.Sink.{Puts};
 ghost use Rattle.yaml_emit_sink.specs.Layout.{◌▹◌, letters, line};
-ghost use Rattle.yaml_emit_text.specs.Scalars.{flow_body, plain, scalar_text};
+ghost use Rattle.yaml_emit_text.specs.Scalars.{flow_body, plain};
 ghost use Rattle.yaml_emit_text.specs.Style.{allowed, is_badly_begun};
 ghost use Rattle.yaml_emit_text.specs.Tame.{IsTame, Stands, IsLined, standing, lead};
 
-use crate::flow::put_flow_body;
+use crate::flow::put_flow_rest;
 use crate::letters::text;
-use crate::page::{Allowed, Page, Style};
+use crate::page::{Allowed, Page};
+use crate::passing::{are_even, are_solid};
 use crate::run::are_calm;
-use crate::scalar::put_styled;
-use crate::solid::{are_even, are_solid};
 use crate::style::allowed_for;
 use yaml_emit_sink::{LineBreak, LineStart, Sink};
 
@@ -79,14 +78,6 @@ fn is_within(width: u64, column: u64, count: u64) -> bool
     column <= width && count <= width - column
 }
 
-// Out of line: a text that passes the width may be broken.
-#[inline(never)]
-fn put_wide(sink: &mut Sink, page: Page, value: &str)
-    ensures { Puts sink.old sink.new (flow_body page false ascii.space (chars value.now)) }
-{
-    put_flow_body(sink, page, false, value);
-}
-
 // The value, at once where it fits its line.
 // Inlined into its one caller.
 #[inline(always)]
@@ -97,14 +88,14 @@ fn put_whole(sink: &mut Sink, page: Page, value: &str)
     if is_within(page.width, sink.cursor().column, value.len() as u64) {
         sink.put_ascii(value.as_bytes());
     } else {
-        put_wide(sink, page, value);
+        put_flow_rest(sink, page, false, ' ', value);
     }
 }
 
-// A plain scalar that is tame, with a space in front where one is due.
-// Out of line: few registers are needed.
-#[inline(never)]
-fn put_bare(sink: &mut Sink, page: Page, value: &str)
+/// A plain scalar that is tame, with a space in front where one is due.
+// Inlined: two tests in front of some stores.
+#[inline(always)]
+pub fn put_bare(sink: &mut Sink, page: Page, value: &str)
     requires { IsTame value.now }
     ensures { (flow : Bool) → Puts sink.old sink.new (plain page flow (chars value.now)) }
 {
@@ -113,27 +104,13 @@ fn put_bare(sink: &mut Sink, page: Page, value: &str)
     sink.set_after_text();
 }
 
-/// A scalar that is tame in that style, as `put_styled` writes it.
-// Inlined: mostly it is plain.
-#[inline(always)]
-#[tactic(auto, unfolding(crate::specs::Scalars::scalar_text))]
-pub fn put_tame(sink: &mut Sink, page: Page, digit: u64, flow: bool, style: Style, value: &str)
-    requires { IsTame value.now }
-    ensures { Puts sink.old sink.new (scalar_text page digit flow style (chars value.now)) }
-{
-    match style {
-        Style::Plain => put_bare(sink, page, value),
-        _ => put_styled(sink, page, digit, flow, style, value),
-    }
-}
-
-// What stands beside a text, by whether that stands in quotes.
+/// What stands beside a text, by whether that is framed: in quotes, or behind a tag.
 // Inlined: it is known.
 #[inline(always)]
-fn beside<'a>(quoted: bool, plain: &'a [u8], framed: &'a [u8]) -> &'a [u8]
-    ensures { result.now ≡ (if quoted then framed.now else plain.now) }
+pub fn beside<'a>(is_framed: bool, plain: &'a [u8], framed: &'a [u8]) -> &'a [u8]
+    ensures { result.now ≡ (if is_framed then framed.now else plain.now) }
 {
-    if quoted { framed } else { plain }
+    if is_framed { framed } else { plain }
 }
 
 /// Whether so many characters behind the column, and a text plain or in quotes behind them, end within the width.

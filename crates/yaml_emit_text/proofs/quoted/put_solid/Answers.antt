@@ -1,6 +1,6 @@
 use Rattle.yaml_emit_sink.proofs.Sinks.{puts_as}
 use Rattle.yaml_emit_text.proofs.Even.{solid_ascii, solid_word}
-use Rattle.yaml_emit_text.proofs.solid.put_solid.Goals as goal
+use Rattle.yaml_emit_text.proofs.quoted.put_solid.Goals as goal
 
 pub put_around-requires-clause-ascii : goal.put_around-requires-clause-ascii
 put_around-requires-clause-ascii c = solid_ascii _ c.requires

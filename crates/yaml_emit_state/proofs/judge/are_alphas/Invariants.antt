@@ -1,7 +1,0 @@
-use Rattle.std.proofs.Common.{◌≡◌, true, take}
-use Rattle.std.specs.List.{list_all}
-use Rattle.yaml_scan_model.specs.Classes.{is_alpha_byte}
-use Rattle.yaml_emit_state.proofs.judge.are_alphas.Given as goal
-
-abbrev pub invariant-loop-i : goal.invariant-loop-i
-invariant-loop-i l = list_all is_alpha_byte (take l.i l.name) ≡ true

@@ -122,20 +122,6 @@ fn put_opening(
     put_dashes_if(sink, marked, settings);
 }
 
-// `...` parts directives from a document that ended implicitly.
-fn is_parted(unended: bool, directed: bool) -> bool
-    ensures { result ≡ (unended && directed) }
-{
-    unended && directed
-}
-
-// Whether `---` is due.
-fn is_marked(canonical: bool, first: bool, implicit: bool, directed: bool) -> bool
-    ensures { result ≡ (canonical || not (first && (implicit && not directed))) }
-{
-    canonical || !(first && (implicit && !directed))
-}
-
 // What opens a document, where one may come.
 fn put_start_at(
     sink: &mut Sink,
@@ -151,8 +137,9 @@ fn put_start_at(
     match place {
         Expected::Documents(first, unended) => {
             let directed = is_directed(version, directives);
-            let marked = is_marked(settings.canonical, first, implicit, directed);
-            put_dots_if(sink, is_parted(unended, directed), settings);
+            // `...` parts directives from a document that ended implicitly.
+            put_dots_if(sink, unended & directed, settings);
+            let marked = settings.canonical | !(first & (implicit & !directed));
             put_opening(sink, settings, marked, version, directives);
         }
         _ => (),

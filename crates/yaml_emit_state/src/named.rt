@@ -35,7 +35,7 @@ pub fn put_item_name(sink: &mut Sink, line_break: LineBreak, indent: u64, first:
         mark: b'-',
         signed: false,
     };
-    put_led_name_in(sink, &start, first, name);
+    sink.put_lined(&start, &[first], name, b"");
 }
 
 /// The same behind the colon of a simple key.
@@ -49,19 +49,7 @@ pub fn put_value_name(sink: &mut Sink, first: u8, name: &[u8])
     sink.put_joined(&[b':', b' ', first], name, b"");
 }
 
-// A name behind what a line begins with.
-// Inlined: what that is, is known.
-#[inline(always)]
-fn put_led_name_in(sink: &mut Sink, start: &LineStart, first: u8, name: &[u8])
-    requires one { first < 128 }
-    requires signs { IsAscii (signs start.now) }
-    requires ascii { IsAscii name.now }
-    ensures { Puts sink.old sink.new (line_start_text start.now ▹ letters (first ∷ name.now)) }
-{
-    sink.put_lined(start, &[first], name, b"");
-}
-
-/// The same, whatever it begins with.
+/// A name behind what a line begins with.
 // Out of line: few registers are needed.
 #[inline(never)]
 pub fn put_led_name(sink: &mut Sink, start: &LineStart, first: u8, name: &[u8])
@@ -70,5 +58,5 @@ pub fn put_led_name(sink: &mut Sink, start: &LineStart, first: u8, name: &[u8])
     requires ascii { IsAscii name.now }
     ensures { Puts sink.old sink.new (line_start_text start.now ▹ letters (first ∷ name.now)) }
 {
-    put_led_name_in(sink, start, first, name);
+    sink.put_lined(start, &[first], name, b"");
 }

@@ -127,20 +127,6 @@ fn put_tag_if(sink: &mut Sink, context: &Context, kept: bool, tag: &Option<Vec<u
     }
 }
 
-// Whether a scalar's tag may be left out.
-fn is_left_out(scalar: &Scalar) -> bool
-    ensures { result ≡ (scalar.now.plain || scalar.now.quoted) }
-{
-    scalar.plain || scalar.quoted
-}
-
-// In pretty form a tag that may be left out isn't written.
-fn is_kept(canonical: bool, left_out: bool) -> bool
-    ensures { result ≡ (canonical || not left_out) }
-{
-    canonical || !left_out
-}
-
 // Whether a tag is written.
 fn is_written(canonical: bool, left_out: bool, tag: &Option<Vec<u8>>) -> bool
     ensures { result ≡ has (kept_tag canonical left_out (text_of tag.now)) }
@@ -165,7 +151,7 @@ fn is_plain(style: Style) -> bool
 fn may_be_plain(scalar: &Scalar) -> bool
     ensures { result ≡ (has (scalar_tag false (lent_scalar scalar.now)) || scalar.now.plain) }
 {
-    is_written(false, is_left_out(scalar), scalar.tag) || scalar.plain
+    is_written(false, scalar.plain | scalar.quoted, scalar.tag) || scalar.plain
 }
 
 // Whether a scalar is tame and is plain where it is asked to be, by whether it may be.
@@ -207,7 +193,8 @@ fn put_untagged_mark(sink: &mut Sink, context: &Context, scalar: &Scalar, chosen
     ensures { Puts sink.old sink.new (mark_text (lent_context context.now)
         (lent_scalar scalar.now) chosen) }
 {
-    if !is_written(context.settings.canonical, is_left_out(scalar), scalar.tag)
+    let left_out = scalar.plain | scalar.quoted;
+    if !is_written(context.settings.canonical, left_out, scalar.tag)
         && !scalar.quoted
         && !is_plain(chosen)
     {
@@ -287,7 +274,7 @@ pub fn put_scalar_node(
     let position = position_of(*top, simple);
     put_front(sink, context.settings, top, simple, scalar.anchor);
     let chosen = style_of(context, position, scalar);
-    let kept = is_kept(context.settings.canonical, is_left_out(scalar));
+    let kept = context.settings.canonical | !(scalar.plain | scalar.quoted);
     put_tag_if(sink, context, kept, scalar.tag);
     put_untagged_mark(sink, context, scalar, chosen);
     put_lines(
@@ -331,7 +318,7 @@ pub fn put_start_node(
     put_tag_if(
         sink,
         context,
-        is_kept(context.settings.canonical, start.implicit),
+        context.settings.canonical | !start.implicit,
         start.tag,
     );
     let position = position_of(*top, simple);

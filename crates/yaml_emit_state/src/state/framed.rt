@@ -1,5 +1,5 @@
 //! Laying out a scalar in canonical form: at once, where it stands in its line and has no properties, or the default tag alone.
-ghost use Rattle.std.specs.Prelude.{◌≡◌, [], not, ◌&&◌, if◌then◌else◌, Bool, true, false, IsUtf8};
+ghost use Rattle.std.specs.Prelude.{◌≡◌, [], not, ◌&&◌, Bool, true, false, IsUtf8};
 ghost use Rattle.yaml_parse_model.specs.Constructors.{HasUtf8};
 
 use super::Core;
@@ -8,7 +8,7 @@ use crate::before::{begins_line, line_start_of, put_before};
 use crate::indent::position_of;
 use crate::nodes::put_lines;
 use yaml_emit_tags::put_tag;
-use yaml_emit_text::{Style, is_lined};
+use yaml_emit_text::{Style, beside, is_lined};
 use yaml_parse_model::{YAML_STR_TAG, yaml_event_body_t};
 
 // Whether the sign of a value that may not be quoted stands in front of it: a tag stands for it.
@@ -16,15 +16,6 @@ fn is_signed(tagged: bool, quoted: bool) -> bool
     ensures { result ≡ (not tagged && not quoted) }
 {
     !tagged && !quoted
-}
-
-// What stands in front of a value, by whether the default tag is written.
-// Inlined: it is known.
-#[inline(always)]
-fn front_of<'a>(tagged: bool, quote: &'a [u8], tag: &'a [u8]) -> &'a [u8]
-    ensures { result.now ≡ (if tagged then tag.now else quote.now) }
-{
-    if tagged { tag } else { quote }
 }
 
 impl Core {
@@ -55,7 +46,7 @@ impl Core {
             Some(level) => {
                 if begins_line(&settings, level) && is_lined(settings.width, level.indent, value) {
                     let start = line_start_of(&settings, level, is_signed(tagged, quoted));
-                    let front = front_of(tagged, b"\"", b"!!str \"");
+                    let front = beside(tagged, b"\"", b"!!str \"");
                     self.levels.step(false);
                     self.sink.put_lined(&start, front, value, b"\"");
                     true

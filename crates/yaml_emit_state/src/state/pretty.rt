@@ -41,7 +41,7 @@ impl Core {
     ghost use Rattle.yaml_emit_layout.specs.State.{top_of};
     ghost use Rattle.yaml_emit_state.specs.Bare.{IsInline, IsInlineEvent, is_shallow, short_text, short_node, first_behind, entry_phase, Places};
     ghost use Rattle.yaml_emit_state.specs.Stack.{stack_of};
-    ghost use Rattle.yaml_emit_state.specs.Steps.{settings_of, LaysOut};
+    ghost use Rattle.yaml_emit_state.specs.Steps.{settings_of, opens, LaysOut};
 
     // A short scalar in a flow collection, where it fits the line: the first one where no space is due.
     // Inlined: a few tests in front of some stores.
@@ -227,32 +227,15 @@ impl Core {
         }
     }
 
-    // What opens a sequence.
-    // Out of line: kind and form are known, and what other kinds need takes no room here.
+    // What opens a collection.
+    // Out of line: the form is known, and what other kinds need takes no room here.
     #[inline(never)]
-    fn lay_pretty_sequence_start(&mut self, event: &yaml_event_body_t, empty: bool)
-        requires kind { type_of (body_of event.now) ≡ kind.YAML_SEQUENCE_START_EVENT }
+    fn lay_pretty_start(&mut self, event: &yaml_event_body_t, empty: bool)
+        requires kind { opens (emitter_event (body_of event.now)) ≡ true }
         requires form { self.old.settings.canonical ≡ false }
         ensures { LaysOut self.old self.new (emitter_event (body_of event.now)) empty }
     {
-        match event {
-            yaml_event_body_t::SequenceStart { .. } => self.lay_start(event, empty, false),
-            _ => (),
-        }
-    }
-
-    // What opens a mapping.
-    // Out of line: kind and form are known, and what other kinds need takes no room here.
-    #[inline(never)]
-    fn lay_pretty_mapping_start(&mut self, event: &yaml_event_body_t, empty: bool)
-        requires kind { type_of (body_of event.now) ≡ kind.YAML_MAPPING_START_EVENT }
-        requires form { self.old.settings.canonical ≡ false }
-        ensures { LaysOut self.old self.new (emitter_event (body_of event.now)) empty }
-    {
-        match event {
-            yaml_event_body_t::MappingStart { .. } => self.lay_start(event, empty, false),
-            _ => (),
-        }
+        self.lay_start(event, empty, false);
     }
 
     // In pretty form.
@@ -265,8 +248,9 @@ impl Core {
     {
         match event {
             yaml_event_body_t::Scalar { .. } => self.lay_pretty_scalar(event, empty),
-            yaml_event_body_t::SequenceStart { .. } => self.lay_pretty_sequence_start(event, empty),
-            yaml_event_body_t::MappingStart { .. } => self.lay_pretty_mapping_start(event, empty),
+            yaml_event_body_t::SequenceStart { .. } | yaml_event_body_t::MappingStart { .. } => {
+                self.lay_pretty_start(event, empty)
+            }
             yaml_event_body_t::SequenceEnd => self.lay_sequence_end(empty),
             yaml_event_body_t::MappingEnd => self.lay_mapping_end(empty),
             yaml_event_body_t::Alias { .. } => self.lay_alias(event, empty),

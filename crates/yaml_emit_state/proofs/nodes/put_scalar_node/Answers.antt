@@ -6,7 +6,6 @@ pub returns : goal.returns
 unfolding scalar_layout
 returns c =
     let chosen = rw c.position_of-position.ensures at c.style_of-chosen.ensures in
-    let tag = rw (c.is_kept-kept.ensures, c.is_left_out.ensures) at c.put_tag_if.ensures in
     let mark = rw chosen at c.put_untagged_mark.ensures in
     let lines = rw (c.position_of-position.ensures, chosen) at c.put_lines.ensures in
-    puts_both _ _ _ _ _ c.put_front.ensures (puts_both _ _ _ _ _ tag (puts_both _ _ _ _ _ mark lines))
+    puts_both _ _ _ _ _ c.put_front.ensures (puts_both _ _ _ _ _ c.put_tag_if.ensures (puts_both _ _ _ _ _ mark lines))

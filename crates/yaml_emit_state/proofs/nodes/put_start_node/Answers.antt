@@ -3,6 +3,5 @@ use Rattle.yaml_emit_state.proofs.nodes.put_start_node.Goals as goal
 
 pub returns : goal.returns
 returns c =
-    let tag = rw c.is_kept.ensures at c.put_tag_if.ensures in
     let bracket = rw (rw c.position_of-position.ensures at c.is_flow-flow.ensures) at c.put_opener_if.ensures in
-    puts_both _ _ _ _ _ c.put_front.ensures (puts_both _ _ _ _ _ tag bracket)
+    puts_both _ _ _ _ _ c.put_front.ensures (puts_both _ _ _ _ _ c.put_tag_if.ensures bracket)

@@ -2,7 +2,7 @@
 
 ghost use Rattle.yaml_scan_history.specs.declared.kind.Kind.TheVariants as kinds;
 
-use crate::word::{Reading, Scope, Word};
+use crate::word::{Reading, Scope, Word, carrier};
 use yaml_scan_history::Kind;
 use yaml_scan_model::{Context, Reader, ScanError, Spares, yaml_scalar_style_t, yaml_token_body_t};
 use yaml_scan_scalars::{double_quoted, plain_scalar, single_quoted};
@@ -25,12 +25,8 @@ impl Reading for AliasReading {
     #[inline(always)]
     #[tactic(auto, unfolding(yaml_scan_history::specs::Words::word_at))]
     fn word(&self, spares: &mut Spares, reader: &mut Reader, at: Scope) -> Result<Word, ScanError> {
-        let read = anchor(spares, reader, Context::Alias)?;
-        Ok(Word {
-            body: yaml_token_body_t::Alias { value: read.value },
-            end: read.end_mark,
-            broke: false,
-        })
+        let value = anchor(spares, reader, Context::Alias)?;
+        Ok(carrier(reader, yaml_token_body_t::Alias { value }))
     }
 }
 
@@ -51,12 +47,8 @@ impl Reading for AnchorReading {
     #[inline(always)]
     #[tactic(auto, unfolding(yaml_scan_history::specs::Words::word_at))]
     fn word(&self, spares: &mut Spares, reader: &mut Reader, at: Scope) -> Result<Word, ScanError> {
-        let read = anchor(spares, reader, Context::Anchor)?;
-        Ok(Word {
-            body: yaml_token_body_t::Anchor { value: read.value },
-            end: read.end_mark,
-            broke: false,
-        })
+        let value = anchor(spares, reader, Context::Anchor)?;
+        Ok(carrier(reader, yaml_token_body_t::Anchor { value }))
     }
 }
 
@@ -78,14 +70,11 @@ impl Reading for TagReading {
     #[tactic(auto, unfolding(yaml_scan_history::specs::Words::word_at))]
     fn word(&self, spares: &mut Spares, reader: &mut Reader, at: Scope) -> Result<Word, ScanError> {
         let read = tag(spares, reader, at.flow)?;
-        Ok(Word {
-            body: yaml_token_body_t::Tag {
-                handle: read.handle,
-                suffix: read.suffix,
-            },
-            end: read.end_mark,
-            broke: false,
-        })
+        let body = yaml_token_body_t::Tag {
+            handle: read.handle,
+            suffix: read.suffix,
+        };
+        Ok(carrier(reader, body))
     }
 }
 
@@ -107,14 +96,8 @@ impl Reading for SingleQuotedReading {
     #[tactic(auto, unfolding(yaml_scan_history::specs::Words::word_at))]
     fn word(&self, spares: &mut Spares, reader: &mut Reader, at: Scope) -> Result<Word, ScanError> {
         let value = single_quoted(spares, reader)?;
-        Ok(Word {
-            body: yaml_token_body_t::Scalar {
-                value,
-                style: yaml_scalar_style_t::YAML_SINGLE_QUOTED_SCALAR_STYLE,
-            },
-            end: reader.mark(),
-            broke: false,
-        })
+        let style = yaml_scalar_style_t::YAML_SINGLE_QUOTED_SCALAR_STYLE;
+        Ok(carrier(reader, yaml_token_body_t::Scalar { value, style }))
     }
 }
 
@@ -136,14 +119,8 @@ impl Reading for DoubleQuotedReading {
     #[tactic(auto, unfolding(yaml_scan_history::specs::Words::word_at))]
     fn word(&self, spares: &mut Spares, reader: &mut Reader, at: Scope) -> Result<Word, ScanError> {
         let value = double_quoted(spares, reader)?;
-        Ok(Word {
-            body: yaml_token_body_t::Scalar {
-                value,
-                style: yaml_scalar_style_t::YAML_DOUBLE_QUOTED_SCALAR_STYLE,
-            },
-            end: reader.mark(),
-            broke: false,
-        })
+        let style = yaml_scalar_style_t::YAML_DOUBLE_QUOTED_SCALAR_STYLE;
+        Ok(carrier(reader, yaml_token_body_t::Scalar { value, style }))
     }
 }
 

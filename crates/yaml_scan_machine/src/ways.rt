@@ -1,11 +1,10 @@
 //! Ways for the kinds of lexemes. The kinds that are met most have a way of their own, which is the general one with its
-//! kind known: so the compiler leaves out of it what the kind doesn't ask for. Those of indicators but `:`, which is mostly read with its
-//! key, of plain and of double quoted scalars are inlined: a call would cost a quarter of an indicator's, and an eighth of a quoted
-//! scalar's. The others are out of line, or all would be kept in one frame whose parts are set to zero for each lexeme. These are lent a copy of the lexeme's
-//! place, which is made where they are called: a place that itself is lent to a call lies in memory, and is written there for
-//! each lexeme.
+//! kind known: so the compiler leaves out of it what the kind doesn't ask for. Those of plain and double quoted scalars and of
+//! indicators but `:`, which is mostly read with its key, are inlined: a call would cost much of what they do. The others are out
+//! of line, or all would be kept in one frame whose parts are set to zero for each lexeme. These are lent a copy of the lexeme's
+//! place, or of its mark, made where they are called: a place that itself is lent lies in memory, and is written for each lexeme.
 
-ghost use Rattle.std.specs.Prelude.{◌≡◌};
+ghost use Rattle.std.specs.Prelude.{◌≡◌, false};
 ghost use Rattle.yaml_scan_model.specs.Faults.{fault_of};
 
 use crate::machine::Machine;
@@ -15,7 +14,7 @@ use crate::readings::{
 };
 use crate::word::Reading;
 use yaml_scan_history::Kind;
-use yaml_scan_model::{Spares, mark_again, yaml_fault_t};
+use yaml_scan_model::{Spares, mark_again, yaml_fault_t, yaml_mark_t};
 
 impl<'a> Machine<'a> {
     ghost use Rattle.yaml_scan_machine.specs.Stood.{MayReadAt, Steps};
@@ -53,8 +52,8 @@ impl<'a> Machine<'a> {
         }
     }
 
-    /// Reads a lexeme of a kind that is met less often.
-    // Inlined, with a copy of the place: see above.
+    /// Reads a lexeme of a kind that is met less often; in the general way where a required candidate is open in front of it.
+    // Inlined, with a copy of the mark: see above.
     #[inline(always)]
     fn apart<R: Reading>(
         &mut self,
@@ -66,24 +65,37 @@ impl<'a> Machine<'a> {
         requires { MayReadAt self.old (R.reads reading.now) spot.now }
         ensures { Steps self.old self.new (fault_of fault.new) result }
     {
-        let lent = spot_again(spot);
-        self.read_apart(reading, &lent, spares, fault)
+        if spot.required {
+            return self.of_rare(reading.kind(), spot, spares, fault);
+        }
+        let mark = mark_again(&spot.mark);
+        self.read_apart(reading, &mark, spot.allowed, spares, fault)
     }
 
-    /// Reads a lexeme of such a kind, which stands at a place that is lent.
-    // Out of line: it is met less often.
+    /// Reads a lexeme of such a kind, which stands at a place that is lent, and no required candidate is open in front of it.
+    // Out of line: it is met less often. The mark alone is lent: what else is known of the place goes by registers.
     #[inline(never)]
     fn read_apart<R: Reading>(
         &mut self,
         reading: &R,
-        spot: &LexemeSpot,
+        mark: &yaml_mark_t,
+        allowed: bool,
         spares: &mut Spares,
         fault: &mut yaml_fault_t,
     ) -> bool
-        requires { MayReadAt self.old (R.reads reading.now) spot.now }
+        requires { MayReadAt self.old (R.reads reading.now) record {
+          mark = mark.now;
+          allowed = allowed;
+          required = false;
+        } }
         ensures { Steps self.old self.new (fault_of fault.new) result }
     {
-        self.step_at(reading, spot, spares, fault)
+        let spot = LexemeSpot {
+            mark: mark_again(mark),
+            allowed,
+            required: false,
+        };
+        self.step_at(reading, &spot, spares, fault)
     }
 
     /// Reads a lexeme of any kind, in the general way.

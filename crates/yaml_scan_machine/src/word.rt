@@ -206,7 +206,7 @@ fn text_word(
 /// The word that ends where the reader stands.
 // Inlined: the kind is known where it is called.
 #[inline(always)]
-fn carrier(reader: &Reader, body: yaml_token_body_t) -> Word
+pub(crate) fn carrier(reader: &Reader, body: yaml_token_body_t) -> Word
     ensures { IsWord reader.now.text result
         (record {
           body = body_of body;

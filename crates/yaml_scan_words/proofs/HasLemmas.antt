@@ -1,5 +1,5 @@
 -- Texts that have some bytes.
-use Rattle.std.proofs.Common.{◌≡◌, ℕ, zero, suc, ◌+◌, ◌-◌, ◌≤◌, List, [], ◌∷◌, ◌++◌, length, get_or, take, drop, slice_range, refl, ap, subst, ◌∙◌, arith, add-zero, rules}
+use Rattle.std.proofs.Common.{◌≡◌, ℕ, zero, suc, ◌+◌, ◌≤◌, List, [], ◌∷◌, ◌++◌, length, get_or, take, drop, slice_range, refl, ap, subst, ◌∙◌, arith, add-zero, rules}
 use Rattle.yaml_scan_words.proofs.Words.{drop_more, byte, HasAt}
 
 -- the text has these bytes from the place on, by recursion

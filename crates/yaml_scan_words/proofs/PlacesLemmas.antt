@@ -1,5 +1,5 @@
 -- Where lexemes and gaps end: behind their start, and inside the text.
-use Rattle.std.proofs.Common.{◌≡◌, ℕ, zero, suc, ◌+◌, ◌-◌, ◌<◌, ◌≤◌, ◌==◌, ◌||◌, Bool, true, not, List, length, Result, Ok, Err, inl, inr, arith, rules}
+use Rattle.std.proofs.Common.{◌≡◌, ℕ, zero, suc, ◌+◌, ◌<◌, ◌≤◌, ◌==◌, ◌||◌, Bool, true, not, List, length, Result, Ok, Err, inl, inr, arith, rules}
 use Rattle.yaml_scan_words.proofs.Words.{cond_both, eqb-true, ltb-true, Context, byte, is_text, past-le, past-inside, text_parts, Wrong, within, past_break, GapSpot, Run, run_end, step_at, Gap, gap_behind, gap_within, gap_at, behind_bytes, anchor_at, UriSpot, Spells, Ends, Faulty, spot_at, uri_from, uri_within, uri_at, some_uri_at, tag_end, parts_at, ended, tag_at, DirectiveName, value_end, name_behind, number_behind, line_place, then_at, name_at, number_at, minor_at, version_at, handle_at, prefix_at, tag_directive_at, named_value_at, value_at, comment_end, break_end, line_end_at}
 use Rattle.yaml_scan_words.specs.declared.between.GapSpot.TheVariants as gap_spots
 use Rattle.yaml_scan_words.specs.declared.directives.DirectiveName.TheVariants as names

@@ -100,15 +100,14 @@ run_stops (suc n) run text p room =
       | inr e ↦ rw e e
     ]
 
--- what holds up to a place, and behind it
-pub each_join : (test : ℕ → Bool) (p q r : ℕ) → ((k : ℕ) → p ≤ k → k < q → test k ≡ true)
-    → ((k : ℕ) → q ≤ k → k < r → test k ≡ true) → (k : ℕ) → p ≤ k → k < r → test k ≡ true
-each_join test p q r front back k after before = search (rules, cases_lt)
-
 -- what holds up to a place, and there
 pub each_more : (test : ℕ → Bool) (p q : ℕ) → ((k : ℕ) → p ≤ k → k < q → test k ≡ true)
     → test q ≡ true → (k : ℕ) → p ≤ k → k < q + 1 → test k ≡ true
-each_more test p q front here = each_join test p q (q + 1) front (λ k a b. let same : k ≡ q = omega arith in rw same here)
+each_more test p q front here k after before =
+    elim (cases_lt k q) [
+      | inl less ↦ front k after less
+      | inr more ↦ let same : k ≡ q = omega arith in rw same here
+    ]
 
 -- a run goes forward, and stays inside the text
 pub run_within-ge : (n : ℕ) (run : Run) (text : List ℕ) (p : ℕ) → p ≤ run_within n run text p

@@ -3,9 +3,8 @@ use Rattle.std.specs.Prelude.{ℕ, List, ◌≡◌, Result, Ok, Err}
 use Rattle.std.specs.Global.{Vec}
 use Rattle.yaml_scan_model.specs.declared.record.yaml_mark_t.{yaml_mark_t}
 use Rattle.yaml_scan_model.specs.declared.problem.ScanError.{ScanError}
-use Rattle.yaml_scan_model.specs.Marks.{Place, mark_at}
+use Rattle.yaml_scan_model.specs.Marks.{Place}
 use Rattle.yaml_scan_model.specs.Wrong.{Wrong, Refuses, IsMemory}
-use Rattle.yaml_scan_words.specs.declared.word.Word.{Word}
 
 -- What a reading answers, and where it leaves the reader: what stands there, and the place behind it, or what is wrong with
 -- the lexeme that starts at that mark; or memory ran out.
@@ -16,12 +15,6 @@ ReadsAs Is behind text start place (Ok x) (Ok y) = Is x y
 ReadsAs Is behind text start place (Ok x) (Err w) = ⊥
 ReadsAs Is behind text start place (Err e) (Ok y) = IsMemory e
 ReadsAs Is behind text start place (Err e) (Err w) = Refuses text start e w
-
--- a name's word is that value, from one place to another
-pub record IsNameWord (text : List ℕ) (start : ℕ) (word : Word) (x : List ℕ × ℕ) : Type 0 where
-  pub value : word.value.items ≡ x.0
-  pub start_mark : word.start_mark ≡ mark_at text start
-  pub end_mark : word.end_mark ≡ mark_at text x.1
 
 -- bytes are those, before the place behind them
 abbrev pub IsBytes : Vec ℕ → List ℕ × ℕ → Type 0

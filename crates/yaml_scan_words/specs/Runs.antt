@@ -1,5 +1,5 @@
 -- Runs of bytes that go together.
-use Rattle.std.specs.Prelude.{ℕ, zero, suc, ◌+◌, ◌<◌, ◌≤◌, Bool, if◌then◌else◌, List, length}
+use Rattle.std.specs.Prelude.{ℕ, zero, suc, ◌+◌, ◌<◌, ◌≤◌, ◌≡◌, Bool, if◌then◌else◌, List, length}
 use Rattle.yaml_scan_model.specs.Ascii as ascii
 use Rattle.yaml_scan_words.specs.declared.run.Run.{Run}
 use Rattle.yaml_scan_words.specs.declared.run.Run.TheVariants as runs
@@ -20,6 +20,12 @@ run_within (suc n) run text p = if belongs run text p then run_within n run text
 -- the place behind the run that stands there
 abbrev pub run_end : Run → List ℕ → ℕ → ℕ
 run_end run text p = run_within (length text) run text p
+
+-- some alphas stand from one place to another within the text, and no further one
+pub record IsShortRun (text : List ℕ) (p q : ℕ) : Type 0 where
+  pub some : p < q
+  pub inside : q < length text
+  pub end : run_end runs.Alphas text p ≡ q
 
 -- printed characters of ASCII but the space stand from one place to another
 pub record IsPrinted (text : List ℕ) (p q : ℕ) : Type 0 where

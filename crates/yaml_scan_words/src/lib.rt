@@ -19,4 +19,4 @@ pub use directives::directive;
 pub use indicator::{is_block_entry, is_document_end, is_document_start, is_key, is_value};
 pub use laws::{anchor_reads, gap_reads, gaps_and_uris_are_unbounded, tag_reads, uri_reads};
 pub use tags::tag;
-pub use word::{Directive, DirectiveWord, TagWord, Word};
+pub use word::{Directive, DirectiveWord, TagWord};

@@ -1,6 +1,6 @@
 //! Runs of bytes that go together.
 
-ghost use Rattle.std.specs.Prelude.{◌≡◌, ◌+◌, ◌≤◌, ◌<◌, ℕ, true, false, length, slice_range, IfOk};
+ghost use Rattle.std.specs.Prelude.{◌≡◌, ◌+◌, ◌≤◌, ◌<◌, ℕ, true, false, length, slice_range, IfOk, IfSome};
 ghost use Rattle.yaml_scan_model.specs.Ascii as ascii;
 ghost use Rattle.yaml_scan_model.specs.Marks.{byte};
 ghost use Rattle.yaml_scan_model.specs.Classes.{is_alpha_byte};
@@ -50,15 +50,15 @@ pub(crate) fn skip_run(run: Run, reader: &mut Reader)
 }
 
 /// How many bytes are looked at in a row.
-const AHEAD: usize = 8;
+const ROW: usize = 16;
 
-/// What each byte is in a name or a URI: `3` one of `0-9 A-Z a-z _ -`, `2` punctuation that any URI holds as it is, `1` one that only
-/// a wide URI does, `0` any other.
+/// What each byte is in a name or a URI: `4` one of `0-9 A-Z a-z _ -`, `2` punctuation that any URI holds as it is, `1` one that
+/// only a wide URI does, `0` any other.
 static RANKS: [u8; 256] = *b"\
     00000000000000000000000000000000\
-    02002022222213223333333333220202\
-    23333333333333333333333333310103\
-    03333333333333333333333333300020\
+    02002022222214224444444444220202\
+    24444444444444444444444444410104\
+    04444444444444444444444444400020\
     00000000000000000000000000000000\
     00000000000000000000000000000000\
     00000000000000000000000000000000\
@@ -70,7 +70,7 @@ static RANKS: [u8; 256] = *b"\
 fn is_alpha(byte: u8) -> bool
     ensures { result ≡ is_alpha_byte byte }
 {
-    RANKS[byte as usize] == b'3'
+    RANKS[byte as usize] & 12 != 0
 }
 
 /// Whether a URI holds the character as it is.
@@ -97,53 +97,43 @@ fn is_alpha_at(text: &[u8], place: usize) -> bool
     is_alpha(text[place])
 }
 
-/// The place behind the alphas that stand there.
-// Inlined: a loop of a load and a comparison a byte.
+/// The end of the alphas that stand there, where they are some, fewer than sixteen, and so many bytes stand there.
+// Inlined: a load and a comparison a byte. How many bytes there are is asked as a copy asks it: so one of the run asks nothing.
 #[inline(always)]
-#[tactic(auto, using(crate::proofs::RunsLemmas::each_join, crate::proofs::RunsLemmas::run_is))]
-pub(crate) fn alphas_end(text: &[u8], from: usize) -> usize
-    ensures { result ≡ spec.run_end runs.Alphas text.now from }
+#[tactic(auto, using(crate::proofs::RunsLemmas::run_is))]
+pub(crate) fn short_run(text: &[u8], from: usize) -> Option<usize>
+    requires { from ≤ length text.now }
+    ensures { IfSome result (λ q. spec.IsShortRun text.now from q) }
 {
-    let mut end = from;
-    'rows: while text.len().saturating_sub(end) >= AHEAD {
-        let count = alphas_ahead(text, end);
-        end += count;
-        if count < AHEAD {
-            return end;
-        }
+    if text.len() - from < ROW {
+        return None;
     }
-    'bytes: while end < text.len() && is_alpha_at(text, end) {
-        end += 1;
+    let count = alphas_in_row(text, from);
+    if count == 0 {
+        return None;
     }
-    end
+    if count == ROW {
+        return None;
+    }
+    Some(from + count)
 }
 
-/// How many of the next eight bytes are alphas, one behind the other.
+/// How many of the next sixteen bytes are alphas, one behind the other.
 // A loop whose turns are counted by a constant is written out: no place is compared with the text's length.
 // Inlined: a load and a comparison a byte.
 #[inline(always)]
-fn alphas_ahead(text: &[u8], from: usize) -> usize
-    requires { from + 8 ≤ length text.now }
-    ensures few { result ≤ 8 }
+fn alphas_in_row(text: &[u8], from: usize) -> usize
+    requires { from + 16 ≤ length text.now }
+    ensures few { result ≤ 16 }
     ensures each { (k : ℕ) → from ≤ k → k < from + result → spec.belongs runs.Alphas text.now k
         ≡ true }
-    ensures stop { result < 8 → spec.belongs runs.Alphas text.now (from + result) ≡ false }
+    ensures stop { result < 16 → spec.belongs runs.Alphas text.now (from + result) ≡ false }
 {
     let mut count = 0;
-    'bytes: while count < AHEAD && is_alpha_at(text, from + count) {
+    'bytes: while count < ROW && is_alpha_at(text, from + count) {
         count += 1;
     }
     count
-}
-
-/// The place behind the indicator that stands here and the alphas that follow it.
-// Inlined: a loop of a load and a comparison a byte.
-#[inline(always)]
-pub(crate) fn name_end(reader: &Reader) -> usize
-    requires { 0 < byte reader.now.text reader.now.at }
-    ensures { result ≡ spec.run_end runs.Alphas reader.now.text (reader.now.at + 1) }
-{
-    alphas_end(reader.text(), reader.place() + 1)
 }
 
 /// Past an ASCII character that is printed and no space.

@@ -5,22 +5,12 @@ ghost use Rattle.yaml_scan_model.specs.Wrong.{scan_fault};
 
 use yaml_scan_model::{Context, Problem, Reader, ScanError, ScanFault, yaml_mark_t};
 
-/// The name of an anchor or alias.
-#[derive(Drop)]
-pub struct Word {
-    pub value: Vec<u8>,
-    pub start_mark: yaml_mark_t,
-    pub end_mark: yaml_mark_t,
-}
-
 /// A tag as it is written: the handle stands for a prefix, the suffix has its escapes spelled out.
 #[derive(Drop)]
 pub struct TagWord {
     /// `!`, `!!` or `!name!`; empty in a verbatim tag and in the tag `!`.
     pub handle: Vec<u8>,
     pub suffix: Vec<u8>,
-    pub start_mark: yaml_mark_t,
-    pub end_mark: yaml_mark_t,
 }
 
 /// What a directive says.

@@ -1,6 +1,6 @@
 //! Bytes that are put behind a text. What is put has room, which a clause asks for: so it can't fail.
 
-ghost use Rattle.std.specs.Prelude.{◌≡◌, ◌+◌, ◌-◌, ◌≤◌, ◌++◌, true, length, vec_len, vec_capacity};
+ghost use Rattle.std.specs.Prelude.{◌≡◌, ◌+◌, ◌-◌, ◌≤◌, ◌++◌, true, length, take, vec_len, vec_capacity};
 ghost use Rattle.yaml_types_plain.specs.Ends.{bytes_at, IsShort};
 
 use crate::lifting::{moved, put_back};
@@ -169,10 +169,23 @@ fn put_ends(bytes: &mut Vec<u8>, text: &[u8], front: &[u8], end: &[u8])
     ensures len { vec_len bytes.new ≡ vec_len bytes.old + length text.now }
     ensures room { vec_capacity bytes.new ≡ vec_capacity bytes.old }
 {
-    let from = bytes.len();
     put_each(bytes, front);
-    bytes.truncate(from + (text.len() - front.len()));
+    cut_back(bytes, front.len() + front.len() - text.len());
     put_each(bytes, end);
+}
+
+// Cuts so many bytes off.
+// No hint: alone the loop becomes one difference, with no test as `truncate` has one, and that is inlined.
+fn cut_back(bytes: &mut Vec<u8>, count: usize)
+    requires { count ≤ vec_len bytes.old }
+    ensures items { bytes.new.items ≡ take (vec_len bytes.old - count) bytes.old.items }
+    ensures len { vec_len bytes.new + count ≡ vec_len bytes.old }
+    ensures room { vec_capacity bytes.new ≡ vec_capacity bytes.old }
+{
+    for _ in 0..count {
+        // What is cut off isn't looked at.
+        let _last = bytes.take_last();
+    }
 }
 
 /// Whether a text that may be left out is short.

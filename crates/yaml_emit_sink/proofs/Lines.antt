@@ -1,8 +1,8 @@
 -- A break and the spaces behind it.
 use Rattle.std.proofs.Common.{◌≡◌, ℕ, ◌+◌, ◌-◌, ◌≤◌, List, [], ◌∷◌, ◌++◌, take, length, length-append, Bool, true, false, ◌<◌, refl, sym, subst, ◌∙◌, ap, append_assoc, arith}
-use Rattle.std.specs.Prelude.{zero, suc, replicate, ◌&&◌, ◌||◌, ◌==◌, nat_lt, nat_le}
+use Rattle.std.specs.Prelude.{zero, suc, replicate, ◌&&◌, ◌||◌, ◌==◌, nat_lt}
 use Rattle.std.specs.Str.{IsAscii}
-use Rattle.std.proofs.lemmas.Bool.{false≢true, or_parts, cond_both, leb-true, ltb-false, eq-eqb}
+use Rattle.std.proofs.lemmas.Bool.{false≢true, or_parts, ltb-false, eq-eqb}
 use Rattle.std.proofs.lemmas.Str.{IsAscii-append}
 use Rattle.std.proofs.lemmas.List.{take-replicate, length-replicate}
 use Rattle.std.proofs.Math.Seq.{take-append-add}
@@ -16,7 +16,7 @@ use Rattle.yaml_emit_sink.specs.Layout.{Layout, Rest, ◌▹◌, when, char, bla
 use Rattle.yaml_emit_sink.specs.Appends.{indented, blanked, lettered}
 use Rattle.yaml_emit_sink.specs.Sink.{Output, Puts}
 use Rattle.yaml_emit_sink.specs.declared.feed.LineStart.{LineStart}
-use Rattle.yaml_emit_sink.specs.LineStarts.{enough, commas, marks, sign_of, signs, line_start_bytes, line_start_text}
+use Rattle.yaml_emit_sink.specs.LineStarts.{commas, marks, sign_of, signs, line_start_bytes, line_start_text}
 use Rattle.yaml_emit_sink.proofs.Ascii.{puts_near, puts_byte, letters_both}
 use Rattle.yaml_emit_sink.proofs.Sinks.{puts_as, puts_both, puts_sure, cond_true, cond_false, stepped, stepped_none, stepped_is, Leads, blanks_lead}
 
@@ -78,14 +78,6 @@ pub blanks_cut : (old whole new blanks : List ℕ) (n : ℕ) → n ≤ length bl
 blanks_cut old whole new blanks n h b w e =
     let some : take n blanks ≡ replicate n 32 = ap (take n) b ∙ take-replicate n (length blanks) 32 h in
     e ∙ ap (take (length old + n)) w ∙ take-append-add old blanks n ∙ ap (λ (t : List ℕ). old ++ t) some
-
--- a line feed and the first of some spaces behind it
-pub line_cut : (old feed whole new blanks : List ℕ) (n : ℕ) → n ≤ length blanks
-    → blanks ≡ replicate (length blanks) 32 → feed ≡ old ++ 10 ∷ [] → whole ≡ feed ++ blanks
-    → new ≡ take (length old + (1 + n)) whole → new ≡ old ++ 10 ∷ replicate n 32
-line_cut old feed whole new blanks n h b f w e =
-    let size : length old + (1 + n) ≡ length feed + n = rw f (omega (arith, length-append old (10 ∷ []))) in
-    blanks_cut feed whole new blanks n h b w (e ∙ ap (λ (k : ℕ). take k whole) size) ∙ ap (λ (t : List ℕ). t ++ replicate n 32) f ∙ append_assoc old (10 ∷ []) (replicate n 32)
 
 -- spaces of one byte were appended, all of them for certain
 pub puts_few : (a b : Output) (n : ℕ) → (n ≡ 0 → ⊥) → a.status ≡ Going → a.encoding ≡ Utf8
@@ -226,16 +218,3 @@ puts_line_start t xs a b m q i g x h e l v s p w o r k =
     let both = length-append (marks t.mark) (marks (sign_of t.signed)) in
     let P : LineBreak → Type 0 = λ z. Puts a b (when t.comma (char 44) ▹ (line z t.indent ▹ (letters (signs t) ▹ letters xs))) in
     subst P (sym q) (puts_comma t.comma t.indent (signs t) xs a b m g x h e l v s p o (omega (arith, r, i, w, mark, sign, both)) k)
-
--- ---- how many spaces are put
-
-pub enough_most : (n : ℕ) → n ≤ 80 → n ≤ length (replicate {A = ℕ} (enough n) 32)
-enough_most n h =
-    let many : length (replicate {A = ℕ} (enough n) 32) ≡ enough n = length-replicate (enough n) 32 in
-    rw many (cond_both (nat_le n 16) 16 80 (λ k. n ≤ k) (leb-true n 16) (λ _. h))
-
-pub enough_same : (n : ℕ)
-    → replicate {A = ℕ} (enough n) 32 ≡ replicate (length (replicate {A = ℕ} (enough n) 32)) 32
-enough_same n =
-    let many : length (replicate {A = ℕ} (enough n) 32) ≡ enough n = length-replicate (enough n) 32 in
-    ap (λ (k : ℕ). replicate {A = ℕ} k 32) (sym many)

@@ -1,12 +1,8 @@
 -- What a line begins with.
-use Rattle.std.specs.Prelude.{ℕ, zero, suc, nat_le, if◌then◌else◌, Bool, true, false, List, [], ◌∷◌, ◌++◌, replicate}
+use Rattle.std.specs.Prelude.{ℕ, zero, suc, Bool, true, false, List, [], ◌∷◌, ◌++◌, replicate}
 use Rattle.yaml_types.specs.Ascii as ascii
 use Rattle.yaml_emit_sink.specs.declared.feed.LineStart.{LineStart}
 use Rattle.yaml_emit_sink.specs.Layout.{Layout, ◌▹◌, stay, when, char, letters, word, line}
-
--- how many spaces are put at once, of which some are cut off
-abbrev pub enough : ℕ → ℕ
-enough n = if nat_le n 16 then 16 else 80
 
 -- a comma, where one is due
 abbrev pub commas : Bool → List ℕ

@@ -3,7 +3,8 @@
 ghost use Rattle.std.specs.Prelude.{◌≡◌, ◌<◌, ◌≤◌, ◌+◌, ◌∷◌, ◌++◌, length, replicate, true, None, Some};
 ghost use Rattle.std.specs.Vec.{vec_len, vec_capacity};
 ghost use Rattle.yaml_types.specs.Ascii as ascii;
-ghost use Rattle.yaml_emit_sink.specs.LineStarts.{enough, commas, marks, sign_of, signs, line_start_bytes};
+ghost use Rattle.yaml_emit_sink.specs.LineStarts.{commas, marks, sign_of, signs, line_start_bytes};
+ghost use Rattle.yaml_emit_sink.specs.Sink.{Grows};
 
 use crate::settings::LineBreak;
 use yaml_types::{SHORT, moved, put_back, put_each, put_short};
@@ -37,14 +38,14 @@ pub fn is_brief(output: &Vec<u8>, fast_limit: u64, line_break: LineBreak, indent
     ensures near { result ≡ true → length output.now.items + 126 ≤ fast_limit }
 {
     match line_break {
-        LineBreak::Lf => indent <= 80 && has_room(output, fast_limit, 126),
+        LineBreak::Lf => indent <= 80 && output.len() as u64 + 126 <= fast_limit,
         _ => false,
     }
 }
 
 /// The same of a line that begins so, and whether the text behind it is short.
 // Inlined: some comparisons.
-#[inline(always)]
+#[inline]
 pub fn is_brief_start(output: &Vec<u8>, fast_limit: u64, start: &LineStart, text: &[u8]) -> bool
     ensures line { result ≡ true → (start.now.line_break ≡ LineBreak.Lf) × (start.now.indent ≤ 80) }
     ensures short { result ≡ true → length text.now ≤ 32 }
@@ -60,7 +61,7 @@ pub fn are_few(output: &Vec<u8>, fast_limit: u64, count: u64) -> bool
     ensures few { result ≡ true → count ≤ 16 }
     ensures near { result ≡ true → length output.now.items + 16 ≤ fast_limit }
 {
-    count <= 16 && has_room(output, fast_limit, 16)
+    count <= 16 && output.len() as u64 + 16 <= fast_limit
 }
 
 // Few spaces.
@@ -69,23 +70,36 @@ const BLANKS: [u8; 16] = [b' '; 16];
 // More of them.
 const MORE_BLANKS: [u8; 80] = [b' '; 80];
 
-// Sixteen spaces where these are enough, or eighty.
-// Inlined: how many they are is known.
-#[inline(always)]
-fn put_enough(output: &mut Vec<u8>, count: u64)
-    requires { vec_len output.old + 80 ≤ vec_capacity output.old }
-    ensures items { output.new.items ≡ output.old.items ++ replicate (enough count) ascii.space }
-    ensures len { vec_len output.new ≡ vec_len output.old + enough count }
-    ensures room { vec_capacity output.old ≤ vec_capacity output.new }
+// So many bytes at the end are cut off.
+// No hint: alone the loop becomes one difference, with no test as `truncate` has one, and that is inlined.
+fn cut_off(output: &mut Vec<u8>, count: u64)
+    requires { count ≤ vec_len output.old }
+    ensures items { Grows output.new.items output.old.items }
+    ensures len { vec_len output.new + count ≡ vec_len output.old }
+    ensures room { vec_capacity output.new ≡ vec_capacity output.old }
 {
-    if count <= 16 {
-        put_each(output, &BLANKS);
-    } else {
-        put_each(output, &MORE_BLANKS);
+    for _ in 0..count {
+        // What is cut off isn't looked at.
+        let _last = output.take_last();
     }
 }
 
-// A line feed and at most eighty spaces: what is too much is cut off.
+// The first of some spaces: all are put at once, and what is too much is cut off.
+// Inlined: how many they are is known.
+#[inline(always)]
+fn put_first(output: &mut Vec<u8>, blanks: &[u8], count: u64)
+    requires inside { vec_len output.old + length blanks.now ≤ vec_capacity output.old }
+    requires few { count ≤ length blanks.now }
+    requires blanks { blanks.now ≡ replicate (length blanks.now) ascii.space }
+    ensures items { output.new.items ≡ output.old.items ++ replicate count ascii.space }
+    ensures len { vec_len output.new ≡ vec_len output.old + count }
+    ensures room { vec_capacity output.old ≤ vec_capacity output.new }
+{
+    put_each(output, blanks);
+    cut_off(output, blanks.len() as u64 - count);
+}
+
+// A line feed and at most eighty spaces.
 // Inlined: some stores.
 #[inline(always)]
 fn put_feed(output: &mut Vec<u8>, count: u64)
@@ -96,10 +110,12 @@ fn put_feed(output: &mut Vec<u8>, count: u64)
     ensures len { vec_len output.new ≡ vec_len output.old + (1 + count) }
     ensures room { vec_capacity output.old ≤ vec_capacity output.new }
 {
-    let from = output.len();
     output.push_reserved(b'\n');
-    put_enough(output, count);
-    output.truncate(from + (1 + count as usize));
+    if count <= 16 {
+        put_first(output, &BLANKS, count);
+    } else {
+        put_first(output, &MORE_BLANKS, count);
+    }
 }
 
 /// The same, lifted out of its place.
@@ -204,26 +220,6 @@ pub fn put_line_between(
     count
 }
 
-/// What a line begins with, and behind it few characters of a known number. The answer is how many bytes stand behind the
-/// indentation.
-// Inlined: the number is known.
-#[inline(always)]
-pub fn put_line_with(output: &mut Vec<u8>, start: &LineStart, front: &[u8]) -> usize
-    requires inside { vec_len output.old + (86 + length front.now) ≤ vec_capacity output.old }
-    requires few { start.now.indent ≤ 80 }
-    ensures items { output.new.items ≡ output.old.items
-        ++ (line_start_bytes start.now ++ front.now) }
-    ensures count { result ≡ length (signs start.now) + length front.now }
-    ensures room { vec_capacity output.old ≤ vec_capacity output.new }
-{
-    let mut own = moved(output);
-    let begun = put_line_start(&mut own, start);
-    put_each(&mut own, front);
-    let count = own.len() - begun;
-    put_back(output, own);
-    count
-}
-
 /// At most sixteen spaces, where there is room for sixteen: all are put at once, and what is too much is cut off.
 pub fn put_few_blanks(output: &mut Vec<u8>, count: u64)
     requires inside { vec_len output.old + 16 ≤ vec_capacity output.old }
@@ -232,8 +228,6 @@ pub fn put_few_blanks(output: &mut Vec<u8>, count: u64)
     ensures room { vec_capacity output.old ≤ vec_capacity output.new }
 {
     let mut own = moved(output);
-    let from = own.len();
-    put_each(&mut own, &BLANKS);
-    own.truncate(from + count as usize);
+    put_first(&mut own, &BLANKS, count);
     put_back(output, own);
 }

@@ -18,7 +18,7 @@ use Rattle.yaml_emit_layout.specs.declared.Level.{Level}
 use Rattle.yaml_emit_layout.specs.declared.NodePosition.{NodePosition}
 use Rattle.yaml_emit_layout.specs.Content.{Scalar, scalar, Start, sequence_start, mapping_start}
 use Rattle.yaml_emit_layout.specs.Grammar.{event_problem, last_problem, place_problem, problem_by}
-use Rattle.yaml_emit_layout.specs.State.{State, is_simple_event, among, before_at, before_node, levels_behind, position_of, top_of, start_text, text_at, next_at, depth_at}
+use Rattle.yaml_emit_layout.specs.State.{is_simple_event, among, before_at, before_node, levels_behind, position_of, top_of, start_text, text_at, next_at, depth_at}
 use Rattle.yaml_emit_layout.specs.Nodes.{Context, context_of, is_simple_scalar, checked, deeper, page_at, scalar_layout, style_of, turned, before_item, before_key, before_value, is_simple_start, is_flow}
 use Rattle.yaml_emit_state.specs.declared.state.Core.{Core}
 use Rattle.yaml_emit_state.specs.Due.{is_key}
@@ -77,13 +77,13 @@ front_ascii false n width v h = lined_ascii n width v h
 -- what its line begins with and what is one word behind it
 begun : (s : Settings) (l : Level) (signed : Bool) (x : Layout) (y : ℕ) (ys : List ℕ)
     (z : Layout) (a b : Output) → BeginsLine s l → Worded (l.indent + 4) x (y ∷ ys) z
-    → Puts a b ((line_start_text (line_start s l signed) ▹ letters (y ∷ ys)) ▹ z)
+    → Puts a b ((line_start_text (line_start s.line_break l signed) ▹ letters (y ∷ ys)) ▹ z)
     → Puts a b (before_at s l.phase l.flow l.indent false ▹ (mark_word (sign_of signed) ▹ x))
-begun s l signed x y ys z a b t w p = rw (t.flow, before_is s l.phase l.indent t.form t.breaks) (puts_signed (line_start s l signed) x y ys z a b w p)
+begun s l signed x y ys z a b t w p = rw (t.flow, before_is s l.phase l.indent t.form t.breaks) (puts_signed (line_start s.line_break l signed) x y ys z a b w p)
 
 pub puts_framed : (tagged : Bool) (s : Settings) (l : Level) (quoted : Bool) (v : List ℕ)
     (a b : Output) → BeginsLine s l → IsLined l.indent s.width v
-    → Puts a b (line_start_text (line_start s l (not tagged && not quoted))
+    → Puts a b (line_start_text (line_start s.line_break l (not tagged && not quoted))
     ▹ letters (front tagged ++ (v ++ 34 ∷ [])))
     → Puts a b (framed_text s (Some l) tagged [] quoted v)
 puts_framed false s l quoted v a b t w p =
@@ -103,7 +103,7 @@ puts_framed true s l quoted v a b t w p =
 
 -- what opens a collection was written
 pub puts_bracket : (s : Settings) (l : Level) (x : ℕ) (a b : Output) → BeginsLine s l
-    → Puts a b ((line_start_text (line_start s l false) ▹ letters (x ∷ [])) ▹ after_block)
+    → Puts a b ((line_start_text (line_start s.line_break l false) ▹ letters (x ∷ [])) ▹ after_block)
     → Puts a b (before_node s (Some l) false ▹ opener x)
 unfolding letters
 puts_bracket s l x a b t p = begun s l false (word (x ∷ []) ▹ after_block) x [] after_block a b t (word_worded (l.indent + 4) (x ∷ []) after_block) p
@@ -111,7 +111,7 @@ puts_bracket s l x a b t p = begun s l false (word (x ∷ []) ▹ after_block) x
 -- a name was written
 pub puts_led_name : (s : Settings) (l : Level) (i : ℕ) (name : List ℕ) (simple : Bool)
     (a b : Output) → BeginsLine s l → simple ≡ false
-    → Puts a b (line_start_text (line_start s l false) ▹ letters (i ∷ name))
+    → Puts a b (line_start_text (line_start s.line_break l false) ▹ letters (i ∷ name))
     → Puts a b (before_node s (Some l) simple ▹ word (i ∷ name))
 puts_led_name s l i name simple a b t e p = rw e (begun s l false (word (i ∷ name)) i name stay a b t (word_worded (l.indent + 4) (i ∷ name) stay) p)
 
@@ -141,14 +141,6 @@ unfolding problem_by event_problem place_problem last_problem
 framed_right false canonical place top x e h f = parts_right canonical place top x h (frees x f)
 framed_right true canonical place None x e h f = rw (e, h, f.0, f.1) refl
 framed_right true canonical place (Some l) x e h f = rw (e, h, f.0, f.1) refl
-
--- behind one in a collection a node is due
-pub stays_due : (place : Expected) (old ls : List Level) (l : Level) (ds : List TagDirective)
-    → place ≡ at.Node → Some l ≡ top_of old → ls ≡ levels_behind old false
-    → let s : State = record { place = place; levels = ls; directives = ds } in
-    s ≡ among ds (levels_behind old false)
-stays_due place [] ls l ds due is e = absurd (cc)
-stays_due place (x ∷ xs) ls l ds due is e = rw (e, due) refl
 
 pub lays_framed : (tagged : Bool) (old new : Core) (o : Output) (s : Settings) (top : Option Level)
     (ds : List TagDirective) (quoted : Bool) (v : List ℕ) (x : Scalar) (empty : Bool)

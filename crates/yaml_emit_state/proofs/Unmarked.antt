@@ -185,7 +185,7 @@ same_level l k e = cc
 abbrev state_at : Expected → List Level → List TagDirective → State
 state_at place ls ds = record { place = place; levels = ls; directives = ds }
 
-behind_by : (place : Expected) (behind ls : List Level) (own ds : List TagDirective) (l : Level)
+pub behind_by : (place : Expected) (behind ls : List Level) (own ds : List TagDirective) (l : Level)
     (q : Phase) (simple : Bool) → place ≡ at.Node → own ≡ ds → Some l ≡ top_of ls
     → q ≡ phase_behind l.phase simple → behind ≡ turned q ls
     → state_at place behind own ≡ among ds (levels_behind ls simple)

@@ -7,6 +7,7 @@ use Rattle.yaml_emit_text.specs.declared.Settings.{Settings}
 use Rattle.yaml_emit_text.specs.Layout.{Layout, ◌▹◌, stay, indicator}
 use Rattle.yaml_emit_text.specs.Sink.{Puts}
 use Rattle.yaml_emit_text.specs.Tame.{asks_plain, Stands, standing_text}
+use Rattle.yaml_emit_layout.specs.declared.Expected.TheVariants as at
 use Rattle.yaml_emit_layout.specs.declared.Level.{Level}
 use Rattle.yaml_emit_layout.specs.declared.Phase.{Phase}
 use Rattle.yaml_emit_layout.specs.declared.Phase.TheVariants.{Items, Keys, Value}
@@ -14,7 +15,7 @@ use Rattle.yaml_emit_layout.specs.declared.NodePosition.{NodePosition}
 use Rattle.yaml_emit_layout.specs.Content as said
 use Rattle.yaml_emit_layout.specs.Grammar.{has}
 use Rattle.yaml_emit_layout.specs.Nodes.{MOST, deeper, checked, page_at, position}
-use Rattle.yaml_emit_layout.specs.State.{before_at, part_at}
+use Rattle.yaml_emit_layout.specs.State.{before_at, part_at, top_of}
 use Rattle.yaml_emit_state.specs.declared.state.Core.{Core}
 use Rattle.yaml_emit_state.specs.Stack.{stack_of}
 
@@ -87,3 +88,9 @@ Turns old new phase = (stack_of new.levels ≡ turned phase (stack_of old.levels
 -- it was written, and the innermost collection is in that phase
 abbrev pub Places : Core → Core → Phase → Layout → Type 0
 Places old new behind put = Puts old.sink new.sink put × Turns old new behind
+
+-- a short scalar may be laid out at once: in pretty form a node is due, in a collection that isn't too deep
+pub record TakesShort (core : Core) : Type 0 where
+  pub form : core.settings.canonical ≡ false
+  pub due : core.place ≡ at.Node
+  pub open_level : is_shallow core.settings (top_of (stack_of core.levels)) ≡ true

@@ -6,15 +6,19 @@ use Rattle.yaml_types.specs.Ascii as ascii
 use Rattle.yaml_emit_tags.specs.parse_model.Events.{TagDirective}
 use Rattle.yaml_emit_tags.specs.parse_model.Nodes.{str_tag}
 use Rattle.yaml_emit_tags.specs.Tags.{tag_spelling}
+use Rattle.yaml_emit_text.specs.declared.LineBreak.{LineBreak}
 use Rattle.yaml_emit_text.specs.declared.LineStart.{LineStart}
 use Rattle.yaml_emit_text.specs.declared.Settings.{Settings}
 use Rattle.yaml_emit_text.specs.Layout.{Layout, ◌▹◌, when, word}
 use Rattle.yaml_emit_text.specs.Quoted.{double_quoted}
+use Rattle.yaml_emit_layout.specs.declared.Expected.TheVariants as at
 use Rattle.yaml_emit_layout.specs.declared.Level.{Level}
 use Rattle.yaml_emit_layout.specs.declared.Phase.{Phase}
 use Rattle.yaml_emit_layout.specs.declared.Phase.TheVariants.{Items, Keys, Value}
 use Rattle.yaml_emit_layout.specs.Content as said
+use Rattle.yaml_emit_state.specs.declared.state.Core.{Core}
 use Rattle.yaml_emit_state.specs.Bare.{has_none}
+use Rattle.yaml_emit_state.specs.Steps.{LaysOut}
 use Rattle.yaml_emit_layout.specs.Nodes.{MOST, deeper, checked, page_at}
 use Rattle.yaml_emit_layout.specs.State.{before_node, position_of}
 
@@ -40,10 +44,10 @@ is_block_item (Items fresh) flow = not flow
 is_block_item (Keys fresh) flow = false
 is_block_item (Value was_simple) flow = false
 
-abbrev pub line_start : Settings → Level → Bool → LineStart
-line_start s l signed = record {
+abbrev pub line_start : LineBreak → Level → Bool → LineStart
+line_start line_break l signed = record {
   comma = has_comma l.phase;
-  line_break = s.line_break;
+  line_break = line_break;
   indent = l.indent;
   mark = mark_of l.phase;
   signed = signed;
@@ -76,3 +80,16 @@ framed_text s top tagged directives quoted v = before_node s top false
     ▹ (front_text tagged directives quoted
     ▹ (checked (deeper s (position_of top false).around)
     ▹ double_quoted (page_at s (position_of top false)) (chars v)))
+
+-- canonical form, where a node is due, and no directive where it has the tag
+pub record MayFrame (tagged : Bool) (core : Core) : Type 0 where
+  pub form : core.settings.canonical ≡ true
+  pub due : core.place ≡ at.Node
+  pub none : tagged ≡ true → core.directives ≡ []
+
+-- a scalar of that value was laid out at once, or nothing was
+pub record PlacesFramed (tagged quoted : Bool) (v : List ℕ) (old new : Core)
+    (done : Bool) : Type 0 where
+  pub laid : done ≡ true → (x : said.Scalar) (empty : Bool) → IsFramed tagged x
+      → x.quoted ≡ quoted → x.value ≡ v → LaysOut old new (said.scalar x) empty
+  pub same : done ≡ false → new ≡ old

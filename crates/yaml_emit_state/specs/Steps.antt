@@ -1,5 +1,5 @@
 -- What laying out one event does.
-use Rattle.std.specs.Prelude.{◌≡◌, ◌≢◌, ◌⊎◌, Bool, true, false, not, ◌&&◌, ◌||◌, List, [], Option, Some, None}
+use Rattle.std.specs.Prelude.{◌≡◌, ◌≢◌, ◌⊎◌, ℕ, Bool, true, false, not, ◌&&◌, ◌||◌, List, [], ◌∷◌, Option, Some, None}
 use Rattle.yaml_emit_text.specs.declared.Cursor.{Cursor}
 use Rattle.yaml_emit_text.specs.declared.Settings.{Settings}
 use Rattle.yaml_emit_text.specs.declared.Status.{Status}
@@ -15,6 +15,7 @@ use Rattle.yaml_emit_layout.specs.declared.Phase.TheVariants.{Items, Keys}
 use Rattle.yaml_emit_layout.specs.Content.{Event, no_event, stream_start, stream_end, document_start, document_end, sequence_start, mapping_start}
 use Rattle.yaml_emit_layout.specs.State.{State, placed, piece, next, problem_at, top_of, position_of, opened, depth_at}
 use Rattle.yaml_emit_layout.specs.Nodes.{indented, indent_of, checked, context_of}
+use Rattle.yaml_emit_tags.specs.parse_model.Events.{TagDirective}
 use Rattle.yaml_emit_state.specs.declared.state.Core.{Core}
 use Rattle.yaml_emit_state.specs.Stack.{stack_of}
 
@@ -102,6 +103,27 @@ pub record Halts (old new : Core) : Type 0 where
 abbrev pub StaysBut : Core → Core → Type 0
 StaysBut old new = (new.settings ≡ old.settings) × (new.sink ≡ old.sink)
     × (new.starved ≡ old.starved)
+
+-- a document has begun
+abbrev pub begun : List TagDirective → State
+begun directives = record { place = at.Node; levels = []; directives = directives }
+
+-- one more collection is open
+abbrev pub deepened : Phase → Bool → ℕ → State → State
+deepened phase flow n s = record {
+  place = s.place;
+  levels = record { phase = phase; flow = flow; indent = n } ∷ s.levels;
+  directives = s.directives;
+}
+
+-- it comes to a state, unless memory was refused for that
+pub record ComesTo (old new : Core) (behind : State) : Type 0 where
+  pub state : new.sink.status ≡ Going → state_of new ≡ behind
+  pub settings : new.settings ≡ old.settings
+  pub cursor : new.sink.status ≡ Going → new.sink.cursor ≡ old.sink.cursor
+  pub text : Puts old.sink new.sink stay
+  pub memory : Notes true old new
+  pub halts : Halts old new
 
 -- a collection was opened, behind its properties
 pub record OpensCollection (s : Settings) (old new : Core)

@@ -29,20 +29,16 @@ pub fn is_given(text: &Option<Vec<u8>>) -> bool
 pub fn asks_plain(style: yaml_scalar_style_t) -> bool
     ensures { result ≡ asks_plain style }
 {
-    match style {
-        yaml_scalar_style_t::YAML_ANY_SCALAR_STYLE => true,
-        yaml_scalar_style_t::YAML_PLAIN_SCALAR_STYLE => true,
-        _ => false,
-    }
+    matches!(
+        style,
+        yaml_scalar_style_t::YAML_ANY_SCALAR_STYLE | yaml_scalar_style_t::YAML_PLAIN_SCALAR_STYLE
+    )
 }
 
 fn is_double(style: yaml_scalar_style_t) -> bool
     ensures { result ≡ is_double style }
 {
-    match style {
-        yaml_scalar_style_t::YAML_DOUBLE_QUOTED_SCALAR_STYLE => true,
-        _ => false,
-    }
+    matches!(style, yaml_scalar_style_t::YAML_DOUBLE_QUOTED_SCALAR_STYLE)
 }
 
 /// Whether no anchor and no tag stands there.
@@ -114,10 +110,7 @@ pub fn is_inline(event: &yaml_event_body_t, framed: bool) -> bool
 pub fn is_shallow(settings: &Settings, top: &Option<Level>) -> bool
     ensures { result ≡ is_shallow settings.now top.now }
 {
-    match top {
-        None => false,
-        Some(level) => is_not_deep(level.indent, settings.indent),
-    }
+    matches!(top, Some(level) if is_not_deep(level.indent, settings.indent))
 }
 
 /// Whether no space is due, and a text fits the line, plain or in quotes.

@@ -9,7 +9,7 @@ ghost use Rattle.yaml_emit_state.specs.Framed.{has_comma, mark_of, is_behind_sim
 ghost use Rattle.yaml_emit_state.specs.Given.{opening_bracket, closing_bracket};
 
 use yaml_emit_layout::{Level, Phase};
-use yaml_emit_text::{LineStart, Settings, Sink};
+use yaml_emit_text::{LineBreak, LineStart, Settings, Sink};
 
 // How many columns are few.
 const NEAR: u64 = 80;
@@ -113,16 +113,10 @@ pub fn put_before(sink: &mut Sink, settings: &Settings, top: &Option<Level>, sim
 {
     match *top {
         None => (),
-        Some(
-            Level {
-                phase,
-                flow,
-                indent,
-            },
-        ) => match phase {
-            Phase::Items(fresh) => put_before_item(sink, settings, flow, indent, fresh),
-            Phase::Keys(fresh) => put_before_key(sink, settings, flow, indent, fresh, simple),
-            Phase::Value(was_simple) => put_before_value(sink, settings, flow, indent, was_simple),
+        Some(at) => match at.phase {
+            Phase::Items(fresh) => put_before_item(sink, settings, at.flow, at.indent, fresh),
+            Phase::Keys(fresh) => put_before_key(sink, settings, at.flow, at.indent, fresh, simple),
+            Phase::Value(simple) => put_before_value(sink, settings, at.flow, at.indent, simple),
         },
     }
 }
@@ -143,7 +137,7 @@ fn put_end(sink: &mut Sink, due: bool, settings: &Settings, indent: u64, c: u8)
             mark: 0,
             signed: false,
         };
-        sink.put_led(&start, &[c]);
+        sink.put_lined(&start, &[c], b"", b"");
     } else {
         sink.put(c as char);
     }
@@ -168,19 +162,11 @@ pub fn put_closer_at(sink: &mut Sink, settings: &Settings, top: &Option<Level>, 
     requires { c < 128 }
     ensures { Puts sink.old sink.new (closer_at settings.now top.now c) }
 {
-    match top {
-        None => (),
-        Some(level) => {
-            if level.flow {
-                let due = ends_apart(settings.canonical, level.phase);
-                put_end(
-                    sink,
-                    due,
-                    settings,
-                    level.indent.saturating_sub(settings.indent),
-                    c,
-                );
-            }
+    if let Some(level) = top {
+        if level.flow {
+            let due = ends_apart(settings.canonical, level.phase);
+            let indent = level.indent.saturating_sub(settings.indent);
+            put_end(sink, due, settings, indent, c);
         }
     }
 }
@@ -265,12 +251,12 @@ pub fn begins_line(settings: &Settings, level: &Level) -> bool
 /// What that line begins with.
 // Inlined: some tests.
 #[inline(always)]
-pub fn line_start_of(settings: &Settings, level: &Level, signed: bool) -> LineStart
-    ensures { result ≡ line_start settings.now level.now signed }
+pub fn line_start_of(line_break: LineBreak, level: &Level, signed: bool) -> LineStart
+    ensures { result ≡ line_start line_break level.now signed }
 {
     LineStart {
         comma: has_comma(level.phase),
-        line_break: settings.line_break,
+        line_break,
         indent: level.indent,
         mark: mark_of(level.phase),
         signed,

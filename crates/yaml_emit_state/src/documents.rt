@@ -52,13 +52,10 @@ fn put_version_word(sink: &mut Sink, version: yaml_version_directive_t)
 fn put_version(sink: &mut Sink, settings: &Settings, version: Option<yaml_version_directive_t>)
     ensures { Puts sink.old sink.new (version_text settings.now version) }
 {
-    match version {
-        None => (),
-        Some(version) => {
-            sink.put_word(b"%YAML");
-            put_version_word(sink, version);
-            sink.put_line(settings.line_break, 0);
-        }
+    if let Some(version) = version {
+        sink.put_word(b"%YAML");
+        put_version_word(sink, version);
+        sink.put_line(settings.line_break, 0);
     }
 }
 
@@ -98,10 +95,7 @@ fn is_directed(
 ) -> bool
     ensures { result ≡ (has_version version || has_directives (map directive_of directives.now)) }
 {
-    match version {
-        Some(_) => true,
-        None => !directives.is_empty(),
-    }
+    matches!(version, Some(_)) || !directives.is_empty()
 }
 
 // The directives, and `---` where it is due.
@@ -134,15 +128,12 @@ fn put_start_at(
     ensures { Puts sink.old sink.new (start_at settings.now place
         (opening_of version directives.now implicit)) }
 {
-    match place {
-        Expected::Documents(first, unended) => {
-            let directed = is_directed(version, directives);
-            // `...` parts directives from a document that ended implicitly.
-            put_dots_if(sink, unended & directed, settings);
-            let marked = settings.canonical | !(first & (implicit & !directed));
-            put_opening(sink, settings, marked, version, directives);
-        }
-        _ => (),
+    if let Expected::Documents(first, unended) = place {
+        let directed = is_directed(version, directives);
+        // `...` parts directives from a document that ended implicitly.
+        put_dots_if(sink, unended & directed, settings);
+        let marked = settings.canonical | !(first & (implicit & !directed));
+        put_opening(sink, settings, marked, version, directives);
     }
 }
 
@@ -151,13 +142,10 @@ fn put_start_at(
 fn put_stop_at(sink: &mut Sink, settings: &Settings, place: Expected)
     ensures { Puts sink.old sink.new (stop_at settings.now place) }
 {
-    match place {
-        Expected::Documents(_, unended) => {
-            if unended && sink.cursor().kept {
-                put_dots(sink, settings);
-            }
+    if let Expected::Documents(_, unended) = place {
+        if unended && sink.cursor().kept {
+            put_dots(sink, settings);
         }
-        _ => (),
     }
 }
 

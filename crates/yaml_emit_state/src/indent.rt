@@ -42,10 +42,7 @@ pub fn position_of(top: Option<Level>, simple: bool) -> NodePosition
 pub fn is_simple_part(part: Part) -> bool
     ensures { result ≡ is_simple_part part }
 {
-    match part {
-        Part::SimpleKey => true,
-        _ => false,
-    }
+    matches!(part, Part::SimpleKey)
 }
 
 fn is_of_mapping(part: Part) -> bool
@@ -92,13 +89,8 @@ fn block_indent(settings: &Settings, around: Option<u64>, keeps: bool) -> Option
 {
     match around {
         None => Some(0),
-        Some(n) => {
-            if keeps {
-                sum(n, 0)
-            } else {
-                sum(n, settings.indent)
-            }
-        }
+        Some(n) if keeps => sum(n, 0),
+        Some(n) => sum(n, settings.indent),
     }
 }
 

@@ -113,13 +113,8 @@ fn version_problem(version: Option<yaml_version_directive_t>) -> Option<Problem>
 {
     match version {
         None => None,
-        Some(version) => {
-            if version.major == 1 && (version.minor == 1 || version.minor == 2) {
-                None
-            } else {
-                Some(Problem::Version)
-            }
-        }
+        Some(version) if version.major == 1 && (version.minor == 1 || version.minor == 2) => None,
+        Some(_) => Some(Problem::Version),
     }
 }
 
@@ -236,14 +231,8 @@ fn ends_phase(phase: Phase, event: &yaml_event_body_t) -> bool
     ensures { result ≡ ends_phase phase (emitter_event (body_of event.now)) }
 {
     match phase {
-        Phase::Items(_) => match event {
-            yaml_event_body_t::SequenceEnd => true,
-            _ => false,
-        },
-        Phase::Keys(_) => match event {
-            yaml_event_body_t::MappingEnd => true,
-            _ => false,
-        },
+        Phase::Items(_) => matches!(event, yaml_event_body_t::SequenceEnd),
+        Phase::Keys(_) => matches!(event, yaml_event_body_t::MappingEnd),
         Phase::Value(_) => false,
     }
 }
@@ -255,13 +244,8 @@ fn node_problem(top: Option<Level>, event: &yaml_event_body_t) -> Option<Problem
 {
     match top {
         Some(level) if ends_phase(level.phase, event) => None,
-        _ => {
-            if begins_node(event) {
-                None
-            } else {
-                Some(Problem::ExpectedNode)
-            }
-        }
+        _ if begins_node(event) => None,
+        _ => Some(Problem::ExpectedNode),
     }
 }
 

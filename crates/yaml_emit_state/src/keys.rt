@@ -34,14 +34,8 @@ fn written_size(context: &Context, left_out: bool, tag: &Option<Vec<u8>>) -> usi
         (kept_tag false left_out (text_of tag.now)) }
 {
     match tag {
-        None => 0,
-        Some(tag) => {
-            if left_out {
-                0
-            } else {
-                tag_size(context.directives, tag)
-            }
-        }
+        Some(tag) if !left_out => tag_size(context.directives, tag),
+        _ => 0,
     }
 }
 
@@ -82,20 +76,14 @@ fn has_breaks(scalar: &Scalar) -> bool
 fn is_key_in(phase: Phase) -> bool
     ensures { result ≡ is_key_in phase }
 {
-    match phase {
-        Phase::Keys(_) => true,
-        _ => false,
-    }
+    matches!(phase, Phase::Keys(_))
 }
 
 // Whether a key is due in the innermost collection.
 fn is_key(top: &Option<Level>) -> bool
     ensures { result ≡ is_key top.now }
 {
-    match top {
-        None => false,
-        Some(level) => is_key_in(level.phase),
-    }
+    matches!(top, Some(level) if is_key_in(level.phase))
 }
 
 // Whether the next event decides what is written for a collection in pretty form, by whether its style is flow: where it may be a
@@ -116,10 +104,7 @@ pub fn is_scalar(event: &yaml_event_body_t) -> bool
     ensures { result ≡ true → (canonical : Bool) (top : Option _)
         → is_undecided canonical top (emitter_event (body_of event.now)) ≡ false }
 {
-    match event {
-        yaml_event_body_t::Scalar { .. } => true,
-        _ => false,
-    }
+    matches!(event, yaml_event_body_t::Scalar { .. })
 }
 
 /// Whether the next event may decide what is written for this one in pretty form.
@@ -179,18 +164,12 @@ pub fn is_simple_start(context: &Context, start: &Start) -> bool
 pub fn is_flow_sequence(style: yaml_sequence_style_t) -> bool
     ensures { result ≡ is_flow_sequence style }
 {
-    match style {
-        yaml_sequence_style_t::YAML_FLOW_SEQUENCE_STYLE => true,
-        _ => false,
-    }
+    matches!(style, yaml_sequence_style_t::YAML_FLOW_SEQUENCE_STYLE)
 }
 
 /// Whether a mapping has flow style.
 pub fn is_flow_mapping(style: yaml_mapping_style_t) -> bool
     ensures { result ≡ is_flow_mapping style }
 {
-    match style {
-        yaml_mapping_style_t::YAML_FLOW_MAPPING_STYLE => true,
-        _ => false,
-    }
+    matches!(style, yaml_mapping_style_t::YAML_FLOW_MAPPING_STYLE)
 }

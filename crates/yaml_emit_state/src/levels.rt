@@ -1,5 +1,5 @@
 //! The open collections.
-ghost use Rattle.std.specs.Prelude.{◌≡◌, ◌∷◌, [], None, Some, OnOk};
+ghost use Rattle.std.specs.Prelude.{◌≡◌, ◌∷◌, [], None, Some, true, false, OnOk};
 ghost use Rattle.yaml_emit_layout.specs.State.{top_of, outer_of, levels_behind, phase_behind};
 ghost use Rattle.yaml_emit_state.specs.Bare.{turned};
 ghost use Rattle.yaml_emit_state.specs.Stack.{stack, stack_of};
@@ -53,8 +53,9 @@ impl Levels {
         &self.top
     }
 
+    /// What comes in a collection behind a node, by whether it was a simple key.
     #[tactic(auto, unfolding(yaml_emit_layout::specs::State::phase_behind))]
-    fn phase_behind(phase: Phase, simple: bool) -> Phase
+    pub fn phase_behind(phase: Phase, simple: bool) -> Phase
         ensures { result ≡ phase_behind phase simple }
     {
         match phase {
@@ -87,6 +88,23 @@ impl Levels {
             Some(level) => {
                 level.phase = phase;
             }
+        }
+    }
+
+    /// Opens a collection in another one, where there is room for it; else nothing.
+    // Inlined: a test in front of some stores.
+    #[inline(always)]
+    pub fn push_near(&mut self, level: Level) -> bool
+        ensures laid { result ≡ true → stack_of self.new ≡ level ∷ stack_of self.old }
+        ensures same { result ≡ false → self.new ≡ self.old }
+    {
+        match self.top {
+            Some(old) if self.outer.len() < self.outer.capacity() => {
+                self.outer.push_reserved(old);
+                self.top = Some(level);
+                true
+            }
+            _ => false,
         }
     }
 

@@ -13,7 +13,7 @@ ghost use Rattle.yaml_emit_layout.specs.State.{before_node, position_of, start_t
 ghost use Rattle.yaml_emit_state.specs.Given.{lent_context, lent_scalar, lent_start, IsNamed};
 
 use crate::bare::{asks_plain, is_given};
-use crate::before::{begins_line, is_behind_simple, is_block_item, line_start_of, put_before};
+use crate::before::{begins_line, is_behind_simple, is_block_item, put_before};
 use crate::given::{Context, Scalar, Start};
 use crate::indent::{deeper, is_flow, is_simple_part, position_of};
 use crate::named::{put_item_name, put_led_name, put_name, put_value_name};
@@ -65,8 +65,7 @@ fn put_named(
             } else if is_behind_simple(level.phase) {
                 put_value_name(sink, indicator, name);
             } else if begins_line(settings, level) && !simple {
-                let start = line_start_of(settings, level, false);
-                put_led_name(sink, &start, indicator, name);
+                put_led_name(sink, settings.line_break, level, indicator, name);
             } else {
                 put_named_far(sink, *settings, top, simple, indicator, name);
             }
@@ -120,9 +119,8 @@ fn put_tag_if(sink: &mut Sink, context: &Context, kept: bool, tag: &Option<Vec<u
         (kept_if kept (text_of tag.now))) }
 {
     if kept {
-        match tag {
-            None => (),
-            Some(tag) => put_tag(sink, context.directives, tag),
+        if let Some(tag) = tag {
+            put_tag(sink, context.directives, tag);
         }
     }
 }
@@ -141,10 +139,7 @@ fn is_written(canonical: bool, left_out: bool, tag: &Option<Vec<u8>>) -> bool
 fn is_plain(style: Style) -> bool
     ensures { result ≡ is_plain style }
 {
-    match style {
-        Style::Plain => true,
-        _ => false,
-    }
+    matches!(style, Style::Plain)
 }
 
 // Whether a scalar may be plain: it has a tag that is written, or needs none.

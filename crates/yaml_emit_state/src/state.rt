@@ -216,30 +216,28 @@ impl Core {
         requires form { canonical ≡ self.old.settings.canonical }
         ensures { LaysOut self.old self.new (emitter_event (body_of event.now)) empty }
     {
-        match event {
-            yaml_event_body_t::Scalar {
-                anchor,
-                tag,
-                value,
-                plain_implicit,
-                quoted_implicit,
-                style,
-            } => {
-                if self.admits(event, canonical) {
-                    let tame = is_tame_in(canonical, value);
-                    let scalar = Scalar {
-                        anchor,
-                        tag,
-                        value,
-                        plain: *plain_implicit,
-                        quoted: *quoted_implicit,
-                        style: *style,
-                        tame,
-                    };
-                    self.put_known_scalar(&scalar, canonical);
-                }
+        if let yaml_event_body_t::Scalar {
+            anchor,
+            tag,
+            value,
+            plain_implicit,
+            quoted_implicit,
+            style,
+        } = event
+        {
+            if self.admits(event, canonical) {
+                let tame = is_tame_in(canonical, value);
+                let scalar = Scalar {
+                    anchor,
+                    tag,
+                    value,
+                    plain: *plain_implicit,
+                    quoted: *quoted_implicit,
+                    style: *style,
+                    tame,
+                };
+                self.put_known_scalar(&scalar, canonical);
             }
-            _ => (),
         }
     }
 
@@ -300,21 +298,18 @@ impl Core {
         ensures { LaysOut self.old self.new (emitter_event (body_of event.now)) empty }
     {
         let canonical = self.settings.canonical;
-        match event {
-            yaml_event_body_t::Alias { anchor } => {
-                if self.admits(event, canonical) {
-                    let settings = self.settings(canonical);
-                    let context = Context {
-                        settings: &settings,
-                        directives: &self.directives,
-                    };
-                    let top = self.levels.innermost();
-                    let simple = is_simple_alias(&context, anchor);
-                    put_alias_node(&mut self.sink, &settings, top, simple, anchor);
-                    self.step(simple);
-                }
+        if let yaml_event_body_t::Alias { anchor } = event {
+            if self.admits(event, canonical) {
+                let settings = self.settings(canonical);
+                let context = Context {
+                    settings: &settings,
+                    directives: &self.directives,
+                };
+                let top = self.levels.innermost();
+                let simple = is_simple_alias(&context, anchor);
+                put_alias_node(&mut self.sink, &settings, top, simple, anchor);
+                self.step(simple);
             }
-            _ => (),
         }
     }
 
@@ -344,10 +339,7 @@ impl Core {
     pub fn awaits_node(&self) -> bool
         ensures { result ≡ true → self.now.place ≡ Expected.Node }
     {
-        match self.place {
-            Expected::Node => true,
-            _ => false,
-        }
+        matches!(self.place, Expected::Node)
     }
 
     /// Lays out a text with the default tag and without an anchor, where a node is due, in canonical form, which doesn't ask for
@@ -362,7 +354,7 @@ impl Core {
             (scalar (plain_text value.now style)) empty }
     {
         if are_none(&self.directives) {
-            if !self.place_framed(true, true, value) {
+            if !self.place_framed::<u16>(true, true, value) {
                 self.lay_any_text(value);
             }
         } else {

@@ -1,4 +1,4 @@
-//! What an emitter writes of tags, by the directives of a document, and of anchors and aliases.
+//! What an emitter writes of tags, by the directives of a document.
 #![tactic(auto)]
 
 mod prefixes;
@@ -7,4 +7,4 @@ mod table;
 mod tag;
 
 pub use table::DirectiveTable;
-pub use tag::{put_alias, put_anchor, put_prefix, put_tag, tag_size};
+pub use tag::{put_prefix, put_tag, tag_size};

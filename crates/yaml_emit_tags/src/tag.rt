@@ -1,4 +1,4 @@
-//! Tags (YAML 1.1, 7.1.2 and 3.2.1.2), anchors and aliases (3.2.2.2).
+//! Tags (YAML 1.1, 7.1.2 and 3.2.1.2).
 
 ghost use Rattle.std.specs.List.{list_all};
 ghost use Rattle.std.specs.Str.{IsAscii};
@@ -244,22 +244,4 @@ pub fn put_prefix(sink: &mut Sink, prefix: &[u8])
 {
     sink.put_gap();
     put_uri(sink, true, prefix);
-}
-
-/// `&` and a name, with a space in front where one is due.
-pub fn put_anchor(sink: &mut Sink, name: &[u8])
-    ensures { Puts sink.old sink.new (word (ascii.ampersand ∷ name.now)) }
-{
-    sink.put_gap();
-    sink.put('&');
-    sink.put_all(name);
-}
-
-/// `*` and a name, with a space in front where one is due.
-pub fn put_alias(sink: &mut Sink, name: &[u8])
-    ensures { Puts sink.old sink.new (word (ascii.asterisk ∷ name.now)) }
-{
-    sink.put_gap();
-    sink.put('*');
-    sink.put_all(name);
 }

@@ -137,7 +137,7 @@ pub fn is_lined(width: u64, column: u64, value: &[u8]) -> bool
     if SHORT < value.len() {
         return false;
     }
-    if fits(width, column, 16, true, value) {
+    if column <= 80 && column + (18 + value.len() as u64) <= width {
         are_even(value)
     } else {
         are_solid(value)

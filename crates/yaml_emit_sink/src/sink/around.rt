@@ -1,13 +1,13 @@
 //! Texts that are put together with what stands round them.
-ghost use Rattle.std.specs.Prelude.{◌≡◌, ◌<◌, ◌≤◌, ◌∷◌, ◌++◌, ◌+◌, length, None, Some, ◌||◌};
+ghost use Rattle.std.specs.Prelude.{◌≡◌, ◌<◌, ◌≤◌, ◌∷◌, ◌++◌, ◌+◌, length, None, Some, ◌||◌, true, false};
 ghost use Rattle.yaml_types.specs.Ascii as ascii;
 
 use super::Sink;
 use crate::append::{indented, lettered};
-use crate::feed::{LineStart, has_room, is_brief_start, put_line_between, put_line_with, sign_of};
+use crate::feed::{LineStart, has_room, is_brief_start, put_line_between, sign_of};
 use yaml_types::put_between;
 
-// The same, number by number: what lies between them isn't copied.
+// What a line begins with, number by number: what lies between them isn't copied.
 // Inlined: some moves.
 #[inline(always)]
 fn again(start: &LineStart) -> LineStart
@@ -103,8 +103,36 @@ impl Sink {
     }
 
     /// What a line begins with, and behind it few characters of known numbers, a text and few more, in ASCII, one at least: at
-    /// once where there is room for them.
-    // Inlined: mostly there is, and it is some stores round a copy.
+    /// once where there is room for them, else nothing.
+    // Inlined: some comparisons in front of some stores.
+    #[inline(always)]
+    pub fn put_lined_near(
+        &mut self,
+        start: &LineStart,
+        front: &[u8],
+        text: &[u8],
+        end: &[u8],
+    ) -> bool
+        requires few { length front.now + length end.now ≤ 8 }
+        requires some { 0 < length front.now + length text.now }
+        requires signs { IsAscii (signs start.now) }
+        requires ascii { IsAscii (front.now ++ (text.now ++ end.now)) }
+        ensures laid { result ≡ true → Puts self.old self.new (line_start_text start.now
+            ▹ letters (front.now ++ (text.now ++ end.now))) }
+        ensures same { result ≡ false → self.new ≡ self.old }
+    {
+        if self.is_broken(start) && is_brief_start(&self.output, self.fast_limit, start, text) {
+            let count = put_line_between(&mut self.output, start, front, text, end);
+            indented(&mut self.cursor, start.indent);
+            lettered(&mut self.cursor, count as u64);
+            true
+        } else {
+            false
+        }
+    }
+
+    /// The same, wherever it is.
+    // Inlined: mostly there is room.
     #[inline(always)]
     pub fn put_lined(&mut self, start: &LineStart, front: &[u8], text: &[u8], end: &[u8])
         requires few { length front.now + length end.now ≤ 8 }
@@ -114,32 +142,8 @@ impl Sink {
         ensures { Puts self.old self.new (line_start_text start.now
             ▹ letters (front.now ++ (text.now ++ end.now))) }
     {
-        if self.is_broken(start) && is_brief_start(&self.output, self.fast_limit, start, text) {
-            let count = put_line_between(&mut self.output, start, front, text, end);
-            indented(&mut self.cursor, start.indent);
-            lettered(&mut self.cursor, count as u64);
-        } else {
+        if !self.put_lined_near(start, front, text, end) {
             self.put_lined_far(again(start), front, text, end);
-        }
-    }
-
-    /// What a line begins with, and behind it few characters of a known number, in ASCII, one at least: at once where there is
-    /// room for them.
-    // Inlined: mostly there is, and it is some stores.
-    #[inline(always)]
-    pub fn put_led(&mut self, start: &LineStart, front: &[u8])
-        requires few { length front.now ≤ 8 }
-        requires some { 0 < length front.now }
-        requires signs { IsAscii (signs start.now) }
-        requires ascii { IsAscii front.now }
-        ensures { Puts self.old self.new (line_start_text start.now ▹ letters front.now) }
-    {
-        if self.is_broken(start) && is_brief_start(&self.output, self.fast_limit, start, front) {
-            let count = put_line_with(&mut self.output, start, front);
-            indented(&mut self.cursor, start.indent);
-            lettered(&mut self.cursor, count as u64);
-        } else {
-            self.put_lined_far(again(start), front, b"", b"");
         }
     }
 

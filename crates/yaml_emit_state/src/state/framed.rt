@@ -1,59 +1,80 @@
 //! Laying out a scalar in canonical form: at once, where it stands in its line and has no properties, or the default tag alone.
-ghost use Rattle.std.specs.Prelude.{◌≡◌, [], not, ◌&&◌, Bool, true, false, IsUtf8};
+ghost use Rattle.std.specs.Prelude.{◌≡◌, [], Bool, Some, true, false, IsUtf8};
 ghost use Rattle.yaml_parse_model.specs.Constructors.{HasUtf8};
 
 use super::Core;
 use crate::bare::is_free;
 use crate::before::{begins_line, line_start_of, put_before};
 use crate::indent::position_of;
+use crate::levels::Levels;
 use crate::nodes::put_lines;
+use yaml_emit_layout::{Level, Phase};
 use yaml_emit_tags::put_tag;
 use yaml_emit_text::{Style, beside, is_lined};
 use yaml_parse_model::{YAML_STR_TAG, yaml_event_body_t};
-
-// Whether the sign of a value that may not be quoted stands in front of it: a tag stands for it.
-fn is_signed(tagged: bool, quoted: bool) -> bool
-    ensures { result ≡ (not tagged && not quoted) }
-{
-    !tagged && !quoted
-}
 
 impl Core {
     ghost use Rattle.yaml_parse_model.specs.Events.{body_of, type_of};
     ghost use Rattle.yaml_scan_model.specs.declared.yaml_event_type_t.TheVariants as kind;
     ghost use Rattle.yaml_emit_layout.specs.declared.Expected.TheVariants as at;
-    ghost use Rattle.yaml_emit_layout.specs.Content.{Scalar as SaidScalar, emitter_event, scalar};
+    ghost use Rattle.yaml_emit_layout.specs.Content.{emitter_event, scalar};
     ghost use Rattle.yaml_scan_model.specs.declared.yaml_scalar_style_t.{yaml_scalar_style_t};
-    ghost use Rattle.yaml_emit_state.specs.Framed.{IsFramed};
+    ghost use Rattle.yaml_emit_state.specs.Framed.{MayFrame, PlacesFramed};
     ghost use Rattle.yaml_emit_state.specs.Given.{plain_text};
+    ghost use Rattle.yaml_emit_layout.specs.State.{top_of};
+    ghost use Rattle.yaml_emit_state.specs.Stack.{stack_of};
     ghost use Rattle.yaml_emit_state.specs.Steps.{LaysOut};
 
-    // A scalar without properties, or with the default tag alone where there is no directive, where it stands in its line; else
-    // nothing.
-    // Inlined: whether it has the tag is known.
-    #[inline(always)]
-    pub(super) fn place_framed(&mut self, tagged: bool, quoted: bool, value: &[u8]) -> bool
-        requires form { self.old.settings.canonical ≡ true }
-        requires due { self.old.place ≡ at.Node }
-        requires none { tagged ≡ true → self.old.directives ≡ [] }
-        ensures laid { result ≡ true → (x : SaidScalar) (empty : Bool) → IsFramed tagged x
-            → x.quoted ≡ quoted → x.value ≡ value.now → LaysOut self.old self.new (scalar x) empty }
-        ensures same { result ≡ false → self.new ≡ self.old }
+    // A scalar in the innermost collection, at once where it begins a line and stands in it; else nothing.
+    // No hint: a copy that is called once is inlined there, where phase and size are known.
+    fn place_sized<L>(&mut self, level: Level, tagged: bool, quoted: bool, value: &[u8]) -> bool
+        requires may { MayFrame tagged self.old }
+        requires top { top_of (stack_of self.old.levels) ≡ Some level }
+        ensures { PlacesFramed tagged quoted value.now self.old self.new result }
     {
         let settings = self.settings(true);
-        match self.levels.innermost() {
-            None => false,
-            Some(level) => {
-                if begins_line(&settings, level) && is_lined(settings.width, level.indent, value) {
-                    let start = line_start_of(&settings, level, is_signed(tagged, quoted));
-                    let front = beside(tagged, b"\"", b"!!str \"");
-                    self.levels.step(false);
-                    self.sink.put_lined(&start, front, value, b"\"");
-                    true
-                } else {
-                    false
-                }
+        if begins_line(&settings, &level) && is_lined(settings.width, level.indent, value) {
+            let start = line_start_of(settings.line_break, &level, !tagged & !quoted);
+            let front = beside(tagged, b"\"", b"!!str \"");
+            if self.sink.put_lined_near(&start, front, value, b"\"") {
+                self.levels.turn(Levels::phase_behind(level.phase, false));
+                return true;
             }
+        }
+        false
+    }
+
+    // The same: a way for each size. `L` names the phase and the caller, so that each has its own copies.
+    fn place_at<L>(&mut self, level: Level, tagged: bool, quoted: bool, value: &[u8]) -> bool
+        requires may { MayFrame tagged self.old }
+        requires top { top_of (stack_of self.old.levels) ≡ Some level }
+        ensures { PlacesFramed tagged quoted value.now self.old self.new result }
+    {
+        if value.len() < 4 {
+            self.place_sized::<(L, u8)>(level, tagged, quoted, value)
+        } else if value.len() < 8 {
+            self.place_sized::<(L, u16)>(level, tagged, quoted, value)
+        } else {
+            self.place_sized::<(L, u32)>(level, tagged, quoted, value)
+        }
+    }
+
+    // A scalar without properties, or with the default tag alone where there is no directive, where it stands in its line; else
+    // nothing: a way for each phase.
+    // Inlined: whether it has the tag is known.
+    #[inline(always)]
+    pub(super) fn place_framed<L>(&mut self, tagged: bool, quoted: bool, value: &[u8]) -> bool
+        requires may { MayFrame tagged self.old }
+        ensures { PlacesFramed tagged quoted value.now self.old self.new result }
+    {
+        let innermost = self.levels.top();
+        match innermost {
+            None => false,
+            Some(level) => match level.phase {
+                Phase::Items(_) => self.place_at::<(L, u8)>(level, tagged, quoted, value),
+                Phase::Keys(_) => self.place_at::<(L, u16)>(level, tagged, quoted, value),
+                Phase::Value(_) => self.place_at::<(L, u32)>(level, tagged, quoted, value),
+            },
         }
     }
 
@@ -63,11 +84,9 @@ impl Core {
     fn place_bare(&mut self, quoted: bool, value: &[u8]) -> bool
         requires form { self.old.settings.canonical ≡ true }
         requires due { self.old.place ≡ at.Node }
-        ensures laid { result ≡ true → (x : SaidScalar) (empty : Bool) → IsFramed false x
-            → x.quoted ≡ quoted → x.value ≡ value.now → LaysOut self.old self.new (scalar x) empty }
-        ensures same { result ≡ false → self.new ≡ self.old }
+        ensures { PlacesFramed false quoted value.now self.old self.new result }
     {
-        self.place_framed(false, quoted, value)
+        self.place_framed::<u8>(false, quoted, value)
     }
 
     // A scalar in the general way.
@@ -82,8 +101,7 @@ impl Core {
         self.lay_scalar(event, empty, true);
     }
 
-    // An event that is mostly a scalar: without properties, where a node is due,
-    // at once, or in the general way.
+    // An event that is mostly a scalar: without properties, where a node is due, at once, or in the general way.
     // Inlined: with a loop over events that has the emitter's step in line it is a call less for each.
     #[inline(always)]
     pub(super) fn lay_canonical_scalar(&mut self, event: &mut yaml_event_body_t, empty: bool)

@@ -1,19 +1,17 @@
 //! The state behind an event that was written.
 ghost use Rattle.std.specs.Prelude.{◌≡◌, [], Bool, None, Some, true, false, if◌then◌else◌, map};
 ghost use Rattle.yaml_parse_model.specs.Events.{directive_of, body_of};
-ghost use Rattle.yaml_emit_text.specs.Sink.{Puts};
-ghost use Rattle.yaml_emit_text.specs.Layout.{stay};
 ghost use Rattle.yaml_emit_layout.specs.Content.{emitter_event};
 ghost use Rattle.yaml_emit_layout.specs.State.{among, levels_behind, outer_of, place_at, opened, placed};
 ghost use Rattle.yaml_emit_state.specs.Bare.{Turns};
-ghost use Rattle.yaml_emit_state.specs.Steps.{state_of, StaysBut, MovesOn, OpensCollection, Notes, Halts, first_phase, is_outer};
+ghost use Rattle.yaml_emit_state.specs.Steps.{state_of, StaysBut, MovesOn, OpensCollection, ComesTo, begun, deepened, first_phase, is_outer};
 
 use super::Core;
 use crate::indent::{indent_of, position_of};
 use std::mem;
 use yaml_emit_layout::{Expected, Level, Phase};
 use yaml_emit_tags::DirectiveTable;
-use yaml_emit_text::{Settings, Status};
+use yaml_emit_text::Settings;
 use yaml_parse_model::yaml_event_body_t;
 use yaml_scan_model::yaml_tag_directive_t;
 
@@ -82,19 +80,7 @@ impl Core {
 
     // A document begins, unless memory is wanting: then the output has stopped.
     fn begin(&mut self, directives: Vec<yaml_tag_directive_t>)
-        ensures state { self.new.sink.status ≡ Status.Going
-            → state_of self.new ≡ record {
-              place = Expected.Node;
-              levels = [];
-              directives = map
-                  directive_of directives.items;
-            } }
-        ensures settings { self.new.settings ≡ self.old.settings }
-        ensures cursor { self.new.sink.status ≡ Status.Going → self.new.sink.cursor
-            ≡ self.old.sink.cursor }
-        ensures text { Puts self.old.sink self.new.sink stay }
-        ensures memory { Notes true self.old self.new }
-        ensures halts { Halts self.old self.new }
+        ensures { ComesTo self.old self.new (begun (map directive_of directives.items)) }
     {
         self.place = Expected::Node;
         self.levels.clear();
@@ -106,17 +92,26 @@ impl Core {
         }
     }
 
+    // A collection is opened in a list that has no room for it, unless memory is wanting: then the output has stopped.
+    // Out of line: the rare way.
+    #[inline(never)]
+    fn open_far(&mut self, phase: Phase, flow: bool, indent: u64)
+        ensures { ComesTo self.old self.new (deepened phase flow indent (state_of self.old)) }
+    {
+        let level = Level {
+            phase,
+            flow,
+            indent,
+        };
+        if let Err(refused) = self.levels.push(level) {
+            self.starve(refused);
+        }
+    }
+
     // A collection is opened, unless memory is wanting: then the output has stopped.
     fn open(&mut self, simple: bool, phase: Phase, flow: bool, indent: u64)
-        ensures state { self.new.sink.status ≡ Status.Going
-            → state_of self.new ≡ opened (state_of self.old).directives (state_of self.old).levels
-            simple phase flow indent }
-        ensures settings { self.new.settings ≡ self.old.settings }
-        ensures cursor { self.new.sink.status ≡ Status.Going → self.new.sink.cursor
-            ≡ self.old.sink.cursor }
-        ensures text { Puts self.old.sink self.new.sink stay }
-        ensures memory { Notes true self.old self.new }
-        ensures halts { Halts self.old self.new }
+        ensures { ComesTo self.old self.new (opened (state_of self.old).directives
+            (state_of self.old).levels simple phase flow indent) }
     {
         self.place = Expected::Node;
         self.levels.step(simple);
@@ -125,9 +120,8 @@ impl Core {
             flow,
             indent,
         };
-        match self.levels.push(level) {
-            Ok(_) => (),
-            Err(refused) => self.starve(refused),
+        if !self.levels.push_near(level) {
+            self.open_far(phase, flow, indent);
         }
     }
 

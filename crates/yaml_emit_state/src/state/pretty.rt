@@ -27,20 +27,12 @@ fn first_behind(item: bool) -> Phase
     }
 }
 
-/// A text that is plain.
-pub struct Bare;
-
-/// A text in double quotes.
-pub struct Framed;
-
 impl Core {
     ghost use Rattle.yaml_parse_model.specs.Events.{body_of, type_of};
     ghost use Rattle.yaml_scan_model.specs.declared.yaml_event_type_t.TheVariants as kind;
     ghost use Rattle.yaml_emit_layout.specs.declared.Expected.TheVariants as at;
     ghost use Rattle.yaml_emit_layout.specs.Content.{Scalar as SaidScalar, emitter_event, scalar};
-    ghost use Rattle.yaml_emit_layout.specs.State.{top_of};
-    ghost use Rattle.yaml_emit_state.specs.Bare.{IsInline, IsInlineEvent, is_shallow, short_text, short_node, first_behind, entry_phase, Places};
-    ghost use Rattle.yaml_emit_state.specs.Stack.{stack_of};
+    ghost use Rattle.yaml_emit_state.specs.Bare.{IsInline, IsInlineEvent, is_shallow, short_text, short_node, first_behind, entry_phase, Places, TakesShort};
     ghost use Rattle.yaml_emit_state.specs.Steps.{settings_of, opens, LaysOut};
 
     // A short scalar in a flow collection, where it fits the line: the first one where no space is due.
@@ -131,9 +123,7 @@ impl Core {
     #[inline(always)]
     fn place_short<L>(&mut self, quoted: bool, value: &[u8]) -> bool
         requires stands { Stands quoted value.now }
-        requires form { self.old.settings.canonical ≡ false }
-        requires due { self.old.place ≡ at.Node }
-        requires open { is_shallow self.old.settings (top_of (stack_of self.old.levels)) ≡ true }
+        requires ready { TakesShort self.old }
         ensures laid { result ≡ true → (x : SaidScalar) (empty : Bool) → IsInline quoted x
             → x.value ≡ value.now → LaysOut self.old self.new (scalar x) empty }
         ensures same { result ≡ false → self.new ≡ self.old }
@@ -154,19 +144,14 @@ impl Core {
     #[inline(always)]
     fn lay_short<L>(&mut self, event: &yaml_event_body_t, empty: bool, quoted: bool)
         requires utf8 { HasUtf8 (body_of event.now) }
-        requires form { self.old.settings.canonical ≡ false }
-        requires due { self.old.place ≡ at.Node }
-        requires open { is_shallow self.old.settings (top_of (stack_of self.old.levels)) ≡ true }
+        requires ready { TakesShort self.old }
         requires short { IsInlineEvent quoted (emitter_event (body_of event.now)) }
         ensures { LaysOut self.old self.new (emitter_event (body_of event.now)) empty }
     {
-        match event {
-            yaml_event_body_t::Scalar { value, .. } => {
-                if !self.place_short::<L>(quoted, value) {
-                    self.lay_other_scalar(event, empty);
-                }
+        if let yaml_event_body_t::Scalar { value, .. } = event {
+            if !self.place_short::<L>(quoted, value) {
+                self.lay_other_scalar(event, empty);
             }
-            _ => (),
         }
     }
 
@@ -175,22 +160,18 @@ impl Core {
     #[inline(never)]
     fn lay_quoted(&mut self, event: &yaml_event_body_t, empty: bool)
         requires utf8 { HasUtf8 (body_of event.now) }
-        requires form { self.old.settings.canonical ≡ false }
-        requires due { self.old.place ≡ at.Node }
-        requires open { is_shallow self.old.settings (top_of (stack_of self.old.levels)) ≡ true }
+        requires ready { TakesShort self.old }
         requires short { IsInlineEvent true (emitter_event (body_of event.now)) }
         ensures { LaysOut self.old self.new (emitter_event (body_of event.now)) empty }
     {
-        self.lay_short::<Framed>(event, empty, true);
+        self.lay_short::<u16>(event, empty, true);
     }
 
     // Whether a short scalar may be laid out at once: a node is due, in a collection that isn't too deep.
     // Inlined: some tests.
     #[inline(always)]
     fn is_ready(&self) -> bool
-        ensures due { result ≡ true → self.now.place ≡ at.Node }
-        ensures open { result ≡ true
-            → is_shallow self.now.settings (top_of (stack_of self.now.levels)) ≡ true }
+        ensures { result ≡ true → self.now.settings.canonical ≡ false → TakesShort self.now }
     {
         self.awaits_node() && is_shallow(&self.settings, self.levels.innermost())
     }
@@ -219,7 +200,7 @@ impl Core {
         if !self.is_ready() {
             self.lay_other_scalar(event, empty);
         } else if is_inline(event, false) {
-            self.lay_short::<Bare>(event, empty, false);
+            self.lay_short::<u8>(event, empty, false);
         } else if is_inline(event, true) {
             self.lay_quoted(event, empty);
         } else {

@@ -109,9 +109,11 @@ impl Core {
         match self.levels.innermost() {
             None => false,
             Some(level) => {
-                if begins_line(&settings, level) {
-                    let start = line_start_of(&settings, level, false);
-                    self.sink.put_led(&start, &[opening_bracket(sequence)]);
+                let start = line_start_of(settings.line_break, level, false);
+                let bracket = [opening_bracket(sequence)];
+                if begins_line(&settings, level)
+                    && self.sink.put_lined_near(&start, &bracket, b"", b"")
+                {
                     self.sink.set_after_block();
                     self.open_by(&settings, false, true, sequence);
                     true

@@ -46,4 +46,4 @@ returns-then-is_behind_simple c =
 
 pub returns-then-not-simple : goal.returns-then-not-simple
 returns-then-not-simple c =
-    rw c.in-Some.is (puts_led_name c.args.settings.now c.in-Some.level c.args.indicator c.args.name.now c.args.simple _ _ (c.begins_line.ensures c.if-begins_line.true) c.if-not-simple.true (rw c.line_start_of-start.ensures at c.put_led_name.ensures))
+    rw c.in-Some.is (puts_led_name c.args.settings.now c.in-Some.level c.args.indicator c.args.name.now c.args.simple _ _ (c.begins_line.ensures c.if-begins_line.true) c.if-not-simple.true c.put_led_name.ensures)

@@ -1,8 +1,10 @@
-use Rattle.std.proofs.Common.{inl, inr, sym, ◌∙◌}
+use Rattle.std.proofs.Common.{[], ◌∷◌, inl, inr, sym, ◌∙◌, arith, length-append}
 use Rattle.yaml_emit_text.proofs.tamed.is_lined.Goals as goal
 
-pub returns-then-fits : goal.returns-then-fits
-returns-then-fits c = λ h. inr (sym c.are_even.ensures ∙ h, c.fits.ensures c.if-fits.true)
+pub returns-then-column-value : goal.returns-then-column-value
+returns-then-column-value c = λ h.
+    let size = length-append c.args.value.now (34 ∷ []) in
+    inr (sym c.are_even.ensures ∙ h, omega (arith, size, c.if-column-value.true))
 
-pub returns-else-fits : goal.returns-else-fits
-returns-else-fits c = λ h. inl (sym c.are_solid.ensures ∙ h)
+pub returns-else-column-le80 : goal.returns-else-column-le80
+returns-else-column-le80 c = λ h. inl (sym c.are_solid.ensures ∙ h)

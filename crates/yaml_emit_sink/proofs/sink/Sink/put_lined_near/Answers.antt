@@ -3,10 +3,10 @@ use Rattle.yaml_emit_sink.specs.declared.cursor.Cursor.{Cursor}
 use Rattle.yaml_emit_sink.specs.Appends.{lettered}
 use Rattle.yaml_emit_sink.specs.LineStarts.{signs}
 use Rattle.yaml_emit_sink.proofs.Lines.{puts_line_start}
-use Rattle.yaml_emit_sink.proofs.sink.Sink.put_lined.Goals as goal
+use Rattle.yaml_emit_sink.proofs.sink.Sink.put_lined_near.Goals as goal
 
-pub returns-then-is_brief_start : goal.returns-then-is_brief_start
-returns-then-is_brief_start c =
+pub returns-then-is_brief_start-clause-laid : goal.returns-then-is_brief_start-clause-laid
+returns-then-is_brief_start-clause-laid c = λ h.
     let front = c.args.front.now in
     let text = c.args.text.now in
     let end = c.args.end.now in

@@ -19,6 +19,12 @@ use yaml_scan_model::{
 // longer one so much is made as well: then the short ones behind it have room.
 const ROOM: usize = 12 + 5 * SHORT;
 
+// The indicator of each style.
+const INDICATORS: [u8; 6] = *b"::'\"|>";
+
+// The same behind a space.
+const SPACED: [u8; 12] = *b" : : ' \" | >";
+
 // The parts of which `put_plain_part` has a copy each.
 struct ScalarTag;
 
@@ -29,14 +35,17 @@ struct StartTag;
 fn style_indicator(style: yaml_scalar_style_t) -> u8
     ensures { result ≡ indicator_of style }
 {
-    match style {
-        yaml_scalar_style_t::YAML_ANY_SCALAR_STYLE => b':',
-        yaml_scalar_style_t::YAML_PLAIN_SCALAR_STYLE => b':',
-        yaml_scalar_style_t::YAML_SINGLE_QUOTED_SCALAR_STYLE => b'\'',
-        yaml_scalar_style_t::YAML_DOUBLE_QUOTED_SCALAR_STYLE => b'"',
-        yaml_scalar_style_t::YAML_LITERAL_SCALAR_STYLE => b'|',
-        yaml_scalar_style_t::YAML_FOLDED_SCALAR_STYLE => b'>',
-    }
+    INDICATORS[style as usize]
+}
+
+// The style's indicator behind a space.
+// Inlined: one load.
+#[inline(always)]
+fn spaced_indicator(style: yaml_scalar_style_t) -> [u8; 2]
+    ensures { result ≡ ascii.space ∷ indicator_of style ∷ [] }
+{
+    let at = 2 * (style as usize);
+    [SPACED[at], SPACED[at + 1]]
 }
 
 // How many bytes a text has, where there is one.
@@ -92,46 +101,41 @@ fn push_long_scalar(
 // Puts the line of a scalar, where its anchor is short and its tag and value are plain; else something that is cut off again.
 // Inlined into its one caller.
 #[inline(always)]
-fn put_plain_scalar(
-    line: &mut Vec<u8>,
-    anchor: &Option<Vec<u8>>,
-    tag: &Option<Vec<u8>>,
-    value: &[u8],
-    style: yaml_scalar_style_t,
-) -> bool
+fn put_plain_scalar(line: &mut Vec<u8>, event: &yaml_event_t) -> bool
     requires { vec_len line.old + ROOM ≤ vec_capacity line.old }
-    ensures { PutsOver result line.old.items
-        (codes "=VAL" ++ (anchor_part (text_of anchor.now) ++ tag_part (text_of tag.now))
-        ++ ascii.space ∷ indicator_of style ∷ (escaped value.now ++ ascii.line_feed ∷ []))
+    ensures { PutsOver result line.old.items (event_line (event_of event.now).body)
         line.new.items }
 {
-    if !put_plain_node::<ScalarTag>(line, b"=VAL", anchor, tag) {
-        return false;
+    match &event.body {
+        yaml_event_body_t::Scalar {
+            anchor,
+            tag,
+            value,
+            style,
+            ..
+        } => {
+            if !put_plain_node::<ScalarTag>(line, b"=VAL", anchor, tag) {
+                return false;
+            }
+            put_plain_part::<ScalarValue>(line, style_indicator(*style), value, b'\n')
+        }
+        _ => false,
     }
-    put_plain_part::<ScalarValue>(line, style_indicator(style), value, b'\n')
 }
 
 // The same where there is room; else nothing.
-// Out of line: see `put_alias`. It leaves what isn't plain to its caller, so that no argument is kept for that.
+// Out of line: see `put_alias`. It leaves what isn't plain to its caller, so that no argument is kept for that, and reads the event
+// itself, so that its parts aren't read in front of the choice between it and `put_bare`.
 #[inline(never)]
-fn put_named_scalar(
-    line: &mut Vec<u8>,
-    anchor: &Option<Vec<u8>>,
-    tag: &Option<Vec<u8>>,
-    value: &[u8],
-    style: yaml_scalar_style_t,
-) -> bool
-    ensures { Puts result line.old.items
-        (codes "=VAL" ++ (anchor_part (text_of anchor.now) ++ tag_part (text_of tag.now))
-        ++ ascii.space ∷ indicator_of style ∷ (escaped value.now ++ ascii.line_feed ∷ []))
-        line.new.items }
+fn put_named_scalar(line: &mut Vec<u8>, event: &yaml_event_t) -> bool
+    ensures { Puts result line.old.items (event_line (event_of event.now).body) line.new.items }
 {
     if !has_room(line, ROOM) {
         return false;
     }
     let mut own = moved(line);
     let from = own.len();
-    if put_plain_scalar(&mut own, anchor, tag, value, style) {
+    if put_plain_scalar(&mut own, event) {
         put_back(line, own);
         return true;
     }
@@ -199,7 +203,23 @@ fn push_long_alias(line: &mut Vec<u8>, name: &[u8]) -> Result<(), AllocError>
     Ok(())
 }
 
-// Puts the line of an alias where there is room and its name is short; else nothing.
+// Puts the line of an alias whose name is short.
+// Inlined, for each length: see `put_kept`.
+#[inline(always)]
+fn put_short_alias(line: &mut Vec<u8>, name: &[u8])
+    requires short { length name.now ≤ SHORT }
+    requires room { vec_len line.old + (SHORT + 7) ≤ vec_capacity line.old }
+    ensures { line.new.items ≡ line.old.items
+        ++ (codes "=ALI *" ++ name.now ++ ascii.line_feed ∷ []) }
+{
+    let mut own = moved(line);
+    put_each(&mut own, b"=ALI *");
+    put_short(&mut own, name);
+    own.push_reserved(b'\n');
+    put_back(line, own);
+}
+
+// Puts the line of an alias where there is room and its name is short; else nothing. Shorter names are asked for first: they are more.
 // Out of line, as each arm of the function that calls it: LLVM looks at a hundred uses of the line at most to see that
 // nobody keeps it, and reads its place again behind each byte where it can't.
 #[inline(never)]
@@ -207,15 +227,21 @@ fn put_alias(line: &mut Vec<u8>, name: &[u8]) -> bool
     ensures { Puts result line.old.items (codes "=ALI *" ++ name.now ++ ascii.line_feed ∷ [])
         line.new.items }
 {
-    if name.len() > SHORT || !has_room(line, SHORT + 7) {
+    if !has_room(line, SHORT + 7) {
         return false;
     }
-    let mut own = moved(line);
-    put_each(&mut own, b"=ALI *");
-    put_short(&mut own, name);
-    own.push_reserved(b'\n');
-    put_back(line, own);
-    true
+    if name.len() < 8 {
+        put_short_alias(line, name);
+        true
+    } else if name.len() <= 16 {
+        put_short_alias(line, name);
+        true
+    } else if name.len() <= SHORT {
+        put_short_alias(line, name);
+        true
+    } else {
+        false
+    }
 }
 
 // Pushes the line of a document's start or end: a word, and a mark where it isn't left out.
@@ -239,25 +265,8 @@ fn push_document(
     Ok(())
 }
 
-// Pushes the line of a scalar without properties of any length.
-// Out of line: most are short, and have no byte that is escaped.
-#[inline(never)]
-fn push_long_bare(
-    line: &mut Vec<u8>,
-    value: &[u8],
-    style: yaml_scalar_style_t,
-) -> Result<(), AllocError>
-    ensures { OnOk result (line.new.items ≡ line.old.items
-        ++ (codes "=VAL " ++ indicator_of style ∷ (escaped value.now ++ ascii.line_feed ∷ []))) }
-{
-    reserve_twice(line, ROOM, value.len())?;
-    put_each(line, b"=VAL");
-    put_part(line, style_indicator(style), value, b'\n');
-    Ok(())
-}
-
 // Puts what stands before the value of a scalar without properties.
-// Inlined: two stores where it is plain, which is asked for first.
+// Inlined: some stores.
 #[inline(always)]
 fn put_front(line: &mut Vec<u8>, style: yaml_scalar_style_t)
     requires { vec_len line.old + 6 ≤ vec_capacity line.old }
@@ -265,13 +274,8 @@ fn put_front(line: &mut Vec<u8>, style: yaml_scalar_style_t)
     ensures len { vec_len line.new ≡ vec_len line.old + 6 }
     ensures room { vec_capacity line.new ≡ vec_capacity line.old }
 {
-    match style {
-        yaml_scalar_style_t::YAML_PLAIN_SCALAR_STYLE => put_each(line, b"=VAL :"),
-        _ => {
-            put_each(line, b"=VAL ");
-            line.push_reserved(style_indicator(style));
-        }
-    }
+    put_each(line, b"=VAL");
+    put_each(line, &spaced_indicator(style));
 }
 
 // Puts the line of a plain scalar without properties.
@@ -321,12 +325,12 @@ fn put_bare(line: &mut Vec<u8>, value: &[u8], style: yaml_scalar_style_t) -> boo
     }
     let count = value.len();
     if count < 4 {
-        if count == 0 {
-            put_kept(line, value, style, 0)
-        } else if count < 2 {
+        if count > 1 {
+            put_kept(line, value, style, 2)
+        } else if count == 1 {
             put_kept(line, value, style, 1)
         } else {
-            put_kept(line, value, style, 2)
+            put_kept(line, value, style, 0)
         }
     } else if count < 8 {
         put_kept(line, value, style, 4)
@@ -337,24 +341,6 @@ fn put_bare(line: &mut Vec<u8>, value: &[u8], style: yaml_scalar_style_t) -> boo
     } else {
         false
     }
-}
-
-// Pushes the line of a scalar without properties.
-// Inlined: most scalars are such. What stands in the line counts for nothing behind an error, and is given up: so the two answers of
-// the call part here, and that of a plain scalar, which is known, is asked for nowhere.
-#[inline(always)]
-fn push_bare(line: &mut Vec<u8>, value: &[u8], style: yaml_scalar_style_t) -> Result<(), AllocError>
-    ensures { OnOk result (line.new.items ≡ line.old.items
-        ++ (codes "=VAL " ++ indicator_of style ∷ (escaped value.now ++ ascii.line_feed ∷ []))) }
-{
-    if put_bare(line, value, style) {
-        return Ok(());
-    }
-    if push_long_bare(line, value, style).is_err() {
-        line.clear();
-        return Err(AllocError);
-    }
-    Ok(())
 }
 
 // Pushes the line of an event that its word alone tells, and that is rare or has no room yet.
@@ -370,19 +356,19 @@ fn push_rare(line: &mut Vec<u8>, word: &[u8]) -> Result<(), AllocError>
     Ok(())
 }
 
-// Pushes the line of an event that its word alone tells.
+// Puts the line of an event that its word alone tells, where there is room; else nothing.
 // Inlined: some stores, for words of a fixed length.
 #[inline(always)]
-fn push_word(line: &mut Vec<u8>, word: &[u8]) -> Result<(), AllocError>
+fn put_word(line: &mut Vec<u8>, word: &[u8]) -> bool
     requires { length word.now < 16 }
-    ensures { OnOk result (line.new.items ≡ line.old.items ++ (word.now ++ ascii.line_feed ∷ [])) }
+    ensures { Puts result line.old.items (word.now ++ ascii.line_feed ∷ []) line.new.items }
 {
-    if has_room(line, word.len() + 1) {
-        put_each(line, word);
-        line.push_reserved(b'\n');
-        return Ok(());
+    if !has_room(line, word.len() + 1) {
+        return false;
     }
-    push_rare(line, word)
+    put_each(line, word);
+    line.push_reserved(b'\n');
+    true
 }
 
 // Puts the line of an event with a name, where there is room, and its texts are short and plain; else nothing.
@@ -393,13 +379,7 @@ fn put_named(line: &mut Vec<u8>, event: &yaml_event_t) -> bool
 {
     match &event.body {
         yaml_event_body_t::Alias { anchor } => put_alias(line, anchor),
-        yaml_event_body_t::Scalar {
-            anchor,
-            tag,
-            value,
-            style,
-            ..
-        } => put_named_scalar(line, anchor, tag, value, *style),
+        yaml_event_body_t::Scalar { .. } => put_named_scalar(line, event),
         yaml_event_body_t::SequenceStart { anchor, tag, .. } => {
             put_named_start(line, b"+SEQ", anchor, tag)
         }
@@ -446,21 +426,34 @@ fn push_any(line: &mut Vec<u8>, event: &yaml_event_t) -> Result<(), AllocError>
     }
 }
 
-// Pushes the line of an event that isn't met most.
-// Inlined: see `put_named` and `push_bare`.
+// Puts the line of an event, where there is room, and its texts are short and plain; else nothing.
+// Inlined into its one caller.
 #[inline(always)]
-fn push_other(line: &mut Vec<u8>, event: &yaml_event_t) -> Result<(), AllocError>
-    ensures { OnOk result (line.new.items ≡ line.old.items ++ event_line
-        (event_of event.now).body) }
+fn put_line(line: &mut Vec<u8>, event: &yaml_event_t) -> bool
+    ensures { Puts result line.old.items (event_line (event_of event.now).body) line.new.items }
 {
-    if put_named(line, event) {
-        return Ok(());
+    match &event.body {
+        yaml_event_body_t::Scalar {
+            anchor: None,
+            tag: None,
+            value,
+            style,
+            ..
+        } => put_bare(line, value, *style),
+        yaml_event_body_t::SequenceStart {
+            anchor: None,
+            tag: None,
+            ..
+        } => put_word(line, b"+SEQ"),
+        yaml_event_body_t::SequenceEnd => put_word(line, b"-SEQ"),
+        yaml_event_body_t::MappingStart {
+            anchor: None,
+            tag: None,
+            ..
+        } => put_word(line, b"+MAP"),
+        yaml_event_body_t::MappingEnd => put_word(line, b"-MAP"),
+        _ => put_named(line, event),
     }
-    if push_any(line, event).is_err() {
-        line.clear();
-        return Err(AllocError);
-    }
-    Ok(())
 }
 
 /// Pushes the line that tells an event, with a line feed at its end: `+STR`, `-STR`, `+DOC` (` ---` where it is explicit),
@@ -471,26 +464,12 @@ pub fn yaml_push_event_line(line: &mut Vec<u8>, event: &yaml_event_t) -> Result<
     ensures { OnOk result (line.new.items ≡ line.old.items ++ event_line
         (event_of event.now).body) }
 {
-    match &event.body {
-        yaml_event_body_t::Scalar {
-            anchor: None,
-            tag: None,
-            value,
-            style,
-            ..
-        } => push_bare(line, value, *style),
-        yaml_event_body_t::SequenceStart {
-            anchor: None,
-            tag: None,
-            ..
-        } => push_word(line, b"+SEQ"),
-        yaml_event_body_t::SequenceEnd => push_word(line, b"-SEQ"),
-        yaml_event_body_t::MappingStart {
-            anchor: None,
-            tag: None,
-            ..
-        } => push_word(line, b"+MAP"),
-        yaml_event_body_t::MappingEnd => push_word(line, b"-MAP"),
-        _ => push_other(line, event),
+    if put_line(line, event) {
+        return Ok(());
     }
+    if push_any(line, event).is_err() {
+        line.clear();
+        return Err(AllocError);
+    }
+    Ok(())
 }

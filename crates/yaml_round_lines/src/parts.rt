@@ -1,7 +1,7 @@
 //! The parts of a node's line: its word, its anchor, its tag and its value. Of each there are two ways: of any length, and one for short
 //! texts that are put as they are, by one choice of their length.
 
-ghost use Rattle.std.specs.Prelude.{◌≡◌, ◌+◌, ◌*◌, ◌≤◌, ◌++◌, [], ◌∷◌, length, vec_len, vec_capacity};
+ghost use Rattle.std.specs.Prelude.{◌≡◌, ◌+◌, ◌*◌, ◌≤◌, ◌++◌, [], ◌∷◌, codes, length, vec_len, vec_capacity};
 ghost use Rattle.yaml_scan_model.specs.Ascii as ascii;
 ghost use Rattle.yaml_parse_model.specs.Events.{text_of};
 ghost use Rattle.yaml_scan_model.specs.Ends.{given_length};
@@ -62,12 +62,12 @@ pub(crate) fn put_plain_part<P>(line: &mut Vec<u8>, indicator: u8, text: &[u8], 
 {
     let count = text.len();
     if count < 4 {
-        if count == 0 {
-            put_kept_part(line, indicator, text, end, 0)
-        } else if count < 2 {
+        if count > 1 {
+            put_kept_part(line, indicator, text, end, 2)
+        } else if count == 1 {
             put_kept_part(line, indicator, text, end, 1)
         } else {
-            put_kept_part(line, indicator, text, end, 2)
+            put_kept_part(line, indicator, text, end, 0)
         }
     } else if count < 8 {
         put_kept_part(line, indicator, text, end, 4)
@@ -98,7 +98,21 @@ fn put_anchor(line: &mut Vec<u8>, anchor: &Option<Vec<u8>>)
     }
 }
 
-// The same, where it is short; else nothing.
+// Puts a short anchor.
+// Inlined, for each length: so LLVM knows it where the anchor is put.
+#[inline(always)]
+fn put_this_anchor(line: &mut Vec<u8>, anchor: &[u8])
+    requires short { length anchor.now ≤ SHORT }
+    requires room { vec_len line.old + (SHORT + 2) ≤ vec_capacity line.old }
+    ensures items { line.new.items ≡ line.old.items ++ (codes " &" ++ anchor.now) }
+    ensures len { vec_len line.new ≤ vec_len line.old + (SHORT + 2) }
+    ensures room { vec_capacity line.old ≤ vec_capacity line.new }
+{
+    put_each(line, b" &");
+    put_short(line, anchor);
+}
+
+// Puts an anchor, if there is one, where it is short; else nothing. Shorter ones are asked for first: they are more.
 // Inlined: some stores.
 #[inline(always)]
 fn put_short_anchor(line: &mut Vec<u8>, anchor: &Option<Vec<u8>>) -> bool
@@ -110,12 +124,18 @@ fn put_short_anchor(line: &mut Vec<u8>, anchor: &Option<Vec<u8>>) -> bool
     match anchor {
         None => true,
         Some(anchor) => {
-            if anchor.len() > SHORT {
-                return false;
+            if anchor.len() < 8 {
+                put_this_anchor(line, anchor);
+                true
+            } else if anchor.len() <= 16 {
+                put_this_anchor(line, anchor);
+                true
+            } else if anchor.len() <= SHORT {
+                put_this_anchor(line, anchor);
+                true
+            } else {
+                false
             }
-            put_each(line, b" &");
-            put_short(line, anchor);
-            true
         }
     }
 }

@@ -82,9 +82,7 @@ impl<S: yaml_token_source_t> yaml_parser_t<S> {
     {
         self.prefix = yaml_parser_t_prefix::of(fault);
     }
-}
 
-impl<S: yaml_token_source_t> yaml_parser_t<S> {
     /// The allocator that the parser keeps.
     pub(crate) fn allocator(&self) -> Global
         // Between documents, whole ones are to come, and a front of one.

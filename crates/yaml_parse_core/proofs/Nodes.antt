@@ -179,13 +179,15 @@ items_node b o k u s new r a e c h =
 
 -- ---- a node that may stand anywhere
 
-begins_apart : (k : yaml_token_type_t) (p : Site) → (starts_node Flow k && follows p k) ≡ false
+begins_apart : (k : yaml_token_type_t) (p : Site)
+    → (starts_node (Block None) k && follows p k) ≡ false
 begins_apart kind.YAML_SCALAR_TOKEN site.Root = refl
 begins_apart _ (site.BlockPair side.Key) = refl
 begins_apart _ (site.FlowPair brackets.Sequence z) = refl
 begins_apart _ _ = refl
 
-none_follows : (p : Site) (k : yaml_token_type_t) → starts_node Flow k ≡ true → follows p k ≡ false
+none_follows : (p : Site) (k : yaml_token_type_t) → starts_node (Block None) k ≡ true
+    → follows p k ≡ false
 none_follows p k h = sym (ap (λ b. b && follows p k) h) ∙ begins_apart k p
 
 pub awaits : (z : Await) (b : yaml_mark_t) (q : Properties) → (z ≡ await.Nothing → ⊥)
@@ -204,20 +206,12 @@ differs z y e f i = false≢true (sym e ∙ ap is_begun i ∙ f)
 pub node_anywhere : (z : Await) (b : yaml_mark_t) (q : Properties) (w : Wants)
     (k : yaml_token_type_t) (u : TokenSlot) (s : List State)
     (new : Properties → List State) (r : Seen) (a : Around)
-    → is_begun z ≡ false → w ≡ wants_of (site_of z) → starts_node Flow k ≡ true
+    → is_begun z ≡ false → w ≡ wants_of (site_of z) → starts_node (Block None) k ≡ true
     → Nodes w (whole_of k u) s r a new
     → TurnsOn (await_of z b q ++ s) (whole_of k u) r a new
 node_anywhere z b q w k u s new r a e i h n =
     rw (awaits z b q (differs z await.Nothing e refl) (differs z await.Rest e refl) (differs z await.RestOfKey e refl) (differs z await.RestOfValue e refl) (differs z await.RestInside e refl))
     (optional_node (site_of z) b w k u s new r a (none_follows (site_of z) k h) i n)
-
-pub anywhere : (z : Await) (b : yaml_mark_t) (q : Properties) (k : yaml_token_type_t)
-    (u : TokenSlot) (s : List State) (new : Properties → List State) (r : Seen) (a : Around)
-    → is_begun z ≡ false → IsBare k → starts_node Flow k ≡ true
-    → ((w : Wants) → Contents w (whole_of k u) s r new)
-    → TurnsOn (await_of z b q ++ s) (whole_of k u) r a new
-anywhere z b q k u s new r a e i h c =
-    node_anywhere z b q (wants_of (site_of z)) k u s new r a e refl h (bare_node (wants_of (site_of z)) k u s new r a i (c _))
 
 -- the rest of a node, by what is awaited
 pub known_behind : (z : Await) (b : yaml_mark_t) (q : Properties) (t : Token) (s : List State)
@@ -232,10 +226,3 @@ known_behind await.RestOfKey b q t s new r a n e h = h (Block (Some side.Key)) (
 known_behind await.RestOfValue b q t s new r a n e h = h (Block (Some side.Value)) (λ y p. refl)
 known_behind await.RestInside b q t s new r a n e h = h Flow (λ y p. refl)
 known_behind z b q t s new r a n e h = absurd (false≢true e)
-
--- the same, whatever it is
-pub behind : (z : Await) (b : yaml_mark_t) (q : Properties) (t : Token) (s : List State)
-    (new : Properties → List State) (r : Seen) (a : Around) → (z ≡ await.Nothing → ⊥)
-    → is_begun z ≡ true → ((w : Wants) → Turns (state.with_properties w q) t s r a new)
-    → TurnsOn (await_of z b q ++ s) t r a new
-behind z b q t s new r a n e h = known_behind z b q t s new r a n e (λ w i. h w)

@@ -2,7 +2,6 @@
 use Rattle.std.proofs.Common.{◌≡◌, ◌∙◌, List, [], ◌∷◌, ◌++◌, ℕ, length, Option, Some, refl, sym, ap}
 use Rattle.std.specs.Option.{option_to_list}
 use Rattle.std.proofs.lemmas.List.{nil_from_length, reverse-append}
-use Rattle.yaml_parse_grammar.specs.States.{State}
 use Rattle.yaml_parse_core.specs.declared.level.Kept.{Kept}
 use Rattle.yaml_parse_core.specs.Views.{stack_of, levels_of, level_over}
 
@@ -26,8 +25,3 @@ nothing ks e = rw e refl
 pub emptied : (ks : List Kept) (n : ℕ) → n ≡ length ks
     → n ≡ 0 → [] ≡ stack_of ks
 emptied ks n e z = nothing ks (nil_from_length ks (sym e ∙ z))
-
--- a state alone
-pub alone : (x : State) (ks : List Kept) → ks ≡ []
-    → x ∷ stack_of ks ≡ x ∷ []
-alone x ks e = ap (λ z. x ∷ z) (sym (nothing ks e))

@@ -10,23 +10,6 @@ use crate::level::{Await, Level};
 use crate::machine::{Machine, Turn, await_behind, come_back};
 use yaml_parse_model::{TokenSlot, mark_again, yaml_token_type_t};
 
-// The stream's start.
-// Out of line: it is met twice a document.
-#[inline(never)]
-pub(crate) fn at_stream(machine: &mut Machine, kind: yaml_token_type_t, token: &TokenSlot) -> Turn
-    requires awaited { machine.old.awaited ≡ Nothing }
-    requires level { machine.old.top.level ≡ level.Stream }
-    ensures { LevelTurns level.Stream (whole_of kind token.now) machine.old result machine.new }
-{
-    match kind {
-        yaml_token_type_t::YAML_STREAM_START_TOKEN => {
-            machine.top.level = Level::First;
-            Turn::StreamStart
-        }
-        _ => Turn::NoStreamStart,
-    }
-}
-
 // In front of the first document.
 // Out of line: it is met twice a document.
 #[inline(never)]
@@ -41,10 +24,7 @@ pub(crate) fn at_first(machine: &mut Machine, kind: yaml_token_type_t, token: &T
             machine.top.level = Level::Document;
             Turn::DocumentStart
         }
-        yaml_token_type_t::YAML_STREAM_END_TOKEN => {
-            come_back(machine);
-            Turn::StreamEnd
-        }
+        yaml_token_type_t::YAML_STREAM_END_TOKEN => come_back(machine, Turn::StreamEnd),
         yaml_token_type_t::YAML_VERSION_DIRECTIVE_TOKEN => {
             machine.top.level = Level::Directives;
             machine.top.opener = mark_again(&token.start_mark);
@@ -90,10 +70,7 @@ pub(crate) fn at_documents(
             machine.top.level = Level::Document;
             Turn::DocumentStart
         }
-        yaml_token_type_t::YAML_STREAM_END_TOKEN => {
-            come_back(machine);
-            Turn::StreamEnd
-        }
+        yaml_token_type_t::YAML_STREAM_END_TOKEN => come_back(machine, Turn::StreamEnd),
         yaml_token_type_t::YAML_VERSION_DIRECTIVE_TOKEN => {
             machine.top.level = Level::Directives;
             machine.top.opener = mark_again(&token.start_mark);
@@ -106,44 +83,5 @@ pub(crate) fn at_documents(
         }
         yaml_token_type_t::YAML_DOCUMENT_END_TOKEN => Turn::Silent,
         _ => Turn::NoDocumentStart,
-    }
-}
-
-// Behind directives.
-// Out of line: it is met twice a document.
-#[inline(never)]
-pub(crate) fn at_directives(
-    machine: &mut Machine,
-    kind: yaml_token_type_t,
-    token: &TokenSlot,
-) -> Turn
-    requires awaited { machine.old.awaited ≡ Nothing }
-    requires level { machine.old.top.level ≡ level.Directives }
-    ensures { LevelTurns level.Directives (whole_of kind token.now) machine.old result machine.new }
-{
-    match kind {
-        yaml_token_type_t::YAML_DOCUMENT_START_TOKEN => {
-            await_behind(machine, Await::Root, token);
-            machine.top.level = Level::Document;
-            Turn::DocumentDeclared
-        }
-        yaml_token_type_t::YAML_VERSION_DIRECTIVE_TOKEN => Turn::VersionDirective,
-        yaml_token_type_t::YAML_TAG_DIRECTIVE_TOKEN => Turn::TagDirective,
-        _ => Turn::NoDocumentStart,
-    }
-}
-
-// Behind a document's root.
-// Out of line: it is met twice a document.
-#[inline(never)]
-pub(crate) fn at_document(machine: &mut Machine, kind: yaml_token_type_t, token: &TokenSlot) -> Turn
-    requires awaited { machine.old.awaited ≡ Nothing }
-    requires level { machine.old.top.level ≡ level.Document }
-    ensures { LevelTurns level.Document (whole_of kind token.now) machine.old result machine.new }
-{
-    machine.top.level = Level::Documents;
-    match kind {
-        yaml_token_type_t::YAML_DOCUMENT_END_TOKEN => Turn::DocumentEnd,
-        _ => Turn::LeftDocumentEnd,
     }
 }

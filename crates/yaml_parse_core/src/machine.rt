@@ -88,10 +88,11 @@ fn make_room(stack: &mut Vec<Kept>) -> Result<(), AllocError>
     }
 }
 
-// The level that was kept last comes back.
+// The level that was kept last comes back, which is all that the turn did.
 // In its two parts, as it is kept: where the topmost level is copied whole it is read by its address, which is made for each token.
 #[inline(always)]
-pub(crate) fn come_back(machine: &mut Machine)
+pub(crate) fn come_back(machine: &mut Machine, turn: Turn) -> Turn
+    ensures result { result ≡ turn }
     ensures awaited { machine.new.awaited ≡ machine.old.awaited }
     ensures stack { open_of machine.new ≡ stack_of machine.old.below.items }
 {
@@ -99,9 +100,11 @@ pub(crate) fn come_back(machine: &mut Machine)
         Some(kept) => {
             machine.top.level = kept.level;
             machine.top.opener = kept.opener;
+            turn
         }
         None => {
             machine.top.level = Level::Over;
+            turn
         }
     }
 }
@@ -118,6 +121,7 @@ pub(crate) fn await_behind(machine: &mut Machine, awaited: Await, token: &TokenS
 
 // A level opens on the one that is open, for which there is room.
 // Inlined, and apart from the question whether there is room: see `await_behind`.
+#[tactic(auto, using(crate::proofs::Stacks::pushed))]
 #[inline(always)]
 fn enter(machine: &mut Machine, level: Level, token: &TokenSlot)
     requires { vec_len machine.old.below < vec_capacity machine.old.below }
@@ -148,13 +152,9 @@ pub(crate) fn begin(
     ensures opener { OnOk result (machine.new.top.opener ≡ token.now.start_mark) }
     ensures stack { OnOk result (stack_of machine.new.below.items ≡ open_of machine.old) }
 {
-    match make_room(&mut machine.below) {
-        Ok(()) => {
-            enter(machine, level, token);
-            Ok(())
-        }
-        Err(e) => Err(e),
-    }
+    make_room(&mut machine.below)?;
+    enter(machine, level, token);
+    Ok(())
 }
 
 /// The machine in front of a stream.
@@ -210,11 +210,9 @@ pub fn is_between(machine: &Machine) -> bool
     ensures { (p : Properties) → result ≡ are_between
         (states_by machine.now p) }
 {
-    match machine.awaited {
-        Await::Nothing => match machine.top.level {
-            Level::Over | Level::Stream | Level::First | Level::Documents => true,
-            _ => false,
-        },
-        _ => false,
-    }
+    matches!(machine.awaited, Await::Nothing)
+        && matches!(
+            machine.top.level,
+            Level::Over | Level::Stream | Level::First | Level::Documents
+        )
 }

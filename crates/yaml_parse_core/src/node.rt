@@ -2,14 +2,14 @@
 
 ghost use Rattle.std.specs.Prelude.{◌≡◌, true, ◌++◌, ◌∷◌, [], OnOk, Some, None};
 ghost use Rattle.yaml_parse_model.specs.declared.yaml_mark_t.{yaml_mark_t};
-ghost use Rattle.yaml_parse_core.specs.Views.{around_of, await_of, properties_of, level_over, open_of, states_by, whole_of};
+ghost use Rattle.yaml_parse_core.specs.Views.{around_of, await_of, properties_of, level_over, open_of, site_of, states_by, whole_of};
 ghost use Rattle.yaml_parse_core.specs.Seen.{seen};
 ghost use Rattle.yaml_parse_core.specs.Turns.{keeps, Contents, Nodes, TurnsTo, IfRefused};
 ghost use Rattle.yaml_parse_core.specs.declared.level.Await.TheVariants as await;
 ghost use Rattle.yaml_parse_core.specs.declared.machine.Turn.TheVariants as turn;
 ghost use Rattle.yaml_parse_grammar.specs.States as state;
 ghost use Rattle.yaml_parse_grammar.specs.Items.{Properties};
-ghost use Rattle.yaml_parse_grammar.specs.Machine.{tag_at};
+ghost use Rattle.yaml_parse_grammar.specs.Machine.{tag_at, wants_of as wants_at};
 ghost use Rattle.yaml_parse_model.specs.declared.yaml_token_type_t.{yaml_token_type_t};
 ghost use Rattle.yaml_parse_model.specs.declared.yaml_token_type_t.TheVariants as kinds;
 ghost use Rattle.yaml_parse_grammar.specs.declared.name.Wants.{Wants};
@@ -17,6 +17,7 @@ ghost use Rattle.yaml_parse_grammar.specs.declared.name.Wants.TheVariants as wan
 
 use crate::level::{Await, Level};
 use crate::machine::{Machine, Turn, await_behind, begin};
+use crate::place::{site_at, wants_of};
 use crate::told::Waiting;
 use std::alloc::AllocError;
 use std::mem;
@@ -108,6 +109,38 @@ fn content(machine: &mut Machine, token: &TokenSlot, kind: yaml_token_type_t, wa
 }
 
 // The same, of a block collection.
+// Inlined into its two callers, which are out of line.
+#[inline(always)]
+fn block(machine: &mut Machine, token: &TokenSlot, kind: yaml_token_type_t, wants: Wants) -> Turn
+    requires scalar { kind ≡ kinds.YAML_SCALAR_TOKEN → ⊥ }
+    requires sequence { kind ≡ kinds.YAML_FLOW_SEQUENCE_START_TOKEN → ⊥ }
+    requires mapping { kind ≡ kinds.YAML_FLOW_MAPPING_START_TOKEN → ⊥ }
+    ensures content { Contents wants (whole_of kind token.now)
+        (open_of machine.old) (seen result) (states_by machine.new) }
+    ensures same { IfRefused (seen result) (machine.new ≡ machine.old) }
+{
+    let Wants::Block(side) = wants else {
+        return Turn::NoFlowNode;
+    };
+    match kind {
+        yaml_token_type_t::YAML_BLOCK_SEQUENCE_START_TOKEN => {
+            match open(machine, Level::Entries, token) {
+                Ok(()) => Turn::BlockSequence,
+                Err(_) => Turn::Memory,
+            }
+        }
+        yaml_token_type_t::YAML_BLOCK_MAPPING_START_TOKEN => {
+            match open(machine, Level::Pairs, token) {
+                Ok(()) => Turn::BlockMapping,
+                Err(_) => Turn::Memory,
+            }
+        }
+        yaml_token_type_t::YAML_BLOCK_ENTRY_TOKEN => other_content(machine, token, side),
+        _ => Turn::NoBlockNode,
+    }
+}
+
+// The same content, for the nodes that aren't told by `block_start`.
 // Out of line: it isn't met once a line.
 #[inline(never)]
 fn block_content(
@@ -123,29 +156,22 @@ fn block_content(
         (open_of machine.old) (seen result) (states_by machine.new) }
     ensures same { IfRefused (seen result) (machine.new ≡ machine.old) }
 {
-    match wants {
-        Wants::Flow => Turn::NoFlowNode,
-        Wants::Block(side) => match kind {
-            yaml_token_type_t::YAML_BLOCK_SEQUENCE_START_TOKEN => match open(
-                machine,
-                Level::Entries,
-                token,
-            ) {
-                Ok(()) => Turn::BlockSequence,
-                Err(_) => Turn::Memory,
-            },
-            yaml_token_type_t::YAML_BLOCK_MAPPING_START_TOKEN => match open(
-                machine,
-                Level::Pairs,
-                token,
-            ) {
-                Ok(()) => Turn::BlockMapping,
-                Err(_) => Turn::Memory,
-            },
-            yaml_token_type_t::YAML_BLOCK_ENTRY_TOKEN => other_content(machine, token, side),
-            _ => Turn::NoBlockNode,
-        },
-    }
+    block(machine, token, kind, wants)
+}
+
+// The start of a block collection, the content of a node of which nothing has come.
+// Out of line: see `block_content`. It tells the place itself, so that it isn't told in full for other nodes.
+#[inline(never)]
+pub(crate) fn block_start(machine: &mut Machine, token: &TokenSlot, kind: yaml_token_type_t) -> Turn
+    requires scalar { kind ≡ kinds.YAML_SCALAR_TOKEN → ⊥ }
+    requires sequence { kind ≡ kinds.YAML_FLOW_SEQUENCE_START_TOKEN → ⊥ }
+    requires mapping { kind ≡ kinds.YAML_FLOW_MAPPING_START_TOKEN → ⊥ }
+    ensures content { Contents (wants_at (site_of machine.old.awaited)) (whole_of kind token.now)
+        (open_of machine.old) (seen result) (states_by machine.new) }
+    ensures same { IfRefused (seen result) (machine.new ≡ machine.old) }
+{
+    let wants = wants_of(site_at(machine.awaited));
+    block(machine, token, kind, wants)
 }
 
 // The same, where a dash stands: a key or a value may be a sequence that isn't indented.
@@ -155,21 +181,14 @@ fn other_content(machine: &mut Machine, token: &TokenSlot, side: Option<Side>) -
         (open_of machine.old) (seen result) (states_by machine.new) }
     ensures same { IfRefused (seen result) (machine.new ≡ machine.old) }
 {
-    match side {
-        None => Turn::NoBlockNode,
-        Some(Side::Key) => match open_others(machine, Level::OtherKeys, Await::LooseKey, token) {
-            Ok(()) => Turn::BlockSequence,
-            Err(_) => Turn::Memory,
-        },
-        Some(Side::Value) => match open_others(
-            machine,
-            Level::OtherValues,
-            Await::LooseValue,
-            token,
-        ) {
-            Ok(()) => Turn::BlockSequence,
-            Err(_) => Turn::Memory,
-        },
+    let began = match side {
+        None => return Turn::NoBlockNode,
+        Some(Side::Key) => open_others(machine, Level::OtherKeys, Await::LooseKey, token),
+        Some(Side::Value) => open_others(machine, Level::OtherValues, Await::LooseValue, token),
+    };
+    match began {
+        Ok(()) => Turn::BlockSequence,
+        Err(_) => Turn::Memory,
     }
 }
 

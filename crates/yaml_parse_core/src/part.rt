@@ -28,10 +28,7 @@ pub(crate) fn at_pairs(machine: &mut Machine, kind: yaml_token_type_t, token: &T
             await_behind(machine, Await::Key, token);
             Turn::Silent
         }
-        yaml_token_type_t::YAML_BLOCK_END_TOKEN => {
-            come_back(machine);
-            Turn::MappingEnd
-        }
+        yaml_token_type_t::YAML_BLOCK_END_TOKEN => come_back(machine, Turn::MappingEnd),
         _ => Turn::NoKey,
     }
 }
@@ -48,10 +45,7 @@ pub(crate) fn at_entries(machine: &mut Machine, kind: yaml_token_type_t, token: 
             await_behind(machine, Await::Entry, token);
             Turn::Silent
         }
-        yaml_token_type_t::YAML_BLOCK_END_TOKEN => {
-            come_back(machine);
-            Turn::SequenceEnd
-        }
+        yaml_token_type_t::YAML_BLOCK_END_TOKEN => come_back(machine, Turn::SequenceEnd),
         _ => Turn::NoDash,
     }
 }
@@ -87,10 +81,7 @@ pub(crate) fn at_others(
             await_behind(machine, await_other(side), token);
             Turn::Silent
         }
-        _ => {
-            come_back(machine);
-            Turn::LeftSequenceEnd
-        }
+        _ => come_back(machine, Turn::LeftSequenceEnd),
     }
 }
 
@@ -134,10 +125,7 @@ pub(crate) fn at_sequence_more(
             machine.top.level = Level::SequenceItems;
             Turn::Silent
         }
-        yaml_token_type_t::YAML_FLOW_SEQUENCE_END_TOKEN => {
-            come_back(machine);
-            Turn::SequenceEnd
-        }
+        yaml_token_type_t::YAML_FLOW_SEQUENCE_END_TOKEN => come_back(machine, Turn::SequenceEnd),
         _ => Turn::NoSequenceEnd,
     }
 }
@@ -158,10 +146,7 @@ pub(crate) fn at_mapping_more(
             machine.top.level = Level::MappingItems;
             Turn::Silent
         }
-        yaml_token_type_t::YAML_FLOW_MAPPING_END_TOKEN => {
-            come_back(machine);
-            Turn::MappingEnd
-        }
+        yaml_token_type_t::YAML_FLOW_MAPPING_END_TOKEN => come_back(machine, Turn::MappingEnd),
         _ => Turn::NoMappingEnd,
     }
 }

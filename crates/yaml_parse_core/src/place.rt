@@ -1,24 +1,23 @@
 //! Places where a node may stand.
 
 ghost use Rattle.std.specs.Prelude.{◌≡◌, true, ◌∷◌};
-ghost use Rattle.yaml_parse_grammar.specs.declared.name.Site.TheVariants as site;
 ghost use Rattle.yaml_parse_grammar.specs.Machine as grammar;
 ghost use Rattle.yaml_parse_grammar.specs.States as state;
 ghost use Rattle.yaml_parse_core.specs.declared.level.Await.TheVariants.{Nothing};
 ghost use Rattle.yaml_parse_core.specs.declared.level.Level.TheVariants as level;
-ghost use Rattle.yaml_parse_core.specs.Views.{open_of, states_at, whole_of};
+ghost use Rattle.yaml_parse_core.specs.Views.{open_of, site_of, states_at, whole_of};
 ghost use Rattle.yaml_parse_core.specs.Seen.{seen};
 ghost use Rattle.yaml_parse_core.specs.Turns.{keeps, LeavesOut, TurnsTo};
 
 use crate::level::{Await, Level};
 use crate::machine::{Machine, Turn, await_behind, come_back};
-use crate::node::node;
+use crate::node::{node, scalar};
 use crate::told::Waiting;
 use yaml_parse_grammar::{Brackets, Side, Site, Wants};
 use yaml_parse_model::{TokenSlot, yaml_token_type_t};
 
 // Behind an opening bracket or a comma of a sequence.
-#[tactic(auto, using(crate::proofs::Nodes::items_node))]
+#[tactic(auto, using(crate::proofs::Nodes::items_node, crate::proofs::Nodes::bare_node))]
 #[inline(always)]
 pub(crate) fn at_sequence_items(
     machine: &mut Machine,
@@ -31,18 +30,27 @@ pub(crate) fn at_sequence_items(
         (seen result) machine.new waiting.new }
     ensures kept { keeps (seen result) ≡ true → token.new ≡ token.old }
 {
-    machine.top.level = Level::SequenceMore;
     match kind {
-        yaml_token_type_t::YAML_KEY_TOKEN => {
-            machine.top.level = Level::SequenceColon;
-            await_behind(machine, Await::SequenceKey, token);
-            Turn::FlowMapping
+        yaml_token_type_t::YAML_SCALAR_TOKEN => {
+            machine.top.level = Level::SequenceMore;
+            scalar(machine, token)
         }
-        yaml_token_type_t::YAML_FLOW_SEQUENCE_END_TOKEN => {
-            come_back(machine);
-            Turn::SequenceEnd
+        // See `at_mapping_items`.
+        _ => {
+            machine.top.level = Level::SequenceMore;
+            match kind {
+                yaml_token_type_t::YAML_KEY_TOKEN => {
+                    machine.top.level = Level::SequenceColon;
+                    await_behind(machine, Await::SequenceKey, token);
+                    Turn::FlowMapping
+                }
+                yaml_token_type_t::YAML_FLOW_SEQUENCE_END_TOKEN => come_back(
+                    machine,
+                    Turn::SequenceEnd,
+                ),
+                _ => node(machine, waiting, token, kind, Wants::Flow),
+            }
         }
-        _ => node(machine, waiting, token, kind, Wants::Flow),
     }
 }
 
@@ -60,18 +68,23 @@ pub(crate) fn at_mapping_items(
         (seen result) machine.new waiting.new }
     ensures kept { keeps (seen result) ≡ true → token.new ≡ token.old }
 {
-    machine.top.level = Level::MappingLone;
     match kind {
         yaml_token_type_t::YAML_KEY_TOKEN => {
             machine.top.level = Level::MappingColon;
             await_behind(machine, Await::MappingKey, token);
             Turn::Silent
         }
-        yaml_token_type_t::YAML_FLOW_MAPPING_END_TOKEN => {
-            come_back(machine);
-            Turn::MappingEnd
+        // The store in front keeps LLVM from joining the two choices: so the key, which is met most, is one comparison.
+        _ => {
+            machine.top.level = Level::MappingLone;
+            match kind {
+                yaml_token_type_t::YAML_FLOW_MAPPING_END_TOKEN => come_back(
+                    machine,
+                    Turn::MappingEnd,
+                ),
+                _ => node(machine, waiting, token, kind, Wants::Flow),
+            }
         }
-        _ => node(machine, waiting, token, kind, Wants::Flow),
     }
 }
 
@@ -81,54 +94,33 @@ fn follows(place: Site, kind: yaml_token_type_t) -> bool
     ensures { result ≡ grammar.follows place kind }
 {
     match kind {
-        yaml_token_type_t::YAML_BLOCK_ENTRY_TOKEN => match place {
-            Site::Entry | Site::IndentlessEntry(_) => true,
-            _ => false,
-        },
-        yaml_token_type_t::YAML_BLOCK_END_TOKEN => match place {
-            Site::Entry | Site::IndentlessEntry(_) | Site::BlockPair(_) => true,
-            _ => false,
-        },
-        yaml_token_type_t::YAML_KEY_TOKEN => match place {
-            Site::IndentlessEntry(_) | Site::BlockPair(_) => true,
-            _ => false,
-        },
-        yaml_token_type_t::YAML_VALUE_TOKEN => match place {
+        yaml_token_type_t::YAML_BLOCK_ENTRY_TOKEN => {
+            matches!(place, Site::Entry | Site::IndentlessEntry(_))
+        }
+        yaml_token_type_t::YAML_BLOCK_END_TOKEN => {
+            !matches!(place, Site::Root | Site::FlowPair(_, _))
+        }
+        yaml_token_type_t::YAML_KEY_TOKEN => {
+            matches!(place, Site::IndentlessEntry(_) | Site::BlockPair(_))
+        }
+        yaml_token_type_t::YAML_VALUE_TOKEN => matches!(
+            place,
             Site::IndentlessEntry(Side::Key)
-            | Site::BlockPair(Side::Key)
-            | Site::FlowPair(_, Side::Key) => true,
-            _ => false,
-        },
-        yaml_token_type_t::YAML_FLOW_ENTRY_TOKEN => match place {
-            Site::FlowPair(_, _) => true,
-            _ => false,
-        },
-        yaml_token_type_t::YAML_FLOW_SEQUENCE_END_TOKEN => match place {
-            Site::FlowPair(Brackets::Sequence, _) => true,
-            _ => false,
-        },
-        yaml_token_type_t::YAML_FLOW_MAPPING_END_TOKEN => match place {
-            Site::FlowPair(Brackets::Mapping, _) => true,
-            _ => false,
-        },
-        _ => match place {
-            Site::Root => follows_root(kind),
-            _ => false,
-        },
-    }
-}
-
-// The same, of a document's root.
-#[inline(always)]
-fn follows_root(kind: yaml_token_type_t) -> bool
-    ensures { result ≡ grammar.follows site.Root kind }
-{
-    match kind {
+                | Site::BlockPair(Side::Key)
+                | Site::FlowPair(_, Side::Key)
+        ),
+        yaml_token_type_t::YAML_FLOW_ENTRY_TOKEN => matches!(place, Site::FlowPair(_, _)),
+        yaml_token_type_t::YAML_FLOW_SEQUENCE_END_TOKEN => {
+            matches!(place, Site::FlowPair(Brackets::Sequence, _))
+        }
+        yaml_token_type_t::YAML_FLOW_MAPPING_END_TOKEN => {
+            matches!(place, Site::FlowPair(Brackets::Mapping, _))
+        }
         yaml_token_type_t::YAML_DOCUMENT_END_TOKEN
         | yaml_token_type_t::YAML_STREAM_END_TOKEN
         | yaml_token_type_t::YAML_VERSION_DIRECTIVE_TOKEN
         | yaml_token_type_t::YAML_TAG_DIRECTIVE_TOKEN
-        | yaml_token_type_t::YAML_DOCUMENT_START_TOKEN => true,
+        | yaml_token_type_t::YAML_DOCUMENT_START_TOKEN => matches!(place, Site::Root),
         _ => false,
     }
 }
@@ -139,11 +131,28 @@ pub(crate) fn wants_of(place: Site) -> Wants
     ensures { result ≡ grammar.wants_of place }
 {
     match place {
-        Site::Root => Wants::Block(None),
-        Site::Entry => Wants::Block(None),
-        Site::IndentlessEntry(_) => Wants::Block(None),
+        Site::Root | Site::Entry | Site::IndentlessEntry(_) => Wants::Block(None),
         Site::BlockPair(side) => Wants::Block(Some(side)),
         Site::FlowPair(_, _) => Wants::Flow,
+    }
+}
+
+// The place of a node of which nothing has come.
+#[inline(always)]
+pub(crate) fn site_at(awaited: Await) -> Site
+    ensures { result ≡ site_of awaited }
+{
+    match awaited {
+        Await::Entry => Site::Entry,
+        Await::LooseKey => Site::IndentlessEntry(Side::Key),
+        Await::LooseValue => Site::IndentlessEntry(Side::Value),
+        Await::Key => Site::BlockPair(Side::Key),
+        Await::Value => Site::BlockPair(Side::Value),
+        Await::SequenceKey => Site::FlowPair(Brackets::Sequence, Side::Key),
+        Await::SequenceValue => Site::FlowPair(Brackets::Sequence, Side::Value),
+        Await::MappingKey => Site::FlowPair(Brackets::Mapping, Side::Key),
+        Await::MappingValue => Site::FlowPair(Brackets::Mapping, Side::Value),
+        _ => Site::Root,
     }
 }
 
@@ -153,8 +162,7 @@ fn left_out(place: Site) -> Turn
     ensures { LeavesOut place (seen result) }
 {
     match place {
-        Site::Root => Turn::LeftNothing,
-        Site::FlowPair(_, _) => Turn::LeftNothing,
+        Site::Root | Site::FlowPair(_, _) => Turn::LeftNothing,
         _ => Turn::LeftNothingBefore,
     }
 }

@@ -2,6 +2,7 @@
 
 use std::alloc::Global;
 use yaml_parse_model::yaml_mark_t;
+use yaml_scan_model::Spares;
 
 /// What a node is whose content begins with the token that is taken.
 #[derive(Clone, Copy)]
@@ -55,6 +56,8 @@ pub struct Waiting {
     pub anchor: Vec<u8>,
     pub handle: Vec<u8>,
     pub suffix: Vec<u8>,
+    /// Texts of earlier events, in whose room later ones are made.
+    pub spares: Spares,
 }
 
 /// No properties.
@@ -73,5 +76,6 @@ pub fn none_waiting(alloc: Global) -> Waiting {
         anchor: Vec::new(alloc),
         handle: Vec::new(alloc),
         suffix: Vec::new(alloc),
+        spares: Spares::new(alloc),
     }
 }

@@ -8,17 +8,17 @@ ghost use Rattle.yaml_parse_core.specs.Views as views;
 ghost use Rattle.yaml_parse_core.specs.Seen.{seen};
 ghost use Rattle.yaml_parse_core.specs.Turns.{keeps, TurnsTo};
 
-use crate::document::{at_directives, at_document, at_documents, at_first, at_stream};
+use crate::document::{at_documents, at_first};
 use crate::level::{Await, Level};
-use crate::machine::{Machine, Turn};
-use crate::node::{at_rest, flow_mapping, flow_sequence, node, rest_anchor, scalar};
+use crate::machine::{Machine, Turn, await_behind};
+use crate::node::{at_rest, block_start, flow_mapping, flow_sequence, node, rest_anchor, scalar};
 use crate::part::{at_colon, at_entries, at_mapping_more, at_others, at_pairs, at_sequence_more};
-use crate::place::{at_mapping_items, at_optional, at_sequence_items, wants_of};
+use crate::place::{at_mapping_items, at_optional, at_sequence_items, site_at, wants_of};
 use crate::told::Waiting;
 use yaml_parse_grammar::{Brackets, Side, Site, Wants};
 use yaml_parse_model::{TokenSlot, yaml_token_type_t};
 
-// What is open, where no node is awaited.
+// What is open, where no node is awaited. It is long: an arm for each level, and nothing besides.
 #[inline(always)]
 fn at_level(
     machine: &mut Machine,
@@ -62,31 +62,33 @@ fn at_level(
             machine.top.level = Level::MappingMore;
             Turn::LeftNothing
         }
-        Level::Document => at_document(machine, kind, token),
+        Level::Document => {
+            machine.top.level = Level::Documents;
+            match kind {
+                yaml_token_type_t::YAML_DOCUMENT_END_TOKEN => Turn::DocumentEnd,
+                _ => Turn::LeftDocumentEnd,
+            }
+        }
         Level::Documents => at_documents(machine, kind, token),
         Level::First => at_first(machine, kind, token),
-        Level::Directives => at_directives(machine, kind, token),
-        Level::Stream => at_stream(machine, kind, token),
+        Level::Directives => match kind {
+            yaml_token_type_t::YAML_DOCUMENT_START_TOKEN => {
+                await_behind(machine, Await::Root, token);
+                machine.top.level = Level::Document;
+                Turn::DocumentDeclared
+            }
+            yaml_token_type_t::YAML_VERSION_DIRECTIVE_TOKEN => Turn::VersionDirective,
+            yaml_token_type_t::YAML_TAG_DIRECTIVE_TOKEN => Turn::TagDirective,
+            _ => Turn::NoDocumentStart,
+        },
+        Level::Stream => match kind {
+            yaml_token_type_t::YAML_STREAM_START_TOKEN => {
+                machine.top.level = Level::First;
+                Turn::StreamStart
+            }
+            _ => Turn::NoStreamStart,
+        },
         Level::Over => Turn::Over,
-    }
-}
-
-// The place of a node of which nothing has come.
-#[inline(always)]
-fn site_at(awaited: Await) -> Site
-    ensures { result ≡ views.site_of awaited }
-{
-    match awaited {
-        Await::Entry => Site::Entry,
-        Await::LooseKey => Site::IndentlessEntry(Side::Key),
-        Await::LooseValue => Site::IndentlessEntry(Side::Value),
-        Await::Key => Site::BlockPair(Side::Key),
-        Await::Value => Site::BlockPair(Side::Value),
-        Await::SequenceKey => Site::FlowPair(Brackets::Sequence, Side::Key),
-        Await::SequenceValue => Site::FlowPair(Brackets::Sequence, Side::Value),
-        Await::MappingKey => Site::FlowPair(Brackets::Mapping, Side::Key),
-        Await::MappingValue => Site::FlowPair(Brackets::Mapping, Side::Value),
-        _ => Site::Root,
     }
 }
 
@@ -107,13 +109,10 @@ fn at_kind(
         Await::Nothing => at_level(machine, waiting, token, kind),
         Await::Rest => at_rest(machine, waiting, token, kind, Wants::Block(None)),
         Await::RestOfKey => at_rest(machine, waiting, token, kind, Wants::Block(Some(Side::Key))),
-        Await::RestOfValue => at_rest(
-            machine,
-            waiting,
-            token,
-            kind,
-            Wants::Block(Some(Side::Value)),
-        ),
+        Await::RestOfValue => {
+            let wants = Wants::Block(Some(Side::Value));
+            at_rest(machine, waiting, token, kind, wants)
+        }
         Await::RestInside => at_rest(machine, waiting, token, kind, Wants::Flow),
         _ => at_optional(machine, waiting, token, kind, site_at(machine.awaited)),
     }
@@ -146,15 +145,15 @@ fn behind_properties(
 fn is_begun(awaited: Await) -> bool
     ensures { result ≡ views.is_begun awaited }
 {
-    match awaited {
-        Await::Nothing | Await::Rest | Await::RestOfKey | Await::RestOfValue | Await::RestInside =>
-            true,
-        _ => false,
-    }
+    matches!(
+        awaited,
+        Await::Nothing | Await::Rest | Await::RestOfKey | Await::RestOfValue | Await::RestInside
+    )
 }
 
 // The node that is awaited. In line is what may begin one at each place, and a scalar behind properties, which are met most.
-#[tactic(auto, using(crate::proofs::Nodes::anywhere, crate::proofs::Nodes::node_anywhere, crate::proofs::Nodes::behind))]
+// The scalar is asked for in front of the place: so LLVM joins no two choices of the kind, and it is one comparison.
+#[tactic(auto, using(crate::proofs::Nodes::bare_node, crate::proofs::Nodes::node_anywhere, crate::proofs::Nodes::known_behind))]
 #[inline(always)]
 fn at_awaited(
     machine: &mut Machine,
@@ -167,26 +166,34 @@ fn at_awaited(
         (seen result) machine.new waiting.new }
     ensures kept { keeps (seen result) ≡ true → token.new ≡ token.old }
 {
-    if is_begun(machine.awaited) {
-        return match kind {
-            yaml_token_type_t::YAML_SCALAR_TOKEN => {
-                machine.awaited = Await::Nothing;
-                Turn::NamedScalar
-            }
-            _ => behind_properties(machine, waiting, token, kind),
-        };
-    }
     match kind {
-        yaml_token_type_t::YAML_SCALAR_TOKEN => scalar(machine, token),
-        yaml_token_type_t::YAML_FLOW_SEQUENCE_START_TOKEN => flow_sequence(machine, token),
-        yaml_token_type_t::YAML_FLOW_MAPPING_START_TOKEN => flow_mapping(machine, token),
-        yaml_token_type_t::YAML_ALIAS_TOKEN
-        | yaml_token_type_t::YAML_ANCHOR_TOKEN
-        | yaml_token_type_t::YAML_TAG_TOKEN => {
-            let wants = wants_of(site_at(machine.awaited));
-            node(machine, waiting, token, kind, wants)
+        yaml_token_type_t::YAML_SCALAR_TOKEN => {
+            if is_begun(machine.awaited) {
+                machine.awaited = Await::Nothing;
+                return Turn::NamedScalar;
+            }
+            scalar(machine, token)
         }
-        _ => at_kind(machine, waiting, token, kind),
+        _ => {
+            if is_begun(machine.awaited) {
+                return behind_properties(machine, waiting, token, kind);
+            }
+            match kind {
+                yaml_token_type_t::YAML_FLOW_SEQUENCE_START_TOKEN => flow_sequence(machine, token),
+                yaml_token_type_t::YAML_FLOW_MAPPING_START_TOKEN => flow_mapping(machine, token),
+                yaml_token_type_t::YAML_ALIAS_TOKEN
+                | yaml_token_type_t::YAML_ANCHOR_TOKEN
+                | yaml_token_type_t::YAML_TAG_TOKEN => {
+                    let wants = wants_of(site_at(machine.awaited));
+                    node(machine, waiting, token, kind, wants)
+                }
+                yaml_token_type_t::YAML_BLOCK_SEQUENCE_START_TOKEN
+                | yaml_token_type_t::YAML_BLOCK_MAPPING_START_TOKEN => {
+                    block_start(machine, token, kind)
+                }
+                _ => at_kind(machine, waiting, token, kind),
+            }
+        }
     }
 }
 

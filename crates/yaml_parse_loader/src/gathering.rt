@@ -58,25 +58,20 @@ pub fn gather<T: Drop>(
     gather_more(entries, first, entry)
 }
 
-// For how many nodes more there is to be room. From 256 on for 1,100 at once: a block of that size mostly grows where it is.
-fn nodes_more(count: usize) -> usize
-    ensures { 1 ≤ result }
-{
-    if 256 <= count && count < 1100 {
-        1100 - count
-    } else {
-        1
-    }
-}
-
-// Makes room for more nodes.
+// Makes room for more nodes. From 256 on for 1,100 at once: a block of that size mostly grows where it is.
 // Out of line: mostly there is.
 #[inline(never)]
 fn grow_nodes(nodes: &mut Vec<yaml_node_t>) -> Result<(), yaml_text_fault_t>
     ensures items { nodes.new.items ≡ nodes.old.items }
     ensures room { OnOk result (vec_len nodes.new < vec_capacity nodes.new) }
 {
-    match nodes.reserve(nodes_more(nodes.len())) {
+    let count = nodes.len();
+    let more = if 256 <= count && count < 1100 {
+        1100 - count
+    } else {
+        1
+    };
+    match nodes.reserve(more) {
         Ok(()) => Ok(()),
         Err(_) => Err(yaml_text_fault_t::Memory),
     }
@@ -105,11 +100,7 @@ pub fn push_node(nodes: &mut Vec<yaml_node_t>, node: yaml_node_t) -> Result<(), 
     if nodes.len() >= MAX_ENTRIES {
         return Err(yaml_text_fault_t::Memory);
     }
-    match room_for_node(nodes) {
-        Ok(()) => {
-            nodes.push_reserved(node);
-            Ok(())
-        }
-        Err(fault) => Err(fault),
-    }
+    room_for_node(nodes)?;
+    nodes.push_reserved(node);
+    Ok(())
 }

@@ -1,14 +1,14 @@
 //! A document in the making, and what an event makes of it.
 
-ghost use Rattle.std.specs.Prelude.{◌≡◌, [], length, map, None, OnOk};
+ghost use Rattle.std.specs.Prelude.{◌≡◌, [], length, None, OnOk};
 ghost use Rattle.std.specs.FinMap as finite;
 ghost use Rattle.yaml_parse_model.specs.declared.yaml_mark_t.{yaml_mark_t};
-ghost use Rattle.yaml_parse_model.specs.Events.{event_of, body_of, text_of, directive_of};
-ghost use Rattle.yaml_parse_model.specs.Nodes.{node_of, tag_of, str_tag};
+ghost use Rattle.yaml_parse_model.specs.Events.{event_of, body_of, text_of};
+ghost use Rattle.yaml_parse_model.specs.Nodes.{node_of, tag_of};
 ghost use Rattle.yaml_parse_model.specs.Nodes as node;
 ghost use Rattle.yaml_parse_document.specs.Documents.{IsDocument};
 ghost use Rattle.yaml_parse_document.specs.Sizes.{IsSized};
-ghost use Rattle.yaml_parse_loader.specs.Loading.{open_sequence, open_mapping, attach, attached, nothing_loaded, named, enter_leaf, enter_open, aliased, closed, place_of, filled, started, step, step_body};
+ghost use Rattle.yaml_parse_loader.specs.Loading.{open_sequence, open_mapping, attach, attached, nothing_loaded, named, enter_leaf, enter_open, aliased, closed, place_of, filled, step, step_body};
 ghost use Rattle.yaml_parse_loader.specs.Sizes.{HasRoom, HaveRoom, HasRoomForNode, HasRoomFor};
 ghost use Rattle.yaml_parse_loader.specs.Views.{level_of, levels_of, loading_of, node_with, taken_by, Applies};
 
@@ -20,8 +20,8 @@ use std::mem;
 use yaml_parse_document::{DocumentParts, yaml_document_t};
 use yaml_parse_model::{
     yaml_event_body_t, yaml_event_t, yaml_mapping_style_t, yaml_mark_t, yaml_node_body_t,
-    yaml_node_pair_t, yaml_node_t, yaml_node_tag_t, yaml_node_text_t, yaml_scalar_style_t,
-    yaml_sequence_style_t, yaml_tag_directive_t, yaml_text_fault_t, yaml_version_directive_t,
+    yaml_node_pair_t, yaml_node_t, yaml_node_tag_t, yaml_node_text_t, yaml_sequence_style_t,
+    yaml_text_fault_t,
 };
 
 /// An open collection: the place of its node, and what it holds so far. A mapping may have a key without its value.
@@ -111,16 +111,12 @@ fn fill_collection(node: &mut yaml_node_t, level: Level, end_mark: yaml_mark_t)
 {
     node.end_mark = end_mark;
     match level {
-        Level::Sequence { place: _, items } => {
+        Level::Sequence { items, .. } => {
             if let yaml_node_body_t::Sequence { items: held, .. } = &mut node.body {
                 *held = items;
             }
         }
-        Level::Mapping {
-            place: _,
-            pairs,
-            key: _,
-        } => {
+        Level::Mapping { pairs, .. } => {
             if let yaml_node_body_t::Mapping { pairs: held, .. } = &mut node.body {
                 *held = pairs;
             }
@@ -208,24 +204,6 @@ impl Making {
         ensures anew { loading_of self.new ≡ nothing_loaded }
     {
         self.take_whole()
-    }
-
-    // A document begins; what was loaded before is let go. Its directives are taken out.
-    fn start(
-        &mut self,
-        version_directive: Option<yaml_version_directive_t>,
-        tag_directives: &mut Vec<yaml_tag_directive_t>,
-        start_implicit: bool,
-        start_mark: yaml_mark_t,
-    )
-        ensures { loading_of self.new ≡ started version_directive
-            (map directive_of tag_directives.old.items) start_implicit start_mark }
-    {
-        self.begin_anew();
-        self.parts.version_directive = version_directive;
-        mem::swap(&mut self.parts.tag_directives, tag_directives);
-        self.parts.start_implicit = start_implicit;
-        self.parts.start_mark = start_mark;
     }
 
     // An alias stands for the last node that has its anchor.
@@ -340,26 +318,6 @@ impl Making {
         self.open(anchor, node, Level::Mapping { place, pairs, key })
     }
 
-    // A scalar without properties, whose value is taken out; a short one leaves its room to the next.
-    // Inlined: the node is built where it is to stand.
-    #[inline(always)]
-    fn scalar(
-        &mut self,
-        value: &mut Vec<u8>,
-        style: yaml_scalar_style_t,
-        start_mark: &yaml_mark_t,
-        end_mark: &yaml_mark_t,
-    ) -> Result<(), yaml_text_fault_t>
-        ensures { OnOk result ((loading_of self.new ≡ enter_leaf (loading_of self.old) None
-            (node_with str_tag (node.scalar value.old.items style) start_mark.now end_mark.now))
-            × HasRoomForNode (loading_of self.old)) }
-    {
-        let value = yaml_node_text_t::taken(value);
-        let body = yaml_node_body_t::Scalar { value, style };
-        let node = node_with(body, yaml_node_tag_t::Str, start_mark, end_mark);
-        self.add(None, node)
-    }
-
     /// What the event makes of the document. Its texts are taken out.
     // Inlined into the loop over events. Most nodes have no properties and a short value, and are asked for in front: of one that
     // may have some each part would be put aside, and one of either length would go by way of the stack.
@@ -383,7 +341,13 @@ impl Making {
                 ref mut value,
                 ref mut style,
                 ..
-            } if value.len() <= SHORT => fed_of(self.scalar(value, *style, start_mark, end_mark)),
+            } if value.len() <= SHORT => {
+                let value = yaml_node_text_t::taken(value);
+                let style = *style;
+                let scalar = yaml_node_body_t::Scalar { value, style };
+                let node = node_with(scalar, yaml_node_tag_t::Str, start_mark, end_mark);
+                fed_of(self.add(None, node))
+            }
             yaml_event_body_t::SequenceStart {
                 anchor: None,
                 tag: None,
@@ -423,7 +387,12 @@ impl Making {
                 tag_directives,
                 implicit,
             } => {
-                self.start(*version_directive, tag_directives, *implicit, *start_mark);
+                // What was loaded before is let go.
+                self.begin_anew();
+                self.parts.version_directive = *version_directive;
+                mem::swap(&mut self.parts.tag_directives, tag_directives);
+                self.parts.start_implicit = *implicit;
+                self.parts.start_mark = *start_mark;
                 Fed::Taken
             }
             yaml_event_body_t::DocumentEnd { implicit } => {
@@ -441,10 +410,8 @@ impl Making {
             } => {
                 let tag = tag_or_default(tag.take(), yaml_node_tag_t::Str);
                 let value = yaml_node_text_t::taken(value);
-                let scalar = yaml_node_body_t::Scalar {
-                    value,
-                    style: *style,
-                };
+                let style = *style;
+                let scalar = yaml_node_body_t::Scalar { value, style };
                 fed_of(self.add(anchor.take(), node_with(scalar, tag, start_mark, end_mark)))
             }
             yaml_event_body_t::SequenceStart {

@@ -5,6 +5,8 @@ use Rattle.yaml_scan_model.specs.declared.fault.yaml_fault_t.{yaml_fault_t}
 use Rattle.yaml_scan_model.specs.Tokens.{Token, TokenBody, token_of, no_token}
 use Rattle.yaml_scan_model.specs.Tokens as token
 use Rattle.yaml_scan_model.specs.Faults.{Fault, fault_of, IsMemoryFault, scan_layers}
+use Rattle.yaml_scan_slot.specs.declared.taker.Lent.{Lent}
+use Rattle.yaml_scan_slot.specs.declared.taker.Lent.TheVariants.{Taken, Left, Refused}
 
 -- the first token to come, and the others; behind the last the empty token
 abbrev pub front_of : List Token → Token
@@ -62,6 +64,21 @@ GivesInto false old fault t f new after = GivesFault old fault f new after
 -- what a call of a source answers
 abbrev pub Answer : Type 0
 Answer = Result Token Fault
+
+-- a token was given, which a taker took, and the source's own state went on
+pub record LendsToken (P : Token → Type 0) (own : Answer → Type 0) (old : List Token)
+    (fault : Option Fault) (new : List Token) (after : Option Fault) : Type 0 where
+  pub token : Token
+  pub has : P token
+  pub gives : GivesToken old fault token new after
+  pub goes : own (Ok token)
+
+-- what a source comes to that lends its next token: a taker took it; or none is given, and what is to come stays; or a fault is given
+abbrev pub LendsNext : {A : Type 0} → (Token → A → Type 0) → (Answer → Type 0) → Lent A
+    → List Token → Option Fault → Fault → List Token → Option Fault → Type 0
+LendsNext P own (Taken a) old fault f new after = LendsToken (λ t. P t a) own old fault new after
+LendsNext P own Left old fault f new after = (new ≡ old) × (after ≡ fault)
+LendsNext P own Refused old fault f new after = GivesFault old fault f new after × own (Err f)
 
 abbrev pub answer_of : Result yaml_token_t yaml_fault_t → Answer
 answer_of (Ok t) = Ok (token_of t)

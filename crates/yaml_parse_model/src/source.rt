@@ -1,13 +1,14 @@
 //! Where a parser's tokens come from.
 
-ghost use Rattle.std.specs.Prelude.{List, Option, IfOk, IfErr, ⊤};
+ghost use Rattle.std.specs.Prelude.{◌≡◌, List, Option, IfOk, IfErr, ⊤};
 ghost use Rattle.yaml_scan_model.specs.Tokens.{Token, token_of};
 ghost use Rattle.yaml_scan_slot.specs.Slots.{token_in_slot};
 ghost use Rattle.yaml_scan_model.specs.Faults.{Fault, fault_of};
-ghost use Rattle.yaml_parse_model.specs.Source.{GivesToken, GivesFault, GivesInto, Answer, answer_of, answer_in};
+ghost use Rattle.yaml_parse_model.specs.Source.{GivesToken, GivesFault, GivesInto, LendsNext, Answer, answer_of, answer_in};
+ghost use Rattle.yaml_scan_slot.specs.Lending.{LeavesTaker};
 
 use yaml_scan_model::{yaml_fault_t, yaml_token_t};
-use yaml_scan_slot::TokenSlot;
+use yaml_scan_slot::{Lent, TokenSlot, TokenTaker};
 
 /// A source of tokens. Its meaning is the finite list of tokens to come, whose texts are UTF-8, and the fault that
 /// ends the list, if any. Behind both it answers the empty token. Where a growth is refused it answers
@@ -49,5 +50,22 @@ pub trait yaml_token_source_t: Drop {
                 false
             }
         }
+    }
+
+    /// Has a taker take the next token where it lies, or lends none: it is left, and the other calls give it. A source whose tokens
+    /// lie in a row of its own has a body of its own for it.
+    fn lend_next<T: TokenTaker>(
+        &mut self,
+        taker: &mut T,
+        slot: &mut T::Slot,
+        fault: &mut yaml_fault_t,
+    ) -> Lent<T::Answer>
+        ensures lends { LendsNext (λ t r. T.takes taker.old slot.old t taker.new slot.new
+            (fault_of fault.new) r) (λ a. own_step self.old a self.new) result (to_come self.old)
+            (fault_to_come self.old) (fault_of fault.new) (to_come self.new)
+            (fault_to_come self.new) }
+        ensures left { LeavesTaker result (taker.new ≡ taker.old) (slot.new ≡ slot.old) }
+    {
+        Lent::Left
     }
 }

@@ -15,4 +15,4 @@ pub use resolving::{
     Directives, Settled, lack_memory, refuse, settle_implied, settle_named, settle_opened,
 };
 pub use slots::let_event_go;
-pub use told::settle_told;
+pub use told::{settle_alias, settle_end, settle_told};

@@ -11,7 +11,7 @@ ghost use Rattle.yaml_parse_core.specs.Views.{shape_at, node_item};
 ghost use Rattle.yaml_parse_resolve.specs.Bare.{OwnsNothing};
 ghost use Rattle.yaml_parse_resolve.specs.Settles.{named_event};
 
-use crate::room::{clears, exchange_texts, keep_properties, moved_if, vacate};
+use crate::room::{clears, moved_if, vacate};
 use crate::scalars::{bare, named};
 use crate::slots::{start_mapping, start_sequence};
 use yaml_parse_core::{Shape, Waiting};
@@ -19,7 +19,6 @@ use yaml_parse_model::{
     BodySlot, TokenSlot, mark_again, yaml_event_body_t, yaml_event_t, yaml_mapping_style_t,
     yaml_scalar_style_t, yaml_sequence_style_t, yaml_token_type_t,
 };
-use yaml_scan_model::lifted;
 
 // The style of the token's text. Where the token is no scalar it has neither: the machine says that it is one.
 // Inlined: mostly the token's kind is known.
@@ -70,30 +69,25 @@ fn start(shape: Shape, anchor: Option<Vec<u8>>, tag: Option<Vec<u8>>, event: &mu
 
 // A collection begins without properties.
 // No hint: LLVM inlines it, since it is short.
-fn tell_collection(
-    shape: Shape,
-    waiting: &mut Waiting,
-    token: &mut BodySlot,
-    event: &mut yaml_event_body_t,
-)
+fn tell_collection(shape: Shape, waiting: &mut Waiting, event: &mut yaml_event_body_t)
     requires { shape ≡ shapes.Scalar → ⊥ }
     ensures { (b : TokenBody) → body_of event.new ≡ node_event None None (shape_at shape b) }
 {
     if clears(event, &mut waiting.anchor) {
         start(shape, None, None, event);
     } else {
-        collection_over(shape, token, event);
+        collection_over(shape, waiting, event);
     }
 }
 
 // The same, where the slot holds other texts.
 // Out of line: mostly it holds none, or a scalar's.
 #[inline(never)]
-fn collection_over(shape: Shape, token: &mut BodySlot, event: &mut yaml_event_body_t)
+fn collection_over(shape: Shape, waiting: &mut Waiting, event: &mut yaml_event_body_t)
     requires { shape ≡ shapes.Scalar → ⊥ }
     ensures { (b : TokenBody) → body_of event.new ≡ node_event None None (shape_at shape b) }
 {
-    vacate(event, &mut token.text, &mut token.other);
+    vacate(event, &mut waiting.spares);
     start(shape, None, None, event);
 }
 
@@ -117,39 +111,19 @@ pub fn tell_node(
             let style = scalar_style(&mut token.body);
             bare(waiting, &mut token.body.text, style, &mut event.body);
         }
-        _ => tell_collection(shape, waiting, &mut token.body, &mut event.body),
-    }
-}
-
-// Has the token that is taken hold the room of a tag's suffix, which is a part of the tag in full.
-// Inlined: some moves.
-#[inline(always)]
-fn leave_suffix(waiting: &mut Waiting, room: &mut Vec<u8>)
-    ensures { waiting.new ≡ record waiting.old { suffix = waiting.new.suffix } }
-{
-    if waiting.has_tag {
-        exchange_texts(&mut waiting.suffix, room);
+        _ => tell_collection(shape, waiting, &mut event.body),
     }
 }
 
 // A collection begins behind properties. Its tag stands in full in the place of its handle.
-fn tell_named_collection(
-    shape: Shape,
-    waiting: &mut Waiting,
-    token: &mut BodySlot,
-    event: &mut yaml_event_body_t,
-)
+fn tell_named_collection(shape: Shape, waiting: &mut Waiting, event: &mut yaml_event_body_t)
     requires { shape ≡ shapes.Scalar → ⊥ }
     ensures { (b : TokenBody) → body_of event.new ≡ named_event waiting.old (shape_at shape b) }
 {
-    let anchor = moved_if(waiting.has_anchor, &mut waiting.anchor);
-    keep_properties(event, waiting);
-    vacate(event, &mut token.text, &mut token.other);
-    if waiting.has_tag {
-        start(shape, anchor, Some(lifted(&mut waiting.handle)), event);
-    } else {
-        start(shape, anchor, None, event);
-    }
+    vacate(event, &mut waiting.spares);
+    let anchor = moved_if(waiting.has_anchor, &mut waiting.anchor, &mut waiting.spares);
+    let tag = moved_if(waiting.has_tag, &mut waiting.handle, &mut waiting.spares);
+    start(shape, anchor, tag, event);
 }
 
 // The event of a node behind properties. Its tag stands in full in the place of its handle.
@@ -167,9 +141,8 @@ pub(crate) fn tell_named(
     match shape {
         Shape::Scalar => {
             let style = scalar_style(token);
-            leave_suffix(waiting, &mut token.other);
             named(waiting, &mut token.text, style, event);
         }
-        _ => tell_named_collection(shape, waiting, token, event),
+        _ => tell_named_collection(shape, waiting, event),
     }
 }

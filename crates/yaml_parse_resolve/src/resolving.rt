@@ -17,9 +17,8 @@ ghost use Rattle.yaml_parse_resolve.specs.Settles.{directives_of, Resolves, Name
 
 use crate::handles::TagDirectives;
 use crate::nodes::tell_named;
-use crate::room::vacate;
 use crate::scalars::empty;
-use crate::slots::{end_collection, put};
+use crate::slots::{end_over, put};
 use std::alloc::Global;
 use yaml_parse_core::{Implied, Shape, Waiting};
 use yaml_parse_grammar::{ParseFault, ParseProblem};
@@ -317,7 +316,7 @@ pub fn settle_named(
 }
 
 // A node that is nothing but its properties.
-// Out of line: see `imply_end`.
+// Out of line: see `end_over`.
 #[inline(never)]
 fn settle_alone(
     tags: &TagDirectives,
@@ -339,17 +338,6 @@ fn settle_alone(
     } else {
         Settled::Refused
     }
-}
-
-// A collection ends in front of a token. The room of a text that the slot has from an earlier event is left in place of properties
-// that are done with, where those have none.
-// Out of line: in line all that is implied would put registers aside for the rest.
-#[inline(never)]
-fn imply_end(is_sequence: bool, waiting: &mut Waiting, event: &mut yaml_event_body_t)
-    ensures { body_of event.new ≡ (if is_sequence then told.sequence_end else told.mapping_end) }
-{
-    vacate(event, &mut waiting.anchor, &mut waiting.suffix);
-    end_collection(is_sequence, event);
 }
 
 /// The event of what stands in front of a token that stays, at that place, or a fault: its tag's handle stands for nothing.
@@ -376,11 +364,11 @@ pub fn settle_implied(
         }
         Implied::Properties => settle_alone(&directives.tags, waiting, event, fault),
         Implied::SequenceEnd => {
-            imply_end(true, waiting, &mut event.body);
+            end_over(true, &mut waiting.spares, &mut event.body);
             Settled::Event
         }
         Implied::MappingEnd => {
-            imply_end(false, waiting, &mut event.body);
+            end_over(false, &mut waiting.spares, &mut event.body);
             Settled::Event
         }
         Implied::DocumentEnd => {

@@ -1,7 +1,7 @@
 //! Scalars in a slot of events. Where it holds one already, that is changed in place: to put a new one there, the old one is taken
 //! apart, asked what it owns, and set to zero.
 
-ghost use Rattle.std.specs.Prelude.{◌≡◌, [], None, Some};
+ghost use Rattle.std.specs.Prelude.{◌≡◌, None, Some};
 ghost use Rattle.yaml_parse_model.specs.Events.{body_of};
 ghost use Rattle.yaml_parse_model.specs.Events as told;
 ghost use Rattle.yaml_parse_grammar.specs.Items as item;
@@ -10,14 +10,11 @@ ghost use Rattle.yaml_parse_core.specs.Views.{text_if};
 ghost use Rattle.yaml_parse_resolve.specs.Bare.{IsScalar, OwnsNothing};
 ghost use Rattle.yaml_parse_resolve.specs.Settles.{named_event};
 
-use crate::room::{
-    clear, exchange, exchange_texts, is_bare, keep_properties, one_room, put_bare, taken_room,
-};
-use std::alloc::Global;
+use crate::room::{exchange, exchange_texts, is_bare, put_bare, vacate};
 use std::mem;
 use yaml_parse_core::Waiting;
-use yaml_parse_model::{moved, yaml_event_body_t, yaml_scalar_style_t};
-use yaml_scan_model::lifted;
+use yaml_parse_model::{yaml_event_body_t, yaml_scalar_style_t};
+use yaml_scan_model::{Spares, lifted, spare};
 
 // How a scalar may be written with its tag left out, in plain style and in every other one, and its own style.
 #[derive(Clone, Copy)]
@@ -27,14 +24,14 @@ struct Form {
     style: yaml_scalar_style_t,
 }
 
-// A scalar of which all is to be said, in a slot that holds another event. It has the room of that one's text.
+// A scalar of which all is to be said, in a slot that holds another event. It has a spare text's room.
 // Out of line: mostly the slot holds a scalar already.
 #[inline(never)]
-fn begin_scalar(alloc: Global, event: &mut yaml_event_body_t)
+fn begin_scalar(spares: &mut Spares, event: &mut yaml_event_body_t)
     ensures { IsScalar event.new }
 {
-    let room = taken_room(alloc, event);
-    start_blank(room, event);
+    vacate(event, spares);
+    start_blank(spare(spares), event);
 }
 
 // A scalar that has a room and nothing else, in a slot that holds no text.
@@ -58,12 +55,12 @@ fn start_blank(room: Vec<u8>, event: &mut yaml_event_body_t)
 // Has a slot of events hold a scalar, whatever that says.
 // Inlined: mostly a look at the kind.
 #[inline(always)]
-fn make_scalar(alloc: Global, event: &mut yaml_event_body_t)
+fn make_scalar(spares: &mut Spares, event: &mut yaml_event_body_t)
     ensures { IsScalar event.new }
 {
     match *event {
         yaml_event_body_t::Scalar { .. } => {}
-        _ => begin_scalar(alloc, event),
+        _ => begin_scalar(spares, event),
     }
 }
 
@@ -83,7 +80,7 @@ fn put_scalar(
         (text_if has_tag waiting.old.handle.items) value.old.items form.plain form.quoted
         form.style }
 {
-    make_scalar(*value.allocator(), event);
+    make_scalar(&mut waiting.spares, event);
     match *event {
         yaml_event_body_t::Scalar {
             anchor: ref mut last_anchor,
@@ -93,8 +90,13 @@ fn put_scalar(
             quoted_implicit: ref mut quoted,
             style: ref mut last_style,
         } => {
-            exchange(last_anchor, has_anchor, &mut waiting.anchor);
-            exchange(last_tag, has_tag, &mut waiting.handle);
+            exchange(
+                last_anchor,
+                has_anchor,
+                &mut waiting.anchor,
+                &mut waiting.spares,
+            );
+            exchange(last_tag, has_tag, &mut waiting.handle, &mut waiting.spares);
             exchange_texts(last, value);
             *plain = form.plain;
             *quoted = form.quoted;
@@ -170,24 +172,12 @@ fn bare_over(
 )
     ensures { body_of event.new ≡ node_event None None (item.scalar value.old.items style) }
 {
-    keep_properties(event, waiting);
-    match one_room(*value.allocator(), event) {
-        Some(room) => start_bare(mem::replace(value, room), style, event),
-        None => bare_over_more(value, style, event),
-    }
+    vacate(event, &mut waiting.spares);
+    let own = mem::replace(value, spare(&mut waiting.spares));
+    start_bare(own, style, event);
 }
 
-// The same, where it holds more than one.
-// Out of line: see `alias_over`.
-#[inline(never)]
-fn bare_over_more(value: &mut Vec<u8>, style: yaml_scalar_style_t, event: &mut yaml_event_body_t)
-    ensures { body_of event.new ≡ node_event None None (item.scalar value.old.items style) }
-{
-    clear(event);
-    start_bare(moved(value), style, event);
-}
-
-/// A scalar without properties. The texts of an earlier scalar are left in place of the new one, and in the room of properties.
+/// A scalar without properties. The text of an earlier scalar is left in place of the new one.
 // Inlined: some loads and stores.
 #[inline(always)]
 pub(crate) fn bare(
@@ -265,7 +255,7 @@ pub(crate) fn named(
 }
 
 /// An empty node behind those properties. Its tag stands in full in the place of its handle.
-// Out of line: see `imply_end`.
+// Out of line: see `end_over`.
 #[inline(never)]
 pub(crate) fn empty(
     waiting: &mut Waiting,
@@ -281,22 +271,7 @@ pub(crate) fn empty(
         quoted: false,
         style: yaml_scalar_style_t::YAML_PLAIN_SCALAR_STYLE,
     };
-    let mut nothing = room_of_value(*waiting.anchor.allocator(), event);
+    let mut nothing = spare(&mut waiting.spares);
     put_scalar(waiting, has_anchor, has_tag, &mut nothing, form, event);
-}
-
-// An empty text, in the room of an earlier scalar's value, if the slot of events holds one.
-// Inlined into its one caller.
-#[inline(always)]
-fn room_of_value(alloc: Global, event: &mut yaml_event_body_t) -> Vec<u8>
-    ensures { result.items ≡ [] }
-{
-    match event {
-        yaml_event_body_t::Scalar { value, .. } => {
-            let mut room = moved(value);
-            room.clear();
-            room
-        }
-        _ => Vec::new(alloc),
-    }
+    waiting.spares.keep(nothing);
 }

@@ -7,11 +7,12 @@ ghost use Rattle.yaml_parse_grammar.specs.Items as item;
 ghost use Rattle.yaml_parse_grammar.specs.Resolve.{node_event};
 ghost use Rattle.yaml_parse_resolve.specs.Bare.{OwnsNothing};
 
-use crate::room::{clear, one_room, put_bare};
+use crate::room::{put_bare, vacate};
 use std::mem;
 use yaml_parse_model::{
-    moved, yaml_event_body_t, yaml_event_t, yaml_mapping_style_t, yaml_sequence_style_t,
+    yaml_event_body_t, yaml_event_t, yaml_mapping_style_t, yaml_sequence_style_t,
 };
+use yaml_scan_model::{Spares, spare};
 
 /// Another event in the slot.
 // Inlined: the new one's kind is known.
@@ -43,26 +44,24 @@ pub(crate) fn end_collection(is_sequence: bool, slot: &mut yaml_event_body_t)
     }
 }
 
-/// An alias. The room of a text that the slot of events has from an earlier one is left in place of the name.
-// Out of line: in line the addresses of the slot's parts would be put aside in front of the loop over turns, for each event.
+/// The same in a slot that may hold texts.
+// Out of line: mostly it holds none, or a scalar's. In line all that is implied would put registers aside for the rest.
 #[inline(never)]
-pub(crate) fn put_alias(slot: &mut yaml_event_body_t, name: &mut Vec<u8>)
-    ensures { body_of slot.new ≡ told.alias name.old.items }
+pub(crate) fn end_over(is_sequence: bool, spares: &mut Spares, slot: &mut yaml_event_body_t)
+    ensures { body_of slot.new ≡ (if is_sequence then told.sequence_end else told.mapping_end) }
 {
-    match one_room(*name.allocator(), slot) {
-        Some(room) => start_alias(slot, mem::replace(name, room)),
-        None => alias_over(slot, name),
-    }
+    vacate(slot, spares);
+    end_collection(is_sequence, slot);
 }
 
-// The same, where the slot holds more than one text.
-// Out of line: the call that clears it would have registers put aside for each alias.
+/// An alias. A spare text's room is left in place of the name.
+// Out of line: in line the addresses of the slot's parts would be put aside in front of the loop over turns, for each event.
 #[inline(never)]
-fn alias_over(slot: &mut yaml_event_body_t, name: &mut Vec<u8>)
+pub(crate) fn put_alias(slot: &mut yaml_event_body_t, name: &mut Vec<u8>, spares: &mut Spares)
     ensures { body_of slot.new ≡ told.alias name.old.items }
 {
-    clear(slot);
-    start_alias(slot, moved(name));
+    vacate(slot, spares);
+    start_alias(slot, mem::replace(name, spare(spares)));
 }
 
 // An alias, in a slot that holds no text.

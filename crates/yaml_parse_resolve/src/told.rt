@@ -11,13 +11,14 @@ ghost use Rattle.yaml_parse_core.specs.Views.{told_item};
 ghost use Rattle.yaml_parse_resolve.specs.Settles.{directives_of, Notes, ComesTo};
 
 use crate::resolving::{Directives, Settled, end_document, note_tag, note_version, start_document};
-use crate::room::{clears, vacate};
-use crate::slots::{end_collection, put, put_alias};
-use yaml_parse_core::Told;
+use crate::room::clears;
+use crate::slots::{end_collection, end_over, put, put_alias};
+use yaml_parse_core::{Told, Waiting};
 use yaml_parse_model::{
     BodySlot, TokenSlot, mark_again, yaml_encoding_t, yaml_event_body_t, yaml_event_t,
     yaml_fault_t, yaml_mark_t, yaml_token_type_t,
 };
+use yaml_scan_model::Spares;
 
 // A stream's start.
 #[inline(never)]
@@ -71,42 +72,54 @@ fn tell_tag(directives: &mut Directives, token: &mut TokenSlot, fault: &mut yaml
     }
 }
 
-// An alias. The room of a text that the slot has from an earlier event is left in the token.
+/// A collection ends at a token. The room of a text that the slot has from an earlier event is left in an anchor's place, or kept.
+// Inlined: it is known of which kind the collection is.
+#[inline(always)]
+pub fn settle_end(
+    is_sequence: bool,
+    waiting: &mut Waiting,
+    token: &mut TokenSlot,
+    event: &mut yaml_event_t,
+)
+    ensures { event_of event.new ≡ record {
+      body = if is_sequence then told.sequence_end else told.mapping_end;
+      start_mark = token.old.start_mark;
+      end_mark = token.old.end_mark;
+    } }
+{
+    event.start_mark = mark_again(&token.start_mark);
+    event.end_mark = mark_again(&token.end_mark);
+    if clears(&mut event.body, &mut waiting.anchor) {
+        end_collection(is_sequence, &mut event.body);
+    } else {
+        end_over(is_sequence, &mut waiting.spares, &mut event.body);
+    }
+}
+
+/// An alias. A spare text's room is left in the token.
 // Inlined: the token's kind is known.
 #[inline(always)]
-fn tell_alias(token: &mut BodySlot, event: &mut yaml_event_body_t)
-    ensures { body_of event.new ≡ told.alias (name_in (body_in_slot token.old)) }
+pub fn settle_alias(spares: &mut Spares, token: &mut TokenSlot, event: &mut yaml_event_t)
+    ensures { event_of event.new ≡ record {
+      body = told.alias (name_in (body_in_slot token.old.body));
+      start_mark = token.old.start_mark;
+      end_mark = token.old.end_mark;
+    } }
 {
-    match token.kind {
-        yaml_token_type_t::YAML_ALIAS_TOKEN => put_alias(event, &mut token.text),
+    event.start_mark = mark_again(&token.start_mark);
+    event.end_mark = mark_again(&token.end_mark);
+    match token.body.kind {
+        yaml_token_type_t::YAML_ALIAS_TOKEN => put_alias(
+            &mut event.body,
+            &mut token.body.text,
+            spares,
+        ),
         // Where the token is no alias: the machine says that it is one.
         _ => {
-            token.text.clear();
-            put_alias(event, &mut token.text);
+            token.body.text.clear();
+            put_alias(&mut event.body, &mut token.body.text, spares);
         }
     }
-}
-
-// A collection ends.
-// No hint: LLVM inlines it, since it is short.
-fn tell_end(is_sequence: bool, token: &mut BodySlot, event: &mut yaml_event_body_t)
-    ensures { body_of event.new ≡ (if is_sequence then told.sequence_end else told.mapping_end) }
-{
-    if clears(event, &mut token.other) {
-        end_collection(is_sequence, event);
-    } else {
-        end_over(is_sequence, token, event);
-    }
-}
-
-// The same, where the slot holds other texts.
-// Out of line: mostly it holds none, or a scalar's.
-#[inline(never)]
-fn end_over(is_sequence: bool, token: &mut BodySlot, event: &mut yaml_event_body_t)
-    ensures { body_of event.new ≡ (if is_sequence then told.sequence_end else told.mapping_end) }
-{
-    vacate(event, &mut token.text, &mut token.other);
-    end_collection(is_sequence, event);
 }
 
 /// What a token tells but nodes: the event, or nothing for a directive, or a fault.
@@ -128,15 +141,16 @@ pub fn settle_told(
     event.end_mark = mark_again(&token.end_mark);
     match told {
         Told::SequenceEnd => {
-            tell_end(true, &mut token.body, &mut event.body);
+            put(&mut event.body, yaml_event_body_t::SequenceEnd);
             Settled::Event
         }
         Told::MappingEnd => {
-            tell_end(false, &mut token.body, &mut event.body);
+            put(&mut event.body, yaml_event_body_t::MappingEnd);
             Settled::Event
         }
         Told::Alias => {
-            tell_alias(&mut token.body, &mut event.body);
+            let mut spares = Spares::new(*token.body.text.allocator());
+            settle_alias(&mut spares, token, event);
             Settled::Event
         }
         Told::StreamStart => {

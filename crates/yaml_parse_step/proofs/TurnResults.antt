@@ -1,18 +1,27 @@
 -- What a turn comes to with its item resolved.
-use Rattle.std.proofs.Common.{Some, ◌≡◌, inr, List, Option, None, sym, ap, subst, ◌∙◌}
-use Rattle.yaml_parse_step.proofs.Words.{Token, Fault, Event, RawEvent, Properties, State, Directives, gave, node_event, placed, Shape, node_item, shape_at, states_by, ComesTo, directives_of, StepBuffers, Step, peeked_of, properties_of, token_in_slot, Moves, Turned, Went, WentOn}
+use Rattle.std.proofs.Common.{Some, ◌≡◌, inr, Bool, true, false, if◌then◌else◌, List, Option, None, refl, sym, ap, subst, ◌∙◌}
+use Rattle.yaml_parse_step.proofs.Words.{Token, yaml_mark_t, Fault, Event, EventBody, RawEvent, Properties, State, Directives, gave, settle, placed, told_item, states_by, ComesTo, directives_of, StepBuffers, Step, peeked_of, properties_of, token_in_slot, Moves, Turned, Went, WentOn}
 use Rattle.yaml_parse_core.specs.declared.machine.Machine.{Machine}
 use Rattle.yaml_parse_core.specs.Seen.{Seen}
 use Rattle.yaml_parse_resolve.specs.declared.resolving.Settled.{Settled}
 use Rattle.yaml_parse_resolve.specs.declared.resolving.Settled.TheVariants as came
-use Rattle.yaml_parse_step.specs.Moves.{Goes, LeavesMachine, step_of}
+use Rattle.yaml_parse_model.specs.Events as told
+use Rattle.yaml_parse_step.specs.Steps.{held_if}
+use Rattle.yaml_parse_step.specs.Moves.{Goes, LeavesMachine, end_of, step_of}
 
--- a node without properties comes to its event
-pub node_comes : (t : Token) (k : Shape) (ds : Directives) (e : Event) (g : Fault)
-    → e ≡ placed (node_event None None (shape_at k t.body)) (node_item k t)
-    → ComesTo (node_item k t) ds came.Event e g ds
-node_comes t k ds e g p =
-    let b = sym (ap (λ (x : Event). x.body) p) in (ap (λ z. gave z ds) b, p ∙ ap (λ z. placed z (node_item k t)) b)
+-- an item comes to the event that stands where it does
+pub event_comes : (i : RawEvent) (b : EventBody) (ds : Directives) (e : Event) (g : Fault)
+    → settle i ds ≡ gave b ds → e ≡ placed b i → ComesTo i ds came.Event e g ds
+event_comes i b ds e g s p =
+    let same = sym (ap (λ (x : Event). x.body) p) in (s ∙ ap (λ z. gave z ds) same, p ∙ ap (λ z. placed z i) same)
+
+-- the end of a collection
+pub end_comes : (is_sequence : Bool) (o : yaml_mark_t) (t : Token) (ds : Directives) (e : Event)
+    (g : Fault)
+    → e ≡ record { body = if is_sequence then told.sequence_end else told.mapping_end; start_mark = t.start_mark; end_mark = t.end_mark }
+    → ComesTo (told_item (end_of is_sequence) o t) ds came.Event e g ds
+end_comes true o t ds e g p = event_comes (told_item (end_of true) o t) told.sequence_end ds e g refl p
+end_comes false o t ds e g p = event_comes (told_item (end_of false) o t) told.mapping_end ds e g refl p
 
 -- what an item came to
 pub went_on : (r : Settled) (s : List State) (t : Token) (i : RawEvent) (q : Properties)
@@ -43,13 +52,24 @@ went_on came.Refused s t i q ds behind e g held old new m l c = (
 )
 
 -- of what is lent: a turn that did that, behind which its item came to that
-pub goes_on : (k : Seen) (r : Settled) (i : RawEvent) (old b new : StepBuffers) (m : Machine)
-    (a : Step) (e : Event) (g : Fault) → a ≡ step_of r → new ≡ b → LeavesMachine r m b.machine
+pub goes_on : (k : Seen) (r : Settled) (i : RawEvent) (t : Token) (old b new : StepBuffers)
+    (m : Machine) (a : Step) (e : Event) (g : Fault) → a ≡ step_of r → new ≡ b → LeavesMachine r m b.machine
     → ComesTo i (directives_of old.directives) r e g (directives_of b.directives)
-    → ((s : List State) → Turned old s (token_in_slot old.token) k → (p : Properties)
-    → Moves s (token_in_slot old.token) (Some i) (peeked_of b) (states_by m p))
-    → Goes k old a e g new
-goes_on k r i old b new m a e g is same l c moves = λ s t h u. subst (λ z. Turned old s z k → WentOn s z old a e g new) u (λ j.
-    subst (WentOn s (token_in_slot old.token) old a e g) (sym same)
-    (subst (λ z. WentOn s (token_in_slot old.token) old z e g b) (sym is)
-    (went_on r s (token_in_slot old.token) i (properties_of b.waiting) (directives_of old.directives) (directives_of b.directives) e g (peeked_of b) m b.machine (moves s j) l c))) h
+    → (old.is_held ≡ false → (s : List State) → Turned old s t k → (p : Properties)
+    → Moves s t (Some i) (peeked_of b) (states_by m p))
+    → Goes k t old a e g new
+goes_on k r i t old b new m a e g is same l c moves = λ none s u h at. subst (λ z. Turned old s z k → WentOn s z old a e g new) at (λ j.
+    subst (WentOn s t old a e g) (sym same)
+    (subst (λ z. WentOn s t old z e g b) (sym is)
+    (went_on r s t i (properties_of b.waiting) (directives_of old.directives) (directives_of b.directives) e g (peeked_of b) m b.machine (moves none s j) l c))) h
+
+-- the same where it is taken
+pub goes_taken : (k : Seen) (r : Settled) (i : RawEvent) (t : Token) (old b new : StepBuffers)
+    (m : Machine) (a : Step) (e : Event) (g : Fault) → a ≡ step_of r → new ≡ b → LeavesMachine r m b.machine
+    → ComesTo i (directives_of old.directives) r e g (directives_of b.directives)
+    → b.is_held ≡ old.is_held
+    → ((s : List State) → Turned old s t k → (p : Properties)
+    → Moves s t (Some i) None (states_by m p))
+    → Goes k t old a e g new
+goes_taken k r i t old b new m a e g is same l c kept moves = goes_on k r i t old b new m a e g is same l c (λ none s j p.
+    subst (λ z. Moves s t (Some i) z (states_by m p)) (sym (ap (λ h. held_if h (token_in_slot b.token)) (kept ∙ none))) (moves s j p))

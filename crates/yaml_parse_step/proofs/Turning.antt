@@ -110,11 +110,6 @@ noted_turn old new ds ds' answered i h s =
     (ap (λ (o : Outcome). reading_of o ds) h.same ∙ reading_settled (outcome new).items (outcome new).ending ds i (length new.tokens) (noted ds') s)
     (item_unasked old new ds i h ∙ fault_settled (outcome new).items (stop_of new) ds i (length new.tokens) (noted ds') s) (h.less d) (h.stands d)
 
--- what stands has something to give
-pub stands_more : (r : Raw) (ds : Directives) (answered : Fault) → Stands r.stack
-    → HasMore (of_raw r ds answered).events (of_raw r ds answered).ending
-stands_more r ds answered h = has_more (of_raw r ds answered).events (of_raw r ds answered).ending (still_speaks r ds h)
-
 abbrev pub AskedFor : Fault → Raw → Directives → List Token → Type 0
 AskedFor e r ds rest = IsMemoryFault scan_layers e ⊎ (next_unasked (reading_of (outcome r) ds).events (fault_of_raw r ds) ≤ length rest)
 
@@ -125,7 +120,7 @@ refused_by : (old new : Raw) (ds ds' : Directives) (answered : Fault) (e : Fault
     × (IsMemoryFault parse_layers e ⊎ (length new.tokens ≡ fault_of_raw old ds)))
     → IsTurnRefused e (of_raw old ds answered) (of_raw new ds' answered)
 refused_by old new ds ds' answered e z a s r = record {
-  more = stands_more old ds answered z;
+  more = has_more (of_raw old ds answered).events (of_raw old ds answered).ending (still_speaks old ds z);
   asked = a;
   finished = finishes new.peeked new.tokens new.fault new.stack ds' answered s;
   reason = elim r [

@@ -1,6 +1,6 @@
 -- What a turn with its item resolved is to what is to come.
 use Rattle.std.proofs.Common.{◌≡◌, ◌∙◌, ◌<◌, ◌≤◌, ℕ, inl, inr, Bool, true, false, List, [], ◌∷◌, length, arith, Option, Some, None, refl, ap, sym, subst}
-use Rattle.yaml_parse_step.proofs.Words.{Token, Fault, Event, EventBody, RawEvent, gave, noted, settle, parts_documents_behind, State, Outcome, run, unasked_at_stop, Stands, Directives, unasked_at_fault, is_between, waiting, reading_of, next_unasked, IsStack, IsUtf8Token, IsUtf8Held, is_nothing, Step, raw, IsFront, HasNoFront, Raw, Went, WentOn, StepBuffers, peeked_of, states_in}
+use Rattle.yaml_parse_step.proofs.Words.{Token, Fault, Event, EventBody, RawEvent, gave, noted, settle, parts_documents_behind, State, Outcome, run, unasked_at_stop, Stands, Directives, unasked_at_fault, is_between, waiting, reading_of, next_unasked, IsStack, IsUtf8Token, IsUtf8Held, is_nothing, Step, raw, IsFront, HasNoFront, Raw, Went, WentOn, StepBuffers, peeked_of, states_in, token_in_slot}
 use Rattle.yaml_parse_model.specs.Source as source
 use Rattle.yaml_parse_model.specs.Constructors.{HasUtf8, AreUtf8}
 use Rattle.yaml_parse_grammar.specs.Stacks.{StandsBehind}
@@ -12,12 +12,13 @@ use Rattle.yaml_parse_grammar.proofs.EventsToGive.{noted_directive}
 use Rattle.yaml_parse_laws_trees.proofs.Falling.{next_behind, ended_next}
 use Rattle.yaml_parse_step.specs.declared.step.Step.TheVariants as code
 use Rattle.yaml_parse_grammar.specs.Remaining.{held_of}
-use Rattle.yaml_parse_step.specs.Steps.{held_if, Turns, IsUtf8Step, IsUtf8Turn, IsStackTurn}
+use Rattle.yaml_parse_step.specs.Steps.{AsksNext, held_if, Turns, IsUtf8Step, IsUtf8Turn, IsStackTurn}
 use Rattle.yaml_parse_resolve.specs.Settles.{directives_of}
 use Rattle.yaml_parse_step.specs.Moves.{TakesTurn}
 use Rattle.yaml_parse_step.specs.Turned.{Turned, turned}
 use Rattle.yaml_parse_step.specs.Turned as turn
-use Rattle.yaml_parse_step.proofs.Moves.{over_front, stops_front}
+use Rattle.yaml_parse_step.proofs.Front.{given_front, refused_front}
+use Rattle.yaml_parse_step.proofs.Moves.{over_front, stops_front, no_front_open}
 use Rattle.yaml_parse_step.proofs.Turning.{of_raw, event_turn, silent_turn, noted_turn, turns_behind, refused_turn, unsettled_turn, AskedFor}
 
 -- ---- texts and states behind a turn
@@ -31,7 +32,7 @@ pub advance_utf8 : (peeked : Option Token) (s : List State) (t : Token) (after :
 advance_utf8 peeked [] t after s' r ds f k h = k tt
 advance_utf8 peeked (x ∷ s) t after s' r ds f k h = k (f h.0, h.1)
 
-pub cleared_utf8 : (peeked : Option Token) (s : List State) (ds : Directives) → s ≡ []
+cleared_utf8 : (peeked : Option Token) (s : List State) (ds : Directives) → s ≡ []
     → Unit {0} × IsUtf8Held peeked s ds
 cleared_utf8 peeked s ds e = (tt, subst (λ (z : List State). IsUtf8Held peeked z ds) (sym e) tt)
 
@@ -55,7 +56,7 @@ noted_utf8 peeked s ds ds' i e h =
     let u : IsUtf8Settled (noted ds') = subst IsUtf8Settled e (settled_utf8 i.body i.from ds h.0 h.1.1.1) in
     (tt, held_utf8 peeked s ds' h.1.0 h.1.1.0 u)
 
-pub cleared_stands : (s : List State) → s ≡ [] → Unit {0} × IsStack s
+cleared_stands : (s : List State) → s ≡ [] → Unit {0} × IsStack s
 cleared_stands s e = (tt, subst IsStack (sym e) tt)
 
 pub event_stands : (s : List State) (ds ds' : Directives) (i : RawEvent) (body : EventBody)
@@ -69,7 +70,7 @@ pub over_empty : (s : List State) → is_nothing s ≡ true → s ≡ []
 over_empty [] e = refl
 over_empty (x ∷ s) e = cc
 
-pub stands_open : (s : List State) → is_nothing s ≡ false → Stands s
+stands_open : (s : List State) → is_nothing s ≡ false → Stands s
 stands_open [] z = cc
 stands_open (x ∷ s) z = tt
 
@@ -82,7 +83,7 @@ front_asked peeked ts f s t rest after ds g k =
     (subst (λ (o : Outcome). next_unasked (reading_of o ds).events (unasked_at_fault o.items (unasked_at_stop (t ∷ rest) s) ds) ≤ length rest) (k.runs s) (next_behind t rest after s ds)))
 
 -- and none where none is there
-pub no_front_asked : (peeked : Option Token) (ts : List Token) (f : Option Fault) (s : List State)
+no_front_asked : (peeked : Option Token) (ts : List Token) (f : Option Fault) (s : List State)
     (rest : List Token) (ds : Directives) (g : Fault) → HasNoFront peeked ts f g rest
     → AskedFor g (raw peeked ts f s) ds rest
 no_front_asked peeked ts f s rest ds g h = elim h.reason [
@@ -147,6 +148,40 @@ went_takes old new ts f t rest after r e g z k u h = record {
   stack = went_stands (states_in old) t (directives_of old.directives) r e g (peeked_of new) (states_in new) (directives_of new.directives) h;
 }
 
+-- the same where none was held, at the token that the source gave
+pub given_takes : (old new : StepBuffers) (ts : List Token) (f : Option Fault) (t : Token)
+    (rest : List Token) (after : Option Fault) (r : Step) (e : Event) (g : Fault)
+    → AsksNext old → source.GivesToken ts f t rest after → WentOn (states_in old) t old r e g new
+    → TakesTurn old ts f (turned r e g) new rest after
+given_takes old new ts f t rest after r e g asks h =
+    went_takes old new ts f t rest after r e g asks.1
+    (subst (λ (o : Option Token). IsFront o ts f t rest after) (sym (ap (λ b. held_if b (token_in_slot old.token)) asks.0)) (given_front ts f t rest after h)) (λ k. h.utf8)
+
+-- or behind a call that left all as it was
+pub left_takes : (old o new : StepBuffers) (ts us : List Token) (f g : Option Fault) (r : Turned)
+    (rest : List Token) (after : Option Fault) → o ≡ old → us ≡ ts → g ≡ f
+    → TakesTurn o us g r new rest after → TakesTurn old ts f r new rest after
+left_takes old o new ts us f g r rest after b t e h =
+    subst (λ (x : StepBuffers). TakesTurn x ts f r new rest after) b
+    (subst (λ (x : List Token). TakesTurn o x f r new rest after) t (subst (λ (x : Option Fault). TakesTurn o us x r new rest after) e h))
+
+-- or where it gave its fault, and nothing is left
+pub refused_takes : (old new : StepBuffers) (ts : List Token) (f : Option Fault) (rest : List Token)
+    (after : Option Fault) (e : Event) (g : Fault)
+    → AsksNext old → source.GivesFault ts f g rest after → states_in new ≡ []
+    → TakesTurn old ts f (turned code.Refused e g) new rest after
+refused_takes old new ts f rest after e g asks h cleared =
+    let none = subst (λ (o : Option Token). HasNoFront o ts f g rest) (sym (ap (λ b. held_if b (token_in_slot old.token)) asks.0)) (refused_front ts f g rest after h) in
+    let behind = raw (peeked_of new) rest after (states_in new) in
+    record {
+      turns = λ answered. refused_turn (raw (peeked_of old) ts f (states_in old)) behind behind (directives_of old.directives) (directives_of new.directives) answered g
+          (stands_open (states_in old) asks.1)
+          (no_front_asked (peeked_of old) ts f (states_in old) rest (directives_of old.directives) g none)
+          (no_front_open (peeked_of old) ts f (states_in old) g behind asks.1 none) refl cleared;
+      utf8 = λ u. cleared_utf8 (peeked_of new) (states_in new) (directives_of new.directives) cleared;
+      stack = λ u. cleared_stands (states_in new) cleared;
+    }
+
 -- ---- turns that gave nothing
 
 -- What a turn owes behind turns that gave nothing, it owes in front of them.
@@ -183,7 +218,7 @@ open_left [] h = absurd h
 open_left (x ∷ s) h = refl
 
 -- Behind a turn that gave nothing no token is held, and something is open.
-pub silent_asks : (r : Step) (s : List State) (t : Token) (ds : Directives) (e : Event) (g : Fault)
+silent_asks : (r : Step) (s : List State) (t : Token) (ds : Directives) (e : Event) (g : Fault)
     (b : Bool) (u : Token) (new : List State) (behind : Directives)
     → Went s t ds r e g (held_if b u) new behind → r ≡ code.Silent
     → (b ≡ false) × (is_nothing new ≡ false)
@@ -195,3 +230,8 @@ silent_asks code.Silent s t ds e g b u new behind (inr d) is =
     let fewer = given.less directive in
     (not_held b u (omega (arith, fewer)), open_left new (given.stands directive))
 silent_asks r s t ds e g b u new behind h is = cc
+
+-- the same of what is lent
+pub silent_asks_next : (old new : StepBuffers) (t : Token) (r : Step) (e : Event) (g : Fault)
+    → WentOn (states_in old) t old r e g new → r ≡ code.Silent → AsksNext new
+silent_asks_next old new t r e g = silent_asks r (states_in old) t (directives_of old.directives) e g new.is_held (token_in_slot new.token) (states_in new) (directives_of new.directives)

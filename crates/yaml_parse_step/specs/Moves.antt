@@ -1,10 +1,9 @@
 -- What a turn of the machine comes to, as a step over the grammar.
-use Rattle.std.specs.Prelude.{◌≡◌, ◌⊎◌, List, [], Option, Some, None}
+use Rattle.std.specs.Prelude.{◌≡◌, ◌⊎◌, if◌then◌else◌, Bool, false, List, [], Option, Some, None}
 use Rattle.yaml_scan_model.specs.Tokens.{Token}
 use Rattle.yaml_scan_model.specs.Faults.{Fault, memory_fault}
 use Rattle.yaml_scan_model.specs.declared.yaml_origin_t.TheVariants.{Parser}
 use Rattle.yaml_parse_model.specs.Events.{Event}
-use Rattle.yaml_parse_model.specs.Slots.{token_in_slot}
 use Rattle.yaml_parse_grammar.specs.Items.{RawEvent}
 use Rattle.yaml_parse_grammar.specs.Remaining.{parser_remaining, is_between}
 use Rattle.yaml_parse_grammar.specs.States.{State}
@@ -14,6 +13,8 @@ use Rattle.yaml_parse_grammar.specs.Resolve.{Directives, gave, noted, refused, p
 use Rattle.yaml_parse_grammar.specs.Items.{Properties}
 use Rattle.yaml_parse_core.specs.declared.machine.Machine.{Machine}
 use Rattle.yaml_parse_core.specs.Seen.{Seen}
+use Rattle.yaml_parse_core.specs.declared.told.Told.{Told}
+use Rattle.yaml_parse_core.specs.declared.told.Told.TheVariants as told
 use Rattle.yaml_parse_core.specs.Turns.{TurnsTo}
 use Rattle.yaml_parse_core.specs.Views.{states_by}
 use Rattle.yaml_parse_resolve.specs.declared.resolving.Settled.{Settled}
@@ -83,10 +84,14 @@ abbrev pub WentOn : List State → Token → StepBuffers → Step → Event → 
 WentOn s t old r e f new = Went s t (directives_of old.directives) r e f (peeked_of new)
     (states_in new) (directives_of new.directives)
 
--- a turn that did that at the token, which is kept, with its item resolved
-abbrev pub Goes : Seen → StepBuffers → Step → Event → Fault → StepBuffers → Type 0
-Goes k old r e f new = (s : List State) (t : Token) → Turned old s t k
-    → token_in_slot old.token ≡ t → WentOn s t old r e f new
+-- a turn that did that at the token, which is kept, with its item resolved, where none was held
+abbrev pub Goes : Seen → Token → StepBuffers → Step → Event → Fault → StepBuffers → Type 0
+Goes k kept old r e f new = old.is_held ≡ false → (s : List State) (t : Token) → Turned old s t k
+    → kept ≡ t → WentOn s t old r e f new
+
+-- what a token tells at which a collection ends
+abbrev pub end_of : Bool → Told
+end_of is_sequence = if is_sequence then told.SequenceEnd else told.MappingEnd
 
 -- the step of what an item came to
 abbrev pub step_of : Settled → Step

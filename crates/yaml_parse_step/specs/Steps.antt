@@ -52,12 +52,6 @@ pub record HasNoFront (peeked : Option Token) (ts : List Token) (fault : Option 
   pub unasked : IsMemoryFault scan_layers f
       ⊎ ((s : List State) → length rest ≡ unasked_at_stop (waiting peeked ts) s)
 
--- whether a token stands at the front
-abbrev pub HasFront : Bool → Option Token → List Token → Option Fault → Token → List Token
-    → Option Fault → Fault → Type 0
-HasFront true peeked ts fault t rest after f = IsFront peeked ts fault t rest after
-HasFront false peeked ts fault t rest after f = HasNoFront peeked ts fault f rest
-
 -- what stands between the source and resolving
 pub record Raw : Type 0 where
   pub peeked : Option Token

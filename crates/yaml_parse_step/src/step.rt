@@ -1,28 +1,29 @@
 //! One step of a parser: a token is taken, or a state is left before it.
 
-ghost use Rattle.std.specs.Prelude.{◌≡◌, true, false, List, Option, None};
+ghost use Rattle.std.specs.Prelude.{◌≡◌, true, false, List};
 ghost use Rattle.yaml_scan_model.specs.Tokens.{Token};
 ghost use Rattle.yaml_parse_model.specs.Slots.{token_in_slot};
 ghost use Rattle.yaml_scan_model.specs.Faults.{Fault, fault_of};
 ghost use Rattle.yaml_parse_model.specs.Events.{Event, event_of};
 ghost use Rattle.yaml_parse_core.specs.Seen.{seen};
 ghost use Rattle.yaml_parse_core.specs.Seen as kinds;
+ghost use Rattle.yaml_parse_core.specs.declared.told.Told.TheVariants.{Alias};
 ghost use Rattle.yaml_parse_core.specs.Turns.{keeps, context_if};
 ghost use Rattle.yaml_parse_core.specs.Views.{implied_item};
 ghost use Rattle.yaml_parse_grammar.specs.Machine.{context_of};
 ghost use Rattle.yaml_parse_grammar.specs.States.{State};
 ghost use Rattle.yaml_parse_grammar.specs.Items.{Properties};
-ghost use Rattle.yaml_parse_model.specs.Source.{HasUtf8};
-ghost use Rattle.yaml_parse_step.specs.Steps.{AsksNext, HasFront, peeked_of, states_in};
-ghost use Rattle.yaml_parse_step.specs.Moves.{TakesTurn, Turned, Goes, WentOn, LeavesMachine, step_of};
+ghost use Rattle.yaml_parse_step.specs.Steps.{AsksNext, states_in};
+ghost use Rattle.yaml_parse_step.specs.Moves.{TakesTurn, Turned, Goes, WentOn, LeavesMachine, end_of, step_of};
 ghost use Rattle.yaml_parse_step.specs.Turned.{turned};
 
+use std::mem;
 use yaml_parse_core::{Implied, Machine, Shape, Told, Turn, Waiting, finish, is_over, turn};
 use yaml_parse_grammar::ParseProblem;
-use yaml_parse_model::{TokenSlot, yaml_event_t, yaml_token_source_t};
+use yaml_parse_model::{Lent, TokenSlot, TokenTaker, yaml_event_t, yaml_token_source_t};
 use yaml_parse_resolve::{
-    Directives, Settled, lack_memory, refuse, settle_implied, settle_named, settle_opened,
-    settle_told, tell_node,
+    Directives, Settled, lack_memory, refuse, settle_alias, settle_end, settle_implied,
+    settle_named, settle_opened, settle_told, tell_node,
 };
 use yaml_scan_model::{yaml_fault_t, yaml_mark_t};
 
@@ -59,20 +60,6 @@ pub fn let_buffers_go(buffers: StepBuffers) {
     drop(buffers);
 }
 
-// The source's next token, where none was asked for before, or else its fault.
-fn ask<S: yaml_token_source_t, L>(
-    source: &mut S,
-    token: &mut TokenSlot,
-    fault: &mut yaml_fault_t,
-) -> bool
-    ensures front { HasFront result None (S.to_come source.old) (S.fault_to_come source.old)
-        (token_in_slot token.new) (S.to_come source.new) (S.fault_to_come source.new)
-        (fault_of fault.new) }
-    ensures utf8 { result ≡ true → HasUtf8 (token_in_slot token.new).body }
-{
-    source.next_token_into(token, fault)
-}
-
 // The place where what was being parsed begins, if the fault tells it, or else the token's.
 fn context(problem: ParseProblem, opener: yaml_mark_t, at: yaml_mark_t) -> yaml_mark_t
     ensures { result ≡ context_of (context_if problem opener) at }
@@ -106,12 +93,16 @@ fn settled(buffers: &mut StepBuffers, settled: Settled) -> Step
 
 // A node without properties.
 #[inline(always)]
-fn tell(shape: Shape, buffers: &mut StepBuffers, event: &mut yaml_event_t) -> Step
-    ensures { (f : Fault) → Goes (kinds.node shape) buffers.old result (event_of event.new) f
-        buffers.new }
+fn tell(
+    shape: Shape,
+    buffers: &mut StepBuffers,
+    token: &mut TokenSlot,
+    event: &mut yaml_event_t,
+) -> Step
+    ensures { (f : Fault) → Goes (kinds.node shape) (token_in_slot token.old) buffers.old result
+        (event_of event.new) f buffers.new }
 {
-    buffers.is_held = false;
-    tell_node(shape, &mut buffers.waiting, &mut buffers.token, event);
+    tell_node(shape, &mut buffers.waiting, token, event);
     Step::Given
 }
 
@@ -121,46 +112,49 @@ fn tell(shape: Shape, buffers: &mut StepBuffers, event: &mut yaml_event_t) -> St
 fn step_named(
     shape: Shape,
     buffers: &mut StepBuffers,
+    token: &mut TokenSlot,
     event: &mut yaml_event_t,
     fault: &mut yaml_fault_t,
 ) -> Step
-    ensures { Goes (kinds.named shape) buffers.old result (event_of event.new) (fault_of fault.new)
-        buffers.new }
+    ensures { Goes (kinds.named shape) (token_in_slot token.old) buffers.old result
+        (event_of event.new) (fault_of fault.new) buffers.new }
 {
-    buffers.is_held = false;
     let came = settle_named(
         &buffers.directives.tags,
         shape,
         &mut buffers.waiting,
-        &mut buffers.token,
+        token,
         event,
         fault,
     );
     settled(buffers, came)
 }
 
-// What a token tells but nodes.
-// Inlined into its two callers.
+// A collection ends.
+// Inlined: it is known of which kind it is.
 #[inline(always)]
-fn tell_other(
-    told: Told,
+fn tell_end(
+    is_sequence: bool,
     buffers: &mut StepBuffers,
+    token: &mut TokenSlot,
     event: &mut yaml_event_t,
-    fault: &mut yaml_fault_t,
 ) -> Step
-    ensures { Goes (kinds.given told) buffers.old result (event_of event.new) (fault_of fault.new)
-        buffers.new }
+    ensures { (f : Fault) → Goes (kinds.given (end_of is_sequence)) (token_in_slot token.old)
+        buffers.old result (event_of event.new) f buffers.new }
 {
-    buffers.is_held = false;
-    let came = settle_told(
-        &mut buffers.directives,
-        told,
-        &buffers.machine.top.opener,
-        &mut buffers.token,
-        event,
-        fault,
-    );
-    settled(buffers, came)
+    settle_end(is_sequence, &mut buffers.waiting, token, event);
+    Step::Given
+}
+
+// An alias.
+// Inlined into its one caller.
+#[inline(always)]
+fn tell_alias(buffers: &mut StepBuffers, token: &mut TokenSlot, event: &mut yaml_event_t) -> Step
+    ensures { (f : Fault) → Goes (kinds.given Alias) (token_in_slot token.old) buffers.old result
+        (event_of event.new) f buffers.new }
+{
+    settle_alias(&mut buffers.waiting.spares, token, event);
+    Step::Given
 }
 
 // What a token tells that is met once a document or more rarely.
@@ -169,13 +163,22 @@ fn tell_other(
 fn tell_rare(
     told: Told,
     buffers: &mut StepBuffers,
+    token: &mut TokenSlot,
     event: &mut yaml_event_t,
     fault: &mut yaml_fault_t,
 ) -> Step
-    ensures { Goes (kinds.given told) buffers.old result (event_of event.new) (fault_of fault.new)
-        buffers.new }
+    ensures { Goes (kinds.given told) (token_in_slot token.old) buffers.old result
+        (event_of event.new) (fault_of fault.new) buffers.new }
 {
-    tell_other(told, buffers, event, fault)
+    let came = settle_told(
+        &mut buffers.directives,
+        told,
+        &buffers.machine.top.opener,
+        token,
+        event,
+        fault,
+    );
+    settled(buffers, came)
 }
 
 // Where it stands: where the indicator before it ends, or the token begins.
@@ -191,11 +194,7 @@ fn implied_place<'a>(
 {
     match implied {
         Implied::NothingBefore => before,
-        Implied::Nothing => start,
-        Implied::Properties => start,
-        Implied::SequenceEnd => start,
-        Implied::MappingEnd => start,
-        Implied::DocumentEnd => start,
+        _ => start,
     }
 }
 
@@ -205,14 +204,14 @@ fn implied_place<'a>(
 fn leave(
     implied: Implied,
     buffers: &mut StepBuffers,
+    token: &mut TokenSlot,
     event: &mut yaml_event_t,
     fault: &mut yaml_fault_t,
 ) -> Step
-    ensures { Goes (kinds.left implied) buffers.old result (event_of event.new) (fault_of fault.new)
-        buffers.new }
+    ensures { Goes (kinds.left implied) (token_in_slot token.old) buffers.old result
+        (event_of event.new) (fault_of fault.new) buffers.new }
 {
-    buffers.is_held = true;
-    let at = implied_place(implied, &buffers.machine.before, &buffers.token.start_mark);
+    let at = implied_place(implied, &buffers.machine.before, &token.start_mark);
     let came = settle_implied(
         &mut buffers.directives,
         implied,
@@ -221,6 +220,8 @@ fn leave(
         event,
         fault,
     );
+    mem::swap(&mut buffers.token, token);
+    buffers.is_held = true;
     settled(buffers, came)
 }
 
@@ -229,14 +230,16 @@ fn leave(
 #[inline(never)]
 fn open_document(
     buffers: &mut StepBuffers,
+    token: &mut TokenSlot,
     event: &mut yaml_event_t,
     fault: &mut yaml_fault_t,
 ) -> Step
-    ensures { Goes (kinds.opened) buffers.old result (event_of event.new) (fault_of fault.new)
-        buffers.new }
+    ensures { Goes (kinds.opened) (token_in_slot token.old) buffers.old result (event_of event.new)
+        (fault_of fault.new) buffers.new }
 {
+    let came = settle_opened(&buffers.directives, &token.start_mark, event, fault);
+    mem::swap(&mut buffers.token, token);
     buffers.is_held = true;
-    let came = settle_opened(&buffers.directives, &buffers.token.start_mark, event, fault);
     settled(buffers, came)
 }
 
@@ -244,17 +247,18 @@ fn open_document(
 // Out of line: it is met once.
 #[cold]
 #[inline(never)]
-fn refused(problem: ParseProblem, buffers: &mut StepBuffers, fault: &mut yaml_fault_t) -> Step
-    ensures { (e : Event) → Goes (kinds.refused problem) buffers.old result e (fault_of fault.new)
-        buffers.new }
+fn refused(
+    problem: ParseProblem,
+    buffers: &mut StepBuffers,
+    token: &TokenSlot,
+    fault: &mut yaml_fault_t,
+) -> Step
+    ensures { (e : Event) → Goes (kinds.refused problem) (token_in_slot token.now) buffers.old
+        result e (fault_of fault.new) buffers.new }
 {
-    let at = buffers.token.start_mark;
-    refuse(
-        problem,
-        &at,
-        &context(problem, buffers.machine.top.opener, at),
-        fault,
-    );
+    let at = token.start_mark;
+    let from = context(problem, buffers.machine.top.opener, at);
+    refuse(problem, &at, &from, fault);
     finish(&mut buffers.machine);
     Step::Refused
 }
@@ -266,78 +270,86 @@ fn refused(problem: ParseProblem, buffers: &mut StepBuffers, fault: &mut yaml_fa
 fn going(
     turn: Turn,
     buffers: &mut StepBuffers,
+    token: &mut TokenSlot,
     event: &mut yaml_event_t,
     fault: &mut yaml_fault_t,
 ) -> Step
-    ensures { (s : List State) (t : Token) → Turned buffers.old s t (seen turn)
-        → (keeps (seen turn) ≡ true → token_in_slot buffers.old.token ≡ t)
+    ensures { buffers.old.is_held ≡ false → (s : List State) (t : Token)
+        → Turned buffers.old s t (seen turn)
+        → (keeps (seen turn) ≡ true → token_in_slot token.old ≡ t)
         → WentOn s t buffers.old result (event_of event.new) (fault_of fault.new) buffers.new }
 {
     match turn {
-        Turn::Scalar => tell(Shape::Scalar, buffers, event),
-        Turn::BlockSequence => tell(Shape::BlockSequence, buffers, event),
-        Turn::BlockMapping => tell(Shape::BlockMapping, buffers, event),
-        Turn::FlowSequence => tell(Shape::FlowSequence, buffers, event),
-        Turn::FlowMapping => tell(Shape::FlowMapping, buffers, event),
-        Turn::NamedScalar => step_named(Shape::Scalar, buffers, event, fault),
-        Turn::NamedBlockSequence => step_named(Shape::BlockSequence, buffers, event, fault),
-        Turn::NamedBlockMapping => step_named(Shape::BlockMapping, buffers, event, fault),
-        Turn::NamedFlowSequence => step_named(Shape::FlowSequence, buffers, event, fault),
-        Turn::NamedFlowMapping => step_named(Shape::FlowMapping, buffers, event, fault),
-        Turn::SequenceEnd => tell_other(Told::SequenceEnd, buffers, event, fault),
-        Turn::MappingEnd => tell_other(Told::MappingEnd, buffers, event, fault),
-        Turn::Alias => tell_other(Told::Alias, buffers, event, fault),
-        Turn::StreamStart => tell_rare(Told::StreamStart, buffers, event, fault),
-        Turn::StreamEnd => tell_rare(Told::StreamEnd, buffers, event, fault),
-        Turn::VersionDirective => tell_rare(Told::VersionDirective, buffers, event, fault),
-        Turn::TagDirective => tell_rare(Told::TagDirective, buffers, event, fault),
-        Turn::DocumentStart => tell_rare(Told::DocumentStart, buffers, event, fault),
-        Turn::DocumentDeclared => tell_rare(Told::DocumentDeclared, buffers, event, fault),
-        Turn::DocumentEnd => tell_rare(Told::DocumentEnd, buffers, event, fault),
-        Turn::Silent => {
-            buffers.is_held = false;
-            Step::Silent
-        }
-        Turn::LeftNothing => leave(Implied::Nothing, buffers, event, fault),
-        Turn::LeftNothingBefore => leave(Implied::NothingBefore, buffers, event, fault),
-        Turn::LeftProperties => leave(Implied::Properties, buffers, event, fault),
-        Turn::LeftSequenceEnd => leave(Implied::SequenceEnd, buffers, event, fault),
-        Turn::LeftMappingEnd => leave(Implied::MappingEnd, buffers, event, fault),
-        Turn::LeftDocumentEnd => leave(Implied::DocumentEnd, buffers, event, fault),
-        Turn::Opened => open_document(buffers, event, fault),
-        Turn::NoStreamStart => refused(ParseProblem::NoStreamStart, buffers, fault),
-        Turn::NoDocumentStart => refused(ParseProblem::NoDocumentStart, buffers, fault),
-        Turn::NoDash => refused(ParseProblem::NoDash, buffers, fault),
-        Turn::NoKey => refused(ParseProblem::NoKey, buffers, fault),
-        Turn::NoSequenceEnd => refused(ParseProblem::NoSequenceEnd, buffers, fault),
-        Turn::NoMappingEnd => refused(ParseProblem::NoMappingEnd, buffers, fault),
-        Turn::NoBlockNode => refused(ParseProblem::NoBlockNode, buffers, fault),
-        Turn::NoFlowNode => refused(ParseProblem::NoFlowNode, buffers, fault),
+        Turn::Scalar => tell(Shape::Scalar, buffers, token, event),
+        Turn::BlockSequence => tell(Shape::BlockSequence, buffers, token, event),
+        Turn::BlockMapping => tell(Shape::BlockMapping, buffers, token, event),
+        Turn::FlowSequence => tell(Shape::FlowSequence, buffers, token, event),
+        Turn::FlowMapping => tell(Shape::FlowMapping, buffers, token, event),
+        Turn::NamedScalar => step_named(Shape::Scalar, buffers, token, event, fault),
+        Turn::NamedBlockSequence => step_named(Shape::BlockSequence, buffers, token, event, fault),
+        Turn::NamedBlockMapping => step_named(Shape::BlockMapping, buffers, token, event, fault),
+        Turn::NamedFlowSequence => step_named(Shape::FlowSequence, buffers, token, event, fault),
+        Turn::NamedFlowMapping => step_named(Shape::FlowMapping, buffers, token, event, fault),
+        Turn::SequenceEnd => tell_end(true, buffers, token, event),
+        Turn::MappingEnd => tell_end(false, buffers, token, event),
+        Turn::Alias => tell_alias(buffers, token, event),
+        Turn::StreamStart => tell_rare(Told::StreamStart, buffers, token, event, fault),
+        Turn::StreamEnd => tell_rare(Told::StreamEnd, buffers, token, event, fault),
+        Turn::VersionDirective => tell_rare(Told::VersionDirective, buffers, token, event, fault),
+        Turn::TagDirective => tell_rare(Told::TagDirective, buffers, token, event, fault),
+        Turn::DocumentStart => tell_rare(Told::DocumentStart, buffers, token, event, fault),
+        Turn::DocumentDeclared => tell_rare(Told::DocumentDeclared, buffers, token, event, fault),
+        Turn::DocumentEnd => tell_rare(Told::DocumentEnd, buffers, token, event, fault),
+        Turn::Silent => Step::Silent,
+        Turn::LeftNothing => leave(Implied::Nothing, buffers, token, event, fault),
+        Turn::LeftNothingBefore => leave(Implied::NothingBefore, buffers, token, event, fault),
+        Turn::LeftProperties => leave(Implied::Properties, buffers, token, event, fault),
+        Turn::LeftSequenceEnd => leave(Implied::SequenceEnd, buffers, token, event, fault),
+        Turn::LeftMappingEnd => leave(Implied::MappingEnd, buffers, token, event, fault),
+        Turn::LeftDocumentEnd => leave(Implied::DocumentEnd, buffers, token, event, fault),
+        Turn::Opened => open_document(buffers, token, event, fault),
+        Turn::NoStreamStart => refused(ParseProblem::NoStreamStart, buffers, token, fault),
+        Turn::NoDocumentStart => refused(ParseProblem::NoDocumentStart, buffers, token, fault),
+        Turn::NoDash => refused(ParseProblem::NoDash, buffers, token, fault),
+        Turn::NoKey => refused(ParseProblem::NoKey, buffers, token, fault),
+        Turn::NoSequenceEnd => refused(ParseProblem::NoSequenceEnd, buffers, token, fault),
+        Turn::NoMappingEnd => refused(ParseProblem::NoMappingEnd, buffers, token, fault),
+        Turn::NoBlockNode => refused(ParseProblem::NoBlockNode, buffers, token, fault),
+        Turn::NoFlowNode => refused(ParseProblem::NoFlowNode, buffers, token, fault),
         Turn::Memory => {
             lack_memory(fault);
             finish(&mut buffers.machine);
             Step::Refused
         }
         Turn::Over => {
+            mem::swap(&mut buffers.token, token);
             buffers.is_held = true;
             Step::Done
         }
     }
 }
 
-// The topmost state at the token in front, with its item resolved.
-// Inlined into its one caller.
-#[inline(always)]
-fn moving(buffers: &mut StepBuffers, event: &mut yaml_event_t, fault: &mut yaml_fault_t) -> Step
-    ensures { WentOn (states_in buffers.old) (token_in_slot buffers.old.token) buffers.old result
-        (event_of event.new) (fault_of fault.new) buffers.new }
-{
-    let turn = turn(
-        &mut buffers.machine,
-        &mut buffers.waiting,
-        &mut buffers.token,
-    );
-    going(turn, buffers, event, fault)
+impl TokenTaker for StepBuffers {
+    type Slot = yaml_event_t;
+
+    type Answer = Step;
+
+    // Where no token is held.
+    ghost takes = { λ old _ t new event f step. old.is_held ≡ false → WentOn (states_in old) t old
+        step (event_of event) f new };
+
+    // The topmost state at the token, with its item resolved.
+    // Inlined: the source calls it at one place.
+    #[inline(always)]
+    fn take(
+        &mut self,
+        token: &mut TokenSlot,
+        event: &mut yaml_event_t,
+        fault: &mut yaml_fault_t,
+    ) -> Step {
+        let turn = turn(&mut self.machine, &mut self.waiting, token);
+        going(turn, self, token, event, fault)
+    }
 }
 
 // The topmost state at the token that is held, with its item resolved.
@@ -351,7 +363,32 @@ fn turn_at_held(
     ensures { WentOn (states_in buffers.old) (token_in_slot buffers.old.token) buffers.old result
         (event_of event.new) (fault_of fault.new) buffers.new }
 {
-    moving(buffers, event, fault)
+    let mut token = TokenSlot::empty(buffers.directives.alloc);
+    mem::swap(&mut buffers.token, &mut token);
+    buffers.is_held = false;
+    buffers.take(&mut token, event, fault)
+}
+
+// One step at the source's next token, where something is open, none is held and the source lends none.
+// Out of line: a source that has a row of tokens lends mostly all of them.
+#[inline(never)]
+fn turn_at_given<S: yaml_token_source_t>(
+    source: &mut S,
+    buffers: &mut StepBuffers,
+    event: &mut yaml_event_t,
+    fault: &mut yaml_fault_t,
+) -> Step
+    requires { AsksNext buffers.old }
+    ensures taken { TakesTurn buffers.old (S.to_come source.old) (S.fault_to_come source.old)
+        (turned result (event_of event.new) (fault_of fault.new)) buffers.new
+        (S.to_come source.new) (S.fault_to_come source.new) }
+    ensures on { result ≡ Step.Silent → AsksNext buffers.new }
+{
+    if !source.next_token_into(&mut buffers.token, fault) {
+        finish(&mut buffers.machine);
+        return Step::Refused;
+    }
+    turn_at_held(buffers, event, fault)
 }
 
 // One step at the source's next token, where something is open and none is held. So it is again, where nothing is given.
@@ -369,11 +406,14 @@ fn turn_at_next<S: yaml_token_source_t, L>(
         (S.to_come source.new) (S.fault_to_come source.new) }
     ensures on { result ≡ Step.Silent → AsksNext buffers.new }
 {
-    if !ask::<S, L>(source, &mut buffers.token, fault) {
-        finish(&mut buffers.machine);
-        return Step::Refused;
+    match source.lend_next(buffers, event, fault) {
+        Lent::Taken(step) => step,
+        Lent::Left => turn_at_given(source, buffers, event, fault),
+        Lent::Refused => {
+            finish(&mut buffers.machine);
+            Step::Refused
+        }
     }
-    moving(buffers, event, fault)
 }
 
 // Steps at the source's next tokens, up to one that gives something.
@@ -395,9 +435,7 @@ fn turns_at_next<S: yaml_token_source_t, L>(
     'turns: loop {
         match turn_at_next::<S, L>(source, buffers, event, fault) {
             Step::Silent => buffers.is_held = false,
-            Step::Given => return Step::Given,
-            Step::Refused => return Step::Refused,
-            Step::Done => return Step::Done,
+            step => return step,
         }
     }
 }

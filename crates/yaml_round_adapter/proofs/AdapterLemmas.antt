@@ -1,8 +1,12 @@
 -- The token that an adapter gives, and the texts of what is left.
-use Rattle.std.proofs.Common.{◌≡◌, ◌≤◌, ℕ, false, true≢false, List, [], ◌∷◌, Option, Some, None, Result, Ok, Err, refl, sym, subst, inl, inr, All, ap, ◌∙◌, arith}
+use Rattle.std.proofs.Common.{◌≡◌, ◌⊎◌, ◌≤◌, ℕ, true, false, true≢false, List, [], ◌∷◌, Option, Some, None, Result, Ok, Err, refl, sym, subst, inl, inr, All, ap, ◌∙◌, arith}
 use Rattle.std.proofs.lemmas.List.Elements.{All-nil, All-head, All-tail}
 use Rattle.yaml_scan.specs.declared.yaml_encoding_t.{yaml_encoding_t}
-use Rattle.yaml_scan.specs.Tokens.{Token, no_token}
+use Rattle.yaml_scan.specs.Tokens.{Token, TokenBody, no_token}
+use Rattle.yaml_scan.specs.Tokens as token
+use Rattle.yaml_scan.specs.Slots.{is_tagged}
+use Rattle.yaml_scan.specs.declared.Lent.{Lent}
+use Rattle.yaml_scan.specs.declared.Lent.TheVariants.{Taken, Left, Refused}
 use Rattle.yaml_scan.specs.Faults.{Fault}
 use Rattle.yaml_scan.specs.scan_decode.declared.offence.Offence.{Offence}
 use Rattle.yaml_scan.specs.scan_decode.Encodings.{encoding_of}
@@ -16,9 +20,9 @@ use Rattle.yaml_scan.specs.scan_history.Remaining.{Remaining, nothing}
 use Rattle.yaml_scan.specs.Scanned.{scanned_in, scanned}
 use Rattle.yaml_scan.specs.Session as session
 use Rattle.yaml_scan.specs.Session.{View, Takes, HoldsLittle, EndsAnswered, begun, ended, first_of, others_of, behind_first}
-use Rattle.yaml_parse_model.specs.Source.{front_of, rest_of, MayAnswer, HasMore, GivesToken, GivesFault}
+use Rattle.yaml_parse_model.specs.Source.{front_of, rest_of, MayAnswer, HasMore, GivesToken, GivesFault, LendsNext}
 use Rattle.yaml_round_adapter.specs.Adapted.{adapted, spells_text, tag_fault}
-use Rattle.yaml_round_adapter.specs.Adapter.{TakesText, Stops}
+use Rattle.yaml_round_adapter.specs.Adapter.{IsStep, TakesText, Stops}
 use Rattle.yaml_round_laws_adapted.proofs.AdaptedLemmas.{taken, refused, failed}
 
 abbrev pub HaveTexts : Remaining → Type 0
@@ -124,3 +128,35 @@ pub gives_fault : (old new : View) (f : Fault) → Stops old f new
     → GivesFault (adapted old.remaining).tokens (adapted old.remaining).fault f
     (adapted new.remaining).tokens (adapted new.remaining).fault
 gives_fault old new f s = subst (λ (c : Remaining). GivesFault (adapted old.remaining).tokens (adapted old.remaining).fault f (adapted c).tokens (adapted c).fault) (sym (stopped old new f s)) (gives_stop old new f s)
+
+-- what is no tag and no directive that declares one has none
+plain_spells : (b : TokenBody) → is_tagged b ≡ false → spells_text b ≡ true
+plain_spells (token.tag x y) plain = cc
+plain_spells (token.tag_directive x y) plain = cc
+plain_spells _ plain = refl
+
+checked_spells : (b : TokenBody) → (is_tagged b ≡ false) ⊎ (spells_text b ≡ true)
+    → spells_text b ≡ true
+checked_spells b (inl plain) = plain_spells b plain
+checked_spells b (inr text) = text
+
+-- what the session lends is what the adapter does
+pub lends_text : {A : Type 0} → (P : Token → A → Type 0) (old new : View) (r : Lent A) (f : Fault)
+    → HaveTexts old.remaining → HoldsLittle new
+    → session.LendsNext (λ t. spells_text t.body ≡ true) P old r f new
+    → LendsNext P (λ a. IsStep old a new) r (adapted old.remaining).tokens
+    (adapted old.remaining).fault f (adapted new.remaining).tokens (adapted new.remaining).fault
+lends_text P old new (Taken a) f texts little s =
+    let g : TakesText old s.token new = record { takes = s.takes; text = checked_spells s.token.body s.checked } in
+    record { token = s.token; has = s.has; gives = gives_text old new s.token texts g; goes = (g, little) }
+lends_text P old new Left f texts little s =
+    (ap (λ (c : Remaining). (adapted c).tokens) s.all, ap (λ (c : Remaining). (adapted c).fault) s.all)
+lends_text P old new Refused f texts little s = (gives_fault old new f (inl s), (inl s, little))
+
+-- the texts of what is left then
+pub lent_texts : {A : Type 0} → (P : Token → A → Type 0) (old new : View) (r : Lent A) (f : Fault)
+    → HaveTexts old.remaining → session.LendsNext (λ t. spells_text t.body ≡ true) P old r f new
+    → HaveTexts new.remaining
+lent_texts P old new (Taken a) f texts s = texts_left old.remaining new.remaining s.takes.rest texts
+lent_texts P old new Left f texts s = subst HaveTexts (sym s.all) texts
+lent_texts P old new Refused f texts s = no_texts new.remaining s.over

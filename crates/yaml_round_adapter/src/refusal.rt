@@ -66,18 +66,6 @@ fn is_plain_text(bytes: &[u8]) -> bool
     }
 }
 
-/// Whether a token is a tag whose suffix is UTF-8 at sight. Of another token, and of another suffix, nothing is said.
-// Inlined into its one caller.
-#[inline(always)]
-pub(crate) fn has_plain_suffix(token: &TokenSlot) -> bool
-    ensures { result ≡ true → spells_text (token_in_slot token.now).body ≡ true }
-{
-    match token.body.kind {
-        yaml_token_type_t::YAML_TAG_TOKEN => is_plain_text(&token.body.other),
-        _ => false,
-    }
-}
-
 /// Whether the suffix of a tag in a slot, or a directive's prefix, is UTF-8.
 pub(crate) fn slot_spells_text(token: &TokenSlot) -> bool
     ensures { result ≡ spells_text (token_in_slot token.now).body }

@@ -12,12 +12,14 @@ use Rattle.yaml_scan_history.specs.Remaining.{Remaining, nothing}
 use Rattle.yaml_scan_history.specs.Scanned.{scanned}
 use Rattle.yaml_scan_machine.specs.scan_laws_order.Fronts.{GivesFirst}
 use Rattle.yaml_scan_machine.specs.declared.machine.Machine.{Machine}
-use Rattle.yaml_scan_machine.specs.State.{IsShort, IsMachine, is_ready}
+use Rattle.yaml_scan_machine.specs.Handed.{GivesTo}
+use Rattle.yaml_scan_machine.specs.State.{IsShort, IsMachine, KeepsInput, is_ready}
 use Rattle.yaml_scan_machine.specs.Left.{left_in}
 use Rattle.yaml_scan_machine.proofs.TakeLemmas.{ready_gives}
-use Rattle.yaml_scan.specs.Session.{View, HasFirst, ReadsNeeded, Takes, Lends, Refuses, ScansInto, MayAnswer, begun, ended, first_of, behind_first, is_settled}
+use Rattle.yaml_scan.specs.Session.{View, HasFirst, MayTake, ReadsNeeded, StaysLent, Takes, TakesLent, Lends, Refuses, ScansInto, MayAnswer, begun, ended, first_of, behind_first, is_settled}
 use Rattle.yaml_scan_machine.specs.Settled.{open_count}
-use Rattle.yaml_scan_machine.specs.Found.{ReadsAsNeeded, Gives, Lacks, Denies, read_by}
+use Rattle.yaml_scan_machine.specs.Found.{ReadsAsNeeded, Gives, Knows, Lacks, Denies, read_by}
+use Rattle.yaml_scan_machine.proofs.FoundLemmas.{reads_both, reads_none}
 use Rattle.yaml_scan_machine.proofs.SettledLemmas.{machine_tells}
 use Rattle.yaml_scan.specs.SessionView.{remaining_by, view_by, IsWhole}
 
@@ -294,3 +296,37 @@ pub begins : (s e : yaml_encoding_t) (b i x : List ℕ) (a h r w l : ℕ) (m : R
     → b ≡ i → a ≡ h → r ≡ 0 → m ≡ scanned e i → w ≡ 0 → l ≡ 0 → x ≡ []
     → record { setting = s; bytes = b; ahead = a; read = r; remaining = m; answered = None; waiting = w; slots = l; spares = x } ≡ begun e i h
 begins s e b i x a h r w l m setting bytes ahead read left waiting slots spares = rw (setting, bytes, ahead, read, left, waiting, slots, spares) refl
+
+-- the reader's next token is taken where it lies
+pub takes_lent : (x y : List ℕ) (o : Option yaml_fault_t) (aside : Bool) (s : Token)
+    (m n p : Machine) (passes P : Token → Type 0) → is_some o ≡ false → aside ≡ false → Knows m n
+    → MayTake passes (left_in n) → IsMachine p → GivesTo P (left_in n) (left_in p) → KeepsInput n p
+    → TakesLent passes P (view_by m o s aside x) (view_by p o s aside y)
+takes_lent x y o aside s m n p passes P e off knows may stands g keeps =
+    let gives : Gives m p g.token = record {
+      stands = stands;
+      first = subst (λ (r : Remaining). GivesFirst r g.token (left_in p)) knows.left g.first;
+      reads = reads_both m n p knows.left knows.reads (reads_none n p keeps);
+    } in
+    record {
+      token = g.token;
+      has = g.has;
+      takes = takes_own x y o aside s g.token m p e off gives;
+      checked = may g.token (left_in p) g.first;
+    }
+
+-- none is taken, where none was put aside
+pub stays_lent : (x y : List ℕ) (o : Option yaml_fault_t) (aside : Bool) (s : Token) (m n : Machine)
+    → is_some o ≡ false → aside ≡ false → left_in n ≡ left_in m → ReadsAsNeeded m n
+    → StaysLent (view_by m o s aside x) (view_by n o s aside y)
+stays_lent x y None false s m n e off left reads = record {
+  all = left;
+  same = refl;
+  reads = own_reads x y None None false false s s m n refl refl reads;
+}
+stays_lent x y None true s m n e off left reads = cc
+stays_lent x y (Some f) aside s m n e off left reads = cc
+
+-- a session goes on as it is
+pub stays_same : (v : View) → StaysLent v v
+stays_same v = record { all = refl; same = refl; reads = same_reads v v refl refl refl refl }

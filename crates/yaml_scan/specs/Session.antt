@@ -17,6 +17,10 @@ use Rattle.yaml_scan_history.specs.Scanned.{scanned}
 use Rattle.yaml_scan_machine.specs.Left.{IsTold}
 pub use Rattle.yaml_scan_machine.specs.Found.{HasMore}
 use Rattle.yaml_scan_machine.specs.Settled.{settles}
+use Rattle.yaml_scan_machine.specs.scan_laws_order.Fronts.{GivesFirst}
+use Rattle.yaml_scan_slot.specs.Slots.{is_tagged}
+use Rattle.yaml_scan_slot.specs.declared.taker.Lent.{Lent}
+use Rattle.yaml_scan_slot.specs.declared.taker.Lent.TheVariants.{Taken, Left, Refused}
 
 -- An input and the encoding that is set, how many lexemes are read until they are settled, or 0 where none is read before it is
 -- needed, and how many of its text were read; the tokens that are still to come and
@@ -170,3 +174,27 @@ Shows v (Err f) = HasMore v.remaining.tokens v.remaining.fault × IsTold v.remai
 abbrev pub Peeks : View → View → Result (Bor yaml_token_t) yaml_fault_t → Type 0
 Peeks old new (Ok token) = Lends old (token_of token.now) new
 Peeks old new (Err f) = Refuses old (fault_of f) new
+
+-- the first token to come is no tag and no directive that declares one, or passes
+abbrev pub MayTake : (Token → Type 0) → Remaining → Type 0
+MayTake passes c = (t : Token) (rest : Remaining) → GivesFirst c t rest
+    → (is_tagged t.body ≡ false) ⊎ passes t
+
+-- A token was taken where it lies: it is no tag or directive that declares one, or one that passes.
+pub record TakesLent (passes : Token → Type 0) (P : Token → Type 0) (old new : View) : Type 0 where
+  pub token : Token
+  pub has : P token
+  pub takes : Takes old token new
+  pub checked : (is_tagged token.body ≡ false) ⊎ passes token
+
+-- None was taken: what is to come stays, and what was answered.
+pub record StaysLent (old new : View) : Type 0 where
+  pub all : new.remaining ≡ old.remaining
+  pub same : new.answered ≡ old.answered
+  pub reads : ReadsNeeded old new
+
+abbrev pub LendsNext : {A : Type 0} → (Token → Type 0) → (Token → A → Type 0) → View → Lent A
+    → Fault → View → Type 0
+LendsNext passes P old (Taken a) f new = TakesLent passes (λ t. P t a) old new
+LendsNext passes P old Left f new = StaysLent old new
+LendsNext passes P old Refused f new = Refuses old f new

@@ -5,23 +5,28 @@ ghost use Rattle.std.specs.Borrow.{sem, follows_so};
 ghost use mir.Syntax.{named};
 ghost use mathlib.Core.Option.{none};
 ghost use Rattle.yaml_scan_model.specs.Tokens.{token_of};
+ghost use Rattle.yaml_scan_slot.specs.Lending.{LeavesTaker};
 ghost use Rattle.yaml_scan_slot.specs.Slots.{token_in_slot};
 ghost use Rattle.yaml_scan_model.specs.Faults.{fault_of};
 ghost use Rattle.yaml_scan_model.specs.Rooms.{KeepsFew, rooms_of};
 ghost use Rattle.yaml_scan.specs.contracts.session.yaml_parser_t.{the_row};
-ghost use Rattle.yaml_scan.specs.Session.{HasFirst, ReadsNeeded, Scans, ScansInto, Looks, Shows, Peeks, HoldsLittle, begun, behind_first, ended, is_settled};
+ghost use Rattle.yaml_scan.specs.Session.{HasFirst, LendsNext, MayTake, ReadsNeeded, Scans, ScansInto, Looks, Shows, Peeks, HoldsLittle, begun, behind_first, ended, is_settled};
 ghost use Rattle.yaml_scan.specs.SessionView.{IsWhole, view_of};
+ghost use Rattle.yaml_scan_machine.specs.Left.{left_in};
+ghost use Rattle.yaml_scan_machine.specs.State.{IsMachine, is_ready};
 ghost use Rattle.yaml_scan_machine.specs.Settled.{most_ahead};
 
 use std::alloc::Global;
 use std::marker::Model;
-use yaml_scan_machine::{Machine, READ_AHEAD, Sought, next_into, put_empty, put_over, put_shown};
+use yaml_scan_machine::{
+    Machine, READ_AHEAD, Sought, next_into, put_empty, put_over, put_shown, read_on,
+};
 use yaml_scan_model::{
     Spares, yaml_encoding_t, yaml_fault_t, yaml_memory_fault, yaml_origin_t, yaml_token_t,
 };
-use yaml_scan_slot::TokenSlot;
+use yaml_scan_slot::{Lent, TokenCheck, TokenSlot, TokenTaker};
 
-/// The tokens of an input that are still to come, and the fault that ends them. At most 1,025 lexemes that were read wait, eight
+/// The tokens of an input that are still to come, and the fault that ends them. At most 1,025 lexemes that were read wait, sixteen
 /// more where some are read ahead, and at most 64 spare texts are kept.
 #[derive(Drop)]
 pub struct yaml_parser_t<'a> {
@@ -58,7 +63,7 @@ impl<'a> yaml_parser_t<'a> {
         yaml_parser_t::begin(alloc, input, encoding, 0)
     }
 
-    /// A session that reads up to eight lexemes before they are needed, and so reads on less often. Its tokens and its fault are
+    /// A session that reads up to sixteen lexemes before they are needed, and so reads on less often. Its tokens and its fault are
     /// those of the other one.
     pub fn reading_ahead(
         alloc: Global,
@@ -115,8 +120,6 @@ pub fn yaml_parser_scan(parser: &mut yaml_parser_t) -> Result<yaml_token_t, yaml
 
 /// The next token in a slot that is lent (true), or the fault in the other one (false): what `yaml_parser_scan` answers,
 /// with nothing moved. A slot that isn't filled may hold anything afterwards.
-// Inlined: mostly the next token is known.
-#[inline(always)]
 pub fn yaml_parser_scan_into(
     parser: &mut yaml_parser_t,
     token: &mut TokenSlot,
@@ -142,6 +145,55 @@ pub fn yaml_parser_scan_into(
             keep(&mut parser.fault, fault);
             parser.aside = true;
             false
+        }
+    }
+}
+
+// Whether the next token is no tag and no directive that declares one, or passes a check.
+// Inlined: mostly a look at its kind.
+#[inline(always)]
+fn may_take<C: TokenCheck>(machine: &Machine, check: &C) -> bool
+    requires stands { IsMachine machine.now }
+    requires ready { is_ready machine.now ≡ true }
+    ensures { result ≡ true → MayTake C.passes (left_in machine.now) }
+{
+    match machine.next_tag() {
+        Some(tag) => check.check(tag),
+        None => true,
+    }
+}
+
+/// Has a taker take the next token where it lies: what `yaml_parser_scan_into` gives. None is taken, and what is to come stays, where
+/// a peek put it aside, where none is to come, and where it is a tag or a directive that doesn't pass the check.
+// Inlined: mostly the next token is known.
+#[inline(always)]
+pub fn yaml_parser_lend<C: TokenCheck, T: TokenTaker>(
+    parser: &mut yaml_parser_t,
+    check: &C,
+    taker: &mut T,
+    slot: &mut T::Slot,
+    fault: &mut yaml_fault_t,
+) -> Lent<T::Answer>
+    ensures lends { LendsNext C.passes (λ t r. T.takes taker.old slot.old t taker.new slot.new
+        (fault_of fault.new) r) parser.old result (fault_of fault.new) parser.new }
+    ensures left { LeavesTaker result (taker.new ≡ taker.old) (slot.new ≡ slot.old) }
+    ensures few { HoldsLittle parser.new }
+{
+    if parser.aside {
+        return Lent::Left;
+    }
+    match read_on(&mut parser.machine, &mut parser.spares, fault) {
+        Sought::Known => {
+            if may_take(&parser.machine, check) {
+                return Lent::Taken(parser.machine.give(taker, slot, fault));
+            }
+            Lent::Left
+        }
+        Sought::Nothing => Lent::Left,
+        Sought::Refused => {
+            keep(&mut parser.fault, fault);
+            parser.aside = true;
+            Lent::Refused
         }
     }
 }
@@ -226,7 +278,7 @@ pub fn yaml_parser_skip(parser: &mut yaml_parser_t)
         put_over(&mut parser.shown, yaml_token_t::empty());
         return;
     }
-    drop(parser.machine.take_token(&mut parser.spares));
+    drop(parser.machine.take_token());
 }
 
 /// Ends a session by a fault that its caller found, in a token that was taken: it is kept as the one that was answered, in the

@@ -62,6 +62,22 @@ end_machine m i stuck over =
     ] in
     end_comes (stream_of m) (m.dropped + length (fields_of m).waiting) m.dropped m.given none past
 
+-- where lexemes wait and the next token isn't known, the end wasn't read
+pub stuck_more : (m : Machine) → IsMachine m → is_ready m ≡ false → 0 < length m.waiting.items
+    → m.ended ≡ false
+unfolding read
+stuck_more m i stuck some = elim (cases_Bool m.ended) [
+  | inl over ↦
+      let s = i.shown in
+      let len = length-map m.waiting.items (λ (x : Waiting). kept_of x) in
+      let all = settled_end (fields_of m) s over in
+      elim (not_ready m.dropped m.settled m.given m.waiting.items stuck) [
+        | inl empty ↦ absurd (omega (arith, some, ap (λ (ws : List Waiting). length ws) empty))
+        | inr (w, rest, is, low, few) ↦ absurd (omega (arith, some, low, all, s.count, len))
+      ]
+  | inr on ↦ on
+]
+
 -- where the next token isn't known, a further lexeme may be read
 pub wants_more : (m : Machine) → IsMachine m → is_ready m ≡ false → WantsMore m
 wants_more m i stuck = record {

@@ -24,6 +24,7 @@ reads_none old new k = record { setting = k.setting; bytes = k.bytes; ahead = k.
 pub reads_itself : (m : Machine) → ReadsAsNeeded m m
 reads_itself m = record { setting = refl; bytes = refl; ahead = refl; further = omega arith; needed = λ none n least most. absurd (omega (arith, least, most)) }
 
+-- the reader reads on, and then once more
 pub reads_both : (old mid new : Machine) → left_in mid ≡ left_in old → ReadsAsNeeded old mid
     → ReadsAsNeeded mid new → ReadsAsNeeded old new
 reads_both old mid new left a b = record {
@@ -104,11 +105,12 @@ pub steps_on : (first m new : Machine) (f : Fault) (b : Bool) → ReadsFrom firs
     → WantsMore m → b ≡ true → Steps m new f b
     → ReadsFrom first new × (0 < length new.waiting.items)
     × (m.enough ≤ m.dropped + m.ahead → new.enough ≤ new.dropped + new.ahead)
+    × (new.ended ≡ true → new.enough ≡ 0)
 steps_on first m new f false r wants done s = cc
 steps_on first m new f true r wants done (stands, on) =
     let still = on.started ∙ r.started in
     let left = left_is new still ∙ goes_same m new on ∙ sym (left_is m r.started) ∙ r.left in
-    (record { stands = stands; started = still; left = left; reads = reads_both first m new r.left r.reads (reads_more m new r.stands wants on) }, omega (arith, on.further), λ few. omega (arith, few, on.enough, on.dropped, on.ahead))
+    (record { stands = stands; started = still; left = left; reads = reads_both first m new r.left r.reads (reads_more m new r.stands wants on) }, omega (arith, on.further), λ few. omega (arith, few, on.enough, on.dropped, on.ahead), on.end)
 
 -- A machine that is refused a lexeme and isn't out of memory stands as it stood.
 pub still_stands : (m new : Machine) (f : Fault) (b : Bool) → IsMachine m → b ≡ false

@@ -221,6 +221,20 @@ required_key k None p (inl is) met = rw is refl
 required_key k (Some c) p (inl is) met = rw is (sym (required_fresh (Some c) p met))
 required_key k o p (inr (none, gone)) met = rw (none, gone) refl
 
+none_required : (k : Key) → k.required ≡ false → required_view (key_view k) ≡ None
+none_required k e = elim (cases_Bool k.possible) [ inl some ↦ rw (some, e) refl | inr none ↦ rw none refl ]
+
+-- where neither of the two tells that a `:` must come, none must
+pub none_due : (k : Keys) → IsDue k → k.innermost.required ≡ false → k.due ≡ false
+    → required_at (stack_of k) ≡ None
+none_due k is own off = elim (cases_lt 0 (length k.outer.items)) [
+  | inl some ↦ is off some
+  | inr none ↦
+      let at : key_at (stack_of k) 0 ≡ k.innermost = ap (λ (ks : List Key). get_or ks 0 k.innermost) (nil_from_length k.outer.items (omega (arith, none))) in
+      let own_none : required_view (key_view (key_at (stack_of k) 0)) ≡ None = rw at (none_required k.innermost own) in
+      elim (cases_Bool (eqb k.gone 0)) [ inl all ↦ rw all own_none | inr more ↦ rw more refl ]
+]
+
 -- the required candidate that is open
 pub required_is : (m : Fields) (o : Option yaml_mark_t) → IsShown m → o ≡ required_at m.keys
     → let h = read m.text m.dropped m.waiting in o ≡ required_in (fresh (candidate 0 h) (reached h))
@@ -246,7 +260,7 @@ pub key_waits : (m : Fields) (ws : List Waiting) (p : yaml_mark_t) (n : ℕ) →
     → (m.dropped ≤ n) × (n - m.dropped < length ws)
     × ((c : Candidate) × (fresh (candidate m.depth h) p ≡ Some c)
     × (c.number ≡ m.dropped + (n - m.dropped))
-    × ((w : Waiting) → (get_or ws (n - m.dropped) w).start ≡ c.lexeme.start))
+    × ((w : Waiting) → (get_or ws (n - m.dropped) w).token.start_mark ≡ c.lexeme.start))
 key_waits m ws p n s wait more u is =
     let h = read m.text m.dropped m.waiting in
     let key = get_or_past m.keys.outer (length m.keys.outer) m.keys.innermost (omega arith) in

@@ -1,16 +1,18 @@
 -- Reading the lexeme of a kind.
-use Rattle.std.proofs.Common.{◌≡◌, ℕ, ◌+◌, ◌<◌, ◌≤◌, Bool, true, false, cond, ltb, ◌&&◌, ◌||◌, not, List, [], ◌∷◌, length, Option, Some, None, Result, Ok, Err, refl, sym, ap, subst, ◌∙◌, arith}
-use Rattle.yaml_scan_machine.proofs.Words.{and_parts, length-map, is_some, yaml_mark_t, ScanFault, ScanError, Place, mark_at, splits_break, body_of, zero_mark, Wrong, Gap, gap_at, Kind, Lexeme, is_value, is_start, is_end, may_be_key, Candidate, candidate, fresh, has, reached, depth, placed, levels, found_by, WordText, word_at, kind_at, Next, Read, Fails, colon_missing, next, history, first_lexeme, allowed_behind, finished, misplaced, missed, lost_by, behind, unless_missed, no_colon, unless_wrong, unless_lost, of_kind, SpelledText, body_in, Machine, Waiting, kept_of, Answer, IsPlace, ReadsWord, Fields, fields_of, IsShown, read, Picks, history_of, stream_of, required_in, late, lost, required_behind, keyed_by, GivesNext, Stops, text_bytes, Upto}
+use Rattle.std.proofs.Common.{◌≡◌, ℕ, ◌+◌, ◌<◌, ◌≤◌, Bool, true, false, cond, ltb, ◌&&◌, ◌||◌, not, List, [], ◌∷◌, length, Option, Some, None, Result, Ok, Err, refl, sym, ap, subst, ◌∙◌, inl, inr, arith}
+use Rattle.yaml_scan_machine.proofs.Words.{and_parts, cases_Bool, indent, left_by, length-map, is_some, yaml_mark_t, ScanFault, ScanError, Place, mark_at, splits_break, body_of, zero_mark, Wrong, Gap, gap_at, Kind, Lexeme, is_value, is_start, is_end, may_be_key, Candidate, candidate, fresh, has, reached, depth, placed, levels, found_by, WordText, word_at, kind_at, Next, Read, Fails, colon_missing, next, history, first_lexeme, allowed_behind, finished, misplaced, missed, lost_by, behind, unless_missed, no_colon, unless_wrong, unless_lost, of_kind, SpelledText, body_in, Machine, Waiting, kept_of, Answer, IsPlace, ReadsWord, Fields, fields_of, IsShown, read, Picks, history_of, stream_of, required_in, late, lost, required_behind, keyed_by, GivesNext, Stops, text_bytes, Upto}
 use Rattle.std.proofs.lemmas.List.{nil_from_length}
 use Rattle.std.specs.Prelude.{IfOk}
 use Rattle.yaml_scan_model.specs.declared.token.yaml_token_body_t.{yaml_token_body_t}
-use Rattle.yaml_scan_model.specs.Tokens.{stream_start}
+use Rattle.yaml_scan_model.specs.Tokens.{stream_end, stream_start}
 use Rattle.yaml_scan_history.specs.Stepwise.{not_allowed}
 use Rattle.yaml_scan_history.specs.Remaining.{body_by, body_of_word}
 use Rattle.yaml_scan_machine.specs.declared.word.Word.{Word}
 use Rattle.yaml_scan_machine.specs.State.{Leaves}
 use Rattle.yaml_scan_machine.specs.Given.{IsWord}
-use Rattle.yaml_scan_machine.specs.Reads.{begun_in, ended_by, EndsAt, Finishes, GivesLexeme}
+use Rattle.yaml_scan_machine.specs.Stood.{missing_in, unless_late}
+use Rattle.yaml_scan_history.specs.Next.{no_start}
+use Rattle.yaml_scan_machine.specs.Reads.{begun_in, ended_by, EndsAt, Finishes, GivesLexeme, IsFollowed}
 use Rattle.yaml_scan_model.specs.declared.problem.ScanError.TheVariants as errors
 use Rattle.yaml_scan_history.specs.declared.kind.Kind.TheVariants as kinds
 use Rattle.yaml_scan_machine.proofs.ReadLemmas.{gap_of, StartsAs, ended_same, finished_same}
@@ -51,7 +53,7 @@ by_test o l = elim o as (λ _. Next) [ Some start ↦ no_colon start l.reached |
 pub wrong_gives : (s : SpelledText) (text : List ℕ) (at : ℕ) (place : Place) (e : ScanError)
     (x : Result WordText Wrong) (l : Lexeme) (h : List Lexeme)
     → x ≡ word_at l.kind (ltb 0 l.depth) l.level text at
-    → (is_end l.kind ≡ false → l.start ≡ mark_at text at) → ReadsWord text at place (Err e) x
+    → (is_end l.kind ≡ false → l.start ≡ mark_at text at) → ReadsWord (ltb 0 l.depth) text at place (Err e) x
     → GivesLexeme s (Err e) (unless_wrong x text l h)
 wrong_gives s text at place errors.Memory (Ok w) l h is start r = elim (missed (candidate 0 (finished text l w ∷ h)) (finished text l w).reached) as (λ o. Stops errors.Memory (by_test o (finished text l w))) [ Some m ↦ tt | None ↦ tt ]
 wrong_gives s text at place (errors.Fault f) (Ok w) l h is start r = absurd r
@@ -74,7 +76,7 @@ word_tested : (text : List ℕ) (n : ℕ) (word : Word) (w : WordText) (l : Lexe
     (reach : yaml_mark_t) (required : Option yaml_mark_t)
     → let h = history text n in let x = finished text l w in let y = ended_by l word reach in
     (l.required ≡ true → l.saved ≡ true) → required ≡ required_in (fresh (candidate 0 h) (reached h))
-    → IsWord text word w → reach ≡ mark_at text w.reached
+    → IsWord (ltb 0 l.depth) text word w → reach ≡ mark_at text w.reached
     → (y ≡ x) × (missed (candidate 0 (x ∷ h)) x.reached ≡ late (required_behind required y) y.reached)
 word_tested text n word w l reach required must req wd stop =
     let x = finished text l w in
@@ -85,15 +87,15 @@ word_tested text n word w l reach required must req wd stop =
 -- a lexeme whose word is read
 pub word_gives : (s : SpelledText) (n : ℕ) (place : Place) (word : Word) (x : Result WordText Wrong)
     (l : Lexeme) (reach : yaml_mark_t) (required : Option yaml_mark_t)
-    (result : Result (Lexeme × yaml_token_body_t) ScanError)
+    (result : Result (Lexeme × yaml_token_body_t × Bool) ScanError)
     → let h = history s.text n in x ≡ word_at l.kind (ltb 0 l.depth) l.level s.text l.start.index
     → (l.kind ≡ kinds.StreamStart → ⊥) → (l.required ≡ true → l.saved ≡ true)
     → required ≡ required_in (fresh (candidate 0 h) (reached h))
-    → ReadsWord s.text l.start.index place (Ok word) x → reach ≡ mark_at place.text place.at
+    → ReadsWord (ltb 0 l.depth) s.text l.start.index place (Ok word) x → reach ≡ mark_at place.text place.at
     → Finishes l word reach required result
     → GivesLexeme s result (unless_wrong x s.text l h)
 word_gives s n place word (Err w) l reach required result is other must req r at f = absurd r
-word_gives s n place word (Ok w) l reach required (Ok res) is other must req (wd, there) at (a, b, none) =
+word_gives s n place word (Ok w) l reach required (Ok res) is other must req (wd, there) at (a, b, d, none) =
     let (same, test) = word_tested s.text n word w l reach required must req wd (at ∙ ap (λ (p : Place). mark_at p.text p.at) there) in
     subst (λ o. GivesLexeme s (Ok res) (by_test o (finished s.text l w))) (sym (test ∙ none)) (a ∙ same, ap body_of b ∙ wd.body ∙ sym (body_is s l (finished s.text l w) w other (finished_same s.text l w) (sym is)))
 word_gives s n place word (Ok w) l reach required (Err e) is other must req (wd, there) at (start, some, err) =
@@ -101,16 +103,32 @@ word_gives s n place word (Ok w) l reach required (Err e) is other must req (wd,
     subst (λ o. Stops e (by_test o (finished s.text l w))) (sym (test ∙ some)) (rw err (ap (λ (y : Lexeme). colon_missing start y.reached) same))
 
 pub finished_safe : (text : List ℕ) (l : Lexeme) (word : Word) (reach : yaml_mark_t)
-    (required : Option yaml_mark_t) (result : Result (Lexeme × yaml_token_body_t) ScanError)
+    (required : Option yaml_mark_t) (result : Result (Lexeme × yaml_token_body_t × Bool) ScanError)
     → IsPlace text reach → Finishes l word reach required result
     → IfOk result (λ r. EndsAt text l r.0)
-finished_safe text l word reach required (Ok r) place (a, b, none) = let same = ended_same l word.end reach word.broke in rw a record { kind = same.kind; start = same.start; depth = same.depth; saved = same.saved; place = λ e. rw e place }
+finished_safe text l word reach required (Ok r) place (a, b, d, none) = let same = ended_same l word.end reach word.broke in rw a record { kind = same.kind; start = same.start; depth = same.depth; level = same.level; saved = same.saved; place = λ e. rw e place }
 finished_safe text l word reach required (Err e) place f = tt
 
-pub read_text : (text : List ℕ) (at : ℕ) (place : Place) (word : Word) (x : Result WordText Wrong)
-    → ReadsWord text at place (Ok word) x → place.text ≡ text
-read_text text at place word (Ok w) (wd, there) = ap (λ (p : Place). p.text) there
-read_text text at place word (Err w) r = absurd r
+-- what is told of what stands behind it
+pub finished_colon : (text : List ℕ) (at : ℕ) (place : Place) (l : Lexeme) (word : Word)
+    (x : Result WordText Wrong) (reach : yaml_mark_t) (required : Option yaml_mark_t)
+    (result : Result (Lexeme × yaml_token_body_t × Bool) ScanError)
+    → ReadsWord (ltb 0 l.depth) text at place (Ok word) x → reach ≡ mark_at place.text place.at
+    → Finishes l word reach required result → IfOk result (λ r. IsFollowed text r.0 r.2)
+finished_colon text at place l word (Err w) reach required result r stop f = absurd r
+finished_colon text at place l word (Ok w) reach required (Err e) r stop f = tt
+finished_colon text at place l word (Ok w) reach required (Ok r) (wd, there) stop (a, b, d, none) = λ more on.
+    let same = ended_same l word.end reach word.broke in
+    let flat : is_end l.kind ≡ false = sym (ap is_end (ap (λ (y : Lexeme). y.kind) a ∙ same.kind)) ∙ more in
+    let ends : r.0.reached ≡ reach = ap (λ (y : Lexeme). y.reached) a ∙ rw flat refl in
+    let deep : r.0.depth ≡ l.depth = ap (λ (y : Lexeme). y.depth) a ∙ same.depth in
+    let spot : reach ≡ mark_at text w.reached = stop ∙ ap (λ (p : Place). mark_at p.text p.at) there in
+    rw (ends, deep, spot) (wd.colon (sym d ∙ on))
+
+pub read_text : (flow : Bool) (text : List ℕ) (at : ℕ) (place : Place) (word : Word)
+    (x : Result WordText Wrong) → ReadsWord flow text at place (Ok word) x → place.text ≡ text
+read_text flow text at place word (Ok w) (wd, there) = ap (λ (p : Place). p.text) there
+read_text flow text at place word (Err w) r = absurd r
 
 pub stop_place : (text t : List ℕ) (a : ℕ) (r : yaml_mark_t) → t ≡ text → r ≡ mark_at t a
     → a ≤ length t → splits_break t a ≡ false → IsPlace text r
@@ -150,7 +168,7 @@ fault_stops e x p is same = rw (is, same) refl
 -- what is read where a lexeme of a kind stands
 pub ok_gives : (mc : Machine) (x : Next) (r : Answer) (b : Lexeme) (k : Kind) (m : yaml_mark_t)
     (a : Bool) (ls : List ℕ) → b ≡ begun_in k (placed k m) a mc.depth ls
-    → GivesLexeme (stream_of mc) (Ok (r.lexeme, r.body)) x
+    → GivesLexeme (stream_of mc) (Ok (r.lexeme, r.body, r.colon)) x
     → EndsAt (stream_of mc).text b r.lexeme
     → Picks mc (keyed_by k (fresh (candidate mc.depth (history_of mc)) m)) r.key
     → GivesNext mc (Ok r) x
@@ -166,6 +184,13 @@ pub leaves_none : (m : Machine) (k : Kind) (d column left : ℕ) → IsShown (fi
     → length (history_of m) ≡ 0 → left ≡ 0 → d ≡ 0 → Leaves k d column m.levels left
 unfolding levels
 leaves_none m k d column left s none z flat = rw (s.levels ∙ ap levels (nil_from_length (history_of m) none), z, flat) (omega arith, refl)
+
+pub none_level : (m : Machine) (k : Kind) (d column : ℕ) → IsShown (fields_of m)
+    → length (history_of m) ≡ 0 → 0 ≡ indent (left_by k d column m.levels)
+unfolding levels indent
+none_level m k d column s none =
+    let bare = s.levels ∙ ap levels (nil_from_length (history_of m) none) in
+    elim (cases_Bool (ltb 0 d)) [ inl deep ↦ rw (bare, deep) refl | inr flat ↦ rw (bare, flat) refl ]
 
 -- a lexeme with its end leaves open what it leaves without
 pub leaves_ends : (k : Kind) (mark : yaml_mark_t) (allowed : Bool) (d : ℕ) (xs : List ℕ) (left : ℕ)
@@ -232,3 +257,26 @@ pub kind_found : (m : Fields) (g : Gap) (o : Option Kind) → IsShown m
     → kind_at (ltb 0 m.depth) m.text g.place ≡ o → let h = read m.text m.dropped m.waiting in
     unless_missed None m.text g h ≡ of_kind o m.text g h
 kind_found m g o s e = rw (← s.depth, e) refl
+
+-- what is missed is the same where nothing stands, and where a lexeme of a kind does
+pub none_missed : (m : Fields) (g : Gap) (o : Option yaml_mark_t) (mark : yaml_mark_t) → IsShown m
+    → kind_at (ltb 0 m.depth) m.text g.place ≡ None → mark ≡ mark_at m.text g.place
+    → unless_missed o m.text g (read m.text m.dropped m.waiting) ≡ Fails (missing_in o mark)
+none_missed m g None mark s e is = kind_found m g None s e ∙ ap (λ (y : yaml_mark_t). Fails (no_start y)) (sym is)
+none_missed m g (Some start) mark s e is = ap (λ (y : yaml_mark_t). Fails (colon_missing start y)) (sym is)
+
+pub some_missed : (m : Fields) (g : Gap) (k : Kind) (o : Option yaml_mark_t) (mark : yaml_mark_t)
+    → IsShown m → kind_at (ltb 0 m.depth) m.text g.place ≡ Some k → mark ≡ mark_at m.text g.place
+    → let h = read m.text m.dropped m.waiting in
+    unless_missed o m.text g h ≡ unless_late o k mark m.text g h
+some_missed m g k None mark s e is = kind_found m g (Some k) s e
+some_missed m g k (Some start) mark s e is = ap (λ (y : yaml_mark_t). no_colon start y) (sym is)
+
+end_by : (k : Kind) (s : SpelledText) (l : Lexeme) → is_end k ≡ true → body_by k s l ≡ stream_end
+unfolding word_at
+end_by kinds.StreamEnd s l over = refl
+end_by _ s l over = cc
+
+-- the end's token
+pub end_body : (s : SpelledText) (l : Lexeme) → is_end l.kind ≡ true → body_in s l ≡ stream_end
+end_body s l over = end_by l.kind s l over

@@ -97,17 +97,17 @@ narrow_snoc n c (x ∷ xs) low h = narrow_cons n x (xs ++ c ∷ []) (h 0) (narro
 pub inside_rest : (n : ℕ) (w : Waiting) (ws : List Waiting) → AreInside n (w ∷ ws) → AreInside n ws
 inside_rest n w ws h k d lt = h (suc k) d (omega arith)
 
-inside_cons : (n : ℕ) (w : Waiting) (ws : List Waiting) → w.start.column ≤ n → AreInside n ws
-    → AreInside n (w ∷ ws)
+inside_cons : (n : ℕ) (w : Waiting) (ws : List Waiting) → w.token.start_mark.column ≤ n
+    → AreInside n ws → AreInside n (w ∷ ws)
 inside_cons n w ws low h zero d lt = low
 inside_cons n w ws low h (suc k) d lt = h k d (omega arith)
 
-pub inside_push : (n : ℕ) (w : Waiting) (ws : List Waiting) → w.start.column ≤ n → AreInside n ws
-    → AreInside n (ws ++ w ∷ [])
+pub inside_push : (n : ℕ) (w : Waiting) (ws : List Waiting) → w.token.start_mark.column ≤ n
+    → AreInside n ws → AreInside n (ws ++ w ∷ [])
 inside_push n w [] low h = inside_cons n w [] low h
 inside_push n w (x ∷ xs) low h = inside_cons n x (xs ++ w ∷ []) (h 0 x (omega arith)) (inside_push n w xs low (inside_rest n x xs h))
 
-pub inside_set : (n : ℕ) (w : Waiting) (ws : List Waiting) (i : ℕ) → w.start.column ≤ n
+pub inside_set : (n : ℕ) (w : Waiting) (ws : List Waiting) (i : ℕ) → w.token.start_mark.column ≤ n
     → AreInside n ws → AreInside n (slice_set ws i w)
 inside_set n w [] i low h = h
 inside_set n w (x ∷ xs) zero low h = inside_cons n w xs low (inside_rest n x xs h)

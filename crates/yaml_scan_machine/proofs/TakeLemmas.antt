@@ -1,15 +1,20 @@
 -- What a token that is taken leaves to come.
-use Rattle.std.proofs.Common.{Bool, ◌≡◌, ℕ, suc, ◌+◌, ◌-◌, ◌<◌, ◌≤◌, true, false, ltb, List, [], ◌∷◌, length, drop, get_or, Some, None, refl, sym, ap, subst, ◌∙◌, inl, inr, arith, ◌^◌}
-use Rattle.yaml_scan_machine.proofs.Words.{Line, cases_Bool, cases_lt, nat_tests, length-map, map, Token, TokenBody, block_end, no_token, entries, Remaining, remaining, spell, GivesFirst, ends_token, Machine, Waiting, KeptLexeme, kept_of, IsMachine, is_ready, ready_in, fields_of, kept_in, read, history_of, stream_of, front_at, front_count, fronted, given_in, own_token, to_come, left_in, cases_Option}
-use Rattle.yaml_scan_queue.specs.Hands.{Hands}
+use Rattle.std.proofs.Common.{Bool, ◌≡◌, ℕ, suc, ◌+◌, ◌-◌, ◌<◌, ◌≤◌, true, false, ltb, List, [], ◌∷◌, length, drop, get_or, not, Option, Some, None, refl, sym, ap, subst, ◌∙◌, inl, inr, ◌⊎◌, arith, ◌^◌}
+use Rattle.yaml_scan_machine.proofs.Words.{Line, cases_Bool, cases_lt, nat_tests, length-map, map, IfSome, Opens, Token, TokenBody, token_in_slot, text_bytes, AreInside, block_end, no_token, entries, Remaining, remaining, spell, GivesFirst, ends_token, Machine, Waiting, KeptLexeme, kept_of, IsMachine, is_ready, ready_in, fields_of, kept_in, read, history_of, stream_of, front_at, front_count, fronted, given_in, own_token, to_come, left_in, cases_Option}
+use Rattle.yaml_scan_queue.specs.Hands.{Gives, GivesFront, GivesOwn, TellsTag, handing}
 use Rattle.yaml_scan_slot.specs.declared.slot.TokenSlot.{TokenSlot}
+use Rattle.yaml_scan_slot.specs.Slots.{body_in_slot, is_tagged}
+use Rattle.yaml_scan_queue.specs.Front.{start_at}
+use Rattle.yaml_scan_machine.specs.Handed.{GivesTo, TellsNext}
+use Rattle.yaml_scan_machine.specs.State.{KeepsInput}
+use denote.Bor.{Bor}
 use Rattle.yaml_scan_laws_order.proofs.RemainingForward.{settled_token, settled_done}
 use Rattle.yaml_scan_machine.proofs.SettledLemmas.{known_upto}
 use Rattle.yaml_scan_machine.proofs.NextLemmas.{settled_first}
-use Rattle.yaml_scan_machine.proofs.ComesLemmas.{settled_end, left_is, ready_started}
-use Rattle.yaml_scan_machine.proofs.SafeLemmas.{known_settled}
+use Rattle.yaml_scan_machine.proofs.ComesLemmas.{settled_end, left_is, left_gives, ready_started}
+use Rattle.yaml_scan_machine.proofs.SafeLemmas.{known_settled, inside_rest}
 use Rattle.yaml_scan_machine.proofs.SpellLemmas.{spell_length, spell_token, front_count-le}
-use Rattle.yaml_scan_machine.proofs.GivenLemmas.{shown_given, own_settled, first_is, no_entry, given_few, given_more, front_room, front_done, ends_few}
+use Rattle.yaml_scan_machine.proofs.GivenLemmas.{shown_given, shown_popped, given_none, own_settled, first_is, no_entry, given_few, given_more, front_room, front_done, ends_few}
 
 -- a lexeme that is settled gives its tokens
 settled_front : (m : Machine) (w : Waiting) (rest : List Waiting) → IsMachine m
@@ -106,16 +111,6 @@ first_fits m i ready w =
     let room = front_few m front rest i items in
     (omega (arith, here, few), omega (arith, here, room))
 
--- a token of what waits first is handed out
-pub hands_first : (m : Machine) (q : Line) (slot : TokenSlot) (r b : Bool) → is_ready m ≡ true
-    → ((w : Waiting) → Hands m.given (get_or m.waiting.items 0 w) m.waiting q slot r) → r ≡ b
-    → (front : Waiting) × (rest : List Waiting) × (m.waiting.items ≡ front ∷ rest)
-    × Hands m.given front m.waiting q slot b
-hands_first m q slot r b ready hands same =
-    let (front, rest, items) = first_waits m.dropped m.settled m.given m.waiting.items ready in
-    let here : get_or m.waiting.items 0 front ≡ front = ap (λ (ws : List Waiting). get_or ws 0 front) items in
-    (front, rest, items, subst (λ (b : Bool). Hands m.given front m.waiting q slot b) same (subst (λ (w : Waiting). Hands m.given w m.waiting q slot r) here (hands front)))
-
 -- what waits first, where it is taken
 pub popped_waits : (m : Machine) (x : Waiting) (rest : List Waiting) → is_ready m ≡ true
     → x ≡ get_or m.waiting.items 0 x → rest ≡ drop 1 m.waiting.items → m.waiting.items ≡ x ∷ rest
@@ -136,13 +131,154 @@ stands_more m w rest b i items ready some =
     let given = subst (λ es. given_in m.dropped m.settled (m.given + 1) es) (sym wait) (given_more m.dropped m.settled m.given w rest (map (λ (x : Waiting). kept_of x) rest) b (f.asks ∙ ready) some) in
     grind arith
 
--- where the next token is known, one is to come
+-- what taking the first token comes to
+pub record Gave (P : Token → Type 0) (old new : Machine) : Type 0 where
+  pub stands : IsMachine new
+  pub gives : GivesTo P (left_in old) (left_in new)
+  pub keeps : KeepsInput old new
+
+first_here : (ws : List Waiting) (w : Waiting) (rest : List Waiting) → ws ≡ w ∷ rest
+    → get_or ws 0 w ≡ w
+first_here ws w rest items = ap (λ (xs : List Waiting). get_or xs 0 w) items
+
+-- the token in front of what waits first is taken
+gives_front_of : (P : Token → Type 0) (m : Machine) (g d : ℕ) (q : Line) (w : Waiting)
+    (rest : List Waiting) → IsMachine m → is_ready m ≡ true → m.waiting.items ≡ w ∷ rest
+    → GivesFront P w (handing m.given m.dropped m.waiting) (handing g d q)
+    → Gave P m (record m { given = g; dropped = d; waiting = q })
+gives_front_of P m g d q w rest i ready items f =
+    let body : TokenBody = f.token.body in
+    let on = ready_started m i ready in
+    let token : f.token ≡ fronted (own_token (kept_of w)) (Some body) = λ j. record { body = body; start_mark = f.start j; end_mark = f.end j } in
+    let turn : record m { given = m.given + 1 } ≡ record m { given = g; dropped = d; waiting = q } = λ j. record m { given = sym f.given j; dropped = sym f.dropped j; waiting = sym f.same j } in
+    let first = left_gives m record m { given = m.given + 1 } _ on on (gives_front m w rest body i items ready f.some) in
+    record {
+      stands = subst (λ (s : Machine). IsMachine s) turn (stands_more m w rest body i items ready f.some);
+      gives = record {
+        token = f.token;
+        has = f.has;
+        first = subst (λ (s : Machine). GivesFirst (left_in m) f.token (left_in s)) turn (subst (λ (t : Token). GivesFirst (left_in m) t (left_in record m { given = m.given + 1 })) (sym token) first);
+      };
+      keeps = record { setting = refl; bytes = refl; ahead = refl; read = omega (arith, f.dropped, ap (λ (q : Line). length q.items) f.same) };
+    }
+
+-- what waits first is taken with its own token
+gives_own_of : (P : Token → Type 0) (m : Machine) (g d : ℕ) (q : Line) (w : Waiting)
+    (after : List Waiting) → IsMachine m → is_ready m ≡ true → m.waiting.items ≡ w ∷ after
+    → GivesOwn P w (handing m.given m.dropped m.waiting) (handing g d q)
+    → Gave P m (record m { given = g; dropped = d; waiting = q })
+gives_own_of P m g d q w after i ready start own =
+    let rest = q.items in
+    let items = popped_waits m w rest ready (sym (first_here m.waiting.items w after start)) own.rest in
+    let low = own_settled m.dropped m.settled m.given w rest ((first_is m w rest i items).asks ∙ ready) own.none in
+    let len : length m.waiting.items ≡ length rest + 1 = ap (λ (ws : List Waiting). length ws) items ∙ omega arith in
+    let Q : List Waiting → Type 0 = λ ws. AreInside (length (text_bytes m.text)) ws in
+    let on = ready_started m i ready in
+    let turn : record m { given = 0; dropped = m.dropped + 1; waiting = q } ≡ record m { given = g; dropped = d; waiting = q } = λ j. record m { given = sym own.given j; dropped = sym own.dropped j; waiting = q } in
+    let stands : IsMachine record m { given = 0; dropped = m.dropped + 1; waiting = q } = record {
+      long = i.long;
+      few = omega (arith, len, i.few);
+      short = (omega (arith, len, i.short.0), omega (arith, own.slots, i.short.1));
+      ahead = i.ahead;
+      taken = omega (arith, low);
+      settled = omega (arith, len, i.settled);
+      depth = omega (arith, len, i.depth);
+      levels = i.levels;
+      inside = inside_rest (length (text_bytes m.text)) w rest (subst Q items i.inside);
+      place = i.place;
+      begun = λ off. let bad : w ∷ rest ≡ [] = sym items ∙ i.begun off in cc;
+      fresh = λ off. let bad : w ∷ rest ≡ [] = sym items ∙ i.begun off in cc;
+      decoded = i.decoded;
+      spelled = i.spelled;
+      first = i.first;
+      due = i.due;
+      shown = shown_popped (fields_of m) m.waiting.items w rest i.shown refl items low;
+      given = given_none (m.dropped + 1) m.settled (map (λ (x : Waiting). kept_of x) rest);
+    } in
+    record {
+      stands = subst (λ (s : Machine). IsMachine s) turn stands;
+      gives = record {
+        token = own_token (kept_of w);
+        has = own.has;
+        first = subst (λ (s : Machine). GivesFirst (left_in m) (own_token (kept_of w)) (left_in s)) turn (left_gives m record m { waiting = q; dropped = m.dropped + 1; given = 0 } (own_token (kept_of w)) on on (gives_own m w rest i items low own.none));
+      };
+      keeps = record { setting = refl; bytes = refl; ahead = refl; read = omega (arith, own.dropped, len) };
+    }
+
+-- the next token is taken
+pub gives_next : (P : Token → Type 0) (m : Machine) (g d : ℕ) (q : Line) → IsMachine m
+    → is_ready m ≡ true → ((w : Waiting) → Gives P (get_or m.waiting.items 0 w)
+    (handing m.given m.dropped m.waiting) (handing g d q))
+    → Gave P m (record m { given = g; dropped = d; waiting = q })
+gives_next P m g d q i ready gives =
+    let (w, rest, items) = first_waits m.dropped m.settled m.given m.waiting.items ready in
+    elim (subst (λ w. Gives P w (handing m.given m.dropped m.waiting) (handing g d q)) (first_here m.waiting.items w rest items) (gives w)) [
+      | inl front ↦ gives_front_of P m g d q w rest i ready items front
+      | inr own ↦ gives_own_of P m g d q w rest i ready items own
+    ]
+
+-- where the next token is known, that one is to come
+ready_token : (m : Machine) (w : Waiting) (rest : List Waiting) → IsMachine m
+    → m.waiting.items ≡ w ∷ rest → is_ready m ≡ true
+    → (t : Token) × (c : Remaining) × GivesFirst (left_in m) t c
+    × (t ≡ fronted (own_token (kept_of w)) (front_at (kept_of w) m.given))
+ready_token m w rest i items ready =
+    let all = left_is m (ready_started m i ready) in
+    let own : Token = own_token (kept_of w) in
+    rw all (elim (cases_Option (front_at (kept_of w) m.given)) [
+      | inl none ↦ (own, remaining (stream_of m) (m.dropped + 1) 0, gives_own m w rest i items (own_settled m.dropped m.settled m.given w rest ((first_is m w rest i items).asks ∙ ready) none) none, ap (λ o. fronted own o) (sym none))
+      | inr (b, some) ↦ (fronted own (Some b), remaining (stream_of m) m.dropped (m.given + 1), gives_front m w rest b i items ready some, ap (λ o. fronted own o) (sym some))
+    ])
+
+-- so one is to come
 pub ready_gives : (m : Machine) → IsMachine m → is_ready m ≡ true
     → (t : Token) × (rest : Remaining) × GivesFirst (left_in m) t rest
 ready_gives m i ready =
     let (w, rest, items) = first_waits m.dropped m.settled m.given m.waiting.items ready in
-    let all = left_is m (ready_started m i ready) in
-    rw all (elim (cases_Option (front_at (kept_of w) m.given)) [
-      | inl none ↦ (own_token (kept_of w), remaining (stream_of m) (m.dropped + 1) 0, gives_own m w rest i items (own_settled m.dropped m.settled m.given w rest ((first_is m w rest i items).asks ∙ ready) none) none)
-      | inr (b, some) ↦ (fronted (own_token (kept_of w)) (Some b), remaining (stream_of m) m.dropped (m.given + 1), gives_front m w rest b i items ready some)
-    ])
+    let (t, c, gives, is) = ready_token m w rest i items ready in
+    (t, c, gives)
+
+-- ---- whether the next token is a tag or a directive
+
+-- the token that comes is the one in front of what waits first, or its own
+first_token : (m : Machine) (w : Waiting) (rest : List Waiting) → IsMachine m
+    → m.waiting.items ≡ w ∷ rest → is_ready m ≡ true
+    → (t : Token) (r : Remaining) → GivesFirst (left_in m) t r
+    → t ≡ fronted (own_token (kept_of w)) (front_at (kept_of w) m.given)
+first_token m w rest i items ready t r (tokens, fault) =
+    let (u, c, (first, left), is) = ready_token m w rest i items ready in
+    let same : t ∷ r.tokens ≡ u ∷ c.tokens = sym tokens ∙ first in
+    let head : t ≡ u = cc in
+    head ∙ is
+
+start_plain : (o : Opens) (k : Bool) (n : ℕ)
+    → IfSome (start_at o k n) (λ b. is_tagged b ≡ false)
+start_plain _ k n = grind arith
+
+-- nothing in front of a lexeme is a tag
+front_plain : (k : KeptLexeme) (n : ℕ) → IfSome (front_at k n) (λ b. is_tagged b ≡ false)
+front_plain k n = grind (arith, start_plain k.opens k.key (n - k.ends))
+
+fronted_plain : (k : KeptLexeme) (n : ℕ)
+    → (front_at k n ≡ None → is_tagged k.body ≡ false)
+    → is_tagged (fronted (own_token k) (front_at k n)).body ≡ false
+fronted_plain k n own =
+    elim (cases_Option (front_at k n)) [
+      | inl none ↦ rw none (own none)
+      | inr (b, some) ↦ rw some (subst (λ o. IfSome o (λ b. is_tagged b ≡ false)) some (front_plain k n))
+    ]
+
+pub tells_next : (m : Machine) (r : Option (Bor TokenSlot)) → IsMachine m → is_ready m ≡ true
+    → ((w : Waiting) → TellsTag m.given (get_or m.waiting.items 0 w) r) → TellsNext (left_in m) r
+tells_next m (Some t) i ready tells =
+    let (w, rest, items) = first_waits m.dropped m.settled m.given m.waiting.items ready in
+    let (none, same) = subst (λ w. TellsTag m.given w (Some t)) (first_here m.waiting.items w rest items) (tells w) in
+    λ first left gives. same ∙ sym (first_token m w rest i items ready first left gives ∙ ap (λ o. fronted (own_token (kept_of w)) o) none)
+tells_next m None i ready tells =
+    let (w, rest, items) = first_waits m.dropped m.settled m.given m.waiting.items ready in
+    let told = subst (λ w. TellsTag m.given w None) (first_here m.waiting.items w rest items) (tells w) in
+    let own : front_at (kept_of w) m.given ≡ None → is_tagged (kept_of w).body ≡ false = λ none. elim told [
+      | inl other ↦ other
+      | inr never ↦ absurd (never none)
+    ] in
+    λ first left gives. ap (λ (t : Token). is_tagged t.body) (first_token m w rest i items ready first left gives) ∙ fronted_plain (kept_of w) m.given own

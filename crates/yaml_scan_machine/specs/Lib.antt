@@ -11,6 +11,7 @@ pub mod State
 pub mod Keyed
 pub mod Stood
 pub mod Settled
+pub mod Handed
 pub mod Found
 -- what it stands on, for crates that name this one alone
 pub use Rattle.yaml_scan_words.specs as scan_words

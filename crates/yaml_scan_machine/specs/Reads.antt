@@ -1,5 +1,5 @@
 -- What reading the next lexeme answers.
-use Rattle.std.specs.Prelude.{ℕ, ◌+◌, ◌≡◌, ◌&&◌, ◌||◌, not, Bool, false, nat_lt, ◌==◌, if◌then◌else◌, Option, Some, None, Result, Ok, Err, List, slice_index_or, slice_set}
+use Rattle.std.specs.Prelude.{ℕ, ◌+◌, ◌≡◌, ◌&&◌, ◌||◌, not, Bool, true, false, nat_lt, ◌==◌, if◌then◌else◌, Option, Some, None, Result, Ok, Err, List, slice_index_or, slice_set}
 use Rattle.yaml_scan_model.specs.declared.record.yaml_mark_t.{yaml_mark_t}
 use Rattle.yaml_scan_model.specs.declared.problem.ScanFault.{ScanFault}
 use Rattle.yaml_scan_model.specs.declared.problem.ScanError.{ScanError}
@@ -18,6 +18,7 @@ use Rattle.yaml_scan_machine.specs.declared.machine.Machine.{Machine}
 use Rattle.yaml_scan_machine.specs.declared.next.Read.{Read as Answer}
 use Rattle.yaml_scan_machine.specs.declared.word.Word.{Word}
 use Rattle.yaml_scan_model.specs.declared.token.yaml_token_body_t.{yaml_token_body_t}
+use Rattle.yaml_scan_machine.specs.Given.{IsColon}
 use Rattle.yaml_scan_machine.specs.State.{IsPlace}
 use Rattle.yaml_scan_queue.specs.declared.waiting.Waiting.{Waiting}
 use Rattle.yaml_scan_machine.specs.Shows.{Picks, history_of, stream_of}
@@ -78,8 +79,14 @@ pub record EndsAt (text : List ℕ) (b l : Lexeme) : Type 0 where
   pub kind : l.kind ≡ b.kind
   pub start : l.start ≡ b.start
   pub depth : l.depth ≡ b.depth
+  pub level : l.level ≡ b.level
   pub saved : l.saved ≡ b.saved
   pub place : is_end b.kind ≡ false → IsPlace text l.reached
+
+-- where it is told that a `:` of its own stands behind it, one does
+abbrev pub IsFollowed : List ℕ → Lexeme → Bool → Type 0
+IsFollowed text l colon = is_end l.kind ≡ false → colon ≡ true
+    → IsColon (nat_lt 0 l.depth) text l.reached.index
 
 -- the lexeme with the end that its word tells
 abbrev pub ended_by : Lexeme → Word → yaml_mark_t → Lexeme
@@ -88,8 +95,9 @@ ended_by l word reached = if is_end l.kind then l
 
 -- The start of a required candidate that is stale behind it is refused.
 abbrev pub Finishes : Lexeme → Word → yaml_mark_t → Option yaml_mark_t
-    → Result (Lexeme × yaml_token_body_t) ScanError → Type 0
+    → Result (Lexeme × yaml_token_body_t × Bool) ScanError → Type 0
 Finishes l word reached required (Ok r) = (r.0 ≡ ended_by l word reached) × (r.1 ≡ word.body)
+    × (r.2 ≡ word.colon)
     × (late (required_behind required (ended_by l word reached)) (ended_by l word reached).reached
     ≡ None)
 Finishes l word reached required (Err e) = (start : yaml_mark_t)
@@ -103,7 +111,8 @@ Stops e (Fails p) = Tells e p
 Stops e Ends = ⊥
 
 -- what reading the lexeme answers
-abbrev pub GivesLexeme : SpelledText → Result (Lexeme × yaml_token_body_t) ScanError → Next → Type 0
+abbrev pub GivesLexeme : SpelledText → Result (Lexeme × yaml_token_body_t × Bool) ScanError → Next
+    → Type 0
 GivesLexeme s (Ok r) (Read l) = (r.0 ≡ l) × (body_of r.1 ≡ body_in s l)
 GivesLexeme s (Ok r) _ = ⊥
 GivesLexeme s (Err e) x = Stops e x
@@ -129,7 +138,7 @@ opens_for k depth column levels = if is_start k && not (nat_lt 0 depth)
 abbrev pub IsColumnAt : List Waiting → ℕ → Option ℕ → ℕ → Type 0
 IsColumnAt ws own None column = column ≡ own + 1
 IsColumnAt ws own (Some i) column = (w : Waiting)
-    → column ≡ (slice_index_or ws i w).start.column + 1
+    → column ≡ (slice_index_or ws i w).token.start_mark.column + 1
 
 abbrev pub IsColumn : List Waiting → Lexeme → Option ℕ → ℕ → Type 0
 IsColumn ws l key column = IsColumnAt ws l.start.column key column

@@ -41,7 +41,7 @@ settles setting bytes tokens n = nat_lt (open_count setting bytes n) (length tok
 
 -- how many lexemes are read until they are settled, where some are read before they are needed
 abbrev pub most_ahead : ℕ
-most_ahead = 8
+most_ahead = 16
 
 -- Whatever follows n lexemes of a text: of every text that has these too, which carry the same, the first tokens are those
 -- that they settle.

@@ -103,7 +103,7 @@ stream_of m = record { encoding = m.encoding; text = text_bytes m.text }
 -- A candidate is the lexeme that waits at a place, by its number and where it starts.
 pub record WaitsAt (m : Machine) (i : ℕ) (c : Candidate) : Type 0 where
   pub number : c.number ≡ m.dropped + i
-  pub start : (w : Waiting) → (slice_index_or m.waiting.items i w).start ≡ c.lexeme.start
+  pub start : (w : Waiting) → (slice_index_or m.waiting.items i w).token.start_mark ≡ c.lexeme.start
 
 -- where a candidate waits
 abbrev pub Picks : Machine → Option Candidate → Option ℕ → Type 0

@@ -13,7 +13,8 @@ use Rattle.yaml_scan_queue.specs.declared.waiting.Waiting.{Waiting}
 use Rattle.yaml_scan_machine.specs.declared.next.Read.{Read}
 use Rattle.yaml_scan_history.specs.declared.kind.Kind.{Kind}
 use Rattle.yaml_scan_history.specs.Kinds.{is_end}
-use Rattle.yaml_scan_history.specs.History.{left_by, most_waiting, most_slots}
+use Rattle.yaml_scan_history.specs.History.{indent, left_by, most_waiting, most_slots}
+use Rattle.yaml_scan_machine.specs.Given.{IsColon}
 use Rattle.yaml_scan_machine.specs.Shows.{IsShown, fields_of}
 use Rattle.yaml_scan_machine.specs.Taken.{IsGiven}
 use Rattle.yaml_scan_machine.specs.Candidates.{IsDue, IsFirst}
@@ -32,7 +33,7 @@ IsNarrow n levels = (k : ℕ) → slice_index levels k ≤ n
 -- no lexeme that waits stands further right than the text is long
 abbrev pub AreInside : ℕ → List Waiting → Type 0
 AreInside n ws = (k : ℕ) → (w : Waiting) → k < length ws
-    → (slice_index_or ws k w).start.column ≤ n
+    → (slice_index_or ws k w).token.start_mark.column ≤ n
 
 -- Where none is read ahead, at most 1,025 lexemes wait, in a row of at most 2,049 slots.
 abbrev pub IsShort : ℕ → Line → Type 0
@@ -86,8 +87,12 @@ pub record IsNext (m : Machine) (r : Read) : Type 0 where
   pub column : r.lexeme.start.column ≤ length (text_bytes m.text)
   pub depth : r.lexeme.depth ≡ m.depth
   pub key : IfSome r.key (λ i. i < length m.waiting.items)
+  pub level : r.lexeme.level ≡ indent (left_by r.lexeme.kind r.lexeme.depth r.lexeme.start.column
+      m.levels)
   pub left : Leaves r.lexeme.kind r.lexeme.depth r.lexeme.start.column m.levels r.left
   pub place : is_end r.lexeme.kind ≡ false → IsPlace (text_bytes m.text) r.lexeme.reached
+  pub colon : is_end r.lexeme.kind ≡ false → r.colon ≡ true
+      → IsColon (nat_lt 0 r.lexeme.depth) (text_bytes m.text) r.lexeme.reached.index
 
 -- Lexemes more wait; one, where none is read ahead.
 pub record ReadsMore (old new : Machine) : Type 0 where
@@ -96,6 +101,7 @@ pub record ReadsMore (old new : Machine) : Type 0 where
   pub given : new.given ≡ old.given
   pub ahead : new.ahead ≡ old.ahead
   pub enough : new.enough ≤ old.enough
+  pub end : new.ended ≡ true → new.enough ≡ 0
   pub encoding : new.encoding ≡ old.encoding
   pub started : new.started ≡ old.started
   pub setting : new.setting ≡ old.setting

@@ -88,8 +88,6 @@ fn effect_of(kind: Kind) -> Effect
 
 impl Key {
     /// Whether there is one that isn't stale at that place.
-    // Inlined: some comparisons, asked for each lexeme.
-    #[inline(always)]
     fn is_fresh(&self, place: yaml_mark_t) -> bool
         ensures { result ≡ (self.now.possible && history.is_fresh self.now.start place) }
     {
@@ -97,8 +95,6 @@ impl Key {
     }
 
     /// Its number, unless it is none, or stale at that place.
-    // Inlined: some comparisons, asked for each lexeme.
-    #[inline(always)]
     pub(crate) fn found(&self, place: yaml_mark_t) -> Option<usize>
         ensures { result ≡ number_in (fresh_key self.now place) }
     {
@@ -122,8 +118,6 @@ impl Key {
     }
 
     /// Its start, where its `:` must come.
-    // Inlined: mostly a comparison, asked for each lexeme.
-    #[inline(always)]
     fn must_come(&self) -> Option<yaml_mark_t>
         ensures { result ≡ required_view (key_view self.now) }
     {
@@ -136,8 +130,6 @@ impl Key {
 
 impl Earliest {
     /// Whether it isn't stale at that place, as far as it is known.
-    // Inlined: two comparisons, asked for each lexeme.
-    #[inline(always)]
     fn lasts(&self, place: yaml_mark_t) -> bool
         ensures end { result ≡ true → place.index < self.now.end }
         ensures line { result ≡ true → place.line ≤ self.now.line }
@@ -181,8 +173,6 @@ impl Keys {
     }
 
     /// The start of the candidate outside all brackets, of which so many are open, where its `:` must come.
-    // Inlined: mostly a comparison, asked for each lexeme.
-    #[inline(always)]
     pub(crate) fn must_come(&self, depth: usize) -> Option<yaml_mark_t>
         requires deep { depth ≡ self.now.gone + length self.now.outer.items }
         requires due { IsDue self.now }
@@ -193,35 +183,20 @@ impl Keys {
         }
         if self.due {
             if self.gone == 0 {
-                return self.outermost();
+                return self.outer[0].must_come();
             }
         }
         None
     }
 
-    /// The start of the outermost candidate that is kept, where its `:` must come.
-    // Inlined: mostly a look at two bytes.
+    /// Whether the candidate outside all brackets may be one whose `:` must come.
+    // Inlined: two loads, for each lexeme. Of a candidate that is given up, and of none outside, both are cleared, so that it is rare.
     #[inline(always)]
-    fn outermost(&self) -> Option<yaml_mark_t>
-        requires { 0 < length self.now.outer.items }
-        ensures { result ≡ required_view (key_view (key_at (stack_of self.now) 0)) }
+    pub(crate) fn is_due(&self) -> bool
+        requires { IsDue self.now }
+        ensures { result ≡ false → required_at (stack_of self.now) ≡ None }
     {
-        if self.outer[0].required && self.outer[0].possible {
-            return self.outermost_start();
-        }
-        None
-    }
-
-    /// The same, where it must.
-    // Out of line and cold: it is rare. In line the places of both starts would be put aside for each token, and each start be
-    // read by them.
-    #[cold]
-    #[inline(never)]
-    fn outermost_start(&self) -> Option<yaml_mark_t>
-        requires { 0 < length self.now.outer.items }
-        ensures { result ≡ required_view (key_view (key_at (stack_of self.now) 0)) }
-    {
-        self.outer[0].must_come()
+        self.innermost.required | self.due
     }
 
     /// The number of the earliest candidate that isn't stale at that place, if there is one. Each that is passed is passed
@@ -333,8 +308,6 @@ impl Keys {
     }
 
     /// A lexeme cancels its depth's candidate.
-    // Inlined: a store.
-    #[inline(always)]
     fn cancel(&mut self, lexeme: Lexeme, number: usize)
         requires saved { lexeme.saved ≡ false }
         requires cancels { cancels lexeme.kind ≡ true }
@@ -346,8 +319,6 @@ impl Keys {
     }
 
     /// The innermost depth has no candidate any more, and so none whose `:` must come, which a bracket that opens asks.
-    // Inlined: two stores.
-    #[inline(always)]
     pub(crate) fn give_up(&mut self)
         ensures same { self.new ≡ record self.old {
           innermost = record self.old.innermost { possible = false; required = false };
@@ -376,15 +347,13 @@ impl Keys {
         self.save(lexeme, number);
         self.outer.reserve(1)?;
         self.outer.push_reserved(key_again(&self.innermost));
-        self.innermost.possible = false;
         self.tell_due();
+        self.give_up();
         Ok(())
     }
 
     /// Of a bracket outside of which none is open, whose key was that of the depth that is open now, tells whether that key's `:` must
     /// come.
-    // Inlined: a comparison and a store.
-    #[inline(always)]
     fn tell_due(&mut self)
         ensures same { self.new ≡ record self.old { due = self.new.due } }
         ensures one { length self.old.outer.items ≡ 1
@@ -398,8 +367,6 @@ impl Keys {
 
     /// Forgets the outermost candidates that are none, or stale, where they are many: of the others there are few, so each
     /// move of one is paid for by some that are forgotten.
-    // Inlined: a comparison.
-    #[inline(always)]
     fn spare(&mut self)
         requires inside { self.old.stale ≤ length self.old.outer.items }
         requires room { self.old.gone + length self.old.outer.items < 2 ^ 64 }
@@ -431,14 +398,16 @@ impl Keys {
         self.stale = 0;
     }
 
-    /// Of fewer keys no more are stale, and where all are, no first one is known.
+    /// Of fewer keys no more are stale, and where all are, no first one is known; where there are none, no `:` must come.
     // Inlined: a comparison.
     #[inline(always)]
     fn clip(&mut self)
         ensures same { self.new ≡ record self.old {
           stale = self.new.stale;
           first = self.new.first;
+          due = self.new.due;
         } }
+        ensures due { 0 < length self.old.outer.items → self.new.due ≡ self.old.due }
         ensures lesser { self.new.stale ≤ self.old.stale }
         ensures inside { self.new.stale ≤ length self.new.outer.items }
         ensures first { (self.new ≡ self.old × self.old.stale < length self.old.outer.items)
@@ -447,6 +416,7 @@ impl Keys {
         if self.outer.len() <= self.stale {
             self.stale = self.outer.len();
             self.first.end = 0;
+            self.due = self.due & (0 < self.stale);
         }
     }
 
@@ -475,8 +445,6 @@ impl Keys {
 
 /// Puts the key that a lexeme may become to a place, field by field: of one that is moved whole the gaps between the fields
 /// are set too.
-// Inlined: some stores.
-#[inline(always)]
 fn put_key(key: &mut Key, number: usize, lexeme: Lexeme)
     ensures { key.new ≡ record {
       number = number;
@@ -492,8 +460,6 @@ fn put_key(key: &mut Key, number: usize, lexeme: Lexeme)
 }
 
 /// A key once more, number by number: the place of one that is copied whole is put aside for each token.
-// Inlined: some loads.
-#[inline(always)]
 fn key_again(key: &Key) -> Key
     ensures { result ≡ key.now }
 {
@@ -506,8 +472,6 @@ fn key_again(key: &Key) -> Key
 }
 
 /// Puts a key to a place, number by number.
-// Inlined: some stores.
-#[inline(always)]
 fn put_again(to: &mut Key, key: &Key)
     ensures { to.new ≡ key.now }
 {

@@ -1,6 +1,6 @@
 //! The open block levels.
 
-ghost use Rattle.std.specs.Prelude.{◌≡◌, ◌+◌, ◌-◌, ◌≤◌, ◌<◌, ◌^◌, [], OnOk, IfOk, true, nat_lt, length, take};
+ghost use Rattle.std.specs.Prelude.{◌≡◌, ◌+◌, ◌-◌, ◌≤◌, ◌<◌, ◌^◌, [], OnOk, true, length, take};
 ghost use Rattle.yaml_scan_history.specs.History.{indent, keeps, opened};
 
 use std::alloc::{AllocError, Global};
@@ -78,18 +78,13 @@ impl Levels {
         open - n
     }
 
-    /// Opens a level where the column passes the indent, and answers whether it does.
-    // Inlined: mostly a comparison.
-    #[inline(always)]
-    pub(crate) fn open(&mut self, column: u64) -> Result<bool, AllocError>
-        ensures levels { OnOk result (self.new ≡ opened true column self.old) }
-        ensures opens { IfOk result (λ b. b ≡ nat_lt (indent self.old) column) }
+    /// Opens a level right of the innermost one.
+    pub(crate) fn open(&mut self, column: u64) -> Result<(), AllocError>
+        requires { indent self.old < column }
+        ensures { OnOk result (self.new ≡ opened true column self.old) }
     {
-        if column <= self.indent() {
-            return Ok(false);
-        }
         self.columns.push(column)?;
-        Ok(true)
+        Ok(())
     }
 }
 

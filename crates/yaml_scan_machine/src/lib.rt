@@ -18,4 +18,4 @@ pub use keys::{Effect, Key, Keys};
 pub use levels::Levels;
 pub use machine::{Machine, READ_AHEAD};
 pub use next::{LexemeSpot, Read};
-pub use reading::{Sought, next_into, put_empty, put_over, put_shown};
+pub use reading::{Sought, next_into, put_empty, put_over, put_shown, read_on};

@@ -4,6 +4,7 @@ ghost use Rattle.std.specs.Prelude.{◌≡◌, ◌+◌, ◌-◌, ◌<◌, ◌≤
 ghost use Rattle.yaml_scan_decode.specs.DecodedText.{text_bytes};
 ghost use Rattle.yaml_scan_history.specs.Kinds as kinds;
 ghost use Rattle.yaml_scan_model.specs.Faults.{fault_of};
+ghost use Rattle.yaml_scan_model.specs.Tokens.{body_of, stream_end};
 ghost use Rattle.yaml_scan_machine.specs.Left.{IsLocated};
 ghost use Rattle.yaml_scan_history.specs.History as history;
 
@@ -13,14 +14,14 @@ use std::alloc::{AllocError, Global};
 use yaml_scan_decode::{stream_encoding, yaml_decode, yaml_text_t};
 use yaml_scan_history::{Kind, Lexeme, Opens};
 use yaml_scan_model::{
-    ScanError, Spares, yaml_encoding_t, yaml_fault_t, yaml_mark_t, yaml_memory_fault,
-    yaml_origin_t, yaml_token_body_t, yaml_token_t,
+    ScanError, yaml_encoding_t, yaml_fault_t, yaml_mark_t, yaml_memory_fault, yaml_origin_t,
+    yaml_token_body_t, yaml_token_t,
 };
 use yaml_scan_queue::Queue;
-use yaml_scan_slot::TokenSlot;
+use yaml_scan_slot::{Taking, TokenSlot, TokenTaker};
 
 /// How many lexemes are read until they are settled, where some are read before they are needed.
-pub const READ_AHEAD: usize = 8;
+pub const READ_AHEAD: usize = 16;
 
 /// Behind a text of more bytes no lexeme is read before it is needed, so that few such texts wait.
 const LONG_TEXT: usize = 4096;
@@ -73,7 +74,7 @@ impl<'a> Machine<'a> {
     ghost use Rattle.yaml_scan_history.specs.Remaining.{offline};
     ghost use Rattle.yaml_scan_laws_order.specs.Fronts.{GivesFirst};
     ghost use Rattle.yaml_scan_model.specs.Tokens.{token_of};
-    ghost use Rattle.yaml_scan_slot.specs.Slots.{token_in_slot};
+    ghost use Rattle.yaml_scan_machine.specs.Handed.{GivesTo, TellsNext};
 
     /// The state before the first lexeme of an input, of which so many lexemes are read until they are settled; or, with 0, none
     /// before it is needed.
@@ -186,8 +187,6 @@ impl<'a> Machine<'a> {
     }
 
     /// Whether no lexeme was read yet.
-    // Inlined: an addition and a comparison.
-    #[inline(always)]
     pub(crate) fn is_new(&self) -> bool
         requires { IsMachine self.now }
         ensures none { result ≡ true → self.now.dropped + length self.now.waiting.items ≡ 0 }
@@ -214,8 +213,6 @@ impl<'a> Machine<'a> {
     }
 
     /// Whether the next token is known, whatever follows, where a lexeme waits.
-    // Inlined: two comparisons.
-    #[inline(always)]
     pub(crate) fn has_token_waiting(&self) -> bool
         requires { 0 < length self.now.waiting.items }
         ensures { result ≡ is_ready self.now }
@@ -224,7 +221,7 @@ impl<'a> Machine<'a> {
     }
 
     /// Takes the next token: it is the first one that was to come, and the rest is left.
-    pub fn take_token(&mut self, spares: &mut Spares) -> yaml_token_t
+    pub fn take_token(&mut self) -> yaml_token_t
         requires stands { IsMachine self.old }
         requires ready { is_ready self.old ≡ true }
         ensures stands { IsMachine self.new }
@@ -232,26 +229,40 @@ impl<'a> Machine<'a> {
         ensures keeps { KeepsInput self.old self.new }
     {
         let mut token = TokenSlot::empty(self.alloc);
-        self.take_token_into(&mut token, spares);
+        let mut fault = yaml_memory_fault(yaml_origin_t::Scanner);
+        self.give(&mut Taking {}, &mut token, &mut fault);
         token.take()
     }
 
-    /// Takes the next token, in a slot that is lent.
+    /// Has a taker take the next token.
     // Inlined: it is a part of the way of each token.
     #[inline(always)]
-    pub(crate) fn take_token_into(&mut self, slot: &mut TokenSlot, spares: &mut Spares)
+    pub fn give<T: TokenTaker>(
+        &mut self,
+        taker: &mut T,
+        slot: &mut T::Slot,
+        fault: &mut yaml_fault_t,
+    ) -> T::Answer
         requires stands { IsMachine self.old }
         requires ready { is_ready self.old ≡ true }
         ensures stands { IsMachine self.new }
-        ensures gives { GivesFirst (left_in self.old) (token_in_slot slot.new) (left_in self.new) }
+        ensures gives { GivesTo (λ t. T.takes taker.old slot.old t taker.new slot.new
+            (fault_of fault.new) result) (left_in self.old) (left_in self.new) }
         ensures keeps { KeepsInput self.old self.new }
     {
-        if self.waiting.pop_token(self.given, slot, spares) {
-            self.dropped += 1;
-            self.given = 0;
-        } else {
-            self.given += 1;
-        }
+        self.waiting
+            .give(&mut self.given, &mut self.dropped, taker, slot, fault)
+    }
+
+    /// The next token, if it is a tag or a directive that declares one.
+    // Inlined: mostly a look at the kind.
+    #[inline(always)]
+    pub fn next_tag(&self) -> Option<&TokenSlot>
+        requires stands { IsMachine self.now }
+        requires ready { is_ready self.now ≡ true }
+        ensures { TellsNext (left_in self.now) result }
+    {
+        self.waiting.next_tag(self.given)
     }
 
     /// Tells the candidate of which a `:` makes a key that it is one, and what it opens.
@@ -274,8 +285,9 @@ impl<'a> Machine<'a> {
     /// How many of so many lexemes no later one changes: those before the earliest open candidate, or all behind the end.
     // Inlined: the kind is known where it is called.
     #[inline(always)]
-    pub(crate) fn settle(&mut self, count: usize) -> usize
-        requires { IsCounted self.old count }
+    pub(crate) fn settle(&mut self, count: usize, ended: bool) -> usize
+        requires counted { IsCounted self.old count }
+        requires ended { ended ≡ self.old.ended }
         ensures same { self.new ≡ record self.old { keys = self.new.keys } }
         ensures keys { AreKeys (stack_of self.new.keys) (history_of self.old) self.old.place }
         ensures first { IsFirst self.new.keys }
@@ -283,7 +295,7 @@ impl<'a> Machine<'a> {
         ensures value { result ≡ (if self.old.ended then length (history_of self.old)
             else history.first_open (history_of self.old) (history_of self.old)) }
     {
-        if self.ended {
+        if ended {
             return count;
         }
         match self.keys.earliest(self.place) {
@@ -323,7 +335,7 @@ impl<'a> Machine<'a> {
         ensures narrow { result ≤ length (text_bytes self.now.text) + 1 }
     {
         match key {
-            Some(i) => self.waiting.index(i).start.column + 1,
+            Some(i) => self.waiting.index(i).token.start_mark.column + 1,
             None => own + 1,
         }
     }
@@ -332,6 +344,7 @@ impl<'a> Machine<'a> {
     // Inlined: the kind is known where it is called.
     #[inline(always)]
     pub(crate) fn open_level(&mut self, lexeme: Lexeme, column: u64) -> Result<Opens, AllocError>
+        requires { lexeme.level ≡ history.indent self.old.levels }
         ensures same { OnOk result (self.new ≡ record self.old { levels = self.new.levels }) }
         ensures waiting { self.new.waiting ≡ self.old.waiting }
         ensures ahead { self.new.ahead ≡ self.old.ahead }
@@ -343,18 +356,20 @@ impl<'a> Machine<'a> {
         if 0 < lexeme.depth || !lexeme.kind.is_start() {
             return Ok(Opens::Nothing);
         }
-        if !self.levels.open(column)? {
+        if column <= lexeme.level {
             return Ok(Opens::Nothing);
         }
+        self.levels.open(column)?;
         Ok(level_of(lexeme.kind))
     }
 
-    /// Has no lexeme read before it is needed behind a long text.
+    /// Has no lexeme read before it is needed behind a long text, and none behind the stream's end.
     // Inlined: the kind is known where it is called, and of a text it is a comparison.
     #[inline(always)]
     pub(crate) fn pause_behind(&mut self, body: &yaml_token_body_t)
         ensures same { self.new ≡ record self.old { enough = self.new.enough } }
         ensures lesser { self.new.enough ≤ self.old.enough }
+        ensures end { body_of body.now ≡ stream_end → self.new.enough ≡ 0 }
     {
         if is_long(body) {
             self.enough = 0;
@@ -362,8 +377,6 @@ impl<'a> Machine<'a> {
     }
 
     /// How many lexemes were read.
-    // Inlined: two additions.
-    #[inline(always)]
     pub(crate) fn count(&self) -> usize
         requires few { self.now.dropped + length self.now.waiting.items < 2 ^ 64 - 1 }
         ensures { result ≡ self.now.dropped + length self.now.waiting.items }
@@ -372,12 +385,15 @@ impl<'a> Machine<'a> {
     }
 }
 
-/// Whether a token carries a long text.
+/// Whether a token carries a long text, or is the stream's end.
 // Inlined: its kind is known where it is called.
 #[inline(always)]
-fn is_long(body: &yaml_token_body_t) -> bool {
+fn is_long(body: &yaml_token_body_t) -> bool
+    ensures { body_of body.now ≡ stream_end → result ≡ true }
+{
     match body {
         yaml_token_body_t::Scalar { value, .. } => LONG_TEXT < value.len(),
+        yaml_token_body_t::StreamEnd => true,
         _ => false,
     }
 }
@@ -388,16 +404,9 @@ fn is_long(body: &yaml_token_body_t) -> bool {
 pub(crate) fn put_fault(slot: &mut yaml_fault_t, error: ScanError)
     ensures { IsLocated error (fault_of slot.new) }
 {
-    *slot = located(error);
-}
-
-/// The fault that a refusal is answered as.
-fn located(error: ScanError) -> yaml_fault_t
-    ensures { IsLocated error (fault_of result) }
-{
     match error {
-        ScanError::Memory => yaml_memory_fault(yaml_origin_t::Scanner),
-        ScanError::Fault(fault) => fault.located(),
+        ScanError::Memory => *slot = yaml_memory_fault(yaml_origin_t::Scanner),
+        ScanError::Fault(fault) => *slot = fault.located(),
     }
 }
 
@@ -412,8 +421,6 @@ fn level_of(kind: Kind) -> Opens
 }
 
 /// What a lexeme opens before itself: what a `:` opens for its key stands before that key.
-// Inlined: the kind is known where it is called.
-#[inline(always)]
 pub(crate) fn opens_here(opens: Opens, found: bool) -> Opens
     ensures { result ≡ (if found then Opens.Nothing else opens) }
 {

@@ -33,6 +33,8 @@ pub struct Read {
     pub key: Option<usize>,
     /// How many block levels it leaves open.
     pub left: usize,
+    /// It is known that a `:` that is a lexeme of its own stands directly behind it.
+    pub colon: bool,
 }
 
 /// The place where a lexeme stands, behind the gap, and what is known there before its kind is.
@@ -41,8 +43,8 @@ pub struct LexemeSpot {
     pub mark: yaml_mark_t,
     /// A key may begin there.
     pub allowed: bool,
-    /// A required candidate is open in front of it.
-    pub required: bool,
+    /// A required candidate may be open in front of it.
+    pub due: bool,
 }
 
 /// The place where a lexeme stands, behind the gap.
@@ -59,7 +61,7 @@ impl<'a> Machine<'a> {
     ghost use Rattle.yaml_scan_machine.specs.Shows.{history_of, stream_of, Picks};
     ghost use Rattle.yaml_scan_machine.specs.Comes.{Refused};
     ghost use Rattle.yaml_scan_machine.specs.Stood.{StandsAsNext};
-    ghost use Rattle.yaml_scan_machine.specs.Reads.{GivesNext, GivesLexeme, EndsAt, keyed_by, required_in};
+    ghost use Rattle.yaml_scan_machine.specs.Reads.{GivesNext, GivesLexeme, EndsAt, IsFollowed, keyed_by, required_in};
 
     /// The lexeme that comes first.
     pub(crate) fn first(&self) -> Read
@@ -88,6 +90,7 @@ impl<'a> Machine<'a> {
         requires stand { StandsAsNext self.now (R.reads reading.now) spot }
         requires required { required ≡ required_in (fresh (candidate 0 (history_of self.now))
             (reached (history_of self.now))) }
+        requires early { late required spot.mark ≡ None }
         ensures safe { IfOk result (λ r. IsNext self.now r) }
         ensures exact { GivesNext self.now result
             (spec.next (text_bytes self.now.text) (history_of self.now)) }
@@ -140,11 +143,12 @@ impl<'a> Machine<'a> {
             return Err(no_colon(start, lexeme.start));
         }
         match self.read(reading, reader, lexeme, required, spares) {
-            Ok((lexeme, body)) => Ok(Read {
+            Ok((lexeme, body, colon)) => Ok(Read {
                 lexeme,
                 body,
                 key,
                 left,
+                colon,
             }),
             Err(error) => Err(error),
         }
@@ -160,7 +164,7 @@ impl<'a> Machine<'a> {
         lexeme: Lexeme,
         required: Option<yaml_mark_t>,
         spares: &mut Spares,
-    ) -> Result<(Lexeme, yaml_token_body_t), ScanError>
+    ) -> Result<(Lexeme, yaml_token_body_t, bool), ScanError>
         requires same { lexeme.kind ≡ R.reads reading.now }
         requires text { reader.old.text ≡ text_bytes self.now.text }
         requires index { lexeme.start.index ≡ reader.old.at }
@@ -172,6 +176,7 @@ impl<'a> Machine<'a> {
         requires required { required ≡ required_in (fresh (candidate 0 (history_of self.now))
             (reached (history_of self.now))) }
         ensures safe { IfOk result (λ r. EndsAt (text_bytes self.now.text) lexeme r.0) }
+        ensures colon { IfOk result (λ r. IsFollowed (text_bytes self.now.text) r.0 r.2) }
         ensures exact { GivesLexeme (stream_of self.now) result
             (steps.unless_wrong (word_at lexeme.kind (nat_lt 0 lexeme.depth) lexeme.level
             (text_bytes self.now.text) lexeme.start.index) (text_bytes self.now.text) lexeme
@@ -243,8 +248,6 @@ impl<'a> Machine<'a> {
     }
 
     /// The innermost level that a lexeme at a column stands in, or 0.
-    // Inlined: the kind is known where it is called.
-    #[inline(always)]
     fn level_at(&self, kind: Kind, column: u64, left: usize) -> u64
         requires stands { IsMachine self.now }
         requires left { Leaves kind self.now.depth column self.now.levels left }
@@ -276,30 +279,13 @@ impl<'a> Machine<'a> {
     }
 
     /// The start of the required candidate that is open.
-    // Inlined: mostly a comparison, asked for each lexeme.
-    #[inline(always)]
+    // Out of line: it is asked where there may be one.
     pub(crate) fn required(&self) -> Option<yaml_mark_t>
         requires { IsMachine self.now }
         ensures { result ≡ required_in (fresh (candidate 0 (history_of self.now))
             (reached (history_of self.now))) }
     {
         self.keys.must_come(self.depth)
-    }
-
-    /// The start of the required candidate that is open, where it is known whether one is.
-    // Inlined: where none is, the way of a kind asks nothing.
-    #[inline(always)]
-    pub(crate) fn required_where(&self, waits: bool) -> Option<yaml_mark_t>
-        requires stands { IsMachine self.now }
-        requires told { is_some (required_in (fresh (candidate 0 (history_of self.now))
-            (reached (history_of self.now)))) ≡ waits }
-        ensures { result ≡ required_in (fresh (candidate 0 (history_of self.now))
-            (reached (history_of self.now))) }
-    {
-        if waits {
-            return self.required();
-        }
-        None
     }
 }
 
@@ -313,6 +299,7 @@ fn stream_start(place: yaml_mark_t, encoding: yaml_encoding_t) -> Read
     ensures body { body_of result.body ≡ tokens.stream_start encoding }
     ensures key { result.key ≡ None }
     ensures left { result.left ≡ 0 }
+    ensures colon { result.colon ≡ false }
 {
     Read {
         lexeme: Lexeme {
@@ -329,6 +316,7 @@ fn stream_start(place: yaml_mark_t, encoding: yaml_encoding_t) -> Read
         body: yaml_token_body_t::StreamStart { encoding },
         key: None,
         left: 0,
+        colon: false,
     }
 }
 
@@ -380,8 +368,6 @@ fn required_by(required: Option<yaml_mark_t>, lexeme: Lexeme) -> Option<yaml_mar
 }
 
 /// Whether a lexeme leaves the candidate outside all brackets.
-// Inlined: the kind is known where it is called.
-#[inline(always)]
 fn stands_beside(lexeme: Lexeme) -> bool
     ensures { result ≡ (nat_lt 0 lexeme.depth
         || (not lexeme.saved && not (kinds.cancels lexeme.kind))) }
@@ -397,14 +383,14 @@ fn finish(
     word: Word,
     reached: yaml_mark_t,
     required: Option<yaml_mark_t>,
-) -> Result<(Lexeme, yaml_token_body_t), ScanError>
+) -> Result<(Lexeme, yaml_token_body_t, bool), ScanError>
     ensures { Finishes lexeme word reached required result }
 {
     let lexeme = ended_at(lexeme, &word, reached);
     if let Some(start) = late(still_required(required, lexeme), lexeme.reached) {
         return Err(no_colon(start, lexeme.reached));
     }
-    Ok((lexeme, word.body))
+    Ok((lexeme, word.body, word.colon))
 }
 
 /// The start of a required candidate, where it is stale at a place.

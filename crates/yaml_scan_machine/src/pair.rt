@@ -1,10 +1,10 @@
 //! A key and the `:` that stands directly behind it, read in one go.
 
-ghost use Rattle.std.specs.Prelude.{◌≡◌, ◌+◌, ◌<◌, ◌||◌, nat_lt, OnOk, OnErr, is_some, true, false, length, ℕ};
+ghost use Rattle.std.specs.Prelude.{◌≡◌, ◌+◌, ◌<◌, ◌||◌, OnOk, OnErr, is_some, true, false, ℕ};
 ghost use Rattle.yaml_scan_decode.specs.DecodedText.{text_bytes};
 ghost use Rattle.yaml_scan_model.specs.Ascii as ascii;
 ghost use Rattle.yaml_scan_model.specs.Faults.{fault_of};
-ghost use Rattle.yaml_scan_model.specs.Marks.{byte, is_blank_or_end, mark_at};
+ghost use Rattle.yaml_scan_model.specs.Marks.{byte, mark_at};
 ghost use Rattle.yaml_scan_history.specs.Kinds.{depth_after, is_end};
 ghost use Rattle.yaml_scan_history.specs.declared.kind.Kind.TheVariants as kinds;
 
@@ -22,7 +22,7 @@ impl<'a> Machine<'a> {
     ghost use Rattle.yaml_scan_machine.specs.Stood.{ComesNext, MayReadAt, Steps};
     ghost use Rattle.yaml_scan_machine.specs.Keyed.{IsKeyed};
     ghost use Rattle.yaml_scan_machine.specs.Shows.{history_of};
-    ghost use Rattle.yaml_scan_machine.specs.Reads.{required_in};
+    ghost use Rattle.yaml_scan_machine.specs.Reads.{IsFollowed, required_in};
     ghost use Rattle.yaml_scan_history.specs.History.{candidate, fresh, reached};
 
     /// Reads the lexeme of that kind, which stands there, as `step_at` does, and with it a `:` that stands directly behind it and makes
@@ -42,9 +42,8 @@ impl<'a> Machine<'a> {
         if self.may_refuse(kind, *spot) {
             return self.of_rare(kind, spot, spares, fault);
         }
-        let required = self.required_where(spot.required);
-        match self.next(reading, *spot, required, spares) {
-            Ok(read) => match self.push_read(read, required.is_some()) {
+        match self.next(reading, *spot, None, spares) {
+            Ok(read) => match self.push_read(read, spares) {
                 Ok(()) => true,
                 Err(_) => {
                     put_memory(fault);
@@ -61,89 +60,40 @@ impl<'a> Machine<'a> {
     /// Puts a lexeme that was read behind those that wait, and with it the `:` behind it that makes a key of it.
     // Inlined: its kind is known where it is called.
     #[inline(always)]
-    fn push_read(&mut self, read: Read, required: bool) -> Result<(), AllocError>
+    fn push_read(&mut self, read: Read, spares: &mut Spares) -> Result<(), AllocError>
         requires stands { IsMachine self.old }
         requires started { self.old.started ≡ true }
         requires wants { WantsMore self.old }
         requires more { self.old.ended ≡ false }
         requires next { ComesNext self.old read }
-        requires required { is_some (required_in (fresh (candidate 0 (history_of self.old))
-            (reached (history_of self.old)))) ≡ required }
+        requires none { is_some (required_in (fresh (candidate 0 (history_of self.old))
+            (reached (history_of self.old)))) ≡ false }
         ensures ok { OnOk result (IsMachine self.new × ReadsMore self.old self.new) }
         ensures few { OnErr result (StaysShort self.old self.new) }
     {
-        if required || !self.is_keyed(read.lexeme) {
-            return self.push(read);
+        if !self.is_keyed(read.lexeme, read.colon) {
+            return self.push(read, spares);
         }
-        self.push_pair(read)
+        self.push_pair(read, spares)
     }
 
-    /// Whether lexemes are read ahead, and a `:` stands directly behind a lexeme that makes a key of it.
+    /// Whether lexemes are read ahead, and a lexeme is a text of which the `:` makes a key that may stand behind it.
     // Inlined: its kind is known where it is called.
     #[inline(always)]
-    fn is_keyed(&self, lexeme: Lexeme) -> bool
+    fn is_keyed(&self, lexeme: Lexeme, colon: bool) -> bool
         requires place { is_end lexeme.kind ≡ false
             → IsPlace (text_bytes self.now.text) lexeme.reached }
-        requires depth { lexeme.depth ≡ self.now.depth }
+        requires colon { IsFollowed (text_bytes self.now.text) lexeme colon }
         ensures keyed { result ≡ true → IsKeyed (text_bytes self.now.text) lexeme }
         ensures ahead { result ≡ true → 0 < self.now.ahead }
     {
-        if !lexeme.saved || !is_key_text(lexeme.kind) {
-            return false;
-        }
-        if !self.stands_at_colon(lexeme.reached) {
+        if !lexeme.saved || !is_key_text(lexeme.kind) || !colon {
             return false;
         }
         0 < self.ahead && is_fresh(lexeme.start, lexeme.reached)
     }
 
-    /// Whether a `:` stands at a place that is a lexeme of its own.
-    // Inlined: mostly a look at two bytes.
-    #[inline(always)]
-    fn stands_at_colon(&self, place: yaml_mark_t) -> bool
-        requires { IsPlace (text_bytes self.now.text) place }
-        ensures colon { result ≡ true
-            → byte (text_bytes self.now.text) place.index ≡ ascii.colon }
-        ensures alone { result ≡ true → (nat_lt 0 self.now.depth
-            || is_blank_or_end (text_bytes self.now.text) (place.index + 1)) ≡ true }
-    {
-        let reader = Reader::resume(self.text.as_slice(), place);
-        if reader.here() != b':' {
-            return false;
-        }
-        0 < self.depth || self.stands_alone(place)
-    }
-
-    /// Whether a blank, a break or the end stands behind a byte, mostly a space.
-    // Inlined: a look at that byte. A reader that is lent to a call lies in memory, so the other bytes have one of their own.
-    #[inline(always)]
-    fn stands_alone(&self, place: yaml_mark_t) -> bool
-        requires { IsPlace (text_bytes self.now.text) place }
-        ensures { result ≡ true
-            → is_blank_or_end (text_bytes self.now.text) (place.index + 1) ≡ true }
-    {
-        let reader = Reader::resume(self.text.as_slice(), place);
-        if reader.byte(1) == b' ' {
-            return true;
-        }
-        self.ends_word(place)
-    }
-
-    /// The same of any byte.
-    // Out of line and cold: mostly a space stands there.
-    #[cold]
-    #[inline(never)]
-    fn ends_word(&self, place: yaml_mark_t) -> bool
-        requires { IsPlace (text_bytes self.now.text) place }
-        ensures { result ≡ is_blank_or_end (text_bytes self.now.text) (place.index + 1) }
-    {
-        let reader = Reader::resume(self.text.as_slice(), place);
-        reader.is_blank_or_end(1)
-    }
-
     /// The place behind a `:`.
-    // Inlined: two additions.
-    #[inline(always)]
     fn behind_colon(&self, place: yaml_mark_t) -> yaml_mark_t
         requires place { IsPlace (text_bytes self.now.text) place }
         requires colon { byte (text_bytes self.now.text) place.index ≡ ascii.colon }
@@ -158,7 +108,7 @@ impl<'a> Machine<'a> {
     /// Puts a lexeme that was read and the `:` behind it, which makes a key of it, behind those that wait.
     // Inlined: its kind is known where it is called.
     #[inline(always)]
-    fn push_pair(&mut self, read: Read) -> Result<(), AllocError>
+    fn push_pair(&mut self, read: Read, spares: &mut Spares) -> Result<(), AllocError>
         requires stands { IsMachine self.old }
         requires started { self.old.started ≡ true }
         requires wants { WantsMore self.old }
@@ -176,6 +126,7 @@ impl<'a> Machine<'a> {
             body,
             key: _,
             left,
+            colon: _,
         } = read;
         let behind = self.behind_colon(lexeme.reached);
         let ends = self.close_levels(lexeme, left);
@@ -183,33 +134,33 @@ impl<'a> Machine<'a> {
         let number = self.count();
         self.keys.give_up();
         self.waiting.reserve()?;
-        self.waiting.push_back_reserved(ReadLexeme {
+        let key = ReadLexeme {
             start: lexeme.start,
             end: lexeme.end,
             ends,
             opens,
             key: true,
             body,
-        });
+        };
+        self.waiting.push_back_reserved(key, spares);
         self.waiting.reserve()?;
-        self.waiting.push_back_reserved(ReadLexeme {
+        let colon = ReadLexeme {
             start: lexeme.reached,
             end: behind,
             ends: 0,
             opens: Opens::Nothing,
             key: false,
             body: yaml_token_body_t::Value,
-        });
+        };
+        self.waiting.push_back_reserved(colon, spares);
         self.place = behind;
         self.allowed = false;
-        self.settled = self.settle(number + 2);
+        self.settled = self.settle(number + 2, false);
         Ok(())
     }
 }
 
 /// Whether a lexeme of that kind is a text that may be a key.
-// Inlined: the kind is known where it is called.
-#[inline(always)]
 fn is_key_text(kind: Kind) -> bool
     ensures depth { result ≡ true → (d : ℕ) → depth_after kind d ≡ d }
     ensures more { result ≡ true → is_end kind ≡ false }
@@ -222,8 +173,6 @@ fn is_key_text(kind: Kind) -> bool
 }
 
 /// A `:` at the depth of a lexeme.
-// Inlined: it is seen through.
-#[inline(always)]
 fn as_colon(lexeme: Lexeme) -> Lexeme
     ensures { result ≡ record lexeme { kind = kinds.ValueMark } }
 {

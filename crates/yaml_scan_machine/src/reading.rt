@@ -12,7 +12,7 @@ use crate::machine::Machine;
 use crate::next::LexemeSpot;
 use std::mem;
 use yaml_scan_model::{Spares, yaml_error_type_t, yaml_fault_t, yaml_token_t};
-use yaml_scan_slot::TokenSlot;
+use yaml_scan_slot::{Taking, TokenSlot};
 
 /// What reading on came to: the next token is known, or there is none, or a fault stands in the slot that was lent.
 #[derive(Clone, Copy)]
@@ -23,8 +23,7 @@ pub enum Sought {
 }
 
 /// Takes the next token into a slot, the empty one where none is to come; or puts the fault into the other slot.
-// Inlined: mostly the next token is known.
-#[inline(always)]
+// No hint: whoever takes many tokens has a taker take them.
 pub fn next_into(
     machine: &mut Machine,
     spares: &mut Spares,
@@ -37,7 +36,7 @@ pub fn next_into(
 {
     match read_on(machine, spares, fault) {
         Sought::Known => {
-            machine.take_token_into(token, spares);
+            machine.give(&mut Taking {}, token, fault);
             Sought::Known
         }
         Sought::Nothing => {
@@ -81,7 +80,7 @@ pub fn put_shown(slot: &mut TokenSlot, shown: &mut yaml_token_t)
 // That no lexeme was taken is asked here, and not for each lexeme; a text of which one was is decoded.
 // Inlined: mostly the next token is known.
 #[inline(always)]
-fn read_on(machine: &mut Machine, spares: &mut Spares, fault: &mut yaml_fault_t) -> Sought
+pub fn read_on(machine: &mut Machine, spares: &mut Spares, fault: &mut yaml_fault_t) -> Sought
     requires { IsMachine machine.old }
     ensures { ReadsOn machine.old machine.new (fault_of fault.new) result }
 {
@@ -129,7 +128,7 @@ fn fill_first(machine: &mut Machine, spares: &mut Spares, fault: &mut yaml_fault
     if machine.ended {
         return Sought::Nothing;
     }
-    if !machine.begin(fault) {
+    if !machine.begin(spares, fault) {
         return Sought::Refused;
     }
     if machine.has_token() {
@@ -149,16 +148,13 @@ fn fill_further(machine: &mut Machine, spares: &mut Spares, fault: &mut yaml_fau
     requires some { 0 < machine.old.dropped + length machine.old.waiting.items }
     ensures { ReadsOn machine.old machine.new (fault_of fault.new) result }
 {
+    if machine.ended {
+        return Sought::Nothing;
+    }
     let mut spot = LexemeSpot::blank();
     machine.enough = machine.dropped + machine.ahead;
     machine.waiting.rewind();
     'steps: loop {
-        if machine.ended {
-            if machine.has_token() {
-                return Sought::Known;
-            }
-            return Sought::Nothing;
-        }
         if !read_one_more(machine, &mut spot, spares, fault) {
             return refused(machine, fault);
         }

@@ -1,6 +1,8 @@
 //! How the lexemes of each kind are read.
 
+ghost use Rattle.std.specs.Prelude.{◌≡◌, true};
 ghost use Rattle.yaml_scan_history.specs.declared.kind.Kind.TheVariants as kinds;
+ghost use Rattle.yaml_scan_machine.specs.Given.{IsColon};
 
 use crate::word::{Reading, Scope, Word, carrier};
 use yaml_scan_history::Kind;
@@ -15,8 +17,6 @@ pub(crate) struct AliasReading;
 impl Reading for AliasReading {
     ghost reads = { λ r. kinds.Alias };
 
-    // Inlined: it is called in the way of its kind.
-    #[inline(always)]
     fn kind(&self) -> Kind {
         Kind::Alias
     }
@@ -37,8 +37,6 @@ pub(crate) struct AnchorReading;
 impl Reading for AnchorReading {
     ghost reads = { λ r. kinds.Anchor };
 
-    // Inlined: it is called in the way of its kind.
-    #[inline(always)]
     fn kind(&self) -> Kind {
         Kind::Anchor
     }
@@ -59,8 +57,6 @@ pub(crate) struct TagReading;
 impl Reading for TagReading {
     ghost reads = { λ r. kinds.Tag };
 
-    // Inlined: it is called in the way of its kind.
-    #[inline(always)]
     fn kind(&self) -> Kind {
         Kind::Tag
     }
@@ -85,8 +81,6 @@ pub(crate) struct SingleQuotedReading;
 impl Reading for SingleQuotedReading {
     ghost reads = { λ r. kinds.SingleQuoted };
 
-    // Inlined: it is called in the way of its kind.
-    #[inline(always)]
     fn kind(&self) -> Kind {
         Kind::SingleQuoted
     }
@@ -108,8 +102,6 @@ pub(crate) struct DoubleQuotedReading;
 impl Reading for DoubleQuotedReading {
     ghost reads = { λ r. kinds.DoubleQuoted };
 
-    // Inlined: it is called in the way of its kind.
-    #[inline(always)]
     fn kind(&self) -> Kind {
         Kind::DoubleQuoted
     }
@@ -120,7 +112,12 @@ impl Reading for DoubleQuotedReading {
     fn word(&self, spares: &mut Spares, reader: &mut Reader, at: Scope) -> Result<Word, ScanError> {
         let value = double_quoted(spares, reader)?;
         let style = yaml_scalar_style_t::YAML_DOUBLE_QUOTED_SCALAR_STYLE;
-        Ok(carrier(reader, yaml_token_body_t::Scalar { value, style }))
+        Ok(Word {
+            body: yaml_token_body_t::Scalar { value, style },
+            end: reader.mark(),
+            broke: false,
+            colon: at_value(reader, at.flow),
+        })
     }
 }
 
@@ -131,8 +128,6 @@ pub(crate) struct PlainReading;
 impl Reading for PlainReading {
     ghost reads = { λ r. kinds.Plain };
 
-    // Inlined: it is called in the way of its kind.
-    #[inline(always)]
     fn kind(&self) -> Kind {
         Kind::Plain
     }
@@ -149,6 +144,19 @@ impl Reading for PlainReading {
             },
             end: read.end_mark,
             broke: read.broke,
+            colon: read.followed,
         })
     }
+}
+
+/// Whether a `:` that is a lexeme of its own stands here.
+// Inlined: mostly a look at two bytes.
+#[inline(always)]
+fn at_value(reader: &Reader, flow: bool) -> bool
+    ensures { result ≡ true → IsColon flow reader.now.text reader.now.at }
+{
+    if reader.here() != b':' {
+        return false;
+    }
+    flow || reader.is_blank_or_end(1)
 }

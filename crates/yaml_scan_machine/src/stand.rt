@@ -5,7 +5,7 @@ ghost use Rattle.yaml_scan_model.specs.Ascii as ascii;
 ghost use Rattle.yaml_scan_model.specs.Marks.{byte};
 ghost use Rattle.yaml_scan_model.specs.Faults.{fault_of};
 ghost use Rattle.yaml_scan_words.specs.Between.{gap_at};
-ghost use Rattle.yaml_scan_history.specs.Next.{colon_missing, no_start};
+ghost use Rattle.yaml_scan_history.specs.Next.{colon_missing};
 ghost use Rattle.yaml_scan_machine.specs.Left.{IsLocated};
 
 use crate::machine::{Machine, put_fault};
@@ -19,7 +19,7 @@ use yaml_scan_words::skip_gap;
 
 impl<'a> Machine<'a> {
     ghost use Rattle.yaml_scan_machine.specs.State.{IsMachine};
-    ghost use Rattle.yaml_scan_machine.specs.Stood.{StandsAsNext, IsRefused};
+    ghost use Rattle.yaml_scan_machine.specs.Stood.{StandsAsNext, IsMissing, IsRefused, mark_of};
 
     /// The kind of what stands behind the gap, where a lexeme was read before, with its place in a slot; or nothing, and the
     /// fault is put into the other slot.
@@ -38,17 +38,33 @@ impl<'a> Machine<'a> {
         let allowed = pass_gap(&mut reader, flow, self.allowed);
         spot.mark = reader.stop();
         spot.allowed = allowed;
-        let required = self.required();
-        spot.required = required.is_some();
-        if let Some(start) = late(required, spot.mark) {
-            put_late(fault, start, spot.mark);
-            return None;
-        }
+        spot.due = self.keys.is_due();
         let Some(kind) = kind_at(&reader, flow) else {
-            put_no_token(fault, spot.mark);
+            self.put_none(fault, spot.mark.index, spot.mark.line, spot.mark.column);
             return None;
         };
         Some(kind)
+    }
+
+    /// Puts the fault of a place where no token starts into a slot, or that of a simple key whose `:` doesn't come.
+    // Out of line and cold: it is rare. The place's numbers are handed over: the room of a place would be set to zero for each lexeme.
+    #[cold]
+    #[inline(never)]
+    fn put_none(&self, fault: &mut yaml_fault_t, index: u64, line: u64, column: u64)
+        requires { IsMachine self.now }
+        ensures { IsMissing self.now (mark_of index line column) (fault_of fault.new) }
+    {
+        let mark = yaml_mark_t {
+            index,
+            line,
+            column,
+        };
+        if let Some(start) = late(self.required(), mark) {
+            put_late(fault, start, mark);
+            return;
+        }
+        let refused = ScanError::refusal(Problem::NoTokenStart, Context::NextToken, mark, mark);
+        put_fault(fault, refused);
     }
 }
 
@@ -63,7 +79,7 @@ impl LexemeSpot {
         LexemeSpot {
             mark,
             allowed: false,
-            required: false,
+            due: false,
         }
     }
 }
@@ -153,38 +169,8 @@ fn allowed_behind(allowed: bool, broke: bool, flow: bool) -> bool
 }
 
 /// Puts the fault of a simple key whose `:` doesn't come into a slot.
-// Inlined always: the room of the marks that are handed on is set to zero where they are, and not for each lexeme.
-#[inline(always)]
-fn put_late(fault: &mut yaml_fault_t, start: yaml_mark_t, place: yaml_mark_t)
-    ensures { IsLocated (ScanError.Fault (colon_missing start place)) (fault_of fault.new) }
-{
-    put_late_apart(fault, start, place);
-}
-
-/// Puts the fault of such a key into a slot.
-// Out of line: in line the room of a refusal would be set to zero for each lexeme.
-#[inline(never)]
-fn put_late_apart(fault: &mut yaml_fault_t, start: yaml_mark_t, place: yaml_mark_t)
+pub(crate) fn put_late(fault: &mut yaml_fault_t, start: yaml_mark_t, place: yaml_mark_t)
     ensures { IsLocated (ScanError.Fault (colon_missing start place)) (fault_of fault.new) }
 {
     put_fault(fault, no_colon(start, place));
-}
-
-/// Puts the fault of a place where no token starts into a slot.
-// Inlined always, as above.
-#[inline(always)]
-fn put_no_token(fault: &mut yaml_fault_t, mark: yaml_mark_t)
-    ensures { IsLocated (ScanError.Fault (no_start mark)) (fault_of fault.new) }
-{
-    put_no_token_apart(fault, mark);
-}
-
-/// Puts the fault of such a place into a slot.
-// Out of line, as above.
-#[inline(never)]
-fn put_no_token_apart(fault: &mut yaml_fault_t, mark: yaml_mark_t)
-    ensures { IsLocated (ScanError.Fault (no_start mark)) (fault_of fault.new) }
-{
-    let refused = ScanError::refusal(Problem::NoTokenStart, Context::NextToken, mark, mark);
-    put_fault(fault, refused);
 }

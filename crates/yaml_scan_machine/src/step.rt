@@ -1,7 +1,8 @@
 //! One lexeme more: the first one, or one of a kind that stands there.
 
-ghost use Rattle.std.specs.Prelude.{◌≡◌, ◌+◌, true, false, length, OnOk, OnErr};
+ghost use Rattle.std.specs.Prelude.{◌≡◌, ◌+◌, None, true, false, length, OnOk, OnErr};
 ghost use Rattle.yaml_scan_model.specs.Faults.{fault_of};
+ghost use Rattle.yaml_scan_history.specs.Kinds.{is_end};
 ghost use Rattle.yaml_scan_machine.specs.Left.{IsLocated};
 
 use crate::machine::{Machine, allows, opens_here, put_fault};
@@ -16,13 +17,13 @@ impl<'a> Machine<'a> {
     ghost use Rattle.yaml_scan_machine.specs.State.{StaysShort, IsMachine, ReadsMore, WantsMore};
     ghost use Rattle.yaml_scan_machine.specs.Stood.{ComesNext, MayReadAt, Steps};
     ghost use Rattle.yaml_scan_machine.specs.Shows.{history_of};
-    ghost use Rattle.yaml_scan_machine.specs.Reads.{required_in};
+    ghost use Rattle.yaml_scan_machine.specs.Reads.{late, required_in};
     ghost use Rattle.yaml_scan_history.specs.History.{candidate, fresh, reached};
 
     /// Reads the first lexeme, the start of the stream; or puts the fault into the slot that was lent.
     // Out of line: it is called once.
     #[inline(never)]
-    pub(crate) fn begin(&mut self, fault: &mut yaml_fault_t) -> bool
+    pub(crate) fn begin(&mut self, spares: &mut Spares, fault: &mut yaml_fault_t) -> bool
         requires stands { IsMachine self.old }
         requires started { self.old.started ≡ true }
         requires wants { WantsMore self.old }
@@ -31,7 +32,7 @@ impl<'a> Machine<'a> {
         ensures { Steps self.old self.new (fault_of fault.new) result }
     {
         let read = self.first();
-        self.push_lexeme(read, fault)
+        self.push_lexeme(read, spares, fault)
     }
 
     /// Reads the lexeme of that kind, which stands there; or puts the fault into the slot that was lent. Where it may be
@@ -50,18 +51,19 @@ impl<'a> Machine<'a> {
         ensures { Steps self.old self.new (fault_of fault.new) result }
     {
         let kind = reading.kind();
-        if !kind.is_value() && self.may_refuse(kind, *spot) {
+        if self.may_refuse(kind, *spot) {
             return self.of_rare(kind, spot, spares, fault);
         }
-        let required = self.required_where(spot.required);
-        self.step_by(reading, *spot, required, spares, fault)
+        self.step_by(reading, *spot, None, spares, fault)
     }
 
     /// Whether a lexeme of that kind may be refused for what stands before it.
     // Inlined: the kind is known where it is called.
     #[inline(always)]
-    pub(crate) fn may_refuse(&self, kind: Kind, spot: LexemeSpot) -> bool {
-        spot.required || kind.is_start() && self.depth == 0 && !spot.allowed
+    pub(crate) fn may_refuse(&self, kind: Kind, spot: LexemeSpot) -> bool
+        ensures { result ≡ false → spot.due ≡ false }
+    {
+        spot.due || kind.is_start() && !kind.is_value() && self.depth == 0 && !spot.allowed
     }
 
     /// Reads the lexeme of that kind, which stands there, where the start of the required candidate is known.
@@ -78,10 +80,11 @@ impl<'a> Machine<'a> {
         requires may { MayReadAt self.old (R.reads reading.now) spot }
         requires required { required ≡ required_in (fresh (candidate 0 (history_of self.old))
             (reached (history_of self.old))) }
+        requires early { late required spot.mark ≡ None }
         ensures { Steps self.old self.new (fault_of fault.new) result }
     {
         match self.next(reading, spot, required, spares) {
-            Ok(read) => self.push_lexeme(read, fault),
+            Ok(read) => self.push_lexeme(read, spares, fault),
             Err(error) => {
                 put_refusal(fault, error);
                 false
@@ -92,7 +95,7 @@ impl<'a> Machine<'a> {
     /// Puts a lexeme that was read behind those that wait.
     // Inlined: its kind is known where it is called.
     #[inline(always)]
-    fn push_lexeme(&mut self, read: Read, fault: &mut yaml_fault_t) -> bool
+    fn push_lexeme(&mut self, read: Read, spares: &mut Spares, fault: &mut yaml_fault_t) -> bool
         requires stands { IsMachine self.old }
         requires started { self.old.started ≡ true }
         requires wants { WantsMore self.old }
@@ -100,7 +103,7 @@ impl<'a> Machine<'a> {
         requires next { ComesNext self.old read }
         ensures { Steps self.old self.new (fault_of fault.new) result }
     {
-        match self.push(read) {
+        match self.push(read, spares) {
             Ok(()) => true,
             Err(_) => {
                 put_memory(fault);
@@ -112,7 +115,7 @@ impl<'a> Machine<'a> {
     /// Puts a lexeme that was read behind those that wait. Behind a long text no more are read than are needed.
     // Inlined: its kind is known where it is called.
     #[inline(always)]
-    pub(crate) fn push(&mut self, read: Read) -> Result<(), AllocError>
+    pub(crate) fn push(&mut self, read: Read, spares: &mut Spares) -> Result<(), AllocError>
         requires stands { IsMachine self.old }
         requires started { self.old.started ≡ true }
         requires wants { WantsMore self.old }
@@ -122,18 +125,19 @@ impl<'a> Machine<'a> {
         ensures few { OnErr result (StaysShort self.old self.new) }
     {
         self.pause_behind(&read.body);
-        self.put(read)
+        self.put(read, spares)
     }
 
     /// Puts a lexeme that was read behind those that wait.
     // Inlined: its kind is known where it is called.
     #[inline(always)]
-    fn put(&mut self, read: Read) -> Result<(), AllocError>
+    fn put(&mut self, read: Read, spares: &mut Spares) -> Result<(), AllocError>
         requires stands { IsMachine self.old }
         requires started { self.old.started ≡ true }
         requires wants { WantsMore self.old }
         requires more { self.old.ended ≡ false }
         requires next { ComesNext self.old read }
+        requires end { is_end read.lexeme.kind ≡ true → self.old.enough ≡ 0 }
         ensures ok { OnOk result (IsMachine self.new × ReadsMore self.old self.new) }
         ensures few { OnErr result (StaysShort self.old self.new) }
     {
@@ -142,6 +146,7 @@ impl<'a> Machine<'a> {
             body,
             key,
             left,
+            colon: _,
         } = read;
         let found = key.is_some();
         let allowed = allows(lexeme, found);
@@ -152,19 +157,20 @@ impl<'a> Machine<'a> {
         let number = self.count();
         self.keys.put(lexeme, number)?;
         self.waiting.reserve()?;
-        self.waiting.push_back_reserved(ReadLexeme {
+        let read = ReadLexeme {
             start: lexeme.start,
             end: lexeme.end,
             ends,
             opens: opens_here(opens, found),
             key: false,
             body,
-        });
+        };
+        self.waiting.push_back_reserved(read, spares);
         self.place = lexeme.reached;
         self.depth = lexeme.kind.depth_after(lexeme.depth);
         self.allowed = allowed;
         self.ended = lexeme.kind.is_end();
-        self.settled = self.settle(number + 1);
+        self.settled = self.settle(number + 1, self.ended);
         Ok(())
     }
 }

@@ -8,10 +8,11 @@ ghost use Rattle.std.specs.Prelude.{◌≡◌, false};
 ghost use Rattle.yaml_scan_model.specs.Faults.{fault_of};
 
 use crate::machine::Machine;
-use crate::next::LexemeSpot;
+use crate::next::{LexemeSpot, late};
 use crate::readings::{
     AliasReading, AnchorReading, DoubleQuotedReading, PlainReading, SingleQuotedReading, TagReading,
 };
+use crate::stand::put_late;
 use crate::word::Reading;
 use yaml_scan_history::Kind;
 use yaml_scan_model::{Spares, mark_again, yaml_fault_t, yaml_mark_t};
@@ -21,10 +22,48 @@ impl<'a> Machine<'a> {
 
     /// Reads the lexeme that stands there, in the way of its kind; or puts the fault into the slot that was lent. A text may
     /// take a spare one's room.
-    #[tactic(auto, using(crate::proofs::FoundLemmas::may_read))]
-    // No hint: with the ways that are inlined it is larger than what the kit inlines always. It is called at one place, so LLVM
-    // inlines it, as long as no two kinds more are inlined.
+    // Inlined: so the ways of these two and those of the other kinds each have LLVM's room for what it inlines.
+    #[inline(always)]
     pub(crate) fn by_kind(
+        &mut self,
+        kind: Kind,
+        spot: &LexemeSpot,
+        spares: &mut Spares,
+        fault: &mut yaml_fault_t,
+    ) -> bool
+        requires { MayReadAt self.old kind spot.now }
+        ensures { Steps self.old self.new (fault_of fault.new) result }
+    {
+        match kind {
+            Kind::Anchor | Kind::Alias => self.by_name(kind, spot, spares, fault),
+            _ => self.by_other(kind, spot, spares, fault),
+        }
+    }
+
+    /// The same of an anchor or an alias.
+    #[tactic(auto, using(crate::proofs::FoundLemmas::may_read))]
+    // No hint: it is called at one place, so LLVM inlines it.
+    fn by_name(
+        &mut self,
+        kind: Kind,
+        spot: &LexemeSpot,
+        spares: &mut Spares,
+        fault: &mut yaml_fault_t,
+    ) -> bool
+        requires { MayReadAt self.old kind spot.now }
+        ensures { Steps self.old self.new (fault_of fault.new) result }
+    {
+        match kind {
+            Kind::Anchor => self.step_at(&AnchorReading, spot, spares, fault),
+            Kind::Alias => self.step_at(&AliasReading, spot, spares, fault),
+            _ => self.of_rare(kind, spot, spares, fault),
+        }
+    }
+
+    /// The same of any other kind.
+    #[tactic(auto, using(crate::proofs::FoundLemmas::may_read))]
+    // No hint: it is larger than what the kit inlines always. LLVM inlines it, as long as no two kinds more are inlined.
+    fn by_other(
         &mut self,
         kind: Kind,
         spot: &LexemeSpot,
@@ -45,8 +84,6 @@ impl<'a> Machine<'a> {
             Kind::BlockEntry => self.step_at(&Kind::BlockEntry, spot, spares, fault),
             Kind::ValueMark => self.apart(&Kind::ValueMark, spot, spares, fault),
             Kind::SingleQuoted => self.apart(&SingleQuotedReading, spot, spares, fault),
-            Kind::Anchor => self.apart(&AnchorReading, spot, spares, fault),
-            Kind::Alias => self.apart(&AliasReading, spot, spares, fault),
             Kind::Tag => self.apart(&TagReading, spot, spares, fault),
             _ => self.of_rare(kind, spot, spares, fault),
         }
@@ -65,7 +102,7 @@ impl<'a> Machine<'a> {
         requires { MayReadAt self.old (R.reads reading.now) spot.now }
         ensures { Steps self.old self.new (fault_of fault.new) result }
     {
-        if spot.required {
+        if spot.due {
             return self.of_rare(reading.kind(), spot, spares, fault);
         }
         let mark = mark_again(&spot.mark);
@@ -86,14 +123,14 @@ impl<'a> Machine<'a> {
         requires { MayReadAt self.old (R.reads reading.now) record {
           mark = mark.now;
           allowed = allowed;
-          required = false;
+          due = false;
         } }
         ensures { Steps self.old self.new (fault_of fault.new) result }
     {
         let spot = LexemeSpot {
             mark: mark_again(mark),
             allowed,
-            required: false,
+            due: false,
         };
         self.step_at(reading, &spot, spares, fault)
     }
@@ -130,6 +167,10 @@ impl<'a> Machine<'a> {
         ensures { Steps self.old self.new (fault_of fault.new) result }
     {
         let required = self.required();
+        if let Some(start) = late(required, spot.mark) {
+            put_late(fault, start, spot.mark);
+            return false;
+        }
         self.step_by(&kind, *spot, required, spares, fault)
     }
 }
@@ -144,6 +185,6 @@ fn spot_again(spot: &LexemeSpot) -> LexemeSpot
     LexemeSpot {
         mark: mark_again(&spot.mark),
         allowed: spot.allowed,
-        required: spot.required,
+        due: spot.due,
     }
 }

@@ -1,6 +1,6 @@
 //! Which lexeme stands at a place, and what it carries.
 
-ghost use Rattle.std.specs.Prelude.{◌≡◌, ◌+◌, ◌<◌, ◌≤◌, ◌⊎◌, IfSome, None, option_map, true, false, length};
+ghost use Rattle.std.specs.Prelude.{Bool, ◌≡◌, ◌+◌, ◌<◌, ◌≤◌, ◌⊎◌, IfSome, None, option_map, true, false, length};
 ghost use Rattle.yaml_scan_model.specs.Ascii as ascii;
 ghost use Rattle.yaml_scan_model.specs.Marks.{byte, break_width, is_blank_or_end};
 ghost use Rattle.yaml_scan_model.specs.Tokens.{body_of};
@@ -27,6 +27,8 @@ pub(crate) struct Word {
     pub end: yaml_mark_t,
     /// The blanks behind a plain scalar hold a break.
     pub broke: bool,
+    /// It is known that a `:` that is a lexeme of its own stands directly behind it.
+    pub colon: bool,
 }
 
 /// What a lexeme stands in: brackets or not, and the innermost block level, by its margin.
@@ -130,15 +132,13 @@ pub(crate) trait Reading {
     fn word(&self, spares: &mut Spares, reader: &mut Reader, at: Scope) -> Result<Word, ScanError>
         requires stands { Stands (reads self.now) at.flow reader.old.text reader.old.at }
         requires level { at.level ≤ length reader.old.text + 1 }
-        ensures { ReadsWord reader.old.text reader.old.at reader.new result
+        ensures { ReadsWord at.flow reader.old.text reader.old.at reader.new result
             (spec.word_at (reads self.now) at.flow at.level reader.old.text reader.old.at) };
 }
 
 impl Reading for Kind {
     ghost reads = { λ k. k };
 
-    // Inlined: the kind is known where it is called.
-    #[inline(always)]
     fn kind(&self) -> Kind {
         *self
     }
@@ -185,7 +185,7 @@ fn text_word(
     requires stands { Stands kind at.flow reader.old.text reader.old.at }
     requires level { at.level ≤ length reader.old.text + 1 }
     requires no_indicator { indicator_at kind ≡ None }
-    ensures { ReadsWord reader.old.text reader.old.at reader.new result
+    ensures { ReadsWord at.flow reader.old.text reader.old.at reader.new result
         (spec.word_at kind at.flow at.level reader.old.text reader.old.at) }
 {
     match kind {
@@ -207,7 +207,7 @@ fn text_word(
 // Inlined: the kind is known where it is called.
 #[inline(always)]
 pub(crate) fn carrier(reader: &Reader, body: yaml_token_body_t) -> Word
-    ensures { IsWord reader.now.text result
+    ensures { (flow : Bool) → IsWord flow reader.now.text result
         (record {
           body = body_of body;
           end = reader.now.at;
@@ -219,6 +219,7 @@ pub(crate) fn carrier(reader: &Reader, body: yaml_token_body_t) -> Word
         body,
         end: reader.mark(),
         broke: false,
+        colon: false,
     }
 }
 
@@ -229,7 +230,7 @@ fn read_indicator(reader: &mut Reader, body: yaml_token_body_t) -> Word
     requires some { 0 < byte reader.old.text reader.old.at }
     requires no_break { break_width reader.old.text reader.old.at ≡ 0 }
     requires ascii { byte reader.old.text reader.old.at < 128 }
-    ensures word { IsWord reader.old.text result
+    ensures word { (flow : Bool) → IsWord flow reader.old.text result
         (record {
           body = body_of body;
           end = reader.old.at + 1;
@@ -268,7 +269,7 @@ pub(crate) fn go_past(reader: &mut Reader)
 fn document_mark(reader: &mut Reader, body: yaml_token_body_t) -> Word
     requires { IsThrice ascii.hyphen reader.old.text reader.old.at
         ⊎ IsThrice ascii.dot reader.old.text reader.old.at }
-    ensures word { IsWord reader.old.text result
+    ensures word { (flow : Bool) → IsWord flow reader.old.text result
         (record {
           body = body_of body;
           end = reader.old.at + 3;
@@ -287,7 +288,7 @@ fn document_mark(reader: &mut Reader, body: yaml_token_body_t) -> Word
 #[inline(never)]
 fn directive_word(spares: &mut Spares, reader: &mut Reader) -> Result<Word, ScanError>
     requires { byte reader.old.text reader.old.at ≡ ascii.percent }
-    ensures { ReadsWord reader.old.text reader.old.at reader.new result
+    ensures { (flow : Bool) → ReadsWord flow reader.old.text reader.old.at reader.new result
         (spec.directed (directive_at reader.old.text reader.old.at)) }
 {
     match directive(spares, reader) {
@@ -295,6 +296,7 @@ fn directive_word(spares: &mut Spares, reader: &mut Reader) -> Result<Word, Scan
             body: directive_body(read.directive),
             end: read.end_mark,
             broke: false,
+            colon: false,
         }),
         Err(error) => Err(error),
     }
@@ -315,7 +317,7 @@ fn block_word(spares: &mut Spares, reader: &mut Reader, level: u64) -> Result<Wo
     requires level { level ≤ length reader.old.text + 1 }
     requires indicator { (byte reader.old.text reader.old.at ≡ ascii.bar)
         ⊎ (byte reader.old.text reader.old.at ≡ ascii.greater) }
-    ensures { ReadsWord reader.old.text reader.old.at reader.new result
+    ensures { (flow : Bool) → ReadsWord flow reader.old.text reader.old.at reader.new result
         (spec.blocked (style_at reader.old.text reader.old.at)
         (block_at level reader.old.text reader.old.at)) }
 {
@@ -327,5 +329,6 @@ fn block_word(spares: &mut Spares, reader: &mut Reader, level: u64) -> Result<Wo
         },
         end: read.end_mark,
         broke: false,
+        colon: false,
     })
 }

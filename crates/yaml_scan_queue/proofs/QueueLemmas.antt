@@ -1,13 +1,21 @@
 -- The part of a row of slots that holds what waits, and the slots beside it.
-use Rattle.std.proofs.Common.{◌≡◌, ℕ, zero, suc, Bool, true, false, ltb, ◌+◌, ◌-◌, ◌<◌, ◌≤◌, List, [], ◌∷◌, ◌++◌, length, take, drop, get_or, None, refl, ap, sym, ◌∙◌, arith}
+use Rattle.std.proofs.Common.{◌≡◌, ℕ, zero, suc, Bool, true, false, ltb, ◌+◌, ◌-◌, ◌<◌, ◌≤◌, List, [], ◌∷◌, ◌++◌, length, take, drop, get_or, Option, Some, None, refl, ap, sym, ◌∙◌, inr, arith}
+use Rattle.std.specs.Prelude.{IfSome, Vec, vec_len, ◌==◌}
+use Rattle.std.specs.Global.{Global}
+use denote.Bor.{Bor}
 use Rattle.std.proofs.Math.ListN.{set}
 use Rattle.std.proofs.Math.Seq.{take-set-lt}
-use Rattle.std.proofs.lemmas.List.{get_or-drop, get_or-take, get_or_default, take-append-le, drop-append-le, drop-take, drop-set-add, drop-set-lt, drop-drop, length-take-le, length-drop}
+use Rattle.std.proofs.lemmas.List.{get_or-drop, get_or-take, get_or_default, take-append-le, drop-append-le, drop-take, drop-set-add, drop-set-lt, drop-drop, get_or-set_same, length-take-le, length-drop}
 use Rattle.std.proofs.lemmas.Bool.Decides.{nat_tests}
 use Rattle.yaml_scan_history.specs.declared.lexeme.Opens.{Opens}
 use Rattle.yaml_scan_history.specs.declared.lexeme.Opens.TheVariants as opening
-use Rattle.yaml_scan_queue.specs.Front.{front_at, start_at, start_count, key_count}
-use Rattle.yaml_scan_queue.specs.Waits.{KeptLexeme}
+use Rattle.yaml_scan_model.specs.Tokens.{Token}
+use Rattle.yaml_scan_slot.specs.Slots.{token_in_slot}
+use Rattle.yaml_scan_slot.specs.declared.slot.TokenSlot.{TokenSlot}
+use Rattle.yaml_scan_queue.specs.Front.{front_at, front_count, start_at, start_count, key_count}
+use Rattle.yaml_scan_queue.specs.Hands.{TellsTag}
+use Rattle.yaml_scan_queue.specs.Line.{Line}
+use Rattle.yaml_scan_queue.specs.Waits.{KeptLexeme, kept_of}
 use Rattle.yaml_scan_queue.specs.declared.waiting.Waiting.{Waiting}
 
 pub part_length : {X : Type 0} → (xs : List X) (f l : ℕ) → l ≤ length xs
@@ -85,3 +93,55 @@ front_done k n all =
     let past : ltb n k.ends ≡ false = grind (arith, nat_tests, all) in
     let left : n - k.ends ≡ start_count k.opens + key_count k.key = omega (arith, all) in
     rw past (ap (λ (i : ℕ). start_at k.opens k.key i) left ∙ start_done k.opens k.key)
+
+start_left : (o : Opens) (k : Bool) (n : ℕ) → start_at o k n ≡ None
+    → start_count o + key_count k ≤ n
+start_left opening.Nothing false n none = omega arith
+start_left opening.Nothing true n none = grind (arith, nat_tests)
+start_left opening.Sequence false n none = grind (arith, nat_tests)
+start_left opening.Sequence true n none = grind (arith, nat_tests)
+start_left opening.Mapping false n none = grind (arith, nat_tests)
+start_left opening.Mapping true n none = grind (arith, nat_tests)
+
+-- where none does, all are given
+all_given : (k : KeptLexeme) (n : ℕ) → front_at k n ≡ None → front_count k ≤ n
+all_given k n none = grind (arith, nat_tests, start_left k.opens k.key (n - k.ends))
+
+-- the own token of the lexeme that waits first, where it is lent
+pub tells_tag : (n : ℕ) (x w : Waiting) (r : Option (Bor TokenSlot)) → x ≡ w
+    → n ≤ front_count (kept_of w)
+    → IfSome r (λ t. (n ≡ front_count (kept_of x)) × (t.now ≡ x.token))
+    → (r ≡ None → n ≡ front_count (kept_of x) → ⊥) → TellsTag n w r
+tells_tag n x w (Some t) is few (all, same) none =
+    (front_done (kept_of w) n (ap (λ (y : Waiting). front_count (kept_of y)) (sym is) ∙ sym all), ap (λ (y : TokenSlot). token_in_slot y) same ∙ ap (λ (y : Waiting). token_in_slot y.token) is)
+tells_tag n x w None is few some none = inr (λ done. none refl (omega (arith, few, ap (λ (y : Waiting). front_count (kept_of y)) is, all_given (kept_of w) n done)))
+
+-- A row is turned until its part comes behind the first slot.
+pub part_turned : {X : Type 0} → (xs zs : List X) (f l : ℕ)
+    → zs ≡ drop (f - 1) xs ++ take (f - 1) xs → 0 < f → f ≤ l → l ≤ length xs
+    → drop 1 (take (l - (f - 1)) zs) ≡ drop f (take l xs)
+part_turned xs zs f l is low le most =
+    let whole : (f - 1) + 1 ≡ f = omega (arith, low) in
+    ap (λ ys. drop 1 (take (l - (f - 1)) ys)) is ∙ ap (λ ys. drop 1 ys) (part_turn xs (f - 1) l (omega (arith, le)) most) ∙ drop-drop 1 (f - 1) (take l xs) ∙ ap (λ (n : ℕ). drop n (take l xs)) whole
+
+-- a row that isn't empty
+pub some_of : (v : Vec Waiting Global) → (vec_len v == 0) ≡ false → 0 < length v.items
+some_of v more = grind (arith, nat_tests, more, v.ok.0, v.ok.1)
+
+-- the slot before the part, where it was filled last
+pub part_before : (xs zs : List Waiting) (f n : ℕ) (x y : Waiting) → zs ≡ set xs (f - 1) y
+    → n ≡ f - 1 → 0 < f → f ≤ length xs → x ≡ get_or zs n x → x ≡ y
+part_before xs zs f n x y filled at low most here =
+    here ∙ ap (λ (ws : List Waiting). get_or ws n x) filled ∙ ap (λ (n : ℕ). get_or (set xs (f - 1) y) n x) at ∙ get_or-set_same xs (f - 1) y x (omega (arith, low, most))
+
+-- it stays, where the slot before it is filled
+pub part_behind : (xs zs : List Waiting) (f g l m n : ℕ) (x y : Waiting) → zs ≡ set xs (f - 1) y
+    → n ≡ f - 1 → g ≡ f → m ≡ l → 0 < f → f ≤ l → drop g (take m (set zs n x)) ≡ drop f (take l xs)
+part_behind xs zs f g l m n x y filled at front end low le =
+    let kept : (ws : List Waiting) (w : Waiting) → drop f (take l (set ws (f - 1) w)) ≡ drop f (take l ws) = λ ws w. ap (λ vs. drop f vs) (take-set-lt l ws (f - 1) w (omega (arith, low, le))) ∙ drop-set-lt f (take l ws) (f - 1) w (omega (arith, low)) in
+    rw (at, front, end, filled) (kept (set xs (f - 1) y) x ∙ kept xs y)
+
+-- its first lexeme is taken
+pub part_taken : (xs zs : List Waiting) (f g l m n : ℕ) (x : Waiting) → zs ≡ xs → n ≡ f → g ≡ f + 1
+    → m ≡ l → f < l → drop g (take m (set zs n x)) ≡ drop 1 (drop f (take l xs))
+part_taken xs zs f g l m n x same at front end lt = rw (same, at, front, end) (part_pop xs f l x lt)

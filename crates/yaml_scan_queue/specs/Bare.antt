@@ -1,17 +1,13 @@
--- Kinds that say all of their token.
+-- Kinds of tokens that have a tag.
 use Rattle.std.specs.Prelude.{Bool, true, false}
 use Rattle.yaml_scan_model.specs.declared.name.yaml_token_type_t.{yaml_token_type_t}
 use Rattle.yaml_scan_model.specs.declared.name.yaml_token_type_t.TheVariants as kind
 
--- the kind is that of an indicator, or of where a collection or a document begins or ends: it says all
-abbrev pub is_kind : yaml_token_type_t → Bool
-is_kind kind.YAML_NO_TOKEN = false
-is_kind kind.YAML_STREAM_START_TOKEN = false
-is_kind kind.YAML_STREAM_END_TOKEN = false
-is_kind kind.YAML_VERSION_DIRECTIVE_TOKEN = false
-is_kind kind.YAML_TAG_DIRECTIVE_TOKEN = false
-is_kind kind.YAML_ALIAS_TOKEN = false
-is_kind kind.YAML_ANCHOR_TOKEN = false
-is_kind kind.YAML_TAG_TOKEN = false
-is_kind kind.YAML_SCALAR_TOKEN = false
-is_kind _ = true
+abbrev pub is_tag_kind : yaml_token_type_t → Bool
+is_tag_kind kind.YAML_TAG_TOKEN = true
+is_tag_kind _ = false
+
+-- a directive that declares one
+abbrev pub is_tag_directive_kind : yaml_token_type_t → Bool
+is_tag_directive_kind kind.YAML_TAG_DIRECTIVE_TOKEN = true
+is_tag_directive_kind _ = false

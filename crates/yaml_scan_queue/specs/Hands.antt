@@ -1,28 +1,49 @@
 -- What is handed out of the lexeme that waits first.
-use Rattle.std.specs.Prelude.{ℕ, ◌≡◌, Bool, true, false, Some, None, drop}
+use Rattle.std.specs.Prelude.{ℕ, ◌≡◌, ◌⊎◌, ◌+◌, false, Option, Some, None, drop}
+use denote.Bor.{Bor}
+use Rattle.yaml_scan_model.specs.Tokens.{Token}
 use Rattle.yaml_scan_slot.specs.declared.slot.TokenSlot.{TokenSlot}
-use Rattle.yaml_scan_slot.specs.Slots.{body_in_slot}
+use Rattle.yaml_scan_slot.specs.Slots.{body_in_slot, token_in_slot, is_tagged}
 use Rattle.yaml_scan_queue.specs.Front.{front_at}
 use Rattle.yaml_scan_queue.specs.Line.{Line}
 use Rattle.yaml_scan_queue.specs.Waits.{kept_of}
 use Rattle.yaml_scan_queue.specs.declared.waiting.Waiting.{Waiting}
 
--- a token in front of its own one, behind so many of its tokens
-pub record IsInFront (given : ℕ) (w : Waiting) (old new : Line) (t : TokenSlot) : Type 0 where
-  pub some : front_at (kept_of w) given ≡ Some (body_in_slot t.body)
-  pub start : t.start_mark ≡ w.start
-  pub end : t.end_mark ≡ w.start
-  pub same : new ≡ old
+-- how many of the first lexeme's tokens and how many lexemes are taken, and what waits
+pub record Handing : Type 0 where
+  pub given : ℕ
+  pub dropped : ℕ
+  pub line : Line
 
--- its own token, with which it is taken
-pub record IsItsOwn (given : ℕ) (w : Waiting) (old new : Line) (t : TokenSlot) : Type 0 where
-  pub none : front_at (kept_of w) given ≡ None
-  pub body : body_in_slot t.body ≡ body_in_slot w.body
-  pub start : t.start_mark ≡ w.start
-  pub end : t.end_mark ≡ w.end
-  pub rest : new.items ≡ drop 1 old.items
-  pub slots : new.slots ≡ old.slots
+abbrev pub handing : ℕ → ℕ → Line → Handing
+handing given dropped line = record { given = given; dropped = dropped; line = line }
 
-abbrev pub Hands : ℕ → Waiting → Line → Line → TokenSlot → Bool → Type 0
-Hands given w old new t true = IsItsOwn given w old new t
-Hands given w old new t false = IsInFront given w old new t
+-- a token in front of its own one, behind so many of its tokens, which has that
+pub record GivesFront (P : Token → Type 0) (w : Waiting) (old new : Handing) : Type 0 where
+  pub token : Token
+  pub has : P token
+  pub some : front_at (kept_of w) old.given ≡ Some token.body
+  pub start : token.start_mark ≡ w.token.start_mark
+  pub end : token.end_mark ≡ w.token.start_mark
+  pub given : new.given ≡ old.given + 1
+  pub dropped : new.dropped ≡ old.dropped
+  pub same : new.line ≡ old.line
+
+-- its own token, which has that, and with which it is taken
+pub record GivesOwn (P : Token → Type 0) (w : Waiting) (old new : Handing) : Type 0 where
+  pub has : P (token_in_slot w.token)
+  pub none : front_at (kept_of w) old.given ≡ None
+  pub given : new.given ≡ 0
+  pub dropped : new.dropped ≡ old.dropped + 1
+  pub rest : new.line.items ≡ drop 1 old.line.items
+  pub slots : new.line.slots ≡ old.line.slots
+
+abbrev pub Gives : (Token → Type 0) → Waiting → Handing → Handing → Type 0
+Gives P w old new = GivesFront P w old new ⊎ GivesOwn P w old new
+
+-- its own token, where that is next and a tag or a directive
+abbrev pub TellsTag : ℕ → Waiting → Option (Bor TokenSlot) → Type 0
+TellsTag given w (Some t) = (front_at (kept_of w) given ≡ None)
+    × (token_in_slot t.now ≡ token_in_slot w.token)
+TellsTag given w None = (is_tagged (body_in_slot w.token.body) ≡ false)
+    ⊎ (front_at (kept_of w) given ≡ None → ⊥)

@@ -18,12 +18,12 @@ pub record KeptLexeme : Type 0 where
 
 abbrev pub kept_of : Waiting → KeptLexeme
 kept_of w = record {
-  start = w.start;
-  end = w.end;
+  start = w.token.start_mark;
+  end = w.token.end_mark;
   ends = w.ends;
   opens = w.opens;
   key = w.key;
-  body = body_in_slot w.body;
+  body = body_in_slot w.token.body;
 }
 
 -- It becomes a key, and opens that.

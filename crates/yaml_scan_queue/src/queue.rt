@@ -1,10 +1,12 @@
 //! The list of the lexemes that wait. It grows at its back alone.
 
-ghost use Rattle.std.specs.Prelude.{◌≡◌, ◌+◌, ◌^◌, ◌++◌, ◌∷◌, [], ◌<◌, ◌≤◌, ◌↔◌, OnOk, IfSome, IsSome, true, false, length, slice_index_or, slice_set};
-ghost use Rattle.yaml_scan_slot.specs.Slots.{body_in_slot, extra_of};
-ghost use Rattle.yaml_scan_queue.specs.Bare.{is_kind};
+ghost use Rattle.std.specs.Prelude.{ℕ, List, ◌≡◌, ◌+◌, ◌-◌, ◌^◌, ◌++◌, ◌∷◌, [], ◌<◌, ◌≤◌, ◌↔◌, OnErr, OnOk, IfSome, IsSome, true, false, length, slice_index_or, slice_set};
+ghost use Rattle.yaml_scan_model.specs.declared.name.yaml_token_type_t.{yaml_token_type_t};
+ghost use Rattle.yaml_scan_model.specs.Faults.{fault_of};
+ghost use Rattle.yaml_scan_slot.specs.Slots.{Extra, body_by, is_tagged};
+ghost use Rattle.yaml_scan_queue.specs.Bare.{is_tag_kind, is_tag_directive_kind};
 ghost use Rattle.yaml_scan_queue.specs.Front.{front_count};
-ghost use Rattle.yaml_scan_queue.specs.Hands.{Hands};
+ghost use Rattle.yaml_scan_queue.specs.Hands.{Gives, TellsTag, handing};
 ghost use Rattle.yaml_scan_queue.specs.Line.{Grows};
 ghost use Rattle.yaml_scan_queue.specs.declared.waiting.Waiting.{Waiting};
 ghost use Rattle.yaml_scan_queue.specs.Waits.{Pushes, kept_of, kept_in_read, keyed};
@@ -13,11 +15,11 @@ use crate::waiting::{ReadLexeme, Waiting};
 use std::alloc::{AllocError, Global};
 use std::marker::Model;
 use yaml_scan_history::Opens;
-use yaml_scan_model::{Spares, lifted, mark_again, moved, put_back, yaml_token_type_t};
-use yaml_scan_slot::{BodySlot, TokenSlot};
+use yaml_scan_model::{Spares, mark_again, yaml_fault_t, yaml_mark_t, yaml_token_type_t};
+use yaml_scan_slot::{TokenSlot, TokenTaker};
 
-/// A row of slots, of which those from `first` to `last` hold the lexemes that wait. The others are used again. A text goes out of
-/// its slot with its token, so that mostly nothing is to be let go where a slot is filled.
+/// A row of slots, of which those from `first` to `last` hold the lexemes that wait. The others are used again. One is free before
+/// `first`, if there are any.
 #[derive(Drop)]
 pub struct Queue {
     slots: Vec<Waiting>,
@@ -106,10 +108,16 @@ impl Queue {
         ensures slots { Grows self.old self.new }
         ensures ok { OnOk result (self.new.free ≡ true) }
     {
-        if self.last - self.first < self.first {
-            self.slots.rotate_left(self.first);
-            self.last -= self.first;
-            self.first = 0;
+        if self.slots.is_empty() {
+            make_two(&mut self.slots)?;
+            self.first = 1;
+            self.last = 1;
+            return Ok(());
+        }
+        if self.last - self.first < self.first - 1 {
+            self.slots.rotate_left(self.first - 1);
+            self.last -= self.first - 1;
+            self.first = 1;
             return Ok(());
         }
         self.slots.reserve(1)?;
@@ -121,12 +129,12 @@ impl Queue {
     /// Puts a lexeme into the free slot.
     // Inlined: the lexeme is built in its slot.
     #[inline(always)]
-    pub fn push_back_reserved(&mut self, read: ReadLexeme)
+    pub fn push_back_reserved(&mut self, read: ReadLexeme, spares: &mut Spares)
         requires { self.old.free ≡ true }
         ensures items { Pushes self.old.items read self.new.items }
         ensures slots { self.new.slots ≡ self.old.slots }
     {
-        put_read(&mut self.slots[self.last], read);
+        put_read(&mut self.slots[self.last], read, spares);
         self.last += 1;
     }
 
@@ -138,9 +146,9 @@ impl Queue {
         ensures items { self.new.items ≡ self.old.items }
         ensures slots { self.new.slots ≡ self.old.slots }
     {
-        if self.first == self.last {
-            self.first = 0;
-            self.last = 0;
+        if self.first == self.last && 1 < self.first {
+            self.first = 1;
+            self.last = 1;
         }
     }
 
@@ -157,155 +165,127 @@ impl Queue {
         None
     }
 
-    /// Hands out the next token of the first lexeme, of whose tokens so many were given, into a slot: whether it is the lexeme's own,
-    /// with which the lexeme is taken. The room of the slot's earlier text is kept where a text comes in its place.
-    // The lexeme is looked up once, and its marks are read where they lie: of one that was taken out they would be copied
-    // with all that it has. The body is moved last, so that nothing is kept in a register meanwhile.
+    /// Has a taker take the next token of the first lexeme, where so many of its tokens and so many lexemes were taken before. With its
+    /// own token the lexeme is taken. One in front of that is put into the slot before it, which is free.
+    // The slot of the two is told by its number, so that the taker is called at one place, where it is inlined. All else is done in front
+    // of it: what it answers decides how things go on.
     // Inlined: it is called at one place, for each token.
     #[inline(always)]
-    pub fn pop_token(&mut self, given: usize, slot: &mut TokenSlot, spares: &mut Spares) -> bool
+    pub fn give<T: TokenTaker>(
+        &mut self,
+        given: &mut usize,
+        dropped: &mut usize,
+        taker: &mut T,
+        slot: &mut T::Slot,
+        fault: &mut yaml_fault_t,
+    ) -> T::Answer
         requires some { 0 < length self.old.items }
         requires given { (w : Waiting)
-            → given ≤ front_count (kept_of (slice_index_or self.old.items 0 w)) }
+            → given.old ≤ front_count (kept_of (slice_index_or self.old.items 0 w)) }
         requires room { (w : Waiting)
             → front_count (kept_of (slice_index_or self.old.items 0 w)) < 2 ^ 64 }
-        ensures { (w : Waiting) → Hands given (slice_index_or self.old.items 0 w) self.old self.new
-            slot.new result }
+        requires few { dropped.old < 2 ^ 64 - 1 }
+        ensures { (w : Waiting) → Gives (λ t. T.takes taker.old slot.old t taker.new slot.new
+            (fault_of fault.new) result) (slice_index_or self.old.items 0 w)
+            (handing given.old dropped.old self.old) (handing given.new dropped.new self.new) }
     {
-        let at = self.first;
-        let first = &self.slots[at];
-        slot.start_mark = mark_again(&first.start);
-        if first.fronts() != given {
-            slot.end_mark = mark_again(&first.start);
-            slot.body.kind = first.kind_before(given);
-            return false;
+        let next = self.first;
+        let first = &self.slots[next];
+        let at = if first.fronts() == *given {
+            // Read for the sum: a number that is read is within its type.
+            let _last = self.last;
+            self.first = next + 1;
+            *dropped += 1;
+            *given = 0;
+            next
+        } else {
+            let kind = first.kind_before(*given);
+            let start = mark_again(&first.token.start_mark);
+            put_front(&mut self.slots[next - 1].token, kind, &start);
+            *given += 1;
+            next - 1
+        };
+        taker.take(&mut self.slots[at].token, slot, fault)
+    }
+
+    /// The own token of the first lexeme, of whose tokens so many were given, where it is next and a tag or a directive.
+    // Inlined: mostly a look at the kind.
+    #[inline(always)]
+    pub fn next_tag(&self, given: usize) -> Option<&TokenSlot>
+        requires some { 0 < length self.now.items }
+        requires given { (w : Waiting)
+            → given ≤ front_count (kept_of (slice_index_or self.now.items 0 w)) }
+        requires room { (w : Waiting)
+            → front_count (kept_of (slice_index_or self.now.items 0 w)) < 2 ^ 64 }
+        ensures { (w : Waiting) → TellsTag given (slice_index_or self.now.items 0 w) result }
+    {
+        let first = &self.slots[self.first];
+        if is_tagged(first.token.body.kind) {
+            return first.own_at(given);
         }
-        slot.end_mark = mark_again(&first.end);
-        // Read for the sum: a number that is read is within its type.
-        let _last = self.last;
-        self.first += 1;
-        hand_out(&mut self.slots[at].body, &mut slot.body, spares);
-        true
+        None
     }
 }
 
-/// Moves a body from one slot to another. The room of a text that the other one had is kept where a text comes in its place.
-// Of a bare kind that is all that is written.
-// Inlined: it is called at one place, for each token.
-#[inline(always)]
-fn hand_out(from: &mut BodySlot, to: &mut BodySlot, spares: &mut Spares)
-    ensures { body_in_slot to.new ≡ body_in_slot from.old }
+/// Makes two slots at the end of a row.
+// No hint: it is called once.
+fn make_two(slots: &mut Vec<Waiting>) -> Result<(), AllocError>
+    ensures ok { OnOk result (length slots.new.items ≡ length slots.old.items + 2) }
+    ensures err { OnErr result (slots.new.items ≡ slots.old.items) }
 {
-    let kind = from.kind;
-    to.kind = kind;
-    if is_kind(kind) {
-        return;
-    }
-    match kind {
-        yaml_token_type_t::YAML_SCALAR_TOKEN => {
-            to.style = from.style;
-            hand_one(from, to, spares);
-        }
-        _ => hand_out_name(from, to, spares),
-    }
+    slots.reserve(2)?;
+    let alloc = *slots.allocator();
+    slots.push_reserved(Waiting::blank(alloc));
+    slots.push_reserved(Waiting::blank(alloc));
+    Ok(())
 }
 
-/// Moves what a body that is neither of a bare kind nor a scalar carries, but its kind, from one slot to another.
-// The style is moved in front of the choice, so that the kind is read once more: by one look both choices would be made into a table of
-// jumps, which is slower for a scalar.
-// Inlined into its one caller.
-#[inline(always)]
-fn hand_out_name(from: &mut BodySlot, to: &mut BodySlot, spares: &mut Spares)
-    requires { to.old.kind ≡ from.old.kind }
-    ensures { body_in_slot to.new ≡ body_in_slot from.old }
-{
-    to.style = from.style;
-    match from.kind {
-        yaml_token_type_t::YAML_ALIAS_TOKEN => hand_one(from, to, spares),
-        yaml_token_type_t::YAML_ANCHOR_TOKEN => hand_one(from, to, spares),
-        _ => hand_out_rest(from, to, spares),
-    }
-}
-
-/// Moves what a body carries, but its kind and its style, from one slot to another.
-// No hint: LLVM inlines it, since it is short.
-fn hand_out_rest(from: &mut BodySlot, to: &mut BodySlot, spares: &mut Spares)
-    requires kind { to.old.kind ≡ from.old.kind }
-    requires style { to.old.style ≡ from.old.style }
-    ensures { body_in_slot to.new ≡ body_in_slot from.old }
-{
-    to.encoding = from.encoding;
-    to.major = from.major;
-    to.minor = from.minor;
-    hand_both(from, to, spares);
-}
-
-/// Moves the first text, and keeps the room of both that the other slot had.
+/// Puts a token of that kind, which begins and ends at a mark, into a slot.
 // Inlined: some moves.
 #[inline(always)]
-fn hand_one(from: &mut BodySlot, to: &mut BodySlot, spares: &mut Spares)
-    ensures text { to.new.text.items ≡ from.old.text.items }
-    ensures kind { to.new.kind ≡ to.old.kind }
-    ensures style { to.new.style ≡ to.old.style }
+fn put_front(token: &mut TokenSlot, kind: yaml_token_type_t, at: &yaml_mark_t)
+    ensures start { token.new.start_mark ≡ at.now }
+    ensures end { token.new.end_mark ≡ at.now }
+    ensures body { token.new.body ≡ record token.old.body { kind = kind } }
 {
-    hand_text(&mut from.text, &mut to.text, spares);
-    if to.other.capacity() != 0 {
-        give_back(&mut to.other, spares);
+    token.start_mark = mark_again(at);
+    token.end_mark = mark_again(at);
+    token.body.kind = kind;
+}
+
+/// Whether a kind is that of a tag, or of a directive that declares one.
+// Each of the two is asked for by itself: a match on both would be told by ranges of kinds.
+// Inlined: two comparisons.
+#[inline(always)]
+fn is_tagged(kind: yaml_token_type_t) -> bool
+    ensures { (x y : List ℕ) → (e : Extra) → result ≡ is_tagged (body_by kind x y e) }
+{
+    if is_tag_kind(kind) {
+        return true;
     }
+    is_tag_directive_kind(kind)
 }
 
-/// Moves both texts, and keeps the room of both that the other slot had.
-// Inlined: some moves.
-#[inline(always)]
-fn hand_both(from: &mut BodySlot, to: &mut BodySlot, spares: &mut Spares)
-    ensures text { to.new.text.items ≡ from.old.text.items }
-    ensures other { to.new.other.items ≡ from.old.other.items }
-    ensures kind { to.new.kind ≡ to.old.kind }
-    ensures extra { extra_of to.new ≡ extra_of to.old }
-{
-    hand_text(&mut from.text, &mut to.text, spares);
-    hand_text(&mut from.other, &mut to.other, spares);
-}
-
-/// Keeps the room of a text that is done with.
-// Inlined: some moves.
-#[inline(always)]
-fn give_back(text: &mut Vec<u8>, spares: &mut Spares) {
-    spares.keep(moved(text));
-}
-
-/// Moves a text from one place to another, and keeps the room of the one that stood there.
-// Inlined: some moves.
-#[inline(always)]
-fn hand_text(from: &mut Vec<u8>, to: &mut Vec<u8>, spares: &mut Spares)
-    ensures { to.new.items ≡ from.old.items }
-{
-    let text = lifted(from);
-    let room = lifted(to);
-    put_back(to, text);
-    spares.keep(room);
-}
-
-/// Whether a kind says all of its token.
+/// Whether a kind is that of a tag.
 // Inlined: a comparison.
 #[inline(always)]
-fn is_kind(kind: yaml_token_type_t) -> bool
-    ensures { result ≡ is_kind kind }
+fn is_tag_kind(kind: yaml_token_type_t) -> bool
+    ensures { result ≡ is_tag_kind kind }
 {
     match kind {
-        yaml_token_type_t::YAML_DOCUMENT_START_TOKEN => true,
-        yaml_token_type_t::YAML_DOCUMENT_END_TOKEN => true,
-        yaml_token_type_t::YAML_BLOCK_SEQUENCE_START_TOKEN => true,
-        yaml_token_type_t::YAML_BLOCK_MAPPING_START_TOKEN => true,
-        yaml_token_type_t::YAML_BLOCK_END_TOKEN => true,
-        yaml_token_type_t::YAML_FLOW_SEQUENCE_START_TOKEN => true,
-        yaml_token_type_t::YAML_FLOW_SEQUENCE_END_TOKEN => true,
-        yaml_token_type_t::YAML_FLOW_MAPPING_START_TOKEN => true,
-        yaml_token_type_t::YAML_FLOW_MAPPING_END_TOKEN => true,
-        yaml_token_type_t::YAML_BLOCK_ENTRY_TOKEN => true,
-        yaml_token_type_t::YAML_FLOW_ENTRY_TOKEN => true,
-        yaml_token_type_t::YAML_KEY_TOKEN => true,
-        yaml_token_type_t::YAML_VALUE_TOKEN => true,
+        yaml_token_type_t::YAML_TAG_TOKEN => true,
+        _ => false,
+    }
+}
+
+/// Whether a kind is that of a directive that declares a tag.
+// Inlined: a comparison.
+#[inline(always)]
+fn is_tag_directive_kind(kind: yaml_token_type_t) -> bool
+    ensures { result ≡ is_tag_directive_kind kind }
+{
+    match kind {
+        yaml_token_type_t::YAML_TAG_DIRECTIVE_TOKEN => true,
         _ => false,
     }
 }
@@ -313,7 +293,7 @@ fn is_kind(kind: yaml_token_type_t) -> bool
 /// Puts a lexeme into a slot, field by field: of one that is moved whole the gaps between the fields are set too.
 // Inlined: some stores.
 #[inline(always)]
-fn put_read(slot: &mut Waiting, read: ReadLexeme)
+fn put_read(slot: &mut Waiting, read: ReadLexeme, spares: &mut Spares)
     ensures { kept_of slot.new ≡ kept_in_read read }
 {
     let ReadLexeme {
@@ -324,10 +304,10 @@ fn put_read(slot: &mut Waiting, read: ReadLexeme)
         key,
         body,
     } = read;
-    slot.start = mark_again(&start);
-    slot.end = mark_again(&end);
+    slot.token.start_mark = mark_again(&start);
+    slot.token.end_mark = mark_again(&end);
     slot.ends = ends;
     slot.opens = opens;
     slot.key = key;
-    slot.body.put(body);
+    slot.token.body.put(body, spares);
 }

@@ -1,6 +1,6 @@
 //! The lexemes that wait, and the tokens that they are spelled out in.
 
-ghost use Rattle.std.specs.Prelude.{◌≡◌, ◌+◌, ◌^◌, ◌<◌, Bool, Some, ℕ, List};
+ghost use Rattle.std.specs.Prelude.{◌≡◌, ◌+◌, ◌^◌, ◌<◌, Bool, IfSome, None, Some, ℕ, List};
 ghost use Rattle.yaml_scan_slot.specs.Slots.{Extra, body_by};
 ghost use Rattle.yaml_scan_queue.specs.Front.{front_at, front_count, key_count, start_at, start_count};
 ghost use Rattle.yaml_scan_queue.specs.Waits.{kept_of, keyed};
@@ -8,22 +8,19 @@ ghost use Rattle.yaml_scan_queue.specs.Waits.{kept_of, keyed};
 use std::alloc::Global;
 use yaml_scan_history::Opens;
 use yaml_scan_model::{yaml_mark_t, yaml_token_body_t, yaml_token_type_t};
-use yaml_scan_slot::BodySlot;
+use yaml_scan_slot::TokenSlot;
 
 /// A lexeme that was read and not yet taken: what its tokens are made of.
 #[derive(Drop)]
 pub struct Waiting {
-    /// Its own token's marks.
-    pub start: yaml_mark_t,
-    pub end: yaml_mark_t,
+    /// Its own token.
+    pub token: TokenSlot,
     /// How many block levels it closes.
     pub ends: usize,
     /// The level that it opens.
     pub opens: Opens,
     /// Its `:` has come.
     pub key: bool,
-    /// What its own token carries.
-    pub body: BodySlot,
 }
 
 /// A lexeme that was just read, before it waits.
@@ -45,18 +42,11 @@ pub struct ReadLexeme {
 impl Waiting {
     /// What a new slot of the list holds.
     pub fn blank(alloc: Global) -> Waiting {
-        let zero = yaml_mark_t {
-            index: 0,
-            line: 0,
-            column: 0,
-        };
         Waiting {
-            start: zero,
-            end: zero,
+            token: TokenSlot::empty(alloc),
             ends: 0,
             opens: Opens::Nothing,
             key: false,
-            body: BodySlot::empty(alloc),
         }
     }
 
@@ -78,6 +68,19 @@ impl Waiting {
         ensures { result ≡ front_count (kept_of self.now) }
     {
         self.ends + (start_number(self.opens) + key_number(self.key)) as usize
+    }
+
+    /// Its own token, where so many are given and none stands in front of it any more.
+    pub fn own_at(&self, given: usize) -> Option<&TokenSlot>
+        requires { front_count (kept_of self.now) < 2 ^ 64 }
+        ensures some { IfSome result (λ t. (given ≡ front_count (kept_of self.now))
+            × (t.now ≡ self.now.token)) }
+        ensures none { result ≡ None → given ≡ front_count (kept_of self.now) → ⊥ }
+    {
+        if self.fronts() == given {
+            return Some(&self.token);
+        }
+        None
     }
 
     /// The kind of the token in front of its own one, where `given` tokens were taken.

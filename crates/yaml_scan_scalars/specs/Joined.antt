@@ -5,7 +5,8 @@ use Rattle.yaml_scan_scalars.specs.declared.joining.Joining.{Joining}
 use Rattle.yaml_scan_scalars.specs.declared.scalar.PlainScalar.{PlainScalar}
 use Rattle.yaml_scan_model.specs.declared.record.yaml_mark_t.{yaml_mark_t}
 use Rattle.yaml_scan_model.specs.declared.problem.ScanError.{ScanError}
-use Rattle.yaml_scan_model.specs.Marks.{Place, byte, ends_break, is_blank, mark_at}
+use Rattle.yaml_scan_model.specs.Ascii as ascii
+use Rattle.yaml_scan_model.specs.Marks.{Place, byte, ends_break, is_blank, is_blank_or_end, mark_at}
 use Rattle.yaml_scan_scalars.specs.Plain.{PlainSpot, Ends, Takes, Faulty, Words, is_nothing, with_piece, with_run, PlainText, after_white, leads}
 use Rattle.yaml_scan_scalars.specs.Ordinary.{IsRun, bytes_at, plain_kind}
 use Rattle.yaml_scan_scalars.specs.Resume.{resume}
@@ -64,11 +65,16 @@ pub record RanPlain (flow : Bool) (start : yaml_mark_t) (bytes : List ℕ) (plac
     pub run : IsRun (plain_kind flow) place.text (start.index + 1) place
     pub are : bytes ≡ bytes_at place.text start.index (place.at - start.index)
 
+-- a `:` as a mapping has it stands there
+abbrev pub IsColon : List ℕ → ℕ → Type 0
+IsColon text p = (byte text p ≡ ascii.colon) × (is_blank_or_end text (p + 1) ≡ true)
+
 pub record IsPlain (text : List ℕ) (start : ℕ) (s : PlainScalar) (x : PlainText) : Type 0 where
   pub value : s.value.items ≡ x.value
   pub start_mark : s.start_mark ≡ mark_at text start
   pub end_mark : s.end_mark ≡ mark_at text x.end
   pub broke : s.broke ≡ x.broke
+  pub followed : s.followed ≡ true → IsColon text x.place
 
 -- What reading a plain scalar answers, and where it leaves the reader.
 abbrev pub ReadsPlain : List ℕ → ℕ → Place → Result PlainScalar ScanError → Result PlainText Wrong

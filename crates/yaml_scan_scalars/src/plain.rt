@@ -1,12 +1,12 @@
 //! Plain scalars (YAML 1.1, section 9.1.3).
 
-ghost use Rattle.std.specs.Prelude.{◌≡◌, ◌+◌, ◌-◌, ◌||◌, ◌&&◌, ◌==◌, nat_lt, ◌<◌, ◌≤◌, ℕ, suc, true, false, [], length, OnOk, Ok};
+ghost use Rattle.std.specs.Prelude.{◌≡◌, ◌+◌, ◌-◌, ◌||◌, ◌&&◌, ◌==◌, nat_lt, ◌<◌, ◌≤◌, Bool, ℕ, suc, true, false, [], length, OnOk, Ok};
 ghost use Rattle.yaml_scan_model.specs.Ascii as ascii;
 ghost use Rattle.yaml_scan_model.specs.Spares.{HoldsAt};
 ghost use Rattle.yaml_scan_model.specs.Marks.{byte, break_width, mark_at};
 ghost use Rattle.yaml_scan_model.specs.Wrong.{refused};
 ghost use Rattle.yaml_scan_scalars.specs.Plain as spec;
-ghost use Rattle.yaml_scan_scalars.specs.Joined.{IsJoining, RanPlain, Steps, ReadsPlain, TookWords};
+ghost use Rattle.yaml_scan_scalars.specs.Joined.{IsColon, IsJoining, RanPlain, Steps, ReadsPlain, TookWords};
 ghost use Rattle.yaml_scan_scalars.specs.Ordinary.{IsRun, bytes_at, is_kind, plain_kind};
 
 use crate::joining::Joining;
@@ -38,8 +38,11 @@ pub fn plain_scalar(
     // Read for the run: its clauses say that no break stands or ends where a plain scalar begins.
     let _width = reader.break_here();
     let bytes = first_run(plain_kind(flow), reader);
-    if is_followed(reader, flow) {
-        return one_run(spares, reader, bytes, start);
+    if at_colon(reader) {
+        return one_run(spares, reader, bytes, start, true);
+    }
+    if at_bracket(reader, flow) {
+        return one_run(spares, reader, bytes, start, false);
     }
     if !flow {
         let mut ahead = reader.ahead();
@@ -80,32 +83,46 @@ fn first_run<'a>(kind: u8, reader: &mut Reader<'a>) -> &'a [u8]
     reader.since(from)
 }
 
-/// Whether a sign stands here that ends the scalar before it: a `:` as a mapping has it or, in flow context, a bracket or a comma.
+/// Whether a `:` as a mapping has it stands here, which ends the scalar before it.
 // Inlined: a look at two bytes.
 #[inline(always)]
-#[tactic(auto, using(crate::proofs::OneRunLemmas::colon_ends, crate::proofs::OneRunLemmas::bracket_ends))]
-fn is_followed(reader: &Reader, flow: bool) -> bool
+#[tactic(auto, using(crate::proofs::OneRunLemmas::colon_ends))]
+fn at_colon(reader: &Reader) -> bool
+    ensures colon { result ≡ true → IsColon reader.now.text reader.now.at }
+    ensures ends { result ≡ true → (flow : Bool) (level : ℕ)
+        → spec.spot_at flow level reader.now.text reader.now.at ≡ spec.Ends }
+{
+    if reader.here() != b':' {
+        return false;
+    }
+    reader.is_blank_or_end(1)
+}
+
+/// Whether in flow context a bracket or a comma stands here, which ends the scalar before it.
+// Inlined: a look at a byte.
+#[inline(always)]
+#[tactic(auto, using(crate::proofs::OneRunLemmas::bracket_ends))]
+fn at_bracket(reader: &Reader, flow: bool) -> bool
     ensures { result ≡ true → (level : ℕ) → spec.spot_at flow level reader.now.text reader.now.at
         ≡ spec.Ends }
 {
-    let byte = reader.here();
-    if byte == b':' {
-        return reader.is_blank_or_end(1);
-    }
-    flow && is_bracket(byte)
+    flow && is_bracket(reader.here())
 }
 
-/// The scalar that starts at the mark and has those bytes, where the reader stands behind them and no white follows.
-// Inlined: its answer isn't put together in memory.
+/// The scalar that starts at the mark and has those bytes, where the reader stands behind them and no white follows, but a `:` as
+/// told.
+// Inlined twice: so it is known behind it whether a `:` follows. Its answer isn't put together in memory.
 #[inline(always)]
 fn one_run(
     spares: &mut Spares,
     reader: &Reader,
     bytes: &[u8],
     start: yaml_mark_t,
+    followed: bool,
 ) -> Result<PlainScalar, ScanError>
     requires start { start ≡ mark_at reader.now.text start.index }
     requires stands { HoldsAt reader.now.text start.index bytes.now }
+    requires colon { followed ≡ true → IsColon reader.now.text reader.now.at }
     ensures { ReadsPlain reader.now.text start.index reader.now result
         (Ok (record {
           value = bytes.now;
@@ -120,6 +137,7 @@ fn one_run(
         start_mark: start,
         end_mark: reader.mark(),
         broke: false,
+        followed,
     })
 }
 
@@ -174,6 +192,7 @@ fn one_line<'a>(
         start_mark: start,
         end_mark,
         broke: true,
+        followed: false,
     })
 }
 
@@ -228,6 +247,7 @@ fn join_runs(
                 start_mark: start,
                 end_mark,
                 broke,
+                followed: false,
             });
         }
         keep_run(plain_kind(flow), reader, &mut joining)?;

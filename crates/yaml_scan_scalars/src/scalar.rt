@@ -10,4 +10,6 @@ pub struct PlainScalar {
     pub end_mark: yaml_mark_t,
     /// Whether a break is among the blanks and breaks behind it, so that a key is allowed there.
     pub broke: bool,
+    /// It is known that a `:` as a mapping has it stands directly behind it.
+    pub followed: bool,
 }

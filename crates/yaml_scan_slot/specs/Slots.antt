@@ -1,5 +1,5 @@
 -- The token that stands in a slot.
-use Rattle.std.specs.Prelude.{ℕ, ℤ, List}
+use Rattle.std.specs.Prelude.{ℕ, ℤ, Bool, true, false, List}
 use Rattle.yaml_scan_model.specs.declared.name.yaml_encoding_t.{yaml_encoding_t}
 use Rattle.yaml_scan_model.specs.declared.name.yaml_scalar_style_t.{yaml_scalar_style_t}
 use Rattle.yaml_scan_model.specs.declared.name.yaml_token_type_t.{yaml_token_type_t}
@@ -58,3 +58,9 @@ token_in_slot s = record {
   start_mark = s.start_mark;
   end_mark = s.end_mark;
 }
+
+-- the token is a tag, or a directive that declares one
+abbrev pub is_tagged : TokenBody → Bool
+is_tagged (token.tag x y) = true
+is_tagged (token.tag_directive x y) = true
+is_tagged _ = false

@@ -2,5 +2,7 @@
 #![tactic(auto)]
 
 mod slot;
+mod taker;
 
 pub use slot::{BodySlot, TokenSlot};
+pub use taker::{Lent, Taking, TokenCheck, TokenTaker};

@@ -6,8 +6,8 @@ ghost use Rattle.yaml_scan_slot.specs.Slots.{body_in_slot, token_in_slot};
 
 use std::alloc::Global;
 use yaml_scan_model::{
-    moved, yaml_encoding_t, yaml_mark_t, yaml_scalar_style_t, yaml_token_body_t, yaml_token_t,
-    yaml_token_type_t,
+    Spares, lifted, moved, put_back, yaml_encoding_t, yaml_mark_t, yaml_scalar_style_t,
+    yaml_token_body_t, yaml_token_t, yaml_token_type_t,
 };
 
 /// What a token is, and what it carries, each in a place of its own. What isn't of the kind may be left from an earlier token.
@@ -52,10 +52,10 @@ impl BodySlot {
         }
     }
 
-    /// Puts a body into the slot.
+    /// Puts a body into the slot. The room of a text that stood there is kept.
     // Inlined: mostly its kind is known.
     #[inline(always)]
-    pub fn put(&mut self, body: yaml_token_body_t)
+    pub fn put(&mut self, body: yaml_token_body_t, spares: &mut Spares)
         ensures { body_in_slot self.new ≡ body_of body }
     {
         self.kind = kind_of(&body);
@@ -65,22 +65,29 @@ impl BodySlot {
                 self.major = major;
                 self.minor = minor;
             }
-            yaml_token_body_t::TagDirective { handle, prefix } => {
-                self.text = handle;
-                self.other = prefix;
-            }
-            yaml_token_body_t::Alias { value } => self.text = value,
-            yaml_token_body_t::Anchor { value } => self.text = value,
-            yaml_token_body_t::Tag { handle, suffix } => {
-                self.text = handle;
-                self.other = suffix;
-            }
+            yaml_token_body_t::TagDirective { handle, prefix } => self.put_both(
+                handle, prefix, spares,
+            ),
+            yaml_token_body_t::Alias { value } => put_text(&mut self.text, value, spares),
+            yaml_token_body_t::Anchor { value } => put_text(&mut self.text, value, spares),
+            yaml_token_body_t::Tag { handle, suffix } => self.put_both(handle, suffix, spares),
             yaml_token_body_t::Scalar { value, style } => {
                 self.style = style;
-                self.text = value;
+                put_text(&mut self.text, value, spares);
             }
             _ => {}
         }
+    }
+
+    // Puts both texts into the slot.
+    // No hint: LLVM inlines it, since it is short.
+    fn put_both(&mut self, text: Vec<u8>, other: Vec<u8>, spares: &mut Spares)
+        ensures text { self.new.text.items ≡ text.items }
+        ensures other { self.new.other.items ≡ other.items }
+        ensures same { self.new ≡ record self.old { text = self.new.text; other = self.new.other } }
+    {
+        put_text(&mut self.text, text, spares);
+        put_text(&mut self.other, other, spares);
     }
 
     /// Takes the body out.
@@ -158,13 +165,14 @@ impl TokenSlot {
         }
     }
 
-    /// Puts a token into the slot.
+    /// Puts a token into the slot. The room of a text that stood there is let go.
     pub fn put(&mut self, token: yaml_token_t)
         ensures { token_in_slot self.new ≡ token_of token }
     {
+        let mut spares = Spares::new(*self.body.text.allocator());
         self.start_mark = token.start_mark;
         self.end_mark = token.end_mark;
-        self.body.put(token.body);
+        self.body.put(token.body, &mut spares);
     }
 
     /// Puts the empty token into the slot.
@@ -184,6 +192,17 @@ impl TokenSlot {
             end_mark: self.end_mark,
         }
     }
+}
+
+// Puts a text into its place. The room of the one that stood there is kept.
+// Inlined: some moves.
+#[inline(always)]
+fn put_text(place: &mut Vec<u8>, text: Vec<u8>, spares: &mut Spares)
+    ensures { place.new.items ≡ text.items }
+{
+    let room = lifted(place);
+    put_back(place, text);
+    spares.keep(room);
 }
 
 /// The kind of a body.

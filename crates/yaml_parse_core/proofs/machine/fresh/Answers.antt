@@ -1,6 +1,7 @@
+use Rattle.std.proofs.Common.{ap, sym, ◌∷◌}
 use Rattle.yaml_parse_grammar.specs.States.{stream}
-use Rattle.yaml_parse_core.proofs.Stacks.{alone}
+use Rattle.yaml_parse_core.proofs.Stacks.{nothing}
 use Rattle.yaml_parse_core.proofs.machine.fresh.Goals as goal
 
 pub returns : goal.returns
-returns c = λ p. alone stream c.new.result.items c.new.ensures.items
+returns c = λ p. ap (λ z. stream ∷ z) (sym (nothing c.new.result.items c.new.ensures.items))

@@ -6,11 +6,11 @@ use Rattle.yaml_parse_step.proofs.Moves.{refused_stops}
 use Rattle.yaml_parse_step.proofs.step.refused.Goals as goal
 
 pub returns : goal.returns
-returns c = λ ev s t h e. (
+returns c = λ ev none s t h e. (
   c.finish.ensures (properties_of c.args.buffers.now.waiting),
   subst (λ (u : Token). Turned c.args.buffers.now s u (kinds.refused c.args.problem) → Stops s u (fault_of c.refuse.new.fault) ⊎ GaveFault s u (directives_of c.args.buffers.now.directives) (fault_of c.refuse.new.fault)) e
-      (λ k. inl (refused_stops s (token_in_slot c.args.buffers.now.token) c.args.problem _
+      (λ k. inl (refused_stops s (token_in_slot c.args.token.now) c.args.problem _
       (states_by c.args.buffers.now.machine) (fault_of c.refuse.new.fault) k
-      (c.refuse.ensures ∙ ap (λ z. parser_fault c.args.problem c.args.buffers.now.token.start_mark
-      z) c.context.ensures))) h,
+      (c.refuse.ensures ∙ ap (λ z. parser_fault c.args.problem c.args.token.now.start_mark
+      z) c.context-from.ensures))) h,
 )

@@ -1,42 +1,34 @@
-use Rattle.std.proofs.Common.{Option, ap, refl, sym, subst}
-use Rattle.yaml_parse_step.proofs.Words.{Token, token_in_slot, fault_of, event_of, properties_of, states_by, directives_of, HasNoFront, IsFront, raw, peeked_of, states_in}
-use Rattle.yaml_parse_step.specs.Steps.{held_if}
-use Rattle.yaml_parse_step.proofs.Moves.{no_front_open}
-use Rattle.yaml_parse_step.proofs.Turning.{refused_turn}
-use Rattle.yaml_parse_step.proofs.Ways.{cleared_stands, cleared_utf8, silent_asks, stands_open, no_front_asked, went_takes}
+use Rattle.std.proofs.Common.{subst, sym}
+use Rattle.yaml_parse_step.proofs.Words.{fault_of, event_of, properties_of}
+use Rattle.yaml_parse_step.specs.Steps.{AsksNext}
+use Rattle.yaml_parse_step.specs.Turned.{turned}
+use Rattle.yaml_parse_step.proofs.Ways.{given_takes, left_takes, refused_takes, silent_asks_next}
 use Rattle.yaml_parse_step.proofs.step.turn_at_next.Goals as goal
 
-pub returns-then-not-ask-clause-taken : goal.returns-then-not-ask-clause-taken
-returns-then-not-ask-clause-taken g c =
-    record {
-      turns = λ answered.
-          let b = c.args.buffers.now in
-          let ts = g.S.yaml_token_source_t.to_come c.args.source.now in
-          let f = g.S.yaml_token_source_t.fault_to_come c.args.source.now in
-          let rest = g.S.yaml_token_source_t.to_come c.ask.new.source in
-          let after = g.S.yaml_token_source_t.fault_to_come c.ask.new.source in
-          let e = fault_of c.ask.new.fault in
-          let held = held_if b.is_held (token_in_slot c.ask.new.token) in
-          let none : HasNoFront (peeked_of b) ts f e rest = subst (λ (o : Option Token). HasNoFront o ts f e rest) (sym (ap (λ x. held_if x (token_in_slot b.token)) c.requires.0)) c.if-not-ask.ensures.front in
-          refused_turn (raw (peeked_of b) ts f (states_in b)) (raw held rest after (states_in b)) (raw held rest after (states_by c.finish.new.machine (properties_of b.waiting))) (directives_of b.directives) (directives_of b.directives) answered e
-          (stands_open (states_in b) c.requires.1)
-          (no_front_asked (peeked_of b) ts f (states_in b) rest (directives_of b.directives) e none)
-          (no_front_open (peeked_of b) ts f (states_in b) e (raw held rest after (states_in b)) c.requires.1 none) refl (c.finish.ensures (properties_of b.waiting));
-      utf8 = λ h. cleared_utf8 (held_if c.args.buffers.now.is_held (token_in_slot c.ask.new.token)) (states_by c.finish.new.machine (properties_of c.args.buffers.now.waiting)) (directives_of c.args.buffers.now.directives) (c.finish.ensures (properties_of c.args.buffers.now.waiting));
-      stack = λ h. cleared_stands (states_by c.finish.new.machine (properties_of c.args.buffers.now.waiting)) (c.finish.ensures (properties_of c.args.buffers.now.waiting));
-    }
+pub returns-in-Taken-clause-taken : goal.returns-in-Taken-clause-taken
+returns-in-Taken-clause-taken g c =
+    let n = c.lend_next.new in
+    let lent = c.in-Taken.ensures.lends in
+    given_takes c.args.buffers.now n.taker _ _ lent.token _ _ _ (event_of n.slot) (fault_of n.fault) c.requires lent.gives (lent.has c.requires.0)
 
-pub returns-clause-taken : goal.returns-clause-taken
-returns-clause-taken g c =
-    let b = c.args.buffers.now in
-    let t = token_in_slot c.ask.new.token in
-    let none = ap (λ x. held_if x (token_in_slot b.token)) c.requires.0 in
-    went_takes b c.moving.new.buffers _ _ t _ _ c.moving.result (event_of c.moving.new.event) (fault_of c.moving.new.fault) c.requires.1
-    (subst (λ (o : Option Token). IsFront o (g.S.yaml_token_source_t.to_come c.args.source.now) (g.S.yaml_token_source_t.fault_to_come c.args.source.now) t (g.S.yaml_token_source_t.to_come c.ask.new.source) (g.S.yaml_token_source_t.fault_to_come c.ask.new.source)) (sym none) c.if-not-ask.ensures.front)
-    (λ k. c.if-not-ask.ensures.utf8 refl) c.moving.ensures
+pub returns-in-Taken-clause-on : goal.returns-in-Taken-clause-on
+returns-in-Taken-clause-on g c =
+    let n = c.lend_next.new in
+    let lent = c.in-Taken.ensures.lends in
+    silent_asks_next c.args.buffers.now n.taker lent.token _ (event_of n.slot) (fault_of n.fault) (lent.has c.requires.0)
 
-pub returns-clause-on : goal.returns-clause-on
-returns-clause-on g c = λ is.
-    let b = c.args.buffers.now in
-    let n = c.moving.new.buffers in
-    silent_asks c.moving.result (states_in b) (token_in_slot c.ask.new.token) (directives_of b.directives) (event_of c.moving.new.event) (fault_of c.moving.new.fault) n.is_held (token_in_slot n.token) (states_in n) (directives_of n.directives) c.moving.ensures is
+pub turn_at_given-requires : goal.turn_at_given-requires
+turn_at_given-requires g c = subst AsksNext (sym c.in-Left.ensures.left.0) c.requires
+
+pub returns-in-Left-clause-taken : goal.returns-in-Left-clause-taken
+returns-in-Left-clause-taken g c =
+    let n = c.turn_at_given.new in
+    let to_come = g.S.yaml_token_source_t.to_come in
+    let fault_to_come = g.S.yaml_token_source_t.fault_to_come in
+    let left = c.in-Left.ensures in
+    left_takes c.args.buffers.now c.lend_next.new.taker n.buffers (to_come c.args.source.now) (to_come c.lend_next.new.self) (fault_to_come c.args.source.now) (fault_to_come c.lend_next.new.self) (turned c.turn_at_given.result (event_of n.event) (fault_of n.fault)) (to_come n.source) (fault_to_come n.source) left.left.0 left.lends.0 left.lends.1 c.turn_at_given.ensures.taken
+
+pub returns-in-Refused-clause-taken : goal.returns-in-Refused-clause-taken
+returns-in-Refused-clause-taken g c =
+    let n = c.lend_next.new in
+    refused_takes c.args.buffers.now (record n.taker { machine = c.finish.new.machine }) _ _ _ _ (event_of n.slot) (fault_of n.fault) c.requires c.in-Refused.ensures.lends.0 (c.finish.ensures (properties_of n.taker.waiting))

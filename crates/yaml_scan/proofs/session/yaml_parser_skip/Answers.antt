@@ -55,7 +55,7 @@ pub returns-then-parser-clause-few : goal.returns-then-parser-clause-few
 returns-then-parser-clause-few c = (c.parser.invariant.short, few_kept c.parser.inside.spares)
 
 pub returns-clause-few : goal.returns-clause-few
-returns-clause-few c = (c.take_token.ensures.stands.short, few_kept c.take_token.new.spares)
+returns-clause-few c = (c.take_token.ensures.stands.short, few_kept c.parser.inside.spares)
 
 pub returns-then-parser-clause-reads : goal.returns-then-parser-clause-reads
 returns-then-parser-clause-reads c =
@@ -66,4 +66,4 @@ pub returns-clause-reads : goal.returns-clause-reads
 returns-clause-reads c =
     let s = c.parser.inside in
     let ready = ap (λ (v : View). is_settled v) c.parser.view_is ∙ c.requires in
-    rw (← c.parser.view_is) (own_reads (rooms_of s.spares) (rooms_of c.take_token.new.spares) s.fault s.fault s.aside s.aside (token_of s.shown) (token_of s.shown) s.machine c.take_token.new.self (none_some s.fault (ready_fault s.machine s.fault (token_of s.shown) s.aside ready)) c.if-parser.false (reads_none s.machine c.take_token.new.self c.take_token.ensures.keeps))
+    rw (← c.parser.view_is) (own_reads (rooms_of s.spares) (rooms_of c.parser.inside.spares) s.fault s.fault s.aside s.aside (token_of s.shown) (token_of s.shown) s.machine c.take_token.new.self (none_some s.fault (ready_fault s.machine s.fault (token_of s.shown) s.aside ready)) c.if-parser.false (reads_none s.machine c.take_token.new.self c.take_token.ensures.keeps))

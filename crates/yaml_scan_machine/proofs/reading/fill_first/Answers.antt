@@ -8,7 +8,7 @@ use Rattle.yaml_scan_machine.proofs.reading.fill_first.Goals as goal
 -- the first lexeme was read
 begun : (c : Else-not-begin) → ReadsFrom c.args.machine.now c.begin.new.self
     × (0 < length c.begin.new.self.waiting.items)
-begun c = let m = c.args.machine.now in let (r, some, enough) = steps_on m m c.begin.new.self (fault_of c.begin.new.fault) c.begin.result (reads_start m c.requires.stands c.requires.started) (wants_more m c.requires.stands c.requires.sought) c.if-not-begin.false c.begin.ensures in (r, some)
+begun c = let m = c.args.machine.now in let (r, some, enough, end) = steps_on m m c.begin.new.self (fault_of c.begin.new.fault) c.begin.result (reads_start m c.requires.stands c.requires.started) (wants_more m c.requires.stands c.requires.sought) c.if-not-begin.false c.begin.ensures in (r, some)
 
 pub returns-then-machine : goal.returns-then-machine
 returns-then-machine c = let m = c.args.machine.now in steps_end m m (reads_start m c.requires.stands c.requires.started) c.requires.sought c.if-machine.true

@@ -1,4 +1,4 @@
-use Rattle.std.proofs.Common.{◌≤◌, ◌-◌, ◌+◌, ◌<◌, length}
+use Rattle.std.proofs.Common.{◌≡◌, false, ◌≤◌, ◌-◌, ◌+◌, ◌<◌, length}
 use Rattle.yaml_scan_machine.proofs.Words.{text_bytes, WantsMore}
 use Rattle.yaml_scan_machine.proofs.FoundLemmas.{ReadsFrom}
 use Rattle.yaml_scan_machine.proofs.reading.fill_further.Given as goal
@@ -8,6 +8,7 @@ invariant-steps l = record {
   from : ReadsFrom l.fn.machine l.machine;
   wants : WantsMore l.machine;
   enough : l.machine.enough ≤ l.machine.dropped + l.machine.ahead;
+  more : l.machine.ended ≡ false;
   some : 0 < l.machine.dropped + length l.machine.waiting.items;
 }
 

@@ -1,19 +1,19 @@
-use Rattle.std.proofs.Common.{subst, refl}
-use Rattle.yaml_scan_machine.proofs.Words.{Remaining, token_in_slot, GivesFirst, left_in}
+use Rattle.std.proofs.Common.{subst, sym, refl}
+use Rattle.yaml_scan_machine.proofs.Words.{Token, Remaining, token_in_slot, GivesFirst, left_in}
 use Rattle.yaml_scan_machine.proofs.FoundLemmas.{reads_both, reads_none}
 use Rattle.yaml_scan_machine.proofs.reading.next_into.Goals as goal
 
-pub take_token_into-requires-clause-stands : goal.take_token_into-requires-clause-stands
-take_token_into-requires-clause-stands c = c.in-Known.ensures.stands
+pub give-requires-clause-stands : goal.give-requires-clause-stands
+give-requires-clause-stands c = c.in-Known.ensures.stands
 
-pub take_token_into-requires-clause-ready : goal.take_token_into-requires-clause-ready
-take_token_into-requires-clause-ready c = c.in-Known.ensures.ready
+pub give-requires-clause-ready : goal.give-requires-clause-ready
+give-requires-clause-ready c = c.in-Known.ensures.ready
 
 pub returns-in-Known : goal.returns-in-Known
 returns-in-Known c = record {
-  stands = c.take_token_into.ensures.stands;
-  first = subst (λ (r : Remaining). GivesFirst r (token_in_slot c.take_token_into.new.slot) (left_in c.take_token_into.new.self)) c.in-Known.ensures.left c.take_token_into.ensures.gives;
-  reads = reads_both c.args.machine.now c.read_on.new.machine c.take_token_into.new.self c.in-Known.ensures.left c.in-Known.ensures.reads (reads_none c.read_on.new.machine c.take_token_into.new.self c.take_token_into.ensures.keeps);
+  stands = c.give.ensures.stands;
+  first = subst (λ (r : Remaining). GivesFirst r (token_in_slot c.give.new.slot) (left_in c.give.new.self)) c.in-Known.ensures.left (subst (λ (t : Token). GivesFirst (left_in c.read_on.new.machine) t (left_in c.give.new.self)) (sym c.give.ensures.gives.has) c.give.ensures.gives.first);
+  reads = reads_both c.args.machine.now c.read_on.new.machine c.give.new.self c.in-Known.ensures.left c.in-Known.ensures.reads (reads_none c.read_on.new.machine c.give.new.self c.give.ensures.keeps);
 }
 
 pub returns-in-Nothing : goal.returns-in-Nothing

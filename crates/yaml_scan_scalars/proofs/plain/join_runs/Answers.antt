@@ -1,5 +1,5 @@
 use Rattle.std.proofs.Common.{◌≡◌, ◌+◌, ◌-◌, suc, arith, ◌∙◌, sym, refl, ℕ}
-use Rattle.yaml_scan_scalars.proofs.Words.{plain_kind, err_from_is_err_and, Words, joined, plain_text, with_run, TookWords}
+use Rattle.yaml_scan_scalars.proofs.Words.{true≢false, plain_kind, err_from_is_err_and, Words, joined, plain_text, with_run, TookWords}
 use Rattle.yaml_scan_scalars.proofs.PlainLemmas.{seated, lead_text, turn_more, turn_done, turn_refused}
 use Rattle.yaml_scan_scalars.proofs.PlainRunLemmas.{plain_run, plain_first_run, first_text, behind_first}
 use Rattle.yaml_scan_scalars.proofs.RunLemmas.{first_last}
@@ -38,7 +38,7 @@ returns-then-not-more c =
     let (place, kept, value) = turn_done c.args.flow c.args.level c.args.reader.now.text c.args.start c.pieces.reader.at c.pieces.joining c.piece.new.joining c.piece.new.reader _ refl (rw (← c.pieces.invariant.text) (rw c.if-not-more.true at c.in_ok-more.ensures)) in
     let seat = rw c.pieces.invariant.text at c.pieces.invariant.seat.end in
     let all = rw kept at c.finish.ensures in
-    rw (c.pieces.invariant.rest, value) (record { value = all; start_mark = c.requires.own; end_mark = rw kept seat; broke = rw kept refl }, place)
+    rw (c.pieces.invariant.rest, value) (record { value = all; start_mark = c.requires.own; end_mark = rw kept seat; broke = rw kept refl; followed = λ e. absurd (true≢false (sym e)) }, place)
 
 pub pieces-preserved : goal.pieces-preserved
 pieces-preserved c =

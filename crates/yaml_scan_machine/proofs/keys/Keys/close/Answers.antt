@@ -45,7 +45,7 @@ returns-in-Some-clause-due c = λ is.
     let kept : k.outer.items ≡ y.outer.items ++ y.innermost ∷ [] = c.in-Some.ensures.items ∙ ap (λ (z : Key). c.pop.new.self.items ++ z ∷ []) (sym c.put_again.ensures) in
     let more : length k.outer.items ≡ length y.outer.items + 1 = ap (λ (ks : List Key). length ks) kept ∙ length-append y.outer.items (y.innermost ∷ []) in
     let due = due_kept k y refl (λ low. (omega (arith, low, more), refl, sym (ap (λ (ks : List Key). get_or ks 0 k.innermost) kept ∙ get_or_append_left y.outer.items (y.innermost ∷ []) k.innermost 0 low ∙ get_or_default y.outer.items 0 k.innermost y.innermost low))) is in
-    subst (λ (z : Keys). IsDue z) (sym c.clip.ensures.same) (due_kept y record y { stale = c.clip.new.self.stale; first = c.clip.new.self.first } refl (λ low. (low, refl, refl)) due)
+    subst (λ (z : Keys). IsDue z) (sym c.clip.ensures.same) (λ off some. due (sym (c.clip.ensures.due some) ∙ off) some)
 
 pub returns-in-None-clause-due : goal.returns-in-None-clause-due
 returns-in-None-clause-due c = λ is off some. absurd (omega (arith, some, c.in-None.ensures.cases.1, c.pop.new.self.ok.0))

@@ -1,7 +1,7 @@
 use Rattle.std.proofs.Common.{◌≡◌, ◌∙◌, ◌<◌, ℕ, inl, inr, false, refl, ap, subst, sym, List, [], ◌∷◌, ◌++◌, ◌+◌, arith, get_or, length}
 use Rattle.std.proofs.lemmas.Bool.{cases_lt}
 use Rattle.std.proofs.lemmas.List.{length-append, nil_from_length}
-use Rattle.yaml_scan_machine.proofs.Words.{Key, get_or_append_left, get_or_default, stack_of}
+use Rattle.yaml_scan_machine.proofs.Words.{Key, KeyStack, get_or_append_left, get_or_default, stack_of}
 use Rattle.yaml_scan_machine.specs.declared.keys.Keys.{Keys}
 use Rattle.yaml_scan_machine.specs.Candidates.{IsDue, IsFirst}
 use Rattle.yaml_scan_machine.proofs.KeysLemmas.{due_first, due_kept, first_moved}
@@ -13,7 +13,6 @@ use Rattle.yaml_scan_machine.proofs.keys.Keys.open.Goals as goal
 abbrev pushed : After-tell_due → Keys
 pushed c = record c.save.new.self {
   outer = c.push_reserved.new.self;
-  innermost = record c.save.new.self.innermost { possible = false };
   due = c.tell_due.new.self.due;
 }
 
@@ -38,23 +37,24 @@ pub returns-clause-turns : goal.returns-clause-turns
 returns-clause-turns c =
     let at = (goal.at.returns-clause-turns c).After-tell_due in
     let m = stack_of c.save.new.self in
-    let k : Key = record m.innermost { possible = false } in
-    let turns = opened_turns c.args.lexeme c.args.number (stack_of c.spare.new.self) m (stack_of c.tell_due.new.self) k c.save.ensures.turns refl (ap stack_of c.tell_due.ensures.same ∙ ap (λ (x : List Key). record { gone = m.gone; outer = x; innermost = k; stale = m.stale }) (longer at)) in
+    let k : Key = record m.innermost { possible = false; required = false } in
+    let shut : Keys → KeyStack = λ y. record (stack_of y) { innermost = record y.innermost { possible = false; required = false } } in
+    let turns = opened_turns c.args.lexeme c.args.number (stack_of c.spare.new.self) m (stack_of c.give_up.new.self) k c.save.ensures.turns refl (ap stack_of c.give_up.ensures.same ∙ ap shut c.tell_due.ensures.same ∙ ap (λ (x : List Key). record { gone = m.gone; outer = x; innermost = k; stale = m.stale }) (longer at)) in
     λ n h p a. turns n h p (c.spare.ensures.forgets n h p a)
 
 pub returns-clause-first : goal.returns-clause-first
 returns-clause-first c = λ is.
     let at = (goal.at.returns-clause-first c).After-tell_due in
     let m = c.save.new.self in
-    subst (λ (k : Keys). IsFirst k) (sym c.tell_due.ensures.same) (first_moved m (pushed at) refl (λ low. (omega (arith, low, one_more at), stays at m.stale low)) (c.save.ensures.first (c.spare.ensures.first is)))
+    c.give_up.ensures.first (subst (λ (k : Keys). IsFirst k) (sym c.tell_due.ensures.same) (first_moved m (pushed at) refl (λ low. (omega (arith, low, one_more at), stays at m.stale low)) (c.save.ensures.first (c.spare.ensures.first is))))
 
 pub returns-clause-due : goal.returns-clause-due
 returns-clause-due c = λ is.
     let at = (goal.at.returns-clause-due c).After-tell_due in
     let m = c.save.new.self in
-    subst (λ (k : Keys). IsDue k) (sym c.tell_due.ensures.same) (
+    c.give_up.ensures.due (subst (λ (k : Keys). IsDue k) (sym c.tell_due.ensures.same) (
     elim (cases_lt 0 (length m.outer.items)) as (λ (x : _). IsDue (pushed at)) [
       | inl some ↦ due_kept m (pushed at) (c.tell_due.ensures.more (omega (arith, some, one_more at))) (λ low. (some, refl, stays at 0 some)) (c.save.ensures.due (c.spare.ensures.due is))
       | inr none ↦ due_first (pushed at) m.innermost (longer at ∙ ap (λ (ks : List Key). ks ++ m.innermost ∷ []) (nil_from_length m.outer.items (omega (arith, none)))) (c.tell_due.ensures.one (omega (arith, none, one_more at)))
     ]
-    )
+    ))

@@ -6,4 +6,4 @@ use Rattle.yaml_scan_machine.proofs.levels.Levels.open.Goals as goal
 pub invariant_of-self-2 : goal.invariant_of-self-2
 invariant_of-self-2 c =
     let same : indent c.self.inside.columns.items ≡ indent c.args.self.now = ap indent c.self.view_is in
-    rw c.in_ok-push.ensures.items (rising_more c.self.inside.columns.items c.args.column c.self.invariant (omega (arith, c.if-column-indent.false, c.indent.ensures, same)))
+    rw c.in_ok-push.ensures.items (rising_more c.self.inside.columns.items c.args.column c.self.invariant (omega (arith, c.requires, same)))

@@ -1,7 +1,8 @@
-use Rattle.std.proofs.Common.{◌≡◌, length, ap, arith}
+use Rattle.std.proofs.Common.{◌≡◌, ◌∙◌, sym, length, ap, arith}
 use Rattle.yaml_scan_machine.proofs.Words.{text_bytes, Lexeme, history_of, length-map, Waiting, kept_of}
+use Rattle.std.proofs.lemmas.Bool.{true≢false}
 use Rattle.yaml_scan_machine.proofs.SafeLemmas.{mark_column}
-use Rattle.yaml_scan_machine.proofs.KindLemmas.{first_gives, leaves_none}
+use Rattle.yaml_scan_machine.proofs.KindLemmas.{first_gives, leaves_none, none_level}
 use Rattle.yaml_scan_machine.proofs.machine.Machine.first.Goals as goal
 
 pub returns-clause-exact : goal.returns-clause-exact
@@ -25,4 +26,6 @@ returns-clause-safe c =
       key = rw c.stream_start.ensures.key tt;
       left = leaves_none m c.stream_start.result.lexeme.kind c.stream_start.result.lexeme.depth c.stream_start.result.lexeme.start.column c.stream_start.result.left c.requires.stands.shown none c.stream_start.ensures.left depth;
       place = λ e. rw l (c.requires.stands.place c.requires.more);
+      level = ap (λ (x : Lexeme). x.level) l ∙ none_level m c.stream_start.result.lexeme.kind c.stream_start.result.lexeme.depth c.stream_start.result.lexeme.start.column c.requires.stands.shown none;
+      colon = λ e on. absurd (true≢false (sym on ∙ c.stream_start.ensures.colon));
     }

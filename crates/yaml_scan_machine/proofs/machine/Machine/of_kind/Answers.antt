@@ -1,4 +1,4 @@
-use Rattle.std.proofs.Common.{◌≡◌, ◌+◌, ℕ, length, Some, None, Ok, sym, ap, subst, ◌∙◌}
+use Rattle.std.proofs.Common.{◌≡◌, ◌+◌, ℕ, length, Some, None, Ok, refl, sym, ap, subst, ◌∙◌}
 use Rattle.yaml_scan_machine.proofs.Words.{mark_at, yaml_mark_t, text_bytes, Gap, Lexeme, is_end, placed, Next, allowed_behind, colon_missing, of_kind, unless_lost, Answer, fields_of, history_of, read, GivesNext, Stops, lost}
 use Rattle.yaml_scan_history.specs.Next.{not_allowed_there}
 use Rattle.yaml_scan_laws_order.proofs.NextForward.{placed_same}
@@ -63,6 +63,8 @@ returns-in-Ok-clause-safe g c =
       column = rw e.start c.lexeme_at-lexeme.ensures.column;
       depth = e.depth ∙ ap (λ (x : Lexeme). x.depth) value;
       key = c.key-key.ensures.inside;
+      level = e.level ∙ rw (e.kind, e.depth, e.start, value) refl;
+      colon = c.in-Ok.ensures.colon;
       left = leaves_ends k c.args.spot.mark c.args.spot.allowed m.depth m.levels c.left_at-left.result (text_bytes m.text) c.lexeme_at-lexeme.result c.in-Ok.lexeme value e c.left_at-left.ensures;
       place = λ f. e.place (sym (ap is_end e.kind) ∙ f);
     }
@@ -73,7 +75,7 @@ returns-in-Ok-clause-exact g c = λ gap here allow.
     let l = c.lexeme_at-lexeme.result in
     let none : lost c.args.required l ≡ None = sym c.lost.ensures ∙ c.in_default.is in
     let eq = comes g (goal.at.returns-in-Ok-clause-exact g c).After-lexeme_at-lexeme gap here allow in
-    let r : Answer = record { lexeme = c.in-Ok.lexeme; body = c.in-Ok.body; key = c.key-key.result; left = c.left_at-left.result } in
+    let r : Answer = record { lexeme = c.in-Ok.lexeme; body = c.in-Ok.body; key = c.key-key.result; left = c.left_at-left.result; colon = c.in-Ok.colon } in
     subst (λ (x : Next). GivesNext m (Ok r) x) (sym (rw none at eq)) (ok_gives m _ r l c.args.spot.kind c.args.spot.mark c.args.spot.allowed m.levels c.lexeme_at-lexeme.ensures.value c.in-Ok.ensures.exact c.in-Ok.ensures.safe c.key-key.ensures.picks)
 
 pub returns-in-Err-clause-exact : goal.returns-in-Err-clause-exact

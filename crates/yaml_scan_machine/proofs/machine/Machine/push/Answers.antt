@@ -1,8 +1,9 @@
 use Rattle.std.proofs.Common.{sym, ap, subst, ◌∙◌}
 use Rattle.std.specs.Prelude.{OnErr, OnOk}
-use Rattle.yaml_scan_machine.proofs.Words.{Machine, IsMachine, ReadsMore, StaysShort, WantsMore}
+use Rattle.yaml_scan_machine.proofs.Words.{Machine, stream_of, IsMachine, ReadsMore, StaysShort, WantsMore}
 use Rattle.yaml_scan_machine.specs.Stood.{ComesNext}
 use Rattle.yaml_scan_machine.proofs.PushLemmas.{comes_paused, more_paused, paused}
+use Rattle.yaml_scan_machine.proofs.KindLemmas.{end_body, ok_read}
 use Rattle.yaml_scan_machine.proofs.KeysLemmas.{on_ok}
 use Rattle.yaml_scan_machine.proofs.machine.Machine.push.Goals as goal
 
@@ -17,6 +18,7 @@ put-requires c =
       wants = subst (λ (y : Machine). WantsMore y) (sym same) record { few = c.requires.wants.few; needed = c.requires.wants.needed };
       more = ap (λ (y : Machine). y.ended) same ∙ c.requires.more;
       next = subst (λ (y : Machine). ComesNext y c.args.read) (sym same) (comes_paused m n c.args.read c.requires.next);
+      end = λ over. c.pause_behind.ensures.end ((ok_read m c.args.read _ c.requires.next.exact).1 ∙ end_body (stream_of m) c.args.read.lexeme over);
     }
 
 pub returns-clause-ok : goal.returns-clause-ok

@@ -1,5 +1,5 @@
 use Rattle.std.proofs.Common.{cond, ◌≡◌, ◌≤◌, ℕ, false, List, ◌∷◌, [], ◌++◌, sym, ap, subst, ◌∙◌, refl, arith, ◌+◌, ◌&&◌, ◌||◌, not, ltb, eqb, length, length-append}
-use Rattle.yaml_scan_machine.proofs.Words.{map, allows_key, body_of, entry_of, has, inside, is_start, kept_in, opens_at, spelled, map-append, length-map, Machine, Waiting, KeptLexeme, kept_of, IsMachine, ReadsMore, StaysShort, AreInside, IsNarrow, Lexeme, left_by, reached, Key, stack_of, AreKeys, Fields, fields_of, history_of, opens_for, opened, first_open, settled_in, Line, yaml_mark_t}
+use Rattle.yaml_scan_machine.proofs.Words.{map, allows_key, body_of, entry_of, has, indent, inside, is_start, kept_in, opens_at, spelled, map-append, length-map, Machine, Waiting, KeptLexeme, kept_of, IsMachine, ReadsMore, StaysShort, AreInside, IsNarrow, Lexeme, left_by, reached, Key, stack_of, AreKeys, Fields, fields_of, history_of, opens_for, opened, first_open, settled_in, Line, yaml_mark_t}
 use Rattle.std.proofs.Math.Bool.{and-false}
 use Rattle.std.proofs.lemmas.Bool.{true≢false}
 use Rattle.yaml_scan_history.specs.declared.kind.Kind.TheVariants as kinds
@@ -82,17 +82,26 @@ pushed c w q behind colon =
       same,
     )
 
-pub settle-self-requires : goal.settle-self-requires
-settle-self-requires c =
+pub settle-self-requires-clause-counted : goal.settle-self-requires-clause-counted
+settle-self-requires-clause-counted c =
     let f = fields_of c.args.self.now in
     let l = c.args.read.lexeme in
     let q = c.push_back_reserved-2.new.self in
     let last = c.push_back_reserved-2.ensures.items in
-    let at = (goal.at.settle-self-requires c).After-reserve-2 in
+    let at = (goal.at.settle-self-requires-clause-counted c).After-reserve-2 in
     let (p, x, items, number, same) = pushed at last.waiting q last.items last.kept in
     let more = read_pushed (between f l) (fields at q) (colon_in f l) p.shown p.colon x in
     let Counted : Machine → Type 0 = λ y. IsCounted (behind at q c.give_up.new.self y) (c.count-number.result + 2) in
     subst Counted (sym same) (subst (λ y. AreKeys (stack_of c.give_up.new.self) y c.behind_colon-behind.result) (sym more) x.keys, x.place ∙ ap reached (sym more), omega (arith, number, ap (λ (y : List Lexeme). length y) (more ∙ ap (λ g. colon_in f l ∷ g) p.read)), c.give_up.ensures.first (subst (λ (y : Machine). IsFirst y.keys) (sym same) c.requires.stands.first))
+
+pub settle-self-requires-clause-ended : goal.settle-self-requires-clause-ended
+settle-self-requires-clause-ended c =
+    let f = c.args.self.now in
+    let same : c.open_level.new.self ≡ record f { levels = c.open_level.new.self.levels } = c.in_ok-opens.ensures.same ∙ ap (λ (y : Machine). record y { levels = c.open_level.new.self.levels }) c.close_levels-ends.ensures.same in
+    sym (ap (λ (y : Machine). y.ended) same ∙ c.requires.more)
+
+pub open_level-requires : goal.open_level-requires
+open_level-requires c = ap (λ (y : Lexeme). y.level) c.as_colon.ensures ∙ c.requires.next.safe.level ∙ ap indent (sym c.close_levels-ends.ensures.levels)
 
 pub returns-clause-ok : goal.returns-clause-ok
 returns-clause-ok c =
@@ -158,7 +167,7 @@ returns-clause-ok c =
         due = c.settle-self.ensures.due (c.give_up.ensures.due (subst (λ (y : Machine). IsDue y.keys) (sym same) i.due));
         given = given_goes y done d p.shown shown go p.colon (read_pushed y done d p.shown p.colon done_is) refl refl (omega (arith, settled, grows)) (given_goes f y l i.shown p.shown go e p.read refl refl grown i.given);
       },
-      record { text = refl; dropped = refl; given = refl; ahead = refl; enough = omega arith; encoding = refl; started = refl; setting = refl; bytes = refl; further = omega (arith, long); one = λ none. absurd (omega (arith, none, c.requires.ahead)) },
+      record { text = refl; dropped = refl; given = refl; ahead = refl; enough = omega arith; end = λ over. absurd (true≢false (sym over ∙ c.requires.more)); encoding = refl; started = refl; setting = refl; bytes = refl; further = omega (arith, long); one = λ none. absurd (omega (arith, none, c.requires.ahead)) },
     )
 
 pub returns-in_err-reserve-clause-few : goal.returns-in_err-reserve-clause-few

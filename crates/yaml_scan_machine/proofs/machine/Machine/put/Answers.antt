@@ -1,5 +1,5 @@
 use Rattle.std.proofs.Common.{cond, ◌≡◌, ◌≤◌, ◌<◌, ℕ, Bool, List, ◌∷◌, [], ◌++◌, sym, ap, subst, ◌∙◌, refl, arith, ◌+◌, ◌^◌, ◌&&◌, ◌||◌, not, ltb, eqb, length, length-append}
-use Rattle.yaml_scan_machine.proofs.Words.{map, body_of, is_start, allows_key, map-append, length-map, text_bytes, Machine, Waiting, KeptLexeme, kept_of, IsShort, IsMachine, ReadsMore, StaysShort, AreInside, IsNarrow, Lexeme, inside, left_by, entry_of, reached, KeyStack, stack_of, AreKeys, Fields, fields_of, history_of, kept_in, stream_of, opens_for, first_open, settled_in, Line}
+use Rattle.yaml_scan_machine.proofs.Words.{map, body_of, is_start, allows_key, map-append, length-map, text_bytes, Machine, Waiting, KeptLexeme, kept_of, IsShort, IsMachine, ReadsMore, StaysShort, AreInside, IsNarrow, Lexeme, indent, inside, left_by, entry_of, reached, KeyStack, stack_of, AreKeys, Fields, fields_of, history_of, kept_in, stream_of, opens_for, first_open, settled_in, Line}
 use Rattle.yaml_scan_laws_order.proofs.HistoryForward.{goes_forward}
 use Rattle.std.proofs.lemmas.Bool.{true≢false}
 use Rattle.yaml_scan_machine.specs.Candidates.{IsDue, IsFirst}
@@ -80,15 +80,15 @@ pushed c =
     } in
     (p, omega (arith, number, s.count), count)
 
-pub settle-self-requires : goal.settle-self-requires
-settle-self-requires c =
+pub settle-self-requires-clause-counted : goal.settle-self-requires-clause-counted
+settle-self-requires-clause-counted c =
     let m = c.args.self.now in
     let d = c.mark_key.new.self in
     let l = c.args.read.lexeme in
     let same = same_but m c.close_levels-ends.new.self c.open_level.new.self d c.close_levels-ends.ensures.same c.in_ok-opens.ensures.same c.mark_key.ensures.same in
     let (e, spoken, key) = ok_read m c.args.read _ c.requires.next.exact in
-    let (p, number, count) = pushed (goal.at.settle-self-requires c).After-is_end-self in
-    let more = read_pushed (fields_of m) (fields (goal.at.settle-self-requires c).After-is_end-self) l c.requires.stands.shown e p in
+    let (p, number, count) = pushed (goal.at.settle-self-requires-clause-counted c).After-is_end-self in
+    let more = read_pushed (fields_of m) (fields (goal.at.settle-self-requires-clause-counted c).After-is_end-self) l c.requires.stands.shown e p in
     let Counted : Machine → Type 0 = λ y. IsCounted (record y { waiting = c.push_back_reserved.new.self; keys = c.put.new.self; place = l.reached; depth = c.depth_after-self.result; allowed = c.allows-allowed.result; ended = c.is_end-self.result }) (c.count-number.result + 1) in
     subst Counted (sym same) (subst (λ y. AreKeys (stack_of c.put.new.self) y l.reached) (sym more) p.keys, ap reached (sym more), omega (arith, number, ap (λ (y : List Lexeme). length y) more), c.in_ok-put.ensures.first (subst (λ (x : Machine). IsFirst x.keys) (sym same) c.requires.stands.first))
 
@@ -103,6 +103,9 @@ put-requires c =
       inside = subst (λ (k : KeyStack). k.stale ≤ length k.outer) (sym keyed) i.shown.keys.inside;
       room = subst (λ (k : KeyStack). k.gone + length k.outer < 2 ^ 64) (sym keyed) (omega (arith, i.shown.keys.long, i.shown.depth, i.depth, i.few, i.long));
     }
+
+pub open_level-requires : goal.open_level-requires
+open_level-requires c = c.requires.next.safe.level ∙ ap indent (sym c.close_levels-ends.ensures.levels)
 
 pub returns-clause-ok : goal.returns-clause-ok
 returns-clause-ok c =
@@ -170,7 +173,7 @@ returns-clause-ok c =
         due = c.settle-self.ensures.due (c.in_ok-put.ensures.due (subst (λ (y : Machine). IsDue y.keys) (sym same) i.due));
         given = given_goes f done l i.shown shown_now go e (read_pushed f done l i.shown e done_is) refl refl (omega (arith, settled.1, grows)) i.given;
       },
-      record { text = refl; dropped = refl; further = omega (arith, more); one = λ _. more; given = refl; ahead = refl; enough = omega arith; encoding = refl; started = refl; setting = refl; bytes = refl },
+      record { text = refl; dropped = refl; further = omega (arith, more); one = λ _. more; given = refl; ahead = refl; enough = omega arith; end = λ over. c.requires.end (sym c.is_end-self.ensures ∙ over); encoding = refl; started = refl; setting = refl; bytes = refl },
     )
 
 pub returns-in_err-opens-clause-few : goal.returns-in_err-opens-clause-few

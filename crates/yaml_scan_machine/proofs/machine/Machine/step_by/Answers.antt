@@ -2,7 +2,7 @@ use Rattle.std.proofs.Common.{refl, inr}
 use Rattle.yaml_scan_machine.proofs.machine.Machine.step_by.Goals as goal
 
 pub next-requires : goal.next-requires
-next-requires g c = let may = c.requires.may.may in record { stands = may.stands; more = may.more; stand = c.requires.may.stand; required = c.requires.required }
+next-requires g c = let may = c.requires.may.may in record { stands = may.stands; more = may.more; stand = c.requires.may.stand; required = c.requires.required; early = c.requires.early }
 
 pub push_lexeme-requires : goal.push_lexeme-requires
 push_lexeme-requires g c =

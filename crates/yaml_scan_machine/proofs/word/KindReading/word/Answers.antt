@@ -19,4 +19,4 @@ returns-in-Some c =
     let text = c.args.reader.now.text in
     let p = c.args.reader.now.at in
     let word = indicator_word c.args.self.now (body_of c.in-Some.body) c.args.at.flow c.args.at.level text p (told (goal.at.returns-in-Some c).In-Some) in
-    subst (λ x. ReadsWord text p c.read_indicator.new.reader (Ok c.read_indicator.result) x) (sym word) (c.read_indicator.ensures.word, c.read_indicator.ensures.place)
+    subst (λ x. ReadsWord c.args.at.flow text p c.read_indicator.new.reader (Ok c.read_indicator.result) x) (sym word) (c.read_indicator.ensures.word c.args.at.flow, c.read_indicator.ensures.place)

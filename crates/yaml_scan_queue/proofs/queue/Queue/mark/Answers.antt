@@ -1,4 +1,4 @@
-use Rattle.std.proofs.Common.{ap, ◌∙◌, ◌+◌, length-set}
+use Rattle.std.proofs.Common.{ap, ◌∙◌, ◌+◌, ◌-◌, ℕ, length-set}
 use Rattle.yaml_scan_queue.specs.Line.{Line}
 use Rattle.yaml_scan_queue.specs.declared.waiting.Waiting.{Waiting}
 use Rattle.yaml_scan_queue.specs.Waits.{keyed}
@@ -13,4 +13,4 @@ returns-clause-marks c =
 pub returns-clause-slots : goal.returns-clause-slots
 returns-clause-slots c =
     let q = c.self.inside in
-    length-set q.slots.items (q.first + c.args.i) c.mark.new.self ∙ ap (λ (x : Line). x.slots) c.self.view_is
+    ap (λ (n : ℕ). n - 1) (length-set q.slots.items (q.first + c.args.i) c.mark.new.self) ∙ ap (λ (x : Line). x.slots) c.self.view_is

@@ -1,11 +1,12 @@
 -- The part of a row of slots that holds what waits, and the slots beside it.
-use Rattle.std.proofs.Common.{◌≡◌, ℕ, zero, suc, Bool, true, false, ltb, ◌+◌, ◌-◌, ◌<◌, ◌≤◌, List, [], ◌∷◌, ◌++◌, length, take, drop, get_or, Option, Some, None, refl, ap, sym, ◌∙◌, inr, arith}
+use Rattle.std.proofs.Common.{◌≡◌, ℕ, zero, suc, Bool, true, false, ltb, ◌+◌, ◌-◌, ◌<◌, ◌≤◌, List, [], ◌∷◌, ◌++◌, length, take, drop, get_or, Option, Some, None, refl, ap, sym, subst, ◌∙◌, inr, arith, ◌^◌}
 use Rattle.std.specs.Prelude.{IfSome, Vec, vec_len, ◌==◌}
 use Rattle.std.specs.Global.{Global}
 use denote.Bor.{Bor}
 use Rattle.std.proofs.Math.ListN.{set}
 use Rattle.std.proofs.Math.Seq.{take-set-lt}
 use Rattle.std.proofs.lemmas.List.{get_or-drop, get_or-take, get_or_default, take-append-le, drop-append-le, drop-take, drop-set-add, drop-set-lt, drop-drop, get_or-set_same, length-take-le, length-drop}
+use Rattle.std.proofs.lemmas.List.Elements.{All-same, All-push, All-append, All-drop, All-take, All-set, All-get_or}
 use Rattle.std.proofs.lemmas.Bool.Decides.{nat_tests}
 use Rattle.yaml_scan_history.specs.declared.lexeme.Opens.{Opens}
 use Rattle.yaml_scan_history.specs.declared.lexeme.Opens.TheVariants as opening
@@ -15,7 +16,7 @@ use Rattle.yaml_scan_slot.specs.declared.slot.TokenSlot.{TokenSlot}
 use Rattle.yaml_scan_queue.specs.Front.{front_at, front_count, start_at, start_count, key_count}
 use Rattle.yaml_scan_queue.specs.Hands.{TellsTag}
 use Rattle.yaml_scan_queue.specs.Line.{Line}
-use Rattle.yaml_scan_queue.specs.Waits.{KeptLexeme, kept_of}
+use Rattle.yaml_scan_queue.specs.Waits.{AreCounted, IsCounted, KeptLexeme, kept_of}
 use Rattle.yaml_scan_queue.specs.declared.waiting.Waiting.{Waiting}
 
 pub part_length : {X : Type 0} → (xs : List X) (f l : ℕ) → l ≤ length xs
@@ -145,3 +146,32 @@ part_behind xs zs f g l m n x y filled at front end low le =
 pub part_taken : (xs zs : List Waiting) (f g l m n : ℕ) (x : Waiting) → zs ≡ xs → n ≡ f → g ≡ f + 1
     → m ≡ l → f < l → drop g (take m (set zs n x)) ≡ drop 1 (drop f (take l xs))
 part_taken xs zs f g l m n x same at front end lt = rw (same, at, front, end) (part_pop xs f l x lt)
+
+-- a slot more
+pub pushed : (xs ys zs : List Waiting) (w : Waiting) → ys ≡ xs → zs ≡ ys ++ w ∷ [] → AreCounted xs
+    → IsCounted w → AreCounted zs
+pushed xs ys zs w same is h k =
+    let P : Waiting → Type 0 = λ w. IsCounted w in
+    All-same P zs (ys ++ w ∷ []) is (All-push P ys w (All-same P ys xs same h) k)
+
+-- a row that is turned
+pub turned : (xs zs : List Waiting) (n : ℕ) → zs ≡ drop n xs ++ take n xs → AreCounted xs
+    → AreCounted zs
+turned xs zs n is h =
+    let P : Waiting → Type 0 = λ w. IsCounted w in
+    All-same P zs (drop n xs ++ take n xs) is (All-append P (drop n xs) (take n xs) (All-drop P n xs h) (All-take P n xs h))
+
+-- a slot that is filled
+pub filled : (xs : List Waiting) (n : ℕ) (w : Waiting) → IsCounted w → AreCounted xs
+    → AreCounted (set xs n w)
+filled xs n w k h = All-set (λ w. IsCounted w) xs n w k h
+
+-- the slot at a place
+pub counted_at : (xs : List Waiting) (n : ℕ) (x : Waiting) → AreCounted xs → n < length xs
+    → x ≡ get_or xs n x → IsCounted x
+counted_at xs n x h lt here = subst (λ (w : Waiting). IsCounted w) (sym here) (All-get_or (λ w. IsCounted w) xs n x lt h)
+
+-- how many tokens stand in front is kept, where they are few
+pub own_fronts : (x : Waiting) → IsCounted x → front_count (kept_of x) < 2 ^ 64
+    → x.fronts ≡ front_count (kept_of x)
+own_fronts x h few = omega (arith, h, few)

@@ -4,6 +4,7 @@ use Rattle.yaml_scan_model.specs.Tokens.{TokenBody, block_end, block_sequence_st
 use Rattle.yaml_scan_history.specs.declared.lexeme.Opens.{Opens}
 use Rattle.yaml_scan_history.specs.declared.lexeme.Opens.TheVariants as opening
 use Rattle.yaml_scan_queue.specs.Waits.{KeptLexeme}
+pub use Rattle.yaml_scan_queue.specs.Waits.{start_count, key_count, front_count}
 
 abbrev pub key_at : Bool → ℕ → Option TokenBody
 key_at is_key n = if is_key && n == 0 then Some key else None
@@ -20,17 +21,3 @@ start_at opening.Mapping is_key n = if n == 0 then Some block_mapping_start
 abbrev pub front_at : KeptLexeme → ℕ → Option TokenBody
 front_at k given = if nat_lt given k.ends then Some block_end else start_at k.opens k.key
     (given - k.ends)
-
--- how many of block start and KEY stand in front of a lexeme's own token
-abbrev pub start_count : Opens → ℕ
-start_count opening.Nothing = 0
-start_count opening.Sequence = 1
-start_count opening.Mapping = 1
-
-abbrev pub key_count : Bool → ℕ
-key_count true = 1
-key_count false = 0
-
--- how many tokens stand in front of a lexeme's own one
-abbrev pub front_count : KeptLexeme → ℕ
-front_count k = k.ends + (start_count k.opens + key_count k.key)

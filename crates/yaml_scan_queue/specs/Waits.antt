@@ -1,8 +1,9 @@
 -- What is kept of a lexeme that waits, and what a later `:` makes of it.
-use Rattle.std.specs.Prelude.{ℕ, ◌≡◌, ◌++◌, ◌∷◌, [], Bool, true, List}
+use Rattle.std.specs.Prelude.{ℕ, ◌≡◌, ◌+◌, ◌%◌, ◌^◌, ◌++◌, ◌∷◌, [], Bool, true, false, List, All}
 use Rattle.yaml_scan_model.specs.declared.record.yaml_mark_t.{yaml_mark_t}
 use Rattle.yaml_scan_model.specs.Tokens.{TokenBody, body_of}
 use Rattle.yaml_scan_history.specs.declared.lexeme.Opens.{Opens}
+use Rattle.yaml_scan_history.specs.declared.lexeme.Opens.TheVariants as opening
 use Rattle.yaml_scan_slot.specs.Slots.{body_in_slot}
 use Rattle.yaml_scan_queue.specs.declared.waiting.Waiting.{Waiting}
 use Rattle.yaml_scan_queue.specs.declared.waiting.ReadLexeme.{ReadLexeme}
@@ -26,9 +27,37 @@ kept_of w = record {
   body = body_in_slot w.token.body;
 }
 
+-- how many of block start and KEY stand in front of a lexeme's own token
+abbrev pub start_count : Opens → ℕ
+start_count opening.Nothing = 0
+start_count opening.Sequence = 1
+start_count opening.Mapping = 1
+
+abbrev pub key_count : Bool → ℕ
+key_count true = 1
+key_count false = 0
+
+-- how many tokens stand in front of a lexeme's own one
+abbrev pub front_count : KeptLexeme → ℕ
+front_count k = k.ends + (start_count k.opens + key_count k.key)
+
+-- how many do in a slot, where that is kept: as a number of 64 bits
+abbrev pub fronts_of : KeptLexeme → ℕ
+fronts_of k = front_count k % 2 ^ 64
+
+abbrev pub IsCounted : Waiting → Type 0
+IsCounted w = w.fronts ≡ fronts_of (kept_of w)
+
+abbrev pub AreCounted : List Waiting → Type 0
+AreCounted ws = All IsCounted ws
+
 -- It becomes a key, and opens that.
 abbrev pub keyed : Opens → Waiting → Waiting
-keyed opens w = record w { opens = opens; key = true }
+keyed opens w = record w {
+  opens = opens;
+  key = true;
+  fronts = fronts_of (record (kept_of w) { opens = opens; key = true });
+}
 
 -- the same of a lexeme that was just read
 abbrev pub kept_in_read : ReadLexeme → KeptLexeme

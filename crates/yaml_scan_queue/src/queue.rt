@@ -9,7 +9,7 @@ ghost use Rattle.yaml_scan_queue.specs.Front.{front_count};
 ghost use Rattle.yaml_scan_queue.specs.Hands.{Gives, TellsTag, handing};
 ghost use Rattle.yaml_scan_queue.specs.Line.{Grows};
 ghost use Rattle.yaml_scan_queue.specs.declared.waiting.Waiting.{Waiting};
-ghost use Rattle.yaml_scan_queue.specs.Waits.{Pushes, kept_of, kept_in_read, keyed};
+ghost use Rattle.yaml_scan_queue.specs.Waits.{AreCounted, IsCounted, Pushes, kept_of, kept_in_read, keyed};
 
 use crate::waiting::{ReadLexeme, Waiting};
 use std::alloc::{AllocError, Global};
@@ -191,7 +191,7 @@ impl Queue {
     {
         let next = self.first;
         let first = &self.slots[next];
-        let at = if first.fronts() == *given {
+        let at = if first.fronts == *given {
             // Read for the sum: a number that is read is within its type.
             let _last = self.last;
             self.first = next + 1;
@@ -232,6 +232,7 @@ impl Queue {
 fn make_two(slots: &mut Vec<Waiting>) -> Result<(), AllocError>
     ensures ok { OnOk result (length slots.new.items ≡ length slots.old.items + 2) }
     ensures err { OnErr result (slots.new.items ≡ slots.old.items) }
+    ensures counted { AreCounted slots.old.items → AreCounted slots.new.items }
 {
     slots.reserve(2)?;
     let alloc = *slots.allocator();
@@ -294,7 +295,8 @@ fn is_tag_directive_kind(kind: yaml_token_type_t) -> bool
 // Inlined: some stores.
 #[inline(always)]
 fn put_read(slot: &mut Waiting, read: ReadLexeme, spares: &mut Spares)
-    ensures { kept_of slot.new ≡ kept_in_read read }
+    ensures kept { kept_of slot.new ≡ kept_in_read read }
+    ensures counted { IsCounted slot.new }
 {
     let ReadLexeme {
         start,
@@ -309,5 +311,6 @@ fn put_read(slot: &mut Waiting, read: ReadLexeme, spares: &mut Spares)
     slot.ends = ends;
     slot.opens = opens;
     slot.key = key;
+    slot.count_fronts();
     slot.token.body.put(body, spares);
 }

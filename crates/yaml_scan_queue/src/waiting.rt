@@ -3,7 +3,7 @@
 ghost use Rattle.std.specs.Prelude.{◌≡◌, ◌+◌, ◌^◌, ◌<◌, Bool, IfSome, None, Some, ℕ, List};
 ghost use Rattle.yaml_scan_slot.specs.Slots.{Extra, body_by};
 ghost use Rattle.yaml_scan_queue.specs.Front.{front_at, front_count, key_count, start_at, start_count};
-ghost use Rattle.yaml_scan_queue.specs.Waits.{kept_of, keyed};
+ghost use Rattle.yaml_scan_queue.specs.Waits.{IsCounted, fronts_of, kept_of, keyed};
 
 use std::alloc::Global;
 use yaml_scan_history::Opens;
@@ -21,6 +21,8 @@ pub struct Waiting {
     pub opens: Opens,
     /// Its `:` has come.
     pub key: bool,
+    /// How many tokens stand in front of its own one: BLOCK-END tokens, a block start, KEY.
+    pub fronts: usize,
 }
 
 /// A lexeme that was just read, before it waits.
@@ -41,43 +43,47 @@ pub struct ReadLexeme {
 
 impl Waiting {
     /// What a new slot of the list holds.
-    pub fn blank(alloc: Global) -> Waiting {
+    pub fn blank(alloc: Global) -> Waiting
+        ensures { IsCounted result }
+    {
         Waiting {
             token: TokenSlot::empty(alloc),
             ends: 0,
             opens: Opens::Nothing,
             key: false,
+            fronts: 0,
         }
     }
 
     /// It becomes a key, and opens that.
-    // Inlined: two stores.
+    // Inlined: some stores.
     #[inline(always)]
     pub fn mark(&mut self, opens: Opens)
         ensures { self.new ≡ keyed opens self.old }
     {
         self.key = true;
         self.opens = opens;
+        self.count_fronts();
     }
 
-    /// How many tokens stand in front of its own one: BLOCK-END tokens, a block start, KEY.
+    /// Counts the tokens in front of its own one. The sum wraps, so that nothing is asked of it: a text has fewer levels.
     // Inlined: two sums, of which the first is of two bytes.
     #[inline(always)]
-    pub fn fronts(&self) -> usize
-        requires { front_count (kept_of self.now) < 2 ^ 64 }
-        ensures { result ≡ front_count (kept_of self.now) }
+    pub(crate) fn count_fronts(&mut self)
+        ensures { self.new ≡ record self.old { fronts = fronts_of (kept_of self.old) } }
     {
-        self.ends + (start_number(self.opens) + key_number(self.key)) as usize
+        let others = (start_number(self.opens) + key_number(self.key)) as usize;
+        self.fronts = self.ends.wrapping_add(others);
     }
 
     /// Its own token, where so many are given and none stands in front of it any more.
     pub fn own_at(&self, given: usize) -> Option<&TokenSlot>
-        requires { front_count (kept_of self.now) < 2 ^ 64 }
+        requires { self.now.fronts ≡ front_count (kept_of self.now) }
         ensures some { IfSome result (λ t. (given ≡ front_count (kept_of self.now))
             × (t.now ≡ self.now.token)) }
         ensures none { result ≡ None → given ≡ front_count (kept_of self.now) → ⊥ }
     {
-        if self.fronts() == given {
+        if self.fronts == given {
             return Some(&self.token);
         }
         None

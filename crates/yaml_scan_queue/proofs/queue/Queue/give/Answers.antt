@@ -9,46 +9,43 @@ use Rattle.yaml_scan_queue.specs.Line.{Line}
 use Rattle.yaml_scan_queue.specs.Waits.{kept_of}
 use Rattle.yaml_scan_queue.specs.declared.queue.Queue.TheInside.{Inside}
 use Rattle.yaml_scan_queue.specs.declared.waiting.Waiting.{Waiting}
-use Rattle.yaml_scan_queue.proofs.QueueLemmas.{front_done, part_some, part_first, part_before, part_behind, part_taken}
+use Rattle.yaml_scan_queue.proofs.QueueLemmas.{counted_at, own_fronts, front_done, part_some, part_first, part_before, part_behind, part_taken}
 use Rattle.yaml_scan_queue.proofs.queue.Queue.give.Goals as goal
-use Rattle.yaml_scan_queue.proofs.queue.Queue.give.Goals.{then-fronts-given, else-fronts-given}
-
-pub fronts-requires : goal.fronts-requires
-fronts-requires g c =
-    let q = c.self.inside in
-    let x = c.index-first.result.now in
-    let first = part_first q.slots.items q.first q.last x c.args.self.now.items (ap (λ (x : Line). x.items) c.self.view_is) c.self.invariant.last c.requires.some c.index-first.ensures x in
-    omega (arith, ap (λ (w : Waiting). front_count (kept_of w)) first, c.requires.room x)
+use Rattle.yaml_scan_queue.proofs.queue.Queue.give.Goals.{then-first-given, else-first-given}
 
 pub kind_before-kind-requires : goal.kind_before-kind-requires
 kind_before-kind-requires g c =
     let q = c.self.inside in
     let x = c.index-first.result.now in
     let first = part_first q.slots.items q.first q.last x c.args.self.now.items (ap (λ (x : Line). x.items) c.self.view_is) c.self.invariant.last c.requires.some c.index-first.ensures x in
-    omega (arith, ap (λ (w : Waiting). front_count (kept_of w)) first, c.requires.given x, c.fronts.ensures, c.if-fronts-given.false)
+    let same = own_fronts x (counted_at q.slots.items q.first x c.self.invariant.counted (omega (arith, part_some q.slots.items q.first q.last c.args.self.now.items (ap (λ (x : Line). x.items) c.self.view_is) c.self.invariant.last c.requires.some, c.self.invariant.last)) c.index-first.ensures) (omega (arith, ap (λ (w : Waiting). front_count (kept_of w)) first, c.requires.room x)) in
+    omega (arith, ap (λ (w : Waiting). front_count (kept_of w)) first, c.requires.given x, same, c.if-first-given.false)
 
 pub overflow_add-given : goal.overflow_add-given
 overflow_add-given g c =
     let q = c.self.inside in
     let x = c.index-first.result.now in
     let first = part_first q.slots.items q.first q.last x c.args.self.now.items (ap (λ (x : Line). x.items) c.self.view_is) c.self.invariant.last c.requires.some c.index-first.ensures x in
-    omega (arith, ap (λ (w : Waiting). front_count (kept_of w)) first, c.requires.given x, c.requires.room x, c.fronts.ensures, c.if-fronts-given.false)
+    let same = own_fronts x (counted_at q.slots.items q.first x c.self.invariant.counted (omega (arith, part_some q.slots.items q.first q.last c.args.self.now.items (ap (λ (x : Line). x.items) c.self.view_is) c.self.invariant.last c.requires.some, c.self.invariant.last)) c.index-first.ensures) (omega (arith, ap (λ (w : Waiting). front_count (kept_of w)) first, c.requires.room x)) in
+    omega (arith, ap (λ (w : Waiting). front_count (kept_of w)) first, c.requires.given x, c.requires.room x, same, c.if-first-given.false)
 
 pub returns : goal.returns
 returns g c = λ w.
     let q = c.self.inside in
-    let i = c.if-fronts-given.self-inside in
-    let n = c.if-fronts-given.at in
+    let i = c.if-first-given.self-inside in
+    let n = c.if-first-given.at in
     let is = ap (λ (x : Line). x.items) c.self.view_is in
     let x = c.index-first.result.now in
-    let first = part_first q.slots.items q.first q.last x c.args.self.now.items is c.self.invariant.last c.requires.some c.index-first.ensures w in
+    let first_of = part_first q.slots.items q.first q.last x c.args.self.now.items is c.self.invariant.last c.requires.some c.index-first.ensures in
+    let first = first_of w in
+    let same = own_fronts x (counted_at q.slots.items q.first x c.self.invariant.counted (omega (arith, part_some q.slots.items q.first q.last c.args.self.now.items is c.self.invariant.last c.requires.some, c.self.invariant.last)) c.index-first.ensures) (omega (arith, ap (λ (y : Waiting). front_count (kept_of y)) (first_of x), c.requires.room x)) in
     let lent = c.index_mut-2.result.now in
     let P : Token → Type 0 = λ t. g.T.TokenTaker.takes c.args.taker.now c.args.slot.now t c.take.new.self c.take.new.slot (fault_of c.take.new.fault) c.take.result in
     let y : Waiting = record lent { token = c.take.new.token } in
     let left = length-set i.slots.items n y in
     let low = part_some q.slots.items q.first q.last c.args.self.now.items is c.self.invariant.last c.requires.some in
-    elim c.if-fronts-given.branch [
-      | then-fronts-given b ↦
+    elim c.if-first-given.branch [
+      | then-first-given b ↦
           let xs = ap (λ (j : Inside). j.slots.items) b.self-inside-is in
           let front = ap (λ (j : Inside). j.first) b.self-inside-is in
           let end = ap (λ (j : Inside). j.last) b.self-inside-is in
@@ -56,13 +53,13 @@ returns g c = λ w.
           let own = part_first q.slots.items q.first q.last lent c.args.self.now.items is c.self.invariant.last c.requires.some here w in
           inr record {
             has = subst (λ (x : Waiting). P (token_in_slot x.token)) own c.take.ensures;
-            none = ap (λ (x : Waiting). front_at (kept_of x) c.args.given.now) (sym first) ∙ front_done (kept_of x) c.args.given.now (sym c.fronts.ensures ∙ b.if-fronts-given.true);
+            none = ap (λ (x : Waiting). front_at (kept_of x) c.args.given.now) (sym first) ∙ front_done (kept_of x) c.args.given.now (sym same ∙ b.if-first-given.true);
             given = b.given-is;
             dropped = b.dropped-is;
             rest = part_taken q.slots.items i.slots.items q.first i.first q.last i.last n y xs b.at-is front end low ∙ ap (λ (ws : List Waiting). drop 1 ws) is;
             slots = ap (λ (n : ℕ). n - 1) left ∙ ap (λ (ws : List Waiting). length ws - 1) xs ∙ ap (λ (x : Line). x.slots) c.self.view_is;
           }
-      | else-fronts-given b ↦
+      | else-first-given b ↦
           let made : Waiting = record b.index_mut.result.now { token = b.put_front.new.token } in
           let xs = ap (λ (j : Inside). j.slots.items) b.self-inside-is in
           let front = ap (λ (j : Inside). j.first) b.self-inside-is in

@@ -2,7 +2,7 @@ use Rattle.std.proofs.Common.{◌≡◌, ap, sym, ◌∙◌, ◌+◌, ◌-◌, L
 use Rattle.std.proofs.lemmas.List.{drop-drop, length_push}
 use Rattle.yaml_scan_queue.specs.Line.{Line}
 use Rattle.yaml_scan_queue.specs.declared.waiting.Waiting.{Waiting}
-use Rattle.yaml_scan_queue.proofs.QueueLemmas.{part_turned, some_of}
+use Rattle.yaml_scan_queue.proofs.QueueLemmas.{part_turned, pushed, some_of}
 use Rattle.yaml_scan_queue.proofs.queue.Queue.grow.Goals as goal
 
 pub invariant_of-self-2 : goal.invariant_of-self-2
@@ -13,6 +13,7 @@ invariant_of-self-2 c =
       first = c.self.invariant.first;
       last = omega (arith, c.self.invariant.last, ap (λ (ws : List Waiting). length ws) is, length_push q.slots.items c.blank.result);
       front = λ some. c.self.invariant.front (some_of q.slots (sym c.is_empty.ensures ∙ c.if-is_empty.false));
+      counted = pushed q.slots.items c.reserve.new.self.items c.push_reserved.new.self.items c.blank.result c.reserve.ensures.items c.push_reserved.ensures.items c.self.invariant.counted c.blank.ensures;
     }
 
 pub returns-then-self-clause-items : goal.returns-then-self-clause-items

@@ -101,6 +101,8 @@ AGAIN = {"least_limit", "emit_limits", "emit_pieces"}
 THROUGH = {
     "yaml_parser_scan_into": "parse",
     "next_token_into": "parse",
+    "yaml_parser_lend": "parse",
+    "lend_next": "parse",
     "yaml_emitter_emit_early": "reformat",
     "yaml_write_all": "run",
 }

@@ -27,6 +27,9 @@ use Rattle.yaml_scan_history.specs.declared.kind.Kind.TheVariants as kinds
 use Rattle.yaml_scan_history.specs.Words.{word_at}
 use Rattle.yaml_scan_history.specs.Rules.{TellsAll, IsTold, NoName, NamesAreTold, TagsAreTold, IsYaml, IsTagDirective, DirectivesAreTold, IsStandingTold, IsEscape, QuotesAreTold, IsPlainTold, PlainsAreTold, BlocksAreTold, PlacesAreTold}
 
+abbrev wrong_here : Problem → Context → ℕ → Wrong
+wrong_here problem context q = record { problem = problem; context = context; place = q }
+
 -- ---- names
 
 ends_here : (run : _) (text : List ℕ) (p q : ℕ) → p ≤ q
@@ -41,11 +44,7 @@ unfolding belongs
 name_ends text p q h = ends_here _ text (p + 1) q h.after h.each h.stops
 
 no_end : (context : Context) (text : List ℕ) (p q : ℕ) → may_end_name text q ≡ false
-    → name_between context text p q ≡ Err record {
-      problem = problems.NoAlphanumeric;
-      context = context;
-      place = q;
-    }
+    → name_between context text p q ≡ Err (wrong_here problems.NoAlphanumeric context q)
 no_end context text p q n =
     elim (cases_Bool (p == q)) [
       | inl e ↦ rw e refl
@@ -53,11 +52,7 @@ no_end context text p q n =
     ]
 
 no_name : (context : Context) (text : List ℕ) (p q : ℕ) → NoName text p q
-    → anchor_at context text p ≡ Err record {
-      problem = problems.NoAlphanumeric;
-      context = context;
-      place = q;
-    }
+    → anchor_at context text p ≡ Err (wrong_here problems.NoAlphanumeric context q)
 no_name context text p q (run, inl e) =
     ap (name_between context text (p + 1)) (name_ends text p q run) ∙ rw (eq-eqb (p + 1) q (sym e)) refl
 no_name context text p q (run, inr n) =
@@ -78,38 +73,24 @@ unfolding parts_at
 verbatim_wrong text p r b e = rw (eq-eqb (byte text (p + 1)) 60 b) (ap (bracketed text) e)
 
 no_bracket : (text : List ℕ) (u : List ℕ × ℕ) → byte text u.1 ≢ 62
-    → bracketed text (Ok u) ≡ Err record {
-      problem = problems.NoClosingBracket;
-      context = contexts.Tag;
-      place = u.1;
-    }
+    → bracketed text (Ok u) ≡ Err (wrong_here problems.NoClosingBracket contexts.Tag u.1)
 no_bracket text u n = rw (ne_eqb (byte text u.1) 62 n) refl
 
 bracket_wrong : (flow : Bool) (text : List ℕ) (p : ℕ) (u : List ℕ × ℕ) → byte text (p + 1) ≡ 60
     → some_uri_at contexts.TagUri true text (p + 2) ≡ Ok u → byte text u.1 ≢ 62
-    → ended flow text (parts_at text p) ≡ Err record {
-      problem = problems.NoClosingBracket;
-      context = contexts.Tag;
-      place = u.1;
-    }
+    → ended flow text (parts_at text p)
+    ≡ Err (wrong_here problems.NoClosingBracket contexts.Tag u.1)
 bracket_wrong flow text p u b e n = ap (ended flow text) (verbatim_wrong text p (Ok u) b e ∙ no_bracket text u n)
 
 empty_wrong : (flow : Bool) (text : List ℕ) (p q : ℕ) → byte text (p + 1) ≡ 60
     → uri_at contexts.TagUri true text (p + 2) ≡ Ok ([], q)
-    → ended flow text (parts_at text p) ≡ Err record {
-      problem = problems.NoTagUri;
-      context = contexts.TagUri;
-      place = q;
-    }
+    → ended flow text (parts_at text p) ≡ Err (wrong_here problems.NoTagUri contexts.TagUri q)
 empty_wrong flow text p q b e =
-    ap (ended flow text) (verbatim_wrong text p (Err record { problem = problems.NoTagUri; context = contexts.TagUri; place = q }) b (ap (filled contexts.TagUri) e))
+    ap (ended flow text) (verbatim_wrong text p (Err (wrong_here problems.NoTagUri contexts.TagUri q)) b (ap (filled contexts.TagUri) e))
 
 end_wrong : (flow : Bool) (text : List ℕ) (p : ℕ) (t : TagText) → parts_at text p ≡ Ok t
-    → may_end_tag flow text t.end ≡ false → ended flow text (parts_at text p) ≡ Err record {
-      problem = problems.NoWhitespaceOrBreak;
-      context = contexts.Tag;
-      place = t.end;
-    }
+    → may_end_tag flow text t.end ≡ false → ended flow text (parts_at text p)
+    ≡ Err (wrong_here problems.NoWhitespaceOrBreak contexts.Tag t.end)
 end_wrong flow text p t e n = ap (ended flow text) e ∙ rw n refl
 
 leads_none : (b : ℕ) → ((0x80 ≤ b) × (b < 0xC0)) ⊎ (0xF8 ≤ b)
@@ -184,9 +165,6 @@ tag_value : (text : List ℕ) (p r : ℕ) → IsTagDirective text p r
 tag_value text p r h =
     ap (λ z. then_at (named_value_at text) (directive_between text (p + 1) z)) (name_ends text p (p + 4) h.letters)
     ∙ rw (apart (p + 1) (p + 4) (omega arith), h.ended, and_not (is_yaml text (p + 1)) (p + 4 - (p + 1) == 4) (not_four p), and_so (is_tag text (p + 1)) (p + 4 - (p + 1) == 3) h.name (three p)) refl
-
-abbrev wrong_here : Problem → Context → ℕ → Wrong
-wrong_here problem context q = record { problem = problem; context = context; place = q }
 
 name_none : (text : List ℕ) (p : ℕ) → EndsBlockRun is_alpha text (p + 1) (p + 1)
     → name_at text p ≡ Err (wrong_here problems.NoDirectiveName contexts.Directive (p + 1))

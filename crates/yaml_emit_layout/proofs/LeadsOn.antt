@@ -32,18 +32,14 @@ empty_items : (p : Start) (ns : Nodes) (es : List Event)
 unfolding opens_empty items_events node_events
 empty_items p no_nodes es = refl
 empty_items p (node (alias_node name) ns) es = refl
-empty_items p (node (scalar_node v) ns) es = refl
-empty_items p (node (sequence_node q ms) ns) es = refl
-empty_items p (node (mapping_node q ps) ns) es = refl
+empty_items p (node _ ns) es = refl
 
 empty_pairs : (p : Start) (ps : Pairs) (es : List Event)
     → opens_empty (mapping_start p) (pairs_events ps (mapping_end ∷ es)) ≡ are_no_pairs ps
 unfolding opens_empty pairs_events node_events
 empty_pairs p no_pairs es = refl
 empty_pairs p (pair (alias_node name) v ps) es = refl
-empty_pairs p (pair (scalar_node w) v ps) es = refl
-empty_pairs p (pair (sequence_node q ms) v ps) es = refl
-empty_pairs p (pair (mapping_node q ms) v ps) es = refl
+empty_pairs p (pair _ v ps) es = refl
 
 -- the place of a node: its levels, what is left of the open collections behind it, and what was to come with it
 record Positioned (s : Settings) (g : List TagDirective) (ls : List Level) (outer : List Frame) (implicit : Bool) (ds : List Document) (v : Node) (k : ToCome) : Type 0 where

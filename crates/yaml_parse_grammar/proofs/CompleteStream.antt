@@ -121,11 +121,8 @@ first_opens (t ∷ ts) f h =
 
 first_runs : (x : First) (d : Documents) (rest : List Token) (f : Option Fault)
     → run (spell_first x (spell_documents d rest)) (state.first ∷ []) f
-    ≡ record {
-      items = items_first x (spell_documents d rest) (items_documents d rest);
-      ending =
-          None;
-    }
+    ≡ giving (items_first x (spell_documents d rest))
+    (record { items = items_documents d rest; ending = None })
 first_runs tree.no_first d rest f = first_without d rest f ∙ documents_run d rest f
 first_runs (tree.first n e) d rest f =
     first_opens (spell_node n (spell_ends e (spell_documents d rest))) f (node_starts n (spell_ends e (spell_documents d rest)))

@@ -22,8 +22,8 @@ const ROOM: usize = 12 + 5 * SHORT;
 // The indicator of each style.
 const INDICATORS: [u8; 6] = *b"::'\"|>";
 
-// The same behind a space.
-const SPACED: [u8; 12] = *b" : : ' \" | >";
+// The same behind a scalar's word and a space, and two spaces that are cut off again.
+const FRONTS: [u8; 48] = *b"=VAL :  =VAL :  =VAL '  =VAL \"  =VAL |  =VAL >  ";
 
 // The parts of which `put_plain_part` has a copy each.
 struct ScalarTag;
@@ -38,14 +38,23 @@ fn style_indicator(style: yaml_scalar_style_t) -> u8
     INDICATORS[style as usize]
 }
 
-// The style's indicator behind a space.
+// A scalar's word, the style's indicator behind a space, and two spaces.
 // Inlined: one load.
 #[inline(always)]
-fn spaced_indicator(style: yaml_scalar_style_t) -> [u8; 2]
-    ensures { result ≡ ascii.space ∷ indicator_of style ∷ [] }
+fn front_of(style: yaml_scalar_style_t) -> [u8; 8]
+    ensures { result ≡ codes "=VAL " ++ indicator_of style ∷ codes "  " }
 {
-    let at = 2 * (style as usize);
-    [SPACED[at], SPACED[at + 1]]
+    let at = 8 * (style as usize);
+    [
+        FRONTS[at],
+        FRONTS[at + 1],
+        FRONTS[at + 2],
+        FRONTS[at + 3],
+        FRONTS[at + 4],
+        FRONTS[at + 5],
+        FRONTS[at + 6],
+        FRONTS[at + 7],
+    ]
 }
 
 // How many bytes a text has, where there is one.
@@ -124,7 +133,8 @@ fn put_plain_scalar(line: &mut Vec<u8>, event: &yaml_event_t) -> bool
 }
 
 // The same where there is room; else nothing.
-// Out of line: see `put_alias`. It leaves what isn't plain to its caller, so that no argument is kept for that, and reads the event
+// Out of line: LLVM looks at a hundred uses of the line at most to see that nobody keeps it, and reads its place again behind each
+// byte where it can't. It leaves what isn't plain to its caller, so that no argument is kept for that, and reads the event
 // itself, so that its parts aren't read in front of the choice between it and `put_bare`.
 #[inline(never)]
 fn put_named_scalar(line: &mut Vec<u8>, event: &yaml_event_t) -> bool
@@ -204,7 +214,21 @@ fn push_long_alias(line: &mut Vec<u8>, name: &[u8]) -> Result<(), AllocError>
 }
 
 // Puts the line of an alias whose name is short.
-// Inlined, for each length: see `put_kept`.
+// Inlined twice: so LLVM knows more of its length where it is put.
+#[inline(always)]
+fn put_this_alias(line: &mut Vec<u8>, name: &[u8])
+    requires short { length name.now ≤ SHORT }
+    requires room { vec_len line.old + (SHORT + 7) ≤ vec_capacity line.old }
+    ensures { line.new.items ≡ line.old.items
+        ++ (codes "=ALI *" ++ name.now ++ ascii.line_feed ∷ []) }
+{
+    put_each(line, b"=ALI *");
+    put_short(line, name);
+    line.push_reserved(b'\n');
+}
+
+// The same: names of less than eight bytes, which are more, have a copy of their own.
+// Inlined: see `put_alias`.
 #[inline(always)]
 fn put_short_alias(line: &mut Vec<u8>, name: &[u8])
     requires short { length name.now ≤ SHORT }
@@ -212,17 +236,17 @@ fn put_short_alias(line: &mut Vec<u8>, name: &[u8])
     ensures { line.new.items ≡ line.old.items
         ++ (codes "=ALI *" ++ name.now ++ ascii.line_feed ∷ []) }
 {
-    let mut own = moved(line);
-    put_each(&mut own, b"=ALI *");
-    put_short(&mut own, name);
-    own.push_reserved(b'\n');
-    put_back(line, own);
+    if name.len() < 8 {
+        put_this_alias(line, name);
+    } else {
+        put_this_alias(line, name);
+    }
 }
 
-// Puts the line of an alias where there is room and its name is short; else nothing. Shorter names are asked for first: they are more.
-// Out of line, as each arm of the function that calls it: LLVM looks at a hundred uses of the line at most to see that
-// nobody keeps it, and reads its place again behind each byte where it can't.
-#[inline(never)]
+// Puts the line of an alias where there is room and its name is short; else nothing.
+// Inlined: so LLVM sees that nothing reads what is left in the line's place. It is lifted once for all lengths: see
+// `put_named_scalar`.
+#[inline(always)]
 fn put_alias(line: &mut Vec<u8>, name: &[u8]) -> bool
     ensures { Puts result line.old.items (codes "=ALI *" ++ name.now ++ ascii.line_feed ∷ [])
         line.new.items }
@@ -230,22 +254,17 @@ fn put_alias(line: &mut Vec<u8>, name: &[u8]) -> bool
     if !has_room(line, SHORT + 7) {
         return false;
     }
-    if name.len() < 8 {
-        put_short_alias(line, name);
-        true
-    } else if name.len() <= 16 {
-        put_short_alias(line, name);
-        true
-    } else if name.len() <= SHORT {
-        put_short_alias(line, name);
-        true
-    } else {
-        false
+    if name.len() > SHORT {
+        return false;
     }
+    let mut own = moved(line);
+    put_short_alias(&mut own, name);
+    put_back(line, own);
+    true
 }
 
 // Pushes the line of a document's start or end: a word, and a mark where it isn't left out.
-// Out of line: see `put_alias`.
+// Out of line: see `put_named_scalar`.
 #[inline(never)]
 fn push_document(
     line: &mut Vec<u8>,
@@ -265,17 +284,20 @@ fn push_document(
     Ok(())
 }
 
-// Puts what stands before the value of a scalar without properties.
-// Inlined: some stores.
+// Puts what stands before the value of a scalar without properties: eight bytes are one store, and the last two are cut off.
+// Inlined: a load and a store.
 #[inline(always)]
 fn put_front(line: &mut Vec<u8>, style: yaml_scalar_style_t)
-    requires { vec_len line.old + 6 ≤ vec_capacity line.old }
+    requires { vec_len line.old + 8 ≤ vec_capacity line.old }
     ensures items { line.new.items ≡ line.old.items ++ (codes "=VAL " ++ indicator_of style ∷ []) }
     ensures len { vec_len line.new ≡ vec_len line.old + 6 }
     ensures room { vec_capacity line.new ≡ vec_capacity line.old }
 {
-    put_each(line, b"=VAL");
-    put_each(line, &spaced_indicator(style));
+    put_each(line, &front_of(style));
+    // What is cut off isn't looked at.
+    let _last = line.take_last();
+    // Nor is this.
+    let _before = line.take_last();
 }
 
 // Puts the line of a plain scalar without properties.
@@ -344,7 +366,7 @@ fn put_bare(line: &mut Vec<u8>, value: &[u8], style: yaml_scalar_style_t) -> boo
 }
 
 // Pushes the line of an event that its word alone tells, and that is rare or has no room yet.
-// Out of line: see `put_alias`.
+// Out of line: see `put_named_scalar`.
 #[inline(never)]
 fn push_rare(line: &mut Vec<u8>, word: &[u8]) -> Result<(), AllocError>
     requires { length word.now < 16 }
@@ -356,38 +378,20 @@ fn push_rare(line: &mut Vec<u8>, word: &[u8]) -> Result<(), AllocError>
     Ok(())
 }
 
-// Puts the line of an event that its word alone tells, where there is room; else nothing.
+// Puts the line of an event that its word alone tells behind so many bytes, where there is room; else nothing.
 // Inlined: some stores, for words of a fixed length.
 #[inline(always)]
-fn put_word(line: &mut Vec<u8>, word: &[u8]) -> bool
-    requires { length word.now < 16 }
+fn put_word(line: &mut Vec<u8>, from: usize, word: &[u8]) -> bool
+    requires from { from ≡ vec_len line.old }
+    requires word { length word.now < 16 }
     ensures { Puts result line.old.items (word.now ++ ascii.line_feed ∷ []) line.new.items }
 {
-    if !has_room(line, word.len() + 1) {
+    if from + (word.len() + 1) > line.capacity() {
         return false;
     }
     put_each(line, word);
     line.push_reserved(b'\n');
     true
-}
-
-// Puts the line of an event with a name, where there is room, and its texts are short and plain; else nothing.
-// Inlined into its one caller, so that the kind is looked at once.
-#[inline(always)]
-fn put_named(line: &mut Vec<u8>, event: &yaml_event_t) -> bool
-    ensures { Puts result line.old.items (event_line (event_of event.now).body) line.new.items }
-{
-    match &event.body {
-        yaml_event_body_t::Alias { anchor } => put_alias(line, anchor),
-        yaml_event_body_t::Scalar { .. } => put_named_scalar(line, event),
-        yaml_event_body_t::SequenceStart { anchor, tag, .. } => {
-            put_named_start(line, b"+SEQ", anchor, tag)
-        }
-        yaml_event_body_t::MappingStart { anchor, tag, .. } => {
-            put_named_start(line, b"+MAP", anchor, tag)
-        }
-        _ => false,
-    }
 }
 
 // Pushes the line of any event.
@@ -426,7 +430,40 @@ fn push_any(line: &mut Vec<u8>, event: &yaml_event_t) -> Result<(), AllocError>
     }
 }
 
-// Puts the line of an event, where there is room, and its texts are short and plain; else nothing.
+// Puts the line of an event that is no scalar behind so many bytes, where there is room, and its texts are short and plain; else
+// nothing.
+// Inlined into its one caller.
+#[inline(always)]
+fn put_no_scalar(line: &mut Vec<u8>, from: usize, event: &yaml_event_t) -> bool
+    requires { from ≡ vec_len line.old }
+    ensures { Puts result line.old.items (event_line (event_of event.now).body) line.new.items }
+{
+    match &event.body {
+        yaml_event_body_t::Alias { anchor } => put_alias(line, anchor),
+        yaml_event_body_t::SequenceStart {
+            anchor: None,
+            tag: None,
+            ..
+        } => put_word(line, from, b"+SEQ"),
+        yaml_event_body_t::SequenceStart { anchor, tag, .. } => {
+            put_named_start(line, b"+SEQ", anchor, tag)
+        }
+        yaml_event_body_t::SequenceEnd => put_word(line, from, b"-SEQ"),
+        yaml_event_body_t::MappingStart {
+            anchor: None,
+            tag: None,
+            ..
+        } => put_word(line, from, b"+MAP"),
+        yaml_event_body_t::MappingStart { anchor, tag, .. } => {
+            put_named_start(line, b"+MAP", anchor, tag)
+        }
+        yaml_event_body_t::MappingEnd => put_word(line, from, b"-MAP"),
+        _ => false,
+    }
+}
+
+// Puts the line of an event, where there is room, and its texts are short and plain; else nothing. Scalars are asked for by
+// themselves, since they are most: what lies between the two matches has LLVM leave them out of the second one's table.
 // Inlined into its one caller.
 #[inline(always)]
 fn put_line(line: &mut Vec<u8>, event: &yaml_event_t) -> bool
@@ -440,19 +477,8 @@ fn put_line(line: &mut Vec<u8>, event: &yaml_event_t) -> bool
             style,
             ..
         } => put_bare(line, value, *style),
-        yaml_event_body_t::SequenceStart {
-            anchor: None,
-            tag: None,
-            ..
-        } => put_word(line, b"+SEQ"),
-        yaml_event_body_t::SequenceEnd => put_word(line, b"-SEQ"),
-        yaml_event_body_t::MappingStart {
-            anchor: None,
-            tag: None,
-            ..
-        } => put_word(line, b"+MAP"),
-        yaml_event_body_t::MappingEnd => put_word(line, b"-MAP"),
-        _ => put_named(line, event),
+        yaml_event_body_t::Scalar { .. } => put_named_scalar(line, event),
+        _ => put_no_scalar(line, line.len(), event),
     }
 }
 

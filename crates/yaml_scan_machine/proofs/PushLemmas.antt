@@ -4,7 +4,7 @@ use Rattle.yaml_scan_machine.proofs.Words.{set, KeptLexeme, Entry, mark_key, key
 use Rattle.std.proofs.lemmas.List.{length-set, map-set, drop-set-add}
 use Rattle.std.specs.Prelude.{OnErr}
 use Rattle.yaml_scan_machine.specs.Stood.{ComesNext}
-use Rattle.yaml_scan_queue.specs.Line.{Grows}
+use Rattle.yaml_scan_queue.specs.Line.{Grows, GrowsTwice}
 use Rattle.yaml_scan_history.specs.History.{as_key, opens_of}
 use Rattle.yaml_scan_laws_order.proofs.HistoryForward.{steps_below}
 use Rattle.yaml_scan_machine.specs.Reads.{MarksKey, IsColumn}
@@ -31,6 +31,12 @@ pub row_grows : (a : ℕ) (m d r p : Line) → length m.items ≤ 1024 + a → m
     → p.slots ≤ 2049 + (a + a)
 row_grows a m d r p few most count slots (inl same) kept = omega (arith, most, slots, same, kept)
 row_grows a m d r p few most count slots (inr (more, half)) kept = omega (arith, few, count, more, half, kept)
+
+-- the same where two more are
+pub pair_grows : (a : ℕ) (m d p : Line) → length m.items ≤ 1023 + a → m.slots ≤ 2049 + (a + a)
+    → d ≡ m → GrowsTwice d p → p.slots ≤ 2049 + (a + a)
+pair_grows a m d p few most same (inl kept) = omega (arith, most, ap (λ (q : Line). q.slots) same, kept)
+pair_grows a m d p few most same (inr half) = omega (arith, few, ap (λ (q : Line). length q.items) same, half)
 
 pub row_short : (a : ℕ) (m d r : Line) → length m.items ≤ 1024 + a → m.slots ≤ 2049 + (a + a)
     → length d.items ≡ length m.items → d.slots ≡ m.slots → r.items ≡ d.items → Grows d r

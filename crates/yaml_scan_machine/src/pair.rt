@@ -133,7 +133,6 @@ impl<'a> Machine<'a> {
         let opens = self.open_level(as_colon(lexeme), lexeme.start.column + 1)?;
         let number = self.count();
         self.keys.give_up();
-        self.waiting.reserve()?;
         let key = ReadLexeme {
             start: lexeme.start,
             end: lexeme.end,
@@ -142,8 +141,6 @@ impl<'a> Machine<'a> {
             key: true,
             body,
         };
-        self.waiting.push_back_reserved(key, spares);
-        self.waiting.reserve()?;
         let colon = ReadLexeme {
             start: lexeme.reached,
             end: behind,
@@ -152,7 +149,7 @@ impl<'a> Machine<'a> {
             key: false,
             body: yaml_token_body_t::Value,
         };
-        self.waiting.push_back_reserved(colon, spares);
+        self.waiting.push_both(key, colon, spares)?;
         self.place = behind;
         self.allowed = false;
         self.settled = self.settle(number + 2, false);

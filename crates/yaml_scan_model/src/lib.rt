@@ -23,7 +23,7 @@ pub use record::{
     mark_again, yaml_mark_t, yaml_simple_key_t, yaml_tag_directive_t, yaml_version_directive_t,
 };
 pub use run::{is_text, leap, skip_blanks, skip_spaces, skip_text};
-pub use spares::{copied, copied_whole, room, spare};
+pub use spares::{copied, copied_more, copied_whole, room, spare};
 pub use token::{yaml_token_body_t, yaml_token_t};
 pub use yaml_types::{
     DEFAULT_INDENT, DEFAULT_WIDTH, SHORT, followed, is_short, lifted, moved, put_back, put_between,

@@ -13,10 +13,10 @@ const LEAST_ROOM: usize = 24;
 /// How many bytes one move copies.
 const CHUNK: usize = 16;
 
-/// A copy of bytes that stand in the text from that place on, in the room of a spare text where they fit.
+/// A copy of bytes that stand in the text from that place on, in the room of the spare text at hand where they are short, or else of
+/// another one where they fit.
 // Inlined: mostly one move.
 #[inline(always)]
-#[tactic(auto, using(crate::proofs::SparesLemmas::cut_holds))]
 pub fn copied(
     spares: &mut Spares,
     text: &[u8],
@@ -26,17 +26,58 @@ pub fn copied(
     requires { HoldsAt text.now from bytes.now }
     ensures { IfOk result (λ v. v.items ≡ bytes.now) }
 {
-    let count = bytes.len();
-    if CHUNK < count || text.len() - from < CHUNK {
+    if CHUNK < bytes.len() || text.len() - from < CHUNK {
         return copied_apart(spares, bytes);
     }
-    let mut copy = room(spares, CHUNK)?;
+    match spares.take_near(CHUNK) {
+        Some(room) => copied_into(spares, room, text, from, bytes),
+        None => copied_apart(spares, bytes),
+    }
+}
+
+/// The same where the text at hand was taken just before: in the room of another one.
+// Inlined: mostly one move.
+#[inline(always)]
+pub fn copied_more(
+    spares: &mut Spares,
+    text: &[u8],
+    from: usize,
+    bytes: &[u8],
+) -> Result<Vec<u8>, AllocError>
+    requires { HoldsAt text.now from bytes.now }
+    ensures { IfOk result (λ v. v.items ≡ bytes.now) }
+{
+    if CHUNK < bytes.len() || text.len() - from < CHUNK {
+        return copied_apart(spares, bytes);
+    }
+    let room = room(spares, CHUNK)?;
+    copied_into(spares, room, text, from, bytes)
+}
+
+/// A copy of few bytes that stand in the text from that place on, where a whole move stands there, in a room.
+// Inlined: one move.
+#[inline(always)]
+#[tactic(auto, using(crate::proofs::SparesLemmas::cut_holds))]
+fn copied_into(
+    spares: &mut Spares,
+    room: Vec<u8>,
+    text: &[u8],
+    from: usize,
+    bytes: &[u8],
+) -> Result<Vec<u8>, AllocError>
+    requires holds { HoldsAt text.now from bytes.now }
+    requires short { length bytes.now ≤ 16 }
+    requires inside { from + 16 ≤ length text.now }
+    ensures { IfOk result (λ v. v.items ≡ bytes.now) }
+{
     // Never: no clause says how much room there is.
-    if copy.capacity() < CHUNK {
+    if room.capacity() < CHUNK {
         return copied_apart(spares, bytes);
     }
+    let mut copy = room;
+    copy.clear();
     put_sixteen(&mut copy, text, from);
-    copy.truncate(count);
+    copy.truncate(bytes.len());
     Ok(copy)
 }
 

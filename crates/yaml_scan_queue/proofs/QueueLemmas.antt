@@ -16,7 +16,8 @@ use Rattle.yaml_scan_slot.specs.declared.slot.TokenSlot.{TokenSlot}
 use Rattle.yaml_scan_queue.specs.Front.{front_at, front_count, start_at, start_count, key_count}
 use Rattle.yaml_scan_queue.specs.Hands.{TellsTag}
 use Rattle.yaml_scan_queue.specs.Line.{Line}
-use Rattle.yaml_scan_queue.specs.Waits.{AreCounted, IsCounted, KeptLexeme, kept_of}
+use Rattle.yaml_scan_queue.specs.Waits.{AreCounted, IsCounted, KeptLexeme, PushesBoth, kept_of}
+use Rattle.yaml_scan_queue.specs.declared.waiting.ReadLexeme.{ReadLexeme}
 use Rattle.yaml_scan_queue.specs.declared.waiting.Waiting.{Waiting}
 
 pub part_length : {X : Type 0} → (xs : List X) (f l : ℕ) → l ≤ length xs
@@ -175,3 +176,8 @@ counted_at xs n x h lt here = subst (λ (w : Waiting). IsCounted w) (sym here) (
 pub own_fronts : (x : Waiting) → IsCounted x → front_count (kept_of x) < 2 ^ 64
     → x.fronts ≡ front_count (kept_of x)
 own_fronts x h few = omega (arith, h, few)
+
+-- the two stand behind the others
+pub put_twice : {old : List Waiting} {r s : ReadLexeme} {new : List Waiting}
+    → (p : PushesBoth old r s new) → new ≡ (old ++ p.first.waiting ∷ []) ++ p.second.waiting ∷ []
+put_twice p = p.second.items ∙ ap (λ (ws : List Waiting). ws ++ p.second.waiting ∷ []) p.first.items

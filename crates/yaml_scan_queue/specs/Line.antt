@@ -11,3 +11,8 @@ pub record Line : Type 0 where
 abbrev pub Grows : Line → Line → Type 0
 Grows old new = (new.slots ≡ old.slots)
     ⊎ ((new.slots ≡ old.slots + 1) × (old.slots ≤ length old.items + length old.items))
+
+-- The same where two lexemes more are put.
+abbrev pub GrowsTwice : Line → Line → Type 0
+GrowsTwice old new = (new.slots ≤ old.slots)
+    ⊎ (new.slots ≤ length old.items + length old.items + 3)

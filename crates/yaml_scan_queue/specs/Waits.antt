@@ -75,3 +75,9 @@ pub record Pushes (old : List Waiting) (r : ReadLexeme) (new : List Waiting) : T
   pub waiting : Waiting
   pub kept : kept_of waiting ≡ kept_in_read r
   pub items : new ≡ old ++ waiting ∷ []
+
+-- two lexemes more do
+pub record PushesBoth (old : List Waiting) (r s : ReadLexeme) (new : List Waiting) : Type 0 where
+  pub between : List Waiting
+  pub first : Pushes old r between
+  pub second : Pushes between s new

@@ -7,9 +7,9 @@ ghost use Rattle.yaml_scan_slot.specs.Slots.{Extra, body_by, is_tagged};
 ghost use Rattle.yaml_scan_queue.specs.Bare.{is_tag_kind, is_tag_directive_kind};
 ghost use Rattle.yaml_scan_queue.specs.Front.{front_count};
 ghost use Rattle.yaml_scan_queue.specs.Hands.{Gives, TellsTag, handing};
-ghost use Rattle.yaml_scan_queue.specs.Line.{Grows};
+ghost use Rattle.yaml_scan_queue.specs.Line.{Grows, GrowsTwice};
 ghost use Rattle.yaml_scan_queue.specs.declared.waiting.Waiting.{Waiting};
-ghost use Rattle.yaml_scan_queue.specs.Waits.{AreCounted, IsCounted, Pushes, kept_of, kept_in_read, keyed};
+ghost use Rattle.yaml_scan_queue.specs.Waits.{AreCounted, IsCounted, Pushes, PushesBoth, kept_of, kept_in_read, keyed};
 
 use crate::waiting::{ReadLexeme, Waiting};
 use std::alloc::{AllocError, Global};
@@ -136,6 +136,51 @@ impl Queue {
     {
         put_read(&mut self.slots[self.last], read, spares);
         self.last += 1;
+    }
+
+    /// Puts two lexemes behind the last one, where memory for their slots isn't refused.
+    // Both slots in one go where two are free: one comparison, and one address.
+    // Inlined: the lexemes are built in their slots.
+    #[inline(always)]
+    pub fn push_both(
+        &mut self,
+        first: ReadLexeme,
+        second: ReadLexeme,
+        spares: &mut Spares,
+    ) -> Result<(), AllocError>
+        ensures items { OnOk result (PushesBoth self.old.items first second self.new.items) }
+        ensures few { OnErr result (length self.new.items ≤ length self.old.items + 1) }
+        ensures slots { GrowsTwice self.old self.new }
+    {
+        if self.slots.len() - self.last < 2 {
+            return self.push_apart(first, second, spares);
+        }
+        let last = self.last;
+        put_read(&mut self.slots[last], first, spares);
+        put_read(&mut self.slots[last + 1], second, spares);
+        self.last = last + 2;
+        Ok(())
+    }
+
+    /// Puts two lexemes behind the last one, one after the other.
+    // Out of line and cold: mostly two slots are free.
+    #[cold]
+    #[inline(never)]
+    fn push_apart(
+        &mut self,
+        first: ReadLexeme,
+        second: ReadLexeme,
+        spares: &mut Spares,
+    ) -> Result<(), AllocError>
+        ensures items { OnOk result (PushesBoth self.old.items first second self.new.items) }
+        ensures few { OnErr result (length self.new.items ≤ length self.old.items + 1) }
+        ensures slots { GrowsTwice self.old self.new }
+    {
+        self.reserve()?;
+        self.push_back_reserved(first, spares);
+        self.reserve()?;
+        self.push_back_reserved(second, spares);
+        Ok(())
     }
 
     /// Begins at the first slot again, where nothing waits.

@@ -87,7 +87,9 @@ impl BodySlot {
         ensures same { self.new ≡ record self.old { text = self.new.text; other = self.new.other } }
     {
         put_text(&mut self.text, text, spares);
-        put_text(&mut self.other, other, spares);
+        // Mostly another text is at hand now.
+        spares.keep(lifted(&mut self.other));
+        put_back(&mut self.other, other);
     }
 
     /// Takes the body out.
@@ -202,7 +204,7 @@ fn put_text(place: &mut Vec<u8>, text: Vec<u8>, spares: &mut Spares)
 {
     let room = lifted(place);
     put_back(place, text);
-    spares.keep(room);
+    spares.keep_near(room);
 }
 
 /// The kind of a body.

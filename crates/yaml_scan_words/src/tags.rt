@@ -10,7 +10,9 @@ ghost use Rattle.yaml_scan_words.specs.TagsGiven.{IsTag};
 use crate::run::{Run, copied_run, copied_since, leap_over, short_run, skip_indicator, skip_run};
 use crate::uris::{some_uri, uri};
 use crate::word::{TagWord, refusal};
-use yaml_scan_model::{Context, Problem, Reader, ScanError, Spares, room, yaml_mark_t};
+use yaml_scan_model::{
+    Context, Problem, Reader, ScanError, Spares, copied_more, room, yaml_mark_t,
+};
 
 /// The tag whose `!` stands here (YAML 1.1, 3.2.1.2): `!<uri>`, `!uri`, `!!uri`, `!name!uri` or `!`.
 ///
@@ -33,7 +35,7 @@ pub fn tag(spares: &mut Spares, reader: &mut Reader, flow: bool) -> Result<TagWo
         return tag_apart(spares, reader, flow);
     };
     let handle = copied_run(spares, text, reader.place(), middle)?;
-    let suffix = copied_run(spares, text, middle, end)?;
+    let suffix = copied_more(spares, text, middle, &text[middle..end])?;
     leap_over(reader, end);
     Ok(TagWord { handle, suffix })
 }

@@ -1,12 +1,18 @@
 -- How much room the texts have that are kept.
-use Rattle.std.proofs.Common.{◌≤◌, List, [], ◌∷◌, map, All, arith}
+use Rattle.std.proofs.Common.{ℕ, zero, suc, ◌≤◌, List, [], ◌∷◌, length, length-append, map, All, arith}
 use Rattle.std.specs.Prelude.{vec_capacity}
 use Rattle.std.proofs.lemmas.List.{length-map}
-use Rattle.std.proofs.lemmas.List.Elements.{All-nil, All-cons}
+use Rattle.std.proofs.lemmas.List.Elements.{All-nil, All-cons, All-append}
 use Rattle.yaml_types.specs.Bounds.{room_kept}
-use Rattle.yaml_types.specs.Rooms.{rooms_of, KeepsFew}
+use Rattle.yaml_types.specs.Rooms.{near_room, rooms_of, KeepsFew}
 use Rattle.yaml_types.specs.declared.keeping.Spares.{Spares}
 use Rattle.yaml_types.specs.declared.keeping.SpareText.{SpareText}
+
+-- the text at hand is one, with little room
+near_few : (n : ℕ) → n ≤ room_kept
+    → (length (near_room n) ≤ 1) × All (λ room. room ≤ room_kept) (near_room n)
+near_few zero h = (omega (arith), All-nil (λ room. room ≤ room_kept))
+near_few (suc n) h = (omega (arith), All-cons (λ room. room ≤ room_kept) (suc n) [] h (All-nil (λ room. room ≤ room_kept)))
 
 all_small : (ts : List SpareText)
     → All (λ room. room ≤ room_kept) (map (λ t. vec_capacity t.bytes) ts)
@@ -17,5 +23,8 @@ all_small (t ∷ ts) =
 -- few texts are kept, each with little room
 pub few_kept : (s : Spares) → KeepsFew (rooms_of s)
 few_kept s =
+    let others = map (λ t. vec_capacity t.bytes) s.texts.items in
+    let near = near_room (vec_capacity s.near.bytes) in
+    let (one, small) = near_few (vec_capacity s.near.bytes) s.near.small in
     let n = length-map s.texts.items (λ t. vec_capacity t.bytes) in
-    (omega (arith, n, s.texts.ok, s.few), all_small s.texts.items)
+    (omega (arith, length-append near others, one, n, s.texts.ok, s.few), All-append (λ room. room ≤ room_kept) near others small (all_small s.texts.items))

@@ -1,12 +1,13 @@
 //! Texts that were let go, whose room later ones take.
 
-ghost use Rattle.std.specs.Prelude.{◌≡◌, ◌≤◌, [], vec_capacity};
+ghost use Rattle.std.specs.Prelude.{◌≡◌, ◌+◌, ◌≤◌, [], vec_capacity};
 ghost use Rattle.yaml_types.specs.Bounds.{texts_kept, room_kept};
 
 use std::alloc::Global;
+use yaml_types_plain::{lifted, put_back};
 
-/// How many texts are kept.
-const TEXTS_KEPT: usize = 64;
+/// How many texts are kept beside the one at hand.
+const OTHERS_KEPT: usize = 63;
 
 /// With how much room each at most.
 const ROOM_KEPT: usize = 256;
@@ -21,8 +22,10 @@ struct SpareText {
 /// The texts that were let go and are kept: at most 64, each with at most 256 bytes of room.
 #[derive(Drop)]
 pub struct Spares {
+    /// The one whose place was filled last, where there is one. It lies here, so that it is found without a look into the list.
+    near: SpareText,
     texts: Vec<SpareText>,
-    ghost few: { vec_capacity texts ≤ texts_kept },
+    ghost few: { vec_capacity texts + 1 ≤ texts_kept },
 }
 
 impl Spares {
@@ -33,6 +36,9 @@ impl Spares {
         ensures { rooms_of result ≡ [] }
     {
         Spares {
+            near: SpareText {
+                bytes: Vec::new(alloc),
+            },
             texts: Vec::new(alloc),
         }
     }
@@ -42,6 +48,41 @@ impl Spares {
     #[inline(always)]
     pub fn allocator(&self) -> &Global {
         self.texts.allocator()
+    }
+
+    /// Keeps the room of a text at hand, where it has not too much; an earlier one there is kept as others are.
+    // Inlined: two comparisons and some moves.
+    #[inline(always)]
+    pub fn keep_near(&mut self, text: Vec<u8>) {
+        if self.near.bytes.capacity() == 0 && text.capacity() <= ROOM_KEPT {
+            put_back(&mut self.near.bytes, text);
+            return;
+        }
+        self.keep_instead(text);
+    }
+
+    /// Keeps the room of a text in place of that at hand, which may be too small for any that comes.
+    // Out of line and cold: mostly the text at hand was taken.
+    #[cold]
+    #[inline(never)]
+    fn keep_instead(&mut self, text: Vec<u8>) {
+        if ROOM_KEPT < text.capacity() {
+            drop_text(text);
+            return;
+        }
+        let earlier = lifted(&mut self.near.bytes);
+        put_back(&mut self.near.bytes, text);
+        self.keep(earlier);
+    }
+
+    /// The text at hand, with what it held, where it has room for so many bytes.
+    // Inlined: a comparison and some moves.
+    #[inline(always)]
+    pub fn take_near(&mut self, count: usize) -> Option<Vec<u8>> {
+        if self.near.bytes.capacity() < count {
+            return None;
+        }
+        Some(lifted(&mut self.near.bytes))
     }
 
     /// Keeps the room of a text, where it has some and not too much, and not enough are kept.
@@ -68,12 +109,12 @@ impl Spares {
     #[inline(never)]
     fn make_place(&mut self, text: Vec<u8>) {
         if self.texts.capacity() == 0 {
-            drop(self.texts.reserve_exact(TEXTS_KEPT));
+            drop(self.texts.reserve_exact(OTHERS_KEPT));
         }
         drop(text);
     }
 
-    /// The text that was kept last, with what it held.
+    /// The text that was kept last and isn't at hand, with what it held.
     // Inlined: a move.
     #[inline(always)]
     pub fn take(&mut self) -> Option<Vec<u8>> {

@@ -1,4 +1,4 @@
-use Rattle.std.proofs.Common.{cond, ◌≡◌, ◌≤◌, ℕ, false, List, ◌∷◌, [], ◌++◌, sym, ap, subst, ◌∙◌, refl, arith, ◌+◌, ◌&&◌, ◌||◌, not, ltb, eqb, length, length-append}
+use Rattle.std.proofs.Common.{cond, ◌≡◌, ◌≤◌, ℕ, true, false, List, ◌∷◌, [], ◌++◌, sym, ap, subst, ◌∙◌, refl, arith, ◌+◌, ◌&&◌, ◌||◌, not, ltb, eqb, length, length-append}
 use Rattle.yaml_scan_machine.proofs.Words.{map, allows_key, body_of, entry_of, has, indent, inside, is_start, kept_in, opens_at, spelled, map-append, length-map, Machine, Waiting, KeptLexeme, kept_of, IsMachine, ReadsMore, StaysShort, AreInside, IsNarrow, Lexeme, left_by, reached, Key, stack_of, AreKeys, Fields, fields_of, history_of, opens_for, opened, first_open, settled_in, Line, yaml_mark_t}
 use Rattle.std.proofs.Math.Bool.{and-false}
 use Rattle.std.proofs.lemmas.Bool.{true≢false}
@@ -10,33 +10,46 @@ use Rattle.yaml_scan_machine.specs.Shows.{IsCounted}
 use Rattle.yaml_scan_machine.proofs.SafeLemmas.{inside_push, mark_column, narrow_by}
 use Rattle.yaml_scan_machine.proofs.KindLemmas.{ok_read}
 use Rattle.yaml_scan_machine.proofs.MarkLemmas.{IsPushed, kept_entries, read_pushed, settled_grows, shown_by}
-use Rattle.yaml_scan_machine.proofs.PushLemmas.{levels_is, on_err, room_is, row_grows, row_short, settled_value, stays}
+use Rattle.yaml_scan_machine.proofs.PushLemmas.{levels_is, on_err, pair_grows, room_is, settled_value, stays}
 use Rattle.yaml_scan_machine.proofs.CandidatesLemmas.{with_key}
 use Rattle.yaml_scan_machine.proofs.KeysLemmas.{cancelled_turns, put_keys, turns_put}
 use Rattle.yaml_scan_machine.proofs.ComesLemmas.{waits_shorter}
 use Rattle.yaml_scan_machine.proofs.GivenLemmas.{given_goes}
+use Rattle.yaml_scan_queue.proofs.QueueLemmas.{put_twice}
 use Rattle.yaml_scan_machine.proofs.PairLemmas.{IsPaired, between, colon_in, colon_kept, colon_row, key_row, paired, read_in, with_key_in}
-use Rattle.yaml_scan_machine.proofs.machine.Machine.push_pair.Goals.{After-reserve-2}
+use Rattle.yaml_scan_machine.proofs.machine.Machine.push_pair.Goals.{After-push_both}
 use Rattle.yaml_scan_machine.proofs.machine.Machine.push_pair.Goals as goal
 
 -- the machine behind the two, but what is settled
-abbrev behind : After-reserve-2 → Line → Keys → Machine → Machine
-behind c q k y = record y { waiting = q; keys = k; place = c.behind_colon-behind.result; allowed = false }
+abbrev behind : After-push_both → Keys → Machine → Machine
+behind c k y = record y { waiting = c.push_both.new.self; keys = k; place = c.behind_colon-behind.result; allowed = false }
 
 -- its fields
-abbrev fields : After-reserve-2 → Line → Fields
-fields c q = fields_of (behind c q c.give_up.new.self (record c.args.self.now { levels = c.open_level.new.self.levels }))
+abbrev fields : After-push_both → Fields
+fields c = fields_of (behind c c.give_up.new.self (record c.args.self.now { levels = c.open_level.new.self.levels }))
+
+-- what is kept of the key
+abbrev key_kept : After-push_both → KeptLexeme
+key_kept c = record {
+  start = c.args.read.lexeme.start;
+  end = c.args.read.lexeme.end;
+  ends = c.close_levels-ends.result;
+  opens = c.in_ok-opens.opens;
+  key = true;
+  body = body_of c.args.read.body;
+}
 
 -- they are those behind the `:` behind the fields with the key
-pushed : (c : After-reserve-2) (w : Waiting) (q : Line)
-    → q.items ≡ c.reserve-2.new.self.items ++ w ∷ []
-    → kept_of w ≡ colon_row c.args.read.lexeme.reached c.behind_colon-behind.result
+pushed : (c : After-push_both) (w v : Waiting)
+    → c.push_both.new.self.items ≡ (c.open_level.new.self.waiting.items ++ w ∷ []) ++ v ∷ []
+    → kept_of w ≡ key_kept c
+    → kept_of v ≡ colon_row c.args.read.lexeme.reached c.behind_colon-behind.result
     → let f = fields_of c.args.self.now in let l = c.args.read.lexeme in
-    IsPaired f l × IsPushed (between f l) (colon_in f l) (fields c q)
-    × (q.items ≡ (c.args.self.now.waiting.items ++ c.push_back_reserved.ensures.items.waiting ∷ []) ++ w ∷ [])
+    IsPaired f l × IsPushed (between f l) (colon_in f l) (fields c)
+    × (c.push_both.new.self.items ≡ (c.args.self.now.waiting.items ++ w ∷ []) ++ v ∷ [])
     × (c.count-number.result ≡ length (read_in f))
     × (c.open_level.new.self ≡ record c.args.self.now { levels = c.open_level.new.self.levels })
-pushed c w q behind colon =
+pushed c w v two key colon =
     let m = c.args.self.now in
     let f = fields_of m in
     let s = c.requires.stands.shown in
@@ -48,17 +61,16 @@ pushed c w q behind colon =
     let g : Waiting → KeptLexeme = λ w. kept_of w in
     let column : ℕ = l.start.column + 1 in
     let same : b ≡ record m { levels = b.levels } = c.in_ok-opens.ensures.same ∙ ap (λ (y : Machine). record y { levels = b.levels }) c.close_levels-ends.ensures.same in
-    let (e, spoken, key) = ok_read m c.args.read _ c.requires.next.exact in
+    let (e, spoken, _) = ok_read m c.args.read _ c.requires.next.exact in
     let p = paired f l s e c.requires.keyed c.requires.none in
     let left : a.levels ≡ inside l (read_in f) = c.close_levels-ends.ensures.levels ∙ ap (λ ls. left_by l.kind l.depth l.start.column ls) s.levels in
     let opens : c.in_ok-opens.opens ≡ opens_for kinds.ValueMark l.depth column a.levels = c.in_ok-opens.ensures.opens ∙ ap (λ (y : Lexeme). opens_for y.kind y.depth column a.levels) c.as_colon.ensures in
     let levels : b.levels ≡ opened (not (ltb 0 l.depth)) column a.levels = c.in_ok-opens.ensures.levels ∙ ap (λ (y : Lexeme). opened (is_start y.kind && not (ltb 0 y.depth)) column a.levels) c.as_colon.ensures in
-    let first = c.push_back_reserved.ensures.items in
-    let ws : List Waiting = m.waiting.items ++ first.waiting ∷ [] in
-    let items : q.items ≡ ws ++ w ∷ [] = behind ∙ ap (λ (ws : List Waiting). ws ++ w ∷ []) (c.reserve-2.ensures.items ∙ first.items ∙ ap (λ (ws : List Waiting). ws ++ first.waiting ∷ []) (c.reserve.ensures.items ∙ ap (λ (y : Machine). y.waiting.items) same)) in
-    let row : map g ws ≡ kept_entries y x = map-append g m.waiting.items (first.waiting ∷ []) ∙ ap (λ (k : KeptLexeme). f.waiting ++ k ∷ []) first.kept ∙ key_row f l c.close_levels-ends.result c.in_ok-opens.opens (body_of c.args.read.body) a.levels s p left c.close_levels-ends.ensures.count opens spoken in
+    let ws : List Waiting = m.waiting.items ++ w ∷ [] in
+    let items : c.push_both.new.self.items ≡ ws ++ v ∷ [] = two ∙ ap (λ (y : Machine). (y.waiting.items ++ w ∷ []) ++ v ∷ []) same in
+    let row : map g ws ≡ kept_entries y x = map-append g m.waiting.items (w ∷ []) ∙ ap (λ (k : KeptLexeme). f.waiting ++ k ∷ []) key ∙ key_row f l c.close_levels-ends.result c.in_ok-opens.opens (body_of c.args.read.body) a.levels s p left c.close_levels-ends.ensures.count opens spoken in
     let mark = c.behind_colon-behind.ensures.mark in
-    let last : kept_of w ≡ kept_in (spelled f) (entry_of x (with_key_in f l)) = colon ∙ ap (λ (m : yaml_mark_t). colon_row l.reached m) mark ∙ colon_kept f l p in
+    let last : kept_of v ≡ kept_in (spelled f) (entry_of x (with_key_in f l)) = colon ∙ ap (λ (m : yaml_mark_t). colon_row l.reached m) mark ∙ colon_kept f l p in
     let gone : Key = record m.keys.innermost { possible = false; required = false } in
     let t = with_key y.keys gone in
     let n : ℕ = m.dropped + length y.waiting in
@@ -68,7 +80,7 @@ pushed c w q behind colon =
       record {
         encoding = refl;
         text = refl;
-        waiting = ap (λ (ws : List Waiting). map g ws) items ∙ map-append g ws (w ∷ []) ∙ ap (λ (ks : List KeptLexeme). ks ++ kept_of w ∷ []) row ∙ ap (λ (k : KeptLexeme). kept_entries y x ++ k ∷ []) last;
+        waiting = ap (λ (ws : List Waiting). map g ws) items ∙ map-append g ws (v ∷ []) ∙ ap (λ (ks : List KeptLexeme). ks ++ kept_of v ∷ []) row ∙ ap (λ (k : KeptLexeme). kept_entries y x ++ k ∷ []) last;
         keys = subst (λ m. AreKeys (stack_of c.give_up.new.self) (x ∷ with_key_in f l) m) (sym mark) (subst (λ k. AreKeys k (x ∷ with_key_in f l) x.reached) (sym keys) turned);
         dropped = refl;
         place = mark;
@@ -86,12 +98,11 @@ pub settle-self-requires-clause-counted : goal.settle-self-requires-clause-count
 settle-self-requires-clause-counted c =
     let f = fields_of c.args.self.now in
     let l = c.args.read.lexeme in
-    let q = c.push_back_reserved-2.new.self in
-    let last = c.push_back_reserved-2.ensures.items in
-    let at = (goal.at.settle-self-requires-clause-counted c).After-reserve-2 in
-    let (p, x, items, number, same) = pushed at last.waiting q last.items last.kept in
-    let more = read_pushed (between f l) (fields at q) (colon_in f l) p.shown p.colon x in
-    let Counted : Machine → Type 0 = λ y. IsCounted (behind at q c.give_up.new.self y) (c.count-number.result + 2) in
+    let at = (goal.at.settle-self-requires-clause-counted c).After-push_both in
+    let two = c.in_ok-push_both.ensures.items in
+    let (p, x, items, number, same) = pushed at two.first.waiting two.second.waiting (put_twice two) two.first.kept two.second.kept in
+    let more = read_pushed (between f l) (fields at) (colon_in f l) p.shown p.colon x in
+    let Counted : Machine → Type 0 = λ y. IsCounted (behind at c.give_up.new.self y) (c.count-number.result + 2) in
     subst Counted (sym same) (subst (λ y. AreKeys (stack_of c.give_up.new.self) y c.behind_colon-behind.result) (sym more) x.keys, x.place ∙ ap reached (sym more), omega (arith, number, ap (λ (y : List Lexeme). length y) (more ∙ ap (λ g. colon_in f l ∷ g) p.read)), c.give_up.ensures.first (subst (λ (y : Machine). IsFirst y.keys) (sym same) c.requires.stands.first))
 
 pub settle-self-requires-clause-ended : goal.settle-self-requires-clause-ended
@@ -112,29 +123,27 @@ returns-clause-ok c =
     let d = colon_in f l in
     let y = between f l in
     let h = with_key_in f l in
-    let one = c.push_back_reserved.new.self in
-    let q = c.push_back_reserved-2.new.self in
+    let q = c.push_both.new.self in
     let z = c.settle-self.new.self in
     let r = c.settle-self.result in
     let a = c.close_levels-ends.new.self in
     let b = c.open_level.new.self in
     let n : ℕ = length f.text in
-    let at = (goal.at.returns-clause-ok c).After-reserve-2 in
-    let first = c.push_back_reserved.ensures.items in
-    let last = c.push_back_reserved-2.ensures.items in
-    let (p, v, items, number, same) = pushed at last.waiting q last.items last.kept in
-    let x = fields at q in
+    let at = (goal.at.returns-clause-ok c).After-push_both in
+    let first = c.in_ok-push_both.ensures.items.first in
+    let last = c.in_ok-push_both.ensures.items.second in
+    let (p, v, items, number, same) = pushed at first.waiting last.waiting (put_twice c.in_ok-push_both.ensures.items) first.kept last.kept in
+    let x = fields at in
     let go = goes_forward f.text in
     let more = read_pushed y x d p.shown p.colon v in
-    let as_it : Machine → Machine = behind at q z.keys in
+    let as_it : Machine → Machine = behind at z.keys in
     let ws : List Waiting = m.waiting.items ++ first.waiting ∷ [] in
     let waits : b.waiting ≡ m.waiting = ap (λ (y : Machine). y.waiting) same in
     let long : length q.items ≡ length m.waiting.items + 2 = ap (λ (ws : List Waiting). length ws) items ∙ omega (arith, length-append ws (last.waiting ∷ []), length-append m.waiting.items (first.waiting ∷ [])) in
-    let more_one : length one.items ≡ length m.waiting.items + 1 = omega (arith, long, ap (λ (ws : List Waiting). length ws) last.items, length-append c.reserve-2.new.self.items (last.waiting ∷ []), ap (λ (ws : List Waiting). length ws) c.reserve-2.ensures.items) in
     let rows = length-map m.waiting.items (λ (y : Waiting). kept_of y) in
     let (e, spoken, key) = ok_read m c.args.read _ c.requires.next.exact in
     let few = waits_shorter m l i c.requires.wants c.requires.more c.requires.ahead e in
-    let slots = row_grows m.ahead m.waiting b.waiting c.reserve.new.self one (omega (arith, few)) i.short.1 (ap (λ (y : Line). length y.items) waits) (ap (λ (y : Line). y.slots) waits) c.reserve.ensures.slots c.push_back_reserved.ensures.slots in
+    let slots = pair_grows m.ahead m.waiting b.waiting q (omega (arith, few)) i.short.1 waits c.push_both.ensures.slots in
     let keys : AreKeys (stack_of z.keys) (d ∷ h) x.place = subst (λ g. AreKeys (stack_of z.keys) g x.place) more (subst (λ (y : Machine). AreKeys (stack_of z.keys) (history_of (as_it y)) x.place) same c.settle-self.ensures.keys) in
     let settled : r ≡ settled_in (d ∷ h) = settled_value x d h r more c.requires.more (subst (λ (y : Machine). r ≡ cond y.ended (length (history_of (as_it y))) (first_open (history_of (as_it y)) (history_of (as_it y)))) same c.settle-self.ensures.value) in
     let done : Fields = record x { keys = stack_of z.keys; settled = r } in
@@ -150,7 +159,7 @@ returns-clause-ok c =
       record {
         long = i.long;
         few = omega (arith, long, room_is y d p.colon, p.shown.count, i.shown.count, count, rows);
-        short = (omega (arith, long, few), row_grows m.ahead one one c.reserve-2.new.self q (omega (arith, few, more_one)) slots refl refl c.reserve-2.ensures.slots c.push_back_reserved-2.ensures.slots);
+        short = (omega (arith, long, few), slots);
         ahead = i.ahead;
         taken = omega (arith, settled, grown, grows, i.taken);
         settled = omega (arith, settled, most, count, long, rows, i.shown.count);
@@ -170,25 +179,13 @@ returns-clause-ok c =
       record { text = refl; dropped = refl; given = refl; ahead = refl; enough = omega arith; end = λ over. absurd (true≢false (sym over ∙ c.requires.more)); encoding = refl; started = refl; setting = refl; bytes = refl; further = omega (arith, long); one = λ none. absurd (omega (arith, none, c.requires.ahead)) },
     )
 
-pub returns-in_err-reserve-clause-few : goal.returns-in_err-reserve-clause-few
-returns-in_err-reserve-clause-few c =
+pub returns-in_err-push_both-clause-few : goal.returns-in_err-push_both-clause-few
+returns-in_err-push_both-clause-few c =
     let m = c.args.self.now in
     let b = c.open_level.new.self in
+    let q = c.push_both.new.self in
     let same : b ≡ record m { levels = b.levels } = c.in_ok-opens.ensures.same ∙ ap (λ (y : Machine). record y { levels = b.levels }) c.close_levels-ends.ensures.same in
+    let waits : b.waiting ≡ m.waiting = ap (λ (y : Machine). y.waiting) same in
     let few = waits_shorter m c.args.read.lexeme c.requires.stands c.requires.wants c.requires.more c.requires.ahead (ok_read m c.args.read _ c.requires.next.exact).0 in
-    let n : Machine = record b { waiting = c.reserve.new.self; keys = c.give_up.new.self } in
-    on_err c.from_residual-in_err-reserve.result (StaysShort m n) (stays m n (ap (λ (y : Machine). y.ahead) same) (row_short m.ahead m.waiting b.waiting c.reserve.new.self (omega (arith, few)) c.requires.stands.short.1 (ap (λ (y : Machine). length y.waiting.items) same) (ap (λ (y : Machine). y.waiting.slots) same) c.reserve.ensures.items c.reserve.ensures.slots))
-
-pub returns-in_err-reserve-2-clause-few : goal.returns-in_err-reserve-2-clause-few
-returns-in_err-reserve-2-clause-few c =
-    let m = c.args.self.now in
-    let b = c.open_level.new.self in
-    let one = c.push_back_reserved.new.self in
-    let first = c.push_back_reserved.ensures.items in
-    let same : b ≡ record m { levels = b.levels } = c.in_ok-opens.ensures.same ∙ ap (λ (y : Machine). record y { levels = b.levels }) c.close_levels-ends.ensures.same in
-    let few = waits_shorter m c.args.read.lexeme c.requires.stands c.requires.wants c.requires.more c.requires.ahead (ok_read m c.args.read _ c.requires.next.exact).0 in
-    let n : Machine = record b { waiting = c.reserve-2.new.self; keys = c.give_up.new.self } in
-    let count = ap (λ (y : Machine). length y.waiting.items) same in
-    let slots = row_grows m.ahead m.waiting b.waiting c.reserve.new.self one (omega (arith, few)) c.requires.stands.short.1 count (ap (λ (y : Machine). y.waiting.slots) same) c.reserve.ensures.slots c.push_back_reserved.ensures.slots in
-    let long : length one.items ≤ 1024 + m.ahead = omega (arith, few, count, ap (λ (ws : List Waiting). length ws) first.items, length-append c.reserve.new.self.items (first.waiting ∷ []), ap (λ (ws : List Waiting). length ws) c.reserve.ensures.items) in
-    on_err c.from_residual-in_err-reserve-2.result (StaysShort m n) (stays m n (ap (λ (y : Machine). y.ahead) same) (row_short m.ahead one one c.reserve-2.new.self long slots refl refl c.reserve-2.ensures.items c.reserve-2.ensures.slots))
+    let n : Machine = record b { waiting = q; keys = c.give_up.new.self } in
+    on_err c.from_residual-in_err-push_both.result (StaysShort m n) (stays m n (ap (λ (y : Machine). y.ahead) same) (omega (arith, few, c.in_err-push_both.ensures.few, ap (λ (q : Line). length q.items) waits), pair_grows m.ahead m.waiting b.waiting q (omega (arith, few)) c.requires.stands.short.1 waits c.push_both.ensures.slots))

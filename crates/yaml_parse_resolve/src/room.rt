@@ -176,16 +176,6 @@ pub(crate) fn emptied(earlier: &mut yaml_event_body_t, spares: &mut Spares) -> V
     }
 }
 
-/// Takes what a slot of events holds out of it. The rooms of its texts are kept.
-// Out of line: mostly a slot holds one text at most.
-#[inline(never)]
-pub(crate) fn vacate(earlier: &mut yaml_event_body_t, spares: &mut Spares)
-    ensures { OwnsNothing earlier.new }
-{
-    let room = emptied(earlier, spares);
-    spares.keep(room);
-}
-
 // Lets go of what a slot of events holds.
 // Out of line, and cold: few slots hold directives.
 #[cold]
@@ -222,9 +212,8 @@ pub(crate) fn exchange(
             None => mem::forget(mem::replace(place, Some(moved_out(text, spares)))),
             Some(last) => exchange_texts(last, text),
         }
-    } else if let Some(last) = place {
-        spares.keep(lifted(last));
-        mem::forget(mem::replace(place, None));
+    } else {
+        keep_text(place, spares);
     }
 }
 
@@ -237,36 +226,4 @@ fn moved_out(text: &mut Vec<u8>, spares: &mut Spares) -> Vec<u8>
     let own = lifted(text);
     put_back(text, spare(spares));
     own
-}
-
-/// The text, if it is one that is to be there, moved out of its place, in which a spare one is left.
-// Inlined: some moves.
-#[inline(always)]
-pub(crate) fn moved_if(is_there: bool, text: &mut Vec<u8>, spares: &mut Spares) -> Option<Vec<u8>>
-    ensures { text_of result ≡ text_if is_there text.old.items }
-{
-    if is_there {
-        Some(moved_out(text, spares))
-    } else {
-        None
-    }
-}
-
-/// The text, if it is one that is to be there, moved out of its place. There the room is left, or else it is kept.
-// Inlined: some moves.
-#[inline(always)]
-pub(crate) fn moved_for(
-    is_there: bool,
-    text: &mut Vec<u8>,
-    room: Vec<u8>,
-    spares: &mut Spares,
-) -> Option<Vec<u8>>
-    ensures { text_of result ≡ text_if is_there text.old.items }
-{
-    if is_there {
-        Some(mem::replace(text, room))
-    } else {
-        spares.keep(room);
-        None
-    }
 }

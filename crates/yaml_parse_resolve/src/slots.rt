@@ -7,7 +7,7 @@ ghost use Rattle.yaml_parse_grammar.specs.Items as item;
 ghost use Rattle.yaml_parse_grammar.specs.Resolve.{node_event};
 ghost use Rattle.yaml_parse_resolve.specs.Bare.{OwnsNothing};
 
-use crate::room::{clears_any, emptied, put_bare, vacate};
+use crate::room::{clears_any, emptied, put_bare};
 use std::mem;
 use yaml_parse_core::Waiting;
 use yaml_parse_model::{
@@ -64,7 +64,8 @@ pub(crate) fn end_over(is_sequence: bool, waiting: &mut Waiting, slot: &mut yaml
 fn end_over_more(is_sequence: bool, spares: &mut Spares, slot: &mut yaml_event_body_t)
     ensures { body_of slot.new ≡ (if is_sequence then told.sequence_end else told.mapping_end) }
 {
-    vacate(slot, spares);
+    let room = emptied(slot, spares);
+    spares.keep(room);
     end_collection(is_sequence, slot);
 }
 

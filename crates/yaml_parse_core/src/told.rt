@@ -56,6 +56,8 @@ pub struct Waiting {
     pub anchor: Vec<u8>,
     pub handle: Vec<u8>,
     pub suffix: Vec<u8>,
+    /// The room of an event's text, while the slot of events holds none.
+    pub room: Vec<u8>,
     /// Texts of earlier events, in whose room later ones are made.
     pub spares: Spares,
 }
@@ -76,6 +78,7 @@ pub fn none_waiting(alloc: Global) -> Waiting {
         anchor: Vec::new(alloc),
         handle: Vec::new(alloc),
         suffix: Vec::new(alloc),
+        room: Vec::new(alloc),
         spares: Spares::new(alloc),
     }
 }

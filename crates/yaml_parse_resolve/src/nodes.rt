@@ -11,7 +11,7 @@ ghost use Rattle.yaml_parse_core.specs.Views.{shape_at, node_item};
 ghost use Rattle.yaml_parse_resolve.specs.Bare.{OwnsNothing};
 ghost use Rattle.yaml_parse_resolve.specs.Settles.{named_event};
 
-use crate::room::{clears, moved_if, vacate};
+use crate::room::{clears, emptied, exchange};
 use crate::scalars::{bare, named};
 use crate::slots::{start_mapping, start_sequence};
 use yaml_parse_core::{Shape, Waiting};
@@ -68,12 +68,13 @@ fn start(shape: Shape, anchor: Option<Vec<u8>>, tag: Option<Vec<u8>>, event: &mu
 }
 
 // A collection begins without properties.
-// No hint: LLVM inlines it, since it is short.
+// Inlined where its shape is known: it is short then.
+#[inline]
 fn tell_collection(shape: Shape, waiting: &mut Waiting, event: &mut yaml_event_body_t)
     requires { shape ≡ shapes.Scalar → ⊥ }
     ensures { (b : TokenBody) → body_of event.new ≡ node_event None None (shape_at shape b) }
 {
-    if clears(event, &mut waiting.anchor) {
+    if clears(event, &mut waiting.room) {
         start(shape, None, None, event);
     } else {
         collection_over(shape, waiting, event);
@@ -87,7 +88,8 @@ fn collection_over(shape: Shape, waiting: &mut Waiting, event: &mut yaml_event_b
     requires { shape ≡ shapes.Scalar → ⊥ }
     ensures { (b : TokenBody) → body_of event.new ≡ node_event None None (shape_at shape b) }
 {
-    vacate(event, &mut waiting.spares);
+    let room = emptied(event, &mut waiting.spares);
+    waiting.spares.keep(room);
     start(shape, None, None, event);
 }
 
@@ -120,9 +122,20 @@ fn tell_named_collection(shape: Shape, waiting: &mut Waiting, event: &mut yaml_e
     requires { shape ≡ shapes.Scalar → ⊥ }
     ensures { (b : TokenBody) → body_of event.new ≡ named_event waiting.old (shape_at shape b) }
 {
-    vacate(event, &mut waiting.spares);
-    let anchor = moved_if(waiting.has_anchor, &mut waiting.anchor, &mut waiting.spares);
-    let tag = moved_if(waiting.has_tag, &mut waiting.handle, &mut waiting.spares);
+    let mut anchor = Some(emptied(event, &mut waiting.spares));
+    let mut tag = None;
+    exchange(
+        &mut anchor,
+        waiting.has_anchor,
+        &mut waiting.anchor,
+        &mut waiting.spares,
+    );
+    exchange(
+        &mut tag,
+        waiting.has_tag,
+        &mut waiting.handle,
+        &mut waiting.spares,
+    );
     start(shape, anchor, tag, event);
 }
 

@@ -364,11 +364,11 @@ pub fn settle_implied(
         }
         Implied::Properties => settle_alone(&directives.tags, waiting, event, fault),
         Implied::SequenceEnd => {
-            end_over(true, &mut waiting.spares, &mut event.body);
+            end_over(true, waiting, &mut event.body);
             Settled::Event
         }
         Implied::MappingEnd => {
-            end_over(false, &mut waiting.spares, &mut event.body);
+            end_over(false, waiting, &mut event.body);
             Settled::Event
         }
         Implied::DocumentEnd => {

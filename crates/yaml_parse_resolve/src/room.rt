@@ -1,6 +1,6 @@
 //! The room of texts that are done with.
 
-ghost use Rattle.std.specs.Prelude.{◌≡◌, None, true, IfSome};
+ghost use Rattle.std.specs.Prelude.{◌≡◌, None, true, vec_capacity};
 ghost use Rattle.yaml_parse_model.specs.Events.{text_of};
 ghost use Rattle.yaml_parse_core.specs.Views.{text_if};
 ghost use Rattle.yaml_parse_resolve.specs.Bare.{OwnsNothing};
@@ -8,32 +8,6 @@ ghost use Rattle.yaml_parse_resolve.specs.Bare.{OwnsNothing};
 use std::mem;
 use yaml_parse_model::yaml_event_body_t;
 use yaml_scan_model::{Spares, lifted, put_back, spare};
-
-/// Whether a slot of events holds no text.
-// Inlined: a look at the kind.
-#[inline(always)]
-pub(crate) fn is_bare(event: &yaml_event_body_t) -> bool
-    ensures { result ≡ true → OwnsNothing event.now }
-{
-    match *event {
-        yaml_event_body_t::DocumentStart { .. }
-        | yaml_event_body_t::Alias { .. }
-        | yaml_event_body_t::Scalar { .. } => false,
-        yaml_event_body_t::SequenceStart {
-            anchor: None,
-            tag: None,
-            ..
-        } => true,
-        yaml_event_body_t::SequenceStart { .. } => false,
-        yaml_event_body_t::MappingStart {
-            anchor: None,
-            tag: None,
-            ..
-        } => true,
-        yaml_event_body_t::MappingStart { .. } => false,
-        _ => true,
-    }
-}
 
 /// Puts an event into a slot that holds no text. The earlier one isn't dropped: that would look at each kind of event.
 // Inlined: it is built in its place.
@@ -43,6 +17,37 @@ pub(crate) fn put_bare(slot: &mut yaml_event_body_t, event: yaml_event_body_t)
     ensures { slot.new ≡ event }
 {
     mem::forget(mem::replace(slot, event));
+}
+
+// Moves a text into a place for the room of one, if that is empty. Answers whether nothing is left of it.
+// No hint: LLVM inlines it, since it is short.
+fn leaves(text: &mut Vec<u8>, room: &mut Vec<u8>) -> bool
+    ensures { result ≡ true → vec_capacity text.new ≡ 0 }
+{
+    if room.capacity() == 0 {
+        put_back(room, lifted(text));
+        true
+    } else {
+        false
+    }
+}
+
+// The same of an anchor.
+// No hint: LLVM inlines it, since it is short.
+fn leaves_anchor(anchor: &mut Option<Vec<u8>>, room: &mut Vec<u8>) -> bool
+    ensures { result ≡ true → anchor.new ≡ None }
+{
+    match anchor {
+        None => true,
+        Some(it) => {
+            if leaves(it, room) {
+                mem::forget(mem::replace(anchor, None));
+                true
+            } else {
+                false
+            }
+        }
+    }
 }
 
 /// Moves the text of a scalar without properties out of a slot of events, into a place for the room of one, if that is empty. Answers
@@ -58,22 +63,52 @@ pub(crate) fn clears(earlier: &mut yaml_event_body_t, room: &mut Vec<u8>) -> boo
             tag: None,
             ref mut value,
             ..
-        } => {
-            if room.capacity() == 0 {
-                mem::swap(value, room);
-                true
-            } else {
-                false
-            }
+        } => leaves(value, room),
+        yaml_event_body_t::SequenceStart {
+            anchor: None,
+            tag: None,
+            ..
         }
-        _ => is_bare(earlier),
+        | yaml_event_body_t::MappingStart {
+            anchor: None,
+            tag: None,
+            ..
+        } => true,
+        yaml_event_body_t::DocumentStart { .. }
+        | yaml_event_body_t::Alias { .. }
+        | yaml_event_body_t::Scalar { .. }
+        | yaml_event_body_t::SequenceStart { .. }
+        | yaml_event_body_t::MappingStart { .. } => false,
+        _ => true,
+    }
+}
+
+/// The same of any one text.
+// Inlined into calls that are out of line: what it doesn't clear is left to further ones, so that no register is put aside.
+#[inline(always)]
+pub(crate) fn clears_any(earlier: &mut yaml_event_body_t, room: &mut Vec<u8>) -> bool
+    ensures { result ≡ true → OwnsNothing earlier.new }
+{
+    match *earlier {
+        yaml_event_body_t::Alias { ref mut anchor } => leaves(anchor, room),
+        yaml_event_body_t::SequenceStart {
+            ref mut anchor,
+            tag: None,
+            ..
+        } => leaves_anchor(anchor, room),
+        yaml_event_body_t::MappingStart {
+            ref mut anchor,
+            tag: None,
+            ..
+        } => leaves_anchor(anchor, room),
+        _ => clears(earlier, room),
     }
 }
 
 // Takes a text out of its place, if there is one, and keeps its room.
 // Inlined: some moves.
 #[inline(always)]
-fn keep_text(text: &mut Option<Vec<u8>>, spares: &mut Spares)
+pub(crate) fn keep_text(text: &mut Option<Vec<u8>>, spares: &mut Spares)
     ensures { text.new ≡ None }
 {
     if let Some(it) = text {
@@ -83,10 +118,26 @@ fn keep_text(text: &mut Option<Vec<u8>>, spares: &mut Spares)
     }
 }
 
-/// Takes what a slot of events holds out of it. The rooms of its texts are kept.
-// Out of line: mostly a slot holds one text at most.
-#[inline(never)]
-pub(crate) fn vacate(earlier: &mut yaml_event_body_t, spares: &mut Spares)
+// Takes a text out of its place, if there is one, or else a spare one.
+// Inlined: some moves.
+#[inline(always)]
+fn taken(text: &mut Option<Vec<u8>>, spares: &mut Spares) -> Vec<u8>
+    ensures { text.new ≡ None }
+{
+    match text {
+        Some(it) => {
+            let room = lifted(it);
+            mem::forget(mem::replace(text, None));
+            room
+        }
+        None => spare(spares),
+    }
+}
+
+/// Takes what a slot of events holds out of it. Answers a room, of one of its texts or a spare one; those of others are kept.
+// Inlined: a choice by the kind.
+#[inline(always)]
+pub(crate) fn emptied(earlier: &mut yaml_event_body_t, spares: &mut Spares) -> Vec<u8>
     ensures { OwnsNothing earlier.new }
 {
     match *earlier {
@@ -96,29 +147,32 @@ pub(crate) fn vacate(earlier: &mut yaml_event_body_t, spares: &mut Spares)
             ref mut value,
             ..
         } => {
-            keep_text(anchor, spares);
-            keep_text(tag, spares);
             spares.keep(lifted(value));
+            keep_text(tag, spares);
+            taken(anchor, spares)
         }
-        yaml_event_body_t::Alias { ref mut anchor } => spares.keep(lifted(anchor)),
+        yaml_event_body_t::Alias { ref mut anchor } => lifted(anchor),
         yaml_event_body_t::SequenceStart {
             ref mut anchor,
             ref mut tag,
             ..
         } => {
-            keep_text(anchor, spares);
             keep_text(tag, spares);
+            taken(anchor, spares)
         }
         yaml_event_body_t::MappingStart {
             ref mut anchor,
             ref mut tag,
             ..
         } => {
-            keep_text(anchor, spares);
             keep_text(tag, spares);
+            taken(anchor, spares)
         }
-        yaml_event_body_t::DocumentStart { .. } => clear(earlier),
-        _ => {}
+        yaml_event_body_t::DocumentStart { .. } => {
+            clear(earlier);
+            spare(spares)
+        }
+        _ => spare(spares),
     }
 }
 
@@ -158,9 +212,8 @@ pub(crate) fn exchange(
             None => mem::forget(mem::replace(place, Some(moved_out(text, spares)))),
             Some(last) => exchange_texts(last, text),
         }
-    } else if let Some(last) = place {
-        spares.keep(lifted(last));
-        mem::forget(mem::replace(place, None));
+    } else {
+        keep_text(place, spares);
     }
 }
 
@@ -173,17 +226,4 @@ fn moved_out(text: &mut Vec<u8>, spares: &mut Spares) -> Vec<u8>
     let own = lifted(text);
     put_back(text, spare(spares));
     own
-}
-
-/// The text, if it is one that is to be there, moved out of its place, in which a spare one is left.
-// Inlined: some moves.
-#[inline(always)]
-pub(crate) fn moved_if(is_there: bool, text: &mut Vec<u8>, spares: &mut Spares) -> Option<Vec<u8>>
-    ensures { text_of result ≡ text_if is_there text.old.items }
-{
-    if is_there {
-        Some(moved_out(text, spares))
-    } else {
-        None
-    }
 }

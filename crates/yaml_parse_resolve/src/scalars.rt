@@ -10,7 +10,7 @@ ghost use Rattle.yaml_parse_core.specs.Views.{text_if};
 ghost use Rattle.yaml_parse_resolve.specs.Bare.{IsScalar, OwnsNothing};
 ghost use Rattle.yaml_parse_resolve.specs.Settles.{named_event};
 
-use crate::room::{exchange, exchange_texts, is_bare, put_bare, vacate};
+use crate::room::{clears_any, emptied, exchange, exchange_texts, keep_text, put_bare};
 use std::mem;
 use yaml_parse_core::Waiting;
 use yaml_parse_model::{yaml_event_body_t, yaml_scalar_style_t};
@@ -30,8 +30,8 @@ struct Form {
 fn begin_scalar(spares: &mut Spares, event: &mut yaml_event_body_t)
     ensures { IsScalar event.new }
 {
-    vacate(event, spares);
-    start_blank(spare(spares), event);
+    let room = emptied(event, spares);
+    start_blank(room, event);
 }
 
 // A scalar that has a room and nothing else, in a slot that holds no text.
@@ -153,16 +153,16 @@ fn other_bare(
 )
     ensures { body_of event.new ≡ node_event None None (item.scalar value.old.items style) }
 {
-    if is_bare(event) {
-        let room = lifted(&mut waiting.anchor);
+    if clears_any(event, &mut waiting.room) {
+        let room = lifted(&mut waiting.room);
         start_bare(mem::replace(value, room), style, event);
     } else {
         bare_over(waiting, value, style, event);
     }
 }
 
-// The same, where it holds a text.
-// Out of line: mostly it holds none.
+// The same, where it holds a scalar with an anchor, or other texts.
+// Out of line: mostly it holds one text at most. What is kept is kept at last, so that no register is put aside.
 #[inline(never)]
 fn bare_over(
     waiting: &mut Waiting,
@@ -172,9 +172,38 @@ fn bare_over(
 )
     ensures { body_of event.new ≡ node_event None None (item.scalar value.old.items style) }
 {
-    vacate(event, &mut waiting.spares);
-    let own = mem::replace(value, spare(&mut waiting.spares));
-    start_bare(own, style, event);
+    match *event {
+        yaml_event_body_t::Scalar {
+            anchor: ref mut last_anchor,
+            tag: None,
+            value: ref mut last,
+            plain_implicit: ref mut plain,
+            quoted_implicit: ref mut quoted,
+            style: ref mut last_style,
+        } => {
+            exchange_texts(last, value);
+            *plain = is_plain(style);
+            *quoted = !is_plain(style);
+            *last_style = style;
+            keep_text(last_anchor, &mut waiting.spares);
+        }
+        _ => bare_anew(waiting, value, style, event),
+    }
+}
+
+// The same, where it holds other texts.
+// Out of line: see `bare_over`.
+#[inline(never)]
+fn bare_anew(
+    waiting: &mut Waiting,
+    value: &mut Vec<u8>,
+    style: yaml_scalar_style_t,
+    event: &mut yaml_event_body_t,
+)
+    ensures { body_of event.new ≡ node_event None None (item.scalar value.old.items style) }
+{
+    let room = emptied(event, &mut waiting.spares);
+    start_bare(mem::replace(value, room), style, event);
 }
 
 /// A scalar without properties. The text of an earlier scalar is left in place of the new one.

@@ -7,12 +7,13 @@ ghost use Rattle.yaml_parse_grammar.specs.Items as item;
 ghost use Rattle.yaml_parse_grammar.specs.Resolve.{node_event};
 ghost use Rattle.yaml_parse_resolve.specs.Bare.{OwnsNothing};
 
-use crate::room::{put_bare, vacate};
+use crate::room::{clears_any, emptied, put_bare};
 use std::mem;
+use yaml_parse_core::Waiting;
 use yaml_parse_model::{
     yaml_event_body_t, yaml_event_t, yaml_mapping_style_t, yaml_sequence_style_t,
 };
-use yaml_scan_model::{Spares, spare};
+use yaml_scan_model::{Spares, lifted};
 
 /// Another event in the slot.
 // Inlined: the new one's kind is known.
@@ -47,21 +48,48 @@ pub(crate) fn end_collection(is_sequence: bool, slot: &mut yaml_event_body_t)
 /// The same in a slot that may hold texts.
 // Out of line: mostly it holds none, or a scalar's. In line all that is implied would put registers aside for the rest.
 #[inline(never)]
-pub(crate) fn end_over(is_sequence: bool, spares: &mut Spares, slot: &mut yaml_event_body_t)
+pub(crate) fn end_over(is_sequence: bool, waiting: &mut Waiting, slot: &mut yaml_event_body_t)
     ensures { body_of slot.new ≡ (if is_sequence then told.sequence_end else told.mapping_end) }
 {
-    vacate(slot, spares);
+    if clears_any(slot, &mut waiting.room) {
+        end_collection(is_sequence, slot);
+    } else {
+        end_over_more(is_sequence, &mut waiting.spares, slot);
+    }
+}
+
+// The same, where the slot holds more than a text.
+// Out of line: mostly it holds one at most.
+#[inline(never)]
+fn end_over_more(is_sequence: bool, spares: &mut Spares, slot: &mut yaml_event_body_t)
+    ensures { body_of slot.new ≡ (if is_sequence then told.sequence_end else told.mapping_end) }
+{
+    let room = emptied(slot, spares);
+    spares.keep(room);
     end_collection(is_sequence, slot);
 }
 
-/// An alias. A spare text's room is left in place of the name.
+/// An alias. The room of an earlier text is left in place of the name.
 // Out of line: in line the addresses of the slot's parts would be put aside in front of the loop over turns, for each event.
 #[inline(never)]
-pub(crate) fn put_alias(slot: &mut yaml_event_body_t, name: &mut Vec<u8>, spares: &mut Spares)
+pub(crate) fn put_alias(slot: &mut yaml_event_body_t, name: &mut Vec<u8>, waiting: &mut Waiting)
     ensures { body_of slot.new ≡ told.alias name.old.items }
 {
-    vacate(slot, spares);
-    start_alias(slot, mem::replace(name, spare(spares)));
+    if clears_any(slot, &mut waiting.room) {
+        start_alias(slot, mem::replace(name, lifted(&mut waiting.room)));
+    } else {
+        alias_over(slot, name, &mut waiting.spares);
+    }
+}
+
+// The same, where the slot holds more than a text.
+// Out of line: mostly it holds one at most.
+#[inline(never)]
+fn alias_over(slot: &mut yaml_event_body_t, name: &mut Vec<u8>, spares: &mut Spares)
+    ensures { body_of slot.new ≡ told.alias name.old.items }
+{
+    let room = emptied(slot, spares);
+    start_alias(slot, mem::replace(name, room));
 }
 
 // An alias, in a slot that holds no text.

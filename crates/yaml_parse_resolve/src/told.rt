@@ -15,10 +15,9 @@ use crate::room::clears;
 use crate::slots::{end_collection, end_over, put, put_alias};
 use yaml_parse_core::{Told, Waiting};
 use yaml_parse_model::{
-    BodySlot, TokenSlot, mark_again, yaml_encoding_t, yaml_event_body_t, yaml_event_t,
+    BodySlot, TokenSlot, mark_again, moved, yaml_encoding_t, yaml_event_body_t, yaml_event_t,
     yaml_fault_t, yaml_mark_t, yaml_token_type_t,
 };
-use yaml_scan_model::Spares;
 
 // A stream's start.
 #[inline(never)]
@@ -89,17 +88,29 @@ pub fn settle_end(
 {
     event.start_mark = mark_again(&token.start_mark);
     event.end_mark = mark_again(&token.end_mark);
-    if clears(&mut event.body, &mut waiting.anchor) {
+    if clears(&mut event.body, &mut waiting.room) {
         end_collection(is_sequence, &mut event.body);
     } else {
-        end_over(is_sequence, &mut waiting.spares, &mut event.body);
+        end_over(is_sequence, waiting, &mut event.body);
     }
 }
 
-/// An alias. A spare text's room is left in the token.
+// Leaves an alias's name alone in the token. Where the token is none it has no name: the machine says that it is one.
 // Inlined: the token's kind is known.
 #[inline(always)]
-pub fn settle_alias(spares: &mut Spares, token: &mut TokenSlot, event: &mut yaml_event_t)
+fn leave_name(token: &mut BodySlot)
+    ensures { token.new.text.items ≡ name_in (body_in_slot token.old) }
+{
+    match token.kind {
+        yaml_token_type_t::YAML_ALIAS_TOKEN => {}
+        _ => token.text.clear(),
+    }
+}
+
+/// An alias. The room of an earlier text is left in the token.
+// Inlined: the token's kind is known.
+#[inline(always)]
+pub fn settle_alias(waiting: &mut Waiting, token: &mut TokenSlot, event: &mut yaml_event_t)
     ensures { event_of event.new ≡ record {
       body = told.alias (name_in (body_in_slot token.old.body));
       start_mark = token.old.start_mark;
@@ -108,18 +119,8 @@ pub fn settle_alias(spares: &mut Spares, token: &mut TokenSlot, event: &mut yaml
 {
     event.start_mark = mark_again(&token.start_mark);
     event.end_mark = mark_again(&token.end_mark);
-    match token.body.kind {
-        yaml_token_type_t::YAML_ALIAS_TOKEN => put_alias(
-            &mut event.body,
-            &mut token.body.text,
-            spares,
-        ),
-        // Where the token is no alias: the machine says that it is one.
-        _ => {
-            token.body.text.clear();
-            put_alias(&mut event.body, &mut token.body.text, spares);
-        }
-    }
+    leave_name(&mut token.body);
+    put_alias(&mut event.body, &mut token.body.text, waiting);
 }
 
 /// What a token tells but nodes: the event, or nothing for a directive, or a fault.
@@ -149,8 +150,9 @@ pub fn settle_told(
             Settled::Event
         }
         Told::Alias => {
-            let mut spares = Spares::new(*token.body.text.allocator());
-            settle_alias(&mut spares, token, event);
+            leave_name(&mut token.body);
+            let anchor = moved(&mut token.body.text);
+            put(&mut event.body, yaml_event_body_t::Alias { anchor });
             Settled::Event
         }
         Told::StreamStart => {

@@ -10,25 +10,18 @@ use Rattle.yaml_parse_laws_trees.proofs.ByStep.{Loads, load_on, behind_all, load
 use Rattle.yaml_parse_laws_trees.specs.Falling.{AreFalling}
 use Rattle.yaml_parse_laws_trees.proofs.Falling.{has_more, nothing_more}
 
--- the next event is fed
+-- the next event is fed: what is loaded, what is asked for then, and what is left
 fed : (i o n : ParserRemaining) (l : Loading) (e : Event) (c : LoadStep) → KeepsLoading i o l
     → GivesNext e o n → step e l ≡ c
-    → loads_of i ≡ load_on c (loads n.events o.ending) n.events n.unasked
-unfolding loads
-fed i o n l e c k h s =
-    sym k.same ∙ ap (λ (gs : List Told). loads gs o.ending l) h.events ∙ ap (λ (x : LoadStep). load_on x (loads n.events o.ending) n.events n.unasked) s
-
-fed_unasked : (i o n : ParserRemaining) (l : Loading) (e : Event) (c : LoadStep)
-    → KeepsLoading i o l → GivesNext e o n → step e l ≡ c
-    → unasked_of i ≡ unasked_on c n.unasked (unasked_at_refusal n.events o.ending_unasked)
-unfolding unasked_at_refusal
-fed_unasked i o n l e c k h s =
-    sym k.unasked ∙ ap (λ (gs : List Told). unasked_at_refusal gs o.ending_unasked l) h.events ∙ ap (λ (x : LoadStep). unasked_on x n.unasked (unasked_at_refusal n.events o.ending_unasked)) s
-
-fed_left : (i o n : ParserRemaining) (l : Loading) (e : Event) → KeepsLoading i o l
-    → GivesNext e o n → left_behind n.events n.unasked ≡ left_behind i.events i.unasked
-unfolding left_behind
-fed_left i o n l e k h = sym (ap (λ (gs : List Told). left_behind gs o.unasked) h.events) ∙ k.left
+    → (loads_of i ≡ load_on c (loads n.events o.ending) n.events n.unasked)
+    × (unasked_of i ≡ unasked_on c n.unasked (unasked_at_refusal n.events o.ending_unasked))
+    × (left_behind n.events n.unasked ≡ left_behind i.events i.unasked)
+unfolding loads unasked_at_refusal left_behind
+fed i o n l e c k h s = (
+  sym k.same ∙ ap (λ (gs : List Told). loads gs o.ending l) h.events ∙ ap (λ (x : LoadStep). load_on x (loads n.events o.ending) n.events n.unasked) s,
+  sym k.unasked ∙ ap (λ (gs : List Told). unasked_at_refusal gs o.ending_unasked l) h.events ∙ ap (λ (x : LoadStep). unasked_on x n.unasked (unasked_at_refusal n.events o.ending_unasked)) s,
+  sym (ap (λ (gs : List Told). left_behind gs o.unasked) h.events) ∙ k.left,
+)
 
 -- A loader goes on behind an event that its step takes.
 pub keeps_on : (i o n : ParserRemaining) (l m : Loading) (e : Event) → KeepsLoading i o l
@@ -36,9 +29,9 @@ pub keeps_on : (i o n : ParserRemaining) (l m : Loading) (e : Event) → KeepsLo
 keeps_on i o n l m e k h s = record {
   falls = subst (AreFalling n.events) (sym h.ending_unasked) (subst (λ (z : List Told). AreFalling z o.ending_unasked) h.events k.falls).1;
   none = λ p. let bad = sym h.events ∙ k.none p in cc;
-  same = ap (λ (f : Option Fault). loads n.events f m) h.ending ∙ sym (fed i o n l e (goes_on m) k h s);
-  unasked = ap (λ (u : ℕ). unasked_at_refusal n.events u m) h.ending_unasked ∙ sym (fed_unasked i o n l e (goes_on m) k h s);
-  left = fed_left i o n l e k h;
+  same = ap (λ (f : Option Fault). loads n.events f m) h.ending ∙ sym (fed i o n l e (goes_on m) k h s).0;
+  unasked = ap (λ (u : ℕ). unasked_at_refusal n.events u m) h.ending_unasked ∙ sym (fed i o n l e (goes_on m) k h s).1;
+  left = (fed i o n l e (goes_on m) k h s).2;
   ending = h.ending ∙ k.ending;
   ending_unasked = h.ending_unasked ∙ k.ending_unasked;
   answered = h.answered ∙ k.answered;
@@ -48,30 +41,26 @@ keeps_on i o n l m e k h s = record {
 pub loads_document : (i o n : ParserRemaining) (l : Loading) (e : Event) (d : Document)
     → KeepsLoading i o l → GivesNext e o n → step e l ≡ loaded d → LoadGives (loads_of i) d i n
 loads_document i o n l e d k h s =
-    subst (λ (r : Loads). LoadGives r d i n) (sym (fed i o n l e (loaded d) k h s))
+    subst (λ (r : Loads). LoadGives r d i n) (sym (fed i o n l e (loaded d) k h s).0)
     (refl, record { events = refl; ending = h.ending ∙ k.ending; ending_unasked = h.ending_unasked ∙ k.ending_unasked; unasked = refl; answered = h.answered ∙ k.answered })
 
 all_fed : (i o : ParserRemaining) (l : Loading) (f : Option Fault) → KeepsLoading i o l
-    → o.events ≡ [] → o.ending ≡ f → loads_of i ≡ behind_all f
-unfolding loads
-all_fed i o l f k p q = sym k.same ∙ ap (λ (gs : List Told). loads gs o.ending l) p ∙ ap behind_all q
-
-all_unasked : (i o : ParserRemaining) (l : Loading) → KeepsLoading i o l → o.events ≡ []
-    → unasked_of i ≡ o.ending_unasked
-unfolding unasked_at_refusal
-all_unasked i o l k p = sym k.unasked ∙ ap (λ (gs : List Told). unasked_at_refusal gs o.ending_unasked l) p
-
-all_left : (i o : ParserRemaining) (l : Loading) → KeepsLoading i o l → o.events ≡ []
-    → o.unasked ≡ left_behind i.events i.unasked
-unfolding left_behind
-all_left i o l k p = sym (ap (λ (gs : List Told). left_behind gs o.unasked) p) ∙ k.left
+    → o.events ≡ [] → o.ending ≡ f
+    → (loads_of i ≡ behind_all f) × (unasked_of i ≡ o.ending_unasked)
+    × (o.unasked ≡ left_behind i.events i.unasked)
+unfolding loads unasked_at_refusal left_behind
+all_fed i o l f k p q = (
+  sym k.same ∙ ap (λ (gs : List Told). loads gs o.ending l) p ∙ ap behind_all q,
+  sym k.unasked ∙ ap (λ (gs : List Told). unasked_at_refusal gs o.ending_unasked l) p,
+  sym (ap (λ (gs : List Told). left_behind gs o.unasked) p) ∙ k.left,
+)
 
 -- At the stream's end a loader gives the document without root.
 pub loads_nothing : (i o n : ParserRemaining) (l : Loading) (d : Document) → KeepsLoading i o l
     → GivesEnd o n → d ≡ no_document → LoadGives (loads_of i) d i n
 loads_nothing i o n l d k h e =
-    subst (λ (r : Loads). LoadGives r d i n) (sym (all_fed i o l None k h.events h.ending))
-    (e, record { finished = h.nothing.finished; unasked = h.nothing.unasked ∙ all_left i o l k h.events; answered = h.nothing.answered ∙ k.answered })
+    subst (λ (r : Loads). LoadGives r d i n) (sym (all_fed i o l None k h.events h.ending).0)
+    (e, record { finished = h.nothing.finished; unasked = h.nothing.unasked ∙ (all_fed i o l None k h.events h.ending).2; answered = h.nothing.answered ∙ k.answered })
 
 -- A loader hands a fault of the parser on as its own.
 pub load_faulty : (i o n : ParserRemaining) (l : Loading) (f : Fault) → KeepsLoading i o l
@@ -79,8 +68,8 @@ pub load_faulty : (i o n : ParserRemaining) (l : Loading) (f : Fault) → KeepsL
 load_faulty i o n l f k h = record {
   finished = h.finished;
   answered = h.answered;
-  reason = elim h.reason [ inl m ↦ inl (inr m) | inr q ↦ inr (all_fed i o l (Some f) k q.0 q.1) ];
-  unasked = elim h.reason [ inl m ↦ inl (inr m) | inr q ↦ elim h.unasked [ inl m ↦ inl (inr m) | inr u ↦ inr (u ∙ sym (all_unasked i o l k q.0)) ] ];
+  reason = elim h.reason [ inl m ↦ inl (inr m) | inr q ↦ inr (all_fed i o l (Some f) k q.0 q.1).0 ];
+  unasked = elim h.reason [ inl m ↦ inl (inr m) | inr q ↦ elim h.unasked [ inl m ↦ inl (inr m) | inr u ↦ inr (u ∙ sym (all_fed i o l (Some f) k q.0 q.1).1) ] ];
 }
 
 -- A loader that refuses an event, or finds no memory, refuses the load.
@@ -91,8 +80,8 @@ pub load_refused : (i o n n' : ParserRemaining) (l : Loading) (e : Event) (f : F
 load_refused i o n n' l e f k h r p q u = record {
   finished = p;
   answered = q;
-  reason = elim r [ inl m ↦ inl (inl m) | inr s ↦ inr (fed i o n l e (refused f) k h s) ];
-  unasked = elim r [ inl m ↦ inl (inl m) | inr s ↦ inr (u ∙ sym (fed_unasked i o n l e (refused f) k h s)) ];
+  reason = elim r [ inl m ↦ inl (inl m) | inr s ↦ inr (fed i o n l e (refused f) k h s).0 ];
+  unasked = elim r [ inl m ↦ inl (inl m) | inr s ↦ inr (u ∙ sym (fed i o n l e (refused f) k h s).1) ];
 }
 
 -- ---- what a refusal has to come, and has asked for

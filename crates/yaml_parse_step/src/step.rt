@@ -153,7 +153,7 @@ fn tell_alias(buffers: &mut StepBuffers, token: &mut TokenSlot, event: &mut yaml
     ensures { (f : Fault) → Goes (kinds.given Alias) (token_in_slot token.old) buffers.old result
         (event_of event.new) f buffers.new }
 {
-    settle_alias(&mut buffers.waiting.spares, token, event);
+    settle_alias(&mut buffers.waiting, token, event);
     Step::Given
 }
 

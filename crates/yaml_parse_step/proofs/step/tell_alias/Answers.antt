@@ -12,4 +12,5 @@ pub returns : goal.returns
 returns c = λ f.
     let b = c.args.buffers.now in
     let t = token_in_slot c.args.token.now in
-    goes_taken _ came.Event (told_item Alias b.machine.top.opener t) t b b b b.machine _ _ f refl refl refl (event_comes (told_item Alias b.machine.top.opener t) (alias (name_in t.body)) (directives_of b.directives) _ f refl c.settle_alias.ensures) refl (λ s k p. told_moves s t Alias _ (states_by b.machine) k p)
+    let n = record b { waiting = c.settle_alias.new.waiting } in
+    goes_taken _ came.Event (told_item Alias b.machine.top.opener t) t b n n b.machine _ _ f refl refl refl (event_comes (told_item Alias b.machine.top.opener t) (alias (name_in t.body)) (directives_of b.directives) _ f refl c.settle_alias.ensures) refl (λ s k p. told_moves s t Alias _ (states_by b.machine) k p)

@@ -14,6 +14,7 @@ use Rattle.yaml_emit_machine.specs.Views.{emitter_of, IsEmitter}
 use Rattle.yaml_emit_machine.specs.Verdict.{LaysFirst}
 use Rattle.yaml_emit_machine.specs.Taking.{HasFirst, BlamesLevels, TakesOne, LaysAtOnce}
 use Rattle.yaml_emit_machine.proofs.Emitting.{left, inside_goes, inside_going}
+use Rattle.yaml_emit_state.specs.Framed.{Placed}
 pub use Rattle.yaml_emit_machine.proofs.Taking.{ends_new}
 use Rattle.std.proofs.lemmas.Bool.{false≢true}
 use Rattle.yaml_scan_model.specs.declared.yaml_fault_t.{yaml_fault_t}
@@ -129,4 +130,14 @@ inside_one i core e fault inv once l = record {
   given = inside_took false i core i.held fault e inv once.begun once.right (inside_lays i core e inv once l);
   none = once.none;
   form = (inside_going i inv once.right, ap (λ (s : Settings). s.canonical) l.settings ∙ once.form);
+}
+
+-- Where an event was placed, it was to be laid out at once.
+pub inside_placed : (i : Inside) (core : Core) (e : Event) → IsEmitter i → i.fresh ≡ false
+    → held_events i.held ≡ [] → Placed i.core e core → LaysAtOnce (emitter_of i)
+inside_placed i core e inv fr none p = record {
+  right = rw (p.due, p.going) at inv.faulty;
+  begun = fr;
+  form = p.form;
+  none = none;
 }

@@ -143,7 +143,8 @@ pub fn end_start(settings: &Settings, indent: u64) -> LineStart
 fn put_end(sink: &mut Sink, due: bool, settings: &Settings, indent: u64, c: u8)
     requires { c < 128 }
     ensures { Puts sink.old sink.new
-        (when due (char ascii.comma ▹ line_at settings.now (indent - settings.now.indent)) ▹ char c) }
+        (when due (char ascii.comma ▹ line_at settings.now (indent - settings.now.indent))
+        ▹ char c) }
 {
     if due {
         sink.put_lined(&end_start(settings, indent), &[c], b"", b"");

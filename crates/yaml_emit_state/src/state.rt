@@ -379,7 +379,8 @@ impl Core {
     // Inlined: some tests in front of a call. Most events are scalars, and asked for alone.
     #[inline(always)]
     pub fn places_scalar(&mut self, event: &yaml_event_body_t) -> bool
-        ensures laid { result ≡ true → Placed self.old (emitter_event (body_of event.now)) self.new }
+        ensures laid { result ≡ true → Placed self.old (emitter_event (body_of event.now))
+            self.new }
         ensures goes { result ≡ true → goes_on self.new.sink.status self.new.place ≡ true }
         ensures same { result ≡ false → self.new ≡ self.old }
     {
@@ -409,7 +410,8 @@ impl Core {
     fn places_kind(&mut self, event: &yaml_event_body_t) -> bool
         requires form { self.old.settings.canonical ≡ true }
         requires due { self.old.place ≡ Expected.Node }
-        ensures laid { result ≡ true → Placed self.old (emitter_event (body_of event.now)) self.new }
+        ensures laid { result ≡ true → Placed self.old (emitter_event (body_of event.now))
+            self.new }
         ensures same { result ≡ false → self.new ≡ self.old }
     {
         match event {
@@ -437,7 +439,8 @@ impl Core {
     // Inlined: two tests in front of a call for each kind.
     #[inline(always)]
     pub fn places_bracket(&mut self, event: &yaml_event_body_t) -> bool
-        ensures laid { result ≡ true → Placed self.old (emitter_event (body_of event.now)) self.new }
+        ensures laid { result ≡ true → Placed self.old (emitter_event (body_of event.now))
+            self.new }
         ensures same { result ≡ false → self.new ≡ self.old }
     {
         if self.may_place() {

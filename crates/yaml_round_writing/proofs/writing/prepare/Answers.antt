@@ -1,4 +1,4 @@
-use Rattle.std.proofs.Common.{ap, ◌∙◌, false}
+use Rattle.std.proofs.Common.{ap, false}
 use Rattle.yaml_parse.specs.Events.{Event}
 use Rattle.yaml_round_reading.specs.Reading.{emitter_events}
 use Rattle.yaml_round_writing.proofs.writing.prepare.Goals as goal

@@ -6,17 +6,18 @@ ghost use Rattle.yaml_emit_machine.specs.scan_model.declared.yaml_origin_t.TheVa
 ghost use Rattle.yaml_emit_machine.specs.parse_model.Events.{event_of};
 ghost use Rattle.yaml_emit_machine.specs.parse_model.Constructors.{HasUtf8};
 ghost use Rattle.yaml_emit_machine.specs.emit_layout.Content.{emitter_event};
+ghost use Rattle.yaml_emit_machine.specs.emit_state.Framed.{is_bare};
 ghost use Rattle.yaml_emit_machine.specs.Emitter.{IsNew, IsLimited, ShowsFront, IsWhole, Answers, Stays};
 ghost use Rattle.yaml_emit_machine.specs.Held.{AreLast};
 ghost use Rattle.yaml_emit_machine.specs.Within.{IsWithin};
 ghost use Rattle.yaml_emit_machine.specs.Verdict.{TellsOutcome};
-ghost use Rattle.yaml_emit_machine.specs.Taking.{TakesEvents, GivesText, NotesMemoryOf, BlamesLevels};
+ghost use Rattle.yaml_emit_machine.specs.Taking.{TakesEvents, TakesOne, GivesText, NotesMemoryOf, BlamesLevels};
 
 use std::alloc::Global;
 use yaml_emit_machine::{
     RequestedSettings, answer, first_fault, give_early, into_output, is_fresh, is_opened, let_go,
-    new_emitter, output, requested_settings, set_requested_settings, take_event, take_event_over,
-    yaml_break_t, yaml_emitter_t, yaml_encoding_t, yaml_event_t, yaml_fault_t,
+    new_emitter, output, place, requested_settings, set_requested_settings, take_event,
+    take_event_over, yaml_break_t, yaml_emitter_t, yaml_encoding_t, yaml_event_t, yaml_fault_t,
 };
 
 /// An emitter whose text has at most `limit` bytes. It is fresh, with any encoding, canonical and unicode off, indent 2,
@@ -237,6 +238,18 @@ pub fn yaml_emitter_emit_early(emitter: &mut yaml_emitter_t, event: &mut yaml_ev
     ensures begun { emitter.new.fresh ≡ false }
 {
     give_early(emitter, &mut event.body);
+}
+
+/// Lays out an event at once, in canonical form, where none is held and it has no properties and begins a line; else nothing.
+// Inlined: some tests in front of a call for each kind.
+#[inline(always)]
+pub fn yaml_emitter_place(emitter: &mut yaml_emitter_t, event: &yaml_event_t) -> bool
+    ensures given { result ≡ true → TakesOne false emitter.old
+        (emitter_event (event_of event.now).body) emitter.new }
+    ensures bare { result ≡ true → is_bare (emitter_event (event_of event.now).body) ≡ true }
+    ensures same { result ≡ false → emitter.new ≡ emitter.old }
+{
+    place(emitter, &event.body)
 }
 
 /// What was laid out is in the output. The first fault, if there is one, is answered. Asks that an event was given.

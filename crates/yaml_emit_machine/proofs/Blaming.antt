@@ -14,6 +14,7 @@ use Rattle.yaml_emit_machine.specs.Views.{emitter_of, IsEmitter}
 use Rattle.yaml_emit_machine.specs.Verdict.{LaysFirst}
 use Rattle.yaml_emit_machine.specs.Taking.{HasFirst, BlamesLevels, TakesOne, LaysAtOnce}
 use Rattle.yaml_emit_machine.proofs.Emitting.{left, inside_goes, inside_going}
+use Rattle.yaml_emit_state.specs.Framed.{Placed}
 pub use Rattle.yaml_emit_machine.proofs.Taking.{ends_new}
 use Rattle.std.proofs.lemmas.Bool.{false≢true}
 use Rattle.yaml_scan_model.specs.declared.yaml_fault_t.{yaml_fault_t}
@@ -130,3 +131,15 @@ inside_one i core e fault inv once l = record {
   none = once.none;
   form = (inside_going i inv once.right, ap (λ (s : Settings). s.canonical) l.settings ∙ once.form);
 }
+
+-- An event that was placed was laid out at once: the emitter is as it has to be, and was given it early.
+pub inside_placed : (i : Inside) (core : Core) (fault : Option yaml_fault_t) (e : Event)
+    → IsEmitter i → i.fresh ≡ false → held_events i.held ≡ [] → Placed i.core e core
+    → (option_map fault_of i.fault ≡ None
+    → option_map fault_of fault ≡ refusal_by core.place core.sink.status core.starved)
+    → IsEmitter (record i { core = core; fault = fault })
+    × TakesOne false (emitter_of i) e (left i core i.fresh (held_events i.held) (option_map fault_of fault))
+inside_placed i core fault e inv fr none p faulty =
+    let right : option_map fault_of i.fault ≡ None = rw (p.due, p.going) at inv.faulty in
+    let once : LaysAtOnce (emitter_of i) = record { right = right; begun = fr; form = p.form; none = none } in
+    (inside_once i core fault e inv once (p.laid false) (faulty right), (inside_one i core e (option_map fault_of fault) inv once (p.laid false)).given)

@@ -5,6 +5,7 @@ ghost use Rattle.yaml_scan_model.specs.Faults.{Fault, fault_of};
 ghost use Rattle.yaml_parse_model.specs.Events.{body_of};
 ghost use Rattle.yaml_parse_model.specs.Constructors.{HasUtf8};
 ghost use Rattle.yaml_emit_layout.specs.Content.{emitter_event, scalar};
+ghost use Rattle.yaml_emit_state.specs.Framed.{is_bare};
 ghost use Rattle.yaml_emit_state.specs.Given.{plain_text};
 ghost use Rattle.yaml_scan_model.specs.declared.yaml_scalar_style_t.{yaml_scalar_style_t};
 ghost use Rattle.yaml_emit_machine.specs.Emitter.{stream_encoding, IsNew, IsLimited, ShowsFront, IsWhole, Answers, Stays};
@@ -341,6 +342,28 @@ pub fn take_event(emitter: &mut yaml_emitter_t, event: &mut yaml_event_body_t)
             emitter.begin_or_lay(event);
         }
     }
+}
+
+/// Lays out an event at once, where none is held, in canonical form, where it has no properties and begins a line; else nothing.
+// Inlined: see `Core::places_scalar`.
+#[inline(always)]
+pub fn place(emitter: &mut yaml_emitter_t, event: &yaml_event_body_t) -> bool
+    ensures given { result ≡ true → TakesOne false emitter.old (emitter_event (body_of event.now))
+        emitter.new }
+    ensures bare { result ≡ true → is_bare (emitter_event (body_of event.now)) ≡ true }
+    ensures same { result ≡ false → emitter.new ≡ emitter.old }
+{
+    if emitter.fresh || emitter.held.holds_any() {
+        return false;
+    }
+    if emitter.core.places_scalar(event) {
+        return true;
+    }
+    if emitter.core.places_bracket(event) {
+        note(&emitter.core, &mut emitter.fault);
+        return true;
+    }
+    false
 }
 
 /// `give` where the whole text is wanted: an event is held only where the next one decides what is written for it, and in canonical

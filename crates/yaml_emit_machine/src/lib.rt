@@ -10,7 +10,7 @@ mod release;
 
 pub use emitter::{
     answer, directives, dump_document, first_fault, give_early, into_output, is_closed, is_fresh,
-    is_opened, let_go, new_emitter, outer, output, requested_settings, resumed, set_closed,
+    is_opened, let_go, new_emitter, outer, output, place, requested_settings, resumed, set_closed,
     set_opened, set_requested_settings, stand, take_event, take_event_over, yaml_emitter_t,
 };
 pub use law::{streams_are_laid, streams_pass};

@@ -33,21 +33,7 @@ fn passes_early(core: &Core, held: &Held, event: &yaml_event_body_t) -> bool
     ensures { result ≡ passes_early (held_events held.now)
         (is_undecided_at core.now (emitter_event (body_of event.now))) }
 {
-    !held.holds_any() && !core.is_undecided(event)
-}
-
-// The same of a scalar: whatever it is behind, nothing is decided behind it.
-// Inlined: two looks at a kind.
-#[inline(always)]
-fn passes_as_scalar(core: &Core, held: &Held, event: &yaml_event_body_t) -> bool
-    ensures { result ≡ true → passes_early (held_events held.now)
-        (is_undecided_at core.now (emitter_event (body_of event.now))) ≡ true }
-{
-    if held.holds_any() {
-        false
-    } else {
-        is_scalar(event)
-    }
+    !held.holds_any() && (is_scalar(event) || !core.is_undecided(event))
 }
 
 // Whether an event is to be laid out as it comes, and isn't held.
@@ -127,9 +113,7 @@ pub fn hold_or_lay_early(core: &mut Core, held: &mut Held, event: &mut yaml_even
     ensures { HoldsOrLays false core.old held.old (emitter_event (body_of event.old)) core.new
         held.new }
 {
-    if passes_as_scalar(core, held, event) {
-        core.lay_out_scalar(event);
-    } else if passes_early(core, held, event) {
+    if passes_early(core, held, event) {
         core.lay_out(event, false);
     } else {
         hold_early(core, held, event);

@@ -2,13 +2,15 @@
 -- an anchor; and what opens collections.
 use Rattle.std.proofs.Common.{◌≡◌, ℕ, Bool, true, false, refl, sym, ◌∙◌, ap, List, [], Option, Some, None, ◌+◌, subst, ◌∷◌, ◌++◌}
 use Rattle.std.proofs.Math.Bool.{and-false, and-true}
-use Rattle.std.specs.Prelude.{◌&&◌, codes, not, ◌||◌, if◌then◌else◌}
+use Rattle.std.specs.Prelude.{◌&&◌, codes, nat_le, not, ◌||◌, if◌then◌else◌}
 use Rattle.std.specs.Str.{chars, IsAscii}
 use Rattle.yaml_emit_tags.specs.parse_model.Events.{TagDirective}
 use Rattle.yaml_emit_tags.specs.parse_model.Nodes.{str_tag}
 use Rattle.yaml_emit_tags.specs.Tags.{tag_spelling, spelled, directive_for, defines, suffix_keeps, uri_text}
 use Rattle.yaml_emit_text.specs.declared.Settings.{Settings}
+use Rattle.yaml_emit_text.specs.declared.Status.TheVariants.{Going}
 use Rattle.yaml_emit_text.specs.Sink.{Output, Puts}
+use Rattle.yaml_emit_text.proofs.Sinks.{puts_nothing}
 use Rattle.yaml_emit_text.specs.Layout.{◌▹◌, word, Layout, stay, when, char, letters, line, opener, after_block}
 use Rattle.yaml_emit_text.specs.Quoted.{double_quoted}
 use Rattle.yaml_emit_text.specs.Scalars.{scalar_text}
@@ -17,22 +19,22 @@ use Rattle.yaml_emit_layout.specs.declared.Expected.TheVariants as at
 use Rattle.yaml_emit_layout.specs.declared.Level.{Level}
 use Rattle.yaml_emit_layout.specs.declared.NodePosition.{NodePosition}
 use Rattle.yaml_emit_layout.specs.Content.{Scalar, scalar, Start, sequence_start, mapping_start}
-use Rattle.yaml_emit_layout.specs.Grammar.{event_problem, last_problem, place_problem, problem_by}
-use Rattle.yaml_emit_layout.specs.State.{is_simple_event, among, before_at, before_node, levels_behind, position_of, top_of, start_text, text_at, next_at, depth_at}
-use Rattle.yaml_emit_layout.specs.Nodes.{Context, context_of, is_simple_scalar, checked, deeper, page_at, scalar_layout, style_of, turned, before_item, before_key, before_value, is_simple_start, is_flow}
+use Rattle.yaml_emit_layout.specs.Grammar.{ends_phase, event_problem, last_problem, place_problem, problem_by}
+use Rattle.yaml_emit_layout.specs.State.{is_fresh, is_simple_event, among, before_at, closer_at, outer_of, before_node, levels_behind, position_of, top_of, start_text, text_at, next_at, depth_at}
+use Rattle.yaml_emit_layout.specs.Nodes.{Context, MOST, closer, context_of, deep_if, is_simple_scalar, checked, deeper, page_at, scalar_layout, style_of, turned, before_item, before_key, before_value, is_simple_start, is_flow}
 use Rattle.yaml_emit_state.specs.declared.state.Core.{Core}
 use Rattle.yaml_emit_state.specs.Due.{is_key}
-use Rattle.yaml_emit_state.specs.Given.{opening, opening_bracket}
-use Rattle.yaml_emit_state.specs.Steps.{state_of, settings_of, LaysOut, LaysOutRight, StaysBut, OpensCollection}
-use Rattle.yaml_emit_state.proofs.Keyed.{no_keys, lays_scalar, lays_in_place}
-use Rattle.std.proofs.lemmas.Bool.{and_parts}
+use Rattle.yaml_emit_state.specs.Given.{closing_bracket, ending, opening, opening_bracket}
+use Rattle.yaml_emit_state.specs.Steps.{first_phase, state_of, settings_of, LaysOut, LaysOutRight, StaysBut, OpensCollection}
+use Rattle.yaml_emit_state.proofs.Keyed.{lays_end, no_keys, not_deep, lays_scalar, lays_in_place}
+use Rattle.std.proofs.lemmas.Bool.{and_parts, false≢true}
 use Rattle.yaml_emit_text.specs.Tame.{IsLined}
 use Rattle.yaml_emit_text.specs.LineStarts.{mark_word, sign_of, line_start_text}
 use Rattle.yaml_emit_text.proofs.LineStarts.{Worded, puts_signed, quoted_worded, tagged_worded, word_worded, lined_ascii, tagged_ascii}
 use Rattle.yaml_emit_layout.specs.declared.Phase.{Phase}
 use Rattle.yaml_emit_layout.specs.declared.Phase.TheVariants.{Items, Keys, Value}
 use Rattle.yaml_emit_state.specs.Bare.{has_none}
-use Rattle.yaml_emit_state.specs.Framed.{has_comma, mark_of, is_behind_simple, line_start, BeginsLine, is_free, IsFramed, front_text, framed_text}
+use Rattle.yaml_emit_state.specs.Framed.{has_comma, mark_of, is_behind_simple, line_start, end_start, BeginsLine, Placed, is_bare, is_free, IsFramed, front_text, framed_text}
 use Rattle.yaml_emit_state.specs.Stack.{stack_of}
 use Rattle.yaml_emit_state.proofs.Unmarked.{Parts, parts_right, none_given, unchecked_behind}
 use Rattle.yaml_emit_state.proofs.Noting.{lays_right}
@@ -191,6 +193,15 @@ lays_start false old new o s top q x simple flow empty is upper asked way bracke
 
 -- ---- without properties, where a node is due in canonical form
 
+pub bare_opening : (sequence : Bool) (q : Start) → has_none q.anchor q.tag ≡ true
+    → is_bare (opening sequence q) ≡ true
+bare_opening true q h = h
+bare_opening false q h = h
+
+bare_ending : (sequence : Bool) → is_bare (ending sequence) ≡ true
+bare_ending true = refl
+bare_ending false = refl
+
 -- nothing is wrong with it
 start_right : (canonical : Bool) (place : Expected) (top : Option Level) (sequence : Bool)
     (q : Start) → canonical ≡ true → place ≡ at.Node → q.anchor ≡ None → q.tag ≡ None
@@ -223,3 +234,55 @@ lays_bracket old new o s top x sequence q empty is upper bracket form due a t pu
     (start_right (settings_of old).canonical old.place (top_of (stack_of old.levels)) sequence q form due a t)
     (lays_start sequence old new o s top q x false true empty is upper (no_keys (context_of s old.directives) (sequence_start q) empty canonical) (rw canonical refl) bracket
     (subst A (bracket_start s old.directives (position_of top false) x q empty canonical a t) put) moved)
+
+-- a collection was opened in another one, where it isn't too deep
+pub opens_within : (s : Settings) (old new : Core) (o : Output) (l : Level) (sequence : Bool)
+    → nat_le (l.indent + s.indent) MOST ≡ true → Some l ≡ top_of (stack_of old.levels)
+    → new.place ≡ at.Node → new.directives ≡ old.directives
+    → stack_of new.levels ≡ record { phase = first_phase sequence; flow = true; indent = l.indent + s.indent } ∷ levels_behind (stack_of old.levels) false
+    → StaysBut (record old { sink = o }) new
+    → OpensCollection s (record old { sink = o }) new false true sequence
+opens_within s old new o l sequence near upper due same behind kept =
+    let P : Bool → Type 0 = λ t. Puts o o (λ c rest. deep_if t (rest c)) in
+    let text : Puts o o (checked (l.indent + s.indent)) = subst P (sym (not_deep (l.indent + s.indent) near)) (puts_nothing o) in
+    record {
+      settings = kept.0;
+      state = λ g. rw (due, same, behind, ← upper) refl;
+      cursor = λ g. ap (λ (z : Output). z.cursor) kept.1;
+      text = rw (kept.1, ← upper) text;
+      memory = λ h. kept.2;
+      halts = record { levels = λ off on. absurd (false≢true (sym off ∙ (sym kept.2 ∙ on))) };
+    }
+
+-- what ends a collection that has entries was written
+puts_closer : (s : Settings) (l : Level) (x : ℕ) (a b : Output) → s.canonical ≡ true
+    → l.flow ≡ true → is_fresh l.phase ≡ false
+    → Puts a b (line_start_text (end_start s l.indent) ▹ letters (x ∷ []))
+    → Puts a b (closer_at s (Some l) x)
+unfolding letters closer
+puts_closer s l x a b form flow filled p = rw (flow, form, filled) p
+
+end_right : (canonical : Bool) (place : Expected) (top : Option Level) (l : Level)
+    (sequence : Bool) → place ≡ at.Node → Some l ≡ top → ends_phase l.phase (ending sequence) ≡ true
+    → problem_by canonical place top (ending sequence) ≡ None
+unfolding problem_by event_problem place_problem last_problem
+end_right canonical place top l true h t e = rw (h, ← t, e) refl
+end_right canonical place top l false h t e = rw (h, ← t, e) refl
+
+-- it was laid out
+pub lays_closed : (old new : Core) (o : Output) (s : Settings) (l : Level) (x : ℕ)
+    (sequence : Bool) → s ≡ settings_of old → Some l ≡ top_of (stack_of old.levels)
+    → x ≡ closing_bracket sequence → old.settings.canonical ≡ true → old.place ≡ at.Node
+    → l.flow ≡ true → ends_phase l.phase (ending sequence) ≡ true → is_fresh l.phase ≡ false
+    → Puts old.sink o (line_start_text (end_start s l.indent) ▹ letters (x ∷ []))
+    → o.status ≡ Going → state_of new ≡ among old.directives (outer_of (stack_of old.levels))
+    → StaysBut (record old { sink = o }) new → Placed old (ending sequence) new
+lays_closed old new o s l x sequence is upper bracket form due flow ends filled put going moved kept = record {
+  laid = λ empty.
+      lays_in_place old new (ending sequence) empty (end_right old.settings.canonical old.place _ l sequence due upper ends)
+      (lays_end sequence old new o s (Some l) x empty is upper bracket (puts_closer s l x old.sink o (rw is form) flow filled put) moved kept);
+  going = put.going going;
+  form = form;
+  due = due;
+  bare = bare_ending sequence;
+}

@@ -1,6 +1,6 @@
 -- Scalars without properties, or with the default tag alone, that stand in their line in double quotes, in canonical form, and what
 -- begins a line there.
-use Rattle.std.specs.Prelude.{◌≡◌, ℕ, ◌+◌, Bool, true, false, not, ◌&&◌, ◌||◌, nat_le, List, [], ◌∷◌, Option, Some, None}
+use Rattle.std.specs.Prelude.{◌≡◌, ℕ, ◌+◌, ◌-◌, Bool, true, false, not, ◌&&◌, ◌||◌, nat_le, List, [], ◌∷◌, Option, Some, None}
 use Rattle.std.specs.Str.{chars}
 use Rattle.yaml_types.specs.Ascii as ascii
 use Rattle.yaml_emit_tags.specs.parse_model.Events.{TagDirective}
@@ -9,6 +9,7 @@ use Rattle.yaml_emit_tags.specs.Tags.{tag_spelling}
 use Rattle.yaml_emit_text.specs.declared.LineBreak.{LineBreak}
 use Rattle.yaml_emit_text.specs.declared.LineStart.{LineStart}
 use Rattle.yaml_emit_text.specs.declared.Settings.{Settings}
+use Rattle.yaml_emit_text.specs.declared.Status.TheVariants.{Going}
 use Rattle.yaml_emit_text.specs.Layout.{Layout, ◌▹◌, when, word}
 use Rattle.yaml_emit_text.specs.Quoted.{double_quoted}
 use Rattle.yaml_emit_layout.specs.declared.Expected.TheVariants as at
@@ -18,7 +19,7 @@ use Rattle.yaml_emit_layout.specs.declared.Phase.TheVariants.{Items, Keys, Value
 use Rattle.yaml_emit_layout.specs.Content as said
 use Rattle.yaml_emit_state.specs.declared.state.Core.{Core}
 use Rattle.yaml_emit_state.specs.Bare.{has_none}
-use Rattle.yaml_emit_state.specs.Steps.{LaysOut}
+use Rattle.yaml_emit_state.specs.Steps.{LaysOut, goes_on}
 use Rattle.yaml_emit_layout.specs.Nodes.{MOST, deeper, checked, page_at}
 use Rattle.yaml_emit_layout.specs.State.{before_node, position_of}
 
@@ -53,6 +54,16 @@ line_start line_break l signed = record {
   signed = signed;
 }
 
+-- what the line begins with that ends a collection of that indentation
+abbrev pub end_start : Settings → ℕ → LineStart
+end_start s n = record {
+  comma = true;
+  line_break = s.line_break;
+  indent = n - s.indent;
+  mark = 0;
+  signed = false;
+}
+
 -- a node in a collection begins a line, and isn't too deep
 pub record BeginsLine (s : Settings) (l : Level) : Type 0 where
   pub form : s.canonical ≡ true
@@ -63,6 +74,15 @@ pub record BeginsLine (s : Settings) (l : Level) : Type 0 where
 -- no anchor and no tag, which may be left out
 abbrev pub is_free : said.Scalar → Bool
 is_free x = has_none x.anchor x.tag && (x.plain || x.quoted)
+
+-- a scalar that is free, a start of a collection that has neither, or an end
+abbrev pub is_bare : said.Event → Bool
+is_bare (said.scalar x) = is_free x
+is_bare (said.sequence_start p) = has_none p.anchor p.tag
+is_bare (said.mapping_start p) = has_none p.anchor p.tag
+is_bare said.sequence_end = true
+is_bare said.mapping_end = true
+is_bare e = false
 
 -- it is, or it has no anchor and the default tag
 abbrev pub IsFramed : Bool → said.Scalar → Type 0
@@ -92,4 +112,13 @@ pub record PlacesFramed (tagged quoted : Bool) (v : List ℕ) (old new : Core)
     (done : Bool) : Type 0 where
   pub laid : done ≡ true → (x : said.Scalar) (empty : Bool) → IsFramed tagged x
       → x.quoted ≡ quoted → x.value ≡ v → LaysOut old new (said.scalar x) empty
+  pub going : done ≡ true → (old.sink.status ≡ Going) × (goes_on new.sink.status new.place ≡ true)
   pub same : done ≡ false → new ≡ old
+
+-- an event that has no properties was laid out at once in canonical form, where a node was due and the output went on
+pub record Placed (old : Core) (e : said.Event) (new : Core) : Type 0 where
+  pub laid : (empty : Bool) → LaysOut old new e empty
+  pub going : old.sink.status ≡ Going
+  pub form : old.settings.canonical ≡ true
+  pub due : old.place ≡ at.Node
+  pub bare : is_bare e ≡ true

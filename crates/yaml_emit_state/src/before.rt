@@ -5,8 +5,9 @@ ghost use Rattle.yaml_emit_text.specs.Sink.{Puts};
 ghost use Rattle.yaml_emit_text.specs.Layout.{◌▹◌, when, char};
 ghost use Rattle.yaml_emit_layout.specs.Nodes.{comma, turned, question, before_item, before_key, before_value, closer, line_at};
 ghost use Rattle.yaml_emit_layout.specs.State.{before_node, closer_at, is_fresh};
-ghost use Rattle.yaml_emit_state.specs.Framed.{has_comma, mark_of, is_behind_simple, is_block_item, line_start, BeginsLine};
-ghost use Rattle.yaml_emit_state.specs.Given.{opening_bracket, closing_bracket};
+ghost use Rattle.yaml_emit_state.specs.Framed.{has_comma, mark_of, is_behind_simple, is_block_item, line_start, end_start, BeginsLine};
+ghost use Rattle.yaml_emit_layout.specs.Grammar.{ends_phase};
+ghost use Rattle.yaml_emit_state.specs.Given.{opening_bracket, closing_bracket, ending};
 
 use yaml_emit_layout::{Level, Phase};
 use yaml_emit_text::{LineBreak, LineStart, Settings, Sink};
@@ -121,23 +122,32 @@ pub fn put_before(sink: &mut Sink, settings: &Settings, top: &Option<Level>, sim
     }
 }
 
-// What ends a collection, with a comma and a line in front where they are due.
+/// What the line begins with that ends a collection of that indentation.
+// Inlined: a difference.
+#[inline(always)]
+pub fn end_start(settings: &Settings, indent: u64) -> LineStart
+    ensures { result ≡ end_start settings.now indent }
+{
+    LineStart {
+        comma: true,
+        line_break: settings.line_break,
+        indent: indent.saturating_sub(settings.indent),
+        mark: 0,
+        signed: false,
+    }
+}
+
+// What ends a collection of that indentation, with a comma and a line in front where they are due.
 // Inlined: a test in front of some stores.
 #[inline(always)]
 fn put_end(sink: &mut Sink, due: bool, settings: &Settings, indent: u64, c: u8)
     requires { c < 128 }
     ensures { Puts sink.old sink.new
-        (when due (char ascii.comma ▹ line_at settings.now indent) ▹ char c) }
+        (when due (char ascii.comma ▹ line_at settings.now (indent - settings.now.indent))
+        ▹ char c) }
 {
     if due {
-        let start = LineStart {
-            comma: true,
-            line_break: settings.line_break,
-            indent,
-            mark: 0,
-            signed: false,
-        };
-        sink.put_lined(&start, &[c], b"", b"");
+        sink.put_lined(&end_start(settings, indent), &[c], b"", b"");
     } else {
         sink.put(c as char);
     }
@@ -154,6 +164,20 @@ fn ends_apart(canonical: bool, phase: Phase) -> bool
     }
 }
 
+/// Whether a collection has entries, and is a sequence, or a mapping, that may end there.
+// Inlined: mostly two comparisons.
+#[inline(always)]
+pub fn is_filled(phase: Phase, sequence: bool) -> bool
+    ensures { result ≡ true → (ends_phase phase (ending sequence) ≡ true)
+        × (is_fresh phase ≡ false) }
+{
+    match phase {
+        Phase::Items(fresh) => sequence && !fresh,
+        Phase::Keys(fresh) => !sequence && !fresh,
+        Phase::Value(_) => false,
+    }
+}
+
 /// What ends the innermost collection.
 // Inlined: a test in front of some stores.
 #[inline(always)]
@@ -165,8 +189,7 @@ pub fn put_closer_at(sink: &mut Sink, settings: &Settings, top: &Option<Level>, 
     if let Some(level) = top {
         if level.flow {
             let due = ends_apart(settings.canonical, level.phase);
-            let indent = level.indent.saturating_sub(settings.indent);
-            put_end(sink, due, settings, indent, c);
+            put_end(sink, due, settings, level.indent, c);
         }
     }
 }

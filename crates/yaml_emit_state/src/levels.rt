@@ -1,5 +1,6 @@
 //! The open collections.
-ghost use Rattle.std.specs.Prelude.{◌≡◌, ◌∷◌, [], None, Some, true, false, OnOk};
+ghost use Rattle.std.specs.Prelude.{◌≡◌, ◌<◌, ◌∷◌, [], None, Some, true, false, OnOk};
+ghost use Rattle.std.specs.Vec.{vec_len, vec_capacity};
 ghost use Rattle.yaml_emit_layout.specs.State.{top_of, outer_of, levels_behind, phase_behind};
 ghost use Rattle.yaml_emit_state.specs.Bare.{turned};
 ghost use Rattle.yaml_emit_state.specs.Stack.{stack, stack_of};
@@ -91,21 +92,31 @@ impl Levels {
         }
     }
 
-    /// Opens a collection in another one, where there is room for it; else nothing.
+    /// Whether there is room for one more collection.
+    // Inlined: a comparison.
+    #[inline(always)]
+    pub fn has_room(&self) -> bool
+        ensures { result ≡ true → vec_len self.now.outer < vec_capacity self.now.outer }
+    {
+        self.outer.len() < self.outer.capacity()
+    }
+
+    /// Opens a collection where there is room for it, as a node of the innermost one, by whether it is a simple key.
     // Inlined: a test in front of some stores.
     #[inline(always)]
-    pub fn push_near(&mut self, level: Level) -> bool
-        ensures laid { result ≡ true → stack_of self.new ≡ level ∷ stack_of self.old }
-        ensures same { result ≡ false → self.new ≡ self.old }
+    pub fn push_near(&mut self, simple: bool, level: Level)
+        requires { vec_len self.old.outer < vec_capacity self.old.outer }
+        ensures { stack_of self.new ≡ level ∷ levels_behind (stack_of self.old) simple }
     {
         match self.top {
-            Some(old) if self.outer.len() < self.outer.capacity() => {
-                self.outer.push_reserved(old);
-                self.top = Some(level);
-                true
-            }
-            _ => false,
+            None => self.outer.clear(),
+            Some(old) => self.outer.push_reserved(Level {
+                phase: Levels::phase_behind(old.phase, simple),
+                flow: old.flow,
+                indent: old.indent,
+            }),
         }
+        self.top = Some(level);
     }
 
     /// Opens a collection; refused only for want of memory.

@@ -9,6 +9,7 @@ mod pretty;
 mod resume;
 mod starts;
 
+use crate::bare::{has_none, is_free};
 use crate::before::{closing_bracket, put_closer_at};
 use crate::documents::put_outer;
 use crate::given::{Context, Scalar};
@@ -51,6 +52,7 @@ impl Core {
     ghost use Rattle.yaml_emit_layout.specs.Content.{emitter_event, scalar, sequence_end, mapping_end};
     ghost use Rattle.yaml_emit_layout.specs.State.{problem_at, top_of};
     ghost use Rattle.yaml_emit_state.specs.Due.{is_undecided};
+    ghost use Rattle.yaml_emit_state.specs.Framed.{Placed};
     ghost use Rattle.yaml_emit_state.specs.Stack.{stack_of};
     ghost use Rattle.yaml_scan_model.specs.declared.yaml_scalar_style_t.{yaml_scalar_style_t};
     ghost use Rattle.yaml_emit_state.specs.Given.{lent_scalar, plain_text, ending, IsNamed};
@@ -324,7 +326,7 @@ impl Core {
         match event {
             yaml_event_body_t::Scalar { .. } => self.lay_named_scalar(event, empty),
             yaml_event_body_t::SequenceStart { .. } | yaml_event_body_t::MappingStart { .. } => {
-                self.lay_canonical_start(event, empty)
+                self.lay_named_start(event, empty)
             }
             yaml_event_body_t::SequenceEnd => self.lay_sequence_end(empty),
             yaml_event_body_t::MappingEnd => self.lay_mapping_end(empty),
@@ -362,17 +364,89 @@ impl Core {
         }
     }
 
-    /// The same of an event that is mostly a scalar, and opens no collection that the next one closes.
-    // Inlined: a call for each form.
+    // Whether a node is due, in canonical form.
+    // Inlined: two tests.
     #[inline(always)]
-    pub fn lay_out_scalar(&mut self, event: &mut yaml_event_body_t)
-        requires { HasUtf8 (body_of event.old) }
-        ensures { LaysOut self.old self.new (emitter_event (body_of event.old)) false }
+    fn may_place(&self) -> bool
+        ensures form { result ≡ true → self.now.settings.canonical ≡ true }
+        ensures due { result ≡ true → self.now.place ≡ Expected.Node }
     {
-        if self.settings.canonical {
-            self.lay_canonical_scalar(event, false);
+        self.settings.canonical && self.awaits_node()
+    }
+
+    /// Lays out a scalar at once, in canonical form where a node is due, that has no properties and stands in its line; else
+    /// nothing.
+    // Inlined: some tests in front of a call. Most events are scalars, and asked for alone.
+    #[inline(always)]
+    pub fn places_scalar(&mut self, event: &yaml_event_body_t) -> bool
+        ensures laid { result ≡ true → Placed self.old (emitter_event (body_of event.now))
+            self.new }
+        ensures goes { result ≡ true → goes_on self.new.sink.status self.new.place ≡ true }
+        ensures same { result ≡ false → self.new ≡ self.old }
+    {
+        match event {
+            yaml_event_body_t::Scalar {
+                anchor,
+                tag,
+                value,
+                plain_implicit,
+                quoted_implicit,
+                ..
+            } => {
+                let quoted = *quoted_implicit;
+                if is_free(anchor, tag, *plain_implicit, quoted) && self.may_place() {
+                    self.place_bare(quoted, value)
+                } else {
+                    false
+                }
+            }
+            _ => false,
+        }
+    }
+
+    // The same of what opens or ends a collection, where it may be.
+    // Inlined: a call for each kind.
+    #[inline(always)]
+    fn places_kind(&mut self, event: &yaml_event_body_t) -> bool
+        requires form { self.old.settings.canonical ≡ true }
+        requires due { self.old.place ≡ Expected.Node }
+        ensures laid { result ≡ true → Placed self.old (emitter_event (body_of event.now))
+            self.new }
+        ensures same { result ≡ false → self.new ≡ self.old }
+    {
+        match event {
+            yaml_event_body_t::SequenceStart { anchor, tag, .. } => {
+                if has_none(anchor, tag) {
+                    self.place_start(true)
+                } else {
+                    false
+                }
+            }
+            yaml_event_body_t::MappingStart { anchor, tag, .. } => {
+                if has_none(anchor, tag) {
+                    self.place_start(false)
+                } else {
+                    false
+                }
+            }
+            yaml_event_body_t::SequenceEnd => self.place_end(true),
+            yaml_event_body_t::MappingEnd => self.place_end(false),
+            _ => false,
+        }
+    }
+
+    /// The same of what opens or ends a collection.
+    // Inlined: two tests in front of a call for each kind.
+    #[inline(always)]
+    pub fn places_bracket(&mut self, event: &yaml_event_body_t) -> bool
+        ensures laid { result ≡ true → Placed self.old (emitter_event (body_of event.now))
+            self.new }
+        ensures same { result ≡ false → self.new ≡ self.old }
+    {
+        if self.may_place() {
+            self.places_kind(event)
         } else {
-            self.lay_pretty(event, false);
+            false
         }
     }
 

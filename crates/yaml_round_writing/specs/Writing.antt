@@ -48,6 +48,11 @@ is_canonical form.Canonical = true
 is_canonical (form.Pretty beginning) = false
 is_canonical (form.Readable at) = false
 
+abbrev pub is_pretty : Form → Bool
+is_pretty form.Canonical = false
+is_pretty (form.Pretty beginning) = true
+is_pretty (form.Readable at) = false
+
 -- in the form
 abbrev pub requested_in : Form → yaml_settings_t → RequestedSettings
 requested_in w s = requested_under s (is_canonical w)

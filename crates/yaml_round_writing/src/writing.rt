@@ -1,19 +1,20 @@
 //! An emitter under the engine's settings, and the writing of a reading's events.
 
-ghost use Rattle.std.specs.Prelude.{◌≡◌, Some, List, [], ◌∷◌, IfOk, IfErr, option_map};
+ghost use Rattle.std.specs.Prelude.{◌≡◌, ℕ, Some, List, [], ◌∷◌, IfOk, IfErr, option_map};
 ghost use Rattle.yaml_parse.specs.Faults.{Fault, fault_of, memory_fault};
 ghost use Rattle.yaml_parse.specs.Events.{event_of};
+ghost use Rattle.yaml_parse.specs.Resolve.{Told};
 ghost use Rattle.yaml_parse.specs.Constructors.{HasUtf8};
 ghost use Rattle.yaml_emit.specs.Content.{emitter_event};
 ghost use Rattle.yaml_emit.specs.Emitter.{IsLimited};
 ghost use Rattle.yaml_round_beginning.specs.Beginning.{nothing_comes};
 ghost use Rattle.yaml_round_reading.specs.Reading.{AreReal};
-ghost use Rattle.yaml_round_writing.specs.Writing.{IsUnder, Gives, is_canonical, requested_under, comes_to_nothing, encoding_under, WritesReading, WritesAll, FinishesText};
+ghost use Rattle.yaml_round_writing.specs.Writing.{IsUnder, Gives, given_in, is_canonical, is_pretty, requested_under, comes_to_nothing, encoding_under, WritesReading, WritesAll, FinishesText};
 
 use std::alloc::Global;
 use yaml_emit::{
     yaml_emitter_emit_early, yaml_emitter_fault, yaml_emitter_initialize, yaml_emitter_into_output,
-    yaml_emitter_output, yaml_emitter_set_break, yaml_emitter_set_canonical,
+    yaml_emitter_output, yaml_emitter_place, yaml_emitter_set_break, yaml_emitter_set_canonical,
     yaml_emitter_set_encoding, yaml_emitter_set_indent, yaml_emitter_set_unicode,
     yaml_emitter_set_width, yaml_emitter_t,
 };
@@ -53,6 +54,13 @@ pub(crate) fn begins_with_nothing(form: Form) -> bool
         Form::Pretty(beginning) => is_nothing(beginning),
         Form::Canonical | Form::Readable(_) => false,
     }
+}
+
+// Whether that is pretty form, with the events' own styles.
+fn is_pretty(form: Form) -> bool
+    ensures { result ≡ is_pretty form }
+{
+    matches!(form, Form::Pretty(_))
 }
 
 fn output_encoding(encoding: yaml_output_encoding_t) -> yaml_encoding_t
@@ -102,28 +110,41 @@ fn see(beginning: &mut Beginning, event: &yaml_event_t)
     }
 }
 
-// Gives the event in the slot, as its form has it; what is left there counts for nothing. The emitter keeps its first fault.
+// Makes of the event in the slot what its form has it as.
+// Inlined: some tests.
+#[inline(always)]
+fn prepare(form: &mut Form, event: &mut yaml_event_t)
+    requires { HasUtf8 (event_of event.old).body }
+    ensures utf8 { HasUtf8 (event_of event.new).body }
+    ensures given { (unasked : ℕ) (es : List Told)
+        → given_in form.old ((event_of event.old, unasked) ∷ es)
+        ≡ emitter_event (event_of event.new).body ∷ given_in form.new es }
+    ensures beginning { (unasked : ℕ) (es : List Told)
+        → comes_to_nothing form.old ((event_of event.old, unasked) ∷ es)
+        ≡ comes_to_nothing form.new es }
+{
+    normalize_event(event, !is_pretty(*form));
+    match form {
+        Form::Canonical => {}
+        Form::Pretty(beginning) => see(beginning, event),
+        Form::Readable(place) => {
+            *place = restyle(event, *place);
+        }
+    }
+}
+
+// Gives the event in the slot, as its form has it; what is left there counts for nothing. The emitter keeps its first fault. In
+// canonical form most events are placed as they are.
 // No hint: a copy that one loop calls is inlined there, with the emitter's own steps. `L` names the loop, as in `Reading::next`.
 fn emit_formed<L>(emitter: &mut yaml_emitter_t, form: &mut Form, event: &mut yaml_event_t)
     requires { HasUtf8 (event_of event.old).body }
     ensures { Gives form.old emitter.old (event_of event.old) form.new emitter.new }
 {
-    match form {
-        Form::Canonical => {
-            normalize_event(event, true);
-            yaml_emitter_emit_early(emitter, event);
-        }
-        Form::Pretty(beginning) => {
-            normalize_event(event, false);
-            see(beginning, event);
-            yaml_emitter_emit_early(emitter, event);
-        }
-        Form::Readable(place) => {
-            normalize_event(event, true);
-            *place = restyle(event, *place);
-            yaml_emitter_emit_early(emitter, event);
-        }
+    if is_canonical(*form) && yaml_emitter_place(emitter, event) {
+        return;
     }
+    prepare(form, event);
+    yaml_emitter_emit_early(emitter, event);
 }
 
 // The loop over events that writes.

@@ -4,6 +4,7 @@ ghost use Rattle.yaml_types.specs.Ascii as ascii;
 
 use super::Sink;
 use crate::append::{indented, lettered};
+use crate::cursor::Status;
 use crate::feed::{LineStart, has_room, is_brief_start, put_line_between, sign_of};
 use yaml_types::put_between;
 
@@ -119,6 +120,7 @@ impl Sink {
         requires ascii { IsAscii (front.now ++ (text.now ++ end.now)) }
         ensures laid { result ≡ true → Puts self.old self.new (line_start_text start.now
             ▹ letters (front.now ++ (text.now ++ end.now))) }
+        ensures going { result ≡ true → self.new.status ≡ Status.Going }
         ensures same { result ≡ false → self.new ≡ self.old }
     {
         if self.is_broken(start) && is_brief_start(&self.output, self.fast_limit, start, text) {

@@ -3,7 +3,6 @@ ghost use Rattle.std.specs.Prelude.{◌≡◌, [], Bool, Some, true, false, IsUt
 ghost use Rattle.yaml_parse_model.specs.Constructors.{HasUtf8};
 
 use super::Core;
-use crate::bare::is_free;
 use crate::before::{begins_line, line_start_of, put_before};
 use crate::indent::position_of;
 use crate::levels::Levels;
@@ -81,7 +80,7 @@ impl Core {
     // A scalar without properties.
     // Out of line: what it needs is in registers.
     #[inline(never)]
-    fn place_bare(&mut self, quoted: bool, value: &[u8]) -> bool
+    pub(super) fn place_bare(&mut self, quoted: bool, value: &[u8]) -> bool
         requires form { self.old.settings.canonical ≡ true }
         requires due { self.old.place ≡ at.Node }
         ensures { PlacesFramed false quoted value.now self.old self.new result }
@@ -99,36 +98,6 @@ impl Core {
         ensures { LaysOut self.old self.new (emitter_event (body_of event.now)) empty }
     {
         self.lay_scalar(event, empty, true);
-    }
-
-    // An event that is mostly a scalar: without properties, where a node is due, at once, or in the general way.
-    // Inlined: with a loop over events that has the emitter's step in line it is a call less for each.
-    #[inline(always)]
-    pub(super) fn lay_canonical_scalar(&mut self, event: &mut yaml_event_body_t, empty: bool)
-        requires utf8 { HasUtf8 (body_of event.old) }
-        requires form { self.old.settings.canonical ≡ true }
-        ensures { LaysOut self.old self.new (emitter_event (body_of event.old)) empty }
-    {
-        match event {
-            yaml_event_body_t::Scalar {
-                anchor,
-                tag,
-                value,
-                plain_implicit,
-                quoted_implicit,
-                ..
-            } => {
-                let quoted = *quoted_implicit;
-                if self.awaits_node() && is_free(anchor, tag, *plain_implicit, quoted) {
-                    if !self.place_bare(quoted, value) {
-                        self.lay_named_scalar(event, empty);
-                    }
-                } else {
-                    self.lay_named_scalar(event, empty);
-                }
-            }
-            _ => self.lay_canonical(event, empty),
-        }
     }
 
     // A text with the default tag and without an anchor, in the general way.

@@ -24,7 +24,7 @@ fn place_behind(top: Option<Level>) -> Expected
     }
 }
 
-fn first_phase(sequence: bool) -> Phase
+pub(super) fn first_phase(sequence: bool) -> Phase
     ensures { result ≡ first_phase sequence }
 {
     if sequence {
@@ -114,13 +114,17 @@ impl Core {
             (state_of self.old).levels simple phase flow indent) }
     {
         self.place = Expected::Node;
-        self.levels.step(simple);
-        let level = Level {
-            phase,
-            flow,
-            indent,
-        };
-        if !self.levels.push_near(level) {
+        if self.levels.has_room() {
+            self.levels.push_near(
+                simple,
+                Level {
+                    phase,
+                    flow,
+                    indent,
+                },
+            );
+        } else {
+            self.levels.step(simple);
             self.open_far(phase, flow, indent);
         }
     }

@@ -2,18 +2,24 @@
 ghost use Rattle.std.specs.Prelude.{◌≡◌, Bool, None, true, false};
 
 use super::Core;
-use crate::bare::has_none;
-use crate::before::{begins_line, line_start_of, opening_bracket};
+use super::moves::first_phase;
+use crate::before::{
+    begins_line, closing_bracket, end_start, is_filled, line_start_of, opening_bracket,
+};
 use crate::given::{Context, Start};
 use crate::indent::{is_flow, position_of};
 use crate::keys::{is_flow_mapping, is_flow_sequence, is_simple_start};
 use crate::nodes::put_start_node;
+use yaml_emit_layout::Level;
 use yaml_parse_model::yaml_event_body_t;
 
 impl Core {
     ghost use Rattle.yaml_parse_model.specs.Events.{body_of, text_of};
     ghost use Rattle.yaml_emit_layout.specs.Content.{Start as SaidStart, emitter_event};
-    ghost use Rattle.yaml_emit_state.specs.Given.{lent_start, opening, IsNamed};
+    ghost use Rattle.yaml_emit_layout.specs.declared.Expected.TheVariants as at;
+    ghost use Rattle.yaml_emit_state.specs.Bare.{has_none};
+    ghost use Rattle.yaml_emit_state.specs.Framed.{Placed};
+    ghost use Rattle.yaml_emit_state.specs.Given.{lent_start, opening, ending, IsNamed};
     ghost use Rattle.yaml_emit_state.specs.Steps.{opens, LaysOut, LaysOutRight};
 
     // What opens a collection in its right place, in a form that is known.
@@ -86,36 +92,65 @@ impl Core {
         }
     }
 
-    // What opens a collection without properties, where a node is due, in canonical form, at once where it begins a line; else
-    // nothing.
-    // Inlined: some tests in front of some stores.
-    #[inline(always)]
-    fn place_start(
-        &mut self,
-        anchor: &Option<Vec<u8>>,
-        tag: &Option<Vec<u8>>,
-        sequence: bool,
-    ) -> bool
+    // What opens a collection without properties, at once where it begins a line; else nothing.
+    // Out of line: what it needs is in registers.
+    #[inline(never)]
+    pub(super) fn place_start(&mut self, sequence: bool) -> bool
         requires form { self.old.settings.canonical ≡ true }
-        ensures laid { result ≡ true → (q : SaidStart) (empty : Bool) → q.anchor
-            ≡ text_of anchor.now → q.tag ≡ text_of tag.now
-            → LaysOut self.old self.new (opening sequence q) empty }
+        requires due { self.old.place ≡ at.Node }
+        ensures laid { result ≡ true → (q : SaidStart) → has_none q.anchor q.tag ≡ true
+            → Placed self.old (opening sequence q) self.new }
         ensures same { result ≡ false → self.new ≡ self.old }
     {
-        if !self.awaits_node() || !has_none(anchor, tag) {
-            return false;
-        }
         let settings = self.settings(true);
-        match self.levels.innermost() {
+        let innermost = self.levels.top();
+        match innermost {
             None => false,
             Some(level) => {
-                let start = line_start_of(settings.line_break, level, false);
+                let start = line_start_of(settings.line_break, &level, false);
                 let bracket = [opening_bracket(sequence)];
-                if begins_line(&settings, level)
+                if begins_line(&settings, &level)
+                    && self.levels.has_room()
                     && self.sink.put_lined_near(&start, &bracket, b"", b"")
                 {
                     self.sink.set_after_block();
-                    self.open_by(&settings, false, true, sequence);
+                    self.levels.push_near(
+                        false,
+                        Level {
+                            phase: first_phase(sequence),
+                            flow: true,
+                            indent: level.indent + settings.indent,
+                        },
+                    );
+                    true
+                } else {
+                    false
+                }
+            }
+        }
+    }
+
+    // What ends a collection that has entries, at once; else nothing.
+    // Out of line: what it needs is in registers.
+    #[inline(never)]
+    pub(super) fn place_end(&mut self, sequence: bool) -> bool
+        requires form { self.old.settings.canonical ≡ true }
+        requires due { self.old.place ≡ at.Node }
+        ensures laid { result ≡ true → Placed self.old (ending sequence) self.new }
+        ensures same { result ≡ false → self.new ≡ self.old }
+    {
+        let settings = self.settings(true);
+        let innermost = self.levels.top();
+        match innermost {
+            None => false,
+            Some(level) => {
+                let start = end_start(&settings, level.indent);
+                let bracket = [closing_bracket(sequence)];
+                if level.flow
+                    && is_filled(level.phase, sequence)
+                    && self.sink.put_lined_near(&start, &bracket, b"", b"")
+                {
+                    self.close();
                     true
                 } else {
                     false
@@ -127,34 +162,11 @@ impl Core {
     // What opens a collection in the general way.
     // Out of line: beside the short one.
     #[inline(never)]
-    fn lay_named_start(&mut self, event: &yaml_event_body_t, empty: bool)
+    pub(super) fn lay_named_start(&mut self, event: &yaml_event_body_t, empty: bool)
         requires kind { opens (emitter_event (body_of event.now)) ≡ true }
         requires form { self.old.settings.canonical ≡ true }
         ensures { LaysOut self.old self.new (emitter_event (body_of event.now)) empty }
     {
         self.lay_start(event, empty, true);
-    }
-
-    // What opens a collection, in canonical form.
-    // Out of line: the form is known, and what other kinds need takes no room here.
-    #[inline(never)]
-    pub(super) fn lay_canonical_start(&mut self, event: &yaml_event_body_t, empty: bool)
-        requires kind { opens (emitter_event (body_of event.now)) ≡ true }
-        requires form { self.old.settings.canonical ≡ true }
-        ensures { LaysOut self.old self.new (emitter_event (body_of event.now)) empty }
-    {
-        match event {
-            yaml_event_body_t::SequenceStart { anchor, tag, .. } => {
-                if !self.place_start(anchor, tag, true) {
-                    self.lay_named_start(event, empty);
-                }
-            }
-            yaml_event_body_t::MappingStart { anchor, tag, .. } => {
-                if !self.place_start(anchor, tag, false) {
-                    self.lay_named_start(event, empty);
-                }
-            }
-            _ => (),
-        }
     }
 }

@@ -13,12 +13,3 @@ returns-then-passes_early c = record {
   last = last_passed true _ _ _ (emitter_event (body_of c.args.event.now)) (sym c.passes_early.ensures ∙ c.if-passes_early.true);
   settings = c.lay_out.ensures.settings;
 }
-
-pub returns-then-passes_as_scalar : goal.returns-then-passes_as_scalar
-returns-then-passes_as_scalar c = record {
-  lays = lays_past true _ _ _ _ _ _ (lays_none false _ _) c.requires.going (c.passes_as_scalar.ensures c.if-passes_as_scalar.true) c.lay_out_scalar.ensures;
-  utf8 = c.requires.utf8.0;
-  waits = λ g. c.requires.few;
-  last = last_passed true _ _ _ (emitter_event (body_of c.args.event.now)) (c.passes_as_scalar.ensures c.if-passes_as_scalar.true);
-  settings = c.lay_out_scalar.ensures.settings;
-}

@@ -1,6 +1,6 @@
 //! What takes tokens where they lie.
 
-ghost use Rattle.std.specs.Prelude.{◌≡◌, true};
+ghost use Rattle.std.specs.Prelude.{◌≡◌, true, false};
 ghost use Rattle.yaml_scan_model.specs.Faults.{Fault, fault_of};
 ghost use Rattle.yaml_scan_model.specs.Tokens.{Token};
 ghost use Rattle.yaml_scan_slot.specs.Slots.{token_in_slot};
@@ -38,7 +38,8 @@ pub trait TokenCheck {
 
     /// Whether a token passes.
     fn check(&self, token: &TokenSlot) -> bool
-        ensures { result ≡ true → passes (token_in_slot token.now) };
+        ensures passes { result ≡ true → passes (token_in_slot token.now) }
+        ensures fails { result ≡ false → passes (token_in_slot token.now) → ⊥ };
 }
 
 /// What a source that lends its next token came to: a taker took it; it isn't lent, and was left; or the fault stands in its slot.

@@ -12,11 +12,13 @@ use Rattle.yaml_scan_history.specs.Remaining.{Remaining, nothing}
 use Rattle.yaml_scan_history.specs.Scanned.{scanned}
 use Rattle.yaml_scan_machine.specs.scan_laws_order.Fronts.{GivesFirst}
 use Rattle.yaml_scan_machine.specs.declared.machine.Machine.{Machine}
-use Rattle.yaml_scan_machine.specs.Handed.{GivesTo}
+use Rattle.yaml_scan_slot.specs.Lending.{key_of}
+use Rattle.yaml_scan_model.specs.Rooms.{KeepsFew}
+use Rattle.yaml_scan_machine.specs.Handed.{GivesTo, GivesKeyTo, Hands}
 use Rattle.yaml_scan_machine.specs.State.{IsShort, IsMachine, KeepsInput, is_ready}
 use Rattle.yaml_scan_machine.specs.Left.{left_in}
 use Rattle.yaml_scan_machine.proofs.TakeLemmas.{ready_gives}
-use Rattle.yaml_scan.specs.Session.{View, HasFirst, MayTake, ReadsNeeded, StaysLent, Fails, Takes, TakesLent, Lends, Refuses, ScansInto, MayAnswer, begun, ended, first_of, has_first, behind_first, is_settled}
+use Rattle.yaml_scan.specs.Session.{View, HasFirst, MayTake, ReadsNeeded, StaysLent, Fails, Takes, TakesKeyed, TakesLent, Lends, Refuses, ScansInto, MayAnswer, begun, ended, first_of, has_first, behind_first, is_settled}
 use Rattle.yaml_scan_machine.specs.Settled.{open_count}
 use Rattle.yaml_scan_machine.specs.Found.{ReadsAsNeeded, Gives, Knows, Lacks, Denies, read_by}
 use Rattle.yaml_scan_machine.proofs.FoundLemmas.{reads_both, reads_none}
@@ -302,11 +304,11 @@ pub begins : (s e : yaml_encoding_t) (b i x : List ℕ) (a h r w l : ℕ) (m : R
 begins s e b i x a h r w l m setting bytes ahead read left waiting slots spares = rw (setting, bytes, ahead, read, left, waiting, slots, spares) refl
 
 -- the reader's next token is taken where it lies
-pub takes_lent : (x y : List ℕ) (o : Option yaml_fault_t) (aside : Bool) (s : Token)
-    (m n p : Machine) (passes P : Token → Type 0) → is_some o ≡ false → aside ≡ false → Knows m n
+takes_one : (x y : List ℕ) (o : Option yaml_fault_t) (aside : Bool) (s : Token) (m n p : Machine)
+    (passes P : Token → Type 0) → is_some o ≡ false → aside ≡ false → Knows m n
     → MayTake passes (left_in n) → IsMachine p → GivesTo P (left_in n) (left_in p) → KeepsInput n p
     → TakesLent passes P (view_by m o s aside x) (view_by p o s aside y)
-takes_lent x y o aside s m n p passes P e off knows may stands g keeps =
+takes_one x y o aside s m n p passes P e off knows may stands g keeps =
     let gives : Gives m p g.token = record {
       stands = stands;
       first = subst (λ (r : Remaining). GivesFirst r g.token (left_in p)) knows.left g.first;
@@ -318,6 +320,36 @@ takes_lent x y o aside s m n p passes P e off knows may stands g keeps =
       takes = takes_own x y o aside s g.token m p e off gives;
       checked = may g.token (left_in p) g.first;
     }
+
+-- or KEY and the scalar behind it
+takes_keyed : (x y : List ℕ) (o : Option yaml_fault_t) (aside : Bool) (s : Token) (m n p : Machine)
+    (P : Token → Type 0) → is_some o ≡ false → aside ≡ false → KeepsFew y → Knows m n
+    → IsMachine p → GivesKeyTo P n p
+    → TakesKeyed P (view_by m o s aside x) (view_by p o s aside y)
+takes_keyed x y o aside s m n p P e off few knows stands k =
+    let key : Gives m k.middle (key_of k.token) = record {
+      stands = k.stands;
+      first = subst (λ (r : Remaining). GivesFirst r (key_of k.token) (left_in k.middle)) knows.left k.key;
+      reads = reads_both m n k.middle knows.left knows.reads (reads_none n k.middle k.before);
+    } in
+    record {
+      token = k.token;
+      middle = view_by k.middle o s aside y;
+      has = k.has;
+      plain = k.plain;
+      key = takes_own x y o aside s (key_of k.token) m k.middle e off key;
+      few = (k.stands.short, few);
+      takes = takes_own y y o aside s k.token k.middle p e off record { stands = stands; first = k.first; reads = reads_none k.middle p k.behind };
+    }
+
+pub takes_lent : (x y : List ℕ) (o : Option yaml_fault_t) (aside : Bool) (s : Token)
+    (m n p : Machine) (passes P Q : Token → Type 0) → is_some o ≡ false → aside ≡ false
+    → KeepsFew y → Knows m n → MayTake passes (left_in n) → IsMachine p → Hands P Q n p
+    → KeepsInput n p
+    → TakesLent passes P (view_by m o s aside x) (view_by p o s aside y)
+    ⊎ TakesKeyed Q (view_by m o s aside x) (view_by p o s aside y)
+takes_lent x y o aside s m n p passes P Q e off few knows may stands (inl g) keeps = inl (takes_one x y o aside s m n p passes P e off knows may stands g keeps)
+takes_lent x y o aside s m n p passes P Q e off few knows may stands (inr k) keeps = inr (takes_keyed x y o aside s m n p Q e off few knows stands k)
 
 -- the first token doesn't pass, if one is to come
 pub fails_first : (m : Machine) (passes : Token → Type 0) (t : Token) → IsMachine m

@@ -18,6 +18,7 @@ use Rattle.yaml_scan_machine.specs.Left.{IsTold}
 pub use Rattle.yaml_scan_machine.specs.Found.{HasMore}
 use Rattle.yaml_scan_machine.specs.Settled.{settles}
 use Rattle.yaml_scan_machine.specs.scan_laws_order.Fronts.{GivesFirst}
+use Rattle.yaml_scan_slot.specs.Lending.{key_of}
 use Rattle.yaml_scan_slot.specs.Slots.{is_tagged}
 use Rattle.yaml_scan_slot.specs.declared.taker.Lent.{Lent}
 use Rattle.yaml_scan_slot.specs.declared.taker.Lent.TheVariants.{Taken, Left, Refused}
@@ -198,6 +199,16 @@ pub record TakesLent (passes : Token → Type 0) (P : Token → Type 0) (old new
   pub takes : Takes old token new
   pub checked : (is_tagged token.body ≡ false) ⊎ passes token
 
+-- KEY was taken, and the scalar behind it where it lies, which has that
+pub record TakesKeyed (P : Token → Type 0) (old new : View) : Type 0 where
+  pub token : Token
+  pub middle : View
+  pub has : P token
+  pub plain : is_tagged token.body ≡ false
+  pub key : Takes old (key_of token) middle
+  pub few : HoldsLittle middle
+  pub takes : Takes middle token new
+
 -- a token is to come, and the first one doesn't pass
 pub record Fails (passes : Token → Type 0) (c : Remaining) : Type 0 where
   pub token : Token
@@ -214,8 +225,10 @@ pub record StaysLent (passes : Token → Type 0) (old new : View) : Type 0 where
   pub reads : ReadsNeeded old new
   pub shown : new.shown ≡ old.shown
 
-abbrev pub LendsNext : {A : Type 0} → (Token → Type 0) → (Token → A → Type 0) → View → Lent A
-    → Fault → View → Type 0
-LendsNext passes P old (Taken a) f new = TakesLent passes (λ t. P t a) old new
-LendsNext passes P old Left f new = StaysLent passes old new
-LendsNext passes P old Refused f new = Refuses old f new
+-- one token was taken, which has the first, or KEY with the scalar behind it, which has the second; or none; or it was refused
+abbrev pub LendsNext : {A : Type 0} → (Token → Type 0) → (Token → A → Type 0)
+    → (Token → A → Type 0) → View → Lent A → Fault → View → Type 0
+LendsNext passes P Q old (Taken a) f new = TakesLent passes (λ t. P t a) old new
+    ⊎ TakesKeyed (λ t. Q t a) old new
+LendsNext passes P Q old Left f new = StaysLent passes old new
+LendsNext passes P Q old Refused f new = Refuses old f new

@@ -164,7 +164,7 @@ fn may_take<C: TokenCheck>(machine: &Machine, check: &C) -> bool
     }
 }
 
-/// Has a taker take the next token where it lies: what `yaml_parser_scan_into` gives. None is taken, and what is to come stays, only
+/// Has a taker take the next token where it lies, or KEY and the scalar behind it: what `yaml_parser_scan_into` gives. None is taken, and what is to come stays, only
 /// where a peek put it aside, where none is to come, and where it is a tag or a directive that doesn't pass the check.
 // Inlined: mostly the next token is known.
 #[inline(always)]
@@ -175,7 +175,9 @@ pub fn yaml_parser_lend<C: TokenCheck, T: TokenTaker>(
     slot: &mut T::Slot,
     fault: &mut yaml_fault_t,
 ) -> Lent<T::Answer>
-    ensures lends { LendsNext C.passes (λ t r. T.takes taker.old slot.old t taker.new slot.new
+    ensures lends { LendsNext C.passes
+        (λ t r. T.takes false taker.old slot.old t taker.new slot.new (fault_of fault.new) r)
+        (λ t r. T.wants taker.old × T.takes true taker.old slot.old t taker.new slot.new
         (fault_of fault.new) r) parser.old result (fault_of fault.new) parser.new }
     ensures left { LeavesTaker result (taker.new ≡ taker.old) (slot.new ≡ slot.old) }
     ensures few { HoldsLittle parser.new }

@@ -5,7 +5,10 @@ ghost use Rattle.yaml_parse_model.specs.Slots.{token_in_slot};
 ghost use Rattle.yaml_parse_core.specs.declared.level.Await.TheVariants.{Nothing};
 ghost use Rattle.yaml_parse_core.specs.Views.{states_of, whole_of};
 ghost use Rattle.yaml_parse_core.specs.Views as views;
+ghost use Rattle.yaml_parse_core.specs.Keyed.{WantsKey, key_level, keyed_by};
 ghost use Rattle.yaml_parse_core.specs.Seen.{seen};
+ghost use Rattle.yaml_parse_core.specs.declared.machine.Turn.TheVariants as turns;
+ghost use Rattle.yaml_parse_model.specs.declared.yaml_token_type_t.TheVariants as kinds;
 ghost use Rattle.yaml_parse_core.specs.Turns.{keeps, TurnsTo};
 
 use crate::document::{at_documents, at_first};
@@ -197,14 +200,61 @@ fn at_awaited(
     }
 }
 
-/// The topmost state at a token.
-// Inlined into its one caller, the parser's step.
+// The level behind a KEY.
 #[inline(always)]
-pub fn turn(machine: &mut Machine, waiting: &mut Waiting, token: &mut TokenSlot) -> Turn
-    ensures turns { TurnsTo (states_of machine.old waiting.old) (token_in_slot token.old)
-        (seen result) machine.new waiting.new }
+fn level_behind(level: Level) -> Level
+    ensures { result ≡ key_level level }
+{
+    match level {
+        Level::MappingItems => Level::MappingColon,
+        _ => Level::Colon,
+    }
+}
+
+/// Whether a KEY gives nothing here.
+// Inlined: two bytes.
+#[inline(always)]
+pub fn wants_key(machine: &Machine) -> bool
+    ensures { result ≡ true → WantsKey machine.now }
+{
+    match machine.awaited {
+        Await::Nothing => matches!(machine.top.level, Level::Pairs | Level::MappingItems),
+        _ => false,
+    }
+}
+
+// A KEY that gives nothing, and the scalar behind it. Nothing is awaited then, as before.
+#[inline(always)]
+fn scalar_key(machine: &mut Machine) -> Turn
+    ensures result { result ≡ turns.Scalar }
+    ensures machine { machine.new ≡ record machine.old {
+      top = record machine.old.top { level = key_level machine.old.top.level };
+    } }
+{
+    machine.top.level = level_behind(machine.top.level);
+    Turn::Scalar
+}
+
+/// The topmost state at a token, or behind a KEY that stands where the token begins.
+// Inlined into its one caller, the parser's step.
+#[tactic(auto, using(crate::proofs::Keyed::key_turns))]
+#[inline(always)]
+pub fn turn(
+    is_key: bool,
+    machine: &mut Machine,
+    waiting: &mut Waiting,
+    token: &mut TokenSlot,
+) -> Turn
+    requires wants { is_key ≡ true → WantsKey machine.old }
+    requires scalar { is_key ≡ true → token.old.body.kind ≡ kinds.YAML_SCALAR_TOKEN }
+    ensures turns { TurnsTo
+        (states_of (keyed_by is_key machine.old token.old.start_mark) waiting.old)
+        (token_in_slot token.old) (seen result) machine.new waiting.new }
     ensures kept { keeps (seen result) ≡ true → token.new ≡ token.old }
 {
+    if is_key {
+        return scalar_key(machine);
+    }
     let kind = token.body.kind;
     match machine.awaited {
         Await::Nothing => at_level(machine, waiting, token, kind),

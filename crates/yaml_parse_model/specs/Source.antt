@@ -5,6 +5,7 @@ use Rattle.yaml_scan_model.specs.declared.fault.yaml_fault_t.{yaml_fault_t}
 use Rattle.yaml_scan_model.specs.Tokens.{Token, TokenBody, token_of, no_token}
 use Rattle.yaml_scan_model.specs.Tokens as token
 use Rattle.yaml_scan_model.specs.Faults.{Fault, fault_of, IsMemoryFault, scan_layers}
+pub use Rattle.yaml_scan_slot.specs.Lending.{key_of}
 use Rattle.yaml_scan_slot.specs.declared.taker.Lent.{Lent}
 use Rattle.yaml_scan_slot.specs.declared.taker.Lent.TheVariants.{Taken, Left, Refused}
 
@@ -73,12 +74,31 @@ pub record LendsToken (P : Token → Type 0) (own : Answer → Type 0) (old : Li
   pub gives : GivesToken old fault token new after
   pub goes : own (Ok token)
 
--- what a source comes to that lends its next token: a taker took it; or none is given, and what is to come stays; or a fault is given
-abbrev pub LendsNext : {A : Type 0} → (Token → A → Type 0) → (Answer → Type 0) → Lent A
-    → List Token → Option Fault → Fault → List Token → Option Fault → Type 0
-LendsNext P own (Taken a) old fault f new after = LendsToken (λ t. P t a) own old fault new after
-LendsNext P own Left old fault f new after = (new ≡ old) × (after ≡ fault)
-LendsNext P own Refused old fault f new after = GivesFault old fault f new after × own (Err f)
+-- KEY and the scalar behind it were given, which a taker took, and the source's own state went on with each
+pub record LendsKeyed {S : Type 0} (P : Token → Type 0) (own : S → Answer → S → Type 0) (s : S)
+    (old : List Token) (fault : Option Fault) (s' : S) (new : List Token) (after : Option Fault)
+    : Type 0 where
+  pub token : Token
+  pub has : P token
+  pub middle : S
+  pub rest : List Token
+  pub ending : Option Fault
+  pub key : GivesToken old fault (key_of token) rest ending
+  pub key_goes : own s (Ok (key_of token)) middle
+  pub gives : GivesToken rest ending token new after
+  pub goes : own middle (Ok token) s'
+
+-- What a source comes to that lends its next token: a taker took it, or KEY with the scalar behind it; or none is given, and what is
+-- to come stays; or a fault is given.
+abbrev pub LendsNext : {A S : Type 0} → (Token → A → Type 0) → (Token → A → Type 0)
+    → (S → Answer → S → Type 0) → S → S → Lent A → List Token → Option Fault → Fault
+    → List Token → Option Fault → Type 0
+LendsNext P Q own s s' (Taken a) old fault f new after
+    = LendsToken (λ t. P t a) (λ r. own s r s') old fault new after
+    ⊎ LendsKeyed (λ t. Q t a) own s old fault s' new after
+LendsNext P Q own s s' Left old fault f new after = (new ≡ old) × (after ≡ fault)
+LendsNext P Q own s s' Refused old fault f new after = GivesFault old fault f new after
+    × own s (Err f) s'
 
 abbrev pub answer_of : Result yaml_token_t yaml_fault_t → Answer
 answer_of (Ok t) = Ok (token_of t)

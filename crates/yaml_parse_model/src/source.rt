@@ -1,6 +1,6 @@
 //! Where a parser's tokens come from.
 
-ghost use Rattle.std.specs.Prelude.{◌≡◌, List, Option, IfOk, IfErr, ⊤};
+ghost use Rattle.std.specs.Prelude.{◌≡◌, List, Option, IfOk, IfErr, false, true, ⊤};
 ghost use Rattle.yaml_scan_model.specs.Tokens.{Token, token_of};
 ghost use Rattle.yaml_scan_slot.specs.Slots.{token_in_slot};
 ghost use Rattle.yaml_scan_model.specs.Faults.{Fault, fault_of};
@@ -52,7 +52,7 @@ pub trait yaml_token_source_t: Drop {
         }
     }
 
-    /// Has a taker take the next token where it lies, or lends none: it is left, and the other calls give it. A source whose tokens
+    /// Has a taker take the next token where it lies, or KEY and the scalar behind it; or lends none: it is left, and the other calls give it. A source whose tokens
     /// lie in a row of its own has a body of its own for it.
     fn lend_next<T: TokenTaker>(
         &mut self,
@@ -60,8 +60,10 @@ pub trait yaml_token_source_t: Drop {
         slot: &mut T::Slot,
         fault: &mut yaml_fault_t,
     ) -> Lent<T::Answer>
-        ensures lends { LendsNext (λ t r. T.takes taker.old slot.old t taker.new slot.new
-            (fault_of fault.new) r) (λ a. own_step self.old a self.new) result (to_come self.old)
+        ensures lends { LendsNext
+            (λ t r. T.takes false taker.old slot.old t taker.new slot.new (fault_of fault.new) r)
+            (λ t r. T.wants taker.old × T.takes true taker.old slot.old t taker.new slot.new
+            (fault_of fault.new) r) own_step self.old self.new result (to_come self.old)
             (fault_to_come self.old) (fault_of fault.new) (to_come self.new)
             (fault_to_come self.new) }
         ensures left { LeavesTaker result (taker.new ≡ taker.old) (slot.new ≡ slot.old) }

@@ -1,7 +1,13 @@
 -- What a turn with its item resolved is to what is to come.
-use Rattle.std.proofs.Common.{◌≡◌, ◌∙◌, ◌<◌, ◌≤◌, ℕ, inl, inr, Bool, true, false, List, [], ◌∷◌, length, arith, Option, Some, None, refl, ap, sym, subst}
-use Rattle.yaml_parse_step.proofs.Words.{Token, Fault, Event, EventBody, RawEvent, gave, noted, settle, parts_documents_behind, State, Outcome, run, unasked_at_stop, Stands, Directives, unasked_at_fault, is_between, waiting, reading_of, next_unasked, IsStack, IsUtf8Token, IsUtf8Held, is_nothing, Step, raw, IsFront, HasNoFront, Raw, Went, WentOn, StepBuffers, peeked_of, states_in, token_in_slot}
+use Rattle.std.proofs.Common.{◌≡◌, ◌∙◌, ◌<◌, ◌≤◌, ℕ, inl, inr, Bool, true, false, List, [], ◌∷◌, ◌++◌, length, arith, Option, Some, None, refl, ap, sym, subst}
+use Rattle.yaml_parse_step.proofs.Words.{Token, Fault, Event, EventBody, RawEvent, gave, noted, settle, parts_documents_behind, State, Outcome, run, unasked_at_stop, Stands, Directives, unasked_at_fault, is_between, waiting, reading_of, next_unasked, IsStack, IsUtf8Token, IsUtf8Held, is_nothing, Step, raw, IsFront, HasNoFront, Raw, Went, WentOn, StepBuffers, peeked_of, states_in, states_by, token_in_slot, Moves, Properties, properties_of, yaml_mark_t}
+use Rattle.yaml_parse_core.specs.declared.level.Level.{Level}
+use Rattle.yaml_parse_core.specs.declared.level.Level.TheVariants as level
+use Rattle.yaml_parse_core.specs.Keyed.{WantsKey, key_await}
+use Rattle.yaml_parse_core.specs.Views.{await_of}
+use Rattle.yaml_parse_core.proofs.Keyed.{key_silent}
 use Rattle.yaml_parse_model.specs.Source as source
+use Rattle.yaml_parse_model.specs.Source.{key_of}
 use Rattle.yaml_parse_model.specs.Constructors.{HasUtf8, AreUtf8}
 use Rattle.yaml_parse_grammar.specs.Stacks.{StandsBehind}
 use Rattle.yaml_parse_grammar.specs.Texts.{IsUtf8Item, AreUtf8States}
@@ -12,13 +18,13 @@ use Rattle.yaml_parse_grammar.proofs.EventsToGive.{noted_directive}
 use Rattle.yaml_parse_laws_trees.proofs.Falling.{next_behind, ended_next}
 use Rattle.yaml_parse_step.specs.declared.step.Step.TheVariants as code
 use Rattle.yaml_parse_grammar.specs.Remaining.{held_of}
-use Rattle.yaml_parse_step.specs.Steps.{AsksNext, held_if, Turns, IsUtf8Step, IsUtf8Turn, IsStackTurn}
+use Rattle.yaml_parse_step.specs.Steps.{AsksNext, held_if, keyed_in, Turns, IsUtf8Step, IsUtf8Turn, IsStackTurn}
 use Rattle.yaml_parse_resolve.specs.Settles.{directives_of}
 use Rattle.yaml_parse_step.specs.Moves.{TakesTurn}
 use Rattle.yaml_parse_step.specs.Turned.{Turned, turned}
 use Rattle.yaml_parse_step.specs.Turned as turn
 use Rattle.yaml_parse_step.proofs.Front.{given_front, refused_front}
-use Rattle.yaml_parse_step.proofs.Moves.{over_front, stops_front, no_front_open}
+use Rattle.yaml_parse_step.proofs.Moves.{over_front, silent_moves, stops_front, no_front_open}
 use Rattle.yaml_parse_step.proofs.Turning.{of_raw, event_turn, silent_turn, noted_turn, turns_behind, refused_turn, unsettled_turn, AskedFor}
 
 -- ---- texts and states behind a turn
@@ -200,6 +206,30 @@ takes_behind i o ts us f g e k r n rest after h =
       utf8 = λ u. h.utf8 (silent.utf8 u).1;
       stack = λ u. h.stack (silent.stack u).1;
     }
+
+-- behind a KEY that gave nothing something is open
+key_open : (x : Level) (at : yaml_mark_t) (p : Properties) (s : List State)
+    → is_nothing (await_of (key_await x) at p ++ s) ≡ false
+key_open level.MappingItems at p s = refl
+key_open _ at p s = refl
+
+pub keyed_asks : (b : StepBuffers) (at : yaml_mark_t) → AsksNext b → AsksNext (keyed_in true b at)
+keyed_asks b at asks = (asks.0, key_open b.machine.top.level at (properties_of b.waiting) _)
+
+-- what a turn owes at a KEY that gives nothing and at the token behind it
+pub keyed_takes : (old new : StepBuffers) (ts us : List Token) (f h : Option Fault) (t : Token)
+    (rest : List Token) (after : Option Fault) (r : Step) (e : Event) (g : Fault)
+    → AsksNext old → WantsKey old.machine → source.GivesToken ts f (key_of t) us h
+    → source.GivesToken us h t rest after
+    → WentOn (states_in (keyed_in true old t.start_mark)) t old r e g new
+    → TakesTurn old ts f (turned r e g) new rest after
+keyed_takes old new ts us f h t rest after r e g asks wants key scalar went =
+    let mid = keyed_in true old t.start_mark in
+    let none = ap (λ b. held_if b (token_in_slot old.token)) asks.0 in
+    let moves = silent_moves (states_in old) (key_of t) _ (states_by mid.machine) (key_silent old.machine old.waiting t wants) in
+    let silent : TakesTurn old ts f turn.silent mid us h = given_takes old mid ts f (key_of t) us h code.Silent e g asks key (inl (subst (λ z. Moves (states_in old) (key_of t) None z (states_in mid)) (sym none) moves, none, refl)) in
+    let behind = given_takes mid new us h t rest after r e g (keyed_asks old t.start_mark asks) scalar went in
+    takes_behind old mid ts us f h asks.0 silent (turned r e g) new rest after (subst (λ (x : Bool). TakesTurn (record mid { is_held = x }) us h (turned r e g) new rest after) asks.0 behind)
 
 -- ---- the token that is held
 

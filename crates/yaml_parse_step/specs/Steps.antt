@@ -14,6 +14,8 @@ use Rattle.yaml_parse_grammar.specs.Texts.{IsUtf8Item, AreUtf8States, IsUtf8Toke
 use Rattle.yaml_parse_grammar.specs.Stacks.{IsStack, StandsBehind, parts_documents_behind}
 use Rattle.yaml_parse_model.specs.Constructors.{HasUtf8, AreUtf8}
 use Rattle.yaml_parse_grammar.specs.Resolve.{Directives}
+use Rattle.yaml_parse_model.specs.declared.yaml_mark_t.{yaml_mark_t}
+use Rattle.yaml_parse_core.specs.Keyed.{keyed_by}
 use Rattle.yaml_parse_core.specs.Views.{is_nothing, states_of}
 use Rattle.yaml_parse_step.specs.declared.step.StepBuffers.{StepBuffers}
 use Rattle.yaml_parse_step.specs.Finds.{GivesNext}
@@ -31,6 +33,10 @@ peeked_of d = held_if d.is_held (token_in_slot d.token)
 -- what may come, the topmost first
 abbrev pub states_in : StepBuffers → List State
 states_in b = states_of b.machine b.waiting
+
+-- behind a KEY at that place, or none
+abbrev pub keyed_in : Bool → StepBuffers → yaml_mark_t → StepBuffers
+keyed_in is_key b at = record b { machine = keyed_by is_key b.machine at }
 
 -- no token is held, and something is open
 abbrev pub AsksNext : StepBuffers → Type 0

@@ -8,17 +8,20 @@ ghost use Rattle.yaml_parse_model.specs.Events.{Event, event_of};
 ghost use Rattle.yaml_parse_core.specs.Seen.{seen};
 ghost use Rattle.yaml_parse_core.specs.Seen as kinds;
 ghost use Rattle.yaml_parse_core.specs.declared.told.Told.TheVariants.{Alias};
+ghost use Rattle.yaml_parse_core.specs.Keyed.{WantsKey};
 ghost use Rattle.yaml_parse_core.specs.Turns.{keeps, context_if};
 ghost use Rattle.yaml_parse_core.specs.Views.{implied_item};
 ghost use Rattle.yaml_parse_grammar.specs.Machine.{context_of};
 ghost use Rattle.yaml_parse_grammar.specs.States.{State};
 ghost use Rattle.yaml_parse_grammar.specs.Items.{Properties};
-ghost use Rattle.yaml_parse_step.specs.Steps.{AsksNext, states_in};
+ghost use Rattle.yaml_parse_step.specs.Steps.{AsksNext, keyed_in, states_in};
 ghost use Rattle.yaml_parse_step.specs.Moves.{TakesTurn, Turned, Goes, WentOn, LeavesMachine, end_of, step_of};
 ghost use Rattle.yaml_parse_step.specs.Turned.{turned};
 
 use std::mem;
-use yaml_parse_core::{Implied, Machine, Shape, Told, Turn, Waiting, finish, is_over, turn};
+use yaml_parse_core::{
+    Implied, Machine, Shape, Told, Turn, Waiting, finish, is_over, turn, wants_key,
+};
 use yaml_parse_grammar::ParseProblem;
 use yaml_parse_model::{Lent, TokenSlot, TokenTaker, yaml_event_t, yaml_token_source_t};
 use yaml_parse_resolve::{
@@ -334,20 +337,29 @@ impl TokenTaker for StepBuffers {
 
     type Answer = Step;
 
-    // Where no token is held.
-    ghost takes = { λ old _ t new event f step. old.is_held ≡ false → WentOn (states_in old) t old
-        step (event_of event) f new };
+    ghost wants = { λ b. WantsKey b.machine };
 
-    // The topmost state at the token, with its item resolved.
+    // Where no token is held.
+    ghost takes = { λ is_key old _ t new event f step. old.is_held ≡ false → WentOn
+        (states_in (keyed_in is_key old t.start_mark)) t old step (event_of event) f new };
+
+    // Inlined: two bytes.
+    #[inline(always)]
+    fn wants_key(&self) -> bool {
+        wants_key(&self.machine)
+    }
+
+    // The topmost state at the token, or behind the KEY, with its item resolved.
     // Inlined: the source calls it at one place.
     #[inline(always)]
     fn take(
         &mut self,
+        is_key: bool,
         token: &mut TokenSlot,
         event: &mut yaml_event_t,
         fault: &mut yaml_fault_t,
     ) -> Step {
-        let turn = turn(&mut self.machine, &mut self.waiting, token);
+        let turn = turn(is_key, &mut self.machine, &mut self.waiting, token);
         going(turn, self, token, event, fault)
     }
 }
@@ -366,7 +378,7 @@ fn turn_at_held(
     let mut token = TokenSlot::empty(buffers.directives.alloc);
     mem::swap(&mut buffers.token, &mut token);
     buffers.is_held = false;
-    buffers.take(&mut token, event, fault)
+    buffers.take(false, &mut token, event, fault)
 }
 
 // One step at the source's next token, where something is open, none is held and the source lends none.

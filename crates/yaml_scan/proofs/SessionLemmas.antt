@@ -1,5 +1,5 @@
 -- What is to come of a session.
-use Rattle.std.proofs.Common.{ℕ, ◌≡◌, ◌≤◌, length, Bool, true, false, true≢false, ltb, List, [], ◌∷◌, Option, Some, None, refl, sym, ap, subst, ◌∙◌, inl, inr, arith}
+use Rattle.std.proofs.Common.{ℕ, ◌≡◌, ◌⊎◌, ◌≤◌, length, Bool, true, false, true≢false, ltb, List, [], ◌∷◌, Option, Some, None, refl, sym, ap, subst, ◌∙◌, inl, inr, arith}
 use Rattle.std.proofs.lemmas.Bool.Decides.{nat_tests}
 use Rattle.std.specs.Prelude.{is_some, option_copied, option_map}
 use denote.Bor.{Bor}
@@ -12,11 +12,13 @@ use Rattle.yaml_scan_history.specs.Remaining.{Remaining, nothing}
 use Rattle.yaml_scan_history.specs.Scanned.{scanned}
 use Rattle.yaml_scan_machine.specs.scan_laws_order.Fronts.{GivesFirst}
 use Rattle.yaml_scan_machine.specs.declared.machine.Machine.{Machine}
-use Rattle.yaml_scan_machine.specs.Handed.{GivesTo}
+use Rattle.yaml_scan_slot.specs.Lending.{key_of}
+use Rattle.yaml_scan_model.specs.Rooms.{KeepsFew}
+use Rattle.yaml_scan_machine.specs.Handed.{GivesTo, GivesKeyTo, Hands}
 use Rattle.yaml_scan_machine.specs.State.{IsShort, IsMachine, KeepsInput, is_ready}
 use Rattle.yaml_scan_machine.specs.Left.{left_in}
 use Rattle.yaml_scan_machine.proofs.TakeLemmas.{ready_gives}
-use Rattle.yaml_scan.specs.Session.{View, HasFirst, MayTake, ReadsNeeded, StaysLent, Takes, TakesLent, Lends, Refuses, ScansInto, MayAnswer, begun, ended, first_of, behind_first, is_settled}
+use Rattle.yaml_scan.specs.Session.{View, HasFirst, MayTake, ReadsNeeded, StaysLent, Fails, Takes, TakesKeyed, TakesLent, Lends, Refuses, ScansInto, MayAnswer, begun, ended, first_of, has_first, behind_first, is_settled}
 use Rattle.yaml_scan_machine.specs.Settled.{open_count}
 use Rattle.yaml_scan_machine.specs.Found.{ReadsAsNeeded, Gives, Knows, Lacks, Denies, read_by}
 use Rattle.yaml_scan_machine.proofs.FoundLemmas.{reads_both, reads_none}
@@ -80,8 +82,8 @@ pub ready_known : (m : Machine) (o : Option yaml_fault_t) (s : Token) (aside kno
     → known ≡ is_settled (view_by m o s aside [])
 ready_known m o s aside known i e off same = same ∙ own_settled m o s aside (i (no_fault o e)) e off
 
-has_first : (c d : Remaining) (t : Token) → GivesFirst c t d → HasFirst c.tokens
-has_first c d t (tokens, fault) = rw tokens tt
+comes_first : (c d : Remaining) (t : Token) → GivesFirst c t d → HasFirst c.tokens
+comes_first c d t (tokens, fault) = rw tokens tt
 
 first_by : (o : Option yaml_fault_t) (aside : Bool) (t : Token) (c : Remaining) → o ≡ None
     → (aside ≡ false → HasFirst c.tokens) → HasFirst (remaining_by o aside t c).tokens
@@ -95,7 +97,7 @@ pub first_comes : (m : Machine) (o : Option yaml_fault_t) (t : Token) (aside : B
     → HasFirst (remaining_by o aside t (left_in m)).tokens
 first_comes m o t aside ready i =
     let none = ready_fault m o t aside ready in
-    first_by o aside t (left_in m) none (λ off. let (s, rest, gives) = ready_gives m (i none) (ready_own m o t aside (i none) ready off) in has_first (left_in m) rest s gives)
+    first_by o aside t (left_in m) none (λ off. let (s, rest, gives) = ready_gives m (i none) (ready_own m o t aside (i none) ready off) in comes_first (left_in m) rest s gives)
 
 taken_rest : (c d : Remaining) (t : Token) → GivesFirst c t d → d ≡ behind_first c
 taken_rest c d t (tokens, fault) = rw (tokens, fault) refl
@@ -125,12 +127,12 @@ own_reads x y (Some f) p aside after s t m n e off r = cc
 pub takes_over : (x : List ℕ) (o : Option yaml_fault_t) (aside : Bool) (s t : Token) (m : Machine)
     → is_some o ≡ true → t ≡ no_token → Takes (view_by m o s aside x) t (view_by m o s aside x)
 takes_over x None aside s t m e empty = cc
-takes_over x (Some f) aside s t m e empty = record { token = empty; rest = refl; may = refl; same = refl; reads = same_reads (view_by m (Some f) s aside x) (view_by m (Some f) s aside x) refl refl refl refl; over = λ g is. refl; still = λ g is. refl }
+takes_over x (Some f) aside s t m e empty = record { token = empty; rest = refl; may = refl; same = refl; reads = same_reads (view_by m (Some f) s aside x) (view_by m (Some f) s aside x) refl refl refl refl; over = λ g is. refl; still = λ g is. refl; shown = refl }
 
 -- the token that was put aside is taken
 pub takes_held : (x y : List ℕ) (o : Option yaml_fault_t) (aside : Bool) (s t : Token) (m : Machine)
     → is_some o ≡ false → aside ≡ true → Takes (view_by m o s aside x) s (view_by m o t false y)
-takes_held x y None true s t m e on = record { token = refl; rest = refl; may = tt; same = refl; reads = same_reads (view_by m None s true x) (view_by m None t false y) refl refl refl refl; over = λ g bad. cc; still = λ g bad. cc }
+takes_held x y None true s t m e on = record { token = refl; rest = refl; may = tt; same = refl; reads = same_reads (view_by m None s true x) (view_by m None t false y) refl refl refl refl; over = λ g bad. cc; still = λ g bad. cc; shown = refl }
 takes_held x y None false s t m e on = cc
 takes_held x y (Some f) aside s t m e on = cc
 
@@ -147,6 +149,7 @@ takes_own x y None false s t m n e off g = record {
   reads = own_reads x y None None false false s s m n refl refl g.reads;
   over = λ f bad. cc;
   still = λ f bad. cc;
+  shown = refl;
 }
 takes_own x y None true s t m n e off g = cc
 takes_own x y (Some f) aside s t m n e off g = cc
@@ -173,6 +176,7 @@ takes_none x y None false s t m n e off l = record {
   reads = own_reads x y None None false false s s m n refl refl l.finishes.reads;
   over = λ g bad. cc;
   still = λ g bad. cc;
+  shown = refl;
 }
 takes_none x y None true s t m n e off l = cc
 takes_none x y (Some f) aside s t m n e off l = cc
@@ -182,7 +186,7 @@ pub refuses : (x y : List ℕ) (o : Option yaml_fault_t) (aside after : Bool) (s
     (m n : Machine)
     (f : yaml_fault_t) → is_some o ≡ false → aside ≡ false → IsMachine m → Denies m n (fault_of f)
     → Refuses (view_by m o s aside x) (fault_of f) (view_by n (Some f) t after y)
-refuses x y None false after s t m n f e off i d = record { ahead = d.few.0; sought = sym (own_settled m None s false i refl refl) ∙ d.sought; more = d.more; told = d.told; reader = d.reader; plain = d.plain; once = refl; kept = refl; over = refl }
+refuses x y None false after s t m n f e off i d = record { ahead = d.few.0; sought = sym (own_settled m None s false i refl refl) ∙ d.sought; more = d.more; told = d.told; reader = d.reader; plain = d.plain; once = refl; kept = refl; over = refl; shown = refl }
 refuses x y None true after s t m n f e off i d = cc
 refuses x y (Some g) aside after s t m n f e off i d = cc
 
@@ -191,9 +195,9 @@ pub lends_aside : (x y : List ℕ) (o : Option yaml_fault_t) (aside : Bool) (s :
     (m : Machine) → aside ≡ true
     → (o ≡ None → IsMachine m) → ((f : yaml_fault_t) → o ≡ Some f → s ≡ no_token)
     → Lends (view_by m o s aside x) s (view_by m o s aside y)
-lends_aside x y None true s m on i over = record { token = refl; all = refl; may = tt; same = refl; reads = same_reads (view_by m None s true x) (view_by m None s true y) refl refl refl refl; known = inl (sym (ready_held m None s true i refl refl)); over = λ g bad. cc }
+lends_aside x y None true s m on i over = record { token = refl; all = refl; may = tt; same = refl; reads = same_reads (view_by m None s true x) (view_by m None s true y) refl refl refl refl; known = inl (sym (ready_held m None s true i refl refl)); over = λ g bad. cc; shown = refl }
 lends_aside x y None false s m on i over = cc
-lends_aside x y (Some f) aside s m on i over = record { token = over f refl; all = refl; may = refl; same = refl; reads = same_reads (view_by m (Some f) s aside x) (view_by m (Some f) s aside y) refl refl refl refl; known = inr refl; over = λ g is. refl }
+lends_aside x y (Some f) aside s m on i over = record { token = over f refl; all = refl; may = refl; same = refl; reads = same_reads (view_by m (Some f) s aside x) (view_by m (Some f) s aside y) refl refl refl refl; known = inr refl; over = λ g is. refl; shown = refl }
 
 -- the reader's next token is put aside and lent
 pub lends_own : (x y : List ℕ) (o : Option yaml_fault_t) (aside : Bool) (s t : Token)
@@ -208,6 +212,7 @@ lends_own x y None false s t m n e off g = record {
   reads = own_reads x y None None false true s t m n refl refl g.reads;
   known = inl (sym (ready_held n None t true (λ _. g.stands) refl refl));
   over = λ f bad. cc;
+  shown = ap has_first (sym g.first.0);
 }
 lends_own x y None true s t m n e off g = cc
 lends_own x y (Some f) aside s t m n e off g = cc
@@ -225,6 +230,7 @@ lends_none x y None false s t m n e off l = record {
   reads = own_reads x y None None false false s t m n refl refl l.finishes.reads;
   known = inr l.finishes.none;
   over = λ g bad. cc;
+  shown = sym (ap (λ (c : Remaining). has_first c.tokens) l.finishes.left);
 }
 lends_none x y None true s t m n e off l = cc
 lends_none x y (Some f) aside s t m n e off l = cc
@@ -294,15 +300,15 @@ scan_refuses old new false t f e s = s
 -- what a new session stands for
 pub begins : (s e : yaml_encoding_t) (b i x : List ℕ) (a h r w l : ℕ) (m : Remaining) → s ≡ e
     → b ≡ i → a ≡ h → r ≡ 0 → m ≡ scanned e i → w ≡ 0 → l ≡ 0 → x ≡ []
-    → record { setting = s; bytes = b; ahead = a; read = r; remaining = m; answered = None; waiting = w; slots = l; spares = x } ≡ begun e i h
+    → record { setting = s; bytes = b; ahead = a; read = r; remaining = m; shown = false; answered = None; waiting = w; slots = l; spares = x } ≡ begun e i h
 begins s e b i x a h r w l m setting bytes ahead read left waiting slots spares = rw (setting, bytes, ahead, read, left, waiting, slots, spares) refl
 
 -- the reader's next token is taken where it lies
-pub takes_lent : (x y : List ℕ) (o : Option yaml_fault_t) (aside : Bool) (s : Token)
-    (m n p : Machine) (passes P : Token → Type 0) → is_some o ≡ false → aside ≡ false → Knows m n
+takes_one : (x y : List ℕ) (o : Option yaml_fault_t) (aside : Bool) (s : Token) (m n p : Machine)
+    (passes P : Token → Type 0) → is_some o ≡ false → aside ≡ false → Knows m n
     → MayTake passes (left_in n) → IsMachine p → GivesTo P (left_in n) (left_in p) → KeepsInput n p
     → TakesLent passes P (view_by m o s aside x) (view_by p o s aside y)
-takes_lent x y o aside s m n p passes P e off knows may stands g keeps =
+takes_one x y o aside s m n p passes P e off knows may stands g keeps =
     let gives : Gives m p g.token = record {
       stands = stands;
       first = subst (λ (r : Remaining). GivesFirst r g.token (left_in p)) knows.left g.first;
@@ -315,18 +321,65 @@ takes_lent x y o aside s m n p passes P e off knows may stands g keeps =
       checked = may g.token (left_in p) g.first;
     }
 
+-- or KEY and the scalar behind it
+takes_keyed : (x y : List ℕ) (o : Option yaml_fault_t) (aside : Bool) (s : Token) (m n p : Machine)
+    (P : Token → Type 0) → is_some o ≡ false → aside ≡ false → KeepsFew y → Knows m n
+    → IsMachine p → GivesKeyTo P n p
+    → TakesKeyed P (view_by m o s aside x) (view_by p o s aside y)
+takes_keyed x y o aside s m n p P e off few knows stands k =
+    let key : Gives m k.middle (key_of k.token) = record {
+      stands = k.stands;
+      first = subst (λ (r : Remaining). GivesFirst r (key_of k.token) (left_in k.middle)) knows.left k.key;
+      reads = reads_both m n k.middle knows.left knows.reads (reads_none n k.middle k.before);
+    } in
+    record {
+      token = k.token;
+      middle = view_by k.middle o s aside y;
+      has = k.has;
+      plain = k.plain;
+      key = takes_own x y o aside s (key_of k.token) m k.middle e off key;
+      few = (k.stands.short, few);
+      takes = takes_own y y o aside s k.token k.middle p e off record { stands = stands; first = k.first; reads = reads_none k.middle p k.behind };
+    }
+
+pub takes_lent : (x y : List ℕ) (o : Option yaml_fault_t) (aside : Bool) (s : Token)
+    (m n p : Machine) (passes P Q : Token → Type 0) → is_some o ≡ false → aside ≡ false
+    → KeepsFew y → Knows m n → MayTake passes (left_in n) → IsMachine p → Hands P Q n p
+    → KeepsInput n p
+    → TakesLent passes P (view_by m o s aside x) (view_by p o s aside y)
+    ⊎ TakesKeyed Q (view_by m o s aside x) (view_by p o s aside y)
+takes_lent x y o aside s m n p passes P Q e off few knows may stands (inl g) keeps = inl (takes_one x y o aside s m n p passes P e off knows may stands g keeps)
+takes_lent x y o aside s m n p passes P Q e off few knows may stands (inr k) keeps = inr (takes_keyed x y o aside s m n p Q e off few knows stands k)
+
+-- the first token doesn't pass, if one is to come
+pub fails_first : (m : Machine) (passes : Token → Type 0) (t : Token) → IsMachine m
+    → is_ready m ≡ true → ((first : Token) (rest : Remaining) → GivesFirst (left_in m) first rest
+    → t ≡ first)
+    → (passes t → ⊥) → Fails passes (left_in m)
+fails_first m passes t i ready told fails =
+    let (s, rest, gives) = ready_gives m i ready in
+    record { token = s; rest = rest; first = gives; fails = λ p. fails (subst passes (sym (told s rest gives)) p) }
+
 -- none is taken, where none was put aside
 pub stays_lent : (x y : List ℕ) (o : Option yaml_fault_t) (aside : Bool) (s : Token) (m n : Machine)
-    → is_some o ≡ false → aside ≡ false → left_in n ≡ left_in m → ReadsAsNeeded m n
-    → StaysLent (view_by m o s aside x) (view_by n o s aside y)
-stays_lent x y None false s m n e off left reads = record {
+    (passes : Token → Type 0)
+    → is_some o ≡ false → aside ≡ false → (left_in m ≡ nothing) ⊎ Fails passes (left_in m)
+    → left_in n ≡ left_in m → ReadsAsNeeded m n
+    → StaysLent passes (view_by m o s aside x) (view_by n o s aside y)
+stays_lent x y None false s m n passes e off reason left reads = record {
+  reason = inr reason;
   all = left;
   same = refl;
   reads = own_reads x y None None false false s s m n refl refl reads;
+  shown = refl;
 }
-stays_lent x y None true s m n e off left reads = cc
-stays_lent x y (Some f) aside s m n e off left reads = cc
+stays_lent x y None true s m n passes e off reason left reads = cc
+stays_lent x y (Some f) aside s m n passes e off reason left reads = cc
 
--- a session goes on as it is
-pub stays_same : (v : View) → StaysLent v v
-stays_same v = record { all = refl; same = refl; reads = same_reads v v refl refl refl refl }
+-- a session goes on as it is, where a token was put aside or a fault answered
+pub stays_same : (x : List ℕ) (o : Option yaml_fault_t) (aside : Bool) (s : Token) (m : Machine)
+    (passes : Token → Type 0) → aside ≡ true
+    → StaysLent passes (view_by m o s aside x) (view_by m o s aside x)
+stays_same x None true s m passes on = let v = view_by m None s true x in record { reason = inl refl; all = refl; same = refl; reads = same_reads v v refl refl refl refl; shown = refl }
+stays_same x None false s m passes on = cc
+stays_same x (Some f) aside s m passes on = let v = view_by m (Some f) s aside x in record { reason = inr (inl refl); all = refl; same = refl; reads = same_reads v v refl refl refl refl; shown = refl }

@@ -18,20 +18,23 @@ use Rattle.yaml_scan_machine.specs.Left.{IsTold}
 pub use Rattle.yaml_scan_machine.specs.Found.{HasMore}
 use Rattle.yaml_scan_machine.specs.Settled.{settles}
 use Rattle.yaml_scan_machine.specs.scan_laws_order.Fronts.{GivesFirst}
+use Rattle.yaml_scan_slot.specs.Lending.{key_of}
 use Rattle.yaml_scan_slot.specs.Slots.{is_tagged}
 use Rattle.yaml_scan_slot.specs.declared.taker.Lent.{Lent}
 use Rattle.yaml_scan_slot.specs.declared.taker.Lent.TheVariants.{Taken, Left, Refused}
 
 -- An input and the encoding that is set, how many lexemes are read until they are settled, or 0 where none is read before it is
 -- needed, and how many of its text were read; the tokens that are still to come and
--- the fault that ends them, the fault that was answered, and how many lexemes wait: they were read, and not all their
--- tokens are taken; how many slots there are for them; and the room of each text that was let go and is kept.
+-- the fault that ends them, whether a peek put the next token aside, the fault that was answered, and how many lexemes wait: they
+-- were read, and not all their tokens are taken; how many slots there are for them; and the room of each text that was let go and
+-- is kept.
 pub record View : Type 0 where
   pub setting : yaml_encoding_t
   pub bytes : List ℕ
   pub ahead : ℕ
   pub read : ℕ
   pub remaining : Remaining
+  pub shown : Bool
   pub answered : Option Fault
   pub waiting : ℕ
   pub slots : ℕ
@@ -45,6 +48,7 @@ begun encoding bytes ahead = record {
   ahead = ahead;
   read = 0;
   remaining = scanned encoding bytes;
+  shown = false;
   answered = None;
   waiting = 0;
   slots = 0;
@@ -126,6 +130,7 @@ pub record Refuses (old : View) (f : Fault) (new : View) : Type 0 where
   pub once : old.answered ≡ None
   pub kept : new.answered ≡ Some f
   pub over : new.remaining ≡ nothing
+  pub shown : new.shown ≡ false
 
 -- a token was taken: the first to come; behind a fault the empty one, and nothing changes
 pub record Takes (old : View) (t : Token) (new : View) : Type 0 where
@@ -136,12 +141,18 @@ pub record Takes (old : View) (t : Token) (new : View) : Type 0 where
   pub reads : ReadsNeeded old new
   pub over : EndsAnswered old
   pub still : (f : Fault) → old.answered ≡ Some f → new ≡ old
+  pub shown : new.shown ≡ false
 
 -- a session that this fault ended: it is kept as the one that was answered, and nothing comes behind it
 abbrev pub ended : View → Fault → View
-ended v f = record v { remaining = nothing; answered = Some f }
+ended v f = record v { remaining = nothing; shown = false; answered = Some f }
 
--- a token was lent: the first to come, and none is taken
+-- whether a token is to come
+abbrev pub has_first : List Token → Bool
+has_first [] = false
+has_first (t ∷ ts) = true
+
+-- a token was lent: the first to come, and none is taken; it is put aside
 pub record Lends (old : View) (t : Token) (new : View) : Type 0 where
   pub token : t ≡ first_of old.remaining.tokens
   pub all : new.remaining ≡ old.remaining
@@ -150,6 +161,7 @@ pub record Lends (old : View) (t : Token) (new : View) : Type 0 where
   pub reads : ReadsNeeded old new
   pub known : IsKnown new
   pub over : EndsAnswered old
+  pub shown : new.shown ≡ has_first old.remaining.tokens
 
 abbrev pub Scans : View → View → Result yaml_token_t yaml_fault_t → Type 0
 Scans old new (Ok token) = Takes old (token_of token) new
@@ -187,14 +199,36 @@ pub record TakesLent (passes : Token → Type 0) (P : Token → Type 0) (old new
   pub takes : Takes old token new
   pub checked : (is_tagged token.body ≡ false) ⊎ passes token
 
--- None was taken: what is to come stays, and what was answered.
-pub record StaysLent (old new : View) : Type 0 where
+-- KEY was taken, and the scalar behind it where it lies, which has that
+pub record TakesKeyed (P : Token → Type 0) (old new : View) : Type 0 where
+  pub token : Token
+  pub middle : View
+  pub has : P token
+  pub plain : is_tagged token.body ≡ false
+  pub key : Takes old (key_of token) middle
+  pub few : HoldsLittle middle
+  pub takes : Takes middle token new
+
+-- a token is to come, and the first one doesn't pass
+pub record Fails (passes : Token → Type 0) (c : Remaining) : Type 0 where
+  pub token : Token
+  pub rest : Remaining
+  pub first : GivesFirst c token rest
+  pub fails : passes token → ⊥
+
+-- None was taken, since a peek put the next one aside, none is to come, or it doesn't pass. What is to come stays, and what was
+-- answered.
+pub record StaysLent (passes : Token → Type 0) (old new : View) : Type 0 where
+  pub reason : (old.shown ≡ true) ⊎ (old.remaining ≡ nothing) ⊎ Fails passes old.remaining
   pub all : new.remaining ≡ old.remaining
   pub same : new.answered ≡ old.answered
   pub reads : ReadsNeeded old new
+  pub shown : new.shown ≡ old.shown
 
-abbrev pub LendsNext : {A : Type 0} → (Token → Type 0) → (Token → A → Type 0) → View → Lent A
-    → Fault → View → Type 0
-LendsNext passes P old (Taken a) f new = TakesLent passes (λ t. P t a) old new
-LendsNext passes P old Left f new = StaysLent old new
-LendsNext passes P old Refused f new = Refuses old f new
+-- one token was taken, which has the first, or KEY with the scalar behind it, which has the second; or none; or it was refused
+abbrev pub LendsNext : {A : Type 0} → (Token → Type 0) → (Token → A → Type 0)
+    → (Token → A → Type 0) → View → Lent A → Fault → View → Type 0
+LendsNext passes P Q old (Taken a) f new = TakesLent passes (λ t. P t a) old new
+    ⊎ TakesKeyed (λ t. Q t a) old new
+LendsNext passes P Q old Left f new = StaysLent passes old new
+LendsNext passes P Q old Refused f new = Refuses old f new

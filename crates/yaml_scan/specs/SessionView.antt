@@ -24,6 +24,11 @@ abbrev pub remaining_by : Option yaml_fault_t → Bool → Token → Remaining �
 remaining_by (Some f) aside t c = nothing
 remaining_by None aside t c = with_shown aside t c
 
+-- whether a token was put aside, and none was but a fault answered
+abbrev pub shown_by : Option yaml_fault_t → Bool → Bool
+shown_by (Some f) aside = false
+shown_by None aside = aside
+
 -- a session's view, by its reader, the fault that was answered, the token that was put aside, whether one was, and the room of
 -- each spare text
 abbrev pub view_by : Machine → Option yaml_fault_t → Token → Bool → List ℕ → View
@@ -33,6 +38,7 @@ view_by m fault t aside rooms = record {
   ahead = m.ahead;
   read = read_by m;
   remaining = remaining_by fault aside t (left_in m);
+  shown = shown_by fault aside;
   answered = option_map (λ f. fault_of f) fault;
   waiting = length m.waiting.items;
   slots = m.waiting.slots;

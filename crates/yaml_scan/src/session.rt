@@ -10,7 +10,7 @@ ghost use Rattle.yaml_scan_slot.specs.Slots.{token_in_slot};
 ghost use Rattle.yaml_scan_model.specs.Faults.{fault_of};
 ghost use Rattle.yaml_scan_model.specs.Rooms.{KeepsFew, rooms_of};
 ghost use Rattle.yaml_scan.specs.contracts.session.yaml_parser_t.{the_row};
-ghost use Rattle.yaml_scan.specs.Session.{HasFirst, LendsNext, MayTake, ReadsNeeded, Scans, ScansInto, Looks, Shows, Peeks, HoldsLittle, begun, behind_first, ended, is_settled};
+ghost use Rattle.yaml_scan.specs.Session.{Fails, HasFirst, LendsNext, MayTake, ReadsNeeded, Scans, ScansInto, Looks, Shows, Peeks, HoldsLittle, begun, behind_first, ended, is_settled};
 ghost use Rattle.yaml_scan.specs.SessionView.{IsWhole, view_of};
 ghost use Rattle.yaml_scan_machine.specs.Left.{left_in};
 ghost use Rattle.yaml_scan_machine.specs.State.{IsMachine, is_ready};
@@ -155,7 +155,8 @@ pub fn yaml_parser_scan_into(
 fn may_take<C: TokenCheck>(machine: &Machine, check: &C) -> bool
     requires stands { IsMachine machine.now }
     requires ready { is_ready machine.now ≡ true }
-    ensures { result ≡ true → MayTake C.passes (left_in machine.now) }
+    ensures takes { result ≡ true → MayTake C.passes (left_in machine.now) }
+    ensures fails { result ≡ false → Fails C.passes (left_in machine.now) }
 {
     match machine.next_tag() {
         Some(tag) => check.check(tag),
@@ -163,8 +164,8 @@ fn may_take<C: TokenCheck>(machine: &Machine, check: &C) -> bool
     }
 }
 
-/// Has a taker take the next token where it lies: what `yaml_parser_scan_into` gives. None is taken, and what is to come stays, where
-/// a peek put it aside, where none is to come, and where it is a tag or a directive that doesn't pass the check.
+/// Has a taker take the next token where it lies, or KEY and the scalar behind it: what `yaml_parser_scan_into` gives. None is taken, and what is to come stays, only
+/// where a peek put it aside, where none is to come, and where it is a tag or a directive that doesn't pass the check.
 // Inlined: mostly the next token is known.
 #[inline(always)]
 pub fn yaml_parser_lend<C: TokenCheck, T: TokenTaker>(
@@ -174,7 +175,9 @@ pub fn yaml_parser_lend<C: TokenCheck, T: TokenTaker>(
     slot: &mut T::Slot,
     fault: &mut yaml_fault_t,
 ) -> Lent<T::Answer>
-    ensures lends { LendsNext C.passes (λ t r. T.takes taker.old slot.old t taker.new slot.new
+    ensures lends { LendsNext C.passes
+        (λ t r. T.takes false taker.old slot.old t taker.new slot.new (fault_of fault.new) r)
+        (λ t r. T.wants taker.old × T.takes true taker.old slot.old t taker.new slot.new
         (fault_of fault.new) r) parser.old result (fault_of fault.new) parser.new }
     ensures left { LeavesTaker result (taker.new ≡ taker.old) (slot.new ≡ slot.old) }
     ensures few { HoldsLittle parser.new }

@@ -1,11 +1,15 @@
 -- What a token that is taken leaves to come.
 use Rattle.std.proofs.Common.{Bool, ◌≡◌, ℕ, suc, ◌+◌, ◌-◌, ◌<◌, ◌≤◌, true, false, ltb, List, [], ◌∷◌, length, drop, get_or, not, Option, Some, None, refl, sym, ap, subst, ◌∙◌, inl, inr, ◌⊎◌, arith, ◌^◌}
 use Rattle.yaml_scan_machine.proofs.Words.{Line, cases_Bool, cases_lt, nat_tests, length-map, map, IfSome, Opens, Token, TokenBody, token_in_slot, text_bytes, AreInside, block_end, no_token, entries, Remaining, remaining, spell, GivesFirst, ends_token, Machine, Waiting, KeptLexeme, kept_of, IsMachine, is_ready, ready_in, fields_of, kept_in, read, history_of, stream_of, front_at, front_count, fronted, given_in, own_token, to_come, left_in, cases_Option}
-use Rattle.yaml_scan_queue.specs.Hands.{Gives, GivesFront, GivesOwn, TellsTag, handing}
+use Rattle.yaml_scan_queue.specs.Hands.{Gives, GivesFront, GivesOwn, GivesKeyed, TellsTag, handing}
+use Rattle.yaml_scan_model.specs.Tokens as token
+use Rattle.yaml_scan_model.specs.Tokens.{type_of}
+use Rattle.yaml_scan_model.specs.declared.name.yaml_token_type_t.TheVariants.{YAML_SCALAR_TOKEN}
+use Rattle.yaml_scan_slot.specs.Lending.{key_of}
 use Rattle.yaml_scan_slot.specs.declared.slot.TokenSlot.{TokenSlot}
 use Rattle.yaml_scan_slot.specs.Slots.{body_in_slot, is_tagged}
 use Rattle.yaml_scan_queue.specs.Front.{start_at}
-use Rattle.yaml_scan_machine.specs.Handed.{GivesTo, TellsNext}
+use Rattle.yaml_scan_machine.specs.Handed.{GivesTo, Hands, TellsNext}
 use Rattle.yaml_scan_machine.specs.State.{KeepsInput}
 use denote.Bor.{Bor}
 use Rattle.yaml_scan_laws_order.proofs.RemainingForward.{settled_token, settled_done}
@@ -132,9 +136,15 @@ stands_more m w rest b i items ready some =
     grind arith
 
 -- what taking the first token comes to
-pub record Gave (P : Token → Type 0) (old new : Machine) : Type 0 where
+record GaveOne (P : Token → Type 0) (old new : Machine) : Type 0 where
+  stands : IsMachine new
+  gives : GivesTo P (left_in old) (left_in new)
+  keeps : KeepsInput old new
+
+-- or KEY and the scalar behind it
+pub record Gave (P Q : Token → Type 0) (old new : Machine) : Type 0 where
   pub stands : IsMachine new
-  pub gives : GivesTo P (left_in old) (left_in new)
+  pub gives : Hands P Q old new
   pub keeps : KeepsInput old new
 
 first_here : (ws : List Waiting) (w : Waiting) (rest : List Waiting) → ws ≡ w ∷ rest
@@ -145,7 +155,7 @@ first_here ws w rest items = ap (λ (xs : List Waiting). get_or xs 0 w) items
 gives_front_of : (P : Token → Type 0) (m : Machine) (g d : ℕ) (q : Line) (w : Waiting)
     (rest : List Waiting) → IsMachine m → is_ready m ≡ true → m.waiting.items ≡ w ∷ rest
     → GivesFront P w (handing m.given m.dropped m.waiting) (handing g d q)
-    → Gave P m (record m { given = g; dropped = d; waiting = q })
+    → GaveOne P m (record m { given = g; dropped = d; waiting = q })
 gives_front_of P m g d q w rest i ready items f =
     let body : TokenBody = f.token.body in
     let on = ready_started m i ready in
@@ -166,7 +176,7 @@ gives_front_of P m g d q w rest i ready items f =
 gives_own_of : (P : Token → Type 0) (m : Machine) (g d : ℕ) (q : Line) (w : Waiting)
     (after : List Waiting) → IsMachine m → is_ready m ≡ true → m.waiting.items ≡ w ∷ after
     → GivesOwn P w (handing m.given m.dropped m.waiting) (handing g d q)
-    → Gave P m (record m { given = g; dropped = d; waiting = q })
+    → GaveOne P m (record m { given = g; dropped = d; waiting = q })
 gives_own_of P m g d q w after i ready start own =
     let rest = q.items in
     let items = popped_waits m w rest ready (sym (first_here m.waiting.items w after start)) own.rest in
@@ -205,16 +215,64 @@ gives_own_of P m g d q w after i ready start own =
       keeps = record { setting = refl; bytes = refl; ahead = refl; read = omega (arith, own.dropped, len) };
     }
 
+scalar_plain : (b : TokenBody) → type_of b ≡ YAML_SCALAR_TOKEN → is_tagged b ≡ false
+scalar_plain (token.tag x y) e = cc
+scalar_plain (token.tag_directive x y) e = cc
+scalar_plain _ e = refl
+
+-- KEY stands behind all that closes a level
+key_past : (k : KeptLexeme) (g : ℕ) → front_at k g ≡ Some token.key → g < k.ends → ⊥
+key_past k g some fewer =
+    let t : ltb g k.ends ≡ true = grind (arith, nat_tests) in
+    let is : Some block_end ≡ Some token.key = rw t at some in
+    cc
+
+settled_ready : (d s g : ℕ) (w : Waiting) (ws : List Waiting) → d < s
+    → ready_in d s g (w ∷ ws) ≡ true
+settled_ready d s g w ws low = grind (arith, nat_tests)
+
+-- KEY and what waits first are taken
+gives_keyed_of : (P Q : Token → Type 0) (m : Machine) (g d : ℕ) (q : Line) (w : Waiting)
+    (rest : List Waiting) → IsMachine m → is_ready m ≡ true → m.waiting.items ≡ w ∷ rest
+    → GivesKeyed Q w (handing m.given m.dropped m.waiting) (handing g d q)
+    → Gave P Q m (record m { given = g; dropped = d; waiting = q })
+gives_keyed_of P Q m g d q w rest i ready items k =
+    let own : Token = own_token (kept_of w) in
+    let key = gives_front_of (λ t. t ≡ key_of own) m (m.given + 1) m.dropped m.waiting w rest i ready items record { token = key_of own; has = refl; some = k.comes.key; start = refl; end = refl; given = refl; dropped = refl; same = refl } in
+    let low = known_settled m.dropped m.settled m.given w rest ((first_is m w rest i items).asks ∙ ready) (key_past (kept_of w) m.given k.comes.key) in
+    let again : is_ready record m { given = m.given + 1 } ≡ true = ap (λ ws. ready_in m.dropped m.settled (m.given + 1) ws) items ∙ settled_ready m.dropped m.settled (m.given + 1) w rest low in
+    let one = gives_own_of (λ t. Q t × (t ≡ own)) record m { given = m.given + 1 } g d q w rest key.stands again items record { has = (k.has, refl); none = k.comes.none; given = k.given; dropped = k.dropped; rest = k.rest; slots = k.slots } in
+    let body = ap (λ (t : Token). t.body) one.gives.has.1 in
+    record {
+      stands = one.stands;
+      gives = inr record {
+        token = one.gives.token;
+        middle = record m { given = m.given + 1 };
+        has = one.gives.has.0;
+        plain = scalar_plain one.gives.token.body (ap (λ (b : TokenBody). type_of b) body ∙ k.comes.scalar);
+        stands = key.stands;
+        key = subst (λ (t : Token). GivesFirst (left_in m) t (left_in record m { given = m.given + 1 })) (key.gives.has ∙ ap key_of (sym one.gives.has.1)) key.gives.first;
+        first = one.gives.first;
+        before = key.keeps;
+        behind = one.keeps;
+      };
+      keeps = record { setting = one.keeps.setting ∙ key.keeps.setting; bytes = one.keeps.bytes ∙ key.keeps.bytes; ahead = one.keeps.ahead ∙ key.keeps.ahead; read = one.keeps.read ∙ key.keeps.read };
+    }
+
+one_given : (P Q : Token → Type 0) (m n : Machine) → GaveOne P m n → Gave P Q m n
+one_given P Q m n one = record { stands = one.stands; gives = inl one.gives; keeps = one.keeps }
+
 -- the next token is taken
-pub gives_next : (P : Token → Type 0) (m : Machine) (g d : ℕ) (q : Line) → IsMachine m
-    → is_ready m ≡ true → ((w : Waiting) → Gives P (get_or m.waiting.items 0 w)
+pub gives_next : (P Q : Token → Type 0) (m : Machine) (g d : ℕ) (q : Line) → IsMachine m
+    → is_ready m ≡ true → ((w : Waiting) → Gives P Q (get_or m.waiting.items 0 w)
     (handing m.given m.dropped m.waiting) (handing g d q))
-    → Gave P m (record m { given = g; dropped = d; waiting = q })
-gives_next P m g d q i ready gives =
+    → Gave P Q m (record m { given = g; dropped = d; waiting = q })
+gives_next P Q m g d q i ready gives =
     let (w, rest, items) = first_waits m.dropped m.settled m.given m.waiting.items ready in
-    elim (subst (λ w. Gives P w (handing m.given m.dropped m.waiting) (handing g d q)) (first_here m.waiting.items w rest items) (gives w)) [
-      | inl front ↦ gives_front_of P m g d q w rest i ready items front
-      | inr own ↦ gives_own_of P m g d q w rest i ready items own
+    elim (subst (λ w. Gives P Q w (handing m.given m.dropped m.waiting) (handing g d q)) (first_here m.waiting.items w rest items) (gives w)) [
+      | inl front ↦ one_given P Q m _ (gives_front_of P m g d q w rest i ready items front)
+      | inr (inl own) ↦ one_given P Q m _ (gives_own_of P m g d q w rest i ready items own)
+      | inr (inr keyed) ↦ gives_keyed_of P Q m g d q w rest i ready items keyed
     ]
 
 -- where the next token is known, that one is to come

@@ -74,7 +74,7 @@ impl<'a> Machine<'a> {
     ghost use Rattle.yaml_scan_history.specs.Remaining.{offline};
     ghost use Rattle.yaml_scan_laws_order.specs.Fronts.{GivesFirst};
     ghost use Rattle.yaml_scan_model.specs.Tokens.{token_of};
-    ghost use Rattle.yaml_scan_machine.specs.Handed.{GivesTo, TellsNext};
+    ghost use Rattle.yaml_scan_machine.specs.Handed.{Hands, TellsNext};
 
     /// The state before the first lexeme of an input, of which so many lexemes are read until they are settled; or, with 0, none
     /// before it is needed.
@@ -234,7 +234,7 @@ impl<'a> Machine<'a> {
         token.take()
     }
 
-    /// Has a taker take the next token.
+    /// Has a taker take the next token; or KEY and the scalar behind it.
     // Inlined: it is a part of the way of each token.
     #[inline(always)]
     pub fn give<T: TokenTaker>(
@@ -246,8 +246,10 @@ impl<'a> Machine<'a> {
         requires stands { IsMachine self.old }
         requires ready { is_ready self.old ≡ true }
         ensures stands { IsMachine self.new }
-        ensures gives { GivesTo (λ t. T.takes taker.old slot.old t taker.new slot.new
-            (fault_of fault.new) result) (left_in self.old) (left_in self.new) }
+        ensures gives { Hands
+            (λ t. T.takes false taker.old slot.old t taker.new slot.new (fault_of fault.new) result)
+            (λ t. T.wants taker.old × T.takes true taker.old slot.old t taker.new slot.new
+            (fault_of fault.new) result) self.old self.new }
         ensures keeps { KeepsInput self.old self.new }
     {
         self.waiting

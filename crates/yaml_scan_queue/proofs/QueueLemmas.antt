@@ -1,6 +1,6 @@
 -- The part of a row of slots that holds what waits, and the slots beside it.
 use Rattle.std.proofs.Common.{◌≡◌, ℕ, zero, suc, Bool, true, false, ltb, ◌+◌, ◌-◌, ◌<◌, ◌≤◌, List, [], ◌∷◌, ◌++◌, length, take, drop, get_or, Option, Some, None, refl, ap, sym, subst, ◌∙◌, inr, arith, ◌^◌}
-use Rattle.std.specs.Prelude.{IfSome, Vec, vec_len, ◌==◌}
+use Rattle.std.specs.Prelude.{IfSome, Vec, vec_len, ◌==◌, ◌||◌, ◌≢◌}
 use Rattle.std.specs.Global.{Global}
 use denote.Bor.{Bor}
 use Rattle.std.proofs.Math.ListN.{set}
@@ -10,6 +10,7 @@ use Rattle.std.proofs.lemmas.List.Elements.{All-same, All-push, All-append, All-
 use Rattle.std.proofs.lemmas.Bool.Decides.{nat_tests}
 use Rattle.yaml_scan_history.specs.declared.lexeme.Opens.{Opens}
 use Rattle.yaml_scan_history.specs.declared.lexeme.Opens.TheVariants as opening
+use Rattle.yaml_scan_model.specs.Tokens as token
 use Rattle.yaml_scan_model.specs.Tokens.{Token}
 use Rattle.yaml_scan_slot.specs.Slots.{token_in_slot}
 use Rattle.yaml_scan_slot.specs.declared.slot.TokenSlot.{TokenSlot}
@@ -181,3 +182,35 @@ own_fronts x h few = omega (arith, h, few)
 pub put_twice : {old : List Waiting} {r s : ReadLexeme} {new : List Waiting}
     → (p : PushesBoth old r s new) → new ≡ (old ++ p.first.waiting ∷ []) ++ p.second.waiting ∷ []
 put_twice p = p.second.items ∙ ap (λ (ws : List Waiting). ws ++ p.second.waiting ∷ []) p.first.items
+
+key_start : (o : Opens) → start_at o true (start_count o) ≡ Some token.key
+key_start _ = grind arith
+
+-- KEY is the last of the tokens in front
+pub key_last : (k : KeptLexeme) (n : ℕ) → k.key ≡ true → front_count k ≡ n + 1
+    → (front_at k n ≡ Some token.key) × (front_at k (n + 1) ≡ None)
+key_last k n is all =
+    let count : key_count k.key ≡ 1 = ap key_count is in
+    let past : ltb n k.ends ≡ false = grind (arith, nat_tests, all, count) in
+    let left : n - k.ends ≡ start_count k.opens = omega (arith, all, count) in
+    let start : start_at k.opens k.key (n - k.ends) ≡ Some token.key = rw (is, left) (key_start k.opens) in
+    (rw past start, front_done k (n + 1) all)
+
+-- so it is of the lexeme that waits first
+pub first_counts : (xs : List Waiting) (f l : ℕ) (x : Waiting) (items : List Waiting)
+    → drop f (take l xs) ≡ items → l ≤ length xs → 0 < length items → x ≡ get_or xs f x
+    → AreCounted xs → ((w : Waiting) → front_count (kept_of (get_or items 0 w)) < 2 ^ 64)
+    → x.fronts ≡ front_count (kept_of x)
+first_counts xs f l x items is last some here counted room =
+    let first = part_first xs f l x items is last some here x in
+    own_fronts x (counted_at xs f x counted (omega (arith, part_some xs f l items is last some, last)) here) (omega (arith, ap (λ (w : Waiting). front_count (kept_of w)) first, room x))
+
+-- without KEY its own token is next where so many stand in front
+pub own_next : (k : Bool) (a b : ℕ) → (k || a == b) ≡ true → k ≡ false → a ≡ b
+own_next true a b e off = cc
+own_next false a b e off = grind (arith, nat_tests)
+
+-- else one in front of it is
+pub front_next : (k : Bool) (a b : ℕ) → (k || a == b) ≡ false → (k ≡ false) × (a ≢ b)
+front_next true a b e = cc
+front_next false a b e = (refl, grind (arith, nat_tests))

@@ -1,12 +1,14 @@
 -- What is handed out of the lexeme that waits first.
 use Rattle.std.specs.Prelude.{ℕ, ◌≡◌, ◌⊎◌, ◌+◌, false, Option, Some, None, drop}
 use denote.Bor.{Bor}
-use Rattle.yaml_scan_model.specs.Tokens.{Token}
+use Rattle.yaml_scan_model.specs.Tokens as token
+use Rattle.yaml_scan_model.specs.Tokens.{Token, type_of}
+use Rattle.yaml_scan_model.specs.declared.name.yaml_token_type_t.TheVariants.{YAML_SCALAR_TOKEN}
 use Rattle.yaml_scan_slot.specs.declared.slot.TokenSlot.{TokenSlot}
 use Rattle.yaml_scan_slot.specs.Slots.{body_in_slot, token_in_slot, is_tagged}
 use Rattle.yaml_scan_queue.specs.Front.{front_at}
 use Rattle.yaml_scan_queue.specs.Line.{Line}
-use Rattle.yaml_scan_queue.specs.Waits.{kept_of}
+use Rattle.yaml_scan_queue.specs.Waits.{KeptLexeme, kept_of}
 use Rattle.yaml_scan_queue.specs.declared.waiting.Waiting.{Waiting}
 
 -- how many of the first lexeme's tokens and how many lexemes are taken, and what waits
@@ -38,8 +40,24 @@ pub record GivesOwn (P : Token → Type 0) (w : Waiting) (old new : Handing) : T
   pub rest : new.line.items ≡ drop 1 old.line.items
   pub slots : new.line.slots ≡ old.line.slots
 
-abbrev pub Gives : (Token → Type 0) → Waiting → Handing → Handing → Type 0
-Gives P w old new = GivesFront P w old new ⊎ GivesOwn P w old new
+-- KEY is next, and its own token behind it is a scalar
+pub record KeyComes (k : KeptLexeme) (given : ℕ) : Type 0 where
+  pub key : front_at k given ≡ Some token.key
+  pub none : front_at k (given + 1) ≡ None
+  pub scalar : type_of k.body ≡ YAML_SCALAR_TOKEN
+
+-- KEY and its own token, a scalar, which has that, and with which it is taken
+pub record GivesKeyed (P : Token → Type 0) (w : Waiting) (old new : Handing) : Type 0 where
+  pub has : P (token_in_slot w.token)
+  pub comes : KeyComes (kept_of w) old.given
+  pub given : new.given ≡ 0
+  pub dropped : new.dropped ≡ old.dropped + 1
+  pub rest : new.line.items ≡ drop 1 old.line.items
+  pub slots : new.line.slots ≡ old.line.slots
+
+-- one token, which has the first, or KEY with the scalar behind it, which has the second
+abbrev pub Gives : (Token → Type 0) → (Token → Type 0) → Waiting → Handing → Handing → Type 0
+Gives P Q w old new = GivesFront P w old new ⊎ GivesOwn P w old new ⊎ GivesKeyed Q w old new
 
 -- its own token, where that is next and a tag or a directive
 abbrev pub TellsTag : ℕ → Waiting → Option (Bor TokenSlot) → Type 0

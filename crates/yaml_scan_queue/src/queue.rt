@@ -2,11 +2,12 @@
 
 ghost use Rattle.std.specs.Prelude.{ℕ, List, ◌≡◌, ◌+◌, ◌-◌, ◌^◌, ◌++◌, ◌∷◌, [], ◌<◌, ◌≤◌, ◌↔◌, OnErr, OnOk, IfSome, IsSome, true, false, length, slice_index_or, slice_set};
 ghost use Rattle.yaml_scan_model.specs.declared.name.yaml_token_type_t.{yaml_token_type_t};
+ghost use Rattle.yaml_scan_model.specs.declared.name.yaml_token_type_t.TheVariants.{YAML_SCALAR_TOKEN};
 ghost use Rattle.yaml_scan_model.specs.Faults.{fault_of};
 ghost use Rattle.yaml_scan_slot.specs.Slots.{Extra, body_by, is_tagged};
 ghost use Rattle.yaml_scan_queue.specs.Bare.{is_tag_kind, is_tag_directive_kind};
 ghost use Rattle.yaml_scan_queue.specs.Front.{front_count};
-ghost use Rattle.yaml_scan_queue.specs.Hands.{Gives, TellsTag, handing};
+ghost use Rattle.yaml_scan_queue.specs.Hands.{Gives, KeyComes, TellsTag, handing};
 ghost use Rattle.yaml_scan_queue.specs.Line.{Grows, GrowsTwice};
 ghost use Rattle.yaml_scan_queue.specs.declared.waiting.Waiting.{Waiting};
 ghost use Rattle.yaml_scan_queue.specs.Waits.{AreCounted, IsCounted, Pushes, PushesBoth, kept_of, kept_in_read, keyed};
@@ -210,8 +211,8 @@ impl Queue {
         None
     }
 
-    /// Has a taker take the next token of the first lexeme, where so many of its tokens and so many lexemes were taken before. With its
-    /// own token the lexeme is taken. One in front of that is put into the slot before it, which is free.
+    /// Has a taker take the next token of the first lexeme, where so many of its tokens and so many lexemes were taken before; or KEY and
+    /// the scalar behind it. With its own token the lexeme is taken. One in front of that is put into the slot before it, which is free.
     // The slot of the two is told by its number, so that the taker is called at one place, where it is inlined. All else is done in front
     // of it: what it answers decides how things go on.
     // Inlined: it is called at one place, for each token.
@@ -230,13 +231,16 @@ impl Queue {
         requires room { (w : Waiting)
             → front_count (kept_of (slice_index_or self.old.items 0 w)) < 2 ^ 64 }
         requires few { dropped.old < 2 ^ 64 - 1 }
-        ensures { (w : Waiting) → Gives (λ t. T.takes taker.old slot.old t taker.new slot.new
+        ensures { (w : Waiting) → Gives
+            (λ t. T.takes false taker.old slot.old t taker.new slot.new (fault_of fault.new) result)
+            (λ t. T.wants taker.old × T.takes true taker.old slot.old t taker.new slot.new
             (fault_of fault.new) result) (slice_index_or self.old.items 0 w)
             (handing given.old dropped.old self.old) (handing given.new dropped.new self.new) }
     {
         let next = self.first;
         let first = &self.slots[next];
-        let at = if first.fronts == *given {
+        let is_key = comes_keyed(first, *given, taker);
+        let at = if first.comes_own(is_key, *given) {
             // Read for the sum: a number that is read is within its type.
             let _last = self.last;
             self.first = next + 1;
@@ -250,7 +254,7 @@ impl Queue {
             *given += 1;
             next - 1
         };
-        taker.take(&mut self.slots[at].token, slot, fault)
+        taker.take(is_key, &mut self.slots[at].token, slot, fault)
     }
 
     /// The own token of the first lexeme, of whose tokens so many were given, where it is next and a tag or a directive.
@@ -270,6 +274,23 @@ impl Queue {
         }
         None
     }
+}
+
+/// Whether KEY is next of a lexeme, and a taker takes it with the scalar behind it.
+// Inlined: mostly one comparison, since a lexeme's own token is next.
+#[inline(always)]
+fn comes_keyed<T: TokenTaker>(first: &Waiting, given: usize, taker: &T) -> bool
+    requires counted { first.now.fronts ≡ front_count (kept_of first.now) }
+    requires given { given ≤ front_count (kept_of first.now) }
+    ensures { result ≡ true → KeyComes (kept_of first.now) given × T.wants taker.now }
+{
+    if !first.is_before_key(given) {
+        return false;
+    }
+    if !is_scalar_kind(first.token.body.kind) {
+        return false;
+    }
+    taker.wants_key()
 }
 
 /// Makes two slots at the end of a row.
@@ -310,6 +331,18 @@ fn is_tagged(kind: yaml_token_type_t) -> bool
         return true;
     }
     is_tag_directive_kind(kind)
+}
+
+/// Whether a kind is that of a scalar.
+// Inlined: a comparison.
+#[inline(always)]
+fn is_scalar_kind(kind: yaml_token_type_t) -> bool
+    ensures { result ≡ true → kind ≡ YAML_SCALAR_TOKEN }
+{
+    match kind {
+        yaml_token_type_t::YAML_SCALAR_TOKEN => true,
+        _ => false,
+    }
 }
 
 /// Whether a kind is that of a tag.

@@ -1,6 +1,7 @@
 //! The lexemes that wait, and the tokens that they are spelled out in.
 
-ghost use Rattle.std.specs.Prelude.{◌≡◌, ◌+◌, ◌^◌, ◌<◌, Bool, IfSome, None, Some, ℕ, List};
+ghost use Rattle.std.specs.Prelude.{◌≡◌, ◌+◌, ◌^◌, ◌<◌, ◌≤◌, ◌||◌, ◌==◌, Bool, IfSome, None, Some, true, ℕ, List};
+ghost use Rattle.yaml_scan_model.specs.Tokens as token;
 ghost use Rattle.yaml_scan_slot.specs.Slots.{Extra, body_by};
 ghost use Rattle.yaml_scan_queue.specs.Front.{front_at, front_count, key_count, start_at, start_count};
 ghost use Rattle.yaml_scan_queue.specs.Waits.{IsCounted, fronts_of, kept_of, keyed};
@@ -87,6 +88,30 @@ impl Waiting {
             return Some(&self.token);
         }
         None
+    }
+
+    /// Whether KEY is next, and its own token behind that, where `given` tokens were taken.
+    // Inlined: mostly a comparison.
+    #[inline(always)]
+    pub(crate) fn is_before_key(&self, given: usize) -> bool
+        requires counted { self.now.fronts ≡ front_count (kept_of self.now) }
+        requires given { given ≤ front_count (kept_of self.now) }
+        ensures { result ≡ true → (front_at (kept_of self.now) given ≡ Some token.key)
+            × (front_at (kept_of self.now) (given + 1) ≡ None) }
+    {
+        if self.fronts - given != 1 {
+            return false;
+        }
+        self.key
+    }
+
+    /// Whether its own token is taken next: with KEY, or since so many tokens are given and none stands in front of it any more.
+    // Inlined: a comparison.
+    #[inline(always)]
+    pub(crate) fn comes_own(&self, is_key: bool, given: usize) -> bool
+        ensures { result ≡ (is_key || self.now.fronts == given) }
+    {
+        is_key || self.fronts == given
     }
 
     /// The kind of the token in front of its own one, where `given` tokens were taken.

@@ -1,21 +1,25 @@
-use Rattle.std.proofs.Common.{subst, sym}
+use Rattle.std.proofs.Common.{subst, sym, true, inl, inr}
 use Rattle.yaml_parse_step.proofs.Words.{fault_of, event_of, properties_of}
-use Rattle.yaml_parse_step.specs.Steps.{AsksNext}
+use Rattle.yaml_parse_step.specs.Steps.{AsksNext, keyed_in}
 use Rattle.yaml_parse_step.specs.Turned.{turned}
-use Rattle.yaml_parse_step.proofs.Ways.{given_takes, left_takes, refused_takes, silent_asks_next}
+use Rattle.yaml_parse_step.proofs.Ways.{given_takes, keyed_takes, left_takes, refused_takes, silent_asks_next}
 use Rattle.yaml_parse_step.proofs.step.turn_at_next.Goals as goal
 
 pub returns-in-Taken-clause-taken : goal.returns-in-Taken-clause-taken
 returns-in-Taken-clause-taken g c =
     let n = c.lend_next.new in
-    let lent = c.in-Taken.ensures.lends in
-    given_takes c.args.buffers.now n.taker _ _ lent.token _ _ _ (event_of n.slot) (fault_of n.fault) c.requires lent.gives (lent.has c.requires.0)
+    elim c.in-Taken.ensures.lends [
+      | inl lent ↦ given_takes c.args.buffers.now n.taker _ _ lent.token _ _ _ (event_of n.slot) (fault_of n.fault) c.requires lent.gives (lent.has c.requires.0)
+      | inr lent ↦ keyed_takes c.args.buffers.now n.taker _ _ _ _ lent.token _ _ _ (event_of n.slot) (fault_of n.fault) c.requires lent.has.0 lent.key lent.gives (lent.has.1 c.requires.0)
+    ]
 
 pub returns-in-Taken-clause-on : goal.returns-in-Taken-clause-on
 returns-in-Taken-clause-on g c =
     let n = c.lend_next.new in
-    let lent = c.in-Taken.ensures.lends in
-    silent_asks_next c.args.buffers.now n.taker lent.token _ (event_of n.slot) (fault_of n.fault) (lent.has c.requires.0)
+    elim c.in-Taken.ensures.lends [
+      | inl lent ↦ silent_asks_next c.args.buffers.now n.taker lent.token _ (event_of n.slot) (fault_of n.fault) (lent.has c.requires.0)
+      | inr lent ↦ silent_asks_next (keyed_in true c.args.buffers.now lent.token.start_mark) n.taker lent.token _ (event_of n.slot) (fault_of n.fault) (lent.has.1 c.requires.0)
+    ]
 
 pub turn_at_given-requires : goal.turn_at_given-requires
 turn_at_given-requires g c = subst AsksNext (sym c.in-Left.ensures.left.0) c.requires

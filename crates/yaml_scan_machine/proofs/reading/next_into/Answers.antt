@@ -1,4 +1,4 @@
-use Rattle.std.proofs.Common.{subst, sym, refl}
+use Rattle.std.proofs.Common.{subst, sym, refl, inl, inr}
 use Rattle.yaml_scan_machine.proofs.Words.{Token, Remaining, token_in_slot, GivesFirst, left_in}
 use Rattle.yaml_scan_machine.proofs.FoundLemmas.{reads_both, reads_none}
 use Rattle.yaml_scan_machine.proofs.reading.next_into.Goals as goal
@@ -12,7 +12,10 @@ give-requires-clause-ready c = c.in-Known.ensures.ready
 pub returns-in-Known : goal.returns-in-Known
 returns-in-Known c = record {
   stands = c.give.ensures.stands;
-  first = subst (λ (r : Remaining). GivesFirst r (token_in_slot c.give.new.slot) (left_in c.give.new.self)) c.in-Known.ensures.left (subst (λ (t : Token). GivesFirst (left_in c.read_on.new.machine) t (left_in c.give.new.self)) (sym c.give.ensures.gives.has) c.give.ensures.gives.first);
+  first = elim c.give.ensures.gives [
+    | inl given ↦ subst (λ (r : Remaining). GivesFirst r (token_in_slot c.give.new.slot) (left_in c.give.new.self)) c.in-Known.ensures.left (subst (λ (t : Token). GivesFirst (left_in c.read_on.new.machine) t (left_in c.give.new.self)) (sym given.has) given.first)
+    | inr keyed ↦ absurd keyed.has.0
+  ];
   reads = reads_both c.args.machine.now c.read_on.new.machine c.give.new.self c.in-Known.ensures.left c.in-Known.ensures.reads (reads_none c.read_on.new.machine c.give.new.self c.give.ensures.keeps);
 }
 

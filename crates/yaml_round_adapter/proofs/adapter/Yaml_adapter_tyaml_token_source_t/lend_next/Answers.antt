@@ -7,10 +7,10 @@ invariant_of-self g c =
     let n = c.yaml_parser_lend.new in
     record {
       little = c.yaml_parser_lend.ensures.few;
-      texts = lent_texts _ c.self.inside.session n.parser c.yaml_parser_lend.result (fault_of n.fault) c.self.invariant.texts c.yaml_parser_lend.ensures.lends;
+      texts = lent_texts _ _ c.self.inside.session n.parser c.yaml_parser_lend.result (fault_of n.fault) c.self.invariant.texts c.yaml_parser_lend.ensures.lends;
     }
 
 pub returns-clause-lends : goal.returns-clause-lends
 returns-clause-lends g c =
     let n = c.yaml_parser_lend.new in
-    rw (← c.self.view_is) (lends_text _ c.self.inside.session n.parser c.yaml_parser_lend.result (fault_of n.fault) c.self.invariant.texts c.yaml_parser_lend.ensures.few c.yaml_parser_lend.ensures.lends)
+    rw (← c.self.view_is) (lends_text _ _ c.self.inside.session n.parser c.yaml_parser_lend.result (fault_of n.fault) c.self.invariant.texts c.yaml_parser_lend.ensures.few c.yaml_parser_lend.ensures.lends)

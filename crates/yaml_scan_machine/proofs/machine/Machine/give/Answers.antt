@@ -1,4 +1,4 @@
-use Rattle.std.proofs.Common.{◌+◌, List, length, ap, ◌∙◌, arith}
+use Rattle.std.proofs.Common.{◌+◌, Bool, true, false, List, length, ap, ◌∙◌, arith}
 use Rattle.yaml_scan_machine.proofs.Words.{Token, Waiting, fault_of}
 use Rattle.yaml_scan_machine.proofs.TakeLemmas.{Gave, first_fits, first_waits, gives_next}
 use Rattle.yaml_scan_machine.proofs.machine.Machine.give.Goals as goal
@@ -20,15 +20,15 @@ give-requires-clause-few g c = omega (arith, c.requires.stands.few, c.requires.s
 
 pub returns-clause-stands : goal.returns-clause-stands
 returns-clause-stands g c =
-    let P : Token → Type 0 = λ t. g.T.TokenTaker.takes c.args.taker.now c.args.slot.now t c.give.new.taker c.give.new.slot (fault_of c.give.new.fault) c.give.result in
-    (gives_next P c.args.self.now c.give.new.given c.give.new.dropped c.give.new.self c.requires.stands c.requires.ready c.give.ensures).stands
+    let P : Bool → Token → Type 0 = λ k t. g.T.TokenTaker.takes k c.args.taker.now c.args.slot.now t c.give.new.taker c.give.new.slot (fault_of c.give.new.fault) c.give.result in
+    (gives_next (P false) (λ t. g.T.TokenTaker.wants c.args.taker.now × P true t) c.args.self.now c.give.new.given c.give.new.dropped c.give.new.self c.requires.stands c.requires.ready c.give.ensures).stands
 
 pub returns-clause-gives : goal.returns-clause-gives
 returns-clause-gives g c =
-    let P : Token → Type 0 = λ t. g.T.TokenTaker.takes c.args.taker.now c.args.slot.now t c.give.new.taker c.give.new.slot (fault_of c.give.new.fault) c.give.result in
-    (gives_next P c.args.self.now c.give.new.given c.give.new.dropped c.give.new.self c.requires.stands c.requires.ready c.give.ensures).gives
+    let P : Bool → Token → Type 0 = λ k t. g.T.TokenTaker.takes k c.args.taker.now c.args.slot.now t c.give.new.taker c.give.new.slot (fault_of c.give.new.fault) c.give.result in
+    (gives_next (P false) (λ t. g.T.TokenTaker.wants c.args.taker.now × P true t) c.args.self.now c.give.new.given c.give.new.dropped c.give.new.self c.requires.stands c.requires.ready c.give.ensures).gives
 
 pub returns-clause-keeps : goal.returns-clause-keeps
 returns-clause-keeps g c =
-    let P : Token → Type 0 = λ t. g.T.TokenTaker.takes c.args.taker.now c.args.slot.now t c.give.new.taker c.give.new.slot (fault_of c.give.new.fault) c.give.result in
-    (gives_next P c.args.self.now c.give.new.given c.give.new.dropped c.give.new.self c.requires.stands c.requires.ready c.give.ensures).keeps
+    let P : Bool → Token → Type 0 = λ k t. g.T.TokenTaker.takes k c.args.taker.now c.args.slot.now t c.give.new.taker c.give.new.slot (fault_of c.give.new.fault) c.give.result in
+    (gives_next (P false) (λ t. g.T.TokenTaker.wants c.args.taker.now × P true t) c.args.self.now c.give.new.given c.give.new.dropped c.give.new.self c.requires.stands c.requires.ready c.give.ensures).keeps

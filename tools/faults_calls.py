@@ -102,6 +102,7 @@ THROUGH = {
     "yaml_parser_scan_into": "parse",
     "next_token_into": "parse",
     "yaml_parser_lend": "parse",
+    "wants_key": "parse",
     "lend_next": "parse",
     "yaml_emitter_emit_early": "reformat",
     "yaml_write_all": "run",

@@ -164,8 +164,9 @@ fn may_take<C: TokenCheck>(machine: &Machine, check: &C) -> bool
     }
 }
 
-/// Has a taker take the next token where it lies, or KEY and the scalar behind it: what `yaml_parser_scan_into` gives. None is taken, and what is to come stays, only
-/// where a peek put it aside, where none is to come, and where it is a tag or a directive that doesn't pass the check.
+/// Has a taker take the next token where it lies, or KEY and the scalar behind it: what `yaml_parser_scan_into` gives. None is taken,
+/// and what is to come stays, only where a peek put it aside, where none is to come, and where it is a tag or a directive that doesn't
+/// pass the check.
 // Inlined: mostly the next token is known.
 #[inline(always)]
 pub fn yaml_parser_lend<C: TokenCheck, T: TokenTaker>(

@@ -82,7 +82,7 @@ gives_own m w rest i items low none =
 
 -- so few tokens stand in front of a lexeme
 pub front_few : (m : Machine) (w : Waiting) (rest : List Waiting) → IsMachine m
-    → m.waiting.items ≡ w ∷ rest → front_count (kept_of w) < 2 ^ 64
+    → m.waiting.items ≡ w ∷ rest → front_count (kept_of w) < 2 ^ 64 - 1
 front_few m w rest i items =
     let f = first_is m w rest i items in
     let few = ends_few (history_of m) m.dropped no_entry f.inside in
@@ -107,7 +107,7 @@ first_waits d s g (w ∷ ws) e = (w, ws, refl)
 -- What waits first is asked with any default: of its tokens no more are given than stand in front, which are few.
 pub first_fits : (m : Machine) → IsMachine m → is_ready m ≡ true → (w : Waiting)
     → (m.given ≤ front_count (kept_of (get_or m.waiting.items 0 w)))
-    × (front_count (kept_of (get_or m.waiting.items 0 w)) < 2 ^ 64)
+    × (front_count (kept_of (get_or m.waiting.items 0 w)) < 2 ^ 64 - 1)
 first_fits m i ready w =
     let (front, rest, items) = first_waits m.dropped m.settled m.given m.waiting.items ready in
     let here : front_count (kept_of (get_or m.waiting.items 0 w)) ≡ front_count (kept_of front) = ap (λ (ws : List Waiting). front_count (kept_of (get_or ws 0 w))) items in

@@ -1,23 +1,22 @@
 -- The part of a row of slots that holds what waits, and the slots beside it.
-use Rattle.std.proofs.Common.{◌≡◌, ℕ, zero, suc, Bool, true, false, ltb, ◌+◌, ◌-◌, ◌<◌, ◌≤◌, List, [], ◌∷◌, ◌++◌, length, take, drop, get_or, Option, Some, None, refl, ap, sym, subst, ◌∙◌, inr, arith, ◌^◌}
-use Rattle.std.specs.Prelude.{IfSome, Vec, vec_len, ◌==◌, ◌||◌, ◌≢◌}
+use Rattle.std.proofs.Common.{◌≡◌, ℕ, zero, suc, Bool, true, false, ltb, ◌+◌, ◌-◌, ◌<◌, ◌≤◌, List, [], ◌∷◌, ◌++◌, length, take, drop, get_or, Option, Some, None, refl, ap, sym, subst, ◌∙◌, inl, inr, length-set, arith, ◌^◌}
+use Rattle.std.specs.Prelude.{IfSome, Vec, vec_len, ◌==◌, ◌||◌, ◌≢◌, ◌⊎◌}
 use Rattle.std.specs.Global.{Global}
 use denote.Bor.{Bor}
 use Rattle.std.proofs.Math.ListN.{set}
 use Rattle.std.proofs.Math.Seq.{take-set-lt}
 use Rattle.std.proofs.lemmas.List.{get_or-drop, get_or-take, get_or_default, take-append-le, drop-append-le, drop-take, drop-set-add, drop-set-lt, drop-drop, get_or-set_same, length-take-le, length-drop}
-use Rattle.std.proofs.lemmas.List.Elements.{All-same, All-push, All-append, All-drop, All-take, All-set, All-get_or}
+use Rattle.std.proofs.lemmas.List.Elements.{All-same, All-push, All-drop, All-get_or}
+use Rattle.std.proofs.lemmas.Bool.{cases_Bool}
 use Rattle.std.proofs.lemmas.Bool.Decides.{nat_tests}
 use Rattle.yaml_scan_history.specs.declared.lexeme.Opens.{Opens}
 use Rattle.yaml_scan_history.specs.declared.lexeme.Opens.TheVariants as opening
 use Rattle.yaml_scan_model.specs.Tokens as token
-use Rattle.yaml_scan_model.specs.Tokens.{Token}
-use Rattle.yaml_scan_slot.specs.Slots.{token_in_slot}
+use Rattle.yaml_scan_slot.specs.Slots.{is_tagged, token_in_slot}
 use Rattle.yaml_scan_slot.specs.declared.slot.TokenSlot.{TokenSlot}
 use Rattle.yaml_scan_queue.specs.Front.{front_at, front_count, start_at, start_count, key_count}
 use Rattle.yaml_scan_queue.specs.Hands.{TellsTag}
-use Rattle.yaml_scan_queue.specs.Line.{Line}
-use Rattle.yaml_scan_queue.specs.Waits.{AreCounted, IsCounted, KeptLexeme, PushesBoth, kept_of}
+use Rattle.yaml_scan_queue.specs.Waits.{AreCounted, IsCounted, IsGiven, KeptLexeme, PushesBoth, kept_of, own_of}
 use Rattle.yaml_scan_queue.specs.declared.waiting.ReadLexeme.{ReadLexeme}
 use Rattle.yaml_scan_queue.specs.declared.waiting.Waiting.{Waiting}
 
@@ -81,6 +80,13 @@ pub part_put : (xs : List Waiting) (f l : ℕ) (y : Waiting) (items : List Waiti
 part_put xs f l y items is low lt =
     ap (λ (n : ℕ). drop f (take n (set xs l y))) {x = l + 1} {y = suc l} (omega arith) ∙ ap (λ (zs : List Waiting). drop f zs) (put_last xs l y lt) ∙ drop-append-le f (take l xs) (y ∷ []) (omega (arith, low, length-take-le l xs (omega (arith, lt)))) ∙ ap (λ (zs : List Waiting). zs ++ y ∷ []) is
 
+-- two more do
+pub part_put_both : (xs : List Waiting) (f l : ℕ) (y z : Waiting) (items : List Waiting)
+    → drop f (take l xs) ≡ items → f ≤ l → l + 1 < length xs
+    → drop f (take (l + 2) (set (set xs l y) (l + 1) z)) ≡ (items ++ y ∷ []) ++ z ∷ []
+part_put_both xs f l y z items is low two =
+    ap (λ (n : ℕ). drop f (take n (set (set xs l y) (l + 1) z))) {x = l + 2} {y = l + 1 + 1} (omega arith) ∙ part_put (set xs l y) f (l + 1) z (items ++ y ∷ []) (part_put xs f l y items is low (omega (arith, two))) (omega (arith, low)) (omega (arith, two, length-set xs l y))
+
 start_done : (o : Opens) (k : Bool) → start_at o k (start_count o + key_count k) ≡ None
 start_done opening.Nothing false = refl
 start_done opening.Nothing true = refl
@@ -114,10 +120,14 @@ all_given k n none = grind (arith, nat_tests, start_left k.opens k.key (n - k.en
 pub tells_tag : (n : ℕ) (x w : Waiting) (r : Option (Bor TokenSlot)) → x ≡ w
     → n ≤ front_count (kept_of w)
     → IfSome r (λ t. (n ≡ front_count (kept_of x)) × (t.now ≡ x.token))
-    → (r ≡ None → n ≡ front_count (kept_of x) → ⊥) → TellsTag n w r
+    → (r ≡ None → (is_tagged (kept_of x).body ≡ false) ⊎ (n ≡ front_count (kept_of x) → ⊥))
+    → TellsTag n w r
 tells_tag n x w (Some t) is few (all, same) none =
     (front_done (kept_of w) n (ap (λ (y : Waiting). front_count (kept_of y)) (sym is) ∙ sym all), ap (λ (y : TokenSlot). token_in_slot y) same ∙ ap (λ (y : Waiting). token_in_slot y.token) is)
-tells_tag n x w None is few some none = inr (λ done. none refl (omega (arith, few, ap (λ (y : Waiting). front_count (kept_of y)) is, all_given (kept_of w) n done)))
+tells_tag n x w None is few some none = elim (none refl) [
+      | inl bare ↦ inl (ap (λ (y : Waiting). is_tagged (kept_of y).body) (sym is) ∙ bare)
+      | inr left ↦ inr (λ done. left (omega (arith, few, ap (λ (y : Waiting). front_count (kept_of y)) is, all_given (kept_of w) n done)))
+    ]
 
 -- A row is turned until its part comes behind the first slot.
 pub part_turned : {X : Type 0} → (xs zs : List X) (f l : ℕ)
@@ -149,34 +159,38 @@ pub part_taken : (xs zs : List Waiting) (f g l m n : ℕ) (x : Waiting) → zs �
     → m ≡ l → f < l → drop g (take m (set zs n x)) ≡ drop 1 (drop f (take l xs))
 part_taken xs zs f g l m n x same at front end lt = rw (same, at, front, end) (part_pop xs f l x lt)
 
--- a slot more
-pub pushed : (xs ys zs : List Waiting) (w : Waiting) → ys ≡ xs → zs ≡ ys ++ w ∷ [] → AreCounted xs
-    → IsCounted w → AreCounted zs
-pushed xs ys zs w same is h k =
-    let P : Waiting → Type 0 = λ w. IsCounted w in
-    All-same P zs (ys ++ w ∷ []) is (All-push P ys w (All-same P ys xs same h) k)
+-- of those that stay the same is known
+pub counted_same : (xs ys : List Waiting) → ys ≡ xs → AreCounted xs → AreCounted ys
+counted_same xs ys is h = All-same (λ w. IsCounted w) ys xs is h
 
--- a row that is turned
-pub turned : (xs zs : List Waiting) (n : ℕ) → zs ≡ drop n xs ++ take n xs → AreCounted xs
-    → AreCounted zs
-turned xs zs n is h =
-    let P : Waiting → Type 0 = λ w. IsCounted w in
-    All-same P zs (drop n xs ++ take n xs) is (All-append P (drop n xs) (take n xs) (All-drop P n xs h) (All-take P n xs h))
+-- of one more too
+pub counted_push : (xs ys : List Waiting) (w : Waiting) → ys ≡ xs ++ w ∷ [] → AreCounted xs
+    → IsCounted w → AreCounted ys
+counted_push xs ys w is h k = counted_same _ ys is (All-push (λ w. IsCounted w) xs w h k)
 
--- a slot that is filled
-pub filled : (xs : List Waiting) (n : ℕ) (w : Waiting) → IsCounted w → AreCounted xs
-    → AreCounted (set xs n w)
-filled xs n w k h = All-set (λ w. IsCounted w) xs n w k h
+-- of those behind the first
+pub counted_drop : (xs ys : List Waiting) → ys ≡ drop 1 xs → AreCounted xs → AreCounted ys
+counted_drop xs ys is h = counted_same _ ys is (All-drop (λ w. IsCounted w) 1 xs h)
 
--- the slot at a place
-pub counted_at : (xs : List Waiting) (n : ℕ) (x : Waiting) → AreCounted xs → n < length xs
-    → x ≡ get_or xs n x → IsCounted x
-counted_at xs n x h lt here = subst (λ (w : Waiting). IsCounted w) (sym here) (All-get_or (λ w. IsCounted w) xs n x lt h)
+-- where its own token is no tag, it is kept how many stand in front, which are few
+pub own_bare : (x : Waiting) → IsCounted x → front_count (kept_of x) < 2 ^ 64 - 1
+    → is_tagged (kept_of x).body ≡ false → x.own_after ≡ front_count (kept_of x)
+own_bare x h few bare =
+    let is : x.own_after ≡ own_of false (kept_of x) = h ∙ ap (λ (b : Bool). own_of b (kept_of x)) bare in
+    omega (arith, is, few)
 
--- how many tokens stand in front is kept, where they are few
-pub own_fronts : (x : Waiting) → IsCounted x → front_count (kept_of x) < 2 ^ 64
-    → x.fronts ≡ front_count (kept_of x)
-own_fronts x h few = omega (arith, h, few)
+-- where it is one, the greatest number is
+pub own_tag : (x : Waiting) → IsCounted x → is_tagged (kept_of x).body ≡ true
+    → x.own_after ≡ 2 ^ 64 - 1
+own_tag x h tag = h ∙ ap (λ (b : Bool). own_of b (kept_of x)) tag
+
+-- one that comes where so many stand in front is no tag
+pub own_here : (x : Waiting) (n : ℕ) → IsGiven x n → x.own_after ≡ n
+    → (is_tagged (kept_of x).body ≡ false) × (front_count (kept_of x) ≡ n)
+own_here x n (h, few, le) here = elim (cases_Bool (is_tagged (kept_of x).body)) [
+      | inl tag ↦ absurd (omega (arith, own_tag x h tag, here, few, le))
+      | inr bare ↦ (bare, sym (own_bare x h few bare) ∙ here)
+    ]
 
 -- the two stand behind the others
 pub put_twice : {old : List Waiting} {r s : ReadLexeme} {new : List Waiting}
@@ -196,14 +210,17 @@ key_last k n is all =
     let start : start_at k.opens k.key (n - k.ends) ≡ Some token.key = rw (is, left) (key_start k.opens) in
     (rw past start, front_done k (n + 1) all)
 
--- so it is of the lexeme that waits first
-pub first_counts : (xs : List Waiting) (f l : ℕ) (x : Waiting) (items : List Waiting)
+-- what is known of the lexeme that waits first
+pub first_given : (n : ℕ) (xs : List Waiting) (f l : ℕ) (x : Waiting) (items : List Waiting)
     → drop f (take l xs) ≡ items → l ≤ length xs → 0 < length items → x ≡ get_or xs f x
-    → AreCounted xs → ((w : Waiting) → front_count (kept_of (get_or items 0 w)) < 2 ^ 64)
-    → x.fronts ≡ front_count (kept_of x)
-first_counts xs f l x items is last some here counted room =
-    let first = part_first xs f l x items is last some here x in
-    own_fronts x (counted_at xs f x counted (omega (arith, part_some xs f l items is last some, last)) here) (omega (arith, ap (λ (w : Waiting). front_count (kept_of w)) first, room x))
+    → AreCounted (drop f (take l xs))
+    → ((w : Waiting) → front_count (kept_of (get_or items 0 w)) < 2 ^ 64 - 1)
+    → ((w : Waiting) → n ≤ front_count (kept_of (get_or items 0 w))) → IsGiven x n
+first_given n xs f l x items is last some here counted room given =
+    let at = part_first xs f l x items is last some here x in
+    let first = ap (λ (w : Waiting). front_count (kept_of w)) at in
+    let counted : IsCounted (get_or items 0 x) = All-get_or (λ w. IsCounted w) items 0 x some (counted_same _ items (sym is) counted) in
+    (subst (λ (w : Waiting). IsCounted w) (sym at) counted, omega (arith, first, room x), omega (arith, first, given x))
 
 -- without KEY its own token is next where so many stand in front
 pub own_next : (k : Bool) (a b : ℕ) → (k || a == b) ≡ true → k ≡ false → a ≡ b

@@ -1,5 +1,5 @@
 -- The tokens that stand in front of a lexeme's own one: BLOCK-END, a block start, KEY.
-use Rattle.std.specs.Prelude.{ℕ, ◌+◌, ◌-◌, ◌==◌, ◌&&◌, nat_lt, if◌then◌else◌, Bool, true, false, Option, Some, None}
+use Rattle.std.specs.Prelude.{ℕ, ◌-◌, ◌==◌, ◌&&◌, nat_lt, if◌then◌else◌, Bool, Option, Some, None}
 use Rattle.yaml_scan_model.specs.Tokens.{TokenBody, block_end, block_sequence_start, block_mapping_start, key}
 use Rattle.yaml_scan_history.specs.declared.lexeme.Opens.{Opens}
 use Rattle.yaml_scan_history.specs.declared.lexeme.Opens.TheVariants as opening

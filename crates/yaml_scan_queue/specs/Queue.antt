@@ -16,4 +16,4 @@ pub record IsQueue (q : Inside) : Type 0 where
   pub first : q.first ≤ q.last
   pub last : q.last ≤ length q.slots.items
   pub front : 0 < length q.slots.items → 0 < q.first
-  pub counted : AreCounted q.slots.items
+  pub counted : AreCounted (drop q.first (take q.last q.slots.items))

@@ -1,10 +1,10 @@
 -- What is kept of a lexeme that waits, and what a later `:` makes of it.
-use Rattle.std.specs.Prelude.{ℕ, ◌≡◌, ◌+◌, ◌%◌, ◌^◌, ◌++◌, ◌∷◌, [], Bool, true, false, List, All}
+use Rattle.std.specs.Prelude.{ℕ, ◌≡◌, ◌+◌, ◌-◌, ◌<◌, ◌≤◌, ◌%◌, ◌^◌, ◌++◌, ◌∷◌, [], Bool, true, false, if◌then◌else◌, List, All}
 use Rattle.yaml_scan_model.specs.declared.record.yaml_mark_t.{yaml_mark_t}
 use Rattle.yaml_scan_model.specs.Tokens.{TokenBody, body_of}
 use Rattle.yaml_scan_history.specs.declared.lexeme.Opens.{Opens}
 use Rattle.yaml_scan_history.specs.declared.lexeme.Opens.TheVariants as opening
-use Rattle.yaml_scan_slot.specs.Slots.{body_in_slot}
+use Rattle.yaml_scan_slot.specs.Slots.{body_in_slot, is_tagged}
 use Rattle.yaml_scan_queue.specs.declared.waiting.Waiting.{Waiting}
 use Rattle.yaml_scan_queue.specs.declared.waiting.ReadLexeme.{ReadLexeme}
 
@@ -41,12 +41,21 @@ key_count false = 0
 abbrev pub front_count : KeptLexeme → ℕ
 front_count k = k.ends + (start_count k.opens + key_count k.key)
 
--- how many do in a slot, where that is kept: as a number of 64 bits
+-- how many do, as a number of 64 bits
 abbrev pub fronts_of : KeptLexeme → ℕ
 fronts_of k = front_count k % 2 ^ 64
 
+-- behind how many of its tokens its own one comes; the greatest number where that is told to be a tag
+abbrev pub own_of : Bool → KeptLexeme → ℕ
+own_of is_tag k = if is_tag then 2 ^ 64 - 1 else fronts_of k
+
 abbrev pub IsCounted : Waiting → Type 0
-IsCounted w = w.fronts ≡ fronts_of (kept_of w)
+IsCounted w = w.own_after ≡ own_of (is_tagged (kept_of w).body) (kept_of w)
+
+-- few tokens stand in front of its own one, so many of which are taken
+abbrev pub IsGiven : Waiting → ℕ → Type 0
+IsGiven w given = IsCounted w × (front_count (kept_of w) < 2 ^ 64 - 1)
+    × (given ≤ front_count (kept_of w))
 
 abbrev pub AreCounted : List Waiting → Type 0
 AreCounted ws = All IsCounted ws
@@ -56,7 +65,7 @@ abbrev pub keyed : Opens → Waiting → Waiting
 keyed opens w = record w {
   opens = opens;
   key = true;
-  fronts = fronts_of (record (kept_of w) { opens = opens; key = true });
+  own_after = own_of (is_tagged (kept_of w).body) (record (kept_of w) { opens = opens; key = true });
 }
 
 -- the same of a lexeme that was just read

@@ -4,15 +4,13 @@ ghost use Rattle.std.specs.Prelude.{ℕ, List, ◌≡◌, ◌+◌, ◌-◌, ◌^
 ghost use Rattle.yaml_scan_model.specs.declared.name.yaml_token_type_t.{yaml_token_type_t};
 ghost use Rattle.yaml_scan_model.specs.declared.name.yaml_token_type_t.TheVariants.{YAML_SCALAR_TOKEN};
 ghost use Rattle.yaml_scan_model.specs.Faults.{fault_of};
-ghost use Rattle.yaml_scan_slot.specs.Slots.{Extra, body_by, is_tagged};
-ghost use Rattle.yaml_scan_queue.specs.Bare.{is_tag_kind, is_tag_directive_kind};
 ghost use Rattle.yaml_scan_queue.specs.Front.{front_count};
 ghost use Rattle.yaml_scan_queue.specs.Hands.{Gives, KeyComes, TellsTag, handing};
 ghost use Rattle.yaml_scan_queue.specs.Line.{Grows, GrowsTwice};
 ghost use Rattle.yaml_scan_queue.specs.declared.waiting.Waiting.{Waiting};
-ghost use Rattle.yaml_scan_queue.specs.Waits.{AreCounted, IsCounted, Pushes, PushesBoth, kept_of, kept_in_read, keyed};
+ghost use Rattle.yaml_scan_queue.specs.Waits.{IsCounted, IsGiven, Pushes, PushesBoth, kept_of, kept_in_read, keyed};
 
-use crate::waiting::{ReadLexeme, Waiting};
+use crate::waiting::{ReadLexeme, Waiting, carries_tag};
 use std::alloc::{AllocError, Global};
 use std::marker::Model;
 use yaml_scan_history::Opens;
@@ -229,7 +227,7 @@ impl Queue {
         requires given { (w : Waiting)
             → given.old ≤ front_count (kept_of (slice_index_or self.old.items 0 w)) }
         requires room { (w : Waiting)
-            → front_count (kept_of (slice_index_or self.old.items 0 w)) < 2 ^ 64 }
+            → front_count (kept_of (slice_index_or self.old.items 0 w)) < 2 ^ 64 - 1 }
         requires few { dropped.old < 2 ^ 64 - 1 }
         ensures { (w : Waiting) → Gives
             (λ t. T.takes false taker.old slot.old t taker.new slot.new (fault_of fault.new) result)
@@ -265,14 +263,14 @@ impl Queue {
         requires given { (w : Waiting)
             → given ≤ front_count (kept_of (slice_index_or self.now.items 0 w)) }
         requires room { (w : Waiting)
-            → front_count (kept_of (slice_index_or self.now.items 0 w)) < 2 ^ 64 }
+            → front_count (kept_of (slice_index_or self.now.items 0 w)) < 2 ^ 64 - 1 }
         ensures { (w : Waiting) → TellsTag given (slice_index_or self.now.items 0 w) result }
     {
         let first = &self.slots[self.first];
-        if is_tagged(first.token.body.kind) {
-            return first.own_at(given);
+        if first.own_after == given {
+            return None;
         }
-        None
+        first.tag_at(given)
     }
 }
 
@@ -280,14 +278,16 @@ impl Queue {
 // Inlined: mostly one comparison, since a lexeme's own token is next.
 #[inline(always)]
 fn comes_keyed<T: TokenTaker>(first: &Waiting, given: usize, taker: &T) -> bool
-    requires counted { first.now.fronts ≡ front_count (kept_of first.now) }
-    requires given { given ≤ front_count (kept_of first.now) }
+    requires { IsGiven first.now given }
     ensures { result ≡ true → KeyComes (kept_of first.now) given × T.wants taker.now }
 {
-    if !first.is_before_key(given) {
+    if first.own_after == given {
         return false;
     }
     if !is_scalar_kind(first.token.body.kind) {
+        return false;
+    }
+    if !first.is_before_key(given) {
         return false;
     }
     taker.wants_key()
@@ -298,7 +298,6 @@ fn comes_keyed<T: TokenTaker>(first: &Waiting, given: usize, taker: &T) -> bool
 fn make_two(slots: &mut Vec<Waiting>) -> Result<(), AllocError>
     ensures ok { OnOk result (length slots.new.items ≡ length slots.old.items + 2) }
     ensures err { OnErr result (slots.new.items ≡ slots.old.items) }
-    ensures counted { AreCounted slots.old.items → AreCounted slots.new.items }
 {
     slots.reserve(2)?;
     let alloc = *slots.allocator();
@@ -320,19 +319,6 @@ fn put_front(token: &mut TokenSlot, kind: yaml_token_type_t, at: &yaml_mark_t)
     token.body.kind = kind;
 }
 
-/// Whether a kind is that of a tag, or of a directive that declares one.
-// Each of the two is asked for by itself: a match on both would be told by ranges of kinds.
-// Inlined: two comparisons.
-#[inline(always)]
-fn is_tagged(kind: yaml_token_type_t) -> bool
-    ensures { (x y : List ℕ) → (e : Extra) → result ≡ is_tagged (body_by kind x y e) }
-{
-    if is_tag_kind(kind) {
-        return true;
-    }
-    is_tag_directive_kind(kind)
-}
-
 /// Whether a kind is that of a scalar.
 // Inlined: a comparison.
 #[inline(always)]
@@ -341,30 +327,6 @@ fn is_scalar_kind(kind: yaml_token_type_t) -> bool
 {
     match kind {
         yaml_token_type_t::YAML_SCALAR_TOKEN => true,
-        _ => false,
-    }
-}
-
-/// Whether a kind is that of a tag.
-// Inlined: a comparison.
-#[inline(always)]
-fn is_tag_kind(kind: yaml_token_type_t) -> bool
-    ensures { result ≡ is_tag_kind kind }
-{
-    match kind {
-        yaml_token_type_t::YAML_TAG_TOKEN => true,
-        _ => false,
-    }
-}
-
-/// Whether a kind is that of a directive that declares a tag.
-// Inlined: a comparison.
-#[inline(always)]
-fn is_tag_directive_kind(kind: yaml_token_type_t) -> bool
-    ensures { result ≡ is_tag_directive_kind kind }
-{
-    match kind {
-        yaml_token_type_t::YAML_TAG_DIRECTIVE_TOKEN => true,
         _ => false,
     }
 }
@@ -389,6 +351,6 @@ fn put_read(slot: &mut Waiting, read: ReadLexeme, spares: &mut Spares)
     slot.ends = ends;
     slot.opens = opens;
     slot.key = key;
-    slot.count_fronts();
+    slot.note_own(carries_tag(&body));
     slot.token.body.put(body, spares);
 }

@@ -1,10 +1,11 @@
 //! The lexemes that wait, and the tokens that they are spelled out in.
 
-ghost use Rattle.std.specs.Prelude.{◌≡◌, ◌+◌, ◌^◌, ◌<◌, ◌≤◌, ◌||◌, ◌==◌, Bool, IfSome, None, Some, true, ℕ, List};
+ghost use Rattle.std.specs.Prelude.{◌≡◌, ◌+◌, ◌-◌, ◌^◌, ◌<◌, ◌≤◌, ◌||◌, ◌==◌, ◌⊎◌, Bool, IfSome, None, Some, true, false, ℕ, List};
 ghost use Rattle.yaml_scan_model.specs.Tokens as token;
-ghost use Rattle.yaml_scan_slot.specs.Slots.{Extra, body_by};
+ghost use Rattle.yaml_scan_model.specs.Tokens.{body_of};
+ghost use Rattle.yaml_scan_slot.specs.Slots.{Extra, body_by, is_tagged};
 ghost use Rattle.yaml_scan_queue.specs.Front.{front_at, front_count, key_count, start_at, start_count};
-ghost use Rattle.yaml_scan_queue.specs.Waits.{IsCounted, fronts_of, kept_of, keyed};
+ghost use Rattle.yaml_scan_queue.specs.Waits.{IsCounted, IsGiven, fronts_of, kept_of, keyed, own_of};
 
 use std::alloc::Global;
 use yaml_scan_history::Opens;
@@ -22,8 +23,9 @@ pub struct Waiting {
     pub opens: Opens,
     /// Its `:` has come.
     pub key: bool,
-    /// How many tokens stand in front of its own one: BLOCK-END tokens, a block start, KEY.
-    pub fronts: usize,
+    /// Behind how many of its tokens its own one comes. The greatest number, where that is a tag or a directive that declares one: it is
+    /// looked at before it is taken.
+    pub own_after: usize,
 }
 
 /// A lexeme that was just read, before it waits.
@@ -44,15 +46,13 @@ pub struct ReadLexeme {
 
 impl Waiting {
     /// What a new slot of the list holds.
-    pub fn blank(alloc: Global) -> Waiting
-        ensures { IsCounted result }
-    {
+    pub fn blank(alloc: Global) -> Waiting {
         Waiting {
             token: TokenSlot::empty(alloc),
             ends: 0,
             opens: Opens::Nothing,
             key: false,
-            fronts: 0,
+            own_after: 0,
         }
     }
 
@@ -64,27 +64,39 @@ impl Waiting {
     {
         self.key = true;
         self.opens = opens;
-        self.count_fronts();
+        self.note_own(is_tagged(self.token.body.kind));
     }
 
-    /// Counts the tokens in front of its own one. The sum wraps, so that nothing is asked of it: a text has fewer levels.
+    /// Notes behind how many of its tokens its own one comes, where it is told whether that is a tag or a directive that declares one.
     // Inlined: two sums, of which the first is of two bytes.
     #[inline(always)]
-    pub(crate) fn count_fronts(&mut self)
-        ensures { self.new ≡ record self.old { fronts = fronts_of (kept_of self.old) } }
+    pub(crate) fn note_own(&mut self, is_tagged: bool)
+        ensures { self.new ≡ record self.old { own_after = own_of is_tagged (kept_of self.old) } }
     {
-        let others = (start_number(self.opens) + key_number(self.key)) as usize;
-        self.fronts = self.ends.wrapping_add(others);
+        self.own_after = if is_tagged { usize::MAX } else { self.count_fronts() };
     }
 
-    /// Its own token, where so many are given and none stands in front of it any more.
-    pub fn own_at(&self, given: usize) -> Option<&TokenSlot>
-        requires { self.now.fronts ≡ front_count (kept_of self.now) }
+    /// How many tokens stand in front of its own one: BLOCK-END tokens, a block start, KEY. The sum wraps, so that nothing is asked of
+    /// it: a text has fewer levels.
+    // Inlined: two sums, of which the first is of two bytes.
+    #[inline(always)]
+    fn count_fronts(&self) -> usize
+        ensures { result ≡ fronts_of (kept_of self.now) }
+    {
+        let others = (start_number(self.opens) + key_number(self.key)) as usize;
+        self.ends.wrapping_add(others)
+    }
+
+    /// Its own token, where that is next behind so many of its tokens, and a tag or a directive that declares one.
+    // No hint: LLVM inlines it, since it is short.
+    pub(crate) fn tag_at(&self, given: usize) -> Option<&TokenSlot>
+        requires { IsGiven self.now given }
         ensures some { IfSome result (λ t. (given ≡ front_count (kept_of self.now))
             × (t.now ≡ self.now.token)) }
-        ensures none { result ≡ None → given ≡ front_count (kept_of self.now) → ⊥ }
+        ensures none { result ≡ None → (is_tagged (kept_of self.now).body ≡ false)
+            ⊎ (given ≡ front_count (kept_of self.now) → ⊥) }
     {
-        if self.fronts == given {
+        if is_tagged(self.token.body.kind) && self.count_fronts() == given {
             return Some(&self.token);
         }
         None
@@ -94,12 +106,12 @@ impl Waiting {
     // Inlined: mostly a comparison.
     #[inline(always)]
     pub(crate) fn is_before_key(&self, given: usize) -> bool
-        requires counted { self.now.fronts ≡ front_count (kept_of self.now) }
+        requires counted { self.now.own_after ≡ front_count (kept_of self.now) }
         requires given { given ≤ front_count (kept_of self.now) }
         ensures { result ≡ true → (front_at (kept_of self.now) given ≡ Some token.key)
             × (front_at (kept_of self.now) (given + 1) ≡ None) }
     {
-        if self.fronts - given != 1 {
+        if self.own_after - given != 1 {
             return false;
         }
         self.key
@@ -109,9 +121,10 @@ impl Waiting {
     // Inlined: a comparison.
     #[inline(always)]
     pub(crate) fn comes_own(&self, is_key: bool, given: usize) -> bool
-        ensures { result ≡ (is_key || self.now.fronts == given) }
+        requires { IsGiven self.now given }
+        ensures { result ≡ (is_key || front_count (kept_of self.now) == given) }
     {
-        is_key || self.fronts == given
+        is_key || self.own_after == given || self.tag_at(given).is_some()
     }
 
     /// The kind of the token in front of its own one, where `given` tokens were taken.
@@ -168,4 +181,26 @@ fn key_number(is_key: bool) -> u8
     ensures { result ≡ key_count is_key }
 {
     if is_key { 1 } else { 0 }
+}
+
+/// Whether a kind is that of a tag, or of a directive that declares one.
+fn is_tagged(kind: yaml_token_type_t) -> bool
+    ensures { (x y : List ℕ) → (e : Extra) → result ≡ is_tagged (body_by kind x y e) }
+{
+    match kind {
+        yaml_token_type_t::YAML_TAG_TOKEN | yaml_token_type_t::YAML_TAG_DIRECTIVE_TOKEN => true,
+        _ => false,
+    }
+}
+
+/// Whether a token that carries that is a tag, or a directive that declares one.
+// Inlined: its kind is known where it is called.
+#[inline(always)]
+pub(crate) fn carries_tag(body: &yaml_token_body_t) -> bool
+    ensures { result ≡ is_tagged (body_of body.now) }
+{
+    match body {
+        yaml_token_body_t::Tag { .. } | yaml_token_body_t::TagDirective { .. } => true,
+        _ => false,
+    }
 }

@@ -1,21 +1,16 @@
-use Rattle.std.proofs.Common.{ap, arith}
-use Rattle.yaml_scan_queue.specs.Front.{front_count}
+use Rattle.std.proofs.Common.{ap}
 use Rattle.yaml_scan_queue.specs.Line.{Line}
-use Rattle.yaml_scan_queue.specs.Waits.{kept_of}
-use Rattle.yaml_scan_queue.specs.declared.waiting.Waiting.{Waiting}
-use Rattle.yaml_scan_queue.proofs.QueueLemmas.{counted_at, own_fronts, part_first, part_some, tells_tag}
+use Rattle.yaml_scan_queue.proofs.QueueLemmas.{first_given, part_first, tells_tag}
 use Rattle.yaml_scan_queue.proofs.queue.Queue.next_tag.Goals as goal
 
-pub own_at-requires : goal.own_at-requires
-own_at-requires c =
+pub tag_at-requires : goal.tag_at-requires
+tag_at-requires c =
     let q = c.self.inside in
-    let x = c.index-first.result.now in
-    let first = part_first q.slots.items q.first q.last x c.args.self.now.items (ap (λ (x : Line). x.items) c.self.view_is) c.self.invariant.last c.requires.some c.index-first.ensures x in
-    own_fronts x (counted_at q.slots.items q.first x c.self.invariant.counted (omega (arith, part_some q.slots.items q.first q.last c.args.self.now.items (ap (λ (x : Line). x.items) c.self.view_is) c.self.invariant.last c.requires.some, c.self.invariant.last)) c.index-first.ensures) (omega (arith, ap (λ (w : Waiting). front_count (kept_of w)) first, c.requires.room x))
+    first_given c.args.given q.slots.items q.first q.last c.index-first.result.now c.args.self.now.items (ap (λ (x : Line). x.items) c.self.view_is) c.self.invariant.last c.requires.some c.index-first.ensures c.self.invariant.counted c.requires.room c.requires.given
 
-pub returns-then-is_tagged : goal.returns-then-is_tagged
-returns-then-is_tagged c = λ w.
+pub returns : goal.returns
+returns c = λ w.
     let q = c.self.inside in
     let x = c.index-first.result.now in
     let first = part_first q.slots.items q.first q.last x c.args.self.now.items (ap (λ (x : Line). x.items) c.self.view_is) c.self.invariant.last c.requires.some c.index-first.ensures w in
-    tells_tag c.args.given x _ c.own_at.result first (c.requires.given w) c.own_at.ensures.some c.own_at.ensures.none
+    tells_tag c.args.given x _ c.tag_at.result first (c.requires.given w) c.tag_at.ensures.some c.tag_at.ensures.none

@@ -35,11 +35,11 @@ impl<'a> Machine<'a> {
     {
         let mut reader = Reader::resume(self.text.as_slice(), self.place);
         let flow = 0 < self.depth;
-        let allowed = pass_gap(&mut reader, flow, self.allowed);
+        let (allowed, byte) = pass_gap(&mut reader, flow, self.allowed);
         spot.mark = reader.stop();
         spot.allowed = allowed;
         spot.due = self.keys.is_due();
-        let Some(kind) = kind_at(&reader, flow) else {
+        let Some(kind) = kind_at(byte, &reader, flow) else {
             self.put_none(fault, spot.mark.index, spot.mark.line, spot.mark.column);
             return None;
         };
@@ -84,36 +84,38 @@ impl LexemeSpot {
     }
 }
 
-/// Past what stands between lexemes, and whether a key may begin behind it. Mostly it is nothing, one space, or a line
-/// feed with the spaces of the next line, which is asked before the loop over all that may stand there.
+/// Past what stands between lexemes; whether a key may begin behind it, and the byte that stands there. Mostly it is nothing, one space,
+/// or a line feed with the spaces of the next line, which is asked before the loop over all that may stand there.
 // Inlined: a reader that is lent to a call lives in memory.
 #[inline(always)]
-fn pass_gap(reader: &mut Reader, flow: bool, allowed: bool) -> bool
+fn pass_gap(reader: &mut Reader, flow: bool, allowed: bool) -> (bool, u8)
     ensures place { (gap_at flow allowed reader.old.text reader.old.at).place ≡ reader.new.at }
-    ensures allowed { result ≡ (allowed || ((gap_at flow allowed reader.old.text
+    ensures allowed { result.0 ≡ (allowed || ((gap_at flow allowed reader.old.text
         reader.old.at).broke && not flow)) }
+    ensures byte { result.1 ≡ byte reader.new.text reader.new.at }
     ensures text { reader.new.text ≡ reader.old.text }
 {
     let byte = reader.here();
     if is_behind_hash(byte) {
-        return allowed;
+        return (allowed, byte);
     }
     if byte == b' ' {
-        if begins(reader.byte(1)) {
+        let next = reader.byte(1);
+        if begins(next) {
             reader.skip();
-            return allowed;
+            return (allowed, next);
         }
     } else if begins(byte) {
-        return allowed;
+        return (allowed, byte);
     } else {
         let mut ahead = reader.ahead();
         if crosses_line(&mut ahead) {
             *reader = ahead;
-            return allowed_behind(allowed, true, flow);
+            return (allowed_behind(allowed, true, flow), reader.here());
         }
     }
     let broke = skip_gap(reader, flow, allowed);
-    allowed_behind(allowed, broke, flow)
+    (allowed_behind(allowed, broke, flow), reader.here())
 }
 
 /// Whether the byte is behind `#` in ASCII: it begins a lexeme.

@@ -1,8 +1,8 @@
 //! One lexeme more: the first one, or one of a kind that stands there.
 
-ghost use Rattle.std.specs.Prelude.{◌≡◌, ◌+◌, None, true, false, length, OnOk, OnErr};
+ghost use Rattle.std.specs.Prelude.{◌≡◌, ◌+◌, ◌-◌, ◌<◌, ◌^◌, None, true, false, length, OnOk, OnErr};
 ghost use Rattle.yaml_scan_model.specs.Faults.{fault_of};
-ghost use Rattle.yaml_scan_history.specs.Kinds.{is_end};
+ghost use Rattle.yaml_scan_history.specs.Kinds.{depth_after, is_end};
 ghost use Rattle.yaml_scan_machine.specs.Left.{IsLocated};
 
 use crate::machine::{Machine, allows, opens_here, put_fault};
@@ -167,7 +167,7 @@ impl<'a> Machine<'a> {
         };
         self.waiting.push_back_reserved(read, spares);
         self.place = lexeme.reached;
-        self.depth = lexeme.kind.depth_after(lexeme.depth);
+        count_bracket(&mut self.depth, lexeme.kind);
         self.allowed = allowed;
         self.ended = lexeme.kind.is_end();
         self.settled = self.settle(number + 1, self.ended);
@@ -192,4 +192,20 @@ pub(crate) fn put_refusal(slot: &mut yaml_fault_t, error: ScanError)
 {
     let refusal = error;
     put_fault(slot, refusal);
+}
+
+/// Counts a bracket that opens or closes. Of any other kind nothing is stored.
+// Inlined: the kind is known where it is called.
+#[inline(always)]
+fn count_bracket(depth: &mut usize, kind: Kind)
+    requires { depth.old < 2 ^ 64 - 1 }
+    ensures { depth.new ≡ depth_after kind depth.old }
+{
+    match kind {
+        Kind::FlowSequenceStart
+        | Kind::FlowMappingStart
+        | Kind::FlowSequenceEnd
+        | Kind::FlowMappingEnd => *depth = kind.depth_after(*depth),
+        _ => {}
+    }
 }

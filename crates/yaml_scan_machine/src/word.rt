@@ -38,26 +38,26 @@ pub(crate) struct Scope {
     pub level: u64,
 }
 
-/// The kind of the lexeme that stands here (YAML 1.1, 5.3).
+/// The kind of the lexeme that stands here, with that byte (YAML 1.1, 5.3).
 #[tactic(auto, unfolding(yaml_scan_history::specs::Words::kind_at, yaml_scan_words::specs::Indicators::is_document_start, yaml_scan_words::specs::Indicators::is_document_end))]
-pub(crate) fn kind_at(reader: &Reader, flow: bool) -> Option<Kind>
+pub(crate) fn kind_at(here: u8, reader: &Reader, flow: bool) -> Option<Kind>
+    requires { here ≡ byte reader.now.text reader.now.at }
     ensures value { result ≡ spec.kind_at flow reader.now.text reader.now.at }
     ensures stands { IfSome result (λ k. Stands k flow reader.now.text reader.now.at) }
 {
-    let byte = reader.here();
-    if is_small(byte) {
+    if is_small(here) {
         return Some(Kind::Plain);
     }
-    if let Some(kind) = indicator(byte, flow, reader) {
+    if let Some(kind) = indicator(here, flow, reader) {
         return Some(kind);
     }
-    if is_letter(byte) {
+    if is_letter(here) {
         return Some(Kind::Plain);
     }
-    if byte == 0 {
+    if here == 0 {
         return Some(Kind::StreamEnd);
     }
-    if byte == b'%' && reader.mark().column == 0 {
+    if here == b'%' && reader.mark().column == 0 {
         return Some(Kind::Directive);
     }
     if is_document_start(reader) {

@@ -80,16 +80,18 @@ impl BodySlot {
     }
 
     // Puts both texts into the slot.
-    // No hint: LLVM inlines it, since it is short.
+    // Inlined: a tag is read by a call of its own, and has both texts in registers.
+    #[inline(always)]
     fn put_both(&mut self, text: Vec<u8>, other: Vec<u8>, spares: &mut Spares)
         ensures text { self.new.text.items ≡ text.items }
         ensures other { self.new.other.items ≡ other.items }
         ensures same { self.new ≡ record self.old { text = self.new.text; other = self.new.other } }
     {
         put_text(&mut self.text, text, spares);
-        // Mostly another text is at hand now.
-        spares.keep(lifted(&mut self.other));
+        let room = lifted(&mut self.other);
         put_back(&mut self.other, other);
+        // Mostly another text is at hand now.
+        spares.keep(room);
     }
 
     /// Takes the body out.

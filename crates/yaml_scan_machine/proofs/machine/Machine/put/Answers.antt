@@ -1,5 +1,5 @@
 use Rattle.std.proofs.Common.{cond, ◌≡◌, ◌≤◌, ◌<◌, ℕ, Bool, List, ◌∷◌, [], ◌++◌, sym, ap, subst, ◌∙◌, refl, arith, ◌+◌, ◌^◌, ◌&&◌, ◌||◌, not, ltb, eqb, length, length-append}
-use Rattle.yaml_scan_machine.proofs.Words.{map, body_of, is_start, allows_key, map-append, length-map, text_bytes, Machine, Waiting, KeptLexeme, kept_of, IsShort, IsMachine, ReadsMore, StaysShort, AreInside, IsNarrow, Lexeme, indent, inside, left_by, entry_of, reached, KeyStack, stack_of, AreKeys, Fields, fields_of, history_of, kept_in, stream_of, opens_for, first_open, settled_in, Line}
+use Rattle.yaml_scan_machine.proofs.Words.{map, body_of, depth_after, is_start, allows_key, map-append, length-map, text_bytes, Machine, Waiting, KeptLexeme, kept_of, IsShort, IsMachine, ReadsMore, StaysShort, AreInside, IsNarrow, Lexeme, indent, inside, left_by, entry_of, reached, KeyStack, stack_of, AreKeys, Fields, fields_of, history_of, kept_in, stream_of, opens_for, first_open, settled_in, Line}
 use Rattle.yaml_scan_laws_order.proofs.HistoryForward.{goes_forward}
 use Rattle.std.proofs.lemmas.Bool.{true≢false}
 use Rattle.yaml_scan_machine.specs.Candidates.{IsDue, IsFirst}
@@ -31,7 +31,7 @@ fields c = record {
   given = c.args.self.now.given;
   settled = c.args.self.now.settled;
   place = c.args.read.lexeme.reached;
-  depth = c.depth_after-self.result;
+  depth = c.count_bracket.new.depth;
   levels = c.open_level.new.self.levels;
   allowed = c.allows-allowed.result;
   ended = c.is_end-self.result;
@@ -73,7 +73,7 @@ pushed c =
       keys = put_keys f l (stack_of d.keys) (stack_of c.put.new.self) c.count-number.result (goes_forward (text_bytes m.text)) s e (ap (λ (x : Machine). stack_of x.keys) same) number c.in_ok-put.ensures.put;
       dropped = refl;
       place = refl;
-      depth = c.depth_after-self.ensures;
+      depth = c.count_bracket.ensures ∙ ap (λ (n : ℕ). depth_after l.kind n) (ap (λ (x : Machine). x.depth) same ∙ sym c.requires.next.safe.depth);
       levels = levels_is l h wide a.levels b.levels (column_is m l.kind l _ r.key wide key column) left c.in_ok-opens.ensures.levels;
       allowed = c.allows-allowed.ensures ∙ ap (λ (y : Bool). allows_key l.kind (eqb l.depth 0) y || l.broke) c.is_some-found.ensures ∙ allowed_is m l h r.key key;
       ended = c.is_end-self.ensures;
@@ -89,7 +89,7 @@ settle-self-requires-clause-counted c =
     let (e, spoken, key) = ok_read m c.args.read _ c.requires.next.exact in
     let (p, number, count) = pushed (goal.at.settle-self-requires-clause-counted c).After-is_end-self in
     let more = read_pushed (fields_of m) (fields (goal.at.settle-self-requires-clause-counted c).After-is_end-self) l c.requires.stands.shown e p in
-    let Counted : Machine → Type 0 = λ y. IsCounted (record y { waiting = c.push_back_reserved.new.self; keys = c.put.new.self; place = l.reached; depth = c.depth_after-self.result; allowed = c.allows-allowed.result; ended = c.is_end-self.result }) (c.count-number.result + 1) in
+    let Counted : Machine → Type 0 = λ y. IsCounted (record y { waiting = c.push_back_reserved.new.self; keys = c.put.new.self; place = l.reached; depth = c.count_bracket.new.depth; allowed = c.allows-allowed.result; ended = c.is_end-self.result }) (c.count-number.result + 1) in
     subst Counted (sym same) (subst (λ y. AreKeys (stack_of c.put.new.self) y l.reached) (sym more) p.keys, ap reached (sym more), omega (arith, number, ap (λ (y : List Lexeme). length y) more), c.in_ok-put.ensures.first (subst (λ (x : Machine). IsFirst x.keys) (sym same) c.requires.stands.first))
 
 pub put-requires : goal.put-requires
@@ -136,11 +136,11 @@ returns-clause-ok c =
     let Inside : List Waiting → Type 0 = λ ws. AreInside n ws in
     let old : AreInside n d.waiting.items = c.mark_key.ensures.inside n (subst Inside (sym (ap (λ (q : Line). q.items) waits)) i.inside) in
     let deeper = depth_after-le l.kind l.depth in
-    let above : c.depth_after-self.result ≤ l.depth + 1 = rw c.depth_after-self.ensures deeper in
+    let above : c.count_bracket.new.depth ≤ l.depth + 1 = subst (λ (n : ℕ). n ≤ l.depth + 1) (sym p.depth) deeper in
     let low : IsNarrow (n + 1) a.levels = c.close_levels-ends.ensures.narrow (n + 1) i.levels in
     let slots : d.waiting.slots ≡ m.waiting.slots = c.mark_key.ensures.slots ∙ ap (λ (q : Line). q.slots) waits in
     let short = waits_short m l i c.requires.wants c.requires.more e in
-    let pushed_on : Machine → Machine = λ y. record y { waiting = q; keys = z.keys; place = l.reached; depth = c.depth_after-self.result; allowed = c.allows-allowed.result; ended = c.is_end-self.result } in
+    let pushed_on : Machine → Machine = λ y. record y { waiting = q; keys = z.keys; place = l.reached; depth = c.count_bracket.new.depth; allowed = c.allows-allowed.result; ended = c.is_end-self.result } in
     let done : Fields = record x { keys = stack_of z.keys; settled = r } in
     let read = read_pushed f x l i.shown e p in
     let settled : AreKeys (stack_of z.keys) (l ∷ h) l.reached × (r ≡ settled_in (l ∷ h)) = (

@@ -61,6 +61,6 @@ returns-clause-some c =
       due = λ off. sym (required_is (fields_of m) (required_at (stack_of m.keys)) c.requires.stands.shown refl) ∙ c.is_due-spot.ensures off;
       gap = g;
       behind = sym index;
-      allowed = allow_by (fields_of m) g c.pass_gap-allowed.result c.requires.stands.shown c.pass_gap-allowed.ensures.allowed;
+      allowed = allow_by (fields_of m) g c.pass_gap-allowed.result.0 c.requires.stands.shown c.pass_gap-allowed.ensures.allowed;
       next = eq ∙ some_missed (fields_of m) g k (late (open_in at) c.stop-spot.result) c.stop-spot.result c.requires.stands.shown kind spot;
     }

@@ -1,18 +1,17 @@
 //! The events of a document's nodes.
 
-ghost use Rattle.std.specs.Prelude.{◌≡◌, IfOk, IfSome, None, Some, IsUtf8, map};
+ghost use Rattle.std.specs.Prelude.{◌≡◌, IfOk, IfSome, None, Some, IsUtf8, length, map};
 ghost use Rattle.yaml_parse_model.specs.Constructors.{HasUtf8, IsUtf8Option};
-ghost use Rattle.yaml_parse_document.specs.Documents.{seq_tag, map_tag};
+ghost use Rattle.yaml_parse_document.specs.Documents.{seq_tag, map_tag, node_at, IsSoundAt};
 ghost use Rattle.yaml_parse_model.specs.Events.{body_of, text_of, directive_of};
 ghost use Rattle.yaml_parse_model.specs.Nodes.{tag_of};
 ghost use Rattle.yaml_emit_layout.specs.Content.{emitter_event, scalar, alias, sequence_start, mapping_start, is_flow_sequence, is_flow_mapping};
-ghost use Rattle.yaml_emit_graph.specs.Graph.{lead, name_of, anchor_of, graph_scalar, graph_start, opening_event, closing_event, body_of_id, tag_of_id, turn_event, dumped};
+ghost use Rattle.yaml_emit_graph.specs.Graph.{lead, name_of, anchor_of, graph_scalar, graph_start, opening_event, closing_event, body_of_id, tag_of_id, turn_event, is_text, dumped};
+ghost use Rattle.yaml_emit_graph.specs.Texts.{NamesText, IsPlainText};
 ghost use Rattle.yaml_emit_graph.specs.Events.{remaining_events, IsEvents, Says, GivesGraphEvent, IsTextAhead, GivesPlainText};
 
 use crate::numbers::{Walked, number_of, walk_nodes};
 use crate::rooms::{Rooms, put_aside};
-use crate::tags::is_default;
-use crate::text::text_met;
 use crate::walk::Turn;
 use std::alloc::{AllocError, Global};
 use yaml_parse_document::{yaml_document_get_node, yaml_document_t};
@@ -73,10 +72,9 @@ fn anchor_of(alloc: Global, number: u64) -> Result<Option<Vec<u8>>, AllocError>
     ensures utf8 { IfOk result (λ anchor. IsUtf8Option (text_of anchor)) }
 {
     if number == 0 {
-        Ok(None)
-    } else {
-        Ok(Some(name_of(alloc, number)?))
+        return Ok(None);
     }
+    Ok(Some(name_of(alloc, number)?))
 }
 
 fn copies(
@@ -89,6 +87,20 @@ fn copies(
     match copy_directives(alloc, directives) {
         Ok(copies) => Ok(copies),
         Err(_) => Err(AllocError),
+    }
+}
+
+// Whether a tag is that of its kind by default.
+// Inlined: mostly a look at the kind.
+#[inline(always)]
+fn is_default(tag: &yaml_node_tag_t, default: &yaml_node_tag_t) -> bool
+    ensures { result ≡ is_text (tag_of tag.now) (tag_of default.now) }
+{
+    match (tag, default) {
+        (yaml_node_tag_t::Str, yaml_node_tag_t::Str)
+        | (yaml_node_tag_t::Seq, yaml_node_tag_t::Seq)
+        | (yaml_node_tag_t::Map, yaml_node_tag_t::Map) => true,
+        _ => tag.as_slice() == default.as_slice(),
     }
 }
 
@@ -314,6 +326,50 @@ fn put_turn_event(
     }
 }
 
+// The value of the scalar with the default tag under a number.
+// Inlined: a look at the node.
+#[inline(always)]
+fn text_under(document: &yaml_document_t, id: i32) -> Option<&[u8]>
+    ensures text { IfSome result (λ v. NamesText (node_at document.now.nodes id) v.now) }
+    ensures sound { IsSoundAt (length document.now.nodes) (node_at document.now.nodes id) }
+{
+    match yaml_document_get_node(document, id) {
+        None => None,
+        Some(node) => match &node.body {
+            yaml_node_body_t::Scalar { value, .. } if matches!(node.tag, yaml_node_tag_t::Str) =>
+                Some(value.as_slice()),
+            _ => None,
+        },
+    }
+}
+
+// The same, where it has no anchor.
+// Inlined: a look at the node.
+#[inline(always)]
+fn text_at<'a>(numbers: &[u64], document: &'a yaml_document_t, id: i32) -> Option<&'a [u8]>
+    ensures { IfSome result (λ v. IsPlainText (turn_event numbers.now document.now.nodes
+        (Turn.First id))
+        v.now) }
+{
+    match text_under(document, id) {
+        Some(value) if number_of(numbers, id) == 0 => Some(value),
+        _ => None,
+    }
+}
+
+// The value of the text that a turn of the walk meets, if it is one with the default tag and without an anchor.
+// Inlined into its one caller.
+#[inline(always)]
+fn text_met<'a>(numbers: &[u64], document: &'a yaml_document_t, turn: Turn) -> Option<&'a [u8]>
+    ensures { IfSome result (λ v. IsPlainText (turn_event numbers.now document.now.nodes turn)
+        v.now) }
+{
+    match turn {
+        Turn::First(id) => text_at(numbers, document, id),
+        _ => None,
+    }
+}
+
 impl Events {
     // The value of the text whose turn comes next, if it is one with the default tag and without an anchor.
     // Inlined: mostly a look at the node.
@@ -323,10 +379,7 @@ impl Events {
     {
         match self.place {
             DumpPhase::Nodes if self.given < self.turns.len() => {
-                match text_met(&self.numbers, document, self.turns[self.given]) {
-                    None => None,
-                    Some(value) => Some(value),
-                }
+                text_met(&self.numbers, document, self.turns[self.given])
             }
             _ => None,
         }
@@ -340,13 +393,9 @@ impl Events {
         ensures text { IfSome result (λ v. GivesPlainText document.now self.old v.now self.new) }
         ensures none { result ≡ None → self.new ≡ self.old }
     {
-        match self.text_to_come(document) {
-            None => None,
-            Some(value) => {
-                self.given += 1;
-                Some(value)
-            }
-        }
+        let value = self.text_to_come(document)?;
+        self.given += 1;
+        Some(value)
     }
 
     /// Before the document's start.
@@ -370,52 +419,8 @@ impl Events {
         })
     }
 
-    #[tactic(auto, using(crate::proofs::Leaving::start_comes))]
-    fn begin(
-        &mut self,
-        document: &yaml_document_t,
-        event: &mut yaml_event_body_t,
-    ) -> Result<bool, AllocError>
-        requires walk { IsEvents document.now self.old }
-        requires place { self.old.place ≡ DumpPhase.Start }
-        ensures { GivesGraphEvent document.now self.old result (body_of event.new) self.new }
-    {
-        *event = yaml_event_body_t::DocumentStart {
-            version_directive: document.version_directive(),
-            tag_directives: copies(self.alloc, document.tag_directives())?,
-            implicit: document.start_implicit(),
-        };
-        self.place = DumpPhase::Nodes;
-        Ok(true)
-    }
-
-    // The next event of the nodes, or the document's end.
-    #[tactic(auto, using(crate::proofs::Leaving::turn_comes, crate::proofs::Leaving::end_comes))]
-    fn step(
-        &mut self,
-        document: &yaml_document_t,
-        event: &mut yaml_event_body_t,
-    ) -> Result<bool, AllocError>
-        requires walk { IsEvents document.now self.old }
-        requires place { self.old.place ≡ DumpPhase.Nodes }
-        ensures { GivesGraphEvent document.now self.old result (body_of event.new) self.new }
-    {
-        if self.given < self.turns.len() {
-            let turn = self.turns[self.given];
-            self.given += 1;
-            put_turn_event(&self.numbers, &mut self.rooms, document, turn, event)?;
-            Ok(true)
-        } else {
-            self.place = DumpPhase::End;
-            *event = yaml_event_body_t::DocumentEnd {
-                implicit: document.end_implicit(),
-            };
-            Ok(true)
-        }
-    }
-
     /// The next event, in a slot that is lent; none behind the document's end.
-    #[tactic(auto, using(crate::proofs::Leaving::none_comes))]
+    #[tactic(auto, using(crate::proofs::Leaving::start_comes, crate::proofs::Leaving::turn_comes, crate::proofs::Leaving::end_comes, crate::proofs::Leaving::none_comes))]
     pub fn next(
         &mut self,
         document: &yaml_document_t,
@@ -425,8 +430,28 @@ impl Events {
         ensures { GivesGraphEvent document.now self.old result (body_of event.new) self.new }
     {
         match self.place {
-            DumpPhase::Start => self.begin(document, event),
-            DumpPhase::Nodes => self.step(document, event),
+            DumpPhase::Start => {
+                *event = yaml_event_body_t::DocumentStart {
+                    version_directive: document.version_directive(),
+                    tag_directives: copies(self.alloc, document.tag_directives())?,
+                    implicit: document.start_implicit(),
+                };
+                self.place = DumpPhase::Nodes;
+                Ok(true)
+            }
+            DumpPhase::Nodes if self.given < self.turns.len() => {
+                let turn = self.turns[self.given];
+                self.given += 1;
+                put_turn_event(&self.numbers, &mut self.rooms, document, turn, event)?;
+                Ok(true)
+            }
+            DumpPhase::Nodes => {
+                self.place = DumpPhase::End;
+                *event = yaml_event_body_t::DocumentEnd {
+                    implicit: document.end_implicit(),
+                };
+                Ok(true)
+            }
             DumpPhase::End => Ok(false),
         }
     }

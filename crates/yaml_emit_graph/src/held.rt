@@ -1,13 +1,12 @@
 //! The numbers that the nodes of a document hold, for the walk.
 
 ghost use Rattle.std.specs.Prelude.{◌≡◌};
-ghost use Rattle.yaml_parse_model.specs.Nodes.{body_of};
-ghost use Rattle.yaml_emit_graph.specs.Graph.{pair_ids, child_ids};
+ghost use Rattle.yaml_emit_graph.specs.Graph.{pair_ids};
 ghost use Rattle.yaml_emit_graph.specs.Walk.{NextHeld, half_of};
 
 use crate::walk::{Open, Walkable};
 use yaml_parse_document::{yaml_document_get_node, yaml_document_t};
-use yaml_parse_model::{yaml_node_body_t, yaml_node_pair_t, yaml_node_t};
+use yaml_parse_model::{yaml_node_body_t, yaml_node_pair_t};
 
 /// The number at an index, if there are so many.
 pub fn next_held(held: &[i32], index: usize) -> Option<i32>
@@ -39,17 +38,6 @@ fn half_of(pair: yaml_node_pair_t, half: usize) -> i32
     if half == 0 { pair.key } else { pair.value }
 }
 
-// The same of what a node holds.
-fn next_in(body: &yaml_node_body_t, index: usize) -> Option<i32>
-    ensures { NextHeld (child_ids (body_of body.now)) index result }
-{
-    match body {
-        yaml_node_body_t::Sequence { items, .. } => next_held(items, index),
-        yaml_node_body_t::Mapping { pairs, .. } => next_in_pairs(pairs, index),
-        _ => None,
-    }
-}
-
 impl Walkable for yaml_document_t {
     ghost nodes = { λ d. d.nodes };
 
@@ -70,7 +58,11 @@ impl Walkable for yaml_document_t {
     fn next_child(&self, from: Open) -> Option<i32> {
         match yaml_document_get_node(self, from.node) {
             None => None,
-            Some(node) => next_in(&node.body, from.index),
+            Some(node) => match &node.body {
+                yaml_node_body_t::Sequence { items, .. } => next_held(items, from.index),
+                yaml_node_body_t::Mapping { pairs, .. } => next_in_pairs(pairs, from.index),
+                _ => None,
+            },
         }
     }
 }

@@ -5,8 +5,6 @@ mod graph;
 mod held;
 mod numbers;
 mod rooms;
-mod tags;
-mod text;
 mod walk;
 
 pub use graph::Events;

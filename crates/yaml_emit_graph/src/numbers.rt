@@ -1,7 +1,7 @@
 //! What a walk meets, and the numbers of the nodes that it meets again.
 
 ghost use Rattle.std.specs.Prelude.{◌≡◌, ◌<◌, length, IfOk};
-ghost use Rattle.yaml_emit_graph.specs.Graph.{turns, numbers, numbered_by, next_number, again_at, place_at, number_at, none_numbered};
+ghost use Rattle.yaml_emit_graph.specs.Graph.{turns, numbers, numbered_by, next_number, number_at, none_numbered};
 ghost use Rattle.yaml_emit_graph.specs.Numbers.{IsNumbering, numbering_of};
 
 use crate::walk::{Turn, Walk, Walkable, place_of};
@@ -56,17 +56,6 @@ impl Numbers {
         }
     }
 
-    fn meet_again(&mut self, id: i32)
-        requires numbers { IsNumbering (numbering_of self.old) }
-        ensures gives { numbering_of self.new ≡ again_at (place_at id) (numbering_of self.old) }
-        ensures numbers { IsNumbering (numbering_of self.new) }
-    {
-        match place_of(id) {
-            Some(at) if at < self.table.len() => self.number_node(at),
-            _ => (),
-        }
-    }
-
     /// A node that is met again gets the next number, where it has none.
     pub fn number_turn(&mut self, turn: Turn)
         requires numbers { IsNumbering (numbering_of self.old) }
@@ -75,7 +64,10 @@ impl Numbers {
     {
         match turn {
             Turn::First(_) | Turn::Leave(_) => (),
-            Turn::Again(id) => self.meet_again(id),
+            Turn::Again(id) => match place_of(id) {
+                Some(at) if at < self.table.len() => self.number_node(at),
+                _ => (),
+            },
         }
     }
 }

@@ -105,17 +105,11 @@ impl Walk {
         ensures rest { (self.new.met ≡ self.old.met) × (self.new.started ≡ self.old.started) }
     {
         match self.top {
-            None => {
-                self.outer.clear();
-                self.top = Some(next);
-                Ok(())
-            }
-            Some(old) => {
-                self.outer.push(old)?;
-                self.top = Some(next);
-                Ok(())
-            }
+            None => self.outer.clear(),
+            Some(old) => self.outer.push(old)?,
         }
+        self.top = Some(next);
+        Ok(())
     }
 
     // The innermost open node is closed.
@@ -178,36 +172,19 @@ impl Walk {
         }
     }
 
-    #[tactic(auto, using(crate::proofs::Walking::none_comes))]
-    fn go_on<G: Walkable>(&mut self, graph: &G) -> Result<Option<Turn>, AllocError>
-        requires walk { IsWalk (G.nodes graph.now) self.old }
-        requires going { self.old.started ≡ true }
-        ensures { Comes (G.nodes graph.now) self.old result self.new }
-    {
-        match self.top {
-            None => Ok(None),
-            Some(from) => self.step(graph, from),
-        }
-    }
-
-    fn begin<G: Walkable>(&mut self, graph: &G) -> Result<Option<Turn>, AllocError>
-        requires walk { IsWalk (G.nodes graph.now) self.old }
-        requires fresh { self.old.started ≡ false }
-        ensures { Comes (G.nodes graph.now) self.old result self.new }
-    {
-        self.started = true;
-        Ok(Some(self.visit(graph, 1)?))
-    }
-
     /// What comes next, and nothing at the end.
+    #[tactic(auto, using(crate::proofs::Walking::none_comes))]
     pub fn next<G: Walkable>(&mut self, graph: &G) -> Result<Option<Turn>, AllocError>
         requires { IsWalk (G.nodes graph.now) self.old }
         ensures { Comes (G.nodes graph.now) self.old result self.new }
     {
-        if self.started {
-            self.go_on(graph)
-        } else {
-            self.begin(graph)
+        if !self.started {
+            self.started = true;
+            return Ok(Some(self.visit(graph, 1)?));
+        }
+        match self.top {
+            None => Ok(None),
+            Some(from) => self.step(graph, from),
         }
     }
 }

@@ -18,8 +18,8 @@ pub use parts::{DocumentParts, document_is_sound};
 use std::alloc::Global;
 use std::marker::Model;
 use yaml_parse_model::{
-    are_utf8, copy_directives, yaml_mark_t, yaml_node_t, yaml_tag_directive_t, yaml_text_fault_t,
-    yaml_version_directive_t,
+    ZERO_MARK, are_utf8, copy_directives, yaml_mark_t, yaml_node_t, yaml_tag_directive_t,
+    yaml_text_fault_t, yaml_version_directive_t,
 };
 
 /// A document: its directives, and its nodes, which name each other by their numbers. The numbers count from 1, and
@@ -113,13 +113,16 @@ pub fn yaml_document_initialize(
     }
     let tag_directives = copy_directives(alloc, tag_directives)?;
     Ok(yaml_document_t {
-        parts: DocumentParts::new(
-            alloc,
+        parts: DocumentParts {
             version_directive,
             tag_directives,
             start_implicit,
             end_implicit,
-        ),
+            start_mark: ZERO_MARK,
+            end_mark: ZERO_MARK,
+            nodes: Vec::new(alloc),
+            alloc,
+        },
     })
 }
 

@@ -4,7 +4,7 @@ ghost use Rattle.std.specs.Prelude.{◌≡◌, option_map};
 ghost use Rattle.yaml_parse_model.specs.Faults.{fault_of};
 ghost use Rattle.yaml_parse_grammar.specs.Problems.{problem_text_of, context_text_of, context_place, parser_fault};
 
-use yaml_parse_model::{yaml_error_type_t, yaml_fault_t, yaml_mark_t, yaml_origin_t};
+use yaml_parse_model::{ZERO_MARK, yaml_error_type_t, yaml_fault_t, yaml_mark_t, yaml_origin_t};
 
 /// What is wrong, and in what.
 #[derive(Clone, Copy)]
@@ -64,43 +64,25 @@ impl ParseProblem {
         ensures { option_map (λ t. t.now) result ≡ context_text_of self }
     {
         match self {
-            ParseProblem::NoStreamStart => None,
-            ParseProblem::NoDocumentStart => None,
             ParseProblem::NoDash => Some("while parsing a block collection"),
             ParseProblem::NoKey => Some("while parsing a block mapping"),
             ParseProblem::NoSequenceEnd => Some("while parsing a flow sequence"),
             ParseProblem::NoMappingEnd => Some("while parsing a flow mapping"),
             ParseProblem::NoBlockNode => Some("while parsing a block node"),
             ParseProblem::NoFlowNode => Some("while parsing a flow node"),
-            ParseProblem::DuplicateVersion => None,
-            ParseProblem::IncompatibleVersion => None,
-            ParseProblem::DuplicateHandle => None,
             ParseProblem::UndefinedHandle => Some("while parsing a node"),
+            _ => None,
         }
     }
 
     /// Where the context is told to begin: zero where there is none.
-    #[tactic(auto, unfolding(crate::specs::Problems::context_place))]
+    #[tactic(auto, unfolding(crate::specs::Problems::context_place, crate::specs::Problems::context_text_of))]
     pub fn place(self, context_mark: yaml_mark_t) -> yaml_mark_t
         ensures { result ≡ context_place self context_mark }
     {
-        match self {
-            ParseProblem::NoDash
-            | ParseProblem::NoKey
-            | ParseProblem::NoSequenceEnd
-            | ParseProblem::NoMappingEnd
-            | ParseProblem::NoBlockNode
-            | ParseProblem::NoFlowNode
-            | ParseProblem::UndefinedHandle => context_mark,
-            ParseProblem::NoStreamStart
-            | ParseProblem::NoDocumentStart
-            | ParseProblem::DuplicateVersion
-            | ParseProblem::IncompatibleVersion
-            | ParseProblem::DuplicateHandle => yaml_mark_t {
-                index: 0,
-                line: 0,
-                column: 0,
-            },
+        match self.context() {
+            Some(_) => context_mark,
+            None => ZERO_MARK,
         }
     }
 }

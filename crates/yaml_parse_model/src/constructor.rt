@@ -90,15 +90,14 @@ pub fn yaml_scalar_event_initialize(
     ensures { Constructs (event.scalar (option_map (λ t. t.now) anchor.entry)
         (option_map (λ t. t.now) tag.entry) value.now plain_implicit quoted_implicit style) result }
 {
-    if !is_utf8_option(anchor) || !is_utf8_option(tag) || !is_utf8(value) {
+    if !is_utf8(value) {
         return Err(yaml_text_fault_t::NotUtf8);
     }
-    let anchor = copy_text_option(alloc, anchor)?;
-    let tag = copy_text_option(alloc, tag)?;
+    let named = node_texts(alloc, anchor, tag)?;
     let value = copy_text(alloc, value)?;
     Ok(yaml_event_t::unplaced(yaml_event_body_t::Scalar {
-        anchor,
-        tag,
+        anchor: named.anchor,
+        tag: named.tag,
         value,
         plain_implicit,
         quoted_implicit,
@@ -141,16 +140,13 @@ pub fn yaml_sequence_start_event_initialize(
     ensures { Constructs (event.sequence_start (option_map (λ t. t.now) anchor.entry)
         (option_map (λ t. t.now) tag.entry) implicit style) result }
 {
-    let copied = node_texts(alloc, anchor, tag);
-    match copied {
-        Ok(Texts { anchor, tag }) => Ok(yaml_event_t::unplaced(yaml_event_body_t::SequenceStart {
-            anchor,
-            tag,
-            implicit,
-            style,
-        })),
-        Err(fault) => Err(fault),
-    }
+    let copied = node_texts(alloc, anchor, tag)?;
+    Ok(yaml_event_t::unplaced(yaml_event_body_t::SequenceStart {
+        anchor: copied.anchor,
+        tag: copied.tag,
+        implicit,
+        style,
+    }))
 }
 
 /// A SEQUENCE-END event.
@@ -171,16 +167,13 @@ pub fn yaml_mapping_start_event_initialize(
     ensures { Constructs (event.mapping_start (option_map (λ t. t.now) anchor.entry)
         (option_map (λ t. t.now) tag.entry) implicit style) result }
 {
-    let texts = node_texts(alloc, anchor, tag);
-    match texts {
-        Ok(Texts { anchor, tag }) => Ok(yaml_event_t::unplaced(yaml_event_body_t::MappingStart {
-            anchor,
-            tag,
-            implicit,
-            style,
-        })),
-        Err(fault) => Err(fault),
-    }
+    let texts = node_texts(alloc, anchor, tag)?;
+    Ok(yaml_event_t::unplaced(yaml_event_body_t::MappingStart {
+        anchor: texts.anchor,
+        tag: texts.tag,
+        implicit,
+        style,
+    }))
 }
 
 /// A MAPPING-END event.

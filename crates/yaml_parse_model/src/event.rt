@@ -8,6 +8,13 @@ use yaml_scan_model::{
     yaml_sequence_style_t, yaml_tag_directive_t, yaml_version_directive_t,
 };
 
+/// The mark of what stands in no text.
+pub const ZERO_MARK: yaml_mark_t = yaml_mark_t {
+    index: 0,
+    line: 0,
+    column: 0,
+};
+
 /// What an event is, and what it carries. Texts are bytes with a length, a byte 0 like any other; those of a parser
 /// are UTF-8.
 #[derive(Drop)]
@@ -91,15 +98,10 @@ impl yaml_event_t {
     pub fn unplaced(body: yaml_event_body_t) -> yaml_event_t
         ensures { event_of result ≡ unplaced (body_of body) }
     {
-        let zero = yaml_mark_t {
-            index: 0,
-            line: 0,
-            column: 0,
-        };
         yaml_event_t {
             body,
-            start_mark: zero,
-            end_mark: zero,
+            start_mark: ZERO_MARK,
+            end_mark: ZERO_MARK,
         }
     }
 }

@@ -17,7 +17,7 @@ pub use constructor::{
     yaml_sequence_end_event_initialize, yaml_sequence_start_event_initialize,
     yaml_stream_end_event_initialize, yaml_stream_start_event_initialize,
 };
-pub use event::{yaml_event_body_t, yaml_event_delete, yaml_event_t};
+pub use event::{ZERO_MARK, yaml_event_body_t, yaml_event_delete, yaml_event_t};
 pub use node::{
     yaml_alias_data_t, yaml_node_body_t, yaml_node_item_t, yaml_node_pair_t, yaml_node_t,
     yaml_node_tag_t,

@@ -3,6 +3,7 @@
 ghost use Rattle.std.specs.Prelude.{◌≡◌};
 ghost use Rattle.yaml_parse_model.specs.Prefix.{IsPrefixOf, IsQuiet};
 
+use crate::event::ZERO_MARK;
 use yaml_scan_model::{yaml_error_type_t, yaml_fault_t, yaml_mark_t, yaml_origin_t};
 
 /// The fault that a parser has answered, field by field; before one the kind is `YAML_NO_ERROR`.
@@ -23,19 +24,14 @@ impl yaml_parser_t_prefix {
     pub fn quiet() -> yaml_parser_t_prefix
         ensures { IsQuiet result }
     {
-        let zero = yaml_mark_t {
-            index: 0,
-            line: 0,
-            column: 0,
-        };
         yaml_parser_t_prefix {
             kind: yaml_error_type_t::YAML_NO_ERROR,
             problem: "",
             offset: 0,
             value: 0,
-            problem_mark: zero,
+            problem_mark: ZERO_MARK,
             context: None,
-            context_mark: zero,
+            context_mark: ZERO_MARK,
             origin: yaml_origin_t::Parser,
         }
     }

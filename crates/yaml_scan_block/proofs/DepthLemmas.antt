@@ -1,5 +1,5 @@
 -- The column of a block scalar's text, a line at a time.
-use Rattle.std.proofs.Common.{◌≡◌, ◌≢◌, ℕ, zero, suc, ◌+◌, ◌-◌, ◌<◌, ◌≤◌, ◌==◌, false, List, length, Result, Ok, Err, refl, sym, ap, arith, rules}
+use Rattle.std.proofs.Common.{◌≡◌, ◌≢◌, ℕ, zero, suc, ◌+◌, ◌-◌, ◌<◌, ◌≤◌, ◌==◌, false, List, length, Result, Ok, Err, refl, ap, arith, rules}
 use Rattle.yaml_scan_block.proofs.Words.{nat_tests, eq-eqb, ne_eqb, lt-ltb, byte, break_width, column_at, past_spaces, is_space_there, Wrong, past_break, past-le, in_block, larger, larger_of, deepest, column_of}
 use Rattle.yaml_scan_model.specs.declared.problem.Problem.TheVariants as problems
 
@@ -8,8 +8,7 @@ unfolding larger
 larger_zero b = grind (arith, nat_tests)
 
 pub larger_start : (r : Result ℕ Wrong) → r ≡ larger_of 0 r
-larger_start (Ok b) = ap (λ x. Ok x) (sym (larger_zero b))
-larger_start (Err w) = refl
+larger_start r = grind (arith, larger_zero)
 
 larger_more : (a b : ℕ) (r : Result ℕ Wrong)
     → larger_of a (larger_of b r) ≡ larger_of (larger a b) r

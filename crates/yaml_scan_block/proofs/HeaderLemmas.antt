@@ -23,8 +23,7 @@ second_parts b c d e n i h k = between c d e (unfold indicators is_chomping is_d
 
 at_either : (text : List ℕ) (b : Bool) (p q : ℕ)
     → (if b then byte text p else byte text q) ≡ byte text (if b then p else q)
-at_either text true p q = refl
-at_either text false p q = refl
+at_either text b p q = grind arith
 
 pub digit_there : (text : List ℕ) (p : ℕ)
     → (if is_chomping (byte text p) then byte text (p + 1) else byte text p)

@@ -41,8 +41,7 @@ tab_there text p e = record { line = p; led = at_once p; tab = e; told = refl }
 
 alone : (text : List ℕ) (p q : ℕ) → break_width text (past_spaces text p) ≡ 0 → LeadsTo text p q
     → q ≡ p
-alone text p q z (at_once x) = refl
-alone text p q z (behind_blank x y w l) = absurd (omega (arith, w, z))
+alone text p q z h = grind arith
 
 one_line : (text : List ℕ) (p : ℕ) → byte text (past_spaces text p) ≢ 9
     → break_width text (past_spaces text p) ≡ 0 → Deepest text p (Ok (indent_at text p))
@@ -56,8 +55,7 @@ chosen a b = grind (arith, nat_tests)
 each_line : (P : ℕ → Type 0) (text : List ℕ) (p : ℕ) → P p
     → ((q : ℕ) → LeadsTo text (past_spaces text p + break_width text (past_spaces text p)) q → P q)
     → (q : ℕ) → LeadsTo text p q → P q
-each_line P text p a more q (at_once x) = a
-each_line P text p a more q (behind_blank x y w l) = more y l
+each_line h text p a more q g = grind arith
 
 behind : (text : List ℕ) (p : ℕ) → byte text (past_spaces text p) ≢ 9
     → 0 < break_width text (past_spaces text p) → (r : Result ℕ Wrong)
@@ -125,10 +123,7 @@ same_line text p q r (behind_blank x y w l) (at_once z) e f = let none = no_brea
 same_line text p q r (behind_blank x y w l) (behind_blank z u v m) e f = same_line text _ y u l m e f
 
 both : (text : List ℕ) (p : ℕ) (r s : Result ℕ Wrong) → Deepest text p r → Deepest text p s → r ≡ s
-both text p (Ok c) (Ok d) a b = search rules
-both text p (Ok c) (Err w) a b = absurd (a.no_tab b.line b.led b.tab)
-both text p (Err w) (Ok c) a b = absurd (b.no_tab a.line a.led a.tab)
-both text p (Err w) (Err x) a b = ap (λ (z : Wrong). Err z) (a.told ∙ ap (λ (q : ℕ). in_block problems.TabForSpace (past_spaces text q)) (same_line text p a.line b.line a.led b.led a.tab b.tab) ∙ sym b.told)
+both text p r s a b = grind (arith, Wrong, in_block, past_spaces, same_line)
 
 pub deepest_is_one : DeepestIsOne
 deepest_is_one text p r h = both text p r (deepest (suc (length text)) text p) h (deepest_is text p)

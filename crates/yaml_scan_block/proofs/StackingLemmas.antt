@@ -1,6 +1,6 @@
 -- Block scalars' values, a line at a time.
-use Rattle.std.proofs.Common.{◌≡◌, ℕ, Bool, true, false, not, ◌&&◌, List, [], ◌∷◌, ◌++◌, length, ◌<◌, refl, inl, inr, ◌∙◌, append_assoc, append-nil, arith}
-use Rattle.yaml_scan_block.proofs.Words.{cases_Bool, BlockLine, Empty, Words, TextLine, texts_of, between, behind_text, value_with, at_end, starts_blank, space_or, stacked_with, Chomp}
+use Rattle.std.proofs.Common.{◌≡◌, ℕ, Bool, true, false, not, ◌&&◌, List, [], ◌∷◌, ◌++◌, length, ◌<◌, refl, append_assoc, append-nil, arith}
+use Rattle.yaml_scan_block.proofs.Words.{BlockLine, Empty, Words, TextLine, texts_of, between, behind_text, value_with, at_end, starts_blank, space_or, stacked_with, Chomp}
 
 -- An empty line is put behind those before it.
 pub stack_empty : (folded : Bool) (done : List ℕ) (any blank : Bool) (feed empties b : List ℕ)
@@ -8,8 +8,7 @@ pub stack_empty : (folded : Bool) (done : List ℕ) (any blank : Bool) (feed emp
     → stacked_with folded done any blank feed (empties ++ b) chomp (texts_of ls)
     ≡ stacked_with folded done any blank feed empties chomp (texts_of (Empty b ∷ ls))
 unfolding stacked_with
-stack_empty folded done true blank feed empties b chomp ls = rw (append_assoc empties b (texts_of ls).lead) refl
-stack_empty folded done false blank feed empties b chomp ls = rw (append_assoc empties b (texts_of ls).lead) refl
+stack_empty folded done any blank feed empties b chomp ls = grind (arith, append_assoc, texts_of)
 
 pub stack_line : (folded : Bool) (done : List ℕ) (blank : Bool)
     (feed empties words next : List ℕ) (chomp : Chomp) (ls : List BlockLine)
@@ -17,16 +16,13 @@ pub stack_line : (folded : Bool) (done : List ℕ) (blank : Bool)
     ++ words) true (starts_blank words) next [] chomp (texts_of ls)
     ≡ stacked_with folded done true blank feed empties chomp (texts_of (Words words next ∷ ls))
 unfolding stacked_with
-stack_line folded done blank feed empties words next chomp ls =
-    rw (append-nil empties) (append_assoc _ words _ ∙ append_assoc done _ _)
+stack_line folded done blank feed empties words next chomp ls = grind (arith, append-nil, append_assoc)
 
 -- With no text in front, nothing but the empty lines stands before the first one.
 pub stack_start : (folded : Bool) (chomp : Chomp) (lead : List ℕ) (lines : List TextLine)
     → behind_text folded chomp false [] lead lines ≡ value_with folded chomp lead lines
 unfolding between
-stack_start folded chomp lead [] = refl
-stack_start false chomp lead (l ∷ ls) = refl
-stack_start true chomp lead (l ∷ ls) = elim (cases_Bool (starts_blank l.words)) [ inl e ↦ rw e refl | inr e ↦ rw e refl ]
+stack_start folded chomp lead lines = grind arith
 
 -- Behind the last line stands what stays of its break and of the empty lines.
 pub stack_done : (folded blank : Bool) (done feed empties : List ℕ) (chomp : Chomp)
@@ -37,5 +33,4 @@ stack_done folded blank done feed empties chomp = rw (append-nil empties) refl
 
 -- A fold with breaks is these, and no space.
 pub space_or_some : (xs : List ℕ) → (0 < length xs) → [] ++ xs ≡ space_or xs
-space_or_some [] h = absurd (omega arith)
-space_or_some (x ∷ xs) h = refl
+space_or_some xs h = grind arith

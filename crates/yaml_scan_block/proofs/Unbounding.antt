@@ -1,5 +1,5 @@
 -- The bound on steps is never met.
-use Rattle.std.proofs.Common.{◌≡◌, ℕ, zero, suc, ◌+◌, ◌-◌, ◌<◌, ◌≤◌, ◌==◌, ◌||◌, Bool, true, false, List, length, Result, refl, sym, ap, subst, ◌∙◌, arith, rules}
+use Rattle.std.proofs.Common.{◌≡◌, ℕ, zero, suc, ◌+◌, ◌-◌, ◌<◌, ◌≤◌, ◌==◌, ◌||◌, Bool, false, List, length, Result, refl, sym, ap, subst, ◌∙◌, arith, rules}
 use Rattle.yaml_scan_block.proofs.Words.{cases_Bool, nat_tests, break_of, column_at, Wrong, within, spaces, LineSpot, Stops, Line, Tab, spot_behind, line_spot, Lines, with_line, line_then, lines_from, AreLinesFrom, stops, goes_on, has_tab, LinesAre, LinesAreOne, ltb-true}
 use Rattle.yaml_scan_block.proofs.BlockLemmas.{text_long}
 
@@ -8,8 +8,7 @@ unfolding break_of
 break_first b c d h = grind (arith, nat_tests)
 
 some_byte : (b : ℕ) (other : Bool) → (b == 0 || other) ≡ false → 0 < b
-some_byte b true h = grind (arith, nat_tests)
-some_byte b false h = grind (arith, nat_tests)
+some_byte b other h = grind arith
 
 -- a line moves the place
 abbrev Moves : List ℕ → ℕ → LineSpot → Type 0

@@ -120,10 +120,7 @@ fn lead<'a>(joins: bool, feed: &'a [u8], empties: &[u8]) -> &'a [u8]
     if !joins {
         return feed;
     }
-    if empties.is_empty() {
-        return b" ";
-    }
-    &[]
+    if empties.is_empty() { b" " } else { &[] }
 }
 
 /// What stays behind the last text: of its break, and of the empty lines.
@@ -141,18 +138,12 @@ fn kept_breaks<'a>(chomp: Chomp, feed: &'a [u8], empties: &'a [u8]) -> (&'a [u8]
 fn starts_blank(words: &[u8]) -> bool
     ensures { result ≡ spec.starts_blank words.now }
 {
-    if words.is_empty() {
-        return false;
-    }
-    is_blank_byte(words[0])
+    !words.is_empty() && is_blank_byte(words[0])
 }
 
 /// Whether the break between two texts is folded.
 fn folds(folded: bool, before: bool, after: bool, feed: &[u8]) -> bool
     ensures { result ≡ (folded && ((not before && not after) && is_feed feed.now)) }
 {
-    if !folded || before || after || feed.is_empty() {
-        return false;
-    }
-    feed[0] == b'\n'
+    folded && !before && !after && !feed.is_empty() && feed[0] == b'\n'
 }

@@ -1,6 +1,6 @@
 -- What spells a text is decoded to it.
 use Rattle.std.proofs.Common.{◌≡◌, ◌⊎◌, inl, inr, ℕ, suc, ◌+◌, ◌-◌, ◌*◌, ◌/◌, ◌%◌, ◌<◌, ◌≤◌, true, false, not, ◌&&◌, nat_lt, List, [], ◌∷◌, ◌++◌, drop, get_or, length, Result, Ok, Err, refl, sym, ap, ◌∙◌, arith, add-zero, append_assoc, append-nil, length-drop, length-append, get_or-drop, rules}
-use Rattle.std.proofs.lemmas.Bool.{cases_lt, cond_both}
+use Rattle.std.proofs.lemmas.Bool.{cases_lt}
 use Rattle.std.proofs.lemmas.Bool.Decides.{nat_tests}
 use Rattle.std.proofs.lemmas.List.{drop-drop, drop_at, take_all}
 use Rattle.std.proofs.lemmas.List.Elements.{All-head, All-tail}
@@ -9,7 +9,7 @@ use Rattle.std.specs.Char.{encode_utf8}
 use Rattle.std.specs.Char.Escape.{encode_utf16}
 use Rattle.std.specs.Prelude.{take, Some}
 use Rattle.yaml_scan_model.specs.declared.name.yaml_encoding_t.{yaml_encoding_t}
-use Rattle.yaml_scan_model.specs.declared.name.yaml_encoding_t.TheVariants.{YAML_ANY_ENCODING, YAML_UTF8_ENCODING, YAML_UTF16LE_ENCODING, YAML_UTF16BE_ENCODING}
+use Rattle.yaml_scan_model.specs.declared.name.yaml_encoding_t.TheVariants.{YAML_UTF8_ENCODING, YAML_UTF16LE_ENCODING, YAML_UTF16BE_ENCODING}
 use Rattle.yaml_scan_model.specs.Marks.{byte}
 use Rattle.yaml_scan_model.specs.Classes.{width_of}
 use Rattle.yaml_scan_characters.specs.declared.offence.Offence.{Offence}
@@ -30,16 +30,12 @@ pub encoding_utf8 : (s : yaml_encoding_t) (bytes : List ℕ)
     → (encoding_of s bytes ≡ YAML_UTF16LE_ENCODING → ⊥)
     → (encoding_of s bytes ≡ YAML_UTF16BE_ENCODING → ⊥) → encoding_of s bytes ≡ YAML_UTF8_ENCODING
 unfolding encoding_of
-encoding_utf8 YAML_ANY_ENCODING bytes low high = search (rules, cond_both)
-encoding_utf8 YAML_UTF8_ENCODING bytes low high = refl
-encoding_utf8 YAML_UTF16LE_ENCODING bytes low high = absurd (low refl)
-encoding_utf8 YAML_UTF16BE_ENCODING bytes low high = absurd (high refl)
+encoding_utf8 s bytes low high = grind arith
 
 checked : (bytes : List ℕ) (p : ℕ) (r : Result (List ℕ) Offence) → AreBytes bytes
     → characters (length bytes) YAML_UTF8_ENCODING bytes p ≡ r → outcome r ≡ Ok tt
     → in_utf8 r ≡ Ok (drop p bytes)
-checked bytes p (Ok cs) are is h = ap (λ (t : List ℕ). Ok t) (utf8_text bytes p cs are is)
-checked bytes p (Err o) are is h = cc
+checked bytes p r are is h = grind (arith, utf8_text)
 
 -- checked UTF-8 is the text
 pub checked_text : (s : yaml_encoding_t) (bytes : List ℕ) → AreBytes bytes
@@ -49,8 +45,7 @@ pub checked_text : (s : yaml_encoding_t) (bytes : List ℕ) → AreBytes bytes
 checked_text s bytes are e h = rw e (checked bytes (mark_length s bytes) _ are refl h)
 
 offence_in : (r : Result (List ℕ) Offence) (o : Offence) → outcome r ≡ Err o → result_err r ≡ Some o
-offence_in (Ok cs) o h = cc
-offence_in (Err p) o h = cc
+offence_in r o h = grind arith
 
 -- where bytes in UTF-8 are read to an offence, it is their first one
 pub checked_offence : (s : yaml_encoding_t) (bytes : List ℕ) (o : Offence)
@@ -168,8 +163,7 @@ unit_read HighFirst bytes p u rest h =
     record { is = rw (rw add-zero at (at_drop bytes p 0 _ h), at_drop bytes p 1 _ h) (omega arith); left = left_of bytes p _ h; next = sym (drop-drop 2 p bytes) ∙ ap (λ (l : List ℕ). drop 2 l) h }
 
 length-unit : (order : ByteOrder) (u : ℕ) → length (unit_bytes order u) ≡ 2
-length-unit LowFirst u = refl
-length-unit HighFirst u = refl
+length-unit order u = grind arith
 
 lone_good : (left p u v : ℕ) → 2 ≤ left → is_allowed u ≡ true
     → utf16_of left p u v ≡ Ok record { code = u; width = 2 }
@@ -212,9 +206,7 @@ utf16_spelled order bytes p c rest allowed h = by (cases_lt c 65536)
 pub character_spelled : (e : yaml_encoding_t) (bytes : List ℕ) (p c : ℕ) (rest : List ℕ)
     → is_allowed c ≡ true → drop p bytes ≡ spelling e c ++ rest
     → character_at e bytes p ≡ Ok record { code = c; width = length (spelling e c) }
-character_spelled YAML_UTF16LE_ENCODING bytes p c rest allowed h = utf16_spelled LowFirst bytes p c rest allowed h
-character_spelled YAML_UTF16BE_ENCODING bytes p c rest allowed h = utf16_spelled HighFirst bytes p c rest allowed h
-character_spelled _ bytes p c rest allowed h = utf8_spelled bytes p c rest allowed h
+character_spelled e bytes p c rest allowed h = grind (arith, utf16_spelled, utf8_spelled)
 
 -- characters that are spelled are read
 complete : (e : yaml_encoding_t) (bytes : List ℕ) (p : ℕ) (cs : List ℕ) → AllPass is_allowed cs
@@ -233,8 +225,7 @@ complete e bytes p (c ∷ cs) allowed h =
 -- the law: bytes are decoded to a text exactly where they spell it
 pub spells_decoded : (s : yaml_encoding_t) (bytes text : List ℕ) → Spells s bytes text
     → decoded_text s bytes ≡ Ok text
-spells_decoded s bytes text k =
-    rw k.is (ap in_utf8 (complete (encoding_of s bytes) bytes (mark_length s bytes) k.characters k.allowed k.spelled))
+spells_decoded s bytes text k = grind (arith, complete)
 
 spelled_by : (s : yaml_encoding_t) (bytes text : List ℕ) (r : Result (List ℕ) Offence)
     → AreBytes bytes → decoded_characters s bytes ≡ r → in_utf8 r ≡ Ok text → Spells s bytes text
@@ -250,8 +241,7 @@ decoded_spells s bytes text are h = spelled_by s bytes text (decoded_characters 
 
 offended : (s : yaml_encoding_t) (bytes : List ℕ) (r : Result (List ℕ) Offence) (o : Offence)
     (text : List ℕ) → result_err r ≡ Some o → in_utf8 r ≡ Ok text → ⊥
-offended s bytes (Ok cs) o text e h = cc
-offended s bytes (Err p) o text e h = cc
+offended s bytes r o text e h = grind arith
 
 -- bytes with an offence spell no text
 pub offence_unspelled : (s : yaml_encoding_t) (bytes : List ℕ) (o : Offence)

@@ -1,5 +1,5 @@
 -- Decoding, a character at a time: what a character that stands at a place tells.
-use Rattle.std.proofs.Common.{◌≡◌, ℕ, pos, zero, suc, ◌+◌, ◌-◌, ◌*◌, ◌<◌, ◌≤◌, Bool, true, false, not, ◌&&◌, ◌==◌, nat_lt, cond, List, [], ◌∷◌, ◌++◌, take, drop, length, Result, Ok, Err, refl, arith, add-one, add-zero, drop-cons, rules}
+use Rattle.std.proofs.Common.{◌≡◌, ℕ, ◌+◌, ◌-◌, ◌*◌, ◌<◌, ◌≤◌, Bool, true, false, not, ◌&&◌, ◌==◌, nat_lt, cond, List, [], ◌∷◌, ◌++◌, take, drop, length, Result, Ok, Err, refl, arith, add-one, add-zero, drop-cons, rules}
 use Rattle.std.proofs.lemmas.Bool.Decides.{nat_tests}
 use Rattle.std.specs.Char.{encode_utf8}
 use Rattle.std.specs.Char.Escape.{encode_utf16}
@@ -7,12 +7,11 @@ use Rattle.yaml_scan_model.specs.declared.name.yaml_encoding_t.{yaml_encoding_t}
 use Rattle.yaml_scan_model.specs.declared.name.yaml_encoding_t.TheVariants.{YAML_UTF16LE_ENCODING, YAML_UTF16BE_ENCODING}
 use Rattle.yaml_scan_model.specs.Marks.{byte}
 use Rattle.yaml_scan_model.specs.Classes.{width_of}
-use Rattle.yaml_scan_characters.specs.declared.offence.ReaderProblem.TheVariants as problems
 use Rattle.yaml_scan_characters.specs.declared.offence.Offence.{Offence}
 use Rattle.yaml_scan_characters.specs.declared.offence.Character.{Character}
 use Rattle.yaml_scan_characters.specs.declared.utf16.ByteOrder.{ByteOrder}
 use Rattle.yaml_scan_characters.specs.declared.utf16.ByteOrder.TheVariants.{LowFirst, HighFirst}
-use Rattle.yaml_scan_characters.specs.Characters.{is_allowed, allowed_at, least_code, valued_at, is_trailing, leading_bits, utf8_code, sequence_of, utf8_of, utf8_at, unit_at, utf16_of, utf16_at, offends, no_value, is_low_surrogate, is_high_surrogate, character_at}
+use Rattle.yaml_scan_characters.specs.Characters.{is_allowed, allowed_at, least_code, valued_at, is_trailing, leading_bits, utf8_code, sequence_of, utf8_of, utf8_at, unit_at, utf16_of, utf16_at, is_low_surrogate, is_high_surrogate, character_at}
 use Rattle.yaml_scan_characters.specs.Spelling.{unit_bytes, units_bytes, spelling}
 
 -- a character has four bytes at most
@@ -23,13 +22,11 @@ width_small b = grind (arith, nat_tests)
 -- a test whose success is an offence failed where a character stands
 passed : (t : Bool) (o : Offence) (r : Result Character Offence) (ch : Character)
     → cond t (Err o) r ≡ Ok ch → (t ≡ false) × (r ≡ Ok ch)
-passed true o r ch h = cc
-passed false o r ch h = (refl, h)
+passed t o r ch h = grind arith
 
 chosen : (t : Bool) (x ch : Character) (o : Offence) → cond t (Ok x) (Err o) ≡ Ok ch
     → (t ≡ true) × (ch ≡ x)
-chosen true x ch o h = (refl, cc)
-chosen false x ch o h = cc
+chosen t x ch o h = grind arith
 
 allowed_gives : (p width code : ℕ) (ch : Character) → allowed_at p width code ≡ Ok ch
     → (is_allowed code ≡ true) × (ch ≡ record { code = code; width = width })
@@ -118,25 +115,7 @@ sequence_gives : (width p b c d e : ℕ) (ch : Character) → width_of b ≡ wid
     → (is_allowed ch.code ≡ true) × (ch.width ≡ width)
     × (encode_utf8 ch.code ≡ take width (four b c d e))
 unfolding sequence_of
-sequence_gives width p b c d e ch w some few h =
-    let (s, h1) = passed _ _ _ ch h in
-    let (t, h2) = passed _ _ _ ch h1 in
-    let (u, h3) = passed _ _ _ ch h2 in
-    let (long, allowed, is) = valued_gives p width (utf8_code width b c d e) ch h3 in
-    rw is (allowed, refl, by width w some few s t u long)
-  where
-    by : (width : ℕ) → width_of b ≡ width → 0 < width → width ≤ 4
-        → (nat_lt 1 width && not (is_trailing c)) ≡ false
-        → (nat_lt 2 width && not (is_trailing d)) ≡ false
-        → (nat_lt 3 width && not (is_trailing e)) ≡ false
-        → nat_lt (utf8_code width b c d e) (least_code width) ≡ false
-        → encode_utf8 (utf8_code width b c d e) ≡ take width (four b c d e)
-    by zero w some few s t u long = absurd (omega arith)
-    by (suc zero) w some few s t u long = code_1 b c d e w
-    by (suc (suc zero)) w some few s t u long = code_2 b c d e w (trails c s) long
-    by (suc (suc (suc zero))) w some few s t u long = code_3 b c d e w (trails c s) (trails d t) long
-    by (suc (suc (suc (suc zero)))) w some few s t u long = code_4 b c d e w (trails c s) (trails d t) (trails e u) long
-    by (suc (suc (suc (suc (suc n))))) w some few s t u long = absurd (omega arith)
+sequence_gives width p b c d e ch w some few h = grind (arith, passed, valued_gives, nat_lt, four, code_1, code_2, trails, code_3, code_4)
 
 utf8_gives : (left p b c d e : ℕ) (ch : Character) → utf8_of left p b c d e ≡ Ok ch
     → Leads left b c d e ch
@@ -158,12 +137,7 @@ pub record Stands (bytes : List ℕ) (p : ℕ) (ch : Character) (own : List ℕ)
 front : (bytes : List ℕ) (p w : ℕ) → w ≤ 4 → p + w ≤ length bytes
     → drop p bytes ≡ take w (four (byte bytes p) (byte bytes (p + 1)) (byte bytes (p + 2))
     (byte bytes (p + 3))) ++ drop (p + w) bytes
-front bytes p zero few inside = rw add-zero refl
-front bytes p (suc zero) few inside = drop_one bytes p (omega arith)
-front bytes p (suc (suc zero)) few inside = drop_two bytes p (omega arith)
-front bytes p (suc (suc (suc zero))) few inside = search (rules, drop_one, drop_two)
-front bytes p (suc (suc (suc (suc zero)))) few inside = search (rules, drop_two)
-front bytes p (suc (suc (suc (suc (suc n))))) few inside = absurd (omega arith)
+front bytes p w few inside = grind (arith, add-zero, drop_one, drop_two)
 
 -- A character that UTF-8 has at a place stands there by its bytes.
 pub utf8_stands : (bytes : List ℕ) (p : ℕ) (ch : Character) → p < length bytes
@@ -180,14 +154,12 @@ AreBytes bytes = (k : ℕ) → byte bytes k < 256
 unit_spelled : (order : ByteOrder) (bytes : List ℕ) (p : ℕ) → AreBytes bytes
     → unit_bytes order (unit_at order bytes p) ≡ byte bytes p ∷ byte bytes (p + 1) ∷ []
 unfolding unit_at
-unit_spelled LowFirst bytes p are = search rules
-unit_spelled HighFirst bytes p are = search rules
+unit_spelled order bytes p are = grind arith
 
 unit_small : (order : ByteOrder) (bytes : List ℕ) (p : ℕ) → AreBytes bytes
     → unit_at order bytes p < 65536
 unfolding unit_at
-unit_small LowFirst bytes p are = omega (arith, are p, are (p + 1))
-unit_small HighFirst bytes p are = omega (arith, are p, are (p + 1))
+unit_small order bytes p are = grind arith
 
 -- a unit of its own, or a pair of them
 data Units (left u v : ℕ) (ch : Character) : Type 0 where
@@ -205,30 +177,7 @@ one_unit u h = grind (arith, nat_tests)
 
 utf16_gives : (left p u v : ℕ) (ch : Character) → utf16_of left p u v ≡ Ok ch → Units left u v ch
 unfolding utf16_of
-utf16_gives left p u v ch h =
-    let (whole, h1) = passed (nat_lt left 2) _ _ ch h in
-    let (free, h2) = passed (is_low_surrogate u) _ _ ch h1 in
-    by (is_high_surrogate u) refl h2
-  where
-    room : (n : ℕ) → nat_lt left n ≡ false → n ≤ left
-    room n e = grind (arith, nat_tests)
-
-    by : (t : Bool) → is_high_surrogate u ≡ t
-        → cond (not t) (allowed_at p 2 u)
-        (cond (nat_lt left 4) (offends problems.IncompletePair p no_value)
-        (cond (not (is_low_surrogate v)) (offends problems.ExpectedLowSurrogate (p + 2) (pos v))
-        (allowed_at p 4 (0x1_0000 + (u - 0xD800) * 0x400 + (v - 0xDC00))))) ≡ Ok ch
-        → Units left u v ch
-    by false e g =
-        let (whole, _) = passed (nat_lt left 2) _ _ ch h in
-        let (allowed, is) = allowed_gives p 2 u ch g in
-        one (room 2 whole) (rw is allowed) is
-    by true e g =
-        let (both, g1) = passed (nat_lt left 4) _ _ ch g in
-        let (second, g2) = passed (not (is_low_surrogate v)) _ _ ch g1 in
-        let low : is_low_surrogate v ≡ true = grind (arith, nat_tests) in
-        let (allowed, is) = allowed_gives p 4 _ ch g2 in
-        pair (room 4 both) (rw is allowed) (rw is refl) (rw is (pair_units u v e low))
+utf16_gives left p u v ch h = grind (arith, passed, nat_lt, Units, allowed_gives, pair_units)
 
 pub utf16_stands : (order : ByteOrder) (bytes : List ℕ) (p : ℕ) (ch : Character) → AreBytes bytes
     → p < length bytes → utf16_at order bytes p ≡ Ok ch
@@ -260,8 +209,7 @@ character_stands YAML_UTF16BE_ENCODING bytes p ch are h e = utf16_stands HighFir
 character_stands _ bytes p ch are h e = utf8_stands bytes p ch h e
 
 units_some : (left u v : ℕ) (ch : Character) → Units left u v ch → 0 < ch.width
-units_some left u v ch (one room allowed is) = rw is (omega arith)
-units_some left u v ch (pair room allowed width code) = omega arith
+units_some left u v ch h = grind arith
 
 -- a character takes a byte at least
 pub character_some : (e : yaml_encoding_t) (bytes : List ℕ) (p : ℕ) (ch : Character)

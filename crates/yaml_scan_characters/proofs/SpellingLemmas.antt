@@ -1,12 +1,12 @@
 -- Decoding, over all characters.
-use Rattle.std.proofs.Common.{◌≡◌, ℕ, zero, suc, ◌+◌, ◌-◌, ◌<◌, ◌≤◌, true, nat_lt, if◌then◌else◌, List, [], ◌∷◌, ◌++◌, drop, length, Result, Ok, Err, refl, sym, ap, ◌∙◌, arith, append_assoc, append-nil, add-zero, rules}
+use Rattle.std.proofs.Common.{◌≡◌, ℕ, zero, suc, ◌+◌, ◌<◌, ◌≤◌, true, nat_lt, if◌then◌else◌, List, [], ◌∷◌, ◌++◌, drop, length, Result, Ok, Err, refl, sym, ap, ◌∙◌, arith, append_assoc, append-nil, add-zero, rules}
 use Rattle.std.proofs.lemmas.Bool.Decides.{nat_tests}
 use Rattle.std.proofs.Math.ListN.{drop_of_length-le}
 use Rattle.std.proofs.lemmas.List.Elements.{All-nil, All-cons}
 use Rattle.std.specs.List.{AllPass}
 use Rattle.std.specs.Char.{IsScalar}
 use Rattle.std.specs.Prelude.{encode_utf8, encode_utf8_all}
-use Rattle.std.proofs.lemmas.Bool.{cond_both, ltb-true, ltb-false, lt-ltb, le-ltb}
+use Rattle.std.proofs.lemmas.Bool.{cond_both, ltb-true, ltb-false, lt-ltb}
 use Rattle.yaml_scan_model.specs.declared.name.yaml_encoding_t.{yaml_encoding_t}
 use Rattle.yaml_scan_model.specs.declared.name.yaml_encoding_t.TheVariants.{YAML_UTF8_ENCODING}
 use Rattle.yaml_scan_model.specs.Marks.{byte}
@@ -14,7 +14,6 @@ use Rattle.yaml_scan_model.specs.Classes.{width_of}
 use Rattle.yaml_scan_characters.specs.declared.offence.Offence.{Offence}
 use Rattle.yaml_scan_characters.specs.declared.offence.Character.{Character}
 use Rattle.yaml_scan_characters.specs.declared.utf16.ByteOrder.{ByteOrder}
-use Rattle.yaml_scan_characters.specs.declared.utf16.ByteOrder.TheVariants.{LowFirst, HighFirst}
 use Rattle.yaml_scan_characters.specs.Characters.{is_allowed, allowed_at, valued_at, least_code, sequence_of, utf8_code, leading_bits, utf8_of, utf8_at, utf16_at, encoding_by, character_at}
 use Rattle.yaml_scan_characters.specs.Steps.{is_plain}
 use Rattle.yaml_scan_characters.specs.Decoding.{before, led_by, characters, in_utf8}
@@ -29,15 +28,13 @@ allowed_scalar c h = grind (arith, nat_tests)
 
 pub character_by : (order : ByteOrder) (bytes : List ℕ) (p : ℕ)
     → character_at (encoding_by order) bytes p ≡ utf16_at order bytes p
-character_by LowFirst bytes p = refl
-character_by HighFirst bytes p = refl
+character_by order bytes p = grind arith
 
 -- past the end nothing stands
 pub ended : (n : ℕ) (e : yaml_encoding_t) (bytes : List ℕ) (p : ℕ) → length bytes ≤ p
     → characters n e bytes p ≡ Ok []
 unfolding characters
-ended zero e bytes p h = refl
-ended (suc n) e bytes p h = rw (le-ltb p (length bytes) h) refl
+ended n e bytes p h = grind arith
 
 -- the characters from the place on, or the first offence
 abbrev pub characters_on : yaml_encoding_t → List ℕ → ℕ → Result (List ℕ) Offence
@@ -46,8 +43,7 @@ characters_on e bytes p = characters (length bytes) e bytes p
 led_same : (f g : ℕ → Result (List ℕ) Offence) (p : ℕ) (r : Result Character Offence)
     → ((ch : Character) → r ≡ Ok ch → f (p + ch.width) ≡ g (p + ch.width))
     → led_by f p r ≡ led_by g p r
-led_same f g p (Ok ch) h = ap (before ch.code) (h ch refl)
-led_same f g p (Err o) h = refl
+led_same f g p r h = grind arith
 
 -- no more characters are asked for than bytes are left
 enough : (n : ℕ) (e : yaml_encoding_t) (bytes : List ℕ) (p : ℕ) → length bytes ≤ p + n
@@ -77,24 +73,17 @@ refused e bytes p o inside h = rw h at (here e bytes p inside)
 pub plain_stands : (bytes : List ℕ) (p : ℕ) → p < length bytes → is_plain (byte bytes p) ≡ true
     → utf8_at bytes p ≡ Ok record { code = byte bytes p; width = 1 }
 unfolding is_plain utf8_of width_of sequence_of utf8_code leading_bits valued_at least_code allowed_at is_allowed
-plain_stands bytes p inside h = by (byte bytes p) (byte bytes (p + 1)) (byte bytes (p + 2)) (byte bytes (p + 3)) (length bytes - p) (omega arith) h
-  where
-    by : (b c d e left : ℕ) → 0 < left → is_plain b ≡ true
-        → utf8_of left p b c d e ≡ Ok record { code = b; width = 1 }
-    by b c d e left some plain = grind (arith, nat_tests)
+plain_stands bytes p inside h = grind (arith, nat_tests)
 
 outcome-before : (c : ℕ) (r : Result (List ℕ) Offence) → outcome (before c r) ≡ outcome r
-outcome-before c (Ok cs) = refl
-outcome-before c (Err o) = refl
+outcome-before c r = grind arith
 
 in_utf8-before : (xs : List ℕ) (c : ℕ) (r : Result (List ℕ) Offence)
     → behind xs (in_utf8 (before c r)) ≡ behind (xs ++ encode_utf8 c) (in_utf8 r)
-in_utf8-before xs c (Ok cs) = ap (λ (text : List ℕ). Ok text) (sym (append_assoc xs (encode_utf8 c) (encode_utf8_all cs)))
-in_utf8-before xs c (Err o) = refl
+in_utf8-before xs c r = grind (arith, append_assoc)
 
 behind-nothing : (r : Result (List ℕ) Offence) → behind [] r ≡ r
-behind-nothing (Ok cs) = refl
-behind-nothing (Err o) = refl
+behind-nothing r = grind arith
 
 -- the characters from p on are checked up to q
 pub checks_more : (bytes : List ℕ) (p q : ℕ) (ch : Character)
@@ -145,8 +134,7 @@ writes_refused e bytes p q text o front inside h = front ∙ ap (λ r. behind te
 -- ---- the characters that are read are spelled by the bytes
 before_gives : (c : ℕ) (r : Result (List ℕ) Offence) (cs : List ℕ) → before c r ≡ Ok cs
     → (ds : List ℕ) × (r ≡ Ok ds) × (cs ≡ c ∷ ds)
-before_gives c (Ok ds) cs h = (ds, refl, cc)
-before_gives c (Err o) cs h = cc
+before_gives c r cs h = grind arith
 
 abbrev Sound : yaml_encoding_t → List ℕ → ℕ → List ℕ → Type 0
 Sound e bytes p cs = AllPass is_allowed cs × (drop p bytes ≡ spellings e cs)
@@ -156,8 +144,7 @@ SoundWith n e bytes = (p : ℕ) (cs : List ℕ) → length bytes ≤ p + n → c
 
 nothing : (e : yaml_encoding_t) (bytes : List ℕ) (p : ℕ) (cs : List ℕ) → length bytes ≤ p
     → ◌≡◌ {A = Result (List ℕ) Offence} (Ok []) (Ok cs) → Sound e bytes p cs
-nothing e bytes p [] past h = (All-nil _, drop_of_length-le bytes past)
-nothing e bytes p (c ∷ cs) past h = cc
+nothing e bytes p cs past h = grind (arith, All-nil, drop_of_length-le)
 
 led : (n : ℕ) (e : yaml_encoding_t) (bytes : List ℕ) (p : ℕ) (cs : List ℕ)
     (r : Result Character Offence) → AreBytes bytes → SoundWith n e bytes → length bytes ≤ p + suc n

@@ -2,7 +2,6 @@
 use Rattle.std.specs.Prelude.{ℕ, ◌≡◌, pos, ◌+◌, ◌-◌, ◌<◌, Bool, not, ◌&&◌, nat_lt, if◌then◌else◌, List, ◌++◌, length, Result, Ok, Err, Vec}
 use Rattle.std.specs.Global.{Global}
 use Rattle.yaml_scan_model.specs.declared.name.yaml_encoding_t.TheVariants.{YAML_UTF8_ENCODING}
-use Rattle.yaml_scan_model.specs.Marks.{byte}
 use Rattle.yaml_scan_characters.specs.declared.offence.ReaderProblem.TheVariants as problems
 use Rattle.yaml_scan_characters.specs.declared.offence.Offence.{Offence}
 use Rattle.yaml_scan_characters.specs.declared.utf16.DecodeError.{DecodeError}

@@ -71,8 +71,7 @@ leaps text p q forward room whole low high =
     record { inside = omega arith; line = sym (rw count at b.line); column = sym (rw (count, columns) at b.column); whole = rw count at b.whole }
 
 passed_parts : (wide : Bool) (b : ℕ) → passes wide b ≡ true → (31 < b) × (b ≢ 0xC2) × (b ≢ 0xE2)
-passed_parts false b h = (grind (arith, nat_tests), grind (arith, nat_tests), grind (arith, nat_tests))
-passed_parts true b h = (grind (arith, nat_tests), grind (arith, nat_tests), grind (arith, nat_tests))
+passed_parts wide b h = grind arith
 
 passed_of : (wide : Bool) (b c d : ℕ) → passes wide b ≡ true
     → not (b == 0 || nat_lt 0 (break_of b c d)) ≡ true

@@ -16,8 +16,7 @@ past_more kind n text p h = rw h refl
 pub past_stop : (kind : List ℕ → ℕ → Bool) (n : ℕ) (text : List ℕ) (p : ℕ) → kind text p ≡ false
     → past kind n text p ≡ p
 unfolding past
-past_stop kind zero text p h = refl
-past_stop kind (suc n) text p h = rw h refl
+past_stop kind n text p h = grind arith
 
 -- a run that began at a goes on at p
 pub record InRun (kind : List ℕ → ℕ → Bool) (text : List ℕ) (a p : ℕ) : Type 0 where

@@ -1,5 +1,5 @@
 -- Bytes of a text that are copied.
-use Rattle.std.proofs.Common.{◌≡◌, ℕ, ◌+◌, ◌-◌, ◌≤◌, List, length, take, rules}
+use Rattle.std.proofs.Common.{◌≡◌, ℕ, ◌+◌, ◌≤◌, List, length, take, rules}
 use Rattle.std.proofs.lemmas.List.{take-take}
 use Rattle.yaml_types.specs.Ends.{bytes_at}
 use Rattle.yaml_types.proofs.Ends.{bytes_are}

@@ -1,8 +1,7 @@
 //! A text, read from the front.
 
 ghost use Rattle.std.specs.Prelude.{◌≡◌, ◌+◌, ◌<◌, ◌≤◌, ◌||◌, ◌==◌, ℕ, length, false, slice_range};
-ghost use Rattle.yaml_scan_model.specs.Marks.{Place, byte, break_width, ends_break, mark_at, starts as starts_of, is_blank, is_blank_or_end};
-ghost use Rattle.yaml_scan_model.specs.Marks.{splits_break};
+ghost use Rattle.yaml_scan_model.specs.Marks.{Place, byte, break_width, ends_break, mark_at, starts as starts_of, splits_break, is_blank, is_blank_or_end};
 ghost use Rattle.yaml_scan_model.specs.Breaks.{feed_at, is_document_indicator};
 
 use crate::record::yaml_mark_t;
@@ -22,13 +21,6 @@ pub fn is_blank(byte: u8) -> bool
     ensures { result ≡ is_blank byte }
 {
     byte == b' ' || byte == b'\t'
-}
-
-/// Whether the byte ends LS or PS.
-fn is_separator(byte: u8) -> bool
-    ensures { result ≡ (byte == 168 || byte == 169) }
-{
-    byte == 0xA8 || byte == 0xA9
 }
 
 /// A place in a text, which only goes forward; all counting of lines and columns is here.
@@ -161,7 +153,7 @@ impl<'a> Reader<'a> {
             b'\r' => { if self.byte(ahead + 1) == b'\n' { 2 } else { 1 } }
             0xC2 => { if self.byte(ahead + 1) == 0x85 { 2 } else { 0 } }
             0xE2 => {
-                if self.byte(ahead + 1) == 0x80 && is_separator(self.byte(ahead + 2)) {
+                if self.byte(ahead + 1) == 0x80 && matches!(self.byte(ahead + 2), 0xA8 | 0xA9) {
                     3
                 } else {
                     0

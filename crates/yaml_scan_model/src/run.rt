@@ -1,8 +1,8 @@
 //! Runs of bytes of one kind.
 
-ghost use Rattle.std.specs.Prelude.{◌≡◌, ◌≤◌, ◌<◌, ◌+◌, if◌then◌else◌, ℕ, true, false, length};
+ghost use Rattle.std.specs.Prelude.{◌≡◌, ◌≤◌, ◌<◌, ◌+◌, ℕ, true, false, length};
 ghost use Rattle.yaml_scan_model.specs.Ascii as ascii;
-ghost use Rattle.yaml_scan_model.specs.Marks.{byte, starts as starts_of};
+ghost use Rattle.yaml_scan_model.specs.Marks.{byte};
 ghost use Rattle.yaml_scan_model.specs.Runs as spec;
 
 use crate::reader::{Reader, is_blank, starts};
@@ -195,18 +195,8 @@ fn columns_in_row(text: &[u8], at: usize) -> u8
     let mut columns: u8 = 0;
     let mut count = 0;
     'bytes: while count < ROW {
-        columns += as_column(text[at + count]);
+        columns += starts(text[at + count]) as u8;
         count += 1;
     }
     columns
-}
-
-/// One, where a character begins with the byte, or none.
-// Inlined into the loop over bytes.
-#[inline(always)]
-fn as_column(byte: u8) -> u8
-    ensures value { result ≡ (if starts_of byte then 1 else 0) }
-    ensures small { result ≤ 1 }
-{
-    if starts(byte) { 1 } else { 0 }
 }

@@ -4,7 +4,7 @@ ghost use Rattle.std.specs.Prelude.{◌≡◌, ◌+◌, ◌≤◌, [], IfOk, len
 ghost use Rattle.yaml_scan_model.specs.Spares.{HoldsAt};
 
 use crate::keeping::Spares;
-use std::alloc::{AllocError, Global};
+use std::alloc::AllocError;
 use yaml_types::{SHORT, put_short, put_sixteen};
 
 /// The least room that is made: what the smallest block of common allocators holds.
@@ -133,21 +133,11 @@ pub fn room(spares: &mut Spares, count: usize) -> Result<Vec<u8>, AllocError>
 {
     let alloc = *spares.allocator();
     match spares.take() {
-        Some(text) => cleared(alloc, text, count),
-        None => Vec::with_capacity(alloc, count.max(LEAST_ROOM)),
+        Some(text) if text.capacity() >= count => {
+            let mut text = text;
+            text.clear();
+            Ok(text)
+        }
+        _ => Vec::with_capacity(alloc, count.max(LEAST_ROOM)),
     }
-}
-
-/// A text without its bytes, where it has room for so many, or else another one.
-// Inlined into its one caller.
-#[inline(always)]
-fn cleared(alloc: Global, text: Vec<u8>, count: usize) -> Result<Vec<u8>, AllocError>
-    ensures { IfOk result (λ v. v.items ≡ []) }
-{
-    if text.capacity() < count {
-        return Vec::with_capacity(alloc, count.max(LEAST_ROOM));
-    }
-    let mut text = text;
-    text.clear();
-    Ok(text)
 }

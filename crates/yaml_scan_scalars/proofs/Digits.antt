@@ -9,9 +9,7 @@ with_digit high low = option_and_then (λ h. option_map (λ l. h * 16 + l) low) 
 
 parts : (high low : Option ℕ) (v : ℕ) → with_digit high low ≡ Some v
     → (h : ℕ) × (l : ℕ) × (high ≡ Some h) × (low ≡ Some l) × (v ≡ h * 16 + l)
-parts (Some h) (Some l) v e = (h, l, refl, refl, cc)
-parts (Some h) None v e = absurd {0} cc
-parts None low v e = absurd {0} cc
+parts high low v e = grind arith
 
 moved : (d x w l : ℕ) → (d * x + w) * 16 + l ≡ d * (x * 16) + (w * 16 + l)
 moved d x w l = rw (← mul_assoc d x 16) (omega arith)
@@ -81,19 +79,13 @@ digits_stand_there text p (suc n) v e =
         → d * 16 ^ n + w ≡ d * 16 ^ length ds + number_of ds
     whole d w n ds a b = rw (a, ← b) refl
 
-missing : (high low : Option ℕ) → with_digit high low ≡ None → (h : ℕ) → high ≡ Some h → low ≡ None
-missing (Some h) (Some l) e x is = absurd {0} cc
-missing (Some h) None e x is = refl
-missing None low e x is = absurd {0} cc
-
 abbrev Missing : List ℕ → ℕ → ℕ → Type 0
 Missing text p n = (k : ℕ) × (k < n) × (hex_digit (byte text (p + k)) ≡ None)
 
 one_missing : (text : List ℕ) (p n : ℕ) (high : Option ℕ)
     → with_digit high (hex_digit (byte text (p + n))) ≡ None → (high ≡ None → Missing text p n)
     → Missing text p (suc n)
-one_missing text p n (Some h) e before = (n, omega arith, missing (Some h) (hex_digit (byte text (p + n))) e h refl)
-one_missing text p n None e before = let (k, small, none) = before refl in (k, omega (arith, small), none)
+one_missing text p n high e before = grind arith
 
 pub one_is_no_digit : OneIsNoDigit
 unfolding hex_value

@@ -35,8 +35,7 @@ trim_end-blanks (b ∷ bs) = rw (blanks_empty bs) refl
 
 folded-kept : (bs k : List ℕ) (l : Line) (ls : List (List ℕ × Line))
     → folded (blanks_of bs ++ Kept k ∷ l) ls ≡ bs ++ (k ++ folded l ls)
-folded-kept bs k l [] = text-blanks bs (Kept k ∷ l)
-folded-kept bs k l (next ∷ ls) = simp (trim_end-kept, text-blanks, append_assoc)
+folded-kept bs k l ls = grind (arith, text-blanks, Kept, trim_end-kept, append_assoc)
 
 -- Blanks and a run of text in front of pieces are their bytes.
 pub value-kept : (bs k : List ℕ) (ps : List Piece)
@@ -60,8 +59,7 @@ behind-blank first b ps = rw (rest_of-blank b (lines ps).first (lines ps).others
 behind_kept : (first k : List ℕ) (l : Line) (ls : List (List ℕ × Line))
     → gap first (rest_of (Kept k ∷ l) ls).breaks ++ (rest_of (Kept k ∷ l) ls).value ≡ gap first []
     ++ (k ++ folded l ls)
-behind_kept first k l [] = refl
-behind_kept first k l (next ∷ ls) = simp append_assoc
+behind_kept first k l ls = grind (arith, append_assoc)
 
 pub behind-kept : (first k : List ℕ) (ps : List Piece)
     → behind first (Kept k ∷ ps) ≡ gap first [] ++ (k ++ value ps)
@@ -69,12 +67,10 @@ behind-kept first k ps = behind_kept first k (lines ps).first (lines ps).others
 
 pub gap-feed : (first others : List ℕ) → is_feed first ≡ true
     → gap first others ≡ gap (10 ∷ []) others
-gap-feed first [] h = rw h refl
-gap-feed first (x ∷ xs) h = rw h refl
+gap-feed first others h = grind arith
 
 pub gap-other : (first others : List ℕ) → is_feed first ≡ false → gap first others ≡ first ++ others
-gap-other first [] h = rw (h, append-nil) refl
-gap-other first (x ∷ xs) h = rw h refl
+gap-other first others h = grind (arith, append-nil)
 
 pub gap-more : (b others : List ℕ) → 0 < length b → gap (10 ∷ []) (b ++ others) ≡ b ++ others
 gap-more [] others h = absurd (omega arith)
@@ -122,14 +118,12 @@ blank_kept done blanks b ps = ap (λ x. done ++ x) (sym (behind-blank [] b ps))
 pub keep_line : (done blanks k : List ℕ) (ps : List Piece)
     → resumed ((done ++ blanks) ++ k) [] gaps.Line ps ≡ resumed done blanks gaps.Line (Kept k ∷ ps)
 unfolding resumed
-keep_line done blanks k ps =
-    append_assoc (done ++ blanks) k (value ps) ∙ append_assoc done blanks (k ++ value ps) ∙ ap (λ x. done ++ x) (sym (value-kept blanks k ps))
+keep_line done blanks k ps = grind (arith, append_assoc, value, value-kept)
 
 pub keep_feed : (done blanks k : List ℕ) (ps : List Piece)
     → resumed ((done ++ 32 ∷ []) ++ k) [] gaps.Line ps ≡ resumed done blanks gaps.Feed (Kept k ∷ ps)
 unfolding resumed
-keep_feed done blanks k ps =
-    append_assoc (done ++ 32 ∷ []) k (value ps) ∙ append_assoc done (32 ∷ []) (k ++ value ps) ∙ ap (λ x. done ++ x) (sym (behind-kept (10 ∷ []) k ps))
+keep_feed done blanks k ps = grind (arith, append_assoc, value, behind-kept)
 
 pub keep_kept : (done blanks k : List ℕ) (ps : List Piece)
     → resumed (done ++ k) [] gaps.Line ps ≡ resumed done blanks gaps.Kept (Kept k ∷ ps)
@@ -150,9 +144,7 @@ pub break_more : (done blanks b : List ℕ) (g : Gap) (ps : List Piece) → 0 < 
     → (g ≡ gaps.Line → is_feed b ≡ false)
     → resumed (done ++ b) [] gaps.Kept ps ≡ resumed done blanks g (Break b ∷ ps)
 unfolding resumed
-break_more done blanks b gaps.Line ps h k = break_other done blanks b ps (k refl)
-break_more done blanks b gaps.Feed ps h k = append_assoc done b (behind [] ps) ∙ ap (λ x. done ++ x) (sym (behind-more b ps h))
-break_more done blanks b gaps.Kept ps h k = append_assoc done b (behind [] ps) ∙ ap (λ x. done ++ x) (sym (behind-again b ps))
+break_more done blanks b g ps h k = grind (arith, break_other, append_assoc, behind, behind-more, behind-again)
 
 pub join_line : (done : List ℕ) (ps : List Piece)
     → resumed done [] gaps.Kept ps ≡ resumed done [] gaps.Line (Break [] ∷ ps)
@@ -162,9 +154,7 @@ join_line done ps = ap (λ x. done ++ x) (sym (value-break [] [] ps))
 pub end : (done blanks : List ℕ) (g : Gap)
     → resumed done blanks g (Kept [] ∷ []) ≡ resumed done blanks g []
 unfolding resumed
-end done blanks gaps.Line = ap (λ x. done ++ x) (value-kept blanks [] [] ∙ sym (text-blanks blanks []) ∙ rw (lines-blanks blanks []) refl)
-end done blanks gaps.Feed = refl
-end done blanks gaps.Kept = refl
+end done blanks g = grind (arith, value-kept, text-blanks, lines-blanks)
 
 pub end_line : (done : List ℕ) → resumed done [] gaps.Line [] ≡ done
 unfolding resumed

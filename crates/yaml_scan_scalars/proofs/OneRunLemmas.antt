@@ -1,20 +1,19 @@
 -- Scalars of one run.
 use Rattle.std.proofs.Common.{◌≡◌, ℕ, zero, suc, ◌+◌, ◌-◌, ◌<◌, ◌==◌, ◌&&◌, ◌||◌, not, Bool, true, false, List, [], ◌++◌, length, Result, Ok, refl, sym, ap, subst, ◌∙◌, ◌⊎◌, inl, inr, arith, rules}
 use Rattle.yaml_scan_scalars.proofs.Words.{append-nil, cases_Bool, eqb-true, lt-ltb, nat_tests, yaml_mark_t, ScanError, Wrong, ReadsPlain, Place, byte, mark_at, column_at, break_of, break_width, is_blank, is_blank_or_end, past, past_spaces, is_space_there, is_document_indicator, Piece, value, bytes_at, run_pieces, ends_kept, IsRun, plain_kind, quoted_kind, quote_at, quoted_at, valued, Ends, Words, PlainText, is_bracket, with_run, plain_text, plain_at, spot_at, ends_at, leads}
-use Rattle.yaml_scan_scalars.specs.declared.scalar.PlainScalar.{PlainScalar}
+use Rattle.yaml_scan_scalars.specs.declared.plain.PlainScalar.{PlainScalar}
 use Rattle.yaml_scan_model.proofs.RunsLemmas.{past_more, past_stop}
 use Rattle.yaml_scan_scalars.proofs.PlainLemmas.{spot_ends, spot_blank, spot_break, lead_break, leads-blank, words_on, words_here}
 use Rattle.yaml_scan_scalars.proofs.PlainRunLemmas.{with_run_is, first_words}
 use Rattle.yaml_scan_scalars.proofs.QuotedLemmas.{standing_quote, quote_some, pieces_on, pieces_here, quoted_whole}
-use Rattle.yaml_scan_scalars.proofs.RunLemmas.{IsCalm, calm_between, calm_no_break, calm_no_blank, space_here, pieces_run, value_run, run_ends, ends_bytes, first_last, no_mark, quoted_run}
+use Rattle.yaml_scan_scalars.proofs.RunLemmas.{IsCalm, calm_between, calm_no_break, calm_no_blank, space_here, pieces_run, value_run, run_ends, ends_bytes, first_last, quoted_run}
 
 -- a quote that closes
 
 quote_no_mark : (quote : ℕ) (text : List ℕ) (p : ℕ) → byte text p ≡ quote
     → (quote ≡ 34) ⊎ (quote ≡ 39) → is_document_indicator text p ≡ false
 unfolding is_document_indicator
-quote_no_mark quote text p e (inl q) = no_mark (byte text p) _ _ _ _ (omega arith) (omega arith)
-quote_no_mark quote text p e (inr q) = no_mark (byte text p) _ _ _ _ (omega arith) (omega arith)
+quote_no_mark quote text p e h = grind arith
 
 pieces_close : (quote : ℕ) (text : List ℕ) (p : ℕ) → byte text p ≡ quote
     → (quote ≡ 34) ⊎ (quote ≡ 39) → (quote == 39 && byte text (p + 1) == 39) ≡ false
@@ -79,8 +78,7 @@ pub plain_one : (flow : Bool) (level : ℕ) (text : List ℕ) (p : ℕ) (place :
       broke =
           false;
     })
-plain_one flow level text p place inside calm first run ends =
-    plain_then flow level text p place.at place.at false place inside calm first run (words_end flow level text place.at ends)
+plain_one flow level text p place inside calm first run ends = search (rules, plain_then, words_end)
 
 pub colon_ends : (flow : Bool) (level : ℕ) (text : List ℕ) (p : ℕ) → byte text p ≡ 58
     → is_blank_or_end text (p + 1) ≡ true → spot_at flow level text p ≡ Ends

@@ -3,12 +3,10 @@ use Rattle.std.proofs.Common.{◌≡◌, ℕ, zero, suc, ◌+◌, ◌-◌, ◌<�
 use Rattle.yaml_scan_scalars.proofs.Words.{cases_Bool, cases_lt, cond_both, ltb-true, lt-ltb, nat_tests, take_all, Piece, Kept, Blank, Break, resume, Place, byte, mark_at, break_width, ends_break, is_blank, column_at, yaml_mark_t, Folding, Joining, ScanError, feed_at, Wrong, IsMemory, PlainSpot, Ends, Takes, Faulty, Words, is_bracket, with_piece, words_from, follows, words, starts_plain, plain_at, plain_text, plain_with, PlainText, spot_at, ends_at, leads, after_white, is_nothing, joined, IsJoining, Steps, ReadsPlain, within, past_break, end_not_blank, last_of}
 use Rattle.std.proofs.Math.Bool.{or-false, or-true}
 use Rattle.yaml_scan_scalars.specs.declared.folding.Gap.TheVariants as gaps
-use Rattle.yaml_scan_model.specs.declared.problem.ScanError.TheVariants as errors
 use Rattle.yaml_scan_scalars.proofs.FoldingLemmas.{end_line}
 
 nothing_is : (ps : List Piece) → is_nothing ps ≡ true → ps ≡ []
-nothing_is [] e = refl
-nothing_is (x ∷ xs) e = cc
+nothing_is ps e = grind arith
 
 pub blank_parts : (old : Joining) (f : Folding) (b q : ℕ) (w : Words)
     → old.kept ≤ length old.folding.done.items
@@ -41,8 +39,7 @@ keep_parts old new bytes w h g b l none = search (rules, cases_Bool, end_line, n
 pub seated : (text : List ℕ) (q : ℕ) (j : Joining) → j.kept ≤ length j.folding.done.items
     → (j.end ≡ mark_at text q) × (j.broke ≡ false) × (j.white ≡ false) → j.folding.gap ≡ gaps.Line
     → (false ≡ leads text q) × (false ≡ after_white text q) → IsJoining text q j
-seated text q j kept seat line calm =
-    record { kept = kept; end = rw seat.0 refl; broke = seat.1 ∙ calm.0; white = seat.2 ∙ calm.1; line = λ e. line }
+seated text q j kept seat line calm = grind arith
 
 -- white before a place
 
@@ -147,9 +144,7 @@ spot_moves flow level text p =
 
 follows_same : (f g : ℕ → Result Words Wrong) (p : ℕ) (s : PlainSpot)
     → ((x : Piece) (q : ℕ) → s ≡ Takes x q → f q ≡ g q) → follows f p s ≡ follows g p s
-follows_same f g p Ends h = refl
-follows_same f g p (Takes x q) h = rw (h x q refl) refl
-follows_same f g p (Faulty w) h = refl
+follows_same f g p s h = grind arith
 
 words_enough : (n : ℕ) (flow : Bool) (level : ℕ) (text : List ℕ) (p : ℕ) → length text ≤ p + n
     → words (suc n) flow level text p ≡ words (suc (suc n)) flow level text p
@@ -180,9 +175,7 @@ plain_whole flow level text p h =
 
 only_memory : (text : List ℕ) (a : ℕ) (place : Place) (e : ScanError) (r : Result PlainText Wrong)
     → IsMemory e → ReadsPlain text a place (Err e) r
-only_memory text a place errors.Memory (Ok x) h = tt
-only_memory text a place errors.Memory (Err w) h = tt
-only_memory text a place (errors.Fault f) r h = absurd h
+only_memory text a place e r h = grind arith
 
 pub turn_refused : (flow : Bool) (level : ℕ) (text : List ℕ) (a p : ℕ) (old new : Joining)
     (place : Place) (e : ScanError) (s : PlainSpot) → spot_at flow level text p ≡ s
@@ -204,9 +197,7 @@ pub turn_done : (flow : Bool) (level : ℕ) (text : List ℕ) (start : yaml_mark
       broke = old.broke;
     })
 unfolding joined
-turn_done flow level text start p old new place (Takes x q) is h = absurd h
-turn_done flow level text start p old new place (Faulty w) is h = absurd h
-turn_done flow level text start p old new place Ends is (e, f) = (e, f, rw (words_here flow level text p, is, or-false old.broke) refl)
+turn_done flow level text start p old new place s is h = grind (arith, words_here, or-false)
 
 -- what a step that goes on leaves
 pub record GoesOn (flow : Bool) (level : ℕ) (text : List ℕ) (p : ℕ) (old new : Joining) (place : Place) : Type 0 where
@@ -219,15 +210,12 @@ pub record GoesOn (flow : Bool) (level : ℕ) (text : List ℕ) (p : ℕ) (old n
 front : (old new : Joining) (x : Piece) (q : ℕ) (r : Result Words Wrong)
     → ((w : Words) → joined new w ≡ joined old (with_piece x q w))
     → plain_with (joined old) (words_from x q r) ≡ plain_with (joined new) r
-front old new x q (Ok w) h = rw (h w) refl
-front old new x q (Err e) h = refl
+front old new x q r h = grind arith
 
 pub turn_more : (flow : Bool) (level : ℕ) (text : List ℕ) (start : yaml_mark_t) (p : ℕ)
     (old new : Joining) (place : Place) (s : PlainSpot) → spot_at flow level text p ≡ s
     → Steps text start p old new place (Ok true) s → GoesOn flow level text p old new place
-turn_more flow level text start p old new place Ends is h = absurd h
-turn_more flow level text start p old new place (Faulty w) is h = absurd h
-turn_more flow level text start p old new place (Takes x q) is (e, f, seat, l, i) = search (rules, front, words_here)
+turn_more flow level text start p old new place s is h = grind (arith, front, words_here)
 
 -- what a plain scalar starts with
 

@@ -71,15 +71,13 @@ record IsText (flow : Bool) (b : ℕ) : Type 0 where
 
 text_is : (flow : Bool) (b : ℕ) → is_ordinary (plain_kind flow) b ≡ true → IsText flow b
 unfolding is_common is_narrow is_odd is_bracket
-text_is true b h = record { no_hash = grind (arith, nat_tests); no_colon = grind (arith, nat_tests); no_part = grind (arith, nat_tests) }
-text_is false b h = record { no_hash = grind (arith, nat_tests); no_colon = grind (arith, nat_tests); no_part = refl }
+text_is flow b h = search rules
 
 ends_none : (flow : Bool) (level : ℕ) (text : List ℕ) (p : ℕ) → (byte text p == 0) ≡ false
     → is_document_indicator text p ≡ false → IsText flow (byte text p) → leads text p ≡ false
     → ends_at flow level text p ≡ false
 unfolding ends_at
-ends_none true level text p z m o l = rw (z, m, o.no_hash, o.no_colon) o.no_part
-ends_none false level text p z m o l = rw (z, m, o.no_hash, o.no_colon, l) refl
+ends_none flow level text p z m o l = grind arith
 
 no_colon_here : (flow : Bool) (b : ℕ) (next : Bool) → (b == 58) ≡ false
     → (flow && (b == 58 && next)) ≡ false
@@ -88,8 +86,7 @@ no_colon_here flow b next h = rw h (and-false flow)
 spot_calm : (flow : Bool) (level : ℕ) (text : List ℕ) (p : ℕ) → IsCalm (byte text p)
     → is_document_indicator text p ≡ false → IsText flow (byte text p) → leads text p ≡ false
     → spot_at flow level text p ≡ Takes (piece_of (byte text p)) (p + 1)
-spot_calm flow level text p h mark t l =
-    rw (calm_no_space _ h) (spot_kept flow level text p (calm_no_break _ _ _ h) (calm_no_blank _ h) (ends_none flow level text p (ne_eqb (byte text p) 0 (omega (arith, h.high))) mark t l) (no_colon_here flow (byte text p) _ t.no_colon))
+spot_calm flow level text p h mark t l = grind (arith, calm_no_space, spot_kept, calm_no_break, calm_no_blank, ends_none, ne_eqb, byte, no_colon_here)
 
 sign_text : (flow : Bool) (b : ℕ) → is_sign b ≡ true → IsText flow b
 unfolding is_bracket
@@ -146,13 +143,11 @@ run_spot flow level text p h l = elim (run_parts (plain_kind flow) text p h) [
 ]
 
 words_none : (r : Result Words Wrong) → r ≡ words_with (λ w. w) r
-words_none (Ok w) = refl
-words_none (Err e) = refl
+words_none r = grind arith
 
 words_more : (x : Piece) (q : ℕ) (f : Words → Words) (r : Result Words Wrong)
     → words_from x q (words_with f r) ≡ words_with (λ w. with_piece x q (f w)) r
-words_more x q f (Ok w) = refl
-words_more x q f (Err e) = refl
+words_more x q f r = grind arith
 
 pub words_run : (d : ℕ) (flow : Bool) (level : ℕ) (text : List ℕ) (p : ℕ)
     → (0 < d → leads text p ≡ false)
@@ -173,8 +168,7 @@ words_run (suc d) flow level text p l o =
 plain_front : (old new : Joining) (f : Words → Words) (r : Result Words Wrong)
     → ((w : Words) → joined new w ≡ joined old (f w))
     → plain_with (joined old) (words_with f r) ≡ plain_with (joined new) r
-plain_front old new f (Ok w) h = rw (h w) refl
-plain_front old new f (Err e) h = refl
+plain_front old new f r h = grind arith
 
 pub plain_run : (flow : Bool) (level : ℕ) (text : List ℕ) (p : ℕ) (old new : Joining)
     (place : Place) → TookWords (plain_kind flow) text p old new place
@@ -189,8 +183,7 @@ plain_run flow level text p old new place took =
 with_first : (text : List ℕ) (p d : ℕ) (r : Result Words Wrong) → (byte text p == 32) ≡ false
     → words_with (λ w. with_piece (Kept (byte text p ∷ [])) (p + 1) (with_run text (p + 1) d w)) r
     ≡ words_with (with_run text p (suc d)) r
-with_first text p d (Ok w) h = rw h refl
-with_first text p d (Err e) h = refl
+with_first text p d r h = grind arith
 
 -- the first character, and the run behind it
 pub first_words : (flow : Bool) (level : ℕ) (text : List ℕ) (p : ℕ) (place : Place)
@@ -210,13 +203,11 @@ first_words flow level text p place run inside calm first =
 first_front : (new : Joining) (f : Words → Words) (r : Result Words Wrong)
     → ((w : Words) → joined new w ≡ plain_text (f w))
     → plain_with plain_text (words_with f r) ≡ plain_with (joined new) r
-first_front new f (Ok w) h = rw (h w) refl
-first_front new f (Err e) h = refl
+first_front new f r h = grind arith
 
 pub plain_first_run : (flow : Bool) (level : ℕ) (text : List ℕ) (p : ℕ) (new : Joining)
     (place : Place) → IsRun (plain_kind flow) text (p + 1) place → p < length text
     → leads text (p + 1) ≡ false → (byte text p == 32) ≡ false
     → ((w : Words) → joined new w ≡ plain_text (with_run text p (place.at - p) w))
     → plain_at flow level text p ≡ plain_with (joined new) (words_on flow level text place.at)
-plain_first_run flow level text p new place run inside calm first value =
-    first_words flow level text p place run inside calm first ∙ first_front new (with_run text p (place.at - p)) (words_on flow level text place.at) value
+plain_first_run flow level text p new place run inside calm first h = grind (arith, first_words, first_front, with_run, words_on, value)

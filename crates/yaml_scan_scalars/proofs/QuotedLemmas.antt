@@ -1,7 +1,6 @@
 -- Quoted scalars, a step at a time.
-use Rattle.std.proofs.Common.{◌≡◌, ◌≢◌, ℕ, zero, suc, ◌+◌, ◌-◌, ◌<◌, ◌≤◌, true, false, List, [], ◌∷◌, ◌++◌, length, Result, Ok, Err, refl, ap, inl, inr, ◌⊎◌, ◌==◌, ◌&&◌, arith, rules}
+use Rattle.std.proofs.Common.{◌≡◌, ◌≢◌, ℕ, zero, suc, ◌+◌, ◌-◌, ◌<◌, ◌≤◌, true, false, List, [], ◌∷◌, ◌++◌, length, Result, Ok, Err, refl, ap, ◌⊎◌, ◌==◌, ◌&&◌, arith, rules}
 use Rattle.yaml_scan_scalars.proofs.Words.{cond_both, eqb-false, ltb-true, nat_tests, ne_eqb, yaml_mark_t, ScanError, Place, byte, mark_at, break_of, break_width, is_blank, is_document_indicator, Wrong, IsMemory, no_break, within, Piece, Kept, Blank, value, Took, Reads, QuotedSpot, Closing, Pieces, Bad, with_front, followed, pieces, valued, quoted_at, quote_at, standing_at, escape_at, eq-eqb}
-use Rattle.yaml_scan_model.specs.declared.problem.ScanError.TheVariants as errors
 
 -- ---- what goes on moves
 
@@ -22,9 +21,7 @@ standing_moves quote text p = search (rules, cond_both, eqb-false, escape_moves,
 
 followed_same : (f g : ℕ → Result (List Piece × ℕ) Wrong) (p : ℕ) (s : QuotedSpot)
     → ((ps : List Piece) (q : ℕ) → s ≡ Pieces ps q → f q ≡ g q) → followed f p s ≡ followed g p s
-followed_same f g p Closing h = refl
-followed_same f g p (Pieces ps q) h = rw (h ps q refl) refl
-followed_same f g p (Bad w) h = refl
+followed_same f g p s h = grind arith
 
 pieces_more : (n quote : ℕ) (text : List ℕ) (p : ℕ) → length text ≤ p + n
     → pieces (suc n) quote text p ≡ pieces (suc (suc n)) quote text p
@@ -53,8 +50,7 @@ quoted_whole quote text p h =
 
 pub front : (old new : List Piece → List ℕ) (qs : List Piece) (r : Result (List Piece × ℕ) Wrong)
     → ((ps : List Piece) → new ps ≡ old (qs ++ ps)) → valued old (with_front qs r) ≡ valued new r
-front old new qs (Ok x) h = rw (h x.0) refl
-front old new qs (Err e) h = refl
+front old new qs r h = grind arith
 
 -- what a step that goes on leaves
 pub record GoesOn (quote : ℕ) (text : List ℕ) (p : ℕ) (old new : List Piece → List ℕ) (place : Place) : Type 0 where
@@ -66,24 +62,18 @@ pub record GoesOn (quote : ℕ) (text : List ℕ) (p : ℕ) (old new : List Piec
 pub turn_more : (text : List ℕ) (start : yaml_mark_t) (quote p : ℕ)
     (old new : List Piece → List ℕ) (place : Place) (s : QuotedSpot) → standing_at quote text p ≡ s
     → Took text start p old new place (Ok true) s → GoesOn quote text p old new place
-turn_more text start quote p old new place Closing is h = absurd h
-turn_more text start quote p old new place (Bad w) is h = absurd h
-turn_more text start quote p old new place (Pieces qs q) is (e, f, l, i) = search (rules, front, pieces_here)
+turn_more text start quote p old new place s is h = grind (arith, front, pieces_here)
 
 pub turn_done : (text : List ℕ) (start : yaml_mark_t) (quote p : ℕ)
     (old new : List Piece → List ℕ) (place : Place) (s : QuotedSpot) → standing_at quote text p ≡ s
     → Took text start p old new place (Ok false) s
     → (place ≡ record { text = text; at = p + 1 })
     × (valued old (pieces_on quote text p) ≡ Ok (new [], p + 1))
-turn_done text start quote p old new place (Pieces qs q) is h = absurd h
-turn_done text start quote p old new place (Bad w) is h = absurd h
-turn_done text start quote p old new place Closing is (e, f) = (e, rw (pieces_here quote text p, is, f []) refl)
+turn_done text start quote p old new place s is h = grind (arith, pieces_here)
 
 only_memory : (text : List ℕ) (a : ℕ) (place : Place) (e : ScanError)
     (r : Result (List ℕ × ℕ) Wrong) → IsMemory e → Reads text a place (Err e) r
-only_memory text a place errors.Memory (Ok x) h = tt
-only_memory text a place errors.Memory (Err w) h = tt
-only_memory text a place (errors.Fault f) r h = absurd h
+only_memory text a place e r h = grind arith
 
 pub turn_refused : (text : List ℕ) (quote a p : ℕ) (old new : List Piece → List ℕ) (place : Place)
     (e : ScanError) (s : QuotedSpot) → standing_at quote text p ≡ s
@@ -96,13 +86,11 @@ turn_refused text quote a p old new place e (Bad w) is h = rw (pieces_here quote
 -- ---- quotes are no breaks
 
 pub quote_some : (quote b : ℕ) → b ≡ quote → (quote ≡ 34) ⊎ (quote ≡ 39) → 0 < b
-quote_some quote b e (inl h) = omega arith
-quote_some quote b e (inr h) = omega arith
+quote_some quote b e h = grind arith
 
 pub quote_no_break : (quote b c d : ℕ) → b ≡ quote → (quote ≡ 34) ⊎ (quote ≡ 39)
     → break_of b c d ≡ 0
-quote_no_break quote b c d e (inl h) = no_break b c d (omega arith) (omega arith) (omega arith) (omega arith)
-quote_no_break quote b c d e (inr h) = no_break b c d (omega arith) (omega arith) (omega arith) (omega arith)
+quote_no_break quote b c d e h = grind (arith, no_break)
 
 pub doubled_next : (quote next : ℕ) → (quote == 39 && next == 39) ≡ true → next ≡ 39
 doubled_next quote next h = grind (arith, nat_tests)

@@ -1,6 +1,6 @@
 -- Runs of ordinary bytes.
-use Rattle.std.proofs.Common.{◌≡◌, ◌≢◌, ℕ, zero, suc, ◌+◌, ◌-◌, ◌<◌, ◌≤◌, ◌==◌, ◌&&◌, ◌||◌, Bool, true, false, List, [], ◌∷◌, ◌++◌, length, take, drop, Result, Ok, Err, refl, sym, ap, ◌∙◌, inl, inr, ◌⊎◌, append_assoc, arith, rules}
-use Rattle.yaml_scan_scalars.proofs.Words.{and_parts, cases_Bool, cases_lt, eqb-true, ne_eqb, or_cases, or_from, or_right, not-true, nat_tests, drop_more, Place, byte, break_of, ends_of, is_blank, is_document_indicator, Wrong, no_break, Folding, Gap, Piece, Kept, Blank, Line, lines, is_empty, folded, value, resume, resumed, is_ordinary, is_common, is_narrow, is_odd, quoted_kind, is_sign, is_link, is_linked, in_run, bytes_at, piece_of, run_pieces, starts_kept, ends_kept, IsRun, TookRun, Pieces, with_front, valued, standing_at}
+use Rattle.std.proofs.Common.{◌≡◌, ◌≢◌, ℕ, zero, suc, ◌+◌, ◌-◌, ◌<◌, ◌≤◌, ◌==◌, ◌&&◌, ◌||◌, Bool, true, false, List, [], ◌∷◌, ◌++◌, length, take, drop, Result, refl, sym, ap, ◌∙◌, inl, inr, ◌⊎◌, append_assoc, arith, rules}
+use Rattle.yaml_scan_scalars.proofs.Words.{cases_Bool, cases_lt, eqb-true, ne_eqb, or_cases, or_from, or_right, not-true, nat_tests, drop_more, Place, byte, break_of, ends_of, is_blank, is_document_indicator, Wrong, no_break, Folding, Gap, Piece, Kept, Blank, Line, lines, is_empty, folded, value, resume, resumed, is_ordinary, is_common, is_narrow, is_odd, quoted_kind, is_sign, is_link, is_linked, in_run, bytes_at, piece_of, run_pieces, starts_kept, ends_kept, IsRun, TookRun, Pieces, with_front, valued, standing_at}
 use Rattle.yaml_scan_scalars.specs.declared.folding.Gap.TheVariants as gaps
 use Rattle.yaml_scan_scalars.proofs.FoldingLemmas.{value-kept, blanks_of, keep_line, keep_feed, keep_kept}
 use Rattle.yaml_scan_scalars.proofs.QuotedLemmas.{standing_kept, standing_blank, front, pieces_on, pieces_here}
@@ -87,8 +87,7 @@ no_mark_here kind text p h =
 -- what stands in a run
 
 linked_or : (o l n : Bool) → (o || (l && n)) ≡ true → (o ≡ true) ⊎ ((l ≡ true) × (n ≡ true))
-linked_or true l n h = inl refl
-linked_or false l n h = inr (and_parts l n h)
+linked_or o l n h = grind arith
 
 pub run_parts : (kind : ℕ) (text : List ℕ) (p : ℕ) → in_run kind text p ≡ true
     → (is_ordinary kind (byte text p) ≡ true)
@@ -199,8 +198,7 @@ kept_some b (c ∷ bs) ps h = elim (cases_Bool (b == 32)) [
 
 folded_blank : (b : ℕ) (l : Line) (ls : List (List ℕ × Line)) → is_empty l ≡ false
     → folded (Blank b ∷ l) ls ≡ b ∷ folded l ls
-folded_blank b l [] h = refl
-folded_blank b l (next ∷ ls) h = rw h refl
+folded_blank b l ls h = grind arith
 
 value_blank : (b : ℕ) (ps : List Piece) → is_empty (lines ps).first ≡ false
     → value (Blank b ∷ ps) ≡ b ∷ value ps
@@ -229,8 +227,7 @@ value_run (b ∷ c ∷ bs) ps h =
     ]
 
 ends_tail : (b : ℕ) (bs : List ℕ) → ends_kept (b ∷ bs) ≡ true → ends_kept bs ≡ true
-ends_tail b [] h = refl
-ends_tail b (c ∷ bs) h = h
+ends_tail b bs h = grind arith
 
 abbrev stem : List ℕ → List ℕ → Gap → List ℕ
 stem done blanks gaps.Line = done ++ blanks
@@ -239,9 +236,7 @@ stem done blanks gaps.Kept = done
 
 kept_stem : (done blanks k : List ℕ) (g : Gap) (ps : List Piece)
     → resumed done blanks g (Kept k ∷ ps) ≡ resumed (stem done blanks g ++ k) [] gaps.Line ps
-kept_stem done blanks k gaps.Line ps = sym (keep_line done blanks k ps)
-kept_stem done blanks k gaps.Feed ps = sym (keep_feed done blanks k ps)
-kept_stem done blanks k gaps.Kept ps = sym (keep_kept done blanks k ps)
+kept_stem done blanks k g ps = grind (arith, keep_line, keep_feed, keep_kept)
 
 line_value : (done : List ℕ) (ps : List Piece) → resumed done [] gaps.Line ps ≡ done ++ value ps
 unfolding resumed
@@ -270,8 +265,7 @@ resume_line f b bs ps g h =
 pub resume_run : (f : Folding) (b : ℕ) (bs : List ℕ) (ps : List Piece)
     → (f.gap ≡ gaps.Line) ⊎ (starts_kept (b ∷ bs) ≡ true) → ends_kept (b ∷ bs) ≡ true
     → resume f (Kept (b ∷ bs) ∷ ps) ≡ resume f (run_pieces (b ∷ bs) ++ ps)
-resume_run f b bs ps (inl g) h = resume_line f b bs ps g h
-resume_run f b bs ps (inr s) h = resume_kept f b bs ps (not-true (b == 32) s) (ends_tail b bs h)
+resume_run f b bs ps g h = grind (arith, resume_line, resume_kept, not-true, ends_tail)
 
 pub resume_bytes : (f : Folding) (bs : List ℕ) (ps : List Piece)
     → (f.gap ≡ gaps.Line) ⊎ (starts_kept bs ≡ true) → ends_kept bs ≡ true → 0 < length bs
@@ -282,8 +276,7 @@ resume_bytes f (b ∷ bs) ps s e h = resume_run f b bs ps s e
 -- a run between quotes
 
 not_quote : (quote b : ℕ) → b ≢ 34 → b ≢ 39 → (quote ≡ 34) ⊎ (quote ≡ 39) → b ≢ quote
-not_quote quote b h k (inl e) = omega arith
-not_quote quote b h k (inr e) = omega arith
+not_quote quote b h k g = grind arith
 
 no_escape : (quote b : ℕ) → b ≢ 92 → (quote == 34 && b == 92) ≡ false
 no_escape quote b h = grind (arith, nat_tests)
@@ -292,8 +285,7 @@ standing_calm : (quote : ℕ) (text : List ℕ) (p : ℕ) → IsCalm (byte text 
     → is_document_indicator text p ≡ false → byte text p ≢ quote
     → (quote == 34 && byte text p == 92) ≡ false
     → standing_at quote text p ≡ Pieces (piece_of (byte text p) ∷ []) (p + 1)
-standing_calm quote text p h mark other plain =
-    rw (calm_no_space _ h) (standing_kept quote text p mark (omega (arith, h.high)) other (calm_no_break _ _ _ h) (calm_no_blank _ h) plain)
+standing_calm quote text p h mark other plain = grind (arith, calm_no_space, standing_kept, calm_no_break, calm_no_blank)
 
 space_no_mark : (text : List ℕ) (p : ℕ) → byte text p ≡ 32 → is_document_indicator text p ≡ false
 unfolding is_document_indicator
@@ -319,13 +311,11 @@ standing_run quote text p q h = elim (run_parts (quoted_kind quote) text p h) [
 ]
 
 front_none : (r : Result (List Piece × ℕ) Wrong) → r ≡ with_front [] r
-front_none (Ok x) = refl
-front_none (Err w) = refl
+front_none r = grind arith
 
 front_more : (x : Piece) (qs : List Piece) (r : Result (List Piece × ℕ) Wrong)
     → with_front (x ∷ []) (with_front qs r) ≡ with_front (x ∷ qs) r
-front_more x qs (Ok y) = refl
-front_more x qs (Err w) = refl
+front_more x qs r = grind arith
 
 pub pieces_run : (d quote : ℕ) (text : List ℕ) (p : ℕ) → (quote ≡ 34) ⊎ (quote ≡ 39)
     → ((k : ℕ) → p ≤ k → k < p + d → in_run (quoted_kind quote) text k ≡ true)

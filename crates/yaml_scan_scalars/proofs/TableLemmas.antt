@@ -42,10 +42,6 @@ pub past_narrow : (kind : ℕ) (text : List ℕ) (p : ℕ) → length text ≤ p
 unfolding is_narrow
 past_narrow kind text p h = beyond (is_narrow kind) text p refl h
 
-pub one_at_most : (b : Bool) → (if b then 1 else 0) ≤ 1
-one_at_most true = omega arith
-one_at_most false = omega arith
-
 -- behind the end none of them stands
 pub past_linked : (kind : ℕ) (text : List ℕ) (p : ℕ) → length text ≤ p
     → is_linked kind text p ≡ false

@@ -2,7 +2,7 @@
 use Rattle.std.specs.Prelude.{ℕ, ◌+◌, ◌-◌, ◌<◌, ◌≤◌, ◌≡◌, Bool, ◌||◌, true, false, if◌then◌else◌, List, take, length, Result, Ok, Err}
 use Rattle.yaml_scan_scalars.specs.declared.folding.Gap.TheVariants as gaps
 use Rattle.yaml_scan_scalars.specs.declared.joining.Joining.{Joining}
-use Rattle.yaml_scan_scalars.specs.declared.scalar.PlainScalar.{PlainScalar}
+use Rattle.yaml_scan_scalars.specs.declared.plain.PlainScalar.{PlainScalar}
 use Rattle.yaml_scan_model.specs.declared.record.yaml_mark_t.{yaml_mark_t}
 use Rattle.yaml_scan_model.specs.declared.problem.ScanError.{ScanError}
 use Rattle.yaml_scan_model.specs.Ascii as ascii

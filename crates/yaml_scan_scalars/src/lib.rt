@@ -8,9 +8,7 @@ mod laws;
 mod plain;
 mod quoted;
 mod run;
-mod scalar;
 
 pub use laws::scalars_are_unbounded;
-pub use plain::{plain_scalar, starts_plain};
+pub use plain::{PlainScalar, plain_scalar, starts_plain};
 pub use quoted::{double_quoted, single_quoted};
-pub use scalar::PlainScalar;

@@ -11,12 +11,23 @@ ghost use Rattle.yaml_scan_scalars.specs.Ordinary.{IsRun, bytes_at, is_kind, pla
 
 use crate::joining::Joining;
 use crate::run::{BLOCK, FLOW, ordinary_run, pass_byte};
-use crate::scalar::PlainScalar;
 use std::alloc::AllocError;
 use yaml_scan_model::{
     Context, Problem, Reader, ScanError, Spares, copied, is_blank_byte, mark_again, skip_spaces,
     yaml_mark_t,
 };
+
+/// A plain scalar: its value, the place of its first character, and the place after its last one.
+#[derive(Drop)]
+pub struct PlainScalar {
+    pub value: Vec<u8>,
+    pub start_mark: yaml_mark_t,
+    pub end_mark: yaml_mark_t,
+    /// Whether a break is among the blanks and breaks behind it, so that a key is allowed there.
+    pub broke: bool,
+    /// It is known that a `:` as a mapping has it stands directly behind it.
+    pub followed: bool,
+}
 
 /// The plain scalar that starts here, in flow context or not. The level is the column of the innermost open block
 /// level and one, or 0 where none is open. The reader is left behind the blanks and breaks that follow the scalar. The
@@ -360,22 +371,7 @@ fn is_indicator_byte(byte: u8) -> bool
     ensures { result ≡ spec.is_indicator_byte byte }
 {
     is_bracket(byte)
-        || matches!(
-            byte,
-            b'-' | b'?'
-                | b':'
-                | b'#'
-                | b'&'
-                | b'*'
-                | b'!'
-                | b'|'
-                | b'>'
-                | b'\''
-                | b'"'
-                | b'%'
-                | b'@'
-                | b'`'
-        )
+        || matches!(byte, b'!'..=b'#' | b'%'..=b'\'' | b'*' | b'-' | b':' | b'>'..=b'@' | b'`' | b'|')
 }
 
 /// Whether a plain scalar can start here, in flow context or not.

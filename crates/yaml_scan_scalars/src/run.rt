@@ -5,7 +5,7 @@ ghost use Rattle.yaml_scan_model.specs.Marks.{byte, break_width, starts};
 ghost use Rattle.yaml_scan_model.specs.Spares.{HoldsAt};
 ghost use Rattle.yaml_scan_scalars.specs.Ordinary as spec;
 
-use yaml_scan_model::{Reader, leap, yaml_mark_t};
+use yaml_scan_model::{Reader, leap, starts, yaml_mark_t};
 
 /// How many bytes are looked at in a row.
 const AHEAD: usize = 8;
@@ -76,15 +76,6 @@ fn passes_at(kind: u8, text: &[u8], place: usize) -> bool
                 && (place + 1 < text.len() && is_narrow(kind, text[place + 1]))))
 }
 
-/// How many characters begin with the byte.
-// Inlined into the loop over bytes.
-#[inline(always)]
-fn begun(byte: u8) -> u64
-    ensures { result ≡ (if starts byte then 1 else 0) }
-{
-    if byte < 128 || byte >= 192 { 1 } else { 0 }
-}
-
 /// Past the byte here, which is no break.
 // Inlined: it stands inside the text, so nothing is asked of its place.
 #[inline(always)]
@@ -100,7 +91,7 @@ pub(crate) fn pass_byte(reader: &mut Reader)
     let mark = yaml_mark_t {
         index: here.index + 1,
         line: here.line,
-        column: here.column + begun(byte),
+        column: here.column + starts(byte) as u64,
     };
     *reader = Reader::resume(text, mark);
 }
@@ -120,20 +111,6 @@ pub(crate) fn ordinary_run<'a>(kind: u8, reader: &mut Reader<'a>) -> &'a [u8]
     let from = reader.place();
     pass_run(kind, reader);
     reader.since(from)
-}
-
-/// Past the run that stands here.
-// Inlined: mostly eight bytes are looked at in a row.
-#[inline(always)]
-fn pass_run(kind: u8, reader: &mut Reader)
-    requires { spec.is_kind kind ≡ true }
-    ensures run { spec.IsRun kind reader.old.text reader.old.at reader.new }
-    ensures inside { reader.new.at ≤ length reader.old.text }
-{
-    narrow_run(kind, reader);
-    if common_at(reader.text(), reader.place()) {
-        wide_apart(reader);
-    }
 }
 
 /// Past the ordinary bytes of ASCII that stand here and single spaces, dashes and dots before such: each is a column.
@@ -174,16 +151,21 @@ fn past_narrow(kind: u8, text: &[u8], from: usize) -> usize
     from + count
 }
 
-/// Past the ordinary bytes that stand here.
-// Inlined: the call out of line is lent a copy of the reader, since one that is lent lies in memory. The text and the line stay
-// those in front of it, so that nothing has to choose between two of them behind it.
+/// Past the run that stands here.
+// Inlined: mostly eight bytes are looked at in a row. The call out of line is lent a copy of the reader, since one that is lent
+// lies in memory. The text and the line stay those in front of it, so that nothing has to choose between two of them behind it.
 #[inline(always)]
-fn wide_apart(reader: &mut Reader)
-    ensures run { (kind : ℕ) → spec.IsRun kind reader.old.text reader.old.at reader.new }
+fn pass_run(kind: u8, reader: &mut Reader)
+    requires { spec.is_kind kind ≡ true }
+    ensures run { spec.IsRun kind reader.old.text reader.old.at reader.new }
     ensures inside { reader.new.at ≤ length reader.old.text }
 {
+    narrow_run(kind, reader);
     let here = reader.stop();
     let text = reader.text();
+    if !common_at(text, reader.place()) {
+        return;
+    }
     let mut copy = reader.ahead();
     wide_run(&mut copy);
     let behind = copy.stop();

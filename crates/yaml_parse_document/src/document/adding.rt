@@ -3,16 +3,16 @@
 ghost use Rattle.std.specs.Prelude.{◌≡◌, ◌<◌, ◌≤◌, ◌++◌, ◌∷◌, [], pos, suc, length, option_map, IsSome, IsUtf8, MatchResult, OnOk};
 ghost use Rattle.yaml_parse_model.specs.Constructors.{IsUtf8Option};
 ghost use Rattle.yaml_parse_model.specs.Nodes.{node_of, body_of, tag_of};
-ghost use Rattle.yaml_parse_document.specs.Documents.{node_at, unplaced, new_scalar, new_sequence, new_mapping, with_node, Adds, Appends, change_body, with_item, with_pair, tag_or, IsSequenceAt, IsMappingAt, IsSequenceBody, IsMappingBody, HasRoomAt, most_entries, item_count, pair_count, IsSoundNode, IsSoundBody};
+ghost use Rattle.yaml_parse_document.specs.Documents.{node_at, unplaced, new_scalar, new_sequence, new_mapping, with_node, Adds, Appends, change_body, with_item, with_pair, tag_or, IsSequenceAt, IsMappingAt, HasRoomAt, most_entries, item_count, pair_count, IsSoundNode};
 ghost use Rattle.yaml_parse_document.specs.Sizes.{IsSizedBody};
 
 use super::{node_place, yaml_document_t};
 use simdutf8::is_utf8;
 use std::alloc::Global;
 use yaml_parse_model::{
-    copy_text, is_utf8_option, yaml_mapping_style_t, yaml_mark_t, yaml_node_body_t,
-    yaml_node_item_t, yaml_node_pair_t, yaml_node_t, yaml_node_tag_t, yaml_node_text_t,
-    yaml_scalar_style_t, yaml_sequence_style_t, yaml_text_fault_t,
+    ZERO_MARK, copy_text, is_utf8_option, yaml_mapping_style_t, yaml_node_body_t, yaml_node_item_t,
+    yaml_node_pair_t, yaml_node_t, yaml_node_tag_t, yaml_node_text_t, yaml_scalar_style_t,
+    yaml_sequence_style_t, yaml_text_fault_t,
 };
 
 /// A list of a document has at most this many entries.
@@ -57,32 +57,25 @@ fn copied_tag_or_default(
     }
 }
 
-// A node with zero marks.
-fn unplaced_node(body: yaml_node_body_t, tag: yaml_node_tag_t) -> yaml_node_t
-    ensures { node_of result ≡ unplaced (body_of body) (tag_of tag) }
-{
-    let zero = yaml_mark_t {
-        index: 0,
-        line: 0,
-        column: 0,
-    };
-    yaml_node_t {
-        body,
-        tag,
-        start_mark: zero,
-        end_mark: zero,
-    }
-}
-
-// One node more, under the next number.
-fn add_node(document: &mut yaml_document_t, node: yaml_node_t) -> Result<i32, yaml_text_fault_t>
-    requires sound { IsSoundNode (length document.old.nodes) (node_of node) }
-    requires sized { IsSizedBody (body_of node.body) }
+// One node more, with zero marks and under the next number.
+fn add_node(
+    document: &mut yaml_document_t,
+    body: yaml_node_body_t,
+    tag: yaml_node_tag_t,
+) -> Result<i32, yaml_text_fault_t>
+    requires sound { IsSoundNode (length document.old.nodes) (unplaced (body_of body) (tag_of tag)) }
+    requires sized { IsSizedBody (body_of body) }
     ensures { MatchResult result
-        (λ id. (document.new ≡ with_node document.old (node_of node))
+        (λ id. (document.new ≡ with_node document.old (unplaced (body_of body) (tag_of tag)))
         × (id ≡ pos (suc (length document.old.nodes))))
         (λ f. (document.new ≡ document.old) × (f ≡ yaml_text_fault_t.Memory)) }
 {
+    let node = yaml_node_t {
+        body,
+        tag,
+        start_mark: ZERO_MARK,
+        end_mark: ZERO_MARK,
+    };
     let count = document.parts.nodes.len();
     push_entry(&mut document.parts.nodes, node)?;
     Ok((count + 1) as i32)
@@ -104,10 +97,7 @@ pub fn yaml_document_add_scalar(
     }
     let tag = copied_tag_or_default(document.parts.alloc, tag, yaml_node_tag_t::Str)?;
     let value = yaml_node_text_t::copied(document.parts.alloc, value)?;
-    add_node(
-        document,
-        unplaced_node(yaml_node_body_t::Scalar { value, style }, tag),
-    )
+    add_node(document, yaml_node_body_t::Scalar { value, style }, tag)
 }
 
 /// Adds an empty sequence with a copy of the tag, and gives its number. Without a tag it has
@@ -125,10 +115,7 @@ pub fn yaml_document_add_sequence(
     }
     let tag = copied_tag_or_default(document.parts.alloc, tag, yaml_node_tag_t::Seq)?;
     let items = Vec::new(document.parts.alloc);
-    add_node(
-        document,
-        unplaced_node(yaml_node_body_t::Sequence { items, style }, tag),
-    )
+    add_node(document, yaml_node_body_t::Sequence { items, style }, tag)
 }
 
 /// Adds an empty mapping with a copy of the tag, and gives its number. Without a tag it has
@@ -146,10 +133,7 @@ pub fn yaml_document_add_mapping(
     }
     let tag = copied_tag_or_default(document.parts.alloc, tag, yaml_node_tag_t::Map)?;
     let pairs = Vec::new(document.parts.alloc);
-    add_node(
-        document,
-        unplaced_node(yaml_node_body_t::Mapping { pairs, style }, tag),
-    )
+    add_node(document, yaml_node_body_t::Mapping { pairs, style }, tag)
 }
 
 // One item more in a sequence.

@@ -1,13 +1,14 @@
 //! A document in the making: its parts, as the loader fills them.
 
-ghost use Rattle.std.specs.Prelude.{◌≡◌, map};
-ghost use Rattle.yaml_parse_model.specs.Events.{directive_of};
-ghost use Rattle.yaml_parse_document.specs.Documents.{IsDocument, new_document, no_document};
+ghost use Rattle.std.specs.Prelude.{◌≡◌};
+ghost use Rattle.yaml_parse_document.specs.Documents.{IsDocument, no_document};
 ghost use Rattle.yaml_parse_document.specs.Sizes.{IsSized};
 
 use super::yaml_document_t;
 use std::alloc::Global;
-use yaml_parse_model::{yaml_mark_t, yaml_node_t, yaml_tag_directive_t, yaml_version_directive_t};
+use yaml_parse_model::{
+    ZERO_MARK, yaml_mark_t, yaml_node_t, yaml_tag_directive_t, yaml_version_directive_t,
+};
 
 /// The parts of a document, which need not fit together yet.
 #[derive(Drop)]
@@ -25,39 +26,20 @@ pub struct DocumentParts {
 impl DocumentParts {
     ghost use Rattle.yaml_parse_document.specs.Parts.{parts_view};
 
-    /// A document without nodes, and with zero marks.
-    pub fn new(
-        alloc: Global,
-        version_directive: Option<yaml_version_directive_t>,
-        tag_directives: Vec<yaml_tag_directive_t>,
-        start_implicit: bool,
-        end_implicit: bool,
-    ) -> DocumentParts
-        ensures { parts_view result ≡ new_document version_directive
-            (map directive_of tag_directives.items) start_implicit end_implicit }
-    {
-        let zero = yaml_mark_t {
-            index: 0,
-            line: 0,
-            column: 0,
-        };
-        DocumentParts {
-            version_directive,
-            tag_directives,
-            start_implicit,
-            end_implicit,
-            start_mark: zero,
-            end_mark: zero,
-            nodes: Vec::new(alloc),
-            alloc,
-        }
-    }
-
     /// No directives, no nodes, false flags, zero marks.
     pub fn none(alloc: Global) -> DocumentParts
         ensures { parts_view result ≡ no_document }
     {
-        DocumentParts::new(alloc, None, Vec::new(alloc), false, false)
+        DocumentParts {
+            version_directive: None,
+            tag_directives: Vec::new(alloc),
+            start_implicit: false,
+            end_implicit: false,
+            start_mark: ZERO_MARK,
+            end_mark: ZERO_MARK,
+            nodes: Vec::new(alloc),
+            alloc,
+        }
     }
 
     /// The document of these parts.

@@ -2,8 +2,6 @@ use Rattle.std.proofs.Common.{◌∙◌, refl, subst, sym, arith}
 use Rattle.std.proofs.lemmas.Bool.{false≢true}
 use Rattle.std.proofs.lemmas.Result.{err_from_is_err_and}
 use Rattle.yaml_parse_model.specs.Constructors.{AreUtf8}
-use Rattle.yaml_parse_document.specs.Documents.{Document, IsDocument}
-use Rattle.yaml_parse_document.specs.Sizes.{IsSized}
 use Rattle.yaml_parse_document.proofs.document.yaml_document_initialize.Goals as goal
 
 pub returns-in_err-tag_directives : goal.returns-in_err-tag_directives
@@ -15,13 +13,7 @@ pub returns-then-not-are_utf8 : goal.returns-then-not-are_utf8
 returns-then-not-are_utf8 c = λ texts. false≢true (c.if-not-are_utf8.ensures.1 texts)
 
 pub invariant_of-result : goal.invariant_of-result
-invariant_of-result c = subst (λ (d : Document). IsDocument d × IsSized d) (sym c.new.ensures) (
-  record {
-    directives = subst AreUtf8 (sym c.in_ok-tag_directives.ensures) (c.if-not-are_utf8.ensures.0 refl);
-    nodes = tt;
-  },
-  record { nodes = omega arith; entries = tt },
-)
+invariant_of-result c = (record { directives = subst AreUtf8 (sym c.in_ok-tag_directives.ensures) (c.if-not-are_utf8.ensures.0 refl); nodes = rw c.new.ensures.items tt }, rw c.new.ensures.items record { nodes = omega arith; entries = tt })
 
 pub returns : goal.returns
-returns c = (rw c.in_ok-tag_directives.ensures at c.new.ensures, c.if-not-are_utf8.ensures.0 refl)
+returns c = (rw (c.in_ok-tag_directives.ensures, c.new.ensures.items) refl, c.if-not-are_utf8.ensures.0 refl)

@@ -1,13 +1,12 @@
-use Rattle.std.proofs.Common.{◌≡◌, option_map, refl}
-use Rattle.yaml_parse_model.specs.Events.{event_of, unplaced, sequence_start}
+use Rattle.std.proofs.Common.{refl}
+use Rattle.std.proofs.lemmas.Result.{err_from_is_err_and}
 use Rattle.yaml_parse_model.proofs.Refusals.{sequence_refused}
 use Rattle.yaml_parse_model.proofs.constructor.yaml_sequence_start_event_initialize.Goals as goal
 
-pub returns-in-Ok : goal.returns-in-Ok
-returns-in-Ok c =
-    let texts = c.in-Ok.ensures in
-    let same : event_of c.unplaced.result ≡ unplaced (sequence_start (option_map (λ t. t.now) c.args.anchor) (option_map (λ t. t.now) c.args.tag) c.args.implicit c.args.style) = rw (c.unplaced.ensures, texts.0.0, texts.0.1) refl in
-    (same, texts.1)
+pub returns : goal.returns
+returns c = (rw (c.unplaced.ensures, c.in_ok-copied.ensures.0.0, c.in_ok-copied.ensures.0.1) refl, c.in_ok-copied.ensures.1)
 
-pub returns-in-Err : goal.returns-in-Err
-returns-in-Err c = sequence_refused (option_map (λ t. t.now) c.args.anchor) (option_map (λ t. t.now) c.args.tag) c.args.implicit c.args.style c.in-Err.fault c.in-Err.ensures
+pub returns-in_err-copied : goal.returns-in_err-copied
+returns-in_err-copied c =
+    let e = err_from_is_err_and c.from_residual.result c.from_residual.ensures.1 in
+    rw (e.1, e.2) (sequence_refused _ _ c.args.implicit c.args.style _ c.in_err-copied.ensures)

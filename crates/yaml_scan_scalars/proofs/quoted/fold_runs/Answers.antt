@@ -1,4 +1,4 @@
-use Rattle.std.proofs.Common.{◌∙◌, ◌-◌, refl}
+use Rattle.std.proofs.Common.{◌∙◌, refl}
 use Rattle.yaml_scan_scalars.proofs.Words.{quoted_kind, err_from_is_err_and, value, resume, TookRun}
 use Rattle.yaml_scan_scalars.proofs.QuotedLemmas.{turn_more, turn_done, turn_refused}
 use Rattle.yaml_scan_scalars.proofs.RunLemmas.{quoted_run, run_ends}

@@ -1,6 +1,6 @@
-use Rattle.std.proofs.Common.{◌≡◌, ◌≤◌, ℕ, List, length, ap, arith}
+use Rattle.std.proofs.Common.{◌≡◌, ℕ, List, length, ap, arith}
 use Rattle.yaml_scan_scalars.proofs.Words.{yaml_mark_t, column_at, within, column_at-le}
-use Rattle.yaml_scan_scalars.proofs.TableLemmas.{behind_none, one_at_most}
+use Rattle.yaml_scan_scalars.proofs.TableLemmas.{behind_none}
 use Rattle.yaml_scan_scalars.proofs.run.pass_byte.Goals as goal
 
 pub overflow_add-mark-2 : goal.overflow_add-mark-2
@@ -10,8 +10,7 @@ overflow_add-mark-2 c =
     let column : c.stop-here.result.column ≡ column_at text p = ap (λ (x : yaml_mark_t). x.column) c.stop-here.ensures.mark in
     let inside = within text p c.requires.some in
     let now : length c.text-text.result.now ≡ length text = ap (λ (xs : List ℕ). length xs) c.text-text.ensures in
-    let some : c.begun.result ≤ 1 = rw c.begun.ensures (one_at_most _) in
-    omega (arith, column, column_at-le text p, inside, now, some)
+    grind (arith, column, column_at-le text p, inside, now)
 
 pub resume-requires-clause-whole : goal.resume-requires-clause-whole
 resume-requires-clause-whole c =

@@ -1,7 +1,7 @@
 use Rattle.std.proofs.Common.{◌≡◌, ℕ, List, [], ◌∷◌, ◌++◌, map, ap, ◌∙◌, sym, subst, length, ◌<◌}
 use Rattle.std.proofs.lemmas.List.{map-append, length-map}
-use Rattle.yaml_parse_model.specs.Nodes.{Node, node_of}
-use Rattle.yaml_parse_document.specs.Documents.{Document, IsDocument, IsSoundNode}
+use Rattle.yaml_parse_model.specs.Nodes.{Node, node_of, body_of, tag_of}
+use Rattle.yaml_parse_document.specs.Documents.{Document, IsDocument, IsSoundNode, unplaced}
 use Rattle.yaml_parse_document.specs.Sizes.{IsSized}
 use Rattle.yaml_parse_document.specs.Views.{document_view}
 use Rattle.yaml_parse_document.proofs.Sizing.{with_node_sized}
@@ -10,13 +10,14 @@ use Rattle.yaml_parse_document.proofs.document.adding.add_node.Goals as goal
 
 pub invariant_of-document-2 : goal.invariant_of-document-2
 invariant_of-document-2 c =
-    let grown : map node_of c.push_entry.new.entries.items ≡ map node_of c.document.inside.parts.nodes.items ++ node_of c.args.node ∷ []
+    let new = unplaced (body_of c.args.body) (tag_of c.args.tag) in
+    let grown : map node_of c.push_entry.new.entries.items ≡ map node_of c.document.inside.parts.nodes.items ++ new ∷ []
     = ap (map node_of) c.in_ok-push_entry.ensures.0 ∙ map-append node_of _ _ in
-    let sound : IsSoundNode (length (document_view c.document.inside).nodes) (node_of c.args.node)
-    = subst (λ (d : Document). IsSoundNode (length d.nodes) (node_of c.args.node)) (sym c.document.view_is) c.requires.sound in
+    let sound : IsSoundNode (length (document_view c.document.inside).nodes) new
+    = subst (λ (d : Document). IsSoundNode (length d.nodes) new) (sym c.document.view_is) c.requires.sound in
     let room : length (document_view c.document.inside).nodes < 2147483647
     = subst (λ (n : ℕ). n < 2147483647) (sym (length-map c.document.inside.parts.nodes.items node_of)) c.in_ok-push_entry.ensures.1 in
     subst (λ (ns : List Node). let d : Document = record (document_view c.document.inside) { nodes = ns } in IsDocument d × IsSized d) (sym grown) (
-      with_node_sound (document_view c.document.inside) (node_of c.args.node) c.document.invariant.0 sound,
-      with_node_sized (document_view c.document.inside) (node_of c.args.node) c.document.invariant.1 room c.requires.sized,
+      with_node_sound (document_view c.document.inside) new c.document.invariant.0 sound,
+      with_node_sized (document_view c.document.inside) new c.document.invariant.1 room c.requires.sized,
     )

@@ -1,9 +1,7 @@
-use Rattle.std.proofs.Common.{◌≡◌, ◌∙◌, sym, subst, option_map, IsUtf8, length, refl}
+use Rattle.std.proofs.Common.{◌≡◌, ◌∙◌, sym, subst, option_map, IsUtf8, refl}
 use Rattle.std.proofs.lemmas.Bool.{false≢true}
 use Rattle.std.proofs.lemmas.Result.{err_from_is_err_and}
-use Rattle.yaml_parse_model.specs.Nodes.{Node, node_of}
-use Rattle.yaml_parse_document.specs.Documents.{IsSoundNode, new_scalar}
-use Rattle.yaml_parse_document.specs.Sizes.{IsSizedBody}
+use Rattle.yaml_parse_document.specs.Documents.{unplaced, new_scalar}
 use Rattle.yaml_parse_document.proofs.Sizing.{nothing_listed}
 use Rattle.yaml_parse_document.proofs.Sound.{tag_utf8, str_utf8, added}
 use Rattle.yaml_parse_document.proofs.document.adding.yaml_document_add_scalar.Goals.{then-not-is_utf8_option-via-then-not-is_utf8_option, then-not-is_utf8_option-via-else-not-is_utf8_option+then-not-is_utf8}
@@ -15,12 +13,10 @@ returns-in_err-tag c =
     rw (e.1, e.2 ∙ c.in_err-tag.ensures) (refl, (c.if-not-is_utf8_option.ensures.0 refl, c.if-not-is_utf8.ensures.0 refl))
 
 pub add_node-requires-clause-sound : goal.add_node-requires-clause-sound
-add_node-requires-clause-sound c =
-    subst (λ (n : Node). IsSoundNode (length c.args.document.now.nodes) n) (sym c.unplaced_node.ensures)
-    (subst IsUtf8 (sym c.in_ok-tag.ensures) (tag_utf8 _ _ str_utf8 (c.if-not-is_utf8_option.ensures.0 refl)), subst IsUtf8 (sym c.in_ok-value.ensures.is) (c.if-not-is_utf8.ensures.0 refl))
+add_node-requires-clause-sound c = (subst IsUtf8 (sym c.in_ok-tag.ensures) (tag_utf8 _ _ str_utf8 (c.if-not-is_utf8_option.ensures.0 refl)), subst IsUtf8 (sym c.in_ok-value.ensures.is) (c.if-not-is_utf8.ensures.0 refl))
 
 pub add_node-requires-clause-sized : goal.add_node-requires-clause-sized
-add_node-requires-clause-sized c = subst (λ (n : Node). IsSizedBody n.body) (sym c.unplaced_node.ensures) nothing_listed
+add_node-requires-clause-sized c = nothing_listed
 
 pub returns-then-not-is_utf8_option : goal.returns-then-not-is_utf8_option
 returns-then-not-is_utf8_option c =
@@ -36,5 +32,5 @@ returns-in_err-value c =
 
 pub returns : goal.returns
 returns c =
-    let same : node_of c.unplaced_node.result ≡ new_scalar (option_map (λ t. t.now) c.args.tag) c.args.value.now c.args.style = rw (c.unplaced_node.ensures, c.in_ok-tag.ensures, c.in_ok-value.ensures.is) refl in
+    let same : unplaced _ _ ≡ new_scalar (option_map (λ t. t.now) c.args.tag) c.args.value.now c.args.style = rw (c.in_ok-tag.ensures, c.in_ok-value.ensures.is) refl in
     added _ _ _ _ _ _ same (c.if-not-is_utf8_option.ensures.0 refl, c.if-not-is_utf8.ensures.0 refl) c.add_node.ensures

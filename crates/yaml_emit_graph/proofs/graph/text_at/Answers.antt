@@ -2,7 +2,7 @@ use mir.Syntax.{w32}
 use Rattle.std.proofs.Common.{rules, sym, ◌∙◌}
 use Rattle.std.proofs.lemmas.Int.{to_z-of_z}
 use Rattle.yaml_emit_graph.proofs.Plain.{text_there}
-use Rattle.yaml_emit_graph.proofs.text.text_at.Goals as goal
+use Rattle.yaml_emit_graph.proofs.graph.text_at.Goals as goal
 
 pub returns-in-Some : goal.returns-in-Some
 returns-in-Some c =

@@ -1,3 +1,4 @@
+pub mod Bare
 pub mod Line
 pub mod Queue
 pub mod Waits

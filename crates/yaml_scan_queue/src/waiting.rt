@@ -4,6 +4,7 @@ ghost use Rattle.std.specs.Prelude.{◌≡◌, ◌+◌, ◌-◌, ◌^◌, ◌<�
 ghost use Rattle.yaml_scan_model.specs.Tokens as token;
 ghost use Rattle.yaml_scan_model.specs.Tokens.{body_of};
 ghost use Rattle.yaml_scan_slot.specs.Slots.{Extra, body_by, is_tagged};
+ghost use Rattle.yaml_scan_queue.specs.Bare.{is_tag_kind, is_tag_directive_kind};
 ghost use Rattle.yaml_scan_queue.specs.Front.{front_at, front_count, key_count, start_at, start_count};
 ghost use Rattle.yaml_scan_queue.specs.Waits.{IsCounted, IsGiven, fronts_of, kept_of, keyed, own_of};
 
@@ -184,11 +185,38 @@ fn key_number(is_key: bool) -> u8
 }
 
 /// Whether a kind is that of a tag, or of a directive that declares one.
+// Each of the two is asked for by itself: a match on both would be told by ranges of kinds.
+// Inlined: two comparisons.
+#[inline(always)]
 fn is_tagged(kind: yaml_token_type_t) -> bool
     ensures { (x y : List ℕ) → (e : Extra) → result ≡ is_tagged (body_by kind x y e) }
 {
+    if is_tag_kind(kind) {
+        return true;
+    }
+    is_tag_directive_kind(kind)
+}
+
+/// Whether a kind is that of a tag.
+// Inlined: a comparison.
+#[inline(always)]
+fn is_tag_kind(kind: yaml_token_type_t) -> bool
+    ensures { result ≡ is_tag_kind kind }
+{
     match kind {
-        yaml_token_type_t::YAML_TAG_TOKEN | yaml_token_type_t::YAML_TAG_DIRECTIVE_TOKEN => true,
+        yaml_token_type_t::YAML_TAG_TOKEN => true,
+        _ => false,
+    }
+}
+
+/// Whether a kind is that of a directive that declares a tag.
+// Inlined: a comparison.
+#[inline(always)]
+fn is_tag_directive_kind(kind: yaml_token_type_t) -> bool
+    ensures { result ≡ is_tag_directive_kind kind }
+{
+    match kind {
+        yaml_token_type_t::YAML_TAG_DIRECTIVE_TOKEN => true,
         _ => false,
     }
 }

@@ -65,12 +65,17 @@ impl BodySlot {
                 self.major = major;
                 self.minor = minor;
             }
-            yaml_token_body_t::TagDirective { handle, prefix } => self.put_both(
-                handle, prefix, spares,
-            ),
-            yaml_token_body_t::Alias { value } => put_text(&mut self.text, value, spares),
-            yaml_token_body_t::Anchor { value } => put_text(&mut self.text, value, spares),
-            yaml_token_body_t::Tag { handle, suffix } => self.put_both(handle, suffix, spares),
+            yaml_token_body_t::TagDirective {
+                handle,
+                prefix: other,
+            }
+            | yaml_token_body_t::Tag {
+                handle,
+                suffix: other,
+            } => self.put_both(handle, other, spares),
+            yaml_token_body_t::Alias { value } | yaml_token_body_t::Anchor { value } => {
+                put_text(&mut self.text, value, spares);
+            }
             yaml_token_body_t::Scalar { value, style } => {
                 self.style = style;
                 put_text(&mut self.text, value, spares);

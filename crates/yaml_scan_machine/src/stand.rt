@@ -96,9 +96,6 @@ fn pass_gap(reader: &mut Reader, flow: bool, allowed: bool) -> (bool, u8)
     ensures text { reader.new.text ≡ reader.old.text }
 {
     let byte = reader.here();
-    if is_behind_hash(byte) {
-        return (allowed, byte);
-    }
     if byte == b' ' {
         let next = reader.byte(1);
         if begins(next) {
@@ -116,14 +113,6 @@ fn pass_gap(reader: &mut Reader, flow: bool, allowed: bool) -> (bool, u8)
     }
     let broke = skip_gap(reader, flow, allowed);
     (allowed_behind(allowed, broke, flow), reader.here())
-}
-
-/// Whether the byte is behind `#` in ASCII: it begins a lexeme.
-fn is_behind_hash(byte: u8) -> bool
-    ensures { result ≡ true
-        → (nat_lt ascii.space byte && (nat_lt byte 128 && not (byte == ascii.hash))) ≡ true }
-{
-    byte > b'#' && byte < 128
 }
 
 /// What each byte is behind a gap: `1` one of ASCII that begins a lexeme, `0` any other.

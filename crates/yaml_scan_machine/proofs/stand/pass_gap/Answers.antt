@@ -4,12 +4,6 @@ use Rattle.yaml_scan_words.proofs.BetweenLemmas.{space_byte}
 use Rattle.yaml_scan_machine.proofs.WordLemmas.{goes_on, no_gap, one_space, allowed_still}
 use Rattle.yaml_scan_machine.proofs.stand.pass_gap.Goals as goal
 
-pub returns-then-is_behind_hash : goal.returns-then-is_behind_hash
-returns-then-is_behind_hash c =
-    let h : goes_on (byte c.args.reader.now.text c.args.reader.now.at) ≡ true = rw c.here-byte.ensures at c.is_behind_hash.ensures c.if-is_behind_hash.true in
-    let gap = no_gap c.args.flow c.args.allowed c.args.reader.now.text c.args.reader.now.at h in
-    record { place = ap (λ (g : Gap). g.place) gap; allowed = allowed_still c.args.allowed c.args.flow _ (ap (λ (g : Gap). g.broke) gap); byte = c.here-byte.ensures; text = refl }
-
 pub returns-then-begins : goal.returns-then-begins
 returns-then-begins c =
     let h : goes_on (byte c.args.reader.now.text (c.args.reader.now.at + 1)) ≡ true = rw c.byte-next.ensures at c.begins.ensures c.if-begins.true in

@@ -12,5 +12,5 @@ mod turning;
 
 pub use level::{Await, Kept, Level};
 pub use machine::{Machine, Turn, finish, fresh, is_between, is_over};
-pub use told::{Implied, Shape, Told, Waiting, none_waiting};
+pub use told::{Implied, Rooms, Shape, Told, Waiting, none_waiting};
 pub use turning::{turn, wants_key};

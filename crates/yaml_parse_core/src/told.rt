@@ -2,7 +2,6 @@
 
 use std::alloc::Global;
 use yaml_parse_model::yaml_mark_t;
-use yaml_scan_model::Spares;
 
 /// What a node is whose content begins with the token that is taken.
 #[derive(Clone, Copy)]
@@ -44,6 +43,14 @@ pub enum Implied {
     DocumentEnd,
 }
 
+/// The rooms of an event's texts, while the slot of events holds none of the like: of its own text, of an anchor and of a tag.
+#[derive(Drop)]
+pub struct Rooms {
+    pub text: Vec<u8>,
+    pub anchor: Vec<u8>,
+    pub tag: Vec<u8>,
+}
+
 /// Properties that wait for their node. A text that isn't there is one that is done with.
 #[derive(Drop)]
 pub struct Waiting {
@@ -56,10 +63,7 @@ pub struct Waiting {
     pub anchor: Vec<u8>,
     pub handle: Vec<u8>,
     pub suffix: Vec<u8>,
-    /// The room of an event's text, while the slot of events holds none.
-    pub room: Vec<u8>,
-    /// Texts of earlier events, in whose room later ones are made.
-    pub spares: Spares,
+    pub rooms: Rooms,
 }
 
 /// No properties.
@@ -78,7 +82,10 @@ pub fn none_waiting(alloc: Global) -> Waiting {
         anchor: Vec::new(alloc),
         handle: Vec::new(alloc),
         suffix: Vec::new(alloc),
-        room: Vec::new(alloc),
-        spares: Spares::new(alloc),
+        rooms: Rooms {
+            text: Vec::new(alloc),
+            anchor: Vec::new(alloc),
+            tag: Vec::new(alloc),
+        },
     }
 }

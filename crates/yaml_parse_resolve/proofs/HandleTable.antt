@@ -1,5 +1,5 @@
 -- A table of handles by their bytes.
-use Rattle.std.proofs.Common.{◌≡◌, ◌==◌, length, ℕ, Bool, true, false, if◌then◌else◌, List, [], ◌∷◌, ◌++◌, map, Option, Some, None, option_map, cond, is_some, refl, ap, sym, ◌∙◌, Vec}
+use Rattle.std.proofs.Common.{◌≡◌, ℕ, Bool, true, false, if◌then◌else◌, List, [], ◌∷◌, ◌++◌, map, Option, Some, None, option_map, cond, is_some, refl, ap, sym, ◌∙◌, Vec}
 use Rattle.std.proofs.Math.Bool.{true≢false}
 use Rattle.std.specs.Global.{Global}
 use Rattle.std.specs.Str.{bytes_eq}
@@ -7,8 +7,7 @@ use Rattle.std.specs.declared.cmp.Ordering.TheVariants.{Less, Equal, Greater}
 use Rattle.std.specs.Ordering.{nat_cmp, match_ordering, eq_by_cmp}
 use Rattle.std.specs.Cmp.Lexicographic.{slice_cmp, nat_list_cmp_total, nat_list_eq_equiv, texts_ties}
 use Rattle.std.proofs.lemmas.Slice.Eq.{bytes_eq-Decides}
-use Rattle.std.proofs.lemmas.Bool.{eqb-true}
-use Rattle.std.proofs.lemmas.List.{map-append, nil_from_length}
+use Rattle.std.proofs.lemmas.List.{map-append}
 use Rattle.std.specs.Map.{lookup}
 use Rattle.std.specs.BTreeMap.{is_at, insert_entry}
 use Rattle.std.specs.FinMap.{find, put}
@@ -46,14 +45,6 @@ put_pair (e ∷ es) k v =
       | Equal ↦ refl
       | Greater ↦ ap (λ es. entry_of e ∷ es) (put_pair es k v)
     ]
-
--- none of no directives
-pub untold : (handle : List ℕ) (list : List yaml_tag_directive_t) (tags : List TagDirective)
-    → map directive_of list ≡ tags → (length list == 0) ≡ true → None ≡ directive_for handle tags
-unfolding directive_for
-untold handle list tags is empty =
-    ap (λ (ts : List TagDirective). directive_for handle ts)
-    (sym (ap (map directive_of) (nil_from_length list (eqb-true (length list) 0 empty))) ∙ is)
 
 joined : (h q k : List ℕ) → bytes_eq h k ≡ false → bytes_eq q k ≡ true → bytes_eq h q ≡ true → ⊥
 joined h q k n a b = true≢false (sym ((bytes_eq-Decides h k).1 ((bytes_eq-Decides h q).0 b ∙ (bytes_eq-Decides q k).0 a)) ∙ n)

@@ -1,1 +1,2 @@
 pub mod HandleTable
+pub mod Named

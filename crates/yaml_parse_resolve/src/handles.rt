@@ -1,6 +1,6 @@
 //! The tag directives of a document.
 
-ghost use Rattle.std.specs.Prelude.{◌≡◌, ◌∷◌, ◌++◌, [], None, map, option_map, OnOk};
+ghost use Rattle.std.specs.Prelude.{◌≡◌, ◌∷◌, ◌++◌, [], true, None, map, option_map, OnOk};
 ghost use Rattle.yaml_parse_model.specs.Events.{directive_of};
 ghost use Rattle.yaml_parse_grammar.specs.Resolve.{directive_for};
 
@@ -41,23 +41,17 @@ impl TagDirectives {
         }
     }
 
-    /// The prefix that a directive gives the handle.
-    // Inlined: mostly a document has no directives.
+    /// Whether there are none.
+    // Inlined: a comparison.
     #[inline(always)]
-    pub(crate) fn prefix_of(&self, handle: &[u8]) -> Option<&[u8]>
-        ensures { option_map (λ t. t.now) result ≡ directive_for handle.now self.now }
+    pub(crate) fn is_empty(&self) -> bool
+        ensures { result ≡ true → self.now ≡ [] }
     {
-        if self.list.as_slice().is_empty() {
-            return None;
-        }
-        let told = self.prefix_among(handle);
-        told
+        self.list.as_slice().is_empty()
     }
 
-    /// The prefix that one of some directives gives the handle.
-    // Out of line: mostly there is none.
-    #[inline(never)]
-    fn prefix_among(&self, handle: &[u8]) -> Option<&[u8]>
+    /// The prefix that a directive gives the handle.
+    pub(crate) fn prefix_of(&self, handle: &[u8]) -> Option<&[u8]>
         ensures { option_map (λ t. t.now) result ≡ directive_for handle.now self.now }
     {
         match self.prefixes.get(handle) {

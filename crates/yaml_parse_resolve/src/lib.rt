@@ -13,6 +13,7 @@ pub use handles::TagDirectives;
 pub use nodes::tell_node;
 pub use resolving::{
     Directives, Settled, lack_memory, refuse, settle_implied, settle_named, settle_opened,
+    tell_at_once,
 };
 pub use slots::let_event_go;
 pub use told::{settle_alias, settle_end, settle_told};

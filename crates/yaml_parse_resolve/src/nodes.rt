@@ -2,16 +2,16 @@
 
 ghost use Rattle.std.specs.Prelude.{◌≡◌, None};
 ghost use Rattle.yaml_parse_model.specs.Slots.{body_in_slot, token_in_slot};
-ghost use Rattle.yaml_parse_model.specs.Events.{body_of, event_of, text_of};
+ghost use Rattle.yaml_parse_model.specs.Events.{body_of, event_of};
 ghost use Rattle.yaml_parse_model.specs.Tokens.{TokenBody};
 ghost use Rattle.yaml_parse_core.specs.declared.told.Shape.TheVariants as shapes;
 ghost use Rattle.yaml_parse_grammar.specs.Resolve.{node_event, placed};
 ghost use Rattle.yaml_parse_core.specs.Extra.{value_in, style_in};
-ghost use Rattle.yaml_parse_core.specs.Views.{shape_at, node_item};
-ghost use Rattle.yaml_parse_resolve.specs.Bare.{OwnsNothing};
+ghost use Rattle.yaml_parse_core.specs.Views.{shape_at, node_item, text_if};
+ghost use Rattle.yaml_parse_resolve.specs.Bare.{IsUnnamed, OwnsNothing, with_names};
 ghost use Rattle.yaml_parse_resolve.specs.Settles.{named_event};
 
-use crate::room::{clears, emptied, exchange};
+use crate::room::{clear, clears, clears_any, exchange};
 use crate::scalars::{bare, named};
 use crate::slots::{start_mapping, start_sequence};
 use yaml_parse_core::{Shape, Waiting};
@@ -36,31 +36,31 @@ fn scalar_style(token: &mut BodySlot) -> yaml_scalar_style_t
     }
 }
 
-// A collection begins, behind these properties, in a slot that holds no text.
+// A collection begins without properties, in a slot that holds no text.
 // Inlined: the shape is mostly known, and it is built in its place.
 #[inline(always)]
-fn start(shape: Shape, anchor: Option<Vec<u8>>, tag: Option<Vec<u8>>, event: &mut yaml_event_body_t)
+fn start(shape: Shape, event: &mut yaml_event_body_t)
     requires bare { OwnsNothing event.old }
     requires collection { shape ≡ shapes.Scalar → ⊥ }
-    ensures { (b : TokenBody) → body_of event.new ≡ node_event (text_of anchor) (text_of tag)
-        (shape_at shape b) }
+    ensures unnamed { IsUnnamed event.new }
+    ensures body { (b : TokenBody) → body_of event.new ≡ node_event None None (shape_at shape b) }
 {
     match shape {
         Shape::BlockSequence => {
             let style = yaml_sequence_style_t::YAML_BLOCK_SEQUENCE_STYLE;
-            start_sequence(anchor, tag, style, event);
+            start_sequence(style, event);
         }
         Shape::FlowSequence => {
             let style = yaml_sequence_style_t::YAML_FLOW_SEQUENCE_STYLE;
-            start_sequence(anchor, tag, style, event);
+            start_sequence(style, event);
         }
         Shape::BlockMapping => {
             let style = yaml_mapping_style_t::YAML_BLOCK_MAPPING_STYLE;
-            start_mapping(anchor, tag, style, event);
+            start_mapping(style, event);
         }
         Shape::FlowMapping => {
             let style = yaml_mapping_style_t::YAML_FLOW_MAPPING_STYLE;
-            start_mapping(anchor, tag, style, event);
+            start_mapping(style, event);
         }
         // Never: it is a collection's.
         Shape::Scalar => {}
@@ -74,8 +74,8 @@ fn tell_collection(shape: Shape, waiting: &mut Waiting, event: &mut yaml_event_b
     requires { shape ≡ shapes.Scalar → ⊥ }
     ensures { (b : TokenBody) → body_of event.new ≡ node_event None None (shape_at shape b) }
 {
-    if clears(event, &mut waiting.room) {
-        start(shape, None, None, event);
+    if clears(event, &mut waiting.rooms.text) {
+        start(shape, event);
     } else {
         collection_over(shape, waiting, event);
     }
@@ -88,9 +88,10 @@ fn collection_over(shape: Shape, waiting: &mut Waiting, event: &mut yaml_event_b
     requires { shape ≡ shapes.Scalar → ⊥ }
     ensures { (b : TokenBody) → body_of event.new ≡ node_event None None (shape_at shape b) }
 {
-    let room = emptied(event, &mut waiting.spares);
-    waiting.spares.keep(room);
-    start(shape, None, None, event);
+    if !clears_any(event, &mut waiting.rooms) {
+        clear(event);
+    }
+    start(shape, event);
 }
 
 /// The event of a node without properties.
@@ -117,26 +118,65 @@ pub fn tell_node(
     }
 }
 
+// The properties that waited of a collection that began without them. Its tag stands in full in the place of its handle.
+// Inlined: some moves.
+#[inline(always)]
+fn name_collection(waiting: &mut Waiting, event: &mut yaml_event_body_t)
+    requires { IsUnnamed event.old }
+    ensures { body_of event.new ≡ with_names (text_if waiting.old.has_anchor
+        waiting.old.anchor.items) (text_if waiting.old.has_tag waiting.old.handle.items)
+        (body_of event.old) }
+{
+    let has_tag = waiting.has_tag;
+    match *event {
+        yaml_event_body_t::SequenceStart {
+            ref mut anchor,
+            ref mut tag,
+            ref mut implicit,
+            ..
+        } => {
+            exchange(
+                anchor,
+                waiting.has_anchor,
+                &mut waiting.anchor,
+                &mut waiting.rooms.anchor,
+            );
+            exchange(tag, has_tag, &mut waiting.handle, &mut waiting.rooms.tag);
+            *implicit = !has_tag;
+        }
+        yaml_event_body_t::MappingStart {
+            ref mut anchor,
+            ref mut tag,
+            ref mut implicit,
+            ..
+        } => {
+            exchange(
+                anchor,
+                waiting.has_anchor,
+                &mut waiting.anchor,
+                &mut waiting.rooms.anchor,
+            );
+            exchange(tag, has_tag, &mut waiting.handle, &mut waiting.rooms.tag);
+            *implicit = !has_tag;
+        }
+        // Never: a collection began.
+        _ => {}
+    }
+}
+
 // A collection begins behind properties. Its tag stands in full in the place of its handle.
+// Out of line: so that a scalar's way puts no registers aside.
+#[tactic(auto, using(crate::proofs::Named::named_start))]
+#[inline(never)]
 fn tell_named_collection(shape: Shape, waiting: &mut Waiting, event: &mut yaml_event_body_t)
     requires { shape ≡ shapes.Scalar → ⊥ }
     ensures { (b : TokenBody) → body_of event.new ≡ named_event waiting.old (shape_at shape b) }
 {
-    let mut anchor = Some(emptied(event, &mut waiting.spares));
-    let mut tag = None;
-    exchange(
-        &mut anchor,
-        waiting.has_anchor,
-        &mut waiting.anchor,
-        &mut waiting.spares,
-    );
-    exchange(
-        &mut tag,
-        waiting.has_tag,
-        &mut waiting.handle,
-        &mut waiting.spares,
-    );
-    start(shape, anchor, tag, event);
+    if !clears_any(event, &mut waiting.rooms) {
+        clear(event);
+    }
+    start(shape, event);
+    name_collection(waiting, event);
 }
 
 // The event of a node behind properties. Its tag stands in full in the place of its handle.

@@ -4,16 +4,17 @@ ghost use Rattle.std.specs.Prelude.{◌≡◌, ◌++◌, if◌then◌else◌, �
 ghost use Rattle.yaml_parse_model.specs.Slots.{token_in_slot};
 ghost use Rattle.yaml_parse_model.specs.Events.{body_of, event_of};
 ghost use Rattle.yaml_parse_model.specs.Events as told;
-ghost use Rattle.yaml_parse_model.specs.Faults.{fault_of, memory_fault};
+ghost use Rattle.yaml_parse_model.specs.Faults.{Fault, fault_of, memory_fault};
 ghost use Rattle.yaml_parse_model.specs.declared.yaml_origin_t.TheVariants.{Parser};
 ghost use Rattle.yaml_parse_model.specs.declared.yaml_scalar_style_t.TheVariants.{YAML_ANY_SCALAR_STYLE};
 ghost use Rattle.yaml_parse_grammar.specs.Items as item;
 ghost use Rattle.yaml_parse_grammar.specs.Problems.{parser_fault};
 ghost use Rattle.yaml_parse_grammar.specs.Resolve.{Directives as DirectivesSpec, directive_for, default_prefix, or_default, resolved, is_known_version, with_version, with_tag, node_event, gave, placed, settle_body, behind_event};
+ghost use Rattle.yaml_parse_resolve.specs.declared.resolving.Settled.TheVariants as settled;
 ghost use Rattle.yaml_parse_core.specs.Extra.{value_in, style_in, name_in, encoding_in, major_in, minor_in, handle_in, prefix_in};
 ghost use Rattle.yaml_parse_core.specs.declared.told.Implied.TheVariants as implied;
 ghost use Rattle.yaml_parse_core.specs.Views.{properties_of, text_if, tag_if, shape_at, named_item, node_item, told_item, told_body, implied_item};
-ghost use Rattle.yaml_parse_resolve.specs.Settles.{directives_of, Resolves, Names, Notes, Comes, ComesTo};
+ghost use Rattle.yaml_parse_resolve.specs.Settles.{directives_of, named_event, Resolves, Names, Notes, Comes, ComesTo};
 
 use crate::handles::TagDirectives;
 use crate::nodes::tell_named;
@@ -27,7 +28,7 @@ use yaml_parse_model::{
     yaml_event_t, yaml_fault_t, yaml_mark_t, yaml_memory_fault, yaml_origin_t,
     yaml_version_directive_t,
 };
-use yaml_scan_model::{followed, put_back, put_each};
+use yaml_scan_model::{SHORT, followed, put_back, put_each, put_short};
 
 /// The directives of a document.
 #[derive(Drop)]
@@ -79,8 +80,8 @@ pub fn refuse(
 }
 
 // Puts the prefix and then the suffix in the place of the tag's handle.
-// Inlined: where the prefix is known, it is two moves.
-#[inline(always)]
+// Out of line: most tags are put together at once.
+#[inline(never)]
 fn join(waiting: &mut Waiting, prefix: &[u8], fault: &mut yaml_fault_t) -> bool
     ensures joined { result ≡ true
         → waiting.new.handle.items ≡ prefix.now ++ waiting.old.suffix.items }
@@ -103,21 +104,7 @@ fn join(waiting: &mut Waiting, prefix: &[u8], fault: &mut yaml_fault_t) -> bool
     }
 }
 
-// The same behind a prefix that is none of the default ones.
-// Out of line: most tags have one of these.
-#[inline(never)]
-fn join_other(waiting: &mut Waiting, prefix: &[u8], fault: &mut yaml_fault_t) -> bool
-    ensures joined { result ≡ true
-        → waiting.new.handle.items ≡ prefix.now ++ waiting.old.suffix.items }
-    ensures none { result ≡ false → fault_of fault.new ≡ memory_fault Parser }
-    ensures same { waiting.new ≡ record waiting.old { handle = waiting.new.handle } }
-{
-    join(waiting, prefix, fault)
-}
-
 // Puts the tag in full in the place of its handle, of which no directive says what it stands for.
-// Inlined: some comparisons.
-#[inline(always)]
 fn resolve_default(waiting: &mut Waiting, fault: &mut yaml_fault_t) -> bool
     ensures resolves { Resolves (option_map (λ prefix. prefix ++ waiting.old.suffix.items)
         (default_prefix waiting.old.handle.items)) waiting.old.tag_from waiting.old.from result
@@ -141,8 +128,6 @@ fn resolve_default(waiting: &mut Waiting, fault: &mut yaml_fault_t) -> bool
 }
 
 // Puts the tag in full in the place of its handle.
-// Inlined into its two callers.
-#[inline(always)]
 fn resolve(tags: &TagDirectives, waiting: &mut Waiting, fault: &mut yaml_fault_t) -> bool
     ensures resolves { Resolves (resolved tags.now waiting.old.handle.items
         waiting.old.suffix.items) waiting.old.tag_from waiting.old.from result
@@ -151,17 +136,15 @@ fn resolve(tags: &TagDirectives, waiting: &mut Waiting, fault: &mut yaml_fault_t
 {
     let handle = waiting.handle.as_slice();
     if handle.is_empty() {
-        return join_other(waiting, b"".as_slice(), fault);
+        return join(waiting, b"".as_slice(), fault);
     }
     match tags.prefix_of(handle) {
-        Some(prefix) => join_other(waiting, prefix, fault),
+        Some(prefix) => join(waiting, prefix, fault),
         None => resolve_default(waiting, fault),
     }
 }
 
 // Puts the tag in full in the place of its handle, if there is one.
-// Inlined into its two callers.
-#[inline(always)]
 fn resolve_if(tags: &TagDirectives, waiting: &mut Waiting, fault: &mut yaml_fault_t) -> bool
     ensures names { (anchor : Option (List ℕ)) (shape : item.Shape) (ds : DirectivesSpec)
         → ds.tags ≡ tags.now → Names (settle_body (item.node anchor
@@ -173,6 +156,65 @@ fn resolve_if(tags: &TagDirectives, waiting: &mut Waiting, fault: &mut yaml_faul
 {
     if waiting.has_tag {
         resolve(tags, waiting, fault)
+    } else {
+        true
+    }
+}
+
+// Puts a short tag in full in the place of its handle, where there is room for it.
+// Inlined: the prefix is known, and so it is two moves.
+#[inline(always)]
+fn joins_at_once(waiting: &mut Waiting, prefix: &[u8]) -> bool
+    ensures joined { result ≡ true
+        → waiting.new.handle.items ≡ prefix.now ++ waiting.old.suffix.items }
+    ensures kept { result ≡ false → waiting.new ≡ waiting.old }
+    ensures same { waiting.new ≡ record waiting.old { handle = waiting.new.handle } }
+{
+    let suffix = waiting.suffix.as_slice();
+    if SHORT < suffix.len() || waiting.handle.capacity() < prefix.len() + suffix.len() {
+        return false;
+    }
+    waiting.handle.clear();
+    let mut own = moved(&mut waiting.handle);
+    put_each(&mut own, prefix);
+    put_short(&mut own, suffix);
+    put_back(&mut waiting.handle, own);
+    true
+}
+
+// The same, where its handle is a default one.
+// Inlined: some comparisons.
+#[inline(always)]
+fn default_at_once(waiting: &mut Waiting) -> bool
+    ensures resolves { result ≡ true → option_map (λ prefix. prefix ++ waiting.old.suffix.items)
+        (default_prefix waiting.old.handle.items) ≡ Some waiting.new.handle.items }
+    ensures kept { result ≡ false → waiting.new ≡ waiting.old }
+    ensures same { waiting.new ≡ record waiting.old { handle = waiting.new.handle } }
+{
+    let handle = waiting.handle.as_slice();
+    if handle == b"!".as_slice() {
+        joins_at_once(waiting, b"!".as_slice())
+    } else if handle == b"!!".as_slice() {
+        joins_at_once(waiting, SECONDARY_PREFIX)
+    } else {
+        false
+    }
+}
+
+// Whether there is no tag, or a short one with a default handle, which is put in full in the handle's place.
+// Inlined, and with no call: so registers are put aside for other tags alone.
+#[inline(always)]
+fn resolves_at_once(tags: &TagDirectives, waiting: &mut Waiting) -> bool
+    ensures names { result ≡ true → (anchor : Option (List ℕ)) (shape : item.Shape)
+        (ds : DirectivesSpec) → ds.tags ≡ tags.now → settle_body (item.node anchor
+        (tag_if waiting.old.has_tag waiting.old.handle.items waiting.old.suffix.items
+        waiting.old.tag_from) shape) waiting.old.from ds ≡ gave (node_event anchor
+        (text_if waiting.old.has_tag waiting.new.handle.items) shape) ds }
+    ensures kept { result ≡ false → waiting.new ≡ waiting.old }
+    ensures same { waiting.new ≡ record waiting.old { handle = waiting.new.handle } }
+{
+    if waiting.has_tag {
+        tags.is_empty() && default_at_once(waiting)
     } else {
         true
     }
@@ -290,7 +332,33 @@ pub(crate) fn start_document(
     }
 }
 
-/// The event of a node behind the properties that waited, or a fault: its tag's handle stands for nothing.
+/// The event of a node behind the properties that waited, where there is no tag, or it is resolved at once. Answers whether it is.
+// Inlined into its one caller, which is out of line.
+#[inline(always)]
+pub fn tell_at_once(
+    tags: &TagDirectives,
+    shape: Shape,
+    waiting: &mut Waiting,
+    token: &mut TokenSlot,
+    event: &mut yaml_event_t,
+) -> bool
+    ensures comes { result ≡ true → (ds : DirectivesSpec) (f : Fault) → ds.tags ≡ tags.now
+        → ComesTo (named_item shape (properties_of waiting.old) (token_in_slot token.old)) ds
+        settled.Event (event_of event.new) f ds }
+    ensures waiting { result ≡ false → waiting.new ≡ waiting.old }
+    ensures token { result ≡ false → token.new ≡ token.old }
+{
+    if resolves_at_once(tags, waiting) {
+        event.start_mark = mark_again(&waiting.from);
+        event.end_mark = mark_again(&token.end_mark);
+        tell_named(shape, waiting, &mut token.body, &mut event.body);
+        true
+    } else {
+        false
+    }
+}
+
+/// The same, whatever they are, or a fault: the tag's handle stands for nothing.
 // Inlined into its one caller, which is out of line.
 #[inline(always)]
 pub fn settle_named(

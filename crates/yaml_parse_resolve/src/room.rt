@@ -1,13 +1,14 @@
 //! The room of texts that are done with.
 
-ghost use Rattle.std.specs.Prelude.{◌≡◌, None, true, vec_capacity};
+ghost use Rattle.std.specs.Prelude.{◌≡◌, None, true, false, vec_capacity};
 ghost use Rattle.yaml_parse_model.specs.Events.{text_of};
 ghost use Rattle.yaml_parse_core.specs.Views.{text_if};
 ghost use Rattle.yaml_parse_resolve.specs.Bare.{OwnsNothing};
 
 use std::mem;
+use yaml_parse_core::Rooms;
 use yaml_parse_model::yaml_event_body_t;
-use yaml_scan_model::{Spares, lifted, put_back, spare};
+use yaml_scan_model::{lifted, put_back};
 
 /// Puts an event into a slot that holds no text. The earlier one isn't dropped: that would look at each kind of event.
 // Inlined: it is built in its place.
@@ -32,16 +33,17 @@ fn leaves(text: &mut Vec<u8>, room: &mut Vec<u8>) -> bool
     }
 }
 
-// The same of an anchor.
-// No hint: LLVM inlines it, since it is short.
-fn leaves_anchor(anchor: &mut Option<Vec<u8>>, room: &mut Vec<u8>) -> bool
-    ensures { result ≡ true → anchor.new ≡ None }
+/// The same of an anchor or a tag.
+// Inlined: see `leaves`.
+#[inline(always)]
+pub(crate) fn leaves_name(name: &mut Option<Vec<u8>>, room: &mut Vec<u8>) -> bool
+    ensures { result ≡ true → name.new ≡ None }
 {
-    match anchor {
+    match name {
         None => true,
         Some(it) => {
             if leaves(it, room) {
-                mem::forget(mem::replace(anchor, None));
+                mem::forget(mem::replace(name, None));
                 true
             } else {
                 false
@@ -83,104 +85,49 @@ pub(crate) fn clears(earlier: &mut yaml_event_body_t, room: &mut Vec<u8>) -> boo
     }
 }
 
-/// The same of any one text.
+/// The same of all texts, each into the place for the room of its like.
 // Inlined into calls that are out of line: what it doesn't clear is left to further ones, so that no register is put aside.
 #[inline(always)]
-pub(crate) fn clears_any(earlier: &mut yaml_event_body_t, room: &mut Vec<u8>) -> bool
+pub(crate) fn clears_any(earlier: &mut yaml_event_body_t, rooms: &mut Rooms) -> bool
     ensures { result ≡ true → OwnsNothing earlier.new }
 {
     match *earlier {
-        yaml_event_body_t::Alias { ref mut anchor } => leaves(anchor, room),
-        yaml_event_body_t::SequenceStart {
-            ref mut anchor,
-            tag: None,
-            ..
-        } => leaves_anchor(anchor, room),
-        yaml_event_body_t::MappingStart {
-            ref mut anchor,
-            tag: None,
-            ..
-        } => leaves_anchor(anchor, room),
-        _ => clears(earlier, room),
-    }
-}
-
-// Takes a text out of its place, if there is one, and keeps its room.
-// Inlined: some moves.
-#[inline(always)]
-pub(crate) fn keep_text(text: &mut Option<Vec<u8>>, spares: &mut Spares)
-    ensures { text.new ≡ None }
-{
-    if let Some(it) = text {
-        let room = lifted(it);
-        mem::forget(mem::replace(text, None));
-        spares.keep(room);
-    }
-}
-
-// Takes a text out of its place, if there is one, or else a spare one.
-// Inlined: some moves.
-#[inline(always)]
-fn taken(text: &mut Option<Vec<u8>>, spares: &mut Spares) -> Vec<u8>
-    ensures { text.new ≡ None }
-{
-    match text {
-        Some(it) => {
-            let room = lifted(it);
-            mem::forget(mem::replace(text, None));
-            room
-        }
-        None => spare(spares),
-    }
-}
-
-/// Takes what a slot of events holds out of it. Answers a room, of one of its texts or a spare one; those of others are kept.
-// Inlined: a choice by the kind.
-#[inline(always)]
-pub(crate) fn emptied(earlier: &mut yaml_event_body_t, spares: &mut Spares) -> Vec<u8>
-    ensures { OwnsNothing earlier.new }
-{
-    match *earlier {
+        yaml_event_body_t::Alias { ref mut anchor } => leaves(anchor, &mut rooms.text),
         yaml_event_body_t::Scalar {
             ref mut anchor,
             ref mut tag,
             ref mut value,
             ..
-        } => {
-            spares.keep(lifted(value));
-            keep_text(tag, spares);
-            taken(anchor, spares)
-        }
-        yaml_event_body_t::Alias { ref mut anchor } => lifted(anchor),
+        } => leaves_names(anchor, tag, rooms) && leaves(value, &mut rooms.text),
         yaml_event_body_t::SequenceStart {
             ref mut anchor,
             ref mut tag,
             ..
-        } => {
-            keep_text(tag, spares);
-            taken(anchor, spares)
-        }
+        } => leaves_names(anchor, tag, rooms),
         yaml_event_body_t::MappingStart {
             ref mut anchor,
             ref mut tag,
             ..
-        } => {
-            keep_text(tag, spares);
-            taken(anchor, spares)
-        }
-        yaml_event_body_t::DocumentStart { .. } => {
-            clear(earlier);
-            spare(spares)
-        }
-        _ => spare(spares),
+        } => leaves_names(anchor, tag, rooms),
+        yaml_event_body_t::DocumentStart { .. } => false,
+        _ => true,
     }
 }
 
-// Lets go of what a slot of events holds.
-// Out of line, and cold: few slots hold directives.
+// The same of an anchor and a tag.
+// Inlined: see `leaves`.
+#[inline(always)]
+fn leaves_names(anchor: &mut Option<Vec<u8>>, tag: &mut Option<Vec<u8>>, rooms: &mut Rooms) -> bool
+    ensures { result ≡ true → (anchor.new ≡ None) × (tag.new ≡ None) }
+{
+    leaves_name(anchor, &mut rooms.anchor) && leaves_name(tag, &mut rooms.tag)
+}
+
+/// Lets go of what a slot of events holds.
+// Out of line, and cold: few slots hold directives, or texts of which the room is there already.
 #[cold]
 #[inline(never)]
-fn clear(earlier: &mut yaml_event_body_t)
+pub(crate) fn clear(earlier: &mut yaml_event_body_t)
     ensures { OwnsNothing earlier.new }
 {
     *earlier = yaml_event_body_t::No;
@@ -196,34 +143,33 @@ pub(crate) fn exchange_texts(x: &mut Vec<u8>, y: &mut Vec<u8>)
     put_back(y, own);
 }
 
-/// The text, if it is one that is to be there, in a place for one. In its own place the earlier one's room is left, or a spare one.
+// The text, moved out of its place, in which the room is left.
+// Inlined: some moves.
+#[inline(always)]
+fn moved_out(text: &mut Vec<u8>, room: &mut Vec<u8>) -> Vec<u8>
+    ensures { result.items ≡ text.old.items }
+{
+    let own = lifted(text);
+    put_back(text, lifted(room));
+    own
+}
+
+/// The text, if it is one that is to be there, in a place for one. In its own place the earlier one's room is left, or another one.
 // Inlined: mostly it is known whether it is to be there.
 #[inline(always)]
 pub(crate) fn exchange(
     place: &mut Option<Vec<u8>>,
     is_there: bool,
     text: &mut Vec<u8>,
-    spares: &mut Spares,
+    room: &mut Vec<u8>,
 )
+    requires { is_there ≡ false → text_of place.old ≡ None }
     ensures { text_of place.new ≡ text_if is_there text.old.items }
 {
     if is_there {
         match place {
-            None => mem::forget(mem::replace(place, Some(moved_out(text, spares)))),
+            None => mem::forget(mem::replace(place, Some(moved_out(text, room)))),
             Some(last) => exchange_texts(last, text),
         }
-    } else {
-        keep_text(place, spares);
     }
-}
-
-// The text, moved out of its place, in which a spare one is left.
-// Inlined: some moves.
-#[inline(always)]
-fn moved_out(text: &mut Vec<u8>, spares: &mut Spares) -> Vec<u8>
-    ensures { result.items ≡ text.old.items }
-{
-    let own = lifted(text);
-    put_back(text, spare(spares));
-    own
 }

@@ -1,19 +1,19 @@
 //! Other events in a slot of events.
 
-ghost use Rattle.std.specs.Prelude.{◌≡◌, if◌then◌else◌};
-ghost use Rattle.yaml_parse_model.specs.Events.{body_of, text_of};
+ghost use Rattle.std.specs.Prelude.{◌≡◌, None, if◌then◌else◌};
+ghost use Rattle.yaml_parse_model.specs.Events.{body_of};
 ghost use Rattle.yaml_parse_model.specs.Events as told;
 ghost use Rattle.yaml_parse_grammar.specs.Items as item;
 ghost use Rattle.yaml_parse_grammar.specs.Resolve.{node_event};
-ghost use Rattle.yaml_parse_resolve.specs.Bare.{OwnsNothing};
+ghost use Rattle.yaml_parse_resolve.specs.Bare.{IsUnnamed, OwnsNothing};
 
-use crate::room::{clears_any, emptied, put_bare};
+use crate::room::{clear, clears_any, put_bare};
 use std::mem;
 use yaml_parse_core::Waiting;
 use yaml_parse_model::{
-    yaml_event_body_t, yaml_event_t, yaml_mapping_style_t, yaml_sequence_style_t,
+    moved, yaml_event_body_t, yaml_event_t, yaml_mapping_style_t, yaml_sequence_style_t,
 };
-use yaml_scan_model::{Spares, lifted};
+use yaml_scan_model::lifted;
 
 /// Another event in the slot.
 // Inlined: the new one's kind is known.
@@ -51,22 +51,12 @@ pub(crate) fn end_collection(is_sequence: bool, slot: &mut yaml_event_body_t)
 pub(crate) fn end_over(is_sequence: bool, waiting: &mut Waiting, slot: &mut yaml_event_body_t)
     ensures { body_of slot.new ≡ (if is_sequence then told.sequence_end else told.mapping_end) }
 {
-    if clears_any(slot, &mut waiting.room) {
+    if clears_any(slot, &mut waiting.rooms) {
         end_collection(is_sequence, slot);
     } else {
-        end_over_more(is_sequence, &mut waiting.spares, slot);
+        clear(slot);
+        end_collection(is_sequence, slot);
     }
-}
-
-// The same, where the slot holds more than a text.
-// Out of line: mostly it holds one at most.
-#[inline(never)]
-fn end_over_more(is_sequence: bool, spares: &mut Spares, slot: &mut yaml_event_body_t)
-    ensures { body_of slot.new ≡ (if is_sequence then told.sequence_end else told.mapping_end) }
-{
-    let room = emptied(slot, spares);
-    spares.keep(room);
-    end_collection(is_sequence, slot);
 }
 
 /// An alias. The room of an earlier text is left in place of the name.
@@ -75,21 +65,22 @@ fn end_over_more(is_sequence: bool, spares: &mut Spares, slot: &mut yaml_event_b
 pub(crate) fn put_alias(slot: &mut yaml_event_body_t, name: &mut Vec<u8>, waiting: &mut Waiting)
     ensures { body_of slot.new ≡ told.alias name.old.items }
 {
-    if clears_any(slot, &mut waiting.room) {
-        start_alias(slot, mem::replace(name, lifted(&mut waiting.room)));
+    if clears_any(slot, &mut waiting.rooms) {
+        start_alias(slot, mem::replace(name, lifted(&mut waiting.rooms.text)));
     } else {
-        alias_over(slot, name, &mut waiting.spares);
+        alias_over(slot, name);
     }
 }
 
-// The same, where the slot holds more than a text.
-// Out of line: mostly it holds one at most.
+// The same, where not all texts' rooms are kept.
+// Out of line and cold: see `clear`.
+#[cold]
 #[inline(never)]
-fn alias_over(slot: &mut yaml_event_body_t, name: &mut Vec<u8>, spares: &mut Spares)
+fn alias_over(slot: &mut yaml_event_body_t, name: &mut Vec<u8>)
     ensures { body_of slot.new ≡ told.alias name.old.items }
 {
-    let room = emptied(slot, spares);
-    start_alias(slot, mem::replace(name, room));
+    clear(slot);
+    start_alias(slot, moved(name));
 }
 
 // An alias, in a slot that holds no text.
@@ -114,45 +105,35 @@ fn start_alias(slot: &mut yaml_event_body_t, anchor: Vec<u8>)
     }
 }
 
-/// A sequence begins.
+/// A sequence begins without properties.
 // Inlined: it is built in its place.
 #[inline(always)]
-pub(crate) fn start_sequence(
-    anchor: Option<Vec<u8>>,
-    tag: Option<Vec<u8>>,
-    style: yaml_sequence_style_t,
-    slot: &mut yaml_event_body_t,
-)
+pub(crate) fn start_sequence(style: yaml_sequence_style_t, slot: &mut yaml_event_body_t)
     requires { OwnsNothing slot.old }
-    ensures { body_of slot.new ≡ node_event (text_of anchor) (text_of tag) (item.sequence style) }
+    ensures unnamed { IsUnnamed slot.new }
+    ensures body { body_of slot.new ≡ node_event None None (item.sequence style) }
 {
-    let implicit = tag.is_none();
     let start = yaml_event_body_t::SequenceStart {
-        anchor,
-        tag,
-        implicit,
+        anchor: None,
+        tag: None,
+        implicit: true,
         style,
     };
     put_bare(slot, start);
 }
 
-/// A mapping begins.
+/// A mapping begins without properties.
 // Inlined: see `start_sequence`.
 #[inline(always)]
-pub(crate) fn start_mapping(
-    anchor: Option<Vec<u8>>,
-    tag: Option<Vec<u8>>,
-    style: yaml_mapping_style_t,
-    slot: &mut yaml_event_body_t,
-)
+pub(crate) fn start_mapping(style: yaml_mapping_style_t, slot: &mut yaml_event_body_t)
     requires { OwnsNothing slot.old }
-    ensures { body_of slot.new ≡ node_event (text_of anchor) (text_of tag) (item.mapping style) }
+    ensures unnamed { IsUnnamed slot.new }
+    ensures body { body_of slot.new ≡ node_event None None (item.mapping style) }
 {
-    let implicit = tag.is_none();
     let start = yaml_event_body_t::MappingStart {
-        anchor,
-        tag,
-        implicit,
+        anchor: None,
+        tag: None,
+        implicit: true,
         style,
     };
     put_bare(slot, start);

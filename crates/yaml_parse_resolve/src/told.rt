@@ -88,7 +88,7 @@ pub fn settle_end(
 {
     event.start_mark = mark_again(&token.start_mark);
     event.end_mark = mark_again(&token.end_mark);
-    if clears(&mut event.body, &mut waiting.room) {
+    if clears(&mut event.body, &mut waiting.rooms.text) {
         end_collection(is_sequence, &mut event.body);
     } else {
         end_over(is_sequence, waiting, &mut event.body);

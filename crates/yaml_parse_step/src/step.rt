@@ -26,7 +26,7 @@ use yaml_parse_grammar::ParseProblem;
 use yaml_parse_model::{Lent, TokenSlot, TokenTaker, yaml_event_t, yaml_token_source_t};
 use yaml_parse_resolve::{
     Directives, Settled, lack_memory, refuse, settle_alias, settle_end, settle_implied,
-    settle_named, settle_opened, settle_told, tell_node,
+    settle_named, settle_opened, settle_told, tell_at_once, tell_node,
 };
 use yaml_scan_model::{yaml_fault_t, yaml_mark_t};
 
@@ -113,6 +113,27 @@ fn tell(
 // Out of line: few have them.
 #[inline(never)]
 fn step_named(
+    shape: Shape,
+    buffers: &mut StepBuffers,
+    token: &mut TokenSlot,
+    event: &mut yaml_event_t,
+    fault: &mut yaml_fault_t,
+) -> Step
+    ensures { Goes (kinds.named shape) (token_in_slot token.old) buffers.old result
+        (event_of event.new) (fault_of fault.new) buffers.new }
+{
+    let tags = &buffers.directives.tags;
+    if tell_at_once(tags, shape, &mut buffers.waiting, token, event) {
+        Step::Given
+    } else {
+        step_tagged(shape, buffers, token, event, fault)
+    }
+}
+
+// The same behind any properties.
+// Out of line: so that registers are put aside for other tags alone.
+#[inline(never)]
+fn step_tagged(
     shape: Shape,
     buffers: &mut StepBuffers,
     token: &mut TokenSlot,

@@ -1,9 +1,21 @@
-use Rattle.std.proofs.Common.{◌==◌, List, length, ap, sym, ◌∙◌}
-use Rattle.yaml_parse_model.specs.declared.yaml_tag_directive_t.{yaml_tag_directive_t}
-use Rattle.yaml_parse_resolve.proofs.HandleTable.{untold}
+use Rattle.std.proofs.Common.{ℕ, List, Some, option_map, Vec, ap, ◌∙◌}
+use Rattle.std.specs.Global.{Global}
+use Rattle.yaml_parse_model.specs.Events.{TagDirective}
+use Rattle.yaml_parse_grammar.specs.Resolve.{directive_for}
+use Rattle.yaml_parse_resolve.proofs.HandleTable.{looked}
 use Rattle.yaml_parse_resolve.proofs.handles.TagDirectives.prefix_of.Goals as goal
 
-pub returns-then-is_empty : goal.returns-then-is_empty
-returns-then-is_empty c =
-    untold c.args.handle.now c.self.inside.list.items c.args.self.now c.self.view_is
-    (ap (λ (ts : List yaml_tag_directive_t). length ts == 0) (sym c.as_slice.ensures.value) ∙ sym c.is_empty.ensures ∙ c.if-is_empty.true)
+pub returns-in-Some : goal.returns-in-Some
+returns-in-Some c =
+    ap Some c.as_slice.ensures.value
+    ∙ ap (option_map (λ (v : Vec ℕ Global). v.items)) c.in-Some.ensures.value
+    ∙ looked c.args.handle.now c.self.inside.prefixes.entries
+    ∙ c.self.invariant c.args.handle.now
+    ∙ ap (λ (ts : List TagDirective). directive_for c.args.handle.now ts) c.self.view_is
+
+pub returns-in-None : goal.returns-in-None
+returns-in-None c =
+    ap (option_map (λ (v : Vec ℕ Global). v.items)) c.in-None.ensures.value
+    ∙ looked c.args.handle.now c.self.inside.prefixes.entries
+    ∙ c.self.invariant c.args.handle.now
+    ∙ ap (λ (ts : List TagDirective). directive_for c.args.handle.now ts) c.self.view_is

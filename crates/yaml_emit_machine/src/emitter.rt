@@ -344,7 +344,7 @@ pub fn take_event(emitter: &mut yaml_emitter_t, event: &mut yaml_event_body_t)
     }
 }
 
-/// Lays out an event at once, where none is held, in canonical form, where it has no properties and begins a line; else nothing.
+/// Lays out an event of a node at once, where none is held, in canonical form, where it begins a line; else nothing.
 // Inlined: see `Core::places_scalar`.
 #[inline(always)]
 pub fn place(emitter: &mut yaml_emitter_t, event: &yaml_event_body_t) -> bool
@@ -359,7 +359,7 @@ pub fn place(emitter: &mut yaml_emitter_t, event: &yaml_event_body_t) -> bool
     if emitter.core.places_scalar(event) {
         return true;
     }
-    if emitter.core.places_bracket(event) {
+    if emitter.core.places_other(event) {
         note(&emitter.core, &mut emitter.fault);
         return true;
     }

@@ -1,8 +1,8 @@
 -- What stands in its line in double quotes in canonical form: scalars without properties, and texts with the default tag and without
 -- an anchor; and what opens collections.
-use Rattle.std.proofs.Common.{◌≡◌, ℕ, Bool, true, false, refl, sym, ◌∙◌, ap, List, [], Option, Some, None, ◌+◌, subst, ◌∷◌, ◌++◌}
+use Rattle.std.proofs.Common.{◌≡◌, ℕ, Bool, true, false, refl, sym, ◌∙◌, ap, append-nil, List, [], Option, Some, None, ◌+◌, subst, ◌∷◌, ◌++◌}
 use Rattle.std.proofs.Math.Bool.{and-false, and-true}
-use Rattle.std.specs.Prelude.{◌&&◌, codes, nat_le, not, ◌||◌, if◌then◌else◌}
+use Rattle.std.specs.Prelude.{◌&&◌, ◌==◌, length, codes, nat_le, not, ◌||◌, if◌then◌else◌}
 use Rattle.std.specs.Str.{chars, IsAscii}
 use Rattle.yaml_emit_tags.specs.parse_model.Events.{TagDirective}
 use Rattle.yaml_emit_tags.specs.parse_model.Nodes.{str_tag}
@@ -10,23 +10,26 @@ use Rattle.yaml_emit_tags.specs.Tags.{tag_spelling, spelled, directive_for, defi
 use Rattle.yaml_emit_text.specs.declared.Settings.{Settings}
 use Rattle.yaml_emit_text.specs.declared.Status.TheVariants.{Going}
 use Rattle.yaml_emit_text.specs.Sink.{Output, Puts}
-use Rattle.yaml_emit_text.proofs.Sinks.{puts_nothing}
-use Rattle.yaml_emit_text.specs.Layout.{◌▹◌, word, Layout, stay, when, char, letters, line, opener, after_block}
+use Rattle.yaml_emit_text.specs.declared.Style.TheVariants as style
+use Rattle.yaml_emit_text.proofs.Sinks.{puts_both, puts_nothing, puts_unless}
+use Rattle.yaml_emit_text.specs.Layout.{◌▹◌, word, Layout, stay, when, char, gap, letters, line, opener, after_block}
 use Rattle.yaml_emit_text.specs.Quoted.{double_quoted}
 use Rattle.yaml_emit_text.specs.Scalars.{scalar_text}
 use Rattle.yaml_emit_layout.specs.declared.Expected.{Expected}
 use Rattle.yaml_emit_layout.specs.declared.Expected.TheVariants as at
+use Rattle.yaml_emit_layout.specs.declared.Problem.TheVariants.{AliasEmpty, AliasCharacters, AnchorEmpty, AnchorCharacters}
 use Rattle.yaml_emit_layout.specs.declared.Level.{Level}
 use Rattle.yaml_emit_layout.specs.declared.NodePosition.{NodePosition}
-use Rattle.yaml_emit_layout.specs.Content.{Scalar, scalar, Start, sequence_start, mapping_start}
-use Rattle.yaml_emit_layout.specs.Grammar.{ends_phase, event_problem, last_problem, place_problem, problem_by}
-use Rattle.yaml_emit_layout.specs.State.{is_fresh, is_simple_event, among, before_at, closer_at, outer_of, before_node, levels_behind, position_of, top_of, start_text, text_at, next_at, depth_at}
-use Rattle.yaml_emit_layout.specs.Nodes.{Context, MOST, closer, context_of, deep_if, is_simple_scalar, checked, deeper, page_at, scalar_layout, style_of, turned, before_item, before_key, before_value, is_simple_start, is_flow}
+use Rattle.yaml_emit_layout.specs.Content.{Scalar, alias, scalar, Start, sequence_start, mapping_start}
+use Rattle.yaml_emit_layout.specs.Grammar.{anchor_problem, ends_phase, event_problem, has, last_problem, place_problem, problem_by}
+use Rattle.yaml_emit_layout.specs.State.{is_fresh, is_simple_event, among, before_at, closer_at, outer_of, before_node, levels_behind, part_at, position_of, top_of, start_text, text_at, next_at, depth_at}
+use Rattle.yaml_emit_layout.specs.Nodes.{Context, MOST, alias_layout, anchor_text, is_simple_part, closer, context_of, deep_if, is_simple_scalar, checked, deeper, page_at, scalar_layout, style_of, turned, before_item, before_key, before_value, is_simple_start, is_flow}
 use Rattle.yaml_emit_state.specs.declared.state.Core.{Core}
 use Rattle.yaml_emit_state.specs.Due.{is_key}
 use Rattle.yaml_emit_state.specs.Given.{closing_bracket, ending, opening, opening_bracket}
 use Rattle.yaml_emit_state.specs.Steps.{first_phase, state_of, settings_of, LaysOut, LaysOutRight, StaysBut, OpensCollection}
-use Rattle.yaml_emit_state.proofs.Keyed.{lays_end, no_keys, not_deep, lays_scalar, lays_in_place}
+use Rattle.yaml_emit_state.proofs.Keyed.{lays_alias, lays_end, no_keys, not_deep, lays_scalar, lays_in_place}
+use Rattle.yaml_emit_state.proofs.Names.{name_right}
 use Rattle.std.proofs.lemmas.Bool.{and_parts, false≢true}
 use Rattle.yaml_emit_text.specs.Tame.{IsLined}
 use Rattle.yaml_emit_text.specs.LineStarts.{mark_word, sign_of, line_start_text}
@@ -34,7 +37,7 @@ use Rattle.yaml_emit_text.proofs.LineStarts.{Worded, puts_signed, quoted_worded,
 use Rattle.yaml_emit_layout.specs.declared.Phase.{Phase}
 use Rattle.yaml_emit_layout.specs.declared.Phase.TheVariants.{Items, Keys, Value}
 use Rattle.yaml_emit_state.specs.Bare.{has_none}
-use Rattle.yaml_emit_state.specs.Framed.{has_comma, mark_of, is_behind_simple, line_start, end_start, BeginsLine, Placed, is_bare, is_free, IsFramed, front_text, framed_text}
+use Rattle.yaml_emit_state.specs.Framed.{has_comma, mark_of, is_behind_simple, line_start, end_start, BeginsLine, Leads, Placed, is_free, is_name, is_said, is_bare, IsFramed, front_text, tag_or_mark, framed_text}
 use Rattle.yaml_emit_state.specs.Stack.{stack_of}
 use Rattle.yaml_emit_state.proofs.Unmarked.{Parts, parts_right, none_given, unchecked_behind}
 use Rattle.yaml_emit_state.proofs.Noting.{lays_right}
@@ -193,10 +196,9 @@ lays_start false old new o s top q x simple flow empty is upper asked way bracke
 
 -- ---- without properties, where a node is due in canonical form
 
-pub bare_opening : (sequence : Bool) (q : Start) → has_none q.anchor q.tag ≡ true
-    → is_bare (opening sequence q) ≡ true
-bare_opening true q h = h
-bare_opening false q h = h
+bare_opening : (sequence : Bool) (q : Start) → is_bare (opening sequence q) ≡ true
+bare_opening true q = refl
+bare_opening false q = refl
 
 bare_ending : (sequence : Bool) → is_bare (ending sequence) ≡ true
 bare_ending true = refl
@@ -204,36 +206,160 @@ bare_ending false = refl
 
 -- nothing is wrong with it
 start_right : (canonical : Bool) (place : Expected) (top : Option Level) (sequence : Bool)
-    (q : Start) → canonical ≡ true → place ≡ at.Node → q.anchor ≡ None → q.tag ≡ None
+    (q : Start) (anchor : Option (List ℕ)) → canonical ≡ true → place ≡ at.Node
+    → anchor_problem anchor ≡ None → q.anchor ≡ anchor → q.tag ≡ None
     → problem_by canonical place top (opening sequence q) ≡ None
 unfolding problem_by event_problem place_problem last_problem
-start_right canonical place None true q e h a t = rw (e, h, a, t) refl
-start_right canonical place None false q e h a t = rw (e, h, a, t) refl
-start_right canonical place (Some l) true q e h a t = rw (e, h, a, t) refl
-start_right canonical place (Some l) false q e h a t = rw (e, h, a, t) refl
+start_right canonical place None true q anchor e h n a t = rw (e, h, a, n, t) refl
+start_right canonical place None false q anchor e h n a t = rw (e, h, a, n, t) refl
+start_right canonical place (Some l) true q anchor e h n a t = rw (e, h, a, n, t) refl
+start_right canonical place (Some l) false q anchor e h n a t = rw (e, h, a, n, t) refl
 
--- a bracket alone
+-- a bracket behind an anchor, or alone
 bracket_start : (s : Settings) (ds : List TagDirective) (at : NodePosition) (x : ℕ) (q : Start)
-    (empty : Bool) → s.canonical ≡ true → q.anchor ≡ None → q.tag ≡ None
-    → opener x ≡ start_text (context_of s ds) at x q empty
-bracket_start s ds at x q empty e a t = rw (e, a, t) refl
+    (anchor : Option (List ℕ)) (empty : Bool) → s.canonical ≡ true → q.anchor ≡ anchor
+    → q.tag ≡ None → (anchor_text anchor ▹ opener x) ≡ start_text (context_of s ds) at x q empty
+bracket_start s ds at x q anchor empty e a t = rw (e, a, t) refl
 
 -- it was laid out
 pub lays_bracket : (old new : Core) (o : Output) (s : Settings) (top : Option Level) (x : ℕ)
-    (sequence : Bool) (q : Start) (empty : Bool) → s ≡ settings_of old
+    (sequence : Bool) (q : Start) (anchor : Option (List ℕ)) → s ≡ settings_of old
     → top ≡ top_of (stack_of old.levels) → x ≡ opening_bracket sequence
-    → old.settings.canonical ≡ true → old.place ≡ at.Node → q.anchor ≡ None → q.tag ≡ None
-    → Puts old.sink o (before_node s top false ▹ opener x)
+    → old.settings.canonical ≡ true → old.place ≡ at.Node → anchor_problem anchor ≡ None
+    → q.anchor ≡ anchor → q.tag ≡ None
+    → Puts old.sink o (before_node s top false ▹ (anchor_text anchor ▹ opener x))
     → OpensCollection s (record old { sink = o }) new false true sequence
-    → LaysOut old new (opening sequence q) empty
+    → old.sink.status ≡ Going → Placed old (opening sequence q) new
 unfolding is_simple_event
-lays_bracket old new o s top x sequence q empty is upper bracket form due a t put moved =
+lays_bracket old new o s top x sequence q anchor is upper bracket form due n a t put moved there =
     let A : Layout → Type 0 = λ z. Puts old.sink o (before_node s top false ▹ z) in
     let canonical : s.canonical ≡ true = rw is form in
-    lays_in_place old new (opening sequence q) empty
-    (start_right (settings_of old).canonical old.place (top_of (stack_of old.levels)) sequence q form due a t)
-    (lays_start sequence old new o s top q x false true empty is upper (no_keys (context_of s old.directives) (sequence_start q) empty canonical) (rw canonical refl) bracket
-    (subst A (bracket_start s old.directives (position_of top false) x q empty canonical a t) put) moved)
+    record {
+      laid = λ empty.
+          lays_in_place old new (opening sequence q) empty
+          (start_right (settings_of old).canonical old.place (top_of (stack_of old.levels)) sequence q anchor form due n a t)
+          (lays_start sequence old new o s top q x false true empty is upper (no_keys (context_of s old.directives) (sequence_start q) empty canonical) (rw canonical refl) bracket
+          (subst A (bracket_start s old.directives (position_of top false) x q anchor empty canonical a t) put) moved);
+      going = there;
+      form = form;
+      due = due;
+      bare = bare_opening sequence q;
+    }
+
+-- ---- behind a name
+
+-- an alias is no key
+plain_in : (p : Phase) → is_simple_part (part_at p false) ≡ false
+plain_in (Items fresh) = refl
+plain_in (Keys fresh) = refl
+plain_in (Value was_simple) = refl
+
+plain_part : (top : Option Level) → is_simple_part (position_of top false).part ≡ false
+plain_part None = refl
+plain_part (Some l) = plain_in l.phase
+
+alias_written : (top : Option Level) (before : Layout) (name : List ℕ) (a b : Output)
+    → Puts a b (before ▹ word (42 ∷ name)) → Puts a b (before ▹ alias_layout (position_of top false) name)
+unfolding alias_layout
+alias_written top before name a b p = puts_both a b b _ (when (is_simple_part (position_of top false).part) (char 32)) p (puts_unless b _ (char 32) (plain_part top))
+
+alias_right : (canonical : Bool) (place : Expected) (top : Option Level) (name : List ℕ)
+    → place ≡ at.Node → is_name name ≡ true → problem_by canonical place top (alias name) ≡ None
+unfolding problem_by event_problem place_problem last_problem
+alias_right canonical place None name h n = rw (h, name_right AliasEmpty AliasCharacters name n) refl
+alias_right canonical place (Some l) name h n = rw (h, name_right AliasEmpty AliasCharacters name n) refl
+
+-- what lies round the output is as it was before the name
+led_state : (first : ℕ) (name end : List ℕ) (old mid new : Core) → Leads first name end old mid
+    → state_of new ≡ among mid.directives (levels_behind (stack_of mid.levels) false)
+    → state_of new ≡ among old.directives (levels_behind (stack_of old.levels) false)
+led_state first name end old mid new l moved = rw (ap (λ (z : Core). z.directives) l.kept, ap (λ (z : Core). stack_of z.levels) l.kept) at moved
+
+pub led_settings : (first : ℕ) (name end : List ℕ) (old mid : Core) → Leads first name end old mid
+    → settings_of mid ≡ settings_of old
+led_settings first name end old mid l = rw (l.written.encoding, ap (λ (z : Core). z.settings) l.kept) refl
+
+pub led_stays : (first : ℕ) (name end : List ℕ) (old mid new : Core) (o : Output)
+    → Leads first name end old mid
+    → StaysBut (record mid { sink = o }) new → StaysBut (record old { sink = o }) new
+led_stays first name end old mid new o l kept = (kept.0 ∙ ap (λ (z : Core). z.settings) l.kept, kept.1, kept.2 ∙ ap (λ (z : Core). z.starved) l.kept)
+
+pub lays_led_alias : (old mid new : Core) (name : List ℕ) → Leads 42 name [] old mid
+    → old.settings.canonical ≡ true → old.place ≡ at.Node
+    → state_of new ≡ among mid.directives (levels_behind (stack_of mid.levels) false)
+    → StaysBut mid new → Placed old (alias name) new
+unfolding is_simple_event
+lays_led_alias old mid new name l form due moved kept =
+    let s : Settings = settings_of old in
+    let top : Option Level = top_of (stack_of old.levels) in
+    let now = led_state 42 name [] old mid new l moved in
+    record {
+      laid = λ empty.
+          lays_in_place old new (alias name) empty (alias_right s.canonical old.place top name due l.right)
+          (lays_alias old new mid.sink s top name false empty refl refl (no_keys (context_of s old.directives) (alias name) empty form)
+          (alias_written top (before_node s top false) name old.sink mid.sink (rw (append-nil name) at l.written)) now (led_stays 42 name [] old mid new mid.sink l kept));
+      going = l.going.0;
+      form = form;
+      due = due;
+      bare = refl;
+    }
+
+not_none : (b : Bool) → not b ≡ true → b ≡ false
+not_none true h = absurd (cc)
+not_none false h = refl
+
+said_right : (canonical : Bool) (place : Expected) (top : Option Level) (x : Scalar) (name : List ℕ)
+    (tag : Option (List ℕ)) → canonical ≡ true → place ≡ at.Node → x.anchor ≡ Some name
+    → is_name name ≡ true → x.tag ≡ tag → is_said tag x.plain x.quoted ≡ true
+    → problem_by canonical place top (scalar x) ≡ None
+unfolding problem_by event_problem place_problem last_problem
+said_right canonical place None x name None e h a n t s = rw (e, h, a, name_right AnchorEmpty AnchorCharacters name n, t, s) refl
+said_right canonical place (Some l) x name None e h a n t s = rw (e, h, a, name_right AnchorEmpty AnchorCharacters name n, t, s) refl
+said_right canonical place None x name (Some u) e h a n t s = rw (e, h, a, name_right AnchorEmpty AnchorCharacters name n, t, not_none (length u == 0) s) refl
+said_right canonical place (Some l) x name (Some u) e h a n t s = rw (e, h, a, name_right AnchorEmpty AnchorCharacters name n, t, not_none (length u == 0) s) refl
+
+named_layout : (s : Settings) (ds : List TagDirective) (pos : NodePosition) (x : Scalar)
+    (name : List ℕ) (tag : Option (List ℕ)) → s.canonical ≡ true → x.anchor ≡ Some name → x.tag ≡ tag
+    → scalar_layout (context_of s ds) pos x ≡ (word (38 ∷ name) ▹ (tag_or_mark tag ds x.quoted
+    ▹ (checked (deeper s pos.around) ▹ scalar_text (page_at s pos) s.indent pos.flow style.Double (chars x.value))))
+unfolding scalar_layout style_of
+named_layout s ds pos x name None e a t = rw (e, a, t, and-true (not x.quoted)) refl
+named_layout s ds pos x name (Some u) e a t = rw (e, a, t) refl
+
+-- a scalar with a name
+pub lays_named : (old mid new : Core) (o : Output) (x : Scalar) (name : List ℕ) (empty : Bool)
+    → Leads 38 name [] old mid → old.settings.canonical ≡ true → old.place ≡ at.Node
+    → x.anchor ≡ Some name → is_said x.tag x.plain x.quoted ≡ true
+    → (let pos = position_of (top_of (stack_of old.levels)) false in
+    Puts mid.sink o (tag_or_mark x.tag mid.directives x.quoted ▹ (checked (deeper (settings_of old) pos.around)
+    ▹ scalar_text (page_at (settings_of old) pos) (settings_of old).indent pos.flow style.Double (chars x.value))))
+    → state_of new ≡ among mid.directives (levels_behind (stack_of mid.levels) false)
+    → StaysBut (record mid { sink = o }) new → LaysOut old new (scalar x) empty
+lays_named old mid new o x name empty l form due a said put moved kept =
+    let s : Settings = settings_of old in
+    let top : Option Level = top_of (stack_of old.levels) in
+    let pos : NodePosition = position_of top false in
+    let behind = rw (ap (λ (z : Core). z.directives) l.kept) at put in
+    let front : Puts old.sink mid.sink (before_node s top false ▹ word (38 ∷ name)) = rw (append-nil name) at l.written in
+    lays_in_place old new (scalar x) empty (said_right s.canonical old.place top x name x.tag form due a l.right refl said)
+    (lays_scalar old new o s top x false empty refl refl (text_no_key (context_of s old.directives) top x form)
+    (rw (named_layout s old.directives pos x name x.tag form a refl) (puts_both old.sink mid.sink o _ _ front behind)) (led_state 38 name [] old mid new l moved) (led_stays 38 name [] old mid new o l kept))
+
+pub none_there : (a : Option (List ℕ)) → has a ≡ false → a ≡ None
+none_there None h = refl
+none_there (Some t) h = absurd (cc)
+
+-- a bracket behind a name, in one word
+opened_word : (x : ℕ) (name : List ℕ) (b : ℕ)
+    → (letters (x ∷ name) ▹ opener b) ≡ (letters (x ∷ (name ++ 32 ∷ b ∷ [])) ▹ after_block)
+unfolding letters
+opened_word x [] b = refl
+opened_word x (y ∷ ys) b = ap (λ (t : Layout). char x ▹ t) (opened_word y ys b)
+
+pub puts_opened : (before : Layout) (x : ℕ) (name : List ℕ) (y : ℕ) (a b : Output)
+    → Puts a b ((before ▹ word (x ∷ (name ++ 32 ∷ y ∷ []))) ▹ after_block)
+    → Puts a b (before ▹ (word (x ∷ name) ▹ opener y))
+puts_opened before x name y a b p = subst (λ (t : Layout). Puts a b (before ▹ (gap ▹ t))) (sym (opened_word x name y)) p
 
 -- a collection was opened in another one, where it isn't too deep
 pub opens_within : (s : Settings) (old new : Core) (o : Output) (l : Level) (sequence : Bool)

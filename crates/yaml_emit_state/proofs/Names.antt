@@ -1,17 +1,20 @@
 -- The names of an event that comes right are in ASCII.
-use Rattle.std.proofs.Common.{◌≡◌, ℕ, ◌<◌, List, length, Bool, true, false, Option, Some, None, refl, subst, arith}
-use Rattle.std.specs.Prelude.{if◌then◌else◌, ◌==◌}
+use Rattle.std.proofs.Common.{◌≡◌, ℕ, ◌<◌, List, ◌∷◌, ◌++◌, length, Bool, true, false, Option, Some, None, refl, subst, arith}
+use Rattle.std.specs.Prelude.{if◌then◌else◌, ◌==◌, not}
 use Rattle.std.specs.Str.{IsAscii}
 use Rattle.std.specs.List.{list_all}
+use Rattle.std.proofs.lemmas.Bool.{and_parts}
 use Rattle.std.proofs.lemmas.Bool.Decides.{nat_tests}
 use Rattle.std.proofs.lemmas.List.Sums.{AllPass-from_list_all}
-use Rattle.std.proofs.lemmas.Str.Ascii.{IsAscii-from_all}
+use Rattle.std.proofs.lemmas.Str.{IsAscii-append}
+use Rattle.std.proofs.lemmas.Str.Ascii.{IsAscii-cons, IsAscii-from_all}
 use Rattle.yaml_scan_model.specs.Classes.{is_alpha_byte, is_digit_byte}
 use Rattle.yaml_emit_layout.specs.declared.Problem.{Problem}
 use Rattle.yaml_emit_layout.specs.declared.Expected.{Expected}
 use Rattle.yaml_emit_layout.specs.declared.Level.{Level}
 use Rattle.yaml_emit_layout.specs.Content as said
 use Rattle.yaml_emit_layout.specs.Grammar.{name_problem, anchor_problem, event_problem, problem_by}
+use Rattle.yaml_emit_state.specs.Framed.{is_name}
 use Rattle.yaml_emit_state.specs.Given.{name_of, IsNamed}
 use Rattle.yaml_emit_state.proofs.Finishing.{or_else_none}
 
@@ -57,3 +60,22 @@ pub named_right : (canonical : Bool) (place : Expected) (top : Option Level) (e 
     → problem_by canonical place top e ≡ None → IsNamed (name_of e)
 unfolding problem_by
 named_right canonical place top e h = event_named canonical e (or_else_none _ _ h).0
+
+-- a name with which nothing is wrong
+none_by : (v w : Bool) (a b : Problem) → not v ≡ true → w ≡ true
+    → (if v then Some a else if w then None else Some b) ≡ None
+none_by true w a b h k = absurd (cc)
+none_by false w a b h k = rw k refl
+
+pub name_right : (a b : Problem) (name : List ℕ) → is_name name ≡ true
+    → name_problem a b name ≡ None
+name_right a b name h =
+    let p = and_parts (not (length name == 0)) (list_all is_alpha_byte name) h in
+    none_by (length name == 0) (list_all is_alpha_byte name) a b p.0 p.1
+
+-- between a sign and what is in ASCII it is in ASCII
+pub sign_ascii : (x : ℕ) (name end : List ℕ) → x < 128 → is_name name ≡ true → IsAscii end
+    → IsAscii (x ∷ (name ++ end))
+sign_ascii x name end l h e =
+    let p = and_parts (not (length name == 0)) (list_all is_alpha_byte name) h in
+    IsAscii-cons x (name ++ end) l (IsAscii-append name end (alphas_ascii name p.1) e)

@@ -1,8 +1,10 @@
 -- Scalars without properties, or with the default tag alone, that stand in their line in double quotes, in canonical form, and what
 -- begins a line there.
-use Rattle.std.specs.Prelude.{◌≡◌, ℕ, ◌+◌, ◌-◌, Bool, true, false, not, ◌&&◌, ◌||◌, nat_le, List, [], ◌∷◌, Option, Some, None}
+use Rattle.std.specs.Prelude.{◌≡◌, ℕ, ◌+◌, ◌-◌, Bool, true, false, not, ◌&&◌, ◌||◌, ◌==◌, nat_le, List, [], ◌∷◌, ◌++◌, length, Option, Some, None}
+use Rattle.std.specs.List.{list_all}
 use Rattle.std.specs.Str.{chars}
 use Rattle.yaml_types.specs.Ascii as ascii
+use Rattle.yaml_types.specs.Classes.{is_alpha_byte}
 use Rattle.yaml_emit_tags.specs.parse_model.Events.{TagDirective}
 use Rattle.yaml_emit_tags.specs.parse_model.Nodes.{str_tag}
 use Rattle.yaml_emit_tags.specs.Tags.{tag_spelling}
@@ -11,6 +13,7 @@ use Rattle.yaml_emit_text.specs.declared.LineStart.{LineStart}
 use Rattle.yaml_emit_text.specs.declared.Settings.{Settings}
 use Rattle.yaml_emit_text.specs.declared.Status.TheVariants.{Going}
 use Rattle.yaml_emit_text.specs.Layout.{Layout, ◌▹◌, when, word}
+use Rattle.yaml_emit_text.specs.Sink.{Puts}
 use Rattle.yaml_emit_text.specs.Quoted.{double_quoted}
 use Rattle.yaml_emit_layout.specs.declared.Expected.TheVariants as at
 use Rattle.yaml_emit_layout.specs.declared.Level.{Level}
@@ -19,9 +22,10 @@ use Rattle.yaml_emit_layout.specs.declared.Phase.TheVariants.{Items, Keys, Value
 use Rattle.yaml_emit_layout.specs.Content as said
 use Rattle.yaml_emit_state.specs.declared.state.Core.{Core}
 use Rattle.yaml_emit_state.specs.Bare.{has_none}
-use Rattle.yaml_emit_state.specs.Steps.{LaysOut, goes_on}
+use Rattle.yaml_emit_state.specs.Steps.{LaysOut, goes_on, settings_of}
 use Rattle.yaml_emit_layout.specs.Nodes.{MOST, deeper, checked, page_at}
-use Rattle.yaml_emit_layout.specs.State.{before_node, position_of}
+use Rattle.yaml_emit_layout.specs.State.{before_node, position_of, top_of}
+use Rattle.yaml_emit_state.specs.Stack.{stack_of}
 
 -- what its line begins with, by the phase of its collection
 abbrev pub has_comma : Phase → Bool
@@ -75,14 +79,24 @@ pub record BeginsLine (s : Settings) (l : Level) : Type 0 where
 abbrev pub is_free : said.Scalar → Bool
 is_free x = has_none x.anchor x.tag && (x.plain || x.quoted)
 
--- a scalar that is free, a start of a collection that has neither, or an end
+-- an event of a node, no scalar that has properties
 abbrev pub is_bare : said.Event → Bool
+is_bare (said.alias name) = true
 is_bare (said.scalar x) = is_free x
-is_bare (said.sequence_start p) = has_none p.anchor p.tag
-is_bare (said.mapping_start p) = has_none p.anchor p.tag
+is_bare (said.sequence_start p) = true
+is_bare (said.mapping_start p) = true
 is_bare said.sequence_end = true
 is_bare said.mapping_end = true
 is_bare e = false
+
+-- its tag isn't empty, or it has none, which may be left out
+abbrev pub is_said : Option (List ℕ) → Bool → Bool → Bool
+is_said None plain quoted = plain || quoted
+is_said (Some t) plain quoted = not (length t == 0)
+
+-- nothing is wrong with a name
+abbrev pub is_name : List ℕ → Bool
+is_name name = not (length name == 0) && list_all is_alpha_byte name
 
 -- it is, or it has no anchor and the default tag
 abbrev pub IsFramed : Bool → said.Scalar → Type 0
@@ -90,9 +104,13 @@ IsFramed false x = is_free x ≡ true
 IsFramed true x = (x.anchor ≡ None) × (x.tag ≡ Some str_tag)
 
 -- what stands in front of its value: the tag, or what one without it has that may not be quoted
+abbrev pub tag_or_mark : Option (List ℕ) → List TagDirective → Bool → Layout
+tag_or_mark (Some t) directives quoted = word (tag_spelling directives t)
+tag_or_mark None directives quoted = when (not quoted) (word (ascii.exclamation ∷ []))
+
 abbrev pub front_text : Bool → List TagDirective → Bool → Layout
-front_text true directives quoted = word (tag_spelling directives str_tag)
-front_text false directives quoted = when (not quoted) (word (ascii.exclamation ∷ []))
+front_text true = tag_or_mark (Some str_tag)
+front_text false = tag_or_mark None
 
 -- it, with what comes before it in the innermost collection
 abbrev pub framed_text : Settings → Option Level → Bool → List TagDirective → Bool → List ℕ → Layout
@@ -115,7 +133,18 @@ pub record PlacesFramed (tagged quoted : Bool) (v : List ℕ) (old new : Core)
   pub going : done ≡ true → (old.sink.status ≡ Going) × (goes_on new.sink.status new.place ≡ true)
   pub same : done ≡ false → new ≡ old
 
--- an event that has no properties was laid out at once in canonical form, where a node was due and the output went on
+-- A name with what comes before it in the innermost collection, and some characters behind it, was written at once, not too deep,
+-- and nothing else is new.
+pub record Leads (first : ℕ) (name end : List ℕ) (old new : Core) : Type 0 where
+  pub right : is_name name ≡ true
+  pub written : Puts old.sink new.sink (before_node (settings_of old)
+      (top_of (stack_of old.levels)) false ▹ word (first ∷ (name ++ end)))
+  pub going : (old.sink.status ≡ Going) × (new.sink.status ≡ Going)
+  pub shallow : nat_le (deeper (settings_of old)
+      (position_of (top_of (stack_of old.levels)) false).around) MOST ≡ true
+  pub kept : new ≡ record old { sink = new.sink }
+
+-- an event of a node was laid out at once in canonical form, where one was due and the output went on
 pub record Placed (old : Core) (e : said.Event) (new : Core) : Type 0 where
   pub laid : (empty : Bool) → LaysOut old new e empty
   pub going : old.sink.status ≡ Going

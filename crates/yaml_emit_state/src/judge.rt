@@ -4,6 +4,7 @@ ghost use Rattle.yaml_parse_model.specs.Events.{text_of, directive_of, body_of};
 ghost use Rattle.yaml_emit_layout.specs.Content.{emitter_event};
 ghost use Rattle.yaml_emit_layout.specs.Grammar.{name_problem, anchor_problem, tag_problem, kept_tag, event_problem, version_problem, handle_problem, directives_problem, last_problem, ends_phase, begins_node, node_problem, place_problem, problem_by, or_else};
 ghost use Rattle.yaml_emit_state.specs.Seen.{is_among, Adds, Judges};
+ghost use Rattle.yaml_emit_state.specs.Framed.{is_name};
 ghost use Rattle.yaml_emit_state.specs.Steps.{is_document_start};
 
 use crate::bare::is_given;
@@ -13,6 +14,15 @@ use yaml_emit_layout::{Expected, Level, Phase, Problem};
 use yaml_emit_text::are_alphas;
 use yaml_parse_model::yaml_event_body_t;
 use yaml_scan_model::{yaml_tag_directive_t, yaml_version_directive_t};
+
+/// Whether nothing is wrong with a name.
+// Inlined: some vector instructions.
+#[inline(always)]
+pub fn is_name(name: &[u8]) -> bool
+    ensures { result ≡ is_name name.now }
+{
+    !name.is_empty() && are_alphas(name)
+}
 
 // Out of line: with its comparisons in them, the ways that know an event's kind get so long that they ask for it again.
 #[inline(never)]

@@ -2,13 +2,9 @@
 ghost use Rattle.std.specs.Prelude.{◌≡◌, ◌<◌, ◌∷◌, false};
 ghost use Rattle.std.specs.Str.{IsAscii};
 ghost use Rattle.yaml_types.specs.Ascii as ascii;
-ghost use Rattle.yaml_emit_text.specs.LineStarts.{line_start_text};
-ghost use Rattle.yaml_emit_state.specs.Framed.{line_start};
 ghost use Rattle.yaml_emit_text.specs.Sink.{Puts};
 ghost use Rattle.yaml_emit_text.specs.Layout.{◌▹◌, char, indicator, letters, line, word};
 
-use crate::before::line_start_of;
-use yaml_emit_layout::Level;
 use yaml_emit_text::{LineBreak, LineStart, Sink};
 
 /// `&` or `*` and a name, with a space in front where one is due.
@@ -50,17 +46,4 @@ pub fn put_value_name(sink: &mut Sink, first: u8, name: &[u8])
     ensures { Puts sink.old sink.new (char ascii.colon ▹ word (first ∷ name.now)) }
 {
     sink.put_joined(&[b':', b' ', first], name, b"");
-}
-
-/// A name behind what a line in a collection begins with.
-// Out of line: few registers are needed.
-#[inline(never)]
-pub fn put_led_name(sink: &mut Sink, line_break: LineBreak, level: &Level, first: u8, name: &[u8])
-    requires one { first < 128 }
-    requires ascii { IsAscii name.now }
-    ensures { Puts sink.old sink.new (line_start_text (line_start line_break level.now false)
-        ▹ letters (first ∷ name.now)) }
-{
-    let start = line_start_of(line_break, level, false);
-    sink.put_lined(&start, &[first], name, b"");
 }

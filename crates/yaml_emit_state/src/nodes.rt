@@ -10,13 +10,14 @@ ghost use Rattle.yaml_emit_text.specs.Scalars.{scalar_text};
 ghost use Rattle.yaml_emit_layout.specs.Grammar.{kept_if, kept_tag, has, scalar_tag};
 ghost use Rattle.yaml_emit_layout.specs.Nodes.{alias_layout, anchor_text, tag_text, mark_text, scalar_layout, style_of, is_plain, checked, deeper, page_at, is_flow};
 ghost use Rattle.yaml_emit_layout.specs.State.{before_node, position_of, start_text};
+ghost use Rattle.yaml_emit_state.specs.Framed.{is_said, tag_or_mark};
 ghost use Rattle.yaml_emit_state.specs.Given.{lent_context, lent_scalar, lent_start, IsNamed};
 
 use crate::bare::{asks_plain, is_given};
-use crate::before::{begins_line, is_behind_simple, is_block_item, put_before};
+use crate::before::{is_behind_simple, is_block_item, put_before};
 use crate::given::{Context, Scalar, Start};
 use crate::indent::{deeper, is_flow, is_simple_part, position_of};
-use crate::named::{put_item_name, put_led_name, put_name, put_value_name};
+use crate::named::{put_item_name, put_name, put_value_name};
 use yaml_emit_layout::{Level, NodePosition};
 use yaml_emit_tags::{DirectiveTable, put_tag};
 use yaml_emit_text::{Page, Settings, Sink, Style, allowed_by, put_bare, put_styled, taken, text};
@@ -64,8 +65,6 @@ fn put_named(
                 put_item_name(sink, settings.line_break, level.indent, indicator, name);
             } else if is_behind_simple(level.phase) {
                 put_value_name(sink, indicator, name);
-            } else if begins_line(settings, level) && !simple {
-                put_led_name(sink, settings.line_break, level, indicator, name);
             } else {
                 put_named_far(sink, *settings, top, simple, indicator, name);
             }
@@ -122,6 +121,34 @@ fn put_tag_if(sink: &mut Sink, context: &Context, kept: bool, tag: &Option<Vec<u
         if let Some(tag) = tag {
             put_tag(sink, context.directives, tag);
         }
+    }
+}
+
+/// The tag of a scalar that is written in canonical form, or what one without it has that may not be quoted.
+// Inlined: one look at the tag.
+#[inline(always)]
+pub fn put_tag_or_mark(
+    sink: &mut Sink,
+    directives: &DirectiveTable,
+    tag: &Option<Vec<u8>>,
+    quoted: bool,
+)
+    ensures { Puts sink.old sink.new (tag_or_mark (text_of tag.now) directives.now quoted) }
+{
+    match tag {
+        Some(tag) => put_tag(sink, directives, tag),
+        None if quoted => (),
+        None => sink.put_inline_indicator('!'),
+    }
+}
+
+/// Whether a tag isn't empty; or none is there, and it may be left out.
+pub fn is_said(tag: &Option<Vec<u8>>, plain: bool, quoted: bool) -> bool
+    ensures { result ≡ is_said (text_of tag.now) plain quoted }
+{
+    match tag {
+        None => plain || quoted,
+        Some(tag) => !tag.is_empty(),
     }
 }
 

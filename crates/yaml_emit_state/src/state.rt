@@ -323,8 +323,15 @@ impl Core {
         requires form { self.old.settings.canonical ≡ true }
         ensures { LaysOut self.old self.new (emitter_event (body_of event.old)) empty }
     {
+        if self.places_other(event) {
+            return;
+        }
         match event {
-            yaml_event_body_t::Scalar { .. } => self.lay_named_scalar(event, empty),
+            yaml_event_body_t::Scalar { .. } => {
+                if !self.place_named_scalar(event) {
+                    self.lay_named_scalar(event, empty);
+                }
+            }
             yaml_event_body_t::SequenceStart { .. } | yaml_event_body_t::MappingStart { .. } => {
                 self.lay_named_start(event, empty)
             }
@@ -404,7 +411,7 @@ impl Core {
         }
     }
 
-    // The same of what opens or ends a collection, where it may be.
+    // The same of any other event of a node, where it may be.
     // Inlined: a call for each kind.
     #[inline(always)]
     fn places_kind(&mut self, event: &yaml_event_body_t) -> bool
@@ -419,26 +426,27 @@ impl Core {
                 if has_none(anchor, tag) {
                     self.place_start(true)
                 } else {
-                    false
+                    self.place_named(event)
                 }
             }
             yaml_event_body_t::MappingStart { anchor, tag, .. } => {
                 if has_none(anchor, tag) {
                     self.place_start(false)
                 } else {
-                    false
+                    self.place_named(event)
                 }
             }
             yaml_event_body_t::SequenceEnd => self.place_end(true),
             yaml_event_body_t::MappingEnd => self.place_end(false),
+            yaml_event_body_t::Alias { .. } => self.place_named(event),
             _ => false,
         }
     }
 
-    /// The same of what opens or ends a collection.
+    /// The same of any other event of a node.
     // Inlined: two tests in front of a call for each kind.
     #[inline(always)]
-    pub fn places_bracket(&mut self, event: &yaml_event_body_t) -> bool
+    pub fn places_other(&mut self, event: &yaml_event_body_t) -> bool
         ensures laid { result ≡ true → Placed self.old (emitter_event (body_of event.now))
             self.new }
         ensures same { result ≡ false → self.new ≡ self.old }

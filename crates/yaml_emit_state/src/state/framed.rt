@@ -1,12 +1,14 @@
 //! Laying out a scalar in canonical form: at once, where it stands in its line and has no properties, or the default tag alone.
-ghost use Rattle.std.specs.Prelude.{◌≡◌, [], Bool, Some, true, false, IsUtf8};
+ghost use Rattle.std.specs.Prelude.{◌≡◌, ◌<◌, ◌≤◌, [], Bool, Some, true, false, length, IsUtf8};
+ghost use Rattle.std.specs.Str.{IsAscii};
 ghost use Rattle.yaml_parse_model.specs.Constructors.{HasUtf8};
 
 use super::Core;
 use crate::before::{begins_line, line_start_of, put_before};
 use crate::indent::position_of;
+use crate::judge::is_name;
 use crate::levels::Levels;
-use crate::nodes::put_lines;
+use crate::nodes::{is_said, put_lines, put_tag_or_mark};
 use yaml_emit_layout::{Level, Phase};
 use yaml_emit_tags::put_tag;
 use yaml_emit_text::{Style, beside, is_lined};
@@ -18,7 +20,7 @@ impl Core {
     ghost use Rattle.yaml_emit_layout.specs.declared.Expected.TheVariants as at;
     ghost use Rattle.yaml_emit_layout.specs.Content.{emitter_event, scalar};
     ghost use Rattle.yaml_scan_model.specs.declared.yaml_scalar_style_t.{yaml_scalar_style_t};
-    ghost use Rattle.yaml_emit_state.specs.Framed.{MayFrame, PlacesFramed};
+    ghost use Rattle.yaml_emit_state.specs.Framed.{Leads, MayFrame, PlacesFramed};
     ghost use Rattle.yaml_emit_state.specs.Given.{plain_text};
     ghost use Rattle.yaml_emit_layout.specs.State.{top_of};
     ghost use Rattle.yaml_emit_state.specs.Stack.{stack_of};
@@ -86,6 +88,84 @@ impl Core {
         ensures { PlacesFramed false quoted value.now self.old self.new result }
     {
         self.place_framed::<u8>(false, quoted, value)
+    }
+
+    // A name with what comes before it in the innermost collection, and few characters behind it, at once where it begins a line;
+    // else nothing.
+    // Inlined: some tests in front of some stores.
+    #[inline(always)]
+    pub(super) fn leads(&mut self, first: u8, name: &[u8], end: &[u8]) -> bool
+        requires form { self.old.settings.canonical ≡ true }
+        requires one { first < 128 }
+        requires few { length end.now ≤ 7 }
+        requires ascii { IsAscii end.now }
+        ensures led { result ≡ true → Leads first name.now end.now self.old self.new }
+        ensures same { result ≡ false → self.new ≡ self.old }
+    {
+        let settings = self.settings(true);
+        let innermost = self.levels.top();
+        match innermost {
+            None => false,
+            Some(level) => {
+                let start = line_start_of(settings.line_break, &level, false);
+                if begins_line(&settings, &level)
+                    && is_name(name)
+                    && self.sink.put_lined_near(&start, &[first], name, end)
+                {
+                    true
+                } else {
+                    false
+                }
+            }
+        }
+    }
+
+    // A scalar with an anchor, at once where it begins a line; else nothing.
+    // Out of line: what it needs is in registers.
+    #[inline(never)]
+    pub(super) fn place_named_scalar(&mut self, event: &yaml_event_body_t) -> bool
+        requires utf8 { HasUtf8 (body_of event.now) }
+        requires form { self.old.settings.canonical ≡ true }
+        ensures laid { result ≡ true → (empty : Bool) → LaysOut self.old self.new
+            (emitter_event (body_of event.now)) empty }
+        ensures same { result ≡ false → self.new ≡ self.old }
+    {
+        match event {
+            yaml_event_body_t::Scalar {
+                anchor,
+                tag,
+                value,
+                plain_implicit,
+                quoted_implicit,
+                ..
+            } => match anchor {
+                None => false,
+                Some(name) => {
+                    let quoted = *quoted_implicit;
+                    let position = position_of(self.levels.top(), false);
+                    if self.awaits_node()
+                        && is_said(tag, *plain_implicit, quoted)
+                        && self.leads(b'&', name, b"")
+                    {
+                        let settings = self.settings(true);
+                        put_tag_or_mark(&mut self.sink, &self.directives, tag, quoted);
+                        put_lines(
+                            &mut self.sink,
+                            &settings,
+                            position,
+                            Style::Double,
+                            value,
+                            false,
+                        );
+                        self.step(false);
+                        true
+                    } else {
+                        false
+                    }
+                }
+            },
+            _ => false,
+        }
     }
 
     // A scalar in the general way.

@@ -3,6 +3,7 @@ ghost use Rattle.std.specs.Prelude.{◌≡◌, Bool, None, true, false};
 
 use super::Core;
 use super::moves::first_phase;
+use crate::bare::is_given;
 use crate::before::{
     begins_line, closing_bracket, end_start, is_filled, line_start_of, opening_bracket,
 };
@@ -127,6 +128,79 @@ impl Core {
                     false
                 }
             }
+        }
+    }
+
+    // What opens a collection with an anchor and without a tag, at once where it begins a line; else nothing.
+    // Inlined into its one caller: which it is is known.
+    #[inline(always)]
+    fn place_named_start(
+        &mut self,
+        sequence: bool,
+        anchor: &Option<Vec<u8>>,
+        tag: &Option<Vec<u8>>,
+    ) -> bool
+        requires form { self.old.settings.canonical ≡ true }
+        requires due { self.old.place ≡ at.Node }
+        ensures laid { result ≡ true → (q : SaidStart) → q.anchor ≡ text_of anchor.now
+            → q.tag ≡ text_of tag.now → Placed self.old (opening sequence q) self.new }
+        ensures same { result ≡ false → self.new ≡ self.old }
+    {
+        let indent = self.settings.indent;
+        let innermost = self.levels.top();
+        match innermost {
+            None => false,
+            Some(level) => match anchor {
+                None => false,
+                Some(name) => {
+                    if !is_given(tag)
+                        && self.levels.has_room()
+                        && self.leads(b'&', name, &[b' ', opening_bracket(sequence)])
+                    {
+                        self.sink.set_after_block();
+                        self.levels.push_near(
+                            false,
+                            Level {
+                                phase: first_phase(sequence),
+                                flow: true,
+                                indent: level.indent + indent,
+                            },
+                        );
+                        true
+                    } else {
+                        false
+                    }
+                }
+            },
+        }
+    }
+
+    // An alias, or what opens a collection with an anchor and without a tag, at once where it begins a line; else nothing.
+    // Out of line: one call, beside those of what has no name.
+    #[inline(never)]
+    pub(super) fn place_named(&mut self, event: &yaml_event_body_t) -> bool
+        requires form { self.old.settings.canonical ≡ true }
+        requires due { self.old.place ≡ at.Node }
+        ensures laid { result ≡ true → Placed self.old (emitter_event (body_of event.now))
+            self.new }
+        ensures same { result ≡ false → self.new ≡ self.old }
+    {
+        match event {
+            yaml_event_body_t::Alias { anchor } => {
+                if self.leads(b'*', anchor, b"") {
+                    self.step(false);
+                    true
+                } else {
+                    false
+                }
+            }
+            yaml_event_body_t::SequenceStart { anchor, tag, .. } => {
+                self.place_named_start(true, anchor, tag)
+            }
+            yaml_event_body_t::MappingStart { anchor, tag, .. } => {
+                self.place_named_start(false, anchor, tag)
+            }
+            _ => false,
         }
     }
 

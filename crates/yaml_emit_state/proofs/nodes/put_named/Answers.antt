@@ -8,7 +8,6 @@ use Rattle.yaml_emit_layout.specs.declared.Phase.TheVariants.{Items, Keys, Value
 use Rattle.yaml_emit_layout.specs.Nodes.{before_item, before_value}
 use Rattle.yaml_emit_layout.specs.State.{before_at, before_node}
 use Rattle.yaml_emit_state.specs.Framed.{is_block_item, is_behind_simple}
-use Rattle.yaml_emit_state.proofs.Framed.{puts_led_name}
 use Rattle.yaml_emit_state.proofs.nodes.put_named.Goals as goal
 
 item_before : (s : Settings) (p : Phase) (flow : Bool) (n : ℕ) (simple : Bool)
@@ -43,7 +42,3 @@ returns-then-is_block_item c =
 pub returns-then-is_behind_simple : goal.returns-then-is_behind_simple
 returns-then-is_behind_simple c =
     by_top _ _ _ _ _ _ _ _ c.in-Some.is (value_before _ _ _ _ _ (sym c.is_behind_simple.ensures ∙ c.if-is_behind_simple.true)) c.put_value_name.ensures
-
-pub returns-then-not-simple : goal.returns-then-not-simple
-returns-then-not-simple c =
-    rw c.in-Some.is (puts_led_name c.args.settings.now c.in-Some.level c.args.indicator c.args.name.now c.args.simple _ _ (c.begins_line.ensures c.if-begins_line.true) c.if-not-simple.true c.put_led_name.ensures)

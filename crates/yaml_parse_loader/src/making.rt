@@ -71,7 +71,8 @@ fn node_with(
     start_mark: &yaml_mark_t,
     end_mark: &yaml_mark_t,
 ) -> yaml_node_t
-    ensures { node_of result ≡ node_with (tag_of tag) (node.body_of body) start_mark.now end_mark.now }
+    ensures { node_of result ≡ node_with (tag_of tag) (node.body_of body) start_mark.now
+        end_mark.now }
 {
     yaml_node_t {
         body,

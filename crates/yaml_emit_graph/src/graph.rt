@@ -45,12 +45,10 @@ pub enum DumpPhase {
 fn lead(size: usize) -> &'static [u8]
     ensures { result.now ≡ lead size }
 {
-    if size == 1 {
-        b"id00"
-    } else if size == 2 {
-        b"id0"
-    } else {
-        b"id"
+    match size {
+        1 => b"id00",
+        2 => b"id0",
+        _ => b"id",
     }
 }
 
@@ -257,22 +255,14 @@ fn put_node_start(
     let Some(node) = yaml_document_get_node(document, id) else {
         return put_other_scalar(rooms, number, &yaml_node_tag_t::Str, b"", unstyled, event);
     };
+    let tag = &node.tag;
     match &node.body {
-        yaml_node_body_t::No => put_other_scalar(rooms, number, &node.tag, b"", unstyled, event),
-        yaml_node_body_t::Scalar { value, style } => put_scalar_event(
-            rooms,
-            number,
-            &node.tag,
-            value.as_slice(),
-            *style,
-            event,
-        ),
-        yaml_node_body_t::Sequence { style, .. } => put_sequence(
-            rooms, number, &node.tag, *style, event,
-        ),
-        yaml_node_body_t::Mapping { style, .. } => put_mapping(
-            rooms, number, &node.tag, *style, event,
-        ),
+        yaml_node_body_t::No => put_other_scalar(rooms, number, tag, b"", unstyled, event),
+        yaml_node_body_t::Scalar { value, style } => {
+            put_scalar_event(rooms, number, tag, value.as_slice(), *style, event)
+        }
+        yaml_node_body_t::Sequence { style, .. } => put_sequence(rooms, number, tag, *style, event),
+        yaml_node_body_t::Mapping { style, .. } => put_mapping(rooms, number, tag, *style, event),
     }
 }
 

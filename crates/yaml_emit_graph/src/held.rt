@@ -12,11 +12,7 @@ use yaml_parse_model::{yaml_node_body_t, yaml_node_pair_t};
 pub fn next_held(held: &[i32], index: usize) -> Option<i32>
     ensures { NextHeld held.now index result }
 {
-    if index < held.len() {
-        Some(held[index])
-    } else {
-        None
-    }
+    held.get(index).copied()
 }
 
 // The same of pairs, the key of each in front of its value.

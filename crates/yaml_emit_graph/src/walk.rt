@@ -58,10 +58,9 @@ pub fn place_of(id: i32) -> Option<usize>
     ensures { result ≡ place_at id }
 {
     if id < 1 {
-        None
-    } else {
-        Some((id - 1) as usize)
+        return None;
     }
+    Some((id - 1) as usize)
 }
 
 impl Walk {
@@ -92,9 +91,7 @@ impl Walk {
         ensures rest { Marks self.old self.new }
     {
         match place_of(id) {
-            Some(at) if at < self.met.len() => {
-                self.met[at] = true;
-            }
+            Some(at) if at < self.met.len() => self.met[at] = true,
             _ => (),
         }
     }
@@ -119,9 +116,7 @@ impl Walk {
     {
         match self.top {
             None => (),
-            Some(_) => {
-                self.top = self.outer.pop();
-            }
+            Some(_) => self.top = self.outer.pop(),
         }
     }
 

@@ -1,16 +1,14 @@
 -- The machine gives the items of a tree, and goes on behind it.
-use Rattle.std.proofs.Common.{◌≡◌, ℕ, Bool, true, false, if◌then◌else◌, List, [], ◌∷◌, ◌++◌, length, Option, Some, None, refl, sym, ap, subst, ◌∙◌, ◌&&◌, ◌||◌}
+use Rattle.std.proofs.Common.{◌≡◌, ℕ, Bool, true, false, List, [], ◌∷◌, ◌++◌, length, Option, Some, None, refl, sym, ap, subst, ◌∙◌, ◌&&◌, ◌||◌, arith}
 use Rattle.std.proofs.lemmas.List.{append_assoc}
-use Rattle.std.proofs.Math.Bool.{not, or-true}
-use Rattle.std.proofs.lemmas.Bool.{false_from_ne_true, false≢true}
-use Rattle.yaml_parse_grammar.proofs.Words.{yaml_mark_t, yaml_token_type_t, Token, TokenBody, type_of, Fault, Wants, Flow, Block, Site, Root, Entry, IndentlessEntry, BlockPair, FlowPair, Choice, Refuse, Take, Leave, RawEvent, Properties, State, Taken, Span, Given, token_at, spell_node, spell_maybe, next, items_node, items_maybe, items, behind, starts_content, starts_node, joins, wants_of, closes, parts_documents, follows, no_node, choice_at, node_taken, content_taken, taken_at, left_at, Fed, stop, go, with_item, given_by, turn, feed, Outcome, finished, carry, run}
+use Rattle.std.proofs.Math.Bool.{not}
+use Rattle.yaml_parse_grammar.proofs.Words.{yaml_mark_t, yaml_token_type_t, Token, TokenBody, type_of, Fault, Wants, Flow, Block, Site, Entry, IndentlessEntry, BlockPair, FlowPair, Choice, Take, Leave, RawEvent, Properties, State, Taken, Span, Given, token_at, spell_node, spell_maybe, next, items_node, items_maybe, items, behind, starts_node, wants_of, parts_documents, follows, choice_at, node_taken, content_taken, taken_at, left_at, Fed, go, with_item, given_by, turn, feed, Outcome, finished, carry, run}
 use Rattle.yaml_parse_model.specs.declared.yaml_token_type_t.TheVariants as kind
 use Rattle.yaml_parse_model.specs.Tokens as token
 use Rattle.yaml_parse_grammar.specs.declared.name.Side.{Side}
 use Rattle.yaml_parse_grammar.specs.declared.name.Side.TheVariants.{Key, Value}
 use Rattle.yaml_parse_grammar.specs.declared.name.Brackets.{Brackets}
 use Rattle.yaml_parse_grammar.specs.declared.name.Brackets.TheVariants as brackets
-use Rattle.yaml_parse_grammar.specs.declared.problem.ParseProblem.TheVariants as problem
 use Rattle.yaml_parse_grammar.specs.States as state
 use Rattle.yaml_parse_grammar.specs.Trees.{Node, Content, Maybe, Colon, Items, More, Entries, Others, Pairs, PropertyTokens, spell_properties, properties_of, spell_content, spell_colon, spell_items, spell_more, spell_entries, spell_others, spell_pairs}
 use Rattle.yaml_parse_grammar.specs.TreeSteps.{items_content, items_colon, items_items, items_more, items_entries, items_others, items_pairs, lone, pair_start, pair_end}
@@ -27,8 +25,7 @@ one i left = λ more. (i, left) ∷ more
 
 pub carry_with_item : (left : ℕ) (i : RawEvent) (below : Fed) (k : List State → Outcome)
     → carry left (with_item i below) k ≡ giving (one i left) (carry left below k)
-carry_with_item left i (stop is f) k = refl
-carry_with_item left i (go is s) k = refl
+carry_with_item left i below k = grind arith
 
 -- ---- what a state does at a token
 
@@ -58,8 +55,7 @@ First P (t ∷ ts) = P (type_of t.body)
 
 pub first_is : {P Q : yaml_token_type_t → Type 0} → ((k : yaml_token_type_t) → P k → Q k)
     → (ts : List Token) → First P ts → First Q ts
-first_is g [] h = h
-first_is g (t ∷ ts) h = g (type_of t.body) h
+first_is g ts h = grind arith
 
 -- the state is left before the first token
 abbrev pub Leaves : State → List Token → Type 0
@@ -76,8 +72,7 @@ leaves_at x t ts s f h =
 
 pub leaves : (x : State) (ts : List Token) (s : List State) (f : Option Fault) → Leaves x ts
     → run ts (x ∷ s) f ≡ giving (one (left_at x (next ts)) (behind ts)) (run ts s f)
-leaves x [] s f h = absurd h
-leaves x (t ∷ ts) s f h = leaves_at x t ts s f h
+leaves x ts s f h = grind (arith, leaves_at)
 
 -- ---- what may follow a node
 
@@ -105,12 +100,7 @@ Follows place = First (λ k. follows place k ≡ true)
 -- what follows ends a node, by computing at each kind
 following_ends : (k : yaml_token_type_t) (place : Site)
     → (not (follows place k) || ends (wants_of place) k) ≡ true
-following_ends kind.YAML_VALUE_TOKEN Root = refl
-following_ends _ (IndentlessEntry Key) = refl
-following_ends _ (BlockPair Key) = refl
-following_ends _ (FlowPair brackets.Sequence Key) = refl
-following_ends _ (FlowPair brackets.Mapping Key) = refl
-following_ends _ _ = refl
+following_ends k place = grind arith
 
 follows_ends_at : (place : Site) (k : yaml_token_type_t) → follows place k ≡ true
     → ends (wants_of place) k ≡ true
@@ -122,31 +112,20 @@ follows_ends place = first_is (follows_ends_at place)
 
 follows_leaves : (place : Site) (before : yaml_mark_t) (ts : List Token) → Follows place ts
     → Leaves (state.optional place before) ts
-follows_leaves place before =
-    first_is {P = λ k. follows place k ≡ true} {Q = λ k. choice_at (state.optional place before) k ≡ Leave} (λ k. ap (λ (b : Bool). if b then Leave else if starts_node (wants_of place) k then Take else Refuse (no_node (wants_of place)) None))
+follows_leaves place before = grind arith
 
 -- ---- properties
 
 ends_start_none : (k : yaml_token_type_t) (w : Wants) → (ends w k && starts_node w k) ≡ false
-ends_start_none kind.YAML_VALUE_TOKEN Flow = refl
-ends_start_none _ (Block (Some Key)) = refl
-ends_start_none _ _ = refl
+ends_start_none k w = grind arith
 
 -- What ends a node begins none.
 pub ends_apart : (w : Wants) (k : yaml_token_type_t) → ends w k ≡ true → starts_node w k ≡ false
 ends_apart w k h = sym (ap (λ b. b && starts_node w k) h) ∙ ends_start_none k w
 
-none_joins : (w : Wants) (p : Properties) (k : yaml_token_type_t) → starts_node w k ≡ false
-    → (joins p k || starts_content w k) ≡ false
-none_joins w p kind.YAML_ALIAS_TOKEN h = refl
-none_joins w p kind.YAML_ANCHOR_TOKEN h = absurd (false≢true (sym h))
-none_joins w p kind.YAML_TAG_TOKEN h = absurd (false≢true (sym h))
-none_joins w p _ h = h
-
 with_properties_leaves : (w : Wants) (p : Properties) (ts : List Token) → Ends w ts
     → Leaves (state.with_properties w p) ts
-with_properties_leaves w p =
-    first_is (λ k h. ap (λ (b : Bool). if b then Take else Leave) (none_joins w p k (ends_apart w k h)))
+with_properties_leaves w p = grind arith
 
 -- what a node's first token does above a stack
 abbrev pub run_node : Wants → List Token → List State → Option Fault → Outcome
@@ -163,8 +142,7 @@ properties_run : (d : PropertyTokens) (w : Wants) (ts : List Token) (s : List St
     → run_node w (spell_properties d ts) s f
     ≡ run ts (state.with_properties w (properties_of d) ∷ s) f
 unfolding run feed
-properties_run (tree.anchor a) w ts s f = refl
-properties_run _ w ts s f = refl
+properties_run d w ts s f = grind arith
 
 with_properties_content : {w : Wants} (c : Content w) (p : Properties) (rest : List Token)
     (s : List State) (f : Option Fault)
@@ -190,8 +168,7 @@ content_starts _ rest = refl
 
 properties_start : (w : Wants) (d : PropertyTokens) (ts : List Token)
     → Starts w (spell_properties d ts)
-properties_start w (tree.anchor a) ts = refl
-properties_start w _ ts = refl
+properties_start w d ts = grind arith
 
 -- A node's tokens begin as nodes that are wanted there do.
 pub node_starts : {w : Wants} (n : Node w) (rest : List Token) → Starts w (spell_node n rest)
@@ -200,57 +177,36 @@ node_starts {w = w} (tree.only_properties d) rest = properties_start w d rest
 node_starts {w = w} (tree.with_properties d c) rest = properties_start w d (spell_content c rest)
 node_starts (tree.bare c) rest = content_starts c rest
 
--- no token that begins a node follows one that is left out
-pub not_following : (place : Site) (k : yaml_token_type_t) → starts_node (wants_of place) k ≡ true
-    → follows place k ≡ false
-not_following place k h = false_from_ne_true (follows place k) (λ f. false≢true (sym (ends_apart (wants_of place) k (follows_ends_at place k f)) ∙ h))
-
 pub optional_takes : (place : Site) (before : yaml_mark_t) (k : yaml_token_type_t)
     → starts_node (wants_of place) k ≡ true → choice_at (state.optional place before) k ≡ Take
-optional_takes place before k h =
-    ap (λ (b : Bool). if b then Leave else if starts_node (wants_of place) k then Take else Refuse (no_node (wants_of place)) None) (not_following place k h)
-    ∙ ap (λ (b : Bool). if b then Take else Refuse (no_node (wants_of place)) None) h
+optional_takes place before k h = grind arith
 
 optional_node : (place : Site) (w : Wants) → wants_of place ≡ w
     → (before : yaml_mark_t) (ts : List Token) (s : List State) (f : Option Fault) → Starts w ts
     → run ts (state.optional place before ∷ s) f ≡ run_node w ts s f
-optional_node place w e before [] s f h = absurd h
-optional_node place w e before (t ∷ ts) s f h =
-    step_take (state.optional place before) t ts s f (optional_takes place before (type_of t.body) (subst (λ (v : Wants). starts_node v (type_of t.body) ≡ true) (sym e) h))
-    ∙ ap (λ (v : Wants). run_node v (t ∷ ts) s f) e
+optional_node place w e before ts s f h = grind (arith, step_take, optional_takes, type_of, Wants, starts_node, run_node)
 
 items_takes : (b : Brackets) (opener : yaml_mark_t) (k : yaml_token_type_t)
     → starts_node Flow k ≡ true → choice_at (state.items b opener) k ≡ Take
-items_takes b opener kind.YAML_KEY_TOKEN h = refl
-items_takes b opener k h =
-    ap (λ (x : Bool). if x then Take else Refuse problem.NoFlowNode None) (ap (λ (x : Bool). closes b k || x) h ∙ or-true (closes b k))
+items_takes b opener k h = grind arith
 
 -- A node inside brackets is taken as any node, above what stands below it there.
 pub items_node_taken : (b : Brackets) (opener start end : yaml_mark_t) (body : TokenBody)
     → starts_node Flow (type_of body) ≡ true
     → items_taken b opener start end body
     ≡ above (lone_below b (state.more b opener ∷ [])) (node_taken Flow start end body)
-items_node_taken b opener start end token.key h = cc
-items_node_taken b opener start end token.flow_sequence_end h = cc
-items_node_taken b opener start end token.flow_mapping_end h = cc
-items_node_taken b opener start end _ h = refl
+items_node_taken b opener start end body h = grind arith
 
 given_above_at : (below : List State) (i : Option RawEvent) (xs s : List State)
     → given_by (record { item = i; above = xs ++ below }) s
     ≡ given_by (record { item = i; above = xs }) (below ++ s)
-given_above_at below None xs s = ap (λ (s' : List State). go [] s') (append_assoc xs below s)
-given_above_at below (Some i) xs s = ap (λ (s' : List State). go (i ∷ []) s') (append_assoc xs below s)
+given_above_at below i xs s = grind (arith, State, go, append_assoc)
 
 lone_runs : (b : Brackets) (opener : yaml_mark_t) (ts : List Token) (s : List State)
     (f : Option Fault) → Starts Flow ts
     → run ts (state.items b opener ∷ s) f
     ≡ run_node Flow ts (lone_below b (state.more b opener ∷ []) ++ s) f
-lone_runs b opener [] s f h = absurd h
-lone_runs b opener (t ∷ ts) s f h =
-    step_take (state.items b opener) t ts s f (items_takes b opener (type_of t.body) h)
-    ∙ ap (λ (fed : Fed). carry (length ts) fed (λ s'. run ts s' f))
-    (ap (λ (x : Taken). given_by x s) (items_node_taken b opener t.start_mark t.end_mark t.body h)
-    ∙ given_above_at (lone_below b (state.more b opener ∷ [])) (node_taken Flow t.start_mark t.end_mark t.body).item (node_taken Flow t.start_mark t.end_mark t.body).above s)
+lone_runs b opener ts s f h = grind (arith, step_take, items_takes, type_of, Fed, carry, run, Taken, given_by, items_node_taken, given_above_at, node_taken, Flow)
 
 -- ---- pairs in brackets
 
@@ -265,8 +221,7 @@ flow_pair_opens : (b : Brackets) (p : Span) (o : yaml_mark_t) (ts : List Token) 
     ≡ giving (pair_start b p ts) (run ts
     (state.optional (FlowPair b Key) p.to ∷ state.colon (FlowPair b Value)
     ∷ pair_below b (state.more b o ∷ s)) f)
-flow_pair_opens brackets.Sequence p o ts s f = step_take (state.items brackets.Sequence o) _ ts s f refl
-flow_pair_opens brackets.Mapping p o ts s f = step_take (state.items brackets.Mapping o) _ ts s f refl
+flow_pair_opens b p o ts s f = grind (arith, step_take)
 
 -- ---- what stands behind a node
 
@@ -318,11 +273,7 @@ block_colon_follows (tree.colon p v) m rest = refl
 
 others_follow_at : (side : Side) (k : yaml_token_type_t) → follows (BlockPair side) k ≡ true
     → follows (IndentlessEntry side) k ≡ true
-others_follow_at Key kind.YAML_KEY_TOKEN h = refl
-others_follow_at Key kind.YAML_VALUE_TOKEN h = refl
-others_follow_at Value kind.YAML_KEY_TOKEN h = refl
-others_follow_at side kind.YAML_BLOCK_END_TOKEN h = refl
-others_follow_at side _ h = absurd (false≢true h)
+others_follow_at side k h = grind arith
 
 -- Other entries may follow one that is left out.
 pub others_follow : (side : Side) (o : Others) (rest : List Token) → Ends (Block (Some side)) rest
@@ -332,8 +283,7 @@ others_follow side (tree.other p n o) rest h = refl
 
 others_leave_at : (side : Side) (k : yaml_token_type_t) → follows (BlockPair side) k ≡ true
     → choice_at (state.others side) k ≡ Leave
-others_leave_at side kind.YAML_BLOCK_ENTRY_TOKEN h = absurd (false≢true h)
-others_leave_at side _ h = refl
+others_leave_at side k h = grind arith
 
 -- ---- nodes
 
@@ -341,14 +291,12 @@ lone_behind : (b : Brackets) (m : More) (rest : List Token) (s : List State) (f 
     (o : yaml_mark_t)
     → run (spell_more b m rest) (lone_below b (state.more b o ∷ []) ++ s) f
     ≡ giving (lone b (spell_more b m rest)) (run (spell_more b m rest) (state.more b o ∷ s) f)
-lone_behind brackets.Sequence m rest s f o = refl
-lone_behind brackets.Mapping m rest s f o = leaves state.lone _ (state.more brackets.Mapping o ∷ s) f (first_is {P = λ k. ends Flow k ≡ true} {Q = λ k. choice_at state.lone k ≡ Leave} (λ k h. refl) (spell_more brackets.Mapping m rest) (more_ends brackets.Mapping m rest))
+lone_behind b m rest s f o = grind (arith, leaves, first_is, ends, Flow, choice_at, Leave, more_ends)
 
 pair_behind : (b : Brackets) (m : More) (rest : List Token) (s : List State) (f : Option Fault)
     → run (spell_more b m rest) (pair_below b s) f
     ≡ giving (pair_end b (spell_more b m rest)) (run (spell_more b m rest) s f)
-pair_behind brackets.Sequence m rest s f = leaves state.pair_end _ s f (first_is {P = λ k. ends Flow k ≡ true} {Q = λ k. choice_at state.pair_end k ≡ Leave} (λ k h. refl) (spell_more brackets.Sequence m rest) (more_ends brackets.Sequence m rest))
-pair_behind brackets.Mapping m rest s f = refl
+pair_behind b m rest s f = grind (arith, leaves, first_is, ends, Flow, choice_at, Leave, more_ends)
 
 -- Tokens that are spelled so give these items above any stack, and what follows runs on.
 abbrev Runs : (List Token → List Token) → State → (List Token → List Given → List Given) → Type 0

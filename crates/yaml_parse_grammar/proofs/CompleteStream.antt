@@ -1,9 +1,7 @@
 -- The machine gives the items of a stream of documents.
-use Rattle.std.proofs.Common.{◌≡◌, Bool, true, false, if◌then◌else◌, List, [], ◌∷◌, length, Option, Some, None, refl, ap, sym, ◌∙◌, ◌&&◌}
-use Rattle.yaml_parse_grammar.proofs.Words.{yaml_mark_t, yaml_token_type_t, Token, type_of, Fault, Block, Root, Refuse, Take, Open, item_at, State, Span, Given, token_at, spell_node, spell_maybe, next, items_node, items_maybe, items, behind, starts_node, parts_documents, choice_at, taken_at, given_by, feed, finished, run, opened}
-use Rattle.yaml_parse_model.specs.declared.yaml_token_type_t.TheVariants as kind
+use Rattle.std.proofs.Common.{◌≡◌, true, false, List, [], ◌∷◌, length, Option, Some, None, refl, ap, ◌∙◌, arith}
+use Rattle.yaml_parse_grammar.proofs.Words.{yaml_mark_t, yaml_token_type_t, Token, type_of, Fault, Block, Root, Open, item_at, State, Span, Given, token_at, spell_node, spell_maybe, next, items_node, items_maybe, items, behind, starts_node, choice_at, taken_at, given_by, feed, finished, run, opened}
 use Rattle.yaml_parse_model.specs.Tokens as token
-use Rattle.yaml_parse_grammar.specs.declared.problem.ParseProblem.TheVariants as problem
 use Rattle.yaml_parse_grammar.specs.Items as item
 use Rattle.yaml_parse_grammar.specs.States as state
 use Rattle.yaml_parse_grammar.specs.Trees.{Documents, First, Stream, Directive, spell_directives, spell_ends, spell_documents, spell_first, spell, start_of}
@@ -37,11 +35,7 @@ ends_run : (e : List Span) (d : Documents) (rest : List Token) (f : Option Fault
     → run (spell_ends e (spell_documents d rest)) (state.document_end ∷ state.documents ∷ []) f
     ≡ giving (items_ends e (spell_documents d rest))
     (run (spell_documents d rest) (state.documents ∷ []) f)
-ends_run [] d rest f = leaves state.document_end (spell_documents d rest) (state.documents ∷ []) f (document_leaves d rest)
-ends_run (p ∷ e) d rest f =
-    step_take state.document_end _ (spell_ends e (spell_documents d rest)) (state.documents ∷ []) f refl
-    ∙ ap (giving (one _ _))
-    (skips_ends e (spell_documents d rest) [] f)
+ends_run e d rest f = grind (arith, leaves, document_leaves, step_take, giving, one, skips_ends)
 
 abbrev starting : yaml_mark_t → Span → List Token → List Given → List Given
 starting from p ts = one (item_at (item.document false) from p.to) (length ts)
@@ -64,8 +58,7 @@ explicit_opens : (ds : List Directive) (p : Span) (ts : List Token) (f : Option 
     ≡ giving (items_directives ds (token_at token.document_start p ∷ ts))
     (giving (starting (start_of ds p) p ts) (run ts (opened p.to) f))
 unfolding run feed
-explicit_opens (tree.version q major minor ∷ ds) p ts f = directives_run (tree.version q major minor ∷ ds) q.from p ts f
-explicit_opens ds p ts f = directives_run ds (start_of ds p) p ts f
+explicit_opens ds p ts f = grind (arith, directives_run)
 
 -- Without a state to go on from nothing runs.
 pub nothing_runs : (ts : List Token) (f : Option Fault) → run ts [] f ≡ finished
@@ -96,16 +89,9 @@ unfolding run feed
 first_without (tree.document (tree.version q major minor ∷ ds) p n e d) rest f = refl
 first_without _ rest f = refl
 
-starts_no_document : (k : yaml_token_type_t)
-    → (starts_node (Block None) k && parts_documents k) ≡ false
-starts_no_document kind.YAML_SCALAR_TOKEN = refl
-starts_no_document _ = refl
-
 first_opens_at : (k : yaml_token_type_t) → starts_node (Block None) k ≡ true
     → choice_at state.first k ≡ Open
-first_opens_at k h =
-    ap (λ (b : Bool). if b then Take else if starts_node (Block None) k then Open else Refuse problem.NoBlockNode None) (sym (ap (λ b. b && parts_documents k) h) ∙ starts_no_document k)
-    ∙ ap (λ (b : Bool). if b then Open else Refuse problem.NoBlockNode None) h
+first_opens_at k h = grind arith
 
 abbrev implicit : List Token → List Given → List Given
 implicit ts = one (item_at (item.document true) (next ts) (next ts)) (behind ts)
@@ -123,18 +109,9 @@ first_runs : (x : First) (d : Documents) (rest : List Token) (f : Option Fault)
     → run (spell_first x (spell_documents d rest)) (state.first ∷ []) f
     ≡ giving (items_first x (spell_documents d rest))
     (record { items = items_documents d rest; ending = None })
-first_runs tree.no_first d rest f = first_without d rest f ∙ documents_run d rest f
-first_runs (tree.first n e) d rest f =
-    first_opens (spell_node n (spell_ends e (spell_documents d rest))) f (node_starts n (spell_ends e (spell_documents d rest)))
-    ∙ ap (giving (implicit (spell_node n (spell_ends e (spell_documents d rest)))))
-    (node_runs n (spell_ends e (spell_documents d rest)) (state.document_end ∷ state.documents ∷ []) f (follows_ends Root (spell_ends e (spell_documents d rest)) (root_follows e d rest))
-    ∙ ap (giving (items_node n (spell_ends e (spell_documents d rest))))
-    (ends_run e d rest f ∙ ap (giving (items_ends e (spell_documents d rest))) (documents_run d rest f)))
+first_runs x d rest f = grind (arith, first_without, documents_run, first_opens, spell_node, node_starts, giving, implicit, node_runs, follows_ends, Root, root_follows, items_node, ends_run)
 
 -- Of a stream's tokens the machine gives the items of its tree, and no fault, whatever follows.
 pub stream_runs : (t : Stream) (rest : List Token) (f : Option Fault)
     → run (spell t rest) initial f ≡ record { items = items t rest; ending = None }
-stream_runs t rest f =
-    step_take state.stream _ (spell_first t.first (spell_documents t.documents rest)) [] f refl
-    ∙ ap (giving (one _ _))
-    (first_runs t.first t.documents rest f)
+stream_runs t rest f = grind (arith, step_take, giving, one, first_runs)

@@ -1,5 +1,5 @@
 -- One step of the machine, at a token.
-use Rattle.std.proofs.Common.{◌≡◌, ℕ, true, List, [], ◌∷◌, ◌++◌, length, Option, Some, None, refl, ap, sym, ◌∙◌}
+use Rattle.std.proofs.Common.{◌≡◌, ℕ, true, List, [], ◌∷◌, ◌++◌, length, Option, Some, None, refl, ap, sym, ◌∙◌, arith}
 use Rattle.yaml_parse_grammar.proofs.Words.{yaml_mark_t, Token, type_of, no_token, Fault, Root, Choice, Refuse, Take, Leave, Open, ParseProblem, RawEvent, item_at, State, Taken, choice_at, taken_at, left_at, opened, Fed, stop, go, with_item, given_by, turn, feed, finished, carry, run}
 use Rattle.yaml_parse_model.specs.declared.yaml_token_type_t.TheVariants as kind
 use Rattle.yaml_parse_model.specs.Source.{front_of, rest_of, MayAnswer}
@@ -17,16 +17,9 @@ abbrev pub Emptied : Fed → Type 0
 Emptied (stop is f) = Unit {0}
 Emptied (go is s) = s ≡ []
 
-emptied_with : (i : RawEvent) (below : Fed) → Emptied below → Emptied (with_item i below)
-emptied_with i (stop is f) h = tt
-emptied_with i (go is s) h = h
-
 turn_empties : (c : Choice) (x : State) (t : Token) (s : List State) (below : Fed) → (c ≡ Take → ⊥)
     → (c ≡ Open → ⊥) → Emptied below → Emptied (turn c x t s below)
-turn_empties (Refuse p o) x t s below a b h = tt
-turn_empties Take x t s below a b h = absurd (a refl)
-turn_empties Leave x t s below a b h = emptied_with (left_at x t.start_mark) below h
-turn_empties Open x t s below a b h = absurd (b refl)
+turn_empties c x t s below a b h = grind arith
 
 -- At the empty token nothing stays open.
 pub emptied : (s : List State) → Emptied (feed s no_token)
@@ -37,8 +30,7 @@ emptied (x ∷ s) = turn_empties (choice_at x kind.YAML_NO_TOKEN) x no_token s (
 carry_emptied : (fed : Fed) → Emptied fed
     → carry 0 fed (λ _. finished) ≡ carry 0 fed (λ s. run [] s None)
 unfolding run feed
-carry_emptied (stop is f) h = refl
-carry_emptied (go is s) h = rw h refl
+carry_emptied fed h = grind arith
 
 unfinished : (s : List State) → run [] s None ≡ run (no_token ∷ []) s None
 unfolding run
@@ -47,8 +39,7 @@ unfinished s = carry_emptied (feed s no_token) (emptied s)
 -- the front of a source's list
 pub front_runs : (ts : List Token) (f : Option Fault) → MayAnswer ts f → (s : List State)
     → run (front_of ts ∷ rest_of ts) s f ≡ run ts s f
-front_runs [] f h s = rw h (sym (unfinished s))
-front_runs (t ∷ ts) f h s = refl
+front_runs ts f h s = grind (arith, unfinished)
 
 -- Behind the tokens, what is told of a fault is told by the topmost state.
 pub ending_runs : (s : List State) (f : Fault) → run [] s (Some f) ≡ ending_at s f
@@ -98,15 +89,13 @@ pub opens : (x : State) (t : Token) (ts : List Token) (s : List State) (f : Opti
     → run (t ∷ ts) (x ∷ s) f ≡ giving (one (implicit_at t.start_mark) (length ts))
     (run (t ∷ ts) (opened t.start_mark ++ s) f)
 unfolding run
-opens x t ts s f h =
-    runs_by _ t ts (x ∷ s) f (fed_open x t s h) ∙ carry_with_item (length ts) (implicit_at t.start_mark) (feed (opened t.start_mark ++ s) t) (λ s'. run ts s' f)
+opens x t ts s f h = grind (arith, runs_by, fed_open, carry_with_item, implicit_at, feed, opened, run)
 
 -- ---- where the machine stops
 
 with_item_stops : (left : ℕ) (i : RawEvent) (below : Fed) (k : List State → ℕ)
     → left_where_stopped left (with_item i below) k ≡ left_where_stopped left below k
-with_item_stops left i (stop is f) k = refl
-with_item_stops left i (go is s) k = refl
+with_item_stops left i below k = grind arith
 
 stops_by : (fed : Fed) (t : Token) (ts : List Token) (s : List State) → feed s t ≡ fed
     → unasked_at_stop (t ∷ ts) s
@@ -141,16 +130,11 @@ pub opens_stops : (x : State) (t : Token) (ts : List Token) (s : List State)
 unfolding unasked_at_stop
 opens_stops x t ts s h = stops_by _ t ts (x ∷ s) (fed_open x t s h) ∙ with_item_stops (length ts) (implicit_at t.start_mark) (feed (opened t.start_mark ++ s) t) (λ s'. unasked_at_stop ts s')
 
-stops_at_none : (fed : Fed) → left_where_stopped 0 fed (λ s'. 0) ≡ 0
-stops_at_none (stop is f) = refl
-stops_at_none (go is s) = refl
-
 -- The first token and the rest are the list.
 pub front_stops : (ts : List Token) (s : List State)
     → unasked_at_stop (front_of ts ∷ rest_of ts) s ≡ unasked_at_stop ts s
 unfolding unasked_at_stop
-front_stops [] s = stops_at_none (feed s no_token)
-front_stops (t ∷ ts) s = refl
+front_stops ts s = grind arith
 
 -- Without tokens none is left.
 pub nothing_stops : (s : List State) → unasked_at_stop [] s ≡ 0

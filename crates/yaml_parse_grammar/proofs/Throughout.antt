@@ -1,7 +1,6 @@
 -- What holds of all items: whatever holds of each part of a token holds of what the machine gives, of what it keeps, and of the events.
-use Rattle.std.proofs.Common.{◌≡◌, ℕ, ℤ, Bool, true, false, List, [], ◌∷◌, ◌++◌, length, map, Option, Some, None, refl, subst, append-nil}
-use Rattle.std.proofs.lemmas.Bool.{cond_both}
-use Rattle.yaml_parse_grammar.proofs.Words.{yaml_mark_t, yaml_scalar_style_t, Token, TokenBody, type_of, no_token, Fault, yaml_version_directive_t, EventBody, TagDirective, Wants, Flow, Block, Root, Choice, Refuse, Take, Leave, Open, RawEvent, RawEventBody, Properties, Shape, node_at, State, Taken, Given, IsInner, Directives, Settled, refused, gave, noted, settle, settle_body, resolved, directive_for, with_resolved, with_tag, with_version, is_known_version, node_event, read_on, reading, choice_at, taken_at, documents_taken, content_taken, node_taken, left_at, Stands, Fed, stop, go, with_item, given_by, turn, feed, Outcome, finished, carry, run}
+use Rattle.std.proofs.Common.{◌≡◌, ℕ, ℤ, Bool, true, false, List, [], ◌∷◌, ◌++◌, length, map, Option, Some, None, subst, append-nil, arith}
+use Rattle.yaml_parse_grammar.proofs.Words.{yaml_mark_t, yaml_scalar_style_t, Token, TokenBody, type_of, no_token, Fault, yaml_version_directive_t, EventBody, TagDirective, Wants, Flow, Block, Root, Choice, Refuse, Take, Leave, Open, RawEvent, RawEventBody, Properties, Shape, node_at, State, Taken, Given, IsInner, Directives, Settled, refused, gave, noted, settle, settle_body, resolved, node_event, read_on, reading, choice_at, taken_at, documents_taken, content_taken, node_taken, left_at, Stands, Fed, stop, go, with_item, given_by, turn, feed, Outcome, finished, carry, run}
 use Rattle.yaml_parse_model.specs.declared.yaml_encoding_t.{yaml_encoding_t}
 use Rattle.yaml_parse_model.specs.declared.yaml_sequence_style_t.{yaml_sequence_style_t}
 use Rattle.yaml_parse_model.specs.declared.yaml_mapping_style_t.{yaml_mapping_style_t}
@@ -66,15 +65,12 @@ node_is : (A : Option (List ℕ) → Type 0) (G : Option Tag → Type 0) (P : Ra
     (p : Option Properties) (s : Shape) (start end : yaml_mark_t) → AreOf A G p
     → ((a : Option (List ℕ)) (g : Option Tag) → A a → G g → P (item.node a g s))
     → P (node_at p s start end).body
-node_is A G P None s start end h f = f None None h.0 h.1
-node_is A G P (Some p) s start end h f = f p.anchor p.tag h.0 h.1
+node_is g k w p s start end h f = grind arith
 
 on_others : (P : RawEventBody → Type 0) (Q : State → Type 0) (i : Option RawEvent)
     (xs ys : List State) → AreTaken P Q (record { item = i; above = xs }) → AllAre Q ys
     → AreTaken P Q (record { item = i; above = xs ++ ys })
-on_others P Q None [] ys h k = absurd h.0
-on_others P Q None (x ∷ xs) ys h k = (tt, all_over Q (x ∷ xs) ys h.1 k)
-on_others P Q (Some i) xs ys h k = (h.0, all_over Q xs ys h.1 k)
+on_others g w i xs ys h k = grind (arith, all_over)
 
 module _ {T : TokenBody → Type 0} {A : Option (List ℕ) → Type 0} {G : Option Tag → Type 0} {P : RawEventBody → Type 0}
     {Q : State → Type 0} (r : Inner T A G P Q) where
@@ -136,8 +132,7 @@ IsTextless (state.with_properties w p) = ⊥
 IsTextless _ = Unit {0}
 
 pub bare_textless : (x : State) → IsBare x → IsTextless x
-bare_textless (state.with_properties w p) h = h
-bare_textless _ h = tt
+bare_textless x h = grind arith
 
 -- Outside of documents.
 pub record Outer (T : TokenBody → Type 0) (A : Option (List ℕ) → Type 0) (G : Option Tag → Type 0)
@@ -174,14 +169,12 @@ FedAre P Q (go is s) = AllGive P is × AllAre Q s
 
 fed_with : (P : RawEventBody → Type 0) (Q : State → Type 0) (i : RawEvent) (below : Fed) → P i.body
     → FedAre P Q below → FedAre P Q (with_item i below)
-fed_with P Q i (stop is f) h k = (h, k)
-fed_with P Q i (go is s) h k = ((h, k.0), k.1)
+fed_with g w i below h k = grind arith
 
 fed_by : (P : RawEventBody → Type 0) (Q : State → Type 0) (i : Option RawEvent)
     (above s : List State) → AreTaken P Q (record { item = i; above = above }) → AllAre Q s
     → FedAre P Q (given_by (record { item = i; above = above }) s)
-fed_by P Q None above s h k = (tt, all_over Q above s h.1 k)
-fed_by P Q (Some i) above s h k = ((h.0, tt), all_over Q above s h.1 k)
+fed_by g w i above s h k = grind (arith, all_over)
 
 given_over : (P : RawEventBody → Type 0) (left : ℕ) (is : List RawEvent) (more : List Given)
     → AllGive P is → GivenAre P more
@@ -289,37 +282,13 @@ Settles C (item.node a (Some tag) s) ds = (g : List ℕ)
 -- What holds of each fault holds of what an item settles to.
 pub settled_by : (C : Settled → Type 0) → ((f : Fault) → C (refused f)) → (b : RawEventBody)
     (from : yaml_mark_t) (ds : Directives) → Settles C b ds → C (settle_body b from ds)
-settled_by C r (item.event body) from ds h = h
-settled_by C r (item.version_directive x y) from ds h = version ds.version
-  where
-    version : (v : Option yaml_version_directive_t) → C (with_version v ds.tags x y from)
-    version None = cond_both (is_known_version x y) _ _ C (λ _. h) (λ _. r _)
-    version (Some v) = r _
-settled_by C r (item.tag_directive x y) from ds h = handled (directive_for x ds.tags)
-  where
-    handled : (o : Option (List ℕ)) → C (with_tag o ds x y from)
-    handled None = h
-    handled (Some p) = r _
-settled_by C r (item.document implicit) from ds h = h
-settled_by C r (item.node a None s) from ds h = h
-settled_by C r (item.node a (Some tag) s) from ds h = known (resolved ds.tags tag.handle tag.suffix) h
-  where
-    known : (o : Option (List ℕ)) → ((g : List ℕ) → o ≡ Some g → C (gave (node_event a (Some g) s) ds)) → C (with_resolved o a s from tag.mark ds)
-    known None k = r _
-    known (Some g) k = k g refl
+settled_by g r b from ds h = grind arith
 
 -- What an item settles to is as the rules say.
 pub settles : (P : RawEventBody → Type 0) (B : EventBody → Type 0) → Settling P B
     → (b : RawEventBody) (from : yaml_mark_t) (ds : Directives) → P b
     → SettlesTo B (settle_body b from ds)
-settles P B r b from ds h = settled_by (SettlesTo B) (λ f. tt) b from ds (cases b h)
-  where
-    cases : (b : RawEventBody) → P b → Settles (SettlesTo B) b ds
-    cases (item.event body) h = r.whole body h
-    cases (item.document implicit) h = r.document ds.version ds.tags implicit
-    cases (item.node a None s) h = r.node a None s
-    cases (item.node a (Some tag) s) h = λ g e. r.node a (Some g) s
-    cases _ h = tt
+settles g k r b from ds h = grind arith
 
 abbrev pub EventsAre : (EventBody → Type 0) → List Told → Type 0
 EventsAre B [] = Unit {0}
@@ -328,9 +297,7 @@ EventsAre B (t ∷ ts) = B t.0.body × EventsAre B ts
 read_on_is : (B : EventBody → Type 0) (c : Settled) (g : Given) (k : Directives → Reading)
     → SettlesTo B c → ((ds : Directives) → EventsAre B (k ds).events)
     → EventsAre B (read_on c g.0 g.1 k).events
-read_on_is B (refused f) g k h more = tt
-read_on_is B (gave body ds) g k h more = (h, more ds)
-read_on_is B (noted ds) g k h more = more ds
+read_on_is w c g k h more = grind arith
 
 -- All events are as the rules say, where the items are.
 pub reading_is : (P : RawEventBody → Type 0) (B : EventBody → Type 0) → Settling P B

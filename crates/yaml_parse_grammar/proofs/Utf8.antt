@@ -1,52 +1,21 @@
 -- Texts that are UTF-8 stay so: from a token and a state to items and states, and from an item to its event.
-use Rattle.std.proofs.Common.{ℕ, List, [], ◌∷◌, ◌++◌, Option, Some, None, option_map, IsUtf8, codes, refl, subst}
+use Rattle.std.proofs.Common.{ℕ, List, [], ◌∷◌, ◌++◌, Option, Some, None, option_map, IsUtf8, codes, refl, subst, arith}
 use Rattle.std.proofs.lemmas.Bool.{cond_both}
-use Rattle.std.proofs.lemmas.Str.{IsUtf8-append, IsUtf8-nil}
+use Rattle.std.proofs.lemmas.Str.{IsUtf8-append}
 use Rattle.std.specs.Str.{bytes_eq}
 use Rattle.yaml_parse_grammar.proofs.Words.{yaml_mark_t, Token, EventBody, TagDirective, RawEventBody, Shape, State, Directives, Settled, refused, gave, noted, settle_body, resolved, directive_for, node_event}
 use Rattle.yaml_parse_model.specs.Source as source
-use Rattle.yaml_parse_model.specs.Events as event
 use Rattle.yaml_parse_model.specs.Constructors.{HasUtf8, IsUtf8Option, AreUtf8}
 use Rattle.yaml_parse_grammar.specs.Items as item
-use Rattle.yaml_parse_grammar.specs.States as state
 use Rattle.yaml_parse_grammar.specs.Resolve.{or_default, behind_event}
-use Rattle.yaml_parse_grammar.proofs.Throughout.{Settles, settled_by, IsTextless, bare_textless, Outer}
+use Rattle.yaml_parse_grammar.proofs.Throughout.{Settles, settled_by, Outer}
 use Rattle.yaml_parse_grammar.specs.Texts.{IsUtf8Tag, IsUtf8Shape, IsUtf8Item, IsUtf8State, AreUtf8States, IsUtf8Token, IsUtf8Held}
 
 -- ---- the machine
 
-textless_utf8 : (x : State) → IsTextless x → IsUtf8State x
-textless_utf8 (state.with_properties w p) h = absurd h
-textless_utf8 _ h = tt
-
 -- UTF-8 holds throughout.
 pub utf8_rules : Outer source.HasUtf8 IsUtf8Option IsUtf8Tag IsUtf8Item IsUtf8State
-utf8_rules = record {
-  inner = record {
-    unnamed = tt;
-    untagged = tt;
-    anchor = λ name h. h;
-    tag = λ handle suffix m h. h;
-    alias = λ name h. h;
-    scalar = λ a g v style h k t. (h, (k, t));
-    sequence = λ a g style h k. (h, (k, tt));
-    mapping = λ a g style h k. (h, (k, tt));
-    sequence_end = tt;
-    mapping_end = tt;
-    states = λ x h. textless_utf8 x (bare_textless x h);
-    properties = λ w p h k. (h, k);
-    held = λ w p h. h;
-  };
-  empty = λ a g h k. (h, (k, tt));
-  start = λ encoding. tt;
-  end = tt;
-  version = λ major minor. tt;
-  handle = λ handle prefix h. h;
-  document = λ implicit. tt;
-  document_end = λ implicit. tt;
-  outer = textless_utf8;
-  none = tt;
-}
+utf8_rules = grind arith
 
 -- ---- tags and directives
 
@@ -71,27 +40,19 @@ directive_utf8 handle (d ∷ ds) h = cond_both (bytes_eq d.handle handle) (Some 
 
 prefix_utf8 : (o : Option (List ℕ)) (handle : List ℕ) → IsUtf8Option o
     → IsUtf8Option (or_default o handle)
-prefix_utf8 None handle h = cond_both (bytes_eq handle (codes "!")) _ _ IsUtf8Option (λ _. mark_is_utf8) (λ _. cond_both (bytes_eq handle (codes "!!")) _ _ IsUtf8Option (λ _. core_is_utf8) (λ _. tt))
-prefix_utf8 (Some p) handle h = h
+prefix_utf8 o handle h = grind (arith, mark_is_utf8, core_is_utf8)
 
 joined_utf8 : (o : Option (List ℕ)) (suffix : List ℕ) → IsUtf8Option o → IsUtf8 suffix
     → IsUtf8Option (option_map (λ (p : List ℕ). p ++ suffix) o)
-joined_utf8 None suffix h k = tt
-joined_utf8 (Some p) suffix h k = IsUtf8-append p suffix h k
+joined_utf8 o suffix h k = grind (arith, IsUtf8-append)
 
 resolved_utf8 : (ds : List TagDirective) (handle suffix : List ℕ) → AreUtf8 ds → IsUtf8 suffix
     → IsUtf8Option (resolved ds handle suffix)
-resolved_utf8 ds [] suffix h k = k
-resolved_utf8 ds (c ∷ handle) suffix h k =
-    joined_utf8 (or_default (directive_for (c ∷ handle) ds) (c ∷ handle)) suffix (prefix_utf8 (directive_for (c ∷ handle) ds) (c ∷ handle) (directive_utf8 (c ∷ handle) ds h)) k
+resolved_utf8 ds handle suffix h k = grind (arith, joined_utf8, directive_for, prefix_utf8, directive_utf8)
 
 node_event_utf8 : (anchor tag : Option (List ℕ)) (s : Shape) → IsUtf8Option anchor
     → IsUtf8Option tag → IsUtf8Shape s → HasUtf8 (node_event anchor tag s)
-node_event_utf8 anchor tag item.empty a t h = (a, t, IsUtf8-nil)
-node_event_utf8 anchor None (item.scalar value style) a t h = (a, tt, h)
-node_event_utf8 anchor (Some tag) (item.scalar value style) a t h = cond_both (bytes_eq tag (codes "!")) _ _ HasUtf8 (λ _. (a, tt, h)) (λ _. (a, t, h))
-node_event_utf8 anchor tag (item.sequence style) a t h = (a, t)
-node_event_utf8 anchor tag (item.mapping style) a t h = (a, t)
+node_event_utf8 anchor tag s a t h = grind arith
 
 directives_over : (xs : List TagDirective) (d : TagDirective) → AreUtf8 xs → IsUtf8 d.handle
     → IsUtf8 d.prefix → AreUtf8 (xs ++ (d ∷ []))
@@ -99,8 +60,7 @@ directives_over [] d h a b = ((a, b), tt)
 directives_over (x ∷ xs) d h a b = (h.0, directives_over xs d h.1 a b)
 
 behind_utf8 : (b : EventBody) (ds : Directives) → AreUtf8 ds.tags → AreUtf8 (behind_event b ds).tags
-behind_utf8 (event.document_end implicit) ds h = tt
-behind_utf8 _ ds h = h
+behind_utf8 b ds h = grind arith
 
 -- A settled item is UTF-8 where the item and the prefixes are.
 pub settled_utf8 : (b : RawEventBody) (from : yaml_mark_t) (ds : Directives) → IsUtf8Item b
@@ -120,5 +80,4 @@ settled_utf8 b from ds h d = settled_by IsUtf8Settled (λ f. tt) b from ds (case
 -- What a parser holds is UTF-8 where its parts are.
 pub held_utf8 : (peeked : Option Token) (s : List State) (ds : Directives) → IsUtf8Token peeked
     → AreUtf8States s → AreUtf8 ds.tags → IsUtf8Held peeked s ds
-held_utf8 peeked [] ds p h d = tt
-held_utf8 peeked (x ∷ s) ds p h d = (p, (h, d))
+held_utf8 peeked s ds p h d = grind arith

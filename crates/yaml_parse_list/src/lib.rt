@@ -2,7 +2,5 @@
 #![tactic(auto)]
 
 mod list;
-mod text;
 
-pub use list::yaml_token_list_t;
-pub use text::yaml_token_utf8;
+pub use list::{yaml_token_list_t, yaml_token_utf8};

@@ -10,12 +10,11 @@ use Rattle.yaml_parse_model.specs.Events.{EventBody}
 use Rattle.yaml_parse_model.specs.Events as event
 use Rattle.yaml_parse_model.specs.Constructors.{IsUtf8Option, HasUtf8}
 use Rattle.yaml_parse_model.specs.Nodes.{Node, NodeBody}
-use Rattle.yaml_parse_model.specs.Nodes as node
 use Rattle.yaml_parse_document.specs.Documents.{IsDocument, IsId, IsSoundBody, IsSoundNode, AreSound, change_place, str_tag, seq_tag, map_tag}
 use Rattle.yaml_parse_document.proofs.Sound.{wider_id, wider_ids, wider_pairs, with_node_sound, length_push, length_change, sound_change, sound_ids_push, sound_pairs_push, str_utf8, seq_utf8, map_utf8}
 use Rattle.yaml_parse_loader.specs.Anchors.{Anchors}
 use Rattle.yaml_parse_loader.specs.Numbering.{is_bang, loaded_tag}
-use Rattle.yaml_parse_loader.specs.Loading.{Open, open_sequence, open_mapping, Loading, nothing_loaded, attached, attach, next, with_leaf, with_open, filled, filled_body, place_of, closed, LoadStep, goes_on, loaded, refused, aliased, named, step_body}
+use Rattle.yaml_parse_loader.specs.Loading.{Open, Loading, nothing_loaded, attached, attach, next, with_leaf, with_open, filled, filled_body, place_of, closed, LoadStep, goes_on, loaded, refused, aliased, named, step_body}
 use Rattle.yaml_parse_loader.specs.Sound.{IsSoundOpen, AreSoundOpen, AreAnchors, IsLoading}
 
 abbrev pub FedSound : LoadStep → Type 0
@@ -26,9 +25,7 @@ FedSound (refused f) = Unit {0}
 -- ---- more nodes
 
 wider_open : (m n : ℕ) (o : Open) → m ≤ n → IsSoundOpen m o → IsSoundOpen n o
-wider_open m n (open_sequence place items) h s = wider_ids m n items h s
-wider_open m n (open_mapping place pairs None) h s = (wider_pairs m n pairs h s.0, tt)
-wider_open m n (open_mapping place pairs (Some id)) h s = (wider_pairs m n pairs h s.0, wider_id m n id h s.1)
+wider_open m n o h s = grind (arith, wider_ids, wider_pairs, wider_id)
 
 wider_levels : (m n : ℕ) (os : List Open) → m ≤ n → AreSoundOpen m os → AreSoundOpen n os
 wider_levels m n [] h s = tt
@@ -38,14 +35,11 @@ wider_levels m n (o ∷ os) h s = (wider_open m n o h s.0, wider_levels m n os h
 
 attached_sound : (m : ℕ) (id : ℤ) (o : Open) → IsId m id → IsSoundOpen m o
     → IsSoundOpen m (attached id o)
-attached_sound m id (open_sequence place items) h s = sound_ids_push m items id s h
-attached_sound m id (open_mapping place pairs None) h s = (s.0, h)
-attached_sound m id (open_mapping place pairs (Some key)) h s = (sound_pairs_push m pairs _ s.0 (s.1, h), tt)
+attached_sound m id o h s = grind (arith, sound_ids_push, sound_pairs_push)
 
 attach_sound : (m : ℕ) (id : ℤ) (os : List Open) → IsId m id → AreSoundOpen m os
     → AreSoundOpen m (attach id os)
-attach_sound m id [] h s = tt
-attach_sound m id (o ∷ os) h s = (attached_sound m id o h s.0, s.1)
+attach_sound m id os h s = grind (arith, attached_sound)
 
 -- ---- a node more
 
@@ -77,9 +71,7 @@ named_sound m (Some name) new known s h = λ q.
 -- the anchors behind one node more
 next_sound : (l : Loading) (anchor : Option (List ℕ)) → IsLoading l
     → AreAnchors (suc (length l.document.nodes)) (named anchor (next l) l.anchors)
-next_sound l anchor s =
-    named_sound (suc (length l.document.nodes)) anchor (next l) l.anchors
-    (λ q. IfSome_then (map.get l.anchors q) (s.anchors q) (λ i t. wider_id _ _ i (omega arith) t)) (omega arith)
+next_sound l anchor s = grind (arith, named_sound, IfSome_then, wider_id)
 
 -- ---- tags
 
@@ -92,9 +84,7 @@ loaded_utf8 (Some tag) default d h = cond_both (is_bang tag) default tag IsUtf8 
 
 filled_sound : (m : ℕ) (o : Open) (b : NodeBody) → IsSoundOpen m o → IsSoundBody m b
     → IsSoundBody m (filled_body o b)
-filled_sound m (open_sequence place items) (node.sequence none style) s h = s
-filled_sound m (open_mapping place pairs key) (node.mapping none style) s h = s.0
-filled_sound m o b s h = h
+filled_sound m o b s h = grind arith
 
 closed_sound : (to : yaml_mark_t) (l : Loading) (os : List Open) → IsLoading l
     → AreSoundOpen (length l.document.nodes) os → IsLoading (closed to l os)
@@ -115,8 +105,7 @@ closed_sound to l (o ∷ os) s h =
 
 aliased_sound : (o : Option ℤ) (from : yaml_mark_t) (l : Loading) → IsLoading l
     → IfSome o (λ i. IsId (length l.document.nodes) i) → FedSound (aliased o from l)
-aliased_sound None from l s h = tt
-aliased_sound (Some i) from l s h = record { document = s.document; levels = attach_sound _ i l.levels h s.levels; anchors = s.anchors }
+aliased_sound o from l s h = grind (arith, attach_sound)
 
 pub no_anchors : (m : ℕ) → AreAnchors m map.empty
 no_anchors m name = subst (λ (o : Option ℤ). IfSome o (λ i. IsId m i)) (sym (map.get-empty (slice_cmp nat_cmp) name)) tt

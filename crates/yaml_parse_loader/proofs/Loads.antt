@@ -1,5 +1,5 @@
 -- The loader makes of the events of content what the content's numbering says.
-use Rattle.std.proofs.Common.{◌≡◌, ◌+◌, ℕ, suc, ℤ, List, [], ◌∷◌, ◌++◌, length, Option, Some, None, Result, Ok, Err, cond, refl, ap, sym, ◌∙◌, append_assoc, append-nil, length-append}
+use Rattle.std.proofs.Common.{◌≡◌, ◌+◌, ℕ, suc, ℤ, List, [], ◌∷◌, ◌++◌, length, Option, Some, None, Result, cond, refl, ap, sym, ◌∙◌, append_assoc, append-nil, length-append, arith}
 use Rattle.std.specs.FinMap as map
 use Rattle.std.specs.Ordering.{nat_cmp}
 use Rattle.std.specs.Cmp.Lexicographic.{slice_cmp, nat_list_cmp_total}
@@ -17,13 +17,11 @@ use Rattle.yaml_parse_loader.specs.Loading.{Open, open_sequence, open_mapping, L
 
 behind_same : {A : Type 0} (r : Result A Fault) (f g : A → Loaded) → ((x : A) → f x ≡ g x)
     → behind r f ≡ behind r g
-behind_same (Ok x) f g h = h x
-behind_same (Err e) f g h = refl
+behind_same r f g h = grind arith
 
 behind_then : {A B : Type 0} (r : Result A Fault) (f : A → Result B Fault) (g : B → Loaded)
     → behind (r >>= f) g ≡ behind r (λ x. behind (f x) g)
-behind_then (Ok x) f g = refl
-behind_then (Err e) f g = refl
+behind_then r f g = grind arith
 
 -- ---- the table of the nodes with an anchor
 
@@ -40,8 +38,7 @@ found_last name (n ∷ before) =
 
 named_table : (anchor : Option (List ℕ)) (n : ℤ) (before : Anchored)
     → named anchor n (table before) ≡ table (and_node anchor n before)
-named_table None n before = refl
-named_table (Some name) n before = refl
+named_table anchor n before = grind arith
 
 -- ---- what is there, and content behind it
 
@@ -94,10 +91,7 @@ closes_holder : (l : Loading) (n m : Node) (o : Open) (os : List Open) (to : yam
     → place_of o ≡ length l.document.nodes → filled o to n ≡ m
     → closed to (made l.document ((l.document.nodes ++ n ∷ []) ++ ns) os (table before)) os
     ≡ add l (next l ∷ []) (m ∷ ns) before
-closes_holder l n m o os to ns before e p f =
-    ap (λ (z : List Open). closed to (made l.document ((l.document.nodes ++ n ∷ []) ++ ns) z (table before)) z) e
-    ∙ ap (λ (ms : List Node). made l.document ms (attach (next l) l.levels) (table before))
-    (ap (λ (k : ℕ). change_place (filled o to) k ((l.document.nodes ++ n ∷ []) ++ ns)) p ∙ changed_at (filled o to) l.document.nodes ns n ∙ ap (λ (x : Node). l.document.nodes ++ x ∷ ns) f)
+closes_holder l n m o os to ns before e p f = grind (arith, made, table, changed_at)
 
 alias_loads : (o : Option ℤ) (at : yaml_mark_t) (l : Loading) (before : Anchored)
     (rest : List Event)

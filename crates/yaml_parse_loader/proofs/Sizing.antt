@@ -1,15 +1,14 @@
 -- Every event that finds room leaves a document in the making sized, and the document that it ends is sized.
-use Rattle.std.proofs.Common.{◌≤◌, ℕ, ℤ, List, [], ◌∷◌, Option, Some, None, sym, subst, arith}
+use Rattle.std.proofs.Common.{ℤ, List, Option, arith, rules}
 use Rattle.yaml_parse_model.specs.declared.yaml_mark_t.{yaml_mark_t}
 use Rattle.yaml_parse_model.specs.Events.{EventBody}
 use Rattle.yaml_parse_model.specs.Events as event
 use Rattle.yaml_parse_model.specs.Nodes.{Node, NodeBody}
-use Rattle.yaml_parse_model.specs.Nodes as node
 use Rattle.yaml_parse_document.specs.Sizes.{IsSizedBody, IsSized}
 use Rattle.yaml_parse_document.proofs.Sizing.{with_node_sized, entry_more, nothing_listed, sized_change}
 use Rattle.yaml_parse_document.proofs.Sound.{length_change}
 use Rattle.yaml_parse_loader.specs.Anchors.{Anchors}
-use Rattle.yaml_parse_loader.specs.Loading.{Open, open_sequence, open_mapping, Loading, nothing_loaded, attached, attach, next, with_leaf, with_open, filled, filled_body, place_of, closed, LoadStep, goes_on, loaded, refused, aliased, step_body}
+use Rattle.yaml_parse_loader.specs.Loading.{Open, Loading, nothing_loaded, attached, attach, with_leaf, with_open, filled_body, closed, LoadStep, goes_on, loaded, refused, aliased, step_body}
 use Rattle.yaml_parse_loader.specs.Sizes.{HasRoom, HaveRoom, HasRoomForNode, HasRoomFor, IsSizedOpen, AreSizedOpen, IsSizedLoading}
 
 abbrev pub FedSized : LoadStep → Type 0
@@ -20,23 +19,17 @@ FedSized (refused f) = Unit {0}
 -- ---- a number more
 
 attached_sized : (id : ℤ) (o : Open) → HasRoom o → IsSizedOpen o → IsSizedOpen (attached id o)
-attached_sized id (open_sequence place items) h s = entry_more items id h
-attached_sized id (open_mapping place pairs None) h s = s
-attached_sized id (open_mapping place pairs (Some key)) h s = entry_more pairs _ h
+attached_sized id o h s = grind (arith, entry_more)
 
 attach_sized : (id : ℤ) (os : List Open) → HaveRoom os → AreSizedOpen os
     → AreSizedOpen (attach id os)
-attach_sized id [] h s = tt
-attach_sized id (o ∷ os) h s = (attached_sized id o h s.0, s.1)
+attach_sized id os h s = grind (arith, attached_sized)
 
 -- ---- a node more
 
 leaf_sized : (l : Loading) (n : Node) (known : Anchors) → HasRoomForNode l → IsSizedBody n.body
     → IsSizedLoading l → IsSizedLoading (with_leaf l n known)
-leaf_sized l n known h b s = record {
-  document = with_node_sized l.document n s.document h.0 b;
-  levels = attach_sized (next l) l.levels h.1 s.levels;
-}
+leaf_sized l n known h b s = search (rules, with_node_sized, attach_sized)
 
 open_sized : (l : Loading) (n : Node) (o : Open) (known : Anchors) → HasRoomForNode l
     → IsSizedBody n.body → IsSizedOpen o → IsSizedLoading l → IsSizedLoading (with_open l n o known)
@@ -48,27 +41,17 @@ open_sized l n o known h b empty s =
 
 filled_sized : (o : Open) (b : NodeBody) → IsSizedOpen o → IsSizedBody b
     → IsSizedBody (filled_body o b)
-filled_sized (open_sequence place items) (node.sequence none style) s h = (s, h.1)
-filled_sized (open_mapping place pairs key) (node.mapping none style) s h = (h.0, s)
-filled_sized o b s h = h
+filled_sized o b s h = grind arith
 
 closed_sized : (to : yaml_mark_t) (l : Loading) (os : List Open) → IsSizedLoading l
     → AreSizedOpen os → IsSizedLoading (closed to l os)
-closed_sized to l [] s h = s
-closed_sized to l (o ∷ os) s h = record {
-  document = record {
-    nodes = subst (λ (k : ℕ). k ≤ 2147483647) (sym (length_change (filled o to) (place_of o) l.document.nodes)) s.document.nodes;
-    entries = sized_change (filled o to) (place_of o) l.document.nodes (λ x _ t. filled_sized o x.body h.0 t) s.document.entries;
-  };
-  levels = h.1;
-}
+closed_sized to l os s h = grind (arith, length_change, sized_change, filled_sized)
 
 -- ---- each event
 
 aliased_sized : (o : Option ℤ) (from : yaml_mark_t) (l : Loading) → HaveRoom l.levels
     → IsSizedLoading l → FedSized (aliased o from l)
-aliased_sized None from l h s = tt
-aliased_sized (Some i) from l h s = record { document = s.document; levels = attach_sized i l.levels h s.levels }
+aliased_sized o from l h s = grind (arith, attach_sized)
 
 pub nothing_sized : IsSizedLoading nothing_loaded
 nothing_sized = record { document = record { nodes = omega arith; entries = tt }; levels = tt }

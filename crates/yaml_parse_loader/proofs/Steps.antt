@@ -12,7 +12,7 @@ pub use Rattle.yaml_parse_document.proofs.Sound.{set_changes}
 use Rattle.yaml_parse_loader.specs.declared.making.Level.{Level}
 use Rattle.yaml_parse_loader.specs.declared.making.Fed.{Fed}
 use Rattle.yaml_parse_loader.specs.Anchors.{Anchors}
-use Rattle.yaml_parse_loader.specs.Loading.{Open, Loading, LoadStep, goes_on, aliased, attached, attach, closed, filled, place_of}
+use Rattle.yaml_parse_loader.specs.Loading.{Open, Loading, aliased, attached, attach, closed, filled, place_of}
 use Rattle.yaml_parse_loader.specs.Sizes.{HasRoom, HaveRoom}
 use Rattle.yaml_parse_loader.specs.Views.{level_of, levels_of, taken_by, Applies}
 
@@ -28,8 +28,7 @@ last_set ls k x h =
 
 last_is : (ls : List Level) (k : ℕ) (x : Level) → suc k ≡ length ls → x ≡ get_or ls k x
     → ls ≡ take k ls ++ x ∷ []
-last_is ls k x h e =
-    sym (take_all (k + 1) ls (omega (arith, h))) ∙ take_more ls k x (omega (arith, h)) ∙ ap (λ y. take k ls ++ y ∷ []) (sym e)
+last_is ls k x h e = grind (arith, take_all, take_more)
 
 pub attaches : (n m : ℤ) (ls : List Level) (k : ℕ) (old new : Level)
     (r : Result Unit yaml_text_fault_t) → m ≡ n → suc k ≡ length ls → old ≡ get_or ls k old
@@ -59,26 +58,12 @@ pub closes : (d : Document) (known : Anchors) (items : List yaml_node_t)
     → ns ≡ change_place (filled (level_of level) to) k (map node_of items)
     → at_levels d ns (levels_of rest) known
     ≡ closed to (at_levels d (map node_of items) (levels_of levels) known) (levels_of levels)
-closes d known items levels rest level to k ns split at changed =
-    let top : levels_of levels ≡ level_of level ∷ levels_of rest = ap levels_of split ∙ popped rest level in
-    ap (λ (ns : List Node). at_levels d ns (levels_of rest) known)
-    (changed ∙ ap (λ (i : ℕ). change_place (filled (level_of level) to) i (map node_of items)) at)
-    ∙ sym (ap (λ (ls : List Open). closed to (at_levels d (map node_of items) (levels_of levels) known) ls) top)
+closes d known items levels rest level to k ns split h changed = grind (arith, popped, at_levels)
 
 -- ---- what an event came to
-
-pub takes : (came : LoadStep) (at : yaml_mark_t) (HadRoom : Type 0) (new : Loading)
-    (r : Result Unit yaml_text_fault_t) (v : Fed) → v ≡ taken_by r
-    → OnOk r ((came ≡ goes_on new) × HadRoom) → Applies came at HadRoom v new
-takes came at HadRoom new (Ok u) v e p = subst (λ (w : Fed). Applies came at HadRoom w new) (sym e) p
-takes came at HadRoom new (Err f) v e p = subst (λ (w : Fed). Applies came at HadRoom w new) (sym e) tt
 
 pub takes_alias : (l : Loading) (found : Option ℤ) (n m : ℤ) (levels : List Open) (at : yaml_mark_t)
     (r : Result Unit yaml_text_fault_t) (v : Fed) → found ≡ Some n → m ≡ n → v ≡ taken_by r
     → OnOk r ((levels ≡ attach m l.levels) × HaveRoom l.levels)
     → Applies (aliased found at l) at (HaveRoom l.levels) v (record l { levels = levels })
-takes_alias l found n m levels at (Ok u) v f i e p =
-    let took : aliased found at l ≡ goes_on (record l { levels = levels })
-    = ap (λ o. aliased o at l) f ∙ ap (λ (z : ℤ). goes_on (record l { levels = attach z l.levels })) (sym i) ∙ ap (λ os. goes_on (record l { levels = os })) (sym p.0) in
-    takes (aliased found at l) at (HaveRoom l.levels) _ (Ok u) v e (took, p.1)
-takes_alias l found n m levels at (Err g) v f i e p = takes (aliased found at l) at (HaveRoom l.levels) _ (Err g) v e tt
+takes_alias l found n m levels h r v f i e p = grind arith

@@ -1,5 +1,5 @@
 -- The numbers of loaded content follow the first visits in preorder.
-use Rattle.std.proofs.Common.{◌≡◌, ◌≤◌, ◌+◌, ℕ, zero, suc, ℤ, pos, List, [], ◌∷◌, ◌++◌, length, Option, Some, None, Result, Ok, Err, IfOk, IfSome, refl, ap, sym, ◌∙◌, subst, arith, append_assoc, append-nil, length-append}
+use Rattle.std.proofs.Common.{◌≡◌, ◌≤◌, ◌+◌, ℕ, zero, suc, ℤ, pos, List, [], ◌∷◌, ◌++◌, length, Option, Some, Result, Ok, Err, IfOk, IfSome, refl, ap, sym, ◌∙◌, subst, arith, append_assoc, append-nil, length-append}
 use Rattle.std.proofs.lemmas.Bool.{cond_both}
 use Rattle.std.specs.Prelude.{slice_get}
 use Rattle.yaml_parse_model.specs.Faults.{Fault}
@@ -17,8 +17,7 @@ Good (Err e) P = Unit {0}
 -- what comes of a good answer, taken by a step that keeps it good
 pub good_then : {A B : Type 0} (r : Result A Fault) (f : A → Result B Fault) (P : A → Type 0)
     (Q : B → Type 0) → Good r P → ((x : A) → P x → Good (f x) Q) → Good (r >>= f) Q
-good_then (Ok x) f P Q g h = h x g
-good_then (Err e) f P Q g h = tt
+good_then r f k w g h = grind arith
 
 -- ---- anchors
 
@@ -38,8 +37,7 @@ last_good m name (n ∷ before) s = cond_both (is_same name n.0) (Some n.1) (las
 
 entry_good : (count : ℕ) (anchor : Option (List ℕ)) (before : Anchored) → AreNodes count before
     → AreNodes (suc count) (and_node anchor (pos (suc count)) before)
-entry_good count None before s = wider_nodes count (suc count) before (omega arith) s
-entry_good count (Some name) before s = (omega arith, wider_nodes count (suc count) before (omega arith) s)
+entry_good count anchor before s = grind (arith, wider_nodes)
 
 -- ---- visits
 
@@ -76,21 +74,11 @@ these ids = ids
 none_placed : {A : Type 0} (numbers : A → List ℤ) (count : ℕ) (ks : Anchored) (x : A)
     → numbers x ≡ [] → AreNodes count ks
     → Placed numbers count (record { number = x; nodes = []; before = ks })
-none_placed numbers count ks x e s = record {
-  before = wider_nodes count _ ks (omega arith) s;
-  visits = λ nodes before after mid end ids split place reach v.
-      let here : mid ≡ count = omega (arith, reach) in
-      rw e (subst (λ (k : ℕ). VisitsInPreorder nodes k ids end) here v);
-}
+none_placed numbers count ks x e s = grind arith
 
 alias_good : (o : Option ℤ) (count : ℕ) (before : Anchored) (at : _) → AreNodes count before
     → IfSome o (λ i. IsId count i) → Good (alias_number o at before) (Placed alone count)
-alias_good None count before at s h = tt
-alias_good (Some n) count before at s h =
-    let none = none_placed these count before [] refl s in record {
-      before = none.before;
-      visits = λ nodes front after mid end ids split place reach v. met_again nodes count end n ids h (none.visits nodes front after mid end ids split place reach v);
-    }
+alias_good o count before g s h = grind (arith, none_placed, these, met_again)
 
 -- a node, whose children are visited next
 opens : {A : Type 0} (numbers : A → List ℤ) (count : ℕ) (n : Node) (r : Numbered A)
@@ -155,8 +143,7 @@ mutual
       })))
 
 any_good : {A : Type 0} (r : Result A Fault) → Good r (λ x. Unit {0})
-any_good (Ok x) = tt
-any_good (Err e) = tt
+any_good r = grind arith
 
 -- the number that stands for the root of a document that loads
 root_number : (c : Content) → Good (number c 0 []) (λ r. r.number ≡ pos 1)
@@ -168,8 +155,7 @@ root_number (mapping h implicit style pairs at) = good_then (number_pairs pairs 
 
 both_good : {A : Type 0} (r : Result A Fault) (P Q : A → Type 0) → Good r P → Good r Q
     → Good r (λ x. P x × Q x)
-both_good (Ok x) P Q p q = (p, q)
-both_good (Err e) P Q p q = tt
+both_good r h g p q = grind arith
 
 in_order : (r : Numbered ℤ) → Placed alone 0 r → r.number ≡ pos 1 → IsInPreorder r.nodes
 in_order r p e = subst (λ (id : ℤ). VisitsInPreorder r.nodes 0 (id ∷ []) (length r.nodes)) e

@@ -77,19 +77,6 @@ fn grow_nodes(nodes: &mut Vec<yaml_node_t>) -> Result<(), yaml_text_fault_t>
     }
 }
 
-// Makes room for a node.
-// Inlined: a comparison.
-#[inline(always)]
-fn room_for_node(nodes: &mut Vec<yaml_node_t>) -> Result<(), yaml_text_fault_t>
-    ensures items { nodes.new.items ≡ nodes.old.items }
-    ensures room { OnOk result (vec_len nodes.new < vec_capacity nodes.new) }
-{
-    if nodes.len() < nodes.capacity() {
-        return Ok(());
-    }
-    grow_nodes(nodes)
-}
-
 /// One node more; `Memory` where a growth was refused or the list is full.
 // Inlined: the node is built where it is to stand.
 #[inline(always)]
@@ -100,7 +87,9 @@ pub fn push_node(nodes: &mut Vec<yaml_node_t>, node: yaml_node_t) -> Result<(), 
     if nodes.len() >= MAX_ENTRIES {
         return Err(yaml_text_fault_t::Memory);
     }
-    room_for_node(nodes)?;
+    if nodes.len() >= nodes.capacity() {
+        grow_nodes(nodes)?;
+    }
     nodes.push_reserved(node);
     Ok(())
 }

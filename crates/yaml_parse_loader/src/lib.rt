@@ -3,10 +3,7 @@
 
 mod anchors;
 mod gathering;
-mod law;
 mod loader;
 mod making;
-mod nodes;
 
-pub use law::{loads_documents, numbers_follow_visits};
-pub use loader::{Loader, undefined_alias_fault};
+pub use loader::{Loader, loads_documents, numbers_follow_visits, undefined_alias_fault};

@@ -1,19 +1,21 @@
 //! The loader: a machine that is fed a parser's events, one at a time, and gives a document at its last.
 
-ghost use Rattle.std.specs.Prelude.{◌≡◌, IfOk, IfSome};
-ghost use Rattle.yaml_parse_model.specs.Events.{event_of};
+ghost use Rattle.std.specs.Prelude.{◌≡◌, List, IfOk, IfSome};
+ghost use Rattle.yaml_parse_model.specs.Events.{Event, event_of};
 ghost use Rattle.yaml_parse_model.specs.Faults.{fault_of};
-ghost use Rattle.yaml_parse_loader.specs.Numbering.{undefined_alias};
+ghost use Rattle.yaml_parse_loader.specs.Numbering.{DocumentContent, document_events, document_of, undefined_alias};
 ghost use Rattle.yaml_parse_model.specs.Constructors.{HasUtf8};
 ghost use Rattle.yaml_parse_document.specs.Sizes.{IsSized};
-ghost use Rattle.yaml_parse_loader.specs.Loading.{nothing_loaded, step, Feeds};
+ghost use Rattle.yaml_parse_loader.specs.Loading.{Loading, load, document, behind, nothing_loaded, step, Feeds};
+ghost use Rattle.yaml_parse_loader.specs.Order.{IsInPreorder};
 
 use crate::making::{Fed, Making};
 use std::alloc::Global;
 use std::marker::Model;
 use yaml_parse_document::yaml_document_t;
 use yaml_parse_model::{
-    yaml_error_type_t, yaml_event_t, yaml_fault_t, yaml_mark_t, yaml_memory_fault, yaml_origin_t,
+    ZERO_MARK, yaml_error_type_t, yaml_event_t, yaml_fault_t, yaml_mark_t, yaml_memory_fault,
+    yaml_origin_t,
 };
 
 // The fault of an alias that no node before it anchors.
@@ -29,11 +31,7 @@ fn alias_fault(at: yaml_mark_t) -> yaml_fault_t
         value: 0,
         problem_mark: at,
         context: None,
-        context_mark: yaml_mark_t {
-            index: 0,
-            line: 0,
-            column: 0,
-        },
+        context_mark: ZERO_MARK,
         origin: yaml_origin_t::Loader,
     }
 }
@@ -116,3 +114,19 @@ impl Loader {
         }
     }
 }
+
+/// A law: whatever was loaded before, the loader makes of a document's events the document whose nodes are numbered in
+/// preorder, each alias standing for the last node before it with its anchor, at the last of these events; or it refuses
+/// the first alias without such a node.
+#[tactic(auto, using(crate::proofs::Loads::loads_document))]
+pub fn loads_documents()
+    ensures { (d : DocumentContent) (rest : List Event) (l : Loading)
+        → load (document_events d rest) l ≡ behind (document_of d) (λ e. document e rest) }
+{}
+
+/// A law: in a loaded document the numbers follow the first visits in preorder from the root, a pair's key before its
+/// value.
+#[tactic(auto, using(crate::proofs::Visited::numbered_in_order))]
+pub fn numbers_follow_visits()
+    ensures { (d : DocumentContent) → IfOk (document_of d) (λ e. IsInPreorder e.nodes) }
+{}

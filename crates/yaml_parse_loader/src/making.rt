@@ -9,19 +9,19 @@ ghost use Rattle.yaml_parse_model.specs.Nodes as node;
 ghost use Rattle.yaml_parse_document.specs.Documents.{IsDocument};
 ghost use Rattle.yaml_parse_document.specs.Sizes.{IsSized};
 ghost use Rattle.yaml_parse_loader.specs.Loading.{open_sequence, open_mapping, attach, attached, nothing_loaded, named, enter_leaf, enter_open, aliased, closed, place_of, filled, step, step_body};
+ghost use Rattle.yaml_parse_loader.specs.Numbering.{loaded_tag};
 ghost use Rattle.yaml_parse_loader.specs.Sizes.{HasRoom, HaveRoom, HasRoomForNode, HasRoomFor};
 ghost use Rattle.yaml_parse_loader.specs.Views.{level_of, levels_of, loading_of, node_with, taken_by, Applies};
 
 use crate::anchors::AnchorTable;
 use crate::gathering::{FIRST_ITEMS, FIRST_PAIRS, gather, push_node};
-use crate::nodes::{SHORT, node_with, tag_or_default};
 use std::alloc::Global;
 use std::mem;
 use yaml_parse_document::{DocumentParts, yaml_document_t};
 use yaml_parse_model::{
-    yaml_event_body_t, yaml_event_t, yaml_mapping_style_t, yaml_mark_t, yaml_node_body_t,
-    yaml_node_pair_t, yaml_node_t, yaml_node_tag_t, yaml_node_text_t, yaml_sequence_style_t,
-    yaml_text_fault_t,
+    mark_again, yaml_event_body_t, yaml_event_t, yaml_mapping_style_t, yaml_mark_t,
+    yaml_node_body_t, yaml_node_pair_t, yaml_node_t, yaml_node_tag_t, yaml_node_text_t,
+    yaml_sequence_style_t, yaml_text_fault_t,
 };
 
 /// An open collection: the place of its node, and what it holds so far. A mapping may have a key without its value.
@@ -45,6 +45,41 @@ pub struct Making {
     pub parts: DocumentParts,
     pub levels: Vec<Level>,
     pub anchors: AnchorTable,
+}
+
+// A value of at most so many bytes lies in its node.
+const SHORT: usize = 24;
+
+// No tag and the tag `!` become the default tag.
+// Inlined: mostly there is none.
+#[inline(always)]
+fn tag_or_default(tag: Option<Vec<u8>>, default: yaml_node_tag_t) -> yaml_node_tag_t
+    ensures { tag_of result ≡ loaded_tag (text_of tag) (tag_of default) }
+{
+    match tag {
+        Some(text) if text.as_slice() != b"!".as_slice() => yaml_node_tag_t::Spelled { text },
+        _ => default,
+    }
+}
+
+// A node with that body and tag.
+// Inlined: it is built where it is to stand.
+#[inline(always)]
+fn node_with(
+    body: yaml_node_body_t,
+    tag: yaml_node_tag_t,
+    start_mark: &yaml_mark_t,
+    end_mark: &yaml_mark_t,
+) -> yaml_node_t
+    ensures { node_of result ≡ node_with (tag_of tag) (node.body_of body) start_mark.now
+        end_mark.now }
+{
+    yaml_node_t {
+        body,
+        tag,
+        start_mark: mark_again(start_mark),
+        end_mark: mark_again(end_mark),
+    }
 }
 
 // From now on a node is what its anchor names.

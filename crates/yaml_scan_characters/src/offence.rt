@@ -1,6 +1,6 @@
 //! Characters, and the first offence of bytes that spell none.
 
-ghost use Rattle.std.specs.Prelude.{◌≡◌, ◌<◌, ◌^◌, negsuc};
+ghost use Rattle.std.specs.Prelude.{◌≡◌, ◌<◌, ◌^◌};
 ghost use Rattle.yaml_scan_model.specs.Faults.{fault_of};
 ghost use Rattle.yaml_scan_characters.specs.Characters.{is_allowed, allowed_at};
 ghost use Rattle.yaml_scan_characters.specs.Offences.{problem_text_of, reader_fault};
@@ -61,14 +61,7 @@ impl ReaderProblem {
 }
 
 impl Offence {
-    /// The offence at that place, with no byte, unit or character to tell.
-    pub fn at(problem: ReaderProblem, place: usize) -> Offence
-        ensures { result ≡ record { problem = problem; offset = place; value = negsuc 0 } }
-    {
-        Offence::of(problem, place, -1)
-    }
-
-    /// The offence of that byte, unit or character at that place.
+    /// The offence of that byte, unit or character at that place, or of -1 with none to tell.
     pub(crate) fn of(problem: ReaderProblem, place: usize, value: i32) -> Offence
         ensures { result ≡ record { problem = problem; offset = place; value = value } }
     {

@@ -71,7 +71,7 @@ fn pair(bytes: &[u8], at: usize, order: ByteOrder, high: u32) -> Result<Characte
     ensures { result ≡ utf16_at order bytes.now at }
 {
     if bytes.len() - at < 4 {
-        return Err(Offence::at(ReaderProblem::IncompletePair, at));
+        return Err(Offence::of(ReaderProblem::IncompletePair, at, -1));
     }
     let low = unit(bytes, at + 2, order);
     if !is_low_surrogate(low) {
@@ -87,7 +87,7 @@ fn utf16_character(bytes: &[u8], at: usize, order: ByteOrder) -> Result<Characte
     ensures { result ≡ utf16_at order bytes.now at }
 {
     if bytes.len() - at < 2 {
-        return Err(Offence::at(ReaderProblem::IncompleteCharacter, at));
+        return Err(Offence::of(ReaderProblem::IncompleteCharacter, at, -1));
     }
     let first = unit(bytes, at, order);
     if is_low_surrogate(first) {

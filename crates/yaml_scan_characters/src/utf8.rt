@@ -5,9 +5,8 @@ ghost use Rattle.yaml_scan_model.specs.declared.name.yaml_encoding_t.TheVariants
 ghost use Rattle.yaml_scan_model.specs.Marks.{byte};
 ghost use Rattle.yaml_scan_model.specs.Classes.{width_of};
 ghost use Rattle.yaml_scan_characters.specs.Characters.{utf8_at, valued_at, sequence_of, least_code, leading_bits};
-ghost use Rattle.yaml_scan_characters.specs.Steps.{is_plain, trailing_bits, GoesTo};
+ghost use Rattle.yaml_scan_characters.specs.Steps.{is_plain, trailing_bits, outcome, GoesTo};
 ghost use Rattle.yaml_scan_characters.specs.Decoding.{characters};
-ghost use Rattle.yaml_scan_characters.specs.Steps.{outcome};
 
 use crate::offence::{Character, Offence, ReaderProblem, allowed_character};
 use yaml_scan_classes::WIDTH;
@@ -72,7 +71,7 @@ fn valued_character(at: usize, width: usize, code: u32) -> Result<Character, Off
     ensures { result ≡ valued_at at width code }
 {
     if code < least_code(width) {
-        return Err(Offence::at(ReaderProblem::InvalidLength, at));
+        return Err(Offence::of(ReaderProblem::InvalidLength, at, -1));
     }
     if code >= 0xD800 && code < 0xE000 || code > 0x10_FFFF {
         return Err(Offence::of(ReaderProblem::InvalidCharacter, at, code as i32));
@@ -114,7 +113,7 @@ fn utf8_character(bytes: &[u8], at: usize) -> Result<Character, Offence>
         return Err(Offence::of(ReaderProblem::InvalidLeadingOctet, at, i32::from(bytes[at])));
     }
     if bytes.len() - at < width {
-        return Err(Offence::at(ReaderProblem::IncompleteSequence, at));
+        return Err(Offence::of(ReaderProblem::IncompleteSequence, at, -1));
     }
     sequence(bytes, at, width)
 }

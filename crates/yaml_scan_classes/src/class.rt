@@ -3,8 +3,7 @@
 ghost use Rattle.std.specs.Prelude.{◌≡◌, ◌+◌, ◌-◌, ◌<◌, pos, length, true};
 ghost use Rattle.yaml_types.specs.Ascii as ascii;
 ghost use Rattle.yaml_types.specs.Marks.{byte, break_width};
-ghost use Rattle.yaml_types.specs.Classes.{is_alpha, is_digit, is_hex, is_ascii, is_bom, is_space, is_tab, is_blank, is_break, is_crlf, is_z, is_breakz, is_blankz, is_printable, width, hex_value_of};
-ghost use Rattle.yaml_types.specs.Classes.{is_alpha_byte, is_digit_byte, is_hex_byte, is_special, is_printable_by, width_of};
+ghost use Rattle.yaml_types.specs.Classes.{is_alpha, is_digit, is_hex, is_ascii, is_bom, is_space, is_tab, is_blank, is_break, is_crlf, is_z, is_breakz, is_blankz, is_printable, width, hex_value_of, is_alpha_byte, is_digit_byte, is_hex_byte, is_printable_by};
 
 // The byte that stands there, or 0 past the end.
 fn byte_here(string: &[u8], place: usize) -> u8
@@ -38,13 +37,11 @@ fn is_hex_of(byte: u8) -> bool
     is_digit_of(byte) || (byte >= b'A' && byte <= b'F' || byte >= b'a' && byte <= b'f')
 }
 
-#[tactic(auto, unfolding(yaml_types::specs::Classes::is_alpha_byte))]
+#[tactic(auto, unfolding(yaml_types::specs::Classes::is_alpha_byte, yaml_types::specs::Classes::is_digit_byte))]
 fn is_alpha_of(byte: u8) -> bool
     ensures { result ≡ is_alpha_byte byte }
 {
-    is_digit_of(byte)
-        || (byte >= b'A' && byte <= b'Z'
-            || (byte >= b'a' && byte <= b'z' || (byte == b'_' || byte == b'-')))
+    matches!(byte, b'0'..=b'9' | b'A'..=b'Z' | b'a'..=b'z' | b'_' | b'-')
 }
 
 /// Whether one of `0-9 A-Z a-z _ -` stands there.
@@ -148,16 +145,11 @@ fn break_width_of(string: &[u8], place: usize) -> usize
     let first = byte_here(string, place);
     let second = byte_at(string, place, 1);
     let third = byte_at(string, place, 2);
-    if first == b'\r' {
-        if second == b'\n' { 2 } else { 1 }
-    } else if first == b'\n' {
-        1
-    } else if first == 0xC2 && second == 0x85 {
-        2
-    } else if first == 0xE2 && second == 0x80 && (third == 0xA8 || third == 0xA9) {
-        3
-    } else {
-        0
+    match (first, second, third) {
+        (b'\r', b'\n', _) | (0xC2, 0x85, _) => 2,
+        (b'\r' | b'\n', _, _) => 1,
+        (0xE2, 0x80, 0xA8 | 0xA9) => 3,
+        _ => 0,
     }
 }
 
@@ -196,27 +188,16 @@ pub fn IS_BLANKZ(string: &[u8], place: usize) -> bool
     IS_BLANK(string, place) || IS_BREAKZ(string, place)
 }
 
-#[tactic(auto, unfolding(yaml_types::specs::Classes::is_special))]
-fn is_special_of(second: u8, third: u8) -> bool
-    ensures { result ≡ is_special second third }
-{
-    second == 0xBB && third == 0xBF || second == 0xBF && (third == 0xBE || third == 0xBF)
-}
-
-#[tactic(auto, unfolding(yaml_types::specs::Classes::is_printable_by))]
+#[tactic(auto, unfolding(yaml_types::specs::Classes::is_printable_by, yaml_types::specs::Classes::is_special))]
 fn is_printable_of(first: u8, second: u8, third: u8) -> bool
     ensures { result ≡ is_printable_by first second third }
 {
-    if first == b'\n' || first >= 0x20 && first <= 0x7E {
-        true
-    } else if first == 0xC2 {
-        second >= 0xA0 && second <= 0xBF
-    } else if first == 0xED {
-        second < 0xA0
-    } else if first == 0xEF {
-        !is_special_of(second, third)
-    } else {
-        first >= 0xC3 && first <= 0xF4
+    match first {
+        b'\n' | 0x20..=0x7E => true,
+        0xC2 => second >= 0xA0 && second <= 0xBF,
+        0xED => second < 0xA0,
+        0xEF => !matches!((second, third), (0xBB, 0xBF) | (0xBF, 0xBE | 0xBF)),
+        _ => first >= 0xC3 && first <= 0xF4,
     }
 }
 
@@ -232,31 +213,16 @@ pub fn IS_PRINTABLE(string: &[u8], place: usize) -> bool
     )
 }
 
-#[tactic(auto, unfolding(yaml_types::specs::Classes::width_of))]
-fn width_by(byte: u8) -> usize
-    ensures { result ≡ width_of byte }
-{
-    if byte < 0x80 {
-        1
-    } else if byte < 0xC0 {
-        0
-    } else if byte < 0xE0 {
-        2
-    } else if byte < 0xF0 {
-        3
-    } else if byte < 0xF8 {
-        4
-    } else {
-        0
-    }
-}
-
 /// How many bytes the character has that begins there, by its first byte, or 0 where none begins.
+#[tactic(auto, unfolding(yaml_types::specs::Classes::width_of))]
 pub fn WIDTH(string: &[u8], place: usize) -> usize
     ensures { result ≡ width string.now place }
 {
-    match string.get(place) {
-        Some(byte) => width_by(*byte),
-        None => 0,
+    match string.get(place).copied() {
+        Some(0..=0x7F) => 1,
+        Some(0xC0..=0xDF) => 2,
+        Some(0xE0..=0xEF) => 3,
+        Some(0xF0..=0xF7) => 4,
+        _ => 0,
     }
 }

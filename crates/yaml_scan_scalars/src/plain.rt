@@ -370,8 +370,8 @@ fn ends(reader: &Reader, joining: &Joining, flow: bool, level: u64) -> bool
 fn is_indicator_byte(byte: u8) -> bool
     ensures { result ≡ spec.is_indicator_byte byte }
 {
-    is_bracket(byte)
-        || matches!(byte, b'!'..=b'#' | b'%'..=b'\'' | b'*' | b'-' | b':' | b'>'..=b'@' | b'`' | b'|')
+    matches!(byte, b'!'..=b'#' | b'%'..=b'\'' | b'*' | b'-' | b':' | b'>'..=b'@' | b'`' | b'|')
+        || is_bracket(byte)
 }
 
 /// Whether a plain scalar can start here, in flow context or not.

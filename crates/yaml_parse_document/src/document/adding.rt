@@ -63,7 +63,8 @@ fn add_node(
     body: yaml_node_body_t,
     tag: yaml_node_tag_t,
 ) -> Result<i32, yaml_text_fault_t>
-    requires sound { IsSoundNode (length document.old.nodes) (unplaced (body_of body) (tag_of tag)) }
+    requires sound { IsSoundNode (length document.old.nodes)
+        (unplaced (body_of body) (tag_of tag)) }
     requires sized { IsSizedBody (body_of body) }
     ensures { MatchResult result
         (λ id. (document.new ≡ with_node document.old (unplaced (body_of body) (tag_of tag)))

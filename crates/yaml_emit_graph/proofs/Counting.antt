@@ -74,8 +74,7 @@ turns_start nodes ts us e n = sym (turns_joined nodes) ∙ sym n ∙ ap (λ z. z
 
 pub turns_more : (all ts us vs ws : List Turn) (t : Turn) → all ≡ ts ++ us → us ≡ t ∷ vs
     → ws ≡ ts ++ t ∷ [] → all ≡ ws ++ vs
-turns_more all ts us vs ws t h e n =
-    h ∙ ap (λ z. ts ++ z) e ∙ sym (append_assoc ts (t ∷ []) vs) ∙ ap (λ z. z ++ vs) (sym n)
+turns_more all ts us vs ws t h e n = grind (arith, append_assoc)
 
 pub turns_done : (all ts us : List Turn) → all ≡ ts ++ us → us ≡ [] → ts ≡ all
 turns_done all ts us h e = sym (h ∙ ap (λ z. ts ++ z) e ∙ append-nil ts)

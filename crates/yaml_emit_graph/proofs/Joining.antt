@@ -10,7 +10,7 @@ use Rattle.yaml_emit_layout.specs.Content.{Node, sequence_node, mapping_node, No
 use Rattle.yaml_emit_graph.specs.declared.walk.Turn.{Turn}
 use Rattle.yaml_emit_graph.specs.declared.walk.Turn.TheVariants.{First, Leave}
 use Rattle.yaml_emit_graph.specs.Graph.{Met, place_at, is_met, meet, pair_ids, child_ids, body_of_id, tag_of_id, none_met, Visit, Visits, visit_all, visit_node, walked, leaving, turns_of, turns_in, turns, numbers, number_at, anchor_of, graph_start, two_by_two, with_held, node_said, nodes_said, graph_root, IsWhole, AreWhole}
-use Rattle.yaml_emit_graph.specs.Onward.{Rest, over, inside, visits, nothing_left, turns_onward, items_by, pairs_by, node_by, content_by, itself, root_onward}
+use Rattle.yaml_emit_graph.specs.Onward.{Rest, over, inside, visits, turns_onward, items_by, pairs_by, node_by, content_by, itself, root_onward}
 use Rattle.yaml_emit_graph.specs.Walk.{marked}
 use Rattle.yaml_emit_graph.proofs.Walking.{sum_meet_at, length_meet_at, sum_most}
 
@@ -131,8 +131,7 @@ node_turns (suc n) nodes id rest met h = elim (cases_Bool (is_met met id)) [
 -- What a dump still has to give of its nodes are the walk's turns.
 pub turns_joined : (nodes : List model.Node) → turns_onward nodes ≡ turns nodes
 unfolding turns turns_onward walked
-turns_joined nodes =
-    node_turns (suc (length nodes)) nodes (pos 1) nothing_left (none_met nodes) (enough_first nodes) ∙ append-nil (turns_of nodes (visit_node (suc (length nodes)) nodes (pos 1) (none_met nodes)).0)
+turns_joined nodes = grind (arith, node_turns, enough_first, append-nil)
 
 -- ---- the content
 

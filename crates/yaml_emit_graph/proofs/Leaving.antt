@@ -1,5 +1,5 @@
 -- The events of a document go on.
-use Rattle.std.proofs.Common.{◌≡◌, ◌+◌, ◌<◌, ◌≤◌, [], ◌∷◌, length, get_or, drop, Bool, refl, sym, ◌∙◌, ap, arith}
+use Rattle.std.proofs.Common.{◌≡◌, ◌+◌, ◌<◌, ◌≤◌, [], ◌∷◌, length, get_or, Bool, refl, arith}
 use Rattle.std.proofs.lemmas.List.{drop_all, drop_more}
 use Rattle.yaml_parse_document.specs.Documents.{Document}
 use Rattle.yaml_emit_layout.specs.Content.{Event, document_start, document_end}
@@ -18,8 +18,7 @@ pub turn_comes : (d : Document) (old : Events) (rooms : Rooms) (t : Turn) (e : E
     → remaining_events d old
     ≡ e ∷ remaining_events d (record old { given = old.given + 1; rooms = rooms })
 unfolding remaining_events
-turn_comes d old rooms t e p h i s =
-    rw (p, s, drop_more old.turns.items old.given t h ∙ ap (λ z. z ∷ drop (old.given + 1) old.turns.items) (sym i)) refl
+turn_comes d old rooms t e p h i s = grind (arith, drop_more)
 
 pub end_comes : (d : Document) (old : Events) (b : Bool) → old.place ≡ at.Nodes
     → length old.turns.items ≤ old.given → b ≡ d.end_implicit
@@ -41,7 +40,4 @@ pub begin_comes : (d : Document) (e : Events) → e.turns.items ≡ turns d.node
     → e.numbers.items ≡ numbers d.nodes → e.given ≡ 0 → e.place ≡ at.Start
     → IsEvents d e × (remaining_events d e ≡ dumped d)
 unfolding remaining_events
-begin_comes d e t n g p = (
-  omega (arith, g),
-  rw (p, n, g, t ∙ sym (turns_joined d.nodes)) (sym (dumped_turns d)),
-)
+begin_comes d e t n g p = grind (arith, turns_joined, dumped_turns)

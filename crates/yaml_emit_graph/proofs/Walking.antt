@@ -1,7 +1,6 @@
 -- A walk goes on.
-use Rattle.std.proofs.Common.{◌≡◌, ℕ, ◌+◌, ◌-◌, ◌/◌, ◌%◌, ◌^◌, ◌<◌, ◌≤◌, List, [], ◌∷◌, length, get_or, drop, reverse, Bool, true, false, refl, sym, subst, ◌∙◌, ap, arith, Option, Some, None}
-use Rattle.std.specs.Prelude.{zero, suc, ℤ, pos, replicate, set, Ok, Vec}
-use Rattle.std.specs.Global.{Global}
+use Rattle.std.proofs.Common.{◌≡◌, ℕ, ◌+◌, ◌-◌, ◌/◌, ◌%◌, ◌^◌, ◌<◌, ◌≤◌, List, [], ◌∷◌, length, get_or, drop, reverse, Bool, true, false, refl, sym, subst, ◌∙◌, ap, arith, Option, Some, None, rules}
+use Rattle.std.specs.Prelude.{zero, suc, ℤ, pos, replicate, set, Ok}
 use Rattle.std.proofs.lemmas.List.{length-set, length-replicate, drop_all}
 use Rattle.yaml_parse_model.specs.declared.yaml_node_pair_t.{yaml_node_pair_t}
 use Rattle.yaml_parse_model.specs.Nodes as model
@@ -9,7 +8,7 @@ use Rattle.yaml_emit_graph.specs.declared.walk.Turn.{Turn}
 use Rattle.yaml_emit_graph.specs.declared.walk.Turn.TheVariants.{First, Again, Leave}
 use Rattle.yaml_emit_graph.specs.declared.walk.Open.{Open}
 use Rattle.yaml_emit_graph.specs.declared.walk.Walk.{Walk}
-use Rattle.yaml_emit_graph.specs.Graph.{Met, place_at, met_at, meet_at, is_met, meet, pair_ids, child_ids, is_collection, body_of_id}
+use Rattle.yaml_emit_graph.specs.Graph.{Met, met_at, meet_at, is_met, meet, pair_ids, child_ids, is_collection, body_of_id}
 use Rattle.yaml_emit_graph.specs.Onward.{Rest, over, inside, visits, nothing_left, turns_onward}
 use Rattle.yaml_emit_graph.specs.Walk.{NextHeld, half_of, onward, rest_of, stack, stack_of, frames, remaining_by, remaining_turns, marked, IsWalk, with_opened, Visited, Comes}
 
@@ -46,12 +45,10 @@ sum_set (false ∷ xs) (suc k) h = sum_set xs k h
 
 pub sum_meet_at : (met : Met) (p : Option ℕ) → met_at met p ≡ false
     → marked (meet_at met p) ≡ suc (marked met)
-sum_meet_at met None h = absurd (cc)
-sum_meet_at met (Some k) h = sum_set met k h
+sum_meet_at met p h = grind (arith, sum_set)
 
 pub length_meet_at : (met : Met) (p : Option ℕ) → length (meet_at met p) ≡ length met
-length_meet_at met None = refl
-length_meet_at met (Some k) = length-set met k true
+length_meet_at met p = grind (arith, length-set)
 
 pub sum_most : (met : Met) → marked met ≤ length met
 sum_most [] = omega arith
@@ -60,25 +57,14 @@ sum_most (false ∷ xs) = let e = sum_most xs in omega arith
 
 length_opened : (b : Bool) (id : ℤ) (os : List Open)
     → length (with_opened b id os) ≤ suc (length os)
-length_opened true id os = omega arith
-length_opened false id os = omega arith
+length_opened b id os = grind arith
 
 first_walk : (nodes : List model.Node) (old new : Walk) (id : ℤ) → IsWalk nodes old
     → old.started ≡ true → is_met old.met.items id ≡ false → new.met.items ≡ meet old.met.items id
     → new.started ≡ old.started
     → stack_of new ≡ with_opened (is_collection (body_of_id nodes id)) id (stack_of old)
     → IsWalk nodes new
-first_walk nodes old new id w s h m t k = record {
-  sized = ap length m ∙ length_meet_at old.met.items (place_at id) ∙ w.sized;
-  deep =
-      let a : marked (meet old.met.items id) ≡ suc (marked old.met.items) = sum_meet_at old.met.items (place_at id) h in
-      let b : marked new.met.items ≡ marked (meet old.met.items id) = ap marked m in
-      let d : length (stack_of new) ≡ length (with_opened (is_collection (body_of_id nodes id)) id (stack_of old)) = ap length k in
-      let e = length_opened (is_collection (body_of_id nodes id)) id (stack_of old) in
-      let f = w.deep in
-      omega (arith, a, b, d, e, f);
-  begun = λ n. absurd (cc);
-}
+first_walk nodes old new id w s h m t k = search (rules, length_meet_at, sum_meet_at, length_opened)
 
 -- a node was visited, with the open nodes to come
 pub visited : (nodes : List model.Node) (mid new : Walk) (id : ℤ) (t : Turn) (n : ℕ)
@@ -87,17 +73,7 @@ pub visited : (nodes : List model.Node) (mid new : Walk) (id : ℤ) (t : Turn) (
     → (visits (suc n) nodes id (frames nodes (stack_of mid)) mid.met.items ≡ t
     ∷ remaining_turns nodes new) × IsWalk nodes new
 unfolding remaining_turns
-visited nodes mid new id (Again i) n s w k v =
-    let a = visit_again n nodes id (frames nodes (stack_of mid)) mid.met.items v.1 in
-    let c : remaining_turns nodes mid ≡ frames nodes (stack_of mid) mid.met.items = ap (λ z. remaining_by z nodes (stack_of mid) mid.met.items) s in
-    (a ∙ ap (λ z. Again z ∷ frames nodes (stack_of mid) mid.met.items) (sym v.0) ∙ ap (λ z. Again i ∷ z) (sym c ∙ ap (remaining_turns nodes) (sym v.2)), subst (IsWalk nodes) (sym v.2) w)
-visited nodes mid new id (First i) n s w k v =
-    let a = visit_first n nodes id (frames nodes (stack_of mid)) mid.met.items v.1 in
-    let b = inside_frames (body_of_id nodes id) n nodes id (stack_of mid) (meet mid.met.items id) refl k in
-    let c : frames nodes (with_opened (is_collection (body_of_id nodes id)) id (stack_of mid)) (meet mid.met.items id) ≡ remaining_by new.started nodes (stack_of new) new.met.items =
-    rw (v.4, v.3 ∙ s, v.2) refl in
-    (a ∙ ap (λ z. First id ∷ z) (b ∙ c) ∙ ap (λ z. First z ∷ remaining_by new.started nodes (stack_of new) new.met.items) (sym v.0), first_walk nodes mid new id w s v.1 v.2 v.3 v.4)
-visited nodes mid new id (Leave i) n s w k v = absurd v
+visited nodes mid new id t n s w k v = grind (arith, visit_again, visit_first, inside_frames, first_walk)
 
 -- the next child of an open node
 child_comes : (nodes : List model.Node) (old : Walk) (o : Open) (os : List Open) (id : ℤ) (n : ℕ)
@@ -117,12 +93,7 @@ child_comes nodes old o os id n s k f l =
 -- the depth is less than the number of nodes
 pub depth_left : (nodes : List model.Node) (w : Walk) (o : Open) (os : List Open) → IsWalk nodes w
     → stack_of w ≡ o ∷ os → length nodes - length os ≡ suc (length nodes - length (o ∷ os))
-depth_left nodes w o os h k =
-    let a = sum_most w.met.items in
-    let b = h.deep in
-    let c = h.sized in
-    let d : length (stack_of w) ≡ length (o ∷ os) = ap length k in
-    omega (arith, a, b, c, d)
+depth_left nodes w o os h k = grind (arith, sum_most)
 
 -- ---- pairs
 
@@ -147,11 +118,7 @@ length_ids (p ∷ ps) = let e = length_ids ps in omega arith
 pub pair_comes : (ps : List yaml_node_pair_t) (i : ℕ) (d : yaml_node_pair_t) (v : ℤ)
     → v ≡ half_of (get_or ps (i / 2) d) (i % 2) → i / 2 < length ps → length ps < 2 ^ 63
     → NextHeld (pair_ids ps) i (Some v)
-pair_comes ps i d v e h s = (
-  pair_next ps i (i / 2) (i % 2) d (omega arith) (omega arith) h
-      ∙ ap (λ z. z ∷ drop (i + 1) (pair_ids ps)) (sym e),
-  omega arith,
-)
+pair_comes ps i d v e h s = grind (arith, pair_next)
 
 pub pair_none : (ps : List yaml_node_pair_t) (i : ℕ) → length ps ≤ i / 2
     → NextHeld (pair_ids ps) i None
@@ -166,14 +133,7 @@ none_comes nodes w s t = rw (s, t) refl
 -- a walk with the same marks and no more open nodes
 same_walk : (nodes : List model.Node) (old new : Walk) → IsWalk nodes old → new.started ≡ true
     → new.met ≡ old.met → length (stack_of new) ≤ length (stack_of old) → IsWalk nodes new
-same_walk nodes old new w s m l = record {
-  sized = ap (λ (z : Vec Bool Global). length z.items) m ∙ w.sized;
-  deep =
-      let e : marked new.met.items ≡ marked old.met.items = ap (λ (z : Vec Bool Global). marked z.items) m in
-      let d = w.deep in
-      omega (arith, e, d, l);
-  begun = λ n. absurd (cc);
-}
+same_walk nodes old new w s m l = grind arith
 
 -- an open node ends
 pub leave_comes : (nodes : List model.Node) (old new : Walk) (o : Open) → old.started ≡ true
@@ -181,18 +141,7 @@ pub leave_comes : (nodes : List model.Node) (old new : Walk) (o : Open) → old.
     → stack_of new ≡ rest_of (stack_of old) → new.met ≡ old.met → new.started ≡ old.started
     → (remaining_turns nodes old ≡ Leave o.node ∷ remaining_turns nodes new) × IsWalk nodes new
 unfolding remaining_turns frames over
-leave_comes nodes old new o s t w l k m b =
-    let os : List Open = reverse old.outer.items in
-    let e : stack_of old ≡ o ∷ os = ap (λ z. stack z old.outer.items) t in
-    let f : stack_of new ≡ os = k ∙ ap rest_of e in
-    let met : Met = old.met.items in
-    let a : remaining_turns nodes old ≡ frames nodes (o ∷ os) met = rw (s, e) refl in
-    let r : Rest = λ z. Leave o.node ∷ frames nodes os z in
-    let c : frames nodes (o ∷ os) met ≡ Leave o.node ∷ frames nodes os met = ap (λ z. over (visits (length nodes - length os) nodes) z r met) l in
-    let d : frames nodes os met ≡ remaining_by new.started nodes (stack_of new) new.met.items = rw (b ∙ s, f, m) refl in
-    let g : length (stack_of old) ≡ suc (length os) = ap length e in
-    let h : length (stack_of new) ≡ length os = ap length f in
-    (a ∙ c ∙ ap (λ z. Leave o.node ∷ z) d, same_walk nodes old new w (b ∙ s) m (omega (arith, g, h)))
+leave_comes nodes old new o s t w l k m b = grind arith
 
 -- the next child of the innermost open node is visited
 pub child_met : (nodes : List model.Node) (old mid new : Walk) (o : Open) (id : ℤ) (t : Turn)
@@ -237,17 +186,9 @@ pub fresh_walk : (nodes : List model.Node) (w : Walk) (count : ℕ) → count �
     → w.started ≡ false → stack_of w ≡ [] → w.met.items ≡ replicate count false
     → IsWalk nodes w × (remaining_turns nodes w ≡ turns_onward nodes)
 unfolding remaining_turns turns_onward
-fresh_walk nodes w count n s k m = (
-  record {
-    sized = ap length m ∙ length-replicate count false ∙ n;
-    deep = let e : length (stack_of w) ≡ 0 = ap length k in omega (arith, e);
-    begun = λ f. k;
-  },
-  rw (s, m, n) refl,
-)
+fresh_walk nodes w count n s k m = grind (arith, length-replicate)
 
 -- no turn was given
 pub none_left : (nodes : List model.Node) (old new : Walk) (r : Option Turn)
     → ((t : Turn) → r ≡ Some t → ⊥) → Comes nodes old (Ok r) new → remaining_turns nodes old ≡ []
-none_left nodes old new None n h = h.0
-none_left nodes old new (Some t) n h = absurd (n t refl)
+none_left nodes old new r n h = grind arith

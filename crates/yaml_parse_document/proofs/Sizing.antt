@@ -1,5 +1,5 @@
 -- The sizes of a document's lists after a change.
-use Rattle.std.proofs.Common.{◌≡◌, ◌≤◌, ◌<◌, ℕ, zero, suc, ℤ, pos, List, [], ◌∷◌, ◌++◌, length, sym, subst, arith, Some, Result, Ok, Err, OnOk, refl}
+use Rattle.std.proofs.Common.{◌≡◌, ◌≤◌, ◌<◌, ℕ, zero, suc, ℤ, List, [], ◌∷◌, ◌++◌, length, sym, subst, arith, Some, Result, Ok, Err, OnOk, refl}
 use Rattle.std.specs.Prelude.{slice_get}
 use Rattle.yaml_parse_model.specs.declared.yaml_node_pair_t.{yaml_node_pair_t}
 use Rattle.yaml_parse_model.specs.declared.yaml_sequence_style_t.{yaml_sequence_style_t}
@@ -7,7 +7,7 @@ use Rattle.yaml_parse_model.specs.declared.yaml_mapping_style_t.{yaml_mapping_st
 use Rattle.yaml_parse_model.specs.declared.yaml_text_fault_t.{yaml_text_fault_t}
 use Rattle.yaml_parse_model.specs.Nodes.{Node, NodeBody}
 use Rattle.yaml_parse_model.specs.Nodes as node
-use Rattle.yaml_parse_document.specs.Documents.{Document, IsDocument, IsSoundBody, IsKindAt, HasRoomAt, with_node, with_item, with_pair, item_count, pair_count, change_place, change_body, Appends}
+use Rattle.yaml_parse_document.specs.Documents.{Document, IsDocument, IsSoundBody, HasRoomAt, with_node, with_item, with_pair, item_count, pair_count, change_place, change_body, Appends}
 use Rattle.yaml_parse_document.specs.Sizes.{IsSizedBody, AreSized, IsSized}
 use Rattle.yaml_parse_document.proofs.Sound.{length_push, length_change, changed_sound}
 
@@ -21,10 +21,7 @@ sized_push (n ∷ ns) x s h = (s.0, sized_push ns x s.1 h)
 -- A node that has its size keeps a document within its own.
 pub with_node_sized : (d : Document) (x : Node) → IsSized d → length d.nodes < 2147483647
     → IsSizedBody x.body → IsSized (with_node d x)
-with_node_sized d x s room h = record {
-  nodes = subst (λ (n : ℕ). n ≤ 2147483647) (sym (length_push d.nodes x)) (omega arith);
-  entries = sized_push d.nodes x s.entries h;
-}
+with_node_sized d x s room h = grind (arith, length_push, sized_push)
 
 -- what a new node holds
 
@@ -52,16 +49,10 @@ pub entry_more : {A : Type 0} (xs : List A) (x : A) → length xs < 2147483647
 entry_more xs x h = subst (λ (n : ℕ). n ≤ 2147483647) (sym (length_push xs x)) (omega arith)
 
 pub item_sized : (id : ℤ) → Grows (with_item id) item_count
-item_sized id node.no s h = s
-item_sized id (node.scalar value style) s h = s
-item_sized id (node.sequence items style) s h = (entry_more items id h, s.1)
-item_sized id (node.mapping pairs style) s h = s
+item_sized id g s h = grind (arith, entry_more)
 
 pub pair_sized : (p : yaml_node_pair_t) → Grows (with_pair p) pair_count
-pair_sized p node.no s h = s
-pair_sized p (node.scalar value style) s h = s
-pair_sized p (node.sequence items style) s h = s
-pair_sized p (node.mapping pairs style) s h = (s.0, entry_more pairs p h)
+pair_sized p g s h = grind (arith, entry_more)
 
 -- A change that keeps the node in a place sized keeps a document's nodes sized.
 pub sized_change : (f : Node → Node) (k : ℕ) (ns : List Node)
@@ -73,11 +64,7 @@ sized_change f (suc k) (n ∷ ns) h s = (s.0, sized_change f k ns h s.1)
 
 changed_sized : (f : NodeBody → NodeBody) (count : NodeBody → ℕ) (d : Document) (id : ℤ)
     → HasRoomAt count d id → Grows f count → IsSized d → IsSized (change_body f id d)
-changed_sized f count d (pos (suc k)) room grows s = record {
-  nodes = subst (λ (n : ℕ). n ≤ 2147483647) (sym (length_change _ k d.nodes)) s.nodes;
-  entries = sized_change (λ n. record n { body = f n.body }) k d.nodes (λ x is t. grows x.body t (subst (IsKindAt (λ b. count b < 2147483647)) is room)) s.entries;
-}
-changed_sized f count d _ room grows s = absurd room
+changed_sized f count d id room grows s = grind (arith, length_change, sized_change)
 
 abbrev pub Keeps : Document → Type 0
 Keeps d = IsDocument d × IsSized d

@@ -1,8 +1,8 @@
 -- What a document's soundness says after a change.
-use Rattle.std.proofs.Common.{◌≡◌, ◌≤◌, ◌<◌, ℕ, zero, suc, ℤ, pos, List, [], ◌∷◌, ◌++◌, length, map, Option, Some, None, IsSome, IsUtf8, OnOk, arith, sym, ◌∙◌, ap, subst, refl, get_or, Result, Ok, Err, MatchResult}
+use Rattle.std.proofs.Common.{◌≡◌, ◌≤◌, ◌<◌, ℕ, zero, suc, ℤ, pos, List, [], ◌∷◌, ◌++◌, length, map, Option, IsSome, IsUtf8, OnOk, arith, sym, ◌∙◌, ap, subst, refl, get_or, Result, Ok, Err, MatchResult}
 use Rattle.std.proofs.Math.ListN.{set}
 use Rattle.std.proofs.Math.Seq.{map-set_same}
-use Rattle.std.specs.Prelude.{slice_get, negsuc, option_map}
+use Rattle.std.specs.Prelude.{slice_get, option_map}
 use Rattle.std.specs.Borrow.{Bor}
 use Rattle.std.specs.Slice.{IsItemAt}
 use Rattle.std.proofs.lemmas.List.{length-map}
@@ -10,19 +10,16 @@ use Rattle.std.proofs.lemmas.Option.{slice_get-map, slice_get_read, slice_get_pa
 use Rattle.yaml_parse_model.specs.declared.yaml_node_pair_t.{yaml_node_pair_t}
 use Rattle.yaml_parse_model.specs.declared.yaml_node_t.{yaml_node_t}
 use Rattle.yaml_parse_model.specs.declared.yaml_text_fault_t.{yaml_text_fault_t}
-use Rattle.yaml_parse_model.specs.declared.yaml_text_fault_t.TheVariants.{NotUtf8, Memory}
+use Rattle.yaml_parse_model.specs.declared.yaml_text_fault_t.TheVariants.{Memory}
 use Rattle.yaml_parse_model.specs.Constructors.{IsUtf8Option}
 use Rattle.yaml_parse_model.specs.Nodes.{Node, NodeBody, node_of}
-use Rattle.yaml_parse_model.specs.Nodes as node
 use Rattle.yaml_parse_document.specs.Documents.{Document, node_at, IsId, AreIds, ArePairs, IsSoundBody, IsSoundNode, AreSound, IsSoundAt, IsDocument, with_node, change_place, change_body, with_item, with_pair, IsKindAt, HasRoomAt, tag_or, str_tag, seq_tag, map_tag, Adds, Appends}
 
 -- ---- more nodes
 
 -- An id of a document is one where nodes were added.
 pub wider_id : (m n : ℕ) (id : ℤ) → m ≤ n → IsId m id → IsId n id
-wider_id m n (pos zero) h i = i
-wider_id m n (pos (suc k)) h i = omega arith
-wider_id m n _ h i = i
+wider_id m n id h i = grind arith
 
 -- Ids of a document are ids where nodes were added.
 pub wider_ids : (m n : ℕ) (ids : List ℤ) → m ≤ n → AreIds m ids → AreIds n ids
@@ -35,10 +32,7 @@ wider_pairs m n [] h a = tt
 wider_pairs m n (p ∷ ps) h a = ((wider_id m n p.key h a.0.0, wider_id m n p.value h a.0.1), wider_pairs m n ps h a.1)
 
 wider_body : (m n : ℕ) (b : NodeBody) → m ≤ n → IsSoundBody m b → IsSoundBody n b
-wider_body m n node.no h s = tt
-wider_body m n (node.scalar value style) h s = s
-wider_body m n (node.sequence items style) h s = wider_ids m n items h s
-wider_body m n (node.mapping pairs style) h s = wider_pairs m n pairs h s
+wider_body m n b h s = grind (arith, wider_ids, wider_pairs)
 
 pub wider_node : (m n : ℕ) (x : Node) → m ≤ n → IsSoundNode m x → IsSoundNode n x
 wider_node m n x h s = (s.0, wider_body m n x.body h s.1)
@@ -60,14 +54,7 @@ length_push (n ∷ ns) x = ap suc (length_push ns x)
 -- a sound node more
 pub with_node_sound : (d : Document) (x : Node) → IsDocument d → IsSoundNode (length d.nodes) x
     → IsDocument (with_node d x)
-with_node_sound d x s h =
-    let grown : length (d.nodes ++ x ∷ []) ≡ suc (length d.nodes) = length_push d.nodes x in
-    let more : length d.nodes ≤ suc (length d.nodes) = omega arith in
-    record {
-      directives = s.directives;
-      nodes = subst (λ (n : ℕ). AreSound n (d.nodes ++ x ∷ [])) (sym grown)
-          (sound_push _ d.nodes x (wider _ _ d.nodes more s.nodes) (wider_node _ _ x more h));
-    }
+with_node_sound d x s h = grind (arith, length_push, sound_push, wider, wider_node)
 
 -- ---- a node changed
 
@@ -90,14 +77,7 @@ sound_change m f (suc k) (n ∷ ns) h s = (s.0, sound_change m f k ns h s.1)
 pub changed_sound : (d : Document) (f : NodeBody → NodeBody) (id : ℤ)
     → ((b : NodeBody) → IsSoundBody (length d.nodes) b → IsSoundBody (length d.nodes) (f b))
     → IsDocument d → IsDocument (change_body f id d)
-changed_sound d f (pos (suc k)) h s =
-    let g : Node → Node = λ n. record n { body = f n.body } in
-    record {
-      directives = s.directives;
-      nodes = subst (λ (n : ℕ). AreSound n (change_place g k d.nodes)) (sym (length_change g k d.nodes))
-          (sound_change _ g k d.nodes (λ x t. (t.0, h x.body t.1)) s.nodes);
-    }
-changed_sound d f _ h s = s
+changed_sound d f id h s = grind (arith, length_change, sound_change)
 
 -- One sound id more keeps ids sound.
 pub sound_ids_push : (m : ℕ) (ids : List ℤ) (id : ℤ) → AreIds m ids → IsId m id
@@ -119,17 +99,11 @@ sound_pairs_push m (x ∷ ps) p s h = (s.0, sound_pairs_push m ps p s.1 h)
 
 pub item_sound : (m : ℕ) (id : ℤ) → IsId m id → (b : NodeBody) → IsSoundBody m b
     → IsSoundBody m (with_item id b)
-item_sound m id h node.no s = s
-item_sound m id h (node.scalar value style) s = s
-item_sound m id h (node.sequence items style) s = sound_ids_push m items id s h
-item_sound m id h (node.mapping pairs style) s = s
+item_sound m id h b s = grind (arith, sound_ids_push)
 
 pub pair_sound : (m : ℕ) (p : yaml_node_pair_t) → IsId m p.key × IsId m p.value → (b : NodeBody)
     → IsSoundBody m b → IsSoundBody m (with_pair p b)
-pair_sound m p h node.no s = s
-pair_sound m p h (node.scalar value style) s = s
-pair_sound m p h (node.sequence items style) s = s
-pair_sound m p h (node.mapping pairs style) s = sound_pairs_push m pairs p s h
+pair_sound m p h b s = grind (arith, sound_pairs_push)
 
 -- a number under which a node stands is one of that many
 some_place : (ns : List Node) (k : ℕ) → IsSome (slice_get ns k) → suc k ≤ length ns
@@ -138,9 +112,7 @@ some_place (n ∷ ns) zero h = omega arith
 some_place (n ∷ ns) (suc k) h = let r : suc k ≤ length ns = some_place ns k h in omega arith
 
 pub some_id : (ns : List Node) (id : ℤ) → IsSome (node_at ns id) → IsId (length ns) id
-some_id ns (pos zero) h = cc
-some_id ns (pos (suc k)) h = some_place ns k h
-some_id ns _ h = cc
+some_id ns id h = grind (arith, some_place)
 
 -- a write of a node at a place, seen by views
 pub set_changes : (f : Node → Node) (items : List yaml_node_t) (k : ℕ) (old new : yaml_node_t)
@@ -200,8 +172,7 @@ appended IsKind f g count d e items k id old new r same at_view at_k kind is vie
 
 pub tag_utf8 : (tag : Option (List ℕ)) (default : List ℕ) → IsUtf8 default → IsUtf8Option tag
     → IsUtf8 (tag_or tag default)
-tag_utf8 None default a h = a
-tag_utf8 (Some t) default a h = h
+tag_utf8 tag default a h = grind arith
 
 -- The tag of scalars is UTF-8.
 pub str_utf8 : IsUtf8 str_tag
@@ -218,18 +189,13 @@ pub map_utf8 : IsUtf8 map_tag
 unfolding lib.Utf8.encode
 map_utf8 = (map_tag, (refl, refl))
 
-unlike : NotUtf8 ≡ Memory → ⊥
-unlike h = cc
-
 -- an adding call whose texts are UTF-8
 pub added : (d : Document) (m n : Node) (P : Type 0) (r : Result ℤ yaml_text_fault_t)
     (new : Document) → m ≡ n → P
     → MatchResult r (λ id. (new ≡ with_node d m) × (id ≡ pos (suc (length d.nodes))))
     (λ f. (new ≡ d) × (f ≡ Memory))
     → Adds d n P r new
-added d m n P (Ok id) new e p h = (h.0 ∙ ap (with_node d) e, h.1, p)
-added d m n P (Err NotUtf8) new e p h = absurd (unlike h.1)
-added d m n P (Err Memory) new e p h = (h.0, p)
+added d m n g r new e p h = grind arith
 
 -- ---- a node that a number names
 
@@ -240,13 +206,9 @@ sound_item n (suc k) (x ∷ xs) h = sound_item n k xs h.1
 
 pub sound_at : (n : ℕ) (nodes : List Node) (id : ℤ) → AreSound n nodes
     → IsSoundAt n (node_at nodes id)
-sound_at n nodes (pos zero) h = tt
-sound_at n nodes (pos (suc k)) h = sound_item n k nodes h
-sound_at n nodes (negsuc k) h = tt
+sound_at n nodes id h = grind (arith, sound_item)
 
 -- A node that is lent is the view's at that place.
 pub node_lent : (r : Option (Bor yaml_node_t)) (items : List yaml_node_t) (k : ℕ)
     → IsItemAt items k r → option_map (λ n. node_of n.now) r ≡ slice_get (map node_of items) k
-node_lent None items k h = sym (slice_get-map node_of items k ∙ ap (option_map node_of) (slice_get_past items k h.3))
-node_lent (Some n) items k h =
-    sym (slice_get-map node_of items k ∙ ap (option_map node_of) (slice_get_read items (length items) k n.now refl h.3.0 h.1))
+node_lent r items k h = grind (arith, slice_get-map, slice_get_past, slice_get_read)

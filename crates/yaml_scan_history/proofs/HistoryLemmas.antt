@@ -1,5 +1,5 @@
 -- Histories, a step at a time: what is before the earliest open candidate never changes.
-use Rattle.std.proofs.Common.{◌≡◌, ◌≢◌, ℕ, zero, suc, ◌+◌, ◌-◌, ◌<◌, ◌≤◌, true, false, cond, ltb, eqb, List, [], ◌∷◌, ◌++◌, length, take, Option, Some, None, refl, sym, ap, subst, ◌∙◌, inl, inr, ◌⊎◌, arith, append_assoc, length-append}
+use Rattle.std.proofs.Common.{◌≡◌, ◌≢◌, ℕ, zero, suc, ◌+◌, ◌-◌, ◌<◌, ◌≤◌, true, false, ltb, eqb, List, [], ◌∷◌, ◌++◌, length, take, Option, Some, None, refl, sym, ap, subst, ◌∙◌, inl, inr, ◌⊎◌, arith, append_assoc, length-append}
 use Rattle.std.proofs.lemmas.Bool.{cases_Bool, cases_lt}
 use Rattle.std.proofs.lemmas.Bool.Decides.{nat_tests}
 use Rattle.std.proofs.lemmas.Grind.{common_steps}
@@ -9,8 +9,8 @@ use Rattle.yaml_scan_history.specs.declared.lexeme.Lexeme.{Lexeme}
 use Rattle.yaml_scan_history.specs.declared.lexeme.Entry.{Entry}
 use Rattle.yaml_scan_history.specs.Kinds.{is_value}
 use Rattle.yaml_scan_history.specs.Remaining.{all, handed_out, handed}
-use Rattle.yaml_scan_history.specs.History.{Candidate, candidate, is_fresh, fresh, has_number, first_open, mark_key, marked, keyed, entries, reached, found_by, inside}
-use Rattle.yaml_scan_history.specs.Next.{history, Next, Read, Fails, Ends, next, extended}
+use Rattle.yaml_scan_history.specs.History.{Candidate, candidate, is_fresh, fresh, has_number, first_open, mark_key, keyed, entries, reached, found_by, inside}
+use Rattle.yaml_scan_history.specs.Next.{history, Next, Read, next, extended}
 use Rattle.yaml_scan_history.specs.Laws.{Upto, GoesForward}
 
 -- a candidate behind one more lexeme is that lexeme, or was one before
@@ -41,11 +41,7 @@ length-mark_key ls (e ∷ es) (suc n) = ap suc (length-mark_key ls es n)
 -- Setting a key keeps how many entries there are.
 pub length-keyed : (l : Lexeme) (h : List Lexeme) (es : List Entry)
     → length (keyed l h es) ≡ length es
-length-keyed l h es =
-    elim (is_value l.kind) as (λ b. length (cond b (marked (found_by l h) (inside l h) es) es) ≡ length es) [
-      | true ↦ elim (found_by l h) as (λ o. length (marked o (inside l h) es) ≡ length es) [ Some c ↦ length-mark_key (inside l h) es c.number | None ↦ refl ]
-      | false ↦ refl
-    ]
+length-keyed l h es = grind (arith, length-mark_key)
 
 -- Each lexeme has one entry.
 pub length-entries : (h : List Lexeme) → length (entries h) ≡ length h
@@ -78,22 +74,12 @@ near_before s p q i l h = grind (arith, nat_tests)
 -- what is fresh later was fresh before
 pub fresh_before : (o : Option Candidate) (p q : yaml_mark_t) (c : Candidate) → fresh o q ≡ Some c
     → Upto p q → fresh o p ≡ Some c
-fresh_before None p q c e u = cc
-fresh_before (Some d) p q c e (i, l) =
-    elim (cases_Bool (is_fresh d.lexeme.start q)) [
-      | inl near ↦ let now : Some d ≡ Some c = rw near at e in rw (near_before d.lexeme.start p q i l near) now
-      | inr far ↦ let bad = rw far at e in cc
-    ]
+fresh_before o p q c e u = grind arith
 
 -- A fresh candidate is the one that was asked for.
 pub fresh_is : (o : Option Candidate) (p : yaml_mark_t) (c : Candidate) → fresh o p ≡ Some c
     → o ≡ Some c
-fresh_is None p c e = e
-fresh_is (Some d) p c e =
-    elim (cases_Bool (is_fresh d.lexeme.start p)) [
-      | inl near ↦ rw near at e
-      | inr far ↦ let bad = rw far at e in cc
-    ]
+fresh_is o p c e = grind arith
 
 -- a lexeme of the history that is an open candidate
 abbrev pub IsOpen : List Lexeme → ℕ → ℕ → Type 0
@@ -101,8 +87,7 @@ IsOpen all d n = (c : Candidate) × (fresh (candidate d all) (reached all) ≡ S
 
 number_is : (o : Option Candidate) (n : ℕ) → has_number o n ≡ true
     → (c : Candidate) × (o ≡ Some c) × (c.number ≡ n)
-number_is None n h = grind (arith, nat_tests)
-number_is (Some c) n h = (c, refl, grind (arith, nat_tests))
+number_is o n h = grind arith
 
 number_yes : (o : Option Candidate) (n : ℕ) (c : Candidate) → o ≡ Some c → c.number ≡ n
     → has_number o n ≡ true
@@ -221,21 +206,14 @@ take-keyed l h es n further room =
 pub take-entries : (l : Lexeme) (h : List Lexeme) (n : ℕ) → Upto (reached h) l.start
     → n ≤ first_open h h → take n (entries (l ∷ h)) ≡ take n (entries h)
 unfolding entries
-take-entries l h n further room =
-    let old = first_open-le h h in
-    let fits : n ≤ length (keyed l h (entries h)) = omega (arith, length-keyed l h (entries h), length-entries h) in
-    take-append-le n (keyed l h (entries h)) _ fits ∙ take-keyed l h (entries h) n further room
+take-entries l h n further room = grind (arith, first_open-le, length-keyed, length-entries, take-append-le, take-keyed)
 
 take-extended : (text : List ℕ) (h : List Lexeme)
     → ((l : Lexeme) → next text h ≡ Read l → Upto (reached h) l.start × Upto l.start l.reached)
     → (n : ℕ) (x : Next) → next text h ≡ x → n ≤ first_open h h
     → (take n (entries (extended x h)) ≡ take n (entries h))
     × (first_open h h ≤ first_open (extended x h) (extended x h))
-take-extended text h go n (Read l) e room =
-    let (low, high) = go l e in
-    (take-entries l h n low room, first_open-grows l h (omega (arith, low.0, high.0), omega (arith, low.1, high.1)))
-take-extended text h go n (Fails p) e room = (refl, omega arith)
-take-extended text h go n Ends e room = (refl, omega arith)
+take-extended text h go n x e room = grind (arith, take-entries, first_open-grows)
 
 -- further steps leave the marks of what is before the earliest open candidate
 pub take-history : (text : List ℕ) → GoesForward text → (n k m : ℕ) → let h = history text n in
@@ -253,9 +231,7 @@ take-history text go n (suc k) m room =
 
 -- what is no lexeme adds none
 pub not_read : (x : Next) (h : List Lexeme) → ((l : Lexeme) → x ≢ Read l) → extended x h ≡ h
-not_read (Read l) h never = absurd (never l refl)
-not_read (Fails p) h never = refl
-not_read Ends h never = refl
+not_read x h never = grind arith
 
 -- nothing comes behind the end or a fault
 pub stays : (text : List ℕ) (n k : ℕ) → ((l : Lexeme) → next text (history text n) ≢ Read l)
@@ -269,9 +245,7 @@ stays text n (suc k) h =
 
 take-handed_out : (x : Next) (h : List Lexeme) (m : ℕ) → m ≤ first_open h h
     → take m (handed_out x h) ≡ take m (entries h)
-take-handed_out (Read l) h m room = refl
-take-handed_out (Fails p) h m room = take-take m (first_open h h) (entries h) room
-take-handed_out Ends h m room = refl
+take-handed_out x h m room = grind (arith, take-take)
 
 -- What is before the earliest open candidate is handed out as it stands.
 pub take-handed : (text : List ℕ) → GoesForward text → (n m : ℕ) → n ≤ length text + 2

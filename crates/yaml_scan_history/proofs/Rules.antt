@@ -1,31 +1,30 @@
 -- What each rule tells.
-use Rattle.std.proofs.Common.{◌≡◌, ◌≢◌, ◌⊎◌, ◌<◌, ◌≤◌, ◌==◌, ◌&&◌, ◌||◌, not, nat_lt, codes, ℕ, suc, ◌+◌, ◌-◌, Bool, true, false, List, [], length, Option, Some, None, Result, Ok, Err, refl, sym, ap, ◌∙◌, inl, inr, arith}
+use Rattle.std.proofs.Common.{◌≡◌, ◌≢◌, ◌⊎◌, ◌<◌, ◌≤◌, ◌==◌, ◌&&◌, nat_lt, codes, ℕ, ◌+◌, ◌-◌, Bool, true, false, List, [], length, Option, Some, None, Result, Ok, Err, refl, ap, ◌∙◌, arith}
 use Rattle.std.proofs.lemmas.Bool.Decides.{nat_tests}
-use Rattle.std.proofs.lemmas.Bool.{cases_Bool, eq-eqb, ne_eqb, lt-ltb}
+use Rattle.std.proofs.lemmas.Bool.{eq-eqb, ne_eqb, lt-ltb}
 use Rattle.yaml_scan_model.specs.declared.problem.Context.{Context}
 use Rattle.yaml_scan_model.specs.declared.problem.Context.TheVariants as contexts
 use Rattle.yaml_scan_model.specs.declared.problem.Problem.{Problem}
 use Rattle.yaml_scan_model.specs.declared.problem.Problem.TheVariants as problems
 use Rattle.yaml_scan_model.specs.Problems.{problem_text_of, context_text_of}
-use Rattle.yaml_scan_model.specs.Marks.{byte, break_width, column_at, is_blank_or_end}
+use Rattle.yaml_scan_model.specs.Marks.{byte, break_width, is_blank_or_end}
 use Rattle.yaml_scan_model.specs.Breaks.{is_document_indicator}
 use Rattle.yaml_scan_model.specs.Classes.{is_alpha, is_digit, is_blank}
-use Rattle.yaml_scan_model.specs.Runs.{is_text, past_spaces}
 use Rattle.yaml_scan_model.specs.Wrong.{Wrong}
 use Rattle.yaml_scan_words.specs.Runs.{belongs, run_end}
-use Rattle.yaml_scan_block.specs.Unbounded.{EndsBlockRun, IsTabbed}
+use Rattle.yaml_scan_block.specs.Unbounded.{EndsBlockRun}
 use Rattle.yaml_scan_words.specs.Anchors.{may_end_name, name_between, anchor_at}
-use Rattle.yaml_scan_words.specs.Uris.{due_behind, spot_at, uri_at, some_uri_at, filled}
+use Rattle.yaml_scan_words.specs.Uris.{due_behind, spot_at, uri_at, some_uri_at}
 use Rattle.yaml_scan_words.specs.Tags.{TagText, name_end, bracketed, parts_at, may_end_tag, ended}
-use Rattle.yaml_scan_words.specs.Directives.{is_yaml, is_tag, name_between as directive_between, name_at, decimal, number_between, number_at, minor_at, version_at, handle_between, handle_at, prefix_ended, with_prefix, prefix_at, tag_directive_at, named_value_at, value_at, ValueText, then_at, comment_end, break_end, with_line, finished, directive_at}
+use Rattle.yaml_scan_words.specs.Directives.{is_yaml, is_tag, name_between as directive_between, name_at, number_between, number_at, minor_at, version_at, handle_at, prefix_ended, with_prefix, prefix_at, tag_directive_at, named_value_at, value_at, ValueText, then_at, comment_end, break_end, with_line, finished, directive_at}
 use Rattle.yaml_scan_words.proofs.RunsLemmas.{run_to, run_stop}
-use Rattle.yaml_scan_scalars.specs.Quoted.{standing_at, escape_at, hex_len, hex_value, is_scalar, simple_escape, coded, escaped}
+use Rattle.yaml_scan_scalars.specs.Quoted.{standing_at, escape_at, hex_len, hex_value, simple_escape, coded, escaped}
 use Rattle.yaml_scan_scalars.specs.Plain as plain
-use Rattle.yaml_scan_block.specs.Header.{digit_place, header_end, header_at}
-use Rattle.yaml_scan_block.specs.Lines.{Tab, line_spot, lines_from}
+use Rattle.yaml_scan_block.specs.Header.{header_at}
+use Rattle.yaml_scan_block.specs.Lines.{lines_from}
 use Rattle.yaml_scan_history.specs.declared.kind.Kind.TheVariants as kinds
 use Rattle.yaml_scan_history.specs.Words.{word_at}
-use Rattle.yaml_scan_history.specs.Rules.{TellsAll, IsTold, NoName, NamesAreTold, TagsAreTold, IsYaml, IsTagDirective, DirectivesAreTold, IsStandingTold, IsEscape, QuotesAreTold, IsPlainTold, PlainsAreTold, BlocksAreTold, PlacesAreTold}
+use Rattle.yaml_scan_history.specs.Rules.{TellsAll, IsTold, NoName, NamesAreTold, TagsAreTold, IsYaml, IsTagDirective, DirectivesAreTold, IsStandingTold, IsEscape, QuotesAreTold, PlainsAreTold, BlocksAreTold, PlacesAreTold}
 
 abbrev wrong_here : Problem → Context → ℕ → Wrong
 wrong_here problem context q = record { problem = problem; context = context; place = q }
@@ -45,25 +44,15 @@ name_ends text p q h = ends_here _ text (p + 1) q h.after h.each h.stops
 
 no_end : (context : Context) (text : List ℕ) (p q : ℕ) → may_end_name text q ≡ false
     → name_between context text p q ≡ Err (wrong_here problems.NoAlphanumeric context q)
-no_end context text p q n =
-    elim (cases_Bool (p == q)) [
-      | inl e ↦ rw e refl
-      | inr e ↦ rw (e, n) refl
-    ]
+no_end context text p q n = grind arith
 
 no_name : (context : Context) (text : List ℕ) (p q : ℕ) → NoName text p q
     → anchor_at context text p ≡ Err (wrong_here problems.NoAlphanumeric context q)
-no_name context text p q (run, inl e) =
-    ap (name_between context text (p + 1)) (name_ends text p q run) ∙ rw (eq-eqb (p + 1) q (sym e)) refl
-no_name context text p q (run, inr n) =
-    ap (name_between context text (p + 1)) (name_ends text p q run) ∙ no_end context text (p + 1) q n
+no_name context text p q h = grind (arith, name_ends, eq-eqb, no_end)
 
 pub names_are_told : NamesAreTold
 unfolding word_at problem_text_of context_text_of
-names_are_told = record {
-  anchor = λ flow level text p q h. rw (no_name contexts.Anchor text p q h) record { context = refl; problem = refl; place = refl };
-  alias = λ flow level text p q h. rw (no_name contexts.Alias text p q h) record { context = refl; problem = refl; place = refl };
-}
+names_are_told = grind (arith, no_name)
 
 -- ---- tags
 
@@ -85,8 +74,7 @@ bracket_wrong flow text p u b e n = ap (ended flow text) (verbatim_wrong text p 
 empty_wrong : (flow : Bool) (text : List ℕ) (p q : ℕ) → byte text (p + 1) ≡ 60
     → uri_at contexts.TagUri true text (p + 2) ≡ Ok ([], q)
     → ended flow text (parts_at text p) ≡ Err (wrong_here problems.NoTagUri contexts.TagUri q)
-empty_wrong flow text p q b e =
-    ap (ended flow text) (verbatim_wrong text p (Err (wrong_here problems.NoTagUri contexts.TagUri q)) b (ap (filled contexts.TagUri) e))
+empty_wrong flow text p q b e = grind (arith, verbatim_wrong, wrong_here)
 
 end_wrong : (flow : Bool) (text : List ℕ) (p : ℕ) (t : TagText) → parts_at text p ≡ Ok t
     → may_end_tag flow text t.end ≡ false → ended flow text (parts_at text p)
@@ -96,28 +84,16 @@ end_wrong flow text p t e n = ap (ended flow text) e ∙ rw n refl
 leads_none : (b : ℕ) → ((0x80 ≤ b) × (b < 0xC0)) ⊎ (0xF8 ≤ b)
     → due_behind b 0 ≡ Err problems.WrongLeadingOctet
 unfolding due_behind
-leads_none b (inl (low, high)) = grind (arith, nat_tests, low, high)
-leads_none b (inr far) = grind (arith, nat_tests, far)
+leads_none b h = grind arith
 
 trails_none : (b due : ℕ) → 0 < due → (b < 0x80) ⊎ (0xC0 ≤ b)
     → due_behind b due ≡ Err problems.WrongTrailingOctet
 unfolding due_behind
-trails_none b due d (inl low) = grind (arith, nat_tests, d, low)
-trails_none b due d (inr high) = grind (arith, nat_tests, d, high)
+trails_none b due d h = grind arith
 
 pub tags_are_told : TagsAreTold
 unfolding word_at problem_text_of context_text_of spot_at
-tags_are_told = record {
-  bracket = λ flow level text p u b e n. rw (bracket_wrong flow text p u b e n) record { context = refl; problem = refl; place = refl };
-  empty = λ flow level text p q b e. rw (empty_wrong flow text p q b e) record { context = refl; problem = refl; place = refl };
-  end = λ flow level text p t e n. rw (end_wrong flow text p t e n) record { context = refl; problem = refl; place = refl };
-  escape = λ wide due text p b e. rw (eq-eqb (byte text p) 37 b, e) (refl, refl);
-  no_escape = λ wide due text p b d. rw (ne_eqb (byte text p) 37 b, lt-ltb 0 due d) (refl, refl);
-  leading = λ wide text p b e o r. rw (eq-eqb (byte text p) 37 e, o, leads_none b r) (refl, refl);
-  trailing = λ wide due text p b e o d r. rw (eq-eqb (byte text p) 37 e, o, trails_none b due d r) (refl, refl);
-  in_tag = refl;
-  in_directive = refl;
-}
+tags_are_told = grind (arith, nat_tests, bracket_wrong, empty_wrong, end_wrong, eq-eqb, ne_eqb, lt-ltb, leads_none, trails_none)
 
 -- ---- directives
 
@@ -140,8 +116,7 @@ and_so a b e f = rw (e, f) refl
 
 -- a test beside one that fails
 pub and_not : (a b : Bool) → b ≡ false → (a && b) ≡ false
-and_not true b e = e
-and_not false b e = refl
+and_not a b e = grind arith
 
 apart : (p q : ℕ) → p < q → (p == q) ≡ false
 apart p q h = grind (arith, nat_tests)
@@ -156,15 +131,11 @@ not_four : (p : ℕ) → (p + 4 - (p + 1) == 4) ≡ false
 not_four p = grind (arith, nat_tests)
 
 yaml_value : (text : List ℕ) (p r : ℕ) → IsYaml text p r → value_at text p ≡ version_at text (p + 5)
-yaml_value text p r h =
-    ap (λ z. then_at (named_value_at text) (directive_between text (p + 1) z)) (name_ends text p (p + 5) h.letters)
-    ∙ rw (apart (p + 1) (p + 5) (omega arith), h.ended, and_so (is_yaml text (p + 1)) (p + 5 - (p + 1) == 4) h.name (four p)) refl
+yaml_value text p r h = grind (arith, name_ends, apart, and_so, four)
 
 tag_value : (text : List ℕ) (p r : ℕ) → IsTagDirective text p r
     → value_at text p ≡ tag_directive_at text (p + 4)
-tag_value text p r h =
-    ap (λ z. then_at (named_value_at text) (directive_between text (p + 1) z)) (name_ends text p (p + 4) h.letters)
-    ∙ rw (apart (p + 1) (p + 4) (omega arith), h.ended, and_not (is_yaml text (p + 1)) (p + 4 - (p + 1) == 4) (not_four p), and_so (is_tag text (p + 1)) (p + 4 - (p + 1) == 3) h.name (three p)) refl
+tag_value text p r h = grind (arith, name_ends, apart, and_not, not_four, and_so, three)
 
 name_none : (text : List ℕ) (p : ℕ) → EndsBlockRun is_alpha text (p + 1) (p + 1)
     → name_at text p ≡ Err (wrong_here problems.NoDirectiveName contexts.Directive (p + 1))
@@ -227,8 +198,7 @@ handle_none text q r b n = tag_from text q r b ∙ rw (ne_eqb (byte text r) 33 n
 handle_open : (text : List ℕ) (r e : ℕ) → byte text r ≡ 33 → EndsBlockRun is_alpha text (r + 1) e
     → r + 1 < e → byte text e ≢ 33
     → handle_at text r ≡ Err (wrong_here problems.NoExclamationMark contexts.TagDirectiveHandle e)
-handle_open text r e m h l n =
-    rw (eq-eqb (byte text r) 33 m) (ap (handle_between text r) (name_ends text r e h) ∙ rw (ne_eqb (byte text e) 33 n, further (r + 1) e l) refl)
+handle_open text r e m h l n = grind (arith, eq-eqb, name_ends, ne_eqb, further)
 
 white_none : (text : List ℕ) (q r : ℕ) (h : List ℕ × ℕ) → EndsBlockRun is_blank text q r
     → handle_at text r ≡ Ok h → is_blank text h.1 ≡ false
@@ -300,9 +270,7 @@ coded_wrong : (text : List ℕ) (p : ℕ) (o : Option ℕ) → IsEscape text p
     → 0 < hex_len (byte text (p + 1)) → hex_value text (p + 2) (hex_len (byte text (p + 1))) ≡ o
     → standing_at 34 text p ≡ coded (p + 2) (p + 2 + hex_len (byte text (p + 1))) o
 unfolding escape_at
-coded_wrong text p o h n e =
-    escape_there text p h
-    ∙ rw (h.no_break, lt-ltb 0 (hex_len (byte text (p + 1))) n) (ap (coded (p + 2) (p + 2 + hex_len (byte text (p + 1)))) e)
+coded_wrong text p o h n e = grind (arith, escape_there, lt-ltb)
 
 indicator_told : (quote : ℕ) (text : List ℕ) (p : ℕ) → is_document_indicator text p ≡ true
     → IsStandingTold (standing_at quote text p) (codes "while scanning a quoted scalar")
@@ -331,30 +299,16 @@ quotes_are_told = record {
 
 pub plains_are_told : PlainsAreTold
 unfolding plain.spot_at problem_text_of context_text_of
-plains_are_told = record {
-  tab = λ flow level text p b w l c. rw (w, b, l, lt-ltb (column_at text p) level c) record { context = refl; problem = refl; place = refl };
-  colon = λ level text p b w e n. rw (w, e, b, n) record { context = refl; problem = refl; place = refl };
-}
+plains_are_told = grind arith
 
 -- ---- block scalars
 
 pub blocks_are_told : BlocksAreTold
 unfolding header_at lines_from problem_text_of context_text_of
-blocks_are_told = record {
-  zero_digit = λ text p b. rw (eq-eqb (byte text (digit_place text p)) 48 b) record { context = refl; problem = refl; place = refl };
-  comment = λ text p b t. rw (ne_eqb (byte text (digit_place text p)) 48 b, t) record { context = refl; problem = refl; place = refl };
-  tab = λ text p w t. rw t.told record { context = refl; problem = refl; place = refl };
-  line = λ c text end p q e. rw e record { context = refl; problem = refl; place = refl };
-}
+blocks_are_told = grind arith
 
 -- ---- between lexemes
 
 pub places_are_told : PlacesAreTold
 unfolding problem_text_of context_text_of
-places_are_told = record {
-  start = λ m. record { context = refl; problem = refl; context_mark = refl; problem_mark = refl };
-  key = λ m n. record { context = refl; problem = refl; context_mark = refl; problem_mark = refl };
-  entry = λ m. record { context = refl; problem = refl; context_mark = refl; problem_mark = refl };
-  question = λ m. record { context = refl; problem = refl; context_mark = refl; problem_mark = refl };
-  colon = λ m. record { context = refl; problem = refl; context_mark = refl; problem_mark = refl };
-}
+places_are_told = grind arith

@@ -1,5 +1,5 @@
 -- The lexeme that comes, or its first fault, is what one test after the other finds.
-use Rattle.std.proofs.Common.{◌≡◌, ℕ, Bool, true, false, cond, List, [], ◌∷◌, Option, Some, None, Result, Ok, Err, refl}
+use Rattle.std.proofs.Common.{◌≡◌, ℕ, Bool, cond, List, [], ◌∷◌, Option, Some, None, Result, refl, arith}
 use Rattle.yaml_scan_model.specs.declared.record.yaml_mark_t.{yaml_mark_t}
 use Rattle.yaml_scan_model.specs.declared.problem.ScanFault.{ScanFault}
 use Rattle.yaml_scan_model.specs.Marks.{mark_at}
@@ -8,8 +8,8 @@ use Rattle.yaml_scan_words.specs.Between.{Gap}
 use Rattle.yaml_scan_history.specs.declared.kind.Kind.{Kind}
 use Rattle.yaml_scan_history.specs.declared.lexeme.Lexeme.{Lexeme}
 use Rattle.yaml_scan_history.specs.History.{depth, candidate, fresh, open_at}
-use Rattle.yaml_scan_history.specs.Next.{Next, Read, Fails, gap_behind, place_behind, kind_behind, allowed_behind, begun_behind, word_behind, with_end, lexeme_behind, missed, lost_by, misplaced, no_start, not_allowed_there, colon_missing_of, wrong_in, stale_after, indicator_misplaced, candidate_lost, text_wrong, finished, first_fault_or, coming}
-use Rattle.yaml_scan_history.specs.Stepwise.{no_colon, unless_wrong, unless_lost, of_kind, unless_missed, behind}
+use Rattle.yaml_scan_history.specs.Next.{Next, Read, Fails, gap_behind, place_behind, kind_behind, allowed_behind, begun_behind, word_behind, with_end, lexeme_behind, missed, lost_by, misplaced, no_start, not_allowed_there, colon_missing_of, wrong_in, stale_after, indicator_misplaced, candidate_lost, text_wrong, first_fault_or, coming}
+use Rattle.yaml_scan_history.specs.Stepwise.{unless_wrong, unless_lost, of_kind, unless_missed, behind}
 use Rattle.yaml_scan_history.specs.Words.{WordText}
 
 unmissed : (o : Option yaml_mark_t) (text : List ℕ) (gap : Gap) (h : List Lexeme)
@@ -17,32 +17,22 @@ unmissed : (o : Option yaml_mark_t) (text : List ℕ) (gap : Gap) (h : List Lexe
     → first_fault_or ps x ≡ unless_missed None text gap h
     → first_fault_or (colon_missing_of o (mark_at text gap.place) ∷ ps) x
     ≡ unless_missed o text gap h
-unmissed (Some start) text gap h ps x e = refl
-unmissed None text gap h ps x e = e
+unmissed o text gap h ps x e = grind arith
 
 in_place : (b : Bool) (p : ScanFault) (ps : List (Option ScanFault)) (x y : Next)
     → first_fault_or ps x ≡ y → first_fault_or (cond b (Some p) None ∷ ps) x ≡ cond b (Fails p) y
-in_place true p ps x y e = refl
-in_place false p ps x y e = e
+in_place b p ps x y e = grind arith
 
 kept : (o : Option yaml_mark_t) (text : List ℕ) (p : ℕ) (l : Lexeme) (h : List Lexeme)
     (ps : List (Option ScanFault)) (x : Next)
     → first_fault_or ps x ≡ unless_lost None text p l h
     → first_fault_or (colon_missing_of o l.start ∷ ps) x ≡ unless_lost o text p l h
-kept (Some start) text p l h ps x e = refl
-kept None text p l h ps x e = e
-
-fresh_behind : (o : Option yaml_mark_t) (l : Lexeme)
-    → first_fault_or (colon_missing_of o l.reached ∷ []) (Read l)
-    ≡ (elim o as (λ _. Next) [ Some start ↦ no_colon start l.reached | None ↦ Read l ])
-fresh_behind (Some start) l = refl
-fresh_behind None l = refl
+kept o text p l h ps x e = grind arith
 
 read : (r : Result WordText Wrong) (text : List ℕ) (l : Lexeme) (h : List Lexeme)
     → first_fault_or (wrong_in text l.start r ∷ stale_after (with_end text l r) h ∷ [])
     (Read (with_end text l r)) ≡ unless_wrong r text l h
-read (Err w) text l h = refl
-read (Ok w) text l h = fresh_behind (missed (candidate 0 (finished text l w ∷ h)) (finished text l w).reached) (finished text l w)
+read r text l h = grind arith
 
 -- the faults in a row, behind the first
 abbrev later : Kind → List ℕ → List Lexeme → List (Option ScanFault)

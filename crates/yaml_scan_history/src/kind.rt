@@ -67,21 +67,7 @@ impl Kind {
     pub fn cancels(self) -> bool
         ensures { result ≡ kinds.cancels self }
     {
-        match self {
-            Kind::StreamEnd
-            | Kind::Directive
-            | Kind::DocumentStart
-            | Kind::DocumentEnd
-            | Kind::FlowSequenceEnd
-            | Kind::FlowMappingEnd
-            | Kind::FlowEntry
-            | Kind::BlockEntry
-            | Kind::KeyMark
-            | Kind::ValueMark
-            | Kind::Literal
-            | Kind::Folded => true,
-            _ => false,
-        }
+        !matches!(self, Kind::StreamStart) && !self.may_be_key()
     }
 
     /// Whether it is the `:` of a mapping.

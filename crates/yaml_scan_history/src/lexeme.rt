@@ -1,8 +1,7 @@
 //! Lexemes with what earlier ones decide of them.
 
 ghost use Rattle.std.specs.Prelude.{◌≡◌, ◌<◌, ◌^◌};
-ghost use Rattle.yaml_scan_history.specs.History.{is_fresh};
-ghost use Rattle.yaml_scan_history.specs.History.{placed};
+ghost use Rattle.yaml_scan_history.specs.History.{is_fresh, placed};
 
 use crate::kind::Kind;
 use yaml_scan_model::yaml_mark_t;

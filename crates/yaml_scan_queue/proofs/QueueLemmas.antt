@@ -125,9 +125,9 @@ pub tells_tag : (n : ℕ) (x w : Waiting) (r : Option (Bor TokenSlot)) → x ≡
 tells_tag n x w (Some t) is few (all, same) none =
     (front_done (kept_of w) n (ap (λ (y : Waiting). front_count (kept_of y)) (sym is) ∙ sym all), ap (λ (y : TokenSlot). token_in_slot y) same ∙ ap (λ (y : Waiting). token_in_slot y.token) is)
 tells_tag n x w None is few some none = elim (none refl) [
-      | inl bare ↦ inl (ap (λ (y : Waiting). is_tagged (kept_of y).body) (sym is) ∙ bare)
-      | inr left ↦ inr (λ done. left (omega (arith, few, ap (λ (y : Waiting). front_count (kept_of y)) is, all_given (kept_of w) n done)))
-    ]
+  | inl bare ↦ inl (ap (λ (y : Waiting). is_tagged (kept_of y).body) (sym is) ∙ bare)
+  | inr left ↦ inr (λ done. left (omega (arith, few, ap (λ (y : Waiting). front_count (kept_of y)) is, all_given (kept_of w) n done)))
+]
 
 -- A row is turned until its part comes behind the first slot.
 pub part_turned : {X : Type 0} → (xs zs : List X) (f l : ℕ)
@@ -188,9 +188,9 @@ own_tag x h tag = h ∙ ap (λ (b : Bool). own_of b (kept_of x)) tag
 pub own_here : (x : Waiting) (n : ℕ) → IsGiven x n → x.own_after ≡ n
     → (is_tagged (kept_of x).body ≡ false) × (front_count (kept_of x) ≡ n)
 own_here x n (h, few, le) here = elim (cases_Bool (is_tagged (kept_of x).body)) [
-      | inl tag ↦ absurd (omega (arith, own_tag x h tag, here, few, le))
-      | inr bare ↦ (bare, sym (own_bare x h few bare) ∙ here)
-    ]
+  | inl tag ↦ absurd (omega (arith, own_tag x h tag, here, few, le))
+  | inr bare ↦ (bare, sym (own_bare x h few bare) ∙ here)
+]
 
 -- the two stand behind the others
 pub put_twice : {old : List Waiting} {r s : ReadLexeme} {new : List Waiting}

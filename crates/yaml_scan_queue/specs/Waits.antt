@@ -65,7 +65,8 @@ abbrev pub keyed : Opens → Waiting → Waiting
 keyed opens w = record w {
   opens = opens;
   key = true;
-  own_after = own_of (is_tagged (kept_of w).body) (record (kept_of w) { opens = opens; key = true });
+  own_after = own_of (is_tagged (kept_of w).body)
+      (record (kept_of w) { opens = opens; key = true });
 }
 
 -- the same of a lexeme that was just read

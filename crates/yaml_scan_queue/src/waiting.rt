@@ -74,7 +74,11 @@ impl Waiting {
     pub(crate) fn note_own(&mut self, is_tagged: bool)
         ensures { self.new ≡ record self.old { own_after = own_of is_tagged (kept_of self.old) } }
     {
-        self.own_after = if is_tagged { usize::MAX } else { self.count_fronts() };
+        self.own_after = if is_tagged {
+            usize::MAX
+        } else {
+            self.count_fronts()
+        };
     }
 
     /// How many tokens stand in front of its own one: BLOCK-END tokens, a block start, KEY. The sum wraps, so that nothing is asked of

@@ -220,10 +220,7 @@ impl yaml_emitter_t {
         ensures right { result ≡ true → self.now.fault ≡ None }
         ensures begun { result ≡ true → self.now.fresh ≡ false }
     {
-        match self.fault {
-            Some(_) => false,
-            None => !self.fresh,
-        }
+        matches!(self.fault, None) && !self.fresh
     }
 
     // An event is given behind those that are held, where the whole text is wanted.
@@ -338,9 +335,7 @@ pub fn take_event(emitter: &mut yaml_emitter_t, event: &mut yaml_event_body_t)
 {
     match emitter.fault {
         Some(_) => (),
-        None => {
-            emitter.begin_or_lay(event);
-        }
+        None => emitter.begin_or_lay(event),
     }
 }
 

@@ -64,10 +64,7 @@ impl Held {
         ensures some { result ≡ are_some (held_events self.now) }
         ensures none { result ≡ false → held_events self.now ≡ [] }
     {
-        match self.count {
-            Count::Nothing => false,
-            _ => true,
-        }
+        !matches!(self.count, Count::Nothing)
     }
 
     fn opens_level(event: &yaml_event_body_t) -> bool
@@ -111,25 +108,14 @@ impl Held {
             (emitter_event (body_of second.now)) }
     {
         match first {
-            yaml_event_body_t::SequenceStart { .. } => match second {
-                yaml_event_body_t::SequenceEnd => true,
-                _ => false,
-            },
-            yaml_event_body_t::MappingStart { .. } => match second {
-                yaml_event_body_t::MappingEnd => true,
-                _ => false,
-            },
+            yaml_event_body_t::SequenceStart { .. } => {
+                matches!(second, yaml_event_body_t::SequenceEnd)
+            }
+            yaml_event_body_t::MappingStart { .. } => {
+                matches!(second, yaml_event_body_t::MappingEnd)
+            }
             _ => false,
         }
-    }
-
-    // One of two events ends a level before another is opened.
-    #[tactic(auto, using(crate::proofs::Holding::closes_last))]
-    fn closes_two(second: &yaml_event_body_t, third: &yaml_event_body_t) -> bool
-        ensures { result ≡ closes (emitter_event (body_of second.now) ∷ emitter_event
-            (body_of third.now) ∷ []) }
-    {
-        Held::ends_level(second) || (!Held::opens_level(second) && Held::ends_level(third))
     }
 
     /// Whether an event that comes needn't be held: nothing is, and it needs nothing behind it.
@@ -137,10 +123,7 @@ impl Held {
     pub fn passes(&self, event: &yaml_event_body_t) -> bool
         ensures { result ≡ passes (held_events self.now) (emitter_event (body_of event.now)) }
     {
-        match self.count {
-            Count::Nothing => Held::needs(event) == 0,
-            _ => false,
-        }
+        matches!(self.count, Count::Nothing) && Held::needs(event) == 0
     }
 
     /// One more. What is left of the event counts for nothing.
@@ -194,7 +177,11 @@ impl Held {
         match self.count {
             Count::Nothing => false,
             Count::One => Held::needs(&self.first) <= 1 || Held::ends_level(event),
-            Count::Two => Held::needs(&self.first) <= 2 || Held::closes_two(&self.second, event),
+            Count::Two => {
+                Held::needs(&self.first) <= 2
+                    || Held::ends_level(&self.second)
+                    || (!Held::opens_level(&self.second) && Held::ends_level(event))
+            }
             Count::Three => true,
         }
     }

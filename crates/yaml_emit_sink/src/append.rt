@@ -1,6 +1,6 @@
 //! Bytes at the end of the output.
 
-ghost use Rattle.std.specs.Prelude.{◌≡◌, ◌<◌, ◌≤◌, ◌+◌, ◌^◌, length, true};
+ghost use Rattle.std.specs.Prelude.{◌≡◌, ◌<◌, ◌≤◌, ◌+◌, ◌^◌, length};
 ghost use Rattle.std.specs.Vec.{vec_capacity};
 ghost use Rattle.yaml_emit_sink.specs.Appends.{AppendsBy, moved, indented, blanked, lettered};
 ghost use Rattle.yaml_emit_sink.specs.Text.{char_bytes};
@@ -94,14 +94,4 @@ pub(crate) fn moved(at: &mut Cursor, ends: bool, white: bool, bare: bool)
     at.column = if ends { 0 } else { at.column + 1 };
     at.white = white;
     at.bare = bare;
-}
-
-// Whether a character in ASCII comes, and there is room for a byte more, up to so many.
-// Inlined: asked of each character.
-#[inline(always)]
-pub(crate) fn is_roomy(output: &Vec<u8>, fast_limit: u64, c: char) -> bool
-    ensures ascii { result ≡ true → c < 0x80 }
-    ensures near { result ≡ true → length output.now.items < fast_limit }
-{
-    (c as u32) < 0x80 && (output.len() as u64) < fast_limit
 }

@@ -33,9 +33,6 @@ impl Status {
         ensures going { result ≡ true → self ≡ Status.Going }
         ensures stopped { result ≡ false → self ≢ Status.Going }
     {
-        match self {
-            Status::Going => true,
-            _ => false,
-        }
+        matches!(self, Status::Going)
     }
 }

@@ -37,10 +37,7 @@ pub fn is_brief(output: &Vec<u8>, fast_limit: u64, line_break: LineBreak, indent
     ensures line { result ≡ true → (line_break ≡ LineBreak.Lf) × (indent ≤ 80) }
     ensures near { result ≡ true → length output.now.items + 126 ≤ fast_limit }
 {
-    match line_break {
-        LineBreak::Lf => indent <= 80 && output.len() as u64 + 126 <= fast_limit,
-        _ => false,
-    }
+    matches!(line_break, LineBreak::Lf) && indent <= 80 && output.len() as u64 + 126 <= fast_limit
 }
 
 /// The same of a line that begins so, and whether the text behind it is short.
@@ -52,16 +49,6 @@ pub fn is_brief_start(output: &Vec<u8>, fast_limit: u64, start: &LineStart, text
     ensures near { result ≡ true → length output.now.items + 126 ≤ fast_limit }
 {
     text.len() <= SHORT && is_brief(output, fast_limit, start.line_break, start.indent)
-}
-
-/// Whether at most sixteen spaces come, and there is room for sixteen.
-// Inlined: two comparisons.
-#[inline(always)]
-pub fn are_few(output: &Vec<u8>, fast_limit: u64, count: u64) -> bool
-    ensures few { result ≡ true → count ≤ 16 }
-    ensures near { result ≡ true → length output.now.items + 16 ≤ fast_limit }
-{
-    count <= 16 && output.len() as u64 + 16 <= fast_limit
 }
 
 // Few spaces.

@@ -101,9 +101,8 @@ fn settled_break(line_break: yaml_break_t) -> LineBreak
     ensures { result ≡ settled_break line_break }
 {
     match line_break {
-        yaml_break_t::YAML_ANY_BREAK => LineBreak::Lf,
+        yaml_break_t::YAML_ANY_BREAK | yaml_break_t::YAML_LN_BREAK => LineBreak::Lf,
         yaml_break_t::YAML_CR_BREAK => LineBreak::Cr,
-        yaml_break_t::YAML_LN_BREAK => LineBreak::Lf,
         yaml_break_t::YAML_CRLN_BREAK => LineBreak::CrLf,
     }
 }

@@ -7,9 +7,9 @@ ghost use Rattle.std.specs.Vec.{vec_capacity};
 
 mod around;
 
-use crate::append::{append, append_char, blanked, indented, is_roomy, lettered, moved};
+use crate::append::{append, append_char, blanked, indented, lettered, moved};
 use crate::cursor::{Cursor, Status};
-use crate::feed::{are_few, has_room, is_brief, put_few_blanks, put_fresh_line};
+use crate::feed::{has_room, is_brief, put_few_blanks, put_fresh_line};
 use crate::settings::{Encoding, LineBreak};
 use std::alloc::{AllocError, Global};
 use std::marker::Model;
@@ -198,7 +198,7 @@ impl Sink {
     fn write(&mut self, c: char, ends: bool, white: bool, bare: bool)
         ensures { Puts self.old self.new (stroke c ends white bare) }
     {
-        if is_roomy(&self.output, self.fast_limit, c) {
+        if (c as u32) < 0x80 && (self.output.len() as u64) < self.fast_limit {
             self.output.push_reserved(c as u32 as u8);
             moved(&mut self.cursor, ends, white, bare);
         } else {
@@ -338,7 +338,7 @@ impl Sink {
         if count == 0 {
             return;
         }
-        if are_few(&self.output, self.fast_limit, count) {
+        if count <= 16 && self.output.len() as u64 + 16 <= self.fast_limit {
             put_few_blanks(&mut self.output, count);
             blanked(&mut self.cursor, count);
         } else {

@@ -4,10 +4,8 @@ ghost use Rattle.yaml_parse_model.specs.Events.{text_of, body_of};
 ghost use Rattle.yaml_emit_text.specs.Tame.{Stands, asks_plain, standing};
 ghost use Rattle.yaml_emit_layout.specs.Content.{emitter_event};
 ghost use Rattle.yaml_emit_layout.specs.Grammar.{has};
-ghost use Rattle.yaml_emit_state.specs.Bare.{has_none, most_short, IsInlineEvent, is_asked, is_double, is_shallow};
+ghost use Rattle.yaml_emit_state.specs.Bare.{has_none, most_short, IsInlineEvent, is_asked};
 
-use crate::indent::is_not_deep;
-use yaml_emit_layout::Level;
 use yaml_emit_text::{Settings, Sink, are_even, fits, is_tame};
 use yaml_parse_model::yaml_event_body_t;
 use yaml_scan_model::yaml_scalar_style_t;
@@ -19,10 +17,7 @@ const MOST: usize = 80;
 pub fn is_given(text: &Option<Vec<u8>>) -> bool
     ensures { result ≡ has (text_of text.now) }
 {
-    match text {
-        None => false,
-        Some(_) => true,
-    }
+    matches!(text, Some(_))
 }
 
 /// Whether a style may be plain.
@@ -33,12 +28,6 @@ pub fn asks_plain(style: yaml_scalar_style_t) -> bool
         style,
         yaml_scalar_style_t::YAML_ANY_SCALAR_STYLE | yaml_scalar_style_t::YAML_PLAIN_SCALAR_STYLE
     )
-}
-
-fn is_double(style: yaml_scalar_style_t) -> bool
-    ensures { result ≡ is_double style }
-{
-    matches!(style, yaml_scalar_style_t::YAML_DOUBLE_QUOTED_SCALAR_STYLE)
 }
 
 /// Whether no anchor and no tag stands there.
@@ -60,7 +49,7 @@ fn is_asked(framed: bool, plain: bool, quoted: bool, style: yaml_scalar_style_t)
     ensures { result ≡ is_asked framed plain quoted style }
 {
     if framed {
-        quoted && is_double(style)
+        quoted && matches!(style, yaml_scalar_style_t::YAML_DOUBLE_QUOTED_SCALAR_STYLE)
     } else {
         plain && asks_plain(style)
     }
@@ -102,15 +91,6 @@ pub fn is_inline(event: &yaml_event_body_t, framed: bool) -> bool
         }
         _ => false,
     }
-}
-
-/// Whether a collection is open, and what stands in it isn't too deep.
-// Inlined: a sum and some comparisons.
-#[inline(always)]
-pub fn is_shallow(settings: &Settings, top: &Option<Level>) -> bool
-    ensures { result ≡ is_shallow settings.now top.now }
-{
-    matches!(top, Some(level) if is_not_deep(level.indent, settings.indent))
 }
 
 /// Whether no space is due, and a text fits the line, plain or in quotes.

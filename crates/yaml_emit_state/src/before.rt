@@ -54,18 +54,6 @@ fn put_before_item(sink: &mut Sink, settings: &Settings, flow: bool, indent: u64
     }
 }
 
-// Inlined: it is a byte, or a test in front of one.
-#[inline(always)]
-fn put_question_unless(sink: &mut Sink, flow: bool, simple: bool)
-    ensures { Puts sink.old sink.new (when (not simple) (question flow)) }
-{
-    if simple {} else if flow {
-        sink.put_inline_indicator('?');
-    } else {
-        sink.put_indicator('?');
-    }
-}
-
 // Inlined: where the form is known it is short.
 #[inline(always)]
 #[tactic(auto, unfolding(yaml_emit_layout::specs::Nodes::before_key))]
@@ -82,10 +70,15 @@ fn put_before_key(
     if flow {
         put_comma_unless(sink, fresh);
         put_flow_line(sink, settings, indent);
+        if !simple {
+            sink.put_inline_indicator('?');
+        }
     } else {
         sink.put_line(settings.line_break, indent);
+        if !simple {
+            sink.put_indicator('?');
+        }
     }
-    put_question_unless(sink, flow, simple);
 }
 
 /// What comes before a value, by whether its key was simple.
@@ -157,11 +150,7 @@ fn put_end(sink: &mut Sink, due: bool, settings: &Settings, indent: u64, c: u8)
 fn ends_apart(canonical: bool, phase: Phase) -> bool
     ensures { result ≡ (canonical && not (is_fresh phase)) }
 {
-    match phase {
-        Phase::Items(fresh) => canonical && !fresh,
-        Phase::Keys(fresh) => canonical && !fresh,
-        Phase::Value(_) => canonical,
-    }
+    canonical && !matches!(phase, Phase::Items(true) | Phase::Keys(true))
 }
 
 /// Whether a collection has entries, and is a sequence, or a mapping, that may end there.
@@ -215,11 +204,7 @@ pub fn closing_bracket(sequence: bool) -> u8
 fn has_comma(phase: Phase) -> bool
     ensures { result ≡ has_comma phase }
 {
-    match phase {
-        Phase::Items(fresh) => !fresh,
-        Phase::Keys(fresh) => !fresh,
-        Phase::Value(_) => false,
-    }
+    matches!(phase, Phase::Items(false) | Phase::Keys(false))
 }
 
 fn mark_of(phase: Phase) -> u8
@@ -232,31 +217,18 @@ fn mark_of(phase: Phase) -> u8
     }
 }
 
-// Whether that indentation, and one that is deeper by as much as is set, are far from too deep.
-fn are_near(indent: u64, more: u64) -> bool
-    ensures { result ≡ true → nat_le (indent + more) 2147483647 ≡ true }
-{
-    indent <= NEAR && more <= NEAR
-}
-
 /// Whether a node is a value behind a simple key.
 pub fn is_behind_simple(phase: Phase) -> bool
     ensures { result ≡ is_behind_simple phase }
 {
-    match phase {
-        Phase::Value(was_simple) => was_simple,
-        _ => false,
-    }
+    matches!(phase, Phase::Value(true))
 }
 
 /// Whether a node is an item of a block sequence.
 pub fn is_block_item(level: &Level) -> bool
     ensures { result ≡ is_block_item level.now.phase level.now.flow }
 {
-    match level.phase {
-        Phase::Items(_) => !level.flow,
-        _ => false,
-    }
+    matches!(level.phase, Phase::Items(_)) && !level.flow
 }
 
 /// Whether a node in a collection begins a line in canonical form, and isn't too deep.
@@ -268,7 +240,8 @@ pub fn begins_line(settings: &Settings, level: &Level) -> bool
     settings.canonical
         && level.flow
         && !is_behind_simple(level.phase)
-        && are_near(level.indent, settings.indent)
+        && level.indent <= NEAR
+        && settings.indent <= NEAR
 }
 
 /// What that line begins with.

@@ -30,15 +30,6 @@ fn put_dots_if(sink: &mut Sink, due: bool, settings: &Settings)
     }
 }
 
-// What ends a document.
-#[tactic(auto, unfolding(yaml_emit_layout::specs::Nodes::end_layout))]
-fn put_end(sink: &mut Sink, settings: &Settings, implicit: bool)
-    ensures { Puts sink.old sink.new (end_layout settings.now implicit) }
-{
-    sink.put_line(settings.line_break, 0);
-    put_dots_if(sink, !implicit, settings);
-}
-
 fn put_version_word(sink: &mut Sink, version: yaml_version_directive_t)
     ensures { Puts sink.old sink.new (word (version_word version)) }
 {
@@ -98,24 +89,6 @@ fn is_directed(
     matches!(version, Some(_)) || !directives.is_empty()
 }
 
-// The directives, and `---` where it is due.
-fn put_opening(
-    sink: &mut Sink,
-    settings: &Settings,
-    marked: bool,
-    version: Option<yaml_version_directive_t>,
-    directives: &[yaml_tag_directive_t],
-)
-    ensures { Puts sink.old sink.new (keep false ▹ version_text settings.now version
-        ▹ directives_text settings.now (map directive_of directives.now)
-        ▹ when marked (dashes settings.now)) }
-{
-    sink.set_kept(false);
-    put_version(sink, settings, version);
-    put_directives(sink, settings, directives);
-    put_dashes_if(sink, marked, settings);
-}
-
 // What opens a document, where one may come.
 fn put_start_at(
     sink: &mut Sink,
@@ -133,24 +106,15 @@ fn put_start_at(
         // `...` parts directives from a document that ended implicitly.
         put_dots_if(sink, unended & directed, settings);
         let marked = settings.canonical | !(first & (implicit & !directed));
-        put_opening(sink, settings, marked, version, directives);
-    }
-}
-
-// What ends the stream.
-#[tactic(auto, unfolding(yaml_emit_layout::specs::Nodes::stop_layout))]
-fn put_stop_at(sink: &mut Sink, settings: &Settings, place: Expected)
-    ensures { Puts sink.old sink.new (stop_at settings.now place) }
-{
-    if let Expected::Documents(_, unended) = place {
-        if unended && sink.cursor().kept {
-            put_dots(sink, settings);
-        }
+        sink.set_kept(false);
+        put_version(sink, settings, version);
+        put_directives(sink, settings, directives);
+        put_dashes_if(sink, marked, settings);
     }
 }
 
 /// What begins and ends the stream and its documents.
-#[tactic(auto, unfolding(yaml_emit_layout::specs::State::text_at))]
+#[tactic(auto, unfolding(yaml_emit_layout::specs::State::text_at, yaml_emit_layout::specs::Nodes::end_layout, yaml_emit_layout::specs::Nodes::stop_layout))]
 pub fn put_outer(sink: &mut Sink, settings: &Settings, place: Expected, event: &yaml_event_body_t)
     requires outer { is_outer (emitter_event (body_of event.now)) ≡ true }
     requires encoding { settings.now.encoding ≡ sink.old.encoding }
@@ -160,7 +124,10 @@ pub fn put_outer(sink: &mut Sink, settings: &Settings, place: Expected, event: &
 {
     match event {
         yaml_event_body_t::StreamStart { .. } => sink.put_order_mark(),
-        yaml_event_body_t::StreamEnd => put_stop_at(sink, settings, place),
+        yaml_event_body_t::StreamEnd => match place {
+            Expected::Documents(_, true) if sink.cursor().kept => put_dots(sink, settings),
+            _ => (),
+        },
         yaml_event_body_t::DocumentStart {
             version_directive,
             tag_directives,
@@ -173,7 +140,10 @@ pub fn put_outer(sink: &mut Sink, settings: &Settings, place: Expected, event: &
             tag_directives,
             *implicit,
         ),
-        yaml_event_body_t::DocumentEnd { implicit } => put_end(sink, settings, *implicit),
+        yaml_event_body_t::DocumentEnd { implicit } => {
+            sink.put_line(settings.line_break, 0);
+            put_dots_if(sink, !*implicit, settings);
+        }
         _ => (),
     }
 }

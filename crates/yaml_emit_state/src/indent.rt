@@ -1,6 +1,6 @@
 //! Where nodes stand, and how deep.
 ghost use Rattle.std.specs.Prelude.{◌≡◌, ◌<◌, ◌+◌, nat_le, None, Some, true, false, ◌&&◌, ◌||◌};
-ghost use Rattle.yaml_emit_layout.specs.Nodes.{deeper, block_indent_in, indent_of, is_of_mapping, is_simple_part, is_flow};
+ghost use Rattle.yaml_emit_layout.specs.Nodes.{deeper, indent_of, is_simple_part, is_flow};
 ghost use Rattle.yaml_emit_layout.specs.State.{position_of, part_at};
 ghost use Rattle.yaml_emit_state.specs.Stack.{within};
 
@@ -45,15 +45,6 @@ pub fn is_simple_part(part: Part) -> bool
     matches!(part, Part::SimpleKey)
 }
 
-fn is_of_mapping(part: Part) -> bool
-    ensures { result ≡ is_of_mapping part }
-{
-    match part {
-        Part::Item => false,
-        _ => true,
-    }
-}
-
 // None past the largest.
 fn sum(n: u64, indent: u64) -> Option<u64>
     ensures { result ≡ within (n + indent) }
@@ -84,16 +75,6 @@ pub fn deeper(settings: &Settings, around: Option<u64>) -> Option<u64>
     }
 }
 
-fn block_indent(settings: &Settings, around: Option<u64>, keeps: bool) -> Option<u64>
-    ensures { result ≡ within (block_indent_in settings.now around keeps) }
-{
-    match around {
-        None => Some(0),
-        Some(n) if keeps => sum(n, 0),
-        Some(n) => sum(n, settings.indent),
-    }
-}
-
 /// The indentation of a collection at the cursor behind its properties, or none past 2,147,483,647 columns.
 // Inlined: where the form is known it is a sum.
 #[inline(always)]
@@ -109,11 +90,13 @@ pub fn indent_of(
     if flow {
         deeper(settings, position.around)
     } else {
-        block_indent(
-            settings,
-            position.around,
-            sequence && is_of_mapping(position.part) && !cursor.bare,
-        )
+        match position.around {
+            None => Some(0),
+            Some(n) if sequence && !matches!(position.part, Part::Item) && !cursor.bare => sum(
+                n, 0,
+            ),
+            Some(n) => sum(n, settings.indent),
+        }
     }
 }
 

@@ -2,7 +2,7 @@
 ghost use Rattle.std.specs.Prelude.{◌≡◌, [], None, Some, true, false, if◌then◌else◌, ◌&&◌, ◌||◌, map, IfOk, OnOk, OnErr};
 ghost use Rattle.yaml_parse_model.specs.Events.{text_of, directive_of, body_of};
 ghost use Rattle.yaml_emit_layout.specs.Content.{emitter_event};
-ghost use Rattle.yaml_emit_layout.specs.Grammar.{name_problem, anchor_problem, tag_problem, kept_tag, event_problem, version_problem, handle_problem, directives_problem, last_problem, ends_phase, begins_node, node_problem, place_problem, problem_by, or_else};
+ghost use Rattle.yaml_emit_layout.specs.Grammar.{name_problem, anchor_problem, tag_problem, kept_tag, event_problem, version_problem, handle_problem, directives_problem, last_problem, ends_phase, node_problem, place_problem, problem_by, or_else};
 ghost use Rattle.yaml_emit_state.specs.Seen.{is_among, Adds, Judges};
 ghost use Rattle.yaml_emit_state.specs.Framed.{is_name};
 ghost use Rattle.yaml_emit_state.specs.Steps.{is_document_start};
@@ -30,23 +30,11 @@ fn name_problem(empty: Problem, characters: Problem, name: &[u8]) -> Option<Prob
     ensures { result ≡ name_problem empty characters name.now }
 {
     if name.is_empty() {
-        return Some(empty);
-    }
-    if are_alphas(name) {
+        Some(empty)
+    } else if are_alphas(name) {
         None
     } else {
         Some(characters)
-    }
-}
-
-// Inlined: mostly no anchor is there.
-#[inline(always)]
-fn anchor_problem(anchor: &Option<Vec<u8>>) -> Option<Problem>
-    ensures { result ≡ anchor_problem (text_of anchor.now) }
-{
-    match anchor {
-        None => None,
-        Some(name) => name_problem(Problem::AnchorEmpty, Problem::AnchorCharacters, name),
     }
 }
 
@@ -55,14 +43,8 @@ fn tag_problem(canonical: bool, left_out: bool, tag: &Option<Vec<u8>>) -> Option
     ensures { result ≡ tag_problem (kept_tag canonical left_out (text_of tag.now)) }
 {
     match tag {
-        None => None,
-        Some(text) => {
-            if (canonical || !left_out) && text.is_empty() {
-                Some(Problem::TagEmpty)
-            } else {
-                None
-            }
-        }
+        Some(text) if (canonical || !left_out) && text.is_empty() => Some(Problem::TagEmpty),
+        _ => None,
     }
 }
 
@@ -77,9 +59,12 @@ fn properties_problem(
     ensures { result ≡ or_else (anchor_problem (text_of anchor.now))
         (tag_problem (kept_tag canonical left_out (text_of tag.now))) }
 {
-    match anchor_problem(anchor) {
-        Some(problem) => Some(problem),
+    match anchor {
         None => tag_problem(canonical, left_out, tag),
+        Some(name) => match name_problem(Problem::AnchorEmpty, Problem::AnchorCharacters, name) {
+            Some(problem) => Some(problem),
+            None => tag_problem(canonical, left_out, tag),
+        },
     }
 }
 
@@ -107,8 +92,8 @@ fn event_problem(canonical: bool, event: &yaml_event_body_t) -> Option<Problem>
             tag,
             implicit,
             ..
-        } => { properties_problem(canonical, anchor, *implicit, tag) }
-        yaml_event_body_t::MappingStart {
+        }
+        | yaml_event_body_t::MappingStart {
             anchor,
             tag,
             implicit,
@@ -225,18 +210,6 @@ fn last_problem(alloc: Global, event: &yaml_event_body_t) -> Result<Option<Probl
     }
 }
 
-fn begins_node(event: &yaml_event_body_t) -> bool
-    ensures { result ≡ begins_node (emitter_event (body_of event.now)) }
-{
-    match event {
-        yaml_event_body_t::Alias { .. }
-        | yaml_event_body_t::Scalar { .. }
-        | yaml_event_body_t::SequenceStart { .. }
-        | yaml_event_body_t::MappingStart { .. } => true,
-        _ => false,
-    }
-}
-
 fn ends_phase(phase: Phase, event: &yaml_event_body_t) -> bool
     ensures { result ≡ ends_phase phase (emitter_event (body_of event.now)) }
 {
@@ -254,8 +227,13 @@ fn node_problem(top: Option<Level>, event: &yaml_event_body_t) -> Option<Problem
 {
     match top {
         Some(level) if ends_phase(level.phase, event) => None,
-        _ if begins_node(event) => None,
-        _ => Some(Problem::ExpectedNode),
+        _ => match event {
+            yaml_event_body_t::Alias { .. }
+            | yaml_event_body_t::Scalar { .. }
+            | yaml_event_body_t::SequenceStart { .. }
+            | yaml_event_body_t::MappingStart { .. } => None,
+            _ => Some(Problem::ExpectedNode),
+        },
     }
 }
 

@@ -59,36 +59,15 @@ pub fn is_simple_alias(context: &Context, name: &[u8]) -> bool
     !context.settings.canonical && name.len() <= SIMPLE_KEY_BYTES
 }
 
-// Whether a break stands in a scalar: in none that is tame.
-// Inlined: mostly a test.
-#[inline(always)]
-fn has_breaks(scalar: &Scalar) -> bool
-    requires { scalar.now.tame ≡ true → IsTame scalar.now.value.now }
-    ensures { result ≡ has_break scalar.now.value.now }
-{
-    if scalar.tame {
-        false
-    } else {
-        has_break(scalar.value)
-    }
-}
-
 fn is_key_in(phase: Phase) -> bool
     ensures { result ≡ is_key_in phase }
 {
     matches!(phase, Phase::Keys(_))
 }
 
-// Whether a key is due in the innermost collection.
-fn is_key(top: &Option<Level>) -> bool
-    ensures { result ≡ is_key top.now }
-{
-    matches!(top, Some(level) if is_key_in(level.phase))
-}
-
-// Whether the next event decides what is written for a collection in pretty form, by whether its style is flow: where it may be a
-// simple key, or flow for being empty alone.
-fn is_undecided_in(top: &Option<Level>, flow: bool) -> bool
+/// Whether the next event decides what is written for a collection in pretty form, by whether its style is flow: where it may be a
+/// simple key, or flow for being empty alone.
+pub fn is_undecided_in(top: &Option<Level>, flow: bool) -> bool
     ensures { result ≡ is_undecided_in top.now flow }
 {
     match top {
@@ -107,35 +86,19 @@ pub fn is_scalar(event: &yaml_event_body_t) -> bool
     matches!(event, yaml_event_body_t::Scalar { .. })
 }
 
-/// Whether the next event may decide what is written for this one in pretty form.
-// Inlined: mostly one look at its kind.
-#[inline(always)]
-pub fn is_undecided_event(top: &Option<Level>, event: &yaml_event_body_t) -> bool
-    ensures { result ≡ is_undecided false top.now (emitter_event (body_of event.now)) }
-{
-    match event {
-        yaml_event_body_t::SequenceStart { style, .. } => {
-            is_undecided_in(top, is_flow_sequence(*style))
-        }
-        yaml_event_body_t::MappingStart { style, .. } => {
-            is_undecided_in(top, is_flow_mapping(*style))
-        }
-        _ => false,
-    }
-}
-
 /// Whether a scalar is a simple key. It is looked at where a key is due, and nowhere else.
 // Inlined: canonical form has none, and pretty form mostly tells by the place.
 #[inline(always)]
-#[tactic(auto, unfolding(yaml_emit_layout::specs::Nodes::is_simple_scalar))]
+#[tactic(auto, using(yaml_emit_text::proofs::Bare::tame_breaks), unfolding(yaml_emit_layout::specs::Nodes::is_simple_scalar))]
 pub fn is_simple_key(context: &Context, top: &Option<Level>, scalar: &Scalar) -> bool
     requires { scalar.now.tame ≡ true → IsTame scalar.now.value.now }
     ensures { result ≡ (is_key top.now && is_simple_scalar (lent_context context.now)
         (lent_scalar scalar.now)) }
 {
-    is_key(top)
+    matches!(top, Some(level) if is_key_in(level.phase))
         && !context.settings.canonical
-        && !has_breaks(scalar)
+        // In none that is tame a break stands.
+        && (scalar.tame || !has_break(scalar.value))
         && are_short(
             text_size(scalar.anchor),
             written_size(context, scalar.plain || scalar.quoted, scalar.tag),

@@ -70,11 +70,8 @@ impl Levels {
     pub fn step(&mut self, simple: bool)
         ensures { stack_of self.new ≡ levels_behind (stack_of self.old) simple }
     {
-        match &mut self.top {
-            None => (),
-            Some(level) => {
-                level.phase = Levels::phase_behind(level.phase, simple);
-            }
+        if let Some(level) = &mut self.top {
+            level.phase = Levels::phase_behind(level.phase, simple);
         }
     }
 
@@ -84,11 +81,8 @@ impl Levels {
     pub fn turn(&mut self, phase: Phase)
         ensures { stack_of self.new ≡ turned phase (stack_of self.old) }
     {
-        match &mut self.top {
-            None => (),
-            Some(level) => {
-                level.phase = phase;
-            }
+        if let Some(level) = &mut self.top {
+            level.phase = phase;
         }
     }
 
@@ -124,17 +118,11 @@ impl Levels {
         ensures { OnOk result (stack_of self.new ≡ level ∷ stack_of self.old) }
     {
         match self.top {
-            None => {
-                self.outer.clear();
-                self.top = Some(level);
-                Ok(())
-            }
-            Some(old) => {
-                self.outer.push(old)?;
-                self.top = Some(level);
-                Ok(())
-            }
+            None => self.outer.clear(),
+            Some(old) => self.outer.push(old)?,
         }
+        self.top = Some(level);
+        Ok(())
     }
 
     /// Closes all collections.
@@ -151,11 +139,8 @@ impl Levels {
     pub fn pop(&mut self)
         ensures { stack_of self.new ≡ outer_of (stack_of self.old) }
     {
-        match self.top {
-            None => (),
-            Some(_) => {
-                self.top = self.outer.pop();
-            }
+        if let Some(_) = self.top {
+            self.top = self.outer.pop();
         }
     }
 }

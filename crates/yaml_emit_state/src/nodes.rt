@@ -4,7 +4,7 @@ ghost use Rattle.yaml_types.specs.Ascii as ascii;
 ghost use Rattle.std.specs.Str.{chars, IsAscii};
 ghost use Rattle.yaml_parse_model.specs.Events.{text_of};
 ghost use Rattle.yaml_emit_text.specs.Sink.{Puts};
-ghost use Rattle.yaml_emit_text.specs.Tame.{IsTame, asks_plain};
+ghost use Rattle.yaml_emit_text.specs.Tame.{IsTame};
 ghost use Rattle.yaml_emit_text.specs.Layout.{◌▹◌, when, char, word, opener};
 ghost use Rattle.yaml_emit_text.specs.Scalars.{scalar_text};
 ghost use Rattle.yaml_emit_layout.specs.Grammar.{kept_if, kept_tag, has, scalar_tag};
@@ -60,15 +60,11 @@ fn put_named(
 {
     match top {
         None => put_name(sink, indicator, name),
-        Some(level) => {
-            if is_block_item(level) {
-                put_item_name(sink, settings.line_break, level.indent, indicator, name);
-            } else if is_behind_simple(level.phase) {
-                put_value_name(sink, indicator, name);
-            } else {
-                put_named_far(sink, *settings, top, simple, indicator, name);
-            }
+        Some(level) if is_block_item(level) => {
+            put_item_name(sink, settings.line_break, level.indent, indicator, name)
         }
+        Some(level) if is_behind_simple(level.phase) => put_value_name(sink, indicator, name),
+        Some(_) => put_named_far(sink, *settings, top, simple, indicator, name),
     }
 }
 
@@ -117,10 +113,9 @@ fn put_tag_if(sink: &mut Sink, context: &Context, kept: bool, tag: &Option<Vec<u
     ensures { Puts sink.old sink.new (tag_text (lent_context context.now)
         (kept_if kept (text_of tag.now))) }
 {
-    if kept {
-        if let Some(tag) = tag {
-            put_tag(sink, context.directives, tag);
-        }
+    match tag {
+        Some(tag) if kept => put_tag(sink, context.directives, tag),
+        _ => (),
     }
 }
 
@@ -156,11 +151,7 @@ pub fn is_said(tag: &Option<Vec<u8>>, plain: bool, quoted: bool) -> bool
 fn is_written(canonical: bool, left_out: bool, tag: &Option<Vec<u8>>) -> bool
     ensures { result ≡ has (kept_tag canonical left_out (text_of tag.now)) }
 {
-    if canonical || !left_out {
-        is_given(tag)
-    } else {
-        false
-    }
+    (canonical || !left_out) && is_given(tag)
 }
 
 fn is_plain(style: Style) -> bool
@@ -176,13 +167,6 @@ fn may_be_plain(scalar: &Scalar) -> bool
     is_written(false, scalar.plain | scalar.quoted, scalar.tag) || scalar.plain
 }
 
-// Whether a scalar is tame and is plain where it is asked to be, by whether it may be.
-fn is_plainly_tame(scalar: &Scalar, plain: bool) -> bool
-    ensures { result ≡ (scalar.now.tame && (asks_plain scalar.now.style && plain)) }
-{
-    scalar.tame && asks_plain(scalar.style) && plain
-}
-
 // Inlined: then what it is given needn't stand in memory.
 #[inline(always)]
 #[tactic(auto, unfolding(yaml_emit_layout::specs::Nodes::style_of))]
@@ -195,7 +179,7 @@ fn style_of(context: &Context, position: NodePosition, scalar: &Scalar) -> Style
         return Style::Double;
     }
     let plain = may_be_plain(scalar);
-    if is_plainly_tame(scalar, plain) {
+    if scalar.tame && asks_plain(scalar.style) && plain {
         Style::Plain
     } else {
         taken(

@@ -14,7 +14,9 @@ use crate::before::{closing_bracket, put_closer_at};
 use crate::documents::put_outer;
 use crate::given::{Context, Scalar};
 use crate::judge::problem_of;
-use crate::keys::{is_simple_alias, is_simple_key, is_undecided_event};
+use crate::keys::{
+    is_flow_mapping, is_flow_sequence, is_simple_alias, is_simple_key, is_undecided_in,
+};
 use crate::levels::Levels;
 use crate::nodes::{are_none, put_alias_node, put_scalar_node};
 pub use resume::yaml_emitter_stand_t;
@@ -112,7 +114,16 @@ impl Core {
         ensures { result ≡ is_undecided self.now.settings.canonical
             (top_of (stack_of self.now.levels)) (emitter_event (body_of event.now)) }
     {
-        !self.settings.canonical && is_undecided_event(self.levels.innermost(), event)
+        let top = self.levels.innermost();
+        match event {
+            yaml_event_body_t::SequenceStart { style, .. } => {
+                !self.settings.canonical && is_undecided_in(top, is_flow_sequence(*style))
+            }
+            yaml_event_body_t::MappingStart { style, .. } => {
+                !self.settings.canonical && is_undecided_in(top, is_flow_mapping(*style))
+            }
+            _ => false,
+        }
     }
 
     /// Whether the output was stopped by memory that was refused for the open collections or the directives.
@@ -411,17 +422,16 @@ impl Core {
         }
     }
 
-    // The same of any other event of a node, where it may be.
-    // Inlined: a call for each kind.
+    /// The same of any other event of a node.
+    // Inlined: two tests in front of a call for each kind.
     #[inline(always)]
-    fn places_kind(&mut self, event: &yaml_event_body_t) -> bool
-        requires form { self.old.settings.canonical ≡ true }
-        requires due { self.old.place ≡ Expected.Node }
+    pub fn places_other(&mut self, event: &yaml_event_body_t) -> bool
         ensures laid { result ≡ true → Placed self.old (emitter_event (body_of event.now))
             self.new }
         ensures same { result ≡ false → self.new ≡ self.old }
     {
         match event {
+            _ if !self.may_place() => false,
             yaml_event_body_t::SequenceStart { anchor, tag, .. } => {
                 if has_none(anchor, tag) {
                     self.place_start(true)
@@ -440,21 +450,6 @@ impl Core {
             yaml_event_body_t::MappingEnd => self.place_end(false),
             yaml_event_body_t::Alias { .. } => self.place_named(event),
             _ => false,
-        }
-    }
-
-    /// The same of any other event of a node.
-    // Inlined: two tests in front of a call for each kind.
-    #[inline(always)]
-    pub fn places_other(&mut self, event: &yaml_event_body_t) -> bool
-        ensures laid { result ≡ true → Placed self.old (emitter_event (body_of event.now))
-            self.new }
-        ensures same { result ≡ false → self.new ≡ self.old }
-    {
-        if self.may_place() {
-            self.places_kind(event)
-        } else {
-            false
         }
     }
 

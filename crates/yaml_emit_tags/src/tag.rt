@@ -6,7 +6,7 @@ ghost use Rattle.yaml_scan_model.specs.Ascii as ascii;
 ghost use Rattle.std.specs.Prelude.{◌≡◌, ◌<◌, ◌≤◌, ◌+◌, ◌∷◌, [], map, length, drop, true, false, not, ◌&&◌, ◌||◌, ◌==◌, if◌then◌else◌, Some, None};
 ghost use Rattle.yaml_emit_sink.specs.Sink.{Puts};
 ghost use Rattle.yaml_emit_sink.specs.Layout.{letters, word};
-ghost use Rattle.yaml_emit_tags.specs.Tags.{suffix_keeps, prefix_keeps, keeps_byte, uri_byte, uri_text, split_tag, split_by, split_of, defaults, shorthand, verbatim, spelled, tag_spelling, tag_size, directive_for, has_shorter_prefix};
+ghost use Rattle.yaml_emit_tags.specs.Tags.{suffix_keeps, keeps_byte, uri_byte, uri_text, split_tag, split_by, split_of, defaults, shorthand, verbatim, spelled, tag_spelling, tag_size, directive_for, has_shorter_prefix};
 
 use crate::prefixes::has_shorter_prefix;
 use crate::split::SplitTag;
@@ -22,39 +22,16 @@ fn suffix_keeps(byte: u8) -> bool
     (b'0' <= byte && byte <= b'9')
         || (b'A' <= byte && byte <= b'Z')
         || (b'a' <= byte && byte <= b'z')
-        || matches!(
-            byte,
-            b'_' | b'-'
-                | b';'
-                | b'/'
-                | b'?'
-                | b':'
-                | b'@'
-                | b'&'
-                | b'='
-                | b'+'
-                | b'$'
-                | b'.'
-                | b'~'
-                | b'*'
-                | b'\''
-                | b'('
-                | b')'
-        )
-}
-
-#[tactic(auto, unfolding(crate::specs::Tags::prefix_keeps))]
-fn prefix_keeps(byte: u8) -> bool
-    ensures { result ≡ prefix_keeps byte }
-{
-    suffix_keeps(byte) || byte == b',' || byte == b'[' || byte == b']'
+        || byte == b'_'
+        || matches!(byte, b'-' | b';' | b'/' | b'?' | b':' | b'@' | b'&' | b'=')
+        || matches!(byte, b'+' | b'$' | b'.' | b'~' | b'*' | b'\'' | b'(' | b')')
 }
 
 fn keeps_byte(flow: bool, byte: u8) -> bool
     ensures { result ≡ keeps_byte flow byte }
 {
     if flow {
-        prefix_keeps(byte)
+        suffix_keeps(byte) || byte == b',' || byte == b'[' || byte == b']'
     } else {
         suffix_keeps(byte)
     }
@@ -199,17 +176,13 @@ fn put_secondary(sink: &mut Sink, suffix: &[u8])
 {
     if is_same(suffix, b"str") {
         sink.put_around(b"!!str", b" !!str", b"", b"");
-        return;
-    }
-    if is_same(suffix, b"map") {
+    } else if is_same(suffix, b"map") {
         sink.put_around(b"!!map", b" !!map", b"", b"");
-        return;
-    }
-    if is_same(suffix, b"seq") {
+    } else if is_same(suffix, b"seq") {
         sink.put_around(b"!!seq", b" !!seq", b"", b"");
-        return;
+    } else {
+        put_behind(sink, b"!!", b" !!", suffix);
     }
-    put_behind(sink, b"!!", b" !!", suffix);
 }
 
 /// A tag, with a space in front where one is due: by the first of the document's directives whose prefix is a strictly shorter

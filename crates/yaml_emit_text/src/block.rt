@@ -6,10 +6,9 @@ ghost use Rattle.std.specs.Str.{chars};
 ghost use Rattle.yaml_emit_sink.specs.Sink.{Puts};
 ghost use Rattle.yaml_emit_sink.specs.Text.{is_break};
 ghost use Rattle.yaml_emit_sink.specs.Layout.{◌▹◌, char, break, line, keep};
-ghost use Rattle.yaml_emit_text.specs.Runs.{block_bounds};
 ghost use Rattle.yaml_emit_text.specs.Quoted.{first};
 ghost use Rattle.yaml_emit_text.specs.Style.{is_blank};
-ghost use Rattle.yaml_emit_text.specs.Scalars.{behind_breaks, adds_break, cuts_block, line_blank, block_char, block_body, ends_in_break, chomp, chomp_mark, digit_char, digit_mark, block_header, block};
+ghost use Rattle.yaml_emit_text.specs.Scalars.{behind_breaks, line_blank, block_char, block_body, ends_in_break, chomp, chomp_mark, digit_char, block_header, block};
 
 use crate::flow::{put_breaks, put_cut, put_line_if};
 use crate::letters::{first, is_break, split_first, split_last};
@@ -33,24 +32,10 @@ fn behind_breaks(text: &str) -> char
     ' '
 }
 
-fn adds_break(folded: bool, blank: bool, before: char, c: char, rest: &str) -> bool
-    ensures { result ≡ adds_break folded blank before c (chars rest.now) }
-{
-    folded && c == '\n' && !is_break(before) && !blank && !is_blank(behind_breaks(rest))
-}
-
-fn cuts_block(folded: bool, blank: bool, before: char, c: char, rest: &str) -> bool
-    ensures { result ≡ cuts_block folded blank before c (chars rest.now) }
-{
-    folded && c == ' ' && !blank && !is_break(before) && first(rest) != ' '
-}
-
 fn line_blank(blank: bool, before: char, c: char) -> bool
     ensures { result ≡ line_blank blank before c }
 {
-    if is_break(c) {
-        blank
-    } else if is_break(before) {
+    if is_break(before) && !is_break(c) {
         is_blank(c)
     } else {
         blank
@@ -72,11 +57,12 @@ fn put_block_char(sink: &mut Sink, page: Page, folded: bool, behind: Behind, c: 
     let before = behind.last;
     let blank = behind.blank;
     if is_break(c) {
-        let due = adds_break(folded, blank, before, c, rest);
+        let starts = folded && c == '\n' && !is_break(before);
+        let due = starts && !blank && !is_blank(behind_breaks(rest));
         put_breaks(sink, due, page.line_break, c);
     } else {
         put_line_if(sink, is_break(before), page);
-        if cuts_block(folded, blank, before, c, rest) {
+        if folded && c == ' ' && !blank && !is_break(before) && first(rest) != ' ' {
             put_cut(sink, page, c);
         } else {
             sink.put(c);
@@ -84,21 +70,16 @@ fn put_block_char(sink: &mut Sink, page: Page, folded: bool, behind: Behind, c: 
     }
 }
 
-fn block_bounds(page: Page, folded: bool) -> Bounds
-    ensures { result ≡ block_bounds page folded }
-{
-    Bounds {
-        quote: 0,
-        slash: 0,
-        cuts: folded,
-        width: page.width,
-    }
-}
-
 fn put_block_body(sink: &mut Sink, page: Page, folded: bool, value: &str)
     ensures { Puts sink.old sink.new
         (block_body page folded true ascii.line_feed (chars value.now)) }
 {
+    let bounds = Bounds {
+        quote: 0,
+        slash: 0,
+        cuts: folded,
+        width: page.width,
+    };
     let mut before = '\n';
     let mut blank = true;
     let mut left = value;
@@ -109,7 +90,7 @@ fn put_block_body(sink: &mut Sink, page: Page, folded: bool, value: &str)
         };
         put_block_char(sink, page, folded, behind, c, rest);
         blank = line_blank(blank, before, c);
-        let (last, others) = put_run_or(sink, block_bounds(page, folded), c, rest);
+        let (last, others) = put_run_or(sink, bounds, c, rest);
         before = last;
         left = others;
     }
@@ -171,14 +152,6 @@ fn digit_char(digit: u64) -> char
     }
 }
 
-// The digit of the indent, where the value begins with a space or a break.
-fn put_digit(sink: &mut Sink, digit: u64, value: &str)
-    ensures { Puts sink.old sink.new (digit_mark digit (chars value.now)) }
-{
-    let c = first(value);
-    put_if(sink, c == ' ' || is_break(c), digit_char(digit));
-}
-
 fn opening(folded: bool) -> char
     ensures { result ≡ (if folded then ascii.greater else ascii.bar) }
 {
@@ -190,7 +163,8 @@ fn put_header(sink: &mut Sink, digit: u64, folded: bool, value: &str)
 {
     sink.put_gap();
     sink.put(opening(folded));
-    put_digit(sink, digit, value);
+    let c = first(value);
+    put_if(sink, (c == ' ') | is_break(c), digit_char(digit));
     put_chomp(sink, chomp(value));
 }
 

@@ -8,24 +8,13 @@ ghost use Rattle.yaml_emit_sink.specs.Text.{is_break};
 ghost use Rattle.yaml_emit_sink.specs.Layout.{◌▹◌, when, char, break, new_line, gap, line, is_past};
 ghost use Rattle.yaml_emit_text.specs.Runs.{flow_bounds};
 ghost use Rattle.yaml_emit_text.specs.Quoted.{first, is_empty};
-ghost use Rattle.yaml_emit_text.specs.Scalars.{value_break, cuts_at, cut, quote_char, text_char, flow_char, flow_body, plain, single_quoted};
+ghost use Rattle.yaml_emit_text.specs.Scalars.{value_break, cut, flow_char, flow_body, plain, single_quoted};
 
 use crate::letters::{first, is_break, is_empty, split_first};
 use crate::page::Page;
 use crate::quoted::put_if;
 use crate::run::{Bounds, put_run, put_run_or};
 use yaml_emit_sink::{LineBreak, Sink};
-
-// A break of a value: LF as the break that is set, the others as they are.
-pub(crate) fn put_value_break(sink: &mut Sink, line_break: LineBreak, c: char)
-    ensures { Puts sink.old sink.new (value_break line_break c) }
-{
-    if c == '\n' {
-        sink.put_new_line(line_break);
-    } else {
-        sink.put_break(c);
-    }
-}
 
 pub(crate) fn put_new_line_if(sink: &mut Sink, due: bool, line_break: LineBreak)
     ensures { Puts sink.old sink.new (when due (new_line line_break)) }
@@ -54,56 +43,35 @@ pub(crate) fn put_cut(sink: &mut Sink, page: Page, c: char)
     }
 }
 
-fn cuts_at(page: Page, before: char, c: char, rest: &str) -> bool
-    ensures { result ≡ cuts_at page before c (chars rest.now) }
-{
-    page.cuts && c == ' ' && before != ' ' && first(rest) != ' ' && !is_empty(rest)
-}
-
-// In single quotes `'` is doubled.
-fn put_quote_char(sink: &mut Sink, quote: bool, c: char)
-    ensures { Puts sink.old sink.new (quote_char quote c) }
-{
-    put_if(sink, quote && c == '\'', '\'');
-    sink.put(c);
-}
-
-fn put_text_char(sink: &mut Sink, page: Page, quote: bool, cuts: bool, c: char)
-    ensures { Puts sink.old sink.new (text_char page quote cuts c) }
-{
-    if cuts {
-        put_cut(sink, page, c);
-    } else {
-        put_quote_char(sink, quote, c);
-    }
-}
-
-// A break of a value, with one more in front where it is due.
+// A break of a value, LF as the break that is set and the others as they are, with one more in front where it is due.
 // Inlined: a value of many lines puts one for each.
 #[inline(always)]
 pub(crate) fn put_breaks(sink: &mut Sink, due: bool, line_break: LineBreak, c: char)
     ensures { Puts sink.old sink.new (when due (new_line line_break) ▹ value_break line_break c) }
 {
     put_new_line_if(sink, due, line_break);
-    put_value_break(sink, line_break, c);
+    if c == '\n' {
+        sink.put_new_line(line_break);
+    } else {
+        sink.put_break(c);
+    }
 }
 
-// Whether a run of breaks begins with a line feed.
-fn begins_breaks(before: char, c: char) -> bool
-    ensures { result ≡ (c == ascii.line_feed && not (is_break before)) }
-{
-    c == '\n' && !is_break(before)
-}
-
+// In single quotes `'` is doubled.
 #[tactic(auto, unfolding(crate::specs::Scalars::flow_char))]
 fn put_flow_char(sink: &mut Sink, page: Page, quote: bool, before: char, c: char, rest: &str)
     ensures { Puts sink.old sink.new (flow_char page quote before c (chars rest.now)) }
 {
     if is_break(c) {
-        put_breaks(sink, begins_breaks(before, c), page.line_break, c);
+        put_breaks(sink, c == '\n' && !is_break(before), page.line_break, c);
     } else {
         put_line_if(sink, is_break(before), page);
-        put_text_char(sink, page, quote, cuts_at(page, before, c, rest), c);
+        if page.cuts && c == ' ' && before != ' ' && first(rest) != ' ' && !is_empty(rest) {
+            put_cut(sink, page, c);
+        } else {
+            put_if(sink, quote && c == '\'', '\'');
+            sink.put(c);
+        }
     }
 }
 

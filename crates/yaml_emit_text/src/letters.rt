@@ -55,10 +55,7 @@ pub(crate) fn first(text: &str) -> char
 pub(crate) fn is_empty(text: &str) -> bool
     ensures { result ≡ is_empty (chars text.now) }
 {
-    match split_first(text) {
-        None => true,
-        Some(_) => false,
-    }
+    matches!(split_first(text), None)
 }
 
 /// LF, CR, NEL, LS and PS end a line.

@@ -7,8 +7,8 @@ ghost use Rattle.std.specs.Str.{chars};
 ghost use Rattle.yaml_emit_sink.specs.Sink.{Puts};
 ghost use Rattle.yaml_emit_sink.specs.Text.{is_break};
 ghost use Rattle.yaml_emit_sink.specs.Layout.{choose, when, char, letters, is_past};
-ghost use Rattle.yaml_emit_text.specs.Runs.{quoted_bounds, is_solid};
-ghost use Rattle.yaml_emit_text.specs.Quoted.{is_printable, needs_escape, escape_letter, hex_4, hex_8, escape_text, first, is_empty, may_fold, fold, escaped, quoted_char, quoted_body, double_quoted};
+ghost use Rattle.yaml_emit_text.specs.Runs.{is_solid};
+ghost use Rattle.yaml_emit_text.specs.Quoted.{is_printable, needs_escape, escape_letter, hex_4, hex_8, escape_text, first, is_empty, fold, escaped, quoted_char, quoted_body, double_quoted};
 
 use crate::letters::{first, is_break, is_empty, split_first};
 use crate::page::Page;
@@ -106,12 +106,6 @@ fn put_escaped(sink: &mut Sink, unicode: bool, c: char)
     }
 }
 
-fn may_fold(page: Page, before: char, c: char, rest: &str) -> bool
-    ensures { result ≡ may_fold page before c (chars rest.now) }
-{
-    page.cuts && c == ' ' && before != ' ' && !is_empty(rest)
-}
-
 pub(crate) fn put_if(sink: &mut Sink, due: bool, c: char)
     ensures { Puts sink.old sink.new (when due (char c)) }
 {
@@ -145,21 +139,10 @@ fn put_fold_or(sink: &mut Sink, page: Page, c: char, rest: &str)
 fn put_quoted_char(sink: &mut Sink, page: Page, before: char, c: char, rest: &str)
     ensures { Puts sink.old sink.new (quoted_char page before c (chars rest.now)) }
 {
-    if may_fold(page, before, c, rest) {
+    if page.cuts && c == ' ' && before != ' ' && !is_empty(rest) {
         put_fold_or(sink, page, c, rest);
     } else {
         put_escaped(sink, page.unicode, c);
-    }
-}
-
-fn quoted_bounds(page: Page) -> Bounds
-    ensures { result ≡ quoted_bounds page }
-{
-    Bounds {
-        quote: b'"',
-        slash: b'\\',
-        cuts: page.cuts,
-        width: page.width,
     }
 }
 
@@ -168,11 +151,17 @@ fn quoted_bounds(page: Page) -> Bounds
 fn put_quoted_body(sink: &mut Sink, page: Page, value: &str)
     ensures { Puts sink.old sink.new (quoted_body page ascii.space (chars value.now)) }
 {
+    let bounds = Bounds {
+        quote: b'"',
+        slash: b'\\',
+        cuts: page.cuts,
+        width: page.width,
+    };
     let mut last = ' ';
     let mut left = value;
     while let Some((c, rest)) = split_first(left) {
         put_quoted_char(sink, page, last, c, rest);
-        let (latest, behind) = put_run(sink, quoted_bounds(page), c, rest);
+        let (latest, behind) = put_run(sink, bounds, c, rest);
         last = latest;
         left = behind;
     }

@@ -5,7 +5,7 @@ ghost use Rattle.yaml_types.specs.Ascii as ascii;
 ghost use Rattle.std.specs.Str.{chars};
 ghost use Rattle.yaml_emit_sink.specs.Text.{is_break};
 ghost use Rattle.yaml_emit_text.specs.Quoted.{is_printable, first, is_empty};
-ghost use Rattle.yaml_emit_text.specs.Style.{is_blank, ends_word, is_special, is_break_space, is_not_plain, is_not_flow, last_or, is_indicator, is_badly_begun, behind, starts_badly, allowed, single_or, block_or, plain_or, taken, looked, seen, joined};
+ghost use Rattle.yaml_emit_text.specs.Style.{is_blank, ends_word, is_special, is_not_plain, is_not_flow, last_or, is_indicator, is_badly_begun, behind, allowed, single_or, block_or, plain_or, taken, looked, seen, joined};
 
 use crate::letters::{first, is_break, is_empty, split_first};
 use crate::page::{Allowed, Seen, Style};
@@ -32,12 +32,6 @@ fn is_special(unicode: bool, c: char, next: char) -> bool
     !is_printable(c) || (!unicode && 0x80 <= n) || (c == ' ' && is_break(next))
 }
 
-fn is_break_space(c: char, next: char) -> bool
-    ensures { (before : ℕ) → result ≡ is_break_space before c next }
-{
-    is_break(c) && next == ' '
-}
-
 fn is_not_plain(before: char, c: char, next: char) -> bool
     ensures { result ≡ is_not_plain before c next }
 {
@@ -53,25 +47,8 @@ fn is_not_flow(c: char) -> bool
 fn is_indicator(c: char) -> bool
     ensures { result ≡ is_indicator c }
 {
-    matches!(
-        c,
-        ' ' | '#'
-            | ','
-            | '['
-            | ']'
-            | '{'
-            | '}'
-            | '&'
-            | '*'
-            | '!'
-            | '|'
-            | '>'
-            | '\''
-            | '"'
-            | '%'
-            | '@'
-            | '`'
-    )
+    matches!(c, ' ' | '#' | ',' | '[' | ']' | '{' | '}' | '&' | '*')
+        || matches!(c, '!' | '|' | '>' | '\'' | '"' | '%' | '@' | '`')
 }
 
 fn is_badly_begun(a: char, b: char, c: char) -> bool
@@ -144,7 +121,7 @@ fn seen_with(all: Seen, unicode: bool, before: char, c: char, next: char) -> See
 {
     Seen {
         special: all.special | is_special(unicode, c, next),
-        broken: all.broken | is_break_space(c, next),
+        broken: all.broken | (is_break(c) & (next == ' ')),
         not_plain: all.not_plain | is_not_plain(before, c, next),
         not_flow: all.not_flow | is_not_flow(c),
     }
@@ -192,13 +169,6 @@ fn rest_behind(text: &str) -> &str
     }
 }
 
-fn starts_badly(value: &str) -> bool
-    ensures { result ≡ starts_badly (chars value.now) }
-{
-    let second = rest_behind(value);
-    is_badly_begun(first(value), first(second), first(rest_behind(second)))
-}
-
 /// The styles that a value allows. Characters that are not printable, with unicode off those that are not ASCII, and a space
 /// before a break want double quotes. An empty one may be plain outside flow collections.
 // Out of line: the rare way, beside that of tame values.
@@ -208,7 +178,9 @@ pub fn allowed_for(unicode: bool, value: &str) -> Allowed
 {
     let (all, last) = look(unicode, value);
     let spaced = last == ' ';
-    let unfit = all.special | all.broken | spaced | starts_badly(value) | all.not_plain;
+    let second = rest_behind(value);
+    let begins_badly = is_badly_begun(first(value), first(second), first(rest_behind(second)));
+    let unfit = all.special | all.broken | spaced | begins_badly | all.not_plain;
     Allowed {
         plain: is_empty(value) | !unfit,
         flow_plain: !unfit & !all.not_flow,

@@ -8,7 +8,7 @@ ghost use Rattle.yaml_parse_core.specs.Views.{stack_of, open_of, states_by, is_n
 
 use crate::level::{Await, Kept, Level};
 use std::alloc::{AllocError, Global};
-use yaml_parse_model::{TokenSlot, mark_again, yaml_mark_t};
+use yaml_parse_model::{TokenSlot, ZERO_MARK, mark_again, yaml_mark_t};
 
 /// What a turn did: one byte, since the compiler follows a pair of them no further.
 #[derive(Clone, Copy)]
@@ -162,18 +162,12 @@ pub fn fresh(alloc: Global) -> Machine
     ensures { (p : Properties) → states_by result p
         ≡ state.stream ∷ [] }
 {
-    // The places say nothing.
-    let place = yaml_mark_t {
-        index: 0,
-        line: 0,
-        column: 0,
-    };
     Machine {
         awaited: Await::Nothing,
-        before: place,
+        before: ZERO_MARK,
         top: Kept {
             level: Level::Stream,
-            opener: place,
+            opener: ZERO_MARK,
         },
         below: Vec::new(alloc),
     }
@@ -196,13 +190,7 @@ pub fn is_over(machine: &Machine) -> bool
     ensures { (p : Properties) → result ≡ is_nothing
         (states_by machine.now p) }
 {
-    match machine.top.level {
-        Level::Over => match machine.awaited {
-            Await::Nothing => true,
-            _ => false,
-        },
-        _ => false,
-    }
+    matches!(machine.top.level, Level::Over) && matches!(machine.awaited, Await::Nothing)
 }
 
 /// Whether no document is half taken.

@@ -170,8 +170,7 @@ pub(crate) fn block_start(machine: &mut Machine, token: &TokenSlot, kind: yaml_t
         (open_of machine.old) (seen result) (states_by machine.new) }
     ensures same { IfRefused (seen result) (machine.new ≡ machine.old) }
 {
-    let wants = wants_of(site_at(machine.awaited));
-    block(machine, token, kind, wants)
+    block(machine, token, kind, wants_of(site_at(machine.awaited)))
 }
 
 // The same, where a dash stands: a key or a value may be a sequence that isn't indented.

@@ -7,7 +7,7 @@ ghost use Rattle.yaml_parse_core.specs.declared.level.Await.TheVariants.{Nothing
 ghost use Rattle.yaml_parse_core.specs.declared.level.Level.TheVariants as level;
 ghost use Rattle.yaml_parse_core.specs.Views.{open_of, site_of, states_at, whole_of};
 ghost use Rattle.yaml_parse_core.specs.Seen.{seen};
-ghost use Rattle.yaml_parse_core.specs.Turns.{keeps, LeavesOut, TurnsTo};
+ghost use Rattle.yaml_parse_core.specs.Turns.{keeps, TurnsTo};
 
 use crate::level::{Await, Level};
 use crate::machine::{Machine, Turn, await_behind, come_back};
@@ -156,17 +156,6 @@ pub(crate) fn site_at(awaited: Await) -> Site
     }
 }
 
-// A node is left out, where the next token begins or the indicator before it ends.
-#[inline(always)]
-fn left_out(place: Site) -> Turn
-    ensures { LeavesOut place (seen result) }
-{
-    match place {
-        Site::Root | Site::FlowPair(_, _) => Turn::LeftNothing,
-        _ => Turn::LeftNothingBefore,
-    }
-}
-
 // A node may stand there, or be left out.
 #[tactic(auto, using(crate::proofs::Nodes::optional_node, crate::proofs::Nodes::left_optional))]
 #[inline(always)]
@@ -183,7 +172,11 @@ pub(crate) fn at_optional(
 {
     if follows(place, kind) {
         machine.awaited = Await::Nothing;
-        left_out(place)
+        // It is left out where the next token begins, or the indicator before it ends.
+        match place {
+            Site::Root | Site::FlowPair(_, _) => Turn::LeftNothing,
+            _ => Turn::LeftNothingBefore,
+        }
     } else {
         node(machine, waiting, token, kind, wants_of(place))
     }

@@ -1,7 +1,7 @@
 //! What an item is, and the properties that wait for their node.
 
 use std::alloc::Global;
-use yaml_parse_model::yaml_mark_t;
+use yaml_parse_model::{ZERO_MARK, yaml_mark_t};
 
 /// What a node is whose content begins with the token that is taken.
 #[derive(Clone, Copy)]
@@ -68,17 +68,12 @@ pub struct Waiting {
 
 /// No properties.
 pub fn none_waiting(alloc: Global) -> Waiting {
-    let zero = yaml_mark_t {
-        index: 0,
-        line: 0,
-        column: 0,
-    };
     Waiting {
         has_anchor: false,
         has_tag: false,
-        from: zero,
-        to: zero,
-        tag_from: zero,
+        from: ZERO_MARK,
+        to: ZERO_MARK,
+        tag_from: ZERO_MARK,
         anchor: Vec::new(alloc),
         handle: Vec::new(alloc),
         suffix: Vec::new(alloc),

@@ -7,7 +7,6 @@ ghost use Rattle.yaml_parse_core.specs.Views.{states_of, whole_of};
 ghost use Rattle.yaml_parse_core.specs.Views as views;
 ghost use Rattle.yaml_parse_core.specs.Keyed.{WantsKey, key_level, keyed_by};
 ghost use Rattle.yaml_parse_core.specs.Seen.{seen};
-ghost use Rattle.yaml_parse_core.specs.declared.machine.Turn.TheVariants as turns;
 ghost use Rattle.yaml_parse_model.specs.declared.yaml_token_type_t.TheVariants as kinds;
 ghost use Rattle.yaml_parse_core.specs.Turns.{keeps, TurnsTo};
 
@@ -223,18 +222,6 @@ pub fn wants_key(machine: &Machine) -> bool
     }
 }
 
-// A KEY that gives nothing, and the scalar behind it. Nothing is awaited then, as before.
-#[inline(always)]
-fn scalar_key(machine: &mut Machine) -> Turn
-    ensures result { result ≡ turns.Scalar }
-    ensures machine { machine.new ≡ record machine.old {
-      top = record machine.old.top { level = key_level machine.old.top.level };
-    } }
-{
-    machine.top.level = level_behind(machine.top.level);
-    Turn::Scalar
-}
-
 /// The topmost state at a token, or behind a KEY that stands where the token begins.
 // Inlined into its one caller, the parser's step.
 #[tactic(auto, using(crate::proofs::Keyed::key_turns))]
@@ -253,7 +240,9 @@ pub fn turn(
     ensures kept { keeps (seen result) ≡ true → token.new ≡ token.old }
 {
     if is_key {
-        return scalar_key(machine);
+        // It gives nothing, and the scalar behind it a node. Nothing is awaited then, as before.
+        machine.top.level = level_behind(machine.top.level);
+        return Turn::Scalar;
     }
     let kind = token.body.kind;
     match machine.awaited {

@@ -47,20 +47,16 @@ fn start(shape: Shape, event: &mut yaml_event_body_t)
 {
     match shape {
         Shape::BlockSequence => {
-            let style = yaml_sequence_style_t::YAML_BLOCK_SEQUENCE_STYLE;
-            start_sequence(style, event);
+            start_sequence(yaml_sequence_style_t::YAML_BLOCK_SEQUENCE_STYLE, event);
         }
         Shape::FlowSequence => {
-            let style = yaml_sequence_style_t::YAML_FLOW_SEQUENCE_STYLE;
-            start_sequence(style, event);
+            start_sequence(yaml_sequence_style_t::YAML_FLOW_SEQUENCE_STYLE, event);
         }
         Shape::BlockMapping => {
-            let style = yaml_mapping_style_t::YAML_BLOCK_MAPPING_STYLE;
-            start_mapping(style, event);
+            start_mapping(yaml_mapping_style_t::YAML_BLOCK_MAPPING_STYLE, event);
         }
         Shape::FlowMapping => {
-            let style = yaml_mapping_style_t::YAML_FLOW_MAPPING_STYLE;
-            start_mapping(style, event);
+            start_mapping(yaml_mapping_style_t::YAML_FLOW_MAPPING_STYLE, event);
         }
         // Never: it is a collection's.
         Shape::Scalar => {}
@@ -68,7 +64,7 @@ fn start(shape: Shape, event: &mut yaml_event_body_t)
 }
 
 // A collection begins without properties.
-// Inlined where its shape is known: it is short then.
+// Inlined where its shape is known: it is short then. Always inlined, each turn's answer would count it.
 #[inline]
 fn tell_collection(shape: Shape, waiting: &mut Waiting, event: &mut yaml_event_body_t)
     requires { shape ≡ shapes.Scalar → ⊥ }
@@ -127,7 +123,9 @@ fn name_collection(waiting: &mut Waiting, event: &mut yaml_event_body_t)
         waiting.old.anchor.items) (text_if waiting.old.has_tag waiting.old.handle.items)
         (body_of event.old) }
 {
+    let has_anchor = waiting.has_anchor;
     let has_tag = waiting.has_tag;
+    let rooms = &mut waiting.rooms;
     match *event {
         yaml_event_body_t::SequenceStart {
             ref mut anchor,
@@ -135,13 +133,8 @@ fn name_collection(waiting: &mut Waiting, event: &mut yaml_event_body_t)
             ref mut implicit,
             ..
         } => {
-            exchange(
-                anchor,
-                waiting.has_anchor,
-                &mut waiting.anchor,
-                &mut waiting.rooms.anchor,
-            );
-            exchange(tag, has_tag, &mut waiting.handle, &mut waiting.rooms.tag);
+            exchange(anchor, has_anchor, &mut waiting.anchor, &mut rooms.anchor);
+            exchange(tag, has_tag, &mut waiting.handle, &mut rooms.tag);
             *implicit = !has_tag;
         }
         yaml_event_body_t::MappingStart {
@@ -150,13 +143,8 @@ fn name_collection(waiting: &mut Waiting, event: &mut yaml_event_body_t)
             ref mut implicit,
             ..
         } => {
-            exchange(
-                anchor,
-                waiting.has_anchor,
-                &mut waiting.anchor,
-                &mut waiting.rooms.anchor,
-            );
-            exchange(tag, has_tag, &mut waiting.handle, &mut waiting.rooms.tag);
+            exchange(anchor, has_anchor, &mut waiting.anchor, &mut rooms.anchor);
+            exchange(tag, has_tag, &mut waiting.handle, &mut rooms.tag);
             *implicit = !has_tag;
         }
         // Never: a collection began.

@@ -9,7 +9,7 @@ ghost use Rattle.yaml_parse_model.specs.declared.yaml_origin_t.TheVariants.{Pars
 ghost use Rattle.yaml_parse_model.specs.declared.yaml_scalar_style_t.TheVariants.{YAML_ANY_SCALAR_STYLE};
 ghost use Rattle.yaml_parse_grammar.specs.Items as item;
 ghost use Rattle.yaml_parse_grammar.specs.Problems.{parser_fault};
-ghost use Rattle.yaml_parse_grammar.specs.Resolve.{Directives as DirectivesSpec, directive_for, default_prefix, or_default, resolved, is_known_version, with_version, with_tag, node_event, gave, placed, settle_body, behind_event};
+ghost use Rattle.yaml_parse_grammar.specs.Resolve.{Directives as DirectivesSpec, directive_for, default_prefix, or_default, resolved, with_version, with_tag, node_event, gave, placed, settle_body, behind_event};
 ghost use Rattle.yaml_parse_resolve.specs.declared.resolving.Settled.TheVariants as settled;
 ghost use Rattle.yaml_parse_core.specs.Extra.{value_in, style_in, name_in, encoding_in, major_in, minor_in, handle_in, prefix_in};
 ghost use Rattle.yaml_parse_core.specs.declared.told.Implied.TheVariants as implied;
@@ -117,12 +117,8 @@ fn resolve_default(waiting: &mut Waiting, fault: &mut yaml_fault_t) -> bool
     } else if handle == b"!!".as_slice() {
         join(waiting, SECONDARY_PREFIX, fault)
     } else {
-        refuse(
-            ParseProblem::UndefinedHandle,
-            &waiting.tag_from,
-            &waiting.from,
-            fault,
-        );
+        let problem = ParseProblem::UndefinedHandle;
+        refuse(problem, &waiting.tag_from, &waiting.from, fault);
         false
     }
 }
@@ -220,13 +216,6 @@ fn resolves_at_once(tags: &TagDirectives, waiting: &mut Waiting) -> bool
     }
 }
 
-// Version 1.1 or 1.2.
-fn is_known(major: i32, minor: i32) -> bool
-    ensures { result ≡ is_known_version major minor }
-{
-    major == 1 && (minor == 1 || minor == 2)
-}
-
 // A `%YAML` directive.
 pub(crate) fn note_version(
     directives: &mut Directives,
@@ -244,7 +233,8 @@ pub(crate) fn note_version(
             Settled::Refused
         }
         None => {
-            if is_known(major, minor) {
+            // Version 1.1 or 1.2.
+            if major == 1 && (minor == 1 || minor == 2) {
                 directives.version = Some(yaml_version_directive_t { major, minor });
                 Settled::Noted
             } else {

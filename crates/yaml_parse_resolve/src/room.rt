@@ -143,17 +143,6 @@ pub(crate) fn exchange_texts(x: &mut Vec<u8>, y: &mut Vec<u8>)
     put_back(y, own);
 }
 
-// The text, moved out of its place, in which the room is left.
-// Inlined: some moves.
-#[inline(always)]
-fn moved_out(text: &mut Vec<u8>, room: &mut Vec<u8>) -> Vec<u8>
-    ensures { result.items ≡ text.old.items }
-{
-    let own = lifted(text);
-    put_back(text, lifted(room));
-    own
-}
-
 /// The text, if it is one that is to be there, in a place for one. In its own place the earlier one's room is left, or another one.
 // Inlined: mostly it is known whether it is to be there.
 #[inline(always)]
@@ -168,7 +157,11 @@ pub(crate) fn exchange(
 {
     if is_there {
         match place {
-            None => mem::forget(mem::replace(place, Some(moved_out(text, room)))),
+            None => {
+                let own = lifted(text);
+                put_back(text, lifted(room));
+                mem::forget(mem::replace(place, Some(own)));
+            }
             Some(last) => exchange_texts(last, text),
         }
     }

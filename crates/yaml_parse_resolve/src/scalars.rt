@@ -22,11 +22,7 @@ use yaml_scan_model::lifted;
 fn fits(place: &mut Option<Vec<u8>>, is_there: bool, room: &mut Vec<u8>) -> bool
     ensures { result ≡ true → is_there ≡ false → text_of place.new ≡ None }
 {
-    if is_there {
-        true
-    } else {
-        leaves_name(place, room)
-    }
+    is_there || leaves_name(place, room)
 }
 
 // Exchanges the text with that of an earlier scalar, of which no anchor or tag is left that isn't to be there. Answers whether it
@@ -51,10 +47,7 @@ fn takes_value(
             value: ref mut last,
             ..
         } => {
-            if !fits(anchor, has_anchor, &mut rooms.anchor) {
-                return false;
-            }
-            if !fits(tag, has_tag, &mut rooms.tag) {
+            if !fits(anchor, has_anchor, &mut rooms.anchor) || !fits(tag, has_tag, &mut rooms.tag) {
                 return false;
             }
             exchange_texts(last, value);
@@ -89,13 +82,9 @@ fn name_scalar(
             style: ref mut last_style,
             ..
         } => {
-            exchange(
-                anchor,
-                has_anchor,
-                &mut waiting.anchor,
-                &mut waiting.rooms.anchor,
-            );
-            exchange(tag, has_tag, &mut waiting.handle, &mut waiting.rooms.tag);
+            let rooms = &mut waiting.rooms;
+            exchange(anchor, has_anchor, &mut waiting.anchor, &mut rooms.anchor);
+            exchange(tag, has_tag, &mut waiting.handle, &mut rooms.tag);
             *plain = if waiting.has_tag {
                 !has_tag
             } else {
@@ -159,10 +148,7 @@ fn scalar_over(
 fn is_plain(style: yaml_scalar_style_t) -> bool
     ensures { result ≡ is_plain_style style }
 {
-    match style {
-        yaml_scalar_style_t::YAML_PLAIN_SCALAR_STYLE => true,
-        _ => false,
-    }
+    matches!(style, yaml_scalar_style_t::YAML_PLAIN_SCALAR_STYLE)
 }
 
 // A scalar without properties, in a slot that holds no text.
@@ -185,12 +171,9 @@ fn start_bare(value: Vec<u8>, style: yaml_scalar_style_t, event: &mut yaml_event
         style,
     };
     put_bare(event, empty);
-    match event {
-        yaml_event_body_t::Scalar { value: place, .. } => {
-            *place = value;
-        }
-        // Never: it was put there.
-        _ => {}
+    // Always: it was put there.
+    if let yaml_event_body_t::Scalar { value: place, .. } = event {
+        *place = value;
     }
 }
 
@@ -269,12 +252,11 @@ pub(crate) fn named(
 )
     ensures { body_of event.new ≡ named_event waiting.old (item.scalar value.old.items style) }
 {
-    let has_anchor = waiting.has_anchor;
     if waiting.has_tag {
         let is_mark = waiting.handle.as_slice() == b"!".as_slice();
-        put_scalar(waiting, has_anchor, !is_mark, value, style, event);
+        put_scalar(waiting, waiting.has_anchor, !is_mark, value, style, event);
     } else {
-        put_scalar(waiting, has_anchor, false, value, style, event);
+        put_scalar(waiting, waiting.has_anchor, false, value, style, event);
     }
 }
 

@@ -51,12 +51,10 @@ pub(crate) fn end_collection(is_sequence: bool, slot: &mut yaml_event_body_t)
 pub(crate) fn end_over(is_sequence: bool, waiting: &mut Waiting, slot: &mut yaml_event_body_t)
     ensures { body_of slot.new ≡ (if is_sequence then told.sequence_end else told.mapping_end) }
 {
-    if clears_any(slot, &mut waiting.rooms) {
-        end_collection(is_sequence, slot);
-    } else {
+    if !clears_any(slot, &mut waiting.rooms) {
         clear(slot);
-        end_collection(is_sequence, slot);
     }
+    end_collection(is_sequence, slot);
 }
 
 /// An alias. The room of an earlier text is left in place of the name.
@@ -96,12 +94,9 @@ fn start_alias(slot: &mut yaml_event_body_t, anchor: Vec<u8>)
         anchor: Vec::new(alloc),
     };
     put_bare(slot, empty);
-    match slot {
-        yaml_event_body_t::Alias { anchor: place } => {
-            *place = anchor;
-        }
-        // Never: it was put there.
-        _ => {}
+    // Always: it was put there.
+    if let yaml_event_body_t::Alias { anchor: place } = slot {
+        *place = anchor;
     }
 }
 

@@ -68,8 +68,7 @@ impl Core {
         requires may { MayFrame tagged self.old }
         ensures { PlacesFramed tagged quoted value.now self.old self.new result }
     {
-        let innermost = self.levels.top();
-        match innermost {
+        match self.levels.top() {
             None => false,
             Some(level) => match level.phase {
                 Phase::Items(_) => self.place_at::<(L, u8)>(level, tagged, quoted, value),
@@ -103,8 +102,7 @@ impl Core {
         ensures same { result ≡ false → self.new ≡ self.old }
     {
         let settings = self.settings(true);
-        let innermost = self.levels.top();
-        match innermost {
+        match self.levels.top() {
             None => false,
             Some(level) => {
                 let start = line_start_of(settings.line_break, &level, false);

@@ -85,9 +85,7 @@ impl Core {
         self.place = Expected::Node;
         self.levels.clear();
         match DirectiveTable::of(directives) {
-            Ok(table) => {
-                self.directives = table;
-            }
+            Ok(table) => self.directives = table,
             Err(refused) => self.starve(refused),
         }
     }

@@ -9,7 +9,8 @@ ghost use Rattle.yaml_emit_state.specs.Bare.{first_behind};
 ghost use Rattle.yaml_emit_layout.specs.Nodes.{MOST, deeper, comma, wrap_at};
 
 use super::Core;
-use crate::bare::{is_inline, is_near, is_shallow, is_there};
+use crate::bare::{is_inline, is_near, is_there};
+use crate::indent::is_not_deep;
 use yaml_emit_layout::{Level, Phase};
 use yaml_emit_text::{fits, put_in_line, put_standing};
 use yaml_parse_model::yaml_event_body_t;
@@ -128,8 +129,7 @@ impl Core {
             → x.value ≡ value.now → LaysOut self.old self.new (scalar x) empty }
         ensures same { result ≡ false → self.new ≡ self.old }
     {
-        let innermost = self.levels.top();
-        match innermost {
+        match self.levels.top() {
             None => false,
             Some(level) => match level.phase {
                 Phase::Items(fresh) => self.place_entry(level, true, fresh, quoted, value),
@@ -173,7 +173,8 @@ impl Core {
     fn is_ready(&self) -> bool
         ensures { result ≡ true → self.now.settings.canonical ≡ false → TakesShort self.now }
     {
-        self.awaits_node() && is_shallow(&self.settings, self.levels.innermost())
+        self.awaits_node()
+            && matches!(self.levels.top(), Some(at) if is_not_deep(at.indent, self.settings.indent))
     }
 
     // A scalar, in the general way.

@@ -104,8 +104,7 @@ impl Core {
         ensures same { result ≡ false → self.new ≡ self.old }
     {
         let settings = self.settings(true);
-        let innermost = self.levels.top();
-        match innermost {
+        match self.levels.top() {
             None => false,
             Some(level) => {
                 let start = line_start_of(settings.line_break, &level, false);
@@ -147,8 +146,7 @@ impl Core {
         ensures same { result ≡ false → self.new ≡ self.old }
     {
         let indent = self.settings.indent;
-        let innermost = self.levels.top();
-        match innermost {
+        match self.levels.top() {
             None => false,
             Some(level) => match anchor {
                 None => false,
@@ -214,8 +212,7 @@ impl Core {
         ensures same { result ≡ false → self.new ≡ self.old }
     {
         let settings = self.settings(true);
-        let innermost = self.levels.top();
-        match innermost {
+        match self.levels.top() {
             None => false,
             Some(level) => {
                 let start = end_start(&settings, level.indent);

@@ -35,10 +35,10 @@ by_top s top l simple before w a b u e p = rw (u, e) p
 pub returns-in-None : goal.returns-in-None
 returns-in-None c = rw c.in-None.is c.put_name.ensures
 
-pub returns-then-is_block_item : goal.returns-then-is_block_item
-returns-then-is_block_item c =
+pub returns-in-Some : goal.returns-in-Some
+returns-in-Some c =
     by_top _ _ _ _ _ _ _ _ c.in-Some.is (item_before _ _ _ _ _ (sym c.is_block_item.ensures ∙ c.if-is_block_item.true)) c.put_item_name.ensures
 
-pub returns-then-is_behind_simple : goal.returns-then-is_behind_simple
-returns-then-is_behind_simple c =
-    by_top _ _ _ _ _ _ _ _ c.in-Some.is (value_before _ _ _ _ _ (sym c.is_behind_simple.ensures ∙ c.if-is_behind_simple.true)) c.put_value_name.ensures
+pub returns-in-Some-2 : goal.returns-in-Some-2
+returns-in-Some-2 c =
+    by_top _ _ _ _ _ _ _ _ c.in-Some-2.is (value_before _ _ _ _ _ (sym c.is_behind_simple.ensures ∙ c.if-is_behind_simple.true)) c.put_value_name.ensures

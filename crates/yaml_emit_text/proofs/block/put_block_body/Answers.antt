@@ -1,4 +1,4 @@
-use Rattle.std.proofs.Common.{ap}
+use Rattle.std.proofs.Common.{ap, refl}
 use Rattle.yaml_emit_sink.proofs.Sinks.{owes_same, owes_then}
 use Rattle.yaml_emit_text.proofs.RunWalks.{block_runs}
 use Rattle.yaml_emit_text.proofs.Walks.{walk_more, walk_end}
@@ -17,7 +17,7 @@ loop-c-preserved c =
     let body = block_body c.args.page c.args.folded in
     let blank = c.line_blank-blank.result in
     let step = walk_more _ _ _ _ _ _ _ (ap (body c.loop-c.blank c.loop-c.before) c.in-Some.ensures.letters) c.loop-c.invariant.1 c.put_block_char.ensures in
-    (c.put_run_or-last.ensures.utf8, owes_then _ _ _ _ _ _ (rw (← c.line_blank-blank.ensures) at step) (c.put_run_or-last.ensures.text (body blank) (block_runs c.args.page c.args.folded blank _ _ c.block_bounds.ensures)))
+    (c.put_run_or-last.ensures.utf8, owes_then _ _ _ _ _ _ (rw (← c.line_blank-blank.ensures) at step) (c.put_run_or-last.ensures.text (body blank) (block_runs c.args.page c.args.folded blank _ _ refl)))
 
 pub returns : goal.returns
 unfolding block_body

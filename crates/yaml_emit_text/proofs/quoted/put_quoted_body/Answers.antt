@@ -1,4 +1,4 @@
-use Rattle.std.proofs.Common.{ap}
+use Rattle.std.proofs.Common.{ap, refl}
 use Rattle.yaml_emit_sink.proofs.Sinks.{owes_same, owes_then}
 use Rattle.yaml_emit_text.proofs.RunWalks.{quoted_runs}
 use Rattle.yaml_emit_text.proofs.Walks.{walk_more, walk_end}
@@ -15,7 +15,7 @@ pub loop-c-preserved : goal.loop-c-preserved
 unfolding quoted_body
 loop-c-preserved c =
     let body = quoted_body c.args.page in
-    (c.put_run-latest.ensures.utf8, owes_then _ _ _ _ _ _ (walk_more _ _ _ _ _ _ _ (ap (body c.loop-c.last) c.in-Some.ensures.letters) c.loop-c.invariant.1 c.put_quoted_char.ensures) (c.put_run-latest.ensures.text body (quoted_runs c.args.page _ _ c.quoted_bounds.ensures)))
+    (c.put_run-latest.ensures.utf8, owes_then _ _ _ _ _ _ (walk_more _ _ _ _ _ _ _ (ap (body c.loop-c.last) c.in-Some.ensures.letters) c.loop-c.invariant.1 c.put_quoted_char.ensures) (c.put_run-latest.ensures.text body (quoted_runs c.args.page _ _ refl)))
 
 pub returns : goal.returns
 unfolding quoted_body

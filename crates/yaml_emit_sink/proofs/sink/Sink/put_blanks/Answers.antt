@@ -8,9 +8,9 @@ pub returns-then-count-eq0 : goal.returns-then-count-eq0
 unfolding blanks
 returns-then-count-eq0 c = rw c.if-count-eq0.true (puts_nothing _)
 
-pub returns-then-are_few : goal.returns-then-are_few
-returns-then-are_few c =
-    let few = c.are_few.ensures.few c.if-are_few.true in
-    let near = c.are_few.ensures.near c.if-are_few.true in
+pub returns-then-len-self : goal.returns-then-len-self
+returns-then-len-self c =
+    let few = c.if-count-le16.true in
+    let near = c.if-len-self.true in
     let fast = c.self.invariant.fast_limit (omega (arith, near)) in
     rw (← c.self.view_is) (puts_few _ _ _ c.if-count-eq0.false fast.1.0 fast.1.1 refl refl refl c.put_few_blanks.ensures.items (omega (arith, near, few, fast.0)) c.blanked.ensures)

@@ -3,8 +3,8 @@ use Rattle.yaml_emit_sink.specs.Appends.{moved}
 use Rattle.yaml_emit_sink.proofs.Ascii.{puts_byte}
 use Rattle.yaml_emit_sink.proofs.sink.Sink.write.Goals as goal
 
-pub returns-then-is_roomy : goal.returns-then-is_roomy
-returns-then-is_roomy c =
-    let near = c.is_roomy.ensures.near c.if-is_roomy.true in
+pub returns-then-len-self : goal.returns-then-len-self
+returns-then-len-self c =
+    let near = c.if-len-self.true in
     let fast_limit = c.self.invariant.fast_limit (omega (arith, near)) in
-    rw (← c.self.view_is) (puts_byte _ _ _ (λ k. moved k c.args.ends c.args.white c.args.bare) fast_limit.1.0 fast_limit.1.1 (c.is_roomy.ensures.ascii c.if-is_roomy.true) (omega (arith, near, fast_limit.0)) c.push_reserved.ensures.items refl refl refl c.moved.ensures)
+    rw (← c.self.view_is) (puts_byte _ _ _ (λ k. moved k c.args.ends c.args.white c.args.bare) fast_limit.1.0 fast_limit.1.1 c.if-c-lt128.true (omega (arith, near, fast_limit.0)) c.push_reserved.ensures.items refl refl refl c.moved.ensures)

@@ -11,7 +11,7 @@ returns-then-put_lined_near-clause-led c = λ h.
     let begins = c.begins_line.ensures c.if-begins_line.true in
     let there = c.put_lined_near.ensures.going c.if-put_lined_near.true in
     let written = c.put_lined_near.ensures.laid c.if-put_lined_near.true in
-    let upper = sym c.in-Some.is ∙ c.top-innermost.ensures in
+    let upper = sym c.in-Some.is ∙ c.top.ensures in
     record {
       right = sym c.is_name.ensures ∙ c.if-is_name.true;
       written = rw (← c.settings-settings.ensures, ← upper) (puts_led_name c.settings-settings.result _ c.args.first _ false _ _ begins refl (rw c.line_start_of-start.ensures at written));

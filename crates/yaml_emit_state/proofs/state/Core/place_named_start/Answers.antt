@@ -16,7 +16,7 @@ push_near-requires c =
 pub returns-then-leads-clause-laid : goal.returns-then-leads-clause-laid
 returns-then-leads-clause-laid c = λ h q a t.
     let led = rw c.deref.ensures.value at (c.leads.ensures.led c.if-leads.true) in
-    let upper = sym c.in-Some.is ∙ c.top-innermost.ensures in
+    let upper = sym c.in-Some.is ∙ c.top.ensures in
     let put = puts_both _ _ _ _ _ led.written c.set_after_block.ensures in
     let new = record c.leads.new.self { sink = c.set_after_block.new.self; levels = c.push_near.new.self } in
     let behind = rw (ap (λ z. z.levels) led.kept) at c.push_near.ensures in

@@ -8,7 +8,7 @@ pub returns-then-put_lined_near-clause-laid : goal.returns-then-put_lined_near-c
 returns-then-put_lined_near-clause-laid c = λ h q bare.
     let none = none_given _ _ bare in
     let begins = c.begins_line.ensures c.if-begins_line.true in
-    let upper = sym c.in-Some.is ∙ c.top-innermost.ensures in
+    let upper = sym c.in-Some.is ∙ c.top.ensures in
     let written = c.put_lined_near.ensures.laid c.if-put_lined_near.true in
     let there = c.put_lined_near.ensures.going c.if-put_lined_near.true in
     let put = puts_both _ _ _ _ _ (rw c.line_start_of-start.ensures at written) c.set_after_block.ensures in

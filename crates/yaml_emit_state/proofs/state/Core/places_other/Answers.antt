@@ -1,5 +1,5 @@
 use Rattle.std.proofs.Common.{sym, ◌∙◌}
-use Rattle.yaml_emit_state.proofs.state.Core.places_kind.Goals as goal
+use Rattle.yaml_emit_state.proofs.state.Core.places_other.Goals as goal
 
 pub returns-then-has_none-clause-laid : goal.returns-then-has_none-clause-laid
 returns-then-has_none-clause-laid c = λ h.

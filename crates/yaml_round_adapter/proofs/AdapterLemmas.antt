@@ -4,7 +4,6 @@ use Rattle.std.proofs.lemmas.List.Elements.{All-nil, All-head, All-tail}
 use Rattle.yaml_scan.specs.declared.yaml_encoding_t.{yaml_encoding_t}
 use Rattle.yaml_scan.specs.Tokens.{Token, TokenBody, no_token}
 use Rattle.yaml_scan.specs.Tokens as token
-use Rattle.yaml_scan.specs.Slots.{is_tagged}
 use Rattle.yaml_parse_model.specs.Source.{key_of}
 use Rattle.yaml_scan.specs.declared.Lent.{Lent}
 use Rattle.yaml_scan.specs.declared.Lent.TheVariants.{Taken, Left, Refused}
@@ -130,15 +129,10 @@ pub gives_fault : (old new : View) (f : Fault) → Stops old f new
     (adapted new.remaining).tokens (adapted new.remaining).fault
 gives_fault old new f s = subst (λ (c : Remaining). GivesFault (adapted old.remaining).tokens (adapted old.remaining).fault f (adapted c).tokens (adapted c).fault) (sym (stopped old new f s)) (gives_stop old new f s)
 
--- what is no tag and no directive that declares one has none
-plain_spells : (b : TokenBody) → is_tagged b ≡ false → spells_text b ≡ true
-plain_spells (token.tag x y) plain = cc
-plain_spells (token.tag_directive x y) plain = cc
-plain_spells _ plain = refl
-
-checked_spells : (b : TokenBody) → (is_tagged b ≡ false) ⊎ (spells_text b ≡ true)
+-- what is known to spell UTF-8 does, and what is checked
+checked_spells : (b : TokenBody) → (spells_text b ≡ true) ⊎ (spells_text b ≡ true)
     → spells_text b ≡ true
-checked_spells b (inl plain) = plain_spells b plain
+checked_spells b (inl text) = text
 checked_spells b (inr text) = text
 
 -- what the session lends is what the adapter does
@@ -152,7 +146,7 @@ lends_text P Q old new (Taken a) f texts little (inl s) =
     inl record { token = s.token; has = s.has; gives = gives_text old new s.token texts g; goes = (g, little) }
 lends_text P Q old new (Taken a) f texts little (inr s) =
     let k : TakesText old (key_of s.token) s.middle = record { takes = s.key; text = refl } in
-    let g : TakesText s.middle s.token new = record { takes = s.takes; text = plain_spells s.token.body s.plain } in
+    let g : TakesText s.middle s.token new = record { takes = s.takes; text = s.text } in
     inr record {
       token = s.token;
       has = s.has;

@@ -1,70 +1,17 @@
 //! Tags that aren't UTF-8.
 
-ghost use Rattle.std.specs.Prelude.{◌≡◌, ◌+◌, ◌≤◌, true, length};
+ghost use Rattle.std.specs.Prelude.{◌≡◌};
 ghost use Rattle.std.specs.Str.{is_utf8};
 ghost use Rattle.yaml_scan.specs.Tokens.{token_of};
 ghost use Rattle.yaml_scan.specs.Slots.{token_in_slot};
 ghost use Rattle.yaml_scan.specs.Faults.{fault_of};
 ghost use Rattle.yaml_round_adapter.specs.Adapted.{spells_text, tag_fault};
-ghost use Rattle.yaml_round_adapter.specs.Ascii.{AreAsciiFrom};
 
 use simdutf8::is_utf8;
 use yaml_scan::{
     TokenSlot, yaml_error_type_t, yaml_fault_t, yaml_mark_t, yaml_origin_t, yaml_token_body_t,
     yaml_token_t, yaml_token_type_t,
 };
-
-// Whether so many bytes from there on are all ASCII.
-// Inlined: one test, where their number is known.
-#[inline(always)]
-fn is_ascii_run(bytes: &[u8], at: usize, size: usize) -> bool
-    requires { at + size ≤ length bytes.now }
-    ensures { result ≡ true → AreAsciiFrom at size bytes.now }
-{
-    let mut ascii = true;
-    let mut count = 0;
-    'bytes: while count < size {
-        ascii = ascii & (bytes[at + count] < 0x80);
-        count += 1;
-    }
-    ascii
-}
-
-// Whether the bytes are UTF-8 at sight, since they are ASCII alone: their front and end, of so many bytes each, are all of them.
-// Inlined: see `is_ascii_run`.
-#[inline(always)]
-fn are_ascii_ends(bytes: &[u8], size: usize) -> bool
-    requires least { size ≤ length bytes.now }
-    requires most { length bytes.now ≤ size + size }
-    ensures { result ≡ true → is_utf8 bytes.now ≡ true }
-{
-    is_ascii_run(bytes, 0, size) & is_ascii_run(bytes, bytes.len() - size, size)
-}
-
-// Whether the bytes are UTF-8 at sight, since they are few and ASCII alone, as mostly: a look at them costs less than what the decoder
-// of UTF-8 sets up.
-// Inlined: see `is_ascii_run`.
-#[inline(always)]
-fn is_plain_text(bytes: &[u8]) -> bool
-    ensures { result ≡ true → is_utf8 bytes.now ≡ true }
-{
-    let count = bytes.len();
-    if count < 4 {
-        if count < 2 {
-            are_ascii_ends(bytes, count)
-        } else {
-            are_ascii_ends(bytes, 2)
-        }
-    } else if count < 8 {
-        are_ascii_ends(bytes, 4)
-    } else if count < 16 {
-        are_ascii_ends(bytes, 8)
-    } else if count <= 32 {
-        are_ascii_ends(bytes, 16)
-    } else {
-        false
-    }
-}
 
 /// Whether the suffix of a tag in a slot, or a directive's prefix, is UTF-8.
 pub(crate) fn slot_spells_text(token: &TokenSlot) -> bool
@@ -77,17 +24,10 @@ pub(crate) fn slot_spells_text(token: &TokenSlot) -> bool
     }
 }
 
-// Whether the bytes are UTF-8, be they few or not.
-fn is_text(bytes: &[u8]) -> bool
-    ensures { result ≡ is_utf8 bytes.now }
-{
-    is_plain_text(bytes) || is_wide_text(bytes)
-}
-
 // Whether the bytes are UTF-8.
-// Out of line: the decoder sets up an aligned buffer, and few tags have a byte beyond ASCII.
+// Out of line: the decoder sets up an aligned buffer, and few tags aren't known to be UTF-8.
 #[inline(never)]
-fn is_wide_text(bytes: &[u8]) -> bool
+fn is_text(bytes: &[u8]) -> bool
     ensures { result ≡ is_utf8 bytes.now }
 {
     is_utf8(bytes)

@@ -1,19 +1,13 @@
 -- The tokens of a session as a parser takes them: up to the first tag that isn't UTF-8.
 use Rattle.std.specs.Prelude.{Bool, true, if◌then◌else◌, pos, codes, List, [], ◌∷◌, Option, Some, None}
-use Rattle.std.specs.Str.{is_utf8}
 use Rattle.yaml_parse_model.specs.declared.yaml_mark_t.{yaml_mark_t}
 use Rattle.yaml_parse_model.specs.declared.yaml_error_type_t.TheVariants.{YAML_SCANNER_ERROR}
 use Rattle.yaml_parse_model.specs.declared.yaml_origin_t.TheVariants.{Adapter}
 use Rattle.yaml_parse_model.specs.Tokens as token
 use Rattle.yaml_parse_model.specs.Tokens.{Token, TokenBody}
 use Rattle.yaml_parse_model.specs.Faults.{Fault}
+pub use Rattle.yaml_scan_slot.specs.Slots.{spells_text}
 use Rattle.yaml_scan_laws_texts.specs.scan_history.Remaining.{Remaining}
-
--- What escapes spell byte by byte is UTF-8: a tag's suffix, and a directive's prefix.
-abbrev pub spells_text : TokenBody → Bool
-spells_text (token.tag_directive handle prefix) = is_utf8 prefix
-spells_text (token.tag handle suffix) = is_utf8 suffix
-spells_text _ = true
 
 -- the fault of a token whose tag isn't UTF-8, at its start
 abbrev pub tag_fault : yaml_mark_t → Fault

@@ -19,7 +19,7 @@ pub use Rattle.yaml_scan_machine.specs.Found.{HasMore}
 use Rattle.yaml_scan_machine.specs.Settled.{settles}
 use Rattle.yaml_scan_machine.specs.scan_laws_order.Fronts.{GivesFirst}
 use Rattle.yaml_scan_slot.specs.Lending.{key_of}
-use Rattle.yaml_scan_slot.specs.Slots.{is_tagged}
+use Rattle.yaml_scan_slot.specs.Slots.{spells_text}
 use Rattle.yaml_scan_slot.specs.declared.taker.Lent.{Lent}
 use Rattle.yaml_scan_slot.specs.declared.taker.Lent.TheVariants.{Taken, Left, Refused}
 
@@ -187,24 +187,24 @@ abbrev pub Peeks : View → View → Result (Bor yaml_token_t) yaml_fault_t → 
 Peeks old new (Ok token) = Lends old (token_of token.now) new
 Peeks old new (Err f) = Refuses old (fault_of f) new
 
--- the first token to come is no tag and no directive that declares one, or passes
+-- the first token to come spells UTF-8, as all do that are no tag and no directive, or passes
 abbrev pub MayTake : (Token → Type 0) → Remaining → Type 0
 MayTake passes c = (t : Token) (rest : Remaining) → GivesFirst c t rest
-    → (is_tagged t.body ≡ false) ⊎ passes t
+    → (spells_text t.body ≡ true) ⊎ passes t
 
--- A token was taken where it lies: it is no tag or directive that declares one, or one that passes.
+-- A token was taken where it lies: it spells UTF-8, or passes.
 pub record TakesLent (passes : Token → Type 0) (P : Token → Type 0) (old new : View) : Type 0 where
   pub token : Token
   pub has : P token
   pub takes : Takes old token new
-  pub checked : (is_tagged token.body ≡ false) ⊎ passes token
+  pub checked : (spells_text token.body ≡ true) ⊎ passes token
 
 -- KEY was taken, and the scalar behind it where it lies, which has that
 pub record TakesKeyed (P : Token → Type 0) (old new : View) : Type 0 where
   pub token : Token
   pub middle : View
   pub has : P token
-  pub plain : is_tagged token.body ≡ false
+  pub text : spells_text token.body ≡ true
   pub key : Takes old (key_of token) middle
   pub few : HoldsLittle middle
   pub takes : Takes middle token new

@@ -149,8 +149,8 @@ pub fn yaml_parser_scan_into(
     }
 }
 
-// Whether the next token is no tag and no directive that declares one, or passes a check.
-// Inlined: mostly a look at its kind.
+// Whether the next token is known to spell UTF-8, or passes a check.
+// Inlined: mostly a comparison.
 #[inline(always)]
 fn may_take<C: TokenCheck>(machine: &Machine, check: &C) -> bool
     requires stands { IsMachine machine.now }

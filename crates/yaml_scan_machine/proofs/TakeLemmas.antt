@@ -7,7 +7,7 @@ use Rattle.yaml_scan_model.specs.Tokens.{type_of}
 use Rattle.yaml_scan_model.specs.declared.name.yaml_token_type_t.TheVariants.{YAML_SCALAR_TOKEN}
 use Rattle.yaml_scan_slot.specs.Lending.{key_of}
 use Rattle.yaml_scan_slot.specs.declared.slot.TokenSlot.{TokenSlot}
-use Rattle.yaml_scan_slot.specs.Slots.{body_in_slot, is_tagged}
+use Rattle.yaml_scan_slot.specs.Slots.{body_in_slot, spells_text}
 use Rattle.yaml_scan_queue.specs.Front.{start_at}
 use Rattle.yaml_scan_machine.specs.Handed.{GivesTo, Hands, TellsNext}
 use Rattle.yaml_scan_machine.specs.State.{KeepsInput}
@@ -215,10 +215,10 @@ gives_own_of P m g d q w after i ready start own =
       keeps = record { setting = refl; bytes = refl; ahead = refl; read = omega (arith, own.dropped, len) };
     }
 
-scalar_plain : (b : TokenBody) → type_of b ≡ YAML_SCALAR_TOKEN → is_tagged b ≡ false
-scalar_plain (token.tag x y) e = cc
-scalar_plain (token.tag_directive x y) e = cc
-scalar_plain _ e = refl
+scalar_text : (b : TokenBody) → type_of b ≡ YAML_SCALAR_TOKEN → spells_text b ≡ true
+scalar_text (token.tag x y) e = cc
+scalar_text (token.tag_directive x y) e = cc
+scalar_text _ e = refl
 
 -- KEY stands behind all that closes a level
 key_past : (k : KeptLexeme) (g : ℕ) → front_at k g ≡ Some token.key → g < k.ends → ⊥
@@ -249,7 +249,7 @@ gives_keyed_of P Q m g d q w rest i ready items k =
         token = one.gives.token;
         middle = record m { given = m.given + 1 };
         has = one.gives.has.0;
-        plain = scalar_plain one.gives.token.body (ap (λ (b : TokenBody). type_of b) body ∙ k.comes.scalar);
+        text = scalar_text one.gives.token.body (ap (λ (b : TokenBody). type_of b) body ∙ k.comes.scalar);
         stands = key.stands;
         key = subst (λ (t : Token). GivesFirst (left_in m) t (left_in record m { given = m.given + 1 })) (key.gives.has ∙ ap key_of (sym one.gives.has.1)) key.gives.first;
         first = one.gives.first;
@@ -296,7 +296,7 @@ ready_gives m i ready =
     let (t, c, gives, is) = ready_token m w rest i items ready in
     (t, c, gives)
 
--- ---- whether the next token is a tag or a directive
+-- ---- whether the next token is known to spell UTF-8
 
 -- the token that comes is the one in front of what waits first, or its own
 first_token : (m : Machine) (w : Waiting) (rest : List Waiting) → IsMachine m
@@ -309,21 +309,21 @@ first_token m w rest i items ready t r (tokens, fault) =
     let head : t ≡ u = cc in
     head ∙ is
 
-start_plain : (o : Opens) (k : Bool) (n : ℕ)
-    → IfSome (start_at o k n) (λ b. is_tagged b ≡ false)
-start_plain _ k n = grind arith
+start_text : (o : Opens) (k : Bool) (n : ℕ)
+    → IfSome (start_at o k n) (λ b. spells_text b ≡ true)
+start_text _ k n = grind arith
 
 -- nothing in front of a lexeme is a tag
-front_plain : (k : KeptLexeme) (n : ℕ) → IfSome (front_at k n) (λ b. is_tagged b ≡ false)
-front_plain k n = grind (arith, start_plain k.opens k.key (n - k.ends))
+front_text : (k : KeptLexeme) (n : ℕ) → IfSome (front_at k n) (λ b. spells_text b ≡ true)
+front_text k n = grind (arith, start_text k.opens k.key (n - k.ends))
 
-fronted_plain : (k : KeptLexeme) (n : ℕ)
-    → (front_at k n ≡ None → is_tagged k.body ≡ false)
-    → is_tagged (fronted (own_token k) (front_at k n)).body ≡ false
-fronted_plain k n own =
+fronted_text : (k : KeptLexeme) (n : ℕ)
+    → (front_at k n ≡ None → spells_text k.body ≡ true)
+    → spells_text (fronted (own_token k) (front_at k n)).body ≡ true
+fronted_text k n own =
     elim (cases_Option (front_at k n)) [
       | inl none ↦ rw none (own none)
-      | inr (b, some) ↦ rw some (subst (λ o. IfSome o (λ b. is_tagged b ≡ false)) some (front_plain k n))
+      | inr (b, some) ↦ rw some (subst (λ o. IfSome o (λ b. spells_text b ≡ true)) some (front_text k n))
     ]
 
 pub tells_next : (m : Machine) (r : Option (Bor TokenSlot)) → IsMachine m → is_ready m ≡ true
@@ -335,8 +335,8 @@ tells_next m (Some t) i ready tells =
 tells_next m None i ready tells =
     let (w, rest, items) = first_waits m.dropped m.settled m.given m.waiting.items ready in
     let told = subst (λ w. TellsTag m.given w None) (first_here m.waiting.items w rest items) (tells w) in
-    let own : front_at (kept_of w) m.given ≡ None → is_tagged (kept_of w).body ≡ false = λ none. elim told [
+    let own : front_at (kept_of w) m.given ≡ None → spells_text (kept_of w).body ≡ true = λ none. elim told [
       | inl other ↦ other
       | inr never ↦ absurd (never none)
     ] in
-    λ first left gives. ap (λ (t : Token). is_tagged t.body) (first_token m w rest i items ready first left gives) ∙ fronted_plain (kept_of w) m.given own
+    λ first left gives. ap (λ (t : Token). spells_text t.body) (first_token m w rest i items ready first left gives) ∙ fronted_text (kept_of w) m.given own

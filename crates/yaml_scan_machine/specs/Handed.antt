@@ -1,10 +1,10 @@
 -- What is handed out of what is to come.
-use Rattle.std.specs.Prelude.{◌≡◌, ◌⊎◌, false, Option, Some, None}
+use Rattle.std.specs.Prelude.{◌≡◌, ◌⊎◌, true, Option, Some, None}
 use denote.Bor.{Bor}
 use Rattle.yaml_scan_model.specs.Tokens.{Token}
 use Rattle.yaml_scan_slot.specs.declared.slot.TokenSlot.{TokenSlot}
 use Rattle.yaml_scan_slot.specs.Lending.{key_of}
-use Rattle.yaml_scan_slot.specs.Slots.{token_in_slot, is_tagged}
+use Rattle.yaml_scan_slot.specs.Slots.{token_in_slot, spells_text}
 use Rattle.yaml_scan_machine.specs.declared.machine.Machine.{Machine}
 use Rattle.yaml_scan_machine.specs.Left.{left_in}
 use Rattle.yaml_scan_machine.specs.State.{IsMachine, KeepsInput}
@@ -22,7 +22,7 @@ pub record GivesKeyTo (P : Token → Type 0) (old new : Machine) : Type 0 where
   pub token : Token
   pub middle : Machine
   pub has : P token
-  pub plain : is_tagged token.body ≡ false
+  pub text : spells_text token.body ≡ true
   pub stands : IsMachine middle
   pub key : GivesFirst (left_in old) (key_of token) (left_in middle)
   pub first : GivesFirst (left_in middle) token (left_in new)
@@ -33,9 +33,9 @@ pub record GivesKeyTo (P : Token → Type 0) (old new : Machine) : Type 0 where
 abbrev pub Hands : (Token → Type 0) → (Token → Type 0) → Machine → Machine → Type 0
 Hands P Q old new = GivesTo P (left_in old) (left_in new) ⊎ GivesKeyTo Q old new
 
--- the first token to come, if it is a tag or a directive that declares one
+-- the first token to come, if it isn't known to spell UTF-8
 abbrev pub TellsNext : Remaining → Option (Bor TokenSlot) → Type 0
 TellsNext old (Some t) = (first : Token) (rest : Remaining) → GivesFirst old first rest
     → token_in_slot t.now ≡ first
 TellsNext old None = (first : Token) (rest : Remaining) → GivesFirst old first rest
-    → is_tagged first.body ≡ false
+    → spells_text first.body ≡ true

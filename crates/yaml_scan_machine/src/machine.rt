@@ -256,8 +256,8 @@ impl<'a> Machine<'a> {
             .give(&mut self.given, &mut self.dropped, taker, slot, fault)
     }
 
-    /// The next token, if it is a tag or a directive that declares one.
-    // Inlined: mostly a look at the kind.
+    /// The next token, if it isn't known to spell UTF-8.
+    // Inlined: mostly a comparison.
     #[inline(always)]
     pub fn next_tag(&self) -> Option<&TokenSlot>
         requires stands { IsMachine self.now }

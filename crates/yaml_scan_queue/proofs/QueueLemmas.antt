@@ -6,17 +6,18 @@ use denote.Bor.{Bor}
 use Rattle.std.proofs.Math.ListN.{set}
 use Rattle.std.proofs.Math.Seq.{take-set-lt}
 use Rattle.std.proofs.lemmas.List.{get_or-drop, get_or-take, get_or_default, take-append-le, drop-append-le, drop-take, drop-set-add, drop-set-lt, drop-drop, get_or-set_same, length-take-le, length-drop}
-use Rattle.std.proofs.lemmas.List.Elements.{All-same, All-push, All-drop, All-get_or}
+use Rattle.std.proofs.lemmas.List.Elements.{All-same, All-push, All-drop, All-get_or, All-set}
 use Rattle.std.proofs.lemmas.Bool.{cases_Bool}
 use Rattle.std.proofs.lemmas.Bool.Decides.{nat_tests}
 use Rattle.yaml_scan_history.specs.declared.lexeme.Opens.{Opens}
 use Rattle.yaml_scan_history.specs.declared.lexeme.Opens.TheVariants as opening
 use Rattle.yaml_scan_model.specs.Tokens as token
-use Rattle.yaml_scan_slot.specs.Slots.{is_tagged, token_in_slot}
+use Rattle.yaml_scan_model.specs.Tokens.{TokenBody}
+use Rattle.yaml_scan_slot.specs.Slots.{is_tagged, spells_text, token_in_slot}
 use Rattle.yaml_scan_slot.specs.declared.slot.TokenSlot.{TokenSlot}
 use Rattle.yaml_scan_queue.specs.Front.{front_at, front_count, start_at, start_count, key_count}
 use Rattle.yaml_scan_queue.specs.Hands.{TellsTag}
-use Rattle.yaml_scan_queue.specs.Waits.{AreCounted, IsCounted, IsGiven, KeptLexeme, PushesBoth, kept_of, own_of}
+use Rattle.yaml_scan_queue.specs.Waits.{AreCounted, IsCounted, IsGiven, KeptLexeme, PushesBoth, kept_of, keyed, own_of}
 use Rattle.yaml_scan_queue.specs.declared.waiting.ReadLexeme.{ReadLexeme}
 use Rattle.yaml_scan_queue.specs.declared.waiting.Waiting.{Waiting}
 
@@ -116,6 +117,12 @@ start_left opening.Mapping true n none = grind (arith, nat_tests)
 all_given : (k : KeptLexeme) (n : ℕ) → front_at k n ≡ None → front_count k ≤ n
 all_given k n none = grind (arith, nat_tests, start_left k.opens k.key (n - k.ends))
 
+-- what is no tag and no directive that declares one spells UTF-8
+pub plain_spells : (b : TokenBody) → is_tagged b ≡ false → spells_text b ≡ true
+plain_spells (token.tag x y) plain = cc
+plain_spells (token.tag_directive x y) plain = cc
+plain_spells _ plain = refl
+
 -- the own token of the lexeme that waits first, where it is lent
 pub tells_tag : (n : ℕ) (x w : Waiting) (r : Option (Bor TokenSlot)) → x ≡ w
     → n ≤ front_count (kept_of w)
@@ -125,7 +132,7 @@ pub tells_tag : (n : ℕ) (x w : Waiting) (r : Option (Bor TokenSlot)) → x ≡
 tells_tag n x w (Some t) is few (all, same) none =
     (front_done (kept_of w) n (ap (λ (y : Waiting). front_count (kept_of y)) (sym is) ∙ sym all), ap (λ (y : TokenSlot). token_in_slot y) same ∙ ap (λ (y : Waiting). token_in_slot y.token) is)
 tells_tag n x w None is few some none = elim (none refl) [
-  | inl bare ↦ inl (ap (λ (y : Waiting). is_tagged (kept_of y).body) (sym is) ∙ bare)
+  | inl bare ↦ inl (ap (λ (y : Waiting). spells_text (kept_of y).body) (sym is) ∙ plain_spells (kept_of x).body bare)
   | inr left ↦ inr (λ done. left (omega (arith, few, ap (λ (y : Waiting). front_count (kept_of y)) is, all_given (kept_of w) n done)))
 ]
 
@@ -168,28 +175,46 @@ pub counted_push : (xs ys : List Waiting) (w : Waiting) → ys ≡ xs ++ w ∷ [
     → IsCounted w → AreCounted ys
 counted_push xs ys w is h k = counted_same _ ys is (All-push (λ w. IsCounted w) xs w h k)
 
+-- of those of which one is replaced
+pub counted_set : (xs : List Waiting) (f l i : ℕ) (y : Waiting) → f + i < l
+    → AreCounted (drop f (take l xs)) → IsCounted y
+    → AreCounted (drop f (take l (set xs (f + i) y)))
+counted_set xs f l i y low h k =
+    counted_same _ _ (part_set xs f l i y low) (All-set (λ w. IsCounted w) (drop f (take l xs)) i y k h)
+
 -- of those behind the first
 pub counted_drop : (xs ys : List Waiting) → ys ≡ drop 1 xs → AreCounted xs → AreCounted ys
 counted_drop xs ys is h = counted_same _ ys is (All-drop (λ w. IsCounted w) 1 xs h)
 
--- where its own token is no tag, it is kept how many stand in front, which are few
+-- what becomes a key is told to be open where it is a tag
+pub counted_keyed : (o : Opens) (w : Waiting) → IsCounted (keyed o w)
+counted_keyed o w = record {
+  is_open = is_tagged (kept_of w).body;
+  noted = refl;
+  tagged = λ tag. tag;
+  text = λ bare. plain_spells (kept_of w).body bare;
+}
+
+-- what is no tag is noted by how many stand in front, which are few
 pub own_bare : (x : Waiting) → IsCounted x → front_count (kept_of x) < 2 ^ 64 - 1
     → is_tagged (kept_of x).body ≡ false → x.own_after ≡ front_count (kept_of x)
-own_bare x h few bare =
-    let is : x.own_after ≡ own_of false (kept_of x) = h ∙ ap (λ (b : Bool). own_of b (kept_of x)) bare in
-    omega (arith, is, few)
+own_bare x h few bare = elim (cases_Bool h.is_open) [
+  | inl all ↦ let no : true ≡ false = sym (h.tagged all) ∙ bare in cc
+  | inr known ↦
+      let is : x.own_after ≡ own_of false (kept_of x) = h.noted ∙ ap (λ (b : Bool). own_of b (kept_of x)) known in
+      omega (arith, is, few)
+]
 
--- where it is one, the greatest number is
-pub own_tag : (x : Waiting) → IsCounted x → is_tagged (kept_of x).body ≡ true
-    → x.own_after ≡ 2 ^ 64 - 1
-own_tag x h tag = h ∙ ap (λ (b : Bool). own_of b (kept_of x)) tag
-
--- one that comes where so many stand in front is no tag
+-- one that comes where so many stand in front is known to spell UTF-8
 pub own_here : (x : Waiting) (n : ℕ) → IsGiven x n → x.own_after ≡ n
-    → (is_tagged (kept_of x).body ≡ false) × (front_count (kept_of x) ≡ n)
-own_here x n (h, few, le) here = elim (cases_Bool (is_tagged (kept_of x).body)) [
-  | inl tag ↦ absurd (omega (arith, own_tag x h tag, here, few, le))
-  | inr bare ↦ (bare, sym (own_bare x h few bare) ∙ here)
+    → (spells_text (kept_of x).body ≡ true) × (front_count (kept_of x) ≡ n)
+own_here x n (h, few, le) here = elim (cases_Bool h.is_open) [
+  | inl all ↦
+      let most : x.own_after ≡ own_of true (kept_of x) = h.noted ∙ ap (λ (b : Bool). own_of b (kept_of x)) all in
+      absurd (omega (arith, most, here, few, le))
+  | inr known ↦
+      let is : x.own_after ≡ own_of false (kept_of x) = h.noted ∙ ap (λ (b : Bool). own_of b (kept_of x)) known in
+      (h.text known, omega (arith, is, here, few))
 ]
 
 -- the two stand behind the others

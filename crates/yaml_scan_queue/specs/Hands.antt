@@ -1,11 +1,11 @@
 -- What is handed out of the lexeme that waits first.
-use Rattle.std.specs.Prelude.{ℕ, ◌≡◌, ◌⊎◌, ◌+◌, false, Option, Some, None, drop}
+use Rattle.std.specs.Prelude.{ℕ, ◌≡◌, ◌⊎◌, ◌+◌, true, Option, Some, None, drop}
 use denote.Bor.{Bor}
 use Rattle.yaml_scan_model.specs.Tokens as token
 use Rattle.yaml_scan_model.specs.Tokens.{Token, type_of}
 use Rattle.yaml_scan_model.specs.declared.name.yaml_token_type_t.TheVariants.{YAML_SCALAR_TOKEN}
 use Rattle.yaml_scan_slot.specs.declared.slot.TokenSlot.{TokenSlot}
-use Rattle.yaml_scan_slot.specs.Slots.{body_in_slot, token_in_slot, is_tagged}
+use Rattle.yaml_scan_slot.specs.Slots.{body_in_slot, token_in_slot, spells_text}
 use Rattle.yaml_scan_queue.specs.Front.{front_at}
 use Rattle.yaml_scan_queue.specs.Line.{Line}
 use Rattle.yaml_scan_queue.specs.Waits.{KeptLexeme, kept_of}
@@ -59,9 +59,9 @@ pub record GivesKeyed (P : Token → Type 0) (w : Waiting) (old new : Handing) :
 abbrev pub Gives : (Token → Type 0) → (Token → Type 0) → Waiting → Handing → Handing → Type 0
 Gives P Q w old new = GivesFront P w old new ⊎ GivesOwn P w old new ⊎ GivesKeyed Q w old new
 
--- its own token, where that is next and a tag or a directive
+-- its own token, where that is next and isn't known to spell UTF-8
 abbrev pub TellsTag : ℕ → Waiting → Option (Bor TokenSlot) → Type 0
 TellsTag given w (Some t) = (front_at (kept_of w) given ≡ None)
     × (token_in_slot t.now ≡ token_in_slot w.token)
-TellsTag given w None = (is_tagged (body_in_slot w.token.body) ≡ false)
+TellsTag given w None = (spells_text (body_in_slot w.token.body) ≡ true)
     ⊎ (front_at (kept_of w) given ≡ None → ⊥)

@@ -1,3 +1,4 @@
+pub mod Ascii
 pub mod Bare
 pub mod Line
 pub mod Queue

@@ -4,7 +4,7 @@ use Rattle.yaml_scan_model.specs.declared.record.yaml_mark_t.{yaml_mark_t}
 use Rattle.yaml_scan_model.specs.Tokens.{TokenBody, body_of}
 use Rattle.yaml_scan_history.specs.declared.lexeme.Opens.{Opens}
 use Rattle.yaml_scan_history.specs.declared.lexeme.Opens.TheVariants as opening
-use Rattle.yaml_scan_slot.specs.Slots.{body_in_slot, is_tagged}
+use Rattle.yaml_scan_slot.specs.Slots.{body_in_slot, is_tagged, spells_text}
 use Rattle.yaml_scan_queue.specs.declared.waiting.Waiting.{Waiting}
 use Rattle.yaml_scan_queue.specs.declared.waiting.ReadLexeme.{ReadLexeme}
 
@@ -45,12 +45,16 @@ front_count k = k.ends + (start_count k.opens + key_count k.key)
 abbrev pub fronts_of : KeptLexeme → ℕ
 fronts_of k = front_count k % 2 ^ 64
 
--- behind how many of its tokens its own one comes; the greatest number where that is told to be a tag
+-- behind how many of its tokens its own one comes; the greatest number where that is told to be open
 abbrev pub own_of : Bool → KeptLexeme → ℕ
-own_of is_tag k = if is_tag then 2 ^ 64 - 1 else fronts_of k
+own_of is_open k = if is_open then 2 ^ 64 - 1 else fronts_of k
 
-abbrev pub IsCounted : Waiting → Type 0
-IsCounted w = w.own_after ≡ own_of (is_tagged (kept_of w).body) (kept_of w)
+-- It is noted so. What isn't known to spell UTF-8 is open, a tag or a directive that declares one.
+pub record IsCounted (w : Waiting) : Type 0 where
+  pub is_open : Bool
+  pub noted : w.own_after ≡ own_of is_open (kept_of w)
+  pub tagged : is_open ≡ true → is_tagged (kept_of w).body ≡ true
+  pub text : is_open ≡ false → spells_text (kept_of w).body ≡ true
 
 -- few tokens stand in front of its own one, so many of which are taken
 abbrev pub IsGiven : Waiting → ℕ → Type 0

@@ -1,6 +1,7 @@
 //! The list of the lexemes that were read and are not yet taken.
 #![tactic(auto)]
 
+mod ascii;
 mod queue;
 mod waiting;
 

@@ -10,7 +10,7 @@ ghost use Rattle.yaml_scan_queue.specs.Line.{Grows, GrowsTwice};
 ghost use Rattle.yaml_scan_queue.specs.declared.waiting.Waiting.{Waiting};
 ghost use Rattle.yaml_scan_queue.specs.Waits.{IsCounted, IsGiven, Pushes, PushesBoth, kept_of, kept_in_read, keyed};
 
-use crate::waiting::{ReadLexeme, Waiting, carries_tag};
+use crate::waiting::{ReadLexeme, Waiting, is_open};
 use std::alloc::{AllocError, Global};
 use std::marker::Model;
 use yaml_scan_history::Opens;
@@ -255,8 +255,8 @@ impl Queue {
         taker.take(is_key, &mut self.slots[at].token, slot, fault)
     }
 
-    /// The own token of the first lexeme, of whose tokens so many were given, where it is next and a tag or a directive.
-    // Inlined: mostly a look at the kind.
+    /// The own token of the first lexeme, of whose tokens so many were given, where it is next and isn't known to spell UTF-8.
+    // Inlined: mostly a comparison.
     #[inline(always)]
     pub fn next_tag(&self, given: usize) -> Option<&TokenSlot>
         requires some { 0 < length self.now.items }
@@ -351,6 +351,6 @@ fn put_read(slot: &mut Waiting, read: ReadLexeme, spares: &mut Spares)
     slot.ends = ends;
     slot.opens = opens;
     slot.key = key;
-    slot.note_own(carries_tag(&body));
+    slot.note_own(is_open(&body));
     slot.token.body.put(body, spares);
 }

@@ -3,11 +3,12 @@
 ghost use Rattle.std.specs.Prelude.{◌≡◌, ◌+◌, ◌-◌, ◌^◌, ◌<◌, ◌≤◌, ◌||◌, ◌==◌, ◌⊎◌, Bool, IfSome, None, Some, true, false, ℕ, List};
 ghost use Rattle.yaml_scan_model.specs.Tokens as token;
 ghost use Rattle.yaml_scan_model.specs.Tokens.{body_of};
-ghost use Rattle.yaml_scan_slot.specs.Slots.{Extra, body_by, is_tagged};
+ghost use Rattle.yaml_scan_slot.specs.Slots.{Extra, body_by, is_tagged, spells_text};
 ghost use Rattle.yaml_scan_queue.specs.Bare.{is_tag_kind, is_tag_directive_kind};
 ghost use Rattle.yaml_scan_queue.specs.Front.{front_at, front_count, key_count, start_at, start_count};
 ghost use Rattle.yaml_scan_queue.specs.Waits.{IsCounted, IsGiven, fronts_of, kept_of, keyed, own_of};
 
+use crate::ascii::is_plain_text;
 use std::alloc::Global;
 use yaml_scan_history::Opens;
 use yaml_scan_model::{yaml_mark_t, yaml_token_body_t, yaml_token_type_t};
@@ -24,8 +25,8 @@ pub struct Waiting {
     pub opens: Opens,
     /// Its `:` has come.
     pub key: bool,
-    /// Behind how many of its tokens its own one comes. The greatest number, where that is a tag or a directive that declares one: it is
-    /// looked at before it is taken.
+    /// Behind how many of its tokens its own one comes. The greatest number, where that is a tag or a directive that isn't known to spell
+    /// UTF-8: it is looked at before it is taken.
     pub own_after: usize,
 }
 
@@ -68,13 +69,13 @@ impl Waiting {
         self.note_own(is_tagged(self.token.body.kind));
     }
 
-    /// Notes behind how many of its tokens its own one comes, where it is told whether that is a tag or a directive that declares one.
+    /// Notes behind how many of its tokens its own one comes, where it is told whether that is open: not known to spell UTF-8.
     // Inlined: two sums, of which the first is of two bytes.
     #[inline(always)]
-    pub(crate) fn note_own(&mut self, is_tagged: bool)
-        ensures { self.new ≡ record self.old { own_after = own_of is_tagged (kept_of self.old) } }
+    pub(crate) fn note_own(&mut self, is_open: bool)
+        ensures { self.new ≡ record self.old { own_after = own_of is_open (kept_of self.old) } }
     {
-        self.own_after = if is_tagged {
+        self.own_after = if is_open {
             usize::MAX
         } else {
             self.count_fronts()
@@ -225,14 +226,16 @@ fn is_tag_directive_kind(kind: yaml_token_type_t) -> bool
     }
 }
 
-/// Whether a token that carries that is a tag, or a directive that declares one.
+/// Whether a token that carries that may not spell UTF-8: it is a tag, or a directive that declares one, and not few bytes of ASCII.
 // Inlined: its kind is known where it is called.
 #[inline(always)]
-pub(crate) fn carries_tag(body: &yaml_token_body_t) -> bool
-    ensures { result ≡ is_tagged (body_of body.now) }
+pub(crate) fn is_open(body: &yaml_token_body_t) -> bool
+    ensures open { result ≡ true → is_tagged (body_of body.now) ≡ true }
+    ensures text { result ≡ false → spells_text (body_of body.now) ≡ true }
 {
     match body {
-        yaml_token_body_t::Tag { .. } | yaml_token_body_t::TagDirective { .. } => true,
+        yaml_token_body_t::Tag { suffix: text, .. }
+        | yaml_token_body_t::TagDirective { prefix: text, .. } => !is_plain_text(text.as_slice()),
         _ => false,
     }
 }

@@ -1,5 +1,6 @@
 -- The token that stands in a slot.
 use Rattle.std.specs.Prelude.{ℕ, ℤ, Bool, true, false, List}
+use Rattle.std.specs.Str.{is_utf8}
 use Rattle.yaml_scan_model.specs.declared.name.yaml_encoding_t.{yaml_encoding_t}
 use Rattle.yaml_scan_model.specs.declared.name.yaml_scalar_style_t.{yaml_scalar_style_t}
 use Rattle.yaml_scan_model.specs.declared.name.yaml_token_type_t.{yaml_token_type_t}
@@ -64,3 +65,9 @@ abbrev pub is_tagged : TokenBody → Bool
 is_tagged (token.tag x y) = true
 is_tagged (token.tag_directive x y) = true
 is_tagged _ = false
+
+-- What escapes spell byte by byte is UTF-8: a tag's suffix, and a directive's prefix.
+abbrev pub spells_text : TokenBody → Bool
+spells_text (token.tag_directive handle prefix) = is_utf8 prefix
+spells_text (token.tag handle suffix) = is_utf8 suffix
+spells_text _ = true

@@ -46,7 +46,7 @@ pub trait TokenTaker {
             (fault_of fault.new) result };
 }
 
-/// What looks at tags and directives before they are taken.
+/// What looks at tags and directives before they are taken, where they aren't known to spell UTF-8.
 pub trait TokenCheck {
     // What a token that passes has.
     ghost passes: { Token → Type 0 };

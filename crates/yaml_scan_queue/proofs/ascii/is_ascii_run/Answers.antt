@@ -1,8 +1,8 @@
 use Rattle.std.proofs.Common.{◌≡◌, ◌+◌, ◌<◌, ℕ, List, Bool, true, ltb, ◌&&◌, nat_lt, slice_index, inl, inr, subst, arith}
 use Rattle.std.proofs.lemmas.Bool.{and_parts, cases_Bool, ltb-true}
 use Rattle.std.proofs.lemmas.Bool.Decides.{nat_tests}
-use Rattle.yaml_round_adapter.specs.Ascii.{AreAsciiFrom}
-use Rattle.yaml_round_adapter.proofs.refusal.is_ascii_run.Goals as goal
+use Rattle.yaml_scan_queue.specs.Ascii.{AreAsciiFrom}
+use Rattle.yaml_scan_queue.proofs.ascii.is_ascii_run.Goals as goal
 
 -- the byte behind a run
 more : (p n : ℕ) (bytes : List ℕ) (run : Bool) → (run ≡ true → AreAsciiFrom p n bytes)

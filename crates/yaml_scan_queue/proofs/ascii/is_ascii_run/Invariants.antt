@@ -1,6 +1,6 @@
 use Rattle.std.proofs.Common.{◌≡◌, ◌-◌, ◌≤◌, true}
-use Rattle.yaml_round_adapter.specs.Ascii.{AreAsciiFrom}
-use Rattle.yaml_round_adapter.proofs.refusal.is_ascii_run.Given as goal
+use Rattle.yaml_scan_queue.specs.Ascii.{AreAsciiFrom}
+use Rattle.yaml_scan_queue.proofs.ascii.is_ascii_run.Given as goal
 
 abbrev pub invariant-bytes : goal.invariant-bytes
 invariant-bytes l = (l.ascii ≡ true → AreAsciiFrom l.at l.count l.bytes) × (l.count ≤ l.size)

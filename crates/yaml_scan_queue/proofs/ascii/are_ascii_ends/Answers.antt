@@ -3,8 +3,8 @@ use Rattle.std.proofs.lemmas.Bool.{and_parts, cases_Bool, ltb-true}
 use Rattle.std.proofs.lemmas.Bool.Decides.{nat_tests}
 use Rattle.std.proofs.lemmas.Str.{IsUtf8-from_ascii, is_utf8-from_IsUtf8}
 use Rattle.std.proofs.lemmas.Str.Ascii.{IsAscii-from_reads}
-use Rattle.yaml_round_adapter.specs.Ascii.{AreAsciiFrom}
-use Rattle.yaml_round_adapter.proofs.refusal.are_ascii_ends.Goals as goal
+use Rattle.yaml_scan_queue.specs.Ascii.{AreAsciiFrom}
+use Rattle.yaml_scan_queue.proofs.ascii.are_ascii_ends.Goals as goal
 
 -- a front and an end that are all of the bytes
 all_ascii : (n : ℕ) (bytes : List ℕ) → length bytes ≤ n + n → n ≤ length bytes

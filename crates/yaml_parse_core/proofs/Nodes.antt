@@ -96,6 +96,14 @@ pub named_node : (w : Wants) (k : yaml_token_type_t) (u : TokenSlot) (p : Proper
 named_node w k u p s new j a b h =
     (ap (λ z. if joins p (type_of (whole_of k u).body) || z then Take else Leave) h.0 ∙ ap (λ z. if z then Take else Leave) (or-true (joins p (type_of (whole_of k u).body))), (h.1 p p).0 ∙ ap (λ (t : Taken). t.item) (same_behind w k u p a b), λ q. (h.1 p q).1 ∙ ap (λ (t : Taken). t.above ++ s) (same_behind w k u p a b))
 
+pub bare_behind : (w : Wants) (k l : yaml_token_type_t) (u : TokenSlot) (p : Properties)
+    (s : List State) (new : Properties → List State) (j : Shape) → IsBare l → k ≡ l
+    → Contents w (whole_of k u) s (turn.node j) new
+    → Takes (state.with_properties w p) (whole_of k u) s
+    (named_item j p (whole_of k u)) new
+bare_behind w k l u p s new j b e h =
+    named_node w k u p s new j (λ i. subst IsBare (sym e ∙ i) b) (λ i. subst IsBare (sym e ∙ i) b) h
+
 -- ---- a node that may be left out
 
 abbrev chosen_at : Bool → Bool → Wants → Choice

@@ -4,7 +4,7 @@ ghost use Rattle.std.specs.Prelude.{◌≡◌, true, ◌++◌, ◌∷◌, [], On
 ghost use Rattle.yaml_parse_model.specs.declared.yaml_mark_t.{yaml_mark_t};
 ghost use Rattle.yaml_parse_core.specs.Views.{around_of, await_of, properties_of, level_over, open_of, site_of, states_by, whole_of};
 ghost use Rattle.yaml_parse_core.specs.Seen.{seen};
-ghost use Rattle.yaml_parse_core.specs.Turns.{keeps, Contents, Nodes, TurnsTo, IfRefused};
+ghost use Rattle.yaml_parse_core.specs.Turns.{keeps, Contents, Nodes, Turns, TurnsTo, IfRefused};
 ghost use Rattle.yaml_parse_core.specs.declared.level.Await.TheVariants as await;
 ghost use Rattle.yaml_parse_core.specs.declared.machine.Turn.TheVariants as turn;
 ghost use Rattle.yaml_parse_grammar.specs.States as state;
@@ -273,16 +273,20 @@ fn join_tag(waiting: &mut Waiting, token: &mut TokenSlot)
     mem::swap(&mut token.body.other, &mut waiting.suffix);
 }
 
-// A node, or none starts there.
+// A node that is an alias or begins with properties, or none, or a block collection.
+// Inlined: few calls, where the kind is mostly known.
 #[tactic(auto, using(crate::proofs::Nodes::bare_node, crate::proofs::Nodes::is_bare))]
 #[inline(always)]
-pub(crate) fn node(
+pub(crate) fn named_node(
     machine: &mut Machine,
     waiting: &mut Waiting,
     token: &mut TokenSlot,
     kind: yaml_token_type_t,
     wants: Wants,
 ) -> Turn
+    requires scalar { kind ≡ kinds.YAML_SCALAR_TOKEN → ⊥ }
+    requires sequence { kind ≡ kinds.YAML_FLOW_SEQUENCE_START_TOKEN → ⊥ }
+    requires mapping { kind ≡ kinds.YAML_FLOW_MAPPING_START_TOKEN → ⊥ }
     ensures turns { Nodes wants (whole_of kind token.old) (open_of machine.old)
         (seen result) (around_of machine.new waiting.new) (states_by machine.new) }
     ensures kept { keeps (seen result) ≡ true → token.new ≡ token.old }
@@ -302,10 +306,29 @@ pub(crate) fn node(
             wait_by_tag(waiting, token);
             Turn::Silent
         }
+        _ => block_content(machine, token, kind, wants),
+    }
+}
+
+// A node, or none starts there.
+#[tactic(auto, using(crate::proofs::Nodes::bare_node))]
+#[inline(always)]
+pub(crate) fn node(
+    machine: &mut Machine,
+    waiting: &mut Waiting,
+    token: &mut TokenSlot,
+    kind: yaml_token_type_t,
+    wants: Wants,
+) -> Turn
+    ensures turns { Nodes wants (whole_of kind token.old) (open_of machine.old)
+        (seen result) (around_of machine.new waiting.new) (states_by machine.new) }
+    ensures kept { keeps (seen result) ≡ true → token.new ≡ token.old }
+{
+    match kind {
         yaml_token_type_t::YAML_SCALAR_TOKEN => scalar(machine, token),
         yaml_token_type_t::YAML_FLOW_SEQUENCE_START_TOKEN => flow_sequence(machine, token),
         yaml_token_type_t::YAML_FLOW_MAPPING_START_TOKEN => flow_mapping(machine, token),
-        _ => block_content(machine, token, kind, wants),
+        _ => named_node(machine, waiting, token, kind, wants),
     }
 }
 
@@ -320,7 +343,7 @@ fn alone(machine: &mut Machine) -> Turn
 }
 
 // An anchor behind properties.
-// Inlined into its two callers, which are out of line.
+// Inlined: some moves.
 #[inline(always)]
 pub(crate) fn rest_anchor(
     machine: &mut Machine,
@@ -339,6 +362,36 @@ pub(crate) fn rest_anchor(
     } else {
         join_anchor(waiting, token);
         Turn::Silent
+    }
+}
+
+// A sequence in brackets behind properties.
+// Inlined into its one caller, which is out of line.
+#[inline(always)]
+pub(crate) fn rest_sequence(machine: &mut Machine, token: &TokenSlot) -> Turn
+    ensures { (v : Waiting) (w : Wants) (k : yaml_token_type_t)
+        → k ≡ kinds.YAML_FLOW_SEQUENCE_START_TOKEN
+        → Turns (state.with_properties w (properties_of v)) (whole_of k token.now)
+        (open_of machine.old) (seen result) (around_of machine.new v) (states_by machine.new) }
+{
+    match flow_sequence(machine, token) {
+        Turn::FlowSequence => Turn::NamedFlowSequence,
+        _ => Turn::Memory,
+    }
+}
+
+// A mapping in brackets behind properties.
+// Inlined into its one caller, which is out of line.
+#[inline(always)]
+pub(crate) fn rest_mapping(machine: &mut Machine, token: &TokenSlot) -> Turn
+    ensures { (v : Waiting) (w : Wants) (k : yaml_token_type_t)
+        → k ≡ kinds.YAML_FLOW_MAPPING_START_TOKEN
+        → Turns (state.with_properties w (properties_of v)) (whole_of k token.now)
+        (open_of machine.old) (seen result) (around_of machine.new v) (states_by machine.new) }
+{
+    match flow_mapping(machine, token) {
+        Turn::FlowMapping => Turn::NamedFlowMapping,
+        _ => Turn::Memory,
     }
 }
 

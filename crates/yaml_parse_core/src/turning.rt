@@ -13,7 +13,10 @@ ghost use Rattle.yaml_parse_core.specs.Turns.{keeps, TurnsTo};
 use crate::document::{at_documents, at_first};
 use crate::level::{Await, Level};
 use crate::machine::{Machine, Turn, await_behind};
-use crate::node::{at_rest, block_start, flow_mapping, flow_sequence, node, rest_anchor, scalar};
+use crate::node::{
+    at_rest, block_start, flow_mapping, flow_sequence, named_node, rest_anchor, rest_mapping,
+    rest_sequence, scalar,
+};
 use crate::part::{at_colon, at_entries, at_mapping_more, at_others, at_pairs, at_sequence_more};
 use crate::place::{at_mapping_items, at_optional, at_sequence_items, site_at, wants_of};
 use crate::told::Waiting;
@@ -120,7 +123,7 @@ fn at_kind(
     }
 }
 
-// What follows properties: mostly, where it is no scalar, another one.
+// What follows properties but an anchor: mostly, where it is no scalar, brackets.
 // Out of line: few nodes have properties.
 #[tactic(auto, using(crate::proofs::Nodes::known_behind))]
 #[inline(never)]
@@ -137,7 +140,8 @@ fn behind_properties(
     ensures kept { keeps (seen result) ≡ true → token.new ≡ token.old }
 {
     match kind {
-        yaml_token_type_t::YAML_ANCHOR_TOKEN => rest_anchor(machine, waiting, token),
+        yaml_token_type_t::YAML_FLOW_SEQUENCE_START_TOKEN => rest_sequence(machine, token),
+        yaml_token_type_t::YAML_FLOW_MAPPING_START_TOKEN => rest_mapping(machine, token),
         _ => at_kind(machine, waiting, token, kind),
     }
 }
@@ -153,7 +157,8 @@ fn is_begun(awaited: Await) -> bool
     )
 }
 
-// The node that is awaited. In line is what may begin one at each place, and a scalar behind properties, which are met most.
+// The node that is awaited. In line is what may begin one at each place, and a scalar or an anchor behind properties, which are met
+// most.
 // The scalar is asked for in front of the place: so LLVM joins no two choices of the kind, and it is one comparison.
 #[tactic(auto, using(crate::proofs::Nodes::bare_node, crate::proofs::Nodes::node_anywhere, crate::proofs::Nodes::known_behind))]
 #[inline(always)]
@@ -178,7 +183,10 @@ fn at_awaited(
         }
         _ => {
             if is_begun(machine.awaited) {
-                return behind_properties(machine, waiting, token, kind);
+                return match kind {
+                    yaml_token_type_t::YAML_ANCHOR_TOKEN => rest_anchor(machine, waiting, token),
+                    _ => behind_properties(machine, waiting, token, kind),
+                };
             }
             match kind {
                 yaml_token_type_t::YAML_FLOW_SEQUENCE_START_TOKEN => flow_sequence(machine, token),
@@ -187,7 +195,7 @@ fn at_awaited(
                 | yaml_token_type_t::YAML_ANCHOR_TOKEN
                 | yaml_token_type_t::YAML_TAG_TOKEN => {
                     let wants = wants_of(site_at(machine.awaited));
-                    node(machine, waiting, token, kind, wants)
+                    named_node(machine, waiting, token, kind, wants)
                 }
                 yaml_token_type_t::YAML_BLOCK_SEQUENCE_START_TOKEN
                 | yaml_token_type_t::YAML_BLOCK_MAPPING_START_TOKEN => {

@@ -52,8 +52,8 @@ pub(crate) fn leaves_name(name: &mut Option<Vec<u8>>, room: &mut Vec<u8>) -> boo
     }
 }
 
-/// Moves the text of a scalar without properties out of a slot of events, into a place for the room of one, if that is empty. Answers
-/// whether the slot owns nothing then.
+/// Moves an alias's name, or the text of a scalar without properties, out of a slot of events, into a place for the room of one, if
+/// that is empty. Answers whether the slot owns nothing then.
 // Inlined: a comparison of the kind, and some moves. What it doesn't clear is left to a call, so that no register is put aside.
 #[inline(always)]
 pub(crate) fn clears(earlier: &mut yaml_event_body_t, room: &mut Vec<u8>) -> bool
@@ -66,6 +66,7 @@ pub(crate) fn clears(earlier: &mut yaml_event_body_t, room: &mut Vec<u8>) -> boo
             ref mut value,
             ..
         } => leaves(value, room),
+        yaml_event_body_t::Alias { ref mut anchor } => leaves(anchor, room),
         yaml_event_body_t::SequenceStart {
             anchor: None,
             tag: None,
@@ -77,7 +78,6 @@ pub(crate) fn clears(earlier: &mut yaml_event_body_t, room: &mut Vec<u8>) -> boo
             ..
         } => true,
         yaml_event_body_t::DocumentStart { .. }
-        | yaml_event_body_t::Alias { .. }
         | yaml_event_body_t::Scalar { .. }
         | yaml_event_body_t::SequenceStart { .. }
         | yaml_event_body_t::MappingStart { .. } => false,
@@ -114,10 +114,14 @@ pub(crate) fn clears_any(earlier: &mut yaml_event_body_t, rooms: &mut Rooms) -> 
     }
 }
 
-// The same of an anchor and a tag.
+/// The same of an anchor and a tag.
 // Inlined: see `leaves`.
 #[inline(always)]
-fn leaves_names(anchor: &mut Option<Vec<u8>>, tag: &mut Option<Vec<u8>>, rooms: &mut Rooms) -> bool
+pub(crate) fn leaves_names(
+    anchor: &mut Option<Vec<u8>>,
+    tag: &mut Option<Vec<u8>>,
+    rooms: &mut Rooms,
+) -> bool
     ensures { result ≡ true → (anchor.new ≡ None) × (tag.new ≡ None) }
 {
     leaves_name(anchor, &mut rooms.anchor) && leaves_name(tag, &mut rooms.tag)

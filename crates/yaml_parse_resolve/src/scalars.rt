@@ -10,7 +10,9 @@ ghost use Rattle.yaml_parse_core.specs.Views.{text_if};
 ghost use Rattle.yaml_parse_resolve.specs.Bare.{OwnsNothing, Takes, value_of};
 ghost use Rattle.yaml_parse_resolve.specs.Settles.{named_event};
 
-use crate::room::{clear, clears_any, exchange, exchange_texts, leaves_name, put_bare};
+use crate::room::{
+    clear, clears_any, exchange, exchange_texts, leaves_name, leaves_names, put_bare,
+};
 use std::mem;
 use yaml_parse_core::{Rooms, Waiting};
 use yaml_parse_model::{moved, yaml_event_body_t, yaml_scalar_style_t};
@@ -191,11 +193,38 @@ fn other_bare(
     ensures value { value_of event.new ≡ value.old.items }
     ensures body { body_of event.new ≡ node_event None None (item.scalar value.old.items style) }
 {
-    if clears_any(event, &mut waiting.rooms) {
-        let room = lifted(&mut waiting.rooms.text);
-        start_bare(mem::replace(value, room), style, event);
-    } else {
-        bare_over(value, style, event);
+    match *event {
+        yaml_event_body_t::Scalar {
+            ref mut anchor,
+            ref mut tag,
+            value: ref mut last,
+            plain_implicit: ref mut plain,
+            quoted_implicit: ref mut quoted,
+            style: ref mut last_style,
+        } => {
+            if leaves_names(anchor, tag, &mut waiting.rooms) {
+                exchange_texts(last, value);
+                *plain = is_plain(style);
+                *quoted = !is_plain(style);
+                *last_style = style;
+            } else {
+                bare_over(value, style, event);
+            }
+        }
+        yaml_event_body_t::Alias {
+            anchor: ref mut last,
+        } => {
+            let own = mem::replace(value, lifted(last));
+            start_bare(own, style, event);
+        }
+        _ => {
+            if clears_any(event, &mut waiting.rooms) {
+                let room = lifted(&mut waiting.rooms.text);
+                start_bare(mem::replace(value, room), style, event);
+            } else {
+                bare_over(value, style, event);
+            }
+        }
     }
 }
 

@@ -63,10 +63,23 @@ pub(crate) fn end_over(is_sequence: bool, waiting: &mut Waiting, slot: &mut yaml
 pub(crate) fn put_alias(slot: &mut yaml_event_body_t, name: &mut Vec<u8>, waiting: &mut Waiting)
     ensures { body_of slot.new ≡ told.alias name.old.items }
 {
-    if clears_any(slot, &mut waiting.rooms) {
-        start_alias(slot, mem::replace(name, lifted(&mut waiting.rooms.text)));
-    } else {
-        alias_over(slot, name);
+    match *slot {
+        yaml_event_body_t::Scalar {
+            anchor: None,
+            tag: None,
+            value: ref mut last,
+            ..
+        } => {
+            let own = mem::replace(name, lifted(last));
+            start_alias(slot, own);
+        }
+        _ => {
+            if clears_any(slot, &mut waiting.rooms) {
+                start_alias(slot, mem::replace(name, lifted(&mut waiting.rooms.text)));
+            } else {
+                alias_over(slot, name);
+            }
+        }
     }
 }
 

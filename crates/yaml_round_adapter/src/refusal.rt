@@ -18,8 +18,9 @@ pub(crate) fn slot_spells_text(token: &TokenSlot) -> bool
     ensures { result ≡ spells_text (token_in_slot token.now).body }
 {
     match token.body.kind {
-        yaml_token_type_t::YAML_TAG_DIRECTIVE_TOKEN => is_text(&token.body.other),
-        yaml_token_type_t::YAML_TAG_TOKEN => is_text(&token.body.other),
+        yaml_token_type_t::YAML_TAG_DIRECTIVE_TOKEN | yaml_token_type_t::YAML_TAG_TOKEN => {
+            is_text(&token.body.other)
+        }
         _ => true,
     }
 }

@@ -240,7 +240,7 @@ pub fn yaml_emitter_emit_early(emitter: &mut yaml_emitter_t, event: &mut yaml_ev
     give_early(emitter, &mut event.body);
 }
 
-/// Lays out an event of a node at once, in canonical form, where none is held and it begins a line, and is no scalar with
+/// Lays out an event of a node at once, in canonical form, where none is held and it begins a line, and is no empty scalar with
 /// properties; else nothing.
 // Inlined: some tests in front of a call for each kind.
 #[inline(always)]

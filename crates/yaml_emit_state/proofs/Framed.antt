@@ -1,16 +1,16 @@
 -- What stands in its line in double quotes in canonical form: scalars without properties, and texts with the default tag and without
 -- an anchor; and what opens collections.
-use Rattle.std.proofs.Common.{◌≡◌, ℕ, Bool, true, false, refl, sym, ◌∙◌, ap, append-nil, List, [], Option, Some, None, ◌+◌, subst, ◌∷◌, ◌++◌}
-use Rattle.std.proofs.Math.Bool.{and-false, and-true}
+use Rattle.std.proofs.Common.{◌≡◌, ℕ, Bool, true, false, refl, sym, ◌∙◌, ap, arith, append-nil, length-append, List, [], Option, Some, None, ◌+◌, subst, ◌∷◌, ◌++◌}
+use Rattle.std.proofs.Math.Bool.{and-false, and-true, or-true}
 use Rattle.std.specs.Prelude.{◌&&◌, ◌==◌, length, codes, nat_le, not, ◌||◌, if◌then◌else◌}
 use Rattle.std.specs.Str.{chars, IsAscii}
 use Rattle.yaml_emit_tags.specs.parse_model.Events.{TagDirective}
 use Rattle.yaml_emit_tags.specs.parse_model.Nodes.{str_tag}
 use Rattle.yaml_emit_tags.specs.Tags.{tag_spelling, spelled, directive_for, defines, suffix_keeps, uri_text}
+use Rattle.yaml_emit_text.specs.declared.Page.{Page}
 use Rattle.yaml_emit_text.specs.declared.Settings.{Settings}
 use Rattle.yaml_emit_text.specs.declared.Status.TheVariants.{Going}
 use Rattle.yaml_emit_text.specs.Sink.{Output, Puts}
-use Rattle.yaml_emit_text.specs.declared.Style.TheVariants as style
 use Rattle.yaml_emit_text.proofs.Sinks.{puts_both, puts_nothing, puts_unless}
 use Rattle.yaml_emit_text.specs.Layout.{◌▹◌, word, Layout, stay, when, char, gap, letters, line, opener, after_block}
 use Rattle.yaml_emit_text.specs.Quoted.{double_quoted}
@@ -22,7 +22,7 @@ use Rattle.yaml_emit_layout.specs.declared.Level.{Level}
 use Rattle.yaml_emit_layout.specs.declared.NodePosition.{NodePosition}
 use Rattle.yaml_emit_layout.specs.Content.{Scalar, alias, scalar, Start, sequence_start, mapping_start}
 use Rattle.yaml_emit_layout.specs.Grammar.{anchor_problem, ends_phase, event_problem, has, last_problem, place_problem, problem_by}
-use Rattle.yaml_emit_layout.specs.State.{is_fresh, is_simple_event, among, before_at, closer_at, outer_of, before_node, levels_behind, part_at, position_of, top_of, start_text, text_at, next_at, depth_at}
+use Rattle.yaml_emit_layout.specs.State.{is_fresh, is_simple_event, among, before_at, closer_at, outer_of, before_node, levels_behind, phase_behind, part_at, position_of, top_of, start_text, text_at, next_at, depth_at}
 use Rattle.yaml_emit_layout.specs.Nodes.{Context, MOST, alias_layout, anchor_text, is_simple_part, closer, context_of, deep_if, is_simple_scalar, checked, deeper, page_at, scalar_layout, style_of, turned, before_item, before_key, before_value, is_simple_start, is_flow}
 use Rattle.yaml_emit_state.specs.declared.state.Core.{Core}
 use Rattle.yaml_emit_state.specs.Due.{is_key}
@@ -36,16 +36,28 @@ use Rattle.yaml_emit_text.specs.LineStarts.{mark_word, sign_of, line_start_text}
 use Rattle.yaml_emit_text.proofs.LineStarts.{Worded, puts_signed, quoted_worded, tagged_worded, word_worded, lined_ascii, tagged_ascii}
 use Rattle.yaml_emit_layout.specs.declared.Phase.{Phase}
 use Rattle.yaml_emit_layout.specs.declared.Phase.TheVariants.{Items, Keys, Value}
-use Rattle.yaml_emit_state.specs.Bare.{has_none}
+use Rattle.yaml_emit_state.specs.Bare.{has_none, turned as turned_to}
 use Rattle.yaml_emit_state.specs.Framed.{has_comma, mark_of, is_behind_simple, line_start, end_start, BeginsLine, Leads, Placed, is_free, is_name, is_said, is_bare, IsFramed, front_text, tag_or_mark, framed_text}
 use Rattle.yaml_emit_state.specs.Stack.{stack_of}
-use Rattle.yaml_emit_state.proofs.Unmarked.{Parts, parts_right, none_given, unchecked_behind}
+use Rattle.yaml_emit_state.proofs.Unmarked.{Parts, behind_by, parts_right, none_given, unchecked_behind}
 use Rattle.yaml_emit_state.proofs.Noting.{lays_right}
 
 -- the default tag, without directives
 pub str_spelled : tag_spelling [] str_tag ≡ codes "!!str"
 unfolding directive_for defines suffix_keeps uri_text spelled
 str_spelled = refl
+
+-- behind the default tag
+pub puts_default : (t : List ℕ) (ds : List TagDirective) (quoted : Bool) (x : Layout) (a b : Output)
+    → ds ≡ [] → t ≡ str_tag → Puts a b (word (codes "!!str") ▹ x)
+    → Puts a b (tag_or_mark (Some t) ds quoted ▹ x)
+puts_default t ds quoted x a b none is p = rw (none, is, str_spelled) p
+
+-- a text of the same length that stands in front is all of it
+pub whole_front : (text left rest : List ℕ) → left ≡ text ++ rest → length left ≡ length text
+    → left ≡ text
+whole_front text left [] e l = e ∙ append-nil text
+whole_front text left (r ∷ rs) e l = absurd (omega (arith, l, ap length e, length-append text (r ∷ rs)))
 
 -- it is no simple key
 pub text_no_key : (p : Context) (top : Option Level) (v : Scalar) → p.settings.canonical ≡ true
@@ -200,6 +212,12 @@ bare_opening : (sequence : Bool) (q : Start) → is_bare (opening sequence q) �
 bare_opening true q = refl
 bare_opening false q = refl
 
+pub bare_free : (filled free : Bool) → free ≡ true → (filled || free) ≡ true
+bare_free filled free h = rw h (or-true filled)
+
+pub bare_filled : (x : Scalar) → (length x.value == 0) ≡ false → is_bare (scalar x) ≡ true
+bare_filled x h = rw h refl
+
 bare_ending : (sequence : Bool) → is_bare (ending sequence) ≡ true
 bare_ending true = refl
 bare_ending false = refl
@@ -269,15 +287,16 @@ unfolding problem_by event_problem place_problem last_problem
 alias_right canonical place None name h n = rw (h, name_right AliasEmpty AliasCharacters name n) refl
 alias_right canonical place (Some l) name h n = rw (h, name_right AliasEmpty AliasCharacters name n) refl
 
--- what lies round the output is as it was before the name
-led_state : (first : ℕ) (name end : List ℕ) (old mid new : Core) → Leads first name end old mid
-    → state_of new ≡ among mid.directives (levels_behind (stack_of mid.levels) false)
+-- behind a node that begins with a name its collection goes on
+pub led_on : (first : ℕ) (name end : List ℕ) (old mid new : Core) (l : Level) (q : Phase)
+    → Leads first name end old mid → old.place ≡ at.Node → Some l ≡ top_of (stack_of old.levels)
+    → q ≡ phase_behind l.phase false → new.place ≡ mid.place → new.directives ≡ mid.directives
+    → stack_of new.levels ≡ turned_to q (stack_of mid.levels)
     → state_of new ≡ among old.directives (levels_behind (stack_of old.levels) false)
-led_state first name end old mid new l moved = rw (ap (λ (z : Core). z.directives) l.kept, ap (λ (z : Core). stack_of z.levels) l.kept) at moved
-
-pub led_settings : (first : ℕ) (name end : List ℕ) (old mid : Core) → Leads first name end old mid
-    → settings_of mid ≡ settings_of old
-led_settings first name end old mid l = rw (l.written.encoding, ap (λ (z : Core). z.settings) l.kept) refl
+led_on first name end old mid new l q led due upper next place same behind =
+    behind_by new.place (stack_of new.levels) (stack_of old.levels) new.directives old.directives l q false
+    (place ∙ ap (λ (z : Core). z.place) led.kept ∙ due) (same ∙ ap (λ (z : Core). z.directives) led.kept) upper next
+    (behind ∙ ap (λ (z : Core). turned_to q (stack_of z.levels)) led.kept)
 
 pub led_stays : (first : ℕ) (name end : List ℕ) (old mid new : Core) (o : Output)
     → Leads first name end old mid
@@ -286,18 +305,17 @@ led_stays first name end old mid new o l kept = (kept.0 ∙ ap (λ (z : Core). z
 
 pub lays_led_alias : (old mid new : Core) (name : List ℕ) → Leads 42 name [] old mid
     → old.settings.canonical ≡ true → old.place ≡ at.Node
-    → state_of new ≡ among mid.directives (levels_behind (stack_of mid.levels) false)
+    → state_of new ≡ among old.directives (levels_behind (stack_of old.levels) false)
     → StaysBut mid new → Placed old (alias name) new
 unfolding is_simple_event
 lays_led_alias old mid new name l form due moved kept =
     let s : Settings = settings_of old in
     let top : Option Level = top_of (stack_of old.levels) in
-    let now = led_state 42 name [] old mid new l moved in
     record {
       laid = λ empty.
           lays_in_place old new (alias name) empty (alias_right s.canonical old.place top name due l.right)
           (lays_alias old new mid.sink s top name false empty refl refl (no_keys (context_of s old.directives) (alias name) empty form)
-          (alias_written top (before_node s top false) name old.sink mid.sink (rw (append-nil name) at l.written)) now (led_stays 42 name [] old mid new mid.sink l kept));
+          (alias_written top (before_node s top false) name old.sink mid.sink (rw (append-nil name) at l.written)) moved (led_stays 42 name [] old mid new mid.sink l kept));
       going = l.going.0;
       form = form;
       due = due;
@@ -321,29 +339,35 @@ said_right canonical place (Some l) x name (Some u) e h a n t s = rw (e, h, a, n
 named_layout : (s : Settings) (ds : List TagDirective) (pos : NodePosition) (x : Scalar)
     (name : List ℕ) (tag : Option (List ℕ)) → s.canonical ≡ true → x.anchor ≡ Some name → x.tag ≡ tag
     → scalar_layout (context_of s ds) pos x ≡ (word (38 ∷ name) ▹ (tag_or_mark tag ds x.quoted
-    ▹ (checked (deeper s pos.around) ▹ scalar_text (page_at s pos) s.indent pos.flow style.Double (chars x.value))))
-unfolding scalar_layout style_of
+    ▹ (checked (deeper s pos.around) ▹ double_quoted (page_at s pos) (chars x.value))))
+unfolding scalar_layout style_of scalar_text
 named_layout s ds pos x name None e a t = rw (e, a, t, and-true (not x.quoted)) refl
 named_layout s ds pos x name (Some u) e a t = rw (e, a, t) refl
 
 -- a scalar with a name
-pub lays_named : (old mid new : Core) (o : Output) (x : Scalar) (name : List ℕ) (empty : Bool)
+pub lays_named : (old mid new : Core) (o : Output) (x : Scalar) (name : List ℕ)
     → Leads 38 name [] old mid → old.settings.canonical ≡ true → old.place ≡ at.Node
-    → x.anchor ≡ Some name → is_said x.tag x.plain x.quoted ≡ true
-    → (let pos = position_of (top_of (stack_of old.levels)) false in
-    Puts mid.sink o (tag_or_mark x.tag mid.directives x.quoted ▹ (checked (deeper (settings_of old) pos.around)
-    ▹ scalar_text (page_at (settings_of old) pos) (settings_of old).indent pos.flow style.Double (chars x.value))))
-    → state_of new ≡ among mid.directives (levels_behind (stack_of mid.levels) false)
-    → StaysBut (record mid { sink = o }) new → LaysOut old new (scalar x) empty
-lays_named old mid new o x name empty l form due a said put moved kept =
+    → x.anchor ≡ Some name → is_said x.tag x.plain x.quoted ≡ true → is_bare (scalar x) ≡ true
+    → ((page : Page) → Puts mid.sink o (tag_or_mark x.tag mid.directives x.quoted ▹ double_quoted page (chars x.value)))
+    → state_of new ≡ among old.directives (levels_behind (stack_of old.levels) false)
+    → StaysBut (record mid { sink = o }) new → Placed old (scalar x) new
+lays_named old mid new o x name l form due a said bare put moved kept =
     let s : Settings = settings_of old in
     let top : Option Level = top_of (stack_of old.levels) in
     let pos : NodePosition = position_of top false in
-    let behind = rw (ap (λ (z : Core). z.directives) l.kept) at put in
+    let behind = rw (ap (λ (z : Core). z.directives) l.kept) at (put (page_at s pos)) in
+    let checks = unchecked_behind (deeper s pos.around) mid.sink o (tag_or_mark x.tag old.directives x.quoted) (double_quoted (page_at s pos) (chars x.value)) l.shallow behind in
     let front : Puts old.sink mid.sink (before_node s top false ▹ word (38 ∷ name)) = rw (append-nil name) at l.written in
-    lays_in_place old new (scalar x) empty (said_right s.canonical old.place top x name x.tag form due a l.right refl said)
-    (lays_scalar old new o s top x false empty refl refl (text_no_key (context_of s old.directives) top x form)
-    (rw (named_layout s old.directives pos x name x.tag form a refl) (puts_both old.sink mid.sink o _ _ front behind)) (led_state 38 name [] old mid new l moved) (led_stays 38 name [] old mid new o l kept))
+    record {
+      laid = λ empty.
+          lays_in_place old new (scalar x) empty (said_right s.canonical old.place top x name x.tag form due a l.right refl said)
+          (lays_scalar old new o s top x false empty refl refl (text_no_key (context_of s old.directives) top x form)
+          (rw (named_layout s old.directives pos x name x.tag form a refl) (puts_both old.sink mid.sink o _ _ front checks)) moved (led_stays 38 name [] old mid new o l kept));
+      going = l.going.0;
+      form = form;
+      due = due;
+      bare = bare;
+    }
 
 pub none_there : (a : Option (List ℕ)) → has a ≡ false → a ≡ None
 none_there None h = refl

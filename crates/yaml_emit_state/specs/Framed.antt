@@ -79,10 +79,10 @@ pub record BeginsLine (s : Settings) (l : Level) : Type 0 where
 abbrev pub is_free : said.Scalar → Bool
 is_free x = has_none x.anchor x.tag && (x.plain || x.quoted)
 
--- an event of a node, no scalar that has properties
+-- an event of a node, no empty scalar that has properties
 abbrev pub is_bare : said.Event → Bool
 is_bare (said.alias name) = true
-is_bare (said.scalar x) = is_free x
+is_bare (said.scalar x) = not (length x.value == 0) || is_free x
 is_bare (said.sequence_start p) = true
 is_bare (said.mapping_start p) = true
 is_bare said.sequence_end = true

@@ -6,6 +6,11 @@ ghost use Rattle.yaml_parse_model.specs.Events.{text_of};
 ghost use Rattle.yaml_emit_text.specs.Sink.{Puts};
 ghost use Rattle.yaml_emit_text.specs.Tame.{IsTame};
 ghost use Rattle.yaml_emit_text.specs.Layout.{◌▹◌, when, char, word, opener};
+ghost use Rattle.std.specs.List.{list_all};
+ghost use Rattle.yaml_emit_tags.specs.parse_model.Nodes.{str_tag};
+ghost use Rattle.yaml_emit_text.specs.declared.Page.{Page};
+ghost use Rattle.yaml_emit_text.specs.Quoted.{double_quoted};
+ghost use Rattle.yaml_emit_text.specs.Runs.{is_solid};
 ghost use Rattle.yaml_emit_text.specs.Scalars.{scalar_text};
 ghost use Rattle.yaml_emit_layout.specs.Grammar.{kept_if, kept_tag, has, scalar_tag};
 ghost use Rattle.yaml_emit_layout.specs.Nodes.{alias_layout, anchor_text, tag_text, mark_text, scalar_layout, style_of, is_plain, checked, deeper, page_at, is_flow};
@@ -20,7 +25,12 @@ use crate::indent::{deeper, is_flow, is_simple_part, position_of};
 use crate::named::{put_item_name, put_name, put_value_name};
 use yaml_emit_layout::{Level, NodePosition};
 use yaml_emit_tags::{DirectiveTable, put_tag};
-use yaml_emit_text::{Page, Settings, Sink, Style, allowed_by, put_bare, put_styled, taken, text};
+use yaml_emit_text::{
+    Page, Settings, Sink, Style, allowed_by, put_bare, put_marked, put_solid, put_styled,
+    put_tagged, taken, text,
+};
+use yaml_parse_model::YAML_STR_TAG;
+use yaml_scan_model::stands_in_front;
 
 // A name in the innermost collection, with what comes before it.
 // Out of line: the rare way, beside the short ones.
@@ -119,21 +129,39 @@ fn put_tag_if(sink: &mut Sink, context: &Context, kept: bool, tag: &Option<Vec<u
     }
 }
 
-/// The tag of a scalar that is written in canonical form, or what one without it has that may not be quoted.
+// Whether a tag is the default one, and no directive says how it is written.
+// Inlined: its length is known.
+#[inline(always)]
+#[tactic(auto, using(crate::proofs::Framed::whole_front))]
+fn is_str_tag(directives: &DirectiveTable, tag: &[u8]) -> bool
+    ensures { result ≡ true → (directives.now ≡ []) × (tag.now ≡ str_tag) }
+{
+    are_none(directives) && tag.len() == YAML_STR_TAG.len() && stands_in_front(tag, YAML_STR_TAG)
+}
+
+/// A scalar in canonical form whose bytes all stand as they are: its tag, or what one without it has that may not be quoted, and
+/// its value.
 // Inlined: one look at the tag.
 #[inline(always)]
-pub fn put_tag_or_mark(
+pub fn put_solid_node(
     sink: &mut Sink,
     directives: &DirectiveTable,
     tag: &Option<Vec<u8>>,
     quoted: bool,
+    value: &[u8],
 )
-    ensures { Puts sink.old sink.new (tag_or_mark (text_of tag.now) directives.now quoted) }
+    requires { list_all is_solid value.now ≡ true }
+    ensures { (page : Page) → Puts sink.old sink.new (tag_or_mark (text_of tag.now) directives.now
+        quoted ▹ double_quoted page (chars value.now)) }
 {
     match tag {
-        Some(tag) => put_tag(sink, directives, tag),
-        None if quoted => (),
-        None => sink.put_inline_indicator('!'),
+        None if quoted => put_solid(sink, value),
+        None => put_marked(sink, value),
+        Some(tag) if is_str_tag(directives, tag) => put_tagged(sink, value),
+        Some(tag) => {
+            put_tag(sink, directives, tag);
+            put_solid(sink, value);
+        }
     }
 }
 

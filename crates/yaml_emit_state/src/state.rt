@@ -338,11 +338,7 @@ impl Core {
             return;
         }
         match event {
-            yaml_event_body_t::Scalar { .. } => {
-                if !self.place_named_scalar(event) {
-                    self.lay_named_scalar(event, empty);
-                }
-            }
+            yaml_event_body_t::Scalar { .. } => self.lay_named_scalar(event, empty),
             yaml_event_body_t::SequenceStart { .. } | yaml_event_body_t::MappingStart { .. } => {
                 self.lay_named_start(event, empty)
             }
@@ -449,6 +445,7 @@ impl Core {
             yaml_event_body_t::SequenceEnd => self.place_end(true),
             yaml_event_body_t::MappingEnd => self.place_end(false),
             yaml_event_body_t::Alias { .. } => self.place_named(event),
+            yaml_event_body_t::Scalar { .. } => self.place_named_scalar(event),
             _ => false,
         }
     }

@@ -1,5 +1,6 @@
 -- What stands behind what a line begins with.
 use Rattle.std.proofs.Common.{◌≡◌, inl, inr, ℕ, zero, suc, ◌+◌, ◌≤◌, length-append, List, [], ◌∷◌, ◌++◌, Bool, true, false, refl, sym, ◌∙◌, ap, arith}
+use Rattle.std.specs.List.{list_all}
 use Rattle.std.specs.Str.{chars, IsAscii}
 use Rattle.std.proofs.lemmas.Str.Ascii.{IsAscii-cons}
 use Rattle.yaml_emit_sink.specs.declared.Cursor.{Cursor}
@@ -14,6 +15,7 @@ use Rattle.yaml_emit_sink.proofs.Lines.{line_lands}
 use Rattle.yaml_emit_sink.proofs.Sinks.{puts_as, cond_true, cond_false}
 use Rattle.yaml_emit_text.specs.declared.page.Page.{Page}
 use Rattle.yaml_emit_text.specs.Quoted.{double_quoted}
+use Rattle.yaml_emit_text.specs.Runs.{is_solid}
 use Rattle.yaml_emit_text.specs.Tame.{IsLined}
 use Rattle.yaml_emit_text.proofs.Even.{even_word, solid_word, even_ascii, solid_ascii}
 
@@ -116,3 +118,41 @@ tag_front xs h = IsAscii-cons 33 (33 ∷ 115 ∷ 116 ∷ 114 ∷ 32 ∷ xs) (ome
 pub tagged_ascii : (n width : ℕ) (v : List ℕ) → IsLined n width v
     → IsAscii (33 ∷ 33 ∷ 115 ∷ 116 ∷ 114 ∷ 32 ∷ 34 ∷ (v ++ 34 ∷ []))
 tagged_ascii n width v h = tag_front (34 ∷ (v ++ 34 ∷ [])) (lined_ascii n width v h)
+
+-- the letters of a word and a text in quotes behind them: a space comes between
+letters_quoted : (xs : List ℕ) (page : Page) (v : List ℕ) (c : Cursor) (rest : Rest)
+    → list_all is_solid v ≡ true → c.white ≡ false
+    → letters xs c (λ d. double_quoted page (chars v) d rest) ≡ letters (xs ++ 32 ∷ 34 ∷ (v ++ 34 ∷ [])) c rest
+unfolding letters
+letters_quoted [] page v c rest h w = solid_word page v c rest h ∙ parted (34 ∷ (v ++ 34 ∷ [])) c rest (omega arith) w
+letters_quoted (x ∷ xs) page v c rest h w =
+    ap (λ (t : List Item). letter x ∷ t) (letters_quoted xs page v (record { column = c.column + 1; white = false; bare = false; kept = c.kept }) rest h refl)
+
+-- the same from the word's beginning
+word_quoted : (white : Bool) (x : ℕ) (xs : List ℕ) (page : Page) (v : List ℕ) (c : Cursor)
+    (rest : Rest) → c.white ≡ white → list_all is_solid v ≡ true
+    → (word (x ∷ xs) ▹ double_quoted page (chars v)) c rest
+    ≡ word (x ∷ (xs ++ 32 ∷ 34 ∷ (v ++ 34 ∷ []))) c rest
+unfolding letters
+word_quoted true x xs page v c rest w h =
+    let behind : Cursor = record { column = c.column + 1; white = false; bare = false; kept = c.kept } in
+    cond_true c.white _ _ w ∙ ap (λ (t : List Item). letter x ∷ t) (letters_quoted xs page v behind rest h refl) ∙ sym (cond_true c.white _ _ w)
+word_quoted false x xs page v c rest w h =
+    let behind : Cursor = record { column = c.column + 1 + 1; white = false; bare = false; kept = c.kept } in
+    cond_false c.white _ _ w ∙ ap (λ (t : List Item). letter 32 ∷ letter x ∷ t) (letters_quoted xs page v behind rest h refl) ∙ sym (cond_false c.white _ _ w)
+
+-- a word and a text in quotes, whose bytes all stand as they are, were written as one
+pub puts_quoted : (x : ℕ) (xs : List ℕ) (page : Page) (v : List ℕ) (a b : Output)
+    → list_all is_solid v ≡ true → Puts a b (word (x ∷ (xs ++ 32 ∷ 34 ∷ (v ++ 34 ∷ []))))
+    → Puts a b (word (x ∷ xs) ▹ double_quoted page (chars v))
+puts_quoted x xs page v a b h p =
+    puts_as a b (word (x ∷ (xs ++ 32 ∷ 34 ∷ (v ++ 34 ∷ [])))) (word (x ∷ xs) ▹ double_quoted page (chars v)) (λ rest. word_quoted a.cursor.white x xs page v a.cursor rest refl h) p
+
+-- the letters of `!` and `!!str`, and a space, in front of it are in ASCII
+pub marked_ascii : (v : List ℕ) → list_all is_solid v ≡ true
+    → IsAscii (33 ∷ 32 ∷ 34 ∷ (v ++ 34 ∷ []))
+marked_ascii v h = IsAscii-cons 33 (32 ∷ 34 ∷ (v ++ 34 ∷ [])) (omega arith) (IsAscii-cons 32 (34 ∷ (v ++ 34 ∷ [])) (omega arith) (solid_ascii v h))
+
+pub texted_ascii : (v : List ℕ) → list_all is_solid v ≡ true
+    → IsAscii (33 ∷ 33 ∷ 115 ∷ 116 ∷ 114 ∷ 32 ∷ 34 ∷ (v ++ 34 ∷ []))
+texted_ascii v h = tag_front (34 ∷ (v ++ 34 ∷ [])) (solid_ascii v h)

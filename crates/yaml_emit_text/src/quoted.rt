@@ -1,12 +1,12 @@
 //! Double quoted scalars (YAML 1.1, 9.1.1), with escapes (5.6).
 
 ghost use Rattle.std.specs.List.{list_all};
-ghost use Rattle.std.specs.Prelude.{◌≡◌, ◌<◌, true};
+ghost use Rattle.std.specs.Prelude.{◌≡◌, ◌<◌, ◌∷◌, [], true, codes};
 ghost use Rattle.yaml_types.specs.Ascii as ascii;
 ghost use Rattle.std.specs.Str.{chars};
 ghost use Rattle.yaml_emit_sink.specs.Sink.{Puts};
 ghost use Rattle.yaml_emit_sink.specs.Text.{is_break};
-ghost use Rattle.yaml_emit_sink.specs.Layout.{choose, when, char, letters, is_past};
+ghost use Rattle.yaml_emit_sink.specs.Layout.{◌▹◌, choose, when, char, letters, word, is_past};
 ghost use Rattle.yaml_emit_text.specs.Runs.{is_solid};
 ghost use Rattle.yaml_emit_text.specs.Quoted.{is_printable, needs_escape, escape_letter, hex_4, hex_8, escape_text, first, is_empty, fold, escaped, quoted_char, quoted_body, double_quoted};
 
@@ -167,14 +167,36 @@ fn put_quoted_body(sink: &mut Sink, page: Page, value: &str)
     }
 }
 
-// A double quoted scalar whose bytes all stand as they are, with a space in front where one is due.
+/// A double quoted scalar whose bytes all stand as they are, with a space in front where one is due.
 // Out of line: few registers are needed.
 #[inline(never)]
-fn put_solid(sink: &mut Sink, value: &[u8])
+pub fn put_solid(sink: &mut Sink, value: &[u8])
     requires { list_all is_solid value.now ≡ true }
     ensures { (page : Page) → Puts sink.old sink.new (double_quoted page (chars value.now)) }
 {
     sink.put_around(b"\"", b" \"", value, b"\"");
+}
+
+/// The same behind the word `!`.
+// Out of line: few registers are needed.
+#[inline(never)]
+pub fn put_marked(sink: &mut Sink, value: &[u8])
+    requires { list_all is_solid value.now ≡ true }
+    ensures { (page : Page) → Puts sink.old sink.new (word (ascii.exclamation ∷ [])
+        ▹ double_quoted page (chars value.now)) }
+{
+    sink.put_around(b"! \"", b" ! \"", value, b"\"");
+}
+
+/// The same behind the word `!!str`.
+// Out of line: few registers are needed.
+#[inline(never)]
+pub fn put_tagged(sink: &mut Sink, value: &[u8])
+    requires { list_all is_solid value.now ≡ true }
+    ensures { (page : Page) → Puts sink.old sink.new (word (codes "!!str")
+        ▹ double_quoted page (chars value.now)) }
+{
+    sink.put_around(b"!!str \"", b" !!str \"", value, b"\"");
 }
 
 // A double quoted scalar of any bytes.

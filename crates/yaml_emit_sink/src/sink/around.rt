@@ -44,7 +44,7 @@ impl Sink {
     // Inlined: mostly there is, and it is some stores round a copy.
     #[inline(always)]
     pub fn put_joined(&mut self, front: &[u8], text: &[u8], end: &[u8])
-        requires few { length front.now + length end.now ≤ 8 }
+        requires few { length front.now + length end.now ≤ 9 }
         requires some { 0 < length front.now + length text.now }
         requires ascii { IsAscii (front.now ++ (text.now ++ end.now)) }
         ensures { Puts self.old self.new (letters (front.now ++ (text.now ++ end.now))) }
@@ -154,7 +154,7 @@ impl Sink {
     // Inlined: the numbers are known.
     #[inline(always)]
     pub fn put_around(&mut self, front: &[u8], parted: &[u8], text: &[u8], end: &[u8])
-        requires few { length front.now + length end.now ≤ 7 }
+        requires few { length front.now + length end.now ≤ 8 }
         requires some { 0 < length front.now }
         requires ascii { IsAscii (front.now ++ (text.now ++ end.now)) }
         requires parted { parted.now ≡ ascii.space ∷ front.now }

@@ -8,19 +8,19 @@ use crate::before::{begins_line, line_start_of, put_before};
 use crate::indent::position_of;
 use crate::judge::is_name;
 use crate::levels::Levels;
-use crate::nodes::{is_said, put_lines, put_tag_or_mark};
+use crate::nodes::{is_said, put_lines, put_solid_node};
 use yaml_emit_layout::{Level, Phase};
 use yaml_emit_tags::put_tag;
-use yaml_emit_text::{Style, beside, is_lined};
+use yaml_emit_text::{Style, are_solid, beside, is_lined};
 use yaml_parse_model::{YAML_STR_TAG, yaml_event_body_t};
 
 impl Core {
-    ghost use Rattle.yaml_parse_model.specs.Events.{body_of, type_of};
+    ghost use Rattle.yaml_parse_model.specs.Events.{body_of, text_of, type_of};
     ghost use Rattle.yaml_scan_model.specs.declared.yaml_event_type_t.TheVariants as kind;
     ghost use Rattle.yaml_emit_layout.specs.declared.Expected.TheVariants as at;
-    ghost use Rattle.yaml_emit_layout.specs.Content.{emitter_event, scalar};
+    ghost use Rattle.yaml_emit_layout.specs.Content.{Scalar, emitter_event, scalar};
     ghost use Rattle.yaml_scan_model.specs.declared.yaml_scalar_style_t.{yaml_scalar_style_t};
-    ghost use Rattle.yaml_emit_state.specs.Framed.{Leads, MayFrame, PlacesFramed};
+    ghost use Rattle.yaml_emit_state.specs.Framed.{Leads, MayFrame, Placed, PlacesFramed, is_said};
     ghost use Rattle.yaml_emit_state.specs.Given.{plain_text};
     ghost use Rattle.yaml_emit_layout.specs.State.{top_of};
     ghost use Rattle.yaml_emit_state.specs.Stack.{stack_of};
@@ -118,14 +118,39 @@ impl Core {
         }
     }
 
+    // A scalar with a name, and a value that isn't empty and whose bytes all stand as they are, at once where it begins a line; else
+    // nothing.
+    // No hint: it has one caller.
+    fn place_said(&mut self, name: &[u8], tag: &Option<Vec<u8>>, quoted: bool, value: &[u8]) -> bool
+        requires form { self.old.settings.canonical ≡ true }
+        requires due { self.old.place ≡ at.Node }
+        ensures laid { result ≡ true → (x : Scalar) → x.anchor ≡ Some name.now
+            → x.tag ≡ text_of tag.now → x.quoted ≡ quoted → x.value ≡ value.now
+            → is_said x.tag x.plain x.quoted ≡ true → Placed self.old (scalar x) self.new }
+        ensures same { result ≡ false → self.new ≡ self.old }
+    {
+        match self.levels.top() {
+            None => false,
+            Some(level) => {
+                if !value.is_empty() && are_solid(value) && self.leads(b'&', name, b"") {
+                    put_solid_node(&mut self.sink, &self.directives, tag, quoted, value);
+                    self.levels.turn(Levels::phase_behind(level.phase, false));
+                    true
+                } else {
+                    false
+                }
+            }
+        }
+    }
+
     // A scalar with an anchor, at once where it begins a line; else nothing.
     // Out of line: what it needs is in registers.
     #[inline(never)]
     pub(super) fn place_named_scalar(&mut self, event: &yaml_event_body_t) -> bool
-        requires utf8 { HasUtf8 (body_of event.now) }
         requires form { self.old.settings.canonical ≡ true }
-        ensures laid { result ≡ true → (empty : Bool) → LaysOut self.old self.new
-            (emitter_event (body_of event.now)) empty }
+        requires due { self.old.place ≡ at.Node }
+        ensures laid { result ≡ true → Placed self.old (emitter_event (body_of event.now))
+            self.new }
         ensures same { result ≡ false → self.new ≡ self.old }
     {
         match event {
@@ -139,24 +164,8 @@ impl Core {
             } => match anchor {
                 None => false,
                 Some(name) => {
-                    let quoted = *quoted_implicit;
-                    let position = position_of(self.levels.top(), false);
-                    if self.awaits_node()
-                        && is_said(tag, *plain_implicit, quoted)
-                        && self.leads(b'&', name, b"")
-                    {
-                        let settings = self.settings(true);
-                        put_tag_or_mark(&mut self.sink, &self.directives, tag, quoted);
-                        put_lines(
-                            &mut self.sink,
-                            &settings,
-                            position,
-                            Style::Double,
-                            value,
-                            false,
-                        );
-                        self.step(false);
-                        true
+                    if is_said(tag, *plain_implicit, *quoted_implicit) {
+                        self.place_said(name, tag, *quoted_implicit, value)
                     } else {
                         false
                     }

@@ -10,13 +10,14 @@ use crate::before::{
 use crate::given::{Context, Start};
 use crate::indent::{is_flow, position_of};
 use crate::keys::{is_flow_mapping, is_flow_sequence, is_simple_start};
+use crate::levels::Levels;
 use crate::nodes::put_start_node;
 use yaml_emit_layout::Level;
 use yaml_parse_model::yaml_event_body_t;
 
 impl Core {
     ghost use Rattle.yaml_parse_model.specs.Events.{body_of, text_of};
-    ghost use Rattle.yaml_emit_layout.specs.Content.{Start as SaidStart, emitter_event};
+    ghost use Rattle.yaml_emit_layout.specs.Content.{Start as SaidStart, alias, emitter_event};
     ghost use Rattle.yaml_emit_layout.specs.declared.Expected.TheVariants as at;
     ghost use Rattle.yaml_emit_state.specs.Bare.{has_none};
     ghost use Rattle.yaml_emit_state.specs.Framed.{Placed};
@@ -173,6 +174,28 @@ impl Core {
         }
     }
 
+    // An alias, at once where it begins a line; else nothing.
+    // Inlined into its one caller.
+    #[inline(always)]
+    fn place_alias(&mut self, name: &[u8]) -> bool
+        requires form { self.old.settings.canonical ≡ true }
+        requires due { self.old.place ≡ at.Node }
+        ensures laid { result ≡ true → Placed self.old (alias name.now) self.new }
+        ensures same { result ≡ false → self.new ≡ self.old }
+    {
+        match self.levels.top() {
+            None => false,
+            Some(level) => {
+                if self.leads(b'*', name, b"") {
+                    self.levels.turn(Levels::phase_behind(level.phase, false));
+                    true
+                } else {
+                    false
+                }
+            }
+        }
+    }
+
     // An alias, or what opens a collection with an anchor and without a tag, at once where it begins a line; else nothing.
     // Out of line: one call, beside those of what has no name.
     #[inline(never)]
@@ -184,14 +207,7 @@ impl Core {
         ensures same { result ≡ false → self.new ≡ self.old }
     {
         match event {
-            yaml_event_body_t::Alias { anchor } => {
-                if self.leads(b'*', anchor, b"") {
-                    self.step(false);
-                    true
-                } else {
-                    false
-                }
-            }
+            yaml_event_body_t::Alias { anchor } => self.place_alias(anchor),
             yaml_event_body_t::SequenceStart { anchor, tag, .. } => {
                 self.place_named_start(true, anchor, tag)
             }

@@ -1,4 +1,5 @@
 use Rattle.std.proofs.Common.{refl, sym, ◌∙◌}
+use Rattle.yaml_emit_state.proofs.Framed.{bare_free}
 use Rattle.yaml_emit_state.proofs.state.Core.places_scalar.Goals as goal
 
 pub returns-then-may_place-clause-laid : goal.returns-then-may_place-clause-laid
@@ -9,5 +10,5 @@ returns-then-may_place-clause-laid c = λ h.
       going = (c.place_bare.ensures.going h).0;
       form = c.may_place.ensures.form c.if-may_place.true;
       due = c.may_place.ensures.due c.if-may_place.true;
-      bare = free;
+      bare = bare_free _ _ free;
     })

@@ -8,6 +8,7 @@ ghost use Rattle.yaml_parse_model.specs.Events.{Event, event_of};
 ghost use Rattle.yaml_parse_core.specs.Seen.{seen};
 ghost use Rattle.yaml_parse_core.specs.Seen as kinds;
 ghost use Rattle.yaml_parse_core.specs.declared.told.Told.TheVariants.{Alias};
+ghost use Rattle.yaml_parse_core.specs.declared.told.Shape.TheVariants as shapes;
 ghost use Rattle.yaml_parse_core.specs.Keyed.{WantsKey};
 ghost use Rattle.yaml_parse_core.specs.Turns.{keeps, context_if};
 ghost use Rattle.yaml_parse_core.specs.Views.{implied_item};
@@ -107,6 +108,38 @@ fn tell(
 {
     tell_node(shape, &mut buffers.waiting, token, event);
     Step::Given
+}
+
+// A scalar behind properties, where its event can be told at once. Answers whether it is.
+// Out of line: few have them.
+#[inline(never)]
+fn names_scalar(buffers: &mut StepBuffers, token: &mut TokenSlot, event: &mut yaml_event_t) -> bool
+    ensures told { result ≡ true → (f : Fault) → Goes (kinds.named shapes.Scalar)
+        (token_in_slot token.old) buffers.old Step.Given (event_of event.new) f buffers.new }
+    ensures buffers { result ≡ false → buffers.new ≡ buffers.old }
+    ensures token { result ≡ false → token.new ≡ token.old }
+{
+    let tags = &buffers.directives.tags;
+    tell_at_once(tags, Shape::Scalar, &mut buffers.waiting, token, event)
+}
+
+// The same, whatever they are.
+// Inlined: so what it answers is known, where its event is told at once.
+#[inline(always)]
+fn step_named_scalar(
+    buffers: &mut StepBuffers,
+    token: &mut TokenSlot,
+    event: &mut yaml_event_t,
+    fault: &mut yaml_fault_t,
+) -> Step
+    ensures { Goes (kinds.named shapes.Scalar) (token_in_slot token.old) buffers.old result
+        (event_of event.new) (fault_of fault.new) buffers.new }
+{
+    if names_scalar(buffers, token, event) {
+        Step::Given
+    } else {
+        step_tagged(Shape::Scalar, buffers, token, event, fault)
+    }
 }
 
 // A node behind properties.
@@ -309,7 +342,7 @@ fn going(
         Turn::BlockMapping => tell(Shape::BlockMapping, buffers, token, event),
         Turn::FlowSequence => tell(Shape::FlowSequence, buffers, token, event),
         Turn::FlowMapping => tell(Shape::FlowMapping, buffers, token, event),
-        Turn::NamedScalar => step_named(Shape::Scalar, buffers, token, event, fault),
+        Turn::NamedScalar => step_named_scalar(buffers, token, event, fault),
         Turn::NamedBlockSequence => step_named(Shape::BlockSequence, buffers, token, event, fault),
         Turn::NamedBlockMapping => step_named(Shape::BlockMapping, buffers, token, event, fault),
         Turn::NamedFlowSequence => step_named(Shape::FlowSequence, buffers, token, event, fault),

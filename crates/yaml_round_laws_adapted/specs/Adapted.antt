@@ -6,7 +6,7 @@ use Rattle.yaml_parse_model.specs.declared.yaml_origin_t.TheVariants.{Adapter}
 use Rattle.yaml_parse_model.specs.Tokens as token
 use Rattle.yaml_parse_model.specs.Tokens.{Token, TokenBody}
 use Rattle.yaml_parse_model.specs.Faults.{Fault}
-pub use Rattle.yaml_scan_slot.specs.Slots.{spells_text}
+pub use Rattle.yaml_parse_model.specs.Slots.{spells_text}
 use Rattle.yaml_scan_laws_texts.specs.scan_history.Remaining.{Remaining}
 
 -- the fault of a token whose tag isn't UTF-8, at its start

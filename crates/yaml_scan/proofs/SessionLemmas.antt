@@ -336,7 +336,7 @@ takes_keyed x y o aside s m n p P e off few knows stands k =
       token = k.token;
       middle = view_by k.middle o s aside y;
       has = k.has;
-      plain = k.plain;
+      text = k.text;
       key = takes_own x y o aside s (key_of k.token) m k.middle e off key;
       few = (k.stands.short, few);
       takes = takes_own y y o aside s k.token k.middle p e off record { stands = stands; first = k.first; reads = reads_none k.middle p k.behind };

@@ -1,5 +1,4 @@
 pub mod Ascii
-pub mod Bare
 pub mod Line
 pub mod Queue
 pub mod Waits

@@ -4,7 +4,6 @@ ghost use Rattle.std.specs.Prelude.{◌≡◌, ◌+◌, ◌-◌, ◌^◌, ◌<�
 ghost use Rattle.yaml_scan_model.specs.Tokens as token;
 ghost use Rattle.yaml_scan_model.specs.Tokens.{body_of};
 ghost use Rattle.yaml_scan_slot.specs.Slots.{Extra, body_by, is_tagged, spells_text};
-ghost use Rattle.yaml_scan_queue.specs.Bare.{is_tag_kind, is_tag_directive_kind};
 ghost use Rattle.yaml_scan_queue.specs.Front.{front_at, front_count, key_count, start_at, start_count};
 ghost use Rattle.yaml_scan_queue.specs.Waits.{IsCounted, IsGiven, fronts_of, kept_of, keyed, own_of};
 
@@ -196,34 +195,10 @@ fn key_number(is_key: bool) -> u8
 fn is_tagged(kind: yaml_token_type_t) -> bool
     ensures { (x y : List ℕ) → (e : Extra) → result ≡ is_tagged (body_by kind x y e) }
 {
-    if is_tag_kind(kind) {
+    if matches!(kind, yaml_token_type_t::YAML_TAG_TOKEN) {
         return true;
     }
-    is_tag_directive_kind(kind)
-}
-
-/// Whether a kind is that of a tag.
-// Inlined: a comparison.
-#[inline(always)]
-fn is_tag_kind(kind: yaml_token_type_t) -> bool
-    ensures { result ≡ is_tag_kind kind }
-{
-    match kind {
-        yaml_token_type_t::YAML_TAG_TOKEN => true,
-        _ => false,
-    }
-}
-
-/// Whether a kind is that of a directive that declares a tag.
-// Inlined: a comparison.
-#[inline(always)]
-fn is_tag_directive_kind(kind: yaml_token_type_t) -> bool
-    ensures { result ≡ is_tag_directive_kind kind }
-{
-    match kind {
-        yaml_token_type_t::YAML_TAG_DIRECTIVE_TOKEN => true,
-        _ => false,
-    }
+    matches!(kind, yaml_token_type_t::YAML_TAG_DIRECTIVE_TOKEN)
 }
 
 /// Whether a token that carries that may not spell UTF-8: it is a tag, or a directive that declares one, and not few bytes of ASCII.

@@ -85,28 +85,16 @@ fn name_told(name: &Reader, behind: &Reader) -> Result<DirectiveName, Problem>
         return Err(Problem::NotAlphabetical);
     }
     let count = behind.place() - name.place();
-    if is_yaml(name) && count == 4 {
+    if name.here() == b'Y'
+        && (name.byte(1) == b'A' && (name.byte(2) == b'M' && name.byte(3) == b'L'))
+        && count == 4
+    {
         return Ok(DirectiveName::Yaml);
     }
-    if is_tag(name) && count == 3 {
+    if name.here() == b'T' && (name.byte(1) == b'A' && name.byte(2) == b'G') && count == 3 {
         return Ok(DirectiveName::Tag);
     }
     Err(Problem::UnknownDirective)
-}
-
-/// Whether `YAML` stands here.
-fn is_yaml(reader: &Reader) -> bool
-    ensures { result ≡ spec.is_yaml reader.now.text reader.now.at }
-{
-    reader.here() == b'Y'
-        && (reader.byte(1) == b'A' && (reader.byte(2) == b'M' && reader.byte(3) == b'L'))
-}
-
-/// Whether `TAG` stands here.
-fn is_tag(reader: &Reader) -> bool
-    ensures { result ≡ spec.is_tag reader.now.text reader.now.at }
-{
-    reader.here() == b'T' && (reader.byte(1) == b'A' && reader.byte(2) == b'G')
 }
 
 /// Past blanks, a comment and the break, which end the line of a directive.

@@ -34,14 +34,10 @@ fn tag_handle(
     ensures { ReadsAs IsBytes behind_bytes reader.old.text start reader.new result
         (spec.handle_at reader.old.text reader.old.at) }
 {
+    let problem = Problem::NoExclamationMark;
     let from = reader.place();
     if reader.here() != b'!' {
-        return Err(refusal(
-            reader,
-            Problem::NoExclamationMark,
-            Context::TagDirectiveStart,
-            start,
-        ));
+        return Err(refusal(reader, problem, Context::TagDirectiveStart, start));
     }
     skip_indicator(reader);
     let name = reader.place();
@@ -51,12 +47,7 @@ fn tag_handle(
         return Ok(copied_since(spares, reader, from)?);
     }
     if reader.place() != name {
-        return Err(refusal(
-            reader,
-            Problem::NoExclamationMark,
-            Context::TagDirectiveHandle,
-            start,
-        ));
+        return Err(refusal(reader, problem, Context::TagDirectiveHandle, start));
     }
     Ok(copied_since(spares, reader, from)?)
 }
@@ -76,12 +67,8 @@ fn tag_prefix(
     skip_run(Run::Blanks, reader);
     let prefix = some_uri(spares, reader, Context::TagDirectiveUri, true, start)?;
     if !reader.is_blank_or_end(0) {
-        return Err(refusal(
-            reader,
-            Problem::NoWhitespaceOrBreak,
-            Context::TagDirective,
-            start,
-        ));
+        let problem = Problem::NoWhitespaceOrBreak;
+        return Err(refusal(reader, problem, Context::TagDirective, start));
     }
     Ok(prefix)
 }

@@ -86,17 +86,6 @@ pub(crate) fn stands_in_uri(byte: u8, wide: bool) -> bool
     }
 }
 
-/// Whether the byte there, which is in the text, is one of `0-9 A-Z a-z _ -`.
-#[tactic(auto, unfolding(crate::specs::Runs::belongs))]
-// Inlined into the loop over bytes.
-#[inline(always)]
-fn is_alpha_at(text: &[u8], place: usize) -> bool
-    requires { place < length text.now }
-    ensures { result ≡ spec.belongs runs.Alphas text.now place }
-{
-    is_alpha(text[place])
-}
-
 /// The end of the alphas that stand there, where they are some, fewer than sixteen, and so many bytes stand there.
 // Inlined: a load and a comparison a byte. How many bytes there are is asked as a copy asks it: so one of the run asks nothing.
 #[inline(always)]
@@ -109,18 +98,16 @@ pub(crate) fn short_run(text: &[u8], from: usize) -> Option<usize>
         return None;
     }
     let count = alphas_in_row(text, from);
-    if count == 0 {
-        return None;
+    match count {
+        0 | ROW => None,
+        _ => Some(from + count),
     }
-    if count == ROW {
-        return None;
-    }
-    Some(from + count)
 }
 
 /// How many of the next sixteen bytes are alphas, one behind the other.
 // A loop whose turns are counted by a constant is written out: no place is compared with the text's length.
 // Inlined: a load and a comparison a byte.
+#[tactic(auto, unfolding(crate::specs::Runs::belongs))]
 #[inline(always)]
 fn alphas_in_row(text: &[u8], from: usize) -> usize
     requires { from + 16 ≤ length text.now }
@@ -130,7 +117,7 @@ fn alphas_in_row(text: &[u8], from: usize) -> usize
     ensures stop { result < 16 → spec.belongs runs.Alphas text.now (from + result) ≡ false }
 {
     let mut count = 0;
-    'bytes: while count < ROW && is_alpha_at(text, from + count) {
+    'bytes: while count < ROW && is_alpha(text[from + count]) {
         count += 1;
     }
     count

@@ -95,17 +95,10 @@ fn whole_tag(spares: &mut Spares, reader: &mut Reader, flow: bool) -> Result<Tag
 {
     let start = reader.mark();
     let word = tag_parts(spares, reader, start)?;
-    if !may_end_tag(reader, flow) {
+    if !(reader.is_blank_or_end(0) || flow && reader.here() == b',') {
         return Err(refusal(reader, Problem::NoWhitespaceOrBreak, Context::Tag, start));
     }
     Ok(word)
-}
-
-/// Whether a tag may end here.
-fn may_end_tag(reader: &Reader, flow: bool) -> bool
-    ensures { result ≡ spec.may_end_tag flow reader.now.text reader.now.at }
-{
-    reader.is_blank_or_end(0) || flow && reader.here() == b','
 }
 
 /// The tag that stands here, whatever follows it.
@@ -149,10 +142,8 @@ fn verbatim(
         return Err(refusal(reader, Problem::NoClosingBracket, Context::Tag, start));
     }
     skip_indicator(reader);
-    Ok(TagWord {
-        handle: Vec::new(*spares.allocator()),
-        suffix,
-    })
+    let handle = Vec::new(*spares.allocator());
+    Ok(TagWord { handle, suffix })
 }
 
 /// The tag with a handle `!alphas!` that stands here; the alphas end at that place.

@@ -121,13 +121,9 @@ fn percent_octet(reader: &mut Reader, due: usize) -> Result<Option<Spelling>, Pr
     let Some(byte) = octet(reader) else {
         return Err(Problem::NoEscapedOctet);
     };
-    match due_behind(byte, due) {
-        Ok(due) => {
-            skip_escape(reader);
-            Ok(Some(Spelling { byte, due }))
-        }
-        Err(problem) => Err(problem),
-    }
+    let due = due_behind(byte, due)?;
+    skip_escape(reader);
+    Ok(Some(Spelling { byte, due }))
 }
 
 /// Past the escape whose `%` stands here.

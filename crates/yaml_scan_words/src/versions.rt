@@ -1,7 +1,6 @@
 //! The version of a `%YAML` directive.
 
 ghost use Rattle.std.specs.Prelude.{◌≡◌, ◌+◌, ◌-◌, ◌≤◌, ◌<◌, ◌^◌, ℕ, pos};
-ghost use Rattle.yaml_scan_model.specs.Ascii as ascii;
 ghost use Rattle.yaml_scan_model.specs.Marks.{byte};
 ghost use Rattle.yaml_scan_words.specs.Directives as spec;
 ghost use Rattle.yaml_scan_words.specs.Readings.{ReadsAs};
@@ -27,12 +26,8 @@ fn minor(reader: &mut Reader, major: i32, start: yaml_mark_t) -> Result<Directiv
         reader.new result (spec.minor_at reader.old.text m reader.old.at) }
 {
     if reader.here() != b'.' {
-        return Err(refusal(
-            reader,
-            Problem::NoDigitOrDot,
-            Context::VersionDirective,
-            start,
-        ));
+        let context = Context::VersionDirective;
+        return Err(refusal(reader, Problem::NoDigitOrDot, context, start));
     }
     skip_indicator(reader);
     let minor = number(reader, start)?;
@@ -45,35 +40,19 @@ fn number(reader: &mut Reader, start: yaml_mark_t) -> Result<i32, ScanError>
     ensures { ReadsAs IsNumber spec.number_behind reader.old.text start reader.new result
         (spec.number_at reader.old.text reader.old.at) }
 {
+    let context = Context::VersionDirective;
     let mut value: u32 = 0;
     let mut count: usize = 0;
     'digits: while belongs(Run::Digits, reader) {
         if count == 9 {
-            return Err(refusal(
-                reader,
-                Problem::LongVersionNumber,
-                Context::VersionDirective,
-                start,
-            ));
+            return Err(refusal(reader, Problem::LongVersionNumber, context, start));
         }
-        value = value * 10 + digit(reader.here());
+        value = value * 10 + u32::from(reader.here().saturating_sub(b'0'));
         count += 1;
         skip_indicator(reader);
     }
     if count == 0 {
-        return Err(refusal(
-            reader,
-            Problem::NoVersionNumber,
-            Context::VersionDirective,
-            start,
-        ));
+        return Err(refusal(reader, Problem::NoVersionNumber, context, start));
     }
     Ok(value as i32)
-}
-
-/// The value of a digit.
-fn digit(byte: u8) -> u32
-    ensures { result ≡ byte - ascii.digit_zero }
-{
-    u32::from(byte.saturating_sub(b'0'))
 }

@@ -17,7 +17,7 @@ overflow_add-value c =
     let room = power-room (c.digits.count + 1) (omega (arith, c.digits.invariant.few, c.if-count-eq9.false)) in
     let more = power-more c.digits.count in
     let digit = digit_here c.digits.reader.text c.digits.reader.at (sym c.belongs.ensures ∙ c.digits-test.true) in
-    let value : c.digit.result ≡ byte c.digits.reader.text c.digits.reader.at - 48 = rw c.here.ensures at c.digit.ensures in
+    let value : c.from.result ≡ byte c.digits.reader.text c.digits.reader.at - 48 = rw (c.saturating_sub.ensures, c.here.ensures) at c.from.ensures in
     omega (arith, c.digits.invariant.small)
 
 pub digits-preserved : goal.digits-preserved
@@ -25,7 +25,7 @@ digits-preserved c =
     let text = c.args.reader.now.text in
     let p = c.args.reader.now.at + c.digits.count in
     let here : belongs runs.Digits text p ≡ true = rw (c.digits.invariant.text, c.digits.invariant.place) at (sym c.belongs.ensures ∙ c.digits-test.true) in
-    let value : c.digit.result ≡ byte text p - 48 = rw (c.here.ensures, c.digits.invariant.text, c.digits.invariant.place) at c.digit.ensures in
+    let value : c.from.result ≡ byte text p - 48 = rw (c.saturating_sub.ensures, c.here.ensures, c.digits.invariant.text, c.digits.invariant.place) at c.from.ensures in
     let next : c.args.reader.now.at + (c.digits.count + 1) ≡ p + 1 = omega arith in
     rw (c.skip_indicator.ensures, value, power-more c.digits.count, next) record {
       text = c.digits.invariant.text;

@@ -35,7 +35,7 @@ pub fn copied(
     }
 }
 
-/// The same where the text at hand was taken just before: in the room of another one.
+/// The same of a token's second text.
 // Inlined: mostly one move.
 #[inline(always)]
 pub fn copied_more(
@@ -50,8 +50,10 @@ pub fn copied_more(
     if CHUNK < bytes.len() || text.len() - from < CHUNK {
         return copied_apart(spares, bytes);
     }
-    let room = room(spares, CHUNK)?;
-    copied_into(spares, room, text, from, bytes)
+    match spares.take_second(CHUNK) {
+        Some(room) => copied_into(spares, room, text, from, bytes),
+        None => copied_apart(spares, bytes),
+    }
 }
 
 /// A copy of few bytes that stand in the text from that place on, where a whole move stands there, in a room.

@@ -95,8 +95,7 @@ impl BodySlot {
         put_text(&mut self.text, text, spares);
         let room = lifted(&mut self.other);
         put_back(&mut self.other, other);
-        // Mostly another text is at hand now.
-        spares.keep(room);
+        spares.keep_second(room);
     }
 
     /// Takes the body out.

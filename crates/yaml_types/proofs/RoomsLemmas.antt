@@ -1,5 +1,5 @@
 -- How much room the texts have that are kept.
-use Rattle.std.proofs.Common.{ℕ, zero, suc, ◌≤◌, List, [], ◌∷◌, length, length-append, map, All, arith}
+use Rattle.std.proofs.Common.{ℕ, zero, suc, ◌≤◌, List, [], ◌∷◌, ◌++◌, length, length-append, map, All, arith}
 use Rattle.std.specs.Prelude.{vec_capacity}
 use Rattle.std.proofs.lemmas.List.{length-map}
 use Rattle.std.proofs.lemmas.List.Elements.{All-nil, All-cons, All-append}
@@ -8,7 +8,7 @@ use Rattle.yaml_types.specs.Rooms.{near_room, rooms_of, KeepsFew}
 use Rattle.yaml_types.specs.declared.keeping.Spares.{Spares}
 use Rattle.yaml_types.specs.declared.keeping.SpareText.{SpareText}
 
--- the text at hand is one, with little room
+-- a text at hand is one, with little room
 near_few : (n : ℕ) → n ≤ room_kept
     → (length (near_room n) ≤ 1) × All (λ room. room ≤ room_kept) (near_room n)
 near_few zero h = (omega (arith), All-nil (λ room. room ≤ room_kept))
@@ -25,6 +25,9 @@ pub few_kept : (s : Spares) → KeepsFew (rooms_of s)
 few_kept s =
     let others = map (λ t. vec_capacity t.bytes) s.texts.items in
     let near = near_room (vec_capacity s.near.bytes) in
+    let second = near_room (vec_capacity s.second.bytes) in
     let (one, small) = near_few (vec_capacity s.near.bytes) s.near.small in
+    let (two, little) = near_few (vec_capacity s.second.bytes) s.second.small in
     let n = length-map s.texts.items (λ t. vec_capacity t.bytes) in
-    (omega (arith, length-append near others, one, n, s.texts.ok, s.few), All-append (λ room. room ≤ room_kept) near others small (all_small s.texts.items))
+    let rest = All-append (λ room. room ≤ room_kept) second others little (all_small s.texts.items) in
+    (omega (arith, length-append near (second ++ others), length-append second others, one, two, n, s.texts.ok, s.few), All-append (λ room. room ≤ room_kept) near (second ++ others) small rest)

@@ -4,10 +4,11 @@ ghost use Rattle.std.specs.Prelude.{◌≡◌, ◌+◌, ◌≤◌, [], vec_capac
 ghost use Rattle.yaml_types.specs.Bounds.{texts_kept, room_kept};
 
 use std::alloc::Global;
+use std::mem;
 use yaml_types_plain::{lifted, put_back};
 
-/// How many texts are kept beside the one at hand.
-const OTHERS_KEPT: usize = 63;
+/// How many texts are kept beside the two at hand.
+const OTHERS_KEPT: usize = 62;
 
 /// With how much room each at most.
 const ROOM_KEPT: usize = 256;
@@ -24,8 +25,10 @@ struct SpareText {
 pub struct Spares {
     /// The one whose place was filled last, where there is one. It lies here, so that it is found without a look into the list.
     near: SpareText,
+    /// The same of a token's second text.
+    second: SpareText,
     texts: Vec<SpareText>,
-    ghost few: { vec_capacity texts + 1 ≤ texts_kept },
+    ghost few: { vec_capacity texts + 2 ≤ texts_kept },
 }
 
 impl Spares {
@@ -37,6 +40,9 @@ impl Spares {
     {
         Spares {
             near: SpareText {
+                bytes: Vec::new(alloc),
+            },
+            second: SpareText {
                 bytes: Vec::new(alloc),
             },
             texts: Vec::new(alloc),
@@ -83,6 +89,37 @@ impl Spares {
             return None;
         }
         Some(lifted(&mut self.near.bytes))
+    }
+
+    /// Keeps the room of a token's second text at hand, where it has not too much; an earlier one there is kept as others are.
+    // Inlined: see `keep_near`.
+    #[inline(always)]
+    pub fn keep_second(&mut self, text: Vec<u8>) {
+        if self.second.bytes.capacity() == 0 && text.capacity() <= ROOM_KEPT {
+            put_back(&mut self.second.bytes, text);
+            return;
+        }
+        self.keep_second_instead(text);
+    }
+
+    /// Keeps the room of a text in place of the second one at hand.
+    // Out of line and cold: see `keep_instead`.
+    #[cold]
+    #[inline(never)]
+    fn keep_second_instead(&mut self, text: Vec<u8>) {
+        mem::swap(&mut self.near, &mut self.second);
+        self.keep_instead(text);
+        mem::swap(&mut self.near, &mut self.second);
+    }
+
+    /// The second text at hand, with what it held, where it has room for so many bytes.
+    // Inlined: see `take_near`.
+    #[inline(always)]
+    pub fn take_second(&mut self, count: usize) -> Option<Vec<u8>> {
+        if self.second.bytes.capacity() < count {
+            return None;
+        }
+        Some(lifted(&mut self.second.bytes))
     }
 
     /// Keeps the room of a text, where it has some and not too much, and not enough are kept.

@@ -338,9 +338,9 @@ pub fn tell_at_once(
     ensures waiting { result ≡ false → waiting.new ≡ waiting.old }
     ensures token { result ≡ false → token.new ≡ token.old }
 {
+    event.start_mark = mark_again(&waiting.from);
+    event.end_mark = mark_again(&token.end_mark);
     if resolves_at_once(tags, waiting) {
-        event.start_mark = mark_again(&waiting.from);
-        event.end_mark = mark_again(&token.end_mark);
         tell_named(shape, waiting, &mut token.body, &mut event.body);
         true
     } else {

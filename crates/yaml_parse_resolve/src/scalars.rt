@@ -27,8 +27,8 @@ fn fits(place: &mut Option<Vec<u8>>, is_there: bool, room: &mut Vec<u8>) -> bool
     is_there || leaves_name(place, room)
 }
 
-// Exchanges the text with that of an earlier scalar, of which no anchor or tag is left that isn't to be there. Answers whether it
-// is done: the slot may hold another event.
+// Exchanges the text with that of an earlier scalar, of which no anchor or tag is left that isn't to be there, or with an alias's
+// name, in whose place a plain scalar begins. Answers whether it is done: the slot may hold another event.
 // Inlined: some moves.
 #[inline(always)]
 fn takes_value(
@@ -55,7 +55,17 @@ fn takes_value(
             exchange_texts(last, value);
             true
         }
-        _ => false,
+        // Asked apart: of three ways that of all other kinds would be tested first.
+        _ => match *event {
+            yaml_event_body_t::Alias {
+                anchor: ref mut last,
+            } => {
+                let own = mem::replace(value, lifted(last));
+                start_bare(own, yaml_scalar_style_t::YAML_PLAIN_SCALAR_STYLE, event);
+                true
+            }
+            _ => false,
+        },
     }
 }
 
@@ -64,6 +74,7 @@ fn takes_value(
 #[inline(always)]
 fn name_scalar(
     waiting: &mut Waiting,
+    tagged: bool,
     has_anchor: bool,
     has_tag: bool,
     style: yaml_scalar_style_t,
@@ -72,8 +83,8 @@ fn name_scalar(
     requires { Takes has_anchor has_tag event.old }
     ensures { body_of event.new ≡ told.scalar (text_if has_anchor waiting.old.anchor.items)
         (text_if has_tag waiting.old.handle.items) (value_of event.old)
-        (if waiting.old.has_tag then not has_tag else is_plain_style style)
-        (if waiting.old.has_tag then false else not (is_plain_style style)) style }
+        (if tagged then not has_tag else is_plain_style style)
+        (if tagged then false else not (is_plain_style style)) style }
 {
     match *event {
         yaml_event_body_t::Scalar {
@@ -87,16 +98,8 @@ fn name_scalar(
             let rooms = &mut waiting.rooms;
             exchange(anchor, has_anchor, &mut waiting.anchor, &mut rooms.anchor);
             exchange(tag, has_tag, &mut waiting.handle, &mut rooms.tag);
-            *plain = if waiting.has_tag {
-                !has_tag
-            } else {
-                is_plain(style)
-            };
-            *quoted = if waiting.has_tag {
-                false
-            } else {
-                !is_plain(style)
-            };
+            *plain = if tagged { !has_tag } else { is_plain(style) };
+            *quoted = if tagged { false } else { !is_plain(style) };
             *last_style = style;
         }
         // Never: it holds a scalar.
@@ -120,8 +123,9 @@ fn put_scalar(
         (if waiting.old.has_tag then not has_tag else is_plain_style style)
         (if waiting.old.has_tag then false else not (is_plain_style style)) style }
 {
+    let tagged = waiting.has_tag;
     if takes_value(&mut waiting.rooms, has_anchor, has_tag, value, event) {
-        name_scalar(waiting, has_anchor, has_tag, style, event);
+        name_scalar(waiting, tagged, has_anchor, has_tag, style, event);
     } else {
         scalar_over(waiting, has_anchor, has_tag, value, style, event);
     }
@@ -144,7 +148,7 @@ fn scalar_over(
         (if waiting.old.has_tag then false else not (is_plain_style style)) style }
 {
     other_bare(waiting, value, style, event);
-    name_scalar(waiting, has_anchor, has_tag, style, event);
+    name_scalar(waiting, waiting.has_tag, has_anchor, has_tag, style, event);
 }
 
 fn is_plain(style: yaml_scalar_style_t) -> bool
@@ -282,8 +286,12 @@ pub(crate) fn named(
     ensures { body_of event.new ≡ named_event waiting.old (item.scalar value.old.items style) }
 {
     if waiting.has_tag {
-        let is_mark = waiting.handle.as_slice() == b"!".as_slice();
-        put_scalar(waiting, waiting.has_anchor, !is_mark, value, style, event);
+        if waiting.handle.as_slice() == b"!".as_slice() {
+            // Few have it.
+            scalar_over(waiting, waiting.has_anchor, false, value, style, event);
+        } else {
+            put_scalar(waiting, waiting.has_anchor, true, value, style, event);
+        }
     } else {
         put_scalar(waiting, waiting.has_anchor, false, value, style, event);
     }

@@ -123,25 +123,6 @@ fn names_scalar(buffers: &mut StepBuffers, token: &mut TokenSlot, event: &mut ya
     tell_at_once(tags, Shape::Scalar, &mut buffers.waiting, token, event)
 }
 
-// The same, whatever they are.
-// Inlined: so what it answers is known, where its event is told at once.
-#[inline(always)]
-fn step_named_scalar(
-    buffers: &mut StepBuffers,
-    token: &mut TokenSlot,
-    event: &mut yaml_event_t,
-    fault: &mut yaml_fault_t,
-) -> Step
-    ensures { Goes (kinds.named shapes.Scalar) (token_in_slot token.old) buffers.old result
-        (event_of event.new) (fault_of fault.new) buffers.new }
-{
-    if names_scalar(buffers, token, event) {
-        Step::Given
-    } else {
-        step_tagged(Shape::Scalar, buffers, token, event, fault)
-    }
-}
-
 // A node behind properties.
 // Out of line: few have them.
 #[inline(never)]
@@ -342,7 +323,13 @@ fn going(
         Turn::BlockMapping => tell(Shape::BlockMapping, buffers, token, event),
         Turn::FlowSequence => tell(Shape::FlowSequence, buffers, token, event),
         Turn::FlowMapping => tell(Shape::FlowMapping, buffers, token, event),
-        Turn::NamedScalar => step_named_scalar(buffers, token, event, fault),
+        Turn::NamedScalar => {
+            if names_scalar(buffers, token, event) {
+                Step::Given
+            } else {
+                step_tagged(Shape::Scalar, buffers, token, event, fault)
+            }
+        }
         Turn::NamedBlockSequence => step_named(Shape::BlockSequence, buffers, token, event, fault),
         Turn::NamedBlockMapping => step_named(Shape::BlockMapping, buffers, token, event, fault),
         Turn::NamedFlowSequence => step_named(Shape::FlowSequence, buffers, token, event, fault),

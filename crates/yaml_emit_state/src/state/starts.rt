@@ -174,28 +174,6 @@ impl Core {
         }
     }
 
-    // An alias, at once where it begins a line; else nothing.
-    // Inlined into its one caller.
-    #[inline(always)]
-    fn place_alias(&mut self, name: &[u8]) -> bool
-        requires form { self.old.settings.canonical ≡ true }
-        requires due { self.old.place ≡ at.Node }
-        ensures laid { result ≡ true → Placed self.old (alias name.now) self.new }
-        ensures same { result ≡ false → self.new ≡ self.old }
-    {
-        match self.levels.top() {
-            None => false,
-            Some(level) => {
-                if self.leads(b'*', name, b"") {
-                    self.levels.turn(Levels::phase_behind(level.phase, false));
-                    true
-                } else {
-                    false
-                }
-            }
-        }
-    }
-
     // An alias, or what opens a collection with an anchor and without a tag, at once where it begins a line; else nothing.
     // Out of line: one call, beside those of what has no name.
     #[inline(never)]
@@ -207,7 +185,17 @@ impl Core {
         ensures same { result ≡ false → self.new ≡ self.old }
     {
         match event {
-            yaml_event_body_t::Alias { anchor } => self.place_alias(anchor),
+            yaml_event_body_t::Alias { anchor } => match self.levels.top() {
+                None => false,
+                Some(level) => {
+                    if self.leads(b'*', anchor, b"") {
+                        self.levels.turn(Levels::phase_behind(level.phase, false));
+                        true
+                    } else {
+                        false
+                    }
+                }
+            },
             yaml_event_body_t::SequenceStart { anchor, tag, .. } => {
                 self.place_named_start(true, anchor, tag)
             }

@@ -1,5 +1,6 @@
 -- What is to come of a session.
-use Rattle.std.proofs.Common.{ℕ, ◌≡◌, ◌⊎◌, ◌≤◌, length, Bool, true, false, true≢false, ltb, List, [], ◌∷◌, Option, Some, None, refl, sym, ap, subst, ◌∙◌, inl, inr, arith}
+use Rattle.std.proofs.Common.{ℕ, ◌≡◌, ◌⊎◌, ◌<◌, ◌≤◌, length, Bool, true, false, true≢false, ltb, List, [], ◌∷◌, Option, Some, None, refl, sym, ap, subst, ◌∙◌, inl, inr, arith}
+use Rattle.std.proofs.lemmas.Bool.{cases_Bool}
 use Rattle.std.proofs.lemmas.Bool.Decides.{nat_tests}
 use Rattle.std.specs.Prelude.{is_some, option_copied, option_map}
 use denote.Bor.{Bor}
@@ -13,7 +14,6 @@ use Rattle.yaml_scan_history.specs.Scanned.{scanned}
 use Rattle.yaml_scan_machine.specs.scan_laws_order.Fronts.{GivesFirst}
 use Rattle.yaml_scan_machine.specs.declared.machine.Machine.{Machine}
 use Rattle.yaml_scan_slot.specs.Lending.{key_of}
-use Rattle.yaml_scan_model.specs.Rooms.{KeepsFew}
 use Rattle.yaml_scan_machine.specs.Handed.{GivesTo, GivesKeyTo, Hands}
 use Rattle.yaml_scan_machine.specs.State.{IsShort, IsMachine, KeepsInput, is_ready}
 use Rattle.yaml_scan_machine.specs.Left.{left_in}
@@ -21,9 +21,13 @@ use Rattle.yaml_scan_machine.proofs.TakeLemmas.{ready_gives}
 use Rattle.yaml_scan.specs.Session.{View, HasFirst, MayTake, ReadsNeeded, StaysLent, Fails, Takes, TakesKeyed, TakesLent, Lends, Refuses, ScansInto, MayAnswer, begun, ended, first_of, has_first, behind_first, is_settled}
 use Rattle.yaml_scan_machine.specs.Settled.{open_count}
 use Rattle.yaml_scan_machine.specs.Found.{ReadsAsNeeded, Gives, Knows, Lacks, Denies, read_by}
-use Rattle.yaml_scan_machine.proofs.FoundLemmas.{reads_both, reads_none}
+use Rattle.yaml_scan_machine.proofs.FoundLemmas.{reads_both, reads_none, settled_ready}
 use Rattle.yaml_scan_machine.proofs.SettledLemmas.{machine_tells}
-use Rattle.yaml_scan.specs.SessionView.{remaining_by, view_by, IsWhole}
+use Rattle.yaml_scan_model.specs.declared.keeping.Spares.{Spares}
+use Rattle.yaml_scan_model.specs.Rooms.{KeepsFew, rooms_of}
+use Rattle.yaml_scan_model.proofs.RoomsLemmas.{few_kept}
+use Rattle.yaml_scan.specs.declared.session.yaml_parser_t.TheInside.{Inside}
+use Rattle.yaml_scan.specs.SessionView.{remaining_by, view_by, view_of, session_view, IsWhole, IsSession}
 
 pub no_fault : (o : Option yaml_fault_t) → is_some o ≡ false → o ≡ None
 no_fault None e = refl
@@ -237,22 +241,23 @@ lends_none x y (Some f) aside s t m n e off l = cc
 
 -- a session whose next token was put aside
 pub whole_held : (o : Option yaml_fault_t) (m : Machine) (t : yaml_token_t) → is_some o ≡ false
-    → IsMachine m → IsWhole m o t true
-whole_held None m t e i = record { machine = λ _. i; free = λ bad. cc; over = λ f bad. cc; idle = λ bad. cc; short = i.short }
+    → IsMachine m → IsWhole m o t true 0
+whole_held None m t e i = record { machine = λ _. i; free = λ bad. cc; over = λ f bad. cc; idle = λ bad. cc; short = i.short; held = λ _. refl; known = omega arith }
 whole_held (Some f) m t e i = cc
 
 -- a session to which nothing is to come
 pub whole_none : (o : Option yaml_fault_t) (aside : Bool) (m : Machine) (t : yaml_token_t)
-    → is_some o ≡ false → aside ≡ false → IsMachine m → token_of t ≡ no_token → IsWhole m o t aside
-whole_none None aside m t e off i empty = record { machine = λ _. i; free = λ _. refl; over = λ f bad. empty; idle = λ _. empty; short = i.short }
+    → is_some o ≡ false → aside ≡ false → IsMachine m → token_of t ≡ no_token
+    → IsWhole m o t aside 0
+whole_none None aside m t e off i empty = record { machine = λ _. i; free = λ _. refl; over = λ f bad. empty; idle = λ _. empty; short = i.short; held = λ _. refl; known = omega arith }
 whole_none (Some f) aside m t e off i empty = cc
 
 -- a session that answered a fault
 pub whole_refused : (o : Option yaml_fault_t) (m : Machine) (s t : yaml_token_t) (f : yaml_fault_t)
     → o ≡ Some f → token_of t ≡ token_of s → token_of s ≡ no_token → IsShort m.ahead m.waiting
-    → IsWhole m o t true
+    → IsWhole m o t true 0
 whole_refused None m s t f e same empty few = cc
-whole_refused (Some g) m s t f e same empty few = record { machine = λ bad. cc; free = λ bad. cc; over = λ g is. same ∙ empty; idle = λ bad. cc; short = few }
+whole_refused (Some g) m s t f e same empty few = record { machine = λ bad. cc; free = λ bad. cc; over = λ g is. same ∙ empty; idle = λ bad. cc; short = few; held = λ _. refl; known = omega arith }
 
 -- a session that a fault ended
 pub ends : (x : List ℕ) (o p : Option yaml_fault_t) (aside after : Bool) (s t : Token) (m : Machine)
@@ -261,14 +266,15 @@ pub ends : (x : List ℕ) (o p : Option yaml_fault_t) (aside after : Bool) (s t 
 ends x o p aside after s t m f e = ap (λ (q : Option yaml_fault_t). view_by m q t after x) e
 
 -- a session whose token that was put aside is taken
-pub whole_idle : (o : Option yaml_fault_t) (aside : Bool) (m : Machine) (s t : yaml_token_t)
-    → is_some o ≡ false → IsWhole m o s aside → token_of t ≡ no_token → IsWhole m o t false
-whole_idle o aside m s t e w empty = record { machine = w.machine; free = λ _. no_fault o e; over = λ f is. empty; idle = λ _. empty; short = w.short }
+pub whole_idle : (o : Option yaml_fault_t) (aside : Bool) (m : Machine) (s t : yaml_token_t) (l : ℕ)
+    → is_some o ≡ false → IsWhole m o s aside l → token_of t ≡ no_token → IsWhole m o t false l
+whole_idle o aside m s t l e w empty = record { machine = w.machine; free = λ _. no_fault o e; over = λ f is. empty; idle = λ _. empty; short = w.short; held = λ bad. cc; known = w.known }
 
--- a session of which nothing but its machine changes
+-- a session of which nothing but its machine changes, and how many lexemes may be lent
 pub whole_taken : (o : Option yaml_fault_t) (aside : Bool) (m n : Machine) (s : yaml_token_t)
-    → IsWhole m o s aside → IsMachine n → IsWhole n o s aside
-whole_taken o aside m n s w i = record { machine = λ _. i; free = w.free; over = w.over; idle = w.idle; short = i.short }
+    (l k : ℕ) → IsWhole m o s aside l → IsMachine n → k ≤ n.settled → (aside ≡ true → k ≡ 0)
+    → IsWhole n o s aside k
+whole_taken o aside m n s l k w i known held = record { machine = λ _. i; free = w.free; over = w.over; idle = w.idle; short = i.short; held = held; known = known }
 
 -- what is left where the token that was put aside is dropped
 pub left_held : (o : Option yaml_fault_t) (aside : Bool) (s t : Token) (c : Remaining) → o ≡ None
@@ -342,15 +348,6 @@ takes_keyed x y o aside s m n p P e off few knows stands k =
       takes = takes_own y y o aside s k.token k.middle p e off record { stands = stands; first = k.first; reads = reads_none k.middle p k.behind };
     }
 
-pub takes_lent : (x y : List ℕ) (o : Option yaml_fault_t) (aside : Bool) (s : Token)
-    (m n p : Machine) (passes P Q : Token → Type 0) → is_some o ≡ false → aside ≡ false
-    → KeepsFew y → Knows m n → MayTake passes (left_in n) → IsMachine p → Hands P Q n p
-    → KeepsInput n p
-    → TakesLent passes P (view_by m o s aside x) (view_by p o s aside y)
-    ⊎ TakesKeyed Q (view_by m o s aside x) (view_by p o s aside y)
-takes_lent x y o aside s m n p passes P Q e off few knows may stands (inl g) keeps = inl (takes_one x y o aside s m n p passes P e off knows may stands g keeps)
-takes_lent x y o aside s m n p passes P Q e off few knows may stands (inr k) keeps = inr (takes_keyed x y o aside s m n p Q e off few knows stands k)
-
 -- the first token doesn't pass, if one is to come
 pub fails_first : (m : Machine) (passes : Token → Type 0) (t : Token) → IsMachine m
     → is_ready m ≡ true → ((first : Token) (rest : Remaining) → GivesFirst (left_in m) first rest
@@ -360,8 +357,48 @@ fails_first m passes t i ready told fails =
     let (s, rest, gives) = ready_gives m i ready in
     record { token = s; rest = rest; first = gives; fails = λ p. fails (subst passes (sym (told s rest gives)) p) }
 
+-- a session that goes on to one whose next token is known and wasn't put aside
+pub record MayLend (s i : Inside) : Type 0 where
+  pub none : s.fault ≡ None
+  pub free : s.aside ≡ false
+  pub knows : Knows s.machine i.machine
+  pub whole : IsSession i
+  pub same : record s { machine = i.machine; lendable = i.lendable; spares = i.spares } ≡ i
+
+-- it is itself one, where a lexeme of those that may be lent is to come
+pub lends_known : (s : Inside) → IsSession s → s.machine.dropped < s.lendable → MayLend s s
+lends_known s w more =
+    let free : s.aside ≡ false = elim (cases_Bool s.aside) [ inl on ↦ absurd (omega (arith, w.held on, more)) | inr off ↦ off ] in
+    let i = w.machine (w.free free) in
+    let reads = reads_none s.machine s.machine record { setting = refl; bytes = refl; ahead = refl; read = refl } in
+    let ready = sym (settled_ready s.machine i (omega (arith, w.known, more))) in
+    record { none = w.free free; free = free; knows = record { stands = i; left = refl; ready = ready; reads = reads }; whole = w; same = refl }
+
+-- or it is one once it was read on
+pub lends_read : (s : Inside) (m : Machine) (x : Spares) → IsSession s → s.aside ≡ false
+    → Knows s.machine m → MayLend s (record s { machine = m; lendable = m.settled; spares = x })
+lends_read s m x w off knows =
+    let whole = whole_taken s.fault s.aside s.machine m s.shown s.lendable m.settled w knows.stands (omega arith) (λ on. absurd (true≢false (sym on ∙ off))) in
+    record { none = w.free off; free = off; knows = knows; whole = whole; same = refl }
+
+-- its next token is taken where it lies
+pub takes_from : (s i : Inside) (p : Machine) (passes P Q : Token → Type 0) → MayLend s i
+    → MayTake passes (left_in i.machine) → IsMachine p → Hands P Q i.machine p
+    → KeepsInput i.machine p
+    → TakesLent passes P (session_view s) (view_of p i.fault i.shown i.aside i.spares)
+    ⊎ TakesKeyed Q (session_view s) (view_of p i.fault i.shown i.aside i.spares)
+takes_from s i p passes P Q l may stands hands keeps =
+    let x = rooms_of s.spares in
+    let y = rooms_of i.spares in
+    let t = token_of s.shown in
+    let e = none_some s.fault l.none in
+    subst (λ (j : Inside). TakesLent passes P (session_view s) (view_of p j.fault j.shown j.aside j.spares) ⊎ TakesKeyed Q (session_view s) (view_of p j.fault j.shown j.aside j.spares)) l.same (elim hands [
+      | inl g ↦ inl (takes_one x y s.fault s.aside t s.machine i.machine p passes P e l.free l.knows may stands g keeps)
+      | inr k ↦ inr (takes_keyed x y s.fault s.aside t s.machine i.machine p Q e l.free (few_kept i.spares) l.knows stands k)
+    ])
+
 -- none is taken, where none was put aside
-pub stays_lent : (x y : List ℕ) (o : Option yaml_fault_t) (aside : Bool) (s : Token) (m n : Machine)
+stays_lent : (x y : List ℕ) (o : Option yaml_fault_t) (aside : Bool) (s : Token) (m n : Machine)
     (passes : Token → Type 0)
     → is_some o ≡ false → aside ≡ false → (left_in m ≡ nothing) ⊎ Fails passes (left_in m)
     → left_in n ≡ left_in m → ReadsAsNeeded m n
@@ -376,10 +413,9 @@ stays_lent x y None false s m n passes e off reason left reads = record {
 stays_lent x y None true s m n passes e off reason left reads = cc
 stays_lent x y (Some f) aside s m n passes e off reason left reads = cc
 
--- a session goes on as it is, where a token was put aside or a fault answered
-pub stays_same : (x : List ℕ) (o : Option yaml_fault_t) (aside : Bool) (s : Token) (m : Machine)
-    (passes : Token → Type 0) → aside ≡ true
-    → StaysLent passes (view_by m o s aside x) (view_by m o s aside x)
-stays_same x None true s m passes on = let v = view_by m None s true x in record { reason = inl refl; all = refl; same = refl; reads = same_reads v v refl refl refl refl; shown = refl }
-stays_same x None false s m passes on = cc
-stays_same x (Some f) aside s m passes on = let v = view_by m (Some f) s aside x in record { reason = inr (inl refl); all = refl; same = refl; reads = same_reads v v refl refl refl refl; shown = refl }
+-- or none is, since it doesn't pass
+pub stays_from : (s i : Inside) (passes : Token → Type 0) → MayLend s i
+    → Fails passes (left_in i.machine) → StaysLent passes (session_view s) (session_view i)
+stays_from s i passes l fails =
+    let reason = inr (subst (λ (c : Remaining). Fails passes c) l.knows.left fails) in
+    subst (λ (j : Inside). StaysLent passes (session_view s) (session_view j)) l.same (stays_lent (rooms_of s.spares) (rooms_of i.spares) s.fault s.aside (token_of s.shown) s.machine i.machine passes (none_some s.fault l.none) l.free reason l.knows.left l.knows.reads)

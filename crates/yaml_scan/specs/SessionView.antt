@@ -1,5 +1,5 @@
 -- What a clause sees of a session.
-use Rattle.std.specs.Prelude.{ℕ, ◌≡◌, List, length, Bool, true, false, ◌∷◌, Option, Some, None, option_map}
+use Rattle.std.specs.Prelude.{ℕ, ◌≡◌, ◌≤◌, List, length, Bool, true, false, ◌∷◌, Option, Some, None, option_map}
 use Rattle.yaml_scan_model.specs.declared.fault.yaml_fault_t.{yaml_fault_t}
 use Rattle.yaml_scan_model.specs.declared.token.yaml_token_t.{yaml_token_t}
 use Rattle.yaml_scan_machine.specs.declared.machine.Machine.{Machine}
@@ -49,15 +49,17 @@ abbrev pub view_of : Machine → Option yaml_fault_t → yaml_token_t → Bool �
 view_of m fault shown aside spares = view_by m fault (token_of shown) aside (rooms_of spares)
 
 pub record IsWhole (m : Machine) (fault : Option yaml_fault_t) (shown : yaml_token_t)
-    (aside : Bool) : Type 0 where
+    (aside : Bool) (lendable : ℕ) : Type 0 where
   pub machine : fault ≡ None → IsMachine m
   pub free : aside ≡ false → fault ≡ None
   pub over : (f : yaml_fault_t) → fault ≡ Some f → token_of shown ≡ no_token
   pub idle : aside ≡ false → token_of shown ≡ no_token
   pub short : IsShort m.ahead m.waiting
+  pub held : aside ≡ true → lendable ≡ 0
+  pub known : lendable ≤ m.settled
 
 abbrev pub session_view : Inside → View
 session_view s = view_of s.machine s.fault s.shown s.aside s.spares
 
 abbrev pub IsSession : Inside → Type 0
-IsSession s = IsWhole s.machine s.fault s.shown s.aside
+IsSession s = IsWhole s.machine s.fault s.shown s.aside s.lendable

@@ -38,6 +38,8 @@ pub struct yaml_parser_t<'a> {
     shown: yaml_token_t,
     /// The next token isn't the reader's: a peek put it aside, or a fault was answered.
     aside: bool,
+    /// So many lexemes may be lent before anything else is asked: none where a token is aside, and at most those that are settled.
+    lendable: usize,
     /// Texts that were let go, whose room the next ones take.
     spares: Spares,
 }
@@ -90,6 +92,7 @@ impl<'a> yaml_parser_t<'a> {
             fault: None,
             shown: yaml_token_t::empty(),
             aside: false,
+            lendable: 0,
             spares: Spares::new(alloc),
         }
     }
@@ -138,6 +141,7 @@ pub fn yaml_parser_scan_into(
         put_shown(token, &mut parser.shown);
         return true;
     }
+    parser.lendable = 0;
     match next_into(&mut parser.machine, &mut parser.spares, token, fault) {
         Sought::Known => true,
         Sought::Nothing => true,
@@ -158,8 +162,8 @@ fn may_take<C: TokenCheck>(machine: &Machine, check: &C) -> bool
     ensures takes { result ≡ true → MayTake C.passes (left_in machine.now) }
     ensures fails { result ≡ false → Fails C.passes (left_in machine.now) }
 {
-    match machine.next_tag() {
-        Some(tag) => check.check(tag),
+    match machine.next_unchecked() {
+        Some(unchecked) => check.check(unchecked),
         None => true,
     }
 }
@@ -167,6 +171,7 @@ fn may_take<C: TokenCheck>(machine: &Machine, check: &C) -> bool
 /// Has a taker take the next token where it lies, or KEY and the scalar behind it: what `yaml_parser_scan_into` gives. None is taken,
 /// and what is to come stays, only where a peek put it aside, where none is to come, and where it is a tag or a directive that doesn't
 /// pass the check.
+// That one may be lent is one comparison. What else is asked returns by itself: LLVM joins both tests of a function into a bool.
 // Inlined: mostly the next token is known.
 #[inline(always)]
 pub fn yaml_parser_lend<C: TokenCheck, T: TokenTaker>(
@@ -183,23 +188,28 @@ pub fn yaml_parser_lend<C: TokenCheck, T: TokenTaker>(
     ensures left { LeavesTaker result (taker.new ≡ taker.old) (slot.new ≡ slot.old) }
     ensures few { HoldsLittle parser.new }
 {
-    if parser.aside {
-        return Lent::Left;
-    }
-    match read_on(&mut parser.machine, &mut parser.spares, fault) {
-        Sought::Known => {
-            if may_take(&parser.machine, check) {
-                return Lent::Taken(parser.machine.give(taker, slot, fault));
+    if parser.lendable <= parser.machine.dropped {
+        if parser.aside {
+            return Lent::Left;
+        }
+        match read_on(&mut parser.machine, &mut parser.spares, fault) {
+            Sought::Known => parser.lendable = parser.machine.settled,
+            Sought::Nothing => {
+                parser.lendable = 0;
+                return Lent::Left;
             }
-            Lent::Left
-        }
-        Sought::Nothing => Lent::Left,
-        Sought::Refused => {
-            keep(&mut parser.fault, fault);
-            parser.aside = true;
-            Lent::Refused
+            Sought::Refused => {
+                keep(&mut parser.fault, fault);
+                parser.aside = true;
+                parser.lendable = 0;
+                return Lent::Refused;
+            }
         }
     }
+    if may_take(&parser.machine, check) {
+        return Lent::Taken(parser.machine.give(taker, slot, fault));
+    }
+    Lent::Left
 }
 
 /// Lends the token that the next scan gives, and takes nothing. Refused as a scan is.
@@ -210,6 +220,7 @@ pub fn yaml_parser_peek<'p>(parser: &'p mut yaml_parser_t) -> Result<&'p yaml_to
         (the_row (record { mir = named 1; lft = [] })) parser.entry.ghost_name none (λ _ _. ⊤)
         (λ new. Peeks parser.old new result × HoldsLittle new)) }
 {
+    parser.lendable = 0;
     put_aside(
         &mut parser.machine,
         &mut parser.fault,
@@ -228,8 +239,8 @@ fn put_aside(
     aside: &mut bool,
     spares: &mut Spares,
 ) -> Result<(), yaml_fault_t>
-    requires { IsWhole machine.old kept.old shown.old aside.old }
-    ensures stands { IsWhole machine.new kept.new shown.new aside.new }
+    requires { IsWhole machine.old kept.old shown.old aside.old 0 }
+    ensures stands { IsWhole machine.new kept.new shown.new aside.new 0 }
     ensures looks { Looks (view_of machine.old kept.old shown.old aside.old spares.old)
         (view_of machine.new kept.new shown.new aside.new spares.new) (token_of shown.new) result }
     ensures few { KeepsFew (rooms_of spares.new) }
@@ -282,6 +293,7 @@ pub fn yaml_parser_skip(parser: &mut yaml_parser_t)
         put_over(&mut parser.shown, yaml_token_t::empty());
         return;
     }
+    parser.lendable = 0;
     drop(parser.machine.take_token());
 }
 
@@ -296,6 +308,7 @@ pub fn yaml_parser_end(parser: &mut yaml_parser_t, found: &yaml_fault_t)
 {
     keep(&mut parser.fault, found);
     parser.aside = true;
+    parser.lendable = 0;
     put_over(&mut parser.shown, yaml_token_t::empty());
 }
 

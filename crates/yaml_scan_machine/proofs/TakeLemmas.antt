@@ -1,7 +1,7 @@
 -- What a token that is taken leaves to come.
 use Rattle.std.proofs.Common.{Bool, ◌≡◌, ℕ, suc, ◌+◌, ◌-◌, ◌<◌, ◌≤◌, true, false, ltb, List, [], ◌∷◌, length, drop, get_or, not, Option, Some, None, refl, sym, ap, subst, ◌∙◌, inl, inr, ◌⊎◌, arith, ◌^◌}
 use Rattle.yaml_scan_machine.proofs.Words.{Line, cases_Bool, cases_lt, nat_tests, length-map, map, IfSome, Opens, Token, TokenBody, token_in_slot, text_bytes, AreInside, block_end, no_token, entries, Remaining, remaining, spell, GivesFirst, ends_token, Machine, Waiting, KeptLexeme, kept_of, IsMachine, is_ready, ready_in, fields_of, kept_in, read, history_of, stream_of, front_at, front_count, fronted, given_in, own_token, to_come, left_in, cases_Option}
-use Rattle.yaml_scan_queue.specs.Hands.{Gives, GivesFront, GivesOwn, GivesKeyed, TellsTag, handing}
+use Rattle.yaml_scan_queue.specs.Hands.{Gives, GivesFront, GivesOwn, GivesKeyed, TellsUnchecked, handing}
 use Rattle.yaml_scan_model.specs.Tokens as token
 use Rattle.yaml_scan_model.specs.Tokens.{type_of}
 use Rattle.yaml_scan_model.specs.declared.name.yaml_token_type_t.TheVariants.{YAML_SCALAR_TOKEN}
@@ -90,14 +90,6 @@ front_few m w rest i items =
     let long = length-map m.waiting.items (λ (x : Waiting). kept_of x) in
     let two = front_count-le (kept_of w) in
     omega (arith, few, ends, long, two, i.shown.count, i.few, i.long)
-
--- of them so few are given that one more may be
-pub given_room : (m : Machine) (w : Waiting) (rest : List Waiting) (b : TokenBody) → IsMachine m
-    → m.waiting.items ≡ w ∷ rest → front_at (kept_of w) m.given ≡ Some b → m.given < 2 ^ 64 - 1
-given_room m w rest b i items some =
-    let few = front_few m w rest i items in
-    let room = front_room (kept_of w) m.given b some in
-    omega (arith, few, room)
 
 pub first_waits : (d s g : ℕ) (ws : List Waiting) → ready_in d s g ws ≡ true
     → (w : Waiting) × (rest : List Waiting) × (ws ≡ w ∷ rest)
@@ -327,14 +319,14 @@ fronted_text k n own =
     ]
 
 pub tells_next : (m : Machine) (r : Option (Bor TokenSlot)) → IsMachine m → is_ready m ≡ true
-    → ((w : Waiting) → TellsTag m.given (get_or m.waiting.items 0 w) r) → TellsNext (left_in m) r
+    → ((w : Waiting) → TellsUnchecked m.given (get_or m.waiting.items 0 w) r) → TellsNext (left_in m) r
 tells_next m (Some t) i ready tells =
     let (w, rest, items) = first_waits m.dropped m.settled m.given m.waiting.items ready in
-    let (none, same) = subst (λ w. TellsTag m.given w (Some t)) (first_here m.waiting.items w rest items) (tells w) in
+    let (none, same) = subst (λ w. TellsUnchecked m.given w (Some t)) (first_here m.waiting.items w rest items) (tells w) in
     λ first left gives. same ∙ sym (first_token m w rest i items ready first left gives ∙ ap (λ o. fronted (own_token (kept_of w)) o) none)
 tells_next m None i ready tells =
     let (w, rest, items) = first_waits m.dropped m.settled m.given m.waiting.items ready in
-    let told = subst (λ w. TellsTag m.given w None) (first_here m.waiting.items w rest items) (tells w) in
+    let told = subst (λ w. TellsUnchecked m.given w None) (first_here m.waiting.items w rest items) (tells w) in
     let own : front_at (kept_of w) m.given ≡ None → spells_text (kept_of w).body ≡ true = λ none. elim told [
       | inl other ↦ other
       | inr never ↦ absurd (never none)

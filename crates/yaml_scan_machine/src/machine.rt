@@ -251,6 +251,7 @@ impl<'a> Machine<'a> {
             (λ t. T.wants taker.old × T.takes true taker.old slot.old t taker.new slot.new
             (fault_of fault.new) result) self.old self.new }
         ensures keeps { KeepsInput self.old self.new }
+        ensures settled { self.new.settled ≡ self.old.settled }
     {
         self.waiting
             .give(&mut self.given, &mut self.dropped, taker, slot, fault)
@@ -259,12 +260,12 @@ impl<'a> Machine<'a> {
     /// The next token, if it isn't known to spell UTF-8.
     // Inlined: mostly a comparison.
     #[inline(always)]
-    pub fn next_tag(&self) -> Option<&TokenSlot>
+    pub fn next_unchecked(&self) -> Option<&TokenSlot>
         requires stands { IsMachine self.now }
         requires ready { is_ready self.now ≡ true }
         ensures { TellsNext (left_in self.now) result }
     {
-        self.waiting.next_tag(self.given)
+        self.waiting.next_unchecked(self.given)
     }
 
     /// Tells the candidate of which a `:` makes a key that it is one, and what it opens.

@@ -16,7 +16,7 @@ use Rattle.yaml_scan_model.specs.Tokens.{TokenBody}
 use Rattle.yaml_scan_slot.specs.Slots.{is_tagged, spells_text, token_in_slot}
 use Rattle.yaml_scan_slot.specs.declared.slot.TokenSlot.{TokenSlot}
 use Rattle.yaml_scan_queue.specs.Front.{front_at, front_count, start_at, start_count, key_count}
-use Rattle.yaml_scan_queue.specs.Hands.{TellsTag}
+use Rattle.yaml_scan_queue.specs.Hands.{TellsUnchecked}
 use Rattle.yaml_scan_queue.specs.Waits.{AreCounted, IsCounted, IsGiven, KeptLexeme, PushesBoth, kept_of, keyed, own_of}
 use Rattle.yaml_scan_queue.specs.declared.waiting.ReadLexeme.{ReadLexeme}
 use Rattle.yaml_scan_queue.specs.declared.waiting.Waiting.{Waiting}
@@ -124,14 +124,14 @@ plain_spells (token.tag_directive x y) plain = cc
 plain_spells _ plain = refl
 
 -- the own token of the lexeme that waits first, where it is lent
-pub tells_tag : (n : ℕ) (x w : Waiting) (r : Option (Bor TokenSlot)) → x ≡ w
+pub tells_unchecked : (n : ℕ) (x w : Waiting) (r : Option (Bor TokenSlot)) → x ≡ w
     → n ≤ front_count (kept_of w)
     → IfSome r (λ t. (n ≡ front_count (kept_of x)) × (t.now ≡ x.token))
     → (r ≡ None → (is_tagged (kept_of x).body ≡ false) ⊎ (n ≡ front_count (kept_of x) → ⊥))
-    → TellsTag n w r
-tells_tag n x w (Some t) is few (all, same) none =
+    → TellsUnchecked n w r
+tells_unchecked n x w (Some t) is few (all, same) none =
     (front_done (kept_of w) n (ap (λ (y : Waiting). front_count (kept_of y)) (sym is) ∙ sym all), ap (λ (y : TokenSlot). token_in_slot y) same ∙ ap (λ (y : Waiting). token_in_slot y.token) is)
-tells_tag n x w None is few some none = elim (none refl) [
+tells_unchecked n x w None is few some none = elim (none refl) [
   | inl bare ↦ inl (ap (λ (y : Waiting). spells_text (kept_of y).body) (sym is) ∙ plain_spells (kept_of x).body bare)
   | inr left ↦ inr (λ done. left (omega (arith, few, ap (λ (y : Waiting). front_count (kept_of y)) is, all_given (kept_of w) n done)))
 ]
@@ -186,54 +186,19 @@ counted_set xs f l i y low h k =
 pub counted_drop : (xs ys : List Waiting) → ys ≡ drop 1 xs → AreCounted xs → AreCounted ys
 counted_drop xs ys is h = counted_same _ ys is (All-drop (λ w. IsCounted w) 1 xs h)
 
--- what becomes a key is told to be open where it is a tag
+-- what becomes a key is told to be unchecked where it is a tag
 pub counted_keyed : (o : Opens) (w : Waiting) → IsCounted (keyed o w)
 counted_keyed o w = record {
-  is_open = is_tagged (kept_of w).body;
+  is_unchecked = is_tagged (kept_of w).body;
   noted = refl;
   tagged = λ tag. tag;
   text = λ bare. plain_spells (kept_of w).body bare;
 }
 
--- what is no tag is noted by how many stand in front, which are few
-pub own_bare : (x : Waiting) → IsCounted x → front_count (kept_of x) < 2 ^ 64 - 1
-    → is_tagged (kept_of x).body ≡ false → x.own_after ≡ front_count (kept_of x)
-own_bare x h few bare = elim (cases_Bool h.is_open) [
-  | inl all ↦ let no : true ≡ false = sym (h.tagged all) ∙ bare in cc
-  | inr known ↦
-      let is : x.own_after ≡ own_of false (kept_of x) = h.noted ∙ ap (λ (b : Bool). own_of b (kept_of x)) known in
-      omega (arith, is, few)
-]
-
--- one that comes where so many stand in front is known to spell UTF-8
-pub own_here : (x : Waiting) (n : ℕ) → IsGiven x n → x.own_after ≡ n
-    → (spells_text (kept_of x).body ≡ true) × (front_count (kept_of x) ≡ n)
-own_here x n (h, few, le) here = elim (cases_Bool h.is_open) [
-  | inl all ↦
-      let most : x.own_after ≡ own_of true (kept_of x) = h.noted ∙ ap (λ (b : Bool). own_of b (kept_of x)) all in
-      absurd (omega (arith, most, here, few, le))
-  | inr known ↦
-      let is : x.own_after ≡ own_of false (kept_of x) = h.noted ∙ ap (λ (b : Bool). own_of b (kept_of x)) known in
-      (h.text known, omega (arith, is, here, few))
-]
-
 -- the two stand behind the others
 pub put_twice : {old : List Waiting} {r s : ReadLexeme} {new : List Waiting}
     → (p : PushesBoth old r s new) → new ≡ (old ++ p.first.waiting ∷ []) ++ p.second.waiting ∷ []
 put_twice p = p.second.items ∙ ap (λ (ws : List Waiting). ws ++ p.second.waiting ∷ []) p.first.items
-
-key_start : (o : Opens) → start_at o true (start_count o) ≡ Some token.key
-key_start _ = grind arith
-
--- KEY is the last of the tokens in front
-pub key_last : (k : KeptLexeme) (n : ℕ) → k.key ≡ true → front_count k ≡ n + 1
-    → (front_at k n ≡ Some token.key) × (front_at k (n + 1) ≡ None)
-key_last k n is all =
-    let count : key_count k.key ≡ 1 = ap key_count is in
-    let past : ltb n k.ends ≡ false = grind (arith, nat_tests, all, count) in
-    let left : n - k.ends ≡ start_count k.opens = omega (arith, all, count) in
-    let start : start_at k.opens k.key (n - k.ends) ≡ Some token.key = rw (is, left) (key_start k.opens) in
-    (rw past start, front_done k (n + 1) all)
 
 -- what is known of the lexeme that waits first
 pub first_given : (n : ℕ) (xs : List Waiting) (f l : ℕ) (x : Waiting) (items : List Waiting)

@@ -60,8 +60,8 @@ abbrev pub Gives : (Token → Type 0) → (Token → Type 0) → Waiting → Han
 Gives P Q w old new = GivesFront P w old new ⊎ GivesOwn P w old new ⊎ GivesKeyed Q w old new
 
 -- its own token, where that is next and isn't known to spell UTF-8
-abbrev pub TellsTag : ℕ → Waiting → Option (Bor TokenSlot) → Type 0
-TellsTag given w (Some t) = (front_at (kept_of w) given ≡ None)
+abbrev pub TellsUnchecked : ℕ → Waiting → Option (Bor TokenSlot) → Type 0
+TellsUnchecked given w (Some t) = (front_at (kept_of w) given ≡ None)
     × (token_in_slot t.now ≡ token_in_slot w.token)
-TellsTag given w None = (spells_text (body_in_slot w.token.body) ≡ true)
+TellsUnchecked given w None = (spells_text (body_in_slot w.token.body) ≡ true)
     ⊎ (front_at (kept_of w) given ≡ None → ⊥)

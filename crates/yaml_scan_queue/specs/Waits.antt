@@ -45,16 +45,16 @@ front_count k = k.ends + (start_count k.opens + key_count k.key)
 abbrev pub fronts_of : KeptLexeme → ℕ
 fronts_of k = front_count k % 2 ^ 64
 
--- behind how many of its tokens its own one comes; the greatest number where that is told to be open
+-- behind how many of its tokens its own one comes; the greatest number where that is told to be unchecked
 abbrev pub own_of : Bool → KeptLexeme → ℕ
-own_of is_open k = if is_open then 2 ^ 64 - 1 else fronts_of k
+own_of is_unchecked k = if is_unchecked then 2 ^ 64 - 1 else fronts_of k
 
--- It is noted so. What isn't known to spell UTF-8 is open, a tag or a directive that declares one.
+-- It is noted so. What isn't known to spell UTF-8 is unchecked, a tag or a directive that declares one.
 pub record IsCounted (w : Waiting) : Type 0 where
-  pub is_open : Bool
-  pub noted : w.own_after ≡ own_of is_open (kept_of w)
-  pub tagged : is_open ≡ true → is_tagged (kept_of w).body ≡ true
-  pub text : is_open ≡ false → spells_text (kept_of w).body ≡ true
+  pub is_unchecked : Bool
+  pub noted : w.own_after ≡ own_of is_unchecked (kept_of w)
+  pub tagged : is_unchecked ≡ true → is_tagged (kept_of w).body ≡ true
+  pub text : is_unchecked ≡ false → spells_text (kept_of w).body ≡ true
 
 -- few tokens stand in front of its own one, so many of which are taken
 abbrev pub IsGiven : Waiting → ℕ → Type 0

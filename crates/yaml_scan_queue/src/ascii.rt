@@ -32,7 +32,7 @@ fn are_ascii_ends(bytes: &[u8], size: usize) -> bool
 }
 
 // Whether the bytes are UTF-8 at sight, since they are few and ASCII alone, as mostly.
-// No hint: LLVM inlines it where a tag is read, and elsewhere the kit would count it, though it is left out.
+// No hint: it is a call, for tags alone; in line the kit would count it for each kind of lexeme, though it is left out there.
 pub(crate) fn is_plain_text(bytes: &[u8]) -> bool
     ensures { result ≡ true → is_utf8 bytes.now ≡ true }
 {

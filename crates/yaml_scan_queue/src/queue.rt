@@ -5,12 +5,12 @@ ghost use Rattle.yaml_scan_model.specs.declared.name.yaml_token_type_t.{yaml_tok
 ghost use Rattle.yaml_scan_model.specs.declared.name.yaml_token_type_t.TheVariants.{YAML_SCALAR_TOKEN};
 ghost use Rattle.yaml_scan_model.specs.Faults.{fault_of};
 ghost use Rattle.yaml_scan_queue.specs.Front.{front_count};
-ghost use Rattle.yaml_scan_queue.specs.Hands.{Gives, KeyComes, TellsTag, handing};
+ghost use Rattle.yaml_scan_queue.specs.Hands.{Gives, KeyComes, TellsUnchecked, handing};
 ghost use Rattle.yaml_scan_queue.specs.Line.{Grows, GrowsTwice};
 ghost use Rattle.yaml_scan_queue.specs.declared.waiting.Waiting.{Waiting};
 ghost use Rattle.yaml_scan_queue.specs.Waits.{IsCounted, IsGiven, Pushes, PushesBoth, kept_of, kept_in_read, keyed};
 
-use crate::waiting::{ReadLexeme, Waiting, is_open};
+use crate::waiting::{ReadLexeme, Waiting, is_unchecked};
 use std::alloc::{AllocError, Global};
 use std::marker::Model;
 use yaml_scan_history::Opens;
@@ -258,13 +258,13 @@ impl Queue {
     /// The own token of the first lexeme, of whose tokens so many were given, where it is next and isn't known to spell UTF-8.
     // Inlined: mostly a comparison.
     #[inline(always)]
-    pub fn next_tag(&self, given: usize) -> Option<&TokenSlot>
+    pub fn next_unchecked(&self, given: usize) -> Option<&TokenSlot>
         requires some { 0 < length self.now.items }
         requires given { (w : Waiting)
             → given ≤ front_count (kept_of (slice_index_or self.now.items 0 w)) }
         requires room { (w : Waiting)
             → front_count (kept_of (slice_index_or self.now.items 0 w)) < 2 ^ 64 - 1 }
-        ensures { (w : Waiting) → TellsTag given (slice_index_or self.now.items 0 w) result }
+        ensures { (w : Waiting) → TellsUnchecked given (slice_index_or self.now.items 0 w) result }
     {
         let first = &self.slots[self.first];
         if first.own_after == given {
@@ -351,6 +351,6 @@ fn put_read(slot: &mut Waiting, read: ReadLexeme, spares: &mut Spares)
     slot.ends = ends;
     slot.opens = opens;
     slot.key = key;
-    slot.note_own(is_open(&body));
+    slot.note_own(is_unchecked(&body));
     slot.token.body.put(body, spares);
 }

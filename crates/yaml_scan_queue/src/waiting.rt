@@ -68,13 +68,13 @@ impl Waiting {
         self.note_own(is_tagged(self.token.body.kind));
     }
 
-    /// Notes behind how many of its tokens its own one comes, where it is told whether that is open: not known to spell UTF-8.
+    /// Notes behind how many of its tokens its own one comes, where it is told whether that is unchecked: not known to spell UTF-8.
     // Inlined: two sums, of which the first is of two bytes.
     #[inline(always)]
-    pub(crate) fn note_own(&mut self, is_open: bool)
-        ensures { self.new ≡ record self.old { own_after = own_of is_open (kept_of self.old) } }
+    pub(crate) fn note_own(&mut self, unchecked: bool)
+        ensures { self.new ≡ record self.old { own_after = own_of unchecked (kept_of self.old) } }
     {
-        self.own_after = if is_open {
+        self.own_after = if unchecked {
             usize::MAX
         } else {
             self.count_fronts()
@@ -204,8 +204,8 @@ fn is_tagged(kind: yaml_token_type_t) -> bool
 /// Whether a token that carries that may not spell UTF-8: it is a tag, or a directive that declares one, and not few bytes of ASCII.
 // Inlined: its kind is known where it is called.
 #[inline(always)]
-pub(crate) fn is_open(body: &yaml_token_body_t) -> bool
-    ensures open { result ≡ true → is_tagged (body_of body.now) ≡ true }
+pub(crate) fn is_unchecked(body: &yaml_token_body_t) -> bool
+    ensures tagged { result ≡ true → is_tagged (body_of body.now) ≡ true }
     ensures text { result ≡ false → spells_text (body_of body.now) ≡ true }
 {
     match body {

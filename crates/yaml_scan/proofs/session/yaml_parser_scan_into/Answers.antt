@@ -1,4 +1,4 @@
-use Rattle.std.proofs.Common.{sym, refl, ◌∙◌, true}
+use Rattle.std.proofs.Common.{sym, refl, ◌∙◌, true, arith}
 use Rattle.yaml_scan_model.specs.Tokens.{token_of}
 use Rattle.yaml_scan_slot.specs.Slots.{token_in_slot}
 use Rattle.yaml_scan_model.specs.Rooms.{rooms_of}
@@ -14,7 +14,7 @@ returns-then-is_some-clause-scans c =
 pub invariant_of-parser : goal.invariant_of-parser
 invariant_of-parser c =
     let s = c.parser.inside in
-    whole_idle s.fault s.aside s.machine s.shown c.put_shown.new.shown (sym c.is_some.ensures ∙ c.if-is_some.false) c.parser.invariant c.put_shown.ensures.left
+    whole_idle s.fault s.aside s.machine s.shown c.put_shown.new.shown s.lendable (sym c.is_some.ensures ∙ c.if-is_some.false) c.parser.invariant c.put_shown.ensures.left
 
 pub returns-then-parser-clause-scans : goal.returns-then-parser-clause-scans
 returns-then-parser-clause-scans c =
@@ -33,7 +33,7 @@ returns-in-Known-clause-scans c =
 pub invariant_of-parser-in-Known : goal.invariant_of-parser-in-Known
 invariant_of-parser-in-Known c =
     let s = c.parser.inside in
-    whole_taken s.fault s.aside s.machine c.next_into.new.machine s.shown c.parser.invariant c.in-Known.ensures.stands
+    whole_taken s.fault s.aside s.machine c.next_into.new.machine s.shown s.lendable 0 c.parser.invariant c.in-Known.ensures.stands (omega arith) (λ _. refl)
 
 pub returns-in-Nothing-clause-scans : goal.returns-in-Nothing-clause-scans
 returns-in-Nothing-clause-scans c =
@@ -44,7 +44,7 @@ returns-in-Nothing-clause-scans c =
 pub invariant_of-parser-in-Nothing : goal.invariant_of-parser-in-Nothing
 invariant_of-parser-in-Nothing c =
     let s = c.parser.inside in
-    whole_taken s.fault s.aside s.machine c.next_into.new.machine s.shown c.parser.invariant c.in-Nothing.ensures.finishes.stands
+    whole_taken s.fault s.aside s.machine c.next_into.new.machine s.shown s.lendable 0 c.parser.invariant c.in-Nothing.ensures.finishes.stands (omega arith) (λ _. refl)
 
 pub invariant_of-parser-in-Refused : goal.invariant_of-parser-in-Refused
 invariant_of-parser-in-Refused c =

@@ -1,4 +1,4 @@
-use Rattle.std.proofs.Common.{ap, refl, ◌∙◌, false}
+use Rattle.std.proofs.Common.{ap, refl, ◌∙◌, false, arith}
 use Rattle.yaml_scan_model.specs.declared.token.yaml_token_t.{yaml_token_t}
 use Rattle.yaml_scan_model.specs.Tokens.{token_of}
 use Rattle.yaml_scan_model.specs.Rooms.{rooms_of}
@@ -38,12 +38,12 @@ pub invariant_of-parser : goal.invariant_of-parser
 invariant_of-parser c =
     let s = c.parser.inside in
     let ready = ap (λ (v : View). is_settled v) c.parser.view_is ∙ c.requires in
-    whole_idle s.fault s.aside s.machine s.shown c.put_over.new.place (none_some s.fault (ready_fault s.machine s.fault (token_of s.shown) s.aside ready)) c.parser.invariant (ap (λ (t : yaml_token_t). token_of t) c.put_over.ensures ∙ c.empty.ensures)
+    whole_idle s.fault s.aside s.machine s.shown c.put_over.new.place s.lendable (none_some s.fault (ready_fault s.machine s.fault (token_of s.shown) s.aside ready)) c.parser.invariant (ap (λ (t : yaml_token_t). token_of t) c.put_over.ensures ∙ c.empty.ensures)
 
 pub invariant_of-parser-2 : goal.invariant_of-parser-2
 invariant_of-parser-2 c =
     let s = c.parser.inside in
-    whole_taken s.fault s.aside s.machine c.take_token.new.self s.shown c.parser.invariant c.take_token.ensures.stands
+    whole_taken s.fault s.aside s.machine c.take_token.new.self s.shown s.lendable 0 c.parser.invariant c.take_token.ensures.stands (omega arith) (λ _. refl)
 
 pub returns-then-parser-clause-same : goal.returns-then-parser-clause-same
 returns-then-parser-clause-same c = ap (λ (v : View). v.answered) c.parser.view_is

@@ -1,5 +1,5 @@
 -- Not searched for, so that another input or encoding fails by its type, at once.
-use Rattle.std.proofs.Common.{length, arith, ◌∙◌}
+use Rattle.std.proofs.Common.{length, arith}
 use Rattle.yaml_scan_model.specs.Rooms.{rooms_of}
 use Rattle.yaml_scan_machine.specs.Left.{left_in}
 use Rattle.yaml_scan_machine.specs.Found.{read_by}

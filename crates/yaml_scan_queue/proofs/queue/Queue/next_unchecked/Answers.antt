@@ -1,7 +1,7 @@
 use Rattle.std.proofs.Common.{ap}
 use Rattle.yaml_scan_queue.specs.Line.{Line}
-use Rattle.yaml_scan_queue.proofs.QueueLemmas.{first_given, part_first, tells_tag}
-use Rattle.yaml_scan_queue.proofs.queue.Queue.next_tag.Goals as goal
+use Rattle.yaml_scan_queue.proofs.QueueLemmas.{first_given, part_first, tells_unchecked}
+use Rattle.yaml_scan_queue.proofs.queue.Queue.next_unchecked.Goals as goal
 
 pub tag_at-requires : goal.tag_at-requires
 tag_at-requires c =
@@ -13,4 +13,4 @@ returns c = λ w.
     let q = c.self.inside in
     let x = c.index-first.result.now in
     let first = part_first q.slots.items q.first q.last x c.args.self.now.items (ap (λ (x : Line). x.items) c.self.view_is) c.self.invariant.last c.requires.some c.index-first.ensures w in
-    tells_tag c.args.given x _ c.tag_at.result first (c.requires.given w) c.tag_at.ensures.some c.tag_at.ensures.none
+    tells_unchecked c.args.given x _ c.tag_at.result first (c.requires.given w) c.tag_at.ensures.some c.tag_at.ensures.none

@@ -157,29 +157,8 @@ fn resolve_if(tags: &TagDirectives, waiting: &mut Waiting, fault: &mut yaml_faul
     }
 }
 
-// Puts a short tag in full in the place of its handle, where there is room for it.
-// Inlined: the prefix is known, and so it is two moves.
-#[inline(always)]
-fn joins_at_once(waiting: &mut Waiting, prefix: &[u8]) -> bool
-    ensures joined { result ≡ true
-        → waiting.new.handle.items ≡ prefix.now ++ waiting.old.suffix.items }
-    ensures kept { result ≡ false → waiting.new ≡ waiting.old }
-    ensures same { waiting.new ≡ record waiting.old { handle = waiting.new.handle } }
-{
-    let suffix = waiting.suffix.as_slice();
-    if SHORT < suffix.len() || waiting.handle.capacity() < prefix.len() + suffix.len() {
-        return false;
-    }
-    waiting.handle.clear();
-    let mut own = moved(&mut waiting.handle);
-    put_each(&mut own, prefix);
-    put_short(&mut own, suffix);
-    put_back(&mut waiting.handle, own);
-    true
-}
-
-// The same, where its handle is a default one.
-// Inlined: some comparisons.
+// Puts a short tag in full in the place of its handle, where that is a default one and there is room for it: `!` stands for itself.
+// Inlined: some comparisons, and two moves of what is known, two of the suffix.
 #[inline(always)]
 fn default_at_once(waiting: &mut Waiting) -> bool
     ensures resolves { result ≡ true → option_map (λ prefix. prefix ++ waiting.old.suffix.items)
@@ -188,13 +167,23 @@ fn default_at_once(waiting: &mut Waiting) -> bool
     ensures same { waiting.new ≡ record waiting.old { handle = waiting.new.handle } }
 {
     let handle = waiting.handle.as_slice();
-    if handle == b"!".as_slice() {
-        joins_at_once(waiting, b"!".as_slice())
-    } else if handle == b"!!".as_slice() {
-        joins_at_once(waiting, SECONDARY_PREFIX)
-    } else {
-        false
+    let secondary = handle == b"!!".as_slice();
+    if !secondary && handle != b"!".as_slice() {
+        return false;
     }
+    let front = if secondary { SECONDARY_PREFIX.len() } else { 1 };
+    let suffix = waiting.suffix.as_slice();
+    if SHORT < suffix.len() || waiting.handle.capacity() < front + suffix.len() {
+        return false;
+    }
+    let mut own = moved(&mut waiting.handle);
+    if secondary {
+        own.clear();
+        put_each(&mut own, SECONDARY_PREFIX);
+    }
+    put_short(&mut own, suffix);
+    put_back(&mut waiting.handle, own);
+    true
 }
 
 // Whether there is no tag, or a short one with a default handle, which is put in full in the handle's place.

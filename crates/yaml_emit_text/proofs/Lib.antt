@@ -10,7 +10,6 @@ mod RunLemmas
 mod RunWalks
 pub mod Ranks
 mod Tame
-mod Ends
 mod Even
 pub mod Bare
 pub mod LineStarts

@@ -1,5 +1,5 @@
 -- Runs of ASCII that are written as they are, and runs that allow every style.
-use Rattle.std.specs.Prelude.{ℕ, zero, suc, ◌+◌, slice_index, Bool, true, not, ◌&&◌, ◌||◌, ◌==◌, nat_le, if◌then◌else◌, List, [], ◌∷◌, ◌++◌, ◌≡◌}
+use Rattle.std.specs.Prelude.{ℕ, ◌+◌, Bool, true, not, ◌&&◌, ◌||◌, ◌==◌, nat_le, if◌then◌else◌, List, [], ◌∷◌, ◌++◌, ◌≡◌}
 use Rattle.yaml_types.specs.Ascii as ascii
 use Rattle.yaml_emit_sink.specs.declared.Cursor.{Cursor}
 use Rattle.yaml_emit_sink.specs.Layout.{Layout, Rest, ◌▹◌, letters}
@@ -17,11 +17,6 @@ unfoldable pub runs_on : Bounds → ℕ → ℕ → Bool
 runs_on e column b =
     nat_le ascii.space b && (nat_le b ascii.tilde && (not (b == e.quote)
     && (not (b == e.slash) && (not (b == ascii.space) || (not e.cuts || nat_le column e.width)))))
-
--- so many bytes from the place on pass a test
-unfoldable pub run_passes : (ℕ → Bool) → ℕ → List ℕ → ℕ → Bool
-run_passes test zero text p = true
-run_passes test (suc n) text p = run_passes test n text p && test (slice_index text (p + n))
 
 -- it stands as it is between double quotes: from a least one to `~`, but `"` and `\`
 unfoldable pub stands : ℕ → ℕ → Bool

@@ -1,5 +1,5 @@
 -- Bytes of a tag or a value that are added as they are.
-use Rattle.std.specs.Prelude.{◌≡◌, ◌≤◌, ℕ, zero, suc, ◌+◌, ◌*◌, Bool, true, not, ◌&&◌, ◌==◌, nat_lt, List, ◌++◌, length, slice_index, Vec, vec_len, vec_capacity}
+use Rattle.std.specs.Prelude.{◌≡◌, ◌≤◌, ℕ, ◌+◌, ◌*◌, Bool, not, ◌&&◌, ◌==◌, nat_lt, List, ◌++◌, length, Vec, vec_len, vec_capacity}
 use Rattle.std.specs.Global.{Global}
 use Rattle.yaml_scan_model.specs.Ascii as ascii
 use Rattle.yaml_scan_model.specs.Ends.{most_short}
@@ -8,11 +8,6 @@ use Rattle.yaml_round_lines.specs.EventLine.{escaped}
 -- it stands behind the control characters that are escaped, and is no backslash
 unfoldable pub is_kept : ℕ → Bool
 is_kept b = nat_lt ascii.carriage_return b && not (b == ascii.backslash)
-
--- so many bytes from the place on are such
-unfoldable pub kept_run : ℕ → List ℕ → ℕ → Bool
-kept_run zero text p = true
-kept_run (suc n) text p = kept_run n text p && is_kept (slice_index text (p + n))
 
 -- it is short, and added as it is
 abbrev pub IsPlain : List ℕ → Type 0

@@ -317,7 +317,7 @@ fn put_plain_bare(line: &mut Vec<u8>, value: &[u8], style: yaml_scalar_style_t)
 }
 
 // The same, where the value's front and end, of so many bytes each, are all of it, and none of them is escaped; else nothing.
-// Inlined: see `is_kept_run`.
+// Inlined: see `are_kept_ends`.
 #[inline(always)]
 fn put_kept(line: &mut Vec<u8>, value: &[u8], style: yaml_scalar_style_t, size: usize) -> bool
     requires least { size ≤ length value.now }

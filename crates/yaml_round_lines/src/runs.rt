@@ -2,10 +2,10 @@
 
 ghost use Rattle.std.specs.Prelude.{◌≡◌, ◌+◌, ◌*◌, ◌<◌, ◌≤◌, ◌++◌, ◌∷◌, [], true, length, take, vec_len, vec_capacity};
 ghost use Rattle.yaml_scan_model.specs.Ascii as ascii;
-ghost use Rattle.yaml_round_lines.specs.Runs.{is_kept, kept_run, IsPlain, PutsFront};
+ghost use Rattle.yaml_round_lines.specs.Runs.{is_kept, IsPlain, PutsFront};
 ghost use Rattle.yaml_round_lines.specs.EventLine.{escaped_byte, escaped};
 
-use yaml_scan_model::{SHORT, moved, put_back, put_short};
+use yaml_scan_model::{ByteTest, SHORT, are_ends, is_run, moved, put_back, put_short};
 
 // So many bytes are looked at together, and then half as many; the kept bytes of a shorter text are counted byte by byte.
 const CHUNK: usize = 16;
@@ -50,39 +50,30 @@ fn put_byte(line: &mut Vec<u8>, byte: u8)
     }
 }
 
-// Whether the byte is surely put as it is.
-#[tactic(auto, unfolding(crate::specs::Runs::is_kept))]
-fn is_kept(byte: u8) -> bool
-    ensures { result ≡ is_kept byte }
-{
-    byte > b'\r' && byte != b'\\'
-}
+/// Whether a byte is surely put as it is.
+#[derive(Drop)]
+struct Kept;
 
-// Whether so many bytes from there on are all kept.
-// Inlined: some vector instructions, where their number is known.
-#[inline(always)]
-fn is_kept_run(text: &[u8], at: usize, size: usize) -> bool
-    requires { at + size ≤ length text.now }
-    ensures { result ≡ kept_run size text.now at }
-{
-    let mut kept = true;
-    let mut count = 0;
-    'bytes: while count < size {
-        kept = kept & is_kept(text[at + count]);
-        count += 1;
+impl ByteTest for Kept {
+    ghost passed = { λ test byte. is_kept byte };
+
+    // Inlined: two comparisons.
+    #[inline(always)]
+    #[tactic(auto, unfolding(crate::specs::Runs::is_kept))]
+    fn passes(&self, byte: u8) -> bool {
+        byte > b'\r' && byte != b'\\'
     }
-    kept
 }
 
 /// Whether all bytes of a text are kept whose front and end, of so many bytes each, are all of it.
-// Inlined: see `is_kept_run`.
+// Inlined: some vector instructions, where their number is known.
 #[inline(always)]
 pub(crate) fn are_kept_ends(text: &[u8], size: usize) -> bool
     requires least { size ≤ length text.now }
     requires most { length text.now ≤ size + size }
     ensures { result ≡ true → escaped text.now ≡ text.now }
 {
-    is_kept_run(text, 0, size) & is_kept_run(text, text.len() - size, size)
+    are_ends(&Kept, text, size)
 }
 
 // Puts the chunks in front that have kept bytes alone; the answer is the rest.
@@ -94,7 +85,7 @@ fn put_chunks<'a>(line: &mut Vec<u8>, text: &'a [u8]) -> &'a [u8]
 {
     let mut left = text;
     'chunks: while left.len() >= CHUNK {
-        if !is_kept_run(left, 0, CHUNK) {
+        if !is_run(&Kept, left, 0, CHUNK) {
             return left;
         }
         put_short(line, &left[..CHUNK]);
@@ -110,7 +101,7 @@ fn put_half<'a>(line: &mut Vec<u8>, text: &'a [u8]) -> &'a [u8]
     requires { vec_len line.old + 2 * length text.now ≤ vec_capacity line.old }
     ensures { PutsFront line.old line.new text.now result.now }
 {
-    if text.len() < HALF || !is_kept_run(text, 0, HALF) {
+    if text.len() < HALF || !is_run(&Kept, text, 0, HALF) {
         return text;
     }
     put_short(line, &text[..HALF]);
@@ -129,7 +120,7 @@ fn put_bytes<'a>(line: &mut Vec<u8>, text: &'a [u8]) -> &'a [u8]
     'bytes: while !left.is_empty() {
         let byte = left[0];
         left = &left[1..];
-        if !is_kept(byte) {
+        if !Kept.passes(byte) {
             put_byte(line, byte);
             return left;
         }
@@ -148,7 +139,7 @@ fn put_run<'a>(line: &mut Vec<u8>, left: &'a [u8]) -> &'a [u8]
     ensures front { PutsFront line.old line.new left.now result.now }
     ensures shorter { length result.now < length left.now }
 {
-    if !is_kept(left[0]) {
+    if !Kept.passes(left[0]) {
         return put_bytes(line, left);
     }
     let chunks = put_chunks(line, left);

@@ -23,10 +23,10 @@ pub use record::{
     mark_again, yaml_mark_t, yaml_simple_key_t, yaml_tag_directive_t, yaml_version_directive_t,
 };
 pub use run::{is_text, leap, skip_blanks, skip_spaces, skip_text};
-pub use spares::{copied, copied_more, copied_whole, room, spare};
+pub use spares::{copied, copied_more, room, spare};
 pub use token::{yaml_token_body_t, yaml_token_t};
 pub use yaml_types::{
-    DEFAULT_INDENT, DEFAULT_WIDTH, SHORT, followed, is_short, lifted, moved, put_back, put_between,
-    put_each, put_many, put_near, put_short, refilled, room_of, stands_in_front, yaml_memory_fault,
-    yaml_parser_state_t, yaml_token_delete,
+    ByteTest, DEFAULT_INDENT, DEFAULT_WIDTH, SHORT, all_pass, are_ends, followed, is_run, is_short,
+    lifted, moved, put_back, put_between, put_each, put_many, put_near, put_short, refilled,
+    room_of, stands_in_front, yaml_memory_fault, yaml_parser_state_t, yaml_token_delete,
 };

@@ -83,7 +83,7 @@ fn copied_into(
     Ok(copy)
 }
 
-/// A copy of bytes, in the room of a spare text where they fit.
+// A copy of bytes, in the room of a spare text where they fit.
 // Inlined: so the answer of the call out of line has a place of its own, and the other one none in memory.
 #[inline(always)]
 fn copied_apart(spares: &mut Spares, bytes: &[u8]) -> Result<Vec<u8>, AllocError>
@@ -93,10 +93,10 @@ fn copied_apart(spares: &mut Spares, bytes: &[u8]) -> Result<Vec<u8>, AllocError
     Ok(copy)
 }
 
-/// A copy of bytes, in the room of a spare text where they fit.
+// A copy of bytes, in the room of a spare text where they fit.
 // Out of line: most runs are short.
 #[inline(never)]
-pub fn copied_whole(spares: &mut Spares, bytes: &[u8]) -> Result<Vec<u8>, AllocError>
+fn copied_whole(spares: &mut Spares, bytes: &[u8]) -> Result<Vec<u8>, AllocError>
     ensures { IfOk result (λ v. v.items ≡ bytes.now) }
 {
     let count = bytes.len();

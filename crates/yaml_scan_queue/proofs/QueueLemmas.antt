@@ -7,7 +7,6 @@ use Rattle.std.proofs.Math.ListN.{set}
 use Rattle.std.proofs.Math.Seq.{take-set-lt}
 use Rattle.std.proofs.lemmas.List.{get_or-drop, get_or-take, get_or_default, take-append-le, drop-append-le, drop-take, drop-set-add, drop-set-lt, drop-drop, get_or-set_same, length-take-le, length-drop}
 use Rattle.std.proofs.lemmas.List.Elements.{All-same, All-push, All-drop, All-get_or, All-set}
-use Rattle.std.proofs.lemmas.Bool.{cases_Bool}
 use Rattle.std.proofs.lemmas.Bool.Decides.{nat_tests}
 use Rattle.yaml_scan_history.specs.declared.lexeme.Opens.{Opens}
 use Rattle.yaml_scan_history.specs.declared.lexeme.Opens.TheVariants as opening
@@ -17,7 +16,7 @@ use Rattle.yaml_scan_slot.specs.Slots.{is_tagged, spells_text, token_in_slot}
 use Rattle.yaml_scan_slot.specs.declared.slot.TokenSlot.{TokenSlot}
 use Rattle.yaml_scan_queue.specs.Front.{front_at, front_count, start_at, start_count, key_count}
 use Rattle.yaml_scan_queue.specs.Hands.{TellsUnchecked}
-use Rattle.yaml_scan_queue.specs.Waits.{AreCounted, IsCounted, IsGiven, KeptLexeme, PushesBoth, kept_of, keyed, own_of}
+use Rattle.yaml_scan_queue.specs.Waits.{AreCounted, IsCounted, IsGiven, KeptLexeme, PushesBoth, kept_of, keyed}
 use Rattle.yaml_scan_queue.specs.declared.waiting.ReadLexeme.{ReadLexeme}
 use Rattle.yaml_scan_queue.specs.declared.waiting.Waiting.{Waiting}
 

@@ -1,4 +1,3 @@
-pub mod Ascii
 pub mod Line
 pub mod Queue
 pub mod Waits

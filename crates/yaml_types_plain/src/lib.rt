@@ -1,7 +1,7 @@
 //! The plain types that all members have: libyaml's enums, directives, marks and located faults, with what is derived of them; bytes that are
-//! put behind a text, which has room for them and may be lifted out of its place meanwhile; texts in the room of earlier ones; and short
-//! texts, which are put so by few moves, and looked for in front of others. No must-fail edit stands here, so that all of this is proved
-//! once.
+//! put behind a text, which has room for them and may be lifted out of its place meanwhile; texts in the room of earlier ones; short texts,
+//! which are put so by few moves, and looked for in front of others; and texts whose bytes all pass a test. No must-fail edit stands here,
+//! so that all of this is proved once.
 #![tactic(auto)]
 
 mod directive;
@@ -10,6 +10,7 @@ mod fault;
 mod indent;
 mod lifting;
 mod name;
+mod passing;
 mod putting;
 mod record;
 mod refilling;
@@ -25,6 +26,7 @@ pub use fault::{yaml_fault_t, yaml_origin_t};
 pub use indent::DEFAULT_INDENT;
 pub use lifting::{lifted, moved, put_back};
 pub use name::{yaml_encoding_t, yaml_error_type_t, yaml_scalar_style_t, yaml_token_type_t};
+pub use passing::{ByteTest, all_pass, are_ends, is_run};
 pub use putting::{
     SHORT, is_short, put_between, put_each, put_many, put_near, put_short, put_sixteen,
 };

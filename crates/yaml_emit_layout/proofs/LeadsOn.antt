@@ -1,17 +1,17 @@
 -- Whatever may come, its first event leads on.
-use Rattle.std.proofs.Common.{◌≡◌, ℕ, List, [], ◌∷◌, Bool, true, false, refl, sym, subst, ◌∙◌, ap, Option, Some, None}
+use Rattle.std.proofs.Common.{◌≡◌, List, [], ◌∷◌, Bool, true, false, refl, sym, subst, ap, Option, Some, None}
 use Rattle.yaml_emit_tags.specs.parse_model.Events.{TagDirective}
 use Rattle.yaml_emit_text.specs.declared.Cursor.{Cursor}
 use Rattle.yaml_emit_text.specs.declared.Settings.{Settings}
 use Rattle.yaml_emit_text.specs.Layout.{Rest}
 use Rattle.yaml_emit_layout.specs.declared.level.Level.{Level}
-use Rattle.yaml_emit_layout.specs.declared.level.Phase.TheVariants.{Items, Keys, Value}
+use Rattle.yaml_emit_layout.specs.declared.level.Phase.TheVariants.{Items, Keys}
 use Rattle.yaml_emit_layout.specs.declared.level.Expected.TheVariants as at
 use Rattle.yaml_emit_layout.specs.declared.level.NodePosition.{NodePosition}
 use Rattle.yaml_emit_layout.specs.Content.{Start, Node, alias_node, scalar_node, sequence_node, mapping_node, Nodes, no_nodes, node, Pairs, no_pairs, pair, Document, Event, stream_start, stream_end, document_start, document_end, alias, scalar, sequence_start, sequence_end, mapping_start, mapping_end, node_events, items_events, pairs_events, documents_events}
-use Rattle.yaml_emit_layout.specs.Grammar.{place_problem, node_problem, begins_node, ends_phase}
-use Rattle.yaml_emit_layout.specs.Nodes.{Context, context_of, position, root_position, key_part, is_simple, is_simple_alias, is_simple_scalar, is_simple_start, is_flow, indent_of, are_none, are_no_pairs, node_layout, items_layout, pairs_layout, stream_layout, documents_layout}
-use Rattle.yaml_emit_layout.specs.State.{State, next, next_at, piece, text_at, depth_at, opens_empty, is_simple_event, top_of, position_of, before_node, levels_behind, phase_behind, among, start_text}
+use Rattle.yaml_emit_layout.specs.Grammar.{place_problem, node_problem, begins_node}
+use Rattle.yaml_emit_layout.specs.Nodes.{context_of, is_simple, is_flow, indent_of, are_none, are_no_pairs, node_layout, items_layout, pairs_layout, stream_layout, documents_layout}
+use Rattle.yaml_emit_layout.specs.State.{State, next, next_at, piece, text_at, depth_at, opens_empty, is_simple_event, top_of, position_of, before_node, levels_behind, phase_behind, among}
 use Rattle.yaml_emit_layout.specs.ToCome.{Frame, items_left, pairs_left, value_left, ToCome, stream, documents, root, frames, nothing, levels_of, state_of, events, frame_events, frames_events, ending_events, layout, frame_layout, frames_layout}
 
 -- an event at a state, by whether it opens an empty collection, and what comes behind it

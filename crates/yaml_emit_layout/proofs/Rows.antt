@@ -1,24 +1,22 @@
 -- Worked examples, computed by the definitions.
-use Rattle.std.proofs.Common.{◌≡◌, ℕ, List, [], ◌∷◌, refl, true, false, Bool, Option, Some, None, pos}
+use Rattle.std.proofs.Common.{◌≡◌, ℕ, List, [], ◌∷◌, refl, true, false, Bool, Some, None}
 use Rattle.std.specs.Prelude.{codes}
 use Rattle.std.specs.Str.{chars}
 use Rattle.yaml_emit_tags.specs.scan_model.declared.yaml_scalar_style_t.{yaml_scalar_style_t}
 use Rattle.yaml_emit_tags.specs.scan_model.declared.yaml_scalar_style_t.TheVariants as asked
 use Rattle.yaml_emit_tags.specs.scan_model.Classes.{is_alpha_byte, is_digit_byte, any_below}
-use Rattle.yaml_emit_tags.specs.parse_model.Events.{TagDirective}
 use Rattle.yaml_emit_text.specs.declared.Settings.{Settings}
-use Rattle.yaml_emit_text.specs.declared.Encoding.TheVariants.{Utf8, Utf16Le}
-use Rattle.yaml_emit_text.specs.declared.LineBreak.TheVariants.{Lf, CrLf}
+use Rattle.yaml_emit_text.specs.declared.Encoding.TheVariants.{Utf8}
+use Rattle.yaml_emit_text.specs.declared.LineBreak.TheVariants.{Lf}
 use Rattle.yaml_emit_text.specs.Text.{shown}
 use Rattle.yaml_emit_text.specs.Layout.{letters, blanks, line, text_of}
 use Rattle.yaml_emit_text.specs.Quoted.{needs_escape, escape_letter, escape_text, quoted_char, quoted_body}
 use Rattle.yaml_emit_text.specs.Hex.{hex_digit}
 use Rattle.yaml_emit_text.specs.Style.{somewhere, last_or, allowed, taken}
 use Rattle.yaml_emit_text.specs.Scalars.{flow_char, flow_body, behind_breaks, block_char, block_body, chomp, scalar_text}
-use Rattle.yaml_emit_tags.specs.Tags.{directive_for, defines, suffix_keeps, uri_text, spelled}
 use Rattle.yaml_emit_layout.specs.declared.problem.Problem.TheVariants as problem
-use Rattle.yaml_emit_layout.specs.Content.{Scalar, Start, Node, alias_node, scalar_node, sequence_node, mapping_node, no_nodes, node, no_pairs, pair, Document, Event, document_start, alias, scalar, sequence_start}
-use Rattle.yaml_emit_layout.specs.Grammar.{handle_problem, directives_problem, event_problem, last_problem, own_problems}
+use Rattle.yaml_emit_layout.specs.Content.{Start, Node, scalar_node, sequence_node, mapping_node, no_nodes, node, no_pairs, pair, Document}
+use Rattle.yaml_emit_layout.specs.Grammar.{handle_problem, directives_problem}
 use Rattle.yaml_emit_layout.specs.Nodes.{style_of, scalar_layout, alias_layout, is_simple_scalar, is_simple_alias, is_simple_start, is_simple, turned, before_item, before_key, before_value, closer, node_layout, items_layout, pairs_layout, directives_text, start_layout, end_layout, stop_layout, documents_layout, stream_layout}
 
 abbrev canonical : Settings

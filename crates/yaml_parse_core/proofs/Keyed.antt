@@ -19,7 +19,7 @@ use Rattle.yaml_parse_core.specs.declared.told.Waiting.{Waiting}
 use Rattle.yaml_parse_core.specs.Keyed.{WantsKey, behind_key, key_await, key_level}
 use Rattle.yaml_parse_core.specs.Seen as turn
 use Rattle.yaml_parse_core.specs.Turns.{TurnsOn, TurnsTo}
-use Rattle.yaml_parse_core.specs.Views.{Around, await_of, level_over, states_by, states_of, properties_of, whole_of}
+use Rattle.yaml_parse_core.specs.Views.{Around, await_of, level_over, states_of, properties_of, whole_of}
 
 silent_at : (a : Await) (x : Level) (o b : yaml_mark_t) (s : List State) (p : Properties)
     (t : Token) → a ≡ await.Nothing → (x ≡ level.Pairs) ⊎ (x ≡ level.MappingItems)

@@ -12,7 +12,7 @@ use Rattle.yaml_parse_model.specs.Events as event
 use Rattle.yaml_parse_model.specs.Nodes.{secondary_prefix}
 use Rattle.yaml_parse_grammar.specs.declared.problem.ParseProblem.TheVariants as problem
 use Rattle.yaml_parse_grammar.specs.Problems.{parser_fault}
-use Rattle.yaml_parse_grammar.specs.Items.{RawEvent, RawEventBody, Tag, Shape}
+use Rattle.yaml_parse_grammar.specs.Items.{RawEvent, RawEventBody, Shape}
 use Rattle.yaml_parse_grammar.specs.Items as item
 use Rattle.yaml_parse_grammar.specs.Trees.{Given}
 

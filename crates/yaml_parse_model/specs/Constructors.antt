@@ -4,7 +4,7 @@ use Rattle.yaml_parse_model.specs.declared.event.yaml_event_t.{yaml_event_t}
 use Rattle.yaml_parse_model.specs.declared.constructor.Texts.{Texts}
 use Rattle.yaml_parse_model.specs.declared.prefix.yaml_text_fault_t.{yaml_text_fault_t}
 use Rattle.yaml_parse_model.specs.declared.prefix.yaml_text_fault_t.TheVariants.{NotUtf8, Memory}
-use Rattle.yaml_parse_model.specs.Events.{Event, EventBody, TagDirective, event_of, text_of, unplaced}
+use Rattle.yaml_parse_model.specs.Events.{EventBody, TagDirective, event_of, text_of, unplaced}
 use Rattle.yaml_parse_model.specs.Events as event
 
 -- a text that may be left out is UTF-8

@@ -1,5 +1,5 @@
 -- What C is told of events that are emitted piece by piece.
-use Rattle.std.proofs.Common.{◌≡◌, inl, refl, sym, ℕ, ℤ, pos, negsuc, true, false, subst, List, Option, None, Some, is_some, Result, Ok, Err}
+use Rattle.std.proofs.Common.{◌≡◌, inl, refl, sym, ℕ, ℤ, pos, negsuc, subst, List, Option, None, Some, Result, Ok, Err}
 use Rattle.yaml_parse.specs.Events.{EventBody}
 use Rattle.yaml_parse.specs.Faults.{Fault, emit_layers}
 use Rattle.yaml_parse.specs.declared.yaml_origin_t.TheVariants.{Emitter}
@@ -12,7 +12,7 @@ use Rattle.yaml_round_records.specs.Standing.{At}
 use Rattle.yaml_round_records.specs.Onward.{most_on, IsOnwardAt, IsOnward}
 use Rattle.yaml_round_records.specs.Written.{emitter_events}
 use Rattle.yaml_round_answers.specs.Onward.{onward_meant, TellsOnward, EmitsOn, EmitsAllOn}
-use Rattle.yaml_round_answers.specs.Told.{AnswersMeant, IsExact, both, OrMemory, Refuses, TellsMisuse}
+use Rattle.yaml_round_answers.specs.Told.{AnswersMeant, IsExact, OrMemory, Refuses}
 use Rattle.yaml_round_answers.specs.declared.parsing.yaml_c_parsed.{yaml_c_parsed}
 use Rattle.yaml_round_records.specs.declared.yaml_c_settings.{yaml_c_settings}
 use Rattle.yaml_round_answers.proofs.Exact.{text_kind, fault_kind, exact}

@@ -1,6 +1,5 @@
 -- What C is told of events that are composed.
-use Rattle.std.proofs.Common.{◌≡◌, ◌⊎◌, inl, inr, ◌∙◌, refl, sym, subst, ap, ℕ, ℤ, pos, negsuc, Bool, true, false, List, [], Option, None, Some}
-use Rattle.yaml_parse.specs.declared.yaml_origin_t.{yaml_origin_t}
+use Rattle.std.proofs.Common.{◌≡◌, inl, inr, ◌∙◌, sym, subst, ap, ℕ, ℤ, pos, negsuc, Bool, true, false, List, []}
 use Rattle.yaml_parse.specs.declared.yaml_origin_t.TheVariants.{Loader}
 use Rattle.yaml_parse.specs.Faults.{Fault, memory_fault}
 use Rattle.yaml_parse.specs.Tokens.{zero_mark}
@@ -11,7 +10,7 @@ use Rattle.yaml_round_answers.specs.Composing.{are_steps, fresh_sketch, all_draw
 use Rattle.yaml_round_answers.proofs.Sketches.{spots_are}
 use Rattle.yaml_round_answers.specs.declared.answer.yaml_c_answer.{yaml_c_answer}
 use Rattle.yaml_round_answers.specs.Told.{TellsText, TellsFault, TellsMisuse, Refuses, AnswersMeant, IsExact}
-use Rattle.yaml_round_answers.specs.Composes.{Steps, steps_if, steps_meant, TellsWhole, AreComposed, TellsSpots, Composes, NoSpotUnmeant}
+use Rattle.yaml_round_answers.specs.Composes.{Steps, steps_if, steps_meant, TellsWhole, AreComposed, Composes, NoSpotUnmeant}
 use Rattle.yaml_round_answers.proofs.Exact.{text_kind, fault_kind, exact}
 
 are_composed : (m : Steps) (out given : List yaml_c_spot) (whole b : Bool) → out ≡ given

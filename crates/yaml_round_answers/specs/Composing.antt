@@ -1,5 +1,5 @@
 -- What the events of a document come to: which node each of them is of, and which collection takes it.
-use Rattle.std.specs.Prelude.{◌≡◌, ◌+◌, ◌||◌, ◌&&◌, ℕ, suc, ℤ, pos, Bool, true, false, not, if◌then◌else◌, List, [], ◌∷◌, length, map, reverse, Option, None, Some, is_some, Result, Ok, Err}
+use Rattle.std.specs.Prelude.{◌≡◌, ◌||◌, ◌&&◌, ℕ, suc, ℤ, pos, Bool, true, false, not, if◌then◌else◌, List, [], ◌∷◌, reverse, Option, None, Some, is_some, Result, Ok, Err}
 use Rattle.std.specs.declared.alloc.AllocError.{AllocError}
 use Rattle.std.specs.FinMap as finite
 use Rattle.std.specs.Ordering.{int_eq}

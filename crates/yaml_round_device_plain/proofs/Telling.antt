@@ -3,7 +3,7 @@ use Rattle.std.proofs.Common.{ℕ, List, Option, Bool}
 use Rattle.yaml_round_device_plain.specs.declared.read_all.Cause.{Cause}
 use Rattle.yaml_round_device_plain.specs.declared.read_all.Cause.TheVariants as cause
 use Rattle.yaml_round_device_plain.specs.declared.run_fault.yaml_run_fault_t.{yaml_run_fault_t}
-use Rattle.yaml_round_device_plain.specs.declared.run_fault.yaml_run_fault_t.TheVariants.{Read, TooLong, Yaml, Write}
+use Rattle.yaml_round_device_plain.specs.declared.run_fault.yaml_run_fault_t.TheVariants.{Read, TooLong, Yaml}
 use Rattle.yaml_round_device_plain.specs.Run.{IsCause, IsReadFault, CausedBy, TakesFew, Tells}
 
 -- used by `yaml_read_all`: why an input was not read

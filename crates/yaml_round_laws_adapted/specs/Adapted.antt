@@ -1,10 +1,9 @@
 -- The tokens of a session as a parser takes them: up to the first tag that isn't UTF-8.
-use Rattle.std.specs.Prelude.{Bool, true, if◌then◌else◌, pos, codes, List, [], ◌∷◌, Option, Some, None}
+use Rattle.std.specs.Prelude.{if◌then◌else◌, pos, codes, List, [], ◌∷◌, Option, Some, None}
 use Rattle.yaml_parse_model.specs.declared.yaml_mark_t.{yaml_mark_t}
 use Rattle.yaml_parse_model.specs.declared.yaml_error_type_t.TheVariants.{YAML_SCANNER_ERROR}
 use Rattle.yaml_parse_model.specs.declared.yaml_origin_t.TheVariants.{Adapter}
-use Rattle.yaml_parse_model.specs.Tokens as token
-use Rattle.yaml_parse_model.specs.Tokens.{Token, TokenBody}
+use Rattle.yaml_parse_model.specs.Tokens.{Token}
 use Rattle.yaml_parse_model.specs.Faults.{Fault}
 pub use Rattle.yaml_parse_model.specs.Slots.{spells_text}
 use Rattle.yaml_scan_laws_texts.specs.scan_history.Remaining.{Remaining}

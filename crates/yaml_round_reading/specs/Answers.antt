@@ -1,5 +1,5 @@
 -- What is said of inputs: that they are accepted, and that their contents are equal.
-use Rattle.std.specs.Prelude.{◌⊎◌, ◌↔◌, IsTrue, true, false, ℕ, Bool, List, Result, Ok, Err}
+use Rattle.std.specs.Prelude.{◌⊎◌, ◌↔◌, IsTrue, ℕ, Bool, List, Result, Ok, Err}
 use Rattle.yaml_parse.specs.declared.yaml_encoding_t.{yaml_encoding_t}
 use Rattle.yaml_parse.specs.declared.yaml_encoding_t.TheVariants.{YAML_ANY_ENCODING}
 use Rattle.yaml_parse.specs.declared.yaml_fault_t.{yaml_fault_t}

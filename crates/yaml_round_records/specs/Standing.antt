@@ -1,5 +1,5 @@
 -- Where an emitter stands, as C holds it from call to call.
-use Rattle.std.specs.Prelude.{◌≡◌, ℕ, ◌<◌, ◌^◌, nat_lt, ℤ, pos, Bool, true, false, if◌then◌else◌, List, [], ◌∷◌, reverse, Option, None, Some, option_map}
+use Rattle.std.specs.Prelude.{ℕ, ◌<◌, ◌^◌, nat_lt, ℤ, pos, Bool, true, false, if◌then◌else◌, List, [], ◌∷◌, reverse, Option, None, Some, option_map}
 use Rattle.std.specs.Ordering.{int_eq}
 use Rattle.yaml_parse.specs.Events.{TagDirective}
 use Rattle.yaml_emit.specs.Content.{Event}

@@ -1,5 +1,5 @@
 -- Anchors, URIs, tags and directives are the same in both texts.
-use Rattle.std.proofs.Common.{◌≡◌, ℕ, zero, suc, ◌+◌, ◌<◌, ◌≤◌, ◌==◌, ◌&&◌, ◌||◌, nat_lt, if◌then◌else◌, Bool, true, false, not, List, [], ◌∷◌, length, slice_range, Option, Some, None, Result, Ok, Err, refl, ap, ◌∙◌, inl, inr, ◌⊎◌, arith, add_assoc}
+use Rattle.std.proofs.Common.{◌≡◌, ℕ, zero, suc, ◌+◌, ◌<◌, ◌≤◌, ◌==◌, ◌&&◌, ◌||◌, nat_lt, if◌then◌else◌, Bool, true, false, not, List, [], ◌∷◌, length, slice_range, Option, Some, None, Result, Ok, Err, refl, ap, ◌∙◌, inl, inr, arith, add_assoc}
 use Rattle.yaml_scan_laws_texts.proofs.Shared.{cases_Bool, eqb-true, nat_tests, byte, is_alpha_byte, is_digit_byte, Wrong, belongs, run_end, is_name_end, may_end_name, name_between, anchor_at, is_punctuation, is_wide_punctuation, is_uri, octet_of, octet_at, UriSpot, Spells, escape_spot, octet_spot, due_behind, with_bytes, uri_within, uri_at, filled, some_uri_at, TagText, tag_end, bracketed, verbatim_at, name_end, with_handle, bare, bare_at, parts_at, may_end_tag, tag_at, run_place, Alike, is_onward}
 use Rattle.yaml_scan_history.specs.scan_model.declared.problem.Problem.{Problem}
 use Rattle.yaml_scan_history.specs.scan_model.declared.problem.Context.{Context}

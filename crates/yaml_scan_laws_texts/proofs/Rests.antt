@@ -1,5 +1,5 @@
 -- The lexemes of the rest are the last ones of the whole, moved.
-use Rattle.std.proofs.Common.{◌≡◌, ℕ, zero, suc, ◌+◌, ◌-◌, ◌<◌, ◌≤◌, ◌==◌, ◌&&◌, nat_lt, true, false, List, [], ◌∷◌, ◌++◌, length, Some, None, Result, Ok, Err, refl, sym, ap, subst, ◌∙◌, inl, inr, ◌⊎◌, ◌≢◌, arith}
+use Rattle.std.proofs.Common.{◌≡◌, ℕ, zero, suc, ◌+◌, ◌-◌, ◌<◌, ◌≤◌, ◌&&◌, nat_lt, true, false, List, [], ◌∷◌, ◌++◌, length, Some, None, Result, Ok, Err, refl, sym, ap, subst, ◌∙◌, inl, inr, ◌⊎◌, ◌≢◌, arith}
 use Rattle.yaml_scan_laws_texts.proofs.Shared.{cases_Bool, yaml_encoding_t, yaml_mark_t, TokenBody, byte, line_at, column_at, mark_at, Wrong, Kind, Lexeme, is_end, cancels, reached, depth, in_flow, candidate, has, found_by, levels, key_allowed, WordText, kind_at, word_at, Next, Read, Fails, Ends, first_lexeme, gap_behind, kind_behind, begun_behind, word_behind, lexeme_behind, coming, next, extended, step, history, SpelledText, body_of_word, body_by, body_in, all, gap_place, Stands, history_stands, not_ended, all_ends, stays_all, last_is_all, Alike, IsCut, moved_mark, moved_lexeme, moved_next, ne_eqb, lt-ltb, stale_before}
 use Rattle.yaml_scan_history.specs.declared.kind.Kind.TheVariants as kinds
 use Rattle.yaml_scan_laws_texts.proofs.Bytes.{IsQuiet}

@@ -1,5 +1,5 @@
 -- Words of one byte, and the marks of documents and of the stream's end.
-use Rattle.std.proofs.Common.{◌≡◌, ℕ, ◌+◌, ◌<◌, ◌==◌, ◌&&◌, ◌||◌, nat_lt, cond, Bool, true, false, List, length, Option, Some, Ok, refl, ap, ◌∙◌, arith}
+use Rattle.std.proofs.Common.{◌≡◌, ℕ, ◌+◌, ◌<◌, ◌==◌, ◌&&◌, nat_lt, cond, Bool, true, false, List, length, Option, Some, Ok, refl, ap, ◌∙◌, arith}
 use Rattle.yaml_scan_laws_texts.proofs.LevelWords.{nat_tests, and-false, ne_eqb, byte, break_of, column_at, is_blank_or_end, TokenBody, is_document_start, is_document_end, Kind, indicator_of, or_plain, kind_at, word_at, IsGap, Comes}
 use Rattle.yaml_scan_laws_order.specs.scan_model.Tokens as tokens
 use Rattle.yaml_scan_laws_order.specs.scan_history.declared.kind.Kind.TheVariants as kinds

@@ -1,13 +1,13 @@
 -- What a token that is taken leaves to come.
-use Rattle.std.proofs.Common.{Bool, ◌≡◌, ℕ, suc, ◌+◌, ◌-◌, ◌<◌, ◌≤◌, true, false, ltb, List, [], ◌∷◌, length, drop, get_or, not, Option, Some, None, refl, sym, ap, subst, ◌∙◌, inl, inr, ◌⊎◌, arith, ◌^◌}
-use Rattle.yaml_scan_machine.proofs.Words.{Line, cases_Bool, cases_lt, nat_tests, length-map, map, IfSome, Opens, Token, TokenBody, token_in_slot, text_bytes, AreInside, block_end, no_token, entries, Remaining, remaining, spell, GivesFirst, ends_token, Machine, Waiting, KeptLexeme, kept_of, IsMachine, is_ready, ready_in, fields_of, kept_in, read, history_of, stream_of, front_at, front_count, fronted, given_in, own_token, to_come, left_in, cases_Option}
+use Rattle.std.proofs.Common.{Bool, ◌≡◌, ℕ, suc, ◌+◌, ◌-◌, ◌<◌, ◌≤◌, true, false, ltb, List, [], ◌∷◌, length, drop, get_or, Option, Some, None, refl, sym, ap, subst, ◌∙◌, inl, inr, arith, ◌^◌}
+use Rattle.yaml_scan_machine.proofs.Words.{Line, cases_Bool, cases_lt, nat_tests, length-map, map, IfSome, Opens, Token, TokenBody, text_bytes, AreInside, block_end, no_token, entries, Remaining, remaining, spell, GivesFirst, ends_token, Machine, Waiting, KeptLexeme, kept_of, IsMachine, is_ready, ready_in, fields_of, kept_in, read, history_of, stream_of, front_at, front_count, fronted, given_in, own_token, to_come, left_in, cases_Option}
 use Rattle.yaml_scan_queue.specs.Hands.{Gives, GivesFront, GivesOwn, GivesKeyed, TellsUnchecked, handing}
 use Rattle.yaml_scan_model.specs.Tokens as token
 use Rattle.yaml_scan_model.specs.Tokens.{type_of}
 use Rattle.yaml_scan_model.specs.declared.name.yaml_token_type_t.TheVariants.{YAML_SCALAR_TOKEN}
 use Rattle.yaml_scan_slot.specs.Lending.{key_of}
 use Rattle.yaml_scan_slot.specs.declared.slot.TokenSlot.{TokenSlot}
-use Rattle.yaml_scan_slot.specs.Slots.{body_in_slot, spells_text}
+use Rattle.yaml_scan_slot.specs.Slots.{spells_text}
 use Rattle.yaml_scan_queue.specs.Front.{start_at}
 use Rattle.yaml_scan_machine.specs.Handed.{GivesTo, Hands, TellsNext}
 use Rattle.yaml_scan_machine.specs.State.{KeepsInput}
@@ -18,7 +18,7 @@ use Rattle.yaml_scan_machine.proofs.NextLemmas.{settled_first}
 use Rattle.yaml_scan_machine.proofs.ComesLemmas.{settled_end, left_is, left_gives, ready_started}
 use Rattle.yaml_scan_machine.proofs.SafeLemmas.{known_settled, inside_rest}
 use Rattle.yaml_scan_machine.proofs.SpellLemmas.{spell_length, spell_token, front_count-le}
-use Rattle.yaml_scan_machine.proofs.GivenLemmas.{shown_given, shown_popped, given_none, own_settled, first_is, no_entry, given_few, given_more, front_room, front_done, ends_few}
+use Rattle.yaml_scan_machine.proofs.GivenLemmas.{shown_given, shown_popped, given_none, own_settled, first_is, no_entry, given_few, given_more, front_done, ends_few}
 
 -- a lexeme that is settled gives its tokens
 settled_front : (m : Machine) (w : Waiting) (rest : List Waiting) → IsMachine m

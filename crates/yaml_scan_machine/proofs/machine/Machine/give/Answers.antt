@@ -1,6 +1,6 @@
-use Rattle.std.proofs.Common.{◌+◌, Bool, true, false, List, length, ap, ◌∙◌, arith}
+use Rattle.std.proofs.Common.{Bool, true, false, List, length, ap, arith}
 use Rattle.yaml_scan_machine.proofs.Words.{Token, Waiting, fault_of}
-use Rattle.yaml_scan_machine.proofs.TakeLemmas.{Gave, first_fits, first_waits, gives_next}
+use Rattle.yaml_scan_machine.proofs.TakeLemmas.{first_fits, first_waits, gives_next}
 use Rattle.yaml_scan_machine.proofs.machine.Machine.give.Goals as goal
 
 pub give-requires-clause-some : goal.give-requires-clause-some

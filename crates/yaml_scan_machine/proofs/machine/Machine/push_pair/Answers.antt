@@ -1,4 +1,4 @@
-use Rattle.std.proofs.Common.{cond, ◌≡◌, ◌≤◌, ℕ, true, false, List, ◌∷◌, [], ◌++◌, sym, ap, subst, ◌∙◌, refl, arith, ◌+◌, ◌&&◌, ◌||◌, not, ltb, eqb, length, length-append}
+use Rattle.std.proofs.Common.{cond, ◌≡◌, ℕ, true, false, List, ◌∷◌, [], ◌++◌, sym, ap, subst, ◌∙◌, refl, arith, ◌+◌, ◌&&◌, ◌||◌, not, ltb, eqb, length, length-append}
 use Rattle.yaml_scan_machine.proofs.Words.{map, allows_key, body_of, entry_of, has, indent, inside, is_start, kept_in, opens_at, spelled, map-append, length-map, Machine, Waiting, KeptLexeme, kept_of, IsMachine, ReadsMore, StaysShort, AreInside, IsNarrow, Lexeme, left_by, reached, Key, stack_of, AreKeys, Fields, fields_of, history_of, opens_for, opened, first_open, settled_in, Line, yaml_mark_t}
 use Rattle.std.proofs.Math.Bool.{and-false}
 use Rattle.std.proofs.lemmas.Bool.{true≢false}

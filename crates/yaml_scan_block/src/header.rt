@@ -13,7 +13,7 @@ use yaml_scan_model::{
 
 /// What happens to the breaks at the end.
 #[derive(Clone, Copy)]
-pub(crate) enum Chomp {
+pub enum Chomp {
     /// None stays.
     Strip,
     /// The last text line's stays.

@@ -8,4 +8,5 @@ mod lines;
 mod stacking;
 
 pub use block::{Block, block_scalar};
+pub use header::Chomp;
 pub use laws::lines_are_unbounded;

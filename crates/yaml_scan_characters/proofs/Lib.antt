@@ -1,4 +1,5 @@
 pub mod DecodeLemmas
 pub mod SpellingLemmas
 pub mod CompleteLemmas
+pub mod CommonLemmas
 mod Rules

@@ -15,10 +15,9 @@ use Rattle.yaml_scan_characters.specs.declared.offence.Offence.{Offence}
 use Rattle.yaml_scan_characters.specs.declared.offence.Character.{Character}
 use Rattle.yaml_scan_characters.specs.declared.utf16.ByteOrder.{ByteOrder}
 use Rattle.yaml_scan_characters.specs.Characters.{is_allowed, allowed_at, valued_at, least_code, sequence_of, utf8_code, leading_bits, utf8_of, utf8_at, utf16_at, encoding_by, character_at}
-use Rattle.yaml_scan_characters.specs.Steps.{is_plain}
+use Rattle.yaml_scan_characters.specs.Steps.{is_plain, outcome, outcome_at, behind}
 use Rattle.yaml_scan_characters.specs.Decoding.{before, led_by, characters, in_utf8}
 use Rattle.yaml_scan_characters.specs.Spelling.{spelling, spellings}
-use Rattle.yaml_scan_characters.specs.Steps.{outcome, outcome_at, behind}
 use Rattle.yaml_scan_characters.proofs.DecodeLemmas.{AreBytes, character_some, character_stands}
 
 -- a character that a stream may hold is a Unicode scalar value
@@ -98,6 +97,11 @@ pub checks_refused : (bytes : List ℕ) (p q : ℕ) (o : Offence)
     → outcome_at bytes p ≡ Err o
 unfolding outcome_at
 checks_refused bytes p q o front inside h = front ∙ ap outcome (refused YAML_UTF8_ENCODING bytes q o inside h)
+
+-- the offence there is the first
+pub checks_none : (bytes : List ℕ) (p : ℕ) (o : Offence) → p < length bytes
+    → utf8_at bytes p ≡ Err o → outcome_at bytes p ≡ Err o
+checks_none bytes p o inside h = checks_refused bytes p p o refl inside h
 
 -- plain bytes are checked
 pub checks_run : (k : ℕ) (bytes : List ℕ) (p : ℕ) → p + k ≤ length bytes

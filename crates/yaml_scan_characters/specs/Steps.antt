@@ -6,7 +6,7 @@ use Rattle.yaml_scan_characters.specs.declared.offence.ReaderProblem.TheVariants
 use Rattle.yaml_scan_characters.specs.declared.offence.Offence.{Offence}
 use Rattle.yaml_scan_characters.specs.declared.utf16.DecodeError.{DecodeError}
 use Rattle.yaml_scan_characters.specs.declared.utf16.DecodeError.TheVariants.{Memory, Offends}
-use Rattle.yaml_scan_characters.specs.Characters.{is_allowed, is_trailing}
+use Rattle.yaml_scan_characters.specs.Characters.{is_allowed, is_trailing, utf8_at}
 use Rattle.yaml_scan_characters.specs.Decoding.{characters}
 
 -- what the byte b, which stands so many places behind the first of its character, adds to the code; 0 where the character has no such byte
@@ -33,6 +33,11 @@ outcome (Err o) = Err o
 -- whether UTF-8 spells characters from the place on, or the first offence
 unfoldable pub outcome_at : List ℕ → ℕ → Result (Unit {0}) Offence
 outcome_at bytes p = outcome (characters (length bytes) YAML_UTF8_ENCODING bytes p)
+
+-- a character of so many bytes stands there
+abbrev pub HasCharacter : List ℕ → ℕ → ℕ → Type 0
+HasCharacter bytes p width =
+    (code : ℕ) × (utf8_at bytes p ≡ Ok record { code = code; width = width })
 
 -- characters stand from the place p on up to that later one, or the offence is the first there
 abbrev pub GoesTo : List ℕ → ℕ → Result ℕ Offence → Type 0

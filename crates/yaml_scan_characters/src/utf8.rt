@@ -4,15 +4,13 @@ ghost use Rattle.std.specs.Prelude.{◌≡◌, ◌+◌, ◌<◌, ◌≤◌, ◌^
 ghost use Rattle.yaml_scan_model.specs.declared.name.yaml_encoding_t.TheVariants.{YAML_UTF8_ENCODING};
 ghost use Rattle.yaml_scan_model.specs.Marks.{byte};
 ghost use Rattle.yaml_scan_model.specs.Classes.{width_of};
-ghost use Rattle.yaml_scan_characters.specs.Characters.{utf8_at, valued_at, sequence_of, least_code, leading_bits};
-ghost use Rattle.yaml_scan_characters.specs.Steps.{is_plain, trailing_bits, outcome, GoesTo};
+ghost use Rattle.yaml_scan_characters.specs.Characters.{utf8_at, valued_at, sequence_of, least_code, leading_bits, is_trailing};
+ghost use Rattle.yaml_scan_characters.specs.Steps.{is_plain, trailing_bits, outcome, GoesTo, HasCharacter};
 ghost use Rattle.yaml_scan_characters.specs.Decoding.{characters};
 
 use crate::offence::{Character, Offence, ReaderProblem, allowed_character};
 use yaml_scan_classes::WIDTH;
-
-// So many bytes are looked at together.
-const CHUNK: usize = 64;
+use yaml_scan_runs::plain_end;
 
 // What the character's byte that many places on adds to its code: 0 where the character has no such byte.
 #[tactic(auto, unfolding(crate::specs::Steps::trailing_bits))]
@@ -126,52 +124,38 @@ fn is_plain(byte: u8) -> bool
     byte >= 0x20 && byte < 0x7F || byte == b'\n' || byte == b'\r' || byte == b'\t'
 }
 
-// Whether the bytes of a chunk that begins there are all plain.
-fn is_plain_chunk(bytes: &[u8], at: usize) -> bool
-    requires { at + CHUNK ≤ length bytes.now }
-    ensures { result ≡ true → (k : ℕ) → at ≤ k → k < at + CHUNK → is_plain (byte bytes.now k)
-        ≡ true }
+// Whether it is a byte of a character behind its first.
+fn continues(byte: u8) -> bool
+    ensures { result ≡ is_trailing byte }
 {
-    let mut plain = true;
-    let mut count = 0;
-    'bytes: while count < CHUNK {
-        plain = plain & is_plain(bytes[at + count]);
-        count += 1;
-    }
-    plain
+    byte >= 0x80 && byte < 0xC0
 }
 
-// The place behind the characters that begin before the end, one by one.
-#[tactic(auto, using(crate::proofs::DecodeLemmas::utf8_stands, crate::proofs::SpellingLemmas::checks_more, crate::proofs::SpellingLemmas::checks_refused))]
-fn characters_to(bytes: &[u8], start: usize, end: usize) -> Result<usize, Offence>
-    requires some { start < end }
-    requires inside { end ≤ length bytes.now }
-    ensures { GoesTo bytes.now start result }
+// How many bytes the character there has, if it is one of U+00C0 to U+07FF or of U+1000 to U+CFFF, which a stream may hold; else 0.
+#[tactic(auto, using(crate::proofs::CommonLemmas::common_two, crate::proofs::CommonLemmas::common_three))]
+fn common_width(bytes: &[u8], at: usize) -> usize
+    requires { at < length bytes.now }
+    ensures { 0 < result → HasCharacter bytes.now at result }
 {
-    let mut at = start;
-    'characters: while at < end {
-        if is_plain(bytes[at]) {
-            at += 1;
-        } else {
-            at += utf8_character(bytes, at)?.width;
-        }
+    let left = bytes.len() - at;
+    match bytes[at] {
+        0xC3..=0xDF if left >= 2 && continues(bytes[at + 1]) => 2,
+        0xE1..=0xEC if left >= 3 && continues(bytes[at + 1]) && continues(bytes[at + 2]) => 3,
+        _ => 0,
     }
-    Ok(at)
 }
 
-// The place behind the characters that begin in the next bytes, at most a chunk of them.
-#[tactic(auto, using(crate::proofs::SpellingLemmas::checks_run))]
-fn checked_part(bytes: &[u8], at: usize) -> Result<usize, Offence>
+// The place behind the character there.
+#[tactic(auto, using(crate::proofs::SpellingLemmas::checks_none))]
+fn past_character(bytes: &[u8], at: usize) -> Result<usize, Offence>
     requires { at < length bytes.now }
     ensures { GoesTo bytes.now at result }
 {
-    if bytes.len() - at < CHUNK {
-        return characters_to(bytes, at, bytes.len());
+    let width = common_width(bytes, at);
+    if width > 0 {
+        return Ok(at + width);
     }
-    if is_plain_chunk(bytes, at) {
-        return Ok(at + CHUNK);
-    }
-    characters_to(bytes, at, at + CHUNK)
+    Ok(at + utf8_character(bytes, at)?.width)
 }
 
 /// Checks the characters from that place on.
@@ -180,8 +164,11 @@ pub fn check_utf8(bytes: &[u8], start: usize) -> Result<(), Offence>
     ensures { result ≡ outcome (characters (length bytes.now) YAML_UTF8_ENCODING bytes.now start) }
 {
     let mut at = start;
-    'parts: while at < bytes.len() {
-        at = checked_part(bytes, at)?;
+    'runs: while at < bytes.len() {
+        at = plain_end(bytes, at);
+        'others: while at < bytes.len() && !is_plain(bytes[at]) {
+            at = past_character(bytes, at)?;
+        }
     }
     Ok(())
 }

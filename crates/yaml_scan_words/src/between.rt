@@ -11,7 +11,7 @@ use yaml_scan_model::{Reader, skip_text};
 
 /// What stands at a place between lexemes.
 #[derive(Clone, Copy)]
-pub(crate) enum GapSpot {
+pub enum GapSpot {
     /// A blank that is skipped, a comment, or U+FEFF at the start of the text.
     Blank,
     Break,

@@ -15,7 +15,7 @@ use yaml_scan_model::{Context, Problem, Reader, ScanError, Spares, skip_text, ya
 
 /// Which directive a name tells.
 #[derive(Clone, Copy)]
-pub(crate) enum DirectiveName {
+pub enum DirectiveName {
     Yaml,
     Tag,
 }

@@ -14,7 +14,7 @@ use yaml_scan_model::{Reader, Spares, copied as copied_bytes, leap};
 
 /// Which bytes go together.
 #[derive(Clone, Copy)]
-pub(crate) enum Run {
+pub enum Run {
     /// `0-9 A-Z a-z _ -`
     Alphas,
     /// `0-9`

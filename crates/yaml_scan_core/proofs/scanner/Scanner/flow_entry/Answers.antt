@@ -1,0 +1,36 @@
+use Rattle.std.proofs.Common.{true, refl, inl}
+use Rattle.std.proofs.lemmas.Result.{err_from_is_err_and}
+use Rattle.yaml_scan_history.specs.declared.kind.Kind.TheVariants as reads
+use Rattle.yaml_scan_core.specs.declared.lexeme.Kind.TheVariants as kinds
+use Rattle.yaml_scan_model.specs.Tokens as tokens
+use Rattle.yaml_scan_core.specs.Scanning.{history_of}
+use Rattle.yaml_scan_core.proofs.GroupsLemmas.{comma, plain_falls, plain_takes, put_falls}
+use Rattle.yaml_scan_core.proofs.StandTaken.{reads_closed, takes_closed}
+use Rattle.yaml_scan_core.proofs.scanner.Scanner.flow_entry.Goals as goal
+
+pub returns-in_err-check_cancelled : goal.returns-in_err-check_cancelled
+returns-in_err-check_cancelled c =
+    let was = c.args.self.now in
+    let s = c.close_levels-ends.new.self in
+    let e = err_from_is_err_and c.from_residual.result c.from_residual.ensures.1 in
+    reads_closed was s _ c.from_residual.result c.close_levels-ends.ensures.same
+    (plain_falls (reads.FlowEntry) (kinds.FlowEntry) (tokens.flow_entry) 1 true s c.check_cancelled.new.self (history_of s) c.close_levels-ends.result c.from_residual.result e.0 c.in_err-check_cancelled.field-0.0
+    (comma) c.close_levels-ends.ensures.stands c.check_cancelled.ensures.same (c.in_err-check_cancelled.ensures.tests s.text.now) e.1)
+
+pub returns-in_err-push : goal.returns-in_err-push
+returns-in_err-push c =
+    let was = c.args.self.now in
+    let s = c.close_levels-ends.new.self in
+    let e = err_from_is_err_and c.from_residual-in_err-push.result c.from_residual-in_err-push.ensures.1 in
+    reads_closed was s _ c.from_residual-in_err-push.result c.close_levels-ends.ensures.same
+    (put_falls (reads.FlowEntry) s c.check_cancelled.new.self c.push.new.self (history_of s) c.close_levels-ends.result c.from_residual-in_err-push.result e.0 c.close_levels-ends.ensures.stands
+    c.in_ok-check_cancelled.ensures.kept c.in_err-push.ensures.err c.push.ensures.room e.1)
+
+pub returns : goal.returns
+returns c =
+    let was = c.args.self.now in
+    let s = c.close_levels-ends.new.self in
+    let mid = c.check_cancelled.new.self in
+    inl (takes_closed was s _ c.close_levels-ends.ensures.same
+    (plain_takes reads.FlowEntry kinds.FlowEntry tokens.flow_entry 1 true s mid c.give_up.new.self c.push.new.self c.new.result (history_of s) c.close_levels-ends.result mid.fault c.in_ok-check_cancelled.field-0 comma (λ d. refl) c.close_levels-ends.ensures.stands
+    c.in_ok-check_cancelled.ensures.kept (c.in_ok-check_cancelled.ensures.tests s.text.now) c.new.ensures c.in_ok-push.ensures.ok c.in_ok-push.ensures.more c.give_up.ensures))

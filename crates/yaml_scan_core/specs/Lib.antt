@@ -1,0 +1,9 @@
+pub mod Lines
+pub mod Candidates
+pub mod Margins
+pub mod Rows
+pub mod Shown
+pub mod Scanning
+pub mod Handed
+pub mod Texts
+pub mod WordsRead

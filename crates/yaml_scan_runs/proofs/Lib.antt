@@ -1,0 +1,4 @@
+pub mod Places
+pub mod Lanes
+pub mod Stops
+pub mod Counts

@@ -1,0 +1,16 @@
+pub mod Words
+pub mod TextLemmas
+pub mod RunLemmas
+pub mod LinesLemmas
+pub mod WhiteLemmas
+pub mod FoldsLemmas
+pub mod PlainLemmas
+pub mod HeadLemmas
+pub mod JoinLemmas
+pub mod BlockLemmas
+pub mod StackLemmas
+pub mod QuotesLemmas
+pub mod Bytes
+pub mod NamesLemmas
+pub mod TagsLemmas
+pub mod DirectiveLemmas

@@ -1,0 +1,11 @@
+pub mod Classes
+pub mod White
+pub mod Refused
+pub mod Lines
+pub mod Folds
+pub mod PlainRead
+pub mod BlockRead
+pub mod QuotedRead
+pub mod NamesRead
+pub mod TagsRead
+pub mod DirectivesRead

@@ -1,0 +1,4 @@
+pub mod Kinds
+pub mod Texts
+pub mod Shows
+pub mod Utf8

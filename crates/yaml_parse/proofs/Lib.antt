@@ -1,7 +1,9 @@
-mod Holds
-mod Found
+mod Handed
+mod Begins
+mod Gives
+mod Loading
+pub mod Sentences
 -- what loads come to, and what a parser begins with, for crates that name the member alone
-pub use Rattle.yaml_parse_step.proofs.AllGiven
-pub use Rattle.yaml_parse_step.proofs.ByStep
-pub use Rattle.yaml_parse_step.proofs.NextLoads
-pub use Rattle.yaml_parse_step.proofs.Sentences
+pub use Rattle.yaml_parse_laws_trees.proofs.AllGiven
+pub use Rattle.yaml_parse_laws_trees.proofs.ByStep
+pub use Rattle.yaml_parse_laws_trees.proofs.NextLoads

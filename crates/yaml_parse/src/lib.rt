@@ -1,9 +1,13 @@
 //! Events and documents of tokens, over any source: libyaml's parser and loader.
 #![tactic(auto)]
 
+mod found;
+mod law;
 mod load;
 mod parser;
 
+pub use found::yaml_found_t;
+pub use law::events_keep_to_tokens;
 pub use load::{loads_are_by_content, yaml_parser_load};
 pub use parser::{
     yaml_parser_between, yaml_parser_delete, yaml_parser_initialize, yaml_parser_parse,
@@ -27,7 +31,6 @@ pub use yaml_parse_model::{
     yaml_stream_end_event_initialize, yaml_stream_start_event_initialize, yaml_text_fault_t,
     yaml_token_source_t,
 };
-pub use yaml_parse_step::{events_keep_to_tokens, yaml_found_t};
 pub use yaml_scan_model::{
     yaml_break_t, yaml_encoding_t, yaml_error_type_t, yaml_event_type_t, yaml_fault_t,
     yaml_mapping_style_t, yaml_mark_t, yaml_memory_fault, yaml_node_type_t, yaml_origin_t,

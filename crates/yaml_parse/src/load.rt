@@ -3,31 +3,25 @@
 ghost use Rattle.std.specs.Prelude.{◌≡◌, ◌≤◌, true, IfOk, IfErr};
 ghost use Rattle.yaml_scan_model.specs.Faults.{fault_of};
 ghost use Rattle.yaml_parse_document.specs.Sizes.{IsSized};
-ghost use Rattle.yaml_parse_step.specs.parse_laws_trees.NextLoad.{AreLoadsByContent, FrontsLoadByContent, LoadIsNext, RefusalIsNext};
+ghost use Rattle.yaml_parse_laws_trees.specs.NextLoad.{AreLoadsByContent, FrontsLoadByContent, LoadIsNext, RefusalIsNext};
 
+use crate::found::yaml_found_t;
 use crate::parser::{yaml_parser_parse_into, yaml_parser_t};
 use yaml_parse_document::{no_document, yaml_document_t};
 use yaml_parse_loader::Loader;
 use yaml_parse_model::{yaml_event_body_t, yaml_event_t, yaml_token_source_t};
-use yaml_parse_resolve::let_event_go;
-use yaml_parse_step::yaml_found_t;
 use yaml_scan_model::{yaml_fault_t, yaml_memory_fault, yaml_origin_t};
 
-// The loop over events that loads.
-struct Loading;
-
 // Both are let go. A call for each way out of a load: there each field that is freed by itself would be a step of its own.
-// Inlined: they lie where they were made.
-#[inline(always)]
 fn let_go(loader: Loader, event: yaml_event_t) {
     loader.let_go();
-    let_event_go(event);
+    drop(event);
 }
 
-/// The next document, its nodes numbered from 1 in preorder; behind the last one a document without root. An alias stands
+/// The next document, its nodes numbered from 1 in preorder; after the last one a document without root. An alias stands
 /// for the last node before it in preorder that has its anchor, a node that encloses it counting from its own start; an
 /// anchor may occur again. Also refused, with kind 5, for an alias without such a node in its document (`found undefined
-/// alias`). What stands behind a document is left; behind a refusal nothing is to come. No document may be half taken,
+/// alias`). What stands after a document is left; after a refusal nothing is to come. No document may be half taken,
 /// which `yaml_parser_between` tells; none is afterwards.
 pub fn yaml_parser_load<S: yaml_token_source_t>(
     parser: &mut yaml_parser_t<S>,
@@ -36,7 +30,7 @@ pub fn yaml_parser_load<S: yaml_token_source_t>(
     // Load after load, there is a next one that content says, up to a fault or the last document.
     ensures by_content { AreLoadsByContent parser.old }
     // What is loaded is the numbering of the content whose events come next; an alias in it without an anchor is refused, before
-    // the fault behind the events.
+    // the fault after the events.
     ensures next { IfOk result (λ d. LoadIsNext parser.old d parser.new) }
     ensures refused { IfErr result (λ f. RefusalIsNext parser.old (fault_of f) parser.new) }
     ensures between { parser.new.between ≡ true }
@@ -50,7 +44,7 @@ pub fn yaml_parser_load<S: yaml_token_source_t>(
     let mut event = yaml_event_t::unplaced(yaml_event_body_t::No);
     let mut fault = yaml_memory_fault(yaml_origin_t::Parser);
     'events: loop {
-        match yaml_parser_parse_into::<S, Loading>(parser, &mut event, &mut fault) {
+        match yaml_parser_parse_into(parser, &mut event, &mut fault) {
             yaml_found_t::Event => match loader.feed(&mut event) {
                 Ok(None) => {}
                 Ok(Some(document)) => {

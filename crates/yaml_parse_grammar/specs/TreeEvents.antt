@@ -13,8 +13,7 @@ use Rattle.yaml_parse_grammar.specs.declared.name.Site.{Site}
 use Rattle.yaml_parse_grammar.specs.declared.name.Site.TheVariants.{Root, Entry, IndentlessEntry, BlockPair, FlowPair}
 use Rattle.yaml_parse_grammar.specs.Items.{RawEvent, Properties, item_at, blank, properties_alone, node_at}
 use Rattle.yaml_parse_grammar.specs.Items as item
-use Rattle.yaml_parse_grammar.specs.Trees.{Span, PropertyTokens, Node, Content, Maybe, Colon, Items, More, Entries, Others, Pairs, Directive, Documents, First, Stream, Given, properties_of, flow_shape, end_event, event_at, mark_at, start_of}
-use Rattle.yaml_parse_grammar.specs.Trees.{anchor, anchor_tag, tag, tag_anchor, alias, only_properties, with_properties, bare, scalar, flow, block_sequence, block_mapping, indentless, left_out, there, no_colon, colon, end_items, single, pair, end_more, comma, end_entries, entry, no_others, other, end_pairs, block_pair, version, handle, end_stream, document, no_first, first}
+use Rattle.yaml_parse_grammar.specs.Trees.{Span, PropertyTokens, Node, Content, Maybe, Colon, Items, More, Entries, Others, Pairs, Directive, Documents, First, Stream, Given, properties_of, flow_shape, end_event, event_at, mark_at, start_of, anchor, anchor_tag, tag, tag_anchor, alias, only_properties, with_properties, bare, scalar, flow, block_sequence, block_mapping, indentless, left_out, there, no_colon, colon, end_items, single, pair, end_more, comma, end_entries, entry, no_others, other, end_pairs, block_pair, version, handle, end_stream, document, no_first, first}
 
 -- ---- where the parts of a tree begin; next is the start of the token behind a part
 

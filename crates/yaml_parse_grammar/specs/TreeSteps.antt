@@ -16,8 +16,7 @@ use Rattle.yaml_parse_grammar.specs.declared.name.Site.{Site}
 use Rattle.yaml_parse_grammar.specs.declared.name.Site.TheVariants.{Root, Entry, IndentlessEntry, BlockPair, FlowPair}
 use Rattle.yaml_parse_grammar.specs.Items.{Properties, item_at, blank, properties_alone, node_at}
 use Rattle.yaml_parse_grammar.specs.Items as item
-use Rattle.yaml_parse_grammar.specs.Trees.{Span, Node, Content, Maybe, Colon, Items, More, Entries, Others, Pairs, Directive, Documents, First, Stream, Given, token_at, spell_items, spell_more, spell_entries, spell_others, spell_pairs, spell_colon, spell_maybe, spell_node, spell_directives, spell_ends, spell_documents, spell_first, next, properties_of, flow_shape, end_event, event_at, mark_at, start_of}
-use Rattle.yaml_parse_grammar.specs.Trees.{alias, only_properties, with_properties, bare, scalar, flow, block_sequence, block_mapping, indentless, left_out, there, no_colon, colon, end_items, single, pair, end_more, comma, end_entries, entry, no_others, other, end_pairs, block_pair, version, handle, end_stream, document, no_first, first}
+use Rattle.yaml_parse_grammar.specs.Trees.{Span, Node, Content, Maybe, Colon, Items, More, Entries, Others, Pairs, Directive, Documents, First, Stream, Given, token_at, spell_items, spell_more, spell_entries, spell_others, spell_pairs, spell_colon, spell_maybe, spell_node, spell_directives, spell_ends, spell_documents, spell_first, next, properties_of, flow_shape, end_event, event_at, mark_at, start_of, alias, only_properties, with_properties, bare, scalar, flow, block_sequence, block_mapping, indentless, left_out, there, no_colon, colon, end_items, single, pair, end_more, comma, end_entries, entry, no_others, other, end_pairs, block_pair, version, handle, end_stream, document, no_first, first}
 
 -- how many tokens are left behind the next
 abbrev pub behind : List Token → ℕ

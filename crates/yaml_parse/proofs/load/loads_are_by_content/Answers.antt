@@ -1,4 +1,4 @@
-use Rattle.yaml_parse_step.proofs.ByContent.{by_content}
+use Rattle.yaml_parse_laws_trees.proofs.ByContent.{by_content}
 use Rattle.yaml_parse.proofs.load.loads_are_by_content.Goals as goal
 
 pub returns : goal.returns

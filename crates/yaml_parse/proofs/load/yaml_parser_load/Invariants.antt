@@ -1,5 +1,5 @@
 use Rattle.std.proofs.Common.{length}
-use Rattle.yaml_parse_step.proofs.ByStep.{KeepsLoading}
+use Rattle.yaml_parse_laws_trees.proofs.ByStep.{KeepsLoading}
 use Rattle.yaml_parse.proofs.load.yaml_parser_load.Given as goal
 
 abbrev pub invariant-events : goal.invariant-events

@@ -3,7 +3,7 @@
 use Rattle.std.proofs.Common.{rules}
 use Rattle.yaml_scan_model.specs.Faults.{fault_of}
 use Rattle.yaml_parse_model.specs.Events.{event_of}
-use Rattle.yaml_parse.proofs.Found.{handed_event, handed_fault, handed_utf8, handed_between}
+use Rattle.yaml_parse.proofs.Handed.{handed_event, handed_fault, handed_utf8, handed_between}
 use Rattle.yaml_parse.proofs.parser.yaml_parser_parse.Goals as goal
 
 pub returns-clause-err : goal.returns-clause-err

@@ -1,20 +1,30 @@
--- A turn's answer, behind turns that gave nothing.
-use Rattle.std.proofs.Common.{inr}
-use Rattle.yaml_scan_model.specs.Faults.{fault_of}
-use Rattle.yaml_parse_step.proofs.Turning.{over_end, turns_behind}
-use Rattle.yaml_parse_step.specs.Turned as turn
-use Rattle.yaml_parse.proofs.Found.{refused_kept}
+-- What the states give, in the words of what is still to come.
+use Rattle.std.proofs.Common.{sym, subst}
+use Rattle.yaml_scan_model.specs.Faults.{Fault, fault_of}
+use Rattle.yaml_parse_model.specs.Prefix.{prefix_of}
+use Rattle.yaml_parse_grammar.specs.Remaining.{FaultOf, ParserRemaining}
+use Rattle.yaml_parse_source.specs.Members.{members_of}
+use Rattle.yaml_parse_states.specs.Turned.{Means}
+use Rattle.yaml_parse.proofs.Gives.{gives_end, remains, told_fault}
+use Rattle.yaml_parse.specs.Finds.{GivesEnd}
 use Rattle.yaml_parse.proofs.parser.yaml_parser_parse_into.Goals as goal
 
-pub turns-preserved : goal.turns-preserved
-turns-preserved g c = inr (turns_behind turn.silent _ _ _ c.turns.invariant c.in-Silent.ensures.turns)
+pub returns-in-Err-clause-finds : goal.returns-in-Err-clause-finds
+returns-in-Err-clause-finds g c =
+    let to_come = g.S.yaml_token_source_t.to_come in
+    let fault_to_come = g.S.yaml_token_source_t.fault_to_come in
+    let f : Fault = fault_of c.told_fault.result in
+    let new : ParserRemaining = remains to_come fault_to_come c.parse_into.new.self (prefix_of c.of-parser-inside.result) in
+    subst (λ z. FaultOf z f new) c.parser.view_is
+    (told_fault to_come fault_to_come (prefix_of c.parser.inside.prefix) (prefix_of c.of-parser-inside.result) f c.in-Err.refusal c.parser.inside.parser c.parse_into.new.self c.in-Err.ensures.err
+    (λ e m. c.told_fault.ensures e (subst (λ ts. Means (members_of to_come fault_to_come) ts c.in-Err.refusal e) (sym c.tokens.ensures) m))
+    c.of-parser-inside.ensures)
 
-pub returns-in-Refused-clause-finds : goal.returns-in-Refused-clause-finds
-returns-in-Refused-clause-finds g c =
-    refused_kept (fault_of c.turn.new.fault) _ c.turn.new.self _ (turns_behind (turn.refused _) _ _ _ c.turns.invariant c.in-Refused.ensures.turns) c.keep_fault.ensures
-
-pub returns-in-Done-clause-finds : goal.returns-in-Done-clause-finds
-returns-in-Done-clause-finds g c = over_end _ _ (turns_behind turn.done _ _ _ c.turns.invariant c.in-Done.ensures.turns)
-
-pub returns-in-Given-clause-finds : goal.returns-in-Given-clause-finds
-returns-in-Given-clause-finds g c = turns_behind (turn.event _) _ _ _ c.turns.invariant c.in-Given.ensures.turns
+pub returns-in-Ok-false-clause-finds : goal.returns-in-Ok-false-clause-finds
+returns-in-Ok-false-clause-finds g c =
+    let to_come = g.S.yaml_token_source_t.to_come in
+    let fault_to_come = g.S.yaml_token_source_t.fault_to_come in
+    let new : ParserRemaining = remains to_come fault_to_come c.parse_into.new.self (prefix_of c.parser.inside.prefix) in
+    let fills = rw c.in-Ok-false.field-0-test at c.in-Ok-false.ensures.fills in
+    subst (λ z. GivesEnd z new) c.parser.view_is
+    (gives_end to_come fault_to_come (prefix_of c.parser.inside.prefix) c.parser.inside.parser c.parse_into.new.self fills)

@@ -1,19 +1,19 @@
--- Nothing comes from an empty stack.
+-- Nothing comes of a parser that is stopped.
+use Rattle.std.proofs.Common.{ap}
 use Rattle.yaml_parse_model.specs.Prefix.{prefix_of}
-use Rattle.yaml_parse_core.specs.Views.{properties_of, states_by}
-use Rattle.yaml_parse_resolve.specs.Settles.{directives_of}
-use Rattle.yaml_parse_step.specs.Steps.{peeked_of}
-use Rattle.yaml_parse_step.proofs.Turning.{finishes, one_held}
-use Rattle.yaml_parse.proofs.Holds.{nothing_holds}
+use Rattle.yaml_parse_states.specs.declared.parser.Parser.{Parser}
+use Rattle.yaml_parse.proofs.Gives.{one_held, parser_stops, stopped_stands, stopped_utf8}
 use Rattle.yaml_parse.proofs.parser.yaml_parser_t.refuse.Goals as goal
 
 pub returns-clause-finished : goal.returns-clause-finished
 returns-clause-finished g c =
-    finishes (peeked_of c.self.inside.buffers) (g.S.yaml_token_source_t.to_come c.self.inside.source) (g.S.yaml_token_source_t.fault_to_come c.self.inside.source) (states_by c.finish.new.machine (properties_of c.self.inside.buffers.waiting))
-    (directives_of c.self.inside.buffers.directives) (prefix_of c.of-self-inside.result) (c.finish.ensures (properties_of c.self.inside.buffers.waiting))
+    parser_stops g.S.yaml_token_source_t.to_come g.S.yaml_token_source_t.fault_to_come c.stop.new.self (prefix_of c.of-self-inside.result) (ap (λ (p : Parser _ _). p.state) c.stop.ensures)
 
 pub returns-clause-held : goal.returns-clause-held
-returns-clause-held g c = one_held (peeked_of c.self.inside.buffers)
+returns-clause-held g c = one_held c.stop.new.self
 
 pub invariant_of-self : goal.invariant_of-self
-invariant_of-self g c = nothing_holds _ (states_by c.finish.new.machine (properties_of c.self.inside.buffers.waiting)) _ (c.finish.ensures (properties_of c.self.inside.buffers.waiting))
+invariant_of-self g c = (
+  stopped_stands c.stop.new.self (ap (λ (p : Parser _ _). p.state) c.stop.ensures),
+  stopped_utf8 g.S.yaml_token_source_t.to_come g.S.yaml_token_source_t.fault_to_come c.stop.new.self (ap (λ (p : Parser _ _). p.state) c.stop.ensures),
+)

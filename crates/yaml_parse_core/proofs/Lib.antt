@@ -1,3 +1,0 @@
-pub mod Stacks
-pub mod Nodes
-pub mod Keyed

@@ -1,2 +1,0 @@
-pub mod HandleTable
-pub mod Named

@@ -1,3 +1,0 @@
-pub mod Settles
-pub mod TagView
-pub mod Bare

@@ -1,0 +1,3 @@
+pub mod Coming
+pub mod Counts
+pub mod Members

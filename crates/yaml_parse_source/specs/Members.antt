@@ -1,0 +1,20 @@
+-- The ghost members of a source's tokens, by those of the source.
+use Rattle.std.specs.Prelude.{◌≡◌, ℕ, List, length, Option}
+use Rattle.yaml_scan_model.specs.declared.yaml_mark_t.{yaml_mark_t}
+use Rattle.yaml_scan_model.specs.Tokens.{Token, token_of, body_of}
+use Rattle.yaml_scan_model.specs.Faults.{Fault}
+use Rattle.yaml_scan_tokens.specs.declared.tokens.Tokens.{Ghosts}
+use Rattle.yaml_scan_tokens.specs.Texts.{texts_in}
+use Rattle.yaml_parse_source.specs.declared.source.SourceTokens.{SourceTokens}
+use Rattle.yaml_parse_source.specs.Coming.{coming, fault_coming, left_of, Tells}
+
+abbrev pub members_of : {S : Type 0} → (S → List Token) → (S → Option Fault)
+    → Ghosts (SourceTokens S) yaml_mark_t
+members_of to_come fault_to_come = record {
+  to_come = λ s. coming s.fault s.is_next (token_of s.token) (to_come s.source);
+  fault_to_come = λ s. fault_coming s.fault (fault_to_come s.source);
+  mark_of = λ s p. p;
+  texts = λ s. texts_in (body_of s.token.body);
+  tells = λ s b. Tells s.fault s.is_next b;
+  unasked = λ s n. length (left_of s.fault (to_come s.source)) ≡ n;
+}

@@ -1,0 +1,12 @@
+pub mod Coming
+pub mod Views
+pub mod Turned
+pub mod Nodes
+pub mod TagView
+pub mod Documents
+pub mod Steps
+pub mod Remaining
+pub mod Owned
+pub mod Standing
+pub mod Utf8
+pub mod Filled

@@ -3,7 +3,7 @@ use mir.Syntax.{w32}
 use mir.Val.{SFits, to_z, of_z}
 use Rattle.std.proofs.Common.{◌≡◌, ◌∙◌, ap, ℤ}
 use Rattle.std.proofs.lemmas.Int.{to_z-of_z}
-use Rattle.yaml_emit_machine.specs.emit_text.declared.RequestedSettings.{RequestedSettings}
+use Rattle.yaml_emit_machine.specs.emit_layout.declared.RequestedSettings.{RequestedSettings}
 use Rattle.yaml_emit_machine.specs.Emitter.{Emitter}
 
 -- `put` is what becomes of them, `read` what was read; its numbers fit. Nothing is searched for, so that a wrong value fails by its

@@ -6,18 +6,17 @@ ghost use Rattle.yaml_emit_machine.specs.scan_model.declared.yaml_origin_t.TheVa
 ghost use Rattle.yaml_emit_machine.specs.parse_model.Events.{event_of};
 ghost use Rattle.yaml_emit_machine.specs.parse_model.Constructors.{HasUtf8};
 ghost use Rattle.yaml_emit_machine.specs.emit_layout.Content.{emitter_event};
-ghost use Rattle.yaml_emit_machine.specs.emit_state.Framed.{is_bare};
 ghost use Rattle.yaml_emit_machine.specs.Emitter.{IsNew, IsLimited, ShowsFront, IsWhole, Answers, Stays};
 ghost use Rattle.yaml_emit_machine.specs.Held.{AreLast};
 ghost use Rattle.yaml_emit_machine.specs.Within.{IsWithin};
 ghost use Rattle.yaml_emit_machine.specs.Verdict.{TellsOutcome};
-ghost use Rattle.yaml_emit_machine.specs.Taking.{TakesEvents, TakesOne, GivesText, NotesMemoryOf, BlamesLevels};
+ghost use Rattle.yaml_emit_machine.specs.Taking.{TakesEvents, NotesMemoryOf, BlamesLevels};
 
 use std::alloc::Global;
 use yaml_emit_machine::{
-    RequestedSettings, answer, first_fault, give_early, into_output, is_fresh, is_opened, let_go,
-    new_emitter, output, place, requested_settings, set_requested_settings, take_event,
-    take_event_over, yaml_break_t, yaml_emitter_t, yaml_encoding_t, yaml_event_t, yaml_fault_t,
+    RequestedSettings, answer, first_fault, into_output, is_fresh, is_opened, let_go, new_emitter,
+    output, requested_settings, set_requested_settings, take_event, take_event_over, yaml_break_t,
+    yaml_emitter_t, yaml_encoding_t, yaml_event_t, yaml_fault_t,
 };
 
 /// An emitter whose text has at most `limit` bytes. It is fresh, with any encoding, canonical and unicode off, indent 2,
@@ -216,41 +215,6 @@ pub fn yaml_emitter_emit_from(emitter: &mut yaml_emitter_t, event: &mut yaml_eve
         ++ emitter_event (event_of event.old).body ∷ []) emitter.new.held }
 {
     take_event(emitter, &mut event.body);
-}
-
-/// `yaml_emitter_emit_from` for a text that is wanted whole, as a reader's of all events is: an event is held only where the next
-/// one decides what is written for it, and in canonical form none is (no clause says how few). What the emitter completes is the
-/// same, and so are the first event of all that is refused and the text up to it; output and fault may come up to three events
-/// earlier.
-// Inlined: a few tests in front of a call for each kind.
-#[inline(always)]
-pub fn yaml_emitter_emit_early(emitter: &mut yaml_emitter_t, event: &mut yaml_event_t)
-    requires { HasUtf8 (event_of event.old).body }
-    ensures text { GivesText emitter.old (emitter_event (event_of event.old).body) emitter.new }
-    ensures memory { NotesMemoryOf (emitter_event (event_of event.old).body) emitter.old
-        emitter.new }
-    ensures blames { BlamesLevels (emitter_event (event_of event.old).body) emitter.old
-        emitter.new }
-    ensures stays { Stays emitter.old emitter.new }
-    ensures few { length emitter.new.held ≤ 3 }
-    ensures opened { (emitter.new.opened ≡ emitter.old.opened)
-        × (emitter.new.closed ≡ emitter.old.closed) }
-    ensures begun { emitter.new.fresh ≡ false }
-{
-    give_early(emitter, &mut event.body);
-}
-
-/// Lays out an event of a node at once, in canonical form, where none is held and it begins a line, and is no empty scalar with
-/// properties; else nothing.
-// Inlined: some tests in front of a call for each kind.
-#[inline(always)]
-pub fn yaml_emitter_place(emitter: &mut yaml_emitter_t, event: &yaml_event_t) -> bool
-    ensures given { result ≡ true → TakesOne false emitter.old
-        (emitter_event (event_of event.now).body) emitter.new }
-    ensures bare { result ≡ true → is_bare (emitter_event (event_of event.now).body) ≡ true }
-    ensures same { result ≡ false → emitter.new ≡ emitter.old }
-{
-    place(emitter, &event.body)
 }
 
 /// What was laid out is in the output. The first fault, if there is one, is answered. Asks that an event was given.

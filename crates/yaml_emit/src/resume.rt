@@ -5,7 +5,7 @@ ghost use Rattle.yaml_emit_machine.specs.scan_model.Faults.{fault_of, memory_fau
 ghost use Rattle.yaml_emit_machine.specs.scan_model.declared.yaml_origin_t.TheVariants as from;
 ghost use Rattle.yaml_emit_machine.specs.parse_model.Events.{directive_of};
 ghost use Rattle.yaml_emit_machine.specs.emit_layout.State.{top_of};
-ghost use Rattle.yaml_emit_machine.specs.emit_state.Stack.{stack};
+ghost use Rattle.yaml_emit_machine.specs.emit_core.Levels.{stack};
 ghost use Rattle.yaml_emit_machine.specs.Judged.{refused_at};
 ghost use Rattle.yaml_emit_machine.specs.Resuming.{resumed, StandsWhere};
 
@@ -18,7 +18,8 @@ use yaml_emit_machine::{
 /// An emitter that goes on from where another one stood: that stand, the open collections round the innermost one, the outermost
 /// first, and the document's directives. Its text is what is written from there on, of at most `limit` bytes. The settings are those
 /// that were asked for, but for the encoding, which is the stand's; no event is held, so that those that waited are to be given
-/// again. Refused only for want of memory.
+/// again. Refused for want of memory, and where no emitter stands: a collection is open where no node comes, or is indented
+/// by more than 2,147,483,647 columns.
 pub fn yaml_emitter_resume(
     alloc: Global,
     settings: RequestedSettings,

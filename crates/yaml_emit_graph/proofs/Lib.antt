@@ -3,5 +3,4 @@ pub mod Contents
 pub mod Counting
 pub mod Naming
 pub mod Leaving
-mod Plain
 pub mod Joining

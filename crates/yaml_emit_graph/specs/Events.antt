@@ -1,7 +1,6 @@
 -- The events of a document that are still to come.
-use Rattle.std.specs.Prelude.{◌≡◌, ◌≤◌, ◌<◌, ℕ, Bool, true, false, List, [], ◌∷◌, ◌++◌, map, length, drop, get_or, Result, Ok, Err, OnOk, IsUtf8}
+use Rattle.std.specs.Prelude.{◌≡◌, ◌≤◌, Bool, true, false, List, [], ◌∷◌, ◌++◌, map, length, drop, Result, Ok, Err, OnOk}
 use Rattle.std.specs.declared.alloc.AllocError.{AllocError}
-use Rattle.yaml_scan_model.specs.declared.yaml_scalar_style_t.{yaml_scalar_style_t}
 use Rattle.yaml_parse_model.specs.Events.{EventBody}
 use Rattle.yaml_parse_model.specs.Constructors.{HasUtf8}
 use Rattle.yaml_parse_document.specs.Documents.{Document}
@@ -10,8 +9,6 @@ use Rattle.yaml_emit_graph.specs.declared.graph.Events.{Events}
 use Rattle.yaml_emit_graph.specs.declared.graph.DumpPhase.{DumpPhase}
 use Rattle.yaml_emit_graph.specs.declared.graph.DumpPhase.TheVariants as at
 use Rattle.yaml_emit_graph.specs.Graph.{graph_opening, turn_event}
-use Rattle.yaml_emit_graph.specs.declared.walk.Turn.{Turn}
-use Rattle.yaml_emit_graph.specs.Texts.{text_event, IsPlainText}
 
 -- a call put that event, with texts that are UTF-8, into a slot
 abbrev pub Says : Event → Result Unit AllocError → EventBody → Type 0
@@ -33,22 +30,6 @@ remaining_events d e = remaining_at e.place d e
 -- no more turns were given than there are
 abbrev pub IsEvents : Document → Events → Type 0
 IsEvents d e = e.given ≤ length e.turns.items
-
--- a turn of the walk comes next, and meets a text with the default tag and without an anchor
-pub record IsTextAhead (value : List ℕ) (d : Document) (e : Events) : Type 0 where
-  pub place : e.place ≡ at.Nodes
-  pub within : e.given < length e.turns.items
-  pub turn : Turn
-  pub there : turn ≡ get_or e.turns.items e.given turn
-  pub is : IsPlainText (turn_event e.numbers.items d.nodes turn) value
-
--- the next event is a text with the default tag and without an anchor, and the others are still to come
-pub record GivesPlainText (d : Document) (old : Events) (value : List ℕ) (new : Events) : Type 0
-  where
-    pub style : yaml_scalar_style_t
-    pub next : remaining_events d old ≡ text_event value style ∷ remaining_events d new
-    pub utf8 : IsUtf8 value
-    pub walk : IsEvents d new
 
 -- the next event stands in a slot, and the others are still to come
 abbrev pub GivesGraphEvent : Document → Events → Result Bool AllocError → EventBody → Events

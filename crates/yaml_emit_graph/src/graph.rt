@@ -7,8 +7,7 @@ ghost use Rattle.yaml_parse_model.specs.Events.{body_of, text_of, directive_of};
 ghost use Rattle.yaml_parse_model.specs.Nodes.{tag_of};
 ghost use Rattle.yaml_emit_layout.specs.Content.{emitter_event, scalar, alias, sequence_start, mapping_start, is_flow_sequence, is_flow_mapping};
 ghost use Rattle.yaml_emit_graph.specs.Graph.{lead, name_of, anchor_of, graph_scalar, graph_start, opening_event, closing_event, body_of_id, tag_of_id, turn_event, is_text, dumped};
-ghost use Rattle.yaml_emit_graph.specs.Texts.{NamesText, IsPlainText};
-ghost use Rattle.yaml_emit_graph.specs.Events.{remaining_events, IsEvents, Says, GivesGraphEvent, IsTextAhead, GivesPlainText};
+ghost use Rattle.yaml_emit_graph.specs.Events.{remaining_events, IsEvents, Says, GivesGraphEvent};
 
 use crate::numbers::{Walked, number_of, walk_nodes};
 use crate::rooms::{Rooms, put_aside};
@@ -316,78 +315,7 @@ fn put_turn_event(
     }
 }
 
-// The value of the scalar with the default tag under a number.
-// Inlined: a look at the node.
-#[inline(always)]
-fn text_under(document: &yaml_document_t, id: i32) -> Option<&[u8]>
-    ensures text { IfSome result (λ v. NamesText (node_at document.now.nodes id) v.now) }
-    ensures sound { IsSoundAt (length document.now.nodes) (node_at document.now.nodes id) }
-{
-    match yaml_document_get_node(document, id) {
-        None => None,
-        Some(node) => match &node.body {
-            yaml_node_body_t::Scalar { value, .. } if matches!(node.tag, yaml_node_tag_t::Str) =>
-                Some(value.as_slice()),
-            _ => None,
-        },
-    }
-}
-
-// The same, where it has no anchor.
-// Inlined: a look at the node.
-#[inline(always)]
-fn text_at<'a>(numbers: &[u64], document: &'a yaml_document_t, id: i32) -> Option<&'a [u8]>
-    ensures { IfSome result (λ v. IsPlainText (turn_event numbers.now document.now.nodes
-        (Turn.First id))
-        v.now) }
-{
-    match text_under(document, id) {
-        Some(value) if number_of(numbers, id) == 0 => Some(value),
-        _ => None,
-    }
-}
-
-// The value of the text that a turn of the walk meets, if it is one with the default tag and without an anchor.
-// Inlined into its one caller.
-#[inline(always)]
-fn text_met<'a>(numbers: &[u64], document: &'a yaml_document_t, turn: Turn) -> Option<&'a [u8]>
-    ensures { IfSome result (λ v. IsPlainText (turn_event numbers.now document.now.nodes turn)
-        v.now) }
-{
-    match turn {
-        Turn::First(id) => text_at(numbers, document, id),
-        _ => None,
-    }
-}
-
 impl Events {
-    // The value of the text whose turn comes next, if it is one with the default tag and without an anchor.
-    // Inlined: mostly a look at the node.
-    #[inline(always)]
-    fn text_to_come<'a>(&self, document: &'a yaml_document_t) -> Option<&'a [u8]>
-        ensures { IfSome result (λ v. IsTextAhead v.now document.now self.now) }
-    {
-        match self.place {
-            DumpPhase::Nodes if self.given < self.turns.len() => {
-                text_met(&self.numbers, document, self.turns[self.given])
-            }
-            _ => None,
-        }
-    }
-
-    /// The value of the text that comes next, if it is one with the default tag and without an anchor: then it is given.
-    // Inlined: mostly a look at the node.
-    #[inline(always)]
-    #[tactic(auto, using(crate::proofs::Plain::text_comes))]
-    pub fn next_text<'a>(&mut self, document: &'a yaml_document_t) -> Option<&'a [u8]>
-        ensures text { IfSome result (λ v. GivesPlainText document.now self.old v.now self.new) }
-        ensures none { result ≡ None → self.new ≡ self.old }
-    {
-        let value = self.text_to_come(document)?;
-        self.given += 1;
-        Some(value)
-    }
-
     /// Before the document's start.
     #[tactic(auto, using(crate::proofs::Leaving::begin_comes))]
     pub fn of(alloc: Global, document: &yaml_document_t) -> Result<Events, AllocError>

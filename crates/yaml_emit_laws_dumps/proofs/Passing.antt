@@ -3,8 +3,8 @@ use Rattle.std.proofs.Common.{◌≡◌, Bool, true, false, List, [], ◌∷◌,
 use Rattle.yaml_emit_graph.specs.emit_layout.scan_model.declared.yaml_encoding_t.{yaml_encoding_t}
 use Rattle.yaml_emit_graph.specs.emit_layout.scan_model.declared.yaml_encoding_t.TheVariants.{YAML_ANY_ENCODING}
 use Rattle.yaml_emit_laws_dumps.proofs.Words.{YAML_ANY_SCALAR_STYLE, Problem, Expected, Scalar, alias_node, scalar_node, sequence_node, mapping_node, Nodes, no_nodes, node, Pairs, no_pairs, pair, Event, stream_start, stream_end, document_start, document_end, alias, scalar, sequence_start, sequence_end, mapping_start, mapping_end, node_events, items_events, pairs_events, documents_events, stream_events, or_else, event_problem, last_problem, node_problem, place_problem, problem_by, own_problem, own_problems, Due, item_due, key_due, value_due, Progress, inside, behind_node, first_progress, progress_after, level_due, problem_in, first_refusal, progress_behind, RightStream, PassedAreStreams, PassedAreFronts, RightStreamsHaveTexts}
-use Rattle.yaml_emit_graph.specs.emit_layout.emit_text.Layout.{written}
-use Rattle.yaml_emit_graph.specs.emit_layout.emit_text.Settings.{settled}
+use Rattle.yaml_emit_graph.specs.emit_layout.Layout.{written}
+use Rattle.yaml_emit_graph.specs.emit_layout.Settings.{settled}
 use Rattle.yaml_emit_graph.specs.emit_layout.Nodes.{stream_layout}
 use Rattle.yaml_emit_graph.specs.emit_layout.declared.Expected.TheVariants as at
 use Rattle.yaml_emit_graph.specs.emit_layout.Content.{Node, Document}

@@ -8,9 +8,9 @@ use Rattle.yaml_parse_laws_trees.specs.parse_document.Documents as documents
 use Rattle.yaml_parse_laws_trees.specs.parse_grammar.Resolve.{Told}
 use Rattle.yaml_parse_laws_trees.specs.parse_loader.Loading.{Loading, LoadStep, goes_on, loaded, refused, step}
 use Rattle.yaml_parse_laws_trees.specs.NextLoad.{NextLoad, next_document, next_fault, next_none, IsLoadOf}
-use Rattle.yaml_emit_graph.specs.emit_layout.emit_text.declared.Encoding.{Encoding}
-use Rattle.yaml_emit_graph.specs.emit_layout.emit_text.declared.RequestedSettings.{RequestedSettings}
-use Rattle.yaml_emit_graph.specs.emit_layout.emit_text.Text.{Item}
+use Rattle.yaml_emit_graph.specs.emit_layout.declared.Encoding.{Encoding}
+use Rattle.yaml_emit_graph.specs.emit_layout.declared.RequestedSettings.{RequestedSettings}
+use Rattle.yaml_emit_graph.specs.emit_layout.Text.{Item}
 use Rattle.yaml_emit_graph.specs.emit_layout.declared.Expected.TheVariants as at
 use Rattle.yaml_emit_graph.specs.emit_layout.Content.{Opening, Document, Event, emitter_event, stream_events}
 use Rattle.yaml_emit_graph.specs.emit_layout.Grammar.{opening_problem, own_problem, own_problems}

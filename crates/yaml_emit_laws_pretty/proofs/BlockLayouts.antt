@@ -1,8 +1,8 @@
 -- What the layout of a block scalar's body writes for a character.
 use Rattle.std.proofs.Common.{◌≡◌, ℕ, Bool, true, false, not, ◌&&◌, ◌==◌, nat_lt, List, [], ◌∷◌, ◌++◌, replicate, refl, sym, ap, ◌∙◌, arith}
 use Rattle.yaml_emit_laws_pretty.proofs.ScalarWords.{nat_tests, Cursor, LineBreak, Lf, letter, is_break, Layout, Rest, when, char, blanks, new_line, line, indent_to, must_break, is_past, first, value_break, adds_break, cuts_block, line_blank, block_text, block_char, behind_breaks, in_front, break_text, cond_true, cond_false, front_append, moved_by, LineMark, own, separator, paragraph, mark_char, mark_text, blanks_are, after_blanks, from_start, broken, at_line}
-use Rattle.yaml_emit_laws_text.specs.emit_text.declared.page.Page.{Page}
-use Rattle.yaml_emit_laws_text.specs.emit_text.Style.{is_blank}
+use Rattle.yaml_emit_laws_text.specs.emit_layout.declared.page.Page.{Page}
+use Rattle.yaml_emit_laws_text.specs.emit_layout.Style.{is_blank}
 use Rattle.yaml_emit_laws_pretty.proofs.BlockHeader.{mark_breaks}
 
 pub new_line_is : (b : LineBreak) (c : Cursor) (rest : Rest)

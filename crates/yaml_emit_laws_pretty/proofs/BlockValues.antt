@@ -1,8 +1,8 @@
 -- The body of a block scalar is lines, and they are read as the value: by its characters.
 use Rattle.std.proofs.Common.{◌≡◌, ℕ, Bool, true, false, not, ◌&&◌, ◌==◌, List, [], ◌∷◌, ◌++◌, replicate, refl, sym, ap, subst, ◌∙◌, arith, append-nil, append_assoc, encode_utf8, encode_utf8_all}
 use Rattle.yaml_emit_laws_pretty.proofs.ScalarWords.{encode_ascii, false≢true, true≢false, eqb-true, and_from, and_parts, not-true, ne_eqb, and-false, chomp_at, BlockLine, Words, texts_of, starts_blank, between, at_end, behind_text, stacked_with, stack_empty, Cursor, letter, is_break, Rest, is_past, is_printable, first, last_or, behind_breaks, adds_break, cuts_block, line_blank, block_body, chomp, in_front, break_text, front_append, moved_by, LineMark, own, mark_char, mark_text, mark_means, BodyLine, bare, full, body_text, read_lines, are_inside, AreInside, closing, bool_cases, after_blanks, at_line}
-use Rattle.yaml_emit_laws_text.specs.emit_text.declared.page.Page.{Page}
-use Rattle.yaml_emit_laws_text.specs.emit_text.Style.{is_blank}
+use Rattle.yaml_emit_laws_text.specs.emit_layout.declared.page.Page.{Page}
+use Rattle.yaml_emit_laws_text.specs.emit_layout.Style.{is_blank}
 use Rattle.yaml_emit_laws_pretty.proofs.BlockHeader.{mark_breaks, mark_encodes, mark_some, mark_feed, mark_of, text_blank}
 use Rattle.yaml_emit_laws_pretty.proofs.BlockLayouts.{break_is, none_added, first_is, char_is, cut_is, blank_break, blank_first, blank_in}
 use Rattle.yaml_emit_laws_pretty.proofs.BlockWaiting.{read_chomp, Waits, owed, stacked_so, waits_end, waits_text, waits_break, break_owed}

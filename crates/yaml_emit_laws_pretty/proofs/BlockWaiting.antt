@@ -1,8 +1,8 @@
 -- What a reader owes at the start of a line, where the emitter has written breaks and no text yet.
 use Rattle.std.proofs.Common.{◌≡◌, ℕ, ◌<◌, Bool, true, false, not, ◌&&◌, List, [], ◌∷◌, ◌++◌, length, refl, sym, ap, ◌∙◌, arith, append-nil, append_assoc, if◌then◌else◌, true≢false}
 use Rattle.yaml_emit_laws_pretty.proofs.ScalarWords.{is_feed, chomp_at, BlockLine, Words, texts_of, starts_blank, space_or, between, behind_text, value_with, stacked_with, space_or_some, Chomping, is_break, behind_breaks, chomp_of, cond_true, cond_false}
-use Rattle.yaml_emit_laws_text.specs.emit_text.declared.page.Chomp.TheVariants as chomping
-use Rattle.yaml_emit_laws_text.specs.emit_text.Style.{is_blank}
+use Rattle.yaml_emit_laws_text.specs.emit_layout.declared.page.Chomp.TheVariants as chomping
+use Rattle.yaml_emit_laws_text.specs.emit_layout.Style.{is_blank}
 
 -- what the header says of the last breaks, by its byte, 0 where none is written
 abbrev pub read_chomp : Chomping → ℕ

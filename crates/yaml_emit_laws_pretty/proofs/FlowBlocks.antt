@@ -2,7 +2,7 @@
 use Rattle.std.proofs.Common.{◌≡◌, ℕ, ◌+◌, ◌&&◌, not, nat_lt, Bool, true, false, List, [], ◌∷◌, refl, subst, ◌∙◌, arith, chars, true≢false, ◌≤◌, ◌||◌, sym, ap, inl, inr, None, Some, Option}
 use Rattle.yaml_emit_laws_text.specs.emit_layout.scan_model.Tokens as tokens
 use Rattle.yaml_emit_laws_pretty.proofs.Words.{TokenBody, TagDirective, Settings, Style, letter, Layout, Rest, ◌▹◌, when, char, opener, letters, word, line, scalar_text, deep_bytes, Part, Scalar, Start, Opening, Node, alias_node, scalar_node, sequence_node, mapping_node, Nodes, no_nodes, node, Pairs, no_pairs, pair, has, start_tag, scalar_tag, Context, position, checked, MOST, is_simple, is_simple_part, is_plain, key_part, style_of, page_at, node_layout, alias_layout, scalar_layout, items_layout, pairs_layout, context_of, deeper, indented, indent_of, are_none, are_no_pairs, properties_text, Left, bytes, IsWritable, AreItemsWritable, ArePairsWritable, IsWritableOpening, IsWritableAnchor, IsWritableTag, StylesAreAllowed, place, style_at, scalar_kept, node_bodies, items_bodies, pairs_bodies, node_kept, items_kept, pairs_kept, is_flow_at, keeps, sequence_opens, sequence_closes, mapping_opens, mapping_closes, IsPretty, NodeWalks, PropertiesAreWalked, block_position, is_bracketed, KeysAreWalkedIn, BracketsFollow, pretty_of, pretty, false≢true, yaml_encoding_t, column_at, indent, Cursor, anchor_bodies, tag_bodies, WalkState, Outside, begins_white, margin_round, NodeStage, GoesBehindNode}
-use Rattle.yaml_emit_laws_text.specs.emit_layout.emit_text.declared.Style.TheVariants as style
+use Rattle.yaml_emit_laws_text.specs.emit_layout.declared.Style.TheVariants as style
 use Rattle.yaml_emit_laws_text.specs.emit_layout.declared.level.Part.TheVariants as part
 use Rattle.yaml_emit_laws_pretty.proofs.FlowItems.{WordLaws, properties_in, scalar_in, alias_in, NodeIn, BodyIn, KeyIn, FirstItems, MoreItems, FirstPairs, MorePairs, items_none, items_closed, items_first, items_more, pairs_none, pairs_closed, pairs_first, pairs_more, bracket_in, opened_in}
 use Rattle.yaml_emit_laws_pretty.proofs.FlowSigns.{prettily, Spaced, gap_spaced, checked_spaced, properties_spaced, mark_spaced, text_spaced, space_parts, opening_of, opens}

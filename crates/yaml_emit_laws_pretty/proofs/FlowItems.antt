@@ -6,7 +6,7 @@ use Rattle.yaml_emit_laws_text.specs.emit_layout.declared.level.Part.TheVariants
 use Rattle.yaml_emit_laws_pretty.proofs.FlowSteps.{Space, space_on, clear_same, word_walks, both}
 use Rattle.yaml_emit_laws_pretty.proofs.FlowSigns.{wrap_in, behind_gap, gap_left, gap_kept, comma_on, opener_on, closer_on, question_on, answer_on, opening_of, opens, prettily, Spaced, space_parts, items_follow_in, pairs_follow_in, answer_follows, gap_spaced, text_spaced, checked_spaced, mark_spaced}
 use Rattle.yaml_emit_laws_pretty.proofs.KeySteps.{deeper_out}
-use Rattle.yaml_emit_laws_text.specs.emit_layout.emit_text.declared.Style.TheVariants as style
+use Rattle.yaml_emit_laws_text.specs.emit_layout.declared.Style.TheVariants as style
 use Rattle.yaml_emit_laws_pretty.proofs.SpokenWords.{anchor_word, alias_word, tag_word, mark_word, double_word, single_word, plain_word}
 use Rattle.yaml_emit_laws_pretty.proofs.SpokenLayouts.{anchor_says, alias_says, tag_says, mark_says, double_says, single_says, plain_says}
 use Rattle.yaml_emit_laws_pretty.proofs.NearKeys.{kept_writable}

@@ -1,7 +1,7 @@
 -- What follows nodes in brackets, and what they begin with.
 use Rattle.std.proofs.Common.{◌≡◌, ℕ, ◌+◌, ◌==◌, ◌||◌, nat_lt, Bool, true, false, List, [], ◌∷◌, ◌++◌, refl, sym, ap, subst, ◌∙◌, inl, inr, arith, replicate, None, Some, if◌then◌else◌, Option, ◌-◌, ◌&&◌, not, length, zero, suc, append_assoc}
 use Rattle.yaml_emit_laws_pretty.proofs.Words.{cases_Bool, or_left, or_right, false≢true, nat_tests, is_bracket, Cursor, LineBreak, Settings, Page, Style, Layout, Rest, ◌▹◌, when, gap, blank, char, letters, word, line, wrap, is_past, new_line, after_text, after_block, break_text, scalar_text, flow_body, block_body, digit_mark, chomp_mark, chomp, quoted_body, tag_spelling, TagDirective, Nodes, no_nodes, node, Pairs, no_pairs, pair, Context, checked, MOST, properties_text, items_layout, pairs_layout, before_item, before_key, closer, bytes, first, Left, letter_low, deep_bytes, left_letter, stops_plain_at, begins_white, behind_lines, what_stops, blanks_white, no_comment, ends_name, FollowsIn, IsClear, PartedBehind, lettered_on, after_blanks, line_start, pretty, yaml_encoding_t, TokenBody, column_at, indent, are_gap, has_break, Lf, has_at, has_front, left_rest, IsRight, sign, WalkState, WalkReads, Outside, behind, signs_come, words_leave, walk_white, walk_word, walk_asks, walk_answers, deeper_leaves, blanks_kept}
-use Rattle.yaml_emit_laws_text.specs.emit_layout.emit_text.declared.Style.TheVariants as style
+use Rattle.yaml_emit_laws_text.specs.emit_layout.declared.Style.TheVariants as style
 use Rattle.yaml_emit_laws_pretty.proofs.Following.{line_bytes, line_calm}
 use Rattle.yaml_emit_laws_pretty.proofs.DocStarts.{break_white}
 use Rattle.yaml_emit_laws_text.specs.emit_layout.scan_model.Tokens as tokens

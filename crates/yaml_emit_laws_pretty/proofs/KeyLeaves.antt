@@ -3,7 +3,7 @@ use Rattle.std.proofs.Common.{◌≡◌, ℕ, ◌+◌, ◌==◌, ◌&&◌, ◌||
 use Rattle.yaml_emit_laws_pretty.proofs.Words.{nat_tests, not-true, and_parts, false≢true, byte, break_of, column_at, line_at, begins_lexeme, Has, Left, bytes, begins_solid, is_gap_byte, no_comment, Lined, length_more, letter_low, yaml_encoding_t, TokenBody, indent, margin_at, opened, start_of, Opens, Cursor, Settings, Style, Rest, ◌▹◌, char, Opening, Scalar, Node, scalar_node, sequence_node, mapping_node, node, pair, Context, context_of, position, style_of, is_simple, node_layout, IsWritable, line_at-grows, Rises, start_bodies, WalkReads, ClosesAt, Outside, printed_begins, level_opens, keys_near, node_bodies, node_kept, items_kept, pairs_kept, scalar_kept, style_at, KeysAreWalkedIn, IsPretty, PartedBehind, SimpleKeysAreWalked, block_position, Spoken, spoken_bytes, all_bytes, AllFit}
 use Rattle.yaml_emit_laws_text.specs.emit_layout.scan_model.Tokens as tokens
 use Rattle.yaml_emit_laws_text.specs.scan_history.declared.lexeme.Opens.TheVariants as opening
-use Rattle.yaml_emit_laws_text.specs.emit_layout.emit_text.declared.Style.TheVariants as style
+use Rattle.yaml_emit_laws_text.specs.emit_layout.declared.Style.TheVariants as style
 use Rattle.yaml_emit_laws_text.specs.emit_layout.declared.level.Part.TheVariants as part
 use Rattle.yaml_emit_laws_pretty.specs.KeyLaws.{Keyed}
 use Rattle.yaml_emit_laws_pretty.proofs.KeyForms.{KeyForm, KeyEnd, at_once, spaced, squares, curlies, end_bytes, LeadsKey, behind_colon, key_done}

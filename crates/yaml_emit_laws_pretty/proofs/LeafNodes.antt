@@ -3,14 +3,14 @@ use Rattle.std.proofs.Common.{◌≡◌, ℕ, ◌+◌, ◌-◌, ◌<◌, ◌≤�
 use Rattle.yaml_emit_laws_pretty.proofs.Words.{cases_Bool, cases_lt, false≢true, or_left, yaml_encoding_t, TokenBody, byte, line_at, column_at, Wrong, indent, depth_after, allows_key, is_end, is_value, WordText, kind_at, word_at, Kind, Cursor, Page, Rest, ◌▹◌, gap, blank, line, Layout, when, word, char, chomp, scalar_text, Part, Scalar, Opening, alias_node, scalar_node, Context, style_of, deeper, page_at, context_of, MOST, checked, is_plain, is_simple_part, properties_text, anchor_text, tag_text, alias_layout, scalar_layout, node_layout, Left, bytes, first, has_at, left_first, left_more, left_letter, letter_low, deep_bytes, from_indicator, keeps_all, read_style, margin_round, block_style, behind_line, BlockPassed, line_at-grows, stays_level, Comes, WordLeaves, WalkState, WalkReads, LeaveClear, behind, printed_begins, letter_columns, words_leave, walk_white, walk_word, is_keep, style_at, takes_mark, scalar_bodies, scalar_kept, node_bodies, node_kept, NodeStage, LinedUp, PlainIsWalked, SingleIsWalked, Ending, block_position, column_round, NodeWalks, IsPretty, LeavesAreWalked, BlockScalarsAreWalked, is_block, low_starts, LineBreak, Settings, Style, double_quoted, has, scalar_tag, anchor_bodies, tag_bodies, mark_bodies, QuotedIsReadBack, between_quotes, between_single, IsWritable, anchor_is_read, begins_white, PlainHasGap, StylesAreAllowed, kept_writable}
 use Rattle.yaml_emit_laws_text.specs.emit_layout.scan_model.Tokens as tokens
 use Rattle.yaml_emit_laws_text.specs.scan_history.declared.kind.Kind.TheVariants as kinds
-use Rattle.yaml_emit_laws_text.specs.emit_layout.emit_text.declared.Chomp.{Chomp}
-use Rattle.yaml_emit_laws_text.specs.emit_layout.emit_text.declared.Chomp.TheVariants as chomping
+use Rattle.yaml_emit_laws_text.specs.emit_layout.declared.Chomp.{Chomp}
+use Rattle.yaml_emit_laws_text.specs.emit_layout.declared.Chomp.TheVariants as chomping
 use Rattle.yaml_emit_laws_pretty.proofs.BlockWhole.{block_back, block_at_position}
 use Rattle.yaml_emit_laws_pretty.proofs.BlockHeader.{block_is_passed}
 use Rattle.yaml_scan_laws_texts.proofs.WordForward.{Fits, LandsWord, IsWordFrom, word_lands}
 use Rattle.yaml_emit_laws_pretty.proofs.Lining.{no_gap, line_ends, up_says, word_begins_white}
 use Rattle.yaml_emit_laws_pretty.proofs.KeySteps.{columns_grow}
-use Rattle.yaml_emit_laws_text.specs.emit_layout.emit_text.declared.Style.TheVariants as style
+use Rattle.yaml_emit_laws_text.specs.emit_layout.declared.Style.TheVariants as style
 use Rattle.yaml_emit_laws_pretty.proofs.Following.{line_bytes}
 use Rattle.yaml_emit_laws_pretty.proofs.SpokenWords.{plain_walks, plain_white, alias_word, double_word}
 use Rattle.yaml_emit_laws_pretty.proofs.SpokenLayouts.{alias_says, double_says}

@@ -4,7 +4,7 @@ use Rattle.yaml_emit_laws_pretty.proofs.Words.{false≢true, cases_Bool, yaml_en
 use Rattle.yaml_emit_laws_pretty.proofs.KeySteps.{texty, stands_comes, stands_leaves, spot_at, front, calm_columns}
 use Rattle.yaml_emit_laws_pretty.proofs.FlowSteps.{off_or}
 use Rattle.yaml_emit_laws_text.specs.scan_history.declared.kind.Kind.TheVariants as kinds
-use Rattle.yaml_emit_laws_text.specs.emit_layout.emit_text.Hex.{hex_2}
+use Rattle.yaml_emit_laws_text.specs.emit_layout.Hex.{hex_2}
 use Rattle.yaml_emit_laws_pretty.proofs.SpokenWords.{anchor_word, tag_word, mark_word, bare_off}
 use Rattle.yaml_emit_laws_text.proofs.Sinks.{cond_true, cond_false}
 

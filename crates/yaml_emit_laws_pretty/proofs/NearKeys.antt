@@ -3,9 +3,9 @@ use Rattle.std.proofs.Common.{◌≡◌, ℕ, suc, ◌+◌, ◌-◌, ◌*◌, �
 use Rattle.yaml_emit_laws_pretty.proofs.ScalarWords.{cases_Bool, true≢false, and_parts, not-true, ne_eqb, nat_tests, scalars-chars, encodes-chars, and-false, is_alpha_byte, is_digit_byte, are_alphas, yaml_scalar_style_t, Cursor, Page, Settings, Allowed, Style, is_break, Layout, ◌▹◌, stay, when, char, gap, word, opener, after_text, line, is_empty, quoted_body, flow_body, scalar_text, allowed, taken, plain_fits, single_or, Scalar, Start, alias_node, scalar_node, sequence_node, mapping_node, no_nodes, node, no_pairs, pair, Opening, kept_if, scalar_tag, start_tag, Context, context_of, position, deeper, checked, anchor_text, tag_text, properties_text, is_plain, style_of, page_at, scalar_layout, alias_layout, text_size, written_size, properties_size, is_simple_scalar, is_simple_alias, is_simple_start, is_simple, is_flow, indent_of, indented, closer, node_layout, items_layout, pairs_layout, is_one_line, cond_true, cond_false, AreCalm, calm_from, StaysNear, SimpleKeysAreNear, bool_cases}
 use Rattle.yaml_emit_laws_text.specs.scan_model.Classes.{has_break}
 use Rattle.yaml_emit_laws_text.specs.scan_model.declared.yaml_scalar_style_t.TheVariants as asked
-use Rattle.yaml_emit_laws_text.specs.emit_text.declared.Style.TheVariants as style
-use Rattle.yaml_emit_laws_text.specs.emit_text.Hex.{hex_2, hex_digit}
-use Rattle.yaml_emit_laws_text.specs.emit_layout.emit_tags.Tags.{suffix_keeps, keeps_byte, uri_byte, uri_text, Split, shorthand, verbatim, spelled, split_tag, tag_spelling, split_size}
+use Rattle.yaml_emit_laws_text.specs.emit_layout.declared.Style.TheVariants as style
+use Rattle.yaml_emit_laws_text.specs.emit_layout.Hex.{hex_2, hex_digit}
+use Rattle.yaml_emit_laws_text.specs.emit_layout.Tags.{suffix_keeps, keeps_byte, uri_byte, uri_text, Split, shorthand, verbatim, spelled, split_tag, tag_spelling, split_size}
 use Rattle.yaml_emit_laws_text.specs.emit_layout.declared.level.Part.TheVariants as part
 use Rattle.yaml_emit_laws_text.specs.emit_layout.Grammar.{has}
 use Rattle.yaml_emit_laws_text.specs.emit_layout.Nodes.{mark_text}

@@ -35,25 +35,25 @@ pub use Rattle.yaml_emit_laws_text.specs.emit_layout.Grammar.{has as is_some, ke
 pub use Rattle.yaml_emit_laws_text.specs.emit_layout.Nodes.{Context, MOST, anchor_text, checked, context_of, deeper, indent_of, indented, is_flow, is_plain, is_simple_part, page_at, position, properties_size, properties_text, tag_text, text_size, written_size}
 unfoldable pub use Rattle.yaml_emit_laws_text.specs.emit_layout.Nodes.{alias_layout, closer, is_simple, is_simple_alias, is_simple_scalar, is_simple_start, items_layout, node_layout, pairs_layout, scalar_layout, style_of}
 pub use Rattle.yaml_emit_laws_text.specs.emit_layout.declared.level.NodePosition.{NodePosition}
-pub use Rattle.yaml_emit_laws_text.specs.emit_text.Layout.{Layout, Rest, after_block, after_text, blank, blanks, char, gap, indent_to, is_past, must_break, new_line, opener, stay, when, word, ◌▹◌}
-unfoldable pub use Rattle.yaml_emit_laws_text.specs.emit_text.Layout.{letters, line}
-pub use Rattle.yaml_emit_laws_text.specs.emit_text.Quoted.{escape_letter, escape_text, escaped, first, is_empty, is_printable, needs_escape, quoted_char}
-unfoldable pub use Rattle.yaml_emit_laws_text.specs.emit_text.Quoted.{quoted_body}
-pub use Rattle.yaml_emit_laws_text.specs.emit_text.Scalars.{adds_break, block_text, chomp_mark, chomp_of, cuts_at, cuts_block, digit_char, ends_in_break, line_blank, plain, quote_char, text_char, value_break}
-unfoldable pub use Rattle.yaml_emit_laws_text.specs.emit_text.Scalars.{behind_breaks, block_body, block_char, chomp, flow_body, flow_char, scalar_text}
-pub use Rattle.yaml_emit_laws_text.specs.emit_text.Spelling.{break_text}
-unfoldable pub use Rattle.yaml_emit_laws_text.specs.emit_text.Spelling.{in_front}
-pub use Rattle.yaml_emit_laws_text.specs.emit_text.Style.{behind, block_or, ends_in_space, ends_word, is_blank as is_white, is_break_space, is_indicator, is_not_flow, is_not_plain, is_special, plain_fits, plain_or, single_or, starts_badly}
-unfoldable pub use Rattle.yaml_emit_laws_text.specs.emit_text.Style.{allowed, last_or, somewhere, taken}
-pub use Rattle.yaml_emit_laws_text.specs.emit_text.Text.{Item, is_break, letter}
-pub use Rattle.yaml_emit_laws_text.specs.emit_text.declared.Allowed.{Allowed}
-pub use Rattle.yaml_emit_laws_text.specs.emit_text.declared.Cursor.{Cursor}
-pub use Rattle.yaml_emit_laws_text.specs.emit_text.declared.LineBreak.{LineBreak}
-pub use Rattle.yaml_emit_laws_text.specs.emit_text.declared.LineBreak.TheVariants.{Cr, CrLf, Lf}
-pub use Rattle.yaml_emit_laws_text.specs.emit_text.declared.Page.{Page}
-pub use Rattle.yaml_emit_laws_text.specs.emit_text.declared.Settings.{Settings}
-pub use Rattle.yaml_emit_laws_text.specs.emit_text.declared.Style.{Style}
-pub use Rattle.yaml_emit_laws_text.specs.emit_text.declared.page.Chomp.{Chomp, Chomp as Chomping}
+pub use Rattle.yaml_emit_laws_text.specs.emit_layout.Layout.{Layout, Rest, after_block, after_text, blank, blanks, char, gap, indent_to, is_past, must_break, new_line, opener, stay, when, word, ◌▹◌}
+unfoldable pub use Rattle.yaml_emit_laws_text.specs.emit_layout.Layout.{letters, line}
+pub use Rattle.yaml_emit_laws_text.specs.emit_layout.Quoted.{escape_letter, escape_text, escaped, first, is_empty, is_printable, needs_escape, quoted_char}
+unfoldable pub use Rattle.yaml_emit_laws_text.specs.emit_layout.Quoted.{quoted_body}
+pub use Rattle.yaml_emit_laws_text.specs.emit_layout.Scalars.{adds_break, block_text, chomp_mark, chomp_of, cuts_at, cuts_block, digit_char, ends_in_break, line_blank, plain, quote_char, text_char, value_break}
+unfoldable pub use Rattle.yaml_emit_laws_text.specs.emit_layout.Scalars.{behind_breaks, block_body, block_char, chomp, flow_body, flow_char, scalar_text}
+pub use Rattle.yaml_emit_laws_text.specs.emit_layout.Spelling.{break_text}
+unfoldable pub use Rattle.yaml_emit_laws_text.specs.emit_layout.Spelling.{in_front}
+pub use Rattle.yaml_emit_laws_text.specs.emit_layout.Style.{behind, block_or, ends_in_space, ends_word, is_blank as is_white, is_break_space, is_indicator, is_not_flow, is_not_plain, is_special, plain_fits, plain_or, single_or, starts_badly}
+unfoldable pub use Rattle.yaml_emit_laws_text.specs.emit_layout.Style.{allowed, last_or, somewhere, taken}
+pub use Rattle.yaml_emit_laws_text.specs.emit_layout.Text.{Item, is_break, letter}
+pub use Rattle.yaml_emit_laws_text.specs.emit_layout.declared.Allowed.{Allowed}
+pub use Rattle.yaml_emit_laws_text.specs.emit_layout.declared.Cursor.{Cursor}
+pub use Rattle.yaml_emit_laws_text.specs.emit_layout.declared.LineBreak.{LineBreak}
+pub use Rattle.yaml_emit_laws_text.specs.emit_layout.declared.LineBreak.TheVariants.{Cr, CrLf, Lf}
+pub use Rattle.yaml_emit_laws_text.specs.emit_layout.declared.Page.{Page}
+pub use Rattle.yaml_emit_laws_text.specs.emit_layout.declared.Settings.{Settings}
+pub use Rattle.yaml_emit_laws_text.specs.emit_layout.declared.Style.{Style}
+pub use Rattle.yaml_emit_laws_text.specs.emit_layout.declared.page.Chomp.{Chomp, Chomp as Chomping}
 pub use Rattle.yaml_emit_laws_text.specs.scan_history.Words.{WordText, blocked, plainly, valued}
 unfoldable pub use Rattle.yaml_emit_laws_text.specs.scan_history.Words.{indicator_of, kind_at, word_at}
 pub use Rattle.yaml_emit_laws_text.specs.scan_history.scan_scalars.Pieces.{Blank, Break, Kept, Piece, value as value_of}

@@ -1,7 +1,7 @@
 -- Plain scalars as content, empty ones too.
 use Rattle.std.proofs.Common.{◌≡◌, ℕ, ◌+◌, ◌<◌, ◌≤◌, Bool, true, false, List, [], ◌∷◌, refl, ap, subst, ◌∙◌, arith, if◌then◌else◌, IsUtf8, ◌==◌, ◌&&◌, ◌||◌, not, nat_lt, length, zero, suc, sym, inl, inr, ◌++◌, Some, Result, Ok, encode_utf8, encode_utf8_all}
 use Rattle.yaml_emit_laws_pretty.proofs.Words.{chars, false≢true, cases_Bool, or_left, or_right, and_parts, or_cases, yaml_encoding_t, TokenBody, indent, Cursor, Page, Layout, Rest, ◌▹◌, blank, after_text, gap, Item, flow_body, plain, Left, bytes, first, letter_low, left_letter, Sign, sign_begins, sign_kind, walk_says, walk_white, walk_word, begins_white, white_of, is_gap_byte, PlainHasGap, PlainStands, ScalarsAreWords, SingleStands, may_be_plain, PlainIsBack, scalar_bodies, GoesBehindNode, Walks, Follows, PlainIsWalked, NodeStage, no_comment, SingleIsWalked, byte, column_at, is_blank, break_width, is_blank_or_end, depth_after, WordText, kind_at, word_at, indicator_of, valued, tagged, has_break, begins_lexeme, has_at, left_first, left_more, has_front, left_rest, nat_tests, ends_at, is_bom, line_at-grows, Comes, WordLeaves, WalkState, LeaveClear, behind, WalkReads, letter_columns, words_leave, stops_end, goes_on, single_kind, left_byte, encode_ascii, AnchorReads, double_quoted_at, Kind, ValueIsReadBack, between_quotes, between_single, Wrong, Split, spelled, split_tag, Opening, tag_body, SplitTagsAreRead, WrittenTagsAreReadable, IsReadable, ReadableTagsAreAscii, LoneMarkReads, IsWritableName, IsWritableOpening, IsWritableTag, named, quote_sign, quote_kind, quote_first, alias_kind, anchor_kind, SingleIsBack, Spoken, Behind, WordStands, Fits, is_text, ends_name, mark_kind, said_tag, text_is, allowed}
-use Rattle.yaml_emit_laws_text.specs.emit_layout.emit_text.declared.Style.TheVariants as style
+use Rattle.yaml_emit_laws_text.specs.emit_layout.declared.Style.TheVariants as style
 use Rattle.yaml_emit_laws_text.specs.emit_layout.scan_model.declared.yaml_scalar_style_t.TheVariants.{YAML_PLAIN_SCALAR_STYLE, YAML_SINGLE_QUOTED_SCALAR_STYLE, YAML_DOUBLE_QUOTED_SCALAR_STYLE}
 use Rattle.yaml_emit_laws_text.specs.emit_layout.scan_model.Tokens as tokens
 use Rattle.yaml_emit_laws_text.specs.scan_history.declared.kind.Kind.TheVariants as kinds

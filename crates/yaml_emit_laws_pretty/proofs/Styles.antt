@@ -2,7 +2,7 @@
 use Rattle.std.proofs.Common.{◌≡◌, Bool, true, false, not, ◌&&◌, ◌||◌, ◌==◌, length, sym, subst, ℕ, ◌<◌, ◌≤◌, Option, Some, None, arith, if◌then◌else◌, chars}
 use Rattle.yaml_emit_laws_pretty.proofs.ScalarWords.{and_parts, not-true, or_parts, yaml_scalar_style_t, Allowed, Style, allowed, taken, plain_fits, single_or, block_or, plain_or, NodePosition, Scalar, scalar_tag, Context, is_simple_part, style_of, deeper, Settings, bool_cases}
 use Rattle.yaml_emit_laws_text.specs.scan_model.declared.yaml_scalar_style_t.TheVariants as asked
-use Rattle.yaml_emit_laws_text.specs.emit_text.declared.Style.TheVariants as style
+use Rattle.yaml_emit_laws_text.specs.emit_layout.declared.Style.TheVariants as style
 use Rattle.yaml_emit_laws_text.specs.emit_layout.Grammar.{has}
 use Rattle.yaml_emit_laws_pretty.specs.StylesLaws.{StylesAreAllowed, level_of, PagesIndent}
 

@@ -52,25 +52,25 @@ pub use Rattle.yaml_emit_laws_text.specs.emit_layout.Grammar.{directives_problem
 pub use Rattle.yaml_emit_laws_text.specs.emit_layout.Nodes.{Context, MOST, anchor_text, are_no_pairs, are_none, block_indent_in, checked, context_of, dashes, deeper, directive_text, dots, indent_of, indented, is_directed, is_flow, is_marked, is_of_mapping, is_plain, is_simple_part, key_part, page_at, position, properties_text, question, root_position, tag_text, version_text, version_word}
 unfoldable pub use Rattle.yaml_emit_laws_text.specs.emit_layout.Nodes.{alias_layout, before_item, before_key, before_value, closer, directives_text, documents_layout, end_layout, is_simple, is_simple_start, items_layout, node_layout, pairs_layout, scalar_layout, start_layout, stop_layout, style_of, turned}
 pub use Rattle.yaml_emit_laws_text.specs.emit_layout.declared.level.Part.{Part}
-pub use Rattle.yaml_emit_laws_text.specs.emit_layout.emit_tags.Tags.{Split, keeps_byte, shorthand, split_tag, tag_spelling, uri_byte, verbatim}
-unfoldable pub use Rattle.yaml_emit_laws_text.specs.emit_layout.emit_tags.Tags.{spelled, uri_text}
-pub use Rattle.yaml_emit_laws_text.specs.emit_layout.emit_text.Layout.{Layout, Rest, after_block, after_text, blank, char, gap, indent_to, indicator, is_past, keep, must_break, new_line, nothing_more, opener, stay, when, word, wrap, ◌▹◌}
-unfoldable pub use Rattle.yaml_emit_laws_text.specs.emit_layout.emit_text.Layout.{blanks, letters, line}
-pub use Rattle.yaml_emit_laws_text.specs.emit_layout.emit_text.Quoted.{double_quoted, quoted_body}
-pub use Rattle.yaml_emit_laws_text.specs.emit_layout.emit_text.Scalars.{block_body, chomp, chomp_mark, digit_mark, plain, single_quoted}
-unfoldable pub use Rattle.yaml_emit_laws_text.specs.emit_layout.emit_text.Scalars.{flow_body, scalar_text}
-pub use Rattle.yaml_emit_laws_text.specs.emit_layout.emit_text.Spelling.{break_text}
-unfoldable pub use Rattle.yaml_emit_laws_text.specs.emit_layout.emit_text.Spelling.{in_front}
-pub use Rattle.yaml_emit_laws_text.specs.emit_layout.emit_text.Style.{plain_fits, single_or}
-unfoldable pub use Rattle.yaml_emit_laws_text.specs.emit_layout.emit_text.Style.{allowed, taken}
-pub use Rattle.yaml_emit_laws_text.specs.emit_layout.emit_text.Text.{Item, letter}
-unfoldable pub use Rattle.yaml_emit_laws_text.specs.emit_layout.emit_text.Text.{char_bytes, encode}
-pub use Rattle.yaml_emit_laws_text.specs.emit_layout.emit_text.declared.Cursor.{Cursor}
-pub use Rattle.yaml_emit_laws_text.specs.emit_layout.emit_text.declared.LineBreak.{LineBreak}
-pub use Rattle.yaml_emit_laws_text.specs.emit_layout.emit_text.declared.LineBreak.TheVariants.{Cr, CrLf, Lf}
-pub use Rattle.yaml_emit_laws_text.specs.emit_layout.emit_text.declared.Page.{Page}
-pub use Rattle.yaml_emit_laws_text.specs.emit_layout.emit_text.declared.Settings.{Settings}
-pub use Rattle.yaml_emit_laws_text.specs.emit_layout.emit_text.declared.Style.{Style}
+pub use Rattle.yaml_emit_laws_text.specs.emit_layout.Tags.{Split, keeps_byte, shorthand, split_tag, tag_spelling, uri_byte, verbatim}
+unfoldable pub use Rattle.yaml_emit_laws_text.specs.emit_layout.Tags.{spelled, uri_text}
+pub use Rattle.yaml_emit_laws_text.specs.emit_layout.Layout.{Layout, Rest, after_block, after_text, blank, char, gap, indent_to, indicator, is_past, keep, must_break, new_line, nothing_more, opener, stay, when, word, wrap, ◌▹◌}
+unfoldable pub use Rattle.yaml_emit_laws_text.specs.emit_layout.Layout.{blanks, letters, line}
+pub use Rattle.yaml_emit_laws_text.specs.emit_layout.Quoted.{double_quoted, quoted_body}
+pub use Rattle.yaml_emit_laws_text.specs.emit_layout.Scalars.{block_body, chomp, chomp_mark, digit_mark, plain, single_quoted}
+unfoldable pub use Rattle.yaml_emit_laws_text.specs.emit_layout.Scalars.{flow_body, scalar_text}
+pub use Rattle.yaml_emit_laws_text.specs.emit_layout.Spelling.{break_text}
+unfoldable pub use Rattle.yaml_emit_laws_text.specs.emit_layout.Spelling.{in_front}
+pub use Rattle.yaml_emit_laws_text.specs.emit_layout.Style.{plain_fits, single_or}
+unfoldable pub use Rattle.yaml_emit_laws_text.specs.emit_layout.Style.{allowed, taken}
+pub use Rattle.yaml_emit_laws_text.specs.emit_layout.Text.{Item, letter}
+unfoldable pub use Rattle.yaml_emit_laws_text.specs.emit_layout.Text.{char_bytes, encode}
+pub use Rattle.yaml_emit_laws_text.specs.emit_layout.declared.Cursor.{Cursor}
+pub use Rattle.yaml_emit_laws_text.specs.emit_layout.declared.LineBreak.{LineBreak}
+pub use Rattle.yaml_emit_laws_text.specs.emit_layout.declared.LineBreak.TheVariants.{Cr, CrLf, Lf}
+pub use Rattle.yaml_emit_laws_text.specs.emit_layout.declared.Page.{Page}
+pub use Rattle.yaml_emit_laws_text.specs.emit_layout.declared.Settings.{Settings}
+pub use Rattle.yaml_emit_laws_text.specs.emit_layout.declared.Style.{Style}
 pub use Rattle.yaml_emit_laws_text.specs.emit_layout.parse_model.Events.{TagDirective}
 pub use Rattle.yaml_emit_laws_text.specs.emit_layout.scan_model.Tokens.{TokenBody}
 pub use Rattle.yaml_emit_laws_text.specs.emit_layout.scan_model.declared.yaml_encoding_t.{yaml_encoding_t}

@@ -11,16 +11,16 @@ use Rattle.yaml_scan_block.specs.Block.{block_at}
 use Rattle.yaml_emit_laws_text.specs.scan_history.declared.kind.Kind.{Kind}
 use Rattle.yaml_emit_laws_text.specs.scan_history.declared.kind.Kind.TheVariants as kinds
 use Rattle.yaml_emit_laws_text.specs.scan_history.Words.{kind_at, word_at}
-use Rattle.yaml_emit_laws_text.specs.emit_text.declared.Cursor.{Cursor}
-use Rattle.yaml_emit_laws_text.specs.emit_text.declared.page.Page.{Page}
-use Rattle.yaml_emit_laws_text.specs.emit_text.declared.Style.{Style}
-use Rattle.yaml_emit_laws_text.specs.emit_text.declared.Style.TheVariants as style
-use Rattle.yaml_emit_laws_text.specs.emit_text.declared.page.Chomp.{Chomp}
-use Rattle.yaml_emit_laws_text.specs.emit_text.declared.page.Chomp.TheVariants as chomping
-use Rattle.yaml_emit_laws_text.specs.emit_text.Layout.{Layout, Rest, ◌▹◌, char, gap, new_line, line, after_block}
-use Rattle.yaml_emit_laws_text.specs.emit_text.Scalars.{digit_mark, chomp_mark, chomp, block_body, ends_in_break, scalar_text}
-use Rattle.yaml_emit_laws_text.specs.emit_text.Style.{allowed}
-use Rattle.yaml_emit_laws_text.specs.emit_text.Spelling.{in_front}
+use Rattle.yaml_emit_laws_text.specs.emit_layout.declared.Cursor.{Cursor}
+use Rattle.yaml_emit_laws_text.specs.emit_layout.declared.page.Page.{Page}
+use Rattle.yaml_emit_laws_text.specs.emit_layout.declared.Style.{Style}
+use Rattle.yaml_emit_laws_text.specs.emit_layout.declared.Style.TheVariants as style
+use Rattle.yaml_emit_laws_text.specs.emit_layout.declared.page.Chomp.{Chomp}
+use Rattle.yaml_emit_laws_text.specs.emit_layout.declared.page.Chomp.TheVariants as chomping
+use Rattle.yaml_emit_laws_text.specs.emit_layout.Layout.{Layout, Rest, ◌▹◌, char, gap, new_line, line, after_block}
+use Rattle.yaml_emit_laws_text.specs.emit_layout.Scalars.{digit_mark, chomp_mark, chomp, block_body, ends_in_break, scalar_text}
+use Rattle.yaml_emit_laws_text.specs.emit_layout.Style.{allowed}
+use Rattle.yaml_emit_laws_text.specs.emit_layout.Spelling.{in_front}
 use Rattle.yaml_emit_laws_text.specs.emit_layout.declared.level.NodePosition.{NodePosition}
 use Rattle.yaml_emit_laws_text.specs.emit_layout.Content.{Scalar}
 use Rattle.yaml_emit_laws_text.specs.emit_layout.Nodes.{Context, is_simple_part, deeper, style_of, page_at}

@@ -5,9 +5,9 @@ use Rattle.yaml_emit_laws_text.specs.scan_model.Points as points
 use Rattle.yaml_emit_laws_text.specs.scan_model.Marks.{byte, break_width}
 use Rattle.yaml_emit_laws_text.specs.scan_history.scan_words.Written.{HasAt}
 use Rattle.yaml_scan_block.specs.Value.{BlockLine, Empty, Words}
-use Rattle.yaml_emit_laws_text.specs.emit_text.declared.LineBreak.{LineBreak}
-use Rattle.yaml_emit_laws_text.specs.emit_text.Text.{is_break}
-use Rattle.yaml_emit_laws_text.specs.emit_text.Spelling.{break_text}
+use Rattle.yaml_emit_laws_text.specs.emit_layout.declared.LineBreak.{LineBreak}
+use Rattle.yaml_emit_laws_text.specs.emit_layout.Text.{is_break}
+use Rattle.yaml_emit_laws_text.specs.emit_layout.Spelling.{break_text}
 
 -- The break of a value at which a line ends: LF, which is written as the break that is set, LS and PS.
 pub data LineMark : Type 0 where

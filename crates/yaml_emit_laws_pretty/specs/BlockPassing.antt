@@ -2,9 +2,9 @@
 use Rattle.std.specs.Prelude.{ℕ, ◌+◌, ◌<◌, ◌≡◌, Bool, true, false, ◌||◌, nat_lt, List, get_or, IsUtf8}
 use Rattle.std.specs.Str.{chars}
 use Rattle.yaml_emit_laws_text.specs.scan_model.Marks.{break_of, is_blank}
-use Rattle.yaml_emit_laws_text.specs.emit_text.declared.Cursor.{Cursor}
-use Rattle.yaml_emit_laws_text.specs.emit_text.Layout.{Rest, ◌▹◌, line}
-use Rattle.yaml_emit_laws_text.specs.emit_text.Scalars.{chomp}
+use Rattle.yaml_emit_laws_text.specs.emit_layout.declared.Cursor.{Cursor}
+use Rattle.yaml_emit_laws_text.specs.emit_layout.Layout.{Rest, ◌▹◌, line}
+use Rattle.yaml_emit_laws_text.specs.emit_layout.Scalars.{chomp}
 use Rattle.yaml_emit_laws_text.specs.emit_layout.declared.level.NodePosition.{NodePosition}
 use Rattle.yaml_emit_laws_text.specs.emit_layout.Content.{Scalar}
 use Rattle.yaml_emit_laws_text.specs.emit_layout.Nodes.{Context, deeper, style_of, page_at}

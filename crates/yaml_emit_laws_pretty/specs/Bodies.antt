@@ -5,12 +5,12 @@ use Rattle.yaml_emit_laws_text.specs.emit_layout.scan_model.declared.yaml_scalar
 use Rattle.yaml_emit_laws_text.specs.emit_layout.scan_model.declared.yaml_scalar_style_t.TheVariants.{YAML_PLAIN_SCALAR_STYLE, YAML_SINGLE_QUOTED_SCALAR_STYLE, YAML_DOUBLE_QUOTED_SCALAR_STYLE, YAML_LITERAL_SCALAR_STYLE, YAML_FOLDED_SCALAR_STYLE}
 use Rattle.yaml_emit_laws_text.specs.emit_layout.scan_model.Tokens as tokens
 use Rattle.yaml_emit_laws_text.specs.emit_layout.scan_model.Tokens.{TokenBody}
-use Rattle.yaml_emit_laws_text.specs.emit_layout.emit_text.declared.Settings.{Settings}
-use Rattle.yaml_emit_laws_text.specs.emit_layout.emit_text.declared.Style.{Style}
-use Rattle.yaml_emit_laws_text.specs.emit_layout.emit_text.declared.Style.TheVariants as style
-use Rattle.yaml_emit_laws_text.specs.emit_layout.emit_text.declared.Chomp.{Chomp}
-use Rattle.yaml_emit_laws_text.specs.emit_layout.emit_text.declared.Chomp.TheVariants as chomping
-use Rattle.yaml_emit_laws_text.specs.emit_layout.emit_text.Scalars.{chomp}
+use Rattle.yaml_emit_laws_text.specs.emit_layout.declared.Settings.{Settings}
+use Rattle.yaml_emit_laws_text.specs.emit_layout.declared.Style.{Style}
+use Rattle.yaml_emit_laws_text.specs.emit_layout.declared.Style.TheVariants as style
+use Rattle.yaml_emit_laws_text.specs.emit_layout.declared.Chomp.{Chomp}
+use Rattle.yaml_emit_laws_text.specs.emit_layout.declared.Chomp.TheVariants as chomping
+use Rattle.yaml_emit_laws_text.specs.emit_layout.Scalars.{chomp}
 use Rattle.yaml_emit_laws_text.specs.emit_layout.declared.level.Part.{Part}
 use Rattle.yaml_emit_laws_text.specs.emit_layout.declared.level.Part.TheVariants as part
 use Rattle.yaml_emit_laws_text.specs.emit_layout.declared.level.NodePosition.{NodePosition}

@@ -3,7 +3,7 @@ use Rattle.std.specs.Prelude.{◌≡◌, ◌≤◌, false, List, ◌∷◌}
 use Rattle.yaml_emit_laws_text.specs.emit_layout.scan_model.declared.yaml_encoding_t.{yaml_encoding_t}
 use Rattle.yaml_emit_laws_text.specs.emit_layout.scan_model.Indents.{least_indent, most_indent}
 use Rattle.yaml_emit_laws_text.specs.emit_layout.scan_model.Tokens.{stream_start}
-use Rattle.yaml_emit_laws_text.specs.emit_layout.emit_text.declared.Settings.{Settings}
+use Rattle.yaml_emit_laws_text.specs.emit_layout.declared.Settings.{Settings}
 use Rattle.yaml_emit_laws_text.specs.emit_layout.Content.{Document}
 use Rattle.yaml_emit_laws_text.specs.TextLaws.{text_of_documents, IsReadAs}
 use Rattle.yaml_emit_laws_text.specs.Writable.{AreWritable}

@@ -3,9 +3,9 @@ use Rattle.std.specs.Prelude.{◌≡◌, ℕ, ◌+◌, ◌≤◌, Bool, true, Li
 use Rattle.yaml_emit_laws_text.specs.scan_model.Marks.{mark_at}
 use Rattle.yaml_emit_laws_text.specs.scan_history.scan_words.Written.{HasAt}
 use Rattle.yaml_emit_laws_text.specs.scan_history.History.{key_bytes, is_fresh}
-use Rattle.yaml_emit_laws_text.specs.emit_text.declared.Cursor.{Cursor}
-use Rattle.yaml_emit_laws_text.specs.emit_text.declared.Settings.{Settings}
-use Rattle.yaml_emit_laws_text.specs.emit_text.Layout.{Layout, Rest}
+use Rattle.yaml_emit_laws_text.specs.emit_layout.declared.Cursor.{Cursor}
+use Rattle.yaml_emit_laws_text.specs.emit_layout.declared.Settings.{Settings}
+use Rattle.yaml_emit_laws_text.specs.emit_layout.Layout.{Layout, Rest}
 use Rattle.yaml_emit_laws_text.specs.emit_layout.declared.level.Part.TheVariants as part
 use Rattle.yaml_emit_laws_text.specs.emit_layout.Content.{Node, Opening}
 use Rattle.yaml_emit_laws_text.specs.emit_layout.Nodes.{context_of, position, is_simple, node_layout}

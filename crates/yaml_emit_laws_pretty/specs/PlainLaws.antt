@@ -7,12 +7,12 @@ use Rattle.yaml_emit_laws_text.specs.scan_history.scan_scalars.Plain.{PlainText,
 use Rattle.yaml_emit_laws_text.specs.scan_history.declared.kind.Kind.TheVariants as kinds
 use Rattle.yaml_emit_laws_text.specs.scan_history.Words.{kind_at}
 use Rattle.yaml_emit_laws_text.specs.scan_laws_texts.PlainLaws.{ends_plain}
-use Rattle.yaml_emit_laws_text.specs.emit_text.declared.Cursor.{Cursor}
-use Rattle.yaml_emit_laws_text.specs.emit_text.declared.Page.{Page}
-use Rattle.yaml_emit_laws_text.specs.emit_text.Layout.{Layout, Rest, ◌▹◌, after_text}
-use Rattle.yaml_emit_laws_text.specs.emit_text.Scalars.{flow_body}
-use Rattle.yaml_emit_laws_text.specs.emit_text.Spelling.{in_front}
-use Rattle.yaml_emit_laws_text.specs.emit_text.Style.{allowed}
+use Rattle.yaml_emit_laws_text.specs.emit_layout.declared.Cursor.{Cursor}
+use Rattle.yaml_emit_laws_text.specs.emit_layout.declared.Page.{Page}
+use Rattle.yaml_emit_laws_text.specs.emit_layout.Layout.{Layout, Rest, ◌▹◌, after_text}
+use Rattle.yaml_emit_laws_text.specs.emit_layout.Scalars.{flow_body}
+use Rattle.yaml_emit_laws_text.specs.emit_layout.Spelling.{in_front}
+use Rattle.yaml_emit_laws_text.specs.emit_layout.Style.{allowed}
 
 -- a plain scalar of these bytes, with the white behind it
 abbrev pub plain_of : List ℕ → List ℕ → List ℕ → ℕ → PlainText

@@ -5,11 +5,11 @@ use Rattle.yaml_emit_laws_text.specs.scan_model.Ascii as ascii
 use Rattle.yaml_emit_laws_text.specs.scan_model.Marks.{byte}
 use Rattle.yaml_emit_laws_text.specs.scan_history.scan_words.Written.{HasAt}
 use Rattle.yaml_emit_laws_text.specs.scan_history.scan_scalars.Quoted.{single_quoted_at}
-use Rattle.yaml_emit_laws_text.specs.emit_text.declared.Cursor.{Cursor}
-use Rattle.yaml_emit_laws_text.specs.emit_text.declared.Page.{Page}
-use Rattle.yaml_emit_laws_text.specs.emit_text.Layout.{Layout, Rest}
-use Rattle.yaml_emit_laws_text.specs.emit_text.Spelling.{in_front}
-use Rattle.yaml_emit_laws_text.specs.emit_text.Style.{allowed}
+use Rattle.yaml_emit_laws_text.specs.emit_layout.declared.Cursor.{Cursor}
+use Rattle.yaml_emit_laws_text.specs.emit_layout.declared.Page.{Page}
+use Rattle.yaml_emit_laws_text.specs.emit_layout.Layout.{Layout, Rest}
+use Rattle.yaml_emit_laws_text.specs.emit_layout.Spelling.{in_front}
+use Rattle.yaml_emit_laws_text.specs.emit_layout.Style.{allowed}
 use Rattle.yaml_emit_laws_text.specs.ReadBack.{between_single, is_one_line}
 
 -- From a cursor on, a layout writes these characters, a single quote first, whatever follows; and wherever their bytes stand, with

@@ -6,8 +6,8 @@ use Rattle.yaml_emit_laws_text.specs.scan_history.declared.kind.Kind.{Kind}
 use Rattle.yaml_emit_laws_text.specs.scan_history.declared.kind.Kind.TheVariants as kinds
 use Rattle.yaml_emit_laws_text.specs.scan_history.scan_words.Written.{begins_lexeme}
 use Rattle.yaml_emit_laws_text.specs.scan_history.Words.{kind_at, word_at}
-use Rattle.yaml_emit_laws_text.specs.emit_layout.emit_text.declared.Cursor.{Cursor}
-use Rattle.yaml_emit_laws_text.specs.emit_layout.emit_text.Layout.{Layout, Rest}
+use Rattle.yaml_emit_laws_text.specs.emit_layout.declared.Cursor.{Cursor}
+use Rattle.yaml_emit_laws_text.specs.emit_layout.Layout.{Layout, Rest}
 use Rattle.yaml_emit_laws_text.specs.Walk.{Left, bytes, first}
 use Rattle.yaml_scan_laws_texts.specs.Steps.{WordLeaves}
 use Rattle.yaml_emit_laws_pretty.specs.Stops.{stops_plain_at, begins_white, white_of}

@@ -8,12 +8,12 @@ use Rattle.yaml_emit_laws_text.specs.scan_history.declared.kind.Kind.TheVariants
 use Rattle.yaml_emit_laws_text.specs.scan_history.Words.{word_at, kind_at}
 use Rattle.yaml_emit_laws_text.specs.scan_model.declared.yaml_scalar_style_t.TheVariants.{YAML_PLAIN_SCALAR_STYLE, YAML_SINGLE_QUOTED_SCALAR_STYLE}
 use Rattle.yaml_emit_laws_text.specs.scan_model.Tokens as tokens
-use Rattle.yaml_emit_laws_text.specs.emit_text.declared.LineBreak.{LineBreak}
-use Rattle.yaml_emit_laws_text.specs.emit_text.declared.Cursor.{Cursor}
-use Rattle.yaml_emit_laws_text.specs.emit_text.declared.Page.{Page}
-use Rattle.yaml_emit_laws_text.specs.emit_text.Layout.{Rest, ◌▹◌, gap, line, after_text}
-use Rattle.yaml_emit_laws_text.specs.emit_text.Scalars.{flow_body, plain}
-use Rattle.yaml_emit_laws_text.specs.emit_text.Style.{allowed}
+use Rattle.yaml_emit_laws_text.specs.emit_layout.declared.LineBreak.{LineBreak}
+use Rattle.yaml_emit_laws_text.specs.emit_layout.declared.Cursor.{Cursor}
+use Rattle.yaml_emit_laws_text.specs.emit_layout.declared.Page.{Page}
+use Rattle.yaml_emit_laws_text.specs.emit_layout.Layout.{Rest, ◌▹◌, gap, line, after_text}
+use Rattle.yaml_emit_laws_text.specs.emit_layout.Scalars.{flow_body, plain}
+use Rattle.yaml_emit_laws_text.specs.emit_layout.Style.{allowed}
 use Rattle.yaml_emit_laws_text.specs.ReadBack.{between_single}
 use Rattle.yaml_emit_laws_text.specs.Walk.{Left, bytes, first}
 use Rattle.yaml_emit_laws_pretty.specs.PlainLaws.{IsReadPlain, may_be_plain}

@@ -6,13 +6,13 @@ use Rattle.yaml_emit_laws_text.specs.scan_model.Marks.{break_of}
 use Rattle.yaml_emit_laws_text.specs.scan_history.scan_words.Written.{HasAt, are_gap}
 use Rattle.yaml_emit_laws_text.specs.scan_history.scan_scalars.Plain.{is_bracket}
 use Rattle.yaml_emit_laws_text.specs.scan_laws_texts.PlainLaws.{ends_plain}
-use Rattle.yaml_emit_laws_text.specs.emit_text.declared.Cursor.{Cursor}
-use Rattle.yaml_emit_laws_text.specs.emit_text.declared.LineBreak.{LineBreak}
-use Rattle.yaml_emit_laws_text.specs.emit_text.Layout.{Layout}
-use Rattle.yaml_emit_laws_text.specs.emit_text.Quoted.{first, is_printable}
-use Rattle.yaml_emit_laws_text.specs.emit_text.Spelling.{break_text}
-use Rattle.yaml_emit_laws_text.specs.emit_text.Text.{is_break}
-use Rattle.yaml_emit_laws_text.specs.emit_text.Style.{behind}
+use Rattle.yaml_emit_laws_text.specs.emit_layout.declared.Cursor.{Cursor}
+use Rattle.yaml_emit_laws_text.specs.emit_layout.declared.LineBreak.{LineBreak}
+use Rattle.yaml_emit_laws_text.specs.emit_layout.Layout.{Layout}
+use Rattle.yaml_emit_laws_text.specs.emit_layout.Quoted.{first, is_printable}
+use Rattle.yaml_emit_laws_text.specs.emit_layout.Spelling.{break_text}
+use Rattle.yaml_emit_laws_text.specs.emit_layout.Text.{is_break}
+use Rattle.yaml_emit_laws_text.specs.emit_layout.Style.{behind}
 use Rattle.yaml_emit_laws_text.specs.Walk.{Left}
 use Rattle.yaml_emit_laws_pretty.specs.PlainLaws.{IsReadPlain, PlainIsBack}
 

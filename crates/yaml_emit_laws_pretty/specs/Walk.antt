@@ -4,9 +4,9 @@ use Rattle.std.specs.Str.{chars}
 use Rattle.yaml_emit_laws_text.specs.emit_layout.scan_model.Ascii as ascii
 use Rattle.yaml_emit_laws_text.specs.emit_layout.scan_model.declared.yaml_scalar_style_t.TheVariants.{YAML_PLAIN_SCALAR_STYLE, YAML_SINGLE_QUOTED_SCALAR_STYLE}
 use Rattle.yaml_emit_laws_text.specs.emit_layout.scan_model.Tokens as tokens
-use Rattle.yaml_emit_laws_text.specs.emit_layout.emit_text.declared.Page.{Page}
-use Rattle.yaml_emit_laws_text.specs.emit_layout.emit_text.Scalars.{plain, single_quoted}
-use Rattle.yaml_emit_laws_text.specs.emit_layout.emit_text.Style.{allowed}
+use Rattle.yaml_emit_laws_text.specs.emit_layout.declared.Page.{Page}
+use Rattle.yaml_emit_laws_text.specs.emit_layout.Scalars.{plain, single_quoted}
+use Rattle.yaml_emit_laws_text.specs.emit_layout.Style.{allowed}
 use Rattle.yaml_emit_laws_text.specs.scan_history.declared.lexeme.Opens.{Opens}
 use Rattle.yaml_emit_laws_text.specs.scan_history.declared.lexeme.Opens.TheVariants as opening
 use Rattle.yaml_scan_laws_texts.specs.Fronts.{Rises}
@@ -16,9 +16,9 @@ use Rattle.yaml_emit_laws_text.specs.emit_layout.scan_model.declared.yaml_encodi
 use Rattle.yaml_emit_laws_text.specs.emit_layout.scan_model.Tokens.{TokenBody}
 use Rattle.yaml_emit_laws_text.specs.scan_history.scan_model.Marks.{column_at, line_at}
 use Rattle.yaml_emit_laws_text.specs.scan_history.History.{indent, opened, start_of}
-use Rattle.yaml_emit_laws_text.specs.emit_layout.emit_text.declared.Cursor.{Cursor}
-use Rattle.yaml_emit_laws_text.specs.emit_layout.emit_text.declared.LineBreak.{LineBreak}
-use Rattle.yaml_emit_laws_text.specs.emit_layout.emit_text.Layout.{Layout, Rest, line, indicator}
+use Rattle.yaml_emit_laws_text.specs.emit_layout.declared.Cursor.{Cursor}
+use Rattle.yaml_emit_laws_text.specs.emit_layout.declared.LineBreak.{LineBreak}
+use Rattle.yaml_emit_laws_text.specs.emit_layout.Layout.{Layout, Rest, line, indicator}
 use Rattle.yaml_emit_laws_text.specs.Walk.{Left, bytes, first}
 use Rattle.yaml_scan_laws_texts.specs.Walks.{WalkState, WalkReads}
 use Rattle.yaml_emit_laws_pretty.specs.Stops.{stops_plain_at, begins_white, is_gap_byte}

@@ -2,14 +2,14 @@
 use Rattle.std.proofs.Common.{◌≡◌, ℕ, suc, ◌+◌, ◌<◌, Bool, true, false, ◌&&◌, ◌==◌, not, List, [], ◌∷◌, ◌++◌, length, Result, Ok, refl, sym, ap, subst, ◌∙◌, inl, inr, arith, append_assoc, append-nil, encode_utf8, encode_utf8_all, IsUtf8, if◌then◌else◌}
 use Rattle.yaml_emit_laws_text.proofs.Shared.{cases_Bool, encode_ascii, encodes-append, encodes-chars, scalars-chars, all_scalars, chars, Wrong, double_quoted_at, Cursor, Utf8, Item, letter, char_bytes, encode, Layout, ◌▹◌, choose, char, nothing_more, is_past, Page, is_empty, may_fold, fold_layout, escaped, quoted_char, quoted_body, double_quoted, in_front, WritesSpelling, QuotedSpells, spelling, meaning, quoted, ValueIsReadBack, between_quotes, gap_width}
 use lib.Utf8.{encode as encode_char}
-use Rattle.yaml_emit_text.specs.Spelling as emitted
+use Rattle.yaml_emit_layout.specs.Spelling as emitted
 use Rattle.yaml_emit_laws_text.specs.Stands.{HasAt}
 use Rattle.yaml_emit_laws_text.proofs.Parts.{spelling_reads}
 use Rattle.yaml_emit_laws_text.proofs.Escapes.{low_encodes, parts_of}
 use Rattle.yaml_emit_laws_text.proofs.Kept.{body_keeps}
 use Rattle.yaml_emit_laws_text.proofs.Steps.{not_start}
-use Rattle.yaml_emit_text.proofs.Sinks.{cond_false}
-pub use Rattle.yaml_emit_text.proofs.Spelled.{moved_by, spaced_by, in_front_append as front_append}
+use Rattle.yaml_emit_layout.proofs.Sinks.{cond_false}
+pub use Rattle.yaml_emit_layout.proofs.Spelled.{moved_by, spaced_by, in_front_append as front_append}
 use Rattle.yaml_scan_laws_texts.proofs.Whites.{has_rest}
 
 -- ---- without lines that may be broken the indentation says nothing

@@ -1,9 +1,9 @@
 -- Layouts that mark no indentation as too deep, and those that do by one test.
 use Rattle.std.proofs.Common.{◌≡◌, ℕ, zero, suc, ◌+◌, ◌-◌, Bool, true, false, ◌||◌, ◌==◌, nat_lt, List, [], ◌∷◌, refl, ap, ◌∙◌, inl, inr}
 use Rattle.yaml_emit_laws_text.proofs.Shared.{cases_Bool, Cursor, Encoding, Utf8, LineBreak, Lf, Cr, CrLf, Item, letter, is_deep, Rest, Layout, ◌▹◌, stay, choose, when, char, letters, blank, blanks, break, new_line, is_white, gap, word, opener, must_break, indent_to, line, is_past, keep, order_mark, needs_escape, escape_text, may_fold, fold, escaped, quoted_char, quoted_body, double_quoted, MOST, deep_if, checked}
-use Rattle.yaml_emit_layout.specs.emit_text.declared.Page.{Page}
-use Rattle.yaml_emit_text.specs.Quoted.{first}
-use Rattle.yaml_emit_text.proofs.Bools.{or_assoc}
+use Rattle.yaml_emit_layout.specs.declared.Page.{Page}
+use Rattle.yaml_emit_layout.specs.Quoted.{first}
+use Rattle.yaml_emit_layout.proofs.Bools.{or_assoc}
 
 -- Whatever follows: where what follows is marked or not wherever it begins, so is the whole, or it is marked here.
 abbrev pub Marks : Bool → Layout → Type 0

@@ -1,7 +1,7 @@
 -- What is marked is told by the events.
 use Rattle.std.proofs.Common.{◌≡◌, ℕ, ◌+◌, ◌-◌, Bool, false, ◌||◌, nat_lt, List, [], ◌∷◌, refl, ap, sym, ◌∙◌, arith}
 use Rattle.yaml_emit_laws_text.proofs.Shared.{yaml_encoding_t, Node, sequence_node, mapping_node, Nodes, no_nodes, node, Pairs, no_pairs, pair, Document, Event, document_end, scalar, sequence_start, sequence_end, mapping_start, mapping_end, node_events, items_events, pairs_events, documents_events, stream_events, MOST, EventsTellColumns}
-use Rattle.yaml_emit_text.proofs.Bools.{or_assoc}
+use Rattle.yaml_emit_layout.proofs.Bools.{or_assoc}
 use Rattle.yaml_emit_laws_text.proofs.ColumnsMarks.{node_marks, items_marks, pairs_marks, documents_marks}
 use Rattle.yaml_emit_laws_text.proofs.ColumnsDepths.{too_deep, deep_marked}
 

@@ -1,7 +1,7 @@
 -- Where canonical layout marks an indentation as too deep.
 use Rattle.std.proofs.Common.{◌≡◌, ℕ, ◌+◌, ◌-◌, Bool, true, false, not, ◌||◌, ◌&&◌, nat_lt, List, [], ◌∷◌, Option, Some, None, refl, ap, ◌∙◌, codes, chars}
 use Rattle.yaml_emit_laws_text.proofs.Shared.{or-false, yaml_version_directive_t, TagDirective, Settings, scalar_text, tag_spelling, uri_text, double_quoted, is_deep, Layout, ◌▹◌, stay, choose, when, char, word, opener, keep, order_mark, nothing_more, start, written, NodePosition, Scalar, Node, alias_node, scalar_node, sequence_node, mapping_node, Nodes, no_nodes, node, Pairs, no_pairs, pair, Opening, Document, has, scalar_tag, start_tag, Context, context_of, root_position, position, is_simple_part, MOST, deeper, checked, line_at, anchor_text, tag_text, properties_text, mark_text, style_of, page_at, scalar_layout, alias_layout, comma, turned, before_item, question, before_key, before_value, closer, key_part, is_simple, node_layout, items_layout, pairs_layout, dots, version_word, version_text, directive_text, directives_text, is_directed, dashes, is_marked, start_layout, end_layout, stop_layout, documents_layout, stream_layout}
-use Rattle.yaml_emit_layout.specs.emit_text.declared.Style.TheVariants as style
+use Rattle.yaml_emit_layout.specs.declared.Style.TheVariants as style
 use Rattle.yaml_emit_layout.specs.declared.level.Part.TheVariants as part
 use Rattle.yaml_emit_layout.specs.Nodes.{is_kept}
 use Rattle.yaml_emit_laws_text.proofs.ColumnsCalm.{Marks, Calm, both, calms, calm_then, then_calm, stay_calm, when_calm, choose_calm, char_calm, keep_calm, mark_calm, word_calm, opener_calm, line_calm, quoted_calm, checked_marks}

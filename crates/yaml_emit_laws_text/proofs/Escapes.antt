@@ -2,11 +2,11 @@
 use Rattle.std.proofs.Common.{◌≡◌, ◌≢◌, ℕ, zero, suc, ◌+◌, ◌*◌, ◌/◌, ◌%◌, ◌<◌, Bool, true, false, not, ◌&&◌, ◌||◌, ◌==◌, nat_lt, nat_le, List, [], ◌∷◌, ◌++◌, length, replicate, Some, refl, sym, ap, subst, ◌∙◌, inl, inr, arith, append-nil, encode_utf8, encode_utf8_all}
 use Rattle.yaml_emit_laws_text.proofs.Shared.{cases_lt, cases_eq, and_parts, not-true, or_parts, ne_eqb, nat_tests, encode_ascii, encodes-append, hex_digit, hex_len, simple_escape, LineBreak, Lf, Cr, CrLf, escape_letter, escape_text, hex_4, hex_8, hex_2, digit_of, LineEnd, feed, return, return_feed, turn_bytes, turn_means, may_turn, QuotedPart, raw, named, numbered, meant, spelling, meaning, number_behind, may_be_raw, MayStand, is_raw_blank, is_fold, is_turn, may_be_next, IsSpelling}
 use lib.Utf8.{scalar, encode}
-use Rattle.yaml_emit_text.specs.Spelling as emitted
+use Rattle.yaml_emit_layout.specs.Spelling as emitted
 use Rattle.yaml_emit_laws_text.specs.Spelling.{fold, spelled}
 use Rattle.yaml_emit_laws_text.proofs.Bytes.{AreCalm, calm_from, digit_calm, named_is}
 use Rattle.yaml_emit_laws_text.proofs.Pieces.{top_of}
-pub use Rattle.yaml_emit_text.proofs.Escapes.{escape_by_letter, escape_by_2, escape_by_4, escape_by_8}
+pub use Rattle.yaml_emit_layout.proofs.Escapes.{escape_by_letter, escape_by_2, escape_by_4, escape_by_8}
 
 -- ---- digits
 

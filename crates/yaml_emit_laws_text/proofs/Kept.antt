@@ -1,7 +1,7 @@
 -- Quoted text leaves the cursor's mark of kept breaks.
 use Rattle.std.proofs.Common.{◌≡◌, ℕ, zero, suc, ◌+◌, Bool, true, false, ◌==◌, List, [], ◌∷◌, refl, sym, ap, ◌∙◌, inl, inr, if◌then◌else◌}
 use Rattle.yaml_emit_laws_text.proofs.Shared.{cases_Bool, Cursor, LineBreak, Lf, Cr, CrLf, Item, deep, is_deep, Layout, Rest, ◌▹◌, stay, choose, when, char, letters, blank, blanks, break, new_line, is_past, Page, needs_escape, escape_text, may_fold, fold, escaped, quoted_char, quoted_body, in_front}
-use Rattle.yaml_emit_text.specs.Quoted.{first}
+use Rattle.yaml_emit_layout.specs.Quoted.{first}
 
 -- What follows is marked or not by whether the cursor there keeps breaks; a layout that leaves `kept` hands the mark on.
 abbrev Leaves : Layout → Type 0

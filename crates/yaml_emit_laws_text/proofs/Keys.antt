@@ -2,11 +2,11 @@
 use Rattle.std.proofs.Common.{◌≡◌, ℕ, suc, ◌+◌, Bool, true, false, not, ◌&&◌, ◌==◌, List, [], ◌∷◌, ◌++◌, length, refl, sym, ap, subst, ◌∙◌, inl, inr, arith, IsUtf8, length-append}
 use Rattle.yaml_emit_laws_text.proofs.Shared.{cases_Bool, or_parts, ne_eqb, and_from, scalars-chars, all_scalars, chars, Cursor, letter, Layout, Rest, ◌▹◌, char, letters, Page, needs_escape, escape_text, escaped, quoted_char, quoted_body, in_front, is_one_line, StaysInLine, between_quotes}
 use lib.Utf8.{scalar}
-use Rattle.yaml_emit_layout.specs.emit_text.Text.{is_break}
+use Rattle.yaml_emit_layout.specs.Text.{is_break}
 use Rattle.yaml_emit_laws_text.proofs.Bytes.{Calm, AreCalm}
 use Rattle.yaml_emit_laws_text.proofs.Escapes.{escape_calm}
 use Rattle.yaml_emit_laws_text.proofs.Back.{front_append, char_escaped, moved_by}
-use Rattle.yaml_emit_text.proofs.Sinks.{cond_true, cond_false}
+use Rattle.yaml_emit_layout.proofs.Sinks.{cond_true, cond_false}
 
 line_more : (a b r : Bool) → (a && b) ≡ true → (b ≡ true → r ≡ true) → (a && r) ≡ true
 line_more true b r h f = f h

@@ -4,7 +4,7 @@ use Rattle.yaml_emit_laws_text.proofs.Shared.{cases_Bool, cases_lt, and_parts, n
 use lib.Utf8.{scalar, scalars}
 use Rattle.yaml_scan_laws_texts.specs.scan_history.scan_words.Written as written
 use Rattle.yaml_scan_laws_texts.specs.scan_history.scan_words.Written.{raw}
-use Rattle.yaml_emit_layout.specs.emit_text.Hex.{hex_digit}
+use Rattle.yaml_emit_layout.specs.Hex.{hex_digit}
 use Rattle.yaml_emit_laws_text.proofs.Chars.{encode_4, encode_3, encode_1, encode_2}
 
 -- a byte as an emitter writes it

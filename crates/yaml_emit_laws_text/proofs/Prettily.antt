@@ -1,6 +1,6 @@
 -- Settings in pretty form.
 use Rattle.std.proofs.Common.{◌≡◌, Bool, false, sym, ap}
-use Rattle.yaml_emit_laws_text.specs.emit_layout.emit_text.declared.Settings.{Settings}
+use Rattle.yaml_emit_laws_text.specs.emit_layout.declared.Settings.{Settings}
 
 -- the settings with canonical form off
 abbrev pub pretty : Settings → Settings

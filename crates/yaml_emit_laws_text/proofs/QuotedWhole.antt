@@ -1,5 +1,5 @@
 -- The law of double quoted text, joined.
-use Rattle.yaml_emit_text.proofs.Spelled.{quoted-spells}
+use Rattle.yaml_emit_layout.proofs.Spelled.{quoted-spells}
 use Rattle.yaml_emit_laws_text.specs.QuotedLaws.{QuotedIsReadBack}
 use Rattle.yaml_emit_laws_text.proofs.Back.{quoted_back}
 

@@ -22,12 +22,12 @@ pub use Rattle.yaml_emit_laws_text.specs.TagsLaws.{AreReadable, DirectivesAreRea
 pub use Rattle.yaml_emit_laws_text.specs.TextLaws.{CanonicalTextIsRead, IsReadAs, NodesAreWords, text_of_documents}
 pub use Rattle.yaml_emit_laws_text.specs.Walk.{GoesBehindWords, Has, Left, Parts, Starts, Walks, WordStage, bytes, first, parts, told}
 pub use Rattle.yaml_emit_laws_text.specs.Writable.{AreItemsWritable, ArePairsWritable, AreWritable, IsWritable, IsWritableAnchor, IsWritableOpening, IsWritableTag}
-pub use Rattle.yaml_emit_laws_text.specs.emit_layout.emit_text.Layout.{Layout, Rest, after_block, after_text, blank, break, char, choose, gap, indent_to, indicator, is_past, is_white, keep, must_break, new_line, nothing_more, opener, order_mark, start, stay, when, word, written, ◌▹◌}
-unfoldable pub use Rattle.yaml_emit_laws_text.specs.emit_layout.emit_text.Layout.{blanks, letters, line}
-pub use Rattle.yaml_emit_laws_text.specs.emit_layout.emit_text.declared.Cursor.{Cursor}
-pub use Rattle.yaml_emit_laws_text.specs.emit_layout.emit_text.declared.LineBreak.{LineBreak}
-pub use Rattle.yaml_emit_laws_text.specs.emit_layout.emit_text.declared.LineBreak.TheVariants.{Cr, CrLf, Lf}
-pub use Rattle.yaml_emit_laws_text.specs.emit_layout.emit_text.declared.Settings.{Settings}
+pub use Rattle.yaml_emit_laws_text.specs.emit_layout.Layout.{Layout, Rest, after_block, after_text, blank, break, char, choose, gap, indent_to, indicator, is_past, is_white, keep, must_break, new_line, nothing_more, opener, order_mark, start, stay, when, word, written, ◌▹◌}
+unfoldable pub use Rattle.yaml_emit_laws_text.specs.emit_layout.Layout.{blanks, letters, line}
+pub use Rattle.yaml_emit_laws_text.specs.emit_layout.declared.Cursor.{Cursor}
+pub use Rattle.yaml_emit_laws_text.specs.emit_layout.declared.LineBreak.{LineBreak}
+pub use Rattle.yaml_emit_laws_text.specs.emit_layout.declared.LineBreak.TheVariants.{Cr, CrLf, Lf}
+pub use Rattle.yaml_emit_laws_text.specs.emit_layout.declared.Settings.{Settings}
 pub use Rattle.yaml_emit_laws_text.specs.scan_history.History.{depth, key_allowed, reached}
 pub use Rattle.yaml_emit_laws_text.specs.scan_history.Kinds.{depth_after, is_end}
 pub use Rattle.yaml_emit_laws_text.specs.scan_history.Remaining.{SpelledText, offline}
@@ -52,24 +52,24 @@ pub use Rattle.yaml_emit_layout.specs.Nodes.{Context, MOST, anchor_text, are_no_
 unfoldable pub use Rattle.yaml_emit_layout.specs.Nodes.{alias_layout, before_item, before_key, before_value, closer, directives_text, documents_layout, end_layout, is_simple, is_simple_alias, is_simple_scalar, is_simple_start, items_layout, node_layout, pairs_layout, scalar_layout, start_layout, stop_layout, stream_layout, style_of, turned}
 pub use Rattle.yaml_emit_layout.specs.declared.level.NodePosition.{NodePosition}
 pub use Rattle.yaml_emit_layout.specs.declared.problem.Problem.{Problem}
-pub use Rattle.yaml_emit_layout.specs.emit_tags.Tags.{Split, defaults, has_shorter_prefix, in_force, keeps_byte, primary, secondary, shorthand, split_by, split_tag, tag_spelling, unless_defined, uri_byte, verbatim}
-unfoldable pub use Rattle.yaml_emit_layout.specs.emit_tags.Tags.{defines, directive_for, spelled, suffix_keeps, uri_text}
-pub use Rattle.yaml_emit_layout.specs.emit_text.Hex.{hex_2}
-unfoldable pub use Rattle.yaml_emit_layout.specs.emit_text.Hex.{hex_digit as digit_of}
-pub use Rattle.yaml_emit_layout.specs.emit_text.Scalars.{adds_break, block, block_header, block_text, chomp, chomp_mark, cut, cuts_at, cuts_block, digit_char, line_blank, plain, single_quoted, text_char, value_break}
-unfoldable pub use Rattle.yaml_emit_layout.specs.emit_text.Scalars.{block_body, block_char, flow_body, flow_char, scalar_text}
-pub use Rattle.yaml_emit_layout.specs.emit_text.Text.{Item, deep, letter}
-unfoldable pub use Rattle.yaml_emit_layout.specs.emit_text.Text.{char_bytes, encode, is_deep}
-pub use Rattle.yaml_emit_layout.specs.emit_text.declared.Encoding.{Encoding}
-pub use Rattle.yaml_emit_layout.specs.emit_text.declared.Encoding.TheVariants.{Utf16Be, Utf16Le, Utf8}
+pub use Rattle.yaml_emit_layout.specs.Tags.{Split, defaults, has_shorter_prefix, in_force, keeps_byte, primary, secondary, shorthand, split_by, split_tag, tag_spelling, unless_defined, uri_byte, verbatim}
+unfoldable pub use Rattle.yaml_emit_layout.specs.Tags.{defines, directive_for, spelled, suffix_keeps, uri_text}
+pub use Rattle.yaml_emit_layout.specs.Hex.{hex_2}
+unfoldable pub use Rattle.yaml_emit_layout.specs.Hex.{hex_digit as digit_of}
+pub use Rattle.yaml_emit_layout.specs.Scalars.{adds_break, block, block_header, block_text, chomp, chomp_mark, cut, cuts_at, cuts_block, digit_char, line_blank, plain, single_quoted, text_char, value_break}
+unfoldable pub use Rattle.yaml_emit_layout.specs.Scalars.{block_body, block_char, flow_body, flow_char, scalar_text}
+pub use Rattle.yaml_emit_layout.specs.Text.{Item, deep, letter}
+unfoldable pub use Rattle.yaml_emit_layout.specs.Text.{char_bytes, encode, is_deep}
+pub use Rattle.yaml_emit_layout.specs.declared.Encoding.{Encoding}
+pub use Rattle.yaml_emit_layout.specs.declared.Encoding.TheVariants.{Utf16Be, Utf16Le, Utf8}
 pub use Rattle.yaml_emit_layout.specs.parse_model.Events.{TagDirective}
 pub use Rattle.yaml_emit_layout.specs.scan_model.declared.yaml_encoding_t.{yaml_encoding_t}
 pub use Rattle.yaml_emit_layout.specs.scan_model.declared.yaml_version_directive_t.{yaml_version_directive_t}
-pub use Rattle.yaml_emit_text.specs.Quoted.{double_quoted, escaped, fold, fold as fold_layout, hex_4, hex_8, is_empty, is_printable, may_fold}
-unfoldable pub use Rattle.yaml_emit_text.specs.Quoted.{escape_letter, escape_text, needs_escape, quoted_body, quoted_char}
-pub use Rattle.yaml_emit_text.specs.Spelling.{QuotedSpells, WritesSpelling, break_text}
-unfoldable pub use Rattle.yaml_emit_text.specs.Spelling.{in_front}
-pub use Rattle.yaml_emit_text.specs.declared.page.Page.{Page}
+pub use Rattle.yaml_emit_layout.specs.Quoted.{double_quoted, escaped, fold, fold as fold_layout, hex_4, hex_8, is_empty, is_printable, may_fold}
+unfoldable pub use Rattle.yaml_emit_layout.specs.Quoted.{escape_letter, escape_text, needs_escape, quoted_body, quoted_char}
+pub use Rattle.yaml_emit_layout.specs.Spelling.{QuotedSpells, WritesSpelling, break_text}
+unfoldable pub use Rattle.yaml_emit_layout.specs.Spelling.{in_front}
+pub use Rattle.yaml_emit_layout.specs.declared.page.Page.{Page}
 pub use Rattle.yaml_parse_grammar.specs.Resolve.{default_prefix, or_default, resolved}
 pub use Rattle.yaml_scan_laws_texts.proofs.Directives.{tag_directive_is_read, version_is_read}
 pub use Rattle.yaml_scan_laws_texts.proofs.HasLemmas.{has_front, has_rest}

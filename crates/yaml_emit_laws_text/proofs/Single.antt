@@ -1,14 +1,14 @@
 -- What an emitter writes between single quotes in one line, or cuts at spaces, is read back.
 use Rattle.std.proofs.Common.{◌≡◌, ℕ, ◌+◌, ◌-◌, Bool, true, false, not, ◌&&◌, ◌||◌, ◌==◌, nat_lt, nat_le, List, [], ◌∷◌, ◌++◌, replicate, refl, sym, ap, ◌∙◌, arith, encode_utf8_all}
 use Rattle.yaml_emit_laws_text.proofs.Shared.{encode_ascii, encodes-append, and_parts, not-true, or_parts, eqb-true, Cursor, LineBreak, Rest, blanks, new_line, line, indent_to, must_break, Page, is_printable, cuts_at, in_front, break_text, QuotedPart, is_raw_blank, is_fold, is_turn, may_follow}
-use Rattle.yaml_emit_layout.specs.emit_text.Text.{is_break}
-use Rattle.yaml_emit_text.specs.Quoted.{first}
-use Rattle.yaml_emit_text.specs.Style.{is_special}
+use Rattle.yaml_emit_layout.specs.Text.{is_break}
+use Rattle.yaml_emit_layout.specs.Quoted.{first}
+use Rattle.yaml_emit_layout.specs.Style.{is_special}
 use Rattle.yaml_emit_laws_text.proofs.Escapes.{low_encodes}
 use Rattle.yaml_emit_laws_text.proofs.Back.{front_append}
-use Rattle.yaml_emit_text.proofs.Sinks.{cond_true}
-pub use Rattle.yaml_emit_text.proofs.Bools.{bool_cases}
-pub use Rattle.yaml_emit_text.proofs.Spelled.{line_start, after_blanks, blanks_are, new_line_is}
+use Rattle.yaml_emit_layout.proofs.Sinks.{cond_true}
+pub use Rattle.yaml_emit_layout.proofs.Bools.{bool_cases}
+pub use Rattle.yaml_emit_layout.proofs.Spelled.{line_start, after_blanks, blanks_are, new_line_is}
 
 -- ---- layouts that write characters
 

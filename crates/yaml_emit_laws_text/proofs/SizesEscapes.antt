@@ -1,7 +1,7 @@
 -- How long an escape is.
 use Rattle.std.proofs.Common.{◌≡◌, ℕ, ◌+◌, ◌*◌, ◌/◌, ◌%◌, ◌<◌, ◌≤◌, Bool, true, false, ◌&&◌, ◌==◌, nat_lt, if◌then◌else◌, List, [], ◌∷◌, ◌++◌, length, refl, arith, inl, inr, le_refl, mul-le-mul_left}
 use Rattle.yaml_emit_laws_text.proofs.Shared.{cases_Bool, ltb-true, lt-ltb, and_from, Encoding, Utf8, Utf16Le, Utf16Be, char_bytes, needs_escape, escape_letter, escape_text, hex_4, hex_8, hex_2, unit, text_bytes, most_of_escape, EscapesAreShort}
-use Rattle.yaml_emit_layout.specs.emit_text.Hex.{hex_digit}
+use Rattle.yaml_emit_layout.specs.Hex.{hex_digit}
 use Rattle.yaml_emit_laws_text.proofs.SizesCounting.{all_ascii, ascii_bytes}
 
 -- No character takes more than four units of its encoding.

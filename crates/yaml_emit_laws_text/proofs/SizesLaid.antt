@@ -3,13 +3,13 @@ use Rattle.std.proofs.Common.{◌≡◌, ℕ, ◌+◌, ◌*◌, ◌<◌, ◌≤�
 use Rattle.yaml_emit_laws_text.proofs.Shared.{cases_Bool, lt-ltb, leb-true, leb-false, ltb-true, and_parts, TagDirective, Encoding, LineBreak, Settings, Cursor, encode, is_empty, value_break, cuts_at, cut, text_char, flow_char, flow_body, plain, single_quoted, adds_break, cuts_block, line_blank, block_text, block_char, block_body, chomp, chomp_mark, digit_char, block_header, block, scalar_text, Layout, ◌▹◌, stay, when, char, new_line, gap, word, opener, line, keep, is_past, after_text, after_block, order_mark, nothing_more, start, written, NodePosition, Scalar, Start, Node, alias_node, scalar_node, sequence_node, mapping_node, Nodes, no_nodes, node, Pairs, no_pairs, pair, Document, has, kept_if, scalar_tag, start_tag, Context, context_of, root_position, position, deeper, checked, properties_text, is_plain, style_of, mark_text, page_at, scalar_layout, is_simple, is_flow, are_none, are_no_pairs, block_indent_in, indent_of, indented, is_of_mapping, before_item, before_key, before_value, closer, key_part, node_layout, items_layout, pairs_layout, start_layout, end_layout, stop_layout, documents_layout, stream_layout, unit, ascii, larger, properties_bytes, tag_bytes, most_of_quoted, most_of_char, most_of_value, most_of_line, most_of_node, most_of_items, most_of_pairs, directives_bytes, most_of_documents, most_bytes, SizesAreByContent}
 use Rattle.yaml_emit_layout.specs.scan_model.declared.yaml_scalar_style_t.{yaml_scalar_style_t}
 use Rattle.yaml_emit_laws_text.specs.scan_model.declared.yaml_scalar_style_t.TheVariants as asked
-use Rattle.yaml_emit_layout.specs.emit_text.declared.page.Chomp.{Chomp}
-use Rattle.yaml_emit_layout.specs.emit_text.declared.page.Chomp.TheVariants as chomping
-use Rattle.yaml_emit_layout.specs.emit_text.declared.Style.{Style}
-use Rattle.yaml_emit_layout.specs.emit_text.declared.Style.TheVariants as style
-use Rattle.yaml_emit_layout.specs.emit_text.Text.{is_break}
-use Rattle.yaml_emit_text.specs.Style.{allowed, plain_fits, taken}
-use Rattle.yaml_emit_text.specs.Quoted.{first}
+use Rattle.yaml_emit_layout.specs.declared.page.Chomp.{Chomp}
+use Rattle.yaml_emit_layout.specs.declared.page.Chomp.TheVariants as chomping
+use Rattle.yaml_emit_layout.specs.declared.Style.{Style}
+use Rattle.yaml_emit_layout.specs.declared.Style.TheVariants as style
+use Rattle.yaml_emit_layout.specs.Text.{is_break}
+use Rattle.yaml_emit_layout.specs.Style.{allowed, plain_fits, taken}
+use Rattle.yaml_emit_layout.specs.Quoted.{first}
 use Rattle.yaml_emit_layout.specs.declared.level.Part.TheVariants as part
 use Rattle.yaml_emit_laws_text.proofs.SizesCounting.{size, AtMost, joined, widened, stay_most, when_most, choose_most, keep_most, char_most, break_most, ascii_most, gap_most, ascii_word_most, opener_most, new_line_most, mark_most, checked_most}
 use Rattle.yaml_emit_laws_text.proofs.SizesEscapes.{raw_most}

@@ -1,8 +1,8 @@
 -- Canonical text has no more bytes than its nodes, lines and texts tell; what of it pretty text has too.
 use Rattle.std.proofs.Common.{◌≡◌, ℕ, ◌+◌, ◌-◌, ◌*◌, ◌≤◌, Bool, true, false, not, ◌&&◌, ◌==◌, nat_lt, List, [], ◌∷◌, length, Option, Some, None, pos, refl, sym, subst, codes, arith, inl, inr, le_refl, mul-le-mul_left, sub-le, int_eq, chars}
 use Rattle.yaml_emit_laws_text.proofs.Shared.{cases_Bool, eqb-true, yaml_version_directive_t, TagDirective, Settings, scalar_text, tag_spelling, uri_text, needs_escape, escape_text, is_empty, may_fold, fold, escaped, quoted_char, quoted_body, double_quoted, char_bytes, letter, Layout, ◌▹◌, stay, choose, when, char, letters, blanks, new_line, gap, word, keep, is_past, indicator, line, NodePosition, Scalar, scalar_node, Opening, has, scalar_tag, Context, context_of, is_simple_part, deeper, checked, line_at, anchor_text, tag_text, properties_text, mark_text, style_of, page_at, scalar_layout, alias_layout, comma, turned, before_item, question, before_key, before_value, closer, dots, version_word, version_text, directive_text, directives_text, is_directed, dashes, is_marked, start_layout, end_layout, stop_layout, unit, ascii, text_bytes, anchor_bytes, tag_bytes, properties_bytes, most_of_quoted, most_of_char, most_of_value, most_of_line, most_of_node, directives_bytes, Encoding}
-use Rattle.yaml_emit_layout.specs.emit_text.declared.Style.TheVariants as style
-use Rattle.yaml_emit_text.specs.Quoted.{first}
+use Rattle.yaml_emit_layout.specs.declared.Style.TheVariants as style
+use Rattle.yaml_emit_layout.specs.Quoted.{first}
 use Rattle.yaml_emit_layout.specs.Nodes.{is_kept}
 use Rattle.yaml_emit_laws_text.proofs.SizesCounting.{AtMost, joined, widened, stay_most, when_most, choose_most, keep_most, char_most, letters_most, ascii_most, blanks_most, gap_most, word_most, ascii_word_most, new_line_most, line_most, checked_most, put_most, unit_size}
 

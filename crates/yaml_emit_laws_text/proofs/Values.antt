@@ -5,7 +5,7 @@ use Rattle.yaml_scan_scalars.specs.Pieces.{is_empty, gap, Rest}
 use Rattle.yaml_scan_scalars.proofs.FoldingLemmas.{value-kept, rest_of-blank}
 use Rattle.yaml_emit_laws_text.specs.Spelling.{fold}
 use Rattle.yaml_emit_laws_text.proofs.Chars.{encode_1, encode_2, encode_3, encode_4}
-use Rattle.yaml_emit_text.proofs.Sinks.{cond_true, cond_false}
+use Rattle.yaml_emit_layout.proofs.Sinks.{cond_true, cond_false}
 
 -- ---- what parts are read as
 

@@ -7,12 +7,12 @@ use Rattle.yaml_emit_laws_text.specs.scan_history.scan_words.Anchors.{anchor_at,
 use Rattle.yaml_emit_laws_text.specs.scan_history.declared.kind.Kind.TheVariants as kinds
 use Rattle.yaml_emit_laws_text.specs.scan_history.Words.{valued}
 use Rattle.yaml_emit_laws_text.specs.scan_model.Tokens as tokens
-use Rattle.yaml_emit_layout.specs.emit_text.declared.Page.{Page}
+use Rattle.yaml_emit_layout.specs.declared.Page.{Page}
 use Rattle.yaml_emit_laws_text.proofs.Forms.{BeginsBlank}
 use Rattle.yaml_emit_laws_text.proofs.Places.{has_front, has_at, left_first, left_more, left_rest}
 use Rattle.yaml_emit_laws_text.proofs.Steps.{Sign, sign_begins, sign_kind, push, word_of, left_letter, walks_gap, letter_low}
 use Rattle.yaml_emit_laws_text.proofs.Ascii.{alphas_ascii}
-pub use Rattle.yaml_emit_text.proofs.Spelled.{moved_by as lettered_on}
+pub use Rattle.yaml_emit_layout.proofs.Spelled.{moved_by as lettered_on}
 
 -- ---- words of one byte
 

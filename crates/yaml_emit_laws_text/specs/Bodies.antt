@@ -5,7 +5,7 @@ use Rattle.yaml_emit_layout.specs.scan_model.declared.yaml_scalar_style_t.TheVar
 use Rattle.yaml_emit_layout.specs.scan_model.Tokens as tokens
 use Rattle.yaml_emit_layout.specs.scan_model.Tokens.{TokenBody}
 use Rattle.yaml_emit_layout.specs.parse_model.Events.{TagDirective}
-use Rattle.yaml_emit_layout.specs.emit_tags.Tags.{Split, shorthand, verbatim, split_tag}
+use Rattle.yaml_emit_layout.specs.Tags.{Split, shorthand, verbatim, split_tag}
 use Rattle.yaml_emit_layout.specs.scan_model.declared.yaml_version_directive_t.{yaml_version_directive_t}
 use Rattle.yaml_emit_layout.specs.Nodes.{is_directed}
 use Rattle.yaml_emit_layout.specs.Content.{Opening, Document, Node, alias_node, scalar_node, sequence_node, mapping_node, Nodes, no_nodes, node, Pairs, no_pairs, pair}

@@ -3,10 +3,10 @@ use Rattle.std.specs.Prelude.{◌≡◌, ◌↔◌, ℕ, ◌<◌, ◌≤◌, ◌
 use Rattle.yaml_emit_laws_text.specs.scan_history.scan_model.Ascii as ascii
 use Rattle.yaml_emit_layout.specs.parse_model.Events.{TagDirective}
 use Rattle.yaml_emit_layout.specs.scan_model.declared.yaml_encoding_t.{yaml_encoding_t}
-use Rattle.yaml_emit_layout.specs.emit_text.declared.Settings.{Settings}
-use Rattle.yaml_emit_layout.specs.emit_text.Text.{encode, is_deep}
-use Rattle.yaml_emit_layout.specs.emit_text.declared.Cursor.{Cursor}
-use Rattle.yaml_emit_layout.specs.emit_text.Layout.{Rest, ◌▹◌, written}
+use Rattle.yaml_emit_layout.specs.declared.Settings.{Settings}
+use Rattle.yaml_emit_layout.specs.Text.{encode, is_deep}
+use Rattle.yaml_emit_layout.specs.declared.Cursor.{Cursor}
+use Rattle.yaml_emit_layout.specs.Layout.{Rest, ◌▹◌, written}
 use Rattle.yaml_emit_layout.specs.declared.level.Part.TheVariants as part
 use Rattle.yaml_emit_layout.specs.Content.{Start, Nodes, sequence_node, Document, stream_events}
 use Rattle.yaml_emit_layout.specs.Grammar.{start_tag}

@@ -2,11 +2,11 @@
 use Rattle.std.specs.Prelude.{◌≡◌, ℕ, Bool, true, false, List, [], ◌∷◌, None, codes}
 use Rattle.yaml_emit_layout.specs.scan_model.declared.yaml_scalar_style_t.TheVariants.{YAML_ANY_SCALAR_STYLE}
 use Rattle.yaml_emit_layout.specs.scan_model.Widths.{default_width}
-use Rattle.yaml_emit_layout.specs.emit_text.declared.Settings.{Settings}
-use Rattle.yaml_emit_layout.specs.emit_text.declared.Encoding.TheVariants.{Utf8}
-use Rattle.yaml_emit_layout.specs.emit_text.declared.LineBreak.TheVariants.{Lf}
-use Rattle.yaml_emit_layout.specs.emit_text.Text.{is_deep}
-use Rattle.yaml_emit_layout.specs.emit_text.Layout.{written}
+use Rattle.yaml_emit_layout.specs.declared.Settings.{Settings}
+use Rattle.yaml_emit_layout.specs.declared.Encoding.TheVariants.{Utf8}
+use Rattle.yaml_emit_layout.specs.declared.LineBreak.TheVariants.{Lf}
+use Rattle.yaml_emit_layout.specs.Text.{is_deep}
+use Rattle.yaml_emit_layout.specs.Layout.{written}
 use Rattle.yaml_emit_layout.specs.Content.{Start, Node, alias_node, scalar_node, sequence_node, mapping_node, no_nodes, node, no_pairs, pair, Document}
 use Rattle.yaml_emit_layout.specs.Nodes.{stream_layout}
 

@@ -18,7 +18,6 @@ pub mod ColumnsLaws
 pub mod ColumnsRows
 pub mod Sizes
 -- what it stands on, for crates that name this one alone
-pub use Rattle.yaml_emit_text.specs as emit_text
 pub use Rattle.yaml_scan_laws_texts.specs as scan_laws_texts
 pub use Rattle.yaml_scan_laws_texts.specs.scan_history
 pub use Rattle.yaml_emit_layout.specs as emit_layout

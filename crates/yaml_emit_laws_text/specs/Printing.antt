@@ -2,7 +2,7 @@
 use Rattle.std.specs.Prelude.{◌≡◌, ℕ, List, ◌++◌, encode_utf8}
 use Rattle.std.specs.Char.{IsScalar}
 use Rattle.yaml_emit_layout.specs.scan_model.Classes as bytes
-use Rattle.yaml_emit_text.specs.Quoted.{is_printable}
+use Rattle.yaml_emit_layout.specs.Quoted.{is_printable}
 
 -- A character's bytes begin a printable one exactly if its code point is printable, whatever follows.
 abbrev pub PrintableIsOfCharacters : Type 0

@@ -4,13 +4,13 @@ use Rattle.std.specs.Str.{chars}
 use Rattle.yaml_scan_scalars.specs.scan_model.Ascii as ascii
 use Rattle.yaml_scan_scalars.specs.scan_model.Marks.{byte}
 use Rattle.yaml_scan_scalars.specs.Quoted.{double_quoted_at, single_quoted_at}
-use Rattle.yaml_emit_text.specs.declared.Cursor.{Cursor}
-use Rattle.yaml_emit_text.specs.declared.Encoding.TheVariants.{Utf8}
-use Rattle.yaml_emit_text.specs.Text.{encode}
-use Rattle.yaml_emit_text.specs.Layout.{nothing_more}
-use Rattle.yaml_emit_text.specs.declared.page.Page.{Page}
-use Rattle.yaml_emit_text.specs.Quoted.{double_quoted}
-use Rattle.yaml_emit_text.specs.Style.{allowed}
+use Rattle.yaml_emit_layout.specs.declared.Cursor.{Cursor}
+use Rattle.yaml_emit_layout.specs.declared.Encoding.TheVariants.{Utf8}
+use Rattle.yaml_emit_layout.specs.Text.{encode}
+use Rattle.yaml_emit_layout.specs.Layout.{nothing_more}
+use Rattle.yaml_emit_layout.specs.declared.page.Page.{Page}
+use Rattle.yaml_emit_layout.specs.Quoted.{double_quoted}
+use Rattle.yaml_emit_layout.specs.Style.{allowed}
 use Rattle.yaml_emit_laws_text.specs.Stands.{HasAt}
 use Rattle.yaml_emit_laws_text.specs.Spelling.{QuotedPart, IsSpelling, meaning, quoted}
 use Rattle.yaml_emit_laws_text.specs.ReadBack.{ValueIsReadBack, ValueIsReadBackBefore, between_quotes, between_single, gap_width, is_one_line, StaysInLine}

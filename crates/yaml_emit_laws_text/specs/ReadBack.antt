@@ -3,13 +3,13 @@ use Rattle.std.specs.Prelude.{ℕ, ◌+◌, ◌≡◌, Bool, true, false, not, �
 use Rattle.yaml_scan_scalars.specs.scan_model.Ascii as ascii
 use Rattle.yaml_scan_scalars.specs.scan_model.Marks.{byte}
 use Rattle.yaml_scan_scalars.specs.scan_model.Wrong.{Wrong}
-use Rattle.yaml_emit_text.specs.declared.Cursor.{Cursor}
-use Rattle.yaml_emit_text.specs.Text.{is_break}
-use Rattle.yaml_emit_text.specs.Layout.{Layout, Rest, ◌▹◌, char}
-use Rattle.yaml_emit_text.specs.declared.page.Page.{Page}
-use Rattle.yaml_emit_text.specs.Quoted.{quoted_body}
-use Rattle.yaml_emit_text.specs.Scalars.{flow_body}
-use Rattle.yaml_emit_text.specs.Spelling.{in_front}
+use Rattle.yaml_emit_layout.specs.declared.Cursor.{Cursor}
+use Rattle.yaml_emit_layout.specs.Text.{is_break}
+use Rattle.yaml_emit_layout.specs.Layout.{Layout, Rest, ◌▹◌, char}
+use Rattle.yaml_emit_layout.specs.declared.page.Page.{Page}
+use Rattle.yaml_emit_layout.specs.Quoted.{quoted_body}
+use Rattle.yaml_emit_layout.specs.Scalars.{flow_body}
+use Rattle.yaml_emit_layout.specs.Spelling.{in_front}
 use Rattle.yaml_emit_laws_text.specs.Stands.{HasAt}
 
 -- From a cursor on, a layout writes these characters, a double quote first, whatever follows; and

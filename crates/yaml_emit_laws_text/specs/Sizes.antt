@@ -3,12 +3,12 @@ use Rattle.std.specs.Prelude.{ℕ, ◌+◌, ◌*◌, true, ◌==◌, nat_lt, nat
 use Rattle.std.specs.Str.{chars}
 use Rattle.yaml_emit_layout.specs.scan_model.Ascii.{space}
 use Rattle.yaml_emit_layout.specs.parse_model.Events.{TagDirective}
-use Rattle.yaml_emit_layout.specs.emit_text.declared.Settings.{Settings}
-use Rattle.yaml_emit_layout.specs.emit_text.declared.Encoding.{Encoding}
-use Rattle.yaml_emit_layout.specs.emit_text.declared.Encoding.TheVariants.{Utf8, Utf16Le, Utf16Be}
-use Rattle.yaml_emit_layout.specs.emit_text.Text.{char_bytes}
-use Rattle.yaml_emit_layout.specs.emit_text.Quoted.{needs_escape, escape_text}
-use Rattle.yaml_emit_layout.specs.emit_tags.Tags.{tag_spelling, uri_text}
+use Rattle.yaml_emit_layout.specs.declared.Settings.{Settings}
+use Rattle.yaml_emit_layout.specs.declared.Encoding.{Encoding}
+use Rattle.yaml_emit_layout.specs.declared.Encoding.TheVariants.{Utf8, Utf16Le, Utf16Be}
+use Rattle.yaml_emit_layout.specs.Text.{char_bytes}
+use Rattle.yaml_emit_layout.specs.Quoted.{needs_escape, escape_text}
+use Rattle.yaml_emit_layout.specs.Tags.{tag_spelling, uri_text}
 use Rattle.yaml_emit_layout.specs.Content.{Node, alias_node, scalar_node, sequence_node, mapping_node, Nodes, no_nodes, node, Pairs, no_pairs, pair, Document}
 use Rattle.yaml_emit_layout.specs.Grammar.{scalar_tag, start_tag}
 use Rattle.yaml_emit_layout.specs.Nodes.{Context, context_of}

@@ -9,7 +9,7 @@ use Rattle.yaml_scan_laws_texts.specs.scan_history.scan_words.Written.{HasAt, ar
 use Rattle.yaml_scan_laws_texts.specs.WordsLaws.{tag_line}
 use Rattle.yaml_emit_layout.specs.parse_model.Events.{TagDirective}
 use Rattle.yaml_parse_grammar.specs.Resolve.{resolved}
-use Rattle.yaml_emit_layout.specs.emit_tags.Tags.{Split, shorthand, verbatim, spelled, split_tag, tag_spelling, uri_text}
+use Rattle.yaml_emit_layout.specs.Tags.{Split, shorthand, verbatim, spelled, split_tag, tag_spelling, uri_text}
 use Rattle.yaml_emit_layout.specs.Content.{Opening}
 use Rattle.yaml_emit_layout.specs.Grammar.{opening_problem}
 

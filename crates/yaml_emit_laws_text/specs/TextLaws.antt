@@ -3,11 +3,11 @@ use Rattle.std.specs.Prelude.{◌≡◌, ℕ, ◌<◌, true, false, List, ◌∷
 use Rattle.yaml_emit_laws_text.specs.scan_model.declared.yaml_encoding_t.{yaml_encoding_t}
 use Rattle.yaml_emit_laws_text.specs.scan_model.Tokens.{TokenBody, Token, stream_start}
 use Rattle.yaml_emit_laws_text.specs.scan_history.Remaining.{SpelledText, offline}
-use Rattle.yaml_emit_laws_text.specs.emit_layout.emit_text.declared.Cursor.{Cursor}
-use Rattle.yaml_emit_laws_text.specs.emit_layout.emit_text.declared.Settings.{Settings}
-use Rattle.yaml_emit_laws_text.specs.emit_layout.emit_text.declared.Encoding.TheVariants.{Utf8}
-use Rattle.yaml_emit_laws_text.specs.emit_layout.emit_text.Text.{encode}
-use Rattle.yaml_emit_laws_text.specs.emit_layout.emit_text.Layout.{Rest, written}
+use Rattle.yaml_emit_laws_text.specs.emit_layout.declared.Cursor.{Cursor}
+use Rattle.yaml_emit_laws_text.specs.emit_layout.declared.Settings.{Settings}
+use Rattle.yaml_emit_laws_text.specs.emit_layout.declared.Encoding.TheVariants.{Utf8}
+use Rattle.yaml_emit_laws_text.specs.emit_layout.Text.{encode}
+use Rattle.yaml_emit_laws_text.specs.emit_layout.Layout.{Rest, written}
 use Rattle.yaml_emit_laws_text.specs.emit_layout.declared.level.NodePosition.{NodePosition}
 use Rattle.yaml_emit_laws_text.specs.emit_layout.Content.{Node, Opening, Document}
 use Rattle.yaml_emit_laws_text.specs.emit_layout.Nodes.{context_of, is_simple_part, node_layout, documents_layout}

@@ -7,10 +7,10 @@ use Rattle.yaml_emit_laws_text.specs.scan_history.scan_words.Written.{are_gap}
 use Rattle.yaml_emit_laws_text.specs.scan_history.declared.kind.Kind.{Kind}
 use Rattle.yaml_emit_laws_text.specs.scan_history.History.{reached, depth}
 use Rattle.yaml_emit_laws_text.specs.scan_laws_texts.KeysTexts.{Word, lexemes, WordsStand, word_kinds}
-use Rattle.yaml_emit_laws_text.specs.emit_layout.emit_text.declared.Cursor.{Cursor}
-use Rattle.yaml_emit_laws_text.specs.emit_layout.emit_text.declared.Encoding.TheVariants.{Utf8}
-use Rattle.yaml_emit_laws_text.specs.emit_layout.emit_text.Text.{Item, encode}
-use Rattle.yaml_emit_laws_text.specs.emit_layout.emit_text.Layout.{Layout, Rest}
+use Rattle.yaml_emit_laws_text.specs.emit_layout.declared.Cursor.{Cursor}
+use Rattle.yaml_emit_laws_text.specs.emit_layout.declared.Encoding.TheVariants.{Utf8}
+use Rattle.yaml_emit_laws_text.specs.emit_layout.Text.{Item, encode}
+use Rattle.yaml_emit_laws_text.specs.emit_layout.Layout.{Layout, Rest}
 
 -- the text has these bytes from the place on
 abbrev pub Has : List ℕ → ℕ → List ℕ → Type 0

@@ -1,9 +1,9 @@
 -- Whatever may come, its first event leads on.
 use Rattle.std.proofs.Common.{◌≡◌, List, [], ◌∷◌, Bool, true, false, refl, sym, subst, ap, Option, Some, None}
-use Rattle.yaml_emit_tags.specs.parse_model.Events.{TagDirective}
-use Rattle.yaml_emit_text.specs.declared.Cursor.{Cursor}
-use Rattle.yaml_emit_text.specs.declared.Settings.{Settings}
-use Rattle.yaml_emit_text.specs.Layout.{Rest}
+use Rattle.yaml_parse_model.specs.Events.{TagDirective}
+use Rattle.yaml_emit_layout.specs.declared.cursor.Cursor.{Cursor}
+use Rattle.yaml_emit_layout.specs.declared.settings.Settings.{Settings}
+use Rattle.yaml_emit_layout.specs.Layout.{Rest}
 use Rattle.yaml_emit_layout.specs.declared.level.Level.{Level}
 use Rattle.yaml_emit_layout.specs.declared.level.Phase.TheVariants.{Items, Keys}
 use Rattle.yaml_emit_layout.specs.declared.level.Expected.TheVariants as at

@@ -2,18 +2,18 @@
 use Rattle.std.proofs.Common.{◌≡◌, ℕ, List, [], ◌∷◌, refl, true, false, Bool, Some, None}
 use Rattle.std.specs.Prelude.{codes}
 use Rattle.std.specs.Str.{chars}
-use Rattle.yaml_emit_tags.specs.scan_model.declared.yaml_scalar_style_t.{yaml_scalar_style_t}
-use Rattle.yaml_emit_tags.specs.scan_model.declared.yaml_scalar_style_t.TheVariants as asked
-use Rattle.yaml_emit_tags.specs.scan_model.Classes.{is_alpha_byte, is_digit_byte, any_below}
-use Rattle.yaml_emit_text.specs.declared.Settings.{Settings}
-use Rattle.yaml_emit_text.specs.declared.Encoding.TheVariants.{Utf8}
-use Rattle.yaml_emit_text.specs.declared.LineBreak.TheVariants.{Lf}
-use Rattle.yaml_emit_text.specs.Text.{shown}
-use Rattle.yaml_emit_text.specs.Layout.{letters, blanks, line, text_of}
-use Rattle.yaml_emit_text.specs.Quoted.{needs_escape, escape_letter, escape_text, quoted_char, quoted_body}
-use Rattle.yaml_emit_text.specs.Hex.{hex_digit}
-use Rattle.yaml_emit_text.specs.Style.{somewhere, last_or, allowed, taken}
-use Rattle.yaml_emit_text.specs.Scalars.{flow_char, flow_body, behind_breaks, block_char, block_body, chomp, scalar_text}
+use Rattle.yaml_scan_model.specs.declared.yaml_scalar_style_t.{yaml_scalar_style_t}
+use Rattle.yaml_scan_model.specs.declared.yaml_scalar_style_t.TheVariants as asked
+use Rattle.yaml_scan_model.specs.Classes.{is_alpha_byte, is_digit_byte, any_below}
+use Rattle.yaml_emit_layout.specs.declared.settings.Settings.{Settings}
+use Rattle.yaml_emit_layout.specs.declared.settings.Encoding.TheVariants.{Utf8}
+use Rattle.yaml_emit_layout.specs.declared.settings.LineBreak.TheVariants.{Lf}
+use Rattle.yaml_emit_layout.specs.Text.{shown}
+use Rattle.yaml_emit_layout.specs.Layout.{letters, blanks, line, text_of}
+use Rattle.yaml_emit_layout.specs.Quoted.{needs_escape, escape_letter, escape_text, quoted_char, quoted_body}
+use Rattle.yaml_emit_layout.specs.Hex.{hex_digit}
+use Rattle.yaml_emit_layout.specs.Style.{somewhere, last_or, allowed, taken}
+use Rattle.yaml_emit_layout.specs.Scalars.{flow_char, flow_body, behind_breaks, block_char, block_body, chomp, scalar_text}
 use Rattle.yaml_emit_layout.specs.declared.problem.Problem.TheVariants as problem
 use Rattle.yaml_emit_layout.specs.Content.{Start, Node, scalar_node, sequence_node, mapping_node, no_nodes, node, no_pairs, pair, Document}
 use Rattle.yaml_emit_layout.specs.Grammar.{handle_problem, directives_problem}

@@ -1,14 +1,14 @@
 -- What a stream says, and the events that say it.
 use Rattle.std.specs.Prelude.{ℕ, Bool, true, false, List, [], ◌∷◌, Option}
-use Rattle.yaml_emit_tags.specs.scan_model.declared.yaml_encoding_t.{yaml_encoding_t}
-use Rattle.yaml_emit_tags.specs.scan_model.declared.yaml_scalar_style_t.{yaml_scalar_style_t}
-use Rattle.yaml_emit_tags.specs.scan_model.declared.yaml_sequence_style_t.{yaml_sequence_style_t}
-use Rattle.yaml_emit_tags.specs.scan_model.declared.yaml_sequence_style_t.TheVariants as sequence_style
-use Rattle.yaml_emit_tags.specs.scan_model.declared.yaml_mapping_style_t.{yaml_mapping_style_t}
-use Rattle.yaml_emit_tags.specs.scan_model.declared.yaml_mapping_style_t.TheVariants as mapping_style
-use Rattle.yaml_emit_tags.specs.scan_model.declared.yaml_version_directive_t.{yaml_version_directive_t}
-use Rattle.yaml_emit_tags.specs.parse_model.Events.{TagDirective, EventBody}
-use Rattle.yaml_emit_tags.specs.parse_model.Events as model
+use Rattle.yaml_scan_model.specs.declared.yaml_encoding_t.{yaml_encoding_t}
+use Rattle.yaml_scan_model.specs.declared.yaml_scalar_style_t.{yaml_scalar_style_t}
+use Rattle.yaml_scan_model.specs.declared.yaml_sequence_style_t.{yaml_sequence_style_t}
+use Rattle.yaml_scan_model.specs.declared.yaml_sequence_style_t.TheVariants as sequence_style
+use Rattle.yaml_scan_model.specs.declared.yaml_mapping_style_t.{yaml_mapping_style_t}
+use Rattle.yaml_scan_model.specs.declared.yaml_mapping_style_t.TheVariants as mapping_style
+use Rattle.yaml_scan_model.specs.declared.yaml_version_directive_t.{yaml_version_directive_t}
+use Rattle.yaml_parse_model.specs.Events.{TagDirective, EventBody}
+use Rattle.yaml_parse_model.specs.Events as model
 
 -- a scalar; texts are bytes of UTF-8
 pub record Scalar : Type 0 where

@@ -3,10 +3,10 @@ use Rattle.std.specs.Prelude.{ℕ, ◌-◌, Bool, true, false, not, ◌&&◌, �
 use Rattle.std.specs.Cmp.Lexicographic.{pointwise}
 use Rattle.std.specs.List.{list_all, list_any}
 use Rattle.std.specs.Ordering.{int_eq}
-use Rattle.yaml_emit_tags.specs.scan_model.Ascii as ascii
-use Rattle.yaml_emit_tags.specs.scan_model.Classes.{is_alpha_byte}
-use Rattle.yaml_emit_tags.specs.scan_model.declared.yaml_version_directive_t.{yaml_version_directive_t}
-use Rattle.yaml_emit_tags.specs.parse_model.Events.{TagDirective}
+use Rattle.yaml_scan_model.specs.Ascii as ascii
+use Rattle.yaml_scan_model.specs.Classes.{is_alpha_byte}
+use Rattle.yaml_scan_model.specs.declared.yaml_version_directive_t.{yaml_version_directive_t}
+use Rattle.yaml_parse_model.specs.Events.{TagDirective}
 use Rattle.yaml_emit_layout.specs.declared.problem.Problem.{Problem}
 use Rattle.yaml_emit_layout.specs.declared.problem.Problem.TheVariants as problem
 use Rattle.yaml_emit_layout.specs.declared.level.Level.{Level}

@@ -5,8 +5,21 @@ pub mod Nodes
 pub mod Streams
 pub mod State
 pub mod ToCome
+pub mod Settings
+pub mod Text
+pub mod Layout
+pub mod Appends
+pub mod Sink
+pub mod LineStarts
+pub mod Hex
+pub mod Laws
+pub mod Quoted
+pub mod Style
+pub mod Tame
+pub mod Scalars
+pub mod Runs
+pub mod Spelling
+pub mod Tags
 -- what it stands on, for crates of laws that name this one alone
-pub use Rattle.yaml_emit_text.specs as emit_text
-pub use Rattle.yaml_emit_tags.specs as emit_tags
-pub use Rattle.yaml_emit_tags.specs.scan_model
-pub use Rattle.yaml_emit_tags.specs.parse_model
+pub use Rattle.yaml_scan_model.specs as scan_model
+pub use Rattle.yaml_parse_model.specs as parse_model

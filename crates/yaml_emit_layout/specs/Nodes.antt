@@ -2,20 +2,20 @@
 use Rattle.std.specs.Prelude.{ℕ, ◌+◌, ◌-◌, Bool, true, false, not, ◌&&◌, ◌||◌, ◌==◌, nat_le, nat_lt, if◌then◌else◌, List, [], ◌∷◌, length, Option, Some, None, pos, codes}
 use Rattle.std.specs.Ordering.{int_eq}
 use Rattle.std.specs.Str.{chars}
-use Rattle.yaml_emit_tags.specs.scan_model.Ascii as ascii
-use Rattle.yaml_emit_tags.specs.scan_model.Classes.{has_break}
-use Rattle.yaml_emit_tags.specs.scan_model.declared.yaml_version_directive_t.{yaml_version_directive_t}
-use Rattle.yaml_emit_tags.specs.parse_model.Events.{TagDirective}
-use Rattle.yaml_emit_text.specs.declared.Cursor.{Cursor}
-use Rattle.yaml_emit_text.specs.declared.Settings.{Settings}
-use Rattle.yaml_emit_text.specs.declared.Page.{Page}
-use Rattle.yaml_emit_text.specs.declared.Style.{Style}
-use Rattle.yaml_emit_text.specs.declared.Style.TheVariants as style
-use Rattle.yaml_emit_text.specs.Text.{Item, deep}
-use Rattle.yaml_emit_text.specs.Style.{allowed, taken}
-use Rattle.yaml_emit_text.specs.Scalars.{scalar_text}
-use Rattle.yaml_emit_tags.specs.Tags.{tag_spelling, tag_size, uri_text}
-use Rattle.yaml_emit_text.specs.Layout.{Layout, ◌▹◌, stay, choose, when, char, word, indicator, opener, line, wrap, keep, order_mark}
+use Rattle.yaml_scan_model.specs.Ascii as ascii
+use Rattle.yaml_scan_model.specs.Classes.{has_break}
+use Rattle.yaml_scan_model.specs.declared.yaml_version_directive_t.{yaml_version_directive_t}
+use Rattle.yaml_parse_model.specs.Events.{TagDirective}
+use Rattle.yaml_emit_layout.specs.declared.cursor.Cursor.{Cursor}
+use Rattle.yaml_emit_layout.specs.declared.settings.Settings.{Settings}
+use Rattle.yaml_emit_layout.specs.declared.page.Page.{Page}
+use Rattle.yaml_emit_layout.specs.declared.page.Style.{Style}
+use Rattle.yaml_emit_layout.specs.declared.page.Style.TheVariants as style
+use Rattle.yaml_emit_layout.specs.Text.{Item, deep}
+use Rattle.yaml_emit_layout.specs.Style.{allowed, taken}
+use Rattle.yaml_emit_layout.specs.Scalars.{scalar_text}
+use Rattle.yaml_emit_layout.specs.Tags.{tag_spelling, tag_size, uri_text}
+use Rattle.yaml_emit_layout.specs.Layout.{Layout, ◌▹◌, stay, choose, when, char, word, indicator, opener, line, wrap, keep, order_mark}
 use Rattle.yaml_emit_layout.specs.declared.level.Part.{Part}
 use Rattle.yaml_emit_layout.specs.declared.level.Part.TheVariants as part
 use Rattle.yaml_emit_layout.specs.declared.level.NodePosition.{NodePosition}

@@ -1,10 +1,10 @@
 -- Where an emitter stands, and what it writes for an event.
 use Rattle.std.specs.Prelude.{ℕ, Bool, true, false, List, [], ◌∷◌, Option, Some, None}
-use Rattle.yaml_emit_tags.specs.scan_model.Ascii as ascii
-use Rattle.yaml_emit_tags.specs.parse_model.Events.{TagDirective}
-use Rattle.yaml_emit_text.specs.declared.Cursor.{Cursor}
-use Rattle.yaml_emit_text.specs.declared.Settings.{Settings}
-use Rattle.yaml_emit_text.specs.Layout.{Layout, ◌▹◌, stay, when, opener, order_mark}
+use Rattle.yaml_scan_model.specs.Ascii as ascii
+use Rattle.yaml_parse_model.specs.Events.{TagDirective}
+use Rattle.yaml_emit_layout.specs.declared.cursor.Cursor.{Cursor}
+use Rattle.yaml_emit_layout.specs.declared.settings.Settings.{Settings}
+use Rattle.yaml_emit_layout.specs.Layout.{Layout, ◌▹◌, stay, when, opener, order_mark}
 use Rattle.yaml_emit_layout.specs.declared.problem.Problem.{Problem}
 use Rattle.yaml_emit_layout.specs.declared.level.Part.{Part}
 use Rattle.yaml_emit_layout.specs.declared.level.Part.TheVariants as part

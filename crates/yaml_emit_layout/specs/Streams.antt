@@ -1,11 +1,11 @@
 -- What a stream is laid out as.
 use Rattle.std.specs.Prelude.{◌≡◌, List, None}
-use Rattle.yaml_emit_tags.specs.scan_model.declared.yaml_encoding_t.{yaml_encoding_t}
-use Rattle.yaml_emit_text.specs.declared.Encoding.{Encoding}
-use Rattle.yaml_emit_text.specs.declared.RequestedSettings.{RequestedSettings}
-use Rattle.yaml_emit_text.specs.Text.{Item}
-use Rattle.yaml_emit_text.specs.Layout.{written}
-use Rattle.yaml_emit_text.specs.Settings.{settled}
+use Rattle.yaml_scan_model.specs.declared.yaml_encoding_t.{yaml_encoding_t}
+use Rattle.yaml_emit_layout.specs.declared.settings.Encoding.{Encoding}
+use Rattle.yaml_emit_layout.specs.declared.settings.RequestedSettings.{RequestedSettings}
+use Rattle.yaml_emit_layout.specs.Text.{Item}
+use Rattle.yaml_emit_layout.specs.Layout.{written}
+use Rattle.yaml_emit_layout.specs.Settings.{settled}
 use Rattle.yaml_emit_layout.specs.Content.{Event, Document, stream_events}
 use Rattle.yaml_emit_layout.specs.Grammar.{own_problems}
 use Rattle.yaml_emit_layout.specs.Nodes.{stream_layout}

@@ -4,8 +4,18 @@
 //! behind another gives it.
 #![tactic(auto)]
 
+mod cursor;
+mod laws;
 mod level;
+mod page;
 mod problem;
+mod settings;
+mod split;
 
+pub use cursor::{Cursor, Status};
+pub use laws::{quoted_spells, utf8_encodes};
 pub use level::{Expected, Level, NodePosition, Part, Phase};
+pub use page::{Allowed, Chomp, Page, Seen, Style};
 pub use problem::{Problem, problem_text};
+pub use settings::{Encoding, LineBreak, RequestedSettings, Settings, settled};
+pub use split::SplitTag;

@@ -1,22 +1,21 @@
 -- What is seen of an emitter, what it completes, and what it tells.
 use Rattle.std.proofs.Common.{List, Bool, Option, option_map, ◌≡◌, ℕ, [], ◌∷◌, ◌++◌, true, false, refl, sym, subst, inl, inr, ◌∙◌, ap, Some, None, arith, append-nil}
 use Rattle.yaml_scan_model.specs.Faults.{Fault, fault_of, memory_fault, IsMemoryFault, emit_layers}
-use Rattle.yaml_emit_text.specs.declared.RequestedSettings.{RequestedSettings}
+use Rattle.yaml_emit_layout.specs.declared.RequestedSettings.{RequestedSettings}
 use Rattle.yaml_emit_layout.specs.Content.{Event, stream_start}
-use Rattle.yaml_emit_state.specs.declared.Core.{Core}
-use Rattle.yaml_emit_state.specs.Steps.{state_of, settings_of, goes_on, IsFreshCore}
+use Rattle.yaml_emit_core.specs.Steps.{Core, state_of, settings_of, goes_on, IsFreshCore}
 use Rattle.yaml_emit_machine.specs.declared.emitter.yaml_emitter_t.TheInside.{Inside}
 use Rattle.yaml_emit_machine.specs.Emitter.{Emitter, write_error, too_deep, problem_fault, memory_origin, fault_by, refusal_by, IsLimited, stream_encoding, CompletesBy, Completes, HasWritten, ShowsFront, Says}
 use Rattle.yaml_scan_model.specs.declared.yaml_encoding_t.{yaml_encoding_t}
-use Rattle.yaml_emit_text.specs.declared.Encoding.{Encoding}
-use Rattle.yaml_emit_text.specs.declared.Settings.{Settings}
-use Rattle.yaml_emit_text.specs.declared.Status.{Status}
-use Rattle.yaml_emit_text.specs.declared.Status.TheVariants.{Going, Full, Deep, Starved}
-use Rattle.yaml_emit_text.specs.Text.{Item, encode, is_deep, shallow}
-use Rattle.yaml_emit_text.specs.Settings.{settled}
-use Rattle.yaml_emit_text.specs.Sink.{Output, Ends, EndsBy}
-use Rattle.yaml_emit_text.specs.Layout.{Layout, stay, nothing_more, written}
-use Rattle.yaml_emit_text.proofs.Sinks.{deep_written}
+use Rattle.yaml_emit_layout.specs.declared.Encoding.{Encoding}
+use Rattle.yaml_emit_layout.specs.declared.Settings.{Settings}
+use Rattle.yaml_emit_layout.specs.declared.Status.{Status}
+use Rattle.yaml_emit_layout.specs.declared.Status.TheVariants.{Going, Full, Deep, Starved}
+use Rattle.yaml_emit_layout.specs.Text.{Item, encode, is_deep, shallow}
+use Rattle.yaml_emit_layout.specs.Settings.{settled}
+use Rattle.yaml_emit_layout.specs.Sink.{Output, Ends, EndsBy}
+use Rattle.yaml_emit_layout.specs.Layout.{Layout, stay, nothing_more, written}
+use Rattle.yaml_emit_layout.proofs.Sinks.{deep_written}
 use Rattle.yaml_emit_layout.specs.declared.Problem.{Problem}
 use Rattle.yaml_emit_layout.specs.declared.Expected.TheVariants as at
 use Rattle.yaml_emit_layout.specs.Grammar.{own_problems, or_else}
@@ -24,14 +23,14 @@ use Rattle.yaml_emit_layout.specs.Nodes.{stream_layout}
 use Rattle.yaml_emit_layout.specs.State.{State}
 use Rattle.yaml_emit_layout.specs.ToCome.{ToCome, frames, levels_of, layout}
 use Rattle.yaml_emit_layout.specs.ToCome as come
-use Rattle.yaml_emit_state.specs.Finish.{Finishes, FinishesAt, FinishesBy}
-use Rattle.yaml_emit_state.proofs.Finishing.{fresh_finishes}
+use Rattle.yaml_emit_core.specs.Finish.{Finishes, FinishesAt, FinishesBy}
+use Rattle.yaml_emit_core.proofs.Finishing.{fresh_finishes}
 use Rattle.yaml_emit_layout.specs.Streams.{IsStream}
 use Rattle.yaml_emit_machine.proofs.Judging.{going_open, goes_going, open_goes, or_some, unless_some, held_stays}
 use Rattle.yaml_emit_machine.specs.Views.{emitter_of, IsEmitter}
 use Rattle.yaml_emit_machine.specs.Judged.{refused_at, let_out, unless, laid, refusal_behind, LetsOut, first_wrong, LaysAll}
 use Rattle.yaml_emit_machine.proofs.Ending.{IsAll, all_by}
-use Rattle.yaml_emit_text.specs.declared.Cursor.{Cursor}
+use Rattle.yaml_emit_layout.specs.declared.Cursor.{Cursor}
 use Rattle.yaml_emit_machine.specs.Held.{held_events, is_ready}
 use Rattle.yaml_emit_layout.specs.Progress.{Progress, first_refusal}
 use Rattle.yaml_emit_machine.specs.Verdict.{verdict, Writes, wrong, Lays, HasLetOut, TellsOutcome}

@@ -3,16 +3,16 @@
 use Rattle.std.proofs.Common.{◌≡◌, ◌+◌, ◌≤◌, List, [], ◌∷◌, ◌++◌, length, Bool, true, false, refl, sym, subst, ◌∙◌, ap, arith, append-nil}
 use Rattle.std.specs.Prelude.{nat_le}
 use Rattle.std.proofs.Math.Bool.{or-true}
-use Rattle.yaml_emit_text.specs.declared.Encoding.{Encoding}
-use Rattle.yaml_emit_text.specs.declared.Settings.{Settings}
-use Rattle.yaml_emit_text.specs.declared.Status.{Status}
-use Rattle.yaml_emit_text.specs.declared.Status.TheVariants.{Going}
-use Rattle.yaml_emit_text.specs.Text.{Item, encode, is_deep}
-use Rattle.yaml_emit_text.specs.Sink.{Output, Ends}
+use Rattle.yaml_emit_layout.specs.declared.Encoding.{Encoding}
+use Rattle.yaml_emit_layout.specs.declared.Settings.{Settings}
+use Rattle.yaml_emit_layout.specs.declared.Status.{Status}
+use Rattle.yaml_emit_layout.specs.declared.Status.TheVariants.{Going}
+use Rattle.yaml_emit_layout.specs.Text.{Item, encode, is_deep}
+use Rattle.yaml_emit_layout.specs.Sink.{Output, Ends}
 use Rattle.yaml_emit_layout.specs.Content.{Event, Opening, Start, stream_start, stream_end, document_start, document_end, alias, scalar, sequence_start, mapping_start, Node, alias_node, scalar_node, sequence_node, mapping_node, Nodes, no_nodes, node, Pairs, no_pairs, pair, Document, sequence_end, mapping_end, node_events, items_events, pairs_events, documents_events}
 use Rattle.yaml_emit_layout.specs.State.{State}
 use Rattle.yaml_emit_layout.specs.ToCome.{ToCome, stream, documents, root, frames, nothing, Frame, items_left, pairs_left, value_left, events, frame_events, frames_events, ending_events, layout}
-use Rattle.yaml_emit_state.specs.Finish.{Finishes, FinishesAt}
+use Rattle.yaml_emit_core.specs.Finish.{Finishes, FinishesAt}
 use Rattle.yaml_emit_machine.specs.Held.{is_ready, needs}
 use Rattle.yaml_emit_machine.specs.Emitter.{Emitter, text_of, CompletesBy}
 use Rattle.yaml_emit_machine.specs.Within.{Fits}

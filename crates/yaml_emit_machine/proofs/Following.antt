@@ -1,21 +1,18 @@
 -- Events that are laid out one after another.
 use Rattle.std.proofs.Common.{◌≡◌, ◌⊎◌, inl, inr, zero, suc, ◌+◌, List, [], ◌∷◌, ◌++◌, Bool, true, false, refl, sym, ◌∙◌, ap, arith, None}
-use Rattle.std.specs.Prelude.{not}
-use Rattle.std.proofs.lemmas.Bool.{false≢true, not-true, or_parts}
-use Rattle.yaml_emit_text.specs.declared.Status.TheVariants.{Going}
-use Rattle.yaml_emit_text.specs.declared.Cursor.{Cursor}
-use Rattle.yaml_emit_text.specs.Layout.{stay}
-use Rattle.yaml_emit_text.proofs.Sinks.{grows_none, grows_both}
+use Rattle.std.proofs.lemmas.Bool.{false≢true, or_parts}
+use Rattle.yaml_emit_layout.specs.declared.Status.TheVariants.{Going}
+use Rattle.yaml_emit_layout.specs.declared.Cursor.{Cursor}
+use Rattle.yaml_emit_layout.specs.Layout.{stay}
+use Rattle.yaml_emit_layout.proofs.Sinks.{grows_none, grows_both}
 use Rattle.yaml_emit_layout.specs.Content.{Event, sequence_start, mapping_start}
 use Rattle.yaml_emit_layout.specs.State.{piece, next, problem_at, opens_empty}
-use Rattle.yaml_emit_state.specs.declared.Core.{Core}
-use Rattle.yaml_emit_state.specs.Steps.{state_of, settings_of, next_state, next_piece, LaysOut, IsPut, IsSame, takes_memory, is_document_start, goes_on}
-use Rattle.yaml_emit_state.proofs.Finishing.{finishes_on}
-use Rattle.yaml_emit_state.proofs.Noting.{notes_both, notes_within}
-use Rattle.yaml_emit_state.proofs.Settled.{settled}
-use Rattle.yaml_emit_machine.specs.Held.{is_ready, passes_by}
+use Rattle.yaml_emit_core.specs.Steps.{Core, state_of, settings_of, next_state, next_piece, LaysOut, IsPut, IsSame, takes_memory, is_document_start, goes_on}
+use Rattle.yaml_emit_core.proofs.Finishing.{finishes_on}
+use Rattle.yaml_emit_core.proofs.Noting.{notes_both, notes_within}
+use Rattle.yaml_emit_machine.specs.Held.{is_ready, passes}
 use Rattle.yaml_emit_machine.specs.Judged.{refused_at, take_memory, first_takes, first_starts, RefusesHeld}
-use Rattle.yaml_emit_machine.specs.Laying.{HasLaid, LaysEvents, is_undecided_at}
+use Rattle.yaml_emit_machine.specs.Laying.{HasLaid, LaysEvents}
 use Rattle.yaml_emit_machine.proofs.Opening.{opens_none}
 use Rattle.yaml_emit_machine.proofs.Holding.{ready_empty}
 use Rattle.yaml_emit_machine.proofs.Judging.{ready_more, going_open, goes_going, text_step, some_step, some_one, some_none, going_notes, noted_takes, drop_next, refusal_on, wrong_on, lays_first}
@@ -55,11 +52,11 @@ told _ z f es = refl
 
 -- ---- one after another
 
-pub lays_none : (exact : Bool) (a : Core) (h : List Event) → LaysEvents exact a h a h
-lays_none exact a h = record {
+pub lays_none : (a : Core) (h : List Event) → LaysEvents a h a h
+lays_none a h = record {
   finishes = λ es whole f. f;
-  refuses = λ t g es. refl;
-  lets_out = λ t es whole f. f;
+  refuses = λ g es. refl;
+  lets_out = λ es whole f. f;
   first = λ g es. refl;
   lays = λ es whole f. f;
   grows = grows_none a.sink.bytes;
@@ -75,20 +72,20 @@ lays_none exact a h = record {
 }
 
 -- which of the events it was, and what stands in the output then
-blamed : (exact : Bool) (a b c : Core) (h y : List Event) (e : Event) (empty : Bool)
-    → LaysEvents exact a h b (e ∷ y) → refused_at b.place ≡ None → b.sink.status ≡ Going
+blamed : (a b c : Core) (h y : List Event) (e : Event) (empty : Bool)
+    → LaysEvents a h b (e ∷ y) → refused_at b.place ≡ None → b.sink.status ≡ Going
     → Settles b e empty y → takes_memory e ≡ true
     → (IsPut b.sink c.sink (next_piece (problem_at (settings_of b) (state_of b) e)
     (piece (settings_of b) (state_of b) e empty))
     ⊎ ((is_document_start e ≡ true) × IsPut b.sink c.sink stay))
     → RefusesHeld h (HasLaid a h c.sink.bytes)
-blamed exact a b c h y e empty p o g is takes (inl put) = record {
+blamed a b c h y e empty p o g is takes (inl put) = record {
   front = p.laid;
   takes = ap first_takes p.rest ∙ takes;
   stands = inl (λ es whole f.
       rw (← p.encoding) (put whole (rw (is es).0 (some_one (settings_of b) (state_of b) b.sink e (y ++ es) whole o (p.some g (suc p.laid) (suc zero) (omega arith) es whole f)))));
 }
-blamed exact a b c h y e empty p o g is takes (inr put) = record {
+blamed a b c h y e empty p o g is takes (inr put) = record {
   front = p.laid;
   takes = ap first_takes p.rest ∙ takes;
   stands = inr (
@@ -98,17 +95,17 @@ blamed exact a b c h y e empty p o g is takes (inr put) = record {
   );
 }
 
-lays_more : (exact : Bool) (a b c : Core) (h y : List Event) (e : Event) (empty : Bool)
-    → LaysEvents exact a h b (e ∷ y) → goes_on b.sink.status b.place ≡ true
-    → (exact ≡ true → is_ready (e ∷ y) ≡ true)
-    → Settles b e empty y → LaysOut b c e empty → LaysEvents exact a h c y
-lays_more exact a b c h y e empty p goes r is l =
+lays_more : (a b c : Core) (h y : List Event) (e : Event) (empty : Bool)
+    → LaysEvents a h b (e ∷ y) → goes_on b.sink.status b.place ≡ true
+    → is_ready (e ∷ y) ≡ true
+    → Settles b e empty y → LaysOut b c e empty → LaysEvents a h c y
+lays_more a b c h y e empty p goes r is l =
     let o : refused_at b.place ≡ None = going_open b.sink.status b.place goes in
     let laid : (es : List Event) → LaysOut b c e (opens_empty e (y ++ es)) = λ es. lays_either b c e empty (opens_empty e (y ++ es)) (is es) l in
     record {
       finishes = λ es whole f. finishes_on b c e (y ++ es) whole (laid es) (p.finishes es whole f);
-      refuses = λ t g es. refusal_on b c e (y ++ es) empty o (ready_more e y es (r t)) l g ∙ p.refuses t (l.text.going g) es;
-      lets_out = λ t es whole f. text_step b c e (y ++ es) whole o (ready_more e y es (r t)) (laid es) (p.lets_out t es whole f);
+      refuses = λ g es. refusal_on b c e (y ++ es) empty o (ready_more e y es r) l g ∙ p.refuses (l.text.going g) es;
+      lets_out = λ es whole f. text_step b c e (y ++ es) whole o (ready_more e y es r) (laid es) (p.lets_out es whole f);
       first = λ g es. wrong_on b c e (y ++ es) empty o l g ∙ p.first (l.text.going g) es;
       lays = λ es whole f. lays_first b c e (y ++ es) whole o (laid es) (p.lays es whole f);
       grows = grows_both a.sink.bytes b.sink.bytes c.sink.bytes p.grows l.text.grows;
@@ -126,33 +123,29 @@ lays_more exact a b c h y e empty p goes r is l =
           let on_still : b.sink.status ≡ Going = goes_going b.sink.status b.place goes in
           let off' : b.starved ≡ false = p.memory (going_notes (take_memory h) a.sink.status b.sink.status on_still) ∙ off in
           let takes : takes_memory e ≡ true = noted_takes (takes_memory e) b.sink.status c.sink.status b.starved c.starved off' on l.memory in
-          blamed exact a b c h y e empty p o on_still is takes (l.blames.levels on_still off' on);
+          blamed a b c h y e empty p o on_still is takes (l.blames.levels on_still off' on);
     }
 
 -- the oldest of those that are held, with an event behind them
-pub lays_oldest : (exact : Bool) (a b c : Core) (h held new z : List Event) (e f : Event)
-    → LaysEvents exact a h b (held ++ f ∷ []) → held ≡ e ∷ z → new ≡ z
-    → goes_on b.sink.status b.place ≡ true → (exact ≡ true → is_ready (held ++ f ∷ []) ≡ true)
-    → LaysOut b c e (opens_empty e (z ++ f ∷ [])) → LaysEvents exact a h c (new ++ f ∷ [])
-lays_oldest exact a b c h held new z e f p same n goes r l =
-    rw n (lays_more exact a b c h (z ++ f ∷ []) e _ (rw same at p) goes (rw same at r) (settles_by b e _ (z ++ f ∷ []) (λ es. told e z f es)) l)
+pub lays_oldest : (a b c : Core) (h held new z : List Event) (e f : Event)
+    → LaysEvents a h b (held ++ f ∷ []) → held ≡ e ∷ z → new ≡ z
+    → goes_on b.sink.status b.place ≡ true → is_ready (held ++ f ∷ []) ≡ true
+    → LaysOut b c e (opens_empty e (z ++ f ∷ [])) → LaysEvents a h c (new ++ f ∷ [])
+lays_oldest a b c h held new z e f p same n goes r l =
+    rw n (lays_more a b c h (z ++ f ∷ []) e _ (rw same at p) goes (rw same at r) (settles_by b e _ (z ++ f ∷ []) (λ es. told e z f es)) l)
 
 -- an event that isn't held
-pub lays_past : (early : Bool) (a b c : Core) (x h : List Event) (e : Event)
-    → LaysEvents (not early) a x b (h ++ e ∷ []) → goes_on b.sink.status b.place ≡ true
-    → passes_by early h (is_undecided_at b e) e ≡ true → LaysOut b c e false
-    → LaysEvents (not early) a x c h
-lays_past false a b c x [] e j g p l =
-    lays_more true a b c x [] e false j g (λ t. p) (settles_by b e false [] (λ es. sym (ready_empty e [] es p ∙ opens_none e))) l
-lays_past true a b c x [] e j g p l =
-    lays_more false a b c x [] e false j g (λ t. absurd (false≢true t)) (λ es. settled (settings_of b) (state_of b) e false (opens_empty e es) (not-true (is_undecided_at b e) p)) l
-lays_past false a b c x (f ∷ fs) e j g p l = absurd (cc)
-lays_past true a b c x (f ∷ fs) e j g p l = absurd (cc)
+pub lays_past : (a b c : Core) (x h : List Event) (e : Event) → LaysEvents a x b (h ++ e ∷ [])
+    → goes_on b.sink.status b.place ≡ true → passes h e ≡ true → LaysOut b c e false
+    → LaysEvents a x c h
+lays_past a b c x [] e j g p l =
+    lays_more a b c x [] e false j g p (settles_by b e false [] (λ es. sym (ready_empty e [] es p ∙ opens_none e))) l
+lays_past a b c x (f ∷ fs) e j g p l = absurd (cc)
 
 -- ---- memory
 
 -- while the output goes on, none was refused outside it
-pub lays_unnoted : (exact : Bool) (old new : Core) (before after : List Event)
-    → LaysEvents exact old before new after → (old.sink.status ≡ Going → old.starved ≡ false) → new.sink.status ≡ Going
+pub lays_unnoted : (old new : Core) (before after : List Event)
+    → LaysEvents old before new after → (old.sink.status ≡ Going → old.starved ≡ false) → new.sink.status ≡ Going
     → new.starved ≡ false
-lays_unnoted exact old new before after j n g = j.memory (going_notes _ old.sink.status new.sink.status g) ∙ n (j.going g)
+lays_unnoted old new before after j n g = j.memory (going_notes _ old.sink.status new.sink.status g) ∙ n (j.going g)

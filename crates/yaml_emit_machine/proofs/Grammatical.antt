@@ -1,7 +1,7 @@
 -- Of a stream in which nothing is wrong no event is refused.
 use Rattle.std.proofs.Common.{◌≡◌, List, [], ◌∷◌, ◌++◌, Bool, refl, sym, ◌∙◌, ap, None}
-use Rattle.yaml_emit_text.specs.declared.Settings.{Settings}
-use Rattle.yaml_emit_text.specs.Layout.{start}
+use Rattle.yaml_emit_layout.specs.declared.Settings.{Settings}
+use Rattle.yaml_emit_layout.specs.Layout.{start}
 use Rattle.yaml_emit_layout.specs.Content.{Event}
 use Rattle.yaml_emit_layout.specs.Grammar.{event_problem, last_problem, place_problem, problem_by, own_problem, own_problems}
 use Rattle.yaml_emit_layout.specs.State.{State, opens_empty, problem_at, top_of}
@@ -11,7 +11,7 @@ use Rattle.yaml_emit_layout.proofs.LeadsOn.{goes}
 use Rattle.yaml_emit_layout.specs.Progress.{progress_after, problem_in, first_refusal, PassesStreams}
 use Rattle.yaml_emit_machine.specs.Judged.{shape_of}
 use Rattle.yaml_emit_machine.proofs.Judging.{or_none, same_problem, shape_next}
-use Rattle.yaml_emit_state.proofs.Finishing.{or_else_none}
+use Rattle.yaml_emit_core.proofs.Finishing.{or_else_none}
 
 -- Of events whose contents are right the first is, and so are the others.
 pub first_right : (canonical : Bool) (e : Event) (es : List Event)

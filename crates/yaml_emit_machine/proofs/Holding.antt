@@ -1,16 +1,14 @@
 -- What is held, and when it is laid out: the last events that were given.
 use Rattle.std.proofs.Common.{◌≡◌, ◌+◌, List, [], ◌∷◌, ◌++◌, length, Bool, true, false, refl, sym, ◌∙◌, ap, arith, append_assoc}
-use Rattle.std.specs.Prelude.{not, ◌||◌, ◌&&◌, ◌≤◌, Option, map}
-use Rattle.std.proofs.lemmas.Bool.{false≢true, le-leb, not-false}
+use Rattle.std.specs.Prelude.{◌||◌, ◌&&◌, ◌≤◌, map}
+use Rattle.std.proofs.lemmas.Bool.{le-leb}
 use Rattle.yaml_emit_layout.specs.Content.{Event, no_event, sequence_start, mapping_start, emitter_event}
 use Rattle.yaml_emit_layout.specs.State.{opens_empty}
-use Rattle.yaml_emit_layout.specs.declared.Level.{Level}
-use Rattle.yaml_emit_state.specs.Due.{is_undecided}
 use Rattle.yaml_parse_model.specs.Events.{EventBody, body_of}
 use Rattle.yaml_emit_machine.specs.declared.held.Held.{Held}
 use Rattle.yaml_emit_machine.specs.declared.held.Count.{Count}
 use Rattle.yaml_emit_machine.specs.declared.held.Count.TheVariants.{Nothing}
-use Rattle.yaml_emit_machine.specs.Held.{is_ready, needs, closes, ends_level, releases, releases_by, passes, passes_early, passes_by, are_some, back, all_held, later_bodies, held_events, oldest_event, later_events, AreLast}
+use Rattle.yaml_emit_machine.specs.Held.{is_ready, needs, closes, ends_level, releases, passes, are_some, back, all_held, later_bodies, held_events, oldest_event, later_events, AreLast}
 use Rattle.std.proofs.lemmas.List.{append-nil}
 
 -- Whether an event opens an empty collection is told by what has come, once it is ready: what follows changes nothing.
@@ -62,17 +60,10 @@ pub released_ready : (xs : List Event) (f : Event) → releases xs f ≡ true
 released_ready [] f h = absurd (cc)
 released_ready (e ∷ es) f h = h
 
--- what is let out is held, and, where it comes as it is ready, it is
-pub some_released : (early : Bool) (xs : List Event) (f : Event) → releases_by early xs f ≡ true
-    → are_some xs ≡ true
-some_released true xs f h = h
-some_released false [] f h = absurd (cc)
-some_released false (e ∷ es) f h = refl
-
-pub exact_released : (early : Bool) (xs : List Event) (f : Event) → releases_by early xs f ≡ true
-    → not early ≡ true → is_ready (xs ++ f ∷ []) ≡ true
-exact_released false xs f h t = released_ready xs f h
-exact_released true xs f h t = absurd (false≢true t)
+-- what is let out is held
+pub some_released : (xs : List Event) (f : Event) → releases xs f ≡ true → are_some xs ≡ true
+some_released [] f h = absurd (cc)
+some_released (e ∷ es) f h = refl
 
 -- an event that neither releases others nor passes is held behind them
 pub pushed_waits : (xs ys : List Event) (f : Event) → ys ≡ xs ++ f ∷ [] → releases xs f ≡ false
@@ -88,29 +79,6 @@ none_waits = refl
 pub passed_waits : (xs : List Event) (f : Event) → passes xs f ≡ true → is_ready xs ≡ false
 passed_waits [] f h = none_waits
 passed_waits (e ∷ es) f h = absurd (cc)
-
-pub passed_by_waits : (early : Bool) (xs : List Event) (undecided : Bool) (f : Event)
-    → passes_by early xs undecided f ≡ true → is_ready xs ≡ false
-passed_by_waits false xs undecided f h = passed_waits xs f h
-passed_by_waits true [] undecided f h = none_waits
-passed_by_waits true (e ∷ es) undecided f h = absurd (cc)
-
--- an event that the next one may decide waits for it
-undecided_waits : (canonical : Bool) (top : Option Level) (f : Event)
-    → is_undecided canonical top f ≡ true → is_ready (f ∷ []) ≡ false
-unfolding is_ready
-undecided_waits canonical top (sequence_start p) h = refl
-undecided_waits canonical top (mapping_start p) h = refl
-undecided_waits canonical top _ h = absurd (cc)
-
--- the same of one that comes early
-pub pushed_by_waits : (early : Bool) (xs ys : List Event) (canonical : Bool) (top : Option Level)
-    (f : Event) → ys ≡ xs ++ f ∷ [] → releases_by early xs f ≡ false
-    → passes_by early xs (is_undecided canonical top f) f ≡ false → is_ready ys ≡ false
-pushed_by_waits false xs ys canonical top f same r p = pushed_waits xs ys f same r p
-pushed_by_waits true [] ys canonical top f same r p =
-    ap is_ready same ∙ undecided_waits canonical top f (not-false (is_undecided canonical top f) p)
-pushed_by_waits true (e ∷ es) ys canonical top f same r p = absurd (cc)
 
 first_held : (k : Count) (a : EventBody) (bs : List EventBody)
     → are_some (map emitter_event (all_held k a bs)) ≡ true → all_held k a bs ≡ a ∷ bs
@@ -137,22 +105,15 @@ one_less h xs e same =
     let less = rw same at most in
     omega (arith, less)
 
--- where nothing is held, and nothing is decided behind it
-pub passes_decided : (held : List Event) (undecided : Bool) → are_some held ≡ false
-    → undecided ≡ false → passes_early held undecided ≡ true
-passes_decided held undecided h u = rw (h, u) refl
-
 -- the oldest is gone
 pub last_less : (all held left : List Event) (e : Event) → AreLast all held → held ≡ e ∷ left
     → AreLast all left
 last_less all held left e l h = (l.0 ++ e ∷ [], l.1 ∙ ap (λ z. l.0 ++ z) h ∙ sym (append_assoc l.0 (e ∷ []) left))
 
 -- an event needn't be held, and none is
-pub last_passed : (early : Bool) (all held : List Event) (undecided : Bool) (e : Event)
-    → passes_by early held undecided e ≡ true → AreLast all held
-last_passed early all [] undecided e h = (all, sym (append-nil all))
-last_passed true all (f ∷ fs) undecided e h = absurd (cc)
-last_passed false all (f ∷ fs) undecided e h = absurd (cc)
+pub last_passed : (all held : List Event) (e : Event) → passes held e ≡ true → AreLast all held
+last_passed all [] e h = (all, sym (append-nil all))
+last_passed all (f ∷ fs) e h = absurd (cc)
 
 -- it is held behind the others
 pub last_pushed : (all held new : List Event) (e : Event) → AreLast all held → new ≡ held ++ e ∷ []

@@ -4,14 +4,14 @@ use Rattle.std.specs.Prelude.{not, nat_le, ◌||◌, ◌&&◌}
 use Rattle.std.proofs.lemmas.Bool.Decides.{nat_tests}
 use Rattle.std.proofs.lemmas.Bool.{false≢true, or_right}
 use Rattle.yaml_parse_model.specs.Events.{TagDirective}
-use Rattle.yaml_emit_text.specs.declared.Cursor.{Cursor}
-use Rattle.yaml_emit_text.specs.declared.Settings.{Settings}
-use Rattle.yaml_emit_text.specs.declared.Status.{Status}
-use Rattle.yaml_emit_text.specs.declared.Status.TheVariants.{Going}
-use Rattle.yaml_emit_text.specs.Text.{Item}
-use Rattle.yaml_emit_text.specs.Layout.{Layout, Rest, nothing_more}
-use Rattle.yaml_emit_text.specs.Sink.{Output, Ends}
-use Rattle.yaml_emit_text.proofs.Sinks.{ends_other, status_cases}
+use Rattle.yaml_emit_layout.specs.declared.Cursor.{Cursor}
+use Rattle.yaml_emit_layout.specs.declared.Settings.{Settings}
+use Rattle.yaml_emit_layout.specs.declared.Status.{Status}
+use Rattle.yaml_emit_layout.specs.declared.Status.TheVariants.{Going}
+use Rattle.yaml_emit_layout.specs.Text.{Item}
+use Rattle.yaml_emit_layout.specs.Layout.{Layout, Rest, nothing_more}
+use Rattle.yaml_emit_layout.specs.Sink.{Output, Ends}
+use Rattle.yaml_emit_layout.proofs.Sinks.{ends_other, status_cases}
 use Rattle.yaml_emit_layout.specs.declared.Problem.{Problem}
 use Rattle.yaml_emit_layout.specs.declared.Level.{Level}
 use Rattle.yaml_emit_layout.specs.declared.Phase.{Phase}
@@ -22,9 +22,8 @@ use Rattle.yaml_emit_layout.specs.Content.{Event, no_event, alias, scalar, seque
 use Rattle.yaml_emit_layout.specs.Grammar.{or_else, ends_phase, begins_node, may_come, place_problem, problem_by, event_problem, last_problem}
 use Rattle.yaml_emit_layout.specs.Nodes.{Context, context_of}
 use Rattle.yaml_emit_layout.specs.State.{State, piece, next, next_at, problem_at, opens_empty, begins_by, is_sequence_end, is_mapping_end, top_of, outer_of, place_at, among, levels_behind, phase_behind}
-use Rattle.yaml_emit_state.specs.declared.Core.{Core}
-use Rattle.yaml_emit_state.specs.Steps.{state_of, settings_of, next_state, next_piece, LaysOut, may_note, goes_on}
-use Rattle.yaml_emit_state.proofs.Finishing.{same_settings}
+use Rattle.yaml_emit_core.specs.Steps.{Core, state_of, settings_of, next_state, next_piece, LaysOut, may_note, goes_on}
+use Rattle.yaml_emit_core.proofs.Finishing.{same_settings}
 use Rattle.yaml_emit_machine.specs.Held.{is_ready, needs, closes, opens_level, ends_level}
 use Rattle.yaml_emit_layout.specs.Progress.{Due, item_due, key_due, progress_after, inside, behind_node, outer_due, phase_due, level_due, problem_in, first_refusal}
 use Rattle.yaml_emit_machine.specs.Judged.{let_out, unless, laid, refused_at, due_in, due_of, shape_of, refusal_among, refusal_behind, LetsOut, first_wrong, LaysAll, laid_some, LaysSome}

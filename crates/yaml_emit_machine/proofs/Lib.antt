@@ -1,4 +1,4 @@
-pub use Rattle.yaml_emit_state.proofs.Seeing
+pub use Rattle.yaml_emit_core.proofs.Seeing
 pub mod Opening
 pub mod Holding
 pub mod Judging
@@ -9,6 +9,7 @@ pub mod Ending
 pub mod Emitting
 pub mod Taking
 pub mod Blaming
-pub mod Earlier
+pub mod Dumped
 pub mod Opened
-pub use Rattle.yaml_emit_state.proofs.Finishing
+pub use Rattle.yaml_emit_core.proofs.Finishing
+pub mod Stands

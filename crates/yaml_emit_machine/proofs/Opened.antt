@@ -1,22 +1,21 @@
 -- How a dump is taken, event by event, and how far it has opened the stream.
 use Rattle.std.proofs.Common.{◌≡◌, ◌≢◌, List, [], Bool, true, false, ◌∙◌, Option, ◌++◌, refl}
 use Rattle.yaml_scan_model.specs.Faults.{Fault}
-use Rattle.yaml_emit_text.specs.declared.Status.{Status}
-use Rattle.yaml_emit_text.specs.declared.Status.TheVariants.{Going}
-use Rattle.yaml_emit_text.specs.Text.{Item}
+use Rattle.yaml_emit_layout.specs.declared.Status.{Status}
+use Rattle.yaml_emit_layout.specs.declared.Status.TheVariants.{Going}
+use Rattle.yaml_emit_layout.specs.Text.{Item}
 use Rattle.yaml_emit_layout.specs.Content.{Event}
 use Rattle.yaml_emit_machine.specs.Emitter.{Emitter, Completes, opening_events}
 use Rattle.yaml_emit_machine.specs.Verdict.{Writes, Lays}
 use Rattle.yaml_emit_machine.specs.Taking.{TakesEvents}
 pub use Rattle.yaml_emit_machine.proofs.Emitting.{none_by}
 use Rattle.std.proofs.lemmas.Bool.{false≢true}
-use Rattle.yaml_emit_text.specs.declared.Settings.{Settings}
-use Rattle.yaml_emit_text.specs.Layout.{Layout, stay, nothing_more}
-use Rattle.yaml_emit_text.specs.Sink.{Output, Ends}
+use Rattle.yaml_emit_layout.specs.declared.Settings.{Settings}
+use Rattle.yaml_emit_layout.specs.Layout.{Layout, stay, nothing_more}
+use Rattle.yaml_emit_layout.specs.Sink.{Output, Ends}
 use Rattle.yaml_emit_layout.specs.State.{State}
-use Rattle.yaml_emit_state.specs.declared.Core.{Core}
-use Rattle.yaml_emit_state.specs.Steps.{Starves, state_of, settings_of}
-use Rattle.yaml_emit_state.specs.Finish.{Finishes, FinishesAt}
+use Rattle.yaml_emit_core.specs.Steps.{Core, Starves, state_of, settings_of}
+use Rattle.yaml_emit_core.specs.Finish.{Finishes, FinishesAt}
 use Rattle.yaml_emit_machine.specs.declared.emitter.yaml_emitter_t.TheInside.{Inside}
 use Rattle.yaml_emit_machine.specs.Held.{held_events}
 use Rattle.yaml_emit_machine.specs.Judged.{text_among, LetsOut, LaysAll, let_out}

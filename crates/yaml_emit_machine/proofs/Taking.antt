@@ -3,24 +3,23 @@ use Rattle.std.proofs.Common.{◌≡◌, List, [], ◌∷◌, ◌++◌, Bool, tr
 use Rattle.std.proofs.lemmas.Bool.{false≢true}
 use Rattle.yaml_scan_model.specs.Faults.{Fault, fault_of}
 use Rattle.yaml_scan_model.specs.declared.yaml_encoding_t.{yaml_encoding_t}
-use Rattle.yaml_emit_text.specs.declared.Cursor.{Cursor}
-use Rattle.yaml_emit_text.specs.declared.Encoding.{Encoding}
-use Rattle.yaml_emit_text.specs.declared.Settings.{Settings}
-use Rattle.yaml_emit_text.specs.declared.Status.{Status}
-use Rattle.yaml_emit_text.specs.declared.Status.TheVariants.{Going}
-use Rattle.yaml_emit_text.specs.Text.{Item}
-use Rattle.yaml_emit_text.specs.Settings.{settled}
-use Rattle.yaml_emit_text.specs.Layout.{Layout, nothing_more, written}
-use Rattle.yaml_emit_text.specs.Sink.{Output, Ends}
-use Rattle.yaml_emit_text.proofs.Sinks.{grows_none, grows_both, grows_same, ends_other, status_cases}
+use Rattle.yaml_emit_layout.specs.declared.Cursor.{Cursor}
+use Rattle.yaml_emit_layout.specs.declared.Encoding.{Encoding}
+use Rattle.yaml_emit_layout.specs.declared.Settings.{Settings}
+use Rattle.yaml_emit_layout.specs.declared.Status.{Status}
+use Rattle.yaml_emit_layout.specs.declared.Status.TheVariants.{Going}
+use Rattle.yaml_emit_layout.specs.Text.{Item}
+use Rattle.yaml_emit_layout.specs.Settings.{settled}
+use Rattle.yaml_emit_layout.specs.Layout.{Layout, nothing_more, written}
+use Rattle.yaml_emit_layout.specs.Sink.{Output, Ends}
+use Rattle.yaml_emit_layout.proofs.Sinks.{grows_none, grows_both, grows_same, ends_other, status_cases}
 use Rattle.yaml_emit_layout.specs.declared.Problem.{Problem}
 use Rattle.yaml_emit_layout.specs.declared.Expected.TheVariants as at
 use Rattle.yaml_emit_layout.specs.Content.{Event}
 use Rattle.yaml_emit_layout.specs.State.{State, placed}
-use Rattle.yaml_emit_state.specs.declared.Core.{Core}
-use Rattle.yaml_emit_state.specs.Steps.{state_of, settings_of, IsFreshCore}
-use Rattle.yaml_emit_state.specs.Finish.{Finishes}
-use Rattle.yaml_emit_state.proofs.Noting.{notes_both, notes_some}
+use Rattle.yaml_emit_core.specs.Steps.{Core, state_of, settings_of, IsFreshCore}
+use Rattle.yaml_emit_core.specs.Finish.{Finishes}
+use Rattle.yaml_emit_core.proofs.Noting.{notes_both, notes_some}
 use Rattle.yaml_emit_machine.specs.Held.{held_events}
 use Rattle.yaml_emit_machine.specs.declared.held.Held.{Held}
 use Rattle.yaml_emit_machine.specs.declared.emitter.yaml_emitter_t.TheInside.{Inside}
@@ -30,7 +29,7 @@ use Rattle.yaml_emit_machine.specs.Laying.{LaysEvents}
 use Rattle.yaml_emit_machine.specs.Emitter.{Emitter, fault_by, refusal_by, stream_encoding, Completes}
 use Rattle.yaml_emit_machine.specs.Views.{emitter_of, IsEmitter}
 use Rattle.yaml_emit_machine.specs.Verdict.{verdict, Writes, wrong, Lays, LaysFirst, TellsOutcome}
-use Rattle.yaml_emit_machine.specs.Taking.{TakesEvents, GivesText, Takes, Stuck, NotesMemory, NotesMemoryOf, ComesIntoForce}
+use Rattle.yaml_emit_machine.specs.Taking.{TakesEvents, Stuck, NotesMemory, NotesMemoryOf, ComesIntoForce}
 use Rattle.yaml_emit_machine.proofs.Emitting.{left, inside_begun, stopped_at, begin_finishes}
 use Rattle.yaml_emit_machine.proofs.Judging.{or_some, unless_some}
 
@@ -103,48 +102,24 @@ notes_on a b c p q m n = λ h. let k = notes_both true a.status b.status c.statu
 
 -- ---- an event was given
 
-inside_gives : (exact : Bool) (i : Inside) (core : Core) (held : Held) (fault : Option Fault)
-    (e : Event) → i.fresh ≡ false
-    → LaysEvents exact i.core (held_events i.held ++ e ∷ []) core (held_events held)
-    → GivesText (emitter_of i) e (left i core i.fresh (held_events held) fault)
-unfolding Completes wrong Lays
-inside_gives exact i core held fault e fr l =
+pub inside_takes : (i : Inside) (core : Core) (held : Held) (fault : Option Fault) (e : Event)
+    → i.fresh ≡ false → i.core.sink.status ≡ Going
+    → LaysEvents i.core (held_events i.held ++ e ∷ []) core (held_events held)
+    → TakesEvents (emitter_of i) (e ∷ []) (left i core i.fresh (held_events held) fault) []
+unfolding Completes verdict Writes wrong Lays
+inside_takes i core held fault e fr on l =
     rw fr (record {
       completes = λ x es whole c. (l.encoding ∙ c.0, l.finishes es whole (rw append_assoc c.1));
+      refuses = λ g es. l.refuses g es ∙ ap (refusal_behind (settings_of i.core) (state_of i.core)) (append_assoc (held_events i.held) (e ∷ []) es);
+      writes = λ x es whole c. (l.encoding ∙ c.0, l.lets_out es whole (rw append_assoc c.1));
       first = λ g es. l.first g es ∙ ap (first_wrong (settings_of i.core) (state_of i.core)) (append_assoc (held_events i.held) (e ∷ []) es);
       lays = λ x es whole c. (l.encoding ∙ c.0, l.lays es whole (rw append_assoc c.1));
-      grows = l.grows;
-      requested_settings = refl;
-      limit = l.limit;
-    })
-
-inside_takes : (i : Inside) (core : Core) (held : Held) (fault : Option Fault) (e : Event)
-    → i.fresh ≡ false → i.core.sink.status ≡ Going
-    → LaysEvents true i.core (held_events i.held ++ e ∷ []) core (held_events held)
-    → TakesEvents (emitter_of i) (e ∷ []) (left i core i.fresh (held_events held) fault) []
-unfolding verdict Writes
-inside_takes i core held fault e fr on l =
-    let whole = inside_gives true i core held fault e fr l in
-    let given = rw fr at whole in
-    rw fr (record {
-      completes = given.completes;
-      refuses = λ g es. l.refuses refl g es ∙ ap (refusal_behind (settings_of i.core) (state_of i.core)) (append_assoc (held_events i.held) (e ∷ []) es);
-      writes = λ x es whole c. (l.encoding ∙ c.0, l.lets_out refl es whole (rw append_assoc c.1));
-      first = given.first;
-      lays = given.lays;
       grows = l.grows;
       going = λ _. on;
       requested_settings = refl;
       limit = l.limit;
       begun = λ f. absurd (false≢true f);
     })
-
-pub inside_text : (exact : Bool) (i : Inside) (core : Core) (held : Held) (fault : Option Fault)
-    (e : Event) → i.fresh ≡ false → i.core.sink.status ≡ Going
-    → LaysEvents exact i.core (held_events i.held ++ e ∷ []) core (held_events held)
-    → Takes exact (emitter_of i) e (left i core i.fresh (held_events held) fault)
-inside_text true i core held fault e fr on l = inside_takes i core held fault e fr on l
-inside_text false i core held fault e fr on l = inside_gives false i core held fault e fr l
 
 -- ---- the settings came into force
 

@@ -1,8 +1,8 @@
 -- How far a dump has opened the stream.
 use Rattle.std.specs.Prelude.{◌≡◌, ◌<◌, Bool, true, false, List, [], ◌∷◌, length, None}
 use Rattle.yaml_scan_model.specs.declared.yaml_encoding_t.TheVariants.{YAML_ANY_ENCODING}
-use Rattle.yaml_emit_text.specs.declared.Encoding.{Encoding}
-use Rattle.yaml_emit_text.specs.Text.{Item}
+use Rattle.yaml_emit_layout.specs.declared.Encoding.{Encoding}
+use Rattle.yaml_emit_layout.specs.Text.{Item}
 use Rattle.yaml_parse_document.specs.Documents.{Document}
 use Rattle.yaml_emit_layout.specs.Content.{Event, stream_start}
 use Rattle.yaml_emit_graph.specs.declared.graph.Events.{Events}
@@ -10,8 +10,7 @@ use Rattle.yaml_emit_graph.specs.Events.{IsEvents, remaining_events}
 use Rattle.yaml_emit_machine.specs.Emitter.{Emitter, Keeps, left_if}
 use Rattle.yaml_emit_machine.specs.Within.{Fits}
 use Rattle.yaml_emit_machine.specs.Verdict.{verdict, Writes}
-use Rattle.yaml_emit_machine.specs.Judged.{AreOut}
-use Rattle.yaml_emit_machine.specs.Taking.{TakesEvents, TakesOne, LaysAtOnce, StaysCanonical, NotesMemory, NotesMemoryOf}
+use Rattle.yaml_emit_machine.specs.Taking.{TakesEvents, NotesMemory, NotesMemoryOf}
 
 -- An event is right behind what was given: no event is refused that is let out with it, and what is written then passes no limit.
 pub record IsRightNext (e : Emitter) (event : Event) : Type 0 where
@@ -31,20 +30,6 @@ pub record OpensStream (old new : Emitter) : Type 0 where
   pub alone : old.fault ≡ None → new.opened ≡ false → TakesEvents old (opening_event ∷ []) new []
   pub memory : old.fault ≡ None → new.opened ≡ false → NotesMemoryOf opening_event old new
 
--- An event was laid out at once, as where it is given early: none is held, and the output, which went on, has canonical form still.
-pub record LaysOne (old : Emitter) (e : Event) (new : Emitter) : Type 0 where
-  pub given : TakesOne false old e new
-  pub none : new.held ≡ []
-  pub form : StaysCanonical old new
-
--- an event of a dump was taken as it came, or, early, was laid out at once
-pub record DumpsOne (early : Bool) (old : Emitter) (e : Event) (new : Emitter) : Type 0 where
-  pub takes : early ≡ false → TakesEvents old (e ∷ []) new []
-  pub once : early ≡ true → LaysOne old e new
-  pub memory : NotesMemoryOf e old new
-  pub opened : Keeps old new
-  pub begun : new.fresh ≡ false
-
 -- Of the events of a dump that were to come those of `left` are still to come, and the others were taken.
 pub record Dumps (old : Emitter) (es : List Event) (new : Emitter) (left : List Event) : Type 0
   where
@@ -52,16 +37,14 @@ pub record Dumps (old : Emitter) (es : List Event) (new : Emitter) (left : List 
     pub memory : NotesMemory true old new
     pub keeps : Keeps old new
 
--- A dump may take the events that a walk over a document has left: early, it may lay them out at once, since all are let out.
-pub record MayDump (early : Bool) (d : Document) (e : Emitter) (events : Events) : Type 0 where
+-- A dump may take the events that a walk over a document has left.
+pub record MayDump (d : Document) (e : Emitter) (events : Events) : Type 0 where
   pub walk : IsEvents d events
   pub begun : e.fresh ≡ false
-  pub once : early ≡ true → LaysAtOnce e
-  pub out : early ≡ true → AreOut (remaining_events d events)
 
 -- Some of them were taken: while no fault has come, fewer are still to come, which may be taken too, and else none is.
-pub record DumpsSome (early : Bool) (d : Document) (old new : Emitter) (before after : Events)
+pub record DumpsSome (d : Document) (old new : Emitter) (before after : Events)
     (going : Bool) : Type 0 where
   pub dumps : Dumps old (remaining_events d before) new (left_if going (remaining_events d after))
-  pub on : going ≡ true → MayDump early d new after
+  pub on : going ≡ true → MayDump d new after
   pub less : going ≡ true → length (remaining_events d after) < length (remaining_events d before)

@@ -20,15 +20,15 @@ use Rattle.yaml_scan_model.specs.Widths.{default_width}
 use Rattle.yaml_scan_model.specs.Indents.{default_indent}
 use Rattle.yaml_scan_model.specs.Tokens.{zero_mark}
 use Rattle.yaml_scan_model.specs.Faults.{Fault, fault_of, memory_fault, IsMemoryFault, emit_layers}
-use Rattle.yaml_emit_text.specs.declared.Cursor.{Cursor}
-use Rattle.yaml_emit_text.specs.declared.Encoding.{Encoding}
-use Rattle.yaml_emit_text.specs.declared.Settings.{Settings}
-use Rattle.yaml_emit_text.specs.declared.Status.{Status}
-use Rattle.yaml_emit_text.specs.declared.Status.TheVariants.{Going, Full, Deep, Starved}
-use Rattle.yaml_emit_text.specs.declared.RequestedSettings.{RequestedSettings}
-use Rattle.yaml_emit_text.specs.Text.{Item, encode, is_deep}
-use Rattle.yaml_emit_text.specs.Settings.{settled}
-use Rattle.yaml_emit_text.specs.Sink.{Output}
+use Rattle.yaml_emit_layout.specs.declared.Cursor.{Cursor}
+use Rattle.yaml_emit_layout.specs.declared.Encoding.{Encoding}
+use Rattle.yaml_emit_layout.specs.declared.Settings.{Settings}
+use Rattle.yaml_emit_layout.specs.declared.Status.{Status}
+use Rattle.yaml_emit_layout.specs.declared.Status.TheVariants.{Going, Full, Deep, Starved}
+use Rattle.yaml_emit_layout.specs.declared.RequestedSettings.{RequestedSettings}
+use Rattle.yaml_emit_layout.specs.Text.{Item, encode, is_deep}
+use Rattle.yaml_emit_layout.specs.Settings.{settled}
+use Rattle.yaml_emit_layout.specs.Sink.{Output}
 use Rattle.yaml_emit_layout.specs.declared.Expected.{Expected}
 use Rattle.yaml_emit_layout.specs.declared.Problem.{Problem}
 use Rattle.yaml_parse_model.specs.Nodes as model
@@ -37,7 +37,7 @@ use Rattle.yaml_emit_layout.specs.Content.{Event, stream_start, stream_end}
 use Rattle.yaml_emit_layout.specs.Grammar.{problem_bytes}
 use Rattle.yaml_emit_layout.specs.Streams.{IsStream}
 use Rattle.yaml_emit_layout.specs.State.{State}
-use Rattle.yaml_emit_state.specs.Finish.{Finishes}
+use Rattle.yaml_emit_core.specs.Finish.{Finishes}
 use Rattle.yaml_emit_machine.specs.Judged.{refused_at}
 use Rattle.yaml_emit_graph.specs.Graph.{dumped}
 

@@ -1,5 +1,5 @@
 -- The events that are held.
-use Rattle.std.specs.Prelude.{◌≡◌, ℕ, Bool, true, false, if◌then◌else◌, not, ◌&&◌, ◌||◌, nat_le, List, [], ◌∷◌, ◌++◌, length, map, All}
+use Rattle.std.specs.Prelude.{◌≡◌, ℕ, Bool, true, false, not, ◌&&◌, ◌||◌, nat_le, List, [], ◌∷◌, ◌++◌, length, map, All}
 use Rattle.yaml_parse_model.specs.Events.{EventBody, body_of}
 use Rattle.yaml_parse_model.specs.Constructors.{HasUtf8}
 use Rattle.yaml_emit_layout.specs.Content.{Event, no_event, stream_start, stream_end, document_start, document_end, alias, scalar, sequence_start, sequence_end, mapping_start, mapping_end, emitter_event}
@@ -95,13 +95,6 @@ abbrev pub are_some : List Event → Bool
 are_some [] = false
 are_some (e ∷ es) = true
 
--- The same where the whole text is wanted: nothing is held, and the next event decides nothing.
-abbrev pub passes_early : List Event → Bool → Bool
-passes_early held undecided = not (are_some held) && not undecided
-
-abbrev pub passes_by : Bool → List Event → Bool → Event → Bool
-passes_by early held undecided e = if early then passes_early held undecided else passes held e
-
 -- what is held are the last of these
 abbrev pub AreLast : List Event → List Event → Type 0
 AreLast all last = (front : List Event) × (all ≡ front ++ last)
@@ -110,7 +103,3 @@ AreLast all last = (front : List Event) × (all ≡ front ++ last)
 abbrev pub releases : List Event → Event → Bool
 releases [] e = false
 releases (f ∷ fs) e = is_ready (f ∷ fs ++ e ∷ [])
-
--- the same, or, where the whole text is wanted, any are held
-abbrev pub releases_by : Bool → List Event → Event → Bool
-releases_by early held e = if early then are_some held else releases held e

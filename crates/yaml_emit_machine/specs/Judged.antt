@@ -1,10 +1,10 @@
 -- Which events are let out, and what is written for them.
 use Rattle.std.specs.Prelude.{◌≡◌, ◌⊎◌, Bool, true, false, if◌then◌else◌, ℕ, zero, suc, List, [], ◌∷◌, ◌++◌, drop, Option, Some, None}
 use Rattle.std.specs.List.{list_any}
-use Rattle.yaml_emit_text.specs.declared.Settings.{Settings}
-use Rattle.yaml_emit_text.specs.Text.{Item}
-use Rattle.yaml_emit_text.specs.Layout.{Layout, stay, nothing_more}
-use Rattle.yaml_emit_text.specs.Sink.{Output, Ends}
+use Rattle.yaml_emit_layout.specs.declared.Settings.{Settings}
+use Rattle.yaml_emit_layout.specs.Text.{Item}
+use Rattle.yaml_emit_layout.specs.Layout.{Layout, stay, nothing_more}
+use Rattle.yaml_emit_layout.specs.Sink.{Output, Ends}
 use Rattle.yaml_emit_layout.specs.declared.Problem.{Problem}
 use Rattle.yaml_emit_layout.specs.declared.Level.{Level}
 use Rattle.yaml_emit_layout.specs.declared.Phase.{Phase}
@@ -15,7 +15,7 @@ use Rattle.yaml_emit_layout.specs.Content.{Event}
 use Rattle.yaml_emit_layout.specs.Grammar.{or_else}
 use Rattle.yaml_emit_layout.specs.Progress.{Due, item_due, key_due, value_due, Progress, first_refusal}
 use Rattle.yaml_emit_layout.specs.State.{State, piece, next, problem_at, opens_empty}
-use Rattle.yaml_emit_state.specs.Steps.{next_piece, takes_memory, is_document_start}
+use Rattle.yaml_emit_core.specs.Steps.{next_piece, takes_memory, is_document_start}
 use Rattle.yaml_emit_machine.specs.Held.{is_ready}
 
 -- The events of a list that are let out: all in front of the first one that is still held.

@@ -1,15 +1,11 @@
 -- What laying out what is held does to the state that lays it out: the clauses of private calls alone cite it.
-use Rattle.std.specs.Prelude.{◌≡◌, Bool, true, false, ℕ, ◌+◌, List, [], ◌∷◌, ◌++◌, drop}
-use Rattle.yaml_emit_text.specs.declared.Status.TheVariants.{Going}
-use Rattle.yaml_emit_text.specs.Text.{Item, encode}
-use Rattle.yaml_emit_text.specs.Sink.{Grows}
+use Rattle.std.specs.Prelude.{◌≡◌, true, false, ℕ, ◌+◌, List, [], ◌∷◌, ◌++◌, drop}
+use Rattle.yaml_emit_layout.specs.declared.Status.TheVariants.{Going}
+use Rattle.yaml_emit_layout.specs.Text.{Item, encode}
+use Rattle.yaml_emit_layout.specs.Sink.{Grows}
 use Rattle.yaml_emit_layout.specs.Content.{Event}
-use Rattle.yaml_emit_layout.specs.State.{top_of}
-use Rattle.yaml_emit_state.specs.declared.Core.{Core}
-use Rattle.yaml_emit_state.specs.Due.{is_undecided}
-use Rattle.yaml_emit_state.specs.Stack.{stack_of}
-use Rattle.yaml_emit_state.specs.Steps.{state_of, settings_of, Notes, goes_on}
-use Rattle.yaml_emit_state.specs.Finish.{Finishes}
+use Rattle.yaml_emit_core.specs.Steps.{Core, state_of, settings_of, Notes, goes_on}
+use Rattle.yaml_emit_core.specs.Finish.{Finishes}
 use Rattle.yaml_emit_machine.specs.declared.held.Held.{Held}
 use Rattle.yaml_emit_machine.specs.Held.{held_events, HeldUtf8, is_ready, AreLast}
 use Rattle.yaml_emit_machine.specs.Judged.{refusal_behind, LetsOut, first_wrong, LaysAll, take_memory, LaysSome, RefusesHeld}
@@ -20,55 +16,50 @@ HasLaid old before output n = (es : List Event) (whole : List Item)
     → LaysSome n (settings_of old) (state_of old) old.sink (before ++ es) whole
     → encode old.sink.encoding whole ≡ output
 
--- the next event may decide what is written for this one there
-abbrev pub is_undecided_at : Core → Event → Bool
-is_undecided_at core e = is_undecided core.settings.canonical (top_of (stack_of core.levels)) e
-
 -- Of the events `before` those of `after` are left, and the others were laid out. Whatever follows: the whole text is the same,
--- the same event is refused, unless the output has stopped, and the same is written; of all, and, where each was laid out as it was
--- let out, of those that are let out.
-pub record LaysEvents (exact : Bool) (old : Core) (before : List Event) (new : Core)
-    (after : List Event) : Type 0 where
-  pub finishes : (es : List Event) (whole : List Item)
-      → Finishes (settings_of old) (state_of old) old.sink (before ++ es) whole
-      → Finishes (settings_of new) (state_of new) new.sink (after ++ es) whole
-  pub refuses : exact ≡ true → new.sink.status ≡ Going → (es : List Event)
-      → refusal_behind (settings_of new) (state_of new) (after ++ es)
-      ≡ refusal_behind (settings_of old) (state_of old) (before ++ es)
-  pub lets_out : exact ≡ true → (es : List Event) (whole : List Item)
-      → LetsOut (settings_of old) (state_of old) old.sink (before ++ es) whole
-      → LetsOut (settings_of new) (state_of new) new.sink (after ++ es) whole
-  pub first : new.sink.status ≡ Going → (es : List Event)
-      → first_wrong (settings_of new) (state_of new) (after ++ es)
-      ≡ first_wrong (settings_of old) (state_of old) (before ++ es)
-  pub lays : (es : List Event) (whole : List Item)
-      → LaysAll (settings_of old) (state_of old) old.sink (before ++ es) whole
-      → LaysAll (settings_of new) (state_of new) new.sink (after ++ es) whole
-  -- nothing that was written is taken back
-  pub grows : Grows old.sink.bytes new.sink.bytes
-  -- an output that has stopped stays stopped
-  pub going : new.sink.status ≡ Going → old.sink.status ≡ Going
-  pub encoding : new.sink.encoding ≡ old.sink.encoding
-  pub limit : new.sink.limit ≡ old.sink.limit
-  -- that memory was refused outside the output is noted where this stops it, by an event that takes such memory
-  pub memory : Notes (take_memory before) old new
-  pub left : take_memory before ≡ false → take_memory after ≡ false
-  -- how many were laid out
-  pub laid : ℕ
-  pub rest : drop laid before ≡ after
-  pub some : new.sink.status ≡ Going → (m n : ℕ) → m ≡ laid + n → (es : List Event)
-      → (whole : List Item)
-      → LaysSome m (settings_of old) (state_of old) old.sink (before ++ es) whole
-      → LaysSome n (settings_of new) (state_of new) new.sink (after ++ es) whole
-  -- where it is noted, no text was missing memory
-  pub blames : old.starved ≡ false → new.starved ≡ true
-      → RefusesHeld before (HasLaid old before new.sink.bytes)
+-- the same event is refused, unless the output has stopped, and the same is written; of all, and of those that are let out.
+pub record LaysEvents (old : Core) (before : List Event) (new : Core) (after : List Event) : Type 0
+  where
+    pub finishes : (es : List Event) (whole : List Item)
+        → Finishes (settings_of old) (state_of old) old.sink (before ++ es) whole
+        → Finishes (settings_of new) (state_of new) new.sink (after ++ es) whole
+    pub refuses : new.sink.status ≡ Going → (es : List Event)
+        → refusal_behind (settings_of new) (state_of new) (after ++ es)
+        ≡ refusal_behind (settings_of old) (state_of old) (before ++ es)
+    pub lets_out : (es : List Event) (whole : List Item)
+        → LetsOut (settings_of old) (state_of old) old.sink (before ++ es) whole
+        → LetsOut (settings_of new) (state_of new) new.sink (after ++ es) whole
+    pub first : new.sink.status ≡ Going → (es : List Event)
+        → first_wrong (settings_of new) (state_of new) (after ++ es)
+        ≡ first_wrong (settings_of old) (state_of old) (before ++ es)
+    pub lays : (es : List Event) (whole : List Item)
+        → LaysAll (settings_of old) (state_of old) old.sink (before ++ es) whole
+        → LaysAll (settings_of new) (state_of new) new.sink (after ++ es) whole
+    -- nothing that was written is taken back
+    pub grows : Grows old.sink.bytes new.sink.bytes
+    -- an output that has stopped stays stopped
+    pub going : new.sink.status ≡ Going → old.sink.status ≡ Going
+    pub encoding : new.sink.encoding ≡ old.sink.encoding
+    pub limit : new.sink.limit ≡ old.sink.limit
+    -- that memory was refused outside the output is noted where this stops it, by an event that takes such memory
+    pub memory : Notes (take_memory before) old new
+    pub left : take_memory before ≡ false → take_memory after ≡ false
+    -- how many were laid out
+    pub laid : ℕ
+    pub rest : drop laid before ≡ after
+    pub some : new.sink.status ≡ Going → (m n : ℕ) → m ≡ laid + n → (es : List Event)
+        → (whole : List Item)
+        → LaysSome m (settings_of old) (state_of old) old.sink (before ++ es) whole
+        → LaysSome n (settings_of new) (state_of new) new.sink (after ++ es) whole
+    -- where it is noted, no text was missing memory
+    pub blames : old.starved ≡ false → new.starved ≡ true
+        → RefusesHeld before (HasLaid old before new.sink.bytes)
 
 -- An event was given behind those that are held, and what no longer has to be held was laid out, the event itself too.
-pub record HoldsOrLays (exact : Bool) (old : Core) (held : Held) (e : Event) (new : Core)
-    (left : Held) : Type 0 where
-  pub lays : LaysEvents exact old (held_events held ++ e ∷ []) new (held_events left)
-  pub utf8 : HeldUtf8 left
-  pub waits : goes_on new.sink.status new.place ≡ true → is_ready (held_events left) ≡ false
-  pub last : AreLast (held_events held ++ e ∷ []) (held_events left)
-  pub settings : new.settings ≡ old.settings
+pub record HoldsOrLays (old : Core) (held : Held) (e : Event) (new : Core) (left : Held) : Type 0
+  where
+    pub lays : LaysEvents old (held_events held ++ e ∷ []) new (held_events left)
+    pub utf8 : HeldUtf8 left
+    pub waits : goes_on new.sink.status new.place ≡ true → is_ready (held_events left) ≡ false
+    pub last : AreLast (held_events held ++ e ∷ []) (held_events left)
+    pub settings : new.settings ≡ old.settings

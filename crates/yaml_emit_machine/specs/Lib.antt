@@ -10,9 +10,8 @@ pub mod Taking
 pub mod Dumping
 pub mod Resuming
 -- what it stands on, for crates that name this one alone
-pub use Rattle.yaml_emit_state.specs as emit_state
+pub use Rattle.yaml_emit_core.specs as emit_core
 pub use Rattle.yaml_emit_layout.specs as emit_layout
 pub use Rattle.yaml_emit_graph.specs as emit_graph
-pub use Rattle.yaml_emit_layout.specs.emit_text
 pub use Rattle.yaml_emit_layout.specs.scan_model
 pub use Rattle.yaml_emit_layout.specs.parse_model

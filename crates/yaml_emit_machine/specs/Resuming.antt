@@ -1,13 +1,18 @@
 -- An emitter that goes on from where another one stood.
-use Rattle.std.specs.Prelude.{◌≡◌, ℕ, false, List, [], length, None}
+use Rattle.std.specs.Prelude.{◌≡◌, ℕ, nat_le, Bool, false, List, [], length, None}
 use Rattle.yaml_parse_model.specs.Events.{TagDirective}
-use Rattle.yaml_emit_text.specs.declared.Status.TheVariants.{Going}
-use Rattle.yaml_emit_text.specs.declared.RequestedSettings.{RequestedSettings}
+use Rattle.yaml_emit_layout.specs.declared.Status.TheVariants.{Going}
+use Rattle.yaml_emit_layout.specs.declared.RequestedSettings.{RequestedSettings}
 use Rattle.yaml_emit_layout.specs.declared.Level.{Level}
+use Rattle.yaml_emit_layout.specs.Nodes.{MOST}
 use Rattle.yaml_emit_layout.specs.State.{top_of}
-use Rattle.yaml_emit_state.specs.declared.yaml_emitter_stand_t.{yaml_emitter_stand_t}
-use Rattle.yaml_emit_state.specs.Standing.{state_at}
+use Rattle.yaml_emit_core.specs.declared.yaml_emitter_stand_t.{yaml_emitter_stand_t}
+use Rattle.yaml_emit_core.specs.Standing.{state_at}
 use Rattle.yaml_emit_machine.specs.Emitter.{Emitter, Course, settings_in}
+
+-- it is indented by no more than the most columns
+abbrev pub is_narrow : Level → Bool
+is_narrow l = nat_le l.indent MOST
 
 -- how the text goes on from there
 abbrev pub course_at : RequestedSettings → yaml_emitter_stand_t → List Level → List TagDirective

@@ -1,12 +1,11 @@
 -- What becomes of the events that an emitter is given.
 use Rattle.std.specs.Prelude.{◌≡◌, ℕ, ◌≤◌, Bool, true, false, List, [], ◌∷◌, ◌++◌, length, None}
-use Rattle.yaml_emit_text.specs.declared.Encoding.{Encoding}
-use Rattle.yaml_emit_text.specs.declared.Status.TheVariants.{Going}
-use Rattle.yaml_emit_text.specs.Text.{Item, encode}
-use Rattle.yaml_emit_text.specs.Sink.{Grows}
-use Rattle.yaml_emit_layout.specs.declared.Expected.TheVariants as at
+use Rattle.yaml_emit_layout.specs.declared.Encoding.{Encoding}
+use Rattle.yaml_emit_layout.specs.declared.Status.TheVariants.{Going}
+use Rattle.yaml_emit_layout.specs.Text.{Item, encode}
+use Rattle.yaml_emit_layout.specs.Sink.{Grows}
 use Rattle.yaml_emit_layout.specs.Content.{Event}
-use Rattle.yaml_emit_state.specs.Steps.{may_note}
+use Rattle.yaml_emit_core.specs.Steps.{may_note}
 use Rattle.yaml_emit_machine.specs.Held.{AreLast}
 use Rattle.yaml_emit_machine.specs.Judged.{take_memory, RefusesHeld}
 use Rattle.yaml_emit_machine.specs.Emitter.{Emitter, Completes, Keeps}
@@ -35,35 +34,6 @@ pub record TakesEvents (old : Emitter) (es : List Event) (new : Emitter)
   -- one that is still fresh has taken nothing
   pub begun : new.fresh ≡ true → (old.fresh ≡ true) × (left ≡ es)
 
--- An event was given whose text is wanted as soon as it may be: the whole text is the same, the same event is the first that is
--- wrong, unless the output has stopped, and the same is written up to it. What stood in the output stands there still. Which part
--- of the text is written by now, and which fault is told, may be that of a later call.
-pub record GivesText (old : Emitter) (e : Event) (new : Emitter) : Type 0 where
-  pub completes : (x : Encoding) (more : List Event) (whole : List Item)
-      → Completes old x (e ∷ more) whole → Completes new x more whole
-  pub first : new.status ≡ Going → (more : List Event) → wrong new more ≡ wrong old (e ∷ more)
-  pub lays : (x : Encoding) (more : List Event) (whole : List Item)
-      → Lays old x (e ∷ more) whole → Lays new x more whole
-  pub grows : Grows old.output new.output
-  pub requested_settings : new.requested_settings ≡ old.requested_settings
-  pub limit : new.limit ≡ old.limit
-
--- An event that comes is laid out at once: nothing is wrong, the settings are in force, the form is canonical, and no other
--- event is held.
-pub record LaysAtOnce (e : Emitter) : Type 0 where
-  pub right : e.fault ≡ None
-  pub begun : e.fresh ≡ false
-  pub form : e.course.settings.canonical ≡ true
-  pub none : e.held ≡ []
-
--- a node is due
-abbrev pub AwaitsNode : Emitter → Type 0
-AwaitsNode e = e.course.state.place ≡ at.Node
-
--- the output went on, and the form is canonical still
-abbrev pub StaysCanonical : Emitter → Emitter → Type 0
-StaysCanonical old new = (old.status ≡ Going) × (new.course.settings.canonical ≡ true)
-
 -- What is given behind a refusal counts for nothing: with any events to come it is the same as with any others.
 abbrev pub Stuck : Emitter → Type 0
 Stuck e = (es left : List Event) → TakesEvents e es e left
@@ -89,14 +59,9 @@ abbrev pub BlamesLevels : Event → Emitter → Emitter → Type 0
 BlamesLevels e old new = old.starved ≡ false → new.starved ≡ true
     → RefusesHeld (old.held ++ e ∷ []) (HasFirst old (e ∷ []) new.output)
 
--- an event was taken, or, where its text is wanted as soon as it may be, was given so
-abbrev pub Takes : Bool → Emitter → Event → Emitter → Type 0
-Takes true old e new = TakesEvents old (e ∷ []) new []
-Takes false old e new = GivesText old e new
-
--- What is said of an event that was given, exactly or early: at most three are held, and the stream is open, or closed, as it was.
-pub record TakesOne (exact : Bool) (old : Emitter) (e : Event) (new : Emitter) : Type 0 where
-  pub takes : Takes exact old e new
+-- What is said of an event that was given: at most three are held, and the stream is open, or closed, as it was.
+pub record TakesOne (old : Emitter) (e : Event) (new : Emitter) : Type 0 where
+  pub takes : TakesEvents old (e ∷ []) new []
   pub memory : NotesMemoryOf e old new
   pub blames : BlamesLevels e old new
   pub few : length new.held ≤ 3

@@ -1,14 +1,14 @@
 -- What an emitter refuses and has written, with the events that follow.
 use Rattle.std.specs.Prelude.{◌≡◌, ℕ, ◌≤◌, Bool, false, if◌then◌else◌, List, [], ◌∷◌, ◌++◌, length, Option, Some}
 use Rattle.yaml_scan_model.specs.declared.yaml_encoding_t.TheVariants.{YAML_ANY_ENCODING}
-use Rattle.yaml_emit_text.specs.declared.Encoding.{Encoding}
-use Rattle.yaml_emit_text.specs.declared.Settings.{Settings}
-use Rattle.yaml_emit_text.specs.declared.Status.{Status}
-use Rattle.yaml_emit_text.specs.declared.Status.TheVariants.{Going, Full, Deep, Starved}
-use Rattle.yaml_emit_text.specs.declared.RequestedSettings.{RequestedSettings}
-use Rattle.yaml_emit_text.specs.Text.{Item, encode, is_deep, shallow}
-use Rattle.yaml_emit_text.specs.Layout.{Layout, written}
-use Rattle.yaml_emit_text.specs.Settings.{settled}
+use Rattle.yaml_emit_layout.specs.declared.Encoding.{Encoding}
+use Rattle.yaml_emit_layout.specs.declared.Settings.{Settings}
+use Rattle.yaml_emit_layout.specs.declared.Status.{Status}
+use Rattle.yaml_emit_layout.specs.declared.Status.TheVariants.{Going, Full, Deep, Starved}
+use Rattle.yaml_emit_layout.specs.declared.RequestedSettings.{RequestedSettings}
+use Rattle.yaml_emit_layout.specs.Text.{Item, encode, is_deep, shallow}
+use Rattle.yaml_emit_layout.specs.Layout.{Layout, written}
+use Rattle.yaml_emit_layout.specs.Settings.{settled}
 use Rattle.yaml_emit_layout.specs.declared.Problem.{Problem}
 use Rattle.yaml_emit_layout.specs.declared.Expected.TheVariants as at
 use Rattle.yaml_emit_layout.specs.Content.{Event}

@@ -1,8 +1,8 @@
 -- What a clause sees of an emitter, by the state of the code, and what is true of that state.
 use Rattle.std.specs.Prelude.{◌≡◌, true, false, [], None, option_map}
 use Rattle.yaml_scan_model.specs.Faults.{fault_of}
-use Rattle.yaml_emit_text.specs.declared.Status.TheVariants.{Going}
-use Rattle.yaml_emit_state.specs.Steps.{state_of, settings_of, goes_on}
+use Rattle.yaml_emit_layout.specs.declared.Status.TheVariants.{Going}
+use Rattle.yaml_emit_core.specs.Steps.{state_of, settings_of, goes_on}
 use Rattle.yaml_emit_machine.specs.declared.emitter.yaml_emitter_t.TheInside.{Inside}
 use Rattle.yaml_emit_machine.specs.Held.{held_events, HeldUtf8, is_ready}
 use Rattle.yaml_emit_machine.specs.Emitter.{Emitter, refusal_by, settings_in}

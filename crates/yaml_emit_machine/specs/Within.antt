@@ -1,7 +1,7 @@
 -- Which limits a whole text keeps.
 use Rattle.std.specs.Prelude.{◌≡◌, ℕ, ◌≤◌, false, List, [], length, None}
-use Rattle.yaml_emit_text.specs.declared.Encoding.{Encoding}
-use Rattle.yaml_emit_text.specs.Text.{Item, encode, is_deep}
+use Rattle.yaml_emit_layout.specs.declared.Encoding.{Encoding}
+use Rattle.yaml_emit_layout.specs.Text.{Item, encode, is_deep}
 use Rattle.yaml_emit_machine.specs.Emitter.{Emitter, Completes}
 
 -- the text has at most so many bytes, and no indentation in it passes the most columns

@@ -1,32 +1,28 @@
 //! The emitter.
 
-ghost use Rattle.std.specs.Prelude.{◌≡◌, ◌≤◌, ◌∷◌, ◌++◌, [], length, Some, None, true, false, option_map, OnErr, IsUtf8};
+ghost use Rattle.std.specs.Prelude.{◌≡◌, ◌≤◌, ◌∷◌, ◌++◌, [], length, Some, None, true, false, option_map, OnErr};
 ghost use Rattle.yaml_scan_model.specs.Faults.{Fault, fault_of};
 ghost use Rattle.yaml_parse_model.specs.Events.{body_of};
 ghost use Rattle.yaml_parse_model.specs.Constructors.{HasUtf8};
-ghost use Rattle.yaml_emit_layout.specs.Content.{emitter_event, scalar};
-ghost use Rattle.yaml_emit_state.specs.Framed.{is_bare};
-ghost use Rattle.yaml_emit_state.specs.Given.{plain_text};
-ghost use Rattle.yaml_scan_model.specs.declared.yaml_scalar_style_t.{yaml_scalar_style_t};
+ghost use Rattle.yaml_emit_layout.specs.Content.{emitter_event};
 ghost use Rattle.yaml_emit_machine.specs.Emitter.{stream_encoding, IsNew, IsLimited, ShowsFront, IsWhole, Answers, Stays};
 ghost use Rattle.yaml_emit_machine.specs.Held.{AreLast};
 ghost use Rattle.yaml_emit_machine.specs.Within.{IsWithin};
 ghost use Rattle.yaml_emit_machine.specs.Verdict.{TellsOutcome};
-ghost use Rattle.yaml_emit_machine.specs.Dumping.{LaysOne};
-ghost use Rattle.yaml_emit_machine.specs.Taking.{TakesEvents, GivesText, TakesOne, LaysAtOnce, AwaitsNode, Stuck, NotesMemoryOf, BlamesLevels, ComesIntoForce};
+ghost use Rattle.yaml_emit_machine.specs.Taking.{TakesEvents, TakesOne, Stuck, NotesMemoryOf, BlamesLevels, ComesIntoForce};
 
 mod dump;
 mod resume;
 
 use crate::fault::note;
 use crate::held::Held;
-use crate::release::{hold_or_lay, hold_or_lay_early};
+use crate::release::hold_or_lay;
 pub use dump::dump_document;
 pub use resume::{directives, outer, resumed, stand};
 use std::alloc::Global;
 use std::marker::Model;
-use yaml_emit_state::Core;
-use yaml_emit_text::{RequestedSettings, settled};
+use yaml_emit_core::Core;
+use yaml_emit_layout::{RequestedSettings, settled};
 use yaml_parse_model::yaml_event_body_t;
 use yaml_scan_model::{yaml_encoding_t, yaml_fault_t};
 
@@ -69,6 +65,7 @@ fn stream_encoding(event: &yaml_event_body_t) -> yaml_encoding_t
 }
 
 /// A fresh emitter, whose text has at most `limit` bytes.
+#[tactic(auto, using(yaml_emit_core::proofs::Fresh::settled_step))]
 pub fn new_emitter(alloc: Global, limit: u64) -> yaml_emitter_t
     ensures { IsNew result limit }
 {
@@ -169,7 +166,7 @@ pub fn output(emitter: &yaml_emitter_t) -> &[u8]
     ensures bytes { result.now ≡ emitter.now.output }
     ensures front { ShowsFront emitter.now result.now }
 {
-    emitter.core.sink().output()
+    emitter.core.output()
 }
 
 /// The text.
@@ -193,6 +190,7 @@ impl yaml_emitter_t {
     // The settings come into force with the first event.
     // Out of line: it runs once a stream.
     #[inline(never)]
+    #[tactic(auto, using(yaml_emit_core::proofs::Fresh::settled_step))]
     fn begin(&mut self, event: &yaml_event_body_t)
         requires { self.old.fresh ≡ true }
         ensures begins { ComesIntoForce self.old (emitter_event (body_of event.now)) self.new }
@@ -207,79 +205,9 @@ impl yaml_emitter_t {
         requires utf8 { HasUtf8 (body_of event.old) }
         requires right { self.old.fault ≡ None }
         requires begun { self.old.fresh ≡ false }
-        ensures { TakesOne true self.old (emitter_event (body_of event.old)) self.new }
+        ensures { TakesOne self.old (emitter_event (body_of event.old)) self.new }
     {
-        hold_or_lay(&mut self.core, &mut self.held, event, false);
-        note(&self.core, &mut self.fault);
-    }
-
-    // Whether no fault has come, and the settings are in force.
-    // Inlined: two reads.
-    #[inline(always)]
-    fn is_running(&self) -> bool
-        ensures right { result ≡ true → self.now.fault ≡ None }
-        ensures begun { result ≡ true → self.now.fresh ≡ false }
-    {
-        matches!(self.fault, None) && !self.fresh
-    }
-
-    // An event is given behind those that are held, where the whole text is wanted.
-    // Inlined into its one caller.
-    #[inline(always)]
-    fn lay_early(&mut self, event: &mut yaml_event_body_t)
-        requires utf8 { HasUtf8 (body_of event.old) }
-        requires right { self.old.fault ≡ None }
-        requires begun { self.old.fresh ≡ false }
-        ensures { TakesOne false self.old (emitter_event (body_of event.old)) self.new }
-    {
-        hold_or_lay_early(&mut self.core, &mut self.held, event);
-        note(&self.core, &mut self.fault);
-    }
-
-    // Whether an event that comes is laid out at once.
-    // Inlined: four reads.
-    #[inline(always)]
-    fn lays_at_once(&self) -> bool
-        ensures { result ≡ true → LaysAtOnce self.now }
-    {
-        match self.fault {
-            Some(_) => false,
-            None => !self.fresh && self.core.is_canonical() && !self.held.holds_any(),
-        }
-    }
-
-    // Lays it out at once: in canonical form the same is written whatever comes behind it.
-    // Inlined into its one caller.
-    #[inline(always)]
-    fn lay_at_once(&mut self, event: &mut yaml_event_body_t)
-        requires utf8 { HasUtf8 (body_of event.old) }
-        requires once { LaysAtOnce self.old }
-        ensures { LaysOne self.old (emitter_event (body_of event.old)) self.new }
-    {
-        self.core.lay_out(event, false);
-        note(&self.core, &mut self.fault);
-    }
-
-    // Whether a node is due.
-    // Inlined: one read.
-    #[inline(always)]
-    fn awaits_node(&self) -> bool
-        ensures { result ≡ true → AwaitsNode self.now }
-    {
-        self.core.awaits_node()
-    }
-
-    // Lays out a text at once, with the default tag and without an anchor.
-    // Inlined into its one caller.
-    #[inline(always)]
-    fn lay_text_at_once(&mut self, value: &[u8])
-        requires utf8 { IsUtf8 value.now }
-        requires once { LaysAtOnce self.old }
-        requires due { AwaitsNode self.old }
-        ensures { (style : yaml_scalar_style_t) → LaysOne self.old
-            (scalar (plain_text value.now style)) self.new }
-    {
-        self.core.lay_text(value);
+        hold_or_lay(&mut self.core, &mut self.held, event);
         note(&self.core, &mut self.fault);
     }
 
@@ -287,7 +215,7 @@ impl yaml_emitter_t {
     fn begin_or_lay(&mut self, event: &mut yaml_event_body_t)
         requires utf8 { HasUtf8 (body_of event.old) }
         requires right { self.old.fault ≡ None }
-        ensures { TakesOne true self.old (emitter_event (body_of event.old)) self.new }
+        ensures { TakesOne self.old (emitter_event (body_of event.old)) self.new }
     {
         if self.fresh {
             self.begin(event);
@@ -336,50 +264,6 @@ pub fn take_event(emitter: &mut yaml_emitter_t, event: &mut yaml_event_body_t)
     match emitter.fault {
         Some(_) => (),
         None => emitter.begin_or_lay(event),
-    }
-}
-
-/// Lays out an event of a node at once, where none is held, in canonical form, where it begins a line; else nothing.
-// Inlined: see `Core::places_scalar`.
-#[inline(always)]
-pub fn place(emitter: &mut yaml_emitter_t, event: &yaml_event_body_t) -> bool
-    ensures given { result ≡ true → TakesOne false emitter.old (emitter_event (body_of event.now))
-        emitter.new }
-    ensures bare { result ≡ true → is_bare (emitter_event (body_of event.now)) ≡ true }
-    ensures same { result ≡ false → emitter.new ≡ emitter.old }
-{
-    if emitter.fresh || emitter.held.holds_any() {
-        return false;
-    }
-    if emitter.core.places_scalar(event) {
-        return true;
-    }
-    if emitter.core.places_other(event) {
-        note(&emitter.core, &mut emitter.fault);
-        return true;
-    }
-    false
-}
-
-/// `give` where the whole text is wanted: an event is held only where the next one decides what is written for it, and in canonical
-/// form none is. So output and fault may come some events earlier; the fault is that of the same event, and the text that up to it.
-// Inlined: a few tests in front of a call for each kind.
-#[inline(always)]
-pub fn give_early(emitter: &mut yaml_emitter_t, event: &mut yaml_event_body_t)
-    requires { HasUtf8 (body_of event.old) }
-    ensures text { GivesText emitter.old (emitter_event (body_of event.old)) emitter.new }
-    ensures memory { NotesMemoryOf (emitter_event (body_of event.old)) emitter.old emitter.new }
-    ensures blames { BlamesLevels (emitter_event (body_of event.old)) emitter.old emitter.new }
-    ensures stays { Stays emitter.old emitter.new }
-    ensures few { length emitter.new.held ≤ 3 }
-    ensures opened { (emitter.new.opened ≡ emitter.old.opened)
-        × (emitter.new.closed ≡ emitter.old.closed) }
-    ensures begun { emitter.new.fresh ≡ false }
-{
-    if emitter.is_running() {
-        emitter.lay_early(event);
-    } else {
-        take_event(emitter, event);
     }
 }
 

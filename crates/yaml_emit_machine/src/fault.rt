@@ -5,9 +5,8 @@ ghost use Rattle.yaml_scan_model.specs.Faults.{fault_of, memory_fault};
 ghost use Rattle.yaml_emit_machine.specs.Judged.{refused_at};
 ghost use Rattle.yaml_emit_machine.specs.Emitter.{plain_fault, emitter_fault, problem_fault, memory_origin, stopped, refusal_by};
 
-use yaml_emit_layout::{Expected, problem_text};
-use yaml_emit_state::Core;
-use yaml_emit_text::Status;
+use yaml_emit_core::Core;
+use yaml_emit_layout::{Expected, Status, problem_text};
 use yaml_scan_model::{
     yaml_error_type_t, yaml_fault_t, yaml_mark_t, yaml_memory_fault, yaml_origin_t,
 };
@@ -89,7 +88,7 @@ pub(crate) fn note_refusal(core: &Core, fault: &mut Option<yaml_fault_t>)
     ensures { option_map fault_of fault.new ≡ refusal_by core.now.place core.now.sink.status
         core.now.starved }
 {
-    *fault = match core.sink().status() {
+    *fault = match core.status() {
         Status::Going => refused(core.place()),
         status => stopped(status, core.is_starved()),
     };

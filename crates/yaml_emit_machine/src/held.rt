@@ -5,10 +5,10 @@ ghost use Rattle.yaml_parse_model.specs.Events.{body_of};
 ghost use Rattle.yaml_parse_model.specs.Constructors.{HasUtf8};
 ghost use Rattle.yaml_emit_layout.specs.Content.{emitter_event};
 ghost use Rattle.yaml_emit_layout.specs.State.{opens_empty, closes_by};
-ghost use Rattle.yaml_emit_state.specs.Steps.{LaysOut};
+ghost use Rattle.yaml_emit_core.specs.Steps.{LaysOut};
 
 use std::mem;
-use yaml_emit_state::Core;
+use yaml_emit_core::Core;
 use yaml_parse_model::yaml_event_body_t;
 
 /// How many events are held.
@@ -209,7 +209,7 @@ impl Held {
             ++ emitter_event (body_of event.now) ∷ [])) }
     {
         let empty = self.opens_empty(event);
-        core.lay_out(&mut self.first, empty);
+        core.lay_out(&self.first, empty);
         self.go_forward();
     }
 }

@@ -9,17 +9,16 @@ mod name;
 mod release;
 
 pub use emitter::{
-    answer, directives, dump_document, first_fault, give_early, into_output, is_closed, is_fresh,
-    is_opened, let_go, new_emitter, outer, output, place, requested_settings, resumed, set_closed,
-    set_opened, set_requested_settings, stand, take_event, take_event_over, yaml_emitter_t,
+    answer, directives, dump_document, first_fault, into_output, is_closed, is_fresh, is_opened,
+    let_go, new_emitter, outer, output, requested_settings, resumed, set_closed, set_opened,
+    set_requested_settings, stand, take_event, take_event_over, yaml_emitter_t,
 };
 pub use law::{streams_are_laid, streams_pass};
 pub use name::yaml_emitter_state_t;
+pub use yaml_emit_core::yaml_emitter_stand_t;
 pub use yaml_emit_graph::{Rooms, put_aside};
-pub use yaml_emit_layout::{Expected, Level, Phase};
-pub use yaml_emit_state::yaml_emitter_stand_t;
+pub use yaml_emit_layout::{Cursor, Encoding, Expected, Level, Phase, RequestedSettings};
 // What its calls name, so that the member needs no other crate: each further one is read again by every check of the member.
-pub use yaml_emit_text::{Cursor, Encoding, RequestedSettings};
 pub use yaml_parse_document::{yaml_document_delete, yaml_document_t};
 pub use yaml_parse_model::{yaml_event_body_t, yaml_event_t};
 pub use yaml_scan_model::{

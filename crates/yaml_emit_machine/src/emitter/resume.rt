@@ -1,22 +1,59 @@
 //! An emitter that goes on from where another one stood.
 
-ghost use Rattle.std.specs.Prelude.{◌≡◌, ◌≤◌, ◌<◌, ◌^◌, map, None, IfOk};
+ghost use Rattle.std.specs.Prelude.{◌≡◌, ◌≤◌, ◌<◌, ◌^◌, map, None, Option, true, IfOk};
+ghost use Rattle.std.specs.List.{list_all};
 ghost use Rattle.yaml_parse_model.specs.Events.{directive_of};
 ghost use Rattle.yaml_emit_layout.specs.State.{top_of};
-ghost use Rattle.yaml_emit_state.specs.Stack.{stack};
+ghost use Rattle.yaml_emit_core.specs.Levels.{stack};
 ghost use Rattle.yaml_emit_machine.specs.Judged.{refused_at};
-ghost use Rattle.yaml_emit_machine.specs.Resuming.{resumed, StandsWhere};
+ghost use Rattle.yaml_emit_machine.specs.Resuming.{resumed, StandsWhere, is_narrow};
+ghost use Rattle.yaml_emit_core.specs.Standing.{IsPlaced, IsStand};
 
 use super::yaml_emitter_t;
 use crate::held::Held;
 use std::alloc::{AllocError, Global};
-use yaml_emit_layout::Level;
-use yaml_emit_state::{Core, yaml_emitter_stand_t};
-use yaml_emit_text::{RequestedSettings, settled};
+use yaml_emit_core::{Core, yaml_emitter_stand_t};
+use yaml_emit_layout::{Expected, Level, RequestedSettings, settled};
 use yaml_scan_model::{yaml_encoding_t, yaml_tag_directive_t};
 
-/// An emitter that goes on from there, with no event held, and a text of its own of at most `limit` bytes. Refused only for want of
-/// memory.
+fn is_narrow(level: Level) -> bool
+    ensures { result ≡ is_narrow level }
+{
+    level.indent <= 2147483647
+}
+
+fn are_narrow(levels: &[Level]) -> bool
+    ensures { result ≡ list_all is_narrow levels.now }
+{
+    for i in 0..levels.len() {
+        if !is_narrow(levels[i]) {
+            return false;
+        }
+    }
+    true
+}
+
+// Whether a collection may be open where that is expected.
+#[tactic(auto, using(crate::proofs::Stands::node_placed, crate::proofs::Stands::refused_placed))]
+fn may_be_open(place: Expected) -> bool
+    ensures { result ≡ true → (innermost : Option _) → IsPlaced place innermost }
+{
+    matches!(place, Expected::Node | Expected::Refused(_))
+}
+
+// Whether an emitter may stand there.
+fn is_stand(stand: &yaml_emitter_stand_t, outer: &[Level]) -> bool
+    ensures { result ≡ true → IsStand stand.now outer.now }
+{
+    match stand.innermost {
+        None => true,
+        Some(level) => may_be_open(stand.place) & is_narrow(level) & are_narrow(outer),
+    }
+}
+
+/// An emitter that goes on from there, with no event held, and a text of its own of at most `limit` bytes. Refused for want of memory,
+/// and where no emitter stands: a collection is open where no node comes, or is indented by more than 2,147,483,647 columns.
+#[tactic(auto, using(yaml_emit_core::proofs::Fresh::settled_step))]
 pub fn resumed(
     alloc: Global,
     requested_settings: RequestedSettings,
@@ -31,6 +68,9 @@ pub fn resumed(
     ensures { IfOk result (λ e. e ≡ resumed requested_settings limit stand outer.items
         (map directive_of directives.items)) }
 {
+    if !is_stand(&stand, &outer) {
+        return Err(AllocError);
+    }
     let settings = settled(requested_settings, yaml_encoding_t::YAML_ANY_ENCODING);
     let core = Core::resumed(alloc, settings, limit, stand, outer, directives)?;
     Ok(yaml_emitter_t {

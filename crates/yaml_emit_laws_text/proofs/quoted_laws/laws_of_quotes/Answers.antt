@@ -1,6 +1,6 @@
 use Rattle.yaml_emit_laws_text.proofs.Parts.{spelling_reads, single_spelling_reads}
 use Rattle.yaml_emit_laws_text.proofs.Back.{quoted_back, quoted_text_back}
-use Rattle.yaml_emit_text.proofs.Spelled.{quoted-spells}
+use Rattle.yaml_emit_layout.proofs.Spelled.{quoted-spells}
 use Rattle.yaml_emit_laws_text.proofs.Keys.{keys_stay}
 use Rattle.yaml_emit_laws_text.proofs.Printing.{printable}
 use Rattle.yaml_emit_laws_text.proofs.quoted_laws.laws_of_quotes.Goals as goal

@@ -3,7 +3,7 @@ use Rattle.yaml_emit_laws_text.proofs.Tags.{mark_walks, tag_walks}
 use Rattle.yaml_scan_laws_texts.proofs.NamesRead.{anchor_is_read}
 use Rattle.yaml_scan_laws_texts.proofs.GapsRead.{gap_is_read}
 use Rattle.yaml_scan_laws_texts.proofs.Lines.{lone_mark_is_read}
-use Rattle.yaml_emit_text.proofs.Spelled.{quoted-spells}
+use Rattle.yaml_emit_layout.proofs.Spelled.{quoted-spells}
 use Rattle.yaml_emit_laws_text.proofs.Back.{quoted_back}
 use Rattle.yaml_emit_laws_text.proofs.Ascii.{spelled_ascii, directive_ascii}
 use Rattle.yaml_emit_laws_text.proofs.TagsReading.{split_read}

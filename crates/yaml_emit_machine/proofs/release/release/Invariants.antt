@@ -1,15 +1,14 @@
-use Rattle.std.specs.Prelude.{not}
 use Rattle.std.proofs.Common.{◌≡◌, ◌≤◌, [], ◌∷◌, ◌++◌, false, length}
 use Rattle.yaml_parse_model.specs.Events.{body_of}
 use Rattle.yaml_emit_layout.specs.Content.{emitter_event}
-use Rattle.yaml_emit_state.specs.Steps.{goes_on}
+use Rattle.yaml_emit_core.specs.Steps.{goes_on}
 use Rattle.yaml_emit_machine.specs.Held.{held_events, HeldUtf8, AreLast}
 use Rattle.yaml_emit_machine.specs.Laying.{LaysEvents}
 use Rattle.yaml_emit_machine.proofs.release.release.Given as goal
 
 abbrev pub invariant-loop-held : goal.invariant-loop-held
 invariant-loop-held l = record {
-  lays : LaysEvents (not l.early) l.initial.core
+  lays : LaysEvents l.initial.core
       (held_events l.initial.held ++ emitter_event (body_of l.event) ∷ []) l.core
       (held_events l.held ++ emitter_event (body_of l.event) ∷ []);
   utf8 : HeldUtf8 l.held;

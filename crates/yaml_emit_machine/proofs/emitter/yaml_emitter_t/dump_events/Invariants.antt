@@ -6,7 +6,7 @@ use Rattle.yaml_emit_machine.proofs.emitter.yaml_emitter_t.dump_events.Given as 
 -- some events were taken, and the others are still to come
 abbrev pub invariant-loop : goal.invariant-loop
 invariant-loop l = record {
-  may : MayDump l.early l.document l.self l.events;
+  may : MayDump l.document l.self l.events;
   dumps : Dumps l.initial.self (remaining_events l.document l.initial.events) l.self
       (remaining_events l.document l.events);
 }

@@ -1,6 +1,6 @@
 use Rattle.std.proofs.Common.{◌∙◌, refl, rules}
-use Rattle.yaml_emit_text.specs.Layout.{stay}
-use Rattle.yaml_emit_state.proofs.Noting.{notes_starved}
+use Rattle.yaml_emit_layout.specs.Layout.{stay}
+use Rattle.yaml_emit_core.proofs.Noting.{notes_starved}
 use Rattle.yaml_emit_machine.proofs.Opened.{inside_starves}
 use Rattle.yaml_emit_machine.proofs.emitter.yaml_emitter_t.starve.Goals as goal
 

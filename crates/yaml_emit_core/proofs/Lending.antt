@@ -1,0 +1,61 @@
+-- What the lent parts of an event say.
+use Rattle.std.proofs.Common.{◌≡◌, ℕ, List, Bool, true, false, refl, subst, ◌∙◌, ap}
+use Rattle.std.specs.Prelude.{Option, Some, None, option_map, ◌||◌, Vec}
+use Rattle.std.specs.Option.{is_some}
+use Rattle.std.specs.Global.{Global}
+use Rattle.std.proofs.lemmas.Bool.{false≢true}
+use Rattle.yaml_types.specs.declared.yaml_encoding_t.{yaml_encoding_t}
+use Rattle.yaml_scan_model.specs.declared.yaml_tag_directive_t.{yaml_tag_directive_t}
+use Rattle.yaml_scan_model.specs.declared.yaml_version_directive_t.{yaml_version_directive_t}
+use Rattle.yaml_parse_model.specs.declared.event.yaml_event_body_t.{yaml_event_body_t}
+use Rattle.yaml_parse_model.specs.declared.event.yaml_event_body_t.TheVariants as body
+use Rattle.yaml_parse_model.specs.Events.{body_of}
+use Rattle.yaml_types.specs.declared.yaml_scalar_style_t.{yaml_scalar_style_t}
+use Rattle.yaml_emit_layout.specs.Content as said
+use Rattle.yaml_emit_layout.specs.Content.{emitter_event}
+use Rattle.yaml_emit_layout.specs.Grammar.{has}
+use Rattle.yaml_emit_core.specs.Levels.{opening}
+use Rattle.yaml_emit_core.specs.Steps.{Core, LaysOut, is_outer}
+
+has_is : {X : Type 0} (f : X → List ℕ) (t : Option X) → is_some t ≡ has (option_map f t)
+has_is f None = refl
+has_is f (Some x) = refl
+
+-- a scalar has a tag or may be untagged
+pub flagged : {X : Type 0} (f : X → List ℕ) (t : Option X) (b flags : Bool) → b ≡ is_some t
+    → (b || flags) ≡ (has (option_map f t) || flags)
+flagged f t b flags e = λ i. (e ∙ has_is f t) i || flags
+
+-- an event in other words
+pub scalar_same : (old new : Core) (empty : Bool) (a b t u : Option (List ℕ)) (v w : List ℕ)
+    (p q : Bool) (y : yaml_scalar_style_t) → a ≡ b → t ≡ u → v ≡ w
+    → LaysOut old new (said.scalar (record { anchor = a; tag = t; value = v; plain = p; quoted = q; style = y })) empty
+    → LaysOut old new (said.scalar (record { anchor = b; tag = u; value = w; plain = p; quoted = q; style = y })) empty
+scalar_same old new empty a b t u v w p q y e f g h =
+    let P : said.Scalar → Type 0 = λ z. LaysOut old new (said.scalar z) empty in
+    subst P (λ i. record { anchor = e i; tag = f i; value = g i; plain = p; quoted = q; style = y }) h
+
+pub start_same : (sequence : Bool) (old new : Core) (empty : Bool) (a b t u : Option (List ℕ))
+    (m x y : Bool) → a ≡ b → t ≡ u → x ≡ y
+    → LaysOut old new (opening sequence (record { anchor = a; tag = t; implicit = m; flow = x })) empty
+    → LaysOut old new (opening sequence (record { anchor = b; tag = u; implicit = m; flow = y })) empty
+start_same sequence old new empty a b t u m x y e f g h =
+    let P : said.Start → Type 0 = λ z. LaysOut old new (opening sequence z) empty in
+    subst P (λ i. record { anchor = e i; tag = f i; implicit = m; flow = g i }) h
+
+-- what begins or ends neither the stream nor a document is none
+pub outer_none : (e : yaml_event_body_t) → is_outer (emitter_event (body_of e)) ≡ true
+    → ((x : yaml_encoding_t) → e ≡ body.StreamStart x → ⊥) → (e ≡ body.StreamEnd → ⊥)
+    → ((v : Option yaml_version_directive_t) (ds : Vec yaml_tag_directive_t Global) (x : Bool) → e ≡ body.DocumentStart v ds x → ⊥) → ((x : Bool) → e ≡ body.DocumentEnd x → ⊥)
+    → emitter_event (body_of e) ≡ said.no_event
+outer_none body.No h a b c d = refl
+outer_none (body.StreamStart x) h a b c d = absurd (a x refl)
+outer_none body.StreamEnd h a b c d = absurd (b refl)
+outer_none (body.DocumentStart v ds x) h a b c d = absurd (c v ds x refl)
+outer_none (body.DocumentEnd x) h a b c d = absurd (d x refl)
+outer_none (body.Alias n) h a b c d = absurd (false≢true h)
+outer_none (body.Scalar n t v p q y) h a b c d = absurd (false≢true h)
+outer_none (body.SequenceStart n t m y) h a b c d = absurd (false≢true h)
+outer_none body.SequenceEnd h a b c d = absurd (false≢true h)
+outer_none (body.MappingStart n t m y) h a b c d = absurd (false≢true h)
+outer_none body.MappingEnd h a b c d = absurd (false≢true h)

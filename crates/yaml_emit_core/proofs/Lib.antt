@@ -1,0 +1,26 @@
+pub mod Entries
+mod Stacks
+pub mod Aliases
+pub mod Closings
+pub mod Depths
+pub mod Endings
+pub mod Values
+pub mod Spellings
+pub mod Opened
+pub mod Texts
+pub mod Heads
+pub mod Problems
+pub mod Seeing
+pub mod Fits
+pub mod Laying
+pub mod Noting
+pub mod Fresh
+pub mod Lending
+pub mod Finishing
+pub mod Directing
+pub mod TableLemmas
+pub mod Fronts
+pub mod Known
+pub mod Narrowing
+pub mod Numbering
+pub mod Sorting

@@ -1,0 +1,14 @@
+use Rattle.std.proofs.Common.{ap, ◌∙◌, sym}
+use Rattle.std.specs.Prelude.{◌&&◌}
+use Rattle.yaml_emit_core.proofs.Closings.{closer_due, closer_none}
+use Rattle.yaml_emit_core.proofs.nodes.put_closer.Goals as goal
+
+pub returns-then-settings-is_further : goal.returns-then-settings-is_further
+returns-then-settings-is_further c =
+    let s = c.args.settings.now in
+    closer_due s c.args.level.indent c.args.bracket _ _ _ _ (sym (ap (λ z. s.canonical && z) c.is_further.ensures) ∙ c.if-settings-is_further.true) c.requires.on.line_break (rw c.saturating_sub.ensures at c.put_last_line.ensures)
+
+pub returns-else-settings-is_further : goal.returns-else-settings-is_further
+returns-else-settings-is_further c =
+    let s = c.args.settings.now in
+    closer_none s c.args.level.indent c.args.bracket _ _ _ (sym (ap (λ z. s.canonical && z) c.is_further.ensures) ∙ c.if-settings-is_further.false) c.put_bracket.ensures

@@ -1,0 +1,15 @@
+pub mod Levels
+pub mod Pages
+pub mod Names
+pub mod Opens
+pub mod Says
+pub mod Directives
+pub mod Judged
+pub mod Seen
+pub mod Steps
+pub mod Views
+pub mod Given
+pub mod Finish
+pub mod Standing
+pub mod Prefixes
+pub mod TableView

@@ -1,0 +1,67 @@
+//! How deep a collection stands.
+
+ghost use Rattle.std.specs.Prelude.{◌≡◌, ◌≢◌, ◌<◌, None, OnOk};
+ghost use Rattle.yaml_emit_layout.specs.Layout.{stay, opener, when};
+ghost use Rattle.yaml_emit_layout.specs.Nodes.{checked};
+ghost use Rattle.yaml_emit_scalars.specs.Lays.{Lays};
+ghost use Rattle.yaml_emit_core.specs.Levels.{phase_of, stepped, opened};
+
+use crate::level::{Level, Levels};
+use std::alloc::AllocError;
+use yaml_emit_layout::Status;
+use yaml_emit_output::Draft;
+
+/// The largest indentation, in columns.
+pub const DEEPEST: u64 = 2147483647;
+
+/// An indentation that is too deep is marked, and nothing more is put.
+pub fn put_checked(draft: &mut Draft, indent: u64)
+    ensures { Lays draft.old draft.new (checked indent) stay }
+{
+    if DEEPEST < indent {
+        draft.stop_deep();
+    }
+}
+
+/// What opens a flow collection.
+pub fn put_opener(draft: &mut Draft, flow: bool, bracket: u8)
+    requires { bracket < 0x80 }
+    ensures { Lays draft.old draft.new (when flow (opener bracket)) stay }
+{
+    if flow {
+        put_some_opener(draft, bracket);
+    }
+}
+
+fn put_some_opener(draft: &mut Draft, bracket: u8)
+    requires { bracket < 0x80 }
+    ensures { Lays draft.old draft.new (opener bracket) stay }
+{
+    if draft.has_room(0) {
+        draft.put_opener(bracket);
+    }
+}
+
+/// A collection opens behind a node that it is; one that is too deep is marked, and nothing more is put. Refused only for want of
+/// memory.
+pub fn open(
+    draft: &mut Draft,
+    levels: &mut Levels,
+    level: Level,
+    simple: bool,
+) -> Result<(), AllocError>
+    requires open { phase_of level.state ≢ None }
+    ensures text { Lays draft.old draft.new (checked level.indent) stay }
+    ensures cursor { draft.new.output.status ≡ Status.Going → draft.new.output.cursor
+        ≡ draft.old.output.cursor }
+    ensures state { OnOk result (draft.new.output.status ≡ Status.Going → levels.new
+        ≡ opened (stepped levels.old simple) level) }
+{
+    if DEEPEST < level.indent {
+        draft.stop_deep();
+        Ok(())
+    } else {
+        levels.step(simple);
+        levels.push(level)
+    }
+}

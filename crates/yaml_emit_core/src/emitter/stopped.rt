@@ -1,0 +1,59 @@
+//! Whether an emitter goes on, and what comes once it has stopped.
+
+ghost use Rattle.std.specs.Prelude.{◌≡◌, Bool, false};
+ghost use Rattle.yaml_parse_model.specs.Events.{body_of};
+ghost use Rattle.yaml_emit_layout.specs.Content.{emitter_event};
+ghost use Rattle.yaml_emit_core.specs.Steps.{LaysOut, Starves, goes_on};
+
+use super::Core;
+use crate::judge::event_problem;
+use yaml_emit_layout::Status;
+use yaml_parse_model::yaml_event_body_t;
+
+impl Core {
+    /// Whether no event was refused so far, and the output goes on.
+    pub fn is_going(&self) -> bool
+        ensures { result ≡ goes_on self.now.sink.status self.now.place }
+    {
+        match self.refused {
+            Some(_) => false,
+            None => self.output.status(&self.draft).is_going(),
+        }
+    }
+
+    /// Memory was refused for what is to be laid out: the output stops, and it is noted why, unless it had stopped before.
+    pub fn starve(&mut self)
+        ensures { Starves self.old self.new }
+    {
+        if self.output.status(&self.draft).is_going() {
+            self.starved = true;
+            self.draft.starve();
+            self.output.settle(&mut self.draft);
+        }
+    }
+
+    // Once the output has stopped nothing is laid out.
+    #[cold]
+    pub(super) fn lay_late(&mut self, event: &yaml_event_body_t)
+        requires { goes_on self.old.sink.status self.old.place ≡ false }
+        ensures { (empty : Bool) → LaysOut self.old self.new (emitter_event
+            (body_of event.now)) empty }
+    {
+        if self.output.status(&self.draft).is_going() {
+            self.refuse_again(event);
+        }
+    }
+
+    // Once an event was refused, another is for the same reason, unless something is wrong with its names.
+    fn refuse_again(&mut self, event: &yaml_event_body_t)
+        requires late { goes_on self.old.sink.status self.old.place ≡ false }
+        requires going { self.old.sink.status ≡ Status.Going }
+        ensures { (empty : Bool) → LaysOut self.old self.new (emitter_event
+            (body_of event.now)) empty }
+    {
+        match event_problem(self.settings.canonical, event) {
+            Some(problem) => self.refused = Some(problem),
+            None => (),
+        }
+    }
+}

@@ -1,0 +1,111 @@
+//! The parts of an event of a node, lent.
+
+ghost use Rattle.std.specs.Prelude.{◌≡◌, option_map, IsUtf8};
+ghost use Rattle.yaml_emit_layout.specs.Content.{is_flow_sequence, is_flow_mapping};
+ghost use Rattle.yaml_emit_layout.specs.Grammar.{kept_tag};
+ghost use Rattle.yaml_parse_model.specs.Events.{text_of};
+ghost use Rattle.yaml_emit_layout.specs.Tags.{split_tag};
+ghost use Rattle.yaml_emit_core.specs.Names.{split_in};
+
+use crate::names::Spelling;
+use crate::table::DirectiveTable;
+use crate::tag::split_tag;
+use yaml_emit_layout::SplitTag;
+use yaml_types::{yaml_mapping_style_t, yaml_scalar_style_t, yaml_sequence_style_t};
+
+/// What a node may have besides its content.
+#[derive(Clone, Copy)]
+pub struct Named<'a> {
+    pub anchor: Option<&'a [u8]>,
+    pub tag: Option<&'a [u8]>,
+}
+
+/// A scalar's content: its tag may be left out where it is plain, where it isn't.
+#[derive(Clone, Copy)]
+pub struct Value<'a> {
+    pub value: &'a [u8],
+    pub plain: bool,
+    pub quoted: bool,
+    pub style: yaml_scalar_style_t,
+}
+
+/// An anchor and a tag, lent.
+pub fn names_of<'a>(anchor: &'a Option<Vec<u8>>, tag: &'a Option<Vec<u8>>) -> Named<'a>
+    ensures anchor { option_map (λ t. t.now) result.anchor ≡ text_of anchor.now }
+    ensures tag { option_map (λ t. t.now) result.tag ≡ text_of tag.now }
+{
+    Named {
+        anchor: anchor.as_deref(),
+        tag: tag.as_deref(),
+    }
+}
+
+/// A tag where it is written: in pretty form one that may be left out isn't.
+pub fn kept_tag<'a>(canonical: bool, left_out: bool, tag: Option<&'a [u8]>) -> Option<&'a [u8]>
+    ensures { option_map (λ t. t.now) result ≡ kept_tag canonical left_out (option_map
+        (λ t. t.now) tag.entry) }
+{
+    if canonical | !left_out { tag } else { None }
+}
+
+/// A tag as a document's directives cut it.
+pub fn cut_tag<'a>(directives: &'a DirectiveTable, tag: &'a [u8]) -> Spelling<'a>
+    ensures { split_in result ≡ split_tag directives.now tag.now }
+{
+    match split_tag(directives, tag) {
+        SplitTag::Primary(rest) => Spelling {
+            whole: false,
+            handle: b"!",
+            rest,
+        },
+        SplitTag::Secondary(rest) => Spelling {
+            whole: false,
+            handle: b"!!",
+            rest,
+        },
+        SplitTag::Shorthand(handle, rest) => Spelling {
+            whole: false,
+            handle,
+            rest,
+        },
+        SplitTag::Verbatim(tag) => Spelling {
+            whole: true,
+            handle: b"",
+            rest: tag,
+        },
+    }
+}
+
+/// The same where there is one.
+pub fn cut_tag_if<'a>(directives: &'a DirectiveTable, tag: Option<&'a [u8]>) -> Option<Spelling<'a>>
+    ensures { option_map split_in result
+        ≡ option_map (split_tag directives.now) (option_map (λ t. t.now) tag.entry) }
+{
+    match tag {
+        None => None,
+        Some(tag) => Some(cut_tag(directives, tag)),
+    }
+}
+
+/// Whether a sequence's style is flow.
+pub fn is_flow_sequence(style: yaml_sequence_style_t) -> bool
+    ensures { result ≡ is_flow_sequence style }
+{
+    matches!(style, yaml_sequence_style_t::YAML_FLOW_SEQUENCE_STYLE)
+}
+
+/// Whether a mapping's style is flow.
+pub fn is_flow_mapping(style: yaml_mapping_style_t) -> bool
+    ensures { result ≡ is_flow_mapping style }
+{
+    matches!(style, yaml_mapping_style_t::YAML_FLOW_MAPPING_STYLE)
+}
+
+/// A text in UTF-8.
+pub fn text_in(bytes: &[u8]) -> &str
+    requires { IsUtf8 bytes.now }
+    ensures { result.now ≡ bytes.now }
+{
+    // Sound, since it is UTF-8.
+    unsafe { str::from_utf8_unchecked(bytes) }
+}

@@ -1,0 +1,72 @@
+//! How deep a collection is indented.
+
+ghost use Rattle.std.specs.Prelude.{◌≡◌, ◌<◌, ◌^◌, Bool, false};
+ghost use Rattle.yaml_emit_layout.specs.Nodes.{deeper, indent_of};
+ghost use Rattle.yaml_emit_layout.specs.State.{position_of};
+ghost use Rattle.yaml_emit_core.specs.Levels.{level_of};
+
+use crate::level::Level;
+use yaml_emit_layout::Settings;
+use yaml_emit_output::Draft;
+
+/// Whether a node stands in a flow collection.
+pub fn is_in_flow(level: Level) -> bool
+    ensures { (simple : Bool) → result ≡ (position_of (level_of level) simple).flow }
+{
+    level.state.is_inside() & level.flow
+}
+
+/// One indent deeper than the innermost collection.
+pub fn deeper(settings: &Settings, level: Level) -> u64
+    requires step { settings.now.indent < 2 ^ 31 }
+    requires narrow { level.indent < 2 ^ 31 }
+    ensures value { (simple : Bool) → result ≡ deeper settings.now (position_of
+        (level_of level) simple).around }
+    ensures few { result < 2 ^ 32 }
+{
+    if level.state.is_inside() {
+        level.indent + settings.indent
+    } else {
+        settings.indent
+    }
+}
+
+// Of a block collection: a sequence that is a key or a value keeps the indentation round it where the line isn't bare.
+fn block_indent(draft: &Draft, settings: &Settings, level: Level, sequence: bool) -> u64
+    requires step { settings.now.indent < 2 ^ 31 }
+    requires narrow { level.indent < 2 ^ 31 }
+    ensures value { (simple : Bool) → result
+        ≡ indent_of settings.now (position_of
+        (level_of level) simple) sequence false draft.now.output.cursor }
+    ensures few { result < 2 ^ 32 }
+{
+    if !level.state.is_inside() {
+        0
+    } else if sequence & (!level.state.is_item() & !draft.is_bare()) {
+        level.indent
+    } else {
+        level.indent + settings.indent
+    }
+}
+
+/// The indentation of a collection that opens at the cursor.
+pub fn indent_of(
+    draft: &Draft,
+    settings: &Settings,
+    level: Level,
+    sequence: bool,
+    flow: bool,
+) -> u64
+    requires step { settings.now.indent < 2 ^ 31 }
+    requires narrow { level.indent < 2 ^ 31 }
+    ensures value { (simple : Bool) → result
+        ≡ indent_of settings.now (position_of
+        (level_of level) simple) sequence flow draft.now.output.cursor }
+    ensures few { result < 2 ^ 32 }
+{
+    if flow {
+        deeper(settings, level)
+    } else {
+        block_indent(draft, settings, level, sequence)
+    }
+}

@@ -1,0 +1,30 @@
+use Rattle.std.proofs.Common.{rules, ◌≡◌, ◌+◌, ◌-◌, length, true, arith}
+use Rattle.std.specs.Prelude.{not}
+use Rattle.yaml_emit_layout.specs.Layout.{gap}
+use Rattle.yaml_scan_runs.specs.Placed.{due_byte}
+use Rattle.yaml_emit_output.proofs.Puts.{utf8_gap, gap_placed, few_due}
+use Rattle.yaml_emit_output.proofs.Pages.{writes_placed, draft_placed}
+use Rattle.yaml_emit_output.proofs.draft.Draft.put_gap.Goals as goal
+
+pub returns : goal.returns
+returns c =
+    let s = c.self.inside in
+    let value = c.as_mut_slice.ensures.value in
+    let end = c.place_if-self-inside.result in
+    let buf = c.place_if-self-inside.new.buf in
+    let placed = c.place_if-self-inside.ensures in
+    let column : s.before + (end - s.origin) ≡ s.before + (s.len - s.origin) + (end - s.len) = omega (arith, c.self.invariant.origin, placed.moved) in
+    let count : s.before + (end - s.origin) ≡ s.before + (s.len - s.origin) + length (due_byte (not s.white) 32) = omega (arith, column, placed.moved) in
+    rw (← c.self.view_is) (writes_placed s _ buf end s.origin s.before true s.bare gap _ 1 c.self.invariant (search rules) value placed (search rules) (search rules) (few_due (not s.white) 32)
+    (gap_placed (s.before + (end - s.origin)) _ count))
+
+pub invariant_of-self : goal.invariant_of-self
+invariant_of-self c =
+    let s = c.self.inside in
+    let value = c.as_mut_slice.ensures.value in
+    let end = c.place_if-self-inside.result in
+    let buf = c.place_if-self-inside.new.buf in
+    let placed = c.place_if-self-inside.ensures in
+    let column : s.before + (end - s.origin) ≡ s.before + (s.len - s.origin) + (end - s.len) = omega (arith, c.self.invariant.origin, placed.moved) in
+    let count : s.before + (end - s.origin) ≡ s.before + (s.len - s.origin) + length (due_byte (not s.white) 32) = omega (arith, column, placed.moved) in
+    draft_placed s _ buf end s.origin s.before true s.bare _ 1 c.self.invariant (search rules) value placed (search rules) (few_due (not s.white) 32) (utf8_gap (not s.white)) (omega (arith, c.self.invariant.origin, placed.moved)) (search rules)

@@ -1,0 +1,12 @@
+use Rattle.std.proofs.Common.{sym, ◌∙◌}
+use Rattle.yaml_emit_scalars.proofs.LaysLemmas.{lays_none, lays_asked, lays_refused}
+use Rattle.yaml_emit_scalars.proofs.asked.put_part.Goals as goal
+
+pub returns-then-is_empty : goal.returns-then-is_empty
+returns-then-is_empty c = lays_none _ _ (sym c.is_empty.ensures ∙ c.if-is_empty.true)
+
+pub returns-then-has_room : goal.returns-then-has_room
+returns-then-has_room c = lays_asked _ _ _ _ _ c.has_room.ensures.puts c.has_room.ensures.set c.put_part.ensures
+
+pub returns-else-has_room : goal.returns-else-has_room
+returns-else-has_room c = lays_refused _ _ _ c.has_room.ensures.puts c.has_room.ensures.set (c.has_room.ensures.stopped c.if-has_room.false)

@@ -1,0 +1,15 @@
+use Rattle.std.proofs.Common.{◌-◌, ◌≤◌, length}
+use Rattle.yaml_emit_scalars.specs.Classes.{Covers}
+use Rattle.yaml_emit_scalars.proofs.class.classes_of.Given as goal
+
+abbrev pub invariant-rows : goal.invariant-rows
+invariant-rows l = (l.at ≤ length l.text) × Covers l.all l.text 0 l.at
+
+abbrev pub decreases-rows : goal.decreases-rows
+decreases-rows l = length l.text - l.at
+
+abbrev pub invariant-bytes : goal.invariant-bytes
+invariant-bytes l = (l.at ≤ length l.text) × Covers l.all l.text 0 l.at
+
+abbrev pub decreases-bytes : goal.decreases-bytes
+decreases-bytes l = length l.text - l.at

@@ -1,0 +1,4 @@
+pub mod Lays
+pub mod Classes
+pub mod Runs
+pub mod Calm

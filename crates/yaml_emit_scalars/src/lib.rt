@@ -1,0 +1,18 @@
+//! Scalars on a draft: their styles, and their texts in runs.
+#![tactic(auto)]
+
+mod asked;
+mod block;
+mod class;
+mod flow;
+mod letters;
+mod quoted;
+mod run;
+mod scalar;
+mod style;
+mod word;
+
+pub use class::classes_of;
+pub use scalar::put_scalar;
+pub use style::{allowed_by, taken};
+pub use word::put_word;

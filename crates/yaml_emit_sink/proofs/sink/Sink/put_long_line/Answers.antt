@@ -1,5 +1,0 @@
-use Rattle.yaml_emit_sink.proofs.Sinks.{puts_both}
-use Rattle.yaml_emit_sink.proofs.sink.Sink.put_long_line.Goals as goal
-
-pub returns : goal.returns
-returns c = puts_both _ _ _ _ _ c.put_new_line.ensures c.put_blanks.ensures

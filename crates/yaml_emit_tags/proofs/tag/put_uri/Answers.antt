@@ -1,8 +1,0 @@
-use Rattle.yaml_emit_tags.proofs.Spells.{uri_more, uri_all}
-use Rattle.yaml_emit_tags.proofs.tag.put_uri.Goals as goal
-
-pub loop-byte-preserved : goal.loop-byte-preserved
-loop-byte-preserved c = uri_more _ _ _ _ _ _ c.loop-byte-test.true c.loop-byte.invariant c.put_uri_byte.ensures
-
-pub returns : goal.returns
-returns c = uri_all _ _ _ _ _ c.loop-byte-test.false c.loop-byte.invariant

@@ -1,5 +1,0 @@
-use Rattle.yaml_emit_text.proofs.Spelled.{quoted-spells}
-use Rattle.yaml_emit_text.proofs.laws.quoted_spells.Goals as goal
-
-pub returns : goal.returns
-returns c = quoted-spells

@@ -1,5 +1,0 @@
-use Rattle.yaml_emit_sink.proofs.Sinks.{puts_letters}
-use Rattle.yaml_emit_text.proofs.quoted.put_hex_8.Goals as goal
-
-pub returns : goal.returns
-returns c = puts_letters _ _ _ _ _ c.put_hex_4.ensures c.put_hex_4-2.ensures

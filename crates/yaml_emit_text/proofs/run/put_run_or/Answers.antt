@@ -1,9 +1,0 @@
-use Rattle.std.proofs.Common.{sym, ◌∙◌}
-use Rattle.yaml_emit_sink.proofs.Sinks.{owes_same}
-use Rattle.yaml_emit_text.proofs.run.put_run_or.Goals as goal
-
-pub returns-then-is_break-clause-text : goal.returns-then-is_break-clause-text
-returns-then-is_break-clause-text c = λ body keeps. owes_same _ _
-
-pub returns-else-is_break-clause-text : goal.returns-else-is_break-clause-text
-returns-else-is_break-clause-text c = λ body keeps. c.put_run.ensures.text body (keeps (sym c.is_break.ensures ∙ c.if-is_break.false))

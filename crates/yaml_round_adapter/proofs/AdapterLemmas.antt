@@ -4,7 +4,7 @@ use Rattle.std.proofs.lemmas.List.Elements.{All-nil, All-head, All-tail}
 use Rattle.yaml_scan.specs.declared.yaml_encoding_t.{yaml_encoding_t}
 use Rattle.yaml_scan.specs.Tokens.{Token, TokenBody, no_token}
 use Rattle.yaml_scan.specs.Tokens as token
-use Rattle.yaml_parse_model.specs.Source.{key_of}
+use Rattle.yaml_parse_model.specs.Source.{key_of, front_of, rest_of, MayAnswer, HasMore, GivesToken, GivesFault, LendsNext}
 use Rattle.yaml_scan.specs.declared.Lent.{Lent}
 use Rattle.yaml_scan.specs.declared.Lent.TheVariants.{Taken, Left, Refused}
 use Rattle.yaml_scan.specs.Faults.{Fault}
@@ -20,7 +20,6 @@ use Rattle.yaml_scan.specs.scan_history.Remaining.{Remaining, nothing}
 use Rattle.yaml_scan.specs.Scanned.{scanned_in, scanned}
 use Rattle.yaml_scan.specs.Session as session
 use Rattle.yaml_scan.specs.Session.{View, Takes, HoldsLittle, EndsAnswered, begun, ended, first_of, others_of, behind_first}
-use Rattle.yaml_parse_model.specs.Source.{front_of, rest_of, MayAnswer, HasMore, GivesToken, GivesFault, LendsNext}
 use Rattle.yaml_round_adapter.specs.Adapted.{adapted, spells_text, tag_fault}
 use Rattle.yaml_round_adapter.specs.Adapter.{IsStep, TakesText, Stops}
 use Rattle.yaml_round_laws_adapted.proofs.AdaptedLemmas.{taken, refused, failed}

@@ -3,7 +3,7 @@ use Rattle.std.proofs.Common.{◌≡◌, inl, refl, ℕ, pos, subst, List, Optio
 use Rattle.yaml_parse.specs.Events.{EventBody}
 use Rattle.yaml_parse.specs.Faults.{Fault, emit_layers}
 use Rattle.yaml_parse.specs.declared.yaml_origin_t.TheVariants.{Emitter}
-use Rattle.yaml_emit.specs.emit_text.declared.RequestedSettings.{RequestedSettings}
+use Rattle.yaml_emit.specs.emit_layout.declared.RequestedSettings.{RequestedSettings}
 use Rattle.yaml_round_answers.specs.declared.answer.yaml_c_answer.{yaml_c_answer}
 use Rattle.yaml_round_records.specs.Written.{IsEmitted}
 use Rattle.yaml_round_records.specs.Leading.{all_events}

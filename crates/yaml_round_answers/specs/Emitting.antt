@@ -2,7 +2,7 @@
 use Rattle.std.specs.Prelude.{ℕ, List, Option, None, Some}
 use Rattle.yaml_parse.specs.Events.{EventBody}
 use Rattle.yaml_parse.specs.Faults.{emit_layers}
-use Rattle.yaml_emit.specs.emit_text.declared.RequestedSettings.{RequestedSettings}
+use Rattle.yaml_emit.specs.emit_layout.declared.RequestedSettings.{RequestedSettings}
 use Rattle.yaml_round_answers.specs.declared.answer.yaml_c_answer.{yaml_c_answer}
 use Rattle.yaml_round_records.specs.declared.yaml_c_directive.{yaml_c_directive}
 use Rattle.yaml_round_records.specs.declared.yaml_c_event.{yaml_c_event}

@@ -1,7 +1,7 @@
 -- How a value ends.
 use Rattle.std.proofs.Common.{◌≡◌, ◌∙◌, ℕ, ◌-◌, ◌==◌, List, [], ◌∷◌, length, get_or, true, false, refl, ap, arith}
 use Rattle.std.proofs.lemmas.Bool.Decides.{nat_tests}
-use Rattle.yaml_round_laws_documents.specs.round_content.emit_text.Style.{last_or}
+use Rattle.yaml_round_laws_documents.specs.round_content.emit_layout.Style.{last_or}
 
 last_at : (before x : ℕ) (xs : List ℕ) → get_or (x ∷ xs) (length xs) 0 ≡ last_or before (x ∷ xs)
 unfolding last_or

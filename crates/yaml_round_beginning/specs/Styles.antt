@@ -8,7 +8,7 @@ use Rattle.yaml_parse_model.specs.Events.{EventBody, TagDirective}
 use Rattle.yaml_emit_layout.specs.Content.{Event}
 use Rattle.yaml_emit_layout.specs.Nodes.{has_version, has_directives}
 use Rattle.yaml_round_laws_documents.specs.round_content.Content.{content_of}
-use Rattle.yaml_round_laws_documents.specs.round_content.emit_text.Style.{last_or}
+use Rattle.yaml_round_laws_documents.specs.round_content.emit_layout.Style.{last_or}
 use Rattle.yaml_round_laws_documents.specs.Readable.{readable_style}
 use Rattle.yaml_round_laws_documents.specs.Restyled as restyled
 use Rattle.yaml_round_laws_documents.specs.Restyled.{mark_by, is_first, is_start, next_position, readable_event}

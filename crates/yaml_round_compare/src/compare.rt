@@ -57,7 +57,7 @@ fn compared_event(event: &mut yaml_event_t, second: &mut Reading<'_>) -> Next
     ensures { StepsBeside (event_of event.old) second.old.parser result (event_of event.new)
         second.new }
 {
-    match second.next::<()>() {
+    match second.next() {
         yaml_found_t::Refused => Next::Refused(yaml_side_t::Second),
         yaml_found_t::End => Next::Different,
         yaml_found_t::Event => judged(event, &mut second.event),
@@ -71,7 +71,7 @@ fn compared_end(second: &mut Reading<'_>) -> Next
     requires { AreReal second.old.parser.events }
     ensures { StepsAlone second.old.parser result second.new.fault second.new.parser }
 {
-    match second.next::<()>() {
+    match second.next() {
         yaml_found_t::Refused => Next::Refused(yaml_side_t::Second),
         yaml_found_t::End => Next::End,
         yaml_found_t::Event => Next::Different,
@@ -85,7 +85,7 @@ fn compared_next(first: &mut Reading<'_>, second: &mut Reading<'_>) -> Next
     requires { BothReal first.old.parser second.old.parser }
     ensures { StepsOn first.old second.old result first.new second.new }
 {
-    match first.next::<()>() {
+    match first.next() {
         yaml_found_t::Refused => Next::Refused(yaml_side_t::First),
         yaml_found_t::End => compared_end(second),
         yaml_found_t::Event => compared_event(&mut first.event, second),

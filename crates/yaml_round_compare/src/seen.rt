@@ -21,7 +21,7 @@ fn found_at(
 {
     let mut left = number;
     'events: loop {
-        match reading.next::<()>() {
+        match reading.next() {
             yaml_found_t::Refused => return Err(reading.fault),
             yaml_found_t::End => {
                 let zero = yaml_mark_t {

@@ -67,8 +67,8 @@ unfoldable pub use Rattle.yaml_round_content.specs.emit_laws_dumps.emit_graph.Gr
 pub use Rattle.yaml_round_content.specs.emit_layout.Content.{Opening, Scalar, Start, alias_node, emitter_event, scalar_node}
 pub use Rattle.yaml_round_content.specs.emit_layout.Nodes.{Context, before_item, before_key, before_value, checked, deeper, end_layout, key_part, page_at, position, properties_text, root_position}
 unfoldable pub use Rattle.yaml_round_content.specs.emit_layout.Nodes.{documents_layout, is_simple, is_simple_alias, is_simple_scalar, is_simple_start, items_layout, node_layout, pairs_layout, scalar_layout, start_layout, stream_layout, style_of}
-pub use Rattle.yaml_round_content.specs.emit_text.Layout.{Layout, opener, order_mark, when, word, written, ◌▹◌}
-pub use Rattle.yaml_round_content.specs.emit_text.declared.Settings.{Settings}
+pub use Rattle.yaml_round_content.specs.emit_layout.Layout.{Layout, opener, order_mark, when, word, written, ◌▹◌}
+pub use Rattle.yaml_round_content.specs.emit_layout.declared.Settings.{Settings}
 pub use Rattle.yaml_round_content.specs.parse_grammar.Resolve.{Directives, Reading, Settled, Told, behind_event, default_prefix, gave, is_known_version, no_directives, node_event, noted, or_default, placed, read_on, refused, resolved, settle, settle_body, with_resolved, with_tag, with_version}
 unfoldable pub use Rattle.yaml_round_content.specs.parse_grammar.Resolve.{directive_for, reading}
 pub use Rattle.yaml_round_content.specs.parse_grammar.TreeSteps.{items, items_colon, items_content, items_directives, items_documents, items_ends, items_entries, items_first, items_items, items_maybe, items_more, items_node, items_others, items_pairs}

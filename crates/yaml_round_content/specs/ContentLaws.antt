@@ -6,9 +6,9 @@ use Rattle.yaml_round_content.specs.parse_model.Events.{EventBody}
 use Rattle.yaml_round_content.specs.parse_grammar.Resolve.{Told}
 use Rattle.yaml_round_content.specs.emit_layout.Content as emit
 use Rattle.yaml_round_content.specs.emit_layout.Streams.{IsStream}
-use Rattle.yaml_round_content.specs.emit_text.Text.{Item}
-use Rattle.yaml_round_content.specs.emit_text.declared.Encoding.{Encoding}
-use Rattle.yaml_round_content.specs.emit_text.declared.RequestedSettings.{RequestedSettings}
+use Rattle.yaml_round_content.specs.emit_layout.Text.{Item}
+use Rattle.yaml_round_content.specs.emit_layout.declared.Encoding.{Encoding}
+use Rattle.yaml_round_content.specs.emit_layout.declared.RequestedSettings.{RequestedSettings}
 use Rattle.yaml_round_content.specs.Events.{emitter_events, contents}
 use Rattle.yaml_round_content.specs.Input.{events_of, ending_of}
 use Rattle.yaml_round_content.specs.Said.{Document, stream_says, HasContent}

@@ -36,4 +36,3 @@ pub use Rattle.yaml_emit_laws_dumps.specs.parse_model
 pub use Rattle.yaml_emit_laws_dumps.specs.parse_grammar
 pub use Rattle.yaml_emit_laws_dumps.specs.parse_laws_trees
 pub use Rattle.yaml_emit_laws_dumps.specs.emit_layout
-pub use Rattle.yaml_emit_laws_dumps.specs.emit_layout.emit_text

@@ -4,9 +4,9 @@ use Rattle.yaml_round_content.specs.scan_model.declared.yaml_encoding_t.{yaml_en
 use Rattle.yaml_round_content.specs.parse_model.Constructors.{HasUtf8}
 use Rattle.yaml_round_content.specs.parse_grammar.Resolve.{Told}
 use Rattle.yaml_round_content.specs.emit_layout.Streams.{IsStream}
-use Rattle.yaml_round_content.specs.emit_text.Text.{Item}
-use Rattle.yaml_round_content.specs.emit_text.declared.Encoding.{Encoding}
-use Rattle.yaml_round_content.specs.emit_text.declared.RequestedSettings.{RequestedSettings}
+use Rattle.yaml_round_content.specs.emit_layout.Text.{Item}
+use Rattle.yaml_round_content.specs.emit_layout.declared.Encoding.{Encoding}
+use Rattle.yaml_round_content.specs.emit_layout.declared.RequestedSettings.{RequestedSettings}
 use Rattle.yaml_round_content.specs.Events.{emitter_events}
 use Rattle.yaml_round_content.specs.Input.{events_of}
 use Rattle.yaml_round_content.specs.Said.{Document, HasContent}

@@ -2,7 +2,7 @@
 use Rattle.std.proofs.Common.{◌≡◌, ℕ, ◌+◌, ◌/◌, ◌%◌, ◌<◌, Bool, true, false, ◌&&◌, nat_lt, if◌then◌else◌, List, [], ◌∷◌, ◌++◌, refl, arith, inl, inr, nat_eq}
 use Rattle.yaml_round_laws_documents.proofs.PrettyWords.{cases_Bool, ltb-true, and_parts, ne_eqb, eqb-true, nat_tests, Item, letter, deep, shown, char_bytes, encode, start, nothing_more, documents_layout, stream_layout, encoding_of, mark_length, PrettyBytesDecode, nothing_allowed}
 use Rattle.yaml_emit_laws_text.specs.scan_history.scan_decode.Characters.{is_allowed}
-use Rattle.yaml_emit_laws_text.specs.emit_text.declared.Encoding.TheVariants.{Utf8}
+use Rattle.yaml_emit_laws_text.specs.emit_layout.declared.Encoding.TheVariants.{Utf8}
 use Rattle.yaml_round_laws_documents.proofs.CanonicalJoining.{decodes}
 use Rattle.yaml_round_laws_documents.proofs.PrettyLayouts.{documents_tame}
 use Rattle.yaml_round_laws_documents.proofs.Layouts.{Allowed}

@@ -2,7 +2,7 @@
 use Rattle.std.proofs.Common.{◌≡◌, ℕ, true, false, List, ◌∷◌, drop, Ok, sym, ap, subst, ◌∙◌}
 use Rattle.yaml_round_laws_documents.proofs.Words.{yaml_encoding_t, YAML_ANY_ENCODING, YAML_UTF8_ENCODING, YAML_UTF16LE_ENCODING, YAML_UTF16BE_ENCODING, encoding_of, mark_length, decoded_text, Spells, spellings, Utf8, Utf16Le, Utf16Be, Settings, Item, letter, encode, shown, Rest, order_mark, start, nothing_more, Document, documents_layout, stream_layout, DocumentsAreSpellable, encoding_named, canonical_bytes, canonical_text, CanonicalBytesDecode}
 use Rattle.yaml_round_content.proofs.CompleteLemmas.{spells_decoded}
-use Rattle.yaml_emit_laws_text.specs.emit_text.declared.Encoding.{Encoding}
+use Rattle.yaml_emit_laws_text.specs.emit_layout.declared.Encoding.{Encoding}
 use Rattle.yaml_round_laws_documents.proofs.Encoding.{bytes_8, bytes_le, bytes_be, bytes_utf8}
 use Rattle.yaml_round_laws_documents.proofs.Characters.{all_pass}
 use Rattle.yaml_round_laws_documents.proofs.Layouts.{Allowed, nothing_allowed}

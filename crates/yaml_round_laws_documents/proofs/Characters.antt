@@ -3,7 +3,7 @@ use Rattle.std.proofs.Common.{◌≡◌, ◌⊎◌, inl, inr, ℕ, zero, suc, �
 use Rattle.yaml_round_laws_documents.proofs.Words.{AllPass, list_all, All-nil, All-cons, cases_Bool, cases_lt, and_parts, or_parts, not-false, eqb-true, ltb-true, nat_tests, is_alpha_byte, is_digit_byte, is_break, is_printable, needs_escape, escape_letter, escape_text, hex_4, hex_8, suffix_keeps, prefix_keeps, keeps_byte, uri_byte, uri_text}
 use lib.Utf8.{scalar, scalars, encode}
 use Rattle.yaml_emit_laws_text.specs.scan_history.scan_decode.Characters.{is_allowed}
-use Rattle.yaml_emit_laws_text.specs.emit_text.Hex.{hex_digit, hex_2}
+use Rattle.yaml_emit_laws_text.specs.emit_layout.Hex.{hex_digit, hex_2}
 use Rattle.yaml_emit_laws_text.proofs.Pieces.{top_of}
 
 abbrev pub Fits : ℕ → Type 0

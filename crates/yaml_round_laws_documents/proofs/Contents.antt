@@ -5,7 +5,7 @@ use Rattle.yaml_round_content.specs.parse_grammar.parse_model.declared.yaml_scal
 use Rattle.yaml_round_content.specs.parse_grammar.parse_model.declared.yaml_scalar_style_t.TheVariants.{YAML_ANY_SCALAR_STYLE}
 use Rattle.yaml_round_content.specs.parse_grammar.parse_model.Events as event
 use Rattle.yaml_round_content.specs.Content.{content_of, counts_as_plain}
-use Rattle.yaml_emit_laws_text.specs.emit_text.declared.Style.TheVariants as style
+use Rattle.yaml_emit_laws_text.specs.emit_layout.declared.Style.TheVariants as style
 use Rattle.yaml_emit_laws_text.specs.emit_layout.declared.level.Part.TheVariants as part
 use Rattle.yaml_emit_laws_text.specs.emit_layout.Content as emit
 use Rattle.yaml_round_content.proofs.Saying.{no_mark}

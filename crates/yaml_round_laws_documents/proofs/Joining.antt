@@ -2,7 +2,7 @@
 use Rattle.std.proofs.Common.{◌≡◌, ℕ, ◌<◌, ◌&&◌, nat_le, if◌then◌else◌, List, Ok, refl, sym, ap, ◌∙◌, ℤ, pos, negsuc, arith}
 use Rattle.yaml_round_laws_documents.proofs.Words.{nat_tests, yaml_encoding_t, YAML_ANY_ENCODING, decoded_text, Remaining, adapted, contents, events_of, ending_of, read, parsed, tokens_of, stream_says, written_documents, canon, canon_encoding, SaysIsInjective, WrittenTagsAreReadable, CanonicalBytesDecode, encoding_named, canonical_text, CanonicalTokensPass, without_fault, CanonicalTokensSayContent, CanonIsScanned, CanonReadsBack, CanonTellsContents}
 use Rattle.yaml_round_laws_documents.specs.emit_laws_text.scan_history.Scanned.{scanned, scanned_in}
-use Rattle.yaml_round_laws_documents.specs.emit_laws_text.emit_layout.emit_text.Settings.{settled, settled_indent}
+use Rattle.yaml_round_laws_documents.specs.emit_laws_text.emit_layout.Settings.{settled, settled_indent}
 use Rattle.yaml_emit_laws_text.specs.TextLaws.{CanonicalTextIsRead}
 use Rattle.yaml_round_laws_documents.proofs.Premises.{are_writable, are_spellable, have_texts, are_parsable}
 

@@ -1,8 +1,8 @@
 -- Layouts that write characters which a stream may hold.
 use Rattle.std.proofs.Common.{ℕ, zero, suc, ◌+◌, ◌-◌, Bool, true, false, List, [], ◌∷◌, if◌then◌else◌}
-use Rattle.yaml_emit_laws_text.specs.emit_text.declared.Cursor.{Cursor}
-use Rattle.yaml_emit_laws_text.specs.emit_text.declared.LineBreak.{LineBreak}
-use Rattle.yaml_emit_laws_text.specs.emit_text.declared.LineBreak.TheVariants.{Lf, Cr, CrLf}
+use Rattle.yaml_emit_laws_text.specs.emit_layout.declared.Cursor.{Cursor}
+use Rattle.yaml_emit_laws_text.specs.emit_layout.declared.LineBreak.{LineBreak}
+use Rattle.yaml_emit_laws_text.specs.emit_layout.declared.LineBreak.TheVariants.{Lf, Cr, CrLf}
 use Rattle.yaml_round_laws_documents.proofs.Words.{Item, letter, deep, shown, Layout, Rest, ◌▹◌, stay, choose, when, char, letters, blank, blanks, break, new_line, gap, is_white, word, opener, must_break, indent_to, line, keep}
 use Rattle.yaml_round_laws_documents.proofs.Characters.{Fits, AllFit, is_32, feed_fits, return_fits}
 

@@ -14,7 +14,7 @@ use Rattle.yaml_emit_laws_pretty.specs.Bodies.{is_empty}
 use Rattle.yaml_round_laws_documents.proofs.PrettyNodes.{nodes_grown, maybes_grown}
 use Rattle.std.specs.Str.{chars}
 use Rattle.yaml_round_content.specs.parse_grammar.parse_model.declared.yaml_scalar_style_t.TheVariants as asked
-use Rattle.yaml_emit_laws_text.specs.emit_text.declared.Style.TheVariants as style
+use Rattle.yaml_emit_laws_text.specs.emit_layout.declared.Style.TheVariants as style
 use Rattle.yaml_round_laws_documents.proofs.Contents.{says, content, contents_said, contents_by, documents_same}
 
 -- events, and the end without a fault

@@ -5,8 +5,8 @@ use Rattle.yaml_round_content.specs.parse_model.Tokens as token
 use Rattle.yaml_emit_laws_text.specs.scan_history.scan_decode.Decoding.{decoded_text}
 use Rattle.yaml_emit_laws_text.specs.scan_history.Remaining.{Remaining}
 use Rattle.yaml_emit_laws_text.specs.scan_history.Scanned.{scanned, scanned_in}
-use Rattle.yaml_round_content.specs.emit_text.Settings.{settled, settled_indent}
-use Rattle.yaml_emit_laws_text.specs.emit_text.declared.RequestedSettings.{RequestedSettings}
+use Rattle.yaml_round_content.specs.emit_layout.Settings.{settled, settled_indent}
+use Rattle.yaml_emit_laws_text.specs.emit_layout.declared.RequestedSettings.{RequestedSettings}
 use Rattle.yaml_emit_laws_text.specs.emit_layout.Streams.{IsStream}
 use Rattle.yaml_round_content.specs.round_laws_adapted.Adapted.{adapted}
 use Rattle.yaml_emit_laws_pretty.specs.DocLaws.{PrettyTextIsRead}

@@ -2,9 +2,9 @@
 use Rattle.std.proofs.Common.{◌≡◌, ℕ, zero, suc, ◌-◌, ◌<◌, Bool, true, false, not, ◌&&◌, ◌||◌, ◌==◌, nat_lt, if◌then◌else◌, List, [], ◌∷◌, ◌++◌, length, Option, Some, None, refl, sym, ap, subst, ◌∙◌, arith, codes, inl, inr, nat_eq, chars}
 use Rattle.yaml_round_laws_documents.proofs.PrettyWords.{false≢true, TagDirective, encoding_of, mark_length, Cursor, Page, LineBreak, Settings, Style, Item, letter, shown, is_break, is_printable, is_empty, quoted_body, value_break, cuts_at, cut, quote_char, text_char, flow_char, flow_body, block_header, chomp, chomp_mark, digit_mark, scalar_text, Layout, Rest, ◌▹◌, stay, choose, when, char, letters, blank, blanks, break, new_line, gap, is_white, word, indicator, opener, must_break, indent_to, line, is_past, keep, after_text, NodePosition, Opening, Document, Scalar, Start, Node, alias_node, scalar_node, sequence_node, mapping_node, Nodes, no_nodes, node, Pairs, no_pairs, pair, has, kept_tag, scalar_tag, start_tag, Context, context_of, MOST, is_kept, is_plain, is_simple, is_simple_part, key_part, root_position, position, deeper, page_at, checked, deep_if, line_at, anchor_text, tag_text, properties_text, style_of, mark_text, scalar_layout, alias_layout, is_flow, indent_of, indented, are_none, are_no_pairs, before_item, before_key, before_value, closer, node_layout, items_layout, pairs_layout, dots, is_directed, is_marked, version_text, directive_text, directives_text, dashes, start_layout, end_layout, stop_layout, documents_layout, IsReadable, written_readable}
 use Rattle.yaml_emit_laws_text.specs.scan_model.declared.yaml_version_directive_t.{yaml_version_directive_t}
-use Rattle.yaml_round_content.specs.emit_layout.emit_tags.Tags.{Split, shorthand, verbatim, spelled, split_tag, tag_spelling, uri_text}
-use Rattle.yaml_emit_laws_text.specs.emit_text.declared.LineBreak.TheVariants.{Lf, Cr, CrLf}
-use Rattle.yaml_emit_laws_text.specs.emit_text.declared.Style.TheVariants as style
+use Rattle.yaml_round_content.specs.emit_layout.Tags.{Split, shorthand, verbatim, spelled, split_tag, tag_spelling, uri_text}
+use Rattle.yaml_emit_laws_text.specs.emit_layout.declared.LineBreak.TheVariants.{Lf, Cr, CrLf}
+use Rattle.yaml_emit_laws_text.specs.emit_layout.declared.Style.TheVariants as style
 use Rattle.yaml_emit_laws_text.specs.emit_layout.declared.level.Part.TheVariants as part
 use Rattle.yaml_emit_laws_text.specs.Writable as text
 use Rattle.yaml_round_laws_documents.proofs.Marks.{Told}

@@ -7,7 +7,7 @@ use Rattle.yaml_round_content.specs.parse_grammar.declared.name.Wants.{Wants}
 use Rattle.yaml_round_content.specs.parse_grammar.declared.name.Site.{Site}
 use Rattle.yaml_round_content.specs.parse_grammar.Items as item
 use Rattle.yaml_round_content.specs.parse_grammar.Trees as trees
-use Rattle.yaml_emit_laws_text.specs.emit_text.declared.Style.TheVariants as style
+use Rattle.yaml_emit_laws_text.specs.emit_layout.declared.Style.TheVariants as style
 use Rattle.yaml_round_content.specs.parse_grammar.parse_model.Events as event
 use Rattle.yaml_round_content.specs.parse_grammar.declared.name.Wants.TheVariants.{Flow, Block}
 use Rattle.yaml_round_content.specs.parse_grammar.declared.name.Side.{Side}

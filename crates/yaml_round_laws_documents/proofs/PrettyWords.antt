@@ -24,18 +24,18 @@ pub use Rattle.yaml_emit_laws_text.specs.emit_layout.Nodes.{Context, MOST, ancho
 unfoldable pub use Rattle.yaml_emit_laws_text.specs.emit_layout.Nodes.{alias_layout, before_item, before_key, before_value, closer, directives_text, documents_layout, end_layout, items_layout, node_layout, pairs_layout, scalar_layout, start_layout, stop_layout, stream_layout, style_of, turned}
 pub use Rattle.yaml_emit_laws_text.specs.emit_layout.declared.level.NodePosition.{NodePosition}
 pub use Rattle.yaml_emit_laws_text.specs.emit_layout.declared.level.Part.{Part}
-pub use Rattle.yaml_emit_laws_text.specs.emit_text.Quoted.{first, is_empty, is_printable, quoted_body}
-pub use Rattle.yaml_emit_laws_text.specs.emit_text.Scalars.{adds_break, block, block_header, block_text, chomp, chomp_mark, cut, cuts_at, cuts_block, digit_char, digit_mark, line_blank, quote_char, text_char, value_break}
-unfoldable pub use Rattle.yaml_emit_laws_text.specs.emit_text.Scalars.{block_body, block_char, flow_body, flow_char, scalar_text}
-pub use Rattle.yaml_emit_laws_text.specs.emit_text.Style.{allowed_text, ends_in_space, is_break_space, is_not_flow, is_not_plain, is_special, plain_fits, plain_or, single_or, starts_badly}
-unfoldable pub use Rattle.yaml_emit_laws_text.specs.emit_text.Style.{allowed, somewhere, taken}
-pub use Rattle.yaml_emit_laws_text.specs.emit_text.declared.Allowed.{Allowed}
-pub use Rattle.yaml_emit_laws_text.specs.emit_text.declared.Cursor.{Cursor}
-pub use Rattle.yaml_emit_laws_text.specs.emit_text.declared.Encoding.{Encoding}
-pub use Rattle.yaml_emit_laws_text.specs.emit_text.declared.LineBreak.{LineBreak}
-pub use Rattle.yaml_emit_laws_text.specs.emit_text.declared.Page.{Page}
-pub use Rattle.yaml_emit_laws_text.specs.emit_text.declared.Settings.{Settings}
-pub use Rattle.yaml_emit_laws_text.specs.emit_text.declared.Style.{Style}
+pub use Rattle.yaml_emit_laws_text.specs.emit_layout.Quoted.{first, is_empty, is_printable, quoted_body}
+pub use Rattle.yaml_emit_laws_text.specs.emit_layout.Scalars.{adds_break, block, block_header, block_text, chomp, chomp_mark, cut, cuts_at, cuts_block, digit_char, digit_mark, line_blank, quote_char, text_char, value_break}
+unfoldable pub use Rattle.yaml_emit_laws_text.specs.emit_layout.Scalars.{block_body, block_char, flow_body, flow_char, scalar_text}
+pub use Rattle.yaml_emit_laws_text.specs.emit_layout.Style.{allowed_text, ends_in_space, is_break_space, is_not_flow, is_not_plain, is_special, plain_fits, plain_or, single_or, starts_badly}
+unfoldable pub use Rattle.yaml_emit_laws_text.specs.emit_layout.Style.{allowed, somewhere, taken}
+pub use Rattle.yaml_emit_laws_text.specs.emit_layout.declared.Allowed.{Allowed}
+pub use Rattle.yaml_emit_laws_text.specs.emit_layout.declared.Cursor.{Cursor}
+pub use Rattle.yaml_emit_laws_text.specs.emit_layout.declared.Encoding.{Encoding}
+pub use Rattle.yaml_emit_laws_text.specs.emit_layout.declared.LineBreak.{LineBreak}
+pub use Rattle.yaml_emit_laws_text.specs.emit_layout.declared.Page.{Page}
+pub use Rattle.yaml_emit_laws_text.specs.emit_layout.declared.Settings.{Settings}
+pub use Rattle.yaml_emit_laws_text.specs.emit_layout.declared.Style.{Style}
 pub use Rattle.yaml_round_content.specs.parse_grammar.Items.{Properties, RawEvent, Shape, node_at}
 pub use Rattle.yaml_round_content.specs.parse_grammar.Machine.{Outcome, initial}
 unfoldable pub use Rattle.yaml_round_content.specs.parse_grammar.Machine.{feed, run}
@@ -54,10 +54,10 @@ pub use Rattle.yaml_round_content.specs.Events.{contents, emitter_events}
 pub use Rattle.yaml_round_content.specs.Input.{ending_of, events_of, parsed, tokens_of}
 unfoldable pub use Rattle.yaml_round_content.specs.Input.{read}
 pub use Rattle.yaml_round_content.specs.Normalize.{is_lone_mark, normalize_body, normalize_scalar}
-pub use Rattle.yaml_round_content.specs.emit_text.Layout.{Layout, Rest, after_block, after_text, blank, break, char, choose, gap, indent_to, indicator, is_past, is_white, keep, must_break, new_line, nothing_more, opener, order_mark, start, stay, when, word, written, ◌▹◌}
-unfoldable pub use Rattle.yaml_round_content.specs.emit_text.Layout.{blanks, letters, line}
-pub use Rattle.yaml_round_content.specs.emit_text.Text.{Item, deep, is_break, letter}
-unfoldable pub use Rattle.yaml_round_content.specs.emit_text.Text.{char_bytes, encode, shown}
+pub use Rattle.yaml_round_content.specs.emit_layout.Layout.{Layout, Rest, after_block, after_text, blank, break, char, choose, gap, indent_to, indicator, is_past, is_white, keep, must_break, new_line, nothing_more, opener, order_mark, start, stay, when, word, written, ◌▹◌}
+unfoldable pub use Rattle.yaml_round_content.specs.emit_layout.Layout.{blanks, letters, line}
+pub use Rattle.yaml_round_content.specs.emit_layout.Text.{Item, deep, is_break, letter}
+unfoldable pub use Rattle.yaml_round_content.specs.emit_layout.Text.{char_bytes, encode, shown}
 pub use Rattle.yaml_round_content.specs.parse_model.Tokens.{Token, TokenBody}
 unfoldable pub use Rattle.yaml_emit_laws_text.specs.scan_history.scan_decode.Encodings.{encoding_of, mark_length}
 pub use Rattle.yaml_round_laws_documents.specs.Flags.{HasFlags, HasScalarFlags, HasStartFlags, HaveFlags, HaveReaderFlags, PairsHaveFlags, begins_with_nothing, is_asked_plain, says_nothing}

@@ -6,7 +6,7 @@ use Rattle.yaml_round_content.specs.parse_model.Events.{EventBody}
 use Rattle.yaml_emit_laws_text.specs.scan_history.scan_decode.Decoding.{decoded_text}
 use Rattle.yaml_round_content.specs.scan_history.Remaining.{Remaining}
 use Rattle.yaml_round_content.specs.scan_history.Scanned.{scanned, scanned_in}
-use Rattle.yaml_round_content.specs.emit_text.Settings.{settled}
+use Rattle.yaml_round_content.specs.emit_layout.Settings.{settled}
 use Rattle.yaml_round_content.specs.Events.{contents}
 use Rattle.yaml_round_content.specs.Input.{events_of, parsed, tokens_of}
 use Rattle.yaml_round_content.specs.Said.{stream_says}

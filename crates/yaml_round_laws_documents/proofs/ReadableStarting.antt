@@ -2,11 +2,11 @@
 use Rattle.std.proofs.Common.{◌≡◌, ℕ, ◌==◌, Bool, true, false, not, ◌&&◌, ◌||◌, if◌then◌else◌, List, [], ◌∷◌, length, Option, Some, None, refl, ap, ◌∙◌}
 use Rattle.std.specs.Str.{chars}
 use Rattle.std.proofs.Math.Bool.{and-false}
-use Rattle.yaml_round_content.specs.emit_text.declared.Settings.{Settings}
-use Rattle.yaml_round_content.specs.emit_text.declared.Allowed.{Allowed}
-use Rattle.yaml_round_content.specs.emit_text.declared.Style.{Style}
-use Rattle.yaml_round_content.specs.emit_text.declared.Style.TheVariants as style
-use Rattle.yaml_round_content.specs.emit_text.Style.{allowed, taken, single_or}
+use Rattle.yaml_round_content.specs.emit_layout.declared.Settings.{Settings}
+use Rattle.yaml_round_content.specs.emit_layout.declared.Allowed.{Allowed}
+use Rattle.yaml_round_content.specs.emit_layout.declared.Style.{Style}
+use Rattle.yaml_round_content.specs.emit_layout.declared.Style.TheVariants as style
+use Rattle.yaml_round_content.specs.emit_layout.Style.{allowed, taken, single_or}
 use Rattle.yaml_round_content.specs.emit_layout.declared.level.Part.TheVariants as part
 use Rattle.yaml_round_content.specs.emit_layout.Content as emit
 use Rattle.yaml_round_content.specs.emit_layout.Grammar.{has, scalar_tag}

@@ -15,16 +15,16 @@ pub use Rattle.yaml_emit_laws_text.specs.emit_layout.Grammar.{between, directive
 unfoldable pub use Rattle.yaml_emit_laws_text.specs.emit_layout.Grammar.{directives_problem, handle_problem}
 pub use Rattle.yaml_emit_laws_text.specs.emit_layout.Nodes.{Context, MOST, anchor_text, checked, dashes, deep_if, deeper, directive_text, dots, is_directed, is_kept, is_simple, is_simple_part, key_part, line_at, page_at, position, properties_text, question, root_position, tag_text, version_text, version_word}
 unfoldable pub use Rattle.yaml_emit_laws_text.specs.emit_layout.Nodes.{alias_layout, before_item, before_key, before_value, closer, directives_text, documents_layout, end_layout, items_layout, node_layout, pairs_layout, scalar_layout, start_layout, stop_layout, stream_layout, style_of, turned}
-pub use Rattle.yaml_emit_laws_text.specs.emit_layout.emit_tags.Tags.{Split, defaults, defines, has_shorter_prefix, in_force, keeps_byte, prefix_keeps, primary, secondary, shorthand, split_by, split_tag, tag_spelling, unless_defined, uri_byte, verbatim}
-unfoldable pub use Rattle.yaml_emit_laws_text.specs.emit_layout.emit_tags.Tags.{spelled, suffix_keeps, uri_text}
-pub use Rattle.yaml_emit_laws_text.specs.emit_text.Layout.{Layout, Rest, blank, break, char, choose, gap, indent_to, is_past, is_white, keep, must_break, new_line, nothing_more, opener, order_mark, start, stay, when, word, written, ◌▹◌}
-unfoldable pub use Rattle.yaml_emit_laws_text.specs.emit_text.Layout.{blanks, letters, line}
-pub use Rattle.yaml_emit_laws_text.specs.emit_text.Quoted.{double_quoted, escaped, first, fold, hex_4, hex_8, is_empty, is_printable, may_fold}
-unfoldable pub use Rattle.yaml_emit_laws_text.specs.emit_text.Quoted.{escape_letter, escape_text, needs_escape, quoted_body, quoted_char}
-pub use Rattle.yaml_emit_laws_text.specs.emit_text.Text.{Item, deep, is_break, letter, unit_bytes}
-unfoldable pub use Rattle.yaml_emit_laws_text.specs.emit_text.Text.{char_bytes, encode, shown}
-pub use Rattle.yaml_emit_laws_text.specs.emit_text.declared.Encoding.TheVariants.{Utf16Be, Utf16Le, Utf8}
-pub use Rattle.yaml_emit_laws_text.specs.emit_text.declared.Settings.{Settings}
+pub use Rattle.yaml_emit_laws_text.specs.emit_layout.Tags.{Split, defaults, defines, has_shorter_prefix, in_force, keeps_byte, prefix_keeps, primary, secondary, shorthand, split_by, split_tag, tag_spelling, unless_defined, uri_byte, verbatim}
+unfoldable pub use Rattle.yaml_emit_laws_text.specs.emit_layout.Tags.{spelled, suffix_keeps, uri_text}
+pub use Rattle.yaml_emit_laws_text.specs.emit_layout.Layout.{Layout, Rest, blank, break, char, choose, gap, indent_to, is_past, is_white, keep, must_break, new_line, nothing_more, opener, order_mark, start, stay, when, word, written, ◌▹◌}
+unfoldable pub use Rattle.yaml_emit_laws_text.specs.emit_layout.Layout.{blanks, letters, line}
+pub use Rattle.yaml_emit_laws_text.specs.emit_layout.Quoted.{double_quoted, escaped, first, fold, hex_4, hex_8, is_empty, is_printable, may_fold}
+unfoldable pub use Rattle.yaml_emit_laws_text.specs.emit_layout.Quoted.{escape_letter, escape_text, needs_escape, quoted_body, quoted_char}
+pub use Rattle.yaml_emit_laws_text.specs.emit_layout.Text.{Item, deep, is_break, letter, unit_bytes}
+unfoldable pub use Rattle.yaml_emit_laws_text.specs.emit_layout.Text.{char_bytes, encode, shown}
+pub use Rattle.yaml_emit_laws_text.specs.emit_layout.declared.Encoding.TheVariants.{Utf16Be, Utf16Le, Utf8}
+pub use Rattle.yaml_emit_laws_text.specs.emit_layout.declared.Settings.{Settings}
 pub use Rattle.yaml_emit_laws_text.specs.scan_history.scan_decode.Decoding.{decoded_text}
 unfoldable pub use Rattle.yaml_emit_laws_text.specs.scan_history.scan_decode.Encodings.{encoding_of, mark_length}
 pub use Rattle.yaml_emit_laws_text.specs.scan_history.scan_decode.Spelling.{Spells, spelling, spellings, units_bytes}

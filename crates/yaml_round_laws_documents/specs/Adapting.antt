@@ -5,7 +5,7 @@ use Rattle.yaml_emit_laws_text.specs.emit_layout.scan_model.Tokens.{Token}
 use Rattle.yaml_emit_laws_text.specs.emit_layout.scan_model.Tokens as token
 use Rattle.yaml_emit_laws_text.specs.scan_history.Remaining.{Remaining}
 use Rattle.yaml_emit_laws_text.specs.emit_layout.parse_model.Events.{TagDirective}
-use Rattle.yaml_emit_laws_text.specs.emit_layout.emit_tags.Tags.{split_tag}
+use Rattle.yaml_emit_laws_text.specs.emit_layout.Tags.{split_tag}
 use Rattle.yaml_emit_laws_text.specs.emit_layout.Content.{Document, Node, alias_node, scalar_node, sequence_node, mapping_node, Nodes, no_nodes, node, Pairs, no_pairs, pair}
 use Rattle.yaml_emit_laws_text.specs.TagsLaws.{IsReadable, HaveUtf8}
 use Rattle.yaml_round_content.specs.round_laws_adapted.Adapted.{adapted}

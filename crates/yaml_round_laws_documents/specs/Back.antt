@@ -5,7 +5,7 @@ use Rattle.yaml_round_laws_documents.specs.emit_laws_text.scan_model.declared.ya
 use Rattle.yaml_round_laws_documents.specs.emit_laws_text.scan_model.Tokens.{Token, TokenBody}
 use Rattle.yaml_round_laws_documents.specs.emit_laws_text.scan_model.Tokens as token
 use Rattle.yaml_round_laws_documents.specs.emit_laws_text.scan_history.Scanned.{scanned}
-use Rattle.yaml_round_laws_documents.specs.emit_laws_text.emit_layout.emit_text.declared.RequestedSettings.{RequestedSettings}
+use Rattle.yaml_round_laws_documents.specs.emit_laws_text.emit_layout.declared.RequestedSettings.{RequestedSettings}
 use Rattle.yaml_round_laws_documents.specs.emit_laws_text.emit_layout.Streams.{IsStream}
 use Rattle.yaml_round_content.specs.Said.{Document, HasContent}
 use Rattle.yaml_round_content.specs.Events.{emitter_events}

@@ -8,11 +8,11 @@ use Rattle.yaml_emit_laws_text.specs.scan_history.scan_decode.Decoding.{decoded_
 use Rattle.yaml_emit_laws_text.specs.scan_model.declared.yaml_encoding_t.{yaml_encoding_t}
 use Rattle.yaml_emit_laws_text.specs.scan_model.declared.yaml_encoding_t.TheVariants.{YAML_ANY_ENCODING, YAML_UTF8_ENCODING, YAML_UTF16LE_ENCODING, YAML_UTF16BE_ENCODING}
 use Rattle.yaml_round_content.specs.parse_model.Events.{TagDirective}
-use Rattle.yaml_emit_laws_text.specs.emit_text.declared.Encoding.{Encoding}
-use Rattle.yaml_emit_laws_text.specs.emit_text.declared.Encoding.TheVariants.{Utf8, Utf16Le, Utf16Be}
-use Rattle.yaml_emit_laws_text.specs.emit_text.declared.Settings.{Settings}
-use Rattle.yaml_emit_laws_text.specs.emit_text.Text.{encode}
-use Rattle.yaml_emit_laws_text.specs.emit_text.Layout.{written}
+use Rattle.yaml_emit_laws_text.specs.emit_layout.declared.Encoding.{Encoding}
+use Rattle.yaml_emit_laws_text.specs.emit_layout.declared.Encoding.TheVariants.{Utf8, Utf16Le, Utf16Be}
+use Rattle.yaml_emit_laws_text.specs.emit_layout.declared.Settings.{Settings}
+use Rattle.yaml_emit_laws_text.specs.emit_layout.Text.{encode}
+use Rattle.yaml_emit_laws_text.specs.emit_layout.Layout.{written}
 use Rattle.yaml_emit_laws_text.specs.emit_layout.Content.{Document, Node, alias_node, scalar_node, sequence_node, mapping_node, Nodes, no_nodes, node, Pairs, no_pairs, pair}
 use Rattle.yaml_emit_laws_text.specs.emit_layout.Grammar.{opening_problem}
 use Rattle.yaml_emit_laws_text.specs.emit_layout.Nodes.{documents_layout, stream_layout}

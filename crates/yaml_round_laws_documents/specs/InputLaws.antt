@@ -1,9 +1,9 @@
 -- What the normalized events of an input are, as an emitter in pretty form sees them.
 use Rattle.std.specs.Prelude.{◌≡◌, ℕ, false, List, [], ◌∷◌}
 use Rattle.yaml_round_content.specs.parse_grammar.parse_model.declared.yaml_encoding_t.{yaml_encoding_t}
-use Rattle.yaml_round_content.specs.emit_text.Text.{Item}
-use Rattle.yaml_emit_laws_text.specs.emit_text.declared.Encoding.{Encoding}
-use Rattle.yaml_emit_laws_text.specs.emit_text.declared.RequestedSettings.{RequestedSettings}
+use Rattle.yaml_round_content.specs.emit_layout.Text.{Item}
+use Rattle.yaml_emit_laws_text.specs.emit_layout.declared.Encoding.{Encoding}
+use Rattle.yaml_emit_laws_text.specs.emit_layout.declared.RequestedSettings.{RequestedSettings}
 use Rattle.yaml_emit_laws_text.specs.emit_layout.Content.{Document, stream_events}
 use Rattle.yaml_emit_laws_text.specs.emit_layout.Streams.{IsStream}
 use Rattle.yaml_round_content.specs.Events.{emitter_events}

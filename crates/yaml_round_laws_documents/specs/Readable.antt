@@ -4,11 +4,11 @@ use Rattle.yaml_round_content.specs.scan_model.Ascii as ascii
 use Rattle.yaml_round_content.specs.scan_model.declared.yaml_encoding_t.TheVariants.{YAML_ANY_ENCODING}
 use Rattle.yaml_round_content.specs.scan_model.declared.yaml_scalar_style_t.{yaml_scalar_style_t}
 use Rattle.yaml_round_content.specs.scan_model.declared.yaml_scalar_style_t.TheVariants.{YAML_PLAIN_SCALAR_STYLE, YAML_SINGLE_QUOTED_SCALAR_STYLE, YAML_LITERAL_SCALAR_STYLE}
-use Rattle.yaml_round_content.specs.emit_text.declared.RequestedSettings.{RequestedSettings}
-use Rattle.yaml_round_content.specs.emit_text.Settings.{settled}
-use Rattle.yaml_round_content.specs.emit_text.Text.{Item, encode}
-use Rattle.yaml_round_content.specs.emit_text.Layout.{written}
-use Rattle.yaml_round_content.specs.emit_text.Style.{last_or}
+use Rattle.yaml_round_content.specs.emit_layout.declared.RequestedSettings.{RequestedSettings}
+use Rattle.yaml_round_content.specs.emit_layout.Settings.{settled}
+use Rattle.yaml_round_content.specs.emit_layout.Text.{Item, encode}
+use Rattle.yaml_round_content.specs.emit_layout.Layout.{written}
+use Rattle.yaml_round_content.specs.emit_layout.Style.{last_or}
 use Rattle.yaml_round_content.specs.emit_layout.Content as emit
 use Rattle.yaml_round_content.specs.emit_layout.Grammar.{has}
 use Rattle.yaml_round_content.specs.scan_model.Classes.{has_break}

@@ -4,7 +4,7 @@ use Rattle.yaml_round_content.specs.parse_grammar.parse_model.declared.yaml_enco
 use Rattle.yaml_round_content.specs.parse_model.Tokens.{Token}
 use Rattle.yaml_round_content.specs.parse_model.Tokens as token
 use Rattle.yaml_round_content.specs.parse_grammar.parse_model.Events as event
-use Rattle.yaml_emit_laws_text.specs.emit_text.declared.Settings.{Settings}
+use Rattle.yaml_emit_laws_text.specs.emit_layout.declared.Settings.{Settings}
 use Rattle.yaml_round_content.specs.parse_grammar.Resolve.{Told}
 use Rattle.yaml_emit_laws_text.specs.emit_layout.Content.{Document, stream_events}
 use Rattle.yaml_round_content.specs.Events.{emitter_events, contents}

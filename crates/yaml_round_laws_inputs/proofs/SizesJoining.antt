@@ -2,8 +2,8 @@
 use Rattle.std.proofs.Common.{◌≡◌, ℕ, ◌+◌, ◌*◌, ◌/◌, ◌<◌, ◌≤◌, Bool, true, false, ◌&&◌, nat_le, List, [], ◌++◌, length, Result, Ok, Err, pos, refl, ap, subst, ◌∙◌, arith, inl, inr, IsUtf8, le_refl, mul-le-mul_left, mul-le-mul_right, mul_assoc}
 use Rattle.yaml_round_laws_inputs.proofs.SizesWords.{cases_Bool, leb-true, length-le-encodes, encode_utf8_all, ℤ, negsuc, yaml_encoding_t, YAML_ANY_ENCODING, Token, Offence, in_utf8, decoded_characters, encoding_of, SpelledText, offline, Settings, encode, is_deep, MOST, stream_layout, Stream, spell, Document, tree_content, written_documents, canon_items, adapted, RootStandsAt, unit, ascii, most_of_documents, most_bytes, by_content, text_times, most_of_read, DepthsTakeBytes, DeepInputsAreLong, ShortInputsKeepColumns, CanonicalTextsAreBounded, ContentsAreBounded, CanonicalTextsAreShort, LayoutsAreShort}
 use Rattle.yaml_round_content.specs.scan_history.Scanned.{scanned_in}
-use Rattle.yaml_round_content.specs.emit_text.Settings.{settled, settled_indent}
-use Rattle.yaml_round_content.specs.emit_text.Layout.{written}
+use Rattle.yaml_round_content.specs.emit_layout.Settings.{settled, settled_indent}
+use Rattle.yaml_round_content.specs.emit_layout.Layout.{written}
 use Rattle.yaml_round_content.specs.Input.{events_of}
 use Rattle.yaml_round_content.proofs.Joining.{read_said}
 use Rattle.yaml_round_content.specs.Reading.{HaveContent}

@@ -10,13 +10,13 @@ unfoldable pub use Rattle.yaml_emit_laws_text.specs.Depths.{ItemStandsAt, PartSt
 pub use Rattle.yaml_emit_laws_text.specs.Sizes.{anchor_bytes, ascii, larger, most_bytes, most_of_char, most_of_escape, most_of_line, most_of_quoted, properties_bytes, tag_bytes, unit}
 unfoldable pub use Rattle.yaml_emit_laws_text.specs.Sizes.{directives_bytes, most_of_documents, most_of_items, most_of_node, most_of_pairs, most_of_value, text_bytes}
 pub use Rattle.yaml_emit_laws_text.specs.emit_layout.Nodes.{Context, MOST, context_of, stream_layout}
-pub use Rattle.yaml_emit_laws_text.specs.emit_layout.emit_tags.Tags.{defaults, defines, has_shorter_prefix, in_force, primary, secondary, split_by, tag_spelling, unless_defined, uri_byte}
-unfoldable pub use Rattle.yaml_emit_laws_text.specs.emit_layout.emit_tags.Tags.{directive_for, spelled, suffix_keeps, uri_text}
-pub use Rattle.yaml_emit_laws_text.specs.emit_layout.emit_text.Hex.{hex_2}
-unfoldable pub use Rattle.yaml_emit_laws_text.specs.emit_layout.emit_text.Hex.{hex_digit}
-pub use Rattle.yaml_emit_laws_text.specs.emit_layout.emit_text.declared.Encoding.{Encoding}
-pub use Rattle.yaml_emit_laws_text.specs.emit_layout.emit_text.declared.Encoding.TheVariants.{Utf16Be, Utf16Le, Utf8}
-pub use Rattle.yaml_emit_laws_text.specs.emit_layout.emit_text.declared.Settings.{Settings}
+pub use Rattle.yaml_emit_laws_text.specs.emit_layout.Tags.{defaults, defines, has_shorter_prefix, in_force, primary, secondary, split_by, tag_spelling, unless_defined, uri_byte}
+unfoldable pub use Rattle.yaml_emit_laws_text.specs.emit_layout.Tags.{directive_for, spelled, suffix_keeps, uri_text}
+pub use Rattle.yaml_emit_laws_text.specs.emit_layout.Hex.{hex_2}
+unfoldable pub use Rattle.yaml_emit_laws_text.specs.emit_layout.Hex.{hex_digit}
+pub use Rattle.yaml_emit_laws_text.specs.emit_layout.declared.Encoding.{Encoding}
+pub use Rattle.yaml_emit_laws_text.specs.emit_layout.declared.Encoding.TheVariants.{Utf16Be, Utf16Le, Utf8}
+pub use Rattle.yaml_emit_laws_text.specs.emit_layout.declared.Settings.{Settings}
 pub use Rattle.yaml_parse_grammar.specs.Items.{Properties}
 pub use Rattle.yaml_parse_grammar.specs.Trees.{PropertyTokens, Stream, closing, properties_of, spell, spell_colon, spell_content, spell_directives, spell_documents, spell_ends, spell_entries, spell_first, spell_items, spell_maybe, spell_more, spell_node, spell_others, spell_pairs, spell_properties, token_at}
 pub use Rattle.yaml_parse_grammar.specs.declared.Wants.{Wants}
@@ -26,8 +26,8 @@ unfoldable pub use Rattle.yaml_round_content.specs.Said.{documents_say, items_sa
 pub use Rattle.yaml_round_content.specs.TreeContent.{anchor_of, behind_first, colon_of, documents_of, empty, entries_of, in_full, is_plain, items_of, mark_of, maybe_of, more_items_of, more_parts_of, node_of, others_of, pairs_of, parts_of, prefix_of, tag_of, tags_in, tree_content, with_content}
 pub use Rattle.yaml_round_content.specs.emit_layout.Content.{Event, alias, alias_node, document_end, document_start, emitter_event, mapping_end, mapping_node, mapping_start, no_event, no_nodes, no_pairs, node, pair, scalar, scalar_node, sequence_end, sequence_node, sequence_start, stream_end, stream_events, stream_start}
 unfoldable pub use Rattle.yaml_round_content.specs.emit_layout.Content.{documents_events, items_events, node_events, pairs_events}
-pub use Rattle.yaml_round_content.specs.emit_text.Text.{encode, is_deep}
-unfoldable pub use Rattle.yaml_round_content.specs.emit_text.Text.{char_bytes}
+pub use Rattle.yaml_round_content.specs.emit_layout.Text.{encode, is_deep}
+unfoldable pub use Rattle.yaml_round_content.specs.emit_layout.Text.{char_bytes}
 pub use Rattle.yaml_round_content.specs.parse_model.Events.{EventBody, TagDirective}
 pub use Rattle.yaml_round_laws_adapted.specs.Adapted.{adapted, cut, spells_text}
 pub use Rattle.yaml_round_laws_inputs.specs.SizesLaws.{CanonicalTextsAreBounded, CanonicalTextsAreShort, ContentsAreBounded, DeepInputsAreLong, DepthsTakeBytes, LayoutsAreShort, ShortInputsKeepColumns, most_of_read, text_times}

@@ -1,10 +1,10 @@
 -- Keys are near their `:`.
 use Rattle.std.proofs.Common.{◌≡◌, ℕ, ◌+◌, ◌<◌, ◌≤◌, ◌==◌, ◌&&◌, ◌||◌, not, Bool, true, false, List, [], ◌∷◌, ◌++◌, length, refl, sym, ap, subst, arith, append-nil, encode_utf8_all, ◌-◌, nat_lt, Some, Result, Ok, ◌∙◌, inl, inr, ◌⊎◌, append_assoc, if◌then◌else◌, true≢false}
 use Rattle.yaml_round_laws_inputs.proofs.JsonWords.{list_all, or_parts, and_parts, nat_tests, mark_at, byte, column_at, is_blank_or_end, HasAt, begins_lexeme, is_fresh, margin_at, indent, is_white, are_white, Letter, string_bytes, AreLetters, is_break, has_break, are_kept, is_near, or-true, TokenBody, Wrong, is_document_start, is_document_end, PlainText, starts_plain, Has, has, has_front, WordText, indicator_of, kind_at, word_at, valued, plainly, Comes, WordLeaves, WalkState, WalkReads, LeaveClear, behind, printed_begins, chain, no_start, no_end, no_percent, walk_word, walk_key_starts, walk_key_stops, Left, left_first, left_more, left_rest, end_begins, is_plain_value, letters_mean}
-use Rattle.yaml_emit_laws_text.specs.emit_layout.emit_text.declared.Cursor.{Cursor}
-use Rattle.yaml_emit_laws_text.specs.emit_layout.emit_text.Text.{is_break as ends}
-use Rattle.yaml_emit_laws_text.specs.emit_layout.emit_text.Layout.{Layout}
-use Rattle.yaml_emit_laws_text.specs.emit_layout.emit_text.Spelling.{in_front}
+use Rattle.yaml_emit_laws_text.specs.emit_layout.declared.Cursor.{Cursor}
+use Rattle.yaml_emit_laws_text.specs.emit_layout.Text.{is_break as ends}
+use Rattle.yaml_emit_laws_text.specs.emit_layout.Layout.{Layout}
+use Rattle.yaml_emit_laws_text.specs.emit_layout.Spelling.{in_front}
 use Rattle.yaml_emit_laws_text.specs.ReadBack.{is_one_line}
 use Rattle.yaml_emit_laws_pretty.specs.KeysLaws.{StaysNear}
 use Rattle.yaml_emit_laws_text.proofs.Words.{front_encodes, quote_kind}

@@ -3,10 +3,10 @@ use Rattle.std.specs.Prelude.{◌≡◌, ℕ, ◌+◌, ◌*◌, ◌<◌, ◌≤�
 use Rattle.yaml_round_content.specs.scan_model.declared.yaml_encoding_t.{yaml_encoding_t}
 use Rattle.yaml_round_content.specs.scan_model.declared.yaml_encoding_t.TheVariants.{YAML_ANY_ENCODING, YAML_UTF8_ENCODING, YAML_UTF16LE_ENCODING, YAML_UTF16BE_ENCODING}
 use Rattle.yaml_round_content.specs.scan_history.scan_decode.Encodings.{encoding_of}
-use Rattle.yaml_round_content.specs.emit_text.declared.Encoding.{Encoding}
-use Rattle.yaml_round_content.specs.emit_text.declared.RequestedSettings.{RequestedSettings}
-use Rattle.yaml_round_content.specs.emit_text.Settings.{settled, settled_indent}
-use Rattle.yaml_round_content.specs.emit_text.Text.{Item, encode, is_deep}
+use Rattle.yaml_round_content.specs.emit_layout.declared.Encoding.{Encoding}
+use Rattle.yaml_round_content.specs.emit_layout.declared.RequestedSettings.{RequestedSettings}
+use Rattle.yaml_round_content.specs.emit_layout.Settings.{settled, settled_indent}
+use Rattle.yaml_round_content.specs.emit_layout.Text.{Item, encode, is_deep}
 use Rattle.yaml_round_content.specs.emit_layout.Nodes.{MOST}
 use Rattle.yaml_round_content.specs.emit_layout.Streams.{IsStream}
 use Rattle.yaml_round_content.specs.Input.{events_of}

@@ -3,7 +3,7 @@ use Rattle.std.proofs.Common.{ℕ, ◌-◌, Bool, true, false, not, ◌&&◌, if
 use Rattle.yaml_round_laws_pieces.proofs.Words.{codes, Cursor, Settings, Layout, ◌▹◌, stay, choose, when, char, word, indicator, opener, keep, scalar_text, TagDirective, Level, Phase, Items, Keys, Value, Scalar, Start, Opening, Event, no_event, stream_start, stream_end, document_start, document_end, alias, scalar, sequence_start, sequence_end, mapping_start, mapping_end, scalar_tag, start_tag, Context, is_simple_part, deeper, checked, line_at, wrap_at, anchor_text, tag_text, properties_text, style_of, mark_text, page_at, scalar_layout, alias_layout, is_flow, indent_of, indented, comma, turned, before_item, question, before_key, before_value, closer, dots, version_word, version_text, directive_text, directives_text, is_directed, dashes, is_marked, start_layout, end_layout, is_kept, stop_layout, is_simple_event, position_of, before_at, before_node, stop_at, start_at, is_fresh, closer_at, start_text, depth_text, text_at, depth_at, piece_at}
 use Rattle.std.specs.Str.{chars}
 use Rattle.yaml_emit_layout.specs.scan_model.declared.yaml_version_directive_t.{yaml_version_directive_t}
-use Rattle.yaml_emit_layout.specs.emit_tags.Tags.{tag_spelling, uri_text}
+use Rattle.yaml_emit_layout.specs.Tags.{tag_spelling, uri_text}
 use Rattle.yaml_emit_layout.specs.declared.NodePosition.{NodePosition}
 use Rattle.yaml_emit_layout.specs.declared.Expected.{Expected}
 use Rattle.yaml_emit_layout.specs.declared.Expected.TheVariants as at

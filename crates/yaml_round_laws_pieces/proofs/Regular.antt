@@ -2,13 +2,13 @@
 use Rattle.std.proofs.Common.{◌≡◌, ℕ, zero, suc, ◌+◌, ◌-◌, Bool, true, false, not, ◌&&◌, ◌||◌, ◌==◌, nat_lt, if◌then◌else◌, List, [], ◌∷◌, ◌++◌, refl, sym, ap, ◌∙◌, append_assoc, inl, inr}
 use Rattle.std.proofs.lemmas.Bool.{cases_Bool}
 use Rattle.yaml_round_laws_pieces.proofs.Words.{Cursor, Encoding, LineBreak, Lf, Cr, CrLf, Item, letter, deep, is_break, Rest, Layout, ◌▹◌, stay, choose, when, char, letters, blank, blanks, break, new_line, is_white, gap, word, indicator, opener, must_break, indent_to, line, is_past, wrap, keep, after_text, after_block, order_mark, value_break, cuts_at, cut, quote_char, text_char, flow_char, flow_body, plain, single_quoted, adds_break, cuts_block, line_blank, block_text, block_char, block_body, chomp, chomp_mark, digit_char, digit_mark, block_header, block, scalar_text, MOST, deep_if, checked}
-use Rattle.yaml_emit_text.specs.declared.Page.{Page}
-use Rattle.yaml_emit_text.specs.declared.Style.{Style}
-use Rattle.yaml_emit_text.specs.declared.Style.TheVariants as style
-use Rattle.yaml_emit_text.specs.declared.Chomp.{Chomp}
-use Rattle.yaml_emit_text.specs.declared.Chomp.TheVariants as chomping
-use Rattle.yaml_emit_text.specs.declared.Encoding.TheVariants.{Utf8}
-use Rattle.yaml_emit_text.specs.Quoted.{needs_escape, escape_text, first, is_empty, may_fold, fold, escaped, quoted_char, quoted_body, double_quoted}
+use Rattle.yaml_emit_layout.specs.declared.Page.{Page}
+use Rattle.yaml_emit_layout.specs.declared.Style.{Style}
+use Rattle.yaml_emit_layout.specs.declared.Style.TheVariants as style
+use Rattle.yaml_emit_layout.specs.declared.Chomp.{Chomp}
+use Rattle.yaml_emit_layout.specs.declared.Chomp.TheVariants as chomping
+use Rattle.yaml_emit_layout.specs.declared.Encoding.TheVariants.{Utf8}
+use Rattle.yaml_emit_layout.specs.Quoted.{needs_escape, escape_text, first, is_empty, may_fold, fold, escaped, quoted_char, quoted_body, double_quoted}
 
 -- what it writes from there, and where it ends
 pub record Written (a : Layout) (c : Cursor) : Type 0 where

@@ -18,17 +18,17 @@ pub use Rattle.yaml_emit_layout.specs.declared.Phase.{Phase}
 pub use Rattle.yaml_emit_layout.specs.declared.Phase.TheVariants.{Items, Keys, Value}
 pub use Rattle.yaml_emit_layout.specs.declared.Problem.{Problem}
 pub use Rattle.yaml_emit_layout.specs.parse_model.Events.{TagDirective}
-pub use Rattle.yaml_emit_text.specs.Layout.{Layout, Rest, after_block, after_text, blank, break, char, choose, gap, indent_to, indicator, is_past, is_white, keep, must_break, new_line, nothing_more, opener, order_mark, start, stay, when, word, wrap, written, ◌▹◌}
-unfoldable pub use Rattle.yaml_emit_text.specs.Layout.{blanks, letters, line}
-pub use Rattle.yaml_emit_text.specs.Scalars.{adds_break, block, block_header, block_text, chomp, chomp_mark, cut, cuts_at, cuts_block, digit_char, digit_mark, line_blank, plain, quote_char, single_quoted, text_char, value_break}
-unfoldable pub use Rattle.yaml_emit_text.specs.Scalars.{block_body, block_char, flow_body, flow_char, scalar_text}
-pub use Rattle.yaml_emit_text.specs.Text.{Item, char_bytes, deep, is_break, letter}
-unfoldable pub use Rattle.yaml_emit_text.specs.Text.{encode}
-pub use Rattle.yaml_emit_text.specs.declared.Cursor.{Cursor}
-pub use Rattle.yaml_emit_text.specs.declared.Encoding.{Encoding}
-pub use Rattle.yaml_emit_text.specs.declared.LineBreak.{LineBreak}
-pub use Rattle.yaml_emit_text.specs.declared.LineBreak.TheVariants.{Cr, CrLf, Lf}
-pub use Rattle.yaml_emit_text.specs.declared.Settings.{Settings}
+pub use Rattle.yaml_emit_layout.specs.Layout.{Layout, Rest, after_block, after_text, blank, break, char, choose, gap, indent_to, indicator, is_past, is_white, keep, must_break, new_line, nothing_more, opener, order_mark, start, stay, when, word, wrap, written, ◌▹◌}
+unfoldable pub use Rattle.yaml_emit_layout.specs.Layout.{blanks, letters, line}
+pub use Rattle.yaml_emit_layout.specs.Scalars.{adds_break, block, block_header, block_text, chomp, chomp_mark, cut, cuts_at, cuts_block, digit_char, digit_mark, line_blank, plain, quote_char, single_quoted, text_char, value_break}
+unfoldable pub use Rattle.yaml_emit_layout.specs.Scalars.{block_body, block_char, flow_body, flow_char, scalar_text}
+pub use Rattle.yaml_emit_layout.specs.Text.{Item, char_bytes, deep, is_break, letter}
+unfoldable pub use Rattle.yaml_emit_layout.specs.Text.{encode}
+pub use Rattle.yaml_emit_layout.specs.declared.Cursor.{Cursor}
+pub use Rattle.yaml_emit_layout.specs.declared.Encoding.{Encoding}
+pub use Rattle.yaml_emit_layout.specs.declared.LineBreak.{LineBreak}
+pub use Rattle.yaml_emit_layout.specs.declared.LineBreak.TheVariants.{Cr, CrLf, Lf}
+pub use Rattle.yaml_emit_layout.specs.declared.Settings.{Settings}
 pub use Rattle.yaml_round_laws_pieces.specs.Laws.{BlocksStandByLevels, CutsAreThere, CuttingsAreWholes, DocumentsStandByEnds, FrontsAreShown, StandInsStand, StandsAreThere, is_between}
 unfoldable pub use Rattle.yaml_round_laws_pieces.specs.Laws.{are_between}
 pub use Rattle.yaml_round_laws_pieces.specs.Pieces.{Cuts, LeadsToStand, Stand, added, first_stand, no_piece, whole}

@@ -1,10 +1,10 @@
 -- A list of events may be given in pieces, and what was laid out replaced by what leads to the same stand.
 use Rattle.std.specs.Prelude.{◌≡◌, ℕ, Bool, true, false, ◌&&◌, not, List, [], ◌∷◌, ◌++◌, map}
-use Rattle.yaml_emit_text.specs.declared.Cursor.{Cursor}
-use Rattle.yaml_emit_text.specs.declared.Encoding.{Encoding}
-use Rattle.yaml_emit_text.specs.declared.Settings.{Settings}
-use Rattle.yaml_emit_text.specs.Text.{Item, encode}
-use Rattle.yaml_emit_text.specs.Layout.{written}
+use Rattle.yaml_emit_layout.specs.declared.Cursor.{Cursor}
+use Rattle.yaml_emit_layout.specs.declared.Encoding.{Encoding}
+use Rattle.yaml_emit_layout.specs.declared.Settings.{Settings}
+use Rattle.yaml_emit_layout.specs.Text.{Item, encode}
+use Rattle.yaml_emit_layout.specs.Layout.{written}
 use Rattle.yaml_emit_layout.specs.declared.Level.{Level}
 use Rattle.yaml_emit_layout.specs.declared.Phase.{Phase}
 use Rattle.yaml_emit_layout.specs.declared.Phase.TheVariants.{Items, Keys, Value}

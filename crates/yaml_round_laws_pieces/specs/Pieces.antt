@@ -1,9 +1,9 @@
 -- An emitter that goes on from call to call: what is known behind some events, and what others add to their text.
 use Rattle.std.specs.Prelude.{◌≡◌, ◌≤◌, length, List, [], ◌∷◌, ◌++◌}
-use Rattle.yaml_emit_text.specs.declared.Cursor.{Cursor}
-use Rattle.yaml_emit_text.specs.declared.Settings.{Settings}
-use Rattle.yaml_emit_text.specs.Text.{Item}
-use Rattle.yaml_emit_text.specs.Layout.{start, nothing_more}
+use Rattle.yaml_emit_layout.specs.declared.Cursor.{Cursor}
+use Rattle.yaml_emit_layout.specs.declared.Settings.{Settings}
+use Rattle.yaml_emit_layout.specs.Text.{Item}
+use Rattle.yaml_emit_layout.specs.Layout.{start, nothing_more}
 use Rattle.yaml_emit_layout.specs.declared.Expected.TheVariants as at
 use Rattle.yaml_emit_layout.specs.Content.{Event}
 use Rattle.yaml_emit_layout.specs.State.{State, placed}

@@ -8,10 +8,10 @@ use Rattle.yaml_emit_laws_text.specs.emit_layout.scan_model.Faults.{Fault}
 use Rattle.yaml_round.specs.round_laws_documents.round_content.parse_grammar.Resolve.{Told}
 use Rattle.yaml_round.specs.emit.Text.{Item, encode, is_deep}
 use Rattle.yaml_round.specs.emit.Settings.{settled, settled_encoding}
-use Rattle.yaml_emit_laws_text.specs.emit_layout.emit_text.declared.Encoding.{Encoding}
-use Rattle.yaml_emit_laws_text.specs.emit_layout.emit_text.declared.Settings.{Settings}
+use Rattle.yaml_emit_laws_text.specs.emit_layout.declared.Encoding.{Encoding}
+use Rattle.yaml_emit_laws_text.specs.emit_layout.declared.Settings.{Settings}
 use Rattle.yaml_emit_laws_text.specs.emit_layout.Nodes.{Context, context_of, stream_layout}
-use Rattle.yaml_emit_laws_text.specs.emit_layout.emit_text.Layout.{written}
+use Rattle.yaml_emit_laws_text.specs.emit_layout.Layout.{written}
 use Rattle.yaml_round.specs.round_laws_documents.round_content.parse_laws_trees.parse_document.Documents as documents
 use Rattle.yaml_round.specs.emit.emit_graph.Graph.{graph_content}
 use Rattle.yaml_round.specs.round_laws_documents.Normal.{ended}

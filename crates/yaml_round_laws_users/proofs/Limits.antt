@@ -13,8 +13,8 @@ use Rattle.yaml_round.specs.emit.Content as emit
 use Rattle.yaml_round.specs.emit.Streams.{IsStream}
 use Rattle.yaml_round.specs.emit.Emitter.{Passes, write_error, too_deep}
 use Rattle.yaml_round.specs.emit.emit_graph.Graph.{graph_content}
-use Rattle.yaml_emit_laws_text.specs.emit_layout.emit_text.declared.Encoding.{Encoding}
-use Rattle.yaml_emit_laws_text.specs.emit_layout.emit_text.declared.RequestedSettings.{RequestedSettings}
+use Rattle.yaml_emit_laws_text.specs.emit_layout.declared.Encoding.{Encoding}
+use Rattle.yaml_emit_laws_text.specs.emit_layout.declared.RequestedSettings.{RequestedSettings}
 use Rattle.yaml_round_content.specs.Input.{events_of}
 use Rattle.yaml_round.specs.round_laws_documents.round_content.Loads.{loads_of}
 use Rattle.yaml_round.specs.round_laws_documents.round_content.Said.{Document}

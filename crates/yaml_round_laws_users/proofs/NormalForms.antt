@@ -14,7 +14,7 @@ use Rattle.yaml_round.proofs.Joining.{read_said, said_read}
 use Rattle.yaml_round_laws_users.proofs.Comparing.{one_content}
 use Rattle.yaml_round_laws_users.proofs.Rewriting.{none_is_past, no_fault}
 use Rattle.yaml_round_laws_users.specs.NormalForms.{NormalFormsTellContents, NormalizingIsStill}
-use Rattle.yaml_emit_laws_text.specs.emit_layout.emit_text.declared.RequestedSettings.{RequestedSettings}
+use Rattle.yaml_emit_laws_text.specs.emit_layout.declared.RequestedSettings.{RequestedSettings}
 use Rattle.yaml_round.specs.emit.Streams.{IsStream}
 use Rattle.yaml_round.specs.round_laws_documents.round_content.parse_grammar.Resolve.{Told}
 use Rattle.yaml_round.specs.round_laws_documents.Stays.{SaysInput}

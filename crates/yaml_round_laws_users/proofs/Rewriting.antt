@@ -6,7 +6,7 @@ use Rattle.yaml_emit_laws_text.specs.emit_layout.scan_model.Faults.{Fault}
 use Rattle.yaml_round.specs.emit.Text.{Item, encode, is_deep}
 use Rattle.yaml_round.specs.emit.Within.{Fits}
 use Rattle.yaml_round.specs.emit.Emitter.{Passes}
-use Rattle.yaml_emit_laws_text.specs.emit_layout.emit_text.declared.Encoding.{Encoding}
+use Rattle.yaml_emit_laws_text.specs.emit_layout.declared.Encoding.{Encoding}
 use Rattle.yaml_round_content.specs.Input.{ending_of, events_of}
 use Rattle.yaml_round.specs.round_laws_documents.round_content.Said.{Document, HasContent}
 use Rattle.yaml_round.specs.round_laws_documents.round_content.parse_grammar.Resolve.{Told}

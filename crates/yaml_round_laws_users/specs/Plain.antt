@@ -2,9 +2,9 @@
 use Rattle.std.specs.Prelude.{◌≡◌, ℕ, true, false, List, Ok}
 use Rattle.yaml_round.specs.declared.yaml_encoding_t.{yaml_encoding_t}
 use Rattle.yaml_round.specs.declared.yaml_encoding_t.TheVariants.{YAML_ANY_ENCODING}
-use Rattle.yaml_emit_laws_text.specs.emit_layout.emit_text.Text.{Item, encode}
-use Rattle.yaml_emit_laws_text.specs.emit_layout.emit_text.declared.Encoding.{Encoding}
-use Rattle.yaml_emit_laws_text.specs.emit_layout.emit_text.declared.RequestedSettings.{RequestedSettings}
+use Rattle.yaml_emit_laws_text.specs.emit_layout.Text.{Item, encode}
+use Rattle.yaml_emit_laws_text.specs.emit_layout.declared.Encoding.{Encoding}
+use Rattle.yaml_emit_laws_text.specs.emit_layout.declared.RequestedSettings.{RequestedSettings}
 use Rattle.yaml_emit_laws_text.specs.emit_layout.Streams.{IsStream}
 use Rattle.yaml_round.specs.round_laws_documents.parse_grammar.Resolve.{Told}
 use Rattle.yaml_round.specs.round_content.Said.{Document}

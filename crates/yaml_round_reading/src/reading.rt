@@ -46,23 +46,22 @@ pub fn reading_of<'a>(
 }
 
 impl Reading<'_> {
-    /// The next event in its slot, or the fault in the other, or neither at the end. `L` names the loop that asks, as in
-    /// `yaml_parser_parse_into`.
-    pub fn next<L>(&mut self) -> yaml_found_t
+    /// The next event in its slot, or the fault in the other, or neither at the end.
+    pub fn next(&mut self) -> yaml_found_t
         requires { AreReal self.old.parser.events }
         ensures { FindsNextEvent self.old.parser result (event_of self.new.event) self.new.fault
             self.new.parser }
     {
-        yaml_parser_parse_into::<_, L>(&mut self.parser, &mut self.event, &mut self.fault)
+        yaml_parser_parse_into(&mut self.parser, &mut self.event, &mut self.fault)
     }
 
     /// What `next` answers, of a reading whose events may be any. It is a call, so that no proof above writes out the drops of all
     /// that a parser holds.
-    pub fn find<L>(&mut self) -> yaml_found_t
+    pub fn find(&mut self) -> yaml_found_t
         ensures finds { Finds self.old.parser result (event_of self.new.event)
             (fault_of self.new.fault) self.new.parser }
     {
-        yaml_parser_parse_into::<_, L>(&mut self.parser, &mut self.event, &mut self.fault)
+        yaml_parser_parse_into(&mut self.parser, &mut self.event, &mut self.fault)
     }
 
     /// The next document; behind the last one a document without root. It is a call, so that no proof above writes out the drops
@@ -92,7 +91,7 @@ pub fn read_out(reading: &mut Reading<'_>) -> Result<(), yaml_fault_t>
     ensures { EndsWith reading.old.parser.ending result }
 {
     'events: loop {
-        match reading.next::<()>() {
+        match reading.next() {
             yaml_found_t::Refused => return Err(reading.fault),
             yaml_found_t::End => return Ok(()),
             yaml_found_t::Event => {}

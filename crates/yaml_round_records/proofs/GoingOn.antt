@@ -14,13 +14,13 @@ use Rattle.yaml_emit.specs.Emitter.{Emitter, settings_in, text_of, problem_fault
 use Rattle.yaml_emit.specs.emit_layout.State.{State, placed}
 use Rattle.yaml_emit.specs.emit_layout.declared.Expected.TheVariants as at
 use Rattle.yaml_emit.specs.emit_layout.declared.Problem.{Problem}
-use Rattle.yaml_emit.specs.emit_text.Sink.{Ends, EndsBy}
-use Rattle.yaml_emit.specs.emit_text.declared.Cursor.{Cursor}
-use Rattle.yaml_emit.specs.emit_text.declared.Encoding.{Encoding}
-use Rattle.yaml_emit.specs.emit_text.declared.RequestedSettings.{RequestedSettings}
-use Rattle.yaml_emit.specs.emit_text.declared.Settings.{Settings}
-use Rattle.yaml_emit.specs.emit_text.declared.Status.{Status}
-use Rattle.yaml_emit.specs.emit_text.declared.Status.TheVariants.{Going}
+use Rattle.yaml_emit.specs.emit_layout.Sink.{Ends, EndsBy}
+use Rattle.yaml_emit.specs.emit_layout.declared.Cursor.{Cursor}
+use Rattle.yaml_emit.specs.emit_layout.declared.Encoding.{Encoding}
+use Rattle.yaml_emit.specs.emit_layout.declared.RequestedSettings.{RequestedSettings}
+use Rattle.yaml_emit.specs.emit_layout.declared.Settings.{Settings}
+use Rattle.yaml_emit.specs.emit_layout.declared.Status.{Status}
+use Rattle.yaml_emit.specs.emit_layout.declared.Status.TheVariants.{Going}
 use Rattle.yaml_round_laws_pieces.specs.Pieces.{Stand, added}
 use Rattle.yaml_round_laws_pieces.specs.Calls.{LeadsIn}
 use Rattle.yaml_round_records.specs.declared.onward.Onward.{Onward}

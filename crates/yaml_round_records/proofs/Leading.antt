@@ -14,10 +14,10 @@ use Rattle.yaml_emit.specs.Within.{Fits}
 use Rattle.yaml_emit.specs.Streams.{IsStream}
 use Rattle.yaml_emit.specs.Emitter.{Emitter, Completes, CompletesBy, IsLimited, IsWhole, Passes, problem_fault, fault_by, write_error, too_deep, memory_origin}
 use Rattle.yaml_emit.specs.emit_layout.declared.Problem.{Problem}
-use Rattle.yaml_emit.specs.emit_text.declared.Encoding.{Encoding}
-use Rattle.yaml_emit.specs.emit_text.declared.Status.{Status}
-use Rattle.yaml_emit.specs.emit_text.declared.Status.TheVariants.{Going, Full, Deep, Starved}
-use Rattle.yaml_emit.specs.emit_text.declared.RequestedSettings.{RequestedSettings}
+use Rattle.yaml_emit.specs.emit_layout.declared.Encoding.{Encoding}
+use Rattle.yaml_emit.specs.emit_layout.declared.Status.{Status}
+use Rattle.yaml_emit.specs.emit_layout.declared.Status.TheVariants.{Going, Full, Deep, Starved}
+use Rattle.yaml_emit.specs.emit_layout.declared.RequestedSettings.{RequestedSettings}
 use Rattle.std.proofs.lemmas.List.{drop_all}
 use Rattle.yaml_round_records.proofs.Checked.{left_cons}
 use Rattle.yaml_round_records.specs.declared.record.yaml_c_directive.{yaml_c_directive}

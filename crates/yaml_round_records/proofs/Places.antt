@@ -12,14 +12,14 @@ use Rattle.yaml_emit.specs.Content.{Event}
 use Rattle.yaml_emit.specs.Emitter.{Emitter, settings_in}
 use Rattle.yaml_emit.specs.Judged.{refused_at}
 use Rattle.yaml_emit.specs.Resuming.{resumed, StandsWhere}
-use Rattle.yaml_emit.specs.emit_text.declared.Cursor.{Cursor}
-use Rattle.yaml_emit.specs.emit_text.declared.Encoding.{Encoding}
-use Rattle.yaml_emit.specs.emit_text.declared.RequestedSettings.{RequestedSettings}
+use Rattle.yaml_emit.specs.emit_layout.declared.Cursor.{Cursor}
+use Rattle.yaml_emit.specs.emit_layout.declared.Encoding.{Encoding}
+use Rattle.yaml_emit.specs.emit_layout.declared.RequestedSettings.{RequestedSettings}
 use Rattle.yaml_emit.specs.emit_layout.declared.Expected.{Expected}
 use Rattle.yaml_emit.specs.emit_layout.declared.Level.{Level}
 use Rattle.yaml_emit.specs.emit_layout.State.{top_of}
-use Rattle.yaml_emit.specs.emit_state.Stack.{stack}
-use Rattle.yaml_emit.specs.emit_state.declared.yaml_emitter_stand_t.{yaml_emitter_stand_t}
+use Rattle.yaml_emit.specs.emit_core.Levels.{stack}
+use Rattle.yaml_emit.specs.emit_core.declared.yaml_emitter_stand_t.{yaml_emitter_stand_t}
 use Rattle.yaml_round_records.specs.declared.onward.Onward.{Onward}
 use Rattle.yaml_round_records.specs.declared.listing.Listing.{Listing}
 use Rattle.yaml_round_records.specs.declared.onward.StandRecords.{StandRecords}

@@ -4,11 +4,11 @@ use Rattle.std.specs.Prelude.{nat_lt, option_map}
 use Rattle.std.proofs.lemmas.Bool.Decides.{nat_tests}
 use Rattle.std.proofs.lemmas.List.{drop_all, take_more, take_all}
 use Rattle.yaml_parse.specs.Events.{TagDirective}
-use Rattle.yaml_emit.specs.emit_text.declared.Cursor.{Cursor}
-use Rattle.yaml_emit.specs.emit_text.declared.Encoding.{Encoding}
+use Rattle.yaml_emit.specs.emit_layout.declared.Cursor.{Cursor}
+use Rattle.yaml_emit.specs.emit_layout.declared.Encoding.{Encoding}
 use Rattle.yaml_emit.specs.emit_layout.declared.Expected.{Expected}
 use Rattle.yaml_emit.specs.emit_layout.declared.Level.{Level}
-use Rattle.yaml_emit.specs.emit_state.Stack.{stack}
+use Rattle.yaml_emit.specs.emit_core.Levels.{stack}
 use Rattle.yaml_round_records.specs.declared.record.yaml_c_directive.{yaml_c_directive}
 use Rattle.yaml_round_records.specs.declared.standing.yaml_c_level.{yaml_c_level}
 use Rattle.yaml_round_records.specs.declared.standing.yaml_c_place.{yaml_c_place}

@@ -10,9 +10,9 @@ use Rattle.yaml_emit.specs.Verdict.{verdict, Writes, TellsOutcome}
 use Rattle.yaml_emit.specs.Held.{AreLast}
 use Rattle.yaml_emit.specs.Within.{IsWithin}
 use Rattle.yaml_emit.specs.Emitter.{Emitter, Completes, IsLimited, IsWhole}
-use Rattle.yaml_emit.specs.emit_text.declared.Encoding.{Encoding}
-use Rattle.yaml_emit.specs.emit_text.declared.Status.TheVariants.{Going}
-use Rattle.yaml_emit.specs.emit_text.declared.RequestedSettings.{RequestedSettings}
+use Rattle.yaml_emit.specs.emit_layout.declared.Encoding.{Encoding}
+use Rattle.yaml_emit.specs.emit_layout.declared.Status.TheVariants.{Going}
+use Rattle.yaml_emit.specs.emit_layout.declared.RequestedSettings.{RequestedSettings}
 use Rattle.yaml_round_records.specs.declared.emitter.Asked.{Asked}
 use Rattle.yaml_round_records.specs.Written.{emitter_events}
 

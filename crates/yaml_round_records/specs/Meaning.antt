@@ -5,7 +5,7 @@ use Rattle.yaml_parse.specs.Events.{EventBody, TagDirective}
 use Rattle.yaml_parse.specs.Events as event
 use Rattle.yaml_parse.specs.declared.yaml_break_t.{yaml_break_t}
 use Rattle.yaml_parse.specs.declared.yaml_encoding_t.{yaml_encoding_t}
-use Rattle.yaml_emit.specs.emit_text.declared.RequestedSettings.{RequestedSettings}
+use Rattle.yaml_emit.specs.emit_layout.declared.RequestedSettings.{RequestedSettings}
 use Rattle.yaml_round_records.specs.declared.record.yaml_c_directive.{yaml_c_directive}
 use Rattle.yaml_round_records.specs.declared.record.yaml_c_event.{yaml_c_event}
 use Rattle.yaml_round_records.specs.declared.record.yaml_c_settings.{yaml_c_settings}

@@ -10,15 +10,15 @@ use Rattle.yaml_emit.specs.Verdict.{first_settings, TellsOutcome}
 use Rattle.yaml_emit.specs.Within.{Fits}
 use Rattle.yaml_emit.specs.Emitter.{Emitter, Passes, problem_fault, settings_in}
 use Rattle.yaml_emit.specs.emit_layout.declared.Problem.{Problem}
-use Rattle.yaml_emit.specs.emit_text.declared.RequestedSettings.{RequestedSettings}
-use Rattle.yaml_emit.specs.emit_text.declared.Settings.{Settings}
-use Rattle.yaml_emit.specs.emit_text.declared.Status.TheVariants.{Going}
+use Rattle.yaml_emit.specs.emit_layout.declared.RequestedSettings.{RequestedSettings}
+use Rattle.yaml_emit.specs.emit_layout.declared.Settings.{Settings}
+use Rattle.yaml_emit.specs.emit_layout.declared.Status.TheVariants.{Going}
 use Rattle.yaml_round_laws_pieces.specs.Pieces.{added}
 use Rattle.yaml_round_laws_pieces.specs.Calls.{LeadsIn}
 use Rattle.yaml_round_records.specs.declared.onward.Onward.{Onward}
 use Rattle.yaml_round_records.specs.declared.onward.StandRecords.{StandRecords}
 use Rattle.yaml_round_records.specs.Leading.{StartsUnder}
-use Rattle.yaml_emit.specs.emit_state.declared.yaml_emitter_stand_t.{yaml_emitter_stand_t}
+use Rattle.yaml_emit.specs.emit_core.declared.yaml_emitter_stand_t.{yaml_emitter_stand_t}
 use Rattle.yaml_round_records.specs.declared.standing.yaml_c_place.{yaml_c_place}
 use Rattle.yaml_round_records.specs.Numbers.{is_set}
 use Rattle.yaml_round_records.specs.Records.{all_directives}

@@ -3,16 +3,16 @@ use Rattle.std.specs.Prelude.{ℕ, ◌<◌, ◌^◌, nat_lt, ℤ, pos, Bool, tru
 use Rattle.std.specs.Ordering.{int_eq}
 use Rattle.yaml_parse.specs.Events.{TagDirective}
 use Rattle.yaml_emit.specs.Content.{Event}
-use Rattle.yaml_emit.specs.emit_text.declared.Cursor.{Cursor}
-use Rattle.yaml_emit.specs.emit_text.declared.Encoding.{Encoding}
-use Rattle.yaml_emit.specs.emit_text.declared.Encoding.TheVariants.{Utf8, Utf16Le, Utf16Be}
+use Rattle.yaml_emit.specs.emit_layout.declared.Cursor.{Cursor}
+use Rattle.yaml_emit.specs.emit_layout.declared.Encoding.{Encoding}
+use Rattle.yaml_emit.specs.emit_layout.declared.Encoding.TheVariants.{Utf8, Utf16Le, Utf16Be}
 use Rattle.yaml_emit.specs.emit_layout.declared.Expected.{Expected}
 use Rattle.yaml_emit.specs.emit_layout.declared.Expected.TheVariants as at
 use Rattle.yaml_emit.specs.emit_layout.declared.Level.{Level}
 use Rattle.yaml_emit.specs.emit_layout.declared.Phase.{Phase}
 use Rattle.yaml_emit.specs.emit_layout.declared.Phase.TheVariants.{Items, Keys, Value}
 use Rattle.yaml_emit.specs.emit_layout.State.{State, top_of}
-use Rattle.yaml_emit.specs.emit_state.Stack.{stack}
+use Rattle.yaml_emit.specs.emit_core.Levels.{stack}
 use Rattle.yaml_round_laws_pieces.specs.Pieces.{Stand, first_stand}
 use Rattle.yaml_round_records.specs.declared.record.yaml_c_directive.{yaml_c_directive}
 use Rattle.yaml_round_records.specs.declared.standing.yaml_c_level.{yaml_c_level}

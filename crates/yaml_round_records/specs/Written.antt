@@ -14,8 +14,8 @@ use Rattle.yaml_emit.specs.Emitter.{Passes, problem_fault}
 use Rattle.yaml_emit.specs.emit_layout.State.{placed}
 use Rattle.yaml_emit.specs.emit_layout.declared.Expected.TheVariants as at
 use Rattle.yaml_emit.specs.emit_layout.declared.Problem.{Problem}
-use Rattle.yaml_emit.specs.emit_text.declared.Encoding.{Encoding}
-use Rattle.yaml_emit.specs.emit_text.declared.RequestedSettings.{RequestedSettings}
+use Rattle.yaml_emit.specs.emit_layout.declared.Encoding.{Encoding}
+use Rattle.yaml_emit.specs.emit_layout.declared.RequestedSettings.{RequestedSettings}
 
 -- the events of records as an emitter sees them
 abbrev pub emitter_events : List EventBody → List Event

@@ -8,9 +8,6 @@ use yaml_parse::{
     yaml_parser_parse_into, yaml_parser_t, yaml_token_source_t,
 };
 
-// The loop over events that collects them.
-struct Collecting;
-
 // Records of the events to their end, each of which stands in the slot in turn, and so does the fault that ends them in the
 // other one.
 fn collect_by<S: yaml_token_source_t>(
@@ -23,7 +20,7 @@ fn collect_by<S: yaml_token_source_t>(
     ensures { Collects reading.old result listing.new }
 {
     'events: loop {
-        match yaml_parser_parse_into::<_, Collecting>(reading, event, fault) {
+        match yaml_parser_parse_into(reading, event, fault) {
             yaml_found_t::Refused => return Err(*fault),
             yaml_found_t::End => return Ok(()),
             yaml_found_t::Event => {

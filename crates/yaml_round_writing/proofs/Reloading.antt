@@ -19,7 +19,7 @@ use Rattle.yaml_emit.specs.Content as content
 use Rattle.yaml_emit.specs.emit_graph.Graph.{graph_content, dumped}
 use Rattle.yaml_emit.specs.Emitter.{Emitter, dump_events, document_events_by, opening_events}
 use Rattle.yaml_emit.specs.Taking.{TakesEvents}
-use Rattle.yaml_emit.specs.emit_text.declared.RequestedSettings.{RequestedSettings}
+use Rattle.yaml_emit.specs.emit_layout.declared.RequestedSettings.{RequestedSettings}
 use Rattle.yaml_round_device.specs.declared.yaml_settings_t.{yaml_settings_t}
 use Rattle.yaml_round_laws_documents.specs.round_content.Input.{ReadsInput}
 use Rattle.yaml_round_writing.specs.Writing.{IsUnder, FinishesText, requested_under}

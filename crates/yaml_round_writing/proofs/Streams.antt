@@ -5,7 +5,7 @@ use Rattle.yaml_parse.specs.declared.yaml_encoding_t.TheVariants.{YAML_ANY_ENCOD
 use Rattle.yaml_parse.specs.Documents.{Document}
 use Rattle.yaml_parse.specs.Loading.{nothing_loaded}
 use Rattle.yaml_emit.specs.emit_graph.Graph.{graph_content}
-use Rattle.yaml_emit.specs.emit_text.declared.RequestedSettings.{RequestedSettings}
+use Rattle.yaml_emit.specs.emit_layout.declared.RequestedSettings.{RequestedSettings}
 use Rattle.yaml_round_laws_documents.specs.round_content.emit_laws_dumps.StreamsLaws.{RightStream, HasText, AreRightTold}
 use Rattle.yaml_round_laws_documents.proofs.DocumentsPassing.{texts}
 use Rattle.yaml_round_laws_documents.proofs.DocumentsContents.{dumped_streams}

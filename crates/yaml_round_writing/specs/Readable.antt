@@ -6,7 +6,7 @@ use Rattle.yaml_parse.specs.Faults.{Fault}
 use Rattle.yaml_emit.specs.Text.{Item, is_deep}
 use Rattle.yaml_emit.specs.Emitter.{Passes}
 use Rattle.yaml_emit.specs.Within.{Fits}
-use Rattle.yaml_emit.specs.emit_text.declared.Encoding.{Encoding}
+use Rattle.yaml_emit.specs.emit_layout.declared.Encoding.{Encoding}
 use Rattle.yaml_round_device.specs.declared.yaml_settings_t.{yaml_settings_t}
 use Rattle.yaml_round_laws_documents.specs.round_content.Said.{Document}
 use Rattle.yaml_round_laws_documents.specs.round_content.Reading.{PlainReading}

@@ -11,7 +11,7 @@ use Rattle.yaml_emit.specs.Content.{Event, documents_events, stream_events, stre
 use Rattle.yaml_emit.specs.emit_graph.Graph.{graph_content}
 use Rattle.yaml_emit.specs.Text.{Item}
 use Rattle.yaml_emit.specs.Emitter.{Emitter, Completes}
-use Rattle.yaml_emit.specs.emit_text.declared.Encoding.{Encoding}
+use Rattle.yaml_emit.specs.emit_layout.declared.Encoding.{Encoding}
 use Rattle.yaml_round_device.specs.declared.yaml_settings_t.{yaml_settings_t}
 use Rattle.yaml_round_laws_documents.specs.round_content.Loads.{Loads, no_more, load_all, loads_of}
 use Rattle.yaml_round_laws_documents.specs.round_content.PlainLoading.{PlainLoading}

@@ -14,9 +14,6 @@ use yaml_parse::{
 };
 use yaml_round_reading::{Reading, let_go, reading_of};
 
-// The loop over events that judges.
-struct Checking;
-
 // ReadsInput to the end, or to what loading refuses or ends at.
 fn look_through(reading: &mut Reading<'_>, known: &mut Known) -> Result<(), yaml_fault_t>
     requires { IsUnknown known.old }
@@ -24,7 +21,7 @@ fn look_through(reading: &mut Reading<'_>, known: &mut Known) -> Result<(), yaml
         → Answers load_layers (λ done. done) (IsChecked from input) result }
 {
     'events: loop {
-        match reading.find::<Checking>() {
+        match reading.find() {
             yaml_found_t::Refused => return Err(reading.fault),
             yaml_found_t::End => return Ok(()),
             yaml_found_t::Event => match known.pass(&reading.event) {

@@ -13,16 +13,13 @@ use yaml_parse::{yaml_encoding_t, yaml_fault_t, yaml_found_t, yaml_memory_fault,
 use yaml_round_lines::yaml_push_event_line;
 use yaml_round_reading::Reading;
 
-// The loop over events that lists them.
-struct Listing;
-
 // Adds the lines of the events to their end.
 fn push_lines(reading: &mut Reading<'_>, lines: &mut Vec<u8>) -> Result<(), yaml_fault_t>
     requires { AreReal reading.old.parser.events }
     ensures { AddsLines reading.old.parser lines.old.items result lines.new.items }
 {
     'events: loop {
-        match reading.next::<Listing>() {
+        match reading.next() {
             yaml_found_t::Refused => return Err(reading.fault),
             yaml_found_t::End => return Ok(()),
             yaml_found_t::Event => {

@@ -13,8 +13,8 @@ ghost use Rattle.yaml_round_writing.specs.Writing.{IsUnder, Gives, given_in, is_
 
 use std::alloc::Global;
 use yaml_emit::{
-    yaml_emitter_emit_early, yaml_emitter_fault, yaml_emitter_initialize, yaml_emitter_into_output,
-    yaml_emitter_output, yaml_emitter_place, yaml_emitter_set_break, yaml_emitter_set_canonical,
+    yaml_emitter_emit_from, yaml_emitter_fault, yaml_emitter_initialize, yaml_emitter_into_output,
+    yaml_emitter_output, yaml_emitter_set_break, yaml_emitter_set_canonical,
     yaml_emitter_set_encoding, yaml_emitter_set_indent, yaml_emitter_set_unicode,
     yaml_emitter_set_width, yaml_emitter_t,
 };
@@ -133,22 +133,16 @@ fn prepare(form: &mut Form, event: &mut yaml_event_t)
     }
 }
 
-// Gives the event in the slot, as its form has it; what is left there counts for nothing. The emitter keeps its first fault. In
-// canonical form most events are placed as they are.
-// No hint: a copy that one loop calls is inlined there, with the emitter's own steps. `L` names the loop, as in `Reading::next`.
-fn emit_formed<L>(emitter: &mut yaml_emitter_t, form: &mut Form, event: &mut yaml_event_t)
+// Gives the event in the slot, as its form has it; what is left there counts for nothing. The emitter keeps its first fault.
+fn emit_formed(emitter: &mut yaml_emitter_t, form: &mut Form, event: &mut yaml_event_t)
     requires { HasUtf8 (event_of event.old).body }
     ensures { Gives form.old emitter.old (event_of event.old) form.new emitter.new }
 {
-    if is_canonical(*form) && yaml_emitter_place(emitter, event) {
-        return;
-    }
     prepare(form, event);
-    yaml_emitter_emit_early(emitter, event);
+    yaml_emitter_emit_from(emitter, event);
 }
 
 // The loop over events that writes.
-struct Writing;
 
 /// Writes the events while the text has at most so many bytes. True at the end of the events. A fault of theirs is the
 /// answer; the emitter keeps its own.
@@ -166,10 +160,10 @@ pub(crate) fn write_up_to(
         if yaml_emitter_output(emitter).len() > most {
             return Ok(false);
         }
-        match reading.next::<Writing>() {
+        match reading.next() {
             yaml_found_t::Refused => return Err(reading.fault),
             yaml_found_t::End => return Ok(true),
-            yaml_found_t::Event => emit_formed::<Writing>(emitter, form, &mut reading.event),
+            yaml_found_t::Event => emit_formed(emitter, form, &mut reading.event),
         }
     }
 }
@@ -184,10 +178,10 @@ pub(crate) fn write_rest(
     ensures { WritesAll form.old reading.old.parser emitter.old result form.new emitter.new }
 {
     'events: loop {
-        match reading.next::<()>() {
+        match reading.next() {
             yaml_found_t::Refused => return Err(reading.fault),
             yaml_found_t::End => return Ok(()),
-            yaml_found_t::Event => emit_formed::<()>(emitter, form, &mut reading.event),
+            yaml_found_t::Event => emit_formed(emitter, form, &mut reading.event),
         }
     }
 }

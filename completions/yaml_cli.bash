@@ -13,20 +13,21 @@ _yaml_cli() {
         --from) words='auto utf8 utf16le utf16be' ;;
         --break) words='lf cr crlf' ;;
         --encoding) words='utf8 utf16le utf16be' ;;
-        --indent|--limit|--width) return ;;
+        --format) words='full line github json' ;;
+        --exclude|--include|--indent|--limit|--stdin-filename|--width) return ;;
     esac
     if [ -n "$words" ]; then
         COMPREPLY=($(compgen -W "$words" -- "$now"))
         return
     fi
     case ${COMP_WORDS[1]} in
-        fmt) options='--from --check --pretty --indent --width --ascii --break --encoding --limit -h --help' ;;
-        norm) options='--from --check --indent --width --ascii --break --encoding --limit -h --help' ;;
+        fmt) options='--from --check -q --quiet -v --verbose --include --exclude --stdin-filename --pretty --indent --width --ascii --break --encoding --limit -h --help' ;;
+        norm) options='--from --check -w --write --drop-comments -q --quiet -v --verbose --include --exclude --stdin-filename --indent --width --ascii --break --encoding --limit -h --help' ;;
         docs) options='--from --indent --width --ascii --break --encoding --limit -h --help' ;;
         events) options='--from -h --help' ;;
-        same) options='--from -h --help' ;;
-        diff) options='--from --documents -h --help' ;;
-        check) options='--from --quiet --files0-from -h --help' ;;
+        same) options='--from -q --quiet -h --help' ;;
+        diff) options='--from --documents -q --quiet -h --help' ;;
+        check) options='--from -q --quiet -v --verbose --include --exclude --files0-from --stdin-filename --format -h --help' ;;
         help) COMPREPLY=($(compgen -W 'fmt norm docs events same diff check help' -- "$now")); return ;;
         *) return ;;
     esac

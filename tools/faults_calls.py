@@ -104,7 +104,6 @@ THROUGH = {
     "yaml_parser_lend": "parse",
     "wants_key": "parse",
     "lend_next": "parse",
-    "yaml_emitter_emit_early": "reformat",
     "yaml_write_all": "run",
 }
 # What an input has where one of these stands in it.

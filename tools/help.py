@@ -33,7 +33,11 @@ NOTES = [
     "A path that diff shows has the document's number first, then the way inwards: [0].service.ports[1]. Numbers count from 0; a "
     "key that is no more than a word stands behind a dot, another one between [\" and \"], and for a key that is no scalar stands "
     "its pair's number: <key 2>, <value 2>.",
-    "Comments are dropped: a text that is written has none.",
+    "Where files are judged a folder stands for all *.yaml and *.yml below it, in the order of the bytes of their paths: .git is left "
+    "out, and links to folders aren't followed. A GLOB with a / stands for paths below the folder that was named, another one for "
+    "names. ? is any character except /, * any number of these, ** any number of any characters, **/ any folders or none, [a-z] one "
+    "of these characters, [!a-z] another one, and \\ is followed by a character that stands for itself.",
+    "Comments are dropped: a text that is written has none. norm --write refuses a file with one, unless --drop-comments is given.",
     "Where pretty form was asked for and wouldn't read back with the same content, canonical form is written, and a line on "
     "standard error says so.",
 ]

@@ -1,12 +1,54 @@
 //! The program: it hands its words and the standard streams to `yaml_main`, and ends with the status that this answers.
 #![tactic(auto)]
 
-use std::io::{ErrorKind, Result, Write};
+use std::alloc::{AllocError, Global};
+use std::env::FillError;
 use std::process::ExitCode;
-use yaml_cli_main::{WRONG_WORDS, yaml_main};
+use std::rt::Env;
+use yaml_cli_main::{UNNAMED, WRONG_WORDS, shown_bytes, yaml_main};
 
-fn words_of(rt: &HostRuntime) -> Result<Vec<String>> {
-    let words = std::env::args(rt)?.collect(rt.alloc())?;
+// How many bytes a word has at most at first.
+const FIRST: usize = 256;
+
+// The bytes of a word; nothing behind the last one.
+fn bytes_of(rt: &HostRuntime, number: usize) -> Result<Option<Vec<u8>>, AllocError> {
+    let mut bytes = Vec::new(rt.alloc());
+    let mut room = FIRST;
+    for _ in 0..usize::BITS {
+        bytes.resize(room, 0)?;
+        match rt.arg(number, bytes.as_mut_slice()) {
+            Ok(count) => {
+                bytes.truncate(count);
+                return Ok(Some(bytes));
+            }
+            Err(FillError::NotPresent) => return Ok(None),
+            Err(FillError::TooLong) => room = room.saturating_mul(2),
+        }
+    }
+    Err(AllocError)
+}
+
+// A word's text; of one that isn't UTF-8 what people are shown of it, after the character that tells so.
+fn text_of(alloc: Global, bytes: &[u8]) -> Result<String, AllocError> {
+    match str::from_utf8(bytes) {
+        Ok(word) => String::from_str(alloc, word),
+        Err(_) => {
+            let mut word = String::new(alloc);
+            word.push(UNNAMED)?;
+            shown_bytes(&mut word, bytes)?;
+            Ok(word)
+        }
+    }
+}
+
+fn words_of(rt: &HostRuntime) -> Result<Vec<String>, AllocError> {
+    let mut words = Vec::new(rt.alloc());
+    for number in 0..usize::MAX {
+        match bytes_of(rt, number)? {
+            Some(bytes) => words.push(text_of(rt.alloc(), bytes.as_slice())?)?,
+            None => break,
+        }
+    }
     Ok(words)
 }
 
@@ -20,17 +62,10 @@ fn status_of(rt: &HostRuntime, words: &[String]) -> u8 {
     )
 }
 
-// There are no words. Where there was no room for them only the status tells that.
-fn wordless(rt: &HostRuntime, kind: ErrorKind) -> ExitCode {
-    if kind == ErrorKind::InvalidData {
-        let _ = writeln!(&mut rt.stderr(), "yaml_cli: a word isn't UTF-8");
-    }
-    ExitCode::from(WRONG_WORDS)
-}
-
+// Where there is no room for the words only the status tells that.
 fn main(rt: HostRuntime) -> ExitCode {
     match words_of(&rt) {
         Ok(words) => ExitCode::from(status_of(&rt, words.as_slice())),
-        Err(error) => wordless(&rt, error.kind()),
+        Err(_) => ExitCode::from(WRONG_WORDS),
     }
 }

@@ -7,6 +7,7 @@ ghost use Rattle.yaml_round.specs.Layers.{reformat_layers};
 ghost use Rattle.yaml_round.specs.Readable.{IsReadableAnswer};
 ghost use Rattle.yaml_cli_main.specs.Asked.{IsRun, IsSameAnswer, IsDifference, IsParted, IsJudgedBy, judge_layers, side_told, TellsDifference};
 
+use crate::comment::first_comment;
 use std::alloc::{AllocError, Global};
 use std::io::{Read, Write};
 use yaml_cli_program::{
@@ -15,7 +16,7 @@ use yaml_cli_program::{
 };
 use yaml_round::{
     yaml_check, yaml_diff, yaml_diff_documents, yaml_difference_t, yaml_encoding_t, yaml_fault_t,
-    yaml_normalize, yaml_reformat, yaml_run, yaml_run_fault_t, yaml_same, yaml_side_t,
+    yaml_mark_t, yaml_normalize, yaml_reformat, yaml_run, yaml_run_fault_t, yaml_same, yaml_side_t,
     yaml_std_input_t, yaml_std_output_t, yaml_step_t,
 };
 
@@ -135,6 +136,15 @@ impl Engine for Rounds {
                 Err(fault) => Err(fault),
             },
         }
+    }
+
+    fn comment(
+        &self,
+        alloc: Global,
+        from: yaml_encoding_t,
+        input: &[u8],
+    ) -> Result<Option<yaml_mark_t>, yaml_fault_t> {
+        first_comment(alloc, from, input)
     }
 
     fn same(&self, alloc: Global, from: yaml_encoding_t, first: &[u8], second: &[u8]) -> Compared

@@ -1,12 +1,13 @@
 //! Two files that are compared. Standard input, named twice, is read once.
 
+use crate::difference::push_difference;
 use crate::engine::{Difference, Engine, Side};
-use crate::fault::{FAILED, UNJUDGED, run_failed, shown, unread};
-use crate::file::{STANDARD, Streams, Unread, flushed, whole_of, write_answer};
+use crate::fault::{FAILED, Fault, UNJUDGED, run_failed, shown, told};
+use crate::file::{STANDARD, Streams, flushed, whole_of, write_answer};
 use crate::order::{Does, Measure, Order};
-use crate::places::{Source, push_difference};
 use std::io::{Read, Write};
 use std::rt::Files;
+use yaml_cli_places::Source;
 use yaml_round_device::yaml_run_fault_t;
 use yaml_types::{yaml_memory_fault, yaml_origin_t};
 
@@ -20,6 +21,8 @@ struct Pair<'a> {
     is_itself: bool,
     // Where they part is shown; else it is told whether they do.
     shows: bool,
+    // Only the status tells.
+    quiet: bool,
 }
 
 fn pair_of<'a>(order: &Order<'_, 'a>) -> Pair<'a> {
@@ -34,6 +37,7 @@ fn pair_of<'a>(order: &Order<'_, 'a>) -> Pair<'a> {
         second,
         is_itself: first == STANDARD && second == STANDARD,
         shows: matches!(order.does, Does::Diff),
+        quiet: order.judging.quiet,
     }
 }
 
@@ -46,10 +50,10 @@ fn input_name(side: Side) -> &'static str {
 }
 
 // Why an input wasn't read, as a run tells it.
-fn fault_of(why: &Unread) -> yaml_run_fault_t {
+fn fault_of(why: &Fault<'_>) -> yaml_run_fault_t {
     match why {
-        Unread::TooLong => yaml_run_fault_t::TooLong,
-        Unread::Short => yaml_run_fault_t::Yaml(yaml_memory_fault(yaml_origin_t::Reader)),
+        Fault::TooLong => yaml_run_fault_t::TooLong,
+        Fault::Short => yaml_run_fault_t::Yaml(yaml_memory_fault(yaml_origin_t::Reader)),
         _ => yaml_run_fault_t::Read,
     }
 }
@@ -57,14 +61,18 @@ fn fault_of(why: &Unread) -> yaml_run_fault_t {
 // Reads a file of two. Where it couldn't be read that is told, and its status is the answer.
 fn read_side<H: Files, R: Read, W, E: Write>(
     rt: &H,
-    shows: bool,
+    pair: &Pair<'_>,
     name: &str,
     side: Side,
     streams: &mut Streams<R, W, E>,
 ) -> Result<Vec<u8>, u8> {
     match whole_of(rt, name, streams) {
         Ok(bytes) => Ok(bytes),
-        Err(why) if shows => Err(unread(&mut streams.errors, false, name, &why)),
+        Err(_) if pair.quiet => Err(UNJUDGED),
+        Err(why) if pair.shows => {
+            told(&mut streams.errors, name, &why);
+            Err(UNJUDGED)
+        }
         Err(why) => {
             let fault = fault_of(&why);
             Err(run_failed(streams.alloc, &mut streams.errors, input_name(side), &fault))
@@ -134,6 +142,29 @@ fn tell_diff<G: Engine, R, W: Write, E: Write>(
     }
 }
 
+// Whether they differ, as only the status tells it.
+fn compare_quietly<G: Engine, R, W, E>(
+    engine: &G,
+    pair: &Pair<'_>,
+    first: &[u8],
+    second: &[u8],
+    streams: &Streams<R, W, E>,
+) -> u8 {
+    let Pair { by, shows, .. } = *pair;
+    let is_same = if shows {
+        engine
+            .diff(streams.alloc, by, first, second)
+            .map(|difference| difference.is_none())
+            .ok()
+    } else {
+        engine.same(streams.alloc, by.from, first, second).ok()
+    };
+    match is_same {
+        Some(is_same) => u8::from(!is_same),
+        None => UNJUDGED,
+    }
+}
+
 fn compare_texts<G: Engine, R, W: Write, E: Write>(
     engine: &G,
     pair: &Pair<'_>,
@@ -142,6 +173,9 @@ fn compare_texts<G: Engine, R, W: Write, E: Write>(
     streams: &mut Streams<R, W, E>,
 ) -> u8 {
     let by = pair.by;
+    if pair.quiet {
+        return compare_quietly(engine, pair, first, second, streams);
+    }
     if !pair.shows {
         return tell_same(engine, by, first, second, streams);
     }
@@ -170,7 +204,7 @@ fn compare_with<G: Engine, H: Files, R: Read, W: Write, E: Write>(
     if pair.is_itself {
         return compare_texts(engine, pair, first, first, streams);
     }
-    match read_side(rt, pair.shows, pair.second, Side::Second, streams) {
+    match read_side(rt, pair, pair.second, Side::Second, streams) {
         Ok(second) => compare_texts(engine, pair, first, second.as_slice(), streams),
         Err(status) => status,
     }
@@ -184,7 +218,7 @@ pub(crate) fn compare<G: Engine, H: Files, R: Read, W: Write, E: Write>(
     streams: &mut Streams<R, W, E>,
 ) -> u8 {
     let pair = pair_of(order);
-    match read_side(rt, pair.shows, pair.first, Side::First, streams) {
+    match read_side(rt, &pair, pair.first, Side::First, streams) {
         Ok(first) => compare_with(engine, rt, &pair, first.as_slice(), streams),
         Err(status) => status,
     }

@@ -60,6 +60,14 @@ pub trait Engine {
     /// Whether an input is as the question asks, or its fault.
     fn judge(&self, alloc: Global, judging: &Judging, input: &[u8]) -> Result<bool, yaml_fault_t>;
 
+    /// The place of an input's first comment, where it has one, or its fault.
+    fn comment(
+        &self,
+        alloc: Global,
+        from: yaml_encoding_t,
+        input: &[u8],
+    ) -> Result<Option<yaml_mark_t>, yaml_fault_t>;
+
     /// Whether two inputs have the same content.
     fn same(&self, alloc: Global, from: yaml_encoding_t, first: &[u8], second: &[u8]) -> Compared;
 

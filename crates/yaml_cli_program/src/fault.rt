@@ -1,21 +1,16 @@
-//! What the program tells on standard error. Each call is made where the fault is found, so that no fault is handed up through
+//! What the program reports on standard error. Each call is made where the fault is found, so that no fault is handed up through
 //! functions that own something.
 
-use crate::file::Unread;
-use crate::order::{WRONG_WORDS, Wrong};
-use crate::places::{Source, push_fault};
+use crate::order::WRONG_WORDS;
 use std::alloc::Global;
-use std::io::Write;
+use std::io::{Error as Failure, Write};
+use thiserror::Error;
+use yaml_cli_places::{Shown, Source, push_fault};
 use yaml_round_device::{yaml_fault_line, yaml_run_fault_t};
 use yaml_types::{yaml_error_type_t, yaml_fault_t};
 
 /// How many bytes an input may have.
 pub const INPUT_LIMIT: u64 = 1_073_741_824;
-
-// What is told of one that has more, by a run and of a file.
-const INPUT_TOO_LONG: &'static str = "input is longer than 1073741824 bytes";
-
-const TOO_LONG: &'static str = "longer than 1073741824 bytes";
 
 /// The status where a command was refused or failed.
 pub(crate) const FAILED: u8 = 1;
@@ -23,9 +18,84 @@ pub(crate) const FAILED: u8 = 1;
 /// The status where a file couldn't be judged or compared: that of wrong words.
 pub(crate) const UNJUDGED: u8 = WRONG_WORDS;
 
+/// A fault that isn't one of a text. Its text is what is reported of it.
+#[derive(Debug, Drop, Error)]
+pub(crate) enum Fault<'a> {
+    // Of a run.
+    #[error("cannot read the input")]
+    CannotRead,
+    #[error("input is longer than 1073741824 bytes")]
+    InputTooLong,
+    #[error("write failed after {0} bytes")]
+    WriteFailed(u64),
+    // A note, of a text that was written.
+    #[error("canonical form was written")]
+    Canonical,
+    #[error("standard output: {0}")]
+    NotPassedOn(Failure),
+    // Of a file, whose name stands before it.
+    #[error("{0}")]
+    Failed(Failure),
+    #[error("longer than 1073741824 bytes")]
+    TooLong,
+    #[error("out of memory")]
+    Short,
+    #[error("the name isn't UTF-8")]
+    Unnamed,
+    #[error("the list has no zero byte: is it from find -print0?")]
+    Unlisted,
+    #[error("no file to read below this folder")]
+    Nothing,
+    #[error("the text would pass --limit {0} bytes")]
+    PastLimit(u64),
+    #[error("has {0} names, which would no longer name the same file")]
+    HasLinks(u64),
+    #[error("standard input can't be written in place")]
+    NoPlace,
+    // Of the words.
+    #[error("unknown {what}: {word}")]
+    Unknown {
+        what: &'static str,
+        word: &'a str,
+    },
+    #[error("unknown {what}: {word} (known: {known})")]
+    UnknownOf {
+        what: &'static str,
+        word: &'a str,
+        known: &'static str,
+    },
+    #[error("{why}\n\nUsage: yaml_cli {command} [OPTIONS] [FILE]...")]
+    Usage {
+        command: &'a str,
+        why: &'static str,
+    },
+    #[error("invalid value '{value}' for '--{option} <GLOB>': {why} (character {place})")]
+    Pattern {
+        option: &'static str,
+        value: &'a str,
+        why: &'static str,
+        place: u64,
+    },
+    #[error("invalid value '{width}' for '--width <COLUMNS>': {width} is not in {least}..=2147483647")]
+    Width {
+        width: i32,
+        least: i32,
+    },
+}
+
 // Where a line can't be told, the status still tells, so nothing is asked of the writing.
 
-// Tells a fault, behind the words that say of which input it is. Of want of memory for the line only the status tells.
+/// Reports a fault, of that file where one is named.
+pub(crate) fn told<E: Write>(errors: &mut E, name: &str, fault: &Fault<'_>) {
+    let (name, colon) = if name.is_empty() {
+        (Shown(""), "")
+    } else {
+        (Shown(name), ": ")
+    };
+    let _ = writeln!(errors, "yaml_cli: {name}{colon}{fault}");
+}
+
+// Reports a fault of a text, behind the words that say of which input it is. Of want of memory for the line only the status tells.
 fn tell_fault<E: Write>(alloc: Global, errors: &mut E, input: &str, fault: &yaml_fault_t) {
     if let Ok(line) = yaml_fault_line(alloc, fault) {
         let line = str::from_utf8(line.as_slice()).unwrap_or("");
@@ -33,46 +103,25 @@ fn tell_fault<E: Write>(alloc: Global, errors: &mut E, input: &str, fault: &yaml
     }
 }
 
-/// Tells why a run, or the reading of that input, was refused, a fault behind the words that say of which input it is; answers the
-/// status.
+/// Reports why a run, or the reading of that input, was refused, a fault of a text behind the words that say of which input it is;
+/// answers the status.
 pub(crate) fn run_failed<E: Write>(
     alloc: Global,
     errors: &mut E,
     input: &str,
     fault: &yaml_run_fault_t,
 ) -> u8 {
-    let what = match fault {
-        yaml_run_fault_t::Read => "cannot read the input",
-        yaml_run_fault_t::TooLong => INPUT_TOO_LONG,
-        yaml_run_fault_t::Write { written } => {
-            let _ = writeln!(errors, "yaml_cli: write failed after {written} bytes");
-            return FAILED;
-        }
+    let fault = match fault {
+        yaml_run_fault_t::Read => Fault::CannotRead,
+        yaml_run_fault_t::TooLong => Fault::InputTooLong,
+        yaml_run_fault_t::Write { written } => Fault::WriteFailed(*written),
         yaml_run_fault_t::Yaml(fault) => {
             tell_fault(alloc, errors, input, fault);
             return FAILED;
         }
     };
-    let _ = writeln!(errors, "yaml_cli: {what}");
+    told(errors, "", &fault);
     FAILED
-}
-
-/// Tells why a file wasn't read, unless `quiet`; answers the status.
-pub(crate) fn unread<E: Write>(errors: &mut E, quiet: bool, name: &str, why: &Unread) -> u8 {
-    if quiet {
-        return UNJUDGED;
-    }
-    let what = match why {
-        Unread::Failed(error) => {
-            let _ = writeln!(errors, "yaml_cli: {name}: {error}");
-            return UNJUDGED;
-        }
-        Unread::TooLong => TOO_LONG,
-        Unread::Short => "out of memory",
-        Unread::Unlisted(what) => *what,
-    };
-    let _ = writeln!(errors, "yaml_cli: {name}: {what}");
-    UNJUDGED
 }
 
 /// Shows the fault of a file, unless `quiet`; answers the status. Of want of memory, where there is none for the line either, only
@@ -90,6 +139,11 @@ pub(crate) fn shown<E: Write>(
             let _ = write!(errors, "{text}");
         }
     }
+    refusal_status(fault)
+}
+
+/// The status where a file is refused for that: of want of memory, that of a file that couldn't be judged.
+pub(crate) fn refusal_status(fault: &yaml_fault_t) -> u8 {
     if fault.kind == yaml_error_type_t::YAML_MEMORY_ERROR {
         UNJUDGED
     } else {
@@ -97,15 +151,16 @@ pub(crate) fn shown<E: Write>(
     }
 }
 
-/// Tells what is wrong with the words of a command; answers the status.
-pub(crate) fn told_wrong<E: Write>(errors: &mut E, wrong: &Wrong<'_>) -> u8 {
-    let _ = match wrong {
-        Wrong::Unknown { what, word } => writeln!(errors, "yaml_cli: unknown {what}: {word}"),
-        Wrong::Extra { command, word } => writeln!(
-            errors,
-            "error: unexpected argument '{word}' found\n\n\
-            Usage: yaml_cli {command} [OPTIONS] [FILE]...\n\nFor more information, try '--help'."
-        ),
-    };
+/// Reports what is wrong with the words of a command; answers the status. What clap's texts say in such a place is told as they do.
+pub(crate) fn told_wrong<E: Write>(errors: &mut E, wrong: &Fault<'_>) -> u8 {
+    match wrong {
+        Fault::Unknown { .. } | Fault::UnknownOf { .. } => told(errors, "", wrong),
+        _ => {
+            let _ = writeln!(
+                errors,
+                "error: {wrong}\n\nFor more information, try '--help'."
+            );
+        }
+    }
     WRONG_WORDS
 }

@@ -1,10 +1,11 @@
 //! The program's streams, files that are read whole, and answers that are written.
 
-use crate::fault::{FAILED, INPUT_LIMIT, UNJUDGED, run_failed};
+use crate::fault::{FAILED, Fault, INPUT_LIMIT, UNJUDGED, run_failed, told};
 use std::alloc::{AllocError, Global};
 use std::fs;
 use std::io::{Error, ErrorKind, Read, Write};
 use std::rt::Files;
+use yaml_cli_files::UNNAMED;
 use yaml_round_device::{yaml_run_fault_t, yaml_std_output_t, yaml_write_all};
 
 /// How the words name standard input.
@@ -31,6 +32,9 @@ pub(crate) struct Streams<R, W, E> {
     piece: Vec<u8>,
     /// The output takes no more names, so that no further file is judged.
     pub(crate) stopped: bool,
+    /// How many files were judged, and how many of them weren't as they were asked for.
+    pub(crate) files: u64,
+    pub(crate) refused: u64,
 }
 
 impl<R, W, E> Streams<R, W, E> {
@@ -42,19 +46,16 @@ impl<R, W, E> Streams<R, W, E> {
             errors,
             piece: Vec::new(alloc),
             stopped: false,
+            files: 0,
+            refused: 0,
         }
     }
-}
 
-/// Why a file wasn't read whole.
-#[derive(Drop)]
-pub(crate) enum Unread {
-    Failed(Error),
-    TooLong,
-    /// There is no room for it.
-    Short,
-    /// It lists no files.
-    Unlisted(&'static str),
+    /// Counts a file, by its status.
+    pub(crate) fn count(&mut self, status: u8) {
+        self.files = self.files.saturating_add(1);
+        self.refused = self.refused.saturating_add(u64::from(status.min(1)));
+    }
 }
 
 // One read, made again where it is interrupted.
@@ -77,13 +78,13 @@ fn read_piece<R: Read>(
     file: &mut R,
     piece: &mut [u8],
     bytes: &mut Vec<u8>,
-) -> Result<bool, Unread> {
+) -> Result<bool, Fault<'static>> {
     match read_again(file, piece) {
         Ok(count) => match bytes.extend_from_slice(piece.get(..count).unwrap_or(b"")) {
             Ok(()) => Ok(count > 0),
-            Err(_) => Err(Unread::Short),
+            Err(_) => Err(Fault::Short),
         },
-        Err(error) => Err(Unread::Failed(error)),
+        Err(error) => Err(Fault::Failed(error)),
     }
 }
 
@@ -101,23 +102,23 @@ fn read_whole<R: Read>(
     alloc: Global,
     file: &mut R,
     piece: &mut Vec<u8>,
-) -> Result<Vec<u8>, Unread> {
+) -> Result<Vec<u8>, Fault<'static>> {
     let mut bytes = Vec::new(alloc);
     for _ in 0..INPUT_LIMIT + 1 {
         if make_room(piece, bytes.len()).is_err() {
-            return Err(Unread::Short);
+            return Err(Fault::Short);
         }
         match read_piece(file, piece.as_mut_slice(), &mut bytes) {
             Ok(true) => {
                 if bytes.len() as u64 > INPUT_LIMIT {
-                    return Err(Unread::TooLong);
+                    return Err(Fault::TooLong);
                 }
             }
             Ok(false) => return Ok(bytes),
             Err(why) => return Err(why),
         }
     }
-    Err(Unread::TooLong)
+    Err(Fault::TooLong)
 }
 
 /// The bytes of a file, or of standard input, or why they weren't read.
@@ -125,13 +126,16 @@ pub(crate) fn whole_of<H: Files, R: Read, W, E>(
     rt: &H,
     path: &str,
     streams: &mut Streams<R, W, E>,
-) -> Result<Vec<u8>, Unread> {
+) -> Result<Vec<u8>, Fault<'static>> {
     if path == STANDARD {
         return read_whole(streams.alloc, &mut streams.input, &mut streams.piece);
     }
+    if path.starts_with(UNNAMED) {
+        return Err(Fault::Unnamed);
+    }
     match fs::open(rt, path) {
         Ok(mut file) => read_whole(streams.alloc, &mut file, &mut streams.piece),
-        Err(error) => Err(Unread::Failed(error)),
+        Err(error) => Err(Fault::Failed(error)),
     }
 }
 
@@ -163,7 +167,7 @@ pub(crate) fn flushed<R, W: Write, E: Write>(
         Ok(()) => 0,
         Err(error) if error.kind() == ErrorKind::BrokenPipe => FAILED,
         Err(error) => {
-            let _ = writeln!(streams.errors, "yaml_cli: standard output: {error}");
+            told(&mut streams.errors, "", &Fault::NotPassedOn(error));
             UNJUDGED
         }
     }

@@ -1,72 +1,115 @@
-//! Files that are read whole, one after another, and judged, or one that is written in normal form. One is held at a time, and
-//! what is wrong with one doesn't keep the next from being judged.
+//! Files that are read whole, one after another, and judged, or written in normal form. One is held at a time, and what is wrong
+//! with one doesn't keep the next from being judged.
 
 use crate::engine::Engine;
-use crate::fault::{FAILED, shown, unread};
-use crate::file::{STANDARD, Streams, Unread, flushed, whole_of};
-use crate::order::{Judging, Order};
-use crate::places::Source;
-use std::io::{Read, Write};
+use crate::fault::{FAILED, Fault, UNJUDGED, told};
+use crate::file::{STANDARD, Streams, whole_of};
+use crate::order::Order;
+use crate::report::{name_file, refused, unread};
+use crate::writing::write_normal;
+use std::io::{ErrorKind, Read, Write};
 use std::rt::Files;
+use yaml_cli_files::{Folder, Found, shown_bytes};
+use yaml_cli_places::Source;
 
-// Names a file that isn't as it was asked for.
-fn name_file<R, W: Write, E: Write>(name: &str, streams: &mut Streams<R, W, E>) -> u8 {
-    let written = writeln!(streams.output, "{name}");
-    match flushed(written, streams) {
-        0 => FAILED,
-        status => {
-            streams.stopped = true;
-            status
-        }
-    }
-}
-
-// Writes the normal form.
-fn write_normal<G: Engine, R, W: Write, E: Write>(
+fn judge_text<G: Engine, H: Files, R, W: Write, E: Write>(
     engine: &G,
-    judging: &Judging,
-    source: Source<'_>,
-    streams: &mut Streams<R, W, E>,
-) -> u8 {
-    match engine.normalize(streams.alloc, &judging.manner, source.input) {
-        Ok(text) => {
-            let written = streams.output.write_all(text.as_slice());
-            flushed(written, streams)
-        }
-        Err(fault) => shown(
-            streams.alloc,
-            &mut streams.errors,
-            judging.quiet,
-            source,
-            &fault,
-        ),
-    }
-}
-
-fn judge_text<G: Engine, R, W: Write, E: Write>(
-    engine: &G,
+    rt: &H,
     order: &Order<'_, '_>,
     source: Source<'_>,
     streams: &mut Streams<R, W, E>,
 ) -> u8 {
     let judging = &order.judging;
     if !order.judges {
-        return write_normal(engine, judging, source, streams);
+        return write_normal(engine, rt, order, source, streams);
     }
     match engine.judge(streams.alloc, judging, source.input) {
         Ok(true) => 0,
-        Ok(false) => name_file(source.name, streams),
-        Err(fault) => shown(
-            streams.alloc,
-            &mut streams.errors,
-            judging.quiet,
-            source,
-            &fault,
-        ),
+        Ok(false) => name_file(judging, source.name, FAILED, streams),
+        Err(fault) => refused(judging, source, &fault, streams),
     }
 }
 
-fn judge_file<G: Engine, H: Files, R: Read, W: Write, E: Write>(
+// How a file's name is shown.
+fn shown_name<'n>(order: &'n Order<'_, '_>, name: &'n str) -> &'n str {
+    match order.told.get_str("stdin-filename") {
+        Some(shown) if name == STANDARD => shown,
+        _ => name,
+    }
+}
+
+// Judges what was read of a file, or tells why it wasn't read.
+fn judge_read<G: Engine, H: Files, R, W: Write, E: Write>(
+    engine: &G,
+    rt: &H,
+    order: &Order<'_, '_>,
+    name: &str,
+    read: Result<Vec<u8>, Fault<'static>>,
+    streams: &mut Streams<R, W, E>,
+) -> u8 {
+    let status = match read {
+        Ok(input) => {
+            let input = input.as_slice();
+            let from = order.judging.manner.from;
+            judge_text(engine, rt, order, Source { name, input, from }, streams)
+        }
+        Err(why) => unread(&order.judging, name, &why, streams),
+    };
+    streams.count(status);
+    status
+}
+
+// Judges what is found below a folder.
+fn judge_found<G: Engine, H: Files, R: Read, W: Write, E: Write>(
+    engine: &G,
+    rt: &H,
+    order: &Order<'_, '_>,
+    found: Found,
+    streams: &mut Streams<R, W, E>,
+) -> u8 {
+    match found {
+        Found::File(path) => {
+            let read = whole_of(rt, path.as_str(), streams);
+            judge_read(engine, rt, order, path.as_str(), read, streams)
+        }
+        Found::Failed(path, error) => {
+            let read = Err(Fault::Failed(error));
+            judge_read(engine, rt, order, path.as_str(), read, streams)
+        }
+    }
+}
+
+// Judges all files below a folder.
+fn judge_folder<G: Engine, H: Files, R: Read, W: Write, E: Write>(
+    engine: &G,
+    rt: &H,
+    order: &Order<'_, '_>,
+    name: &str,
+    streams: &mut Streams<R, W, E>,
+) -> u8 {
+    let Ok(mut folder) = Folder::new(streams.alloc, name) else {
+        return judge_read(engine, rt, order, name, Err(Fault::Short), streams);
+    };
+    let before = streams.files;
+    let mut worst = 0;
+    for _ in 0..u64::MAX {
+        let Some(found) = folder.next(rt, &order.choice) else {
+            break;
+        };
+        let status = judge_found(engine, rt, order, found, streams);
+        if streams.stopped {
+            return status;
+        }
+        worst = status.max(worst);
+    }
+    if streams.files == before && !order.judging.quiet {
+        told(&mut streams.errors, name, &Fault::Nothing);
+    }
+    worst
+}
+
+// Judges a file, or all files below a folder.
+fn judge_named<G: Engine, H: Files, R: Read, W: Write, E: Write>(
     engine: &G,
     rt: &H,
     order: &Order<'_, '_>,
@@ -74,12 +117,10 @@ fn judge_file<G: Engine, H: Files, R: Read, W: Write, E: Write>(
     streams: &mut Streams<R, W, E>,
 ) -> u8 {
     match whole_of(rt, name, streams) {
-        Ok(input) => {
-            let input = input.as_slice();
-            let from = order.judging.manner.from;
-            judge_text(engine, order, Source { name, input, from }, streams)
+        Err(Fault::Failed(error)) if order.walks(error.kind()) => {
+            judge_folder(engine, rt, order, name, streams)
         }
-        Err(why) => unread(&mut streams.errors, order.judging.quiet, name, &why),
+        read => judge_read(engine, rt, order, shown_name(order, name), read, streams),
     }
 }
 
@@ -92,7 +133,7 @@ fn judge_files<G: Engine, H: Files, R: Read, W: Write, E: Write>(
 ) -> u8 {
     let mut worst = 0;
     for name in files {
-        let status = judge_file(engine, rt, order, name, streams);
+        let status = judge_named(engine, rt, order, name, streams);
         if streams.stopped {
             return status;
         }
@@ -101,34 +142,39 @@ fn judge_files<G: Engine, H: Files, R: Read, W: Write, E: Write>(
     worst
 }
 
+// A name of a list that isn't UTF-8.
+fn judge_unnamed<R, W: Write, E: Write>(
+    order: &Order<'_, '_>,
+    name: &[u8],
+    streams: &mut Streams<R, W, E>,
+) -> u8 {
+    let mut shown = String::new(streams.alloc);
+    let _ = shown_bytes(&mut shown, name);
+    streams.count(UNJUDGED);
+    unread(&order.judging, shown.as_str(), &Fault::Unnamed, streams)
+}
+
 // The same of files that a list names, each name ended by a zero byte; answers the status.
 fn judge_names<G: Engine, H: Files, R: Read, W: Write, E: Write>(
     engine: &G,
     rt: &H,
     order: &Order<'_, '_>,
-    names: &str,
+    names: &[u8],
     streams: &mut Streams<R, W, E>,
 ) -> u8 {
     let mut worst = 0;
-    for name in names.split('\0') {
-        if !name.is_empty() {
-            let status = judge_file(engine, rt, order, name, streams);
-            if streams.stopped {
-                return status;
-            }
-            worst = status.max(worst);
+    for name in names.split(|byte| *byte == 0) {
+        let status = match str::from_utf8(name) {
+            Ok("") => 0,
+            Ok(name) => judge_named(engine, rt, order, name, streams),
+            Err(_) => judge_unnamed(order, name, streams),
+        };
+        if streams.stopped {
+            return status;
         }
+        worst = status.max(worst);
     }
     worst
-}
-
-// The names of a list, or why there are none.
-fn names_of(text: &[u8]) -> Result<&str, &'static str> {
-    match str::from_utf8(text) {
-        Ok(names) if names.trim_matches('\0').is_empty() => Err("no file is named"),
-        Ok(names) => Ok(names),
-        Err(_) => Err("a name isn't UTF-8"),
-    }
 }
 
 fn judge_listed<G: Engine, H: Files, R: Read, W: Write, E: Write>(
@@ -138,14 +184,14 @@ fn judge_listed<G: Engine, H: Files, R: Read, W: Write, E: Write>(
     list: &str,
     streams: &mut Streams<R, W, E>,
 ) -> u8 {
-    let quiet = order.judging.quiet;
-    match whole_of(rt, list, streams) {
-        Ok(text) => match names_of(text.as_slice()) {
-            Ok(names) => judge_names(engine, rt, order, names, streams),
-            Err(what) => unread(&mut streams.errors, quiet, list, &Unread::Unlisted(what)),
-        },
-        Err(why) => unread(&mut streams.errors, quiet, list, &why),
-    }
+    let why = match whole_of(rt, list, streams) {
+        Ok(names) if names.is_empty() || names.as_slice().contains(&0) => {
+            return judge_names(engine, rt, order, names.as_slice(), streams);
+        }
+        Ok(_) => Fault::Unlisted,
+        Err(why) => why,
+    };
+    unread(&order.judging, list, &why, streams)
 }
 
 /// Judges the files and those that a list names, or standard input where there are neither. The status is the worst one: 0 where
@@ -163,12 +209,31 @@ pub(crate) fn judge_all<G: Engine, H: Files, R: Read, W: Write, E: Write>(
     } else {
         order.files
     };
-    let status = judge_files(engine, rt, order, files, streams);
+    let mut status = judge_files(engine, rt, order, files, streams);
     match list {
         Some(list) if !streams.stopped => {
-            judge_listed(engine, rt, order, list, streams).max(status)
+            status = judge_listed(engine, rt, order, list, streams).max(status);
         }
-        _ if order.judges => status,
-        _ => status.min(FAILED),
+        _ => {}
     }
+    if order.told.get_flag("verbose") {
+        tell_count(streams);
+    }
+    if order.judges {
+        status
+    } else {
+        status.min(FAILED)
+    }
+}
+
+// Reports how many files were judged, and how many of them weren't as they were asked for.
+fn tell_count<R, W, E: Write>(streams: &mut Streams<R, W, E>) {
+    let Streams {
+        files,
+        refused,
+        errors,
+        ..
+    } = streams;
+    let word = if *files == 1 { "file" } else { "files" };
+    let _ = writeln!(errors, "{files} {word}, {refused} refused");
 }

@@ -3,20 +3,23 @@
 #![tactic(auto)]
 
 mod compare;
+mod difference;
 mod engine;
 mod fault;
 mod file;
 mod judge;
 mod options;
 mod order;
-mod places;
 mod program;
+mod report;
 mod table;
 mod version;
 mod words;
+mod writing;
 
 pub use engine::{Compared, Difference, Ended, Engine, Met, Parted, Side};
 pub use fault::INPUT_LIMIT;
 pub use order::{Judging, Manner, Measure, Question, Task, WRONG_WORDS};
-pub use places::{Step, push_step};
 pub use program::main_by;
+pub use yaml_cli_files::{UNNAMED, shown_bytes};
+pub use yaml_cli_places::{Format, Source, Step, place_of_byte, push_step};

@@ -1,6 +1,10 @@
 //! What the words of a command say that it is to do.
 
+use crate::fault::Fault;
 use clap::ArgMatches;
+use std::io::ErrorKind;
+use yaml_cli_files::Choice;
+use yaml_cli_places::{Format, row_of};
 use yaml_round_device::{yaml_command_t, yaml_output_encoding_t, yaml_settings_t};
 use yaml_types::{yaml_break_t, yaml_encoding_t};
 
@@ -39,6 +43,8 @@ pub struct Judging {
     pub manner: Manner,
     /// Nothing is told but by the status.
     pub quiet: bool,
+    /// How findings are reported.
+    pub format: Format,
 }
 
 /// By what two inputs are compared: how both are encoded, and whether by their loaded documents or by their contents.
@@ -70,27 +76,19 @@ pub(crate) struct Order<'o, 'a> {
     pub(crate) files: &'o [&'a str],
     /// Files are judged, and nothing of them is written.
     pub(crate) judges: bool,
+    /// Files are written in place.
+    pub(crate) writes: bool,
     /// How they are read and written, and what they are judged by.
     pub(crate) judging: Judging,
+    /// Which files of a folder are read.
+    pub(crate) choice: Choice<'o, 'a>,
 }
 
-/// What is wrong with the words.
-#[derive(Clone, Copy)]
-pub(crate) enum Wrong<'a> {
-    /// A word that can't stand there.
-    Unknown { what: &'static str, word: &'a str },
-    /// That word is one file too many for the command.
-    Extra { command: &'a str, word: &'a str },
-}
-
-/// What the rows have for the word.
-pub(crate) fn row_of<T: Copy>(rows: &[(&'static str, T)], word: &str) -> Option<T> {
-    for row in rows {
-        if row.0 == word {
-            return Some(row.1);
-        }
+impl Order<'_, '_> {
+    /// Whether a file that can't be read for that is a folder whose files are judged.
+    pub(crate) fn walks(&self, kind: ErrorKind) -> bool {
+        (self.judges || self.writes) && kind == ErrorKind::IsADirectory
     }
-    None
 }
 
 const BREAKS: [(&'static str, yaml_break_t); 3] = [
@@ -99,38 +97,91 @@ const BREAKS: [(&'static str, yaml_break_t); 3] = [
     ("crlf", yaml_break_t::YAML_CRLN_BREAK),
 ];
 
-const ENCODINGS: [(&'static str, yaml_output_encoding_t); 3] = [
+const ENCODINGS: [(&'static str, yaml_output_encoding_t); 6] = [
     ("utf8", yaml_output_encoding_t::Utf8),
     ("utf16le", yaml_output_encoding_t::Utf16Le),
     ("utf16be", yaml_output_encoding_t::Utf16Be),
+    ("utf-8", yaml_output_encoding_t::Utf8),
+    ("utf-16le", yaml_output_encoding_t::Utf16Le),
+    ("utf-16be", yaml_output_encoding_t::Utf16Be),
 ];
 
-const INPUT_ENCODINGS: [(&'static str, yaml_encoding_t); 4] = [
+const INPUT_ENCODINGS: [(&'static str, yaml_encoding_t); 7] = [
     ("auto", yaml_encoding_t::YAML_ANY_ENCODING),
     ("utf8", yaml_encoding_t::YAML_UTF8_ENCODING),
     ("utf16le", yaml_encoding_t::YAML_UTF16LE_ENCODING),
     ("utf16be", yaml_encoding_t::YAML_UTF16BE_ENCODING),
+    ("utf-8", yaml_encoding_t::YAML_UTF8_ENCODING),
+    ("utf-16le", yaml_encoding_t::YAML_UTF16LE_ENCODING),
+    ("utf-16be", yaml_encoding_t::YAML_UTF16BE_ENCODING),
 ];
 
-// What the rows have for the word of an option; the usual one where the command doesn't have it, or they don't have the word. Of
-// words that they don't have the first is kept.
-fn option_in<'a, T: Copy>(
-    told: &ArgMatches<'a>,
-    option: &str,
+const FORMATS: [(&'static str, Format); 4] = [
+    ("full", Format::Full),
+    ("line", Format::Line),
+    ("github", Format::Github),
+    ("json", Format::Json),
+];
+
+// An option whose value is a word: how a wrong one is called, and the words that help names.
+#[derive(Clone, Copy)]
+struct Worded {
+    name: &'static str,
     what: &'static str,
-    rows: &[(&'static str, T)],
-    usual: T,
-    wrong: &mut Option<Wrong<'a>>,
-) -> T {
-    let Some(word) = told.get_str(option) else {
-        return usual;
-    };
-    match row_of(rows, word) {
-        Some(value) => value,
-        None => {
-            *wrong = wrong.or(Some(Wrong::Unknown { what, word }));
-            usual
+    known: &'static str,
+}
+
+const BREAK: Worded = Worded {
+    name: "break",
+    what: "break",
+    known: "lf, cr, crlf",
+};
+
+const ENCODING: Worded = Worded {
+    name: "encoding",
+    what: "encoding",
+    known: "utf8, utf16le, utf16be",
+};
+
+const FROM: Worded = Worded {
+    name: "from",
+    what: "input encoding",
+    known: "auto, utf8, utf16le, utf16be",
+};
+
+const FORMAT: Worded = Worded {
+    name: "format",
+    what: "format",
+    known: "full, line, github, json",
+};
+
+// The words of a command, and the first thing that is wrong with them.
+struct Words<'o, 'a> {
+    told: &'o ArgMatches<'a>,
+    // What is known is listed where a word isn't: the lines of the other commands are fixed.
+    lists: bool,
+    wrong: Option<Fault<'a>>,
+}
+
+impl<'a> Words<'_, 'a> {
+    fn keep(&mut self, wrong: Fault<'a>) {
+        if self.wrong.is_none() {
+            self.wrong = Some(wrong);
         }
+    }
+
+    // What the rows have for the word of an option; the usual one where the command doesn't have it, or they don't have the word.
+    fn option_in<T: Copy>(&mut self, option: Worded, rows: &[(&'static str, T)], usual: T) -> T {
+        let Some(word) = self.told.get_str(option.name) else {
+            return usual;
+        };
+        let Worded { what, known, .. } = option;
+        match row_of(rows, word) {
+            Some(value) => return value,
+            None if self.lists => self.keep(Fault::UnknownOf { what, word, known }),
+            None => self.keep(Fault::Unknown { what, word }),
+        }
+        usual
     }
 }
 
@@ -148,19 +199,12 @@ fn numbers_in(told: &ArgMatches<'_>) -> yaml_settings_t {
 }
 
 // The break is judged first, then the encoding, then how the input is encoded.
-fn manner_in<'a>(told: &ArgMatches<'a>, wrong: &mut Option<Wrong<'a>>) -> Manner {
-    let usual = numbers_in(told);
-    let line_break = option_in(told, "break", "break", &BREAKS, usual.line_break, wrong);
-    let encoding = option_in(
-        told,
-        "encoding",
-        "encoding",
-        &ENCODINGS,
-        usual.encoding,
-        wrong,
-    );
+fn manner_in(words: &mut Words<'_, '_>) -> Manner {
+    let usual = numbers_in(words.told);
+    let line_break = words.option_in(BREAK, &BREAKS, usual.line_break);
+    let encoding = words.option_in(ENCODING, &ENCODINGS, usual.encoding);
     let any = yaml_encoding_t::YAML_ANY_ENCODING;
-    let from = option_in(told, "from", "input encoding", &INPUT_ENCODINGS, any, wrong);
+    let from = words.option_in(FROM, &INPUT_ENCODINGS, any);
     let settings = yaml_settings_t {
         encoding,
         line_break,
@@ -192,35 +236,79 @@ fn question_of(does: Does) -> Question {
     }
 }
 
-/// What the words of a command say; nothing where `wrong` tells that they are wrong. One that rewrites takes one file, which is
-/// judged in front of its other words, and told as clap does of a command that takes one.
+// What is wrong with how many files are named, and what for.
+fn misused(does: Does, told: &ArgMatches<'_>) -> Option<&'static str> {
+    let (checks, writes) = (told.get_flag("check"), told.get_flag("write"));
+    let count = told.get_strs("files").unwrap_or(&[]).len();
+    match does {
+        Does::Norm if checks && writes => Some("--check and --write don't go together"),
+        Does::Norm if writes && count == 0 => Some("--write needs files"),
+        Does::Norm if count > 1 && !checks && !writes => {
+            Some("several files need --check or --write")
+        }
+        Does::Run(_) if count > 1 && !checks => Some("several files need --check"),
+        _ => None,
+    }
+}
+
+// Keeps a width that an indent is too large for. Where numbers are fixed such a width counts as another one.
+fn judge_width(words: &mut Words<'_, '_>, settings: &yaml_settings_t) {
+    let least = settings.indent.saturating_mul(2).saturating_add(1);
+    if settings.width < least {
+        words.keep(Fault::Width {
+            width: settings.width,
+            least,
+        });
+    }
+}
+
+/// What the words of a command say, and which files of a folder are read; nothing where `wrong` tells that they are wrong. How many files one is given is judged in front
+/// of its other words.
 pub(crate) fn order_in<'o, 'a>(
     name: &'a str,
     told: &'o ArgMatches<'a>,
-    wrong: &mut Option<Wrong<'a>>,
+    choice: Choice<'o, 'a>,
+    wrong: &mut Option<Fault<'a>>,
 ) -> Order<'o, 'a> {
     let does = does_of(name).unwrap_or(Does::Check);
-    let judges = matches!(does, Does::Check) || told.get_flag("check");
-    let files = told.get_strs("files").unwrap_or(&[]);
-    match files.get(1) {
-        Some(word) if !judges => {
-            *wrong = Some(Wrong::Extra {
-                command: name,
-                word,
-            });
-        }
-        _ => {}
-    }
-    let judging = Judging {
-        question: question_of(does),
-        manner: manner_in(told, wrong),
-        quiet: told.get_flag("quiet"),
+    let mut words = Words {
+        told,
+        lists: matches!(does, Does::Norm | Does::Diff | Does::Check),
+        wrong: None,
     };
+    if let Some(why) = misused(does, told) {
+        words.keep(Fault::Usage { command: name, why });
+    }
+    let judging = judging_in(does, &mut words);
+    let Words {
+        told: _,
+        lists: _,
+        wrong: found,
+    } = words;
+    if wrong.is_none() {
+        *wrong = found;
+    }
     Order {
         does,
         told,
-        files,
-        judges,
+        files: told.get_strs("files").unwrap_or(&[]),
+        judges: matches!(does, Does::Check) || told.get_flag("check"),
+        writes: told.get_flag("write"),
         judging,
+        choice,
+    }
+}
+
+fn judging_in(does: Does, words: &mut Words<'_, '_>) -> Judging {
+    let manner = manner_in(words);
+    let format = words.option_in(FORMAT, &FORMATS, Format::Full);
+    if matches!(does, Does::Norm) {
+        judge_width(words, &manner.settings);
+    }
+    Judging {
+        question: question_of(does),
+        manner,
+        quiet: words.told.get_flag("quiet"),
+        format,
     }
 }

@@ -2,7 +2,7 @@
 
 use crate::compare::compare;
 use crate::engine::{Ended, Engine};
-use crate::fault::{FAILED, run_failed, told_wrong};
+use crate::fault::{FAILED, Fault, run_failed, told, told_wrong};
 use crate::file::{STANDARD, Streams};
 use crate::judge::judge_all;
 use crate::order::{Does, Order, Task, order_in};
@@ -13,7 +13,13 @@ use std::convert::AsStr;
 use std::fs;
 use std::io::{Read, Write};
 use std::rt::Files;
+use yaml_cli_files::{Choice, Glob, WrongGlob};
 use yaml_round_device::{yaml_command_t, yaml_form_t, yaml_run_fault_t};
+
+const NO_ROOM: WrongGlob = WrongGlob {
+    why: "out of memory",
+    place: 1,
+};
 
 // Runs a command over a file, or over standard input.
 fn run_path<G: Engine, H: Files, R: Read, W: Write, E>(
@@ -37,7 +43,7 @@ fn ended<E: Write>(alloc: Global, task: &Task, ended: Ended, errors: &mut E) -> 
     match ended {
         Ok(Some(yaml_form_t::Canonical)) if !task.manner.settings.canonical => {
             // A note: the text is written, whether or not it can be told.
-            let _ = writeln!(errors, "yaml_cli: canonical form was written");
+            told(errors, "", &Fault::Canonical);
             0
         }
         Ok(_) => 0,
@@ -62,6 +68,34 @@ fn run_file<G: Engine, H: Files, R: Read, W: Write, E: Write>(
     ended(streams.alloc, &task, answer, &mut streams.errors)
 }
 
+fn add_glob<'a>(alloc: Global, globs: &mut Vec<Glob<'a>>, value: &'a str) -> Result<(), WrongGlob> {
+    match Glob::new(alloc, value) {
+        Ok(glob) => globs.push(glob).map_err(|_| NO_ROOM),
+        Err(wrong) => Err(wrong),
+    }
+}
+
+// The patterns of an option, and what is wrong with the first one that is none.
+fn globs_in<'a>(
+    alloc: Global,
+    told: &ArgMatches<'a>,
+    option: &'static str,
+    wrong: &mut Option<Fault<'a>>,
+) -> Vec<Glob<'a>> {
+    let mut globs = Vec::new(alloc);
+    for value in told.get_strs(option).unwrap_or(&[]) {
+        if let Err(WrongGlob { why, place }) = add_glob(alloc, &mut globs, value) {
+            *wrong = Some(Fault::Pattern {
+                option,
+                value,
+                why,
+                place,
+            });
+        }
+    }
+    globs
+}
+
 // Does what is found among the words. Answers the status.
 fn follow<G: Engine, H: Files, R: Read, W: Write, E: Write>(
     engine: &G,
@@ -73,7 +107,13 @@ fn follow<G: Engine, H: Files, R: Read, W: Write, E: Write>(
         return FAILED;
     };
     let mut wrong = None;
-    let order = order_in(name, told, &mut wrong);
+    let included = globs_in(streams.alloc, told, "include", &mut wrong);
+    let excluded = globs_in(streams.alloc, told, "exclude", &mut wrong);
+    let choice = Choice {
+        included: included.as_slice(),
+        excluded: excluded.as_slice(),
+    };
+    let order = order_in(name, told, choice, &mut wrong);
     if let Some(wrong) = wrong {
         return told_wrong(&mut streams.errors, &wrong);
     }

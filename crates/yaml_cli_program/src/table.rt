@@ -8,37 +8,41 @@ pub(crate) struct Told {
     pub(crate) bit: u8,
 }
 
-/// How an argument is given, and what it may be.
+/// How an argument is given, and what it may be: what help calls its value, and the value where it is left out.
 #[derive(Clone, Copy)]
 pub(crate) enum Kind {
     /// A word that stands by itself and may be left out.
-    Place,
+    Place(&'static str),
     /// Words that stand by themselves, any number of them.
-    Many,
+    Many(&'static str),
     /// A word that stands by itself and has to be there.
-    Needed,
-    /// An option without a value.
-    Flag,
+    Needed(&'static str),
+    /// An option without a value, and its letter.
+    Flag(char),
     /// An option whose value is any text.
-    Text,
+    Text(&'static str, &'static str),
     /// The same, without a value where it is left out.
-    Name,
-    /// An option whose value is a number of columns.
-    Columns,
+    Name(&'static str),
+    /// The same, any number of times.
+    Names(&'static str),
+    /// An option whose value is a number of columns, from the least to the greatest one.
+    Columns(&'static str, i64, i64),
     /// An option whose value is a number of bytes.
-    Bytes,
+    Bytes(&'static str),
 }
 
-/// An argument. `value` is what help calls its value, `usual` the value where it is left out, and `of` has the bits of the
-/// commands that take it.
-pub(crate) struct Row {
-    pub(crate) name: &'static str,
-    pub(crate) kind: Kind,
-    pub(crate) value: &'static str,
-    pub(crate) usual: &'static str,
-    pub(crate) help: &'static str,
-    pub(crate) of: u8,
-}
+/// An argument: its name, how it is given, the bits of the commands that take it, and its help.
+pub(crate) struct Row(
+    pub(crate) &'static str,
+    pub(crate) Kind,
+    pub(crate) u8,
+    pub(crate) &'static str,
+);
+
+/// No letter stands for the flag.
+pub(crate) const LONG: char = '-';
+
+const MOST: i64 = 2_147_483_647;
 
 const FMT: u8 = 1;
 
@@ -54,6 +58,13 @@ const NORM: u8 = 32;
 
 const DIFF: u8 = 64;
 
+// Those that write a text, those that judge many files, and all.
+const TEXT: u8 = FMT | NORM | DOCS;
+
+const MANY: u8 = FMT | NORM | CHECK;
+
+const ALL: u8 = 127;
+
 /// What stands behind the help of the program.
 pub(crate) const AFTER: &'static str = "\
 Examples:
@@ -63,7 +74,7 @@ Examples:
 Status:
   0  All is well
   1  An input is refused, isn't as it was asked for, or differs (diff), or reading or writing fails
-  2  The words are wrong, or check, --check or diff can't read a file, or diff refuses one";
+  2  The arguments are wrong, or check, --check, diff or same -q can't judge a file";
 
 /// The commands, in the order in which help lists them.
 pub(crate) const COMMANDS: [Told; 7] = [
@@ -78,7 +89,7 @@ Examples:
 Status:
   0  The text was written, or all files have the form already
   1  An input is refused or hasn't the form, or reading or writing fails
-  2  The words are wrong, or with --check a file can't be read",
+  2  The arguments are wrong, or with --check a file can't be read",
         bit: FMT,
     },
     Told {
@@ -87,12 +98,13 @@ Status:
         after: "\
 Examples:
   yaml_cli norm config.yaml
-  yaml_cli norm --check *.yaml
+  yaml_cli norm --check .
+  yaml_cli norm --write config.yaml
 
 Status:
-  0  The text was written, or all files are in normal form already
+  0  The text was written, or all files are in normal form already, or are now
   1  An input is refused or isn't in normal form, or reading or writing fails
-  2  The words are wrong, or with --check a file can't be read",
+  2  The arguments are wrong, or with --check a file can't be read",
         bit: NORM,
     },
     Told {
@@ -105,7 +117,7 @@ Example:
 Status:
   0  The text was written
   1  The input is refused, or reading or writing fails
-  2  The words are wrong",
+  2  The arguments are wrong",
         bit: DOCS,
     },
     Told {
@@ -118,20 +130,21 @@ Example:
 Status:
   0  The lines were written
   1  The input is refused, or reading or writing fails
-  2  The words are wrong",
+  2  The arguments are wrong",
         bit: EVENTS,
     },
     Told {
         name: "same",
         about: "Tells whether two files have the same content",
         after: "\
-Example:
+Examples:
   yaml_cli same old.yaml new.yaml
+  yaml_cli same -q old.yaml new.yaml
 
 Status:
-  0  It is told, whether `equal` or `different`
-  1  An input is refused, or reading or writing fails
-  2  The words are wrong",
+  0  It is told, whether `equal` or `different`; with -q they have the same content
+  1  An input is refused, or reading or writing fails; with -q they haven't the same content
+  2  The arguments are wrong; with -q an input is refused or can't be read",
         bit: SAME,
     },
     Told {
@@ -145,161 +158,182 @@ Examples:
 Status:
   0  The files have the same content, or the same documents
   1  They haven't: the path to the first difference was written, and its place in both
-  2  The words are wrong, or a file is refused or can't be read",
+  2  The arguments are wrong, or a file is refused or can't be read",
         bit: DIFF,
     },
     Told {
         name: "check",
-        about: "Loads files, writes nothing where all load, and shows where one is refused",
+        about: "Loads files and folders, writes nothing where all load, and shows where one is refused",
         after: "\
 Examples:
   yaml_cli check config.yaml
+  yaml_cli check --exclude vendor .
   find . -name '*.yaml' -print0 | yaml_cli check --files0-from -
 
 Status:
-  0  All files load
+  0  All files load, or there is none
   1  A file doesn't load
-  2  The words are wrong, or a file can't be read",
+  2  The arguments are wrong, or a file can't be read",
         bit: CHECK,
     },
 ];
 
 /// The arguments, in the order in which a command lists those that it takes.
-pub(crate) const ROWS: [Row; 17] = [
-    Row {
-        name: "files",
-        kind: Kind::Place,
-        value: "FILE",
-        usual: "",
-        help: "The file to read; `-`, or none, is standard input",
-        of: DOCS | EVENTS,
-    },
-    Row {
-        name: "files",
-        kind: Kind::Many,
-        value: "FILE",
-        usual: "",
-        help: "The file to read, or with --check the files; `-`, or none, is standard input",
-        of: FMT | NORM,
-    },
-    Row {
-        name: "files",
-        kind: Kind::Many,
-        value: "FILE",
-        usual: "",
-        help: "The files to load; `-`, or none, is standard input",
-        of: CHECK,
-    },
-    Row {
-        name: "first",
-        kind: Kind::Needed,
-        value: "A",
-        usual: "",
-        help: "The file to compare; `-` is standard input",
-        of: SAME | DIFF,
-    },
-    Row {
-        name: "second",
-        kind: Kind::Needed,
-        value: "B",
-        usual: "",
-        help: "The file that it is compared with; `-` is standard input",
-        of: SAME | DIFF,
-    },
-    Row {
-        name: "from",
-        kind: Kind::Text,
-        value: "ENCODING",
-        usual: "auto",
-        help: "How the input is encoded: auto, utf8, utf16le or utf16be",
-        of: FMT | NORM | DOCS | EVENTS | SAME | DIFF | CHECK,
-    },
-    Row {
-        name: "check",
-        kind: Kind::Flag,
-        value: "",
-        usual: "false",
-        help: "Write no text, but the names of the files that haven't this form already",
-        of: FMT | NORM,
-    },
-    Row {
-        name: "documents",
-        kind: Kind::Flag,
-        value: "",
-        usual: "false",
-        help: "Compare the loaded documents: names of anchors and quotes don't count, sharing does",
-        of: DIFF,
-    },
-    Row {
-        name: "quiet",
-        kind: Kind::Flag,
-        value: "",
-        usual: "false",
-        help: "Tell nothing but by the status",
-        of: CHECK,
-    },
-    Row {
-        name: "files0-from",
-        kind: Kind::Name,
-        value: "LIST",
-        usual: "",
-        help: "Also load the files that LIST names, each ended by a zero byte; `-` is standard input",
-        of: CHECK,
-    },
-    Row {
-        name: "pretty",
-        kind: Kind::Flag,
-        value: "",
-        usual: "false",
-        help: "Keep the styles, where the text then reads the same",
-        of: FMT,
-    },
-    Row {
-        name: "indent",
-        kind: Kind::Columns,
-        value: "COLUMNS",
-        usual: "2",
-        help: "Columns of a level, 2 to 9; any other number counts as 2",
-        of: FMT | NORM | DOCS,
-    },
-    Row {
-        name: "width",
-        kind: Kind::Columns,
-        value: "COLUMNS",
-        usual: "80",
-        help: "The column behind which lines are folded; 0, up to twice the indent, means 80",
-        of: FMT | NORM | DOCS,
-    },
-    Row {
-        name: "ascii",
-        kind: Kind::Flag,
-        value: "",
-        usual: "false",
-        help: "Escape all characters that aren't ASCII",
-        of: FMT | NORM | DOCS,
-    },
-    Row {
-        name: "break",
-        kind: Kind::Text,
-        value: "BREAK",
-        usual: "lf",
-        help: "How lines end: lf, cr or crlf",
-        of: FMT | NORM | DOCS,
-    },
-    Row {
-        name: "encoding",
-        kind: Kind::Text,
-        value: "ENCODING",
-        usual: "utf8",
-        help: "How the output is encoded: utf8, utf16le or utf16be",
-        of: FMT | NORM | DOCS,
-    },
-    Row {
-        name: "limit",
-        kind: Kind::Bytes,
-        value: "BYTES",
-        usual: "1099511627776",
-        help: "How many bytes the output may have",
-        of: FMT | NORM | DOCS,
-    },
+pub(crate) const ROWS: [Row; 26] = [
+    Row(
+        "files",
+        Kind::Place("FILE"),
+        DOCS | EVENTS,
+        "The file to read; `-`, or none, is standard input",
+    ),
+    Row(
+        "files",
+        Kind::Many("FILE"),
+        FMT | NORM,
+        "The file to read, or with --check the files and folders; `-`, or none, is standard input",
+    ),
+    Row(
+        "files",
+        Kind::Many("FILE"),
+        CHECK,
+        "The files to load, and folders: all *.yaml and *.yml below; `-`, or none, is standard input",
+    ),
+    Row(
+        "first",
+        Kind::Needed("A"),
+        SAME | DIFF,
+        "The file to compare; `-` is standard input",
+    ),
+    Row(
+        "second",
+        Kind::Needed("B"),
+        SAME | DIFF,
+        "The file that it is compared with; `-` is standard input",
+    ),
+    Row(
+        "from",
+        Kind::Text("ENCODING", "auto"),
+        ALL,
+        "How the input is encoded: auto, utf8, utf16le or utf16be",
+    ),
+    Row(
+        "check",
+        Kind::Flag(LONG),
+        FMT | NORM,
+        "Write no text, but the names of the files that haven't this form already",
+    ),
+    Row(
+        "write",
+        Kind::Flag('w'),
+        NORM,
+        "Write the files in place, and the names of those that change",
+    ),
+    Row(
+        "drop-comments",
+        Kind::Flag(LONG),
+        NORM,
+        "Write in place what has comments, too",
+    ),
+    Row(
+        "documents",
+        Kind::Flag(LONG),
+        DIFF,
+        "Compare the loaded documents: names of anchors and quotes don't count, sharing does",
+    ),
+    Row(
+        "quiet",
+        Kind::Flag('q'),
+        MANY | SAME | DIFF,
+        "Report nothing; the status says it",
+    ),
+    Row(
+        "verbose",
+        Kind::Flag('v'),
+        MANY,
+        "Report how many files were judged, and how many were refused",
+    ),
+    Row(
+        "include",
+        Kind::Names("GLOB"),
+        MANY,
+        "Read the files of folders that GLOB stands for, in place of *.yaml and *.yml",
+    ),
+    Row(
+        "exclude",
+        Kind::Names("GLOB"),
+        MANY,
+        "Leave out the files of folders, and the folders in them, that GLOB stands for",
+    ),
+    Row(
+        "files0-from",
+        Kind::Name("LIST"),
+        CHECK,
+        "Also load the files that LIST names, each ended by a zero byte; `-` is standard input",
+    ),
+    Row(
+        "stdin-filename",
+        Kind::Name("NAME"),
+        MANY,
+        "How standard input is called where it is reported",
+    ),
+    Row(
+        "format",
+        Kind::Text("FORMAT", "full"),
+        CHECK,
+        "How refused files are reported: full, line, github or json",
+    ),
+    Row(
+        "pretty",
+        Kind::Flag(LONG),
+        FMT,
+        "Keep the styles, where the text then reads the same",
+    ),
+    Row(
+        "indent",
+        Kind::Columns("2", 0, MOST),
+        FMT | DOCS,
+        "Columns of a level, 2 to 9; any other number counts as 2",
+    ),
+    Row(
+        "indent",
+        Kind::Columns("2", 2, 9),
+        NORM,
+        "Columns of a level, 2 to 9",
+    ),
+    Row(
+        "width",
+        Kind::Columns("80", 0, MOST),
+        FMT | DOCS,
+        "The column behind which lines are folded; 0, up to twice the indent, means 80",
+    ),
+    Row(
+        "width",
+        Kind::Columns("80", 5, MOST),
+        NORM,
+        "The column behind which lines are folded, more than twice the indent",
+    ),
+    Row(
+        "ascii",
+        Kind::Flag(LONG),
+        TEXT,
+        "Escape all characters that aren't ASCII",
+    ),
+    Row(
+        "break",
+        Kind::Text("BREAK", "lf"),
+        TEXT,
+        "How lines end: lf, cr or crlf",
+    ),
+    Row(
+        "encoding",
+        Kind::Text("ENCODING", "utf8"),
+        TEXT,
+        "How the output is encoded: utf8, utf16le or utf16be",
+    ),
+    Row(
+        "limit",
+        Kind::Bytes("1099511627776"),
+        TEXT,
+        "How many bytes the output may have",
+    ),
 ];

@@ -2,4 +2,4 @@
 
 /// The version of all that stands in this repository, and what it follows. Nothing else in the repository states it but
 /// `CHANGELOG.md`, whose first heading is this number.
-pub(crate) const VERSION: &'static str = "2.0.0 (libyaml 0.2.5, YAML 1.1)";
+pub(crate) const VERSION: &'static str = "3.0.0 (libyaml 0.2.5, YAML 1.1)";

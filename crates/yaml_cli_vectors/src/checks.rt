@@ -6,6 +6,7 @@ mod output;
 
 use crate::lines::{Part, Reply};
 use serde_json::Value;
+use yaml_scan::yaml_error_type_t;
 
 // What is checked.
 #[derive(Clone, Copy)]
@@ -26,8 +27,14 @@ pub fn answer(reply: &mut Reply, line: &Value) {
     reply.field("answer", Part::Object);
     match reply.choice(line, "/of", &CHECKS, Check::OutputStops) {
         Check::OutputStops => {
-            output::put_stop(reply, "full", b"abc", false);
-            output::put_stop(reply, "deep", b"a", true);
+            output::put_stop(reply, "full", 0, 5, yaml_error_type_t::YAML_WRITER_ERROR);
+            output::put_stop(
+                reply,
+                "deep",
+                2147483647,
+                2,
+                yaml_error_type_t::YAML_EMITTER_ERROR,
+            );
         }
         Check::Constructors => made::refuses_texts(reply, line),
         Check::Documents => made::documents(reply, line),

@@ -1,22 +1,89 @@
 //! That an output stops for its own reason: a stopped one meets every clause.
 
-use crate::lines::{Part, Reply};
-use yaml_emit_sink::{Sink, Status};
+ghost use Rattle.std.specs.Prelude.{◌≡◌, ◌<◌, ◌^◌, None};
+ghost use Rattle.yaml_emit.specs.Judged.{refused_at};
 
-/// Puts the text into an output of three bytes, and stops it: by a byte past its limit, or as too deep. What is put then isn't there.
-pub fn put_stop(reply: &mut Reply, name: &str, text: &[u8], is_deep: bool) {
-    let mut sink = Sink::new(reply.alloc, 3);
-    sink.put_all(text);
-    let exact = sink.status();
-    let wanted = if is_deep {
-        sink.put_too_deep();
-        Status::Deep
-    } else {
-        sink.put('d');
-        Status::Full
+use crate::lines::{Part, Reply};
+use yaml_emit::{
+    Cursor, Encoding, Expected, Level, Phase, RequestedSettings, yaml_emitter_delete,
+    yaml_emitter_emit, yaml_emitter_output, yaml_emitter_resume, yaml_emitter_stand_t,
+    yaml_emitter_t,
+};
+use yaml_parse::{yaml_event_body_t, yaml_event_t};
+use yaml_scan::{yaml_error_type_t, yaml_mark_t, yaml_sequence_style_t};
+
+// Gives the start of a flow sequence, and tells the kind of the fault that is answered.
+fn give_start(emitter: &mut yaml_emitter_t) -> Option<yaml_error_type_t> {
+    let zero = yaml_mark_t {
+        index: 0,
+        line: 0,
+        column: 0,
     };
-    let past = sink.status();
-    sink.put('e');
-    let is_right = (exact == Status::Going) & (past == wanted) & (sink.output() == text);
-    reply.field(name, Part::Flag(is_right));
+    let event = yaml_event_t {
+        body: yaml_event_body_t::SequenceStart {
+            anchor: None,
+            tag: None,
+            implicit: true,
+            style: yaml_sequence_style_t::YAML_FLOW_SEQUENCE_STYLE,
+        },
+        start_mark: zero,
+        end_mark: zero,
+    };
+    match yaml_emitter_emit(emitter, event) {
+        Ok(()) => None,
+        Err(fault) => Some(fault.kind),
+    }
+}
+
+// Where an emitter stands in a flow sequence of that indentation that has nothing yet.
+fn stand_in(indent: u64) -> yaml_emitter_stand_t
+    ensures right { refused_at result.place ≡ None }
+    ensures column { result.cursor.column < 2 ^ 62 }
+{
+    yaml_emitter_stand_t {
+        encoding: Encoding::Utf8,
+        place: Expected::Node,
+        innermost: Some(Level {
+            phase: Phase::Items(true),
+            flow: true,
+            indent,
+        }),
+        cursor: Cursor {
+            column: 0,
+            white: true,
+            bare: false,
+            kept: false,
+        },
+        waiting: 0,
+    }
+}
+
+/// Gives the starts of sequences to an emitter of three bytes at most, in a flow sequence of that indentation: so many are right, and
+/// the next one stops the output with that kind of fault, as does each behind it. What is put then isn't there.
+pub fn put_stop(reply: &mut Reply, name: &str, indent: u64, right: u64, wanted: yaml_error_type_t) {
+    let alloc = reply.alloc;
+    let none = RequestedSettings::new();
+    match yaml_emitter_resume(
+        alloc,
+        none,
+        3,
+        stand_in(indent),
+        Vec::new(alloc),
+        Vec::new(alloc),
+    ) {
+        Err(_) => reply.miss("stop"),
+        Ok(mut emitter) => {
+            let mut is_right = true;
+            for _ in 0..right {
+                is_right = is_right & (give_start(&mut emitter) == None);
+            }
+            let stopped = give_start(&mut emitter);
+            let again = give_start(&mut emitter);
+            let text = yaml_emitter_output(&emitter);
+            let told = (stopped == Some(wanted)) & (again == Some(wanted));
+            let front = b"[[[".starts_with(text);
+            yaml_emitter_delete(emitter);
+            reply.field(name, Part::Flag(is_right & told & front));
+        }
+    }
 }

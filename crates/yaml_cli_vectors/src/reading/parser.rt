@@ -20,7 +20,7 @@ fn put_into<S: yaml_token_source_t>(
 ) {
     let mut event = yaml_event_t::unplaced(yaml_event_body_t::No);
     let mut fault = yaml_memory_fault(yaml_origin_t::Parser);
-    match yaml_parser_parse_into::<_, ()>(parser, &mut event, &mut fault) {
+    match yaml_parser_parse_into(parser, &mut event, &mut fault) {
         yaml_found_t::Event => show_event(reply, &event),
         yaml_found_t::Refused => reply.put_fault(line, &fault),
         yaml_found_t::End => reply.put_word("end"),

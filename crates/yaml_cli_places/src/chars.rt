@@ -42,7 +42,7 @@ fn unit_of(bytes: &[u8], form: yaml_encoding_t) -> Option<u16> {
 }
 
 // The character that two units spell.
-fn pair_of(high: u16, low: u16) -> Option<char> {
+fn char_of_pair(high: u16, low: u16) -> Option<char> {
     if high >> 10 == 0x36 && low >> 10 == 0x37 {
         let above = u32::from(high & 0x3FF) * 0x400 + u32::from(low & 0x3FF);
         char::from_u32(0x1_0000 + above)
@@ -60,7 +60,7 @@ fn decode_utf16(bytes: &[u8], form: yaml_encoding_t) -> (Option<char>, usize) {
         return (Some(c), 2);
     }
     match unit_of(bytes.get(2..).unwrap_or(b""), form) {
-        Some(low) => (pair_of(unit, low), 4),
+        Some(low) => (char_of_pair(unit, low), 4),
         None => (None, 2),
     }
 }

@@ -1,7 +1,7 @@
 //! Paths from a stream's documents inwards, as people are shown them: `[0].service.ports[1]`, the document's number first.
 
-use super::chars::{Chars, Next};
-use super::excerpt::{is_hidden, push_shown};
+use crate::chars::{Chars, Next};
+use crate::excerpt::{is_hidden, push_shown};
 use std::alloc::AllocError;
 use yaml_types::yaml_encoding_t;
 

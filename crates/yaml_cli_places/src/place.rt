@@ -1,10 +1,10 @@
 //! Where a fault stands.
 
-use super::chars::{Chars, Next, Source};
+use crate::chars::{Chars, Next, Source};
 use yaml_types::{yaml_error_type_t, yaml_fault_t, yaml_mark_t};
 
-// The place of the character that has that byte, or of the first bytes in front of it that spell none.
-fn place_of_byte(source: Source<'_>, offset: u64) -> yaml_mark_t {
+/// The place of the character that has that byte, or of the first bytes in front of it that spell none.
+pub fn place_of_byte(source: Source<'_>, offset: u64) -> yaml_mark_t {
     let input = source.input.get(..offset as usize).unwrap_or(source.input);
     let before = Source { input, ..source };
     let line = u64::MAX - Chars::of(input, source.from).skip_lines(u64::MAX);
@@ -40,4 +40,39 @@ pub(crate) fn from_place(source: Source<'_>, place: yaml_mark_t) -> Chars<'_> {
     chars.skip_lines(place.line);
     chars.skip_columns(place.column);
     chars
+}
+
+// How many characters the line has.
+fn columns_of(mut line: Chars<'_>) -> u64 {
+    let mut columns = 0u64;
+    for _ in 0..line.left.len() {
+        if line.next_in_line().is_none() {
+            break;
+        }
+        columns = columns.saturating_add(1);
+    }
+    columns
+}
+
+/// Whether the text ends at a place.
+pub(crate) fn is_at_end(source: Source<'_>, place: yaml_mark_t) -> bool {
+    from_place(source, place).left.is_empty()
+}
+
+/// The place that is shown for one at the end of the text: the end of the last line that has a character, where there is one.
+pub(crate) fn shown_place(source: Source<'_>, place: yaml_mark_t) -> yaml_mark_t {
+    if place.column > 0 || !is_at_end(source, place) {
+        return place;
+    }
+    let mut last = place;
+    let mut chars = Chars::of(source.input, source.from);
+    for line in 0..place.line {
+        let mut ahead = chars;
+        if ahead.next_in_line().is_some() {
+            last.line = line;
+        }
+        chars.skip_lines(1);
+    }
+    last.column = columns_of(from_place(source, last));
+    last
 }

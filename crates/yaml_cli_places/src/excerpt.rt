@@ -1,12 +1,15 @@
 //! A source line, and a caret under a place in it.
 
-use super::chars::{Chars, Source};
-use super::place::from_place;
+use crate::chars::{Chars, Source};
+use crate::place::from_place;
 use std::alloc::AllocError;
 use unicode_width::UnicodeWidthChar;
 use yaml_types::yaml_mark_t;
 
-// A line is shown from that many characters before the place on, where there are more than a few in front of these.
+// A line of no more columns is shown whole.
+const WHOLE: u64 = 80;
+
+// A longer line is shown from that many characters before the place on, where there are more than a few in front of these.
 const BEFORE: u64 = 50;
 
 const FEW: u64 = 10;
@@ -38,17 +41,35 @@ pub(crate) fn push_shown(text: &mut String, c: char) -> Result<(), AllocError> {
     }
 }
 
+// How many columns a character takes behind that many.
+fn width_of(c: char, columns: u64) -> u64 {
+    if c == '\t' {
+        8 - columns % 8
+    } else if is_hidden(c) {
+        8
+    } else {
+        c.width().unwrap_or(1) as u64
+    }
+}
+
+// Whether the line is shown whole.
+fn is_short(mut line: Chars<'_>) -> bool {
+    let mut columns = 0u64;
+    for _ in 0..4 * WHOLE {
+        match line.next_in_line() {
+            Some(c) => columns = columns.saturating_add(width_of(c, columns)),
+            None => break,
+        }
+    }
+    columns <= WHOLE
+}
+
 // Adds what takes as many columns as the character does.
 fn push_blank(text: &mut String, c: char) -> Result<(), AllocError> {
     if c == '\t' {
         return text.push('\t');
     }
-    let columns = if is_hidden(c) {
-        8
-    } else {
-        c.width().unwrap_or(1)
-    };
-    for _ in 0..columns {
+    for _ in 0..width_of(c, 0) {
         text.push(' ')?;
     }
     Ok(())
@@ -80,17 +101,21 @@ pub(crate) fn push_excerpt(
     source: Source<'_>,
     place: yaml_mark_t,
 ) -> Result<(), AllocError> {
+    let start = from_place(source, yaml_mark_t { column: 0, ..place });
+    let is_whole = is_short(start);
     // The first column that is shown.
-    let column = if place.column > BEFORE + FEW {
+    let column = if !is_whole && place.column > BEFORE + FEW {
         place.column - BEFORE
     } else {
         0
     };
     let before = place.column.saturating_sub(column);
-    let line = from_place(source, yaml_mark_t { column, ..place });
+    let behind = if is_whole { 4 * WHOLE } else { BEHIND };
+    let mut line = start;
+    line.skip_columns(column);
     let (cut, blank) = if column > 0 { (CUT, "   ") } else { ("", "") };
     let begun = write!(text, "\n{cut}");
-    let shown = push_columns(text, line, before.saturating_add(BEHIND), true);
+    let shown = push_columns(text, line, before.saturating_add(behind), true);
     let rest = if let Ok(true) = shown { CUT } else { "" };
     let ended = write!(text, "{rest}\n{blank}");
     let blanks = push_columns(text, line, before, false);

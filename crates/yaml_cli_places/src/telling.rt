@@ -1,13 +1,14 @@
-//! The lines that tell a fault of a file, and those that tell where two files part.
+//! The lines that tell a fault of a file, and those of a place.
 
-use super::chars::{Chars, Source};
-use super::excerpt::{push_excerpt, push_shown};
-use super::place::{from_place, place_of};
-use crate::engine::{Difference, Met};
-use crate::order::row_of;
+use crate::chars::{Chars, Source};
+use crate::excerpt::{push_excerpt, push_shown};
+use crate::hint::hint_of;
+use crate::place::{from_place, is_at_end, place_of, shown_place};
+use crate::rows::row_of;
+use crate::shown::Shown;
 use std::alloc::AllocError;
 use yaml_round_device::headline;
-use yaml_types::{yaml_error_type_t, yaml_event_type_t, yaml_fault_t, yaml_mark_t};
+use yaml_types::{yaml_error_type_t, yaml_fault_t, yaml_mark_t};
 
 // How many characters of a wrong word are told.
 const MOST_OF_WORD: usize = 40;
@@ -19,6 +20,7 @@ fn push_place(
     place: yaml_mark_t,
     what: &str,
 ) -> Result<(), AllocError> {
+    let name = Shown(name);
     let line = u128::from(place.line) + 1;
     let column = u128::from(place.column) + 1;
     write!(text, "{name}:{line}:{column}: {what}")
@@ -29,6 +31,9 @@ fn push_char(text: &mut String, mut chars: Chars<'_>) -> Result<(), AllocError> 
     let Some(c) = chars.next_in_line() else {
         return Ok(());
     };
+    if c == '\t' {
+        return text.push_str(": a tab");
+    }
     let begun = text.push_str(": '");
     let shown = push_shown(text, c);
     begun.and(shown).and(text.push('\''))
@@ -79,20 +84,43 @@ fn push_wrong(text: &mut String, chars: Chars<'_>, fault: &yaml_fault_t) -> Resu
         Some(Thing::Char) => push_char(text, chars),
         Some(Thing::Word) => push_word(text, chars),
         Some(Thing::Point) => write!(text, ": U+{value:04X}"),
-        Some(Thing::Byte) => write!(text, ": {value:02X}"),
-        Some(Thing::Unit) => write!(text, ": {value:04X}"),
+        Some(Thing::Byte) => write!(text, ": byte 0x{value:02X}"),
+        Some(Thing::Unit) => write!(text, ": unit 0x{value:04X}"),
         None => Ok(()),
     }
 }
 
 // Adds a fault without a place.
 fn push_placeless(text: &mut String, name: &str, fault: &yaml_fault_t) -> Result<(), AllocError> {
+    let name = Shown(name);
     let kind = headline(fault.kind);
     let (colon, problem) = match fault.kind {
         yaml_error_type_t::YAML_MEMORY_ERROR => ("", ""),
         _ => (": ", fault.problem),
     };
     writeln!(text, "{name}: {kind}{colon}{problem}")
+}
+
+// Whether the context begins where the problem is.
+fn is_one(fault: &yaml_fault_t, place: yaml_mark_t) -> bool {
+    let context = fault.context_mark;
+    context.line == place.line && context.column == place.column
+}
+
+// Adds where in the text the problem is, if that isn't seen, and what was being read, if that begins there.
+fn push_around(
+    text: &mut String,
+    source: Source<'_>,
+    place: yaml_mark_t,
+    fault: &yaml_fault_t,
+) -> Result<(), AllocError> {
+    if is_at_end(source, place) {
+        text.push_str(" at the end of the text")?;
+    }
+    match fault.context {
+        Some(what) if is_one(fault, place) => write!(text, ", {what}"),
+        _ => Ok(()),
+    }
 }
 
 // Adds the problem at its place, and its source line.
@@ -105,26 +133,38 @@ fn push_problem(
     let placed = push_place(text, source.name, place, headline(fault.kind));
     let told = write!(text, ": {}", fault.problem);
     let wrong = push_wrong(text, from_place(source, place), fault);
-    placed
-        .and(told)
-        .and(wrong)
-        .and(push_excerpt(text, source, place))
+    let around = push_around(text, source, place, fault);
+    let excerpt = push_excerpt(text, source, shown_place(source, place));
+    placed.and(told).and(wrong).and(around).and(excerpt)
 }
 
-// Adds a place, what stands there, and its source line.
-fn push_label(
+/// Adds a place, what stands there, and its source line.
+pub fn push_label(
     text: &mut String,
     source: Source<'_>,
     place: yaml_mark_t,
     what: &str,
 ) -> Result<(), AllocError> {
     let placed = push_place(text, source.name, place, what);
-    placed.and(push_excerpt(text, source, place))
+    placed.and(push_excerpt(text, source, shown_place(source, place)))
+}
+
+// Adds what helps, where that is known.
+fn push_hint(
+    text: &mut String,
+    source: Source<'_>,
+    place: yaml_mark_t,
+    fault: &yaml_fault_t,
+) -> Result<(), AllocError> {
+    match hint_of(source, place, fault) {
+        Some(hint) => writeln!(text, "hint: {hint}"),
+        None => Ok(()),
+    }
 }
 
 /// Adds the lines that tell a fault of a file's text: `NAME:LINE:COLUMN: K error: PROBLEM`, the source line with a caret under the
-/// place, and then the context's place in the same way, where there is one. Lines and columns count from 1, columns in
-/// characters.
+/// place, then the context's place in the same way, where there is another one, and a line that helps. Lines and columns count from
+/// 1, columns in characters.
 pub fn push_fault(
     text: &mut String,
     source: Source<'_>,
@@ -134,41 +174,11 @@ pub fn push_fault(
         return push_placeless(text, source.name, fault);
     };
     let problem = push_problem(text, source, place, fault);
-    match fault.context {
-        Some(what) => problem.and(push_label(text, source, fault.context_mark, what)),
-        None => problem,
-    }
-}
-
-// How people call what begins with such an event.
-fn event_words(kind: yaml_event_type_t) -> &'static str {
-    match kind {
-        yaml_event_type_t::YAML_SCALAR_EVENT => "a scalar",
-        yaml_event_type_t::YAML_ALIAS_EVENT => "an alias",
-        yaml_event_type_t::YAML_SEQUENCE_START_EVENT => "a sequence",
-        yaml_event_type_t::YAML_SEQUENCE_END_EVENT => "the end of a sequence",
-        yaml_event_type_t::YAML_MAPPING_START_EVENT => "a mapping",
-        yaml_event_type_t::YAML_MAPPING_END_EVENT => "the end of a mapping",
-        yaml_event_type_t::YAML_DOCUMENT_START_EVENT => "a document",
-        yaml_event_type_t::YAML_DOCUMENT_END_EVENT => "the end of a document",
-        _ => "the end of the text",
-    }
-}
-
-/// Adds the lines that tell where two texts part: the path, and both places as those of a fault are shown, with what stands there.
-pub fn push_difference(
-    text: &mut String,
-    difference: &Difference,
-    first: Source<'_>,
-    second: Source<'_>,
-) -> Result<(), AllocError> {
-    let Some(path) = &difference.path else {
-        return Err(AllocError);
+    let context = match fault.context {
+        Some(what) if !is_one(fault, place) => push_label(text, source, fault.context_mark, what),
+        _ => Ok(()),
     };
-    let path = writeln!(text, "{path}");
-    let Met { mark, kind } = difference.first;
-    let met = push_label(text, first, mark, event_words(kind));
-    let Met { mark, kind } = difference.second;
-    path.and(met)
-        .and(push_label(text, second, mark, event_words(kind)))
+    problem
+        .and(context)
+        .and(push_hint(text, source, place, fault))
 }

@@ -1,0 +1,205 @@
+//! The files below a folder.
+
+use crate::glob::Glob;
+use crate::names::{UNNAMED, shown_bytes};
+use std::alloc::{AllocError, Global};
+use std::io::{Error, ErrorKind, Read};
+use std::rt::Files;
+
+// How many bytes of names are read at once: a name has at most 255.
+const PIECE: usize = 8192;
+
+// How many reads of names, and tries of one that is interrupted, are made.
+const TRIES: u32 = 1000;
+
+/// What is met below a folder.
+#[derive(Drop)]
+pub enum Found {
+    /// A file that is to be read, by its path. It begins with `UNNAMED` where that isn't UTF-8.
+    File(String),
+    /// A folder, or a file of it, that the file system tells nothing of, by its path, and why.
+    Failed(String, Error),
+}
+
+/// The files below a folder that are still to come, in the order of the bytes of their paths.
+#[derive(Drop)]
+pub struct Folder {
+    alloc: Global,
+    // Paths, the next one last. One that ends with `/` is a folder's, whose files come in its place.
+    to_come: Vec<String>,
+    // What the paths begin with.
+    front: usize,
+}
+
+/// Which files of a folder are read.
+#[derive(Clone, Copy)]
+pub struct Choice<'g, 'a> {
+    /// Those that one of these stands for; where there are none, those that end with `.yaml` or `.yml`.
+    pub included: &'g [Glob<'a>],
+    /// None that one of these stands for, nor what is below a folder that one of these stands for.
+    pub excluded: &'g [Glob<'a>],
+}
+
+impl Choice<'_, '_> {
+    // Whether a file of that path below the folder is read.
+    fn takes(&self, path: &str) -> bool {
+        let is_included = if self.included.is_empty() {
+            path.ends_with(".yaml") || path.ends_with(".yml")
+        } else {
+            is_in(self.included, path)
+        };
+        is_included && !is_in(self.excluded, path)
+    }
+}
+
+fn is_in(globs: &[Glob<'_>], path: &str) -> bool {
+    for glob in globs {
+        if glob.matches(path) {
+            return true;
+        }
+    }
+    false
+}
+
+// What an entry of a folder is.
+#[derive(Clone, Copy)]
+enum Kind {
+    Folder,
+    File,
+    // It is neither, or isn't read.
+    Other,
+}
+
+// What a link is: links to folders aren't followed, and one that leads nowhere can't be read, which is told then.
+fn kind_of_link<H: Files>(rt: &H, path: &str) -> Kind {
+    match rt.metadata(path) {
+        Ok(found) if !found.is_file() => Kind::Other,
+        _ => Kind::File,
+    }
+}
+
+// What is at that path. Of what the file system tells nothing, the reading of it tells why.
+fn kind_of<H: Files>(rt: &H, path: &str) -> Kind {
+    match rt.symlink_metadata(path) {
+        Ok(found) if found.is_dir() => Kind::Folder,
+        Ok(found) if found.is_symlink() => kind_of_link(rt, path),
+        Ok(found) if !found.is_file() => Kind::Other,
+        _ => Kind::File,
+    }
+}
+
+// The path of an entry, and whether its name is UTF-8.
+fn entry_path(alloc: Global, folder: &str, name: &[u8]) -> Result<String, AllocError> {
+    let mut path = String::new(alloc);
+    if str::from_utf8(name).is_err() {
+        path.push(UNNAMED)?;
+    }
+    path.push_str(folder)?;
+    shown_bytes(&mut path, name)?;
+    Ok(path)
+}
+
+// One read, made again where it is interrupted.
+fn read_names<R: Read>(dir: &mut R, piece: &mut [u8]) -> Result<usize, Error> {
+    for _ in 1..TRIES {
+        match dir.read(piece) {
+            Err(error) if error.kind() == ErrorKind::Interrupted => {}
+            read => return read,
+        }
+    }
+    dir.read(piece)
+}
+
+// The paths of all entries of a folder.
+fn paths_in<H: Files>(rt: &H, alloc: Global, folder: &str) -> Result<Vec<String>, Error> {
+    let mut paths = Vec::new(alloc);
+    let mut dir = rt.open_dir(folder)?;
+    let mut piece = [0u8; PIECE];
+    for _ in 0..u64::MAX {
+        let count = read_names(&mut dir, &mut piece)?;
+        if count == 0 {
+            break;
+        }
+        for name in piece.get(..count).unwrap_or(b"").split(|byte| *byte == 0) {
+            if !matches!(name, b"" | b"." | b".." | b".git") {
+                paths.push(entry_path(alloc, folder, name)?)?;
+            }
+        }
+    }
+    Ok(paths)
+}
+
+impl Folder {
+    /// The files below the folder of that name.
+    pub fn new(alloc: Global, name: &str) -> Result<Folder, AllocError> {
+        let mut path = String::from_str(alloc, name)?;
+        if !name.ends_with('/') {
+            path.push('/')?;
+        }
+        let front = path.len();
+        let mut to_come = Vec::new(alloc);
+        to_come.push(path)?;
+        Ok(Folder {
+            alloc,
+            to_come,
+            front,
+        })
+    }
+
+    // Whether what is at that path is read, or the files below it are; a folder's path then ends with `/`. A name that isn't UTF-8
+    // may be a folder's, so it counts as a file that is read.
+    fn takes<H: Files>(
+        &self,
+        rt: &H,
+        choice: &Choice<'_, '_>,
+        path: &mut String,
+    ) -> Result<bool, AllocError> {
+        let below = path.get(self.front..).unwrap_or("");
+        if path.starts_with(UNNAMED) {
+            return Ok(!is_in(choice.excluded, below));
+        }
+        match kind_of(rt, path.as_str()) {
+            Kind::Folder if is_in(choice.excluded, below) => Ok(false),
+            Kind::Folder => path.push('/').map(|()| true),
+            Kind::File => Ok(choice.takes(below)),
+            Kind::Other => Ok(false),
+        }
+    }
+
+    // Puts what is read of a folder in front of what is to come.
+    fn open<H: Files>(
+        &mut self,
+        rt: &H,
+        choice: &Choice<'_, '_>,
+        folder: &str,
+    ) -> Result<(), Error> {
+        let mut chosen = Vec::new(self.alloc);
+        for mut path in paths_in(rt, self.alloc, folder)? {
+            if self.takes(rt, choice, &mut path)? {
+                chosen.push(path)?;
+            }
+        }
+        chosen.sort()?;
+        for _ in 0..u64::MAX {
+            match chosen.pop() {
+                Some(path) => self.to_come.push(path)?,
+                None => break,
+            }
+        }
+        Ok(())
+    }
+
+    /// The next file; nothing at the end.
+    pub fn next<H: Files>(&mut self, rt: &H, choice: &Choice<'_, '_>) -> Option<Found> {
+        for _ in 0..u64::MAX {
+            let path = self.to_come.pop()?;
+            if !path.ends_with('/') {
+                return Some(Found::File(path));
+            }
+            if let Err(error) = self.open(rt, choice, path.as_str()) {
+                return Some(Found::Failed(path, error));
+            }
+        }
+        None
+    }
+}

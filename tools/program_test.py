@@ -1,0 +1,221 @@
+#!/usr/bin/env python3
+"""Runs the program as a process on what no stored line can hold: links, odd names, modes, and file systems that fail.
+
+    PROGRAM=.. tools/program_test.py
+
+PROGRAM names the program; else it is crates/yaml_cli/out/yaml_cli. It needs a C compiler for the failing file system, and tries the
+hooks of pre-commit where that is installed. All is done in a folder of its own.
+"""
+import json
+import os
+import re
+import shutil
+import subprocess
+import sys
+import tempfile
+
+TOP = os.path.dirname(os.path.dirname(os.path.abspath(__file__)))
+PROGRAM = os.path.abspath(os.environ.get("PROGRAM", f"{TOP}/crates/yaml_cli/out/yaml_cli"))
+# The calls by which a file is put in the place of another one. The n-th fails, or the process ends in front of it.
+CALLS = r"""
+#define _GNU_SOURCE
+#include <dlfcn.h>
+#include <errno.h>
+#include <stdarg.h>
+#include <stdlib.h>
+#include <sys/types.h>
+#include <unistd.h>
+static int count;
+static int wrong(void) {
+    const char *at = getenv("AT");
+    if (!at || ++count != atoi(at)) return 0;
+    if (getenv("STOPS")) _exit(77);
+    errno = ENOSPC;
+    return 1;
+}
+#define NEXT(name) ((__typeof__(&name))dlsym(RTLD_NEXT, #name))
+ssize_t write(int fd, const void *from, size_t size) { return fd > 2 && wrong() ? -1 : NEXT(write)(fd, from, size); }
+int fsync(int fd) { return wrong() ? -1 : NEXT(fsync)(fd); }
+int fchmod(int fd, mode_t mode) { return wrong() ? -1 : NEXT(fchmod)(fd, mode); }
+int close(int fd) { if (wrong()) { NEXT(close)(fd); return -1; } return NEXT(close)(fd); }
+int renameat(int a, const char *from, int b, const char *to) { return wrong() ? -1 : NEXT(renameat)(a, from, b, to); }
+int rename(const char *from, const char *to) { return wrong() ? -1 : NEXT(rename)(from, to); }
+int openat(int at, const char *path, int how, ...) {
+    va_list more;
+    va_start(more, how);
+    mode_t mode = va_arg(more, mode_t);
+    va_end(more);
+    return wrong() ? -1 : NEXT(openat)(at, path, how, mode);
+}
+int open(const char *path, int how, ...) {
+    va_list more;
+    va_start(more, how);
+    mode_t mode = va_arg(more, mode_t);
+    va_end(more);
+    return wrong() ? -1 : NEXT(open)(path, how, mode);
+}
+"""
+OLD, NEW = b"{a: b}\n", b"a: b\n"
+wrong_ones = []
+
+
+def run(*words, **env):
+    how = {"stdin": subprocess.DEVNULL, "capture_output": True, "env": {**os.environ, **env}, "timeout": 60}
+    return subprocess.run([PROGRAM, *words], check=False, **how)
+
+
+def judge(what, is_well, *told):
+    if not is_well:
+        wrong_ones.append(what)
+        print(f"program_test: WRONG: {what}", *told)
+
+
+def put(path, text=b"a: b\n"):
+    os.makedirs(os.path.dirname(path) or ".", exist_ok=True)
+    with open(path, "wb") as file:
+        file.write(text)
+
+
+def content(path):
+    with open(path, "rb") as file:
+        return file.read()
+
+
+def judge_run(what, words, status, output=b"", errors=b""):
+    ran = run(*words)
+    judge(what, (ran.returncode, ran.stdout, ran.stderr) == (status, output, errors), ran)
+
+
+def folders():
+    """What is read below a folder."""
+    for name in ("d/a.yaml", "d/a-b.yml", "d/b/c.yaml", "d/.git/no.yaml", "d/c.txt"):
+        put(name, b"{a: b}")
+    os.symlink("../d", "d/b/round")
+    os.symlink("a.yaml", "d/link.yaml")
+    os.symlink("nowhere", "d/gone.yaml")
+    os.mkfifo("d/pipe.yaml")
+    files = b"d/a-b.yml\nd/a.yaml\nd/b/c.yaml\nd/link.yaml\n"
+    gone = b"yaml_cli: d/gone.yaml: No such file or directory (os error 2)\n"
+    judge_run("files, links and pipes of a folder", ["norm", "--check", "d"], 2, files, gone)
+    os.remove("d/gone.yaml")
+    put(b"d/x\xff.yaml")
+    odd = b"yaml_cli: d/x\\xff.yaml: the name isn't UTF-8\n"
+    judge_run("a name that isn't UTF-8, in a folder", ["check", "d"], 2, b"", odd)
+    judge_run("one that is left out", ["check", "--exclude", "*\\\\xff*", "d"], 0)
+    odd = b"yaml_cli: d/x\\xff.yaml: the name isn't UTF-8\n"
+    judge_run("among the arguments", ["norm", "--check", b"d/x\xff.yaml", "d/a.yaml"], 2, b"d/a.yaml\n", odd)
+    put("d2/a\x1b\n.yaml", b"]")
+    ran = run("check", "d2")
+    judge("a name with a line feed", ran.stderr.startswith(b"d2/a<U+001B><U+000A>.yaml:1:1: "), ran)
+
+
+def findings():
+    """What programs read: lines that Python's json loads, commands that are unescaped back."""
+    name = "f/" + "".join(map(chr, range(1, 128))).replace("/", "") + "é"
+    put(name, b"a: [\n")
+    lines = run("check", "--format", "json", name, "none").stdout.decode().splitlines()
+    found = [json.loads(it) for it in lines]
+    keys = ["file", "line", "column", "kind", "problem", "context", "context_line", "context_column"]
+    judge("the members of JSON's objects", all(list(it) == keys for it in found), found)
+    judge("JSON's values", [it["file"] for it in found] == [name, "none"] and found[0]["line"] == 2, found)
+    judge("a kind of what isn't read", found[1]["kind"] == "io" and found[1]["line"] is None, found)
+    told = run("check", "--format", "github", name).stdout.decode()
+    match = re.fullmatch(r"::error file=([^:,\n\r]*),line=2,col=1,title=yaml_cli \(parser\)::([^\n\r]*)\n", told)
+    back = match and re.sub("%(0A|0D|25|2C|3A)", lambda it: chr(int(it[1], 16)), match[1])
+    judge("a command's name, unescaped", back == name, told)
+
+
+def places():
+    """Files that are written in place, where all is well."""
+    put("w/a.yaml", OLD)
+    os.chmod("w/a.yaml", 0o640)
+    os.symlink("a.yaml", "w/link.yaml")
+    judge_run("through a link", ["norm", "-w", "w/link.yaml"], 0, b"w/link.yaml\n")
+    is_kept = os.path.islink("w/link.yaml") and os.stat("w/a.yaml").st_mode & 0o7777 == 0o640
+    judge("the link and the mode", is_kept and content("w/a.yaml") == NEW)
+    judge_run("one that has the form", ["norm", "-w", "w/link.yaml"], 0)
+    put("w/h.yaml", OLD)
+    os.link("w/h.yaml", "w/i.yaml")
+    links = b"yaml_cli: w/h.yaml: has 2 names, which would no longer name the same file\n"
+    judge_run("two names", ["norm", "-w", "w/h.yaml"], 1, b"", links)
+    judge("both are as they were", content("w/h.yaml") == content("w/i.yaml") == OLD)
+    judge("nothing else is left", sorted(os.listdir("w")) == ["a.yaml", "h.yaml", "i.yaml", "link.yaml"], os.listdir("w"))
+    for text in (b"a: b # c", b"# c\n{a: b}", b"a: |  # c\n b\nc: {d: e}", b"{a: b}\n#", b"a: >-\n b\n # c\n#d\n"):
+        put("w/c.yaml", text)
+        ran = run("norm", "-w", "w/c.yaml")
+        judge(f"the comment of {text}", ran.returncode == 1 and b": has a comment, " in ran.stderr, ran)
+        judge("it is as it was", content("w/c.yaml") == text)
+        ran = run("norm", "-w", "--drop-comments", "w/c.yaml")
+        judge("it is dropped", ran.returncode == 0 and run("norm", "--check", "w/c.yaml").returncode == 0, ran)
+    for text in (b'{a: "# b"}', b"{a: b#c}", b"{a: '#'}", b"- |\n  # b\n- {c: d}", b"- {a: 'b\n  # c'}"):
+        put("w/c.yaml", text)
+        ran = run("norm", "-w", "w/c.yaml")
+        judge(f"no comment is in {text}", ran.returncode == 0, ran)
+
+
+def steps(folder):
+    """Files that are written in place, where each call fails in its turn, or the process ends in front of it."""
+    put(f"{folder}/calls.c", CALLS.encode())
+    built = ["cc", "-shared", "-fPIC", "-o", f"{folder}/calls.so", f"{folder}/calls.c", "-ldl"]
+    if subprocess.run(built, check=False).returncode:
+        print("program_test: no C compiler, so no call fails")
+        return
+    for ways in ({}, {"STOPS": "1"}):
+        failed = 0
+        for number in range(1, 40):
+            shutil.rmtree("s", ignore_errors=True)
+            put("s/a.yaml", OLD)
+            ran = run("norm", "-w", "s/a.yaml", LD_PRELOAD=f"{folder}/calls.so", AT=str(number), **ways)
+            judge(f"call {number} {ways}: old or new, whole", content("s/a.yaml") in (OLD, NEW), ran)
+            left = sorted(os.listdir("s"))
+            judge(f"call {number} {ways}: nothing is left", bool(ways) or left == ["a.yaml"], left, ran)
+            failed += ran.returncode != 0
+            told = ran.returncode == 0 or ways or (content("s/a.yaml") == OLD and ran.returncode == 1 and ran.stderr)
+            judge(f"call {number} {ways}: it is reported", told, ran)
+        judge(f"{failed} of {number} runs failed {ways}: some, and not the last", failed > 5 and ran.returncode == 0, ran)
+
+
+def hooks(folder):
+    """The hooks, by pre-commit."""
+    if not shutil.which("pre-commit"):
+        print("program_test: pre-commit isn't installed, so no hook is tried")
+        return
+    git = ["git", "-c", "user.name=a", "-c", "user.email=a@b"]
+    env = {**os.environ, "HOME": folder, "PATH": f"{folder}/bin:{os.environ['PATH']}"}
+    os.makedirs(f"{folder}/bin")
+    os.symlink(PROGRAM, f"{folder}/bin/yaml_cli")
+    put("hooks/.pre-commit-hooks.yaml", content(f"{TOP}/.pre-commit-hooks.yaml"))
+    for words in (["init", "-q", "."], ["add", "-A"], ["commit", "-qm", "x"]):
+        subprocess.run([*git, *words], cwd="hooks", check=True)
+    at = subprocess.run(["git", "rev-parse", "HEAD"], cwd="hooks", check=True, capture_output=True, text=True).stdout
+    listed = "".join(f"  - id: {it}\n" for it in ("yaml-check", "yaml-norm"))
+    put("repo/.pre-commit-config.yaml", f"repos:\n- repo: {folder}/hooks\n  rev: {at}  hooks:\n{listed}".encode())
+    for name, text, passed in (("-n.yaml", b"a: b\n", [True, True]), ("x.yml", b"{a: b}\n", [True, False]), ("y.yaml", b"[", [False] * 2)):
+        put(f"repo/{name}", text)
+        subprocess.run([*git, "init", "-q", "."], cwd="repo", check=True)
+        subprocess.run([*git, "add", "-A"], cwd="repo", check=True)
+        found = []
+        for hook in ("yaml-check", "yaml-norm"):
+            words = ["pre-commit", "run", hook, "--all-files"]
+            found.append(subprocess.run(words, cwd="repo", env=env, check=False, capture_output=True).returncode == 0)
+        judge(f"the hooks on {name}", found == passed, found)
+
+
+def main():
+    with tempfile.TemporaryDirectory() as folder:
+        os.makedirs(f"{folder}/work")
+        os.chdir(f"{folder}/work")
+        folders()
+        findings()
+        places()
+        steps(folder)
+        os.makedirs(f"{folder}/hooked")
+        os.chdir(f"{folder}/hooked")
+        hooks(f"{folder}/hooked")
+        os.chdir("/")
+    print(f"program_test: {len(wrong_ones)} wrong")
+    return 1 if wrong_ones else 0
+
+
+if __name__ == "__main__":
+    sys.exit(main())

@@ -10,7 +10,7 @@
 # no block left. bindings/c/check.c calls the archive with numbers that mean nothing and with each allocation refused in turn.
 # Python's tests run as they are and, with ASan's library before the C library, once more. The library is installed into a
 # folder of its own and the example linked with it, by pkg-config where that is there; the package is installed by pip, where
-# that is there, with nothing else at hand.
+# that is there, with nothing else at hand; its types are tried by mypy, where that is there.
 set -u
 top=$(cd "$(dirname "$0")/.." && pwd)
 built=$(realpath -m "$top/out/library")
@@ -148,9 +148,14 @@ packed() {
 import os, yaml_c
 here = os.path.dirname(yaml_c.__file__)
 print(yaml_c.__version__, sorted({"libyaml_c.so", "py.typed"} & set(os.listdir(here))), here, yaml_c._library.library._name)
-print(yaml_c.load("a: [b]"), yaml_c.dump({"a": ["b"]}))')
+print(yaml_c.load("a: [b]"), repr(yaml_c.dump({"a": ["b"]})), yaml_c.safe_load("a: [1]"))')
     [ "$told" = "$version ['libyaml_c.so', 'py.typed'] $work/site/yaml_c $work/site/yaml_c/libyaml_c.so
-{'a': ['b']} b'a:\n- b\n'" ] || wrong "the installed package says: $told"
+{'a': ['b']} 'a:\n- b\n' {'a': [1]}" ] || wrong "the installed package says: $told"
+    if [ -f "$top/crates/yaml_cli/out/yaml_cli" ]; then
+        "$work/site/bin/yaml_cli" --version >/dev/null || wrong "the installed package's program doesn't run"
+    else
+        say "the program isn't built: the package is installed without it"
+    fi
     say "the package, installed by pip: run"
 }
 
@@ -171,6 +176,13 @@ if ! python=$(python3 -c 'import sys; assert sys.version_info >= (3, 10); print(
 else
     tests plain
     packed
+    if command -v mypy >/dev/null; then
+        (cd "$top/bindings/python" && mypy --strict --no-error-summary --cache-dir "$work/mypy" yaml_c) >"$work/mypy.txt" ||
+            wrong "mypy: $(tail -n 20 "$work/mypy.txt")"
+        say "Python's types, by mypy --strict: done"
+    else
+        say "mypy isn't here: Python's types aren't tried"
+    fi
     if preload=$(asan); then
         tests asan LD_PRELOAD="$preload" ASAN_OPTIONS=detect_leaks=0 PYTHONMALLOC=malloc
     else

@@ -43,6 +43,9 @@ CALLS = [
     lambda: yaml_c.compose(b"&x [a, *x]"),
     lambda: yaml_c.check(b"a"),
     lambda: yaml_c.dump({"a": ["b"]}),
+    lambda: yaml_c.safe_load(b"{a: &x [1], c: *x}"),
+    lambda: list(yaml_c.safe_load_all("a\n---\n!!set {b}")),
+    lambda: yaml_c.safe_dump({"a": [1, b"b"]}),
 ]
 REFUSED = [
     lambda: yaml_c.reformat(b"]"),
@@ -52,7 +55,18 @@ REFUSED = [
     lambda: yaml_c.emit([yaml_c.StreamEnd()]),
     lambda: yaml_c.parse(b"["),
     lambda: yaml_c.check(b"*a"),
-    lambda: yaml_c.dump("a", yaml_c.Settings(limit=0)),
+    lambda: yaml_c.dump("a", settings=yaml_c.Settings(limit=0)),
+    lambda: yaml_c.safe_dump(1, limit=0),
+]
+# What ends without an answer, though the library has given one; each hands out events, texts or both.
+ENDED = [
+    lambda: yaml_c.safe_load(b"a: !!python/object:x {}"),
+    lambda: yaml_c.safe_load(b"[a, b"),
+    lambda: yaml_c.safe_load(b"a\n---\nb"),
+    lambda: yaml_c.safe_load(b"- *x"),
+    lambda: yaml_c.safe_load(b"{a: 1, a: 2}", unique_keys=True),
+    lambda: next(yaml_c.safe_load_all(b"{[a]: b}")),
+    lambda: yaml_c.load(b"{[a]: b}"),
 ]
 
 
@@ -141,6 +155,26 @@ class Blocks(unittest.TestCase):
             self.assertEqual(handed, freed)
             self.assertEqual(len(handed), 1)
 
+    def test_each_of_a_call_that_ends_later_is_freed_once(self) -> None:
+        for number, call in enumerate(ENDED):
+
+            def caught() -> None:
+                with self.assertRaises(yaml_c.YAMLError):
+                    call()
+
+            handed, freed = self.freed_by(caught)
+            self.assertEqual(sorted(handed), sorted(freed), number)
+            self.assertGreater(len(handed), 1, number)
+
+    def test_documents_that_nobody_asks_for(self) -> None:
+        def begun() -> None:
+            documents = yaml_c.safe_load_all(b"a\n---\nb\n---\nc")
+            self.assertEqual(next(documents), "a")
+
+        handed, freed = self.freed_by(begun)
+        self.assertEqual(handed, freed)
+        self.assertEqual(len(handed), 2)
+
     def test_events_of_a_refused_text(self) -> None:
         for text, encoding, wanted in [(b"a: [b", 0, 4), (b"- a\n- 'b", 0, 3), (b"a\xff", 1, 2), (b"a", 4, -1), (b"a", -1, -1)]:
             parsed, answer = _library.new_parsed(), _library.new_answer()
@@ -166,6 +200,9 @@ class Blocks(unittest.TestCase):
                 for call in REFUSED:
                     with self.assertRaises(yaml_c.YamlFault):
                         call()
+                for call in ENDED:
+                    with self.assertRaises(yaml_c.YAMLError):
+                        call()
 
         many(20)
         before = used()
@@ -189,7 +226,7 @@ class Blocks(unittest.TestCase):
             return 1
 
         with self.assertRaises(yaml_c.MemoryFault) as caught:
-            _calls.ask(refuses)
+            _calls.ask(refuses, ())
         self.assertEqual(str(caught.exception), "memory error: out of memory")
         self.assertIsInstance(caught.exception, MemoryError)
         self.assertEqual((caught.exception.line, caught.exception.context), (None, None))

@@ -39,7 +39,7 @@ class Load(unittest.TestCase):
         with self.assertRaises(yaml_c.ManyDocuments) as caught:
             yaml_c.load(b"a\n--- b\n--- c\n")
         self.assertEqual(caught.exception.mark, Mark(2, 1, 0))
-        self.assertEqual(str(caught.exception), "there is more than one document (line 2, column 1)")
+        self.assertEqual((caught.exception.line, caught.exception.problem), (2, "there is more than one document"))
         with self.assertRaises(yaml_c.ManyDocuments):
             yaml_c.compose(b"---\n---\n")
 
@@ -135,6 +135,19 @@ class Compose(unittest.TestCase):
         self.assertEqual((items.start, items.end), (Mark(3, 0, 3), Mark(14, 0, 14)))
         self.assertEqual((d.style, e.tag, e.value), (ScalarStyle.SINGLE_QUOTED, "tag:yaml.org,2002:str", "e"))
         self.assertEqual(repr(items), "<SequenceNode !t at line 1, column 4>")
+
+    def test_whether_a_tag_is_written(self) -> None:
+        rows = [
+            ("1", True), ("!!str 1", False), ("'1'", True), ("! 1", False), ("!", False), ("[]", True), ("!!seq []", False),
+            ("! {}", False), ("&x {}", True), ("&x !t {}", False), ("---\n", True),
+        ]  # fmt: skip
+        for text, implicit in rows:
+            node: Any = yaml_c.compose(text)
+            self.assertIs(node.implicit, implicit, text)
+            self.assertIs(pickle.loads(pickle.dumps(node)).implicit, implicit, text)
+        mark = Mark(0, 0, 0)
+        self.assertIs(ScalarNode("!t", mark, mark, "a", ScalarStyle.PLAIN).implicit, True)
+        self.assertIs(SequenceNode("!t", mark, mark, [], Style.FLOW, implicit=False).implicit, False)
 
     def test_copies(self) -> None:
         node: Any = yaml_c.compose(b"&x {a: [b, *x]}")

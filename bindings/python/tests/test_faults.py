@@ -17,7 +17,7 @@ class Faults(unittest.TestCase):
     def test_parser(self) -> None:
         fault = self.refused(yaml_c.ParserFault, yaml_c.reformat, b"key: [1, 2")
         line = "parser error: while parsing a flow sequence (line 1, column 6): did not find expected ',' or ']' (line 2, column 1)"
-        self.assertEqual(str(fault), line)
+        self.assertEqual(fault.message, line)
         self.assertEqual((fault.kind, fault.line, fault.column), (Kind.PARSER, 2, 1))
         self.assertEqual((fault.problem, fault.context), ("did not find expected ',' or ']'", "while parsing a flow sequence"))
         self.assertEqual((fault.problem_mark, fault.context_mark), (Mark(10, 1, 0), Mark(5, 0, 5)))
@@ -32,9 +32,9 @@ class Faults(unittest.TestCase):
 
     def test_reader(self) -> None:
         fault = self.refused(yaml_c.ReaderFault, yaml_c.reload, b"a\xff")
-        self.assertEqual(str(fault), "reader error: invalid leading UTF-8 octet (byte 1, value 255)")
+        self.assertEqual(fault.message, "reader error: invalid leading UTF-8 octet (byte 1, value 255)")
         self.assertEqual((fault.kind, fault.offset, fault.value), (Kind.READER, 1, 255))
-        self.assertEqual((fault.line, fault.column, fault.problem_mark, fault.context), (None, None, None, None))
+        self.assertEqual((fault.line, fault.column, fault.problem_mark, fault.context), (1, 2, Mark(1, 0, 1), None))
 
     def test_composer(self) -> None:
         fault = self.refused(yaml_c.ComposerFault, yaml_c.reload, b"a: 1\nb: *c\n")

@@ -53,7 +53,7 @@ class Reformat(unittest.TestCase):
         for wrong in (None, 3, ["a"]):
             with self.assertRaises(TypeError):
                 yaml_c.reformat(wrong)  # type: ignore[arg-type]
-        with self.assertRaises(UnicodeEncodeError):
+        with self.assertRaises(yaml_c.ReaderFault):
             yaml_c.reformat("\ud800")
         with self.assertRaises(yaml_c.ArgumentRefused):
             yaml_c.reformat("a", encoding=Encoding.UTF16LE)
@@ -127,9 +127,11 @@ class Others(unittest.TestCase):
 
     def test_documented_examples(self) -> None:
         finder = doctest.DocTestFinder(exclude_empty=True)
-        modules = (yaml_c, yaml_c._diff, yaml_c._documents, yaml_c._dump)
+        modules = (
+            yaml_c, yaml_c._construct, yaml_c._diff, yaml_c._documents, yaml_c._dump, yaml_c._represent
+        )  # fmt: skip
         tests = [it for module in modules for it in finder.find(module) if it.examples]
-        self.assertGreater(len(tests), 8)
+        self.assertGreater(len(tests), 12)
         runner = doctest.DocTestRunner()
         for it in tests:
             self.assertEqual(runner.run(it).failed, 0, it.name)

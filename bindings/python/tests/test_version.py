@@ -27,7 +27,7 @@ class Names(unittest.TestCase):
     def test_all_are_there_and_typed(self) -> None:
         self.assertTrue(os.path.exists(os.path.join(os.path.dirname(yaml_c.__file__), "py.typed")))
         calls = [getattr(yaml_c, it) for it in yaml_c.__all__ if inspect.isfunction(getattr(yaml_c, it))]
-        self.assertEqual(len(calls), 17)
+        self.assertEqual(len(calls), 21)
         for call in calls:
             typed = typing.get_type_hints(call)
             self.assertEqual(set(typed), {*inspect.signature(call).parameters, "return"}, call.__name__)

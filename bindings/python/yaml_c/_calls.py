@@ -5,15 +5,13 @@ from __future__ import annotations
 import ctypes
 from dataclasses import dataclass, fields
 from enum import IntEnum
-from typing import Any, Union
+from typing import Any
 
 from . import _library
 from ._events import Encoding
-from ._faults import CLASS_OF, ArgumentRefused, Kind, Mark, YamlFault
+from ._faults import CLASS_OF, ArgumentRefused, FaultMark, Kind, Mark, YamlFault
 from ._records import Records
-
-#: What is taken as a text.
-Text = Union[bytes, bytearray, memoryview, str]
+from ._source import Source, Text, encoding_of, source_of
 
 
 class LineBreak(IntEnum):
@@ -73,79 +71,92 @@ def record_of(settings: Settings) -> Any:
     return ctypes.byref(record)
 
 
-def input_of(text: Text, encoding: Encoding) -> tuple[bytes, int, int]:
-    """The bytes of a text, their number, and how they are encoded. A str is what its bytes in UTF-8 are."""
-    number = _number("encoding", encoding)
-    if isinstance(text, str):
-        if number not in (Encoding.ANY, Encoding.UTF8):
-            raise ArgumentRefused("a str is read as UTF-8, and no other encoding can be named for it")
-        text = text.encode()
-    elif not isinstance(text, (bytes, bytearray, memoryview)):
-        raise TypeError(f"a text is bytes or str, and not {type(text).__name__}")
-    it = text if isinstance(text, bytes) else bytes(text)
-    return it, len(it), number
+def input_of(text: Text, encoding: Encoding | str) -> Source:
+    """What a caller gives as a text, and says of its encoding."""
+    return source_of(text, _number("encoding", encoding_of(encoding)))
 
 
 def mark_of(record: _library.MarkRecord) -> Mark:
     return Mark(record.index, record.line, record.column)
 
 
-def _fault(answer: _library.AnswerRecord) -> YamlFault:
+def _fault(answer: _library.AnswerRecord, sources: tuple[Source, ...]) -> YamlFault:
     kind = Kind(answer.kind)
     problem, context = answer.problem.get().decode(), answer.context.get().decode()
-    has_place = kind in (Kind.SCANNER, Kind.PARSER, Kind.COMPOSER)
-    text = answer.line.get().decode() or f"{kind.name.lower()} error: {problem}"
+    place: FaultMark | None = None
+    context_place: FaultMark | None = None
+    source = sources[answer.second] if sources else None
+    if source is not None and kind is Kind.READER:
+        place = source.mark_of_byte(answer.offset)
+    elif source is not None and kind in (Kind.SCANNER, Kind.PARSER, Kind.COMPOSER):
+        place = source.mark(mark_of(answer.problem_mark))
+        context_place = source.mark(mark_of(answer.context_mark)) if context else None
     return CLASS_OF[kind](
-        text,
+        problem,
         kind=kind,
-        problem=problem,
-        problem_mark=mark_of(answer.problem_mark) if has_place else None,
+        message=answer.line.get().decode() or f"{kind.name.lower()} error: {problem}",
+        problem_mark=place,
         context=context or None,
-        context_mark=mark_of(answer.context_mark) if context else None,
+        context_mark=context_place,
         offset=answer.offset if kind is Kind.READER else None,
         value=answer.value if kind is Kind.READER and answer.value != -1 else None,
         second=bool(answer.second),
     )
 
 
-def judge_kind(kind: int, answer: _library.AnswerRecord) -> None:
-    """Raises the fault that a call tells."""
+def fault_of(kind: int, answer: _library.AnswerRecord, sources: tuple[Source, ...]) -> YamlFault | None:
+    """The fault that a call tells of these inputs. Raises an `ArgumentRefused` where a number meant nothing."""
     if kind == -1:
         raise ArgumentRefused("a number among the arguments means nothing")
-    if kind:
-        raise _fault(answer)
+    return _fault(answer, sources) if kind else None
 
 
-def ask(call: Any, *arguments: Any) -> tuple[bytes, int]:
-    """What a call answers: its text, and its yes or no. All that it hands out is freed."""
+def judge_kind(kind: int, answer: _library.AnswerRecord, sources: tuple[Source, ...]) -> None:
+    """Raises the fault that a call tells of these inputs."""
+    fault = fault_of(kind, answer, sources)
+    if fault is not None:
+        raise fault
+
+
+def ask(call: Any, sources: tuple[Source, ...], *arguments: Any) -> tuple[bytes, int]:
+    """What a call answers of inputs: its text, and its yes or no. All that it hands out is freed."""
     answer = _library.new_answer()
     try:
-        judge_kind(call(*arguments, ctypes.byref(answer)), answer)
+        given = [it for source in sources for it in source.given()]
+        judge_kind(call(*given, *arguments, ctypes.byref(answer)), answer, sources)
         return answer.text.get(), answer.is_
     finally:
         _library.free(answer)
 
 
-def parsed(text: tuple[bytes, int, int]) -> Records:
+def parsed(source: Source) -> Records:
     """The events of an input, as records."""
     record = _library.new_parsed()
+    # a call that raises has handed out no records
+    ask(_library.parse, (source,), ctypes.byref(record))
+    return Records(record)
+
+
+def front(source: Source) -> tuple[Records, YamlFault | None]:
+    """The events of an input as records, all of them or those in front of its fault, and that fault."""
+    record, answer = _library.new_parsed(), _library.new_answer()
     try:
-        ask(_library.parse, *text, ctypes.byref(record))
-        return Records(record)
+        kind = _library.front(*source.given(), ctypes.byref(record), ctypes.byref(answer))
+        return Records(record), fault_of(kind, answer, (source,))
     finally:
-        _library.free(record)
+        _library.free(answer)
 
 
-def judge(text: tuple[bytes, int, int]) -> None:
+def judge(source: Source) -> None:
     """Raises the fault for which an input's documents can't be loaded."""
-    ask(_library.check, *text)
+    ask(_library.check, (source,))
 
 
-def loadable(text: tuple[bytes, int, int]) -> Records:
-    """The events of an input, as records; where it is refused, the fault that loading its documents meets first."""
+def loadable(source: Source) -> Records:
+    """The events of an input, as records; where it is rejected, the fault that loading its documents meets first."""
     try:
-        return parsed(text)
+        return parsed(source)
     except YamlFault as met:
         fault = met
-    judge(text)
+    judge(source)
     raise fault

@@ -21,12 +21,13 @@ from ._events import (
     SequenceStart,
     StreamStart,
 )
-from ._records import Records
+from ._records import ANCHOR, Records
 
 _NUMBER_OF: dict[type, int] = {it: number for number, it in enumerate(KINDS, 1)}
 _NO_SPAN = (0, 0)
 # A record without its marks, which no call looks at.
 _RECORD = struct.Struct("=10i8Q64x")
+_SPAN, _HAS_ANCHOR, _HAS_ANCHOR_AT = struct.Struct("=2Q"), struct.Struct("=i"), 20
 
 # A frozen event's own `__init__` asks at each field whether it may be set; where there are many, that is most of the time.
 _new: Any = object.__new__
@@ -40,7 +41,9 @@ def _setters(kind: type, *names: str) -> list[Callable[[Any, Any], None]]:
 (_set_places,) = _setters(Scalar, "_places")
 _set_value, _set_scalar_tag, _set_scalar_anchor = _setters(Scalar, "value", "tag", "anchor")
 _set_scalar_style, _set_plain, _set_quoted = _setters(Scalar, "style", "implicit", "quoted_implicit")
-_FIELDS_OF_START = {kind: _setters(kind, "tag", "anchor", "style", "implicit") for kind in (SequenceStart, MappingStart)}
+_FIELDS_OF_START: dict[type, list[Callable[[Any, Any], None]]] = {
+    kind: _setters(kind, "tag", "anchor", "style", "implicit") for kind in (SequenceStart, MappingStart)
+}
 
 
 def _scalar(value: str, tag: str | None, anchor: str | None, style: int, plain: int, quoted: int) -> Any:
@@ -125,7 +128,7 @@ class Packed:
         numbers = {"has_version": event.version is not None, "major": major, "minor": minor}
         self.record(3, implicit=event.implicit, directives=(at, len(event.tags)), **numbers)
 
-    def record(
+    def made(
         self,
         kind: int,
         *,
@@ -140,11 +143,20 @@ class Packed:
         anchor: str | None = None,
         tag: str | None = None,
         value: str | None = None,
-    ) -> None:
-        """One more record. Raises a `struct.error` where a number is none of its field's."""
+    ) -> bytes:
+        """A record, which isn't added yet. Raises a `struct.error` where a number is none of its field's."""
         spans = (*directives, *self.span(anchor), *self.span(tag), *self.span(value))
         flags = (implicit, quoted, anchor is not None, tag is not None, has_version)
-        self.records += _RECORD.pack(kind, style, encoding, *flags, major, minor, *spans)
+        return _RECORD.pack(kind, style, encoding, *flags, major, minor, *spans)
+
+    def record(self, kind: int, **fields: Any) -> None:
+        """Adds a record, with the fields of `made`."""
+        self.records += self.made(kind, **fields)
+
+    def set_anchor(self, at: int, anchor: str) -> None:
+        """Gives an anchor to the record that begins at a byte of the records."""
+        _HAS_ANCHOR.pack_into(self.records, at + _HAS_ANCHOR_AT, 1)
+        _SPAN.pack_into(self.records, at + ANCHOR, *self.span(anchor))
 
     def add(self, event: Event) -> None:
         """One more event."""
@@ -165,8 +177,9 @@ class Packed:
         else:
             self.record(number, encoding=event.encoding if isinstance(event, StreamStart) else 0)
 
-    def lists(self) -> tuple[bytes, int, bytes, int, bytes, int]:
-        """The three lists as a call takes them, each with its number of items."""
-        directives = b"".join(struct.pack(_library.DIRECTIVE, *it) for it in self.directives)
+    def lists(self) -> tuple[Any, ...]:
+        """The three lists as a call takes them, each with its number of items. Nothing is added while they are in use."""
+        directives = bytearray().join(struct.pack(_library.DIRECTIVE, *it) for it in self.directives)
         count = len(self.records) // _RECORD.size
-        return bytes(self.records), count, directives, len(self.directives), bytes(self.bytes), len(self.bytes)
+        lists = ((self.records, count), (directives, len(self.directives)), (self.bytes, len(self.bytes)))
+        return tuple(it for data, size in lists for it in (_library.lent(data), size))

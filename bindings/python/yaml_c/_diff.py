@@ -8,9 +8,10 @@ from dataclasses import dataclass
 from typing import NamedTuple, Union
 
 from . import _library
-from ._calls import Text, input_of, judge_kind, mark_of
+from ._calls import input_of, judge_kind, mark_of
 from ._events import KINDS, Encoding, Event
 from ._faults import Mark
+from ._source import Text
 
 
 class ItemStep(NamedTuple):
@@ -83,8 +84,8 @@ def diff(
     second: Text,
     documents: bool = False,
     *,
-    first_encoding: Encoding = Encoding.ANY,
-    second_encoding: Encoding = Encoding.ANY,
+    first_encoding: Encoding | str = Encoding.ANY,
+    second_encoding: Encoding | str = Encoding.ANY,
 ) -> Difference | None:
     """The first place at which the contents of two texts part, None exactly where `same` says that they are the same; with
     `documents` of the documents that they load: names of anchors don't count, what they share does.
@@ -96,10 +97,11 @@ def diff(
     >>> diff(b"&x a", b"&y a", documents=True)
     """
     call = _library.diff_documents if documents else _library.diff
+    sources = input_of(first, first_encoding), input_of(second, second_encoding)
     found = _library.new_parting()
     try:
-        both = *input_of(first, first_encoding), *input_of(second, second_encoding)
-        judge_kind(call(*both, ctypes.byref(found)), found.answer)
+        kind = call(*sources[0].given(), *sources[1].given(), ctypes.byref(found))
+        judge_kind(kind, found.answer, sources)
         if found.answer.is_:
             return None
         return Difference(

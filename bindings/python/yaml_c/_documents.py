@@ -2,19 +2,20 @@
 
 from __future__ import annotations
 
-import os
-from dataclasses import dataclass
+from dataclasses import dataclass, field
 from typing import Any, NoReturn, Union, cast
 
-from ._calls import Text, input_of, judge, loadable
+from ._calls import input_of, judge, loadable
 from ._events import SCALAR_STYLES, STYLES, Encoding, Placed, ScalarStyle, Style
 from ._faults import KeyRefused, ManyDocuments, Mark
 from ._records import ANCHOR, END, START, Records
+from ._source import Source, Text
 
 #: What `load` gives: every scalar is a str.
 Loaded = Union[str, list["Loaded"], dict[str, "Loaded"]]
 
 _ALIAS, _DOCUMENT_START, _SCALAR, _SEQUENCE, _MAPPING, _ENDS = 5, 3, 6, 7, 9, (8, 10)
+_KEY_PROBLEM = "a key is a sequence or a mapping, which can't be a key of a dict"
 _STARTS, _MADE = (_SEQUENCE, _MAPPING), (_SCALAR, _SEQUENCE, _MAPPING)
 # A node has its marks as they stand in its record, until they are asked for.
 _new: Any = object.__new__
@@ -23,11 +24,14 @@ _DEFAULT_TAGS = {_SCALAR: "tag:yaml.org,2002:str", _SEQUENCE: "tag:yaml.org,2002
 
 @dataclass(slots=True, eq=False)
 class _Node(Placed):
-    """What each node has: its tag, the one of its kind where none is written or `!` alone, and where its tokens stand."""
+    """What each node has: its tag, the one of its kind where none is written or `!` alone, where its tokens are, and whether
+    it is written without a tag (`implicit`): `1` and `!!str 1` have one tag.
+    """
 
     tag: str
     start: Mark
     end: Mark
+    implicit: bool = field(default=True, kw_only=True)
 
     def __repr__(self) -> str:
         return f"<{type(self).__name__} {self.tag} at line {self.start.line + 1}, column {self.start.column + 1}>"
@@ -60,22 +64,22 @@ class MappingNode(_Node):
 Node = Union[ScalarNode, SequenceNode, MappingNode]
 
 
-def _refused(text: tuple[bytes, int, int], error: Exception) -> NoReturn:
+def _refused(source: Source, error: Exception) -> NoReturn:
     """Raises the text's own fault where it has one, else the error."""
-    judge(text)
+    judge(source)
     raise error
 
 
-def _loaded(records: Records, text: tuple[bytes, int, int]) -> list[Any]:
-    """The documents that the records tell."""
+def _loaded(records: Records, source: Source) -> list[Any]:
+    """The documents of the records."""
     documents: list[Any] = []
     around: list[tuple[Any, str | None]] = []
     anchors: dict[str, Any] = {}
     # the list or dict that takes the next node, and in a dict the key that waits for its value
     here: Any = documents
     key: str | None = None
-    columns = zip(records.column(0, "i16xi"), records.column(ANCHOR, "2Q"), records.values())
-    for number, ((kind, has_anchor), span, value) in enumerate(columns):
+    columns = zip(records.column(0, "i16xi"), records.values())
+    for number, ((kind, has_anchor), value) in enumerate(columns):
         node: Any = value
         if kind in _ENDS:
             here, key = around.pop()
@@ -85,12 +89,12 @@ def _loaded(records: Records, text: tuple[bytes, int, int]) -> list[Any]:
         elif kind == _MAPPING:
             node = {}
         elif kind == _ALIAS:
-            node = _named(anchors, records.text(*span), text)
+            node = _named(anchors, records.anchor(number), source)
         elif kind != _SCALAR:
             anchors = {}
             continue
         if has_anchor:
-            anchors[records.text(*span)] = node
+            anchors[records.anchor(number)] = node
         if here.__class__ is list:
             here.append(node)
         elif key is not None:
@@ -98,21 +102,22 @@ def _loaded(records: Records, text: tuple[bytes, int, int]) -> list[Any]:
         elif node.__class__ is str:
             key = node
         else:
-            _refused(text, KeyRefused(records.mark(number, START)))
+            place = source.mark(records.mark(number, START))
+            _refused(source, KeyRefused(_KEY_PROBLEM, problem_mark=place))
         if kind in _STARTS:
             around.append((here, key))
             here, key = node, None
     return documents
 
 
-def _named(anchors: dict[str, Any], anchor: str, text: tuple[bytes, int, int]) -> Any:
-    """The node that an alias stands for."""
+def _named(anchors: dict[str, Any], anchor: str, source: Source) -> Any:
+    """The node that an alias means."""
     found = anchors.get(anchor)
-    return _refused(text, AssertionError(f"the library loads *{anchor}")) if found is None else found
+    return _refused(source, AssertionError(f"the library loads *{anchor}")) if found is None else found
 
 
-def _composed(records: Records, text: tuple[bytes, int, int]) -> list[Node]:
-    """The documents that the records tell, as nodes."""
+def _composed(records: Records, source: Source) -> list[Node]:
+    """The documents of the records, as nodes."""
     documents: list[Any] = []
     around: list[tuple[Any, Any]] = []
     anchors: dict[str, Any] = {}
@@ -128,8 +133,9 @@ def _composed(records: Records, text: tuple[bytes, int, int]) -> list[Node]:
         if kind in _MADE:
             tag = records.text(*spans[2:]) if has_tag == 1 else "!"
             node = _node(kind, tag, style, value, places)
+            node.implicit = has_tag == 0
         elif kind == _ALIAS:
-            node = _named(anchors, records.text(*spans[:2]), text)
+            node = _named(anchors, records.text(*spans[:2]), source)
         else:
             anchors = {}
             continue
@@ -150,7 +156,7 @@ def _composed(records: Records, text: tuple[bytes, int, int]) -> list[Node]:
     return documents
 
 
-def _node(kind: int, tag: str, style: int, value: str, places: Any) -> Node:
+def _node(kind: int, tag: str, style: int, value: str, places: Any) -> Any:
     node: Any
     if kind == _SCALAR:
         node = _new(ScalarNode)
@@ -163,15 +169,16 @@ def _node(kind: int, tag: str, style: int, value: str, places: Any) -> Node:
     return node
 
 
-def _only(documents: list[Any], records: Records) -> Any:
+def _only(documents: list[Any], records: Records, source: Source) -> Any:
     """The only document, or None."""
     if len(documents) > 1:
-        starts = [number for number, (kind,) in enumerate(records.column(0, "i")) if kind == _DOCUMENT_START]
-        raise ManyDocuments(records.mark(starts[1], START))
+        starts = [number for number, kind in enumerate(records.kinds()) if kind == _DOCUMENT_START]
+        place = source.mark(records.mark(starts[1], START))
+        raise ManyDocuments("there is more than one document", problem_mark=place)
     return documents[0] if documents else None
 
 
-def load_all(text: Text, *, encoding: Encoding = Encoding.ANY) -> list[Loaded]:
+def load_all(text: Text, *, encoding: Encoding | str = Encoding.ANY) -> list[Loaded]:
     """The text's documents, as str, list and dict. Every scalar is a str: there are no numbers, and `<<` is a key.
 
     An alias is the same object as the node that it stands for, so a list may have itself as an item. Of equal keys the last
@@ -181,27 +188,27 @@ def load_all(text: Text, *, encoding: Encoding = Encoding.ANY) -> list[Loaded]:
     >>> load_all("a: &x [1, 'b']\\nc: *x\\n--- d")
     [{'a': ['1', 'b'], 'c': ['1', 'b']}, 'd']
     """
-    given = input_of(text, encoding)
-    return _loaded(loadable(given), given)
+    source = input_of(text, encoding)
+    return _loaded(loadable(source), source)
 
 
-def load(text: Text, *, encoding: Encoding = Encoding.ANY) -> Loaded | None:
+def load(text: Text, *, encoding: Encoding | str = Encoding.ANY) -> Loaded | None:
     """The text's only document, as `load_all` gives it, or None where there is none. An empty document is "".
 
     Raises as `load_all`, and a `ManyDocuments` where there are more.
     """
-    given = input_of(text, encoding)
-    records = loadable(given)
-    return cast("Loaded | None", _only(_loaded(records, given), records))
+    source = input_of(text, encoding)
+    records = loadable(source)
+    return cast("Loaded | None", _only(_loaded(records, source), records, source))
 
 
-def compose_all(text: Text, *, encoding: Encoding = Encoding.ANY) -> list[Node]:
+def compose_all(text: Text, *, encoding: Encoding | str = Encoding.ANY) -> list[Node]:
     """The text's documents as nodes with tags, styles and places; an alias is the same node again. Raises the text's fault."""
-    given = input_of(text, encoding)
-    return _composed(loadable(given), given)
+    source = input_of(text, encoding)
+    return _composed(loadable(source), source)
 
 
-def compose(text: Text, *, encoding: Encoding = Encoding.ANY) -> Node | None:
+def compose(text: Text, *, encoding: Encoding | str = Encoding.ANY) -> Node | None:
     """The text's only document as a node, or None where there is none.
 
     Raises as `compose_all`, and a `ManyDocuments` where there are more.
@@ -209,21 +216,21 @@ def compose(text: Text, *, encoding: Encoding = Encoding.ANY) -> Node | None:
     >>> compose("a: !!int 1").value[0][1]
     <ScalarNode tag:yaml.org,2002:int at line 1, column 4>
     """
-    given = input_of(text, encoding)
-    records = loadable(given)
-    return cast("Node | None", _only(_composed(records, given), records))
+    source = input_of(text, encoding)
+    records = loadable(source)
+    return cast("Node | None", _only(_composed(records, source), records, source))
 
 
-def check(text: Text | os.PathLike[Any], *, encoding: Encoding = Encoding.ANY) -> None:
-    """Raises the fault for which the text's documents can't be loaded, or those of the file that a path of `pathlib` names.
+def check(text: Text, *, encoding: Encoding | str = Encoding.ANY) -> None:
+    """Raises the fault for which the text's documents can't be loaded, and makes nothing of them.
 
-    A str is a text. Raises an `OSError` where the file can't be read.
+    Raises as `load_all`, except a `KeyRefused`.
 
     >>> check("- a\\n- *b")
     Traceback (most recent call last):
-    yaml_c._faults.ComposerFault: composer error: found undefined alias (line 2, column 3)
+    yaml_c.ComposerFault: found undefined alias
+      in "<unicode string>", line 2, column 3:
+        - *b
+          ^
     """
-    if isinstance(text, os.PathLike):
-        with open(text, "rb") as file:
-            text = file.read()
     judge(input_of(text, encoding))

@@ -16,13 +16,31 @@ EVENT = "=10i16Q"
 DIRECTIVE = "=4Q"
 
 
+# CPython's own call for a view of memory; its third argument is PyBUF_READ.
+_memory_view = ctypes.pythonapi.PyMemoryView_FromMemory
+_memory_view.restype, _memory_view.argtypes = ctypes.py_object, [ctypes.c_void_p, ctypes.c_ssize_t, ctypes.c_int]
+_READ_ONLY = 0x100
 # `string_at` takes an int of C.
 _AT_ONCE = 1 << 30
 
 
 def copied(at: int, size: int) -> bytes:
     """A copy of so many bytes from an address on."""
-    return b"".join([ctypes.string_at(at + it, min(_AT_ONCE, size - it)) for it in range(0, size, _AT_ONCE)])
+    if size <= _AT_ONCE:
+        return ctypes.string_at(at, size)
+    pieces = range(0, size, _AT_ONCE)
+    return b"".join([ctypes.string_at(at + it, min(_AT_ONCE, size - it)) for it in pieces])
+
+
+def viewed(at: int, size: int) -> memoryview:
+    """The bytes from an address on, as they are there."""
+    found: memoryview = _memory_view(at, size, _READ_ONLY)
+    return found
+
+
+def lent(data: bytearray) -> Any:
+    """A pointer to the bytes themselves, which can't change their size as long as it is there."""
+    return ctypes.byref(ctypes.c_char.from_buffer(data)) if data else ctypes.byref(NOTHING)
 
 
 class Bytes(ctypes.Structure):
@@ -166,7 +184,7 @@ if any(ctypes.sizeof(it) != size for it, size in _SIZES):
 library = _load()
 _POINTER = ctypes.c_void_p
 _INPUT = (ctypes.c_char_p, ctypes.c_size_t, ctypes.c_int32)
-_LIST = (ctypes.c_char_p, ctypes.c_size_t)
+_LIST = (_POINTER, ctypes.c_size_t)
 
 defaults = _call("yaml_c_defaults", _POINTER)
 defaults.restype = None
@@ -179,6 +197,7 @@ diff = _call("yaml_c_diff", *_INPUT, *_INPUT, _POINTER)
 diff_documents = _call("yaml_c_diff_documents", *_INPUT, *_INPUT, _POINTER)
 events = _call("yaml_c_events", *_INPUT, _POINTER)
 parse = _call("yaml_c_parse", *_INPUT, _POINTER, _POINTER)
+front = _call("yaml_c_front", *_INPUT, _POINTER, _POINTER)
 emit = _call("yaml_c_emit", *_LIST, *_LIST, *_LIST, _POINTER, _POINTER)
 
 # The heap that the library takes its blocks from is the process's own.

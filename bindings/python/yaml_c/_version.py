@@ -1,3 +1,3 @@
 """The version of all that stands in the repository, as crates/yaml_cli_program/src/version.rt states it."""
 
-VERSION = "2.0.0"
+VERSION = "3.0.0"

@@ -66,7 +66,7 @@ link() {
 
 if [ "${1:-}" = install ]; then
     out=${LIBRARY:-$out}
-    [ -f "$out/libyaml_c.a" ] && [ -f "$out/$name" ] || { say "$out isn't there: make library makes it"; exit 1; }
+    [ -f "$out/libyaml_c.a" ] && [ -f "$out/$name" ] || { say "$out isn't there: make library makes it"; exit 2; }
     install_into "${2:?PREFIX is missing}"
     exit
 fi

@@ -33,6 +33,7 @@ END
 }
 
 install_into() {
+    [ -f "$out/libyaml-0.so.2" ] || { say "$out isn't there: make libyaml makes it"; exit 2; }
     local folder=$1/lib/yaml_round
     local at=${DESTDIR:-}$folder
     install -d "$at/include" "$at/pkgconfig"

@@ -44,6 +44,9 @@
 extern "C" {
 #endif
 
+/* The version of the library that this header belongs to. Calls and records stay what they are while its first number stays. */
+#define YAML_C_VERSION "3.0.0"
+
 /* ---- numbers */
 
 /* What a call's result says. The faults have libyaml's numbers. */

@@ -45,24 +45,104 @@ def json(i):
     return f'  {{"id": {i}, "name": "{words(i, 3)}", "price": {i % 977}.{i % 10}, "tags": ["{word(i)}", "{word(i + 1)}"], "nested": {{"on": true, "off": null}}}}'
 
 
-PIECES = {"mapping": mapping, "flow": flow, "scalars": scalars, "literals": literals, "anchors": anchors}
+# Words of Greek, Cyrillic and Chinese, and of Latin script with accents.
+WIDE = "άλφα βήτα γάμμα δέλτα ποταμός θάλασσα река горы облако письмо дорога звезда 山川 河流 天空 文字 道路 星辰".split()
+
+
+def wide_words(i, count):
+    return " ".join(WIDE[(i * 7 + k * k) % len(WIDE)] for k in range(count))
+
+
+def paragraphs(i, of):
+    plain = "\n  ".join(of(i + k, 11) for k in range(12))
+    quoted = "\n  ".join(of(i + k, 11) for k in range(5, 17))
+    return f"- {plain}\n- \"{quoted}\"\n- title: {of(i, 4)}\n  text: '{of(i + 3, 40)}'\n"
+
+
+def prose(i):
+    return paragraphs(i, words)
+
+
+def wide(i):
+    return paragraphs(i, wide_words)
+
+
+def logs(i):
+    lines = "".join(
+        f"    2024-03-{k % 28 + 1:02} 12:{k % 60:02}:{i % 60:02}.{i * k % 1000:03} INFO [worker-{k % 8}] {word(k)}/{word(i)}: took {i * 31 % 900} ms, {words(k, 6)}\n"
+        for k in range(40)
+    )
+    return f"- job: {word(i)}-{i}\n  status: ok\n  log: |\n{lines}"
+
+
+def workflow(i):
+    steps = "".join(
+        f"      - name: {words(i + k, 3)}\n        if: github.ref == 'refs/heads/{word(k)}' && success()\n"
+        f"        uses: actions/{word(i + k)}@v{k % 5 + 1}\n        with:\n          path: ~/.cache/{word(k)}\n          key: \"${{{{ runner.os }}}}-{word(i)}-{k}\"\n"
+        f"      - run: |\n          set -eu\n          make {word(k)} VERBOSE=1  # {words(i, 4)}\n          ./scripts/{word(i)}.sh --jobs {k} \"$HOME/{word(i + 1)}\"\n"
+        for k in range(6)
+    )
+    return (
+        f"name: {word(i)}\non:\n  push:\n    branches: [main, 'release/**']\n  pull_request:\njobs:\n  {word(i)}-{i}:\n    # {words(i, 6)}\n"
+        f"    runs-on: ${{{{ matrix.os }}}}\n    strategy:\n      matrix:\n        os: [ubuntu-22.04, macos-13]\n        python: ['3.10', '3.11', '3.12']\n    steps:\n{steps}"
+    )
+
+
+def manifest(i):
+    ports = "".join(f"        - containerPort: {8000 + k}\n          name: {word(k)}\n          protocol: TCP\n" for k in range(3))
+    names = "".join(f"        - name: {word(i + k).upper()}_URL\n          value: \"http://{word(k)}.{word(i)}.svc:{9000 + k}/v1\"\n" for k in range(6))
+    return (
+        f"apiVersion: apps/v1\nkind: Deployment\nmetadata:\n  name: {word(i)}-{i}\n  namespace: {word(i + 1)}\n  labels: {{app: {word(i)}, tier: backend}}\n"
+        f"  annotations:\n    example.com/checksum: {i * 2654435761 % 2**32:08x}\nspec:\n  replicas: {i % 5 + 1}\n  selector:\n    matchLabels:\n      app: {word(i)}\n"
+        f"  template:\n    metadata:\n      labels:\n        app: {word(i)}\n    spec:\n      containers:\n      - name: main\n        image: registry.example.com/{word(i)}/{word(i + 2)}:{i % 9}.{i % 7}.{i}\n"
+        f"        args: [\"--listen\", \"0.0.0.0:{8000 + i % 100}\", \"--verbose\"]\n        ports:\n{ports}        env:\n{names}"
+        f"        resources:\n          limits: {{cpu: 500m, memory: 256Mi}}\n          requests:\n            cpu: 100m\n            memory: 64Mi\n"
+        f"        livenessProbe:\n          httpGet:\n            path: /healthz\n            port: 8080\n          initialDelaySeconds: {i % 30}\n"
+    )
+
+
+def openapi(i):
+    answers = "".join(
+        f"        '{code}':\n          description: {words(i + code, 7)}\n          content:\n            application/json:\n              schema:\n                $ref: '#/components/schemas/{word(code).title()}'\n"
+        for code in (200, 400, 404)
+    )
+    return (
+        f"  /{word(i)}/{{id{i}}}/{word(i + 1)}:\n    get:\n      operationId: get{word(i).title()}{i}\n      summary: {words(i, 6)}\n      description: >-\n        {words(i, 14)}\n        {words(i + 1, 14)}\n"
+        f"      tags:\n        - {word(i)}\n      parameters:\n        - in: path\n          name: id{i}\n          required: true\n          schema: {{type: integer, format: int64, minimum: 1}}\n"
+        f"        - in: query\n          name: {word(i + 2)}\n          description: \"{words(i, 9)}\"\n          schema:\n            type: string\n            enum: [{word(i)}, {word(i + 1)}, {word(i + 2)}]\n      responses:\n{answers}"
+    )
+
+
+def deep_json(i):
+    def node(depth):
+        inner = f"{node(depth - 1)}, {node(depth - 1)}" if depth else f"{i}, null, true, -{i % 100}.5e3"
+        return f'{{"{word(i + depth)}": [{inner}], "{word(depth)}": "{words(i, 3)}"}}'
+
+    return f"  {node(4)}"
+
+
+PIECES = {"mapping": mapping, "flow": flow, "scalars": scalars, "literals": literals, "anchors": anchors, "json": json}
+PIECES |= {"prose": prose, "wide": wide, "logs": logs, "workflow": workflow, "manifests": manifest, "openapi": openapi, "deepjson": deep_json}
+# What stands before the first piece, between two, and after the last one, where that isn't nothing.
+AROUND = {"json": ("[\n", ",\n", "\n]\n"), "deepjson": ("[\n", ",\n", "\n]\n"), "workflow": ("", "---\n", ""), "manifests": ("", "---\n", "")}
+AROUND["openapi"] = ("openapi: 3.0.3\ninfo: {title: Example, version: 1.0.0}\npaths:\n", "", "")
 
 
 def text(kind, size):
+    """A text of that kind with about so many bytes."""
     pieces, total, i = [], 0, 0
-    piece, between = (json, ",\n") if kind == "json" else (PIECES[kind], "")
+    before, between, after = AROUND.get(kind, ("", "", ""))
     while total < size:
-        it = piece(i)
+        it = PIECES[kind](i)
         pieces.append(it)
-        total += len(it) + len(between)
+        total += len(it.encode()) + len(between)
         i += 1
-    body = between.join(pieces)
-    return f"[\n{body}\n]\n" if kind == "json" else body
+    return before + between.join(pieces) + after
 
 
 def main():
     folder, kind, size = sys.argv[1:]
-    with open(f"{folder}/{kind}-{size}.yaml", "w") as out:
+    with open(f"{folder}/{kind}-{size}.yaml", "w", encoding="utf-8") as out:
         out.write(text(kind, int(size)))
 
 

@@ -1,4 +1,4 @@
-"""Measures the program beside C's libyaml on the same inputs: python3 run.py PROGRAM [--instructions] [--sizes BYTES,..]
+"""Measures the program beside C's libyaml on the same inputs: python3 run.py PROGRAM [--instructions] [--sizes BYTES,..] [--kinds KIND,..]
 
 Both run in turns on each input, and the table has the medians: seconds of processor time, their ratio, peak memory, and how the
 time grows from 1 MB to 10 MB. With --instructions it counts instructions by callgrind in place of that, once each: these don't
@@ -15,7 +15,9 @@ import sys
 import tempfile
 
 HERE = os.path.dirname(os.path.abspath(__file__))
+# Those that a bound is set for at 100 KB, and those that nobody tuned to.
 KINDS = ["mapping", "flow", "scalars", "literals", "anchors", "json"]
+OTHERS = ["prose", "wide", "logs", "workflow", "manifests", "openapi", "deepjson"]
 MODES = {"events": ["events"], "canonical": ["fmt"], "pretty": ["fmt", "--pretty"], "docs": ["docs"]}
 # What loads the documents, which alone is counted too.
 LOADS = {"ours": "yaml_round_writing::reload::documents_of", "peer": "yaml_parser_load"}
@@ -71,9 +73,9 @@ def input_of(folder, kind, size):
     return f"{folder}/{kind}-{size}.yaml"
 
 
-def count_table(sides, sizes, folder):
+def count_table(sides, kinds, sizes, folder):
     print("| input | bytes | command | ours, million instructions | libyaml | ratio |\n|---|---|---|---|---|---|")
-    for kind in KINDS:
+    for kind in kinds:
         for size in sizes:
             file = input_of(folder, kind, size)
             for mode in [*MODES, "load"]:
@@ -83,10 +85,10 @@ def count_table(sides, sizes, folder):
                 print(f"| {kind} | {size:,} | {mode} | {ours / 1e6:.1f} | {peer / 1e6:.1f} | {ours / peer:.2f} |", flush=True)
 
 
-def time_table(sides, sizes, folder, measure):
+def time_table(sides, kinds, sizes, folder, measure):
     print("| input | bytes | command | ours, s | libyaml, s | ratio | ours, MB | libyaml, MB | growth, ours | growth, libyaml |")
     print("|---|---|---|---|---|---|---|---|---|---|")
-    for kind in KINDS:
+    for kind in kinds:
         before = {}
         for size in sizes:
             file = input_of(folder, kind, size)
@@ -106,15 +108,17 @@ def main():
     said.add_argument("program")
     said.add_argument("--instructions", action="store_true")
     said.add_argument("--sizes", default="")
+    said.add_argument("--kinds", default=",".join(KINDS + OTHERS))
     said = said.parse_args()
     standard = "100000" if said.instructions else "10000,1000000,10000000"
     sizes = [int(it) for it in (said.sizes or standard).split(",")]
+    kinds = said.kinds.split(",")
     with tempfile.TemporaryDirectory(prefix="bench-") as folder:
         sides = {"ours": os.path.abspath(said.program), "peer": compile_c(folder, "peer", "-lyaml")}
         if said.instructions:
-            count_table(sides, sizes, folder)
+            count_table(sides, kinds, sizes, folder)
         else:
-            time_table(sides, sizes, folder, compile_c(folder, "measure"))
+            time_table(sides, kinds, sizes, folder, compile_c(folder, "measure"))
 
 
 if __name__ == "__main__":

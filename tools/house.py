@@ -14,7 +14,8 @@
                                a README.md of more than 150 lines, or that doesn't tell in its first 40 that comments are
                                dropped; a crate without one, or with one of more than 15; more than 4,000 words in
                                docs/PROVING.md; dates, numbers of issues and a machine's paths in documents, but for dates in
-                               docs/MEASURED.md; comments that say `The same.` alone; and what --names lists
+                               docs/MEASURED.md and CHANGELOG.md; comments that say `The same.` alone; what --names lists; and
+                               versions that differ (tools/versions.py)
     tools/house.py --names     records and data types of specs/ of which more than one crate has one of the name, but for
                                the nouns that docs/GLOSSARY.md says layer by layer; and functions (no methods, the vectors'
                                crates aside) of which more than one crate of a member has one of the name, but for those that
@@ -32,6 +33,7 @@ import re
 import sys
 
 import repository as repo
+import versions
 
 USE = re.compile(r"\s*(?:(?:pub|unfoldable|ghost) )*use\b")
 # Where a lemma's statement begins in a file of proofs.
@@ -44,8 +46,8 @@ LEMMA = re.compile(r"^((?:(?:pub|abbrev|opaque|unfoldable|record) )*)([^\s:({=]+
 # A function that is no method.
 FUNCTION = re.compile(r"^(?:pub(?:\([a-z]+\))? )?(?:const )?fn (\w+)", re.M)
 # What a document doesn't name: a day, an issue, a machine's folder.
-ELSEWHERE = re.compile(r"\b20\d\d-[01]\d-[0-3]\d\b|\b[Ii]ssue \d+|(?<![\w.~])/(?:work|opt|home|root)/")
-DATED = ("docs/MEASURED.md",)
+ELSEWHERE = re.compile(r"(?<!`)\b20\d\d-[01]\d-[0-3]\d\b|\b[Ii]ssue \d+|(?<![\w.~])/(?:work|opt|home|root)/")
+DATED = ("docs/MEASURED.md", "CHANGELOG.md")
 # Words that say of a position nothing but that it is one.
 BARE = "Location|Place|Position|Seat|Site|Spot|Stage|Stand|Standing|Where"
 TYPE = re.compile(rf"^ *(?:(?:pub(?:\([a-z]+\))?|abbrev|opaque|unfoldable) )*(?:struct|enum|record|data) ({BARE})\b", re.M)
@@ -147,7 +149,7 @@ def documents():
     readme = repo.read("README.md").split("\n")
     if len(readme) > 151:
         yield f"README.md: {len(readme) - 1} lines"
-    if not re.search(r"comments [^.]*dropped", " ".join(readme[:40])):
+    if not re.search(r"[Cc]omments [^.]*dropped", " ".join(readme[:40])):
         yield "README.md: its first 40 lines don't tell that comments are dropped"
     words = len(repo.read("docs/PROVING.md").split())
     if words > 4000:
@@ -292,7 +294,7 @@ def main():
         wrong += [] if "/proofs/" in path else bare_codes(path, lines)
         wrong += silent_comments(path, lines)
     wrong += [*documents(), *wrong_functions(), *uncommented_lemmas(), *twice_named(), *bare_positions()]
-    wrong += functions_twice_named()
+    wrong += [*functions_twice_named(), *versions.wrong()]
     print("\n".join(wrong) if wrong else "house: in order")
     return bool(wrong)
 

@@ -1,5 +1,5 @@
 #!/usr/bin/env python3
-"""Keeps the definitions that docs/MEANING.md quotes in step with specs/.
+"""Keeps the definitions that docs/MEANING.md and the pages of docs/meaning quote in step with specs/.
 
     tools/meaning.py             writes each quoted block again
     tools/meaning.py --check     writes nothing, and fails where a block differs
@@ -7,13 +7,15 @@
 A block stands behind a line `<!-- CRATE/FILE: NAME NAME.. -->`, which says what it quotes: the named definitions of
 crates/CRATE/specs/FILE.antt with the comments above them.
 """
+import glob
+import os
 import re
 import sys
 import textwrap
 
 import repository as repo
 
-PAGE = "docs/MEANING.md"
+PAGES = ["docs/MEANING.md", *sorted(os.path.relpath(it, repo.TOP) for it in glob.glob(f"{repo.TOP}/docs/meaning/*.md"))]
 BLOCK = re.compile(r"^<!-- (\w+)/(\w+): ([^\n]*?) -->\n```antt\n(.*?)```\n", re.M | re.S)
 
 
@@ -28,30 +30,32 @@ def quoted(crate, file, names):
     return f"-- {path}\n\n" + "\n\n".join(texts) + "\n"
 
 
-def renewed(text, differing):
+def renewed(page, text, differing):
     def block(match):
         crate, file, names, old = match.groups()
         new = quoted(crate, file, names.split())
         if new != old:
-            differing.append(f"{crate}/{file}: {names}")
+            differing.append(f"{page} differs at {crate}/{file}: {names}")
         return f"<!-- {crate}/{file}: {names} -->\n```antt\n{new}```\n"
 
     return BLOCK.sub(block, text)
 
 
 def main():
-    old, differing = repo.read(PAGE), []
-    new = renewed(old, differing)
-    marks, blocks = old.count("<!-- "), len(BLOCK.findall(old))
-    if marks != blocks:
-        sys.exit(f"meaning: {PAGE} has {marks} marks and {blocks} blocks")
+    written, differing = {}, []
+    for page in PAGES:
+        old = repo.read(page)
+        if old.count("<!-- ") != len(BLOCK.findall(old)):
+            sys.exit(f"meaning: {page} has {old.count('<!-- ')} marks and {len(BLOCK.findall(old))} blocks")
+        written[page] = renewed(page, old, differing)
     if "--check" in sys.argv[1:]:
         for it in differing:
-            print(f"meaning: {PAGE} differs at {it}: run tools/meaning.py", file=sys.stderr)
+            print(f"meaning: {it}: run tools/meaning.py", file=sys.stderr)
         return bool(differing)
-    with open(f"{repo.TOP}/{PAGE}", "w", encoding="utf-8") as page:
-        page.write(new)
-    print(f"meaning: {blocks} blocks, {len(differing)} written anew")
+    for page, text in written.items():
+        with open(f"{repo.TOP}/{page}", "w", encoding="utf-8") as file:
+            file.write(text)
+    print(f"meaning: {len(PAGES)} pages, {len(differing)} blocks written anew")
     return 0
 
 

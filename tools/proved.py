@@ -1,14 +1,13 @@
 #!/usr/bin/env python3
-"""Writes docs/PROVED.md from the README.md of each crate: by member, in the order of crates.txt.
+"""Writes docs/PROVED.md, an index of the README.md of each crate: by member, in the order of crates.txt.
 
     tools/proved.py             writes the page
     tools/proved.py --check     writes nothing, and fails where the page differs
 
-Both fail where a crate lacks its README.md, where one has more than 15 lines or not the form that all have, where an item
-that it names doesn't stand in the crate's src/, specs/ or proofs/, and where that of a crate of laws doesn't name one of its public laws.
+Both fail where a crate lacks its README.md, where one has more than 15 lines, where an item that a table of it names isn't in the
+crate's src/, specs/ or proofs/, and where that of a crate of laws doesn't name one of its public laws.
 
-A README.md is: the crate's name; a line on what it holds; where its calls have contracts, a table of these calls and of what
-the contracts say; and a line on what no clause says.
+A README.md is the crate's name, a line on what it holds, and what a reader of its code wants to know: its calls, or what no contract says.
 """
 import glob
 import os
@@ -20,16 +19,11 @@ import repository as repo
 PAGE = "docs/PROVED.md"
 MOST_LINES = 15
 TABLE = ["| item | what its contract says |", "|---|---|"]
-SAFE = "Safe, and ends; no clause says more."
 HEAD = """# What is proved, crate by crate
 
-Written by `tools/proved.py` from `crates/CRATE/README.md`; not by hand.
+Written by `tools/proved.py` from `crates/CRATE/README.md`; not by hand. Each crate's page lists its calls and laws, what their contracts say, and what no clause says. [WHAT-IS-PROVED](WHAT-IS-PROVED.md) has the same in short, [MEANING](MEANING.md) the definitions that the contracts rest on.
 
-`docs/WHAT-IS-PROVED.md` has the same in short, member by member, and what the clauses leave open ('Less than that'), which holds here too. `docs/MEANING.md` has the definitions that these statements rest on, `tools/closure.py CALL` those below one call.
-
-Proved with `rattle-kit-13b`, logic `dac8208d650f15bf` (`rt version`; `rattle-kit-13f` has the same logic). 'Proved' says what the contracts say, and no more; want of memory is an answer that each clause allows beside, told with nothing else in it and of one of the layers that the clause lists. Every function of every crate is proved safe (no index out of range, no overflow, no use after free) and to end, for all inputs.
-
-An item is a function, a method (`TYPE::METHOD`), a type or a trait of the crate's `src`; a law is a function without code, whose clause is the statement, or a named clause of such a function whose name begins with `laws_of_`, or a file of `specs` or `proofs` that states it. The crates stand in the order of `crates.txt`, by member, the lowest first; the member's own crate (`yaml_scan` of the first) hands out what callers need of the others.
+Proved with `rattle-kit-13f`, logic `dac8208d650f15bf` (`rt version`). 'Proved' means what the contracts say, and no more. Every function of every crate is proved safe (no index out of range, no overflow, no use after free) and to end, for all inputs. The crates are in the order of `crates.txt`, by member, the lowest first.
 """
 
 
@@ -51,6 +45,7 @@ def known(crate):
     found.update(os.path.basename(it)[: -len(".antt")] for it in glob.glob(f"{repo.TOP}/crates/{crate}/[sp]*s/*.antt"))
     for path in repo.sources(crate):
         found.update(re.findall(r"^pub (?:trait|const) (\w+)", repo.read(path), re.M))
+        found.update(re.findall(r"^impl(?:<.*?>)? (\w+)(?:<.*?>)? for", repo.read(path), re.M))
         for it in (law for of in repo.functions(path) for law in repo.laws_of(of)):
             found.update((it.name, it.label))
     return found
@@ -75,19 +70,14 @@ def unnamed(crate, lines):
     """The public laws of a crate of laws that its table doesn't name."""
     if "_laws_" not in crate:
         return []
-    named = items(lines)
+    named = re.findall(r"`([^`]+)`", "\n".join(lines))
     laws = [law for path in repo.sources(crate) for it in repo.functions(path) if it.is_pub and it.contract() for law in repo.laws_of(it)]
     return [it.label for it in laws if it.label not in named and it.name not in named]
 
 
 def is_formed(crate, lines):
-    """The name, a line, a table or none, and a line."""
-    if lines[:2] != [f"# `{crate}`", ""] or len(lines) < 5 or lines[3] != "" or lines[-2] != "":
-        return False
-    last, table = lines[-1], lines[4:-2]
-    if not table:
-        return last == SAFE
-    return table[:2] == TABLE and rows(table) == table[2:] and last.startswith(("No clause says", "Nothing of "))
+    """The name and, behind an empty line, what the crate holds."""
+    return lines[:2] == [f"# `{crate}`", ""] and len(lines) > 2 and bool(lines[2])
 
 
 def faults(crate):
@@ -101,16 +91,21 @@ def faults(crate):
     if len(lines) > MOST_LINES:
         found.append(f"{path}: {len(lines)} lines, of {MOST_LINES} at most")
     if not is_formed(crate, lines):
-        found.append(f"{path}: name, line, table and line are wanted, as the head of tools/proved.py says")
+        found.append(f"{path}: the crate's name and a line on what it holds are wanted")
     return found
+
+
+def held(crate):
+    """What a crate holds: the first sentence of its page."""
+    line = repo.read(f"crates/{crate}/README.md").split("\n")[2]
+    return re.match(r".*?[.:](?= |$)|.*", line)[0].rstrip(":.")
 
 
 def page():
     text = HEAD
     for name, about, crates in members():
-        text += f"\n## `{name}`: {about}\n"
-        for crate in crates:
-            text += f"\n##{repo.read(f'crates/{crate}/README.md')}"
+        text += f"\n## `{name}`: {about}\n\n| crate | what it holds |\n|---|---|\n"
+        text += "".join(f"| [`{crate}`](../crates/{crate}/README.md) | {held(crate)} |\n" for crate in crates)
     return text
 
 

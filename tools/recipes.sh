@@ -1,5 +1,5 @@
 #!/bin/bash
-# Runs what README.md shows: the commands of 'What it does' with the answers that stand there, the recipes, and the lines for C
+# Runs what README.md shows: the commands of its first screen and of 'What it does' with the answers that stand there, the recipes, and the lines for C
 # and Python where `make library` has left the library. It isn't part of the gate. It needs git and, for these lines, a C
 # compiler and python3.
 #
@@ -56,10 +56,10 @@ while IFS= read -r text; do
             ;;
         '    '*) shown+=${text#????}$'\n' ;;
     esac
-done < <(section 'What it does')
+done < <(awk '/^## / { exit } 1' "$top/README.md"; section 'What it does')
 judge
-[ "$count" -gt 0 ] || wrong "no command of 'What it does' was met"
-say "'What it does': $count commands"
+[ "$count" -gt 1 ] || wrong "too few commands of the first screen and of 'What it does' were met"
+say "the first screen and 'What it does': $count commands"
 
 cd "$work/repo" || exit 2
 git init -q . && git config user.email a@b.c && git config user.name nobody
@@ -74,25 +74,18 @@ printf 'a: [\n' >some.yaml
 [[ $(git diff | grep -c '^+a: \[') == 1 ]] || wrong "a text that is refused isn't shown as it is: $(git diff)"
 say "a diff by content"
 
-printf '# why\na:\n    b: c\nd: e\n' >some.yaml
-bash -c "$(recipe 2)" || wrong "an edit of styles touches the content"
-printf 'a: {b: c}\nd: f\n' >some.yaml
-found=$(bash -c "$(recipe 2)")
-[ $? -eq 1 ] && [[ $found == "[0].d"*"some.yaml:2:4: a scalar"* ]] || wrong "an edit of a value is shown as $found"
-say "where an edit touches the content"
-
 printf 'a: [\n' >some.yaml
-found=$(bash -c "$(recipe 3)")
+found=$(bash -c "$(recipe 2)")
 [ $? -eq 1 ] && [ -z "$found" ] || wrong "a refused file has the key $found"
 for text in 'a: {b: c}' $'a:\n  b: c # d'; do
     printf '%s' "$text" >some.yaml
-    found=$(bash -c "$(recipe 3)") || wrong "the recipe of a key ends with status $?"
+    found=$(bash -c "$(recipe 2)") || wrong "the recipe of a key ends with status $?"
     [ "$found" = "${before:=$found}" ] || wrong "one content has the keys $before and $found"
 done
 [[ $before =~ ^[0-9a-f]{64} ]] || wrong "the key is $before"
 say "a key of a content"
 
-recipe 4 >.git/hooks/pre-commit && chmod +x .git/hooks/pre-commit
+recipe 3 >.git/hooks/pre-commit && chmod +x .git/hooks/pre-commit
 printf 'a: [\n' >wrong.yaml
 git add -A
 found=$(git commit -qm second 2>&1) && wrong "a file that doesn't load was committed"
@@ -105,18 +98,16 @@ git add -A
 git commit -qm second || wrong "the hook refuses what loads"
 say "a check before each commit"
 
-printf 'a: [b]' >old.yaml
-printf 'a:\n- b' >new.yaml
-bash -c "$(recipe 5)" || wrong "one content in two styles isn't told as equal"
-printf 'a: [c]' >new.yaml
-bash -c "$(recipe 5)" && wrong "two contents are told as equal"
-say "whether a change kept the content"
+mkdir -p vendor && printf 'a: [\n' >vendor/some.yaml && printf 'b: [\n' >own.yml
+found=$(bash -c "$(recipe 4)")
+[ $? -eq 1 ] && [[ $found == "::error file="*"own.yml"* && $found != *vendor* ]] || wrong "the findings below a folder are $found"
+say "a check of a folder"
 
 if [ -f "$top/out/library/libyaml_c.so" ]; then
     cd "$work/top" && ln -s "$top/bindings" "$top/out" . && printf '{a: b}' >some.yaml
     bash -c "$(line 'cc -I')" >"$work/c" || wrong "the line for C ends with status $?"
     bash -c "$(line 'PYTHONPATH=')" >"$work/python" || wrong "the line for Python ends with status $?"
-    [[ $(<"$work/c") == *'{a: b}'* && $(<"$work/python") == *'? ! "a"'* ]] || wrong "C and Python write $(cat "$work/c" "$work/python")"
+    [[ $(<"$work/c") == *'{a: b}'* && $(<"$work/python") == *'[80, 443]'* ]] || wrong "C and Python write $(cat "$work/c" "$work/python")"
     say "C and Python"
 else
     say "out/library isn't there: the lines for C and Python are left out"

@@ -18,7 +18,7 @@ class Version(unittest.TestCase):
         with open(os.path.join(TOP, "crates", "yaml_cli_program", "src", "version.rt"), encoding="utf-8") as file:
             stated = re.search(r'"([0-9.]+) ', file.read())
         with open(os.path.join(TOP, "CHANGELOG.md"), encoding="utf-8") as file:
-            newest = re.search(r"^## (.+)$", file.read(), re.MULTILINE)
+            newest = re.search(r"^## (\S+)", file.read(), re.MULTILINE)
         assert stated and newest
         self.assertEqual((yaml_c.__version__, newest[1]), (stated[1], stated[1]))
 

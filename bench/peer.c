@@ -89,7 +89,7 @@ static void put_property(text_t *out, const char *name, const yaml_char_t *value
     }
 }
 
-/* A byte for a byte, but for what a line cannot hold. */
+/* A byte for a byte, except what a line cannot hold. */
 static void put_value(text_t *out, const yaml_char_t *value, size_t length)
 {
     for (size_t i = 0; i < length; i++) {

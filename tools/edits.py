@@ -38,7 +38,7 @@ Each line is a change of the code that the prover must refuse (`crates/CRATE/mus
 LINES_HEAD = f"""
 ## By a line
 
-No clause says these, or no edit turns them: the crate whose clauses do has none, or one, since for a first one it would be proved once more and for a second one twice, or the body stands too far below its public call. A line of `{LINES}` refuses each. That want of memory is told where none was met is refused by every line that wants an answer: no clause can say that memory is there.
+No clause says these, or no edit turns them: the crate whose clauses do has none, or one, since for a first one it would be proved once more and for a second one twice, or the body stands too far below its public call. A line of `{LINES}` refuses each. That out of memory is reported where memory was there is refused by every line that wants an answer: no clause can say that memory is there.
 
 | call | line | the meaning that it turns |
 |---|---|---|
@@ -46,7 +46,7 @@ No clause says these, or no edit turns them: the crate whose clauses do has none
 FIRST_HEAD = """
 ## The wrong bodies that come to mind first
 
-What a reader may try to get past the contracts, and what refuses it: an edit, as `CRATE/EDIT`, or a line, as `CALL: LINE`. Where a body would fail several, the nearest to it are named. One that tells want of memory where none was met passes every clause, and is left to lines.
+What a reader may try to get past the contracts, and what refuses it: an edit, as `CRATE/EDIT`, or a line, as `CALL: LINE`. Where a body would fail several, the nearest to it are named. One that reports out of memory where memory was there passes every clause, and is left to lines.
 
 | the wrong body | refused by |
 |---|---|
@@ -56,7 +56,7 @@ FIRST = [
     ("`,`, `[` and `]` written raw in the suffix of a shorthand", "yaml_emit_core/raw_flow_indicators_in_suffix", "emit_events: spelled tag 6"),
     ("the tag `!` of an empty scalar passed on, by the parser or into the text", "yaml_parse/lone_mark_passed_on", "yaml_round_reading/lone_mark_kept"),
     ("bytes of a tag that aren't UTF-8 left out or replaced", "yaml_round_adapter/tag_bytes_replaced"),
-    ("tokens of a step that fails handed out", "yaml_scan/tokens_behind_a_fault", "scan: scans: a key without its colon"),
+    ("tokens of a step that fails handed out", "yaml_scan/failed_steps_token_handed_out", "yaml_scan/tokens_behind_a_fault", "scan: scans: a key without its colon"),
     ("overlong UTF-8 accepted", "yaml_scan_characters/overlong_accepted"),
     ("surrogates accepted", "yaml_scan_characters/surrogate_accepted", "yaml_round_calls/offence_hidden", "decode: decoding: faults of UTF-8 10", "yaml_scan_classes/printable_surrogate"),
     ("lexemes read ahead of need; more spare texts kept, or larger ones", "yaml_scan/reads_ahead_of_need", "yaml_types/spare_text_number_65", "yaml_types/spare_text_of_257_bytes"),
@@ -65,10 +65,10 @@ FIRST = [
     ("a scanner's out of memory told of the reader, a tag's fault told as out of memory", "yaml_scan/scanners_memory_told_of_the_reader", "yaml_round_adapter/tags_fault_told_as_memory"),
     ("every deep input refused", "yaml_parse/deep_input_refused"),
     ("an undefined handle told before the fault of the next token", "yaml_parse_states/undefined_handle_before_the_next_fault"),
-    ("tokens asked for past STREAM-END, after a fault, or to the end where memory ran out", "parse_tokens: events of tokens: an empty key in a flow sequence", "yaml_parse_states/token_asked_for_behind_a_fault", "yaml_parse_states/reads_on_where_memory_ran_out"),
+    ("tokens asked for past STREAM-END, after a fault, or to the end where memory ran out", "yaml_parse_states/asked_past_the_end", "parse_tokens: events of tokens: an empty key in a flow sequence", "yaml_parse_states/token_asked_for_behind_a_fault", "yaml_parse_states/reads_on_where_memory_ran_out"),
     ("out of memory answered after the end, over the first fault", "yaml_parse/memory_fault_behind_the_end"),
-    ("directives carried to the next document, by reader and emitter alike", "yaml_parse/version_carried_to_the_next_document", "reformat: fault of the input 6"),
-    ("aliases looked up once the document has ended", "load: loads: an alias before its anchor"),
+    ("directives carried to the next document, by reader and emitter alike", "yaml_parse_states/tags_carried_to_the_next_document", "yaml_emit_core/tags_carried_to_the_next_document", "yaml_parse/version_carried_to_the_next_document", "reformat: fault of the input 6"),
+    ("aliases looked up once the document has ended", "yaml_parse/alias_looked_up_late", "load: loads: an alias before its anchor"),
     ("the document without root, which ends the loads, never comes", "yaml_parse/ending_document_never_comes"),
     ("names of anchors kept in a dump", "yaml_round_calls/reloaded_as_a_rewriting", "reload: documents 1"),
     ("a shared node written twice", "yaml_emit_graph/shared_node_written_twice"),
@@ -99,7 +99,7 @@ IMPLIED = [
     ("yaml_decode", "an offence's byte is counted with the removed mark", ["yaml_round_calls/offence_hidden"], "the same of the first offence, `decoding_fault`, whose fault is told in each field"),
     ("yaml_parser_scan", "an alias is told as one", ["yaml_scan/value_ended_by_two_quotes"], "`Takes` says by one equation which token is given: its kind and its texts"),
     ("yaml_parser_scan_into", "a scan into a slot puts the next token there", ["yaml_round_adapter/next_token_is_the_empty_one"], "the adapter's clause follows from this call's alone: where this one let the empty token through, so would that one"),
-    ("yaml_adapter_t::next_token_into", "want of memory is told of a layer that scans", ["yaml_round_adapter/tags_fault_told_as_memory"], "the clause of all sources lets want of memory of such a layer through, so what refuses it is `Stops`: the fault is as a whole the session's own, or its tag's"),
+    ("yaml_adapter_t::next_token_into", "out of memory is reported of a layer that scans", ["yaml_round_adapter/tags_fault_told_as_memory"], "the clause of all sources lets an out-of-memory error of such a layer through, so what refuses it is `Stops`: the fault is as a whole the session's own, or its tag's"),
     ("yaml_diff", "a fault of two inputs that are compared names the input that has it", ["yaml_round/sides_turned"], "`IsDiff` says of a fault what `IsSame` says"),
     ("yaml_diff", "nothing is answered only where the contents are the same", ["yaml_round_calls/first_input_compared_with_itself"], "`IsDiff` says of nothing what `IsSame` says of true: `SameContent`"),
     ("yaml_same", "inputs of another content are told apart", ["yaml_round_calls/first_input_compared_with_itself"], "the call for C knows of its answer what `IsSame`, the clause of this call, says of both inputs, and nothing else"),
@@ -108,7 +108,7 @@ IMPLIED = [
     ("yaml_normalize", "the input is not repeated", ["yaml_round/own_styles_kept"], "the pretty text of an input, given in, has the same content and so the same normal form"),
     ("yaml_reformat", "what is answered unasked as canonical form is canonical", ["yaml_round/canonical_unasked"], "no text is, where the input doesn't begin with nothing"),
     ("yaml_reformat", "a tag that isn't UTF-8 is the input's fault", ["yaml_round_adapter/tag_bytes_replaced"], "the plain reading is of the adapter's tokens"),
-    ("yaml_reformat", "want of memory is told with nothing else", ["yaml_parse/memory_fault_with_an_offset"], "`memory_fault` is one definition for all calls"),
+    ("yaml_reformat", "out of memory is reported with nothing else", ["yaml_parse/memory_fault_with_an_offset"], "`memory_fault` is one definition for all calls"),
     ("yaml_read_all", "the same", ["yaml_parse/memory_fault_with_an_offset"], "the same"),
     ("yaml_reload", "the same", ["yaml_parse/memory_fault_with_an_offset"], "the same"),
     ("yaml_parser_load", "the same", ["yaml_parse/memory_fault_with_an_offset"], "the same"),
@@ -119,7 +119,7 @@ IMPLIED = [
     ("yaml_parser_parse", "a wrong token in a block sequence is told as such", ["yaml_parse/tokens_fault_told_elsewhere"], "both calls promise `FaultOf`, which says the whole fault by one equation"),
     ("yaml_read_all", "an input is told as failed only where it has", ["yaml_round/refusal_told_as_a_failed_input"], "`yaml_run` hands its refusal on, and `FailsBy` says of `Read` what `IsReadFault` says"),
     ("yaml_write_all", "a failed finish is a failed write", ["yaml_round_device/finish_not_called"], "an output whose finish failed isn't finished either, which `finished` wants of each answer that is Ok"),
-    ("yaml_fault_line", "want of memory names its layer", ["yaml_scan/scanners_memory_told_of_the_reader"], "`memory_fault` is one definition for all calls"),
+    ("yaml_fault_line", "out of memory names its layer", ["yaml_scan/scanners_memory_told_of_the_reader"], "`memory_fault` is one definition for all calls"),
     ("yaml_run", "the output is finished behind a whole answer", ["yaml_round_device/finish_not_called"], "`finished` is the clause of `yaml_write_all`, word for word"),
     ("yaml_emitter_emit", "a fault is told at the call that lets its event out, and not later", ["yaml_emit/flush_always_right"], "`Answers` is the clause of both calls: behind either the answer is Ok only where the emitter has no fault"),
     ("yaml_diff_documents", "each mark of a place of loaded documents is of its own input's event", ["yaml_round/second_mark_for_the_first"], "`TellsOf` is one record for both calls"),
@@ -127,13 +127,13 @@ IMPLIED = [
     ("yaml_normalize", "a root that would be nothing where the text begins is quoted", ["yaml_round/own_styles_kept"], "the text is `readable_text` of the content, which decides the style of each root"),
     ("yaml_parser_initialize", "a fault's text is the definition's, also where code and machine agree on another", ["yaml_parse/tokens_fault_told_elsewhere"], "the fault to come is said by `FaultOfTokens`, whose texts a law, `rows_of_faults_hold`, has in its own words; a parse that answers another fault than the one to come is refused"),
     ("yaml_parser_initialize", "what is whole when a token comes that is wrong is given before the fault", ["yaml_parse/deep_input_refused"], "the events to come are said by `EventsOfTokens`, whose worked lists a law, `rows_of_events_hold`, has in its own words; a parse that answers a fault where one of them is to come is refused"),
-    ("yaml_c_events", "every fault but want of memory comes with its line", ["yaml_round_calls/line_never_told"], "`TellsFault`, which says each field of the record, is one definition for all calls"),
+    ("yaml_c_events", "every fault except out of memory comes with its line", ["yaml_round_calls/line_never_told"], "`TellsFault`, which says each field of the record, is one definition for all calls"),
     ("yaml_c_emit", "the fault of a refused event is told", ["yaml_round_calls/undefined_alias_hidden"], "the same: it says the kind, of the fault that the definition names"),
     ("yaml_c_parse", "every event of the input has its record, the first one too", ["yaml_round/events_left_out", "yaml_round_calls/last_event_of_a_starved_front_left_out"], "`HasEvents` says of both calls which events an input has, and `SayEvents` of a parse and of a front that each of its events has its record"),
-    ("yaml_c_front", "the events in front of a fault are handed out with it, the last one too", ["yaml_round_calls/last_event_of_a_starved_front_left_out"], "`SayFront` lets with want of memory through all that it lets through with another fault, and beside it only that nothing is handed out"),
-    ("yaml_c_scan", "each token in front of the end or the fault has its record, the last one too", ["yaml_round_calls/last_token_of_a_starved_scan_left_out"], "the same of `Scans`"),
-    ("yaml_c_front", "the characters in front of a mark are counted, and not bytes, without the one that begins there; a tag that stands behind a node's end is none of it", ["yaml_round_calls/absent_anchor_has_a_place"], "`SayEvents` says each record whole, as what `event_counted` makes of one, and the records have these numbers from `characters_before` and `has_tag` of `yaml_round_records` alone: where one of these let another number through, so would that one"),
-    ("yaml_c_parse", "the characters in front of a fault's marks are counted so", ["yaml_round_calls/line_never_told"], "`TellsFaultBy`, which says each field of a fault's record, is one record for all calls; here it has the marks by `mark_counted`, and the code has the numbers from `characters_before` of `yaml_round_records` alone"),
+    ("yaml_c_front", "the events before a fault are handed out with it, the last one too", ["yaml_round_calls/last_event_of_a_starved_front_left_out"], "`SayFront` lets through with an out-of-memory error all that it lets through with another fault, and beside it only that nothing is handed out"),
+    ("yaml_c_scan", "each token before the end or the fault has its record, the last one too", ["yaml_round_calls/last_token_of_a_starved_scan_left_out"], "the same of `Scans`"),
+    ("yaml_c_front", "the characters before a mark are counted, and not bytes, without the one that begins there; a tag that stands behind a node's end is none of it", ["yaml_round_calls/absent_anchor_has_a_place"], "`SayEvents` says each record whole, as what `event_counted` makes of one, and the records have these numbers from `characters_before` and `has_tag` of `yaml_round_records` alone: where one of these let another number through, so would that one"),
+    ("yaml_c_parse", "the characters before a fault's marks are counted so", ["yaml_round_calls/line_never_told"], "`TellsFaultBy`, which says each field of a fault's record, is one record for all calls; here it has the marks by `mark_counted`, and the code has the numbers from `characters_before` of `yaml_round_records` alone"),
     ("yaml_emitter_outer", "the collections round the innermost one are told", ["yaml_round_calls/stand_without_its_collections"], "`yaml_c_emit_on` has the collections round the innermost one from this call alone, and `TellsStand` says the stand whole"),
     ("yaml_emitter_directives", "the directives of the document are told", ["yaml_round_calls/stand_without_its_collections"], "`yaml_c_emit_on` has the directives in force from this call alone, and `TellsStand` says the stand whole"),
     ("TokenSlot::clear", "the empty token stands in a slot that is cleared", ["yaml_scan/tokens_behind_a_fault"], "behind a fault `yaml_parser_scan_into` has the empty token from this call alone: were another one left, a token would be given there"),

@@ -24,14 +24,14 @@ What is promised, and judged for each run (docs/PROFILE.md, 'The program'):
                     judge many files, and of diff, status 2, and the other files are judged all the same
     written so far  a failed write of the answer: status 1, `write failed after N bytes`, and the answer's first N bytes; of the
                     commands that tell a reason, and of help, that reason, and a front of the answer
-    whose           of two inputs, a short one beside a long one: want of memory is told of the short one in no more runs
+    whose           of two inputs, a short one beside a long one: out of memory is reported of the short one in no more runs
                     than there are allocations where it stands on both sides
-    untold          of want of memory where the line itself can't be made, as where all further allocations are refused:
+    untold          that memory ran out, where the line itself can't be made, as where all further allocations are refused:
                     status 1, or 2 for the words of the command line, before an input is opened or read, and nothing written
                     at all; where a line can't be written: the status that it would have had, and a front of it
 
 Whatever else happens (a signal, another status, a line cut short, a front of an answer behind another line) is printed, and
-the script fails. Want of memory of each call by itself is tried by tools/faults_calls.py.
+the script fails. Out of memory in each call by itself is tried by tools/faults_calls.py.
 """
 import collections
 import os
@@ -302,7 +302,7 @@ def usual_of(bench, folder, case):
 
 
 def sided(bench, number, case, found):
-    """What isn't as promised of whose the want of memory is, where one of two inputs is short."""
+    """What isn't as promised of whose memory ran out, where one of two inputs is short."""
     if not case.short:
         return ""
     text = case.files["a" if case.short == "first" else "b"]

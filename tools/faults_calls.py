@@ -17,7 +17,7 @@ refused, for each N.
 What is promised, and judged for each run:
 
     an answer       the line passes: a text isn't kept to be used again, or what was refused is read behind the line's fault
-    a layer's       want of memory with nothing else in it, of a layer that the call's contract lists; in front of it stands a
+    a layer's       out of memory with nothing else in it, of a layer that the call's contract lists; before it stands a
                     front of what the line has, and behind it a session and a source answer the empty token, a parser the
                     empty event, the end or the document without a root, and both the fault that they keep; an emitter the
                     fault again at each call, and its text stays
@@ -54,7 +54,7 @@ SCAN = {"Scanner", "Reader"}
 PARSE = SCAN | {"Parser"}
 LOAD = PARSE | {"Loader"}
 EMIT = {"Emitter", "Writer"}
-# The layers that may tell want of memory, by the calls' contracts (`Faults.antt` of yaml_types, `Layers.antt` of
+# The layers that may report out of memory, by the calls' contracts (`Faults.antt` of yaml_types, `Layers.antt` of
 # yaml_round_writing); what a line makes of several calls, by all of them.
 LAYERS = {
     "decode": SCAN,
@@ -85,7 +85,7 @@ LAYERS = {
     "told": {"Writer"},
     "line": {"Writer"},
 }
-# What these answer where some call was refused, for want of memory or for another reason: things that aren't right, the line of
+# What these answer where some call was refused, because memory ran out or for another reason: things that aren't right, the line of
 # a fault, which names no layer, a device over memory that failed.
 UNTOLD = {
     "check": lambda line, got: set(got["answer"]) == set(line["answer"]) and False in got["answer"].values(),
@@ -93,7 +93,7 @@ UNTOLD = {
     "run": lambda line, got: got == {"refused": "Write"},
     "read_all": lambda line, got: {**got, "sizes": 0} == {"refused": "Read", "sizes": 0} or got.get("refused") == "Yaml",
 }
-# These tell no layer: `lookup` answers the fault of the load as want of memory of the line.
+# These tell no layer: `lookup` answers the fault of the load as out of memory of the line.
 OTHERS = {"tokens", "lookup", *UNTOLD} - {*LAYERS}
 # These make a call again for each limit, or for each size of pieces, so that the shortest line is enough.
 AGAIN = {"least_limit", "emit_limits", "emit_pieces"}
@@ -390,7 +390,7 @@ def main():
         vectors = chosen(file)
     unknown = {it.call for it in vectors} - {*LAYERS, *OTHERS}
     if unknown:
-        raise SystemExit(f"faults: which layers may tell want of memory isn't said in LAYERS: {', '.join(sorted(unknown))}")
+        raise SystemExit(f"faults: which layers may report out of memory isn't said in LAYERS: {', '.join(sorted(unknown))}")
     if without_line():
         raise SystemExit(f"faults: no line calls these: {', '.join(without_line())}")
     vectors = [it for it in vectors if not words or any(word in f"{it.call}, {it.name}" for word in words)]
@@ -402,7 +402,7 @@ def main():
         print(f"{number:8} {end}")
     silent = sorted(it for it in calls & {*LAYERS} if not any("layer" in end for end in total.get(it, ())))
     if silent:
-        print(f"faults: no layer was seen to tell want of memory: {', '.join(silent)}")
+        print(f"faults: no layer was seen to report out of memory: {', '.join(silent)}")
     if count < len(vectors):
         print(f"faults: {len(vectors) - count} lines weren't run, since SECONDS were over")
     runs = sum(map(sum, (it.values() for it in total.values())))

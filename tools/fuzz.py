@@ -55,7 +55,7 @@ WORDS = (
 
 SETTINGS = {
     "indent": ["1", "2", "3", "9", "10"],
-    "width": ["0", "1", "5", "40", "2147483647"],
+    "width": ["5", "7", "19", "40", "2147483647"],
     "break": ["lf", "cr", "crlf"],
     "encoding": ["utf8", "utf16le", "utf16be"],
 }
@@ -144,9 +144,13 @@ def settings_of(seed, number):
     rng, words = random.Random(f"{seed} {number} settings"), []
     if rng.randrange(2):
         return words
+    indent = 2
     for name, values in SETTINGS.items():
+        # A width is greater than two indents, or it is refused.
+        fitting = [it for it in values if name != "width" or int(it) > 2 * indent]
         if rng.randrange(2):
-            words += [f"--{name}={rng.choice(values)}"]
+            words += [f"--{name}={rng.choice(fitting)}"]
+            indent = int(words[-1].split("=")[1]) if name == "indent" else indent
     return words + ["--ascii"] * rng.randrange(2)
 
 

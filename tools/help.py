@@ -126,7 +126,8 @@ def version_of(path):
 def newest_change():
     """The version of the first heading of CHANGELOG.md, as the program tells it."""
     with open(f"{TOP}/CHANGELOG.md", encoding="utf-8") as file:
-        return f"{NAME} {re.search(r'^## (\S+)', file.read(), re.MULTILINE)[1]}"
+        version = re.search(r"^## (\S+)", file.read(), re.MULTILINE)[1]
+        return f"{NAME} {version}"
 
 
 def version_of_python():

@@ -13,15 +13,15 @@
                                comment, unless the statement is laws' names alone, which are commented where they stand;
                                a README.md of more than 150 lines, or that doesn't tell in its first 40 that comments are
                                dropped; a crate without one, or with one of more than 15; more than 4,000 words in
-                               docs/PROVING.md; dates, numbers of issues and a machine's paths in documents, but for dates in
+                               docs/PROVING.md; dates, numbers of issues and a machine's paths in documents, except dates in
                                docs/MEASURED.md and CHANGELOG.md; comments that say `The same.` alone; what --names lists; and
                                versions that differ (tools/versions.py)
-    tools/house.py --names     records and data types of specs/ of which more than one crate has one of the name, but for
+    tools/house.py --names     records and data types of specs/ of which more than one crate has one of the name, except
                                the nouns that docs/GLOSSARY.md says layer by layer; and functions (no methods, the vectors'
-                               crates aside) of which more than one crate of a member has one of the name, but for those that
+                               crates aside) of which more than one crate of a member has one of the name, except those that
                                have one meaning there (the glossary's last table); and types that are named by a bare word
-                               for a position, but for those that the glossary's table of positions has
-    tools/house.py --copies    lemmas and records of proofs/ that are written again, letter by letter but for their own name, in
+                               for a position, except those that the glossary's table of positions has
+    tools/house.py --copies    lemmas and records of proofs/ that are written again, letter by letter except their own name, in
                                a crate that stands on the first one's or in the first one's, the longest first: a place to
                                look, since a name in them may mean another thing in each file
 """
@@ -112,7 +112,7 @@ def clauses_alone(text):
 
 
 def is_code(before, behind):
-    """Whether a number stands for a character, by what is in front of it and behind it: compared or joined alone, or laid out."""
+    """Whether a number stands for a character, by what is before it and behind it: compared or joined alone, or laid out."""
     is_summed = re.search(r"[-+*/%^] $", before) or re.match(r" [-+*/%^]", behind)
     return not is_summed and (re.search(r"(?:==|[≡≢∷]|\b(?:char|indicator|word)) $", before) or re.match(r" (?:==|[≡≢∷])", behind))
 

@@ -226,7 +226,7 @@ class Lanes:
             self.running[pool.submit(self.timed, it, jobs)] = it, jobs, time.monotonic()
 
     def ready(self, longest):
-        """The crates that can begin, but for those that the end has room for, as long as others are under way."""
+        """The crates that can begin, except those that the end has room for, as long as others are under way."""
         found = [it for it in self.left if all(dep in self.done for dep in it.below())]
         soon = [it for it in found if it not in self.late or LATE_PART * longest <= 100 * self.behind[it]]
         return soon if soon or self.running else found

@@ -16,7 +16,7 @@ import tempfile
 
 TOP = os.path.dirname(os.path.dirname(os.path.abspath(__file__)))
 PROGRAM = os.path.abspath(os.environ.get("PROGRAM", f"{TOP}/crates/yaml_cli/out/yaml_cli"))
-# The calls by which a file is put in the place of another one. The n-th fails, or the process ends in front of it.
+# The calls by which a file is put in the place of another one. The n-th fails, or the process ends before it.
 CALLS = r"""
 #define _GNU_SOURCE
 #include <dlfcn.h>
@@ -154,7 +154,7 @@ def places():
 
 
 def steps(folder):
-    """Files that are written in place, where each call fails in its turn, or the process ends in front of it."""
+    """Files that are written in place, where each call fails in its turn, or the process ends before it."""
     put(f"{folder}/calls.c", CALLS.encode())
     built = ["cc", "-shared", "-fPIC", "-o", f"{folder}/calls.so", f"{folder}/calls.c", "-ldl"]
     if subprocess.run(built, check=False).returncode:

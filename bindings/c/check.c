@@ -251,7 +251,7 @@ static void is_in_order(int call, int kind, const records *r)
     }
 }
 
-/* A call with allocations refused after the first `number`: it says want of memory, or answers as without any refused.
+/* A call with allocations refused after the first `number`: it reports out of memory, or answers as without any refused.
  * Whether any was refused. */
 static int is_met(int call, int text, long number, int all, int usual)
 {
@@ -460,7 +460,7 @@ static void events_are_told(void)
     EXPECT(parsed_texts[4].events_len == 0);
 }
 
-/* A front has all events where there is no fault, and those in front of it where there is one. */
+/* A front has all events where there is no fault, and those before it where there is one. */
 static void fronts_are_told(void)
 {
     static const size_t lengths[TEXT_NUMBER] = {17, 2, 5, 5, 6, 5, 0, 0}, tokens[TEXT_NUMBER] = {28, 2, 3, 3, 7, 3, 0, 0};
@@ -487,7 +487,7 @@ static void fronts_are_told(void)
     }
 }
 
-/* Characters are counted in front of each mark, and a tag `!` that was left out of a scalar is told. */
+/* Characters are counted before each mark, and a tag `!` that was left out of a scalar is told. */
 static void places_are_told(void)
 {
     static const char text[] = "- \xC3\xA9: ! x\n- &a #!\n  !<!> \xC3\xB6\n- &b z\n- !t \xE2\x82\xAC\n- !\n";
@@ -785,7 +785,7 @@ static void wrong_steps(void)
     }
 }
 
-/* What events come to, also in front of an alias that is refused. */
+/* What events come to, also before an alias that is refused. */
 static void composed(void)
 {
     static const yaml_c_spot spots[] = {{1, 0}, {2, 1}, {3, 1}, {1, 3}, {4, 3}, {4, 3}, {3, 0}, {5, 1}, {4, 1}, {1, 0}};

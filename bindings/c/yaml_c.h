@@ -17,7 +17,7 @@
  * below free them. `problem` and `context` are constants of the library: never free or write them. A call overwrites the
  * record's pointers without freeing what they named, so free a record before it is used again.
  *
- * Errors. A refused call hands out no text and, but for yaml_c_front, yaml_c_scan and yaml_c_compose, no records; its one
+ * Errors. A refused call hands out no text and, except yaml_c_front, yaml_c_scan and yaml_c_compose, no records; its one
  * block is `line`, the fault in words. Where that met no memory, YAML_C_MEMORY_ERROR is told in the fault's place, with an
  * empty line, which no other fault has. `problem` names what is told in any case.
  *
@@ -171,7 +171,7 @@ typedef struct {
 /* Where two inputs part. The fields behind `answer` are 0 but where a difference is told. */
 typedef struct {
     yaml_c_answer answer;    /* `is`: 1 where they don't part, else 0; `second` as of yaml_c_same; `text`: the path */
-    uint64_t document;       /* so many documents end in front of the place */
+    uint64_t document;       /* so many documents end before the place */
     int32_t first_kind;      /* what the first input's event there is, as an event's kind */
     int32_t second_kind;     /* the second input's */
     yaml_c_mark first_mark;  /* where it begins */
@@ -190,7 +190,7 @@ typedef struct {
 } yaml_c_directive;
 
 /* An event. What a kind doesn't name below is 0 in what is handed out, and yaml_c_emit doesn't look at it. Flags are 0
- * for no; any other number means yes, but for 2 in `has_anchor` and `has_tag`, and what is handed out has 1. */
+ * for no; any other number means yes, except 2 in `has_anchor` and `has_tag`, and what is handed out has 1. */
 typedef struct {
     int32_t kind;
     int32_t style;           /* of a scalar, and of the start of a sequence or mapping */
@@ -225,7 +225,7 @@ typedef struct {
     uint64_t indent; /* its indentation, in columns */
 } yaml_c_level;
 
-/* Where an emitter stands, but for lists. Only `waiting` is of use to a caller. */
+/* Where an emitter stands, except lists. Only `waiting` is of use to a caller. */
 typedef struct {
     int32_t state;    /* what is expected next: 0 the stream's start, 1 the first document, 2 another one, 3 a node or the end of
                        * the innermost collection, 4 the document's end, 17 nothing */
@@ -235,7 +235,7 @@ typedef struct {
                                 * block scalar that keeps its breaks */
     uint64_t column;  /* characters since the last line break, fewer than 2^62 */
     uint64_t waiting; /* so many of the events that were given, the last ones and at most three, wait for later ones: give them again
-                       * in front of these. Not looked at in a stand that is given */
+                       * before these. Not looked at in a stand that is given */
     yaml_c_level innermost; /* the innermost open collection; its state is 0 where none is open */
 } yaml_c_place;
 
@@ -346,7 +346,7 @@ int32_t yaml_c_check(const uint8_t *input, size_t len, int32_t from, yaml_c_answ
 int32_t yaml_c_same(const uint8_t *first, size_t first_len, int32_t first_from, const uint8_t *second,
                     size_t second_len, int32_t second_from, yaml_c_answer *answer);
 
-/* The first place at which the contents of two inputs part; none exactly where yaml_c_same answers equal. In front of it both
+/* The first place at which the contents of two inputs part; none exactly where yaml_c_same answers equal. Before it both
  * say the same, event by event, and their next events don't. `answer.text` is the path to it from the document's root inwards,
  * a step for each open collection, one behind another: `[N]` an item, `<N>` the key itself of a pair, `.N` a pair's value, or
  * `.N:LENGTH:TEXT` where its key is a scalar of that text, of LENGTH bytes; numbers are decimal and count from 0. It is empty at
@@ -363,18 +363,18 @@ int32_t yaml_c_diff_documents(const uint8_t *first, size_t first_len, int32_t fi
 int32_t yaml_c_events(const uint8_t *input, size_t len, int32_t from, yaml_c_answer *answer);
 
 /* All events of the input as records, one for each in their order, with their marks. Refused by a fault of the input (2 to 4)
- * or for want of memory; there are none then, and none where -1 is answered. */
+ * or when out of memory; there are none then, and none where -1 is answered. */
 int32_t yaml_c_parse(const uint8_t *input, size_t len, int32_t from, yaml_c_parsed *parsed, yaml_c_answer *answer);
 
-/* As yaml_c_parse, but a fault of the input (2 to 4) comes with the records of the events in front of it. Where want of memory
+/* As yaml_c_parse, but a fault of the input (2 to 4) comes with the records of the events before it. Where out of memory
  * is answered there is nothing, or all of these, where the fault's line alone met none; there is nothing where -1 is answered. */
 int32_t yaml_c_front(const uint8_t *input, size_t len, int32_t from, yaml_c_parsed *parsed, yaml_c_answer *answer);
 
 /* The text that the input's bytes spell, in UTF-8. With YAML_C_ANY_ENCODING a byte order mark tells the encoding and is left
- * out. Refused where the bytes spell no text (2), or for want of memory. */
+ * out. Refused where the bytes spell no text (2), or when out of memory. */
 int32_t yaml_c_decode(const uint8_t *input, size_t len, int32_t from, yaml_c_answer *answer);
 
-/* All tokens of the input in front of its end, or of its fault (2, 3), which comes with them. Where want of memory is answered
+/* All tokens of the input before its end, or of its fault (2, 3), which comes with them. Where out of memory is answered
  * there is nothing, or all of these, where the fault's line alone met none; there is nothing where -1 is answered. */
 int32_t yaml_c_scan(const uint8_t *input, size_t len, int32_t from, yaml_c_scanned *scanned, yaml_c_answer *answer);
 
@@ -402,7 +402,7 @@ int32_t yaml_c_emit_on(const yaml_c_parsed *given, const yaml_c_settings *settin
 
 /* Which node each event between a document's start and its end is of, and which collection takes it: what the loader of
  * yaml_c_reload does with events of these kinds and names. An alias stands for the last node before it that has its name as
- * anchor; one that none has is refused (5, without a place), with the records of the events in front of it. -1 exactly
+ * anchor; one that none has is refused (5, without a place), with the records of the events before it. -1 exactly
  * where a kind isn't one of the six, an alias has no name, or a name doesn't lie within `bytes`; there is nothing then, nor
  * where memory was refused while the events were composed. */
 int32_t yaml_c_compose(const yaml_c_step *steps, size_t steps_len, const uint8_t *bytes, size_t len, yaml_c_spots *spots,
@@ -411,7 +411,7 @@ int32_t yaml_c_compose(const yaml_c_step *steps, size_t steps_len, const uint8_t
 /* What a dump of the document has of its nodes, in order: a node that is met first is begun, and a collection ended behind what it
  * holds, a pair's key before its value; one that is met again is an alias. A node that is met again has a number, from 1 in the
  * order in which they are met again. Tags and values aren't asked for: each turn names the node whose they are. -1 exactly where the
- * kind of a node is none of the four, or what a collection holds doesn't lie within `held`; else refused for want of memory alone,
+ * kind of a node is none of the four, or what a collection holds doesn't lie within `held`; else refused only when out of memory,
  * and there are no turns then. A number that names no node is taken for one that was met. */
 int32_t yaml_c_serialize(const yaml_c_graph *graph, yaml_c_turns *turns, yaml_c_answer *answer);
 

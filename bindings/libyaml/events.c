@@ -94,7 +94,7 @@ YAML_DECLARE(int) yaml_stream_end_event_initialize(yaml_event_t *event)
     return 1;
 }
 
-/* A directive whose texts are missing still has its place, so that deleting the event frees those in front of it. */
+/* A directive whose texts are missing still has its place, so that deleting the event frees those before it. */
 static int directives_copied(yaml_event_t *event, const yaml_tag_directive_t *start, size_t len)
 {
     if (!len)

@@ -1,19 +1,19 @@
 /* Where an input is cut within a document whose root is in flow style: behind an item or a pair of the innermost open collection,
  * where one more begins. Such a cut is told by events: a window that ends anywhere is parsed, its fault counts for nothing, and of
- * its events those in front of the cut are handed out. The event behind the cut, which isn't, shows that a comma stands between
- * them, so that every token in front of it has ended. No bracket that is open is the beginning of a key, since the event behind the
+ * its events those before the cut are handed out. The event behind the cut, which isn't, shows that a comma stands between
+ * them, so that every token before it has ended. No bracket that is open is the beginning of a key, since the event behind the
  * cut stands in another line, or further on than a key goes.
  *
  * What stands behind the cut is parsed behind a stand-in: the brackets that are open, each with a key where it is a value, and an
  * item or a pair in the innermost one; then a line break, behind which none of these brackets begins a key. In flow style no column
- * and no indentation counts, so that the parser is behind the stand-in as it was in front of the comma. Of the stand-in, and of the
+ * and no indentation counts, so that the parser is behind the stand-in as it was before the comma. Of the stand-in, and of the
  * line in which the cut is, the places are put right.
  *
  * It is so where all that is open is plain brackets, without properties, keys, or pairs without brackets, and the document has no
  * directives. */
 #include "layer.h"
 
-/* What is open in front of an event. */
+/* What is open before an event. */
 typedef struct {
     layer_open opens[LAYER_OPENS]; /* the outermost ones */
     int is_value[LAYER_OPENS];     /* of a mapping: its key has come */
@@ -94,7 +94,7 @@ static void keep_opens(layer_reading *reading, const walk *w)
     reading->opens_len = w->depth;
 }
 
-/* The last cut but for a few: all among the last events are looked at, and some in front of them. Its number of events in front,
+/* The last cut except a few: all among the last events are looked at, and some before them. Its number of events in front,
  * and what is open there is kept; 0: there is none. */
 static size_t last_cut(layer_reading *reading)
 {

@@ -293,7 +293,7 @@ int layer_is_doubtful(const layer_reading *reading)
     if (reading->is_wrong)
         return answer->kind != YAML_C_READER_ERROR;
     /* where a fault stands is where it was found, and what stands further on was looked at by then in no more than 8
-     * bytes; between documents laws ask for less, but for the line `...` and a byte order mark (window.c) */
+     * bytes; between documents laws ask for less, except the line `...` and a byte order mark (window.c) */
     return is_placed && answer->problem_mark.index + 16 > reading->read_len;
 }
 

@@ -203,10 +203,10 @@ typedef struct {
     size_t checked; /* by a handler: how much of it is known to be text */
     enum layer_root within;   /* the root in which the window begins */
     enum layer_root cut_in;   /* and that in which it ends */
-    size_t front;             /* of the window, in front of its first content */
+    size_t front;             /* of the window, before its first content */
     yaml_c_mark root;         /* where that begins, in its window, and in the input; in flow style, where the window ends */
     yaml_mark_t root_mark;
-    layer_open opens[LAYER_OPENS]; /* in flow style, what is open in front of the window, and once that is cut, where it ends */
+    layer_open opens[LAYER_OPENS]; /* in flow style, what is open before the window, and once that is cut, where it ends */
     size_t opens_len;
     size_t flow_len;          /* how much of such a document is looked at next */
     int is_uncut;             /* the document isn't cut, since its root is none of these */
@@ -220,7 +220,7 @@ typedef struct {
     yaml_encoding_t set; /* the encoding that a caller set */
     int is_last;  /* the window ends with the input */
     int is_wrong; /* the window has a wrong byte, and ends with what was read by then */
-    size_t bytes_before; /* of the input in front of the window, and of its text the characters and the lines */
+    size_t bytes_before; /* of the input before the window, and of its text the characters and the lines */
     size_t chars_before;
     size_t lines_before;
     size_t chars_to_window; /* what is added to places of what is parsed: these, less those of the stand-in */

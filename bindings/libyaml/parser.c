@@ -1,5 +1,5 @@
 /* The parser: the input is read in windows of whole documents, each made into records by the proved core; each call hands out one
- * event, and behind those in front of a fault the fault. */
+ * event, and behind those before a fault the fault. */
 #include "layer.h"
 
 int layer_no_memory(yaml_parser_t *parser)
@@ -118,7 +118,7 @@ static void ask_core(const yaml_parser_t *parser, layer_reading *reading)
         yaml_c_front(reading->read, reading->read_len, parser->encoding, &reading->parsed, &reading->answer);
 }
 
-/* Whether what was read of the window may not be the input's. Of a document in flow style that in front of its cut is. */
+/* Whether what was read of the window may not be the input's. Of a document in flow style that before its cut is. */
 static int is_doubtful(layer_reading *reading)
 {
     if (reading->cut_in == LAYER_FLOW) {
@@ -192,7 +192,7 @@ static int waits_for_key(const layer_reading *reading)
 }
 
 /* Settles what libyaml's private fields have at a fault, since some clients (netplan) look at them: the line at which the scanner
- * stands, as far as it is near. In front of a reader's fault it stands at the window's beginning. */
+ * stands, as far as it is near. Before a reader's fault it stands at the window's beginning. */
 static int settle(yaml_parser_t *parser, layer_reading *reading)
 {
     int is_read = parser->error != YAML_READER_ERROR;
@@ -324,7 +324,7 @@ static inline int made(const layer_reading *reading, const yaml_c_event *it, int
     }
 }
 
-/* Whether a document begins in front of the fault, which the core doesn't tell: where the fault is the stream's first token. */
+/* Whether a document begins before the fault, which the core doesn't tell: where the fault is the stream's first token. */
 static int misses_start(const layer_reading *reading)
 {
     static const char problem[] = "did not find expected node content";
@@ -350,7 +350,7 @@ static inline int hand_out(yaml_parser_t *parser, layer_reading *reading, const 
     return 1;
 }
 
-/* The next event, where none is at hand; in front of a fault also the document's start that the core doesn't tell. NULL: there is
+/* The next event, where none is at hand; before a fault also the document's start that the core doesn't tell. NULL: there is
  * none, and the parser tells why. */
 LAYER_RARE static const yaml_c_event *read_on(yaml_parser_t *parser, layer_reading *reading)
 {

@@ -1,4 +1,4 @@
-/* Tokens: the input is scanned in windows, as it is parsed for events; each call hands out one token, and behind those in front of
+/* Tokens: the input is scanned in windows, as it is parsed for events; each call hands out one token, and behind those before
  * a fault the fault. */
 #include "layer.h"
 

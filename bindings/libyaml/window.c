@@ -1,22 +1,22 @@
 /* Where an input is cut: between two documents, or within a long one.
  *
- * Between documents: in front of a line `---` at column 0, or, where that document has directives, behind the line `...` in front of
- * them. What stands in front of a cut is parsed, or scanned, alone, and so is what stands behind it. Laws say of the proved core that
+ * Between documents: before a line `---` at column 0, or, where that document has directives, behind the line `...` before
+ * them. What stands before a cut is parsed, or scanned, alone, and so is what stands behind it. Laws say of the proved core that
  * the whole is the same:
  *
  * - Where the front is accepted, the events of the whole are the front's without STREAM-END and then the rest's without STREAM-START,
  *   moved by the front's bytes and lines, and the whole is accepted or has the rest's fault, moved (windows_are_read of
  *   yaml_round_laws_inputs); so are tokens, where the front has no fault and no open bracket (windows_are_scanned and
- *   ended_windows_are_scanned of yaml_scan_laws_texts). What they ask of a cut: it stands behind LF, in front of a line that begins
+ *   ended_windows_are_scanned of yaml_scan_laws_texts). What they ask of a cut: it stands behind LF, before a line that begins
  *   with `---`; or behind a line of `...`, blanks and breaks, which ends in LF, where of what follows `%` at column 0 comes first,
  *   behind spaces, breaks and comments. cut_before and is_document_start see to it.
- * - Where the front is refused, by the scanner or the parser, with a fault in front of its end, or of the line `...` that ends it, the
+ * - Where the front is refused, by the scanner or the parser, with a fault before its end, or of the line `...` that ends it, the
  *   whole has its events and its fault (early_faults_are_read, ended_faults_are_read); where the fault is the scanner's, and the cut
- *   stands in front of `---`, it has its tokens too (refused_fronts_are_scanned). layer_is_doubtful sees to that place: where a fault
+ *   stands before `---`, it has its tokens too (refused_fronts_are_scanned). layer_is_doubtful sees to that place: where a fault
  *   stands nearer to the end than 16 bytes, 3 of which may be a byte order mark and 8 that line, the cut counts for nothing. It does
  *   so too where tokens leave a bracket open (tokens.c). No law speaks of the tokens of a front with a fault that ends in `...`.
  *
- * Within a document, where its root is a block collection at column 0, without anchor, tag and directives: in front of an item at
+ * Within a document, where its root is a block collection at column 0, without anchor, tag and directives: before an item at
  * column 0. What stands behind it is parsed behind a stand-in, a root of that kind with one item; of both the events of what
  * isn't there are left out. The line has `- ` or a simple plain key, so that its first token has no fault. */
 #include "layer.h"

@@ -77,8 +77,8 @@ typedef enum yaml_error_type_e {
 
 /* A place, all counted from 0. */
 typedef struct yaml_mark_s {
-    size_t index;  /* characters in front of it */
-    size_t line;   /* line breaks in front of it */
+    size_t index;  /* characters before it */
+    size_t line;   /* line breaks before it */
     size_t column; /* characters since the last of them */
 } yaml_mark_t;
 
@@ -400,7 +400,7 @@ typedef struct yaml_alias_data_s {
 typedef struct yaml_parser_s {
     yaml_error_type_t error;
     const char *problem; /* as long as the parser lives */
-    size_t problem_offset; /* of a reader error: bytes in front of it */
+    size_t problem_offset; /* of a reader error: bytes before it */
     int problem_value;     /* of a reader error: the wrong byte, unit or character, or -1 */
     yaml_mark_t problem_mark;
     const char *context; /* what was being read, or NULL */

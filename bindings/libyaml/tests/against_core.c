@@ -24,7 +24,7 @@ static void expect(int is_right, const char *what, int line)
 }
 #define EXPECT(condition) expect(condition, #condition, __LINE__)
 
-/* Characters of a text in UTF-8 in front of a byte of it. */
+/* Characters of a text in UTF-8 before a byte of it. */
 static size_t characters(uint64_t index)
 {
     size_t found = 0, from = input_len >= 3 && !memcmp(input, "\xef\xbb\xbf", 3) ? 3 : 0;
@@ -143,7 +143,7 @@ enum { HAS_WINDOWS = 1 };
 enum { HAS_WINDOWS = 0 };
 #endif
 
-/* Of a text with a wrong byte the core tells that alone. A parser that reads in windows tells what stands in those in front of it
+/* Of a text with a wrong byte the core tells that alone. A parser that reads in windows tells what stands in those before it
  * first, and a fault there instead. */
 static int is_cut_short(int by_byte)
 {

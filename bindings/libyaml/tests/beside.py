@@ -3,7 +3,7 @@
 
     beside.py EXPECTED OURS THEIRS FOLDER NAME CLIENT..     OURS, THEIRS: folders for LD_LIBRARY_PATH; THEIRS may be empty
 
-The client is called with the files of FOLDER behind CLIENT, many at a time, and writes a line `@@ FILE` in front of what it
+The client is called with the files of FOLDER behind CLIENT, many at a time, and writes a line `@@ FILE` before what it
 writes of each; where it fails it is called with each of these files alone. EXPECTED has lines for the differences that are
 meant: `NAME CAUSE FILE..`. A difference that isn't there is wrong, and so is a line without a difference. With LIST=1 in the
 environment the differences are printed instead: `NAME FILE`, and what differs first.

@@ -1,5 +1,5 @@
 /* Every allocation of a parse with its emission, and of loads with dumps, refused in turn, and then all from there on: each
- * run says want of memory or goes well, and leaves no block.
+ * run reports out of memory or goes well, and leaves no block.
  *
  * It is linked with libyaml.a and -Wl,--wrap=malloc,--wrap=calloc,--wrap=realloc,--wrap=free. */
 #include <yaml.h>

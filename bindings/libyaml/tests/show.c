@@ -1,7 +1,7 @@
 /* All that a libyaml answers for a file: tokens, events, documents, what is emitted of the events and dumped of the documents,
  * each with every field. It is run over this library and over another libyaml, and the two outputs are compared.
  *
- *     show SECTION FILE..     a line `@@ FILE` goes in front of each
+ *     show SECTION FILE..     a line `@@ FILE` goes before each
  *
  * SECTION: events, tokens, documents, or an emission: plain, canonical, unicode, wide, utf16, or dumped. */
 #include <yaml.h>

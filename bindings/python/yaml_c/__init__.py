@@ -112,7 +112,7 @@ _USUAL = Settings()
 def reformat_with_form(
     text: Text, settings: Settings = _USUAL, *, encoding: Encoding | str = Encoding.ANY
 ) -> tuple[bytes, Form]:
-    """The text again, and in which form it is: where pretty form was asked for, it is that, but for a
+    """The text again, and in which form it is: where pretty form was asked for, it is that, except a
     first document without `---` that is a `!` alone, whose pretty text wouldn't read back: that is in canonical form.
 
     Raises the fault of the text, else a `WriterFault` past the limit, or an `EmitterFault` where an indentation is too deep.

@@ -138,7 +138,7 @@ def parsed(source: Source) -> Records:
 
 
 def front(source: Source) -> tuple[Records, YamlFault | None]:
-    """The events of an input as records, all of them or those in front of its fault, and that fault."""
+    """The events of an input as records, all of them or those before its fault, and that fault."""
     record, answer = _library.new_parsed(), _library.new_answer()
     try:
         kind = _library.front(*source.given(), ctypes.byref(record), ctypes.byref(answer))

@@ -41,7 +41,7 @@ Step = Union[ItemStep, KeyStep, ValueStep]
 class Difference:
     """The first place at which two texts part."""
 
-    #: So many documents end in front of it.
+    #: So many documents end before it.
     document: int
     #: From the document's root inwards. It is empty at the root, and where a document or its directives differ.
     path: tuple[Step, ...]

@@ -214,7 +214,7 @@ class _Judge:
         return found[::-1]
 
     def flatten(self, root: _Node) -> None:
-        """Puts the pairs that are merged in front of a mapping's own."""
+        """Puts the pairs that are merged before a mapping's own."""
         stack = [root]
         while stack:
             node = stack[-1]

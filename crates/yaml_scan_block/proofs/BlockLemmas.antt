@@ -65,7 +65,7 @@ pub one_space : (text : List ℕ) (p : ℕ) → byte text p ≡ 32 → (k : ℕ)
     → byte text k ≡ 32
 one_space text p h k after before = let same : k ≡ p = omega arith in rw same h
 
--- those up to a place, and those behind it
+-- those up to a place, and those after it
 pub spaces_join : (text : List ℕ) (p q r : ℕ) → ((k : ℕ) → p ≤ k → k < q → byte text k ≡ 32)
     → ((k : ℕ) → q ≤ k → k < r → byte text k ≡ 32) → (k : ℕ) → p ≤ k → k < r → byte text k ≡ 32
 spaces_join text p q r front behind k after before = search (rules, cases_lt)
@@ -75,7 +75,7 @@ pub tab_spot : (c : ℕ) (text : List ℕ) (q : ℕ)
 unfolding spot_behind
 tab_spot c text q t = rw t refl
 
--- A line of a block scalar that has a break behind its indentation is empty.
+-- A line of a block scalar that has a break after its indentation is empty.
 pub empty_spot : (c : ℕ) (text : List ℕ) (q : ℕ)
     → (byte text q == 9 && nat_lt (column_at text q) c) ≡ false → 0 < break_width text q
     → spot_behind c text q ≡ Line (Empty (break_value text q)) (q + break_width text q)

@@ -46,7 +46,7 @@ pub wrong_header : (text : List ℕ) (p : ℕ) → byte text (digit_place text p
 unfolding header_at
 wrong_header text p h k = rw (ne_eqb (byte text (digit_place text p)) 48 h, k) refl
 
--- A header is read: its chomping, digit, and the break behind it.
+-- A header is read: its chomping, digit, and the break after it.
 pub whole_header : (text : List ℕ) (p : ℕ) → byte text (digit_place text p) ≢ 48
     → is_text text (header_end text p) ≡ false
     → header_at text p ≡ Ok record {

@@ -51,7 +51,7 @@ chosen : (a b : ℕ) → ((larger a b ≡ b) × (a ≤ b)) ⊎ ((larger a b ≡ 
 unfolding larger
 chosen a b = grind (arith, nat_tests)
 
--- what holds of a line and of each behind it holds of all
+-- what holds of a line and of each after it holds of all
 each_line : (P : ℕ → Type 0) (text : List ℕ) (p : ℕ) → P p
     → ((q : ℕ) → LeadsTo text (past_spaces text p + break_width text (past_spaces text p)) q → P q)
     → (q : ℕ) → LeadsTo text p q → P q

@@ -11,7 +11,7 @@ pub block_found : (level : ℕ) (text : List ℕ) (p c : ℕ) (x : HeaderText)
     (lines_from (suc (length text)) c text x.place x.place)
 block_found level text p c x h k = rw (h, k) refl
 
--- Behind a header and its column the lines that were read are those of the scalar.
+-- After a header and its column the lines that were read are those of the scalar.
 pub scalar_read : (level : ℕ) (text : List ℕ) (p c : ℕ) (start : yaml_mark_t) (h : Header)
     (old new : Stacking) (place behind : Place) (r : Result yaml_mark_t ScanError)
     (x : Result HeaderText Wrong) → header_at text (p + 1) ≡ x

@@ -2,7 +2,7 @@
 use Rattle.std.proofs.Common.{◌≡◌, ℕ, Bool, true, false, not, ◌&&◌, List, [], ◌∷◌, ◌++◌, length, ◌<◌, refl, append_assoc, append-nil, arith}
 use Rattle.yaml_scan_block.proofs.Words.{BlockLine, Empty, Words, TextLine, texts_of, between, behind_text, value_with, at_end, starts_blank, space_or, stacked_with, Chomp}
 
--- An empty line is put behind those before it.
+-- An empty line is put after those before it.
 pub stack_empty : (folded : Bool) (done : List ℕ) (any blank : Bool) (feed empties b : List ℕ)
     (chomp : Chomp) (ls : List BlockLine)
     → stacked_with folded done any blank feed (empties ++ b) chomp (texts_of ls)
@@ -24,7 +24,7 @@ pub stack_start : (folded : Bool) (chomp : Chomp) (lead : List ℕ) (lines : Lis
 unfolding between
 stack_start folded chomp lead lines = grind arith
 
--- Behind the last line stands what stays of its break and of the empty lines.
+-- After the last line stands what stays of its break and of the empty lines.
 pub stack_done : (folded blank : Bool) (done feed empties : List ℕ) (chomp : Chomp)
     → done ++ at_end chomp feed empties
     ≡ stacked_with folded done true blank feed empties chomp (texts_of [])

@@ -18,7 +18,7 @@ abbrev pub larger_of : ℕ → Result ℕ Wrong → Result ℕ Wrong
 larger_of a (Ok b) = Ok (larger a b)
 larger_of a (Err w) = Err w
 
--- where spaces ended, q; `more` is the greatest column behind the break there
+-- where spaces ended, q; `more` is the greatest column after the break there
 abbrev pub depth_behind : (ℕ → Result ℕ Wrong) → List ℕ → ℕ → Result ℕ Wrong
 depth_behind more text q =
     if byte text q == ascii.tab then Err (in_block problems.TabForSpace q)
@@ -26,12 +26,12 @@ depth_behind more text q =
     (more (q + break_width text q))
     else Ok (column_at text q)
 
--- the greatest column that spaces reach in the blank lines there and in the line behind them, in at most n lines
+-- the greatest column that spaces reach in the blank lines there and in the line after them, in at most n lines
 unfoldable pub deepest : ℕ → List ℕ → ℕ → Result ℕ Wrong
 deepest zero text p = Ok 0
 deepest (suc n) text p = depth_behind (deepest n text) text (past_spaces text p)
 
--- the text's column behind a header with that digit; a level is the indent's column + 1, or 0
+-- the text's column after a header with that digit; a level is the indent's column + 1, or 0
 unfoldable pub column_of : ℕ → List ℕ → ℕ → ℕ → Result ℕ Wrong
 column_of level text digit p =
     if digit == 0 then larger_of (larger level 1) (deepest (suc (length text)) text p)

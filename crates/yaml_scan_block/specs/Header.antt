@@ -28,11 +28,11 @@ chomp_of b =
 unfoldable pub digit_of : ℕ → ℕ
 digit_of b = if is_digit_byte b then b - ascii.digit_zero else 0
 
--- the place where a digit can stand, behind a chomping indicator there
+-- the place where a digit can stand, after a chomping indicator there
 abbrev pub digit_place : List ℕ → ℕ → ℕ
 digit_place text p = if is_chomping (byte text p) then p + 1 else p
 
--- the place where a chomping indicator can stand, behind a digit there
+-- the place where a chomping indicator can stand, after a digit there
 abbrev pub chomping_place : List ℕ → ℕ → ℕ
 chomping_place text p = if is_digit_byte (byte text p) then p + 1 else p
 
@@ -47,7 +47,7 @@ indicators b c =
 unfoldable pub past_comment : List ℕ → ℕ → ℕ
 past_comment text p = if byte text p == ascii.hash then line_end text p else p
 
--- the place of the header's break, behind blanks and a comment
+-- the place of the header's break, after blanks and a comment
 abbrev pub header_end : List ℕ → ℕ → ℕ
 header_end text p = past_comment text
     (past_blanks text (p + indicators (byte text p) (byte text (p + 1))))

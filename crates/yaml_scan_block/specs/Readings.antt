@@ -70,7 +70,7 @@ pub record IsBlock (text : List ℕ) (start : ℕ) (b : Block) (x : BlockText) :
   pub start_mark : b.start_mark ≡ mark_at text start
   pub end_mark : b.end_mark ≡ mark_at text x.end
 
--- What reading a block scalar answers, and where it leaves the reader: the scalar and the place behind it, what is
+-- What reading a block scalar answers, and where it leaves the reader: the scalar and the place after it, what is
 -- wrong, or that memory ran out.
 abbrev pub ReadsBlock : List ℕ → ℕ → Place → Result Block ScanError → Result BlockText Wrong
     → Type 0

@@ -40,7 +40,7 @@ pub data LeadsTo (text : List ℕ) : ℕ → ℕ → Type 0 where
 abbrev pub indent_at : List ℕ → ℕ → ℕ
 indent_at text p = column_at text (past_spaces text p)
 
--- The column is the deepest indentation of the lines in front, blank ones and the first that isn't; none has a tab behind its spaces.
+-- The column is the deepest indentation of the lines in front, blank ones and the first that isn't; none has a tab after its spaces.
 pub record IsDeepest (text : List ℕ) (p c : ℕ) : Type 0 where
   pub line : ℕ
   pub led : LeadsTo text p line
@@ -48,7 +48,7 @@ pub record IsDeepest (text : List ℕ) (p c : ℕ) : Type 0 where
   pub most : (q : ℕ) → LeadsTo text p q → indent_at text q ≤ c
   pub no_tab : (q : ℕ) → LeadsTo text p q → byte text (past_spaces text q) ≢ ascii.tab
 
--- One of these lines has a tab behind its spaces, which is wrong.
+-- One of these lines has a tab after its spaces, which is wrong.
 pub record IsTabbed (text : List ℕ) (p : ℕ) (w : Wrong) : Type 0 where
   pub line : ℕ
   pub led : LeadsTo text p line

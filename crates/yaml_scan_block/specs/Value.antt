@@ -6,13 +6,13 @@ use Rattle.yaml_scan_model.specs.Breaks.{is_feed}
 use Rattle.yaml_scan_block.specs.declared.header.Chomp.{Chomp}
 use Rattle.yaml_scan_block.specs.declared.header.Chomp.TheVariants as chomps
 
--- A line behind the header: one with no text, by the bytes that its break reads as, or a text and the
+-- A line after the header: one with no text, by the bytes that its break reads as, or a text and the
 -- bytes of its break, none at the text's end.
 pub data BlockLine : Type 0 where
   Empty : List ℕ → BlockLine
   Words : List ℕ → List ℕ → BlockLine
 
--- A line with text, and the breaks of the empty ones behind it.
+-- A line with text, and the breaks of the empty ones after it.
 pub record TextLine : Type 0 where
   pub words : List ℕ
   pub feed : List ℕ
@@ -53,7 +53,7 @@ unfoldable pub between : Bool → Bool → List ℕ → List ℕ → List ℕ
 between folded bare feed empties = if folded && (bare && is_feed feed) then space_or empties
     else feed ++ empties
 
--- what stays of the last text's break, and of the empty lines behind it
+-- what stays of the last text's break, and of the empty lines after it
 abbrev pub at_end : Chomp → List ℕ → List ℕ → List ℕ
 at_end chomps.Strip feed empties = []
 at_end chomps.Clip feed empties = feed

@@ -25,7 +25,7 @@ pub struct Block {
 }
 
 /// The block scalar whose indicator stands here. The level is the column of the innermost open block level and one, or 0
-/// where none is open. The reader is left where the scalar's lines stop, behind spaces that may follow its end. The value may take the
+/// where none is open. The reader is left where the scalar's lines stop, after spaces that may follow its end. The value may take the
 /// room of a spare text.
 #[tactic(auto, using(crate::proofs::ScalarLemmas::indicator_no_break))]
 pub fn block_scalar(
@@ -73,7 +73,7 @@ fn larger(a: u64, b: u64) -> u64
     if a <= b { b } else { a }
 }
 
-/// The column of the text behind a header with that digit, or 0.
+/// The column of the text after a header with that digit, or 0.
 #[tactic(auto, unfolding(crate::specs::Block::column_of))]
 fn column_of(reader: &Reader, level: u64, digit: u64, start: yaml_mark_t) -> Result<u64, ScanError>
     requires level { level ≤ length reader.now.text + 1 }
@@ -90,7 +90,7 @@ fn column_of(reader: &Reader, level: u64, digit: u64, start: yaml_mark_t) -> Res
     Ok(larger(larger(level, 1), depth))
 }
 
-/// The greatest column that spaces reach in the blank lines here and in the line behind them.
+/// The greatest column that spaces reach in the blank lines here and in the line after them.
 #[tactic(auto, using(crate::proofs::DepthLemmas::depth_tab, crate::proofs::DepthLemmas::depth_done))]
 fn deepest(reader: &Reader, start: yaml_mark_t) -> Result<u64, ScanError>
     ensures { FindsColumn reader.now.text start result (spec.deepest (suc (length reader.now.text))

@@ -109,7 +109,7 @@ fn digit_of(byte: u8) -> u64
     }
 }
 
-/// The refusal of the digit 0, which stands here or behind a chomping indicator.
+/// The refusal of the digit 0, which stands here or after a chomping indicator.
 #[tactic(auto, using(crate::proofs::HeaderLemmas::chomping_parts))]
 fn zero_digit(reader: &mut Reader, start: yaml_mark_t) -> ScanError
     ensures { result ≡ refused Problem.ZeroIndentation Context.BlockScalar start

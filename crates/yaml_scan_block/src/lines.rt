@@ -66,7 +66,7 @@ fn indent(reader: &mut Reader, column: u64)
     leap(reader, end);
 }
 
-/// The place behind the spaces that stand there, at most so many: by rows of four, and then one by one.
+/// The place after the spaces that stand there, at most so many: by rows of four, and then one by one.
 // Inlined: the place and the text stay in registers.
 #[inline(always)]
 #[tactic(auto, using(crate::proofs::BlockLemmas::one_space, crate::proofs::BlockLemmas::spaces_join, crate::proofs::BlockLemmas::spaces_lesser, crate::proofs::BlockLemmas::spaces_other, crate::proofs::BlockLemmas::spaces_run))]
@@ -108,7 +108,7 @@ fn has_row(text: &[u8], at: usize, left: u64) -> bool
     spaces
 }
 
-/// Takes what stands behind the indentation.
+/// Takes what stands after the indentation.
 #[tactic(auto, using(crate::proofs::Words::err_from_is_err_and, crate::proofs::Words::feed_some, crate::proofs::Words::past_break, crate::proofs::Words::within, crate::proofs::BlockLemmas::tab_spot, crate::proofs::BlockLemmas::empty_spot, crate::proofs::BlockLemmas::end_spot, crate::proofs::BlockLemmas::text_spot, crate::proofs::BlockLemmas::stop_end, crate::proofs::BlockLemmas::stop_short, crate::proofs::BlockLemmas::no_stop, crate::proofs::BlockLemmas::text_long))]
 fn behind(
     reader: &mut Reader,

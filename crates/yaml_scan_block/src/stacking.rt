@@ -11,7 +11,7 @@ use crate::header::Chomp;
 use std::alloc::AllocError;
 use yaml_scan_model::{Spares, is_blank_byte, put_each, spare};
 
-/// The lines so far: the value up to the last text, and what stands behind it.
+/// The lines so far: the value up to the last text, and what stands after it.
 #[derive(Drop)]
 pub(crate) struct Stacking {
     pub folded: bool,
@@ -73,7 +73,7 @@ impl Stacking {
             ≡ stacked self.old chomp (Words words.now feed.now ∷ ls)) }
     {
         let blank = starts_blank(words);
-        // The first line with text gets room for a break behind it as well: many scalars have no other line.
+        // The first line with text gets room for a break after it as well: many scalars have no other line.
         if self.done.is_empty() && self.done.capacity() <= words.len() {
             self.done.reserve_exact(words.len().saturating_add(1))?;
         }
@@ -100,7 +100,7 @@ impl Stacking {
     }
 }
 
-/// Both texts behind the others.
+/// Both texts after the others.
 // Inlined: each line of a text puts both. One by one: mostly there is one byte, or none.
 #[inline(always)]
 fn put_both(done: &mut Vec<u8>, first: &[u8], second: &[u8]) -> Result<(), AllocError>
@@ -112,7 +112,7 @@ fn put_both(done: &mut Vec<u8>, first: &[u8], second: &[u8]) -> Result<(), Alloc
     Ok(())
 }
 
-/// What stands before a text in front of the empty lines: the last text's break, or the space that it becomes.
+/// What stands before a text before the empty lines: the last text's break, or the space that it becomes.
 fn lead<'a>(joins: bool, feed: &'a [u8], empties: &[u8]) -> &'a [u8]
     ensures { result.now ++ empties.now ≡ (if joins then spec.space_or empties.now
         else feed.now ++ empties.now) }
@@ -123,7 +123,7 @@ fn lead<'a>(joins: bool, feed: &'a [u8], empties: &[u8]) -> &'a [u8]
     if empties.is_empty() { b" " } else { &[] }
 }
 
-/// What stays behind the last text: of its break, and of the empty lines.
+/// What stays after the last text: of its break, and of the empty lines.
 fn kept_breaks<'a>(chomp: Chomp, feed: &'a [u8], empties: &'a [u8]) -> (&'a [u8], &'a [u8])
     ensures { result.0.now ++ result.1.now ≡ spec.at_end chomp feed.now empties.now }
 {

@@ -59,7 +59,7 @@ pub take_rest : (l : List ℕ) (n : ℕ) → take (length l - n) (drop n l) ≡ 
 take_rest l n = take_all (length l - n) (drop n l) (omega (arith, length-drop n l))
 
 -- ---- completeness
--- the bytes behind a place, one by one
+-- the bytes after a place, one by one
 at_drop : (bytes : List ℕ) (p k : ℕ) (l : List ℕ) → drop p bytes ≡ l
     → byte bytes (p + k) ≡ get_or l k 0
 at_drop bytes p k l h = sym (get_or-drop p bytes k 0) ∙ ap (λ (xs : List ℕ). get_or xs k 0) h

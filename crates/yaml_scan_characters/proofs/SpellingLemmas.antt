@@ -58,7 +58,7 @@ here : (e : yaml_encoding_t) (bytes : List ℕ) (p : ℕ) → p < length bytes
 unfolding characters
 here e bytes p inside = search (rules, enough, led_by, lt-ltb)
 
--- a character, and those behind it
+-- a character, and those after it
 pub turn : (e : yaml_encoding_t) (bytes : List ℕ) (p : ℕ) (ch : Character) → p < length bytes
     → character_at e bytes p ≡ Ok ch
     → characters_on e bytes p ≡ before ch.code (characters_on e bytes (p + ch.width))

@@ -76,7 +76,7 @@ utf8_code width b c d e =
     else if width == 3 then (lead * 64 + (c - 0x80)) * 64 + (d - 0x80)
     else ((lead * 64 + (c - 0x80)) * 64 + (d - 0x80)) * 64 + (e - 0x80)
 
--- what so many of these bytes at p spell: each behind the first must be a trailing one
+-- what so many of these bytes at p spell: each after the first must be a trailing one
 unfoldable pub sequence_of : ℕ → ℕ → ℕ → ℕ → ℕ → ℕ → Result Character Offence
 sequence_of width p b c d e =
     if nat_lt 1 width && not (is_trailing c) then offends problems.InvalidTrailingOctet (p + 1)
@@ -87,7 +87,7 @@ sequence_of width p b c d e =
     (pos e)
     else valued_at p width (utf8_code width b c d e)
 
--- what b begins at p, where c, d and e stand behind it, and so many bytes are left with b
+-- what b begins at p, where c, d and e stand after it, and so many bytes are left with b
 unfoldable pub utf8_of : ℕ → ℕ → ℕ → ℕ → ℕ → ℕ → Result Character Offence
 utf8_of left p b c d e =
     if width_of b == 0 then offends problems.InvalidLeadingOctet p (pos b)
@@ -108,7 +108,7 @@ unfoldable pub unit_at : ByteOrder → List ℕ → ℕ → ℕ
 unit_at LowFirst bytes p = byte bytes p + byte bytes (p + 1) * 256
 unit_at HighFirst bytes p = byte bytes p * 256 + byte bytes (p + 1)
 
--- what the unit u begins at p, where v stands behind it, and so many bytes are left with u
+-- what the unit u begins at p, where v stands after it, and so many bytes are left with u
 unfoldable pub utf16_of : ℕ → ℕ → ℕ → ℕ → Result Character Offence
 utf16_of left p u v =
     if nat_lt left 2 then offends problems.IncompleteCharacter p no_value

@@ -7,12 +7,12 @@ use Rattle.yaml_scan_characters.specs.declared.offence.Character.{Character}
 use Rattle.yaml_scan_characters.specs.Encodings.{encoding_of, mark_length}
 use Rattle.yaml_scan_characters.specs.Characters.{character_at}
 
--- the character before those behind it
+-- the character before those after it
 abbrev pub before : ℕ → Result (List ℕ) Offence → Result (List ℕ) Offence
 before c (Ok cs) = Ok (c ∷ cs)
 before c (Err o) = Err o
 
--- what stands there, before what the places behind it hold
+-- what stands there, before what the places after it hold
 abbrev pub led_by : (ℕ → Result (List ℕ) Offence) → ℕ → Result Character Offence
     → Result (List ℕ) Offence
 led_by rest p (Ok c) = before c.code (rest (p + c.width))
@@ -29,7 +29,7 @@ abbrev pub in_utf8 : Result (List ℕ) Offence → Result (List ℕ) Offence
 in_utf8 (Ok cs) = Ok (encode_utf8_all cs)
 in_utf8 (Err o) = Err o
 
--- the characters of the bytes behind a mark that is removed, or the first offence
+-- the characters of the bytes after a mark that is removed, or the first offence
 abbrev pub decoded_characters : yaml_encoding_t → List ℕ → Result (List ℕ) Offence
 decoded_characters setting bytes = characters (length bytes) (encoding_of setting bytes) bytes
     (mark_length setting bytes)

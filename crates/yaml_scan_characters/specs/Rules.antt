@@ -19,7 +19,7 @@ abbrev pub nothing : ℤ
 nothing = negsuc 0
 
 pub record OffencesAreTold : Type 0 where
-  -- UTF-8: a byte that begins no character, fewer bytes than it asks for, and a second byte that doesn't go on with it
+  -- UTF-8: a byte that begins no character, fewer bytes than it asks for, and a later byte that doesn't go on with it, the first such
   pub leading : (bytes : List ℕ) (p : ℕ) → width_of (byte bytes p) ≡ 0
       → IsOffence (utf8_at bytes p) (codes "invalid leading UTF-8 octet") p (pos (byte bytes p))
   pub incomplete : (bytes : List ℕ) (p : ℕ) → 0 < width_of (byte bytes p)
@@ -29,14 +29,26 @@ pub record OffencesAreTold : Type 0 where
       → width_of (byte bytes p) ≤ length bytes - p → is_trailing (byte bytes (p + 1)) ≡ false
       → IsOffence (utf8_at bytes p) (codes "invalid trailing UTF-8 octet") (p + 1)
       (pos (byte bytes (p + 1)))
-  -- a code in more bytes than it needs, half of a pair or a number above all characters, and a character that no stream may hold
+  pub third : (bytes : List ℕ) (p : ℕ) → 2 < width_of (byte bytes p)
+      → width_of (byte bytes p) ≤ length bytes - p → is_trailing (byte bytes (p + 1)) ≡ true
+      → is_trailing (byte bytes (p + 2)) ≡ false
+      → IsOffence (utf8_at bytes p) (codes "invalid trailing UTF-8 octet") (p + 2)
+      (pos (byte bytes (p + 2)))
+  pub fourth : (bytes : List ℕ) (p : ℕ) → 3 < width_of (byte bytes p)
+      → width_of (byte bytes p) ≤ length bytes - p → is_trailing (byte bytes (p + 1)) ≡ true
+      → is_trailing (byte bytes (p + 2)) ≡ true → is_trailing (byte bytes (p + 3)) ≡ false
+      → IsOffence (utf8_at bytes p) (codes "invalid trailing UTF-8 octet") (p + 3)
+      (pos (byte bytes (p + 3)))
+  -- a code in more bytes than it needs, half of a pair, a number above all characters, and a character that no stream may hold
   pub long : (p width code : ℕ) → code < least_code width
       → IsOffence (valued_at p width code) (codes "invalid length of a UTF-8 sequence") p nothing
   pub surrogate : (p width code : ℕ) → least_code width ≤ code → between 0xD800 0xDFFF code ≡ true
       → IsOffence (valued_at p width code) (codes "invalid Unicode character") p (pos code)
+  pub large : (p width code : ℕ) → least_code width ≤ code → 0x10_FFFF < code
+      → IsOffence (valued_at p width code) (codes "invalid Unicode character") p (pos code)
   pub control : (p width code : ℕ) → is_allowed code ≡ false
       → IsOffence (allowed_at p width code) (codes "control characters are not allowed") p (pos code)
-  -- UTF-16: half of a unit, the second half of a pair without the first, the first without a second, and behind it another unit
+  -- UTF-16: half of a unit, the second half of a pair without the first, the first without a second, and after it another unit
   pub half_unit : (order : ByteOrder) (bytes : List ℕ) (p : ℕ) → length bytes - p < 2
       → IsOffence (utf16_at order bytes p) (codes "incomplete UTF-16 character") p nothing
   pub second_half : (order : ByteOrder) (bytes : List ℕ) (p : ℕ) → 2 ≤ length bytes - p

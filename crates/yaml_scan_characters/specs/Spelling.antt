@@ -25,12 +25,12 @@ spelling YAML_UTF8_ENCODING c = encode_utf8 c
 spelling YAML_UTF16LE_ENCODING c = units_bytes LowFirst (encode_utf16 c)
 spelling YAML_UTF16BE_ENCODING c = units_bytes HighFirst (encode_utf16 c)
 
--- the bytes that spell the characters, one behind the other
+-- the bytes that spell the characters, one after the other
 abbrev pub spellings : yaml_encoding_t → List ℕ → List ℕ
 spellings encoding [] = []
 spellings encoding (c ∷ cs) = spelling encoding c ++ spellings encoding cs
 
--- behind a mark that is removed, the bytes spell characters that a stream may hold, and these are the text in UTF-8
+-- after a mark that is removed, the bytes spell characters that a stream may hold, and these are the text in UTF-8
 pub record Spells (setting : yaml_encoding_t) (bytes text : List ℕ) : Type 0 where
   pub characters : List ℕ
   pub allowed : AllPass is_allowed characters

@@ -9,7 +9,7 @@ use Rattle.yaml_scan_characters.specs.declared.utf16.DecodeError.TheVariants.{Me
 use Rattle.yaml_scan_characters.specs.Characters.{is_allowed, is_trailing, utf8_at}
 use Rattle.yaml_scan_characters.specs.Decoding.{characters}
 
--- what the byte b, which stands so many places behind the first of its character, adds to the code; 0 where the character has no such byte
+-- what the byte b, which stands so many places after the first of its character, adds to the code; 0 where the character has no such byte
 unfoldable pub trailing_bits : ℕ → ℕ → ℕ → ℕ → Result ℕ Offence
 trailing_bits p width ahead b =
     if nat_lt ahead width && not (is_trailing b)
@@ -44,7 +44,7 @@ abbrev pub GoesTo : List ℕ → ℕ → Result ℕ Offence → Type 0
 GoesTo bytes p (Ok q) = (p < q) × (outcome_at bytes p ≡ outcome_at bytes q)
 GoesTo bytes p (Err o) = outcome_at bytes p ≡ Err o
 
--- the text behind those bytes
+-- the text after those bytes
 abbrev pub behind : List ℕ → Result (List ℕ) Offence → Result (List ℕ) Offence
 behind xs (Ok text) = Ok (xs ++ text)
 behind xs (Err o) = Err o

@@ -99,7 +99,7 @@ fn utf16_character(bytes: &[u8], at: usize, order: ByteOrder) -> Result<Characte
     allowed_character(at, 2, first)
 }
 
-// Puts the character behind the text, in UTF-8.
+// Puts the character after the text, in UTF-8.
 fn push(text: &mut String, code: u32) -> Result<(), AllocError>
     requires { IsScalar code }
     ensures { OnOk result (string_bytes text.new ≡ string_bytes text.old ++ encode_utf8 code) }

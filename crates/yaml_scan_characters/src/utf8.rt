@@ -124,7 +124,7 @@ fn is_plain(byte: u8) -> bool
     byte >= 0x20 && byte < 0x7F || byte == b'\n' || byte == b'\r' || byte == b'\t'
 }
 
-// Whether it is a byte of a character behind its first.
+// Whether it is a byte of a character after its first.
 fn continues(byte: u8) -> bool
     ensures { result ≡ is_trailing byte }
 {
@@ -145,7 +145,7 @@ fn common_width(bytes: &[u8], at: usize) -> usize
     }
 }
 
-// The place behind the character there.
+// The place after the character there.
 #[tactic(auto, using(crate::proofs::SpellingLemmas::checks_none))]
 fn past_character(bytes: &[u8], at: usize) -> Result<usize, Offence>
     requires { at < length bytes.now }

@@ -1,4 +1,4 @@
--- Tests of a byte with a further test behind them.
+-- Tests of a byte with a further test after them.
 use Rattle.std.proofs.Common.{◌≡◌, ◌≢◌, ℕ, ◌==◌, ◌&&◌, ◌||◌, Bool, true, false, refl, arith}
 use Rattle.std.proofs.lemmas.Bool.Decides.{nat_tests}
 

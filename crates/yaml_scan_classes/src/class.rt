@@ -201,7 +201,7 @@ fn is_printable_of(first: u8, second: u8, third: u8) -> bool
     }
 }
 
-/// Whether a character begins there that is printed as it is: 0A, 20 to 7E, A0 to D7FF, E000 to FFFD but for
+/// Whether a character begins there that is printed as it is: 0A, 20 to 7E, A0 to D7FF, E000 to FFFD except for
 /// U+FEFF, 10000 and above.
 pub fn IS_PRINTABLE(string: &[u8], place: usize) -> bool
     ensures { result ≡ is_printable string.now place }

@@ -13,7 +13,7 @@ use Rattle.yaml_scan_history.specs.History.{Candidate, candidate, is_fresh, fres
 use Rattle.yaml_scan_history.specs.Next.{history, Next, Read, next, extended}
 use Rattle.yaml_scan_history.specs.Laws.{Upto, GoesForward}
 
--- a candidate behind one more lexeme is that lexeme, or was one before
+-- a candidate after one more lexeme is that lexeme, or was one before
 pub candidate-more : (d : ℕ) (l : Lexeme) (h : List Lexeme) (c : Candidate)
     → candidate d (l ∷ h) ≡ Some c
     → (c.number ≡ length h) ⊎ (candidate d h ≡ Some c)
@@ -233,7 +233,7 @@ take-history text go n (suc k) m room =
 pub not_read : (x : Next) (h : List Lexeme) → ((l : Lexeme) → x ≢ Read l) → extended x h ≡ h
 not_read x h never = grind arith
 
--- nothing comes behind the end or a fault
+-- nothing comes after the end or a fault
 pub stays : (text : List ℕ) (n k : ℕ) → ((l : Lexeme) → next text (history text n) ≢ Read l)
     → history text (k + n) ≡ history text n
 unfolding history

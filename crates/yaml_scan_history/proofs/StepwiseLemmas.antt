@@ -34,7 +34,7 @@ read : (r : Result WordText Wrong) (text : List ℕ) (l : Lexeme) (h : List Lexe
     (Read (with_end text l r)) ≡ unless_wrong r text l h
 read r text l h = grind arith
 
--- the faults in a row, behind the first
+-- the faults in a row, after the first
 abbrev later : Kind → List ℕ → List Lexeme → List (Option ScanFault)
 later k text h = indicator_misplaced k text h ∷ candidate_lost k text h ∷ text_wrong k text h ∷ stale_after (lexeme_behind k text h) h ∷ []
 

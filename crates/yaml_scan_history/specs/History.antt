@@ -34,8 +34,8 @@ pub record Candidate : Type 0 where
   pub number : ℕ
   pub lexeme : Lexeme
 
--- The last lexeme of that depth that was saved, with no lexeme of that depth behind it that cancels. A depth
--- begins behind the opener that stands outside it.
+-- The last lexeme of that depth that was saved, with no lexeme of that depth after it that cancels. A depth
+-- begins after the opener that stands outside it.
 unfoldable pub candidate : ℕ → List Lexeme → Option Candidate
 candidate d [] = None
 candidate d (l ∷ h) =
@@ -44,7 +44,7 @@ candidate d (l ∷ h) =
     else if nat_lt l.depth d then None
     else candidate d h
 
--- how many bytes behind its start a key's `:` may stand
+-- how many bytes after its start a key's `:` may stand
 abbrev pub key_bytes : ℕ
 key_bytes = 1024
 
@@ -76,13 +76,13 @@ has_number (Some c) n = c.number == n
 abbrev pub first_or : ℕ → Bool → ℕ → ℕ
 first_or first is_open n = if nat_lt first n then first else if is_open then n else suc n
 
--- The number of the earliest candidate among the lexemes h that is open behind `all`, or how many h are.
+-- The number of the earliest candidate among the lexemes h that is open after `all`, or how many h are.
 unfoldable pub first_open : List Lexeme → List Lexeme → ℕ
 first_open all [] = 0
 first_open all (l ∷ h) = first_or (first_open all h) (has_number (open_at l.depth all) (length h))
     (length h)
 
--- which lexemes are their depth's candidate behind `all`, the first one first
+-- which lexemes are their depth's candidate after `all`, the first one first
 unfoldable pub opens_in : List Lexeme → List Lexeme → List Bool
 opens_in all [] = []
 opens_in all (l ∷ h) = opens_in all h ++ has_number (candidate l.depth all) (length h) ∷ []
@@ -121,7 +121,7 @@ opens_at None k column = margin_at column
 opens_at (Some c) k column = if is_value k then margin_at c.lexeme.start.column
     else margin_at column
 
--- that level behind the others, where it may open and stands right of the innermost one
+-- that level after the others, where it may open and stands right of the innermost one
 abbrev pub opened : Bool → ℕ → List ℕ → List ℕ
 opened may margin levels = if may && nat_lt (indent levels) margin then levels ++ margin ∷ []
     else levels
@@ -149,7 +149,7 @@ opens_of found l levels =
     else if is_value l.kind && has found then opening.Nothing
     else start_of l.depth (margin_at l.start.column) levels (level_of l.kind)
 
--- the levels behind which a lexeme stands
+-- the levels after which a lexeme stands
 abbrev pub inside : Lexeme → List Lexeme → List ℕ
 inside l h = left_by l.kind l.depth l.start.column (levels h)
 
@@ -190,7 +190,7 @@ unfoldable pub entries : List Lexeme → List Entry
 entries [] = []
 entries (l ∷ h) = keyed l h (entries h) ++ entry_of l h ∷ []
 
--- Whether a key may begin behind these lexemes, without a break between.
+-- Whether a key may begin after these lexemes, without a break between.
 abbrev pub key_allowed : List Lexeme → Bool
 key_allowed [] = false
 key_allowed (l ∷ h) = allows_key l.kind (l.depth == 0) (has (found_by l h)) || l.broke

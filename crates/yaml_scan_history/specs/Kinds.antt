@@ -3,7 +3,7 @@ use Rattle.std.specs.Prelude.{ℕ, ◌+◌, ◌-◌, Bool, true, false, not, ◌
 use Rattle.yaml_scan_history.specs.declared.kind.Kind.{Kind}
 use Rattle.yaml_scan_history.specs.declared.kind.Kind.TheVariants as kinds
 
--- how many brackets are open behind it: a closer at depth 0 closes none
+-- how many brackets are open after it: a closer at depth 0 closes none
 abbrev pub depth_after : Kind → ℕ → ℕ
 depth_after kinds.FlowSequenceStart d = d + 1
 depth_after kinds.FlowMappingStart d = d + 1
@@ -62,7 +62,7 @@ abbrev pub is_end : Kind → Bool
 is_end kinds.StreamEnd = true
 is_end _ = false
 
--- a key may begin behind it, without a break between them
+-- a key may begin after it, without a break between them
 abbrev pub allows_key : Kind → Bool → Bool → Bool
 allows_key kinds.StreamStart block found = true
 allows_key kinds.FlowSequenceStart block found = true

@@ -6,11 +6,11 @@ use Rattle.yaml_scan_history.specs.History.{reached, entries, first_open}
 use Rattle.yaml_scan_history.specs.Next.{Read, next, history}
 use Rattle.yaml_scan_history.specs.Remaining.{handed}
 
--- one place is not behind another
+-- one place is not after another
 abbrev pub Upto : yaml_mark_t → yaml_mark_t → Type 0
 Upto p q = (p.index ≤ q.index) × (p.line ≤ q.line)
 
--- each lexeme of the text stands behind the ones before it
+-- each lexeme of the text stands after the ones before it
 abbrev pub GoesForward : List ℕ → Type 0
 GoesForward text = (n : ℕ) (l : Lexeme) → next text (history text n) ≡ Read l
     → Upto (reached (history text n)) l.start × Upto l.start l.reached

@@ -1,4 +1,4 @@
--- The lexeme that comes behind a history: which one stands behind the gap, and then what can be wrong, in the order of
+-- The lexeme that comes after a history: which one stands after the gap, and then what can be wrong, in the order of
 -- places. The first fault comes in the lexeme's place.
 use Rattle.std.specs.Prelude.{ℕ, zero, suc, Bool, false, not, ◌&&◌, ◌||◌, ◌==◌, if◌then◌else◌, List, [], ◌∷◌, Option, Some, None, Result, Ok, Err}
 use Rattle.yaml_scan_model.specs.declared.record.yaml_mark_t.{yaml_mark_t}
@@ -17,7 +17,7 @@ use Rattle.yaml_scan_history.specs.History.{reached, depth, in_flow, Candidate, 
 use Rattle.yaml_scan_history.specs.Words.{WordText, word_at, kind_at}
 use Rattle.yaml_scan_words.specs.Between.{Gap, gap_at}
 
--- a lexeme that was read, or the fault that comes in its place, or nothing behind the end
+-- a lexeme that was read, or the fault that comes in its place, or nothing after the end
 pub data Next : Type 0 where
   Read : Lexeme → Next
   Fails : ScanFault → Next
@@ -37,13 +37,13 @@ first_lexeme = record {
   broke = false;
 }
 
--- ---- which lexeme stands behind the gap
+-- ---- which lexeme stands after the gap
 
 -- what stands between the last lexeme and the next one
 abbrev pub gap_behind : List ℕ → List Lexeme → Gap
 gap_behind text h = gap_at (in_flow h) (key_allowed h) text (reached h).index
 
--- the place behind the gap
+-- the place after the gap
 abbrev pub place_behind : List ℕ → List Lexeme → yaml_mark_t
 place_behind text h = mark_at text (gap_behind text h).place
 
@@ -51,7 +51,7 @@ place_behind text h = mark_at text (gap_behind text h).place
 abbrev pub kind_behind : List ℕ → List Lexeme → Option Kind
 kind_behind text h = kind_at (in_flow h) text (gap_behind text h).place
 
--- a key may begin behind the gap: in block context a break allows one
+-- a key may begin after the gap: in block context a break allows one
 abbrev pub allowed_behind : List Lexeme → Gap → Bool
 allowed_behind h gap = key_allowed h || (gap.broke && not (in_flow h))
 
@@ -80,7 +80,7 @@ abbrev pub finished : List ℕ → Lexeme → WordText → Lexeme
 finished text l w = if is_end l.kind then l
     else record l { end = mark_at text w.end; reached = mark_at text w.reached; broke = w.broke }
 
--- the lexeme of that kind behind the gap, its end aside
+-- the lexeme of that kind after the gap, its end aside
 abbrev pub begun_behind : Kind → List ℕ → List Lexeme → Lexeme
 begun_behind k text h = begun k (placed k (place_behind text h))
     (allowed_behind h (gap_behind text h)) h
@@ -95,7 +95,7 @@ abbrev pub with_end : List ℕ → Lexeme → Result WordText Wrong → Lexeme
 with_end text l (Ok w) = finished text l w
 with_end text l (Err w) = l
 
--- the lexeme of that kind that stands behind the gap
+-- the lexeme of that kind that stands after the gap
 abbrev pub lexeme_behind : Kind → List ℕ → List Lexeme → Lexeme
 lexeme_behind k text h = with_end text (begun_behind k text h) (word_behind k text h)
 
@@ -153,12 +153,12 @@ abbrev pub colon_missing_of : Option yaml_mark_t → yaml_mark_t → Option Scan
 colon_missing_of None place = None
 colon_missing_of (Some start) place = Some (colon_missing start place)
 
--- a required candidate that was open where the last lexeme ended, and is stale behind the gap
+-- a required candidate that was open where the last lexeme ended, and is stale after the gap
 abbrev pub stale_before : List ℕ → List Lexeme → Option ScanFault
 stale_before text h = colon_missing_of (missed (open_at 0 h) (place_behind text h))
     (place_behind text h)
 
--- an indicator that isn't allowed behind the gap
+-- an indicator that isn't allowed after the gap
 abbrev pub indicator_misplaced : Kind → List ℕ → List Lexeme → Option ScanFault
 indicator_misplaced k text h =
     if misplaced k (place_behind text h) (allowed_behind h (gap_behind text h)) h
@@ -182,7 +182,7 @@ text_wrong k text h = wrong_in text (begun_behind k text h).start (word_behind k
 abbrev pub stale_after : Lexeme → List Lexeme → Option ScanFault
 stale_after l h = colon_missing_of (missed (candidate 0 (l ∷ h)) l.reached) l.reached
 
--- what can be wrong with a lexeme of that kind behind the gap, in the order of places
+-- what can be wrong with a lexeme of that kind after the gap, in the order of places
 abbrev pub faults : Kind → List ℕ → List Lexeme → List (Option ScanFault)
 faults k text h =
     stale_before text h
@@ -200,7 +200,7 @@ first_fault_or [] x = x
 first_fault_or (Some p ∷ ps) x = Fails p
 first_fault_or (None ∷ ps) x = first_fault_or ps x
 
--- what comes where a lexeme of that kind stands behind the gap, or none can start there
+-- what comes where a lexeme of that kind stands after the gap, or none can start there
 abbrev pub coming : Option Kind → List ℕ → List Lexeme → Next
 coming None text h = first_fault_or (stale_before text h ∷ [])
     (Fails (no_start (place_behind text h)))

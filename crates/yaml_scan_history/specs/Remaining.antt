@@ -37,7 +37,7 @@ body_in s l = body_by l.kind s l
 abbrev pub token_in : SpelledText → Lexeme → Token
 token_in s l = record { body = body_in s l; start_mark = l.start; end_mark = l.end }
 
--- a token that stands in front of a lexeme
+-- a token that stands before a lexeme
 abbrev pub before : TokenBody → Lexeme → Token
 before body l = record { body = body; start_mark = l.start; end_mark = l.start }
 
@@ -93,7 +93,7 @@ pub record Remaining : Type 0 where
 abbrev pub nothing : Remaining
 nothing = record { tokens = []; fault = None }
 
--- what comes behind these lexemes and these tokens of the next one
+-- what comes after these lexemes and these tokens of the next one
 unfoldable pub remaining : SpelledText → ℕ → ℕ → Remaining
 remaining s dropped given = record {
   tokens = drop given (flat_map (spell s) (drop dropped (handed s.text)) ++ kept_of

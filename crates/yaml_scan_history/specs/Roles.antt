@@ -77,8 +77,8 @@ abbrev pub is_boundary : Role → Bool
 is_boundary Boundary = true
 is_boundary _ = false
 
--- A key may follow on the same line where an entry begins: at the stream's start, behind an opener, a comma, a dash and a block scalar;
--- outside of brackets behind `?` too, and behind a `:` with no key before it.
+-- A key may follow on the same line where an entry begins: at the stream's start, after an opener, a comma, a dash and a block scalar;
+-- outside of brackets after `?` too, and after a `:` with no key before it.
 abbrev pub may_precede_key : Role → Bool → Bool → Bool
 may_precede_key Question block found = block
 may_precede_key Colon block found = block && not found

@@ -36,7 +36,7 @@ IsTold (Err w) context problem q = TellsAll w context problem q
 
 -- ---- names
 
--- Behind `&` or `*` no character of a name stands up to q, or what stands there can't end one.
+-- After `&` or `*` no character of a name stands up to q, or what stands there can't end one.
 abbrev pub NoName : List ℕ → ℕ → ℕ → Type 0
 NoName text p q = EndsBlockRun is_alpha text (p + 1) q
     × ((q ≡ p + 1) ⊎ (may_end_name text q ≡ false))
@@ -109,7 +109,7 @@ pub record IsTagDirective (text : List ℕ) (p r : ℕ) : Type 0 where
   pub blanks : EndsBlockRun is_blank text (p + 4) r
 
 pub record DirectivesAreTold : Type 0 where
-  -- behind the `%` no letter, something else behind letters, and letters that aren't YAML or TAG
+  -- after the `%` no letter, something else after letters, and letters that aren't YAML or TAG
   pub no_name : (flow : Bool) (level : ℕ) (text : List ℕ) (p : ℕ)
       → EndsBlockRun is_alpha text (p + 1) (p + 1)
       → IsTold (word_at kinds.Directive flow level text p) (codes "while scanning a directive")
@@ -124,7 +124,7 @@ pub record DirectivesAreTold : Type 0 where
       → (is_tag text (p + 1) && q - (p + 1) == 3) ≡ false
       → IsTold (word_at kinds.Directive flow level text p) (codes "while scanning a directive")
       (codes "found unknown directive name") q
-  -- behind `%YAML` no digit, more than nine of them, and no `.` behind them
+  -- after `%YAML` no digit, more than nine of them, and no `.` after them
   pub no_number : (flow : Bool) (level : ℕ) (text : List ℕ) (p r : ℕ)
       → IsYaml text p r → EndsBlockRun is_digit text r r
       → IsTold (word_at kinds.Directive flow level text p)
@@ -140,7 +140,7 @@ pub record DirectivesAreTold : Type 0 where
       → IsTold (word_at kinds.Directive flow level text p)
       (codes "while scanning a %YAML directive")
       (codes "did not find expected digit or '.' character") e
-  -- behind `%TAG` no `!`, and none behind the letters of a handle
+  -- after `%TAG` no `!`, and none after the letters of a handle
   pub no_handle : (flow : Bool) (level : ℕ) (text : List ℕ) (p r : ℕ)
       → IsTagDirective text p r → byte text r ≢ ascii.exclamation
       → IsTold (word_at kinds.Directive flow level text p) (codes "while scanning a tag directive")
@@ -151,7 +151,7 @@ pub record DirectivesAreTold : Type 0 where
       → r + 1 < e → byte text e ≢ ascii.exclamation
       → IsTold (word_at kinds.Directive flow level text p) (codes "while parsing a tag directive")
       (codes "did not find expected '!'") e
-  -- behind the handle no blank, and something else behind the prefix
+  -- after the handle no blank, and something else after the prefix
   pub no_white : (flow : Bool) (level : ℕ) (text : List ℕ) (p r : ℕ) (h : List ℕ × ℕ)
       → IsTagDirective text p r → handle_at text r ≡ Ok h
       → is_blank text h.1 ≡ false
@@ -163,7 +163,7 @@ pub record DirectivesAreTold : Type 0 where
       → some_uri_at contexts.TagDirectiveUri true text f ≡ Ok u → is_blank_or_end text u.1 ≡ false
       → IsTold (word_at kinds.Directive flow level text p) (codes "while scanning a %TAG directive")
       (codes "did not find expected whitespace or line break") u.1
-  -- behind the value something else than a comment
+  -- after the value something else than a comment
   pub line : (flow : Bool) (level : ℕ) (text : List ℕ) (p r : ℕ) (v : ValueText)
       → value_at text p ≡ Ok v → EndsBlockRun is_blank text v.end r
       → break_width text (comment_end text r) ≡ 0 → byte text (comment_end text r) ≢ 0
@@ -192,7 +192,7 @@ pub record QuotesAreTold : Type 0 where
       → byte text p ≡ 0
       → IsStandingTold (standing_at quote text p) (codes "while scanning a quoted scalar")
       (codes "found unexpected end of stream") p
-  -- behind the `\` a letter that means nothing, fewer digits than it needs, or the code of no character
+  -- after the `\` a letter that means nothing, fewer digits than it needs, or the code of no character
   pub letter : (text : List ℕ) (p : ℕ) → IsEscape text p → hex_len (byte text (p + 1)) ≡ 0
       → simple_escape (byte text (p + 1)) ≡ None
       → IsStandingTold (standing_at ascii.quote text p) (codes "while parsing a quoted scalar")
@@ -219,7 +219,7 @@ pub record PlainsAreTold : Type 0 where
       → break_width text p ≡ 0 → plain.leads text p ≡ true → column_at text p < level
       → IsPlainTold (plain.spot_at flow level text p) (codes "while scanning a plain scalar")
       (codes "found a tab character that violates indentation") p
-  -- in brackets a `:` in front of one of `, [ ] { } ?`, where the scalar doesn't end
+  -- in brackets a `:` before one of `, [ ] { } ?`, where the scalar doesn't end
   pub colon : (level : ℕ) (text : List ℕ) (p : ℕ) → byte text p ≡ ascii.colon
       → break_width text p ≡ 0
       → plain.ends_at true level text p ≡ false
@@ -234,12 +234,12 @@ pub record BlocksAreTold : Type 0 where
   pub zero_digit : (text : List ℕ) (p : ℕ) → byte text (digit_place text p) ≡ ascii.digit_zero
       → IsTold (header_at text p) (codes "while scanning a block scalar")
       (codes "found an indentation indicator equal to 0") (digit_place text p)
-  -- something else than a comment behind it
+  -- something else than a comment after it
   pub comment : (text : List ℕ) (p : ℕ) → byte text (digit_place text p) ≢ ascii.digit_zero
       → is_text text (header_end text p) ≡ true
       → IsTold (header_at text p) (codes "while scanning a block scalar")
       (codes "did not find expected comment or line break") (header_end text p)
-  -- a tab behind the spaces of the lines by which the column is found, or in front of that column
+  -- a tab after the spaces of the lines by which the column is found, or before that column
   pub tab : (text : List ℕ) (p : ℕ) (w : Wrong) (t : IsTabbed text p w)
       → TellsAll w (codes "while scanning a block scalar")
       (codes "found a tab character where an indentation space is expected")

@@ -1,4 +1,4 @@
--- What comes behind a history, a test at a time, as the code looks for it: what proofs go by.
+-- What comes after a history, a test at a time, as the code looks for it: what proofs go by.
 use Rattle.std.specs.Prelude.{ℕ, nat_lt, if◌then◌else◌, List, ◌∷◌, Option, Some, None, Result, Ok, Err}
 use Rattle.yaml_scan_model.specs.declared.record.yaml_mark_t.{yaml_mark_t}
 use Rattle.yaml_scan_model.specs.Marks.{mark_at}
@@ -19,7 +19,7 @@ no_token m = Fails (no_start m)
 abbrev pub not_allowed : Kind → yaml_mark_t → Next
 not_allowed k m = Fails (not_allowed_there k m)
 
--- the last test, where the lexeme is read: no required candidate is stale behind it
+-- the last test, where the lexeme is read: no required candidate is stale after it
 abbrev pub tested : Lexeme → List Lexeme → Next
 tested l h = elim (missed (candidate 0 (l ∷ h)) l.reached) as (λ _. Next)
     [ Some start ↦ no_colon start l.reached | None ↦ Read l ]
@@ -34,7 +34,7 @@ unless_lost (Some start) text p l h = no_colon start l.start
 unless_lost None text p l h = unless_wrong (word_at l.kind (nat_lt 0 l.depth) l.level text p) text l
     h
 
--- the lexeme of that kind, which stands behind the gap
+-- the lexeme of that kind, which stands after the gap
 abbrev pub of_kind : Option Kind → List ℕ → Gap → List Lexeme → Next
 of_kind None text gap h = no_token (mark_at text gap.place)
 of_kind (Some k) text gap h =
@@ -48,7 +48,7 @@ abbrev pub unless_missed : Option yaml_mark_t → List ℕ → Gap → List Lexe
 unless_missed (Some start) text gap h = no_colon start (mark_at text gap.place)
 unless_missed None text gap h = of_kind (kind_at (nat_lt 0 (depth h)) text gap.place) text gap h
 
--- what stands behind the gap
+-- what stands after the gap
 abbrev pub behind : List ℕ → Gap → List Lexeme → Next
 behind text gap h = unless_missed (missed (fresh (candidate 0 h) (reached h))
     (mark_at text gap.place)) text gap h

@@ -54,7 +54,7 @@ kind_at flow text p =
     else or_plain (indicator_of flow (is_blank_or_end text (p + 1)) (byte text p))
     (starts_plain flow text p)
 
--- What a lexeme carries, where its token ends, the place that is reached behind it, and whether the blanks behind a
+-- What a lexeme carries, where its token ends, the place that is reached after it, and whether the blanks after a
 -- plain scalar hold a break.
 pub record WordText : Type 0 where
   pub body : TokenBody
@@ -65,7 +65,7 @@ pub record WordText : Type 0 where
 abbrev pub carrying : TokenBody → ℕ → Result WordText Wrong
 carrying body q = Ok record { body = body; end = q; reached = q; broke = false }
 
--- a value and the place behind it
+-- a value and the place after it
 abbrev pub valued : (List ℕ → TokenBody) → Result (List ℕ × ℕ) Wrong → Result WordText Wrong
 valued f (Ok x) = Ok record { body = f x.0; end = x.1; reached = x.1; broke = false }
 valued f (Err w) = Err w

@@ -34,7 +34,7 @@ pub enum Kind {
 }
 
 impl Kind {
-    /// How many brackets are open behind it. A closer without opener closes none.
+    /// How many brackets are open after it. A closer without opener closes none.
     pub fn depth_after(self, depth: usize) -> usize
         requires { depth < 2 ^ 64 - 1 }
         ensures { result ≡ kinds.depth_after self depth }
@@ -101,7 +101,7 @@ impl Kind {
         matches!(self, Kind::StreamEnd)
     }
 
-    /// Whether a key may begin behind it, with no break between them: `block` tells that no bracket is open,
+    /// Whether a key may begin after it, with no break between them: `block` tells that no bracket is open,
     /// `found` that a `:` has its candidate.
     pub fn allows_key(self, block: bool, found: bool) -> bool
         ensures { result ≡ kinds.allows_key self block found }

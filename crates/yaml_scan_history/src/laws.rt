@@ -4,7 +4,7 @@ ghost use Rattle.yaml_scan_history.specs.Laws.{SettledStays};
 ghost use Rattle.yaml_scan_history.specs.Roles.{KindsHaveRoles};
 ghost use Rattle.yaml_scan_history.specs.Rules.{NamesAreTold, TagsAreTold, DirectivesAreTold, QuotesAreTold, PlainsAreTold, BlocksAreTold, PlacesAreTold};
 
-/// What stands before the earliest open candidate never changes, whatever follows, in a text whose lexemes stand behind
+/// What stands before the earliest open candidate never changes, whatever follows, in a text whose lexemes stand after
 /// one another.
 pub fn settled_stays()
     ensures { SettledStays }

@@ -6,7 +6,7 @@ ghost use Rattle.yaml_scan_history.specs.History.{is_fresh, placed};
 use crate::kind::Kind;
 use yaml_scan_model::yaml_mark_t;
 
-/// How many bytes behind its start a key's `:` may stand (YAML 1.1, 7.3.3).
+/// How many bytes after its start a key's `:` may stand (YAML 1.1, 7.3.3).
 const KEY_BYTES: u64 = 1024;
 
 /// Where a lexeme stands, and what the lexemes before it decide.
@@ -16,7 +16,7 @@ pub struct Lexeme {
     /// Its token's marks.
     pub start: yaml_mark_t,
     pub end: yaml_mark_t,
-    /// The place that is reached behind it, with the blanks and breaks that it consumes.
+    /// The place that is reached after it, with the blanks and breaks that it consumes.
     pub reached: yaml_mark_t,
     /// How many brackets are open before it.
     pub depth: usize,
@@ -26,7 +26,7 @@ pub struct Lexeme {
     pub saved: bool,
     /// Its `:` must come.
     pub required: bool,
-    /// The blanks behind a plain scalar hold a break.
+    /// The blanks after a plain scalar hold a break.
     pub broke: bool,
 }
 

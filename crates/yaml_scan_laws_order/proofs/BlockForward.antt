@@ -1,4 +1,4 @@
--- Block scalars end behind their start, inside the text.
+-- Block scalars end after their start, inside the text.
 use Rattle.std.proofs.Common.{◌≡◌, ℕ, zero, suc, ◌+◌, ◌-◌, ◌<◌, ◌≤◌, ◌==◌, ◌&&◌, ◌||◌, not, nat_lt, Bool, true, List, length, Result, Ok, Err, inl, inr, ◌⊎◌, arith}
 use Rattle.yaml_scan_laws_order.proofs.Words.{cases_Bool, cases_lt, eqb-true, nat_tests, byte, break_width, column_at, is_blank, Wrong, within, past_break, IsFrom, Lands, BlockText, column_of, block_with, block_lines, block_behind, block_at}
 use Rattle.yaml_scan_history.specs.scan_model.Classes.{is_digit_byte}
@@ -126,7 +126,7 @@ spot_fits c text p l =
     let inside = spaces-inside (c - column_at text p) text p l in
     fits_further text p q (spot_behind c text q) (omega arith) (behind_fits c text q inside)
 
--- lines whose last one ends at a place or behind it, and that stop there or behind, inside the text
+-- lines whose last one ends at a place or after it, and that stop there or after, inside the text
 record AreLines (text : List ℕ) (end : ℕ) (ls : Lines) : Type 0 where
   pub last : end ≤ ls.end
   pub place : ls.end ≤ ls.place
@@ -155,7 +155,7 @@ lines_land zero c text end p le l = tt
 lines_land (suc n) c text end p le l =
     then_lands (λ q. lines_from n c text q q) text end p (line_spot c text p) le (λ q m. lines_land n c text q q (omega arith) m) (spot_fits c text p l)
 
--- a block scalar that ends there or behind, inside the text
+-- a block scalar that ends there or after, inside the text
 pub record IsBlockFrom (text : List ℕ) (p : ℕ) (x : BlockText) : Type 0 where
   pub end : p ≤ x.end
   pub place : x.end ≤ x.place
@@ -182,7 +182,7 @@ behind_lands : (folded : Bool) (level : ℕ) (text : List ℕ) (p : ℕ) (r : Re
 behind_lands folded level text p (Ok h) f = block_lines_land folded text p h (column_of level text h.digit h.place) f
 behind_lands folded level text p (Err w) f = tt
 
--- a block scalar ends behind its indicator
+-- a block scalar ends after its indicator
 pub block_place : (level : ℕ) (text : List ℕ) (p : ℕ) → p < length text
     → LandsBlock text (p + 1) (block_at level text p)
 block_place level text p l = behind_lands (byte text p == 62) level text (p + 1) (header_at text (p + 1)) (header_lands text (p + 1) (omega arith))

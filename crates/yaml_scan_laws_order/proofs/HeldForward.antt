@@ -53,7 +53,7 @@ outer_is_first h c e =
           sym m ∙ ap (λ (y : Candidate). y.number) is
     ]
 
--- a lexeme stands behind a history
+-- a lexeme stands after a history
 pub record IsBehind (text : List ℕ) (h : List Lexeme) (l : Lexeme) : Type 0 where
   pub behind : (reached h).index ≤ l.start.index
   pub lines : ((reached h).line ≤ l.start.line) × (l.start.line ≤ l.reached.line)
@@ -61,7 +61,7 @@ pub record IsBehind (text : List ℕ) (h : List Lexeme) (l : Lexeme) : Type 0 wh
   pub stands : 0 < length h → StandsIn text l
   pub first : length h ≡ 0 → l.saved ≡ false
 
--- each lexeme stands behind the ones before it
+-- each lexeme stands after the ones before it
 abbrev pub Chain : List ℕ → List Lexeme → Type 0
 Chain text [] = Unit {0}
 Chain text (l ∷ h) = IsBehind text h l × Chain text h
@@ -97,7 +97,7 @@ unfolding history
 history_chain text zero = tt
 history_chain text (suc n) = extended_chain text (history text n) (next text (history text n)) (history_stands text n) (history_chain text n) refl
 
--- a lexeme that was saved has bytes behind its start, one for each lexeme from it on, the stream's end aside
+-- a lexeme that was saved has bytes after its start, one for each lexeme from it on, the stream's end aside
 record HasBytes (c : Lexeme) (count : ℕ) (h : List Lexeme) : Type 0 where
   pub all_but_one : c.start.index + count ≤ (reached h).index
   pub each : ended h ≡ false → c.start.index + suc count ≤ (reached h).index

@@ -32,7 +32,7 @@ pub first_is : (text : List ℕ) (l : Lexeme) → next text [] ≡ Read l → fi
 unfolding next
 first_is text l e = reads_same first_lexeme l e
 
--- nothing is read behind the end
+-- nothing is read after the end
 pub not_ended : (text : List ℕ) (x : Lexeme) (h : List Lexeme) (l : Lexeme)
     → next text (x ∷ h) ≡ Read l → is_end x.kind ≡ false
 unfolding next
@@ -79,7 +79,7 @@ extended_stands text h (Read l) s e = read_stands text h l s e
 extended_stands text h (Fails f) s e = s
 extended_stands text h Ends s e = s
 
--- The lexemes of a history stand one behind another in the text.
+-- The lexemes of a history stand one after another in the text.
 pub history_stands : (text : List ℕ) (n : ℕ) → Stands text (history text n)
 unfolding history
 history_stands text zero = tt
@@ -118,11 +118,11 @@ read_forward text (x ∷ h) l s e =
     let start = placed_line text l (is_end l.kind) t in
     ((f, omega (arith, grown, mark, start)), placed_reached text l (is_end l.kind) t)
 
--- each lexeme stands behind the ones before it
+-- each lexeme stands after the ones before it
 pub goes_forward : (text : List ℕ) → GoesForward text
 goes_forward text n l e = read_forward text (history text n) l (history_stands text n) e
 
--- The next lexeme stands behind those before it.
+-- The next lexeme stands after those before it.
 pub stand_in : (text : List ℕ) (h : List Lexeme) (l : Lexeme) → 0 < length h → Stands text h
     → next text h ≡ Read l → ((reached h).index ≤ l.start.index) × StandsIn text l
 stand_in text [] l some s e = absurd (omega arith)
@@ -166,12 +166,12 @@ pub steps_below : (text : List ℕ) (n : ℕ) (l : Lexeme) → next text (histor
 steps_below text n l e =
     omega (arith, reads_count text n l e, room_of text (history text n) l (history_stands text n) e)
 
--- Behind the whole history no lexeme is read.
+-- After the whole history no lexeme is read.
 pub all_ends : (text : List ℕ) (l : Lexeme) → next text (all text) ≢ Read l
 unfolding all
 all_ends text l e = let below = steps_below text (length text + 2) l e in absurd (omega (arith, below))
 
--- nothing comes behind the last step
+-- nothing comes after the last step
 pub stays_upto : (text : List ℕ) (n m : ℕ) → ((l : Lexeme) → next text (history text n) ≢ Read l)
     → n ≤ m → history text m ≡ history text n
 stays_upto text n m never le =
@@ -228,7 +228,7 @@ grows_by text n (suc k) =
     let z : suc k + n ≡ suc (k + n) = omega arith in
     rw z (front ++ newer, here ∙ ap (λ h. front ++ h) before ∙ sym (append_assoc front newer (history text n)))
 
--- A longer history has the shorter one behind it.
+-- A longer history has the shorter one after it.
 pub history_grows : (text : List ℕ) (n m : ℕ) → n ≤ m
     → (newer : List Lexeme) × (history text m ≡ newer ++ history text n)
 history_grows text n m le =

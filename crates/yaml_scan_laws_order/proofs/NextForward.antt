@@ -1,4 +1,4 @@
--- The next lexeme stands behind the ones before it.
+-- The next lexeme stands after the ones before it.
 use Rattle.std.proofs.Common.{◌≡◌, ℕ, ◌≤◌, ◌&&◌, nat_lt, true, false, List, ◌∷◌, length, Option, Some, None, Result, Ok, Err, refl, sym, ap, subst, ◌∙◌, inl, inr, arith}
 use Rattle.yaml_scan_laws_order.proofs.Words.{cases_Bool, yaml_mark_t, mark_at, Wrong, gap_place, Kind, Lexeme, is_end, placed, depth, key_allowed, candidate, fresh, WordText, kind_at, word_at, Next, Read, Fails, Ends, begun, finished, allowed_behind, misplaced, missed, lost_by, next, StandsIn}
 use Rattle.yaml_scan_history.specs.scan_words.Between.{Gap, gap_at}
@@ -6,11 +6,11 @@ use Rattle.yaml_scan_history.specs.Stepwise.{no_colon, tested, unless_wrong, unl
 use Rattle.yaml_scan_history.proofs.StepwiseLemmas.{stepwise}
 use Rattle.yaml_scan_laws_order.proofs.WordForward.{Fits, FitsAny, kind_fits, LandsWord, IsWordFrom, word_lands}
 
--- a lexeme behind a place
+-- a lexeme after a place
 abbrev pub Follows : List ℕ → ℕ → Lexeme → Type 0
 Follows text p l = (p ≤ l.start.index) × StandsIn text l
 
--- a lexeme behind the place is read, or a fault comes
+-- a lexeme after the place is read, or a fault comes
 abbrev pub ReadsBehind : List ℕ → ℕ → Next → Type 0
 ReadsBehind text p (Read l) = Follows text p l
 ReadsBehind text p (Fails f) = Unit {0}
@@ -24,7 +24,7 @@ placed_index k m =
       | inr e ↦ rw e refl
     ]
 
--- but for the end's, a lexeme's mark is its place's
+-- except for the end's, a lexeme's mark is its place's
 pub placed_same : (k : Kind) (m : yaml_mark_t) → is_end k ≡ false → placed k m ≡ m
 placed_same k m e = rw e refl
 
@@ -101,7 +101,7 @@ missed_reads : (o : Option yaml_mark_t) (text : List ℕ) (p : ℕ) (gap : Gap) 
 missed_reads (Some start) text p gap h f i = tt
 missed_reads None text p gap h f i = kind_reads (kind_at (nat_lt 0 (depth h)) text gap.place) text p gap h f i (kind_fits (nat_lt 0 (depth h)) text gap.place)
 
--- behind a lexeme that isn't the stream's end
+-- after a lexeme that isn't the stream's end
 pub next_reads : (text : List ℕ) (x : Lexeme) (h : List Lexeme) → is_end x.kind ≡ false
     → x.reached.index ≤ length text → ReadsBehind text x.reached.index (next text (x ∷ h))
 unfolding next

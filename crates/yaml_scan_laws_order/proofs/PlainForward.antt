@@ -1,4 +1,4 @@
--- Plain scalars, and the white behind them, end behind their start, inside the text.
+-- Plain scalars, and the white after them, end after their start, inside the text.
 use Rattle.std.proofs.Common.{ℕ, zero, suc, ◌+◌, ◌<◌, ◌≤◌, ◌==◌, ◌&&◌, ◌||◌, nat_lt, Bool, List, [], ◌∷◌, length, Result, Ok, Err, inl, inr, arith}
 use Rattle.yaml_scan_laws_order.proofs.Words.{cases_Bool, ltb-true, byte, break_width, column_at, is_blank, Wrong, within, past_break, Piece, Kept, Blank, Break, is_bracket, leads, PlainSpot, Takes, Faulty, ends_at, spot_at, Words, is_nothing, with_piece, words_from, follows, words, PlainText, plain_with, plain_text, plain_at}
 use Rattle.yaml_scan_history.specs.scan_scalars.Plain.{Ends}
@@ -35,7 +35,7 @@ spot_fits flow level text p =
       ]
     ]
 
--- words end at a place or behind it, and stop there or behind, inside the text
+-- words end at a place or after it, and stop there or after, inside the text
 record AreWords (text : List ℕ) (p : ℕ) (w : Words) : Type 0 where
   pub end : p ≤ w.end
   pub place : w.end ≤ w.place
@@ -83,7 +83,7 @@ unfolding words
 words_land zero flow level text p l = tt
 words_land (suc n) flow level text p l = follows_lands (words n flow level text) text p (spot_at flow level text p) l (words_land n flow level text) (spot_fits flow level text p)
 
--- a plain scalar that ends there or behind, inside the text
+-- a plain scalar that ends there or after, inside the text
 pub record IsPlainFrom (text : List ℕ) (p : ℕ) (x : PlainText) : Type 0 where
   pub end : p ≤ x.end
   pub place : x.end ≤ x.place
@@ -98,7 +98,7 @@ with_lands : (text : List ℕ) (p : ℕ) (r : Result Words Wrong) → Land text 
 with_lands text p (Ok w) h = record { end = h.end; place = h.place; inside = h.inside }
 with_lands text p (Err e) h = tt
 
--- a plain scalar ends behind its first byte
+-- a plain scalar ends after its first byte
 pub plain_place : (flow : Bool) (level : ℕ) (text : List ℕ) (p : ℕ) → p < length text
     → LandsPlain text (p + 1) (plain_at flow level text p)
 plain_place flow level text p l =

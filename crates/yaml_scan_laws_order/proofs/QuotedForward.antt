@@ -1,4 +1,4 @@
--- Quoted scalars end behind their start, inside the text.
+-- Quoted scalars end after their start, inside the text.
 use Rattle.std.proofs.Common.{◌≡◌, ℕ, zero, suc, ◌+◌, ◌*◌, ◌<◌, ◌≤◌, ◌==◌, ◌&&◌, nat_lt, false, List, length, Option, Some, None, option_and_then, option_map, Result, Ok, Err, inl, inr, arith}
 use Rattle.yaml_scan_laws_order.proofs.Words.{cases_Bool, ltb-true, eqb-true, and_parts, nat_tests, byte, break_width, is_blank, Wrong, within, past_break, behind_bytes, Lands, Piece, value, QuotedSpot, Closing, Pieces, Bad, hex_digit, hex_value, is_scalar, coded, hex_len, simple_escape, escaped, escape_at, quote_at, standing_at, with_front, followed, pieces, quoted_at}
 use Rattle.yaml_scan_history.specs.scan_model.Breaks.{is_document_indicator}
@@ -38,7 +38,7 @@ hex_inside (suc n) text p h s =
     let digit = last_digit (hex_value text p n) (hex_digit (byte text (p + n))) s in
     omega (arith, within text (p + n) (digit_some (byte text (p + n)) digit))
 
--- what stands at the place ends behind it, inside the text
+-- what stands at the place ends after it, inside the text
 abbrev Fits : List ℕ → ℕ → QuotedSpot → Type 0
 Fits text p Closing = p < length text
 Fits text p (Pieces qs q) = (p < q) × (q ≤ length text)
@@ -145,7 +145,7 @@ valued_lands : (text : List ℕ) (p : ℕ) (f : List Piece → List ℕ) (r : Re
 valued_lands text p f (Ok x) h = h
 valued_lands text p f (Err w) h = tt
 
--- a quoted scalar ends behind both quotes, inside the text
+-- a quoted scalar ends after both quotes, inside the text
 pub quoted_place : (quote : ℕ) (text : List ℕ) (p : ℕ)
     → Lands behind_bytes text (p + 1) (quoted_at quote text p)
 quoted_place quote text p =

@@ -7,7 +7,7 @@ use Rattle.std.specs.Prelude.{replicate}
 use Rattle.yaml_scan_laws_order.specs.Fronts.{GivesFirst}
 use Rattle.yaml_scan_laws_order.proofs.HistoryForward.{goes_forward, settled_stays, last_is_all, all_ends, stays_all, history_grows}
 
--- the token of that number, and those behind it
+-- the token of that number, and those after it
 pub drop_append : (xs ys : List Token) (n : ℕ) (t : Token) → n < length xs
     → drop n (xs ++ ys) ≡ get_or xs n t ∷ drop (n + 1) (xs ++ ys)
 drop_append xs ys n t l =
@@ -77,7 +77,7 @@ known_next text n k e known =
     sym (get_or-take (suc k) (handed text) k e (omega arith)) ∙ ap (λ xs. get_or xs k e) known.same ∙ get_or-take (suc k) (entries h) k e (omega arith) in
     drop_more (handed text) k e (omega (arith, inside)) ∙ ap (λ x. x ∷ drop (k + 1) (handed text)) there
 
--- what comes of these lexemes, and behind them
+-- what comes of these lexemes, and after them
 abbrev pool : SpelledText → List Entry → List Token → List Token
 pool s es kept = flat_map (spell s) es ++ kept
 
@@ -85,7 +85,7 @@ pool_more : (s : SpelledText) (es rest : List Entry) (x : Entry) (kept : List To
     → pool s es kept ≡ spell s x ++ pool s rest kept
 pool_more s es rest x kept e = ap (λ es. pool s es kept) e ∙ append_assoc (spell s x) (flat_map (spell s) rest) kept
 
--- behind the tokens of a lexeme that is known come those of the next one
+-- after the tokens of a lexeme that is known come those of the next one
 pub known_front : (s : SpelledText) (n k given : ℕ) (e : Entry) → Known s.text n (suc k)
     → (remaining s k given).tokens ≡ drop given
     (spell s (get_or (entries (history s.text n)) k e) ++ (remaining s (k + 1) 0).tokens)
@@ -113,7 +113,7 @@ settled_token s n k given e t known l =
       fault_is s k given ∙ sym (fault_is s k (given + 1)),
     )
 
--- behind all its tokens the next lexeme comes
+-- after all its tokens the next lexeme comes
 pub settled_done : (s : SpelledText) (n k given : ℕ) (e : Entry) → Known s.text n (suc k)
     → given ≡ length (spell s (get_or (entries (history s.text n)) k e))
     → remaining s k given ≡ remaining s (k + 1) 0
@@ -121,7 +121,7 @@ settled_done s n k given e known l =
     let x = get_or (entries (history s.text n)) k e in
     same_remaining s k given (k + 1) 0 (known_front s n k given e known ∙ drop_past (spell s x) (remaining s (k + 1) 0).tokens given l)
 
--- two entries that close as many levels in front of one lexeme
+-- two entries that close as many levels before one lexeme
 abbrev pub SameEnds : Entry → Entry → Type 0
 SameEnds a b = (a.ends ≡ b.ends) × (a.lexeme ≡ b.lexeme)
 
@@ -174,19 +174,19 @@ entry_first : (es : List Entry) (k : ℕ) (e : Entry) → k < length es
     → front_ends (drop k es) ≡ end_tokens (get_or es k e)
 entry_first es k e low = ap front_ends (drop_more es k e low)
 
--- how many levels are told in front of a lexeme
+-- how many levels are told before a lexeme
 pub front_count : (es : List Entry) (k : ℕ) (e : Entry) → k < length es
     → length (front_ends (drop k es)) ≡ (get_or es k e).ends
 front_count es k e low = ap length (entry_first es k e low) ∙ length-replicate (get_or es k e).ends (before block_end (get_or es k e).lexeme)
 
--- Behind the last entry none waits in front.
+-- After the last entry none waits in front.
 pub front_none : (es : List Entry) (k : ℕ) → length es ≤ k → length (front_ends (drop k es)) ≡ 0
 front_none es k past = ap (λ xs. length (front_ends xs)) (drop_of_length-le es past)
 
 drop_take : (k : ℕ) (es : List Entry) → drop k (take k es) ≡ []
 drop_take k es = drop_of_length-le (take k es) (let least = length-take k es in omega (arith, least))
 
--- in front of the lexeme k the levels that it closes are told, also where it is the first one that is lost
+-- before the lexeme k the levels that it closes are told, also where it is the first one that is lost
 ends_of : (s : SpelledText) (x : Next) (h : List Lexeme) (k : ℕ) (e : Entry)
     → ((l : Lexeme) → x ≢ Read l) → k ≤ first_open h h → k < length h
     → (more : List Token) × (pool s (drop k (handed_out x h)) (kept_of x h)
@@ -278,7 +278,7 @@ fault_of_all s h p given e whole few =
     let all_gone : drop given (pool s (drop (first_open h h) (take (first_open h h) (entries h))) kept) ≡ [] = ap (λ xs. drop given (pool s xs kept)) none ∙ gone in
     rw (whole, e, all_gone) refl
 
--- Behind what is told the fault comes.
+-- After what is told the fault comes.
 pub fault_comes : (s : SpelledText) (n : ℕ) (p : ScanFault) (given : ℕ)
     → let h = history s.text n in next s.text h ≡ Fails p
     → length (front_ends (drop (first_open h h) (entries h))) ≤ given
@@ -295,7 +295,7 @@ end_of_all s h k given e whole past =
     let all_gone : drop given (pool s (drop k (entries h)) []) ≡ [] = ap (λ xs. drop given (pool s xs [])) none ∙ empty in
     rw (whole, e, all_gone) refl
 
--- Behind the last lexeme nothing comes.
+-- After the last lexeme nothing comes.
 pub end_comes : (s : SpelledText) (n k given : ℕ) → next s.text (history s.text n) ≡ Ends
     → length (history s.text n) ≤ k → remaining s k given ≡ nothing
 end_comes s n k given e past = end_of_all s (history s.text n) k given e (last_is_all s.text n (λ l. never_read (next s.text (history s.text n)) l e)) past

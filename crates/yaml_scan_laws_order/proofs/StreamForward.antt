@@ -158,7 +158,7 @@ stands_all : (text : List ℕ) → Stands text (all text)
 unfolding all
 stands_all text = history_stands text (length text + 2)
 
--- nothing more comes only behind the end
+-- nothing more comes only after the end
 ends_ended : (text : List ℕ) (h : List Lexeme) → Stands text h → next text h ≡ Ends → ended h ≡ true
 unfolding next
 ends_ended text [] s e = let bad : Read first_lexeme ≡ Ends = e in absurd cc

@@ -1,4 +1,4 @@
--- Lexemes of every kind end behind their start, inside the text.
+-- Lexemes of every kind end after their start, inside the text.
 use Rattle.std.proofs.Common.{◌≡◌, ℕ, ◌+◌, ◌<◌, ◌≤◌, ◌==◌, ◌&&◌, ◌||◌, not, Bool, true, false, if◌then◌else◌, List, length, Option, Some, None, Result, Ok, Err, refl, subst, inl, inr, arith}
 use Rattle.yaml_scan_laws_order.proofs.Words.{cases_Bool, and_parts, eqb-true, true≢false, nat_tests, yaml_scalar_style_t, TokenBody, byte, column_at, is_blank_or_end, Wrong, within, behind_bytes, anchor_at, TagText, tag_end, tag_at, ValueText, value_end, value_at, line_place, line_end_at, with_line, Lands, line_end_place, anchor_place, tag_place, value_place, double_quoted_at, single_quoted_at, PlainText, starts_plain, plain_at, BlockText, block_at, style_at, Kind, is_end, indicator_of, or_plain, kind_at, WordText, carrying, valued, tagged, directed, blocked, plainly, word_at}
 use Rattle.yaml_scan_history.specs.scan_model.declared.name.yaml_scalar_style_t.TheVariants as styles
@@ -135,7 +135,7 @@ kind_fits flow text p = kind_is (λ k. Fits k text p) flow text p (fits text p)
     fits text p kinds.DocumentEnd h = end_inside text p h
     fits text p _ h = within text p (omega (arith, h))
 
--- a lexeme ends behind its start, and reaches its end or a place behind it, inside the text
+-- a lexeme ends after its start, and reaches its end or a place after it, inside the text
 pub record IsWordFrom (text : List ℕ) (p : ℕ) (w : WordText) : Type 0 where
   pub end : p < w.end
   pub place : w.end ≤ w.reached
@@ -179,7 +179,7 @@ finished_lands : (text : List ℕ) (p : ℕ) (r : Result ValueText Wrong)
 finished_lands text p (Ok v) h = line_lands text p v (line_end_at text v.end) (omega (arith, h.forward)) (line_end_place text v.end h.inside)
 finished_lands text p (Err w) h = tt
 
--- what is read where its kind stands ends behind its start, the stream's end aside
+-- what is read where its kind stands ends after its start, the stream's end aside
 pub word_lands : (k : Kind) (flow : Bool) (level : ℕ) (text : List ℕ) (p : ℕ) → is_end k ≡ false
     → Fits k text p → LandsWord text p (word_at k flow level text p)
 unfolding word_at

@@ -38,14 +38,14 @@ EndsCome = (s : SpelledText) (n k given : ℕ) (e : Entry) → k ≤ first_open 
     given < x.ends → GivesFirst (remaining s k given) (before block_end x.lexeme)
     (remaining s k (given + 1))
 
--- Behind that the fault comes, if one does.
+-- After that the fault comes, if one does.
 abbrev pub FaultComes : Type 0
 FaultComes = (s : SpelledText) (n : ℕ) (p : ScanFault) (given : ℕ) → let h = history s.text n in
     next s.text h ≡ Fails p → length (front_ends (drop (first_open h h) (entries h))) ≤ given
     → remaining s (first_open h h) given
     ≡ record { tokens = []; fault = Some (scanner_fault p) }
 
--- Behind the last lexeme nothing comes.
+-- After the last lexeme nothing comes.
 abbrev pub EndComes : Type 0
 EndComes = (s : SpelledText) (n k given : ℕ) → next s.text (history s.text n) ≡ Ends
     → length (history s.text n) ≤ k → remaining s k given ≡ nothing

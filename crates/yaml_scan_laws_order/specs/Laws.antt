@@ -7,11 +7,11 @@ use Rattle.yaml_scan_history.specs.Remaining.{all, handed}
 use Rattle.yaml_scan_history.specs.Laws as layout
 use Rattle.yaml_scan_laws_order.specs.Standing.{StandsIn}
 
--- Each lexeme stands behind the ones before it.
+-- Each lexeme stands after the ones before it.
 abbrev pub GoesForward : Type 0
 GoesForward = (text : List ℕ) → layout.GoesForward text
 
--- Each lexeme behind the stream's start has the marks of its places, and starts where the one before it was left, or behind.
+-- Each lexeme after the stream's start has the marks of its places, and starts where the one before it was left, or after.
 abbrev pub LexemesStand : Type 0
 LexemesStand = (text : List ℕ) (n : ℕ) (l : Lexeme) → next text (history text (suc n)) ≡ Read l
     → ((reached (history text (suc n))).index ≤ l.start.index) × StandsIn text l
@@ -30,7 +30,7 @@ abbrev pub StepsCount : Type 0
 StepsCount = (text : List ℕ) (n : ℕ) (l : Lexeme) → next text (history text n) ≡ Read l
     → (length (history text n) ≡ n) × (n < length text + 2)
 
--- No lexeme comes behind all of them.
+-- No lexeme comes after all of them.
 abbrev pub AllEnds : Type 0
 AllEnds = (text : List ℕ) (l : Lexeme) → next text (all text) ≢ Read l
 
@@ -39,11 +39,11 @@ abbrev pub LastIsAll : Type 0
 LastIsAll = (text : List ℕ) (n : ℕ) → ((l : Lexeme) → next text (history text n) ≢ Read l)
     → all text ≡ history text n
 
--- Steps behind the last one change nothing.
+-- Steps after the last one change nothing.
 abbrev pub StaysAll : Type 0
 StaysAll = (text : List ℕ) (n : ℕ) → length text + 2 ≤ n → history text n ≡ all text
 
--- Further steps put lexemes in front of those of the steps before.
+-- Further steps put lexemes before those of the steps before.
 abbrev pub HistoryGrows : Type 0
 HistoryGrows = (text : List ℕ) (n m : ℕ) → n ≤ m → (newer : List Lexeme)
     × (history text m ≡ newer ++ history text n)

@@ -5,7 +5,7 @@ use Rattle.yaml_scan_history.specs.declared.lexeme.Lexeme.{Lexeme}
 use Rattle.yaml_scan_history.specs.Kinds.{is_end}
 use Rattle.yaml_scan_history.specs.History.{placed}
 
--- It takes a byte at least: its token ends behind its start, and it reaches that end or a place behind it, inside the text.
+-- It takes a byte at least: its token ends after its start, and it reaches that end or a place after it, inside the text.
 pub record TakesBytes (text : List ℕ) (l : Lexeme) : Type 0 where
   pub start : l.start ≡ mark_at text l.start.index
   pub end : l.end ≡ mark_at text l.end.index
@@ -25,6 +25,6 @@ abbrev pub Takes : Bool → List ℕ → Lexeme → Type 0
 Takes true text l = TakesNothing text l
 Takes false text l = TakesBytes text l
 
--- the stream's end takes no byte, every other lexeme behind the stream's start at least one
+-- the stream's end takes no byte, every other lexeme after the stream's start at least one
 abbrev pub StandsIn : List ℕ → Lexeme → Type 0
 StandsIn text l = Takes (is_end l.kind) text l

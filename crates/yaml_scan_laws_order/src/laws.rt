@@ -20,7 +20,7 @@ ghost use Rattle.yaml_scan_laws_order.specs.Fronts.{SettledComes, LastComes, End
 
 /// The order of tokens, marks and fronts.
 pub fn laws_of_order()
-    // Each lexeme stands behind the ones before it: places and lines never go back.
+    // Each lexeme stands after the ones before it: places and lines never go back.
     ensures goes_forward { GoesForward }
     // A lexeme's marks are marks of the text. The stream's start and end take no byte, every other lexeme at least one.
     ensures lexemes_stand { LexemesStand }
@@ -30,11 +30,11 @@ pub fn laws_of_order()
     ensures are_few { AreFew }
     // While lexemes are read, each step reads one.
     ensures steps_count { StepsCount }
-    // No lexeme comes behind all of them.
+    // No lexeme comes after all of them.
     ensures all_ends { AllEnds }
     // Where no lexeme comes, all are read.
     ensures last_is_all { LastIsAll }
-    // Steps behind the last one change nothing.
+    // Steps after the last one change nothing.
     ensures stays_all { StaysAll }
     // A further step keeps the lexemes of the steps before it.
     ensures history_grows { HistoryGrows }
@@ -52,7 +52,7 @@ pub fn few_are_held()
 {}
 
 /// What comes first of what is to come, where so much of the text is read: a token of the lexeme that is to be taken,
-/// or of those that close levels in front of a candidate, or the fault, or nothing.
+/// or of those that close levels before a candidate, or the fault, or nothing.
 pub fn fronts_come()
     ensures settled { SettledComes }
     ensures last { LastComes }

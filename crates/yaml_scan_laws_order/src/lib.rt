@@ -1,4 +1,4 @@
-//! Laws of the layout: lexemes stand one behind the other, each takes a byte at least, the list of them ends, and
+//! Laws of the layout: lexemes stand one after the other, each takes a byte at least, the list of them ends, and
 //! what is settled stays so, in every text. No code.
 #![tactic(auto)]
 

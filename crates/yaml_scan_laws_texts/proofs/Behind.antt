@@ -1,4 +1,4 @@
--- The law of windows behind a line `...`.
+-- The law of windows after a line `...`.
 use Rattle.std.proofs.Common.{◌≡◌, ℕ, suc, ◌+◌, ◌-◌, true, false, List, [], ◌∷◌, ◌++◌, map, length, Option, Some, None, option_map, refl, sym, ap, subst, ◌∙◌, inl, inr, arith, ◌≤◌, nat_lt, take, drop, ◌⊎◌, add_assoc}
 use Rattle.yaml_scan_laws_texts.proofs.Shared.{cases_lt, cases_Bool, append_assoc, append-nil, length-append, same_from_push, flat_map, none-some, same_Some, yaml_encoding_t, yaml_mark_t, ScanFault, Fault, byte, line_at, mark_at, is_bom, Token, gap_within, gap_at, Kind, Lexeme, depth_after, is_end, is_outside, is_start, reached, depth, in_flow, ended, key_allowed, candidate, levels, entries, open_at, first_open, entry_of, kind_at, word_at, Next, Read, Fails, Ends, first_lexeme, gap_behind, kind_behind, next, extended, history, place_behind, missed, stale_before, coming, first_fault_or, no_start, SpelledText, token_in, spell, all, fault_in, Remaining, handed, remaining, body_by, front_ends, gap_place, all_ends, last_is_all, stream_starts, stream_ends, fault_next, IsCut, is_white, IsEndLine, IsEndCut, moved_mark, moved_token, moved_fault, moved_next, scan_of, EndedWindowsAreScanned, flat_map-append, scanner_fault, length-entries, take-length, drop-length}
 use Rattle.yaml_scan_history.specs.scan_model.Tokens as tokens
@@ -40,7 +40,7 @@ pub last_two : (t : List ℕ) (n : ℕ) (l : Lexeme) (h : List Lexeme) → histo
     → is_end l.kind ≡ true → all t ≡ l ∷ h
 last_two t n l h is end = last_is_all t n (λ y r. ends_reads (sym (next_over t l h end) ∙ ap (next t) (sym is) ∙ r)) ∙ is
 
--- behind the dots of a text that ends in such a line stands its end
+-- after the dots of a text that ends in such a line stands its end
 pub line_over : (a line : List ℕ) → IsEndLine line → (l : Lexeme) (h : List Lexeme)
     → l.reached.index ≡ length a + 3 → (y : Lexeme) → is_end l.kind ≡ false
     → next (a ++ line) (l ∷ h) ≡ Read y
@@ -77,7 +77,7 @@ line_reaches x line e none =
     let (y, reads) = goes_on line over 2 _ (first_lexeme ∷ []) (line_history line e.mark) end_mark.end in
     (line_over [] line e (mark_lexeme kinds.DocumentEnd line 0) (first_lexeme ∷ []) refl y end_mark.end reads).1
 
--- where the front leaves no bracket open, none is open in front of its line
+-- where the front leaves no bracket open, none is open before its line
 line_outer : (x : yaml_encoding_t) (a line : List ℕ) → IsEndLine line → (front : List Token)
     (last : Token) → (g : Begun x a line kinds.DocumentEnd tokens.document_end front last)
     → next (a ++ line) (all (a ++ line)) ≡ Ends → depth (all (a ++ line)) ≡ 0 → depth (all a) ≡ 0
@@ -93,7 +93,7 @@ line_outer x a line e front last g over outer =
     ∙ ap (λ k. depth_after k g.newest.depth) g.lies.kind ∙ g.lies.deep in
     g.deep ∙ sym deep ∙ outer
 
--- ---- the line's tokens, and those of what stands behind it
+-- ---- the line's tokens, and those of what stands after it
 
 abbrev stream_token : yaml_encoding_t → List ℕ → Token
 stream_token x t = token_in (record { encoding = x; text = t }) first_lexeme
@@ -101,7 +101,7 @@ stream_token x t = token_in (record { encoding = x; text = t }) first_lexeme
 abbrev dots_token : yaml_encoding_t → List ℕ → Token
 dots_token x t = token_in (record { encoding = x; text = t }) (mark_lexeme kinds.DocumentEnd t 0)
 
--- what is told of a line and of what stands behind it
+-- what is told of a line and of what stands after it
 record Lined (x : yaml_encoding_t) (line b : List ℕ) (behind : List Token) : Type 0 where
   pub are : (scan_of x (line ++ b)).tokens
       ≡ stream_token x (line ++ b) ∷ dots_token x (line ++ b) ∷ map (moved_token (length line) (line_at (line ++ b) (length line))) behind
@@ -266,7 +266,7 @@ ended_at x a line b cut over e plain none outer before last are first behind com
           ∙ fault_twice d k n o (scan_of x b).fault,
     )
 
--- A front that ends in such a line has DOCUMENT-END in front of STREAM-END.
+-- A front that ends in such a line has DOCUMENT-END before STREAM-END.
 pub ended_front : (x : yaml_encoding_t) (front rest : List ℕ) → IsEndCut front rest
     → (scan_of x front).fault ≡ None → depth (all front) ≡ 0
     → (before : List Token) × (over last : Token)
@@ -297,7 +297,7 @@ ended_windows_are_scanned x front rest cut none outer before last are first behi
     ∙ ap (λ d. option_map (moved_fault d (line_at a (length a) + line_at line (length line))) (scan_of x rest).fault) size
     ∙ ap (λ n. option_map (moved_fault (length front) n) (scan_of x rest).fault) lines)
 
--- ---- a line `...` with nothing behind it
+-- ---- a line `...` with nothing after it
 
 outer_levels : (l : Lexeme) (H : List Lexeme) (K : Kind) → l.kind ≡ K → is_outside K ≡ true
     → is_start K ≡ false → nat_lt 0 l.depth ≡ false → levels (l ∷ H) ≡ []
@@ -314,7 +314,7 @@ no_closings l H K k out start m =
       | inr flat ↦ rw (flat, outer_levels l H K k out start flat) refl
     ]
 
--- what stands behind the dots: the end, or a fault
+-- what stands after the dots: the end, or a fault
 abbrev pub TailSo : List ℕ → List Token → Option Fault → Type 0
 TailSo a tail own =
     ((last : Token) × (tail ≡ last ∷ []) × (last.body ≡ tokens.stream_end) × (own ≡ None))

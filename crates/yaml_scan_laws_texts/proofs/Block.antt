@@ -1,4 +1,4 @@
--- The value of a block scalar is UTF-8, and the text may be cut behind it.
+-- The value of a block scalar is UTF-8, and the text may be cut after it.
 use Rattle.std.proofs.Common.{◌≡◌, ℕ, zero, suc, ◌+◌, ◌-◌, ◌≤◌, ◌==◌, ◌&&◌, ◌||◌, not, nat_lt, Bool, true, false, List, [], ◌∷◌, length, Result, Ok, Err, refl, true≢false, inl, inr, arith, IsUtf8}
 use Rattle.yaml_scan_laws_texts.proofs.Words.{cases_Bool, cases_lt, ltb-true, eqb-true, IsUtf8-nil, IsUtf8-append, byte, break_width, column_at, feed_at, is_feed, Wrong, BlockText, column_of, block_with, block_lines, block_behind, block_at}
 use Rattle.yaml_scan_laws_order.specs.scan_model.Runs.{past, is_text, line_end}
@@ -101,7 +101,7 @@ past_whole (suc n) text p t l =
       | inr e ↦ rw e (stop_whole text p t e)
     ]
 
--- behind a break, or where none is
+-- after a break, or where none is
 pub step_whole : (text : List ℕ) (p : ℕ) → IsUtf8 text → IsWhole text p
     → IsWhole text (p + break_width text p)
 step_whole text p t w =

@@ -21,7 +21,7 @@ digit_onward : (b : ℕ) → is_digit_byte b ≡ true → is_onward b ≡ true
 unfolding is_digit_byte is_onward
 digit_onward b h = grind (arith, nat_tests)
 
--- two bytes behind a place are two of the header, or they needn't be looked at
+-- two bytes after a place are two of the header, or they needn't be looked at
 indicators_alike : (t u : List ℕ) (d m p : ℕ) → Alike t u d m → p < m
     → (indicators (byte u (d + p)) (byte u (d + p + 1)) ≡ indicators (byte t p) (byte t (p + 1)))
     × (p + indicators (byte t p) (byte t (p + 1)) < m)
@@ -163,7 +163,7 @@ larger_alike : (d a : ℕ) (r s : Result ℕ Wrong) → ColumnAlike d r s
 larger_alike d a (Ok b) s h = rw h refl
 larger_alike d a (Err w) s h = rw h refl
 
--- the place behind spaces, in both texts
+-- the place after spaces, in both texts
 record SpacesAlike (t u : List ℕ) (d m p q r : ℕ) : Type 0 where
   pub same : r ≡ d + q
   pub order : p ≤ q

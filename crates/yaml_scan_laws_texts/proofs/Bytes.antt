@@ -29,7 +29,7 @@ quiet_edge t u d m a =
       | inr i ↦ elim (cases_Bool (byte u (d + m) == 45)) [ inl e ↦ inr (inl (grind (arith, nat_tests))) | inr e ↦ inr (inr (grind (arith, nat_tests))) ]
     ]
 
--- behind a byte that goes on, the next one
+-- after a byte that goes on, the next one
 pub next_byte : (t u : List ℕ) (d m p : ℕ) → Alike t u d m → p < m → is_onward (byte t p) ≡ true
     → (p + 1 < m) × (byte u (d + p + 1) ≡ byte t (p + 1))
 next_byte t u d m p a l o =
@@ -57,7 +57,7 @@ quiet_feed b (inl z) = rw z refl
 quiet_feed b (inr (inl z)) = rw z refl
 quiet_feed b (inr (inr z)) = rw z refl
 
--- the byte behind is a line feed in both or in neither
+-- the byte after is a line feed in both or in neither
 next_feed : (t u : List ℕ) (d m p : ℕ) → Alike t u d m → p < m
     → (byte u (d + p + 1) == 10) ≡ (byte t (p + 1) == 10)
 next_feed t u d m p a l =
@@ -94,7 +94,7 @@ pub end_alike : (t u : List ℕ) (d m p : ℕ) → Alike t u d m → p < m
     → is_blank_or_end u (d + p) ≡ is_blank_or_end t p
 end_alike t u d m p a l = rw (width_alike t u d m p a l, a.bytes p l) refl
 
--- and behind a byte that goes on
+-- and after a byte that goes on
 pub next_end : (t u : List ℕ) (d m p : ℕ) → Alike t u d m → p < m → is_onward (byte t p) ≡ true
     → is_blank_or_end u (d + p + 1) ≡ is_blank_or_end t (p + 1)
 next_end t u d m p a l o =
@@ -132,7 +132,7 @@ onward_dot : (b : ℕ) → b ≡ 46 → is_onward b ≡ true
 unfolding is_onward
 onward_dot b h = rw h refl
 
--- three of a byte that goes on stand in both or in neither, and behind them the place is within
+-- three of a byte that goes on stand in both or in neither, and after them the place is within
 pub thrice_within : (t u : List ℕ) (d m p x : ℕ) → Alike t u d m → p < m → is_onward x ≡ true
     → ((byte t p == x && byte t (p + 1) == x) && byte t (p + 2) == x) ≡ true → p + 3 < m
 thrice_within t u d m p x a l o h =

@@ -75,7 +75,7 @@ pub mark_alike : (t u : List ℕ) (d m n p : ℕ) → Alike t u d m → line_at 
     → mark_at u (d + p) ≡ moved_mark d n (mark_at t p)
 mark_alike t u d m n p a line l = rw (line_alike t u d m p a l, column_alike t u d m p a l, line) refl
 
--- both histories, each over its text, in front of alike lexemes
+-- both histories, each over its text, before alike lexemes
 pub record Pair (t u : List ℕ) (d m n k : ℕ) (H G : List Lexeme) : Type 0 where
   pub alike : Alike t u d m
   pub line : line_at u d ≡ n
@@ -88,7 +88,7 @@ pub record Pair (t u : List ℕ) (d m n k : ℕ) (H G : List Lexeme) : Type 0 wh
   pub allowed : allowed_behind G (gap_behind u G) ≡ allowed_behind H (gap_behind t H)
   pub held : open_at 0 G ≡ moved_found d n k (open_at 0 H)
 
--- both histories, each over its text, behind alike lexemes
+-- both histories, each over its text, after alike lexemes
 pub record Abreast (t u : List ℕ) (d m n k : ℕ) (H G : List Lexeme) : Type 0 where
   pub alike : Alike t u d m
   pub line : line_at u d ≡ n

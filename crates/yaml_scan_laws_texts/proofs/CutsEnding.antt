@@ -1,4 +1,4 @@
--- Behind a line `...` the whole goes on as a stream that begins there.
+-- After a line `...` the whole goes on as a stream that begins there.
 use Rattle.std.proofs.Common.{◌≡◌, ℕ, zero, suc, ◌+◌, ◌<◌, ◌≤◌, ◌==◌, ◌&&◌, ◌||◌, nat_lt, not, Bool, true, false, List, [], ◌∷◌, ◌++◌, length, None, refl, sym, ap, subst, ◌∙◌, inl, inr, ◌⊎◌, arith}
 use Rattle.yaml_scan_laws_texts.proofs.Shared.{cases_Bool, cases_lt, and_parts, eqb-true, true≢false, nat_tests, length-append, or-true, byte, break_of, break_width, line_at, column_at, is_blank, is_blank_or_end, is_bom, is_document_indicator, is_document_end, step_at, Gap, with_break, gap_within, gap_at, within, start_column, past_break, Lexeme, candidate, levels, kind_at, first_lexeme, gap_behind, allowed_behind, next, history, EndsIn, EndsLine, IsCut, is_white, IsEndLine, ne_eqb, lt-ltb, ltb-true}
 use Rattle.yaml_scan_history.specs.scan_model.Tokens as tokens
@@ -80,15 +80,15 @@ whole_end line b e =
     let white : is_white (byte U 3) ≡ true = ap is_white (byte_left line b 3 (omega (arith, long))) ∙ e.white 3 (omega arith) (omega (arith, long)) in
     rw (column, first, second, third, white_end U 3 white) refl
 
--- ---- the gap behind it
+-- ---- the gap after it
 
--- the gap goes on where the line ends, a break behind
+-- the gap goes on where the line ends, a break after
 record Crossed (line b : List ℕ) (allowed : Bool) (p o : ℕ) : Type 0 where
   pub left : ℕ
   pub room : length (line ++ b) ≤ length line + left
   pub crossed : gap_within o false allowed (line ++ b) p ≡ with_break true (gap_within left false true (line ++ b) (length line))
 
--- of a place behind the dots what is passed is a blank
+-- of a place after the dots what is passed is a blank
 passed_blank : (t : List ℕ) (p : ℕ) (tabs : Bool) → 3 ≤ p
     → (byte t p == 32 || (tabs && byte t p == 9)) ≡ true
     → (is_passed tabs t p ≡ true) × ((step_at tabs t p).place ≡ p + 1)
@@ -236,7 +236,7 @@ cross (suc k) line b e allowed p n o far l room fuel more there =
     feed_not c true z h = true≢false (sym h ∙ break_skipped c true (inl z))
     feed_not c false z h = true≢false (sym h ∙ break_skipped c false (inl z))
 
--- ---- the ground behind it
+-- ---- the ground after it
 
 abbrev pub line_base : List ℕ → List Lexeme
 line_base t = rest_base kinds.DocumentEnd t
@@ -316,7 +316,7 @@ pub start_history : (t : List ℕ) → history t 1 ≡ first_lexeme ∷ []
 unfolding history next
 start_history t = refl
 
--- a text that begins with such a line is cut in front of it
+-- a text that begins with such a line is cut before it
 pub line_cut : (a t : List ℕ) → EndsLine a → ((p : ℕ) → p < length a → 0 < byte a p)
     → is_document_end t 0 ≡ true → IsCut a t
 line_cut a t lines some h = record { line = lines; some = some; mark = end_indicator t h }

@@ -76,7 +76,7 @@ unfolding ends_of
 second_end x y b c v (inl z) = rw z refl
 second_end x y b c v (inr z) = rw z refl
 
--- breaks behind the first two bytes of a rest
+-- breaks after the first two bytes of a rest
 pub far_ends : (a b : List ℕ) (p : ℕ)
     → ends_break (a ++ b) (length a + suc (suc p)) ≡ ends_break b (suc (suc p))
 far_ends a b p =
@@ -103,7 +103,7 @@ rest_ends a b cut (suc zero) =
     rw (here, next, before) (second_end (byte (a ++ b) (length a + 1 - 2)) (byte b 0) (byte b 1) (byte b (1 + 1)) (byte b (1 - 2)) (first_mark b cut.mark))
 rest_ends a b cut (suc (suc p)) = far_ends a b p
 
--- the columns and lines of what stands behind, at every place, where its breaks end alike
+-- the columns and lines of what stands after, at every place, where its breaks end alike
 pub columns_by : (a b : List ℕ) → column_at (a ++ b) (length a) ≡ 0
     → ((p : ℕ) → ends_break (a ++ b) (length a + p) ≡ ends_break b p) → (p : ℕ)
     → column_at (a ++ b) (length a + p) ≡ column_at b p
@@ -151,7 +151,7 @@ rest_bom a b cut =
     let others : is_bom (a ++ b) (length a + 0) ≡ false = rw here (not_bom (byte b 0) (byte (a ++ b) (length a + 0 + 1)) (byte (a ++ b) (length a + 0 + 2)) mark) in
     rw (mine, others) (and-false (length a + 0 == 0))
 
--- What stands behind a column 0 stands so in the whole, where its line ends and U+FEFF do.
+-- What stands after a column 0 stands so in the whole, where its line ends and U+FEFF do.
 pub behind_alike : (a b : List ℕ) → column_at (a ++ b) (length a) ≡ 0
     → ((p : ℕ) → ends_break (a ++ b) (length a + p) ≡ ends_break b p)
     → ((p : ℕ) → (length a + p == 0 && is_bom (a ++ b) (length a + p)) ≡ (p == 0 && is_bom b p))

@@ -20,7 +20,7 @@ are_tag : are_alphas (84 ∷ 65 ∷ 71 ∷ []) ≡ true
 unfolding is_alpha_byte is_digit_byte
 are_tag = refl
 
--- behind `%YAML` a version stands
+-- after `%YAML` a version stands
 yaml_value : (text : List ℕ) (p : ℕ) → Has text (p + 1) (89 ∷ 65 ∷ 77 ∷ 76 ∷ 32 ∷ [])
     → value_at text p ≡ version_at text (p + 5)
 yaml_value text p h =
@@ -36,7 +36,7 @@ yaml_value text p h =
     let whole : value_at text p ≡ version_at text (p + 1 + 4) = rw (run, some, space_ends text (p + 1 + 4) close, y, a, b2, b3, count) refl in
     whole ∙ ap (λ q. version_at text q) far
 
--- behind `%TAG` a handle and a prefix
+-- after `%TAG` a handle and a prefix
 tag_value : (text : List ℕ) (p : ℕ) → Has text (p + 1) (84 ∷ 65 ∷ 71 ∷ 32 ∷ [])
     → value_at text p ≡ tag_directive_at text (p + 4)
 tag_value text p h =

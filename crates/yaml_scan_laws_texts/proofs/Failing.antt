@@ -30,7 +30,7 @@ near_before false x y p q s t l k h = refl
 pub some_none : {A : Type 0} {x : A} → Some x ≡ None → ⊥
 some_none e = cc
 
--- what isn't missed at a place isn't missed in front of it
+-- what isn't missed at a place isn't missed before it
 missed_before : (o : Option Candidate) (m n : yaml_mark_t) → m.line ≤ n.line → m.index ≤ n.index
     → missed o n ≡ None → missed o m ≡ None
 missed_before None m n l k h = refl
@@ -40,7 +40,7 @@ missed_before (Some c) m n l k h =
       | inr free ↦ rw (near_before c.lexeme.required n.line n.index m.line m.index c.lexeme.start.line c.lexeme.start.index l k free) refl
     ]
 
--- the candidate of depth 0 behind a lexeme that stands deeper
+-- the candidate of depth 0 after a lexeme that stands deeper
 pub outer_same : (l : Lexeme) (H : List Lexeme) → (l.depth == 0) ≡ false
     → candidate 0 (l ∷ H) ≡ candidate 0 H
 unfolding candidate
@@ -140,7 +140,7 @@ said_read a b H cut inside on x e w is =
       ends = λ v k go. word_inside a H x e go v k;
     }
 
--- what comes is the same, or the whole's lexeme is wrong behind the front's end as the front's is
+-- what comes is the same, or the whole's lexeme is wrong after the front's end as the front's is
 record IsLate (a b : List ℕ) (H : List Lexeme) : Type 0 where
   pub kind : Kind
   pub mine : kind_behind a H ≡ Some kind
@@ -211,7 +211,7 @@ meets a b H cut inside on = by (kind_behind a H) refl
     by None k = inl (coming_there a (a ++ b) 0 (length a) 0 0 H H (front_pair a b cut H inside) on None k (λ z s. absurd (none-some _ s)))
     by (Some y) k = told y k (word_behind y a H) refl
 
--- behind the last lexeme of the front stands its end
+-- after the last lexeme of the front stands its end
 at_end : (a b : List ℕ) (H : List Lexeme) → IsCut a b → (reached H).index ≤ length a
     → length a ≤ (gap_behind a H).place
     → ((gap_behind a H).place ≡ length a) × (kind_behind a H ≡ Some kinds.StreamEnd)
@@ -239,7 +239,7 @@ reads_not a b cut x h stands f e more l r =
           fails_not (sym here ∙ ap (λ o. coming o a H) none ∙ reads)
     ]
 
--- ---- it is the same one, where it stands in front of the end
+-- ---- it is the same one, where it stands before the end
 
 fault_zero : (f : ScanFault) → moved_scan_fault 0 0 f ≡ f
 fault_zero f = rw (mark_zero f.problem_mark, mark_zero f.context_mark) refl
@@ -252,7 +252,7 @@ pub colon_index : (o : Option yaml_mark_t) (m : yaml_mark_t) (f : ScanFault)
 colon_index None m f e = absurd (some_none (sym e))
 colon_index (Some s) m f e = ap (λ (g : ScanFault). g.problem_mark) (same_Some _ _ (sym e))
 
--- what comes first in both, in front of a fault w of the first one's word
+-- what comes first in both, before a fault w of the first one's word
 first_early : (a b c t e : Option ScanFault) (w f : ScanFault) (y z : Next)
     (p q o r s : Option ScanFault)
     → p ≡ moved_fault 0 0 a → q ≡ moved_fault 0 0 b → o ≡ moved_fault 0 0 c → t ≡ Some w
@@ -313,7 +313,7 @@ fails_there a b cut x h stands f e more low =
 
 -- ---- and where that of the whole does
 
--- what comes first in the whole, in front of a fault w of its word
+-- what comes first in the whole, before a fault w of its word
 first_back : (a b c r e : Option ScanFault) (w f g : ScanFault) (y z : Next)
     (p q o t s : Option ScanFault)
     → p ≡ moved_fault 0 0 a → q ≡ moved_fault 0 0 b → o ≡ moved_fault 0 0 c → t ≡ Some w
@@ -326,7 +326,7 @@ first_back None None (Some v) r e w f g y z p q o t s h i j k there l here = sym
 first_back None None None r e w f g y z p q o t s h i j k there l here =
     let same = ap (λ (v : ScanFault). v.problem_mark.index) (fails_same (rw (h, i, j, k) at there)) in absurd (omega (arith, same, l))
 
--- a fault of a mark stands there or behind it
+-- a fault of a mark stands there or after it
 mark_late : (K : Kind) (body : _) → IsMark K body → (t : List ℕ) (H : List Lexeme) (p : ℕ)
     → (gap_behind t H).place ≡ p → (g : ScanFault) → coming (Some K) t H ≡ Fails g
     → p ≤ g.problem_mark.index

@@ -65,7 +65,7 @@ whole_word kinds.Folded flow level text p e = whole_blocked (style_at text p) (b
 whole_word kinds.Plain flow level text p e = absurd (cc)
 whole_word k flow level text p e = refl
 
--- what is allowed is a key that may be one, in brackets one behind which a key is allowed
+-- what is allowed is a key that may be one, in brackets one after which a key is allowed
 saved_allowed : (allowed broke may flow : Bool) → flow ≡ true
     → ((allowed || (broke && not flow)) && may) ≡ true → allowed ≡ true
 saved_allowed true broke may flow f e = refl
@@ -214,7 +214,7 @@ depth_after_is kinds.DoubleQuoted qs = refl
 depth_after_is kinds.KeyMark qs = sym (marked_length true qs)
 depth_after_is k qs = sym (marked_length false qs)
 
--- the depth behind lexemes is how many brackets their kinds leave open
+-- the depth after lexemes is how many brackets their kinds leave open
 pub depth_is : (h : List Lexeme) → AllMade h → depth h ≡ length (asked (kinds_of h))
 unfolding AllMade asked
 depth_is [] made = refl
@@ -227,7 +227,7 @@ abbrev Clear : List Bool → List Lexeme → Type 0
 Clear [] h = Unit {0}
 Clear (q ∷ qs) h = (q ≡ true → candidate (suc (length qs)) h ≡ None) × Clear qs h
 
--- none is allowed behind it either
+-- none is allowed after it either
 abbrev Quiet : List Bool → List Lexeme → Type 0
 Quiet qs h = innermost qs ≡ true → key_allowed h ≡ false
 

@@ -143,7 +143,7 @@ pub read_kind : (t : List ℕ) (H : List Lexeme) (l : Lexeme) → (r : HasRead t
 read_kind t H l r =
     ap (λ (y : Lexeme). y.kind) (sym r.clean.is) ∙ (kept t (begun_behind r.kind t H) (word_behind r.kind t H)).kind
 
--- a lexeme but the end stands in front of the end
+-- a lexeme but the end stands before the end
 pub read_within : (t u : List ℕ) (d m n k : ℕ) (H G : List Lexeme) → Pair t u d m n k H G
     → (l : Lexeme) → HasRead t H l → is_end l.kind ≡ false → (gap_behind t H).place < m
 read_within t u d m n k H G p l r go =
@@ -250,7 +250,7 @@ pub history_more : (a : List ℕ) (j : ℕ) → history a (suc j) ≡ step a (hi
 unfolding history
 history_more a j = refl
 
--- in front of it each step reads a lexeme, and none is the end
+-- before it each step reads a lexeme, and none is the end
 pub reads_before : (a : List ℕ) (n j : ℕ) (E : Lexeme) → EndsAt a n E → j < n
     → (l : Lexeme) × (next a (history a j) ≡ Read l) × (is_end l.kind ≡ false)
 reads_before a n j E at lt = go (next a (history a j)) refl

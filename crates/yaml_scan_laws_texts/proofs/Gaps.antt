@@ -160,7 +160,7 @@ hash_is_text b c e h =
     let none = no_break b c e (omega (arith, h)) (omega (arith, h)) (omega (arith, h)) (omega (arith, h)) in
     rw (none, h) refl
 
--- the place behind what is passed
+-- the place after what is passed
 record Passed (t u : List ℕ) (d m p q r : ℕ) : Type 0 where
   pub further : p < q
   pub inside : q ≤ m

@@ -2,7 +2,7 @@
 use Rattle.std.proofs.Common.{◌≡◌, ℕ, ◌+◌, ◌==◌, ◌&&◌, ◌||◌, nat_lt, nat_le, not, List, [], ◌∷◌, ◌++◌, map, length, Option, Some, None, refl, ap, ◌∙◌, inl, inr, arith}
 use Rattle.yaml_scan_laws_texts.proofs.Shared.{cases_Bool, nat_tests, length-append, length-map, yaml_mark_t, Kind, Lexeme, cancels, is_start, allows_key, depth, Candidate, candidate, is_fresh, fresh, found_by, has, opens_at, opened, left_by, levels, key_allowed, moved_mark, moved_lexeme}
 
--- Two lists of lexemes that decide the same of what stands on them behind another one: no candidate is open in either, and the
+-- Two lists of lexemes that decide the same of what stands on them after another one: no candidate is open in either, and the
 -- second one has k more.
 pub record Bases (d n k : ℕ) (b c : List Lexeme) : Type 0 where
   pub depth : depth c ≡ depth b

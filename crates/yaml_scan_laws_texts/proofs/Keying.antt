@@ -6,7 +6,7 @@ use Rattle.yaml_scan_laws_order.specs.scan_history.declared.lexeme.Opens.TheVari
 use Rattle.yaml_scan_laws_texts.specs.Keys.{KeyBegins, IsInKey, KeyGoesOn, KeyEnds}
 use Rattle.yaml_scan_laws_texts.proofs.Pushing.{unkeyed, opened_rises, stays_right, met_is_read, goes_on, free_push, free_in_time, required_not, opens_by, front_push, front_same, meets_level, lone_marks, calm_opens, calm_levels, stays_inside, stays_calm, stays_placed, level_is, body_met}
 
--- ---- the candidates behind one lexeme more
+-- ---- the candidates after one lexeme more
 
 saved_more : (same saved cancel below : Bool) (c : Candidate) (rest : Option Candidate)
     → same ≡ true → saved ≡ true

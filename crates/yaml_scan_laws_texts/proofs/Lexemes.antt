@@ -13,7 +13,7 @@ comment_whole : (text : List ℕ) (p : ℕ) → IsUtf8 text → (byte text p == 
     → IsWhole text (comment_end text p)
 comment_whole text p t h = rw h (past_whole (length text) text p t (omega arith))
 
-gap_whole : (n : ℕ) (flow allowed : Bool) (text : List ℕ) (p : ℕ) → IsUtf8 text → IsWhole text p
+pub gap_whole : (n : ℕ) (flow allowed : Bool) (text : List ℕ) (p : ℕ) → IsUtf8 text → IsWhole text p
     → IsWhole text (gap_within n flow allowed text p).place
 unfolding gap_within step_at
 gap_whole zero flow allowed text p t w = w
@@ -34,7 +34,7 @@ gap_whole (suc n) flow allowed text p t w =
       ]
     ]
 
--- A lexeme carries UTF-8, but for what escapes spell, and is left where the text may be cut.
+-- A lexeme carries UTF-8, except for what escapes spell, and is left where the text may be cut.
 pub record Carries (s : SpelledText) (l : Lexeme) : Type 0 where
   pub texts : HasTexts (body_in s l)
   pub place : IsWhole s.text l.reached.index

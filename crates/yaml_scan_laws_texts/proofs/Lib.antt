@@ -13,6 +13,7 @@ pub mod Block
 pub mod Utf8Words
 pub mod Lexemes
 pub mod TokensUtf8
+pub mod Characters
 pub mod Decoded
 pub mod Lines
 pub mod Directives

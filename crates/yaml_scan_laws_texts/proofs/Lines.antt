@@ -100,7 +100,7 @@ no_hash text p h =
       | inr e ↦ e
     ]
 
--- the line of a directive ends behind its break
+-- the line of a directive ends after its break
 pub line_ends : (text : List ℕ) (p : ℕ) → is_break text p ≡ true
     → line_end_at text p ≡ Ok (p + break_width text p)
 unfolding belongs

@@ -82,7 +82,7 @@ name_good context text p q s =
 pub anchor_good : (context : Context) (text : List ℕ) (p : ℕ) → HasName (anchor_at context text p)
 anchor_good context text p = name_good context text (p + 1) (name_end text p) (name_spans text p)
 
--- two texts, one behind the other
+-- two texts, one after the other
 pub has_both : (text : List ℕ) (p : ℕ) (xs ys : List ℕ) → Has text p xs
     → Has text (p + length xs) ys → Has text p (xs ++ ys)
 has_both text p [] ys a b = rw add-zero at b
@@ -319,7 +319,7 @@ directive_word : (text : List ℕ) (r : Result ValueText Wrong) → HasSaid IsSp
 directive_word text (Ok v) h = line_word v (line_end_at text v.end) h
 directive_word text (Err w) h = tt
 
--- a tag stands behind its `!`
+-- a tag stands after its `!`
 abbrev pub Marked : Kind → List ℕ → ℕ → Type 0
 Marked kinds.Tag text p = byte text p ≡ 33
 Marked _ text p = Unit {0}

@@ -99,7 +99,7 @@ pub no_entries : entries [] ≡ []
 unfolding entries
 no_entries = refl
 
--- the front's tokens in front of its end
+-- the front's tokens before its end
 pub front_told : (x : yaml_encoding_t) (a b : List ℕ) (h : List Lexeme)
     → AllCarry x a (a ++ b) 0 0 h
     → flat_map (spell (record { encoding = x; text = a ++ b })) (entries h)
@@ -112,9 +112,9 @@ front_told x a b h carry =
     ap (flat_map (spell v)) (is ∙ sym (map_same (moved_entry 0 0) (λ e. rw (lexeme_zero e.lexeme) refl) es.more)) ∙ spells_moved 0 0 x a (a ++ b) es.more (es.say x a (a ++ b) carry)
     ∙ tokens_zero (flat_map (spell s) es.more) ∙ ap (flat_map (spell s)) (sym is)
 
--- ---- what may be a key stands in front of the front's last line
+-- ---- what may be a key stands before the front's last line
 
--- each lexeme that may be a key starts in front of that line
+-- each lexeme that may be a key starts before that line
 abbrev AllEarly : ℕ → List Lexeme → Type 0
 AllEarly line [] = Unit {0}
 AllEarly line (l ∷ h) = (l.saved ≡ true → l.start.line < line) × AllEarly line h
@@ -221,7 +221,7 @@ record MarkReads (a b : List ℕ) (K : Kind) (H : List Lexeme) (E M : Lexeme) : 
   pub place : E.start ≡ mark_at (a ++ b) (length a)
   pub flat : depth H ≡ 0 → M ≡ mark_lexeme K (a ++ b) (length a)
 
--- the candidate of depth 0 behind what cancels and isn't saved
+-- the candidate of depth 0 after what cancels and isn't saved
 outer_none : (l : Lexeme) (H : List Lexeme) → (l.depth == 0) ≡ true → l.saved ≡ false
     → cancels l.kind ≡ true → candidate 0 (l ∷ H) ≡ None
 unfolding candidate
@@ -421,7 +421,7 @@ begun_at x a b cut m j E at is over y h same front last are =
       over = ap (λ (t : Token). t.body) lasts ∙ ap (λ k. body_by k s E) r.end;
     }
 
--- A front without fault, whatever it leaves open, in front of a mark.
+-- A front without fault, whatever it leaves open, before a mark.
 pub begun_by : (x : yaml_encoding_t) (a b : List ℕ) → IsCut a b → (m : MarkStands b 0)
     → (scan_of x a).fault ≡ None
     → (front : List Token) (last : Token) → (scan_of x a).tokens ≡ front ++ last ∷ []
@@ -440,14 +440,14 @@ begun_by x a b cut m none front last are =
         absurd (true≢false (sym at.ends ∙ ap (λ (l : Lexeme). is_end l.kind) (sym (first_is a E (ap (next a) (sym same) ∙ at.reads)))))
     by over j E at is (y ∷ h) same = begun_at x a b cut m j E at is over y h same front last are
 
--- In front of `---` the whole has its tokens, and DOCUMENT-START where its end stood.
+-- Before `---` the whole has its tokens, and DOCUMENT-START where its end stood.
 pub begun : (x : yaml_encoding_t) (a b : List ℕ) → IsCut a b → is_document_start b 0 ≡ true
     → (scan_of x a).fault ≡ None
     → (front : List Token) (last : Token) → (scan_of x a).tokens ≡ front ++ last ∷ []
     → Begun x a b kinds.DocumentStart tokens.document_start front last
 begun x a b cut begins none front last are = begun_by x a b cut (start_stands b 0 begins) none front last are
 
--- In front of `...` it has DOCUMENT-END there.
+-- Before `...` it has DOCUMENT-END there.
 pub begun_over : (x : yaml_encoding_t) (a b : List ℕ) → IsCut a b → is_document_end b 0 ≡ true
     → (scan_of x a).fault ≡ None
     → (front : List Token) (last : Token) → (scan_of x a).tokens ≡ front ++ last ∷ []

@@ -26,7 +26,7 @@ value_alike t u d m p a l some =
           rw (same, h, third) refl
     ]
 
--- what is no blank stands there or in front of it
+-- what is no blank stands there or before it
 record Led (t : List ℕ) (p : ℕ) : Type 0 where
   pub start : ℕ
   pub order : start ≤ p

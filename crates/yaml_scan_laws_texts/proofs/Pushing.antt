@@ -1,4 +1,4 @@
--- Levels that close and open, what stands behind lexemes, and what is known behind one more.
+-- Levels that close and open, what stands after lexemes, and what is known after one more.
 use Rattle.std.proofs.Common.{◌≡◌, ◌⊎◌, ℕ, ◌-◌, ◌<◌, ◌≤◌, nat_lt, nat_le, cond, Bool, true, false, List, [], ◌∷◌, ◌++◌, length, refl, ap, ◌∙◌, inl, inr, arith, ◌&&◌, ◌||◌, not, Option, Some, None, Result, Ok, ◌+◌, ◌==◌, sym, subst}
 use Rattle.std.specs.Prelude.{filter}
 use Rattle.yaml_scan_laws_texts.proofs.LevelWords.{cases_Bool, nat_tests, Kind, is_outside, indent, left_by, opened, margin_at, Rises, InsideLeaves, RightLeaves, LeftCloses, yaml_mark_t, column_at, mark_at, Wrong, Gap, Lexeme, cancels, is_value, is_start, is_end, depth, reached, ended, Candidate, candidate, fresh, is_fresh, has, placed, levels, WordText, kind_at, word_at, Next, Read, Ends, begun, finished, gap_behind, allowed_behind, misplaced, missed, lost_by, level_in, kind_behind, coming, next, no_colon, not_allowed, tested, unless_wrong, unless_lost, of_kind, unless_missed, behind, Came, IsFree, InTime, read_at, MetIsRead, not-true, and_parts, Entry, Opens, depth_after, may_be_key, opens_at, start_of, level_of, marked, entries, SpelledText, body_of_word, body_by, Says, Front, Idle, Meets, entry, IsPlaced, stays_level, WordIsRead, MarkIsRead, OuterIsRead, ltb-true}
@@ -172,7 +172,7 @@ pub tested_read : (l : Lexeme) (h : List Lexeme) → InTime (candidate 0 (l ∷ 
 tested_read l h u =
     ap (λ o. elim o as (λ _. Next) [ Some start ↦ no_colon start l.reached | None ↦ Read l ]) (missed_none (candidate 0 (l ∷ h)) l.reached u)
 
--- behind a gap that ends at a place, where a key may begin or not
+-- after a gap that ends at a place, where a key may begin or not
 of_place : (text : List ℕ) (gap : Gap) (h : List Lexeme) (k : Kind) (q : ℕ) (a : Bool)
     (w : WordText) → gap.place ≡ q → allowed_behind h gap ≡ a → is_end k ≡ false
     → let m = mark_at text q in let b = begun k m a h in let l = read_at text h k q a w in

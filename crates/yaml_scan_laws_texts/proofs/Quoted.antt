@@ -1,4 +1,4 @@
--- The value of a quoted scalar is UTF-8, and so is what stands behind it.
+-- The value of a quoted scalar is UTF-8, and so is what stands after it.
 use Rattle.std.proofs.Common.{◌≡◌, ℕ, zero, suc, ◌+◌, ◌<◌, ◌==◌, ◌&&◌, nat_lt, if◌then◌else◌, ◌||◌, Bool, true, false, List, [], ◌∷◌, ◌++◌, length, drop, Option, Some, None, Result, Ok, Err, refl, inl, inr, arith, IsUtf8, append-nil, append_assoc}
 use Rattle.yaml_scan_laws_texts.proofs.Words.{encode_utf8, IsScalar, cases_Bool, ltb-true, eqb-true, and_parts, nat_tests, drop_more, IsUtf8-nil, IsUtf8-append, IsUtf8-encode, byte, break_width, is_blank, break_value, is_document_indicator, Wrong, within, Piece, Kept, Blank, Break, value, QuotedSpot, Closing, Pieces, Bad, hex_digit, hex_value, is_scalar, coded, hex_len, simple_escape, escaped, escape_at, quote_at, standing_at, with_front, followed, pieces, quoted_at}
 use Rattle.yaml_scan_laws_order.specs.scan_scalars.Quoted.{valued}
@@ -29,7 +29,7 @@ Fits u text p Closing = IsUtf8 u × IsWhole text (p + 1)
 Fits u text p (Pieces qs q) = Joins u text qs q
 Fits u text p (Bad w) = Unit {0}
 
--- whole pieces behind which the text may be cut
+-- whole pieces after which the text may be cut
 kept_fits : (u text bytes : List ℕ) (q : ℕ) → IsUtf8 u → IsUtf8 bytes → IsWhole text q
     → Joins u text (Kept bytes ∷ []) q
 kept_fits u text bytes q a b w = record { waiting = []; waits = w; goes = λ ps f. f (u ++ bytes) (IsUtf8-append (u ++ bytes) (drop q text) (IsUtf8-append u bytes a b) w) }
@@ -189,7 +189,7 @@ standing_fits u text quote p small t w =
       ]
     ]
 
--- The pieces that are read, if any, go with what waits, and the text may be cut behind the closing quote.
+-- The pieces that are read, if any, go with what waits, and the text may be cut after the closing quote.
 record AreRead (u text : List ℕ) (x : List Piece × ℕ) : Type 0 where
   pub goes : Goes u x.0
   pub place : IsWhole text x.1

@@ -201,7 +201,7 @@ stands_alike t u d m quote p a l q =
       ]
     ])
 
--- ---- pieces, one behind another
+-- ---- pieces, one after another
 
 abbrev pub moved_pair : {A : Type 0} → ℕ → A × ℕ → A × ℕ
 moved_pair d x = (x.0, d + x.1)

@@ -70,7 +70,7 @@ same_steps x a b cut f fails (suc j) = by (same_steps x a b cut f fails j) (next
         }
     by before Ends e = absurd (end_never a f fails j e)
 
--- what comes behind them in the whole is a fault
+-- what comes after them in the whole is a fault
 pub failing : (t : List ℕ) (x : Lexeme) (h : List Lexeme) → is_end x.kind ≡ false
     → ((l : Lexeme) → next t (x ∷ h) ≢ Read l) → (g : ScanFault) × (next t (x ∷ h) ≡ Fails g)
 failing t x h more never = by (next t (x ∷ h)) refl

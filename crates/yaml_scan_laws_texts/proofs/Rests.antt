@@ -131,7 +131,7 @@ rest_bases a b cut m H some = record {
   count = omega (arith, some);
 }
 
--- The rest's lexemes B, and the whole's C, in front of alike ones.
+-- The rest's lexemes B, and the whole's C, before alike ones.
 pub record Ground (a b : List ℕ) (k : ℕ) (B C : List Lexeme) : Type 0 where
   pub alike : Alike b (a ++ b) (length a) (suc (length b))
   pub marks : (q : ℕ) → mark_at (a ++ b) (length a + q) ≡ moved_mark (length a) (line_at (a ++ b) (length a)) (mark_at b q)
@@ -144,7 +144,7 @@ reached_in : (t : List ℕ) (H : List Lexeme) → Stands t H → (reached H).ind
 reached_in t [] s = omega arith
 reached_in t (l ∷ h) s = s.inside
 
--- behind a mark
+-- after a mark
 pub rest_ground : (a b : List ℕ) → IsCut a b → (m : MarkStands b 0) → (H : List Lexeme)
     → 0 < length H → Ground a b (length H - 1) (rest_base m.kind b) (whole_base m.kind a b H)
 rest_ground a b cut m H some =
@@ -296,7 +296,7 @@ moved_never d n (Read k) never l e = never k refl
 moved_never d n (Fails p) never l e = cc
 moved_never d n Ends never l e = cc
 
--- all of the whole's lexemes, and what comes behind them
+-- all of the whole's lexemes, and what comes after them
 pub record Whole (x : yaml_encoding_t) (a b : List ℕ) (B C : List Lexeme) : Type 0 where
   pub lexemes : List Lexeme
   pub mine : all b ≡ lexemes ++ B

@@ -66,7 +66,7 @@ one_mark : (b : ℕ) (k : Kind) (body : TokenBody) → IsRead k body
 one_mark b k body read o z pc hyphen dot text p d level gap g h alone =
     came text p d level b k gap body read z pc dot g h (no_start text (p + length gap) b h hyphen) (ap (λ a. indicator_of (nat_lt 0 d) a b) alone ∙ o (nat_lt 0 d))
 
--- behind a hyphen before white stands no other
+-- after a hyphen before white stands no other
 no_second : (text : List ℕ) (p : ℕ) → is_blank_or_end text (p + 1) ≡ true
     → is_document_start text p ≡ false
 unfolding is_document_start

@@ -1,4 +1,4 @@
--- Where candidates stand, levels that open, and columns behind white.
+-- Where candidates stand, levels that open, and columns after white.
 use Rattle.std.proofs.Common.{◌≡◌, ◌⊎◌, ℕ, suc, ◌+◌, ◌-◌, ◌<◌, ◌≤◌, ◌==◌, ◌||◌, nat_lt, nat_le, cond, Bool, true, false, List, [], ◌∷◌, ◌++◌, length, Option, Some, None, refl, sym, ap, ◌∙◌, inl, inr, arith}
 use Rattle.std.specs.Prelude.{if◌then◌else◌}
 use Rattle.yaml_scan_laws_texts.proofs.LevelWords.{cases_Bool, and_parts, nat_tests, byte, ends_of, ends_break, starts, line_at, column_at, mark_at, are_gap, has_break, begins_lexeme, Lexeme, Opens, cancels, Candidate, candidate, fresh, indent, opened, start_of, line_at-grows, read_at, IsGap, StartsBy, Started, StartedGoesOn, LaterIsLone, BreakEndsLine, NearBefore, SlotsGoOn, NoneIsLone, LevelOpens, column_behind, WhiteColumns, LetterColumns, byte_cases}
@@ -75,7 +75,7 @@ return_line : (text : List ℕ) (p : ℕ) → byte text p ≡ 13 → (byte text 
     → ends_break text p ≡ true
 return_line text p e f = ap (λ (x : ℕ). ends_of (byte text (p - 2)) (byte text (p - 1)) x (byte text (p + 1))) e ∙ return_ends (byte text (p - 2)) (byte text (p - 1)) (byte text (p + 1)) f
 
--- LF stands behind CR within the gap, or not at all
+-- LF stands after CR within the gap, or not at all
 feed_behind : (text : List ℕ) (p : ℕ) (bs : List ℕ) → IsGap text p bs → (byte text p == 10) ≡ true
     → (cs : List ℕ) × (bs ≡ 10 ∷ cs)
 feed_behind text p [] g e =

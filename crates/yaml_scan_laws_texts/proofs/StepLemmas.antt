@@ -1,4 +1,4 @@
--- A step behind key-free lexemes, and what comes of them.
+-- A step after key-free lexemes, and what comes of them.
 use Rattle.std.proofs.Common.{◌≡◌, ℕ, zero, suc, ◌+◌, ◌&&◌, not, nat_lt, if◌then◌else◌, Bool, true, false, List, [], ◌∷◌, ◌++◌, length, map, reverse, drop, flat_map, Option, Some, None, Result, Ok, Err, refl, sym, ap, subst, ◌∙◌, inl, inr}
 use Rattle.yaml_scan_laws_texts.proofs.Words.{cases_Bool, append-nil, drop-map, yaml_mark_t, Token, mark_at, Wrong, Gap, Kind, Lexeme, Entry, is_value, is_start, is_end, depth, reached, ended, Candidate, candidate, fresh, is_fresh, has, placed, entries, WordText, kind_at, word_at, Next, Read, Fails, Ends, first_lexeme, begun, finished, allowed_behind, misplaced, missed, lost_by, kind_behind, coming, next, extended, history, no_colon, not_allowed, tested, unless_wrong, unless_lost, of_kind, unless_missed, behind, stepwise, SpelledText, token_in, spell, all, handed_out, handed, kept_of, fault_in, Remaining, remaining, asked, is_key_free, is_level_free, kinds_of, gap_in, lexeme_of}
 use Rattle.yaml_scan_laws_order.specs.scan_model.Faults.{Fault}
@@ -181,7 +181,7 @@ unfolding history next
 has_newest text zero = record { newest = first_lexeme; older = []; is = refl }
 has_newest text (suc n) = extended_more (next text (history text (suc n))) (history text (suc n)) (has_newest text n)
 
--- Each word behind such lexemes is read.
+-- Each word after such lexemes is read.
 abbrev ReadsWords : List ℕ → List Lexeme → Type 0
 ReadsWords text h = (k : Kind) (w : WordText) → AllMade h → is_level_free (k ∷ kinds_of h) ≡ true → ended h ≡ false
     → kind_at (nat_lt 0 (depth h)) text (gap_in text h).place ≡ Some k → word_at k (nat_lt 0 (depth h)) 0 text (gap_in text h).place ≡ Ok w

@@ -1,4 +1,4 @@
--- One lexeme more behind lexemes at a place.
+-- One lexeme more after lexemes at a place.
 use Rattle.std.proofs.Common.{◌≡◌, ℕ, ◌+◌, ◌≤◌, ◌==◌, ◌&&◌, ◌||◌, not, nat_lt, Bool, true, false, List, [], ◌∷◌, length, Option, refl, sym, ap, subst, ◌∙◌, arith}
 use Rattle.yaml_scan_laws_texts.proofs.LevelWords.{or-false, line_at, mark_at, Kind, Lexeme, Entry, depth_after, may_be_key, allows_key, is_value, is_outside, is_end, depth, Candidate, candidate, fresh, has, indent, WordText, first_lexeme, line_at-grows, Front, Meets, read_at, IsLone, White, Started, Stands, Comes, WordLeaves, WordsLeave, may_begin, StartSteps, WhiteSteps, WordSteps, MarkSteps, OuterSteps, KeyStarts, KeySteps, KeyStops}
 use Rattle.yaml_scan_laws_order.specs.scan_history.declared.kind.Kind.TheVariants as kinds
@@ -28,7 +28,7 @@ meets_so : (text : List ℕ) (h : List Lexeme) (d level : ℕ) (k : Kind) (q : �
     (w : WordText) → Meets text h d level k q a w → a ≡ b → Meets text h d level k q b w
 meets_so text h d level k q a b w m e = let P : Bool → Type 0 = λ x. Meets text h d level k q x w in subst P e m
 
--- what is known at the place behind it
+-- what is known at the place after it
 stands_of : (text : List ℕ) (p : ℕ) (h : List Lexeme) (d f : ℕ) (k : Kind) (gap : List ℕ)
     (a found : Bool) (w : WordText) (e : ℕ) (ms : List ℕ) (es : List Entry) (then wide : Bool)
     (i : ℕ) → depth h ≡ d → Started h i → i ≤ line_at text p → p + length gap ≤ e

@@ -67,7 +67,7 @@ read_so_far text (w ∷ ws) (stands, more) free on =
     let rest : GoOn ws = (and_parts (not (is_end w.kind)) (list_all (λ (x : Word). not (is_end x.kind)) ws) on).1 in
     words_history text w ws (stands, more) free rest (read_so_far text ws more (level_rest w.kind (word_kinds ws) free) rest)
 
--- nothing comes behind the end
+-- nothing comes after the end
 ends_behind : (text : List ℕ) (h : List Lexeme) → ended h ≡ true → next text h ≡ Ends
 unfolding next
 ends_behind text [] e = absurd (cc)

@@ -1,4 +1,4 @@
--- The tokens that are handed out carry UTF-8, but for what escapes spell.
+-- The tokens that are handed out carry UTF-8, except for what escapes spell.
 use Rattle.std.proofs.Common.{ℕ, List, [], ◌∷◌, IsUtf8, All}
 use Rattle.yaml_scan_laws_texts.proofs.Words.{All-nil, All-cons, Token, Lexeme, history, SpelledText, remaining, HasTexts}
 use Rattle.yaml_scan_laws_texts.proofs.Lexemes.{AllCarry, history_carry}

@@ -1,4 +1,4 @@
--- What each lexeme carries is UTF-8, but for what escapes spell, and the text may be cut behind it.
+-- What each lexeme carries is UTF-8, except for what escapes spell, and the text may be cut after it.
 use Rattle.std.proofs.Common.{◌≡◌, ℕ, ◌+◌, ◌<◌, ◌==◌, ◌&&◌, ◌||◌, not, nat_lt, Bool, true, false, List, length, slice_range, Option, Result, Ok, Err, inl, inr, arith, IsUtf8}
 use Rattle.yaml_scan_laws_texts.proofs.Words.{cases_Bool, ltb-true, eqb-true, or_cases, not-false, or_parts, nat_tests, IsUtf8-nil, yaml_scalar_style_t, TokenBody, byte, break_width, column_at, is_blank, is_blank_or_end, Wrong, within, is_document_start, is_document_end, is_name_end, may_end_name, name_between, anchor_at, some_uri_at, uri_at, TagText, bracketed, name_end, with_handle, bare, parts_at, may_end_tag, ValueText, then_at, directive_name_between, handle_between, handle_at, prefix_at, with_prefix, named_value_at, value_at, break_end, line_end_at, with_line, single_quoted_at, double_quoted_at, PlainText, plain_at, BlockText, block_at, style_at, Kind, kind_at, WordText, carrying, valued, tagged, body_said, directed, blocked, plainly, word_at, HasTexts}
 use Rattle.yaml_scan_laws_order.specs.scan_model.declared.problem.Context.{Context}
@@ -43,7 +43,7 @@ tag_end_whole flow text p t h =
       | inr b ↦ whole_ascii text p t (grind (arith, nat_tests))
     ]
 
--- what a lexeme carries, and the place behind it
+-- what a lexeme carries, and the place after it
 pub record IsWord (text : List ℕ) (w : WordText) : Type 0 where
   pub texts : HasTexts w.body
   pub place : IsWhole text w.reached

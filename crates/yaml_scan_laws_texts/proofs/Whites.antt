@@ -1,4 +1,4 @@
--- The white behind lexemes.
+-- The white after lexemes.
 use Rattle.std.proofs.Common.{◌≡◌, ℕ, zero, suc, ◌+◌, ◌-◌, ◌<◌, ◌≤◌, ◌==◌, ◌&&◌, ◌||◌, not, nat_lt, Bool, true, false, List, [], ◌∷◌, ◌++◌, length, get_or, refl, sym, ap, subst, ◌∙◌, inl, inr, ◌⊎◌, arith}
 use Rattle.yaml_scan_laws_texts.proofs.LevelWords.{cases_Bool, and_parts, not-true, nat_tests, append-nil, byte, break_of, break_width, mark_at, is_bom, Gap, gap_at, HasAt, are_gap, has_break, begins_lexeme, Kind, Lexeme, allows_key, is_value, reached, depth, in_flow, candidate, fresh, has, key_allowed, gap_behind, allowed_behind, gap_is_read, IsGap, WhiteBegins, WhiteGoesOn, WhiteIsTaken, WhiteIsOver, WhiteIsPassed, WhiteMeets, KeyIsAllowed}
 use Rattle.yaml_scan_laws_order.specs.scan_history.declared.kind.Kind.TheVariants as kinds
@@ -110,7 +110,7 @@ no_white text p b e f g =
       | inr x ↦ let y = not-true (nat_lt 0 (break_width text p)) wide in cc
     ]
 
--- what is left of a gap behind its first part
+-- what is left of a gap after its first part
 record Parts (text : List ℕ) (p : ℕ) (white gap : List ℕ) : Type 0 where
   more : List ℕ
   same : gap ≡ white ++ more
@@ -120,7 +120,7 @@ record Parts (text : List ℕ) (p : ℕ) (white gap : List ℕ) : Type 0 where
 pub has_first : (text : List ℕ) (p b : ℕ) (bs : List ℕ) → HasAt text p (b ∷ bs) → byte text p ≡ b
 has_first text p b bs h = let e : p + 0 ≡ p = omega arith in sym (ap (λ (n : ℕ). byte text n) e) ∙ h 0 (omega arith)
 
--- the bytes behind the first
+-- the bytes after the first
 pub has_rest : (text : List ℕ) (p b : ℕ) (bs : List ℕ) → HasAt text p (b ∷ bs)
     → HasAt text (p + 1) bs
 has_rest text p b bs h = λ k few. let e : p + suc k ≡ p + 1 + k = omega arith in sym (ap (λ (n : ℕ). byte text n) e) ∙ h (suc k) (omega (arith, few))

@@ -56,7 +56,7 @@ three_is : (b c d : ℕ) → break_of b c d ≡ 3 → ((b ≡ 0xE2) × (c ≡ 0x
 unfolding break_of
 three_is b c d h = grind (arith, nat_tests)
 
--- behind a character that stands there
+-- after a character that stands there
 past_char : (text rest : List ℕ) (p q c : ℕ) → IsUtf8 text → Begins (byte text p)
     → drop p text ≡ encode_utf8 c ++ rest → drop q text ≡ rest → IsWhole text q
 past_char text rest p q c u b e f = rw f (IsUtf8-past_char (drop p text) rest c (whole_at text p u b) e)
@@ -117,7 +117,7 @@ behind_three text p u h =
       | inr e ↦ whole_mark text p 0xE2 0x80 0xA9 0x2029 u a.0 a.1 e (omega arith) (omega arith) ps_char
     ]
 
--- behind a break, if one is there
+-- after a break, if one is there
 pub whole_behind : (text : List ℕ) (p : ℕ) → IsUtf8 text → 0 < break_width text p
     → IsWhole text (p + break_width text p)
 whole_behind text p u h =
@@ -176,7 +176,7 @@ ends_whole text p u h =
 pub blank_small : (b : ℕ) → is_blank b ≡ true → b < 128
 blank_small b h = grind (arith, nat_tests)
 
--- where blanks alone stand behind a break
+-- where blanks alone stand after a break
 pub leads_whole : (text : List ℕ) (p : ℕ) → IsUtf8 text → leads text p ≡ true → IsWhole text p
 unfolding leads
 leads_whole text zero u h = u
@@ -240,7 +240,7 @@ indicator_small text p h =
       | inr e ↦ omega (arith, e)
     ]
 
--- Behind bytes that wait for the rest of a character, these pieces bring it: what is kept up to the next blank or break is
+-- After bytes that wait for the rest of a character, these pieces bring it: what is kept up to the next blank or break is
 -- UTF-8.
 abbrev pub Goes : List ℕ → List Piece → Type 0
 Goes u [] = IsUtf8 u

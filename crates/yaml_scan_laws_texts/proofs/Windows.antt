@@ -122,7 +122,7 @@ pub record AtCut (x : yaml_encoding_t) (a : List ℕ) (last first : Token) (behi
   pub begins : mark.body ≡ document_start
   pub there : moved_mark (length a) (line_at a (length a)) mark.start_mark ≡ last.start_mark
 
--- Behind a cut in front of `---` stands DOCUMENT-START, at the place where the front's STREAM-END stood.
+-- After a cut before `---` stands DOCUMENT-START, at the place where the front's STREAM-END stood.
 pub at_cut : (x : yaml_encoding_t) (a b : List ℕ) → IsCut a b → is_document_start b 0 ≡ true
     → (scan_of x a).fault ≡ None → depth (all a) ≡ 0
     → (front : List Token) (last : Token) → (scan_of x a).tokens ≡ front ++ last ∷ []

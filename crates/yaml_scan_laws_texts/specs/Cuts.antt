@@ -26,13 +26,13 @@ pub record IsCut (front rest : List ℕ) : Type 0 where
 abbrev pub is_white : ℕ → Bool
 is_white b = is_blank b || (b == ascii.line_feed || b == ascii.carriage_return)
 
--- a line `...`, and blanks and breaks behind it, the last of which is LF
+-- a line `...`, and blanks and breaks after it, the last of which is LF
 pub record IsEndLine (line : List ℕ) : Type 0 where
   pub mark : is_document_end line 0 ≡ true
   pub white : (p : ℕ) → 3 ≤ p → p < length line → is_white (byte line p) ≡ true
   pub feed : EndsIn line ascii.line_feed
 
--- A text may be cut behind such a line too, in front of whatever doesn't begin with U+FEFF.
+-- A text may be cut after such a line too, before whatever doesn't begin with U+FEFF.
 pub record IsEndCut (front rest : List ℕ) : Type 0 where
   pub before : List ℕ
   pub line : List ℕ
@@ -42,7 +42,7 @@ pub record IsEndCut (front rest : List ℕ) : Type 0 where
   pub ends : IsEndLine line
   pub mark : is_bom rest 0 ≡ false
 
--- the place of a text's first lexeme, behind blanks, comments and breaks
+-- the place of a text's first lexeme, after blanks, comments and breaks
 abbrev pub first_place : List ℕ → ℕ
 first_place text = (gap_at false true text 0).place
 

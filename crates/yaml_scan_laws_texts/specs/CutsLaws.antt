@@ -13,7 +13,7 @@ use Rattle.yaml_scan_laws_texts.specs.Moved.{moved_token, moved_fault}
 abbrev pub scan_of : yaml_encoding_t → List ℕ → Remaining
 scan_of encoding text = offline record { encoding = encoding; text = text }
 
--- the tokens in front of a cut, those behind it as they are told of the rest alone, and the fault of the rest
+-- the tokens before a cut, those after it as they are told of the rest alone, and the fault of the rest
 abbrev pub joined : List ℕ → List Token → List Token → Remaining → Remaining
 joined front before behind rest = record {
   tokens = before ++ map (moved_token (length front) (line_at front (length front))) behind;
@@ -30,19 +30,19 @@ WindowsAreScanned = (encoding : yaml_encoding_t) (front rest : List ℕ) → IsC
     → (first : Token) (behind : List Token) → (scan_of encoding rest).tokens ≡ first ∷ behind
     → scan_of encoding (front ++ rest) ≡ joined front before behind (scan_of encoding rest)
 
--- what stands in front of a fault, and that fault
+-- what stands before a fault, and that fault
 abbrev pub refused_by : Fault → Remaining → Remaining
 refused_by g r = record { tokens = r.tokens; fault = Some g }
 
--- Where what stands in front of a cut has a fault, the whole has its tokens and a fault, whatever stands behind the cut; and that is
--- the same fault, where either stands in front of the cut.
+-- Where what stands before a cut has a fault, the whole has its tokens and a fault, whatever stands after the cut; and that is
+-- the same fault, where either stands before the cut.
 abbrev pub RefusedFrontsAreScanned : Type 0
 RefusedFrontsAreScanned = (encoding : yaml_encoding_t) (front rest : List ℕ) → IsCut front rest
     → (f : Fault) → (scan_of encoding front).fault ≡ Some f
     → (g : Fault) × (scan_of encoding (front ++ rest) ≡ refused_by g (scan_of encoding front))
     × ((f.problem_mark.index < length front) ⊎ (g.problem_mark.index < length front) → g ≡ f)
 
--- So it is where a text is cut behind a line `...`.
+-- So it is where a text is cut after a line `...`.
 abbrev pub EndedWindowsAreScanned : Type 0
 EndedWindowsAreScanned = (encoding : yaml_encoding_t) (front rest : List ℕ) → IsEndCut front rest
     → (scan_of encoding front).fault ≡ None → depth (all front) ≡ 0

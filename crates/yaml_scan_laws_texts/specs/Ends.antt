@@ -15,7 +15,7 @@ use Rattle.yaml_scan_laws_order.specs.scan_history.Remaining.{SpelledText, spell
 use Rattle.yaml_scan_laws_texts.specs.Fronts.{Front, Idle, Meets, entry}
 use Rattle.yaml_scan_laws_texts.specs.Tokens.{bodies_of, told}
 
--- what is known behind the stream's start
+-- what is known after the stream's start
 pub record StreamStands (text : List ℕ) : Type 0 where
   pub front : Front text (first_lexeme ∷ []) 0 [] (entry first_lexeme 0 opening.Nothing ∷ [])
   pub idle : Idle (first_lexeme ∷ [])

@@ -1,4 +1,4 @@
--- What is known behind lexemes that came one behind the other.
+-- What is known after lexemes that came one after the other.
 use Rattle.std.specs.Prelude.{◌≡◌, ◌⊎◌, ◌<◌, ◌-◌, ℕ, Bool, true, false, List, [], ◌∷◌, ◌&&◌, nat_lt, length, Option, Some, None, Ok}
 use Rattle.yaml_scan_laws_order.specs.scan_model.declared.record.yaml_mark_t.{yaml_mark_t}
 use Rattle.yaml_scan_laws_order.specs.scan_model.declared.name.yaml_encoding_t.{yaml_encoding_t}
@@ -13,7 +13,7 @@ use Rattle.yaml_scan_laws_order.specs.scan_history.Words.{WordText, kind_at, wor
 use Rattle.yaml_scan_laws_order.specs.scan_history.Next.{Read, next, first_lexeme, gap_behind, allowed_behind, begun, level_in}
 use Rattle.yaml_scan_laws_order.specs.scan_history.Remaining.{body_in}
 
--- Lexemes that come one behind the other, from the stream's start on; the newest stands first.
+-- Lexemes that come one after the other, from the stream's start on; the newest stands first.
 unfoldable pub Came : List ℕ → List Lexeme → Type 0
 Came text [] = ⊥
 Came text (l ∷ []) = l ≡ first_lexeme
@@ -24,7 +24,7 @@ unfoldable pub Rises : ℕ → List ℕ → Type 0
 Rises b [] = Unit {0}
 Rises b (m ∷ ms) = (b < m) × Rises m ms
 
--- What is known behind lexemes: they came, and so many brackets, these levels and these entries
+-- What is known after lexemes: they came, and so many brackets, these levels and these entries
 -- stand there.
 pub record Front (text : List ℕ) (h : List Lexeme) (d : ℕ) (ms : List ℕ)
     (es : List Entry) : Type 0 where
@@ -54,7 +54,7 @@ pub record Holds (h : List Lexeme) (d : ℕ) (c : Candidate) : Type 0 where
   pub slot : candidate d h ≡ Some c
   pub others : (e : ℕ) → (d ≡ e → ⊥) → IsFree (candidate e h)
 
--- What stands behind lexemes, where so many brackets are open: its place, whether a key may begin
+-- What stands after lexemes, where so many brackets are open: its place, whether a key may begin
 -- there, its kind, and its word in that level.
 pub record Meets (text : List ℕ) (h : List Lexeme) (d level : ℕ) (k : Kind) (q : ℕ) (a : Bool)
     (w : WordText) : Type 0 where
@@ -63,7 +63,7 @@ pub record Meets (text : List ℕ) (h : List Lexeme) (d level : ℕ) (k : Kind) 
   pub kind : kind_at (nat_lt 0 d) text q ≡ Some k
   pub word : word_at k (nat_lt 0 d) level text q ≡ Ok w
 
--- the lexeme of a kind that isn't the stream's end, at a place behind lexemes
+-- the lexeme of a kind that isn't the stream's end, at a place after lexemes
 abbrev pub read_at : List ℕ → List Lexeme → Kind → ℕ → Bool → WordText → Lexeme
 read_at text h k q a w = record {
   kind = k;
@@ -81,7 +81,7 @@ read_at text h k q a w = record {
 abbrev pub entry : Lexeme → ℕ → Opens → Entry
 entry l n what = record { lexeme = l; ends = n; opens = what; key = false }
 
--- A lexeme at a column, behind so many open brackets, leaves ls of the levels ms, and closes n.
+-- A lexeme at a column, after so many open brackets, leaves ls of the levels ms, and closes n.
 pub record LeavesLevels (d c : ℕ) (ms ls : List ℕ) (n : ℕ) : Type 0 where
   pub left : (k : Kind) → is_outside k ≡ false → left_by k d c ms ≡ ls
   pub closed : length ms - length ls ≡ n
@@ -92,7 +92,7 @@ abbrev pub Says : List ℕ → Lexeme → WordText → Type 0
 Says text l w = (x : yaml_encoding_t)
     → body_in (record { encoding = x; text = text }) l ≡ w.body
 
--- A lexeme is read, and this is known behind it; no `:` is owed.
+-- A lexeme is read, and this is known after it; no `:` is owed.
 pub record Pushed (text : List ℕ) (h : List Lexeme) (l : Lexeme) (w : WordText) (d : ℕ)
     (ms : List ℕ) (es : List Entry) : Type 0 where
   pub read : next text h ≡ Read l

@@ -37,12 +37,12 @@ asked_after kinds.SingleQuoted qs = qs
 asked_after kinds.DoubleQuoted qs = qs
 asked_after _ qs = marked_so false qs
 
--- for each open bracket, innermost first: whether a `?` stands in it, and only nodes behind that
+-- for each open bracket, innermost first: whether a `?` stands in it, and only nodes after that
 unfoldable pub asked : List Kind → List Bool
 asked [] = []
 asked (k ∷ ks) = asked_after k (asked ks)
 
--- `?` stands in brackets, and `:` behind a `?`; block marks, block scalars and plain ones have no place.
+-- `?` stands in brackets, and `:` after a `?`; block marks, block scalars and plain ones have no place.
 abbrev pub fits : Kind → List Bool → Bool
 fits kinds.KeyMark qs = is_inside qs
 fits kinds.ValueMark qs = innermost qs

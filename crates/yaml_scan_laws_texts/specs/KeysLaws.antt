@@ -13,7 +13,7 @@ use Rattle.yaml_scan_laws_order.specs.scan_history.Next.{Read, Ends, allowed_beh
 use Rattle.yaml_scan_laws_order.specs.scan_history.Remaining.{SpelledText, token_in, spell, all, remaining}
 use Rattle.yaml_scan_laws_texts.specs.KeyFree.{innermost, asked, is_key_free, is_level_free, kinds_of}
 
--- Behind a `?` in brackets, with only nodes after it, no candidate stands at its depth.
+-- After a `?` in brackets, with only nodes after it, no candidate stands at its depth.
 abbrev pub AskedHaveNoCandidate : Type 0
 AskedHaveNoCandidate = (text : List ℕ) (n : ℕ) → let h = history text n in
     is_key_free (kinds_of h) ≡ true → innermost (asked (kinds_of h)) ≡ true → candidate (depth h) h
@@ -34,7 +34,7 @@ KeyFreeTextsAreBare = (s : SpelledText) → is_key_free (kinds_of (all s.text)) 
       fault = None;
     }
 
--- Behind key-free lexemes no level is open.
+-- After key-free lexemes no level is open.
 abbrev pub KeyFreeIsLevelFree : Type 0
 KeyFreeIsLevelFree = (ks : List Kind) → is_key_free ks ≡ true → is_level_free ks ≡ true
 
@@ -48,7 +48,7 @@ NoneIsRequired = (text : List ℕ) (n d : ℕ) (l : Lexeme) (at to : yaml_mark_t
 
 -- ---- one step
 
--- what stands behind lexemes
+-- what stands after lexemes
 abbrev pub gap_in : List ℕ → List Lexeme → Gap
 gap_in text h = gap_at (nat_lt 0 (depth h)) (key_allowed h) text (reached h).index
 
@@ -56,7 +56,7 @@ gap_in text h = gap_at (nat_lt 0 (depth h)) (key_allowed h) text (reached h).ind
 abbrev pub end_in : List ℕ → Kind → ℕ → ℕ → yaml_mark_t
 end_in text k start end = if is_end k then placed k (mark_at text start) else mark_at text end
 
--- the lexeme of that kind behind a gap, where no level is open
+-- the lexeme of that kind after a gap, where no level is open
 abbrev pub lexeme_of : List ℕ → List Lexeme → Gap → Kind → WordText → Lexeme
 lexeme_of text h gap k w = record {
   kind = k;

@@ -25,13 +25,13 @@ lexemes text [] = first_lexeme ∷ []
 lexemes text (w ∷ ws) = lexeme_of text (lexemes text ws) (gap_in text (lexemes text ws)) w.kind
     w.said ∷ lexemes text ws
 
--- Behind those lexemes the word's kind stands at its place, and is read so.
+-- After those lexemes the word's kind stands at its place, and is read so.
 pub record StandsBehind (text : List ℕ) (h : List Lexeme) (w : Word) : Type 0 where
   pub place : (gap_in text h).place ≡ w.place
   pub kind : kind_at (nat_lt 0 (depth h)) text w.place ≡ Some w.kind
   pub said : word_at w.kind (nat_lt 0 (depth h)) 0 text w.place ≡ Ok w.said
 
--- each word stands behind those before it
+-- each word stands after those before it
 unfoldable pub WordsStand : List ℕ → List Word → Type 0
 WordsStand text [] = Unit {0}
 WordsStand text (w ∷ ws) = StandsBehind text (lexemes text ws) w × WordsStand text ws
@@ -61,7 +61,7 @@ ReachEnd [] = ⊥
 ReachEnd (w ∷ ws) = (is_end w.kind ≡ true)
     × (list_all (λ (x : Word). not (is_end x.kind)) ws ≡ true)
 
--- The lexemes of a text in which words stand one behind another, up to the end, of which none opens a
+-- The lexemes of a text in which words stand one after another, up to the end, of which none opens a
 -- level, are these words, without fault.
 abbrev pub WordsAreLexemes : Type 0
 WordsAreLexemes = (text : List ℕ) (ws : List Word) → WordsStand text ws
@@ -69,7 +69,7 @@ WordsAreLexemes = (text : List ℕ) (ws : List Word) → WordsStand text ws
     ≡ true → ReachEnd ws
     → (all text ≡ lexemes text ws) × (next text (all text) ≡ Ends)
 
--- A text in which key-free words stand one behind another, up to the end, is read as their tokens, without fault.
+-- A text in which key-free words stand one after another, up to the end, is read as their tokens, without fault.
 abbrev pub WordsAreRead : Type 0
 WordsAreRead = (s : SpelledText) (ws : List Word) → WordsStand s.text ws
     → is_key_free (word_kinds ws)

@@ -38,7 +38,7 @@ level_at n [] = opening.Nothing
 level_at n (l ∷ h) = if opens_level l h && begins_with l h == n then level_of l.kind
     else level_at n h
 
--- the levels that a lexeme closes: those in front of it that it doesn't leave open
+-- the levels that a lexeme closes: those before it that it doesn't leave open
 abbrev pub closes : Lexeme → List Lexeme → ℕ
 closes l h = length (levels h) - length (inside l h)
 
@@ -49,13 +49,13 @@ abbrev pub key_tokens : Bool → Lexeme → List Token
 key_tokens true l = before key l ∷ []
 key_tokens false l = []
 
--- The tokens of a lexeme of `all` that stands behind h: BLOCK-END for each level that it closes, the start of the one
+-- The tokens of a lexeme of `all` that stands after h: BLOCK-END for each level that it closes, the start of the one
 -- that begins with it, KEY where it is one, and its own.
 abbrev pub tokens_of : SpelledText → List Lexeme → Lexeme → List Lexeme → List Token
 tokens_of s all l h = (end_tokens l h ++ start_tokens (level_at (length h) all) l)
     ++ (key_tokens (is_key (length h) all) l ++ token_in s l ∷ [])
 
--- what is handed out of them: of lexeme m BLOCK-END alone, and of those behind it nothing
+-- what is handed out of them: of lexeme m BLOCK-END alone, and of those after it nothing
 abbrev pub given_of : SpelledText → List Lexeme → ℕ → Lexeme → List Lexeme → List Token
 given_of s all m l h = if nat_lt (length h) m then tokens_of s all l h
     else if length h == m then end_tokens l h else []

@@ -1,4 +1,4 @@
--- What is read of a text, as it is read of that text behind others: d bytes and n lines further on.
+-- What is read of a text, as it is read of that text after others: d bytes and n lines further on.
 use Rattle.std.specs.Prelude.{ℕ, ◌+◌}
 use Rattle.yaml_scan_history.specs.scan_model.declared.record.yaml_mark_t.{yaml_mark_t}
 use Rattle.yaml_scan_history.specs.scan_model.declared.problem.ScanFault.{ScanFault}

@@ -1,4 +1,4 @@
--- What a lexeme makes of what is known behind those before it.
+-- What a lexeme makes of what is known after those before it.
 use Rattle.std.specs.Prelude.{◌≡◌, ◌⊎◌, ◌≤◌, ℕ, Bool, true, false, not, ◌&&◌, ◌||◌, nat_lt, List, [], ◌∷◌, ◌++◌, length, None}
 use Rattle.yaml_scan_laws_order.specs.scan_model.Marks.{column_at, mark_at}
 use Rattle.yaml_scan_laws_order.specs.scan_history.declared.kind.Kind.{Kind}
@@ -11,13 +11,13 @@ use Rattle.yaml_scan_laws_order.specs.scan_history.Words.{WordText}
 use Rattle.yaml_scan_laws_order.specs.scan_history.Next.{Read, next}
 use Rattle.yaml_scan_laws_texts.specs.Fronts.{Front, IsFree, InTime, Idle, LeavesLevels, Meets, Pushed, Rises, entry, read_at}
 
--- a `-`, a `?` or a `:` stands where a key may begin, or behind a candidate that takes it, or in
+-- a `-`, a `?` or a `:` stands where a key may begin, or after a candidate that takes it, or in
 -- brackets
 abbrev pub IsPlaced : List ℕ → List Lexeme → ℕ → Kind → ℕ → Bool → Type 0
 IsPlaced text h d k q a = (is_start k ≡ false) ⊎ ((nat_lt 0 d ≡ true) ⊎ ((a ≡ true) ⊎ (is_value k
     && has (fresh (candidate d h) (mark_at text q)) ≡ true)))
 
--- What stands behind lexemes is read, where no `:` that is owed stays out.
+-- What stands after lexemes is read, where no `:` that is owed stays out.
 abbrev pub MetIsRead : Type 0
 MetIsRead = (text : List ℕ) (h : List Lexeme) (d : ℕ) (ms : List ℕ) (es : List Entry) (k : Kind)
     (q : ℕ)

@@ -1,5 +1,5 @@
 -- Where candidates stand: which `:` meets none, and which is near its key; levels that open;
--- columns behind white.
+-- columns after white.
 use Rattle.std.specs.Prelude.{◌≡◌, ◌<◌, ◌≤◌, ◌+◌, ◌==◌, ℕ, Bool, true, false, not, ◌&&◌, nat_lt, if◌then◌else◌, List, [], ◌∷◌, ◌++◌, length, Option, Some, None}
 use Rattle.yaml_scan_laws_order.specs.scan_model.Ascii as ascii
 use Rattle.yaml_scan_laws_order.specs.scan_model.declared.record.yaml_mark_t.{yaml_mark_t}
@@ -49,7 +49,7 @@ NearBefore = (text : List ℕ) (start : yaml_mark_t) (p q : ℕ) → p ≤ q
 
 -- ---- one depth's candidate
 
--- It stays behind a word of its depth that neither may be a key nor cancels, and behind what stands
+-- It stays after a word of its depth that neither may be a key nor cancels, and after what stands
 -- deeper; what may be no key and cancels takes it away; and none stands in a bracket that has just
 -- opened.
 pub record SlotsGoOn : Type 0 where
@@ -84,7 +84,7 @@ pub record LevelOpens : Type 0 where
 
 -- ---- columns
 
--- the column behind spaces and breaks
+-- the column after spaces and breaks
 abbrev pub column_behind : List ℕ → ℕ → ℕ
 column_behind [] c = c
 column_behind (b ∷ bs) c = column_behind bs (if b == ascii.space then c + 1 else 0)

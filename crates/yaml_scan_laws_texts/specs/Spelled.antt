@@ -24,7 +24,7 @@ IsHandle handle = (handle ≡ ascii.exclamation ∷ [])
     ⊎ ((name : List ℕ) × (handle ≡ ascii.exclamation ∷ (name ++ (ascii.exclamation ∷ [])))
     × AreAlphas name)
 
--- Anchors and aliases have names; a tag directive has a handle and some prefix, and a tag some suffix, behind a handle or none.
+-- Anchors and aliases have names; a tag directive has a handle and some prefix, and a tag some suffix, after a handle or none.
 abbrev pub IsSpelled : TokenBody → Type 0
 IsSpelled (token.anchor name) = IsName name
 IsSpelled (token.alias name) = IsName name

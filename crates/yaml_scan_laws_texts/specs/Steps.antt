@@ -1,4 +1,4 @@
--- What is known behind lexemes at a place in the text, and one lexeme more: the form that a walk
+-- What is known after lexemes at a place in the text, and one lexeme more: the form that a walk
 -- over a layout takes.
 use Rattle.std.specs.Prelude.{◌≡◌, ◌≤◌, ◌+◌, ◌==◌, ℕ, Bool, true, false, not, ◌&&◌, ◌||◌, nat_lt, List, [], ◌∷◌, ◌++◌, length, Some, Ok}
 use Rattle.yaml_scan_laws_order.specs.scan_model.Marks.{line_at, column_at, mark_at}
@@ -18,7 +18,7 @@ use Rattle.yaml_scan_laws_texts.specs.Keys.{IsInKey}
 use Rattle.yaml_scan_laws_texts.specs.White.{IsGap, White}
 use Rattle.yaml_scan_laws_texts.specs.Slots.{Started}
 
--- Lexemes up to a place, from which on white is to come; whether a key may begin behind it; and the
+-- Lexemes up to a place, from which on white is to come; whether a key may begin after it; and the
 -- line up to which candidates start.
 pub record Stands (text : List ℕ) (p n : ℕ) (h : List Lexeme) (d : ℕ) (ms : List ℕ)
     (es : List Entry) (now broken : Bool) : Type 0 where
@@ -27,7 +27,7 @@ pub record Stands (text : List ℕ) (p n : ℕ) (h : List Lexeme) (d : ℕ) (ms 
   pub started : Started h n
   pub line : n ≤ line_at text p
 
--- A word of that kind stands behind the white from p on, and reaches to e or further with white.
+-- A word of that kind stands after the white from p on, and reaches to e or further with white.
 pub record Comes (text : List ℕ) (p d level : ℕ) (k : Kind) (gap : List ℕ) (w : WordText)
     (e : ℕ) : Type 0 where
   pub behind : IsGap text p gap
@@ -35,7 +35,7 @@ pub record Comes (text : List ℕ) (p d level : ℕ) (k : Kind) (gap : List ℕ)
   pub word : word_at k (nat_lt 0 d) level text (p + length gap) ≡ Ok w
   pub up : p + length gap ≤ e
 
--- Behind a word, which allows a key or not, white is to come from e on.
+-- After a word, which allows a key or not, white is to come from e on.
 abbrev pub WordLeaves : List ℕ → ℕ → Bool → WordText → ℕ → Bool → Bool → Type 0
 WordLeaves text d allows w e now broken = (h : List Lexeme) → (reached h).index ≡ w.reached
     → key_allowed h ≡ (allows || w.broke) → depth h ≡ d → White text h e now broken
@@ -61,7 +61,7 @@ pub record SteppedInWalk (text : List ℕ) (e n : ℕ) (h : List Lexeme) (l : Le
   pub stands : Stands text e n (l ∷ h) d ms es now broken
   pub body : Says text l w
 
--- a key may begin behind that white
+-- a key may begin after that white
 abbrev pub may_begin : Bool → Bool → List ℕ → Bool
 may_begin now broken gap = now || (has_break gap && broken)
 
@@ -153,7 +153,7 @@ KeySteps = (text : List ℕ) (p i : ℕ) (h : List Lexeme) (d f : ℕ) (c : Cand
     ∷ []) then wide
     × Holds (l ∷ h) d c
 
--- The `:` of a key; no key may begin behind it on its line.
+-- The `:` of a key; no key may begin after it on its line.
 abbrev pub KeyStops : Type 0
 KeyStops = (text : List ℕ) (p i : ℕ) (h : List Lexeme) (d : ℕ) (ms : List ℕ) (done : List Entry)
     (first : Entry)

@@ -33,7 +33,7 @@ abbrev pub LevelTells : Type 0
 LevelTells = (s : SpelledText) (es : List Entry) (n : ℕ) (bs : List TokenBody)
     → told s es (suc n) bs ≡ told s es n (block_end ∷ bs)
 
--- A key whose words say K, behind the levels that it closes, and its `:`.
+-- A key whose words say K, after the levels that it closes, and its `:`.
 abbrev pub KeyTells : Type 0
 KeyTells = (s : SpelledText) (ms : List ℕ) (done : List Entry) (l : Lexeme) (n : ℕ)
     (rest : List Entry) (v : Lexeme)

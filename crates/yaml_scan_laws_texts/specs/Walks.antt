@@ -23,7 +23,7 @@ use Rattle.yaml_scan_laws_texts.specs.Tokens.{told, start_bodies}
 use Rattle.yaml_scan_laws_texts.specs.Steps.{Stands, Comes, WordLeaves, may_begin}
 
 -- Where a walk is: its place, a line up to which candidates start, how many brackets are open, and
--- whether a key may begin now, or behind a break.
+-- whether a key may begin now, or after a break.
 pub record WalkState : Type 0 where
   pub at : ℕ
   pub line : ℕ
@@ -242,7 +242,7 @@ WalkKeyStops = (x : yaml_encoding_t) (text : List ℕ) (o : WalkState) (start : 
 
 -- ---- `?` in brackets
 
--- The `?` itself: behind it no candidate stands at its depth.
+-- The `?` itself: after it no candidate stands at its depth.
 abbrev pub WalkAsks : Type 0
 WalkAsks = (x : yaml_encoding_t) (text : List ℕ) (o : WalkState) (cs ls : List ℕ)
     (T : List TokenBody → List TokenBody)

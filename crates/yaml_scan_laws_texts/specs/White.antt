@@ -1,4 +1,4 @@
--- The white behind lexemes, seen from a place: before it, or behind it, lexemes may have taken
+-- The white after lexemes, seen from a place: before it, or after it, lexemes may have taken
 -- some.
 use Rattle.std.specs.Prelude.{◌≡◌, ℕ, ◌+◌, ◌==◌, Bool, true, false, not, ◌&&◌, ◌||◌, nat_lt, List, ◌∷◌, length, Some, Ok}
 use Rattle.yaml_scan_laws_order.specs.scan_model.Marks.{mark_at}
@@ -17,7 +17,7 @@ pub record IsGap (text : List ℕ) (p : ℕ) (gap : List ℕ) : Type 0 where
   pub blank : are_gap gap ≡ true
   pub ends : begins_lexeme text (p + length gap) ≡ true
 
--- What stands behind the white there stands behind the lexemes: a key may begin there where `now`
+-- What stands after the white there stands after the lexemes: a key may begin there where `now`
 -- says so, or where a break stands in the white and `broken` says so.
 pub record White (text : List ℕ) (h : List Lexeme) (p : ℕ) (now broken : Bool) : Type 0 where
   pub place : (gap : List ℕ) → IsGap text p gap → (gap_behind text h).place ≡ p + length gap
@@ -42,14 +42,14 @@ WhiteIsTaken = (text : List ℕ) (h : List Lexeme) (p : ℕ) (white : List ℕ) 
     → (reached h).index ≡ p + length white → key_allowed h ≡ has_break white
     → White text h p false true
 
--- The last lexeme has taken the whole white with it, and no break in it counts, as behind
+-- The last lexeme has taken the whole white with it, and no break in it counts, as after
 -- directives.
 abbrev pub WhiteIsOver : Type 0
 WhiteIsOver = (text : List ℕ) (h : List Lexeme) (p : ℕ) (now : Bool) (white : List ℕ)
     → IsGap text p white
     → (reached h).index ≡ p + length white → key_allowed h ≡ now → White text h p now false
 
--- The last lexeme has taken some of the white, and a key may begin behind it, as behind block
+-- The last lexeme has taken some of the white, and a key may begin after it, as after block
 -- scalars.
 abbrev pub WhiteIsPassed : Type 0
 WhiteIsPassed = (text : List ℕ) (h : List Lexeme) (p : ℕ) (white : List ℕ) (broken : Bool)
@@ -57,7 +57,7 @@ WhiteIsPassed = (text : List ℕ) (h : List Lexeme) (p : ℕ) (white : List ℕ)
     → are_gap white ≡ true → (reached h).index ≡ p + length white → key_allowed h ≡ true
     → White text h p true broken
 
--- What stands behind white.
+-- What stands after white.
 abbrev pub WhiteMeets : Type 0
 WhiteMeets = (text : List ℕ) (h : List Lexeme) (p d level : ℕ) (now broken : Bool) (gap : List ℕ)
     (k : Kind)
@@ -65,7 +65,7 @@ WhiteMeets = (text : List ℕ) (h : List Lexeme) (p d level : ℕ) (now broken :
     kind_at (nat_lt 0 d) text q ≡ Some k → word_at k (nat_lt 0 d) level text q ≡ Ok w
     → Meets text h d level k q (now || (has_break gap && broken)) w
 
--- Whether a key may begin behind a lexeme that was read so.
+-- Whether a key may begin after a lexeme that was read so.
 abbrev pub KeyIsAllowed : Type 0
 KeyIsAllowed = (text : List ℕ) (h : List Lexeme) (d : ℕ) (k : Kind) (q : ℕ) (a found : Bool)
     (w : WordText)

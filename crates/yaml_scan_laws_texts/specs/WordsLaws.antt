@@ -30,7 +30,7 @@ abbrev pub tag_line : List ℕ → ℕ → List ℕ → List ℕ → DirectiveTe
 tag_line text end handle prefix =
     record { said = tag handle prefix; end = end; place = end + break_width text end }
 
--- `%TAG`, a handle and a URI, with a space between and a break behind
+-- `%TAG`, a handle and a URI, with a space between and a break after
 abbrev pub TagDirectiveReads : Type 0
 TagDirectiveReads = (text : List ℕ) (p : ℕ) (handle : List ℕ) (pieces : List UriPiece)
     → HasAt text p (directive_text handle pieces) → IsHandle handle → 0 < length pieces

@@ -4,7 +4,7 @@ ghost use Rattle.yaml_scan_laws_texts.specs.Ends.{StartStands, EndIsRead};
 
 /// Where a text starts and ends.
 pub fn laws_of_ends()
-    // What is known behind the stream's start.
+    // What is known after the stream's start.
     ensures start_stands { StartStands }
     // The stream's end closes all levels, and all is told, without fault.
     ensures end_is_read { EndIsRead }

@@ -10,11 +10,11 @@ ghost use Rattle.yaml_scan_laws_texts.specs.KeysLaws.{
 };
 ghost use Rattle.yaml_scan_laws_texts.specs.KeysTexts.{WordsAreLexemes, WordsAreRead};
 
-/// Lexemes behind which no `:` makes a key.
+/// Lexemes after which no `:` makes a key.
 pub fn laws_of_free_keys()
-    // Behind a `?` in brackets, with only nodes after it, no candidate stands at its depth: a `:` makes no key there.
+    // After a `?` in brackets, with only nodes after it, no candidate stands at its depth: a `:` makes no key there.
     ensures asked_have_no_candidate { AskedHaveNoCandidate }
-    // The tokens of key-free lexemes are their own, in order: no KEY is put in front of one, and no level opens or ends.
+    // The tokens of key-free lexemes are their own, in order: no KEY is put before one, and no level opens or ends.
     ensures key_free_tokens_are_own { KeyFreeTokensAreOwn }
     // What is handed out of a key-free text without fault is its lexemes' own tokens, whole.
     ensures key_free_texts_are_bare { KeyFreeTextsAreBare }
@@ -26,9 +26,9 @@ pub fn laws_of_free_keys()
     // Where no level opens, the next lexeme is what its kind and its text say, whatever candidates are
     // open.
     ensures word_is_read { WordIsRead }
-    // The lexemes of a text in which words stand one behind another, and open no level, are these
+    // The lexemes of a text in which words stand one after another, and open no level, are these
     // words.
     ensures words_are_lexemes { WordsAreLexemes }
-    // A text in which key-free words stand one behind another is read as their tokens, without fault.
+    // A text in which key-free words stand one after another is read as their tokens, without fault.
     ensures words_are_read { WordsAreRead }
 {}

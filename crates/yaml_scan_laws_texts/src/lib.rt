@@ -6,8 +6,8 @@
 //! Laws of texts with block levels, required keys and keys of several words: what each lexeme
 //! makes of levels, entries and
 //! candidates, how BLOCK-END tokens come out, and that a text's tokens are those that looking back gives. No code.
-//! Laws of texts that are cut in two in front of a line that begins with `---` or `...`, or behind a line `...`: what a scanner reads
-//! of the whole is what it reads of both parts, one behind the other. No code.
+//! Laws of texts that are cut in two before a line that begins with `---` or `...`, or after a line `...`: what a scanner reads
+//! of the whole is what it reads of both parts, one after the other. No code.
 #![tactic(auto)]
 
 mod cuts_laws;

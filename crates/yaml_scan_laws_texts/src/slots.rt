@@ -2,9 +2,9 @@
 
 ghost use Rattle.yaml_scan_laws_texts.specs.Slots.{StartedGoesOn, LaterIsLone, BreakEndsLine, NearBefore, SlotsGoOn, NoneIsLone, LevelOpens, WhiteColumns, LetterColumns};
 
-/// Candidates and columns behind white.
+/// Candidates and columns after white.
 pub fn laws_of_slots()
-    // Candidates start on lines that are behind.
+    // Candidates start on lines that are after.
     ensures started_goes_on { StartedGoesOn }
     // On a later line a `:` meets no candidate.
     ensures later_is_lone { LaterIsLone }
@@ -18,7 +18,7 @@ pub fn laws_of_slots()
     ensures none_is_lone { NoneIsLone }
     // Right of the innermost level one opens; else none does.
     ensures level_opens { LevelOpens }
-    // The column behind white.
+    // The column after white.
     ensures white_columns { WhiteColumns }
     // A printed ASCII character takes one column, on its line.
     ensures letter_columns { LetterColumns }

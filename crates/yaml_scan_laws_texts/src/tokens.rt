@@ -4,10 +4,10 @@ ghost use Rattle.yaml_scan_laws_texts.specs.Tokens.{WordTells, LevelTells, KeyTe
 
 /// Which tokens a word, a level and a key tell.
 pub fn laws_of_told_tokens()
-    // One lexeme more, behind the BLOCK-END of what it closes.
+    // One lexeme more, after the BLOCK-END of what it closes.
     ensures word_tells { WordTells }
     // One level more that is still open owes one BLOCK-END.
     ensures level_tells { LevelTells }
-    // A key's words, with KEY before them and its `:` behind, and the mapping that it opens.
+    // A key's words, with KEY before them and its `:` after, and the mapping that it opens.
     ensures key_tells { KeyTells }
 {}

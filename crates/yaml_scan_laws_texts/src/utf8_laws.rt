@@ -1,6 +1,6 @@
 //! Each clause is a law.
 
-ghost use Rattle.yaml_scan_laws_texts.specs.Utf8Laws.{TokensHaveUtf8, TextIsUtf8};
+ghost use Rattle.yaml_scan_laws_texts.specs.Utf8Laws.{CharactersAreWhole, TextHasNoNul, TextIsUtf8, TokensHaveUtf8};
 
 /// Which texts of tokens are UTF-8.
 pub fn laws_of_utf8()
@@ -8,4 +8,8 @@ pub fn laws_of_utf8()
     ensures tokens_have_utf8 { TokensHaveUtf8 }
     // The text that a stream's bytes spell is UTF-8.
     ensures text_is_utf8 { TextIsUtf8 }
+    // No byte of it is 0.
+    ensures text_has_no_nul { TextHasNoNul }
+    // In a text in UTF-8 characters begin at its front, after ASCII and breaks, and where lexemes do.
+    ensures characters_are_whole { CharactersAreWhole }
 {}

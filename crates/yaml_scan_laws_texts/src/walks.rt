@@ -8,7 +8,7 @@ pub fn laws_of_walks()
     ensures levels_part { LevelsPart }
     // The innermost level owes a BLOCK-END.
     ensures walk_ends { WalkEnds }
-    // A walk starts behind the stream's start.
+    // A walk starts after the stream's start.
     ensures walk_starts { WalkStarts }
     // A walk passes white.
     ensures walk_white { WalkWhite }

@@ -2,7 +2,7 @@
 
 ghost use Rattle.yaml_scan_laws_texts.specs.White.{WhiteBegins, WhiteGoesOn, WhiteIsTaken, WhiteIsOver, WhiteIsPassed, WhiteMeets, KeyIsAllowed};
 
-/// White behind a lexeme, and what it meets.
+/// White after a lexeme, and what it meets.
 pub fn laws_of_white()
     // Where the last lexeme ends before the white, which all do but plain and block scalars.
     ensures white_begins { WhiteBegins }
@@ -10,14 +10,14 @@ pub fn laws_of_white()
     ensures white_goes_on { WhiteGoesOn }
     // The last lexeme has taken the whole white with it, as plain scalars do.
     ensures white_is_taken { WhiteIsTaken }
-    // The last lexeme has taken the whole white with it, and no break in it counts, as behind
+    // The last lexeme has taken the whole white with it, and no break in it counts, as after
     // directives.
     ensures white_is_over { WhiteIsOver }
-    // The last lexeme has taken some of the white, and a key may begin behind it, as behind block
+    // The last lexeme has taken some of the white, and a key may begin after it, as after block
     // scalars.
     ensures white_is_passed { WhiteIsPassed }
-    // What stands behind white.
+    // What stands after white.
     ensures white_meets { WhiteMeets }
-    // Whether a key may begin behind a lexeme that was read so.
+    // Whether a key may begin after a lexeme that was read so.
     ensures key_is_allowed { KeyIsAllowed }
 {}

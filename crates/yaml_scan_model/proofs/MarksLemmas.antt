@@ -43,7 +43,7 @@ pub column_same : (text : List ℕ) (p : ℕ) → ends_break text p ≡ false �
 unfolding column_at
 column_same text p h k = rw (add-one, h, k) (omega arith)
 
--- behind a break the column is the first
+-- after a break the column is the first
 pub column_end : (text : List ℕ) (p : ℕ) → ends_break text p ≡ true → column_at text (p + 1) ≡ 0
 unfolding column_at
 column_end text p h = rw (add-one, h) refl
@@ -95,7 +95,7 @@ pub three : (x y b c d e f : ℕ) → break_of b c d ≡ 3
 unfolding break_of ends_of splits_of
 three x y b c d e f h = (grind (arith, nat_tests), grind (arith, nat_tests), grind (arith, nat_tests), grind (arith, nat_tests), grind (arith, nat_tests))
 
--- what a break leaves behind it
+-- what a break leaves after it
 pub record IsPast (text : List ℕ) (p q : ℕ) : Type 0 where
   pub inside : q ≤ length text
   pub line : line_at text q ≡ line_at text p + 1
@@ -150,7 +150,7 @@ past_three text p h =
     let q = column_end text (p + 2) g2 in
     record { inside = omega arith; line = cc; column = rw (← k2) q; whole = rw (i3, j3, k3) s }
 
--- Behind a break a line starts.
+-- After a break a line starts.
 pub past_break : (text : List ℕ) (p : ℕ) → 0 < break_width text p
     → IsPast text p (p + break_width text p)
 past_break text p h =

@@ -10,7 +10,7 @@ use Rattle.yaml_scan_model.proofs.RunsLemmas.{InRun, run_more, text_parts}
 starts_printed : (b : ℕ) → b < 127 → starts b ≡ true
 starts_printed b h = grind (arith, nat_tests)
 
--- what text leaves behind it
+-- what text leaves after it
 pub record IsBehind (text : List ℕ) (p n : ℕ) : Type 0 where
   pub inside : p + n ≤ length text
   pub line : line_at text (p + n) ≡ line_at text p
@@ -53,7 +53,7 @@ printed_columns (suc n) text p high =
 plain_text : (b c d : ℕ) → 31 < b → b < 127 → not (b == 0 || nat_lt 0 (break_of b c d)) ≡ true
 plain_text b c d low high = search (rules, no_break)
 
--- what a leap over printed bytes leaves behind it
+-- what a leap over printed bytes leaves after it
 pub record IsLeap (text : List ℕ) (p q : ℕ) : Type 0 where
   pub inside : q ≤ length text
   pub line : line_at text p ≡ line_at text q
@@ -82,7 +82,7 @@ pub passed_text : (wide : Bool) (text : List ℕ) (p : ℕ) → passes wide (byt
     → is_text text p ≡ true
 passed_text wide text p h = passed_of wide _ _ _ h
 
--- a run of text goes on behind text
+-- a run of text goes on after text
 text_run : (n : ℕ) (text : List ℕ) (a p : ℕ) → InRun is_text text a p
     → ((k : ℕ) → p ≤ k → k < p + n → is_text text k ≡ true) → InRun is_text text a (p + n)
 text_run zero text a p h each =
@@ -94,7 +94,7 @@ text_run (suc n) text a p h each =
     let next : p + suc n ≡ p + n + 1 = omega arith in
     rw next (run_more is_text text a (p + n) before here (text_parts text (p + n) here).0)
 
--- so it does behind bytes that are passed
+-- so it does after bytes that are passed
 pub passed_run : (wide : Bool) (text : List ℕ) (a p q : ℕ) → InRun is_text text a p
     → ArePassed wide text p q → InRun is_text text a q
 passed_run wide text a p q h passed =
@@ -102,12 +102,12 @@ passed_run wide text a p q h passed =
     let count : p + (q - p) ≡ q = omega arith in
     rw count at (text_run (q - p) text a p h (λ k after less. passed_text wide text k (passed.each k after (omega arith))))
 
--- what a row of such bytes leaves behind it
+-- what a row of such bytes leaves after it
 pub passed_behind : (wide : Bool) (n : ℕ) (text : List ℕ) (p : ℕ) → p ≤ length text
     → splits_break text p ≡ false → ArePassed wide text p (p + n) → IsBehind text p n
 passed_behind wide n text p room whole passed = behind n text p room whole (λ k after less. passed_text wide text k (passed.each k after less))
 
--- the character that begins behind
+-- the character that begins after
 pub columns_more : (n : ℕ) (text : List ℕ) (p columns own : ℕ) → columns ≡ columns_over n text p
     → own ≡ (if starts (byte text (p + n)) then 1 else 0)
     → columns + own ≡ columns_over (n + 1) text p

@@ -6,7 +6,7 @@ use Rattle.yaml_scan_model.specs.Marks.{byte, break_of, break_width, is_blank}
 use Rattle.yaml_scan_model.specs.Runs.{past, is_text}
 use Rattle.yaml_scan_model.proofs.MarksLemmas.{within, no_break}
 
--- A run goes on behind a byte of its kind.
+-- A run goes on after a byte of its kind.
 pub past_more : (kind : List ℕ → ℕ → Bool) (n : ℕ) (text : List ℕ) (p : ℕ) → kind text p ≡ true
     → past kind (suc n) text p ≡ past kind n text (p + 1)
 unfolding past

@@ -14,3 +14,4 @@ pub mod Runs
 pub mod Spares
 pub mod Views
 pub mod Wrong
+pub mod Coming

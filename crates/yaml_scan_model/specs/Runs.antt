@@ -26,7 +26,7 @@ past_blanks text p = past is_blank_there (length text) text p
 abbrev pub past_spaces : List ℕ → ℕ → ℕ
 past_spaces text p = past is_space_there (length text) text p
 
--- the place of the break or the end behind the text there
+-- the place of the break or the end after the text there
 abbrev pub line_end : List ℕ → ℕ → ℕ
 line_end text p = past is_text (length text) text p
 

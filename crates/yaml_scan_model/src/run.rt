@@ -87,7 +87,7 @@ fn skip_printed(reader: &mut Reader)
     leap(reader, end);
 }
 
-/// The place behind the ASCII characters that are printed, and spaces, that stand there: by rows, and then one by one.
+/// The place after the ASCII characters that are printed, and spaces, that stand there: by rows, and then one by one.
 // Inlined: its loops are the caller's first ones.
 #[inline(always)]
 fn past_printed(text: &[u8], from: usize) -> usize
@@ -104,7 +104,7 @@ fn past_printed(text: &[u8], from: usize) -> usize
     end
 }
 
-/// The place behind half a row, where one stands there.
+/// The place after half a row, where one stands there.
 // Inlined into the loops over bytes.
 #[inline(always)]
 fn past_half(text: &[u8], at: usize) -> usize
@@ -150,7 +150,7 @@ fn passes(wide: bool, byte: u8) -> bool
 }
 
 /// Past bytes that are text whatever follows: by rows, and then one by one.
-// Of a character behind ASCII one byte or two may be left, and more such characters may follow.
+// Of a character after ASCII one byte or two may be left, and more such characters may follow.
 // Inlined: the place and the text stay in registers.
 #[inline(always)]
 fn skip_quiet(reader: &mut Reader)

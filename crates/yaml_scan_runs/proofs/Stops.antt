@@ -12,7 +12,7 @@ use Rattle.yaml_scan_runs.specs.Runs.{RunsTo, IsNarrow}
 abbrev pub Passed : (ℕ → Bool) → List ℕ → ℕ → ℕ → Type 0
 Passed test text from at = (k : ℕ) → from ≤ k → k < at → test (get_or text k 0) ≡ false
 
--- one part behind the other
+-- one part after the other
 pub passed_then : (test : ℕ → Bool) (text : List ℕ) (from at next : ℕ) → Passed test text from at
     → Passed test text at next → Passed test text from next
 passed_then test text from at next a b k low high = elim (cases_lt k at) [ inl early ↦ a k low early | inr late ↦ b k late high ]
@@ -30,7 +30,7 @@ run_at test text from to at low ordered passed stops = elim (cases_lt at to) [
       rw is record { ordered = ordered; within = omega arith; passed = λ k from_there below. passed k from_there (omega arith); stopped = λ no. absurd (omega arith) }
 ]
 
--- the run from a place that was reached, behind what was looked through
+-- the run from a place that was reached, after what was looked through
 pub run_behind : {test : ℕ → Bool} {text : List ℕ} {from at to end : ℕ} → from ≤ at
     → Passed test text from at → RunsTo test text at to end → RunsTo test text from to end
 run_behind {test} {text} {from} {at} {to} {end} low passed run = record {
@@ -45,7 +45,7 @@ set_first : (b : Bool) (mask before count : ℕ) → 0 < cond b 1 0 + 2 * mask
 set_first true mask before count some rest = omega arith
 set_first false mask before count some rest = omega (arith, rest (omega arith))
 
--- where a lane is set, fewer stand in front of it than there are
+-- where a lane is set, fewer stand before it than there are
 set_within : (test : ℕ → Bool) (v : List ℕ) → 0 < mask_l (map test v)
     → position_or_len test v < length v
 set_within test [] some = absurd (omega arith)
@@ -62,7 +62,7 @@ look_is test text at n room counted = record {
   stopped = λ inside. run_in_chunk_stops test text at 16 n 0 room counted (omega arith);
 }
 
--- a run that ends in a look, or behind what is asked for
+-- a run that ends in a look, or after what is asked for
 pub run_short : {test : ℕ → Bool} {text : List ℕ} {from at end : ℕ} (to : ℕ) → from ≤ to
     → (end < at) ⊎ ((at ≤ end) × (to ≤ end)) → RunsTo test text from at end
     → RunsTo test text from to (min end to)
@@ -70,7 +70,7 @@ run_short {test} {text} {from} {at} {end} to ordered ends run =
     run_at test text from to end run.ordered ordered run.passed
     λ inside. run.stopped (elim ends [ inl early ↦ early | inr past ↦ absurd (omega arith) ])
 
--- a look behind what passed, by the mask of its lanes
+-- a look after what passed, by the mask of its lanes
 module _ (test : ℕ → Bool) (text : List ℕ) (from at found : ℕ) (room : at + 16 ≤ length text) (low : from ≤ at)
     (passed : Passed test text from at) (is : found ≡ mask_l (map test (chunk at 16 text))) where
   pub looked_through : found ≡ 0 → Passed test text from (at + 16)

@@ -88,10 +88,10 @@ fn is_wide(lanes: u8x16) -> bool
     lanes.simd_ge(u8x16::splat(128)).to_bitmask() != 0
 }
 
-/// Behind the lanes.
+/// After the lanes.
 const END: u64 = 1 << 16;
 
-/// How many lanes stand in front of the first that is set.
+/// How many lanes stand before the first that is set.
 // Inlined: two operations.
 #[inline(always)]
 fn leading(found: u64) -> usize
@@ -101,7 +101,7 @@ fn leading(found: u64) -> usize
     (found | END).trailing_zeros() as usize
 }
 
-/// The first of sixteen bytes that stops a run, or the place behind them.
+/// The first of sixteen bytes that stops a run, or the place after them.
 // Inlined: lanes stay in registers.
 #[inline(always)]
 fn look<const N: usize>(text: &[u8], from: usize, stops: &[u8; N]) -> usize
@@ -133,7 +133,7 @@ pub fn run_to<const N: usize>(text: &[u8], from: usize, to: usize, stops: &[u8; 
     run_on(text, end, to, stops, wide)
 }
 
-/// The same behind the first look.
+/// The same after the first look.
 // A call: it is rare, and callers stay small.
 #[inline(never)]
 fn run_on<const N: usize>(text: &[u8], from: usize, to: usize, stops: &[u8; N], before: bool) -> Run
@@ -186,7 +186,7 @@ fn others(lanes: u8x16, a: u8, b: u8) -> u64
     (lanes.simd_ne(u8x16::splat(a)) & lanes.simd_ne(u8x16::splat(b))).to_bitmask()
 }
 
-/// The place behind the bytes there that are one of the two.
+/// The place after the bytes there that are one of the two.
 // Inlined: most end in the first look.
 #[inline(always)]
 fn skip(text: &[u8], from: usize, a: u8, b: u8) -> usize
@@ -203,7 +203,7 @@ fn skip(text: &[u8], from: usize, a: u8, b: u8) -> usize
     skip_on(text, end, a, b)
 }
 
-/// The same behind the first look.
+/// The same after the first look.
 // A call: it is rare, and callers stay small.
 #[inline(never)]
 fn skip_on(text: &[u8], from: usize, a: u8, b: u8) -> usize
@@ -224,7 +224,7 @@ fn skip_on(text: &[u8], from: usize, a: u8, b: u8) -> usize
     at
 }
 
-/// The place behind the spaces there.
+/// The place after the spaces there.
 pub fn skip_spaces(text: &[u8], from: usize) -> usize
     requires { from ≤ length text.now }
     ensures { RunsTo is_no_space text.now from (length text.now) result }
@@ -232,7 +232,7 @@ pub fn skip_spaces(text: &[u8], from: usize) -> usize
     skip(text, from, b' ', b' ')
 }
 
-/// The place behind the blanks there.
+/// The place after the blanks there.
 pub fn skip_blanks(text: &[u8], from: usize) -> usize
     requires { from ≤ length text.now }
     ensures { RunsTo is_no_blank text.now from (length text.now) result }
@@ -240,7 +240,7 @@ pub fn skip_blanks(text: &[u8], from: usize) -> usize
     skip(text, from, b' ', b'\t')
 }
 
-/// Copies sixteen bytes, and tells how many of them stand in front of one that stops a run.
+/// Copies sixteen bytes, and tells how many of them stand before one that stops a run.
 // Inlined: some moves.
 #[inline(always)]
 pub fn copy_look<const N: usize>(out: &mut [u8], at: usize, text: &[u8], stops: &[u8; N]) -> usize
@@ -266,7 +266,7 @@ fn unplain(lanes: u8x16) -> u64
     (!(printed | blank)).to_bitmask()
 }
 
-/// The place behind the ASCII characters there that a stream may hold.
+/// The place after the ASCII characters there that a stream may hold.
 pub fn plain_end(text: &[u8], from: usize) -> usize
     requires { from ≤ length text.now }
     ensures { RunsTo is_unplain text.now from (length text.now) result }

@@ -3,7 +3,7 @@ use Rattle.std.proofs.Common.{◌≡◌, ℕ, zero, suc, ◌+◌, ◌*◌, ◌^�
 use Rattle.std.proofs.Math.Nat.{mul_assoc, pow-suc}
 use Rattle.yaml_scan_scalars.proofs.Words.{byte, hex_digit, hex_value, no_digits, digit, number_of, DigitsAreRead, DigitsStandThere, OneIsNoDigit}
 
--- a number and a digit behind it
+-- a number and a digit after it
 abbrev with_digit : Option ℕ → Option ℕ → Option ℕ
 with_digit high low = option_and_then (λ h. option_map (λ l. h * 16 + l) low) high
 

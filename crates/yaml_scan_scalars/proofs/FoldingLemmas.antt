@@ -37,7 +37,7 @@ folded-kept : (bs k : List ℕ) (l : Line) (ls : List (List ℕ × Line))
     → folded (blanks_of bs ++ Kept k ∷ l) ls ≡ bs ++ (k ++ folded l ls)
 folded-kept bs k l ls = grind (arith, text-blanks, Kept, trim_end-kept, append_assoc)
 
--- Blanks and a run of text in front of pieces are their bytes.
+-- Blanks and a run of text before pieces are their bytes.
 pub value-kept : (bs k : List ℕ) (ps : List Piece)
     → value (blanks_of bs ++ Kept k ∷ ps) ≡ bs ++ (k ++ value ps)
 value-kept bs k ps = rw (lines-blanks bs (Kept k ∷ ps)) (folded-kept bs k (lines ps).first (lines ps).others)
@@ -46,7 +46,7 @@ pub value-break : (bs b : List ℕ) (ps : List Piece)
     → value (blanks_of bs ++ Break b ∷ ps) ≡ behind b ps
 value-break bs b ps = rw (lines-blanks bs (Break b ∷ ps), trim_end-blanks bs) refl
 
--- a blank in front of a line is no part of the value
+-- a blank before a line is no part of the value
 pub rest_of-blank : (b : ℕ) (l : Line) (ls : List (List ℕ × Line))
     → rest_of (Blank b ∷ l) ls ≡ rest_of l ls
 rest_of-blank b l [] = refl

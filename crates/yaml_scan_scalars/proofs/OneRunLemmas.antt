@@ -123,7 +123,7 @@ pub reads_in : (text : List ℕ) (p m : ℕ) (new place : Place) (r : Result Pla
     → ReadsPlain place.text m new r x → ReadsPlain text p new r x
 reads_in text p m new place r x e f h = subst (λ (t : List ℕ). ReadsPlain t p new r x) e (subst (λ (k : ℕ). ReadsPlain place.text k new r x) f h)
 
--- the line feed and the spaces behind a run, and a word behind them that ends the scalar
+-- the line feed and the spaces after a run, and a word after them that ends the scalar
 
 abbrev nothing_at : ℕ → Bool → Words
 nothing_at q broke = record { pieces = []; end = q; place = q; broke = broke }

@@ -35,7 +35,7 @@ pub keep_parts : (old new : Joining) (bytes : List ℕ) (w : Words)
 unfolding joined
 keep_parts old new bytes w h g b l none = search (rules, cases_Bool, end_line, nothing_is, take_all)
 
--- behind a character nothing white stands
+-- after a character nothing white stands
 pub seated : (text : List ℕ) (q : ℕ) (j : Joining) → j.kept ≤ length j.folding.done.items
     → (j.end ≡ mark_at text q) × (j.broke ≡ false) × (j.white ≡ false) → j.folding.gap ≡ gaps.Line
     → (false ≡ leads text q) × (false ≡ after_white text q) → IsJoining text q j

@@ -96,13 +96,13 @@ pub calm_next : (kind : ℕ) (text : List ℕ) (p : ℕ) → is_ordinary kind (b
     → (false ≡ leads text (p + 1)) × (false ≡ after_white text (p + 1))
 calm_next kind text p h = let o = ordinary_calm kind (byte text p) h in lead_text text p (calm_no_blank _ o) (calm_ends_none _ _ _ _ o)
 
--- behind a run
+-- after a run
 pub calm_behind : (kind : ℕ) (text : List ℕ) (p : ℕ) (place : Place) → IsRun kind text p place
     → p < place.at
     → (false ≡ leads text place.at) × (false ≡ after_white text place.at)
 calm_behind kind text p place run h = search (rules, calm_next)
 
--- behind a character and a run
+-- after a character and a run
 pub behind_first : (kind : ℕ) (text : List ℕ) (p : ℕ) (place : Place)
     → is_blank (byte text p) ≡ false
     → ends_break text p ≡ false → IsRun kind text (p + 1) place
@@ -117,7 +117,7 @@ abbrev pub words_with : (Words → Words) → Result Words Wrong → Result Word
 words_with f (Ok w) = Ok (f w)
 words_with f (Err e) = Err e
 
--- what a byte of a run is taken as, and that no line starts behind it
+-- what a byte of a run is taken as, and that no line starts after it
 record RunSpot (flow : Bool) (level : ℕ) (text : List ℕ) (p : ℕ) : Type 0 where
   pub takes : spot_at flow level text p ≡ Takes (piece_of (byte text p)) (p + 1)
   pub calm : leads text (p + 1) ≡ false
@@ -185,7 +185,7 @@ with_first : (text : List ℕ) (p d : ℕ) (r : Result Words Wrong) → (byte te
     ≡ words_with (with_run text p (suc d)) r
 with_first text p d r h = grind arith
 
--- the first character, and the run behind it
+-- the first character, and the run after it
 pub first_words : (flow : Bool) (level : ℕ) (text : List ℕ) (p : ℕ) (place : Place)
     → IsRun (plain_kind flow) text (p + 1) place → p < length text → leads text (p + 1) ≡ false
     → (byte text p == 32) ≡ false

@@ -137,7 +137,7 @@ pub run_start : (kind : ℕ) (text : List ℕ) (p : ℕ)
     → IsRun kind text p (record { text = text; at = p })
 run_start kind text p = record { same = refl; after = omega arith; each = λ k h l. absurd (omega arith); last = λ l. absurd (omega arith) }
 
--- what holds up to a place, and behind it
+-- what holds up to a place, and after it
 pub each_join : (test : ℕ → Bool) (p q r : ℕ) → ((k : ℕ) → p ≤ k → k < q → test k ≡ true)
     → ((k : ℕ) → q ≤ k → k < r → test k ≡ true) → (k : ℕ) → p ≤ k → k < r → test k ≡ true
 each_join test p q r front back k after before = search (rules, cases_lt, front)
@@ -155,7 +155,7 @@ run_more kind text p place r h = search (rules, each_more, ordinary_in)
 pub same_or : (p q : ℕ) → p ≤ q → (q ≡ p) ⊎ (p < q)
 same_or p q h = grind arith
 
--- a run and the run behind it
+-- a run and the run after it
 pub run_join : (kind : ℕ) (text : List ℕ) (p : ℕ) (place last : Place) → IsRun kind text p place
     → IsRun kind place.text place.at last → IsRun kind text p last
 run_join kind text p place last r s = search (rules, each_join, same_or)
@@ -242,7 +242,7 @@ line_value : (done : List ℕ) (ps : List Piece) → resumed done [] gaps.Line p
 unfolding resumed
 line_value done ps = refl
 
--- behind a break no space comes first
+-- after a break no space comes first
 resume_kept : (f : Folding) (b : ℕ) (bs : List ℕ) (ps : List Piece) → (b == 32) ≡ false
     → ends_kept bs ≡ true → resume f (Kept (b ∷ bs) ∷ ps) ≡ resume f (run_pieces (b ∷ bs) ++ ps)
 resume_kept f b bs ps n h = search (rules, append_assoc, kept_stem, line_value, value_run)

@@ -1,4 +1,4 @@
--- The table of ordinary bytes, and the marks behind a run of them.
+-- The table of ordinary bytes, and the marks after a run of them.
 use Rattle.std.proofs.Common.{◌≡◌, ℕ, zero, suc, ◌+◌, ◌<◌, ◌≤◌, if◌then◌else◌, Bool, true, false, ◌&&◌, ◌||◌, ◌-◌, List, length, refl, sym, ◌∙◌, inl, inr, arith, rules}
 use Rattle.yaml_scan_scalars.proofs.Words.{nat_tests, cases_Bool, cases_lt, and_parts, or_cases, or_parts, Place, byte, break_of, ends_of, ends_break, splits_break, starts, line_at, column_at, within, end_next, split_next, line_more, column_more, column_same, is_ordinary, is_common, is_narrow, is_odd, is_link, is_linked, in_run, IsRun, is_bracket}
 use Rattle.yaml_scan_scalars.proofs.RunLemmas.{calm_ends_none, common_ordinary, narrow_ordinary, ordinary_calm, sign_calm, link_cases, ordinary_in, linked_in, run_parts}
@@ -7,7 +7,7 @@ column_behind : (text : List ℕ) (p : ℕ) → ends_break text p ≡ false
     → column_at text (p + 1) ≡ column_at text p + (if starts (byte text p) then 1 else 0)
 column_behind text p e = search (rules, cases_Bool, column_more, column_same, starts)
 
--- what the mark is behind an ordinary byte
+-- what the mark is after an ordinary byte
 pub record Behind (text : List ℕ) (p : ℕ) : Type 0 where
   pub line : line_at text (p + 1) ≡ line_at text p
   pub column : column_at text (p + 1) ≡ column_at text p + (if starts (byte text p) then 1 else 0)
@@ -23,7 +23,7 @@ beyond : (test : ℕ → Bool) (text : List ℕ) (p : ℕ) → test 0 ≡ false 
     → test (byte text p) ≡ false
 beyond test text p none h = search (rules, cases_lt, within)
 
--- behind the end
+-- after the end
 pub past_common : (text : List ℕ) (p : ℕ) → length text ≤ p → is_common (byte text p) ≡ false
 unfolding is_common is_narrow is_odd is_bracket
 past_common text p h = beyond is_common text p refl h
@@ -42,7 +42,7 @@ pub past_narrow : (kind : ℕ) (text : List ℕ) (p : ℕ) → length text ≤ p
 unfolding is_narrow
 past_narrow kind text p h = beyond (is_narrow kind) text p refl h
 
--- behind the end none of them stands
+-- after the end none of them stands
 pub past_linked : (kind : ℕ) (text : List ℕ) (p : ℕ) → length text ≤ p
     → is_linked kind text p ≡ false
 unfolding is_link
@@ -75,7 +75,7 @@ passes kind text p h = elim (or_cases (is_narrow kind (byte text p)) (is_linked 
   | inr s ↦ passes_link kind text p s
 ]
 
--- before a byte that isn't ordinary, or behind the end, the run's last byte is no space
+-- before a byte that isn't ordinary, or after the end, the run's last byte is no space
 last_ordinary : (kind : ℕ) (text : List ℕ) (q : ℕ) → 0 < q → in_run kind text (q - 1) ≡ true
     → is_narrow kind (byte text q) ≡ false → is_ordinary kind (byte text (q - 1)) ≡ true
 last_ordinary kind text q l h n = search (rules, run_parts)

@@ -55,7 +55,7 @@ pub record TookWords (kind : ℕ) (text : List ℕ) (p : ℕ) (old new : Joining
   pub value : (w : Words) → joined new w ≡ joined old (with_run text p (place.at - p) w)
   pub seat : IsJoining text place.at new
 
--- of the scalar that starts at the mark the first character and the run behind it were taken, of those bytes
+-- of the scalar that starts at the mark the first character and the run after it were taken, of those bytes
 pub record RanPlain (flow : Bool) (start : yaml_mark_t) (bytes : List ℕ) (place : Place) : Type 0
   where
     pub inside : start.index < length place.text

@@ -65,7 +65,7 @@ abbrev pub gap : List ℕ → List ℕ → List ℕ
 gap first [] = if is_feed first then ascii.space ∷ [] else first
 gap first (b ∷ bs) = if is_feed first then b ∷ bs else first ++ b ∷ bs
 
--- What follows a break: the other breaks of its gap, and the text behind the gap.
+-- What follows a break: the other breaks of its gap, and the text after the gap.
 pub record Rest : Type 0 where
   pub breaks : List ℕ
   pub value : List ℕ

@@ -74,7 +74,7 @@ spot_at flow level text p =
     else Takes (Kept (byte text p ∷ [])) (p + 1)
 
 -- What follows a place inside the scalar: the pieces up to its last character, the place after that
--- one, the place after the white behind it, and whether a break is among that white.
+-- one, the place after the white after it, and whether a break is among that white.
 pub record Words : Type 0 where
   pub pieces : List Piece
   pub end : ℕ
@@ -122,7 +122,7 @@ words zero flow level text p = Err
     record { problem = problems.EndOfStream; context = contexts.PlainScalar; place = p }
 words (suc n) flow level text p = follows (words n flow level text) p (spot_at flow level text p)
 
--- A plain scalar: its value, the place after its last character, the place after the white behind it,
+-- A plain scalar: its value, the place after its last character, the place after the white after it,
 -- and whether a break is among that white.
 pub record PlainText : Type 0 where
   pub value : List ℕ

@@ -54,7 +54,7 @@ unfoldable pub hex_len : ℕ → ℕ
 hex_len b = if b == ascii.small_x then 2 else if b == ascii.small_u then 4
     else if b == ascii.capital_u then 8 else 0
 
--- the bytes that a letter stands for behind a backslash
+-- the bytes that a letter stands for after a backslash
 unfoldable pub simple_escape : ℕ → Option (List ℕ)
 simple_escape b =
     if b == ascii.digit_zero then Some (ascii.null ∷ [])

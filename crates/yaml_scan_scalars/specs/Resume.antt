@@ -6,7 +6,7 @@ use Rattle.yaml_scan_scalars.specs.declared.folding.Folding.{Folding}
 use Rattle.yaml_scan_scalars.specs.declared.folding.Gap.{Gap}
 use Rattle.yaml_scan_scalars.specs.declared.folding.Gap.TheVariants as gaps
 
--- the pieces stand behind a gap's first break
+-- the pieces stand after a gap's first break
 abbrev pub behind : List ℕ → List Piece → List ℕ
 behind first ps =
     let ls = lines ps in

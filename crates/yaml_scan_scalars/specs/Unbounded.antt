@@ -12,7 +12,7 @@ pub data AreDigits (text : List ℕ) : ℕ → List ℕ → Type 0 where
   digit : (p d : ℕ) (ds : List ℕ) → hex_digit (byte text p) ≡ Some d → AreDigits text (p + 1) ds
       → AreDigits text p (d ∷ ds)
 
--- the number that digits spell: each counts sixteen times the one behind it
+-- the number that digits spell: each counts sixteen times the one after it
 abbrev pub number_of : List ℕ → ℕ
 number_of [] = 0
 number_of (d ∷ ds) = d * 16 ^ length ds + number_of ds
@@ -31,7 +31,7 @@ abbrev pub OneIsNoDigit : Type 0
 OneIsNoDigit = (text : List ℕ) (p n : ℕ) → hex_value text p n ≡ None
     → (k : ℕ) × (k < n) × (hex_digit (byte text (p + k)) ≡ None)
 
--- From a place inside the quotes: pieces, one behind another, up to the closing quote and the place behind it, or what is wrong.
+-- From a place inside the quotes: pieces, one after another, up to the closing quote and the place after it, or what is wrong.
 pub data IsQuotedFrom (quote : ℕ) (text : List ℕ) : ℕ → Result (List Piece × ℕ) Wrong → Type 0 where
   closes : (p : ℕ) → standing_at quote text p ≡ Closing
       → IsQuotedFrom quote text p (Ok ([], p + 1))
@@ -41,7 +41,7 @@ pub data IsQuotedFrom (quote : ℕ) (text : List ℕ) : ℕ → Result (List Pie
   is_bad : (p : ℕ) (w : Wrong) → standing_at quote text p ≡ Bad w
       → IsQuotedFrom quote text p (Err w)
 
--- There is one behind each opening quote, and what it says is the scalar; so says any other.
+-- There is one after each opening quote, and what it says is the scalar; so says any other.
 abbrev pub QuotedIs : Type 0
 QuotedIs = (quote : ℕ) (text : List ℕ) (p : ℕ) → p < length text
     → (r : Result (List Piece × ℕ) Wrong) × IsQuotedFrom quote text (p + 1) r
@@ -67,7 +67,7 @@ pub data IsPlainFrom (flow : Bool) (level : ℕ) (text : List ℕ)
   is_faulty : (p : ℕ) (w : Wrong) → spot_at flow level text p ≡ Faulty w
       → IsPlainFrom flow level text p (Err w)
 
--- what a plain scalar is, by what stands behind its first byte
+-- what a plain scalar is, by what stands after its first byte
 abbrev pub plain_behind : List ℕ → ℕ → Result Words Wrong → Result Words Wrong
 plain_behind text p r = words_from (Kept (byte text p ∷ [])) (p + 1) r
 

@@ -122,7 +122,7 @@ fn hex_value(reader: &mut Reader, len: usize) -> Option<u32>
     Some(value)
 }
 
-/// The bytes that a letter stands for behind a backslash.
+/// The bytes that a letter stands for after a backslash.
 #[tactic(auto, unfolding(crate::specs::Quoted::simple_escape))]
 fn simple_escape(letter: u8) -> Option<&'static [u8]>
     ensures { option_map (λ b. b.now) result ≡ spec.simple_escape letter }

@@ -21,7 +21,7 @@ pub(crate) enum Gap {
 pub(crate) struct Folding {
     /// The value so far.
     pub done: Vec<u8>,
-    /// The blanks of this line behind it.
+    /// The blanks of this line after it.
     pub blanks: Vec<u8>,
     pub gap: Gap,
 }
@@ -136,7 +136,7 @@ impl Folding {
     }
 }
 
-/// The bytes behind the others. There are often none.
+/// The bytes after the others. There are often none.
 fn append(done: &mut Vec<u8>, bytes: &[u8]) -> Result<(), AllocError>
     ensures { OnOk result (done.new.items ≡ done.old.items ++ bytes.now) }
 {

@@ -13,15 +13,15 @@ use yaml_scan_model::{Spares, room, yaml_mark_t};
 /// What is read of a plain scalar so far.
 #[derive(Drop)]
 pub(crate) struct Joining {
-    /// All pieces so far, with the white behind the last character.
+    /// All pieces so far, with the white after the last character.
     pub folding: Folding,
     /// The value's length as its last character was taken.
     pub kept: usize,
     /// The place after that character.
     pub end: yaml_mark_t,
-    /// Whether a break stands behind it.
+    /// Whether a break stands after it.
     pub broke: bool,
-    /// Whether a blank or a break stands behind it.
+    /// Whether a blank or a break stands after it.
     pub white: bool,
 }
 

@@ -23,14 +23,14 @@ pub struct PlainScalar {
     pub value: Vec<u8>,
     pub start_mark: yaml_mark_t,
     pub end_mark: yaml_mark_t,
-    /// Whether a break is among the blanks and breaks behind it, so that a key is allowed there.
+    /// Whether a break is among the blanks and breaks after it, so that a key is allowed there.
     pub broke: bool,
-    /// It is known that a `:` as a mapping has it stands directly behind it.
+    /// It is known that a `:` as a mapping has it stands directly after it.
     pub followed: bool,
 }
 
 /// The plain scalar that starts here, in flow context or not. The level is the column of the innermost open block
-/// level and one, or 0 where none is open. The reader is left behind the blanks and breaks that follow the scalar. The
+/// level and one, or 0 where none is open. The reader is left after the blanks and breaks that follow the scalar. The
 /// value may take the room of a spare text.
 // Inlined into the way of its kind.
 #[inline(always)]
@@ -74,7 +74,7 @@ fn plain_kind(flow: bool) -> u8
     if flow { FLOW } else { BLOCK }
 }
 
-/// Past the scalar's first character and the run behind it, and those bytes.
+/// Past the scalar's first character and the run after it, and those bytes.
 // Inlined: a loop of a load and a comparison a byte.
 #[inline(always)]
 #[tactic(auto, using(crate::proofs::RunLemmas::slice_bytes))]
@@ -120,9 +120,9 @@ fn at_bracket(reader: &Reader, flow: bool) -> bool
     flow && is_bracket(reader.here())
 }
 
-/// The scalar that starts at the mark and has those bytes, where the reader stands behind them and no white follows, but a `:` as
+/// The scalar that starts at the mark and has those bytes, where the reader stands after them and no white follows, but a `:` as
 /// told.
-// Inlined twice: so it is known behind it whether a `:` follows. Its answer isn't put together in memory.
+// Inlined twice: so it is known after it whether a `:` follows. Its answer isn't put together in memory.
 #[inline(always)]
 fn one_run(
     spares: &mut Spares,
@@ -152,7 +152,7 @@ fn one_run(
     })
 }
 
-/// Past the line feed here and the spaces behind it; answers whether a word stands there that ends the scalar before them, in
+/// Past the line feed here and the spaces after it; answers whether a word stands there that ends the scalar before them, in
 /// block context.
 // Inlined: mostly a look at two bytes.
 #[inline(always)]
@@ -173,7 +173,7 @@ fn passes_line(reader: &mut Reader, level: u64) -> bool
     (byte > b'#' && byte < 128 || byte == b'"') && reader.mark().column < level
 }
 
-/// The scalar that starts at the mark and has those bytes, where the reader stands behind them, and is left at the word behind
+/// The scalar that starts at the mark and has those bytes, where the reader stands after them, and is left at the word after
 /// the white that follows.
 // Inlined: its answer isn't put together in memory.
 #[inline(always)]
@@ -207,7 +207,7 @@ fn one_line<'a>(
     })
 }
 
-/// The scalar that starts at the mark, where the reader stands behind its first run, of those bytes.
+/// The scalar that starts at the mark, where the reader stands after its first run, of those bytes.
 // Inlined: so the answer of the call out of line, and the mark that is lent to it, have a place of their own. In one place
 // with the answers above, these would be put together in memory and copied. It is lent a copy of the reader: one that is
 // lent lies in memory.
@@ -231,7 +231,7 @@ fn many_runs(
     Ok(read)
 }
 
-/// Joins the runs of the scalar that starts at the mark, where the reader stands behind the first one, of those bytes.
+/// Joins the runs of the scalar that starts at the mark, where the reader stands after the first one, of those bytes.
 // Out of line and cold: most scalars have one run.
 #[cold]
 #[inline(never)]

@@ -60,7 +60,7 @@ fn quoted(spares: &mut Spares, reader: &mut Reader, quote: u8) -> Result<Vec<u8>
     let from = reader.place();
     let bytes = ordinary_run(quoted_kind(quote), reader);
     if closes(reader, quote) {
-        // Before the copy: behind a store the quote would be looked at again.
+        // Before the copy: after a store the quote would be looked at again.
         pass_byte(reader);
         let value = copied(spares, reader.text(), from, bytes)?;
         return Ok(value);
@@ -89,7 +89,7 @@ fn closes(reader: &Reader, quote: u8) -> bool
     reader.here() == quote && !is_doubled(quote, reader.byte(1))
 }
 
-/// The value of the scalar that starts at the mark, where the reader stands behind its first run, of those bytes.
+/// The value of the scalar that starts at the mark, where the reader stands after its first run, of those bytes.
 // Inlined: so the answer of the call out of line, and the mark that is lent to it, have a place of their own. In one place
 // with the answer above, this one would be put together in memory and copied. It is lent a copy of the reader: one that is
 // lent lies in memory.
@@ -113,7 +113,7 @@ fn many_runs(
     Ok(value)
 }
 
-/// Folds the runs of the scalar that starts at the mark, where the reader stands behind the first one, of those bytes.
+/// Folds the runs of the scalar that starts at the mark, where the reader stands after the first one, of those bytes.
 // Out of line: most scalars have one run.
 #[inline(never)]
 #[tactic(auto, using(crate::proofs::OneRunLemmas::quoted_first))]

@@ -131,7 +131,7 @@ fn narrow_run(kind: u8, reader: &mut Reader)
     leap(reader, end);
 }
 
-/// A place behind ordinary bytes of ASCII that stand there: of eight bytes, where so many follow, the first that is none.
+/// A place after ordinary bytes of ASCII that stand there: of eight bytes, where so many follow, the first that is none.
 // A loop whose turns are counted by a constant is written out: no place is compared with the text's length.
 // Inlined: a load and a comparison a byte.
 #[inline(always)]
@@ -153,7 +153,7 @@ fn past_narrow(kind: u8, text: &[u8], from: usize) -> usize
 
 /// Past the run that stands here.
 // Inlined: mostly eight bytes are looked at in a row. The call out of line is lent a copy of the reader, since one that is lent
-// lies in memory. The text and the line stay those in front of it, so that nothing has to choose between two of them behind it.
+// lies in memory. The text and the line stay those before it, so that nothing has to choose between two of them after it.
 #[inline(always)]
 fn pass_run(kind: u8, reader: &mut Reader)
     requires { spec.is_kind kind ≡ true }

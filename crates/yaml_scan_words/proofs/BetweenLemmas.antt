@@ -130,7 +130,7 @@ behind_same f g flow allowed gap_spots.Blank q h = h allowed
 behind_same f g flow allowed gap_spots.Break q h = ap (with_break true) (h (allowed || not flow))
 behind_same f g flow allowed gap_spots.Lexeme q h = refl
 
--- A gap is a step, and the gap behind it in as many steps, if these reach the end.
+-- A gap is a step, and the gap after it in as many steps, if these reach the end.
 gap_turn : (n : ℕ) (flow allowed : Bool) (text : List ℕ) (p : ℕ) → length text ≤ p + n
     → gap_within n flow allowed text p
     ≡ gap_behind (λ key q. gap_within n flow key text q) flow allowed
@@ -151,7 +151,7 @@ pub gap_here : (flow allowed : Bool) (text : List ℕ) (p : ℕ)
     (step_at (flow || not allowed) text p).standing (step_at (flow || not allowed) text p).place
 gap_here flow allowed text p = gap_turn (length text) flow allowed text p (omega arith)
 
--- what is left of a gap behind a blank
+-- what is left of a gap after a blank
 pub gap_blank : (n : ℕ) (flow allowed : Bool) (text : List ℕ) (p q : ℕ)
     → step_at (flow || not allowed) text p ≡ record { standing = gap_spots.Blank; place = q }
     → length text ≤ p + n
@@ -161,7 +161,7 @@ gap_blank n flow allowed text p q h room =
     let (far, inside) = moves_on _ text p gap_spots.Blank q h (λ b. cc) in
     (n, omega arith, far, omega arith, rw h at (gap_turn n flow allowed text p room))
 
--- what is left of a gap behind a break
+-- what is left of a gap after a break
 pub gap_break : (n : ℕ) (flow allowed : Bool) (text : List ℕ) (p q : ℕ)
     → step_at (flow || not allowed) text p ≡ record { standing = gap_spots.Break; place = q }
     → length text ≤ p + n

@@ -66,7 +66,7 @@ pub number_done : (text : List ℕ) (p k : ℕ) → AreDigits text p (p + k)
     → number_at text p ≡ Ok (decimal text p k, p + k)
 number_done text p k each stop some few = search (rules, le-ltb, ne_eqb, run_is)
 
--- Want of memory refuses whatever stands there.
+-- Out of memory refuses whatever stands there.
 pub memory_given : {X Y : Type 0} (Is : X → Y → Type 0) (behind : Y → ℕ) (text : List ℕ)
     (start : yaml_mark_t) (place : Place) (e : ScanError) (r : Result Y Wrong)
     → IsMemory e → ReadsAs Is behind text start place (Err e) r
@@ -75,7 +75,7 @@ memory_given Is behind text start place errors.Memory (Err w) h = tt
 memory_given Is behind text start place (errors.Fault f) (Ok y) h = absurd h
 memory_given Is behind text start place (errors.Fault f) (Err w) h = absurd h
 
--- What is refused is refused with all behind it.
+-- What is refused is refused with all after it.
 pub refused_on : {X Y Z W : Type 0} (Is : X → Y → Type 0) (behind : Y → ℕ) (Then : Z → W → Type 0)
     (end : W → ℕ) (text : List ℕ) (start : yaml_mark_t) (place : Place) (e : ScanError)
     (f : Result Y Wrong → Result W Wrong) (r : Result Y Wrong)
@@ -84,7 +84,7 @@ pub refused_on : {X Y Z W : Type 0} (Is : X → Y → Type 0) (behind : Y → �
 refused_on Is behind Then end text start place e f (Ok y) on h = memory_given Then end text start place e (f (Ok y)) h
 refused_on Is behind Then end text start place e f (Err w) on h = rw (on w) h
 
--- Behind what is read, the rest is read.
+-- After what is read, the rest is read.
 pub read_on : {X Y Z W : Type 0} (Is : X → Y → Type 0) (behind : Y → ℕ) (Then : Z → W → Type 0)
     (end : W → ℕ) (text : List ℕ) (start : yaml_mark_t) (between place : Place) (x : X)
     (answer : Result Z ScanError) (f : Result Y Wrong → Result W Wrong) (r : Result Y Wrong)

@@ -19,7 +19,7 @@ pub has_front : (text : List ℕ) (p : ℕ) (xs ys : List ℕ) → Has text p (x
 has_front text p [] ys h = tt
 has_front text p (x ∷ xs) ys (e, h) = (e, has_front text (p + 1) xs ys h)
 
--- Behind the front of what stands at a place stands the rest.
+-- After the front of what stands at a place stands the rest.
 pub has_rest : (text : List ℕ) (p : ℕ) (xs ys : List ℕ) → Has text p (xs ++ ys)
     → Has text (p + length xs) ys
 has_rest text p [] ys h = rw add-zero h

@@ -1,4 +1,4 @@
--- Where lexemes and gaps end: behind their start, and inside the text.
+-- Where lexemes and gaps end: after their start, and inside the text.
 use Rattle.std.proofs.Common.{◌≡◌, ℕ, zero, suc, ◌+◌, ◌<◌, ◌≤◌, ◌==◌, ◌||◌, Bool, true, not, List, length, Result, Ok, Err, inl, inr, arith, rules}
 use Rattle.yaml_scan_words.proofs.Words.{cond_both, eqb-true, ltb-true, Context, byte, is_text, past-le, past-inside, text_parts, Wrong, within, past_break, GapSpot, Run, run_end, step_at, Gap, gap_behind, gap_within, gap_at, behind_bytes, anchor_at, UriSpot, Spells, Ends, Faulty, spot_at, uri_from, uri_within, uri_at, some_uri_at, tag_end, parts_at, ended, tag_at, DirectiveName, value_end, name_behind, number_behind, line_place, then_at, name_at, number_at, minor_at, version_at, handle_at, prefix_at, tag_directive_at, named_value_at, value_at, comment_end, break_end, line_end_at}
 use Rattle.yaml_scan_words.specs.declared.between.GapSpot.TheVariants as gap_spots
@@ -7,7 +7,7 @@ use Rattle.yaml_scan_words.proofs.RunsLemmas.{run_within-ge, run_within-le}
 use Rattle.yaml_scan_words.proofs.BetweenLemmas.{step_moves}
 use Rattle.yaml_scan_words.proofs.UrisLemmas.{Moved, spot_moves}
 
--- a place behind another one or at it, and inside the text or at its end
+-- a place after another one or at it, and inside the text or at its end
 pub record IsFrom (text : List ℕ) (p q : ℕ) : Type 0 where
   pub forward : p ≤ q
   pub inside : q ≤ length text
@@ -15,7 +15,7 @@ pub record IsFrom (text : List ℕ) (p q : ℕ) : Type 0 where
 further : (text : List ℕ) (o p q : ℕ) → o ≤ p → IsFrom text p q → IsFrom text o q
 further text o p q h f = record { forward = omega (arith, f.forward); inside = f.inside }
 
--- behind a byte
+-- after a byte
 one_on : (text : List ℕ) (o p b : ℕ) → o ≤ p → (byte text p == b) ≡ true → 0 < b
     → IsFrom text o (p + 1)
 one_on text o p b l h some = search (rules, eqb-true, within)
@@ -46,14 +46,14 @@ gap_within-place (suc n) flow allowed text p l =
     ] in
     behind (λ key q. gap_within n flow key text q) flow allowed text p step.standing step.place (λ key. gap_within-place n flow key text step.place s.inside) s
 
--- a gap ends behind its start or at it, inside the text
+-- a gap ends after its start or at it, inside the text
 pub gap_place : (flow allowed : Bool) (text : List ℕ) (p : ℕ) → p ≤ length text
     → IsFrom text p (gap_at flow allowed text p).place
 gap_place flow allowed text p l = gap_within-place (length text) flow allowed text p l
 
 -- ---- what is read
 
--- what is read ends there or behind it, inside the text
+-- what is read ends there or after it, inside the text
 abbrev pub Lands : {Y : Type 0} → (Y → ℕ) → List ℕ → ℕ → Result Y Wrong → Type 0
 Lands end text p (Ok y) = IsFrom text p (end y)
 Lands end text p (Err w) = Unit {0}
@@ -71,7 +71,7 @@ lands_by : {X Y : Type 0} (from : X → ℕ) (end : Y → ℕ) (text : List ℕ)
 lands_by from end text p f (Ok x) h k i = h x i
 lands_by from end text p f (Err w) h k i = k w
 
--- what is read and then read on behind
+-- what is read and then read on after
 lands_then : {X Y : Type 0} (end : Y → ℕ) (text : List ℕ) (p : ℕ)
     (more : X → ℕ → Result Y Wrong) (r : Result (X × ℕ) Wrong)
     → ((x : X) (q : ℕ) → q ≤ length text → Lands end text q (more x q))
@@ -79,7 +79,7 @@ lands_then : {X Y : Type 0} (end : Y → ℕ) (text : List ℕ) (p : ℕ)
 lands_then end text p more (Ok x) h i = lands_further end text p x.1 (more x.0 x.1) i.forward (h x.0 x.1 i.inside)
 lands_then end text p more (Err w) h i = tt
 
--- an anchor or alias ends behind its first byte, inside the text
+-- an anchor or alias ends after its first byte, inside the text
 pub anchor_place : (context : Context) (text : List ℕ) (p : ℕ) → p < length text
     → Lands behind_bytes text (p + 1) (anchor_at context text p)
 anchor_place context text p l = search (rules, cond_both, run_place)
@@ -117,7 +117,7 @@ parts_place : (text : List ℕ) (p : ℕ) → p < length text
 unfolding parts_at
 parts_place text p l = search (rules, cond_both, lands_by, lands_further, one_on, run_place, some_uri_place, uri_place)
 
--- a tag ends behind its first byte, inside the text
+-- a tag ends after its first byte, inside the text
 pub tag_place : (flow : Bool) (text : List ℕ) (p : ℕ) → p < length text
     → Lands tag_end text (p + 1) (tag_at flow text p)
 tag_place flow text p l = search (rules, cond_both, ended, lands_by, parts_place)
@@ -169,7 +169,7 @@ comment_place text p l =
 break_place : (text : List ℕ) (p : ℕ) → p ≤ length text → Lands line_place text p (break_end text p)
 break_place text p l = search (rules, cond_both, line_place, ltb-true, past_break)
 
--- a directive's line ends behind its start, inside the text
+-- a directive's line ends after its start, inside the text
 pub line_end_place : (text : List ℕ) (p : ℕ) → p ≤ length text
     → Lands line_place text p (line_end_at text p)
 line_end_place text p l = search (rules, break_place, comment_place, lands_further, line_place, run_place)

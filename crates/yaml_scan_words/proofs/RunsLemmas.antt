@@ -37,7 +37,7 @@ belongs_inside run text p h = within text p (belongs_here run text p h).0
 pub past_run : (run : Run) (text : List ℕ) (p : ℕ) → length text ≤ p → belongs run text p ≡ false
 past_run run text p past = false_from_ne_true _ (λ h. let inside = belongs_inside run text p h in omega arith)
 
--- what is left of a run behind a byte of it
+-- what is left of a run after a byte of it
 pub run_more : (n : ℕ) (run : Run) (text : List ℕ) (p : ℕ) → belongs run text p ≡ true
     → length text ≤ p + n
     → (m : ℕ) × (length text ≤ p + 1 + m)

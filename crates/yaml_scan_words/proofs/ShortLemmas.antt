@@ -9,7 +9,7 @@ use Rattle.yaml_scan_words.proofs.UrisLemmas.{uri_inside, uri_range, uri_plain}
 use Rattle.yaml_scan_words.proofs.HasLemmas.{range_reads}
 use Rattle.yaml_scan_words.proofs.TagsRead.{ends_other}
 
--- behind the `!` of a short tag stands no `<`
+-- after the `!` of a short tag stands no `<`
 no_angle : (text : List ℕ) (p q : ℕ) → IsShortSuffix text (short_middle text p) q
     → (byte text (p + 1) == 60) ≡ false
 unfolding belongs
@@ -22,7 +22,7 @@ no_angle text p q s =
           let (low, high, other) = alpha_range (byte text (p + 1)) alpha in ne_eqb _ _ other
     ]
 
--- a short form is a handle, and a suffix behind it
+-- a short form is a handle, and a suffix after it
 short_tag : (flow : Bool) (text : List ℕ) (p q : ℕ) → byte text p ≡ 33
     → (byte text (p + 1) == 60) ≡ false → IsKept false text (handle_end text p) q
     → (not (handle_end text p == q) && may_end_tag flow text q) ≡ true
@@ -101,7 +101,7 @@ suffix_printed text p q first s =
           rw end at (name_printed text p (omega (arith, first), omega (arith, first)))
     ]
 
--- a short tag is a handle, and a suffix behind it
+-- a short tag is a handle, and a suffix after it
 pub suffix_tag : (flow : Bool) (text : List ℕ) (p q : ℕ) → byte text p ≡ 33
     → IsShortSuffix text (short_middle text p) q
     → tag_at flow text p ≡ Ok record {

@@ -104,7 +104,7 @@ from_same f g context (Spells b due q) h = rw (h b due q refl) refl
 from_same f g context (Ends q) h = refl
 from_same f g context (Faulty problem q) h = refl
 
--- A URI is a spot, and the URI behind it in as many spots, if these reach the end.
+-- A URI is a spot, and the URI after it in as many spots, if these reach the end.
 uri_turn : (n : ℕ) (context : Context) (wide : Bool) (due : ℕ) (text : List ℕ) (p : ℕ)
     → length text ≤ p + n
     → uri_within (suc n) context wide due text p
@@ -125,7 +125,7 @@ pub uri_here : (context : Context) (wide : Bool) (due : ℕ) (text : List ℕ) (
     ≡ uri_from (λ next q. uri_due context wide next text q) context (spot_at wide due text p)
 uri_here context wide due text p = uri_turn (length text) context wide due text p (omega arith)
 
--- what is left of a URI behind characters that it holds as they are
+-- what is left of a URI after characters that it holds as they are
 uri_run : (d : ℕ) (context : Context) (wide : Bool) (text : List ℕ) (p : ℕ)
     → ((k : ℕ) → p ≤ k → k < p + d → is_uri wide text k ≡ true)
     → uri_at context wide text p

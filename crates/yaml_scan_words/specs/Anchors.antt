@@ -19,14 +19,14 @@ is_name_end b = b == ascii.question || (b == ascii.colon
 unfoldable pub may_end_name : List ℕ → ℕ → Bool
 may_end_name text p = is_blank_or_end text p || is_name_end (byte text p)
 
--- the name from one place to another, and the place behind it
+-- the name from one place to another, and the place after it
 abbrev pub name_between : Context → List ℕ → ℕ → ℕ → Result (List ℕ × ℕ) Wrong
 name_between context text p q =
     if p == q || not (may_end_name text q)
     then Err record { problem = problems.NoAlphanumeric; context = context; place = q }
     else Ok (slice_range text p q, q)
 
--- the name of the anchor or alias that starts there, and the place behind it, or what is wrong
+-- the name of the anchor or alias that starts there, and the place after it, or what is wrong
 abbrev pub anchor_at : Context → List ℕ → ℕ → Result (List ℕ × ℕ) Wrong
 anchor_at context text p = name_between context text (p + 1) (run_end runs.Alphas text (p + 1))
 

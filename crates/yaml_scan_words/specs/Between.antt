@@ -7,7 +7,7 @@ use Rattle.yaml_scan_model.specs.Marks.{byte, break_width}
 use Rattle.yaml_scan_model.specs.Runs.{line_end}
 use Rattle.yaml_scan_model.specs.Classes.{is_bom}
 
--- what stands at a place between lexemes, and the place behind it
+-- what stands at a place between lexemes, and the place after it
 pub record GapStep : Type 0 where
   pub standing : GapSpot
   pub place : ℕ
@@ -37,7 +37,7 @@ pub record Gap : Type 0 where
 abbrev pub with_break : Bool → Gap → Gap
 with_break broke gap = record { place = gap.place; broke = broke || gap.broke }
 
--- a gap, where `more` is its rest behind a step, by whether a key is allowed there
+-- a gap, where `more` is its rest after a step, by whether a key is allowed there
 abbrev pub gap_behind : (Bool → ℕ → Gap) → Bool → Bool → GapSpot → ℕ → Gap
 gap_behind more flow allowed gap_spots.Blank q = more allowed q
 gap_behind more flow allowed gap_spots.Break q = with_break true (more (allowed || not flow) q)

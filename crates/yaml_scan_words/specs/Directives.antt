@@ -17,12 +17,12 @@ pub data Said : Type 0 where
   version : ℕ → ℕ → Said
   tag : List ℕ → List ℕ → Said
 
--- what a directive says, and the place behind its value
+-- what a directive says, and the place after its value
 pub record ValueText : Type 0 where
   pub said : Said
   pub end : ℕ
 
--- what a directive says, the place behind its value, and the place behind its line
+-- what a directive says, the place after its value, and the place after its line
 pub record DirectiveText : Type 0 where
   pub said : Said
   pub end : ℕ
@@ -43,7 +43,7 @@ number_behind x = x.1
 abbrev pub line_place : ℕ → ℕ
 line_place q = q
 
--- a value, and the place behind it, handed to what follows there
+-- a value, and the place after it, handed to what follows there
 abbrev pub then_at : {A B : Type 0} → (A → ℕ → Result B Wrong) → Result (A × ℕ) Wrong
     → Result B Wrong
 then_at more (Ok x) = more x.0 x.1
@@ -75,7 +75,7 @@ name_between text p q =
     else if is_tag text p && q - p == 3 then Ok (names.Tag, q)
     else Err record { problem = problems.UnknownDirective; context = contexts.Directive; place = q }
 
--- the name behind the `%` there
+-- the name after the `%` there
 abbrev pub name_at : List ℕ → ℕ → Result (DirectiveName × ℕ) Wrong
 name_at text p = name_between text (p + 1) (run_end runs.Alphas text (p + 1))
 
@@ -111,7 +111,7 @@ abbrev pub with_major : ℕ → Result (ℕ × ℕ) Wrong → Result ValueText W
 with_major major (Ok x) = Ok record { said = version major x.0; end = x.1 }
 with_major major (Err w) = Err w
 
--- `.` and a number behind a major number
+-- `.` and a number after a major number
 abbrev pub minor_at : List ℕ → ℕ → ℕ → Result ValueText Wrong
 minor_at text major q =
     if byte text q == ascii.dot then with_major major (number_at text (q + 1))
@@ -125,7 +125,7 @@ minor_at text major q =
 abbrev pub version_at : List ℕ → ℕ → Result ValueText Wrong
 version_at text p = then_at (minor_at text) (number_at text (run_end runs.Blanks text p))
 
--- the handle from `!` to the place behind its alphas
+-- the handle from `!` to the place after its alphas
 abbrev pub handle_between : List ℕ → ℕ → ℕ → Result (List ℕ × ℕ) Wrong
 handle_between text p q =
     if byte text q == ascii.exclamation then Ok (slice_range text p (q + 1), q + 1)
@@ -183,18 +183,18 @@ named_value_at text names.Tag q = tag_directive_at text q
 abbrev pub value_at : List ℕ → ℕ → Result ValueText Wrong
 value_at text p = then_at (named_value_at text) (name_at text p)
 
--- the place behind the comment there, if one starts there
+-- the place after the comment there, if one starts there
 abbrev pub comment_end : List ℕ → ℕ → ℕ
 comment_end text p = if byte text p == ascii.hash then line_end text p else p
 
--- the place behind the break there, or at the end
+-- the place after the break there, or at the end
 abbrev pub break_end : List ℕ → ℕ → Result ℕ Wrong
 break_end text p =
     if nat_lt 0 (break_width text p) then Ok (p + break_width text p)
     else if byte text p == 0 then Ok p
     else Err record { problem = problems.NoCommentOrBreak; context = contexts.Directive; place = p }
 
--- the place behind blanks, a comment and a break, or at the end
+-- the place after blanks, a comment and a break, or at the end
 abbrev pub line_end_at : List ℕ → ℕ → Result ℕ Wrong
 line_end_at text p = break_end text (comment_end text (run_end runs.Blanks text p))
 

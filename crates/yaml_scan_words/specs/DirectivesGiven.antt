@@ -38,7 +38,7 @@ Says (directives.Tag handle prefix) (tag h p) = (handle.items ≡ h) × (prefix.
 abbrev pub IsSaid : Directive → ValueText → Type 0
 IsSaid directive v = Says directive v.said
 
--- a directive that starts there says that, and ends behind its value
+-- a directive that starts there says that, and ends after its value
 pub record IsDirective (text : List ℕ) (start : ℕ) (word : DirectiveWord) (d : DirectiveText) : Type
     0 where
   pub said : Says word.directive d.said

@@ -9,7 +9,7 @@ use Rattle.yaml_scan_model.specs.Wrong.{Wrong}
 use Rattle.yaml_scan_words.specs.Runs.{run_end, IsShortRun}
 use Rattle.yaml_scan_words.specs.Uris.{uri_at, some_uri_at}
 
--- a tag, and the place behind it
+-- a tag, and the place after it
 pub record TagText : Type 0 where
   pub handle : List ℕ
   pub suffix : List ℕ
@@ -18,7 +18,7 @@ pub record TagText : Type 0 where
 abbrev pub tag_end : TagText → ℕ
 tag_end t = t.end
 
--- `>` behind the URI of a verbatim tag, which has no handle
+-- `>` after the URI of a verbatim tag, which has no handle
 abbrev pub bracketed : List ℕ → Result (List ℕ × ℕ) Wrong → Result TagText Wrong
 bracketed text (Ok u) =
     if byte text u.1 == ascii.greater then Ok record { handle = []; suffix = u.0; end = u.1 + 1 }
@@ -29,20 +29,20 @@ bracketed text (Err w) = Err w
 abbrev pub verbatim_at : List ℕ → ℕ → Result TagText Wrong
 verbatim_at text p = bracketed text (some_uri_at contexts.TagUri true text (p + 2))
 
--- the place behind the alphas that follow the `!` there
+-- the place after the alphas that follow the `!` there
 abbrev pub name_end : List ℕ → ℕ → ℕ
 name_end text p = run_end runs.Alphas text (p + 1)
 
--- the place behind the handle of a tag in a short form: `!alphas!`, or else `!`
+-- the place after the handle of a tag in a short form: `!alphas!`, or else `!`
 abbrev pub handle_end : List ℕ → ℕ → ℕ
 handle_end text p =
     if byte text (name_end text p) == ascii.exclamation then name_end text p + 1 else p + 1
 
--- the place behind the handle of a short tag: `!!`, or else `!`
+-- the place after the handle of a short tag: `!!`, or else `!`
 abbrev pub short_middle : List ℕ → ℕ → ℕ
 short_middle text p = if byte text (p + 1) == ascii.exclamation then p + 2 else p + 1
 
--- alphas stand from one place to another, and a space or a line feed behind
+-- alphas stand from one place to another, and a space or a line feed after
 pub record IsShortSuffix (text : List ℕ) (p q : ℕ) : Type 0 where
   pub run : IsShortRun text p q
   pub ends : (byte text q == ascii.space || byte text q == ascii.line_feed) ≡ true
@@ -88,6 +88,6 @@ ended flow text (Ok t) =
     }
 ended flow text (Err w) = Err w
 
--- the tag whose `!` stands there, in flow context or not, and the place behind it, or what is wrong
+-- the tag whose `!` stands there, in flow context or not, and the place after it, or what is wrong
 abbrev pub tag_at : Bool → List ℕ → ℕ → Result TagText Wrong
 tag_at flow text p = ended flow text (parts_at text p)

@@ -27,7 +27,7 @@ abbrev pub is_uri : Bool → List ℕ → ℕ → Bool
 is_uri wide text p = is_alpha text p
     || (is_punctuation (byte text p) || (wide && is_wide_punctuation (byte text p)))
 
--- characters that a URI holds as they are stand from one place to another, and none behind
+-- characters that a URI holds as they are stand from one place to another, and none after
 pub record IsKept (wide : Bool) (text : List ℕ) (p q : ℕ) : Type 0 where
   pub forward : p ≤ q
   pub kept : (k : ℕ) → p ≤ k → k < q → is_uri wide text k ≡ true
@@ -47,11 +47,11 @@ octet_of (Some high) None = None
 octet_of None (Some low) = None
 octet_of None None = None
 
--- the octet that the two digits behind the `%` there spell
+-- the octet that the two digits after the `%` there spell
 unfoldable pub octet_at : List ℕ → ℕ → Option ℕ
 octet_at text p = octet_of (hex_digit (byte text (p + 1))) (hex_digit (byte text (p + 2)))
 
--- How many escapes are due behind an octet, where so many are due with it: a leading octet needs its trailing ones.
+-- How many escapes are due after an octet, where so many are due with it: a leading octet needs its trailing ones.
 -- What the octets spell together may be overlong, a surrogate or too large.
 unfoldable pub due_behind : ℕ → ℕ → Result ℕ Problem
 due_behind b due =
@@ -63,7 +63,7 @@ due_behind b due =
     else if nat_le 0xF0 b && nat_le b 0xF7 then Ok 3
     else Err problems.WrongLeadingOctet
 
--- What stands at a place of a URI: a byte, how many escapes are due behind it, and the place behind it; or the URI's end; or a
+-- What stands at a place of a URI: a byte, how many escapes are due after it, and the place after it; or the URI's end; or a
 -- problem and its place.
 pub data UriSpot : Type 0 where
   Spells : ℕ → ℕ → ℕ → UriSpot
@@ -102,13 +102,13 @@ uri_from more context (Faulty problem q) = Err record {
   place = q;
 }
 
--- the bytes of the URI there, of at most n spots, where so many escapes are due, and the place behind it
+-- the bytes of the URI there, of at most n spots, where so many escapes are due, and the place after it
 unfoldable pub uri_within : ℕ → Context → Bool → ℕ → List ℕ → ℕ → Result (List ℕ × ℕ) Wrong
 uri_within zero context wide due text p = Ok ([], p)
 uri_within (suc n) context wide due text p = uri_from (λ next q. uri_within n context wide next text
     q) context (spot_at wide due text p)
 
--- the bytes that the URI spells which stands there, none where no URI does, and the place behind it, or what is wrong
+-- the bytes that the URI spells which stands there, none where no URI does, and the place after it, or what is wrong
 abbrev pub uri_at : Context → Bool → List ℕ → ℕ → Result (List ℕ × ℕ) Wrong
 uri_at context wide text p = uri_within (suc (length text)) context wide 0 text p
 

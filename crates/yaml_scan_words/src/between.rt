@@ -50,14 +50,14 @@ fn skips_tabs(flow: bool, allowed: bool) -> bool
     flow || !allowed
 }
 
-/// Whether a key is allowed behind a break, by whether one was before it.
+/// Whether a key is allowed after a break, by whether one was before it.
 fn allows_key(flow: bool, allowed: bool) -> bool
     ensures { result ≡ (allowed || not flow) }
 {
     allowed || !flow
 }
 
-/// Past what stands here, where it is no lexeme. Spaces and the lexeme behind them, which are met most, are asked first.
+/// Past what stands here, where it is no lexeme. Spaces and the lexeme after them, which are met most, are asked first.
 #[tactic(auto, using(crate::proofs::BetweenLemmas::lexeme_here, crate::proofs::BetweenLemmas::space_byte, crate::proofs::BetweenLemmas::skipped_here), unfolding(crate::specs::Between::step_at))]
 fn pass_one(reader: &mut Reader, tabs: bool) -> GapSpot
     ensures step { spec.step_at tabs reader.old.text reader.old.at
@@ -90,9 +90,9 @@ fn pass_one(reader: &mut Reader, tabs: bool) -> GapSpot
     GapSpot::Lexeme
 }
 
-/// Up to the break or the end behind the comment that stands here.
+/// Up to the break or the end after the comment that stands here.
 // A copy is lent: a reader that is lent to a call out of line lives in memory, and so it would for each gap. The text stays the
-// one in front of it, so that nothing has to choose between two of them behind it.
+// one before it, so that nothing has to choose between two of them after it.
 // Inlined always: the room of the copy is set to zero where a comment stands, and not where the caller begins.
 #[inline(always)]
 fn pass_remark(reader: &mut Reader)

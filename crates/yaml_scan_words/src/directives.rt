@@ -22,7 +22,7 @@ pub enum DirectiveName {
 
 /// The directive whose `%` stands here (YAML 1.1, 7.1): `%YAML` with a version, or `%TAG` with a handle and a prefix.
 ///
-/// Behind it blanks, a comment and the break are passed. The directive's end mark stands behind its value.
+/// After it blanks, a comment and the break are passed. The directive's end mark stands after its value.
 pub fn directive(spares: &mut Spares, reader: &mut Reader) -> Result<DirectiveWord, ScanError>
     requires { byte reader.old.text reader.old.at ≡ ascii.percent }
     ensures { ReadsAs (IsDirective reader.old.text reader.old.at) spec.directive_place
@@ -56,7 +56,7 @@ fn directive_value(
     }
 }
 
-/// The name behind the `%` that stands here.
+/// The name after the `%` that stands here.
 fn directive_name(reader: &mut Reader, start: yaml_mark_t) -> Result<DirectiveName, ScanError>
     requires { byte reader.old.text reader.old.at ≡ ascii.percent }
     ensures { ReadsAs IsName spec.name_behind reader.old.text start reader.new result
@@ -71,7 +71,7 @@ fn directive_name(reader: &mut Reader, start: yaml_mark_t) -> Result<DirectiveNa
     }
 }
 
-/// What the name tells that stands before a reader, up to the place of the one behind it.
+/// What the name tells that stands before a reader, up to the place of the one after it.
 fn name_told(name: &Reader, behind: &Reader) -> Result<DirectiveName, Problem>
     requires same { behind.now.text ≡ name.now.text }
     requires forward { name.now.at ≤ behind.now.at }

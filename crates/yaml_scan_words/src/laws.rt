@@ -8,7 +8,7 @@ pub fn gap_reads()
     ensures { GapReads }
 {}
 
-/// A name behind `&` or `*` is read, where what follows may end it.
+/// A name after `&` or `*` is read, where what follows may end it.
 pub fn anchor_reads()
     ensures { AnchorReads }
 {}

@@ -52,7 +52,7 @@ fn tag_handle(
     Ok(copied_since(spares, reader, from)?)
 }
 
-/// The prefix that follows here behind blanks, which end the handle.
+/// The prefix that follows here after blanks, which end the handle.
 fn tag_prefix(
     spares: &mut Spares,
     reader: &mut Reader,

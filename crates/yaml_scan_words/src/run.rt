@@ -104,7 +104,7 @@ pub(crate) fn short_run(text: &[u8], from: usize) -> Option<usize>
     }
 }
 
-/// How many of the next sixteen bytes are alphas, one behind the other.
+/// How many of the next sixteen bytes are alphas, one after the other.
 // A loop whose turns are counted by a constant is written out: no place is compared with the text's length.
 // Inlined: a load and a comparison a byte.
 #[tactic(auto, unfolding(crate::specs::Runs::belongs))]

@@ -40,7 +40,7 @@ pub fn tag(spares: &mut Spares, reader: &mut Reader, flow: bool) -> Result<TagWo
     Ok(TagWord { handle, suffix })
 }
 
-/// The place behind the handle of a short tag, which stands there: `!!`, or else `!`.
+/// The place after the handle of a short tag, which stands there: `!!`, or else `!`.
 // Inlined: a look at a byte.
 #[inline(always)]
 fn short_middle(text: &[u8], at: usize) -> usize

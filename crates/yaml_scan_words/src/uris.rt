@@ -138,7 +138,7 @@ fn skip_escape(reader: &mut Reader)
     skip_indicator(reader);
 }
 
-/// The number that the two digits spell behind the `%` here.
+/// The number that the two digits spell after the `%` here.
 #[tactic(auto, unfolding(crate::specs::Uris::octet_at))]
 fn octet(reader: &Reader) -> Option<u8>
     ensures { result ≡ spec.octet_at reader.now.text reader.now.at }
@@ -162,7 +162,7 @@ fn hex_octet(byte: u8) -> Option<u8>
     }
 }
 
-/// How many escapes are due behind an octet, where so many are due with it: those of the rest of its character.
+/// How many escapes are due after an octet, where so many are due with it: those of the rest of its character.
 #[tactic(auto, unfolding(crate::specs::Uris::due_behind))]
 fn due_behind(octet: u8, due: usize) -> Result<usize, Problem>
     ensures { result ≡ spec.due_behind octet due }
@@ -182,7 +182,7 @@ fn due_behind(octet: u8, due: usize) -> Result<usize, Problem>
     }
 }
 
-/// The place behind the characters there that a URI holds as they are.
+/// The place after the characters there that a URI holds as they are.
 // Inlined: a loop of a load and a comparison a byte.
 #[inline(always)]
 #[tactic(auto, using(crate::proofs::UrisLemmas::past_uri))]

@@ -20,7 +20,7 @@ pub(crate) fn version(reader: &mut Reader, start: yaml_mark_t) -> Result<Directi
     minor(reader, major, start)
 }
 
-/// The rest of a version behind its major number, which follows here: `.` and a number.
+/// The rest of a version after its major number, which follows here: `.` and a number.
 fn minor(reader: &mut Reader, major: i32, start: yaml_mark_t) -> Result<Directive, ScanError>
     ensures { (m : ℕ) → major ≡ pos m → ReadsAs IsSaid spec.value_end reader.old.text start
         reader.new result (spec.minor_at reader.old.text m reader.old.at) }

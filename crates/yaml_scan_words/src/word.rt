@@ -22,7 +22,7 @@ pub enum Directive {
     Tag { handle: Vec<u8>, prefix: Vec<u8> },
 }
 
-/// A directive and where it stands; it ends behind its value, before blanks and a comment.
+/// A directive and where it stands; it ends after its value, before blanks and a comment.
 #[derive(Drop)]
 pub struct DirectiveWord {
     pub directive: Directive,

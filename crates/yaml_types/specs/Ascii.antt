@@ -28,7 +28,7 @@ carriage_return = 13
 abbrev pub escape : ℕ
 escape = 27
 
--- the last one in front of those that are printed
+-- the last one before those that are printed
 abbrev pub unit_separator : ℕ
 unit_separator = 31
 

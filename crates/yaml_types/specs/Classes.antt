@@ -41,7 +41,7 @@ width_of b =
 unfoldable pub is_special : ℕ → ℕ → Bool
 is_special c d = (c == 0xBB && d == 0xBF) || (c == 0xBF && (d == 0xBE || d == 0xBF))
 
--- b begins a printable character, where c and d stand behind it
+-- b begins a printable character, where c and d stand after it
 unfoldable pub is_printable_by : ℕ → ℕ → ℕ → Bool
 is_printable_by b c d =
     if b == ascii.line_feed || (nat_le ascii.space b && nat_le b ascii.tilde) then true

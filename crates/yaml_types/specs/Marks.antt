@@ -21,7 +21,7 @@ break_of b c d =
     else if (b == 0xE2 && c == 0x80) && (d == 0xA8 || d == 0xA9) then 3
     else 0
 
--- b is the last byte of a break, where x and y stand before it and c behind it
+-- b is the last byte of a break, where x and y stand before it and c after it
 unfoldable pub ends_of : ℕ → ℕ → ℕ → ℕ → Bool
 ends_of x y b c =
     if b == ascii.line_feed then true

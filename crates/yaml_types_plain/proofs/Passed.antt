@@ -6,7 +6,7 @@ use Rattle.std.proofs.lemmas.List.{take_all, get_or-drop}
 use Rattle.std.proofs.lemmas.List.Folds.{list_all_more, list_all-append}
 use Rattle.std.specs.List.{list_all}
 
--- the byte behind a run
+-- the byte after a run
 pub run_next : (test : ℕ → Bool) (k : ℕ) (text : List ℕ) (p : ℕ) (run own : Bool)
     → run ≡ list_all test (take k (drop p text)) → own ≡ test (slice_index text (p + k))
     → p + k < length text
@@ -15,7 +15,7 @@ run_next test k text p run own h g inside =
     let more = list_all_more test (drop p text) k 0 (omega (arith, length-drop p text, inside)) in
     rw (h, g, ← get_or-drop p text k 0) (sym more)
 
--- a run behind some bytes
+-- a run after some bytes
 run_behind : (test : ℕ → Bool) (k n : ℕ) (text : List ℕ) → list_all test (take (n + k) text)
     ≡ (list_all test (take n text) && list_all test (take k (drop n text)))
 run_behind test k n text = ap (list_all test) (take-add n k text) ∙ list_all-append test (take n text) (take k (drop n text))

@@ -1,6 +1,6 @@
 //! The plain types that all members have: libyaml's enums, directives, marks and located faults, with what is derived of them; bytes that are
-//! put behind a text, which has room for them and may be lifted out of its place meanwhile; texts in the room of earlier ones; short texts,
-//! which are put so by few moves, and looked for in front of others; and texts whose bytes all pass a test. No must-fail edit stands here,
+//! put after a text, which has room for them and may be lifted out of its place meanwhile; texts in the room of earlier ones; short texts,
+//! which are put so by few moves, and looked for before others; and texts whose bytes all pass a test. No must-fail edit stands here,
 //! so that all of this is proved once.
 #![tactic(auto)]
 

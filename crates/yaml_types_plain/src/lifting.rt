@@ -1,4 +1,4 @@
-//! A text that is lifted out of its place while bytes are put behind it: behind a reference it would be read again at each byte.
+//! A text that is lifted out of its place while bytes are put after it: after a reference it would be read again at each byte.
 
 ghost use Rattle.std.specs.Prelude.{◌≡◌, ◌+◌, ◌≤◌, [], IfOk, vec_len, vec_capacity};
 

@@ -1,4 +1,4 @@
-//! Bytes that are put behind a text. What is put has room, which a clause asks for: so it can't fail.
+//! Bytes that are put after a text. What is put has room, which a clause asks for: so it can't fail.
 
 ghost use Rattle.std.specs.Prelude.{◌≡◌, ◌+◌, ◌-◌, ◌≤◌, ◌++◌, true, length, take, vec_len, vec_capacity};
 ghost use Rattle.yaml_types_plain.specs.Ends.{bytes_at, IsShort};
@@ -11,7 +11,7 @@ const BRIEF: usize = 16;
 /// Texts of at most so many bytes are short.
 pub const SHORT: usize = 32;
 
-/// Puts these bytes behind a text, one by one.
+/// Puts these bytes after a text, one by one.
 // Inlined: where their number is known, they are stored with no test between.
 #[inline(always)]
 pub fn put_each(text: &mut Vec<u8>, bytes: &[u8])
@@ -25,7 +25,7 @@ pub fn put_each(text: &mut Vec<u8>, bytes: &[u8])
     }
 }
 
-/// Puts these bytes, which may be many, behind a text.
+/// Puts these bytes, which may be many, after a text.
 // Out of line: what a copy needs would take registers from the few bytes beside it.
 #[inline(never)]
 pub fn put_many(text: &mut Vec<u8>, bytes: &[u8])
@@ -38,7 +38,7 @@ pub fn put_many(text: &mut Vec<u8>, bytes: &[u8])
     let _ = text.extend_from_slice(bytes);
 }
 
-// Puts these bytes, which are so many, behind a text.
+// Puts these bytes, which are so many, after a text.
 // Inlined: their number is known.
 #[inline(always)]
 fn put_so_many(text: &mut Vec<u8>, bytes: &[u8], count: usize)
@@ -51,7 +51,7 @@ fn put_so_many(text: &mut Vec<u8>, bytes: &[u8], count: usize)
     put_each(text, &bytes[..count]);
 }
 
-/// Puts these bytes behind a text: up to eight take less time than a copy, one by one with their number known.
+/// Puts these bytes after a text: up to eight take less time than a copy, one by one with their number known.
 pub fn put_near(text: &mut Vec<u8>, bytes: &[u8])
     requires { vec_len text.old + length bytes.now ≤ vec_capacity text.old }
     ensures items { text.new.items ≡ text.old.items ++ bytes.now }
@@ -141,7 +141,7 @@ fn sixteen_at(text: &[u8], at: usize) -> [u8; 16]
     ]
 }
 
-/// Puts the sixteen bytes of another text that stand at a place behind a text.
+/// Puts the sixteen bytes of another text that stand at a place after a text.
 // Inlined: one load and one store.
 #[inline(always)]
 pub fn put_sixteen(bytes: &mut Vec<u8>, text: &[u8], at: usize)
@@ -200,7 +200,7 @@ pub fn is_short(text: &Option<Vec<u8>>) -> bool
     }
 }
 
-// Puts a brief text behind bytes.
+// Puts a brief text after bytes.
 // Inlined: two comparisons, two loads and two stores, where the bytes are the caller's own.
 #[inline(always)]
 fn put_brief(bytes: &mut Vec<u8>, text: &[u8])
@@ -224,7 +224,7 @@ fn put_brief(bytes: &mut Vec<u8>, text: &[u8])
     }
 }
 
-/// Puts a short text behind bytes.
+/// Puts a short text after bytes.
 // Inlined: two loads and two stores, where the bytes are the caller's own.
 #[inline(always)]
 pub fn put_short(bytes: &mut Vec<u8>, text: &[u8])

@@ -16,7 +16,7 @@ pub fn room_of(text: &mut Option<Vec<u8>>, aside: &mut Vec<u8>) -> Vec<u8> {
     }
 }
 
-// A text that was lifted out of its place, and another one behind it, which may be long.
+// A text that was lifted out of its place, and another one after it, which may be long.
 // Inlined: the call is handed a copy of its own, so that the text is in registers where none is made.
 #[inline(always)]
 fn followed_by_many(text: Vec<u8>, rest: &[u8]) -> Vec<u8>
@@ -29,7 +29,7 @@ fn followed_by_many(text: Vec<u8>, rest: &[u8]) -> Vec<u8>
     own
 }
 
-/// A text that was lifted out of its place, and another one behind it, for which it has room.
+/// A text that was lifted out of its place, and another one after it, for which it has room.
 // Inlined: a short one is two moves.
 #[inline(always)]
 pub fn followed(text: Vec<u8>, rest: &[u8]) -> Vec<u8>
@@ -47,7 +47,7 @@ pub fn followed(text: Vec<u8>, rest: &[u8]) -> Vec<u8>
 }
 
 /// A text in the room of one that is done with, which is emptied and lifted out of its place: its room is made once, for so many bytes more
-/// too, or refused for want of memory.
+/// too, or refused when out of memory.
 // Inlined: a comparison, and a short text is two moves.
 #[inline(always)]
 pub fn refilled(room: &mut Vec<u8>, text: &[u8], more: usize) -> Result<Vec<u8>, AllocError>

@@ -1,4 +1,4 @@
-//! Whether a short text stands in front of bytes.
+//! Whether a short text stands before bytes.
 
 ghost use Rattle.std.specs.Prelude.{◌≡◌, ◌≢◌, ◌+◌, ◌≤◌, ◌++◌, true, false, ℕ, List, length, drop};
 ghost use Rattle.yaml_types_plain.specs.Ends.{same_run};

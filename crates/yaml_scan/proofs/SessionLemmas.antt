@@ -63,7 +63,7 @@ pub ready_own : (m : Machine) (o : Option yaml_fault_t) (s : Token) (aside : Boo
     → is_settled (view_by m o s aside []) ≡ true → aside ≡ false → is_ready m ≡ true
 ready_own m o s aside i e off = own_settled m o s aside i (none_some o (ready_fault m o s aside e)) off ∙ e
 
--- none is settled behind a fault
+-- none is settled after a fault
 pub ready_over : (m : Machine) (o : Option yaml_fault_t) (s : Token) (aside : Bool)
     → is_some o ≡ true → false ≡ is_settled (view_by m o s aside [])
 ready_over m None s aside e = cc
@@ -127,7 +127,7 @@ own_reads x y None p false after s t m n e off r = record { setting = r.setting;
 own_reads x y None p true after s t m n e off r = cc
 own_reads x y (Some f) p aside after s t m n e off r = cc
 
--- behind a fault that was answered, the empty token is taken
+-- after a fault that was answered, the empty token is taken
 pub takes_over : (x : List ℕ) (o : Option yaml_fault_t) (aside : Bool) (s t : Token) (m : Machine)
     → is_some o ≡ true → t ≡ no_token → Takes (view_by m o s aside x) t (view_by m o s aside x)
 takes_over x None aside s t m e empty = cc
@@ -194,7 +194,7 @@ refuses x y None false after s t m n f e off i d = record { ahead = d.few.0; sou
 refuses x y None true after s t m n f e off i d = cc
 refuses x y (Some g) aside after s t m n f e off i d = cc
 
--- the token that was put aside is lent, or behind a fault that was answered the empty one
+-- the token that was put aside is lent, or after a fault that was answered the empty one
 pub lends_aside : (x y : List ℕ) (o : Option yaml_fault_t) (aside : Bool) (s : Token)
     (m : Machine) → aside ≡ true
     → (o ≡ None → IsMachine m) → ((f : yaml_fault_t) → o ≡ Some f → s ≡ no_token)
@@ -327,7 +327,7 @@ takes_one x y o aside s m n p passes P e off knows may stands g keeps =
       checked = may g.token (left_in p) g.first;
     }
 
--- or KEY and the scalar behind it
+-- or KEY and the scalar after it
 takes_keyed : (x y : List ℕ) (o : Option yaml_fault_t) (aside : Bool) (s : Token) (m n p : Machine)
     (P : Token → Type 0) → is_some o ≡ false → aside ≡ false → KeepsFew y → Knows m n
     → IsMachine p → GivesKeyTo P n p

@@ -68,7 +68,7 @@ pub record ReadsNeeded (old new : View) : Type 0 where
   pub needed : old.ahead ≡ 0 → (n : ℕ) → old.read ≤ n → n < new.read
       → settles old.setting old.bytes old.remaining.tokens n ≡ false
 
--- the first token to come, and the others; behind the last the empty token
+-- the first token to come, and the others; after the last the empty token
 abbrev pub first_of : List Token → Token
 first_of [] = no_token
 first_of (t ∷ ts) = t
@@ -77,7 +77,7 @@ abbrev pub others_of : List Token → List Token
 others_of [] = []
 others_of (t ∷ ts) = ts
 
--- what is to come behind the first token
+-- what is to come after the first token
 abbrev pub behind_first : Remaining → Remaining
 behind_first c = record { tokens = others_of c.tokens; fault = c.fault }
 
@@ -86,12 +86,12 @@ abbrev pub HasFirst : List Token → Type 0
 HasFirst [] = ⊥
 HasFirst (t ∷ ts) = Unit {0}
 
--- behind the last token a fault is answered, if one is to come
+-- after the last token a fault is answered, if one is to come
 abbrev pub MayAnswer : List Token → Option Fault → Type 0
 MayAnswer [] fault = fault ≡ None
 MayAnswer (t ∷ ts) fault = Unit {0}
 
--- behind a fault that was answered nothing comes
+-- after a fault that was answered nothing comes
 abbrev pub EndsAnswered : View → Type 0
 EndsAnswered v = (f : Fault) → v.answered ≡ Some f → v.remaining ≡ nothing
 
@@ -108,7 +108,7 @@ HoldsLittle v = FewWait v × KeepsFew v.spares
 abbrev pub IsKnown : View → Type 0
 IsKnown v = (is_settled v ≡ true) ⊎ (v.remaining ≡ nothing)
 
--- Want of memory is told of the reader only before the input is decoded, and where it isn't UTF-8, which takes none.
+-- Out of memory is told of the reader only before the input is decoded, and where it isn't UTF-8, which takes none.
 abbrev pub ReaderMayLack : View → Fault → Type 0
 ReaderMayLack v f = f ≡ memory_fault Reader
     → (v.read ≡ 0) × (encoding_of v.setting v.bytes ≢ YAML_UTF8_ENCODING)
@@ -119,7 +119,7 @@ PlainIsTold v f = (g : Fault) → encoding_of v.setting v.bytes ≡ YAML_UTF8_EN
     → decoding_fault v.setting v.bytes ≡ Some g → f ≡ g
 
 -- A refusal tells the fault that is to come, where no token is, or that memory ran out; a token that is settled isn't refused, nor
--- is the empty token behind the end. It is answered once and kept, and nothing comes behind it.
+-- is the empty token after the end. It is answered once and kept, and nothing comes after it.
 pub record Refuses (old : View) (f : Fault) (new : View) : Type 0 where
   pub ahead : new.ahead ≡ old.ahead
   pub sought : is_settled old ≡ false
@@ -132,7 +132,7 @@ pub record Refuses (old : View) (f : Fault) (new : View) : Type 0 where
   pub over : new.remaining ≡ nothing
   pub shown : new.shown ≡ false
 
--- a token was taken: the first to come; behind a fault the empty one, and nothing changes
+-- a token was taken: the first to come; after a fault the empty one, and nothing changes
 pub record Takes (old : View) (t : Token) (new : View) : Type 0 where
   pub token : t ≡ first_of old.remaining.tokens
   pub rest : new.remaining ≡ behind_first old.remaining
@@ -143,7 +143,7 @@ pub record Takes (old : View) (t : Token) (new : View) : Type 0 where
   pub still : (f : Fault) → old.answered ≡ Some f → new ≡ old
   pub shown : new.shown ≡ false
 
--- a session that this fault ended: it is kept as the one that was answered, and nothing comes behind it
+-- a session that this fault ended: it is kept as the one that was answered, and nothing comes after it
 abbrev pub ended : View → Fault → View
 ended v f = record v { remaining = nothing; shown = false; answered = Some f }
 
@@ -177,7 +177,7 @@ Looks old new token (Ok done) = Lends old token new
 Looks old new token (Err f) = Refuses old (fault_of f) new
 
 -- What a peek answers: the first of the tokens to come, or the empty one where neither a token nor a fault is; or a fault, where
--- something is to come: the one that is where no token is, or want of memory.
+-- something is to come: the one that is where no token is, or out of memory.
 abbrev pub Shows : View → Result (Bor yaml_token_t) yaml_fault_t → Type 0
 Shows v (Ok token) = (token_of token.now ≡ first_of v.remaining.tokens)
     × MayAnswer v.remaining.tokens v.remaining.fault
@@ -199,7 +199,7 @@ pub record TakesLent (passes : Token → Type 0) (P : Token → Type 0) (old new
   pub takes : Takes old token new
   pub checked : (spells_text token.body ≡ true) ⊎ passes token
 
--- KEY was taken, and the scalar behind it where it lies, which has that
+-- KEY was taken, and the scalar after it where it lies, which has that
 pub record TakesKeyed (P : Token → Type 0) (old new : View) : Type 0 where
   pub token : Token
   pub middle : View
@@ -225,7 +225,7 @@ pub record StaysLent (passes : Token → Type 0) (old new : View) : Type 0 where
   pub reads : ReadsNeeded old new
   pub shown : new.shown ≡ old.shown
 
--- one token was taken, which has the first, or KEY with the scalar behind it, which has the second; or none; or it was refused
+-- one token was taken, which has the first, or KEY with the scalar after it, which has the second; or none; or it was refused
 abbrev pub LendsNext : {A : Type 0} → (Token → Type 0) → (Token → A → Type 0)
     → (Token → A → Type 0) → View → Lent A → Fault → View → Type 0
 LendsNext passes P Q old (Taken a) f new = TakesLent passes (λ t. P t a) old new

@@ -19,7 +19,7 @@ abbrev pub with_shown : Bool → Token → Remaining → Remaining
 with_shown true t c = record { tokens = t ∷ c.tokens; fault = c.fault }
 with_shown false t c = c
 
--- nothing comes behind a fault that was answered
+-- nothing comes after a fault that was answered
 abbrev pub remaining_by : Option yaml_fault_t → Bool → Token → Remaining → Remaining
 remaining_by (Some f) aside t c = nothing
 remaining_by None aside t c = with_shown aside t c

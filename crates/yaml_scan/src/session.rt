@@ -32,7 +32,7 @@ use yaml_scan_slot::{Lent, TokenCheck, TokenSlot, TokenTaker};
 pub struct yaml_parser_t<'a> {
     /// What reads the input.
     machine: Machine<'a>,
-    /// The fault that was answered: nothing comes behind it.
+    /// The fault that was answered: nothing comes after it.
     fault: Option<yaml_fault_t>,
     /// What a peek lends: the token that was put aside, else the empty one.
     shown: yaml_token_t,
@@ -103,11 +103,11 @@ impl<'a> yaml_parser_t<'a> {
     }
 }
 
-/// The next token: the empty one behind the end or a fault.
+/// The next token: the empty one after the end or a fault.
 ///
 /// The first call, or the first peek, decodes the whole input. A refusal is the fault that ends the tokens of the input
-/// (kind 2 where its bytes spell no text, else 3), where they are all taken, or want of memory (kind 1). It is answered
-/// once; behind it, and behind the last token, comes the empty token.
+/// (kind 2 where its bytes spell no text, else 3), where they are all taken, or out of memory (kind 1). It is answered
+/// once; after it, and after the last token, comes the empty token.
 pub fn yaml_parser_scan(parser: &mut yaml_parser_t) -> Result<yaml_token_t, yaml_fault_t>
     ensures scans { Scans parser.old parser.new result }
     ensures few { HoldsLittle parser.new }
@@ -168,7 +168,7 @@ fn may_take<C: TokenCheck>(machine: &Machine, check: &C) -> bool
     }
 }
 
-/// Has a taker take the next token where it lies, or KEY and the scalar behind it: what `yaml_parser_scan_into` gives. None is taken,
+/// Has a taker take the next token where it lies, or KEY and the scalar after it: what `yaml_parser_scan_into` gives. None is taken,
 /// and what is to come stays, only where a peek put it aside, where none is to come, and where it is a tag or a directive that doesn't
 /// pass the check.
 // That one may be lent is one comparison. What else is asked returns by itself: LLVM joins both tests of a function into a bool.
@@ -298,7 +298,7 @@ pub fn yaml_parser_skip(parser: &mut yaml_parser_t)
 }
 
 /// Ends a session by a fault that its caller found, in a token that was taken: it is kept as the one that was answered, in the
-/// place of one that was kept, and behind it comes the empty token. A session's own fault ends it without this call.
+/// place of one that was kept, and after it comes the empty token. A session's own fault ends it without this call.
 // Out of line and cold: it is called once.
 #[cold]
 #[inline(never)]

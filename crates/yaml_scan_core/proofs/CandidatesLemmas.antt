@@ -5,7 +5,7 @@ use Rattle.std.proofs.lemmas.List.{length-append, length-set, length-take-le, ge
 use Rattle.yaml_scan_history.proofs.HistoryLemmas.{near_before, first_open-is, first_open-least}
 use Rattle.yaml_scan_core.proofs.StepLemmas.{candidate_top, none_deeper}
 
--- ---- the candidates behind one more lexeme
+-- ---- the candidates after one more lexeme
 
 pub lower : (d : ℕ) (l : Lexeme) (h : List Lexeme) → d < l.depth
     → candidate d (l ∷ h) ≡ candidate d h
@@ -77,7 +77,7 @@ pub record ChangesAt (n : ℕ) (s t : KeyStack) : Type 0 where
   pub long : length t.levels ≡ length s.levels
   pub outer : (d : ℕ) → d < n → key_at t d ≡ key_at s d
 
--- the keys behind one more lexeme, by that of its own level
+-- the keys after one more lexeme, by that of its own level
 pub turns : (n : ℕ) (text : List ℕ) (s t : KeyStack) (l : Lexeme) (h : List Lexeme)
     (p : yaml_mark_t)
     → AreKeysTo n text s h p → Upto p l.reached → l.depth ≡ n → ChangesAt n s t
@@ -207,7 +207,7 @@ stale_turns n text s l h p a u at free stops stale idle =
     (λ z. ap (λ d. required_in (candidate d (l ∷ h))) (sym z) ∙ ap required_in top ∙ (rw (idle z) refl))
     (λ lt. refl)
 
--- behind an opener a level more, with no candidate
+-- after an opener a level more, with no candidate
 pub opened_turns : (n : ℕ) (text : List ℕ) (s : KeyStack) (l : Lexeme) (h : List Lexeme)
     (q : yaml_mark_t) → AreKeysTo n text s (l ∷ h) q → l.depth ≡ n
     → AreKeysTo (n + 1) text (key_opened s) (l ∷ h) q
@@ -230,7 +230,7 @@ opened_turns n text s l h q a at =
       due = a.due ∙ (rw (old 0) refl);
     }
 
--- behind a closer a level less
+-- after a closer a level less
 pub closed_turns : (n : ℕ) (text : List ℕ) (s : KeyStack) (l : Lexeme) (h : List Lexeme)
     (p : yaml_mark_t)
     → AreKeysTo n text s h p → Upto p l.reached → l.depth ≡ n → 0 < n

@@ -1,4 +1,4 @@
--- What comes where a lexeme of a kind stands behind the gap: the lexeme, or what is wrong.
+-- What comes where a lexeme of a kind stands after the gap: the lexeme, or what is wrong.
 use Rattle.std.proofs.Common.{◌≡◌, ℕ, ◌<◌, Bool, true, false, ltb, List, length, Option, Some, None, Result, Ok, Err, refl, ap, ◌∙◌}
 use Rattle.yaml_scan_core.proofs.Words.{yaml_mark_t, mark_at, Wrong, Kind, Lexeme, candidate, fresh, reached, depth, ended, WordText, word_at, kind_at, Fails, allowed_behind, finished, misplaced, missed, lost_by, no_colon, unless_wrong, unless_lost, of_kind, unless_missed, next, history}
 use Rattle.yaml_scan_model.specs.Wrong.{scan_fault}
@@ -6,7 +6,7 @@ use Rattle.yaml_scan_history.specs.Stepwise.{no_token, not_allowed, tested}
 use Rattle.yaml_scan_core.proofs.ReadLemmas.{gap_of, begun_at}
 use Rattle.yaml_scan_core.proofs.NextLemmas.{next_at, unmissed, missed_fresh}
 
--- the place behind the gap
+-- the place after the gap
 abbrev pub here : List ℕ → List Lexeme → yaml_mark_t
 here text h = mark_at text (gap_of text h).place
 
@@ -52,7 +52,7 @@ pub record IsAt (k : Kind) (text : List ℕ) (n : ℕ) (h : List Lexeme) : Type 
   pub early : missed (candidate 0 h) (here text h) ≡ None
   pub kind : kind_here text h ≡ Some k
 
--- what it is tested for in front of its word
+-- what it is tested for before its word
 abbrev pub is_wrong : Kind → List ℕ → List Lexeme → Bool
 is_wrong k text h = misplaced k (here text h) (allowed_behind h (gap_of text h)) h
 

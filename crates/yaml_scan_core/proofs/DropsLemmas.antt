@@ -3,8 +3,8 @@ use Rattle.std.proofs.Common.{◌≡◌, ◌≢◌, ◌∙◌, ℕ, ◌+◌, ◌
 use Rattle.std.specs.Prelude.{Vec, vec_capacity}
 use Rattle.std.proofs.lemmas.List.{get_or-set_other, get_or-set_same, get_or-take, length-set, length-take-le}
 use Rattle.yaml_scan_core.proofs.Words.{cases_lt, nat_tests, Entry, SpelledText}
-use Rattle.yaml_scan_core.specs.declared.lexeme.Kind.{Kind}
-use Rattle.yaml_scan_core.specs.declared.lexeme.Kind.TheVariants as kinds
+use Rattle.yaml_scan_tokens.specs.declared.kind.Kind.{Kind}
+use Rattle.yaml_scan_tokens.specs.declared.kind.Kind.TheVariants as kinds
 use Rattle.yaml_scan_core.specs.declared.lexeme.Lexeme.{Lexeme}
 use Rattle.yaml_scan_core.specs.declared.row.Row.{Row}
 use Rattle.yaml_scan_core.specs.Rows.{HasRoom, RowView, behind_lead, behind_start, first_kind, led, is_set, lexeme_at, no_lexeme, row_of}
@@ -135,7 +135,7 @@ led_shows : (s : Store) (t : SpelledText) (x : Lexeme) (e : Entry) (n : ℕ) (g 
     → ShowsEntry s t x e → ShowsEntry s t (record x { ends = n; front = g }) e
 led_shows s t x e n g h = shows_moved s s t x (record x { ends = n; front = g }) e (moved_led s x n g) refl h
 
--- behind the BLOCK-ENDs none is left
+-- after the BLOCK-ENDs none is left
 pub lead_zero : (b : Bool) (x : Lexeme) → IsFront b x → x.front ≢ kinds.BlockEnd → x.ends ≡ 0
 lead_zero b x (inl is) other = elim (cases_lt 0 x.ends) [
   | inl some ↦ let lead : ltb 0 x.ends ≡ true = grind (arith, nat_tests) in absurd (other (is ∙ (rw lead refl)))

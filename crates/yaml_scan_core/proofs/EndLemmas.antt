@@ -15,7 +15,7 @@ use Rattle.yaml_scan_core.proofs.StandLemmas.{IsStart, colon_told, required_stan
 use Rattle.yaml_scan_core.proofs.TakesLemmas.{falls_same, keeps_pushed, takes}
 use Rattle.yaml_scan_core.specs.declared.row.Row.{Row}
 use Rattle.yaml_scan_core.specs.declared.keys.Keys.{Keys}
-use Rattle.yaml_scan_core.specs.declared.lexeme.Kind.TheVariants as kinds
+use Rattle.yaml_scan_tokens.specs.declared.kind.Kind.TheVariants as kinds
 use Rattle.yaml_scan_core.specs.declared.lexeme.Lexeme.{Lexeme as Held}
 use Rattle.yaml_scan_core.specs.Margins.{AreLevels}
 use Rattle.yaml_scan_core.specs.Rows.{HasRoom, RowView, row_of, pushed, bare}

@@ -19,7 +19,7 @@ use Rattle.yaml_scan_core.proofs.StepLemmas.{candidate_top, extends, start_is}
 use Rattle.yaml_scan_core.proofs.NextLemmas.{candidate_depth}
 use Rattle.yaml_scan_core.proofs.StandLemmas.{candidate_saved}
 
--- ---- no level opens in front of it
+-- ---- no level opens before it
 
 key_no_start : (k : Kind) → may_be_key k ≡ true → is_start k ≡ false
 key_no_start reads.BlockEntry e = cc
@@ -86,7 +86,7 @@ gone_by : (d : ℕ) (l : Lexeme) (h : List Lexeme) (c : Candidate) → l.depth �
 unfolding candidate
 gone_by d l h c at free stops e = grind (arith, nat_tests)
 
--- no level opens in front of a candidate
+-- no level opens before a candidate
 pub candidate_plain : (text : List ℕ) (n d : ℕ) (c : Candidate) (e : Entry)
     → candidate d (history text n) ≡ Some c
     → (get_or (entries (history text n)) c.number e).opens ≡ opening.Nothing

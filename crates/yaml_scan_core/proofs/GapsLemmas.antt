@@ -1,5 +1,5 @@
 -- What stands between lexemes.
-use Rattle.std.proofs.Common.{◌≡◌, ◌≢◌, ℕ, zero, suc, ◌+◌, ◌-◌, ◌<◌, ◌≤◌, Bool, true, false, cond, ltb, eqb, ◌&&◌, ◌||◌, not, inl, inr, List, length, refl, sym, ap, subst, ◌∙◌, arith}
+use Rattle.std.proofs.Common.{◌≡◌, ◌≢◌, ℕ, zero, suc, ◌+◌, ◌-◌, ◌<◌, ◌≤◌, Bool, true, false, cond, ltb, eqb, ◌&&◌, ◌||◌, not, inl, inr, List, length, take, drop, get_or, refl, sym, ap, subst, ◌∙◌, arith}
 use Rattle.yaml_scan_core.proofs.Words.{and_parts, cases_Bool, cases_lt, nat_tests, byte, line_at, column_at, splits_break, inner, stack_of}
 use Rattle.yaml_scan_model.specs.Runs.{past, columns_over, is_space_there, is_text, line_end, past_spaces}
 use Rattle.yaml_scan_model.proofs.RunsLemmas.{past-le, past-inside, past_some, text_parts}
@@ -9,6 +9,10 @@ use Rattle.yaml_scan_model.specs.Marks.{break_width, starts}
 use Rattle.yaml_scan_model.specs.Classes.{is_bom}
 use Rattle.yaml_scan_model.proofs.MarksLemmas.{column_same, end_next, line_more, no_break, split_next, within}
 use Rattle.std.proofs.lemmas.Bool.{eqb-true}
+use Rattle.std.proofs.lemmas.List.{get_or-drop, length-drop}
+use Rattle.std.proofs.lemmas.List.Sums.{count_by_more_no, count_by_more_yes}
+use Rattle.std.specs.List.{count_by}
+use Rattle.yaml_scan_runs.specs.Runs.{is_continuing}
 use Rattle.yaml_scan_words.proofs.BetweenLemmas.{gap_here, space_here, bom_bytes, break_here, no_bom, no_skip, stays}
 use Rattle.yaml_scan_core.specs.declared.scanner.Scanner.{Scanner}
 use Rattle.yaml_scan_core.specs.Scanning.{IsCalm, IsPlace, MayBreak, Passes, PassesOne, StaysAt, gap_there}
@@ -229,7 +233,7 @@ mark_passed : (f a : Bool) (text : List ℕ) (p : ℕ) → (eqb p 0 && is_bom te
 unfolding step_at
 mark_passed f a text p h = gap_here f a text p ∙ (rw h refl)
 
--- behind a byte within a character
+-- after a byte within a character
 place_within : (text : List ℕ) (at line wide : ℕ) → IsPlace text at line wide → at < length text
     → break_width text at ≡ 0 → starts (byte text at) ≡ false → IsPlace text (at + 1) line (wide + 1)
 place_within text at line wide p lt none first =
@@ -374,11 +378,7 @@ one_comment s p e q w is count =
 
 -- ---- bytes that continue characters
 
-pub columns_none : (text : List ℕ) (p n : ℕ) → n ≡ 0 → 0 + columns_over n text p ≡ n
-unfolding columns_over
-columns_none text p n e = rw e refl
-
-pub columns_more : (text : List ℕ) (p n m count k : ℕ) → m ≡ n + 1
+columns_more : (text : List ℕ) (p n m count k : ℕ) → m ≡ n + 1
     → count + columns_over n text p ≡ n
     → k ≡ cond (starts (byte text (p + n))) 0 1 → count + k + columns_over m text p ≡ m
 unfolding columns_over
@@ -390,14 +390,26 @@ columns_more text p n m count k is before b =
     ])
 
 -- the same by what the code tells of a byte
-pub columns_by : (text : List ℕ) (from at count : ℕ) (r : Bool) (f : Bool → ℕ) → from ≤ at
-    → f true ≡ 1 → f false ≡ 0 → count + columns_over (at - from) text from ≡ at - from
-    → r ≡ not (starts (byte text at)) → count + f r + columns_over (at + 1 - from) text from ≡ at + 1 - from
-columns_by text from at count r f le one none before is =
-    let q : from + (at - from) ≡ at = omega (arith, le) in
-    let k : f r ≡ cond (starts (byte text (from + (at - from)))) 0 1 = ap f is ∙ counted (starts (byte text at)) ∙ ap (λ x. cond (starts (byte text x)) 0 1) (sym q) in
-    columns_more text from (at - from) (at + 1 - from) count (f r) (omega (arith, le)) before k
-  where
-    counted : (b : Bool) → f (not b) ≡ cond b 0 1
-    counted true = none
-    counted false = one
+-- how many bytes continue a character, and how many begin one
+pub continuing_over : (text : List ℕ) (p n : ℕ) → p + n ≤ length text
+    → count_by is_continuing (take n (drop p text)) + columns_over n text p ≡ n
+unfolding columns_over
+continuing_over text p zero h = refl
+continuing_over text p (suc n) h =
+    let one_more : suc n ≡ n + 1 = omega arith in
+    let before = continuing_over text p n (omega (arith, h)) in
+    let there : get_or (drop p text) n 0 ≡ byte text (p + n) = get_or-drop p text n 0 in
+    let long : n < length (drop p text) = omega (arith, h, length-drop p text) in
+    let b = byte text (p + n) in
+    let step : count_by is_continuing (take (suc n) (drop p text)) ≡ count_by is_continuing (take n (drop p text)) + cond (starts b) 0 1 =
+    elim (cases_Bool (is_continuing b)) [
+      | inl y ↦
+          let none : starts b ≡ false = grind (arith, nat_tests) in
+          ap (λ j. count_by is_continuing (take j (drop p text))) one_more
+          ∙ count_by_more_yes is_continuing (drop p text) n 0 long (ap is_continuing there ∙ y) ∙ rw none refl
+      | inr x ↦
+          let some : starts b ≡ true = grind (arith, nat_tests) in
+          ap (λ j. count_by is_continuing (take j (drop p text))) one_more
+          ∙ count_by_more_no is_continuing (drop p text) n 0 long (ap is_continuing there ∙ x) ∙ rw some (omega arith)
+    ] in
+    rw step (columns_more text p n (suc n) (count_by is_continuing (take n (drop p text))) (cond (starts b) 0 1) one_more before refl)

@@ -16,13 +16,13 @@ use Rattle.yaml_scan_core.specs.declared.fault.Refused.{Refused}
 use Rattle.yaml_scan_core.specs.declared.row.Row.{Row}
 use Rattle.yaml_scan_core.specs.declared.keys.Keys.{Keys}
 use Rattle.yaml_scan_core.specs.declared.scanner.Scanner.{Scanner}
-use Rattle.yaml_scan_core.specs.declared.lexeme.Kind.{Kind as Token}
-use Rattle.yaml_scan_core.specs.declared.lexeme.Kind.TheVariants as kinds
+use Rattle.yaml_scan_tokens.specs.declared.kind.Kind.{Kind as Token}
+use Rattle.yaml_scan_tokens.specs.declared.kind.Kind.TheVariants as kinds
 use Rattle.yaml_scan_core.specs.declared.lexeme.Lexeme.{Lexeme as Held}
 use Rattle.yaml_scan_core.specs.Candidates.{cancelled_at, left}
 use Rattle.yaml_scan_core.specs.Rows.{HasRoom, row_of, pushed, bare}
 use Rattle.yaml_scan_core.specs.Shown.{Carries, Store}
-use Rattle.yaml_scan_core.specs.Scanning.{Holds, IsCloser, IsMark, IsOpener, IsPlace, Reads, StandsAs, Takes, Tests, read_as, read_by, stream_of}
+use Rattle.yaml_scan_core.specs.Scanning.{Holds, IsCloser, IsMark, IsOpener, IsPlace, Reads, StandsAs, Takes, Tests, fixed_of, read_as, read_by, stream_of}
 use Rattle.yaml_scan_core.proofs.CandidatesLemmas.{cancelled_turns, closed_turns, cond_zero, inner_is, lower, upto_on}
 use Rattle.yaml_scan_core.proofs.ComesLemmas.{word_here}
 use Rattle.yaml_scan_core.proofs.StandLemmas.{takes_place}
@@ -79,7 +79,7 @@ late_falls old mid keys row h r e o same kept put room is =
     reads_err old (record mid { keys = keys; row = row }) h r e is
     (falls_memory old (record mid { keys = keys; row = row }) h o (ap (λ (s : Scanner). s.text.now) same) (ap (λ (s : Scanner). s.encoding) same)
     (kept ∙ ap (λ (s : Scanner). stack_of s.keys) same) (put ∙ ap (λ (s : Scanner). row_of s.row) same)
-    (room (subst HasRoom (sym (ap (λ (s : Scanner). s.row) same)) o.room)) (ap (λ (s : Scanner). s.fault) same) (ap (λ (s : Scanner). s.batch) same))
+    (room (subst HasRoom (sym (ap (λ (s : Scanner). s.row) same)) o.room)) (ap (λ (s : Scanner). s.fault) same) (ap (λ (s : Scanner). fixed_of s) same))
 
 pub same_but : (old mid : Scanner) → mid ≡ old → mid ≡ record old { levels = mid.levels }
 same_but old mid e = subst (λ (m : Scanner). m ≡ record old { levels = m.levels }) (sym e) refl

@@ -1,13 +1,15 @@
 -- How many tokens are taken.
-use Rattle.std.proofs.Common.{◌≡◌, ℕ, ◌+◌, ◌-◌, ◌<◌, ◌≤◌, Bool, true, false, ltb, inl, inr, List, length, refl, sym, ap, ◌∙◌, arith}
+use Rattle.std.proofs.Common.{◌≡◌, ℕ, ◌+◌, ◌-◌, ◌<◌, ◌≤◌, Bool, true, false, if◌then◌else◌, ltb, inl, inr, List, length, refl, sym, ap, ◌∙◌, arith}
 use Rattle.std.proofs.lemmas.Bool.{true≢false}
 use Rattle.yaml_scan_core.proofs.Words.{cases_Bool, cases_lt, nat_tests, Entry, SpelledText}
-use Rattle.yaml_scan_core.specs.declared.lexeme.Kind.{Kind}
-use Rattle.yaml_scan_core.specs.declared.lexeme.Kind.TheVariants as kinds
+use Rattle.yaml_scan_tokens.specs.declared.kind.Kind.{Kind}
+use Rattle.yaml_scan_tokens.specs.declared.kind.Kind.TheVariants as kinds
 use Rattle.yaml_scan_core.specs.declared.lexeme.Lexeme.{Lexeme}
-use Rattle.yaml_scan_core.specs.Rows.{RowView, first_kind, is_set, lexeme_at}
-use Rattle.yaml_scan_core.specs.Shown.{KeepsTaken, ShowsFront, ShowsRow, Store, entry_at, store_of}
-use Rattle.yaml_scan_core.specs.Handed.{ends_at, given_in, given_of, keys_in, left_from, starts_in}
+use Rattle.yaml_scan_core.specs.Rows.{RowView, first_kind, is_set, lexeme_at, loses_none_by}
+use Rattle.yaml_scan_model.specs.Tokens.{TokenBody}
+use Rattle.yaml_scan_history.specs.Remaining.{body_in}
+use Rattle.yaml_scan_core.specs.Shown.{Carries, KeepsTaken, ShowsEntry, ShowsFront, ShowsRow, Store, entry_at, store_of}
+use Rattle.yaml_scan_core.specs.Handed.{ends_at, ends_in, ends_known, given_in, given_of, keys_in, left_from, starts_in}
 
 own_left : (k : Kind) (x : Lexeme) → is_set 1 x ≡ false → is_set 2 x ≡ false → is_set 4 x ≡ false
     → left_from k x ≡ 1
@@ -33,7 +35,7 @@ first_own : (x : Lexeme) → ltb 0 x.ends ≡ false → is_set 1 x ≡ false →
     → is_set 4 x ≡ false → first_kind x ≡ x.kind
 first_own x e a b c = rw (e, a, b, c) refl
 
--- where nothing is taken behind the BLOCK-ENDs
+-- where nothing is taken after the BLOCK-ENDs
 first_left : (x : Lexeme) → left_from (first_kind x) x ≡ starts_in x + keys_in x + 1
 first_left x = elim (cases_Bool (ltb 0 x.ends)) [
   | inl e ↦ rw e refl
@@ -64,22 +66,46 @@ front_first s t x e b isnt f = elim f.front [ inl first ↦ first | inr (was, en
 pub unsettled : (a b : ℕ) → b ≤ a → ltb a b ≡ false
 unsettled a b l = grind (arith, nat_tests)
 
-settled : (a b : ℕ) → a < b → ltb a b ≡ true
+pub settled : (a b : ℕ) → a < b → ltb a b ≡ true
 settled a b l = grind (arith, nat_tests)
 
 pub given_none : (text : List ℕ) (r : RowView) → length r.lexemes ≤ r.next → given_in text r ≡ 0
 given_none text r l = rw (unsettled r.next (length r.lexemes) l) refl
 
-pub given_some : (text : List ℕ) (r : RowView) → r.next < length r.lexemes
+pub given_is : (text : List ℕ) (r : RowView) → r.next < length r.lexemes
+    → given_in text r ≡ given_of (ends_in text r) (lexeme_at r r.next)
+given_is text r l = rw (settled r.next (length r.lexemes) l) refl
+
+-- what carries a token isn't lost
+held : (s : Store) (t : SpelledText) (x : Lexeme) (k : Kind) (b : TokenBody) → Carries s t x k b
+    → loses_none_by k x.start x.end ≡ false
+held s t x kinds.Failed b h = absurd h
+held s t x _ b h = refl
+
+abbrev pub known_by : Bool → ℕ → ℕ
+known_by none ends = if none then 0 else ends
+
+pub known_shown : (s : Store) (t : SpelledText) (x : Lexeme) (e : Entry) (n : ℕ)
+    → ShowsEntry s t x e → ends_known x n ≡ n
+known_shown s t x e n h = ap (λ b. known_by b n) (held s t x x.kind (body_in t e.lexeme) h.body)
+
+pub ends_shown : (text : List ℕ) (t : SpelledText) (r : RowView) (es : List Entry) → ShowsRow t r es
+    → r.next < length r.lexemes → ends_in text r ≡ ends_at text (r.dropped + r.next)
+ends_shown text t r es h l =
+    known_shown (store_of t.text r) t (lexeme_at r r.next) (entry_at es (r.dropped + r.next)) (ends_at text (r.dropped + r.next)) (h.front l).shows
+
+-- where a lexeme is shown
+pub given_some : (text : List ℕ) (t : SpelledText) (r : RowView) (es : List Entry) → ShowsRow t r es
+    → r.next < length r.lexemes
     → given_in text r ≡ given_of (ends_at text (r.dropped + r.next)) (lexeme_at r r.next)
-given_some text r l = rw (settled r.next (length r.lexemes) l) refl
+given_some text t r es h l = given_is text r l ∙ ap (λ n. given_of n (lexeme_at r r.next)) (ends_shown text t r es h l)
 
 -- where what waits first isn't settled
 pub given_open : (text : List ℕ) (t : SpelledText) (r : RowView) (es : List Entry) → ShowsRow t r es
     → r.settled ≤ r.next → r.next < length r.lexemes
     → given_in text r ≡ ends_at text (r.dropped + r.next) - (lexeme_at r r.next).ends
 given_open text t r es h open_one l =
-    given_some text r l ∙ given_first (ends_at text (r.dropped + r.next)) (lexeme_at r r.next)
+    given_some text t r es h l ∙ given_first (ends_at text (r.dropped + r.next)) (lexeme_at r r.next)
     (front_first (store_of t.text r) t (lexeme_at r r.next) (entry_at es (r.dropped + r.next)) (ltb r.next r.settled) (unsettled r.next r.settled open_one) (h.front l))
 
 -- where the row was moved
@@ -89,8 +115,8 @@ pub given_moved : (text : List ℕ) (r q : RowView) → q.dropped + q.next ≡ r
 given_moved text r q number long same = elim (cases_lt r.next (length r.lexemes)) [
   | inl some ↦
       let there : q.next < length q.lexemes = omega (arith, some, long) in
-      given_some text q there ∙ ap (λ i. given_of (ends_at text i) (lexeme_at q q.next)) number
-      ∙ ap (λ x. given_of (ends_at text (r.dropped + r.next)) x) (same there) ∙ sym (given_some text r some)
+      given_is text q there ∙ ap (λ i. given_of (ends_known (lexeme_at q q.next) (ends_at text i)) (lexeme_at q q.next)) number
+      ∙ ap (λ x. given_of (ends_known x (ends_at text (r.dropped + r.next))) x) (same there) ∙ sym (given_is text r some)
   | inr none ↦ given_none text q (omega (arith, none, long)) ∙ sym (given_none text r none)
 ]
 
@@ -108,8 +134,8 @@ given_stays text t u r q es fs k h g longer told =
       | inl some ↦
           let there : q.next < length q.lexemes = omega (arith, some, next, longer) in
           elim (cases_lt r.next r.settled) [
-            | inl done ↦ given_some text q there ∙ ap (λ i. given_of (ends_at text i) (lexeme_at q q.next)) number
-                ∙ ap (λ x. given_of (ends_at text (r.dropped + r.next)) x) (place ∙ k.same done) ∙ sym (given_some text r some)
+            | inl done ↦ given_some text u q fs g there ∙ ap (λ i. given_of (ends_at text i) (lexeme_at q q.next)) number
+                ∙ ap (λ x. given_of (ends_at text (r.dropped + r.next)) x) (place ∙ k.same done) ∙ sym (given_some text t r es h some)
             | inr open_one ↦
                 let same : (lexeme_at q q.next).ends ≡ (lexeme_at r r.next).ends = ap (λ (x : Lexeme). x.ends) place ∙ k.ends some in
                 given_open text u q fs g (omega (arith, open_one, k.settled, next)) there

@@ -1,4 +1,4 @@
--- The state behind the `:` of a key.
+-- The state after the `:` of a key.
 use Rattle.std.proofs.Common.{◌≡◌, ◌≢◌, ℕ, ◌+◌, ◌-◌, ◌<◌, ◌≤◌, ◌⊎◌, ◌^◌, Bool, true, false, cond, ltb, eqb, ◌&&◌, ◌||◌, not, inl, inr, List, [], ◌∷◌, ◌++◌, length, get_or, Option, Some, refl, sym, ap, subst, ◌∙◌, arith}
 use Rattle.std.proofs.lemmas.List.{get_or-set_other, get_or-set_same, length-set, set-append_left}
 use Rattle.yaml_scan_core.proofs.Words.{set, cases_lt, get_or_append_left, yaml_mark_t, mark_at, indent, Lexeme, Entry, Candidate, candidate, fresh, fresh_is, found_by, inside, has, entries, entry_of, mark_key, levels, opened, opens_at, depth, allowed_behind, history, SpelledText, body_in, SimpleKey, inner, stack_of, given_up}
@@ -9,12 +9,12 @@ use Rattle.yaml_scan_history.specs.declared.lexeme.Opens.TheVariants as opening
 use Rattle.yaml_scan_core.specs.declared.row.Row.{Row}
 use Rattle.yaml_scan_core.specs.declared.keys.Keys.{Keys}
 use Rattle.yaml_scan_core.specs.declared.scanner.Scanner.{Scanner}
-use Rattle.yaml_scan_core.specs.declared.lexeme.Kind.TheVariants as kinds
+use Rattle.yaml_scan_tokens.specs.declared.kind.Kind.TheVariants as kinds
 use Rattle.yaml_scan_core.specs.declared.lexeme.Lexeme.{Lexeme as Held}
 use Rattle.yaml_scan_core.specs.Margins.{AreLevels}
 use Rattle.yaml_scan_core.specs.Rows.{HasRoom, RowView, row_of, pushed, bare, key_marked, keyed as held_keyed, lexeme_at, no_lexeme}
 use Rattle.yaml_scan_core.specs.Shown.{Carries, ShowsEntry, ShowsRow, entry_at, no_entry, store_of}
-use Rattle.yaml_scan_core.specs.Scanning.{FindsKey, IsPlace, StandsAs, Takes, left_behind, read_by, stream_of}
+use Rattle.yaml_scan_core.specs.Scanning.{FindsKey, IsPlace, StandsAs, Takes, fixed_of, left_behind, read_by, stream_of}
 use Rattle.yaml_scan_core.proofs.CandidatesLemmas.{inner_is}
 use Rattle.yaml_scan_core.proofs.ComesLemmas.{is_wrong}
 use Rattle.yaml_scan_core.proofs.ReadLemmas.{gap_of}
@@ -152,7 +152,7 @@ key_takes old mid row marked_row keys x h n key m a f same is put mark room marg
       kept = keeps_put old new t l h (set r.lexemes i z) y o.row (length-set r.lexemes i z)
           (λ lt. get_or-set_other r.lexemes i r.next z no_lexeme (λ e. absurd (omega (arith, e, lt, low, at_i))))
           (marked_ends r.lexemes i r.next m (omega (arith, high, at_i))) (ap (λ (q : RowView). q.lexemes) rows)
-          (ap (λ (q : RowView). q.next) rows) (ap (λ (q : RowView). q.dropped) rows) (ap (λ (q : RowView). q.settled) rows) whole.ends (ap (λ (s : Scanner). s.batch) same);
+          (ap (λ (q : RowView). q.next) rows) (ap (λ (q : RowView). q.dropped) rows) (ap (λ (q : RowView). q.settled) rows) whole.ends (ap (λ (s : Scanner). fixed_of s) same);
     } in
     let good : is_wrong k text h ≡ false = ap (λ (q : Option Candidate). (not (ltb 0 (depth h)) && not (allowed_behind h (gap_of text h))) && (true && not (true && has q))) found ∙ no_right (not (ltb 0 (depth h))) (not (allowed_behind h (gap_of text h))) in
     cancelling_takes k w old new h n a refl refl refl refl good (lost_there k false old h n a (no_place (allowed_behind h (gap_of text h)))) (value_word text h) goes

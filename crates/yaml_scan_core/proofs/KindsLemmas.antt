@@ -17,12 +17,12 @@ use Rattle.yaml_scan_model.specs.Tokens as tokens
 use Rattle.yaml_scan_core.specs.declared.row.Row.{Row}
 use Rattle.yaml_scan_core.specs.declared.keys.Keys.{Keys}
 use Rattle.yaml_scan_core.specs.declared.levels.Levels.{Levels}
-use Rattle.yaml_scan_core.specs.declared.lexeme.Kind.{Kind as Token}
+use Rattle.yaml_scan_tokens.specs.declared.kind.Kind.{Kind as Token}
 use Rattle.yaml_scan_core.specs.declared.lexeme.Lexeme.{Lexeme as Held}
 use Rattle.yaml_scan_core.specs.Margins.{AreLevels}
 use Rattle.yaml_scan_core.specs.Rows.{HasRoom, RowView, row_of, pushed, bare, is_set}
 use Rattle.yaml_scan_core.specs.Shown.{Carries, ShowsRow, ShowsWhole, Store, store_of, opens_in, place_mark}
-use Rattle.yaml_scan_core.specs.Scanning.{IsPlace, IsTold, Keeps, StandsAs, StandsAt, Takes, Tests, left_behind, read_by, stream_of}
+use Rattle.yaml_scan_core.specs.Scanning.{IsPlace, IsTold, Keeps, StandsAs, StandsAt, Takes, Tests, fixed_of, left_behind, read_by, stream_of}
 use Rattle.yaml_scan_core.proofs.ReadLemmas.{gap_of, begun_at}
 use Rattle.yaml_scan_core.proofs.ComesLemmas.{IsAt, here, read_at, is_wrong, lost_at, word_here, comes_word, comes_lost}
 use Rattle.yaml_scan_core.proofs.StandLemmas.{cancelled_is, colon_told, fails_test, lost_in, lost_is, passes_test, takes_place}
@@ -34,7 +34,7 @@ use Rattle.yaml_scan_core.proofs.TakesLemmas.{Leaves, keeps_pushed, takes}
 
 -- ---- where a lexeme stands, by the history
 
--- the place is the one behind the gap
+-- the place is the one after the gap
 pub stands_here : (k : Kind) (s : Scanner) (h : List Lexeme) (n : ℕ) → StandsAs k s h n
     → here s.text.now h ≡ mark_at s.text.now s.at
 stands_here k s h n a = ap (λ p. mark_at s.text.now p) (sym a.behind.gap)
@@ -156,7 +156,7 @@ given_up_outer n text s l h p a at must =
           (c.outer 0 some, lower 0 l h (omega (arith, at, some)))
     ]
 
--- the state in front of a lexeme that was read, but for the row and the keys
+-- the state before a lexeme that was read, except for the row and the keys
 pub record Goes (k : Kind) (w : WordText) (old new : Scanner) (h : List Lexeme) : Type 0 where
   pub text : new.text.now ≡ old.text.now
   pub coding : new.encoding ≡ old.encoding
@@ -272,7 +272,7 @@ pub levels_plain : (l : Lexeme) (h : List Lexeme) → is_start l.kind ≡ false
 unfolding levels
 levels_plain l h e = ap (λ b. opened (b && not (ltb 0 l.depth)) (opens_at (found_by l h) l.kind l.start.column) (inside l h)) e
 
--- the levels behind which it stands are those that were left open
+-- the levels after which it stands are those that were left open
 pub inside_put : (k : Kind) (w : WordText) (s : Scanner) (h : List Lexeme) (n : ℕ)
     → StandsAs k s h n → inside (put_at k w s.text.now h) h ≡ left_behind k s h
 inside_put k w s h n a = ap (λ (m : yaml_mark_t). left_by k (depth h) m.column (levels h)) (stands_here k s h n a)
@@ -288,7 +288,7 @@ pub record Puts (t : Token) (n width flags : ℕ) (old new : Scanner) : Type 0 w
   pub at : new.at ≡ old.at + width
   pub line : new.line ≡ old.line
   pub wide : new.wide ≡ old.wide
-  pub batch : new.batch ≡ old.batch
+  pub fixed : fixed_of new ≡ fixed_of old
 
 -- the word of so many bytes that carries that
 abbrev pub bare_word : TokenBody → ℕ → List ℕ → List Lexeme → WordText
@@ -356,7 +356,7 @@ bare_goes k t b width old new h n a flat other colon starts word carries p kept 
       allowed = allowed;
       few = rw kept a.behind.holds.few;
       margins = rw (kept, same) a.margins;
-      kept = keeps_pushed old new (stream_of old) l h x a.behind.holds.row p.row shown.ends p.batch;
+      kept = keeps_pushed old new (stream_of old) l h x a.behind.holds.row p.row shown.ends p.fixed;
     }
 
 -- what is put by the code
@@ -383,7 +383,7 @@ puts_by t n width flags old mid row keys marg allowed x same is put room =
       at = ap (λ q. q + width) at;
       line = ap (λ (s : Scanner). s.line) same;
       wide = ap (λ (s : Scanner). s.wide) same;
-      batch = ap (λ (s : Scanner). s.batch) same;
+      fixed = ap (λ (s : Scanner). fixed_of s) same;
     }
 
 pub stands_told : (k : Kind) (s : Scanner) (h : List Lexeme) (n : ℕ) → StandsAs k s h n

@@ -32,6 +32,14 @@ pub mod TokensLemmas
 pub mod FrontLemmas
 pub mod BatchLemmas
 pub mod GivenLemmas
+pub mod SkipLemmas
+pub mod AskedLemmas
 pub mod SeatLemmas
+pub mod NumbersLemmas
 pub mod WordsLemmas
 pub mod SpotLemmas
+pub mod KnowsLemmas
+pub mod WaitsLemmas
+pub mod OwnedLemmas
+pub mod TextsOfLemmas
+pub mod ToldLemmas

@@ -70,14 +70,14 @@ margin_is l ls a = sym (indent_snoc l.outer.items l.margin) ∙ ap indent a.all 
 pub count_is : (l : Levels) (ls : List ℕ) → AreLevels l ls → length l.outer.items ≡ length ls
 count_is l ls a = omega (arith, ap (λ (xs : List ℕ). length xs) a.all, length-append l.outer.items (l.margin ∷ []))
 
--- levels that are left of others behind a column, where so many were
+-- levels that are left of others after a column, where so many were
 pub record AreLeft (column n : ℕ) (l : Levels) (ls : List ℕ) : Type 0 where
   pub left : List ℕ
   pub are : AreLevels l left
   pub same : left_of column left ≡ left_of column ls
   pub count : n + length left ≡ length ls
 
--- behind the last one the others are left
+-- after the last one the others are left
 pop_list : (outer rest : List ℕ) (m top : ℕ) (ls : List ℕ) → outer ≡ rest ++ top ∷ []
     → outer ++ m ∷ [] ≡ 0 ∷ ls
     → (left : List ℕ) × (rest ++ top ∷ [] ≡ 0 ∷ left) × (ls ≡ left ++ m ∷ [])

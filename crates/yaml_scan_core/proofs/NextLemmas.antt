@@ -93,7 +93,7 @@ pub missed_fresh : (o : Option Candidate) (q p : yaml_mark_t) → missed o q ≡
     → missed (fresh o q) p ≡ missed o p
 missed_fresh o q p e = sym (late_same (fresh o q) p) ∙ ap (λ r. late r p) (required_fresh o q e) ∙ late_same o p
 
--- nothing comes behind the end
+-- nothing comes after the end
 pub next_ended : (text : List ℕ) (h : List Lexeme) → ended h ≡ true → next text h ≡ Ends
 unfolding next
 next_ended text [] e = cc

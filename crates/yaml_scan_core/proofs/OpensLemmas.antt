@@ -6,7 +6,7 @@ use Rattle.yaml_scan_core.specs.declared.fault.Fault.{Fault}
 use Rattle.yaml_scan_core.specs.declared.row.Row.{Row}
 use Rattle.yaml_scan_core.specs.declared.keys.Keys.{Keys}
 use Rattle.yaml_scan_core.specs.declared.scanner.Scanner.{Scanner}
-use Rattle.yaml_scan_core.specs.declared.lexeme.Kind.{Kind as Token}
+use Rattle.yaml_scan_tokens.specs.declared.kind.Kind.{Kind as Token}
 use Rattle.yaml_scan_core.specs.declared.lexeme.Lexeme.{Lexeme as Held}
 use Rattle.yaml_scan_core.specs.Candidates.{cancelled_at}
 use Rattle.yaml_scan_core.specs.Rows.{HasRoom, row_of, pushed, bare}

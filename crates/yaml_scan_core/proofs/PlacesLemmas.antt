@@ -7,7 +7,7 @@ use Rattle.yaml_scan_core.specs.Scanning.{IsPlace}
 use Rattle.yaml_scan_core.specs.Shown.{place_mark}
 use Rattle.yaml_scan_core.proofs.LinesLemmas.{line_upto}
 
--- behind a byte that is a character and no break
+-- after a byte that is a character and no break
 pub place_on : (text : List ℕ) (at line wide : ℕ) → IsPlace text at line wide → at < length text
     → break_width text at ≡ 0 → starts (byte text at) ≡ true → IsPlace text (at + 1) line wide
 place_on text at line wide p lt none first =
@@ -53,7 +53,7 @@ within_break text at i some lt =
       ]
     ]
 
--- behind a break
+-- after a break
 pub place_behind : (text : List ℕ) (at line wide : ℕ) → IsPlace text at line wide
     → 0 < break_width text at → let q = at + break_width text at in IsPlace text q q 0
 place_behind text at line wide p some =
@@ -81,7 +81,7 @@ place_column text at line wide p = omega (arith, p.column)
 pub place_room : (text : List ℕ) (at line wide : ℕ) → IsPlace text at line wide → line + wide ≤ at
 place_room text at line wide p = omega (arith, p.column)
 
--- behind a byte of ASCII that is no control
+-- after a byte of ASCII that is no control
 pub byte_place : (text : List ℕ) (at line wide b : ℕ) → IsPlace text at line wide
     → byte text at ≡ b → 13 < b → b < 128 → IsPlace text (at + 1) line wide
 byte_place text at line wide b p is low high =

@@ -1,19 +1,20 @@
--- The state behind settling, the stream's end, and the fault.
-use Rattle.std.proofs.Common.{◌≡◌, ℕ, zero, suc, ◌+◌, ◌-◌, ◌<◌, ◌≤◌, ◌^◌, ◌++◌, ◌∷◌, Bool, true, false, cond, ltb, inl, inr, List, [], length, take, None, Result, Ok, Err, refl, sym, ap, subst, ◌∙◌, arith, length-append}
-use Rattle.std.specs.Prelude.{is_err}
+-- The state after settling, the stream's end, and the fault.
+use Rattle.std.proofs.Common.{◌≡◌, ℕ, zero, suc, ◌+◌, ◌-◌, ◌<◌, ◌≤◌, ◌^◌, ◌++◌, ◌∷◌, Bool, true, false, not, cond, ltb, inl, inr, List, [], length, take, None, Result, Ok, Err, refl, sym, ap, subst, ◌∙◌, arith, length-append}
+use Rattle.std.specs.Prelude.{is_err, max}
 use Rattle.std.proofs.lemmas.List.{get_or-take, length-take-le, take-append-le}
-use Rattle.yaml_scan_core.proofs.Words.{cases_Bool, cases_lt, nat_tests, get_or_at, get_or_past, take_all, mark_at, Lexeme as Read, Entry, reached, ended, entries, first_open, first_open-le, length-entries, history, next, Fails, Ends, ScanFault, levels, candidate, entry_of, first_lexeme, line_at, column_at, byte, zero_mark, KeyStack, key_at, no_key, SpelledText, AreKeys, IsLineStart, stack_of}
+use Rattle.yaml_scan_core.proofs.Words.{cases_Bool, cases_lt, cases_Option, candidate_below, fresh, fresh_is, nat_tests, get_or_at, get_or_past, take_all, mark_at, Lexeme as Read, Entry, reached, ended, entries, first_open, first_open-le, length-entries, history, next, Fails, Ends, ScanFault, levels, candidate, entry_of, first_lexeme, line_at, column_at, byte, zero_mark, KeyStack, key_at, no_key, SpelledText, AreKeys, IsLineStart, stack_of}
 use Rattle.yaml_scan_core.specs.declared.keys.Keys.{Keys}
 use Rattle.yaml_scan_core.specs.declared.row.Row.{Row}
 use Rattle.yaml_scan_core.specs.declared.fault.Refused.{Refused}
 use Rattle.yaml_scan_core.specs.declared.scanner.Scanner.{Scanner}
+use Rattle.yaml_scan_laws_order.proofs.HeldForward.{outer_is_first}
 use Rattle.yaml_scan_laws_order.proofs.HistoryForward.{are_few, last_is_all}
 use Rattle.yaml_scan_history.specs.Remaining.{all, handed, handed_out}
 use Rattle.yaml_scan_core.specs.declared.lexeme.Lexeme.{Lexeme}
-use Rattle.yaml_scan_core.specs.declared.lexeme.Kind.TheVariants as kinds
+use Rattle.yaml_scan_tokens.specs.declared.kind.Kind.TheVariants as kinds
 use Rattle.yaml_scan_core.specs.Margins.{AreLevels}
 use Rattle.yaml_scan_model.specs.Marks.{splits_of}
-use Rattle.yaml_scan_core.specs.Rows.{RowView, HasRoom, bare, row_of, failed, lost_at, lexeme_at, no_lexeme}
+use Rattle.yaml_scan_core.specs.Rows.{RowView, HasRoom, IsThere, bare, row_of, failed, lost_at, lexeme_at, loses_none, no_lexeme}
 use Rattle.yaml_scan_core.specs.Handed.{Drops}
 use Rattle.yaml_scan_core.specs.Shown.{Store, ShowsRow, ShowsWhole, ShowsFront, store_of, entry_at, no_entry, place_mark}
 use Rattle.yaml_scan_core.specs.Scanning.{Advances, Falls, HasFailed, HasSettled, IsDecoded, IsGoing, IsLost, IsOver, IsPlace, IsTold, MaySettle, Rests, Shows, ShowsSettled, Steps, TellsFirst, but_last, history_of, read_by, stream_of}
@@ -59,7 +60,7 @@ shown_cut t r es k h more few =
           rw (lexeme i low, entry i low) (h.others i gt (omega (arith, low, few)));
     }
 
--- ---- behind settling
+-- ---- after settling
 
 -- where more may be read
 pub may_settle : (s : Scanner) → Shows s (history_of s) → s.ended ≡ false
@@ -110,7 +111,7 @@ goes_on s t h going some same v =
       first = v.first;
     }
 
--- ---- behind the stream's end
+-- ---- after the stream's end
 
 pub is_over : (s : Scanner) (k : ℕ) → Shows s (history_of s) → s.ended ≡ true
     → k ≡ length s.row.lexemes.items → IsOver (record s { row = record s.row { settled = k } })
@@ -124,7 +125,7 @@ is_over s k h over all = record {
 
 -- ---- at a fault
 
--- what no lexeme was read behind may be settled
+-- what no lexeme was read after may be settled
 pub may_settle_fallen : (old new : Scanner) → Shows old (history_of old) → old.ended ≡ false
     → Falls old new (history_of old) → MaySettle new old.at old.line (read_by old)
 may_settle_fallen old new h going f =
@@ -151,7 +152,7 @@ keeps_of s h k x first = record {
   inside = omega (arith, first, first_open-le h h, x.more, x.row.count);
 }
 
--- the last lexeme of a row behind a fault
+-- the last lexeme of a row after a fault
 last_failed : (r : RowView) → r.settled ≤ length r.lexemes
     → lexeme_at (failed r) r.settled ≡ lost_at r
 last_failed r few = get_or_at (take r.settled r.lexemes) (lost_at r) [] no_lexeme r.settled (length-take-le r.settled r.lexemes few)
@@ -167,7 +168,7 @@ cut_failed r few =
     ap (λ n. record r { lexemes = take (length (ls ++ lost_at r ∷ []) - 1) (ls ++ lost_at r ∷ []); settled = n }) back
     ∙ ap (λ xs. record r { lexemes = xs; settled = r.settled }) same
 
--- what is lost where there is a lexeme behind the settled ones
+-- what is lost where there is a lexeme after the settled ones
 lost_some : (t : SpelledText) (r : RowView) (es : List Entry) (k : ℕ) → ShowsRow t r es
     → k < length r.lexemes → r.next ≤ k → let e = entry_at es (r.dropped + k) in
     let x = lexeme_at r k in
@@ -180,7 +181,7 @@ lost_some t r es k h lt le = elim (cases_lt r.next k) [
       (f.ends, (λ gt. absurd (omega (arith, gt, same)), f.shows.start))
 ]
 
--- what stands behind the settled lexemes is the fault
+-- what stands after the settled lexemes is the fault
 is_lost : (t : SpelledText) (r : RowView) (es : List Entry) (e : Entry) (k : ℕ) → ShowsRow t r es
     → r.next ≤ k → k ≤ length r.lexemes → (entry_at es (r.dropped + k)).ends ≡ e.ends
     → (0 < e.ends → (entry_at es (r.dropped + k)).lexeme ≡ e.lexeme)
@@ -211,7 +212,43 @@ is_lost t r es e k h le inside ends at = elim (cases_lt k (length r.lexemes)) [
       }
 ]
 
--- the state behind the fault
+-- where none is lost, none more was read
+pub none_read : (s : Scanner) (h : List Read) (k : ℕ) → ShowsSettled s h
+    → s.row.dropped + k ≡ first_open h h → length h ≤ first_open h h → length s.row.lexemes.items ≤ k
+none_read s h k x first all = elim x.keys [
+  | inl (are, count) ↦ omega (arith, count, all, first)
+  | inr (agrees, (some, stale)) ↦ elim (cases_Option (fresh (candidate 0 h) (reached h))) [
+    | inl none ↦ absurd (some none)
+    | inr (c, here) ↦ absurd (omega (arith, outer_is_first h c here, candidate_below 0 h c (fresh_is (candidate 0 h) (reached h) c here), all))
+  ]
+]
+
+pub loses_one : (r : RowView) → r.settled < length r.lexemes → loses_none (lost_at r) ≡ false
+loses_one r lt =
+    let y : ltb r.settled (length r.lexemes) ≡ true = grind (arith, nat_tests) in
+    let same : ltb (lexeme_at r r.settled).start (lexeme_at r r.settled).start ≡ false = grind (arith, nat_tests) in
+    rw y same
+
+loses_nothing : (r : RowView) → length r.lexemes ≤ r.settled → loses_none (lost_at r) ≡ true
+loses_nothing r past = let y : ltb r.settled (length r.lexemes) ≡ false = grind (arith, nat_tests) in rw y refl
+
+-- the fault tells whether a lexeme is lost
+tells_lost : (s : Scanner) (h : List Read) (k : ℕ) → ShowsSettled s h
+    → s.row.dropped + k ≡ first_open h h
+    → loses_none (lost_at (record (row_of s.row) { settled = k })) ≡ not (ltb (first_open h h) (length h))
+tells_lost s h k x first =
+    let q : RowView = record (row_of s.row) { settled = k } in
+    elim (cases_lt (first_open h h) (length h)) [
+      | inl low ↦
+          let there : k < length s.row.lexemes.items = omega (arith, low, first, x.more, x.row.count) in
+          let is : ltb (first_open h h) (length h) ≡ true = grind (arith, nat_tests) in
+          loses_one q there ∙ ap not (sym is)
+      | inr past ↦
+          let is : ltb (first_open h h) (length h) ≡ false = grind (arith, nat_tests) in
+          loses_nothing q (none_read s h k x first past) ∙ ap not (sym is)
+    ]
+
+-- the state after the fault
 pub fell : (old mid : Scanner) (keys : Keys) (k : ℕ) (row : Row) (h : List Read) → Falls old mid h
     → mid.row.dropped + k ≡ first_open h h
     → row_of row ≡ failed (record (row_of mid.row) { settled = k })
@@ -244,6 +281,7 @@ fell old mid keys k row h f first is =
       some = omega (arith, settled);
       all = settled ∙ sym long;
       lost = subst (λ (v : RowView). IsLost t.text (ltb (v.next + 1) v.settled) (lexeme_at v (v.settled - 1)) (entry_at (entries h) fo)) (sym is) lost_there;
+      none = ap (λ (v : RowView). loses_none (lexeme_at v (v.settled - 1))) is ∙ ap loses_none there ∙ tells_lost mid h k x first;
       told = subst (λ s. IsTold s mid.fault (next s h)) (sym f.text) f.told;
     }
 
@@ -310,7 +348,7 @@ settled_read s (inl g) = g.shows.holds.row.few
 settled_read s (inr (inl o)) = omega (arith, o.all)
 settled_read s (inr (inr (n, f))) = omega (arith, f.all)
 
--- behind dropping
+-- after dropping
 pub going_dropped : (s : Scanner) (row : Row) → IsGoing s → Drops s.row row
     → IsGoing (record s { row = row })
 going_dropped s row g d =
@@ -394,7 +432,7 @@ first_shows t = record {
   front = refl;
 }
 
-first_entries : entries (first_lexeme ∷ []) ≡ entry_of first_lexeme [] ∷ []
+pub first_entries : entries (first_lexeme ∷ []) ≡ entry_of first_lexeme [] ∷ []
 unfolding entries
 first_entries = refl
 
@@ -425,7 +463,7 @@ first_are text = record {
   due = refl;
 }
 
-first_history : (text : List ℕ) → history text 1 ≡ first_lexeme ∷ []
+pub first_history : (text : List ℕ) → history text 1 ≡ first_lexeme ∷ []
 unfolding history next
 first_history text = refl
 
@@ -486,13 +524,26 @@ starts_going s row room keys margins at line wide allowed going fault long bytes
     }
 
 -- where as many wait as are asked for, one is there
-pub one_waits : (next settled count batch r : ℕ) → settled ≤ count → 0 < batch → batch ≤ r
-    → (count ≤ next → r ≡ settled - next) → next < count
-one_waits next settled count batch r few some many none = elim (cases_lt next count) [ inl low ↦ low | inr high ↦ absurd (omega (arith, few, some, many, none high, high)) ]
+pub one_waits : (r : RowView) (batch waiting : ℕ) → r.next ≤ r.settled → 0 < batch → batch ≤ waiting
+    → (r.next < length r.lexemes → waiting ≡ max (r.settled - r.next) (cond (ltb 0 (lexeme_at r r.next).ends) 1 0))
+    → (length r.lexemes ≤ r.next → waiting ≡ r.settled - r.next) → IsThere r
+one_waits r batch waiting taken some many there none = elim (cases_lt r.next r.settled) [
+  | inl low ↦ inl low
+  | inr done ↦ elim (cases_lt r.next (length r.lexemes)) [
+    | inr gone ↦ absurd (omega (arith, some, many, none gone, done))
+    | inl more ↦ elim (cases_lt 0 (lexeme_at r r.next).ends) [
+      | inl ends ↦ inr (more, ends)
+      | inr flat ↦
+          let is : ltb 0 (lexeme_at r r.next).ends ≡ false = grind (arith, nat_tests) in
+          let idle : waiting ≡ max (r.settled - r.next) 0 = there more ∙ ap (λ b. max (r.settled - r.next) (cond b 1 0)) is in
+          absurd (grind (arith, nat_tests, some, many, idle, done))
+    ]
+  ]
+]
 
 -- ---- what is handed out
 
--- the lexemes in front of a fault
+-- the lexemes before a fault
 pub handed_failed : (text : List ℕ) (n : ℕ) (p : ScanFault) → let h = history text n in
     next text h ≡ Fails p → handed text ≡ take (first_open h h) (entries h)
 unfolding handed

@@ -60,7 +60,7 @@ required_is k w s h n a may on =
     ∙ ap (λ b. b && eqb s.levels.margin (column_at text s.at + 1)) (sym flat)
     ∙ ap (λ c. not (ltb 0 (inner (stack_of s.keys))) && eqb s.levels.margin (c + 1)) (sym col)
 
--- what is left of the keys behind a lexeme that may be one
+-- what is left of the keys after a lexeme that may be one
 pub record Saved (t : KeyStack) (old : Scanner) (l : Lexeme) (h : List Lexeme) : Type 0 where
   pub keys : AreKeysTo (depth h) old.text.now t (l ∷ h) l.reached
   pub outer : t.required ≡ true → ((key_at t 0 ≡ key_at (stack_of old.keys) 0)

@@ -129,7 +129,7 @@ seat_on text p line wide q l w place on inside whole own low count =
       column = omega (arith, column, count, place.column, same);
     }
 
--- a place in a line behind
+-- a place in a line after
 pub seat_next : (text : List ℕ) (q l w : ℕ) → q ≤ length text → splits_break text q ≡ false
     → l ≡ line_start text q
     → w + columns_over (q - l) text l ≡ q - l → IsPlace text q l w
@@ -147,7 +147,7 @@ seat_next text q l w inside whole own count =
 pub line_before : (text : List ℕ) (q l : ℕ) → l ≡ line_start text q → l ≤ q
 line_before text q l own = omega (arith, own, (start_line text q).before)
 
--- behind bytes of ASCII that are no breaks
+-- after bytes of ASCII that are no breaks
 plain_over : (d : ℕ) (text : List ℕ) (p line wide : ℕ) → IsPlace text p line wide
     → p + d ≤ length text
     → ((k : ℕ) → p ≤ k → k < p + d → (0 < byte text k) × (byte text k < 128) × (break_width text k ≡ 0))

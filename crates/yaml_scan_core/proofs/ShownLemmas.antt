@@ -1,4 +1,4 @@
--- What a row shows, where its texts move, behind one more lexeme, and where one becomes a key.
+-- What a row shows, where its texts move, after one more lexeme, and where one becomes a key.
 use Rattle.std.proofs.Common.{◌≡◌, ◌≢◌, ◌∙◌, ℕ, ◌+◌, ◌-◌, ◌<◌, ◌≤◌, ◌⊎◌, Bool, true, false, cond, eqb, not, inl, inr, List, [], ◌∷◌, ◌++◌, length, take, drop, length-drop, refl, sym, ap, subst, arith, length-append}
 use Rattle.yaml_scan_history.specs.History.{as_key, mark_key, start_of}
 use Rattle.yaml_scan_core.proofs.NextLemmas.{as_key_set}
@@ -10,8 +10,8 @@ use Rattle.yaml_scan_model.specs.Tokens.{TokenBody}
 use Rattle.yaml_scan_history.specs.Remaining.{SpelledText, body_in}
 use Rattle.yaml_scan_history.specs.declared.lexeme.Entry.{Entry}
 use Rattle.yaml_scan_history.specs.declared.lexeme.Opens.TheVariants as opening
-use Rattle.yaml_scan_core.specs.declared.lexeme.Kind.{Kind}
-use Rattle.yaml_scan_core.specs.declared.lexeme.Kind.TheVariants as kinds
+use Rattle.yaml_scan_tokens.specs.declared.kind.Kind.{Kind}
+use Rattle.yaml_scan_tokens.specs.declared.kind.Kind.TheVariants as kinds
 use Rattle.yaml_scan_core.specs.declared.lexeme.Lexeme.{Lexeme}
 use Rattle.yaml_scan_core.specs.declared.lexeme.Note.{Note}
 use Rattle.yaml_scan_core.specs.declared.lexeme.Span.{Span}
@@ -42,11 +42,11 @@ bare_moved s u x y m b = record { plain = m.noted ∙ b.plain }
 pub carries_moved : (s u : Store) (t : SpelledText) (x y : Lexeme) (k : Kind) (b : TokenBody)
     → Moved s u x y → (k ≡ kinds.Key → is_set 4 y ≡ is_set 4 x)
     → Carries s t x k b → Carries u t y k b
-carries_moved s u t x y kinds.VersionDirective b m f (d, e, h, is) = (d, e, m.note d e h, is)
-carries_moved s u t x y kinds.TagDirective b m f (d, e, h, is) = (d, e, m.note d e h, is)
-carries_moved s u t x y kinds.BadPrefix b m f (d, e, h, is) = (d, e, m.note d e h, is)
-carries_moved s u t x y kinds.Tag b m f (d, e, h, is) = (d, e, m.note d e h, is)
-carries_moved s u t x y kinds.BadTag b m f (d, e, h, is) = (d, e, m.note d e h, is)
+carries_moved s u t x y kinds.VersionDirective b m f (d, e, h, is, small) = (d, e, m.note d e h, is, small)
+carries_moved s u t x y kinds.TagDirective b m f (d, e, h, is, good) = (d, e, m.note d e h, is, good)
+carries_moved s u t x y kinds.BadPrefix b m f (d, e, h, is, good) = (d, e, m.note d e h, is, good)
+carries_moved s u t x y kinds.Tag b m f (d, e, h, is, good) = (d, e, m.note d e h, is, good)
+carries_moved s u t x y kinds.BadTag b m f (d, e, h, is, good) = (d, e, m.note d e h, is, good)
 carries_moved s u t x y kinds.Alias b m f (v, h, is) = (v, value_moved s u x y v m h, is)
 carries_moved s u t x y kinds.Anchor b m f (v, h, is) = (v, value_moved s u x y v m h, is)
 carries_moved s u t x y kinds.Scalar b m f (v, h, is) = (v, value_moved s u x y v m h, rw m.style is)
@@ -59,13 +59,13 @@ carries_moved s u t x y kinds.BlockEnd b m f c = absurd c
 carries_moved s u t x y _ b m f c = (bare_moved s u x y m c.0, c.1)
 
 -- what a lexeme carries is in no note, or in one that there is
-carries_known : (s : Store) (t : SpelledText) (x : Lexeme) (k : Kind) (b : TokenBody)
+pub carries_known : (s : Store) (t : SpelledText) (x : Lexeme) (k : Kind) (b : TokenBody)
     → Carries s t x k b → (is_set 8 x ≡ false) ⊎ (x.end < length s.notes)
-carries_known s t x kinds.VersionDirective b (d, e, h, is) = inr h.known
-carries_known s t x kinds.TagDirective b (d, e, h, is) = inr h.known
-carries_known s t x kinds.BadPrefix b (d, e, h, is) = inr h.known
-carries_known s t x kinds.Tag b (d, e, h, is) = inr h.known
-carries_known s t x kinds.BadTag b (d, e, h, is) = inr h.known
+carries_known s t x kinds.VersionDirective b (d, e, h, is, small) = inr h.known
+carries_known s t x kinds.TagDirective b (d, e, h, is, good) = inr h.known
+carries_known s t x kinds.BadPrefix b (d, e, h, is, good) = inr h.known
+carries_known s t x kinds.Tag b (d, e, h, is, good) = inr h.known
+carries_known s t x kinds.BadTag b (d, e, h, is, good) = inr h.known
 carries_known s t x kinds.Alias b (v, h, is) = elim h [ inl (a, n) ↦ inr n.known | inr p ↦ inl p.plain ]
 carries_known s t x kinds.Anchor b (v, h, is) = elim h [ inl (a, n) ↦ inr n.known | inr p ↦ inl p.plain ]
 carries_known s t x kinds.Scalar b (v, h, is) = elim h [ inl (a, n) ↦ inr n.known | inr p ↦ inl p.plain ]
@@ -222,7 +222,7 @@ key_set x m = rw ((key_bits x.flags m).key) refl
 key_noted : (x : Lexeme) (m : Bool) → is_set 8 (keyed m x) ≡ is_set 8 x
 key_noted x m = rw ((key_bits x.flags m).note) refl
 
--- a mapping opens in front of it, or nothing
+-- a mapping opens before it, or nothing
 key_opens : (x : Lexeme) (m : Bool) → opens_in x ≡ opening.Nothing
     → opens_in (keyed m x) ≡ cond m opening.Mapping opening.Nothing
 key_opens x true none = let b = key_bits x.flags true in rw (b.sequence, b.mapping) (elim (cases_Bool (is_set 1 x)) [ inl y ↦ let bad = rw y at none in cc | inr n ↦ rw n refl ])

@@ -167,7 +167,7 @@ stands_there k s h n a =
           omega (arith, up, low, scalar_keeps k (column_at text s.at) e, a.behind.place.column, a.behind.place.inside);
     }
 
--- ---- the state behind it
+-- ---- the state after it
 
 pub stores_more : (old new : Scanner) (row : Row) (arena : List ℕ) → Keeps old.row.arena.items arena
     → row_of new.row ≡ record (row_of old.row) { arena = arena }

@@ -1,4 +1,4 @@
--- Where a lexeme stands behind the gap.
+-- Where a lexeme stands after the gap.
 use Rattle.std.proofs.Common.{◌≡◌, ℕ, ◌+◌, ◌<◌, Bool, true, false, cond, ltb, ◌&&◌, ◌||◌, not, inl, inr, List, length, Option, Some, None, Result, Ok, Err, refl, sym, ap, subst, ◌∙◌, arith}
 use Rattle.std.specs.Prelude.{filter, nat_le}
 use Rattle.yaml_scan_core.proofs.Words.{yaml_mark_t, mark_at, column_at, Kind, Lexeme, candidate, reached, depth, ended, levels, key_allowed, keeps, kind_at, Fails, missed, next, history, colon_missing, no_start, required_in, required_at, inner, stack_of, late, index_in, Upto, length-entries}
@@ -10,7 +10,7 @@ use Rattle.yaml_scan_core.specs.declared.levels.Levels.{Levels}
 use Rattle.yaml_scan_core.specs.declared.scanner.Scanner.{Scanner}
 use Rattle.yaml_scan_core.specs.Margins.{AreLevels, left_of}
 use Rattle.yaml_scan_core.specs.Shown.{place_mark}
-use Rattle.yaml_scan_core.specs.Scanning.{Falls, Finds, Holds, IsBehind, IsTold, Passes, Reads, Shows, StandsAs, StandsAt, StaysAt, Takes, TakesBoth, Tests, fault_in, gap_there, history_of, left_behind, no_start_at, read_by}
+use Rattle.yaml_scan_core.specs.Scanning.{Falls, Finds, Holds, IsBehind, IsTold, Passes, Reads, Shows, StandsAs, StandsAt, StaysAt, Takes, TakesBoth, Tests, fault_in, fixed_of, gap_there, history_of, left_behind, no_start_at, read_by}
 use Rattle.yaml_scan_core.proofs.CandidatesLemmas.{inner_is}
 use Rattle.yaml_scan_core.proofs.ComesLemmas.{GoesOn, comes_late, comes_none, here}
 use Rattle.yaml_scan_core.proofs.MarginsLemmas.{count_is}
@@ -75,7 +75,7 @@ takes_with old new lv t = record {
   passed = t.passed;
   settled = t.settled;
   idle = t.idle;
-  kept = record { batch = t.kept.batch; row = t.kept.row };
+  kept = record { fixed = t.kept.fixed; row = t.kept.row };
 }
 
 pub takes_closed : (old mid new : Scanner) → mid ≡ record old { levels = mid.levels }
@@ -85,7 +85,7 @@ takes_closed old mid new same t = takes_with old new mid.levels (subst (λ (x : 
 falls_with : (old new : Scanner) (lv : Levels)
     → let was : Scanner = record old { levels = lv } in Falls was new (history_of was)
     → Falls old new (history_of old)
-falls_with old new lv f = record { settled = f.settled; text = f.text; told = f.told; kept = record { batch = f.kept.batch; row = f.kept.row } }
+falls_with old new lv f = record { settled = f.settled; text = f.text; told = f.told; kept = record { fixed = f.kept.fixed; row = f.kept.row } }
 
 both_with : (old new : Scanner) (lv : Levels)
     → let was : Scanner = record old { levels = lv } in TakesBoth was new (history_of was)
@@ -98,7 +98,8 @@ both_with old new lv t = record {
   second = t.second;
   text = t.text;
   idle = t.idle;
-  kept = record { batch = t.kept.batch; row = t.kept.row };
+  kept = record { fixed = t.kept.fixed; row = t.kept.row };
+  many = t.many;
 }
 
 reads_with : (old new : Scanner) (lv : Levels) (r : Result (Unit {0}) Refused)
@@ -191,7 +192,7 @@ text_falls old mid new h same f =
       settled = f.settled;
       text = f.text ∙ text;
       told = subst (λ t. IsTold t new.fault (next t h)) text f.told;
-      kept = keeps_from old mid new f.settled.all (ap (λ (x : Scanner). x.row) same) (ap (λ (x : Scanner). x.batch) same) f.kept;
+      kept = keeps_from old mid new f.settled.all (ap (λ (x : Scanner). x.row) same) (ap (λ (x : Scanner). fixed_of x) same) f.kept;
     }
 
 -- a required candidate is stale there
@@ -240,7 +241,7 @@ finds old mid new h k s same b kept early kind =
       subst (λ (x : Scanner). StandsAt k x h) (sym kept) there,
       ap (λ (x : Scanner). x.text.now) kept ∙ ap (λ (x : Scanner). x.text.now) same,
       ap (λ (x : Scanner). x.row) kept ∙ ap (λ (x : Scanner). x.row) same,
-      ap (λ (x : Scanner). x.batch) kept ∙ ap (λ (x : Scanner). x.batch) same,
+      ap (λ (x : Scanner). fixed_of x) kept ∙ ap (λ (x : Scanner). fixed_of x) same,
     )
 
 -- none does

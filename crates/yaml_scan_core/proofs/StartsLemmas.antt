@@ -13,14 +13,14 @@ use Rattle.yaml_scan_core.specs.declared.row.Row.{Row}
 use Rattle.yaml_scan_core.specs.declared.keys.Keys.{Keys}
 use Rattle.yaml_scan_core.specs.declared.levels.Levels.{Levels}
 use Rattle.yaml_scan_core.specs.declared.scanner.Scanner.{Scanner}
-use Rattle.yaml_scan_core.specs.declared.lexeme.Kind.{Kind as Token}
-use Rattle.yaml_scan_core.specs.declared.lexeme.Kind.TheVariants as kinds
+use Rattle.yaml_scan_tokens.specs.declared.kind.Kind.{Kind as Token}
+use Rattle.yaml_scan_tokens.specs.declared.kind.Kind.TheVariants as kinds
 use Rattle.yaml_scan_core.specs.declared.lexeme.Lexeme.{Lexeme as Held}
 use Rattle.yaml_scan_core.specs.Candidates.{cancelled_at}
 use Rattle.yaml_scan_core.specs.Margins.{AreLevels}
 use Rattle.yaml_scan_core.specs.Rows.{HasRoom, RowView, row_of, pushed, bare, is_set}
 use Rattle.yaml_scan_core.specs.Shown.{Carries, ShowsRow, Store, opens_in, place_mark, store_of}
-use Rattle.yaml_scan_core.specs.Scanning.{IsPlace, IsTold, Reads, StandsAs, Takes, Tests, TestsOf, FindsNone, fault_in, left_behind, read_by, refusal_at, stream_of}
+use Rattle.yaml_scan_core.specs.Scanning.{FindsNone, IsPlace, IsTold, Reads, StandsAs, Takes, Tests, TestsOf, fault_in, fixed_of, left_behind, read_by, refusal_at, stream_of}
 use Rattle.yaml_scan_core.proofs.CandidatesLemmas.{inner_is, lower, stale_turns, stays_stale, upto_on}
 use Rattle.yaml_scan_core.proofs.GapsLemmas.{or_false}
 use Rattle.yaml_scan_core.proofs.ComesLemmas.{comes_misplaced, is_wrong, word_here}
@@ -145,7 +145,7 @@ pub record OpensLevel (k : Kind) (old new : Scanner) (h : List Lexeme) (b : Bool
   pub opens : b ≡ (not (ltb 0 (inner (stack_of old.keys))) && ltb (indent (left_behind k old h)) (column_at old.text.now old.at + 1))
   pub few : length new.levels.outer.items < 2 ^ 32
 
--- the state behind such a lexeme, its keys aside
+-- the state after such a lexeme, its keys aside
 pub starting_goes : (k : Kind) (t : Token) (body : TokenBody) (b : Bool) (old new : Scanner)
     (h : List Lexeme) (n : ℕ) → StandsAs k old h n → Starts k old h → is_end k ≡ false
     → (k ≡ reads.StreamStart → ⊥)
@@ -196,7 +196,7 @@ starting_goes k t body b old new h n a st flat other word carries p lv place all
       allowed = allowed;
       few = lv.few;
       margins = subst (λ ls. AreLevels new.levels ls) same lv.margins;
-      kept = keeps_pushed old new (stream_of old) l h x a.behind.holds.row p.row shown.ends p.batch;
+      kept = keeps_pushed old new (stream_of old) l h x a.behind.holds.row p.row shown.ends p.fixed;
     }
 
 -- ---- which kinds
@@ -232,7 +232,7 @@ level_by k old mid new h n column b a same is margins opens few =
       few = few (subst (λ (l : Levels). length l.outer.items < 2 ^ 32) (sym levels_same) a.behind.holds.few);
     }
 
--- what is put by the code, behind a level that opens
+-- what is put by the code, after a level that opens
 pub puts_on : (t : Token) (n flags : ℕ) (old mid : Scanner) (row : Row) (keys : Keys)
     (allowed : Bool) (x : Held) → mid ≡ record old { levels = mid.levels }
     → x ≡ bare t n mid.at (mid.at + 1) flags → row_of row ≡ pushed x (row_of mid.row) → HasRoom row
@@ -249,7 +249,7 @@ puts_on t n flags old mid row keys allowed x same is put room =
       at = ap (λ q. q + 1) at;
       line = ap (λ (s : Scanner). s.line) same;
       wide = ap (λ (s : Scanner). s.wide) same;
-      batch = ap (λ (s : Scanner). s.batch) same;
+      fixed = ap (λ (s : Scanner). fixed_of s) same;
     }
 
 -- a `-` or a `?`
@@ -291,7 +291,7 @@ pub value_word : (text : List ℕ) (h : List Lexeme)
 unfolding word_at
 value_word text h = refl
 
--- whether a key may begin behind a `?`
+-- whether a key may begin after a `?`
 pub flow_same : (s : KeyStack) (t : KeyStack) (h : List Lexeme) (text : List ℕ) (p : yaml_mark_t)
     → AreKeys text s h p → length t.levels ≡ length s.levels
     → (not (ltb 0 (inner t)) || false) ≡ (eqb (depth h) 0 || false)
@@ -302,7 +302,7 @@ flow_same s t h text p a long =
     flat : (d : ℕ) → not (ltb 0 d) ≡ eqb d 0
     flat d = grind (arith, nat_tests)
 
--- ---- a `:` behind no key
+-- ---- a `:` after no key
 
 view_none : (o : Option Candidate) → view_of o ≡ None → o ≡ None
 view_none None e = refl

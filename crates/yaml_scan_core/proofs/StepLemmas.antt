@@ -92,7 +92,7 @@ extends (Read l) h = inl (l, refl)
 extends (Fails p) h = inr refl
 extends Ends h = inr refl
 
--- what holds before any lexeme, and behind each that comes where it held before, holds of each history
+-- what holds before any lexeme, and after each that comes where it held before, holds of each history
 pub each_history : (text : List ℕ) (P : List Lexeme → Type 0) → P []
     → ((h : List Lexeme) (l : Lexeme) → P h → next text h ≡ Read l → P (l ∷ h)) → (n : ℕ)
     → P (history text n)

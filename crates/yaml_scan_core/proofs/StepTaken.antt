@@ -9,7 +9,7 @@ use Rattle.yaml_scan_core.specs.declared.fault.Refused.{Refused}
 use Rattle.yaml_scan_core.specs.declared.scanner.Scanner.{Scanner}
 use Rattle.yaml_scan_core.specs.Shown.{place_mark}
 use Rattle.yaml_scan_core.specs.declared.row.Row.{Row}
-use Rattle.yaml_scan_core.specs.Scanning.{Advances, Falls, Holds, IsTold, Keeps, Shows, ShowsSettled, StandsAt, Steps, Takes, TakesBoth, Tests, history_of, read_by}
+use Rattle.yaml_scan_core.specs.Scanning.{Advances, Falls, Fixed, Holds, IsTold, Keeps, Shows, ShowsSettled, StandsAt, Steps, Takes, TakesBoth, Tests, fixed_of, history_of, read_by}
 use Rattle.yaml_scan_core.proofs.NextLemmas.{unmissed}
 use Rattle.yaml_scan_core.proofs.StandLemmas.{colon_told, fails_test, late_missed, missed_required, passes_test}
 use Rattle.yaml_scan_core.proofs.PlacesLemmas.{mark_of_place}
@@ -34,7 +34,7 @@ advance_one mid new h t o is none =
     let count : read_by new ≡ suc (read_by mid) = omega (arith, before, after) in
     let more : history text (suc (read_by mid)) ≡ l ∷ history text (read_by mid) = history_more text (read_by mid) l (subst (λ x. next text x ≡ Read l) is reads) in
     let same : l ∷ h ≡ history_of new = ap (λ x. l ∷ x) is ∙ sym more ∙ ap (λ n. history text n) (sym count) ∙ ap (λ x. history x (read_by new)) (sym t.text) in
-    record { shows = subst (λ x. Shows new x) same t.shows; further = omega (arith, count); text = t.text; kept = subst (λ x. Keeps mid new (entries x)) same t.kept }
+    record { shows = subst (λ x. Shows new x) same t.shows; further = omega (arith, count); text = t.text; kept = subst (λ x. Keeps mid new (entries x)) same t.kept; one = inr (omega (arith, count)) }
 
 pub advance_both : (mid new : Scanner) (h : List Lexeme) → TakesBoth mid new h → Holds mid h
     → h ≡ history_of mid → Advances mid new
@@ -47,23 +47,29 @@ advance_both mid new h t o is =
     let one : history text (suc n) ≡ t.key ∷ h = history_more text n t.key (subst (λ x. next text x ≡ Read t.key) is t.first) ∙ ap (λ x. t.key ∷ x) (sym is) in
     let two : history text (suc (suc n)) ≡ t.value ∷ history text (suc n) = history_more text (suc n) t.value (subst (λ x. next text x ≡ Read t.value) (sym one) t.second) in
     let same : t.value ∷ t.key ∷ h ≡ history_of new = ap (λ x. t.value ∷ x) (sym one) ∙ sym two ∙ ap (λ m. history text m) (sym count) ∙ ap (λ x. history x (read_by new)) (sym t.text) in
-    record { shows = subst (λ x. Shows new x) same t.shows; further = omega (arith, count); text = t.text; kept = subst (λ x. Keeps mid new (entries x)) same t.kept }
+    record { shows = subst (λ x. Shows new x) same t.shows; further = omega (arith, count); text = t.text; kept = subst (λ x. Keeps mid new (entries x)) same t.kept; one = inl t.many }
 
--- ---- from the state in front of the gap
+-- ---- from the state before the gap
 
 pub falls_from : (old mid new : Scanner) (h g : List Lexeme) → mid.text.now ≡ old.text.now
-    → mid.row ≡ old.row → mid.batch ≡ old.batch → g ≡ h
+    → mid.row ≡ old.row → fixed_of mid ≡ fixed_of old → g ≡ h
     → Falls mid new g → Falls old new h
-falls_from old mid new h g text row batch same f =
+falls_from old mid new h g text row fixed same f =
     let it : Falls mid new h = subst (λ x. Falls mid new x) same f in
-    record { settled = it.settled; text = it.text ∙ text; told = subst (λ t. IsTold t new.fault (next t h)) text it.told; kept = keeps_from old mid new it.settled.all row batch it.kept }
+    record { settled = it.settled; text = it.text ∙ text; told = subst (λ t. IsTold t new.fault (next t h)) text it.told; kept = keeps_from old mid new it.settled.all row fixed it.kept }
 
 pub advances_from : (old mid new : Scanner) → mid.text.now ≡ old.text.now → mid.row ≡ old.row
-    → mid.batch ≡ old.batch
+    → fixed_of mid ≡ fixed_of old
     → Advances mid new → Advances old new
-advances_from old mid new text row batch v =
+advances_from old mid new text row fixed v =
     let count : read_by mid ≡ read_by old = ap (λ (r : Row). r.dropped + length r.lexemes.items) row in
-    record { shows = v.shows; further = omega (arith, v.further, count); text = v.text ∙ text; kept = keeps_from old mid new (entries (history_of new)) row batch v.kept }
+    record {
+      shows = v.shows;
+      further = omega (arith, v.further, count);
+      text = v.text ∙ text;
+      kept = keeps_from old mid new (entries (history_of new)) row fixed v.kept;
+      one = elim v.one [ inl many ↦ inl (omega (arith, many, ap (λ (f : Fixed). f.batch) fixed)) | inr one ↦ inr (omega (arith, one, count)) ];
+    }
 
 -- ---- the last test
 
@@ -106,11 +112,11 @@ faulted mid taken new h same settled kept text told =
       settled = refaulted taken new.fault h settled;
       text = text;
       told = told;
-      kept = record { batch = kept.batch; row = kept.row };
+      kept = record { fixed = kept.fixed; row = kept.row };
     } in
     subst (λ (x : Scanner). Falls mid x h) (sym same) falls
 
--- the test behind one lexeme
+-- the test after one lexeme
 pub last_test : (mid taken new : Scanner) (h : List Lexeme) (r : Result (Unit {0}) Refused)
     → (t : Takes mid taken h) → Holds mid h → h ≡ history_of mid
     → new ≡ record taken { fault = new.fault } → OnOk r (new ≡ taken)
@@ -153,7 +159,7 @@ last_test mid taken new h (Err d) t o is same kept tests =
     let fault : IsTold text new.fault (next text h) = rw f (comes ∙ ap (λ q. Fails (colon_missing start q)) (sym m) ∙ ap (λ p. Fails p) (sym told)) in
     faulted mid taken new h same settled kept_there t.text fault
 
--- and behind two
+-- and after two
 pub both_test : (mid taken new : Scanner) (h : List Lexeme) (r : Result (Unit {0}) Refused)
     → (t : TakesBoth mid taken h) → Holds mid h → h ≡ history_of mid → OnOk r (new ≡ taken)
     → Tests (index_in (late (required_at mid.text.now (stack_of taken.keys)) (mark_at mid.text.now taken.at))) taken.at new.fault r
@@ -166,10 +172,10 @@ both_test mid taken new h (Err d) t o is kept tests =
 -- ---- the whole step
 
 steps_from : (old mid new : Scanner) (h g : List Lexeme) (r : Result (Unit {0}) Refused)
-    → mid.text.now ≡ old.text.now → mid.row ≡ old.row → mid.batch ≡ old.batch → g ≡ h → Steps mid new g r
+    → mid.text.now ≡ old.text.now → mid.row ≡ old.row → fixed_of mid ≡ fixed_of old → g ≡ h → Steps mid new g r
     → Steps old new h r
-steps_from old mid new h g (Ok u) text row batch same v = advances_from old mid new text row batch v
-steps_from old mid new h g (Err e) text row batch same f = falls_from old mid new h g text row batch same f
+steps_from old mid new h g (Ok u) text row fixed same v = advances_from old mid new text row fixed v
+steps_from old mid new h g (Err e) text row fixed same f = falls_from old mid new h g text row fixed same f
 
 pub steps_err : (old new : Scanner) (h : List Lexeme) (r : Result (Unit {0}) Refused) (e : Refused)
     → r ≡ Err e → Falls old new h → Steps old new h r
@@ -194,13 +200,13 @@ tested mid taken new h r (inr t) o is same kept tests = both_test mid taken new 
 
 pub steps : (old mid taken new : Scanner) (k : Kind) (r : Result (Unit {0}) Refused)
     → StandsAt k mid (history_of old)
-    → mid.text.now ≡ old.text.now → mid.row ≡ old.row → mid.batch ≡ old.batch
+    → mid.text.now ≡ old.text.now → mid.row ≡ old.row → fixed_of mid ≡ fixed_of old
     → Takes mid taken (history_of mid) ⊎ TakesBoth mid taken (history_of mid)
     → new ≡ record taken { fault = new.fault } → OnOk r (new ≡ taken) → LastTests taken new r
     → Steps old new (history_of old) r
-steps old mid taken new k r at text row batch takes_it changed kept tests =
+steps old mid taken new k r at text row fixed takes_it changed kept tests =
     let h = history_of old in
     let g = history_of mid in
     let whole : g ≡ h = sym at.behind.is in
-    steps_from old mid new h g r text row batch whole
+    steps_from old mid new h g r text row fixed whole
     (tested mid taken new g r takes_it (subst (λ x. Holds mid x) at.behind.is at.behind.holds) refl changed kept tests)

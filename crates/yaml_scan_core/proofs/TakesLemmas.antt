@@ -1,4 +1,4 @@
--- The state behind one lexeme more, and where none is read.
+-- The state after one lexeme more, and where none is read.
 use Rattle.std.proofs.Common.{◌≡◌, ℕ, suc, ◌+◌, ◌-◌, ◌<◌, ◌≤◌, ◌⊎◌, ◌^◌, true, false, inl, inr, List, [], ◌∷◌, ◌++◌, length, get_or, Option, Some, None, Result, Err, refl, sym, ap, subst, ◌∙◌, arith}
 use Rattle.yaml_scan_core.proofs.Words.{get_or_append_left, get_or-append_right, length-keyed, cases_Bool, cases_lt, yaml_mark_t, mark_at, Lexeme, Entry, Candidate, candidate, fresh, reached, levels, key_allowed, entries, entry_of, first_open, is_end, keyed, Upto, Read, missed, next, history, SpelledText, candidate_below, fresh_is, length-entries, AreKeys, AreWithin, key_at, stack_of, fresh_key, view_of}
 use Rattle.yaml_scan_history.specs.Stepwise.{tested}
@@ -14,7 +14,7 @@ use Rattle.yaml_scan_core.specs.Rows.{HasRoom, RowView, no_lexeme, row_of, pushe
 use Rattle.yaml_scan_core.specs.Shown.{ShowsRow, no_entry}
 use Rattle.yaml_scan_core.specs.Shown.{KeepsTaken}
 use Rattle.yaml_scan_core.specs.declared.lexeme.Lexeme.{Lexeme as Held}
-use Rattle.yaml_scan_core.specs.Scanning.{Falls, Holds, Keeps, IsPlace, IsTold, Reads, ShowsSettled, Takes, stream_of}
+use Rattle.yaml_scan_core.specs.Scanning.{Falls, Holds, IsPlace, IsTold, Keeps, Reads, ShowsSettled, Takes, fixed_of, stream_of}
 use Rattle.yaml_scan_core.proofs.ComesLemmas.{here}
 use Rattle.yaml_scan_core.proofs.CandidatesLemmas.{upto_here}
 
@@ -22,9 +22,9 @@ use Rattle.yaml_scan_core.proofs.CandidatesLemmas.{upto_here}
 
 pub keeps_lexemes : (old new : Scanner) (es : List Entry)
     → new.row.lexemes.items ≡ old.row.lexemes.items
-    → new.row.next ≡ old.row.next → new.row.dropped ≡ old.row.dropped → new.row.settled ≡ old.row.settled → new.batch ≡ old.batch → Keeps old new es
-keeps_lexemes old new es lexemes next dropped settled batch = record {
-  batch = batch;
+    → new.row.next ≡ old.row.next → new.row.dropped ≡ old.row.dropped → new.row.settled ≡ old.row.settled → fixed_of new ≡ fixed_of old → Keeps old new es
+keeps_lexemes old new es lexemes next dropped settled fixed = record {
+  fixed = fixed;
   row = record {
     next = next;
     dropped = dropped;
@@ -43,21 +43,21 @@ entry_top l h n top =
     let z : n - n ≡ 0 = omega arith in
     get_or-append_right (keyed l h (entries h)) _ n n no_entry here (omega arith) ∙ ap (λ i. get_or (entry_of l h ∷ []) i no_entry) z
 
--- behind one more lexeme, where those before it are these
+-- after one more lexeme, where those before it are these
 pub keeps_put : (old new : Scanner) (t : SpelledText) (l : Lexeme) (h : List Lexeme)
     (ls : List Held) (x : Held)
     → ShowsRow t (row_of old.row) (entries h) → length ls ≡ length old.row.lexemes.items
     → (old.row.next < old.row.settled → get_or ls old.row.next no_lexeme ≡ get_or old.row.lexemes.items old.row.next no_lexeme)
     → (old.row.next < length old.row.lexemes.items → (get_or ls old.row.next no_lexeme).ends ≡ (get_or old.row.lexemes.items old.row.next no_lexeme).ends)
     → new.row.lexemes.items ≡ ls ++ x ∷ [] → new.row.next ≡ old.row.next → new.row.dropped ≡ old.row.dropped
-    → new.row.settled ≡ old.row.settled → x.ends ≡ (entry_of l h).ends → new.batch ≡ old.batch → Keeps old new (entries (l ∷ h))
-keeps_put old new t l h ls x row long same ends lexemes next dropped settled own batch =
+    → new.row.settled ≡ old.row.settled → x.ends ≡ (entry_of l h).ends → fixed_of new ≡ fixed_of old → Keeps old new (entries (l ∷ h))
+keeps_put old new t l h ls x row long same ends lexemes next dropped settled own fixed =
     let n = old.row.next in
     let taken = row.taken in
     let few = row.few in
     let at : (i : ℕ) → i < length ls → get_or new.row.lexemes.items i no_lexeme ≡ get_or ls i no_lexeme = λ i lt. ap (λ ys. get_or ys i no_lexeme) lexemes ∙ get_or_append_left ls (x ∷ []) no_lexeme i lt in
     record {
-      batch = batch;
+      fixed = fixed;
       row = record {
         next = next;
         dropped = dropped;
@@ -74,28 +74,28 @@ keeps_put old new t l h ls x row long same ends lexemes next dropped settled own
 
 pub keeps_pushed : (old new : Scanner) (t : SpelledText) (l : Lexeme) (h : List Lexeme) (x : Held)
     → ShowsRow t (row_of old.row) (entries h)
-    → row_of new.row ≡ pushed x (row_of old.row) → x.ends ≡ (entry_of l h).ends → new.batch ≡ old.batch → Keeps old new (entries (l ∷ h))
-keeps_pushed old new t l h x row is own batch =
+    → row_of new.row ≡ pushed x (row_of old.row) → x.ends ≡ (entry_of l h).ends → fixed_of new ≡ fixed_of old → Keeps old new (entries (l ∷ h))
+keeps_pushed old new t l h x row is own fixed =
     keeps_put old new t l h old.row.lexemes.items x row refl (λ lt. refl) (λ lt. refl) (ap (λ (r : RowView). r.lexemes) is)
-    (ap (λ (r : RowView). r.next) is) (ap (λ (r : RowView). r.dropped) is) (ap (λ (r : RowView). r.settled) is) own batch
+    (ap (λ (r : RowView). r.next) is) (ap (λ (r : RowView). r.dropped) is) (ap (λ (r : RowView). r.settled) is) own fixed
 
--- the row and the batch are those of before
+-- the row and what no call changes are those of before
 pub keeps_from : (old mid new : Scanner) (es : List Entry) → mid.row ≡ old.row
-    → mid.batch ≡ old.batch → Keeps mid new es → Keeps old new es
-keeps_from old mid new es row batch k = record { batch = k.batch ∙ batch; row = subst (λ (r : Row). KeepsTaken (row_of r) (row_of new.row) es) row k.row }
+    → fixed_of mid ≡ fixed_of old → Keeps mid new es → Keeps old new es
+keeps_from old mid new es row fixed k = record { fixed = k.fixed ∙ fixed; row = subst (λ (r : Row). KeepsTaken (row_of r) (row_of new.row) es) row k.row }
 
 -- ---- where none is read
 
--- nothing but the fault, the levels and what is put behind the arena has changed
+-- nothing but the fault, the levels and what is put after the arena has changed
 pub falls_kept : (old new : Scanner) (h : List Lexeme) → Holds old h
     → new.text.now ≡ old.text.now → new.encoding ≡ old.encoding
     → ShowsRow (stream_of old) (row_of new.row) (entries h) → HasRoom new.row
     → new.row.dropped ≡ old.row.dropped → new.row.settled ≡ old.row.settled
     → stack_of new.keys ≡ stack_of old.keys
     → IsTold old.text.now new.fault (next old.text.now h)
-    → new.row.lexemes.items ≡ old.row.lexemes.items → new.row.next ≡ old.row.next → new.batch ≡ old.batch
+    → new.row.lexemes.items ≡ old.row.lexemes.items → new.row.next ≡ old.row.next → fixed_of new ≡ fixed_of old
     → Falls old new h
-falls_kept old new h o text coding row room dropped settled keys told lexemes next batch = record {
+falls_kept old new h o text coding row room dropped settled keys told lexemes next fixed = record {
   settled = record {
     all = entries h;
     row = rw (text, coding) row;
@@ -111,7 +111,7 @@ falls_kept old new h o text coding row room dropped settled keys told lexemes ne
   };
   text = text;
   told = told;
-  kept = keeps_lexemes old new (entries h) lexemes next dropped settled batch;
+  kept = keeps_lexemes old new (entries h) lexemes next dropped settled fixed;
 }
 
 -- ---- a lexeme that is read
@@ -186,13 +186,13 @@ missed_is (Some c) p start e = elim (cases_Bool c.lexeme.required) [
   | inl must ↦ (c, refl, must, grind (arith, must, e))
 ]
 
--- a candidate that is missed behind a lexeme was open in front of it, if it was there
+-- a candidate that is missed after a lexeme was open before it, if it was there
 open_before : (o : Option Candidate) (p q start : yaml_mark_t) → missed o p ≡ None
     → missed o q ≡ Some start → (c : Candidate) × (fresh o p ≡ Some c)
 open_before None p q start calm late = cc
 open_before (Some c) p q start calm late = (c, grind (arith, calm, late))
 
--- A lexeme was read, but a required candidate is stale behind it: nothing is settled by it.
+-- A lexeme was read, but a required candidate is stale after it: nothing is settled by it.
 pub falls_after : (old new : Scanner) (n : ℕ) (h : List Lexeme) (start : yaml_mark_t) → Holds old h
     → (t : Takes old new h) → missed (candidate 0 h) (reached h) ≡ None
     → new.keys.required ≡ true
@@ -249,18 +249,18 @@ falls_same old new h o e told =
     (subst HasRoom (sym (ap (λ (s : Scanner). s.row) e)) o.room)
     (ap (λ (s : Scanner). s.row.dropped) e) (ap (λ (s : Scanner). s.row.settled) e)
     (ap (λ (s : Scanner). stack_of s.keys) e) told
-    (ap (λ (s : Scanner). s.row.lexemes.items) e) (ap (λ (s : Scanner). s.row.next) e) (ap (λ (s : Scanner). s.batch) e)
+    (ap (λ (s : Scanner). s.row.lexemes.items) e) (ap (λ (s : Scanner). s.row.next) e) (ap (λ (s : Scanner). fixed_of s) e)
 
--- memory runs out in front of all changes but of the levels
+-- memory runs out before all changes but of the levels
 pub falls_memory : (old new : Scanner) (h : List Lexeme) → Holds old h
     → new.text.now ≡ old.text.now → new.encoding ≡ old.encoding
     → stack_of new.keys ≡ stack_of old.keys → row_of new.row ≡ row_of old.row → HasRoom new.row
-    → new.fault ≡ old.fault → new.batch ≡ old.batch → Falls old new h
-falls_memory old new h o text coding keys row room fault batch =
+    → new.fault ≡ old.fault → fixed_of new ≡ fixed_of old → Falls old new h
+falls_memory old new h o text coding keys row room fault fixed =
     falls_kept old new h o text coding (subst (λ r. ShowsRow (stream_of old) r (entries h)) (sym row) o.row) room
     (ap (λ (r : RowView). r.dropped) row) (ap (λ (r : RowView). r.settled) row) keys
     (subst (λ f. IsTold old.text.now f (next old.text.now h)) (sym (fault ∙ o.fault)) tt)
-    (ap (λ (r : RowView). r.lexemes) row) (ap (λ (r : RowView). r.next) row) batch
+    (ap (λ (r : RowView). r.lexemes) row) (ap (λ (r : RowView). r.next) row) fixed
 
 -- where a lexeme couldn't be put
 pub falls_put : (old mid : Scanner) (row : Row) (h : List Lexeme) → Holds old h → mid ≡ old
@@ -269,7 +269,7 @@ pub falls_put : (old mid : Scanner) (row : Row) (h : List Lexeme) → Holds old 
 falls_put old mid row h o e same room =
     falls_memory old (record mid { row = row }) h o (ap (λ (s : Scanner). s.text.now) e) (ap (λ (s : Scanner). s.encoding) e)
     (ap (λ (s : Scanner). stack_of s.keys) e) (same ∙ ap (λ (s : Scanner). row_of s.row) e)
-    (room (subst HasRoom (sym (ap (λ (s : Scanner). s.row) e)) o.room)) (ap (λ (s : Scanner). s.fault) e) (ap (λ (s : Scanner). s.batch) e)
+    (room (subst HasRoom (sym (ap (λ (s : Scanner). s.row) e)) o.room)) (ap (λ (s : Scanner). s.fault) e) (ap (λ (s : Scanner). fixed_of s) e)
 
 pub reads_err : (old new : Scanner) (h : List Lexeme) (r : Result (Unit {0}) Refused) (e : Refused)
     → r ≡ Err e → Falls old new h → Reads old new h r

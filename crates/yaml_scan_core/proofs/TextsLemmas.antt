@@ -13,7 +13,7 @@ use Rattle.yaml_scan_core.specs.declared.scanner.Scanner.{Scanner}
 use Rattle.yaml_scan_core.specs.declared.word.Word.{Word}
 use Rattle.yaml_scan_core.specs.Rows.{HasRoom, RowView, row_of, noted}
 use Rattle.yaml_scan_core.specs.Shown.{Carries, ShowsRow, ShowsWhole, end_at, place_mark, store_of}
-use Rattle.yaml_scan_core.specs.Scanning.{Falls, Holds, IsPlace, IsTold, StandsAs, left_behind, read_by, stream_of}
+use Rattle.yaml_scan_core.specs.Scanning.{Falls, Holds, IsPlace, IsTold, StandsAs, fixed_of, left_behind, read_by, stream_of}
 use Rattle.yaml_scan_core.specs.Texts.{HasWord, StoresMore, TellsWrong, lexeme_of, notes_of, put, word_in}
 use Rattle.yaml_scan_core.proofs.CandidatesLemmas.{inner_is}
 use Rattle.yaml_scan_core.proofs.ComesLemmas.{comes_wrong, is_wrong, lost_at, word_here}
@@ -54,7 +54,7 @@ word_told k s h n (Some f) (Err w) a flat good lost is t =
 
 -- ---- the row
 
--- what is put behind the arena changes nothing that is shown
+-- what is put after the arena changes nothing that is shown
 pub arena_shown : (t : SpelledText) (r q : RowView) (es : List Entry) (bytes : List ℕ)
     → ShowsRow t r es → q ≡ record r { arena = r.arena ++ bytes } → ShowsRow t q es
 arena_shown t r q es bytes h is =
@@ -152,7 +152,7 @@ word_further k old mid h n w x r =
     let lands : IsWordFrom old.text.now old.at x = subst (λ (y : Result WordText Wrong). LandsWord old.text.now old.at y) r.word (word_lands k flow old.levels.margin old.text.now old.at r.flat fits) in
     omega (arith, lands.end, lands.place, r.has.at)
 
--- the state behind it
+-- the state after it
 abbrev pub behind_word : Scanner → Word → Row → Keys → Bool → Scanner
 behind_word mid w row keys allowed = record mid {
   row = row;
@@ -196,7 +196,7 @@ word_goes k old mid h n w x row keys allowed r calm is room allows =
           (ap (λ (q : RowView). q.next) is ∙ ap (λ (q : RowView). q.next) r.stores.row)
           (ap (λ (q : RowView). q.dropped) is ∙ ap (λ (q : RowView). q.dropped) r.stores.row)
           (ap (λ (q : RowView). q.settled) is ∙ ap (λ (q : RowView). q.settled) r.stores.row)
-          (word_ends k old mid h n w x r) (ap (λ (s : Scanner). s.batch) rest);
+          (word_ends k old mid h n w x r) (ap (λ (s : Scanner). fixed_of s) rest);
     }
 
 -- ---- exits
@@ -205,11 +205,11 @@ word_goes k old mid h n w x row keys allowed r calm is room allows =
 pub stored_falls : (old mid new : Scanner) (h : List Lexeme) → Holds old h → StoresMore old mid
     → new.text.now ≡ mid.text.now → new.encoding ≡ mid.encoding → stack_of new.keys ≡ stack_of mid.keys
     → row_of new.row ≡ row_of mid.row → HasRoom new.row
-    → IsTold old.text.now new.fault (next old.text.now h) → new.batch ≡ mid.batch → Falls old new h
-stored_falls old mid new h o s text coding keys row room told batch =
+    → IsTold old.text.now new.fault (next old.text.now h) → fixed_of new ≡ fixed_of mid → Falls old new h
+stored_falls old mid new h o s text coding keys row room told fixed =
     falls_kept old new h o (text ∙ there_text old mid s) (coding ∙ ap (λ (x : Scanner). x.encoding) s.rest)
     (arena_shown (stream_of old) (row_of old.row) (row_of new.row) (entries h) s.bytes o.row (row ∙ s.row)) room
     (ap (λ (q : RowView). q.dropped) row ∙ ap (λ (q : RowView). q.dropped) s.row) (ap (λ (q : RowView). q.settled) row ∙ ap (λ (q : RowView). q.settled) s.row)
     (keys ∙ ap (λ (x : Scanner). stack_of x.keys) s.rest) told
     (ap (λ (q : RowView). q.lexemes) row ∙ ap (λ (q : RowView). q.lexemes) s.row)
-    (ap (λ (q : RowView). q.next) row ∙ ap (λ (q : RowView). q.next) s.row) (batch ∙ ap (λ (x : Scanner). x.batch) s.rest)
+    (ap (λ (q : RowView). q.next) row ∙ ap (λ (q : RowView). q.next) s.row) (fixed ∙ ap (λ (x : Scanner). fixed_of x) s.rest)

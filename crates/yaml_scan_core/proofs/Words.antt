@@ -26,6 +26,7 @@ pub use Rattle.yaml_scan_history.specs.declared.lexeme.Lexeme.{Lexeme}
 pub use Rattle.yaml_scan_history.specs.declared.lexeme.Opens.{Opens}
 pub use Rattle.yaml_scan_laws_order.proofs.RemainingForward.{ends_token, entries_ends, front_none, tokens_is}
 pub use Rattle.yaml_scan_laws_order.specs.Fronts.{GivesFirst}
+pub use Rattle.yaml_scan_model.proofs.MarksLemmas.{within}
 pub use Rattle.yaml_scan_model.specs.Faults.{Fault, fault_of, memory_fault}
 pub use Rattle.yaml_scan_model.specs.Marks.{Place, byte, is_blank_or_end, mark_at, splits_break, starts}
 unfoldable pub use Rattle.yaml_scan_model.specs.Marks.{column_at, line_at}

@@ -1,5 +1,5 @@
 -- Words: what the readers answer, as lexemes.
-use Rattle.std.proofs.Common.{◌≡◌, ℕ, zero, suc, pos, ◌+◌, ◌-◌, ◌<◌, ◌≤◌, ◌⊎◌, Bool, true, false, cond, inl, inr, List, [], ◌∷◌, ◌++◌, length, slice_range, Some, None, Result, Ok, Err, refl, sym, ap, ◌∙◌, length-append, arith}
+use Rattle.std.proofs.Common.{◌≡◌, ◌↔◌, IsTrue, ℕ, zero, suc, pos, ◌+◌, ◌-◌, ◌<◌, ◌≤◌, ◌⊎◌, Bool, true, false, cond, inl, inr, List, [], ◌∷◌, ◌++◌, length, slice_range, Some, None, Result, Ok, Err, refl, sym, ap, subst, ◌∙◌, length-append, arith}
 use Rattle.std.proofs.Math.Seq.{drop-append_seam, take-length}
 use Rattle.yaml_scan_core.proofs.Words.{get_or_at, byte, starts, splits_break, Wrong, WordText, SpelledText}
 use Rattle.yaml_scan_model.specs.declared.name.yaml_scalar_style_t.{yaml_scalar_style_t}
@@ -33,8 +33,8 @@ use Rattle.yaml_scan_text.specs.declared.tag.Tag.{Tag}
 use Rattle.yaml_scan_text.specs.declared.refusal.Refusal.{Refusal}
 use Rattle.yaml_scan_text.specs.declared.refusal.Refusal.TheVariants as refusals
 use Rattle.yaml_scan_text.specs.declared.refusal.Wrong.{Wrong as Told}
-use Rattle.yaml_scan_core.specs.declared.lexeme.Kind.{Kind}
-use Rattle.yaml_scan_core.specs.declared.lexeme.Kind.TheVariants as kinds
+use Rattle.yaml_scan_tokens.specs.declared.kind.Kind.{Kind}
+use Rattle.yaml_scan_tokens.specs.declared.kind.Kind.TheVariants as kinds
 use Rattle.yaml_scan_core.specs.declared.lexeme.Lexeme.{Lexeme}
 use Rattle.yaml_scan_core.specs.declared.lexeme.Note.{Note}
 use Rattle.yaml_scan_core.specs.declared.lexeme.Span.{Span}
@@ -43,6 +43,12 @@ use Rattle.yaml_scan_core.specs.Rows.{bare, noted}
 use Rattle.yaml_scan_core.specs.Shown.{Carries, NoteHolds, SpanHolds, Store, ValueStands, no_span, number_of, quotes}
 use Rattle.yaml_scan_core.specs.Scanning.{IsPlace}
 use Rattle.yaml_scan_core.specs.WordsRead.{GivesWord, IsNamed, IsQuotedBy, IsWordAt, joined_note, name_body, scalar_body, store_behind, value_span}
+use Rattle.std.specs.Bool.{MatchBool}
+use Rattle.std.specs.Str.{IsAscii, IsNotAscii, IsUtf8, is_utf8}
+use Rattle.std.proofs.lemmas.Bool.{false≢true}
+use Rattle.std.proofs.lemmas.Str.{IsUtf8-from_ascii, IsUtf8-from_is_utf8, is_utf8-from_IsUtf8}
+use Rattle.yaml_scan_core.specs.Told.{SpanFits, span_in}
+use Rattle.yaml_scan_core.proofs.NumbersLemmas.{IsSmallSaid, SaysSmall}
 use Rattle.yaml_scan_core.proofs.SeatLemmas.{plain_place}
 
 -- ---- spans
@@ -77,6 +83,9 @@ pub span_value : (j : Bool) (text old new : List ℕ) (p q : ℕ) (v : List ℕ)
     → SpanHolds (bare_store text new) (value_span j p q (length old) (length new)) v
 span_value true text old new p q v order inside joined stands = span_arena text old new v (joined refl)
 span_value false text old new p q v order inside joined stands = span_text text new p q v order inside (stands refl)
+
+fits_held : (o : Store) (sp : Span) (v : List ℕ) → SpanHolds o sp v → SpanFits o sp
+fits_held o sp v h = record { order = h.order; inside = h.inside }
 
 span_noted : (text arena : List ℕ) (notes : List Note) (sp : Span) (v : List ℕ)
     → SpanHolds (bare_store text arena) sp v
@@ -200,16 +209,41 @@ names_refused text arena spot k told (Ok x) is = absurd is
 
 -- ---- tags
 
-abbrev pub IsTagKind : Kind → Type 0
-IsTagKind k = (k ≡ kinds.Tag) ⊎ (k ≡ kinds.BadTag)
+unreadable : (b : Bool) (t : List ℕ) → b ≡ is_utf8 t → (IsUtf8 t → ⊥) → false ≡ b
+unreadable true t is h = absurd (h (IsUtf8-from_is_utf8 t (sym is)))
+unreadable false t is h = refl
 
-pub tag_kind_is : (good : Bool) (k : Kind) → k ≡ cond good kinds.Tag kinds.BadTag → IsTagKind k
-tag_kind_is true k e = inl e
-tag_kind_is false k e = inr e
+-- a test that tells UTF-8
+pub readable : (b : Bool) (t : List ℕ) → (IsTrue b ↔ IsUtf8 t) → b ≡ is_utf8 t
+readable true t h = sym (is_utf8-from_IsUtf8 t (h.0 refl))
+readable false t h = unreadable (is_utf8 t) t refl (λ u. false≢true (h.1 u))
+
+-- a test that tells ASCII
+pub ascii_read : (b : Bool) (t : List ℕ) → MatchBool b (IsAscii t) (IsNotAscii t) → b ≡ true
+    → b ≡ is_utf8 t
+ascii_read true t h is = sym (is_utf8-from_IsUtf8 t (IsUtf8-from_ascii t h))
+ascii_read false t h is = absurd (false≢true is)
+
+-- the kind of a tag with that suffix
+abbrev pub IsTagKind : Kind → List ℕ → Type 0
+IsTagKind k v = ((k ≡ kinds.Tag) × (is_utf8 v ≡ true)) ⊎ ((k ≡ kinds.BadTag) × (is_utf8 v ≡ false))
+
+pub tag_kind_is : (good : Bool) (k : Kind) (v : List ℕ) → k ≡ cond good kinds.Tag kinds.BadTag
+    → good ≡ is_utf8 v → IsTagKind k v
+tag_kind_is true k v e g = inl (e, sym g)
+tag_kind_is false k v e g = inr (e, sym g)
+
+-- the suffix of a tag stands where it is told
+pub tag_fits : (text old new : List ℕ) (p : ℕ) (g : Tag) (r : Result TagText Wrong)
+    → ReadsTag text p old new (Ok g) r
+    → SpanFits (bare_store text new) (value_span g.joined g.from g.to (length old) (length new))
+tag_fits text old new p g (Err w) is = absurd is
+tag_fits text old new p g (Ok x) is = fits_held _ _ _ (span_value g.joined text old new g.from g.to x.suffix is.order (omega (arith, is.last, is.inside)) is.joined (λ j. (is.stands j).1))
 
 pub tag_given : (text old new : List ℕ) (spot : Spot) (k : Kind) (g : Tag)
     (r : Result TagText Wrong)
-    → IsTagKind k → IsPlace text spot.at spot.line spot.wide → ReadsTag text spot.at old new (Ok g) r
+    → IsTagKind k (span_in (bare_store text new) (value_span g.joined g.from g.to (length old) (length new)))
+    → IsPlace text spot.at spot.line spot.wide → ReadsTag text spot.at old new (Ok g) r
     → GivesWord text new spot (Ok (record {
       lexeme = bare k spot.ends spot.at g.end 0;
       note = Some (record {
@@ -234,11 +268,12 @@ tag_given text old new spot k g (Ok x) kind place is =
       second = value_span g.joined g.from g.to (length old) (length new);
     } in
     let y : WordText = record { body = tokens.tag x.handle x.suffix; end = x.end; reached = x.end; broke = false } in
-    elim kind [
-      | inl e ↦ rw e (noted_word kinds.Tag styles.YAML_ANY_SCALAR_STYLE text new spot n g.end spot.line spot.wide false y x.handle x.suffix first second
-          (λ o t z style holds. (x.handle, x.suffix, holds, refl)) is.end fits is.end refl behind g.end)
-      | inr e ↦ rw e (noted_word kinds.BadTag styles.YAML_ANY_SCALAR_STYLE text new spot n g.end spot.line spot.wide false y x.handle x.suffix first second
-          (λ o t z style holds. (x.handle, x.suffix, holds, refl)) is.end fits is.end refl behind g.end)
+    let of_suffix : IsTagKind k x.suffix = subst (λ v. IsTagKind k v) second.are kind in
+    elim of_suffix [
+      | inl (e, good) ↦ rw e (noted_word kinds.Tag styles.YAML_ANY_SCALAR_STYLE text new spot n g.end spot.line spot.wide false y x.handle x.suffix first second
+          (λ o t z style holds. (x.handle, x.suffix, holds, refl, good)) is.end fits is.end refl behind g.end)
+      | inr (e, good) ↦ rw e (noted_word kinds.BadTag styles.YAML_ANY_SCALAR_STYLE text new spot n g.end spot.line spot.wide false y x.handle x.suffix first second
+          (λ o t z style holds. (x.handle, x.suffix, holds, refl, good)) is.end fits is.end refl behind g.end)
     ]
 
 memory_given : (text arena : List ℕ) (spot : Spot) (e : Refusal) (r : Result WordText Wrong)
@@ -367,7 +402,7 @@ pub plain_refused : (text old new : List ℕ) (spot : Spot) (e : Refusal) (r : R
 plain_refused text old new spot e (Ok x) is = is
 plain_refused text old new spot e (Err w) is = is
 
--- the place behind a plain scalar
+-- the place after a plain scalar
 pub record PlainSeat (text : List ℕ) (p : ℕ) (s : PlainScalar) : Type 0 where
   pub on : p ≤ s.place
   pub inside : s.place ≤ length text
@@ -444,7 +479,8 @@ directive_note v base end = record {
 
 prefixed : (good : Bool) (text old new : List ℕ) (spot : Spot) (n : Note) (at line wide end e : ℕ)
     (h p : List ℕ)
-    → SpanHolds (bare_store text new) n.first h → SpanHolds (bare_store text new) n.second p → n.end ≡ e → e ≤ length text
+    → good ≡ is_utf8 p → SpanHolds (bare_store text new) n.first h
+    → SpanHolds (bare_store text new) n.second p → n.end ≡ e → e ≤ length text
     → IsPlace text at line wide
     → IsWordAt text new spot (record {
       lexeme = bare (cond good kinds.TagDirective kinds.BadPrefix) spot.ends spot.at end 0;
@@ -454,15 +490,16 @@ prefixed : (good : Bool) (text old new : List ℕ) (spot : Spot) (n : Note) (at 
       wide = wide;
       broke = false;
     }) (record { body = tokens.tag_directive h p; end = e; reached = at; broke = false })
-prefixed true text old new spot n at line wide end e h p first second ends inside place =
+prefixed true text old new spot n at line wide end e h p good first second ends inside place =
     noted_word kinds.TagDirective styles.YAML_ANY_SCALAR_STYLE text new spot n at line wide false (record { body = tokens.tag_directive h p; end = e; reached = at; broke = false })
-    h p first second (λ o t y style holds. (h, p, holds, refl)) ends inside refl refl place end
-prefixed false text old new spot n at line wide end e h p first second ends inside place =
+    h p first second (λ o t y style holds. (h, p, holds, refl, sym good)) ends inside refl refl place end
+prefixed false text old new spot n at line wide end e h p good first second ends inside place =
     noted_word kinds.BadPrefix styles.YAML_ANY_SCALAR_STYLE text new spot n at line wide false (record { body = tokens.tag_directive h p; end = e; reached = at; broke = false })
-    h p first second (λ o t y style holds. (h, p, holds, refl)) ends inside refl refl place end
+    h p first second (λ o t y style holds. (h, p, holds, refl, sym good)) ends inside refl refl place end
 
 said_word : (good : Bool) (text old new : List ℕ) (spot : Spot) (v : Value) (at line wide e : ℕ)
-    (x : Said)
+    (x : Said) → IsSmallSaid x
+    → good ≡ is_utf8 (span_in (bare_store text new) (directive_note v (length old) (length new)).second)
     → IsSaid text old new v x → AreParts v → v.second_end ≡ e → v.second_end ≤ length text
     → IsPlace text at line wide
     → IsWordAt text new spot (record {
@@ -473,7 +510,7 @@ said_word : (good : Bool) (text old new : List ℕ) (spot : Spot) (v : Value) (a
       wide = wide;
       broke = false;
     }) (record { body = body_said x; end = e; reached = at; broke = false })
-said_word good text old new spot v at line wide e (directives.version a b) (kind, plain, same, major, minor, few, short) parts ends inside place =
+said_word good text old new spot v at line wide e (directives.version a b) small told (kind, plain, same, major, minor, few, short) parts ends inside place =
     let fits : e ≤ length text = omega (arith, ends, inside) in
     let m = slice_range text v.first v.first_end in
     let n = slice_range text v.second v.second_end in
@@ -484,15 +521,32 @@ said_word good text old new spot v at line wide e (directives.version a b) (kind
     rw (kind, plain) (noted_word kinds.VersionDirective styles.YAML_ANY_SCALAR_STYLE text new spot
     (record { end = v.second_end; first = of_text v.first v.first_end; second = of_text v.second v.second_end }) at line wide false
     (record { body = tokens.version_directive (pos a) (pos b); end = e; reached = at; broke = false }) m n first second
-    (λ o t y style holds. (m, n, holds, rw (one, two) refl)) ends fits refl refl place v.second_end)
-said_word good text old new spot v at line wide e (directives.tag h p) (kind, handle, joined, stands) parts ends inside place =
+    (λ o t y style holds. (m, n, holds, rw (one, two) refl, record { major = rw one small.0; minor = rw two small.1 })) ends fits refl refl place v.second_end)
+said_word good text old new spot v at line wide e (directives.tag h p) small told (kind, handle, joined, stands) parts ends inside place =
     let fits : e ≤ length text = omega (arith, ends, inside) in
+    let second = span_value v.joined text old new v.second v.second_end p parts.second inside joined (λ j. (stands j).1) in
     rw kind (prefixed good text old new spot (directive_note v (length old) (length new)) at line wide v.second_end e h p
-    (span_text text new v.first v.first_end h parts.first (omega (arith, parts.between, parts.second, inside)) handle)
-    (span_value v.joined text old new v.second v.second_end p parts.second inside joined (λ j. (stands j).1)) ends fits place)
+    (told ∙ ap is_utf8 second.are) (span_text text new v.first v.first_end h parts.first (omega (arith, parts.between, parts.second, inside)) handle)
+    second ends fits place)
+
+-- the second part of a directive stands where it is told
+pub directive_fits : (text old new : List ℕ) (d : Directive) (r : Result DirectiveText Wrong)
+    → ReadsDirective text old new (Ok d) r
+    → SpanFits (bare_store text new) (directive_note d.value (length old) (length new)).second
+directive_fits text old new d (Err w) is = absurd is
+directive_fits text old new d (Ok x) is = part_fits text old new d.value x.said is.said is.parts is.inside
+  where
+    part_fits : (text old new : List ℕ) (v : Value) (x : Said) → IsSaid text old new v x → AreParts v
+        → v.second_end ≤ length text → SpanFits (bare_store text new) (directive_note v (length old) (length new)).second
+    part_fits text old new v (directives.version a b) (kind, plain, same, major, minor, few, short) parts inside =
+        rw plain (record { order = parts.second; inside = inside })
+    part_fits text old new v (directives.tag h p) (kind, handle, joined, stands) parts inside =
+        fits_held _ _ _ (span_value v.joined text old new v.second v.second_end p parts.second inside joined (λ j. (stands j).1))
 
 pub directive_given : (good : Bool) (text old new : List ℕ) (spot : Spot) (d : Directive) (wide : ℕ)
     (r : Result DirectiveText Wrong)
+    → SaysSmall r
+    → good ≡ is_utf8 (span_in (bare_store text new) (directive_note d.value (length old) (length new)).second)
     → ReadsDirective text old new (Ok d) r → IsPlace text d.place d.line wide
     → GivesWord text new spot (Ok (record {
       lexeme = bare (is_directive d.value.is_tag good) spot.ends spot.at d.value.second_end 0;
@@ -502,9 +556,9 @@ pub directive_given : (good : Bool) (text old new : List ℕ) (spot : Spot) (d :
       wide = wide;
       broke = false;
     })) (directed r)
-directive_given good text old new spot d wide (Err w) is place = absurd is
-directive_given good text old new spot d wide (Ok x) is place =
-    rw (← is.place) (said_word good text old new spot d.value d.place d.line wide x.end x.said is.said is.parts is.end is.inside place)
+directive_given good text old new spot d wide (Err w) small told is place = absurd is
+directive_given good text old new spot d wide (Ok x) small told is place =
+    rw (← is.place) (said_word good text old new spot d.value d.place d.line wide x.end x.said small told is.said is.parts is.end is.inside place)
 
 pub directive_refused : (text old new : List ℕ) (spot : Spot) (e : Refusal)
     (r : Result DirectiveText Wrong)

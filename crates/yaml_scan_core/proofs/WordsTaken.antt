@@ -1,4 +1,4 @@
--- What a lexeme that carries a text leaves behind it.
+-- What a lexeme that carries a text leaves after it.
 use Rattle.std.proofs.Common.{◌≡◌, ℕ, ◌+◌, ◌-◌, ◌<◌, ◌≤◌, Bool, true, false, cond, ltb, eqb, ◌&&◌, not, inl, inr, List, ◌∷◌, length, Option, Some, None, Result, Ok, Err, refl, sym, ap, subst, ◌∙◌, arith}
 use Rattle.yaml_scan_core.proofs.Words.{and_parts, cases_Bool, cases_lt, nat_tests, yaml_mark_t, mark_at, line_at, Wrong, Kind, Lexeme, candidate, reached, depth, depth_after, is_end, is_fresh, is_start, is_value, allowed_behind, cancels, allows_key, key_allowed, may_be_key, has, found_by, WordText, word_at, Upto, Next, Read, Fails, missed, next, colon_missing, AreKeys, AreKeysTo, KeyStack, SimpleKey, inner, key_at, key_mark, stack_of, given_up, saved, late, index_in}
 use Rattle.yaml_scan_history.specs.Stepwise.{tested, no_colon as comes_no_colon}
@@ -14,7 +14,7 @@ use Rattle.yaml_scan_core.specs.declared.scanner.Scanner.{Scanner}
 use Rattle.yaml_scan_core.specs.declared.word.Word.{Word}
 use Rattle.yaml_scan_core.specs.Rows.{HasRoom, row_of}
 use Rattle.yaml_scan_core.specs.Shown.{place_mark}
-use Rattle.yaml_scan_core.specs.Scanning.{Holds, IsTold, Reads, StandsAs, Takes, Tests, candidate_in, fault_in, no_colon, read_by, required_in_column}
+use Rattle.yaml_scan_core.specs.Scanning.{Holds, IsTold, Reads, StandsAs, Takes, Tests, candidate_in, fault_in, fixed_of, no_colon, read_by, required_in_column}
 use Rattle.yaml_scan_core.specs.Texts.{ReadsWord, StoresMore, TellsWrong, is_key_word, is_line_word, is_scalar, put, word_in}
 use Rattle.yaml_scan_core.proofs.CandidatesLemmas.{inner_is, top_saved, upto_on}
 use Rattle.yaml_scan_core.proofs.ComesLemmas.{comes_word, lost_at}
@@ -288,7 +288,7 @@ put_word_falls old mid tested put h r e o s calm same rest row room is =
     (ap (λ (x : Scanner). stack_of x.keys) rest ∙ ap (λ (x : Scanner). stack_of x.keys) same)
     (row ∙ ap (λ (x : Scanner). row_of x.row) same) (room room_before)
     (subst (λ f. IsTold old.text.now f (next old.text.now h)) (sym fault) tt)
-    (ap (λ (x : Scanner). x.batch) rest ∙ ap (λ (x : Scanner). x.batch) same))
+    (ap (λ (x : Scanner). fixed_of x) rest ∙ ap (λ (x : Scanner). fixed_of x) same))
 
 -- the code's test of a new candidate
 pub test_moved : (old mid : Scanner) (key : SimpleKey) (text : List ℕ) (end : ℕ)
@@ -313,4 +313,4 @@ fresh_falls k old mid new h n w x key r e d t p is same tests err =
     reads_err old new h r e err (stored_falls old mid new h o s (ap (λ (y : Scanner). y.text.now) same) (ap (λ (y : Scanner). y.encoding) same)
     (ap (λ (y : Scanner). stack_of y.keys) same) (ap (λ (y : Scanner). row_of y.row) same)
     (subst (λ (y : Scanner). HasRoom y.row) (sym same) (s.room o.room))
-    (stale_told k old mid h n w x new.fault d t p moved) (ap (λ (y : Scanner). y.batch) same))
+    (stale_told k old mid h n w x new.fault d t p moved) (ap (λ (y : Scanner). fixed_of y) same))

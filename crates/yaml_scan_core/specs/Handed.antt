@@ -1,16 +1,15 @@
 -- What of the tokens is taken.
-use Rattle.std.specs.Prelude.{ℕ, ◌+◌, ◌-◌, ◌≡◌, ◌<◌, ◌⊎◌, ◌||◌, nat_lt, if◌then◌else◌, List, length, None}
+use Rattle.std.specs.Prelude.{ℕ, ◌+◌, ◌-◌, ◌≡◌, ◌<◌, ◌||◌, nat_lt, if◌then◌else◌, List, length}
 use Rattle.yaml_scan_history.specs.History.{entries}
 use Rattle.yaml_scan_history.specs.declared.lexeme.Entry.{Entry}
-use Rattle.yaml_scan_history.specs.Next.{history}
 use Rattle.yaml_scan_history.specs.Remaining.{Remaining, SpelledText, all, remaining}
-use Rattle.yaml_scan_core.specs.declared.lexeme.Kind.{Kind}
-use Rattle.yaml_scan_core.specs.declared.lexeme.Kind.TheVariants as kinds
+use Rattle.yaml_scan_tokens.specs.declared.kind.Kind.{Kind}
+use Rattle.yaml_scan_tokens.specs.declared.kind.Kind.TheVariants as kinds
 use Rattle.yaml_scan_core.specs.declared.lexeme.Lexeme.{Lexeme}
 use Rattle.yaml_scan_core.specs.declared.row.Row.{Row}
 use Rattle.yaml_scan_core.specs.declared.scanner.Scanner.{Scanner}
-use Rattle.yaml_scan_core.specs.Rows.{HasRoom, RowView, is_set, lexeme_at, row_of}
-use Rattle.yaml_scan_core.specs.Scanning.{HasFailed, stream_of}
+use Rattle.yaml_scan_core.specs.Rows.{HasRoom, RowView, is_set, lexeme_at, loses_none, row_of}
+use Rattle.yaml_scan_core.specs.Scanning.{fixed_of, stream_of}
 use Rattle.yaml_scan_core.specs.Shown.{ShowsRow, entry_at}
 
 -- how many tokens stand for the level that opens before a lexeme, and for its KEY
@@ -36,14 +35,22 @@ given_of ends x = (ends + starts_in x + keys_in x + 1) - (x.ends + left_from x.f
 abbrev pub ends_at : List ℕ → ℕ → ℕ
 ends_at text k = (entry_at (entries (all text)) k).ends
 
--- how many tokens are taken of the first lexeme that isn't
+-- how many of them are known: none before a lexeme that wasn't read
+abbrev pub ends_known : Lexeme → ℕ → ℕ
+ends_known x ends = if loses_none x then 0 else ends
+
+-- how many levels end before the first lexeme that isn't taken
+abbrev pub ends_in : List ℕ → RowView → ℕ
+ends_in text r = ends_known (lexeme_at r r.next) (ends_at text (r.dropped + r.next))
+
+-- how many tokens are taken of it
 abbrev pub given_in : List ℕ → RowView → ℕ
 given_in text r = if nat_lt r.next (length r.lexemes)
-    then given_of (ends_at text (r.dropped + r.next)) (lexeme_at r r.next) else 0
+    then given_of (ends_in text r) (lexeme_at r r.next) else 0
 
--- how many tokens the first lexeme that waits is spelled as
+-- how many tokens it is spelled as
 abbrev pub tokens_in : List ℕ → RowView → ℕ
-tokens_in text r = ends_at text (r.dropped + r.next) + starts_in (lexeme_at r r.next)
+tokens_in text r = ends_in text r + starts_in (lexeme_at r r.next)
     + keys_in (lexeme_at r r.next) + 1
 
 -- one token more of that lexeme is taken
@@ -61,7 +68,7 @@ pub record TakesOwn (text : List ℕ) (old new : RowView) : Type 0 where
 abbrev pub EndsTold : List ℕ → List Entry → Type 0
 EndsTold text es = (k : ℕ) → k < length es → (entry_at es k).ends ≡ ends_at text k
 
--- what is still to come behind a row's tokens that are taken
+-- what is still to come after a row's tokens that are taken
 abbrev pub come_of : SpelledText → RowView → Remaining
 come_of t r = remaining t (r.dropped + r.next) (given_in t.text r)
 
@@ -78,13 +85,8 @@ pub record Drops (old new : Row) : Type 0 where
   pub room : HasRoom old → HasRoom new
   pub given : (text : List ℕ) → given_in text (row_of new) ≡ given_in text (row_of old)
 
--- memory ran out: nothing is told of what comes behind the settled lexemes
-abbrev pub RanOut : Scanner → Type 0
-RanOut s = (s.fault ≡ None) × ((n : ℕ) × HasFailed s (history s.text.now n))
-
--- as much is taken as was, and as much is read at once
+-- as much is taken as was, of the same stream
 pub record HandsOn (old new : Scanner) : Type 0 where
-  pub batch : new.batch ≡ old.batch
+  pub fixed : fixed_of new ≡ fixed_of old
   pub taken : new.row.dropped + new.row.next ≡ old.row.dropped + old.row.next
-  pub given : RanOut new
-      ⊎ (given_in new.text.now (row_of new.row) ≡ given_in old.text.now (row_of old.row))
+  pub given : given_in new.text.now (row_of new.row) ≡ given_in old.text.now (row_of old.row)

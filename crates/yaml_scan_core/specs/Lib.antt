@@ -5,5 +5,10 @@ pub mod Rows
 pub mod Shown
 pub mod Scanning
 pub mod Handed
+pub mod Asked
+pub mod Settled
+pub mod Waiting
+pub mod Owned
+pub mod Told
 pub mod Texts
 pub mod WordsRead

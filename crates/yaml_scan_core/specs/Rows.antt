@@ -1,8 +1,8 @@
 -- What the code does to a row of lexemes.
-use Rattle.std.specs.Prelude.{ℕ, ◌+◌, ◌-◌, ◌==◌, ◌<◌, Bool, true, false, not, if◌then◌else◌, List, [], ◌∷◌, ◌++◌, length, nat_lt, bit_and, bit_or, slice_index_or, slice_set, vec_capacity, take}
+use Rattle.std.specs.Prelude.{ℕ, ◌+◌, ◌-◌, ◌==◌, ◌<◌, ◌⊎◌, Bool, true, false, not, if◌then◌else◌, List, [], ◌∷◌, ◌++◌, length, nat_lt, bit_and, bit_or, slice_index_or, slice_set, vec_capacity, take}
 use Rattle.yaml_scan_model.specs.declared.name.yaml_scalar_style_t.TheVariants as styles
-use Rattle.yaml_scan_core.specs.declared.lexeme.Kind.{Kind}
-use Rattle.yaml_scan_core.specs.declared.lexeme.Kind.TheVariants as kinds
+use Rattle.yaml_scan_tokens.specs.declared.kind.Kind.{Kind}
+use Rattle.yaml_scan_tokens.specs.declared.kind.Kind.TheVariants as kinds
 use Rattle.yaml_scan_core.specs.declared.lexeme.Lexeme.{Lexeme}
 use Rattle.yaml_scan_core.specs.declared.lexeme.Note.{Note}
 use Rattle.yaml_scan_core.specs.declared.row.Row.{Row}
@@ -12,7 +12,7 @@ use Rattle.yaml_scan_core.specs.declared.row.Row.{Row}
 abbrev pub is_set : ℕ → Lexeme → Bool
 is_set flag x = not (bit_and x.flags flag == 0)
 
--- the kind of its first token behind a block's start
+-- the kind of its first token after a block's start
 abbrev pub behind_start : Lexeme → Kind
 behind_start x = if is_set 4 x then kinds.Key else x.kind
 
@@ -30,7 +30,7 @@ whole x = record x { front = first_kind x }
 abbrev pub key_flags : Bool → ℕ → ℕ
 key_flags mapping flags = if mapping then bit_or (bit_or flags 4) 2 else bit_or flags 4
 
--- the same as a key, in front of which a mapping opens or nothing
+-- the same as a key, before which a mapping opens or nothing
 abbrev pub keyed : Bool → Lexeme → Lexeme
 keyed mapping x = whole (record x { flags = key_flags mapping x.flags })
 
@@ -81,6 +81,16 @@ row_of r = record {
 abbrev pub HasRoom : Row → Type 0
 HasRoom r = length r.lexemes.items < vec_capacity r.lexemes
 
+abbrev pub no_lexeme : Lexeme
+no_lexeme = bare kinds.Failed 0 0 0 0
+
+abbrev pub lexeme_at : RowView → ℕ → Lexeme
+lexeme_at r i = slice_index_or r.lexemes i no_lexeme
+
+-- a token waits that no later lexeme changes: one of a settled lexeme, or a BLOCK-END
+abbrev pub IsThere : RowView → Type 0
+IsThere r = (r.next < r.settled) ⊎ ((r.next < length r.lexemes) × (0 < (lexeme_at r r.next).ends))
+
 abbrev pub pushed : Lexeme → RowView → RowView
 pushed x r = record r { lexemes = r.lexemes ++ x ∷ [] }
 
@@ -90,12 +100,6 @@ pushed_noted x n r = record r {
   notes = r.notes ++ n ∷ [];
 }
 
-abbrev pub no_lexeme : Lexeme
-no_lexeme = bare kinds.Failed 0 0 0 0
-
-abbrev pub lexeme_at : RowView → ℕ → Lexeme
-lexeme_at r i = slice_index_or r.lexemes i no_lexeme
-
 -- the lexeme of that number is a key
 abbrev pub key_marked : ℕ → Bool → RowView → RowView
 key_marked number mapping r = record r {
@@ -103,12 +107,21 @@ key_marked number mapping r = record r {
       (keyed mapping (lexeme_at r (number - r.dropped)));
 }
 
--- what stands behind the settled lexemes where they end in a fault: the BLOCK-ENDs of the first of the others
+-- What stands after the settled lexemes where they end in a fault: the BLOCK-ENDs of the first of the others. Where there
+-- is none it ends after its start.
 abbrev pub lost_at : RowView → Lexeme
 lost_at r = if nat_lt r.settled (length r.lexemes)
     then bare kinds.Failed (lexeme_at r r.settled).ends (lexeme_at r r.settled).start
     (lexeme_at r r.settled).start 0
-    else bare kinds.Failed 0 0 0 0
+    else bare kinds.Failed 0 0 1 0
+
+-- it stands for a fault after which no lexeme is lost
+abbrev pub loses_none_by : Kind → ℕ → ℕ → Bool
+loses_none_by kinds.Failed start end = nat_lt start end
+loses_none_by _ start end = false
+
+abbrev pub loses_none : Lexeme → Bool
+loses_none x = loses_none_by x.kind x.start x.end
 
 abbrev pub failed : RowView → RowView
 failed r = record r {
@@ -116,13 +129,13 @@ failed r = record r {
   settled = r.settled + 1;
 }
 
--- a lexeme behind its first token that isn't taken, of that kind, which isn't its own
+-- a lexeme after its first token that isn't taken, of that kind, which isn't its own
 abbrev pub behind_lead : Kind → Lexeme → Lexeme
 behind_lead kinds.BlockEnd x = whole (record x { ends = x.ends - 1 })
 behind_lead kinds.Key x = record x { front = x.kind }
 behind_lead _ x = record x { front = behind_start x }
 
--- the first lexeme that isn't taken is behind such a token
+-- the first lexeme that isn't taken is after such a token
 abbrev pub led : RowView → RowView
 led r = record r {
   lexemes = slice_set r.lexemes r.next

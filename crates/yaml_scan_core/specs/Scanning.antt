@@ -1,5 +1,6 @@
 -- What the fields of a scanner say of the lexemes that were read.
 use Rattle.std.specs.Prelude.{ℕ, ◌+◌, ◌-◌, ◌^◌, ◌≡◌, ◌≢◌, ◌≤◌, ◌<◌, ◌⊎◌, Bool, true, false, not, ◌==◌, ◌&&◌, ◌||◌, nat_lt, List, ◌∷◌, length, take, Option, Some, None, Result, Ok, Err}
+use Rattle.yaml_scan_model.specs.declared.name.yaml_encoding_t.{yaml_encoding_t}
 use Rattle.yaml_scan_model.specs.declared.problem.ScanFault.{ScanFault}
 use Rattle.yaml_scan_model.specs.declared.problem.Problem.{Problem}
 use Rattle.yaml_scan_model.specs.declared.problem.Problem.TheVariants as problems
@@ -23,13 +24,13 @@ use Rattle.yaml_scan_core.specs.declared.fault.Fault.{Fault}
 use Rattle.yaml_scan_core.specs.declared.fault.Refused.{Refused}
 use Rattle.yaml_scan_core.specs.declared.scanner.Scanner.{Scanner}
 use Rattle.yaml_scan_core.specs.declared.keys.SimpleKey.{SimpleKey}
-use Rattle.yaml_scan_core.specs.declared.lexeme.Kind.{Kind}
-use Rattle.yaml_scan_core.specs.declared.lexeme.Kind.TheVariants as kinds
+use Rattle.yaml_scan_tokens.specs.declared.kind.Kind.{Kind}
+use Rattle.yaml_scan_tokens.specs.declared.kind.Kind.TheVariants as kinds
 use Rattle.yaml_scan_core.specs.declared.lexeme.Lexeme.{Lexeme}
 use Rattle.yaml_scan_core.specs.Lines.{IsLineStart}
 use Rattle.yaml_scan_core.specs.Candidates.{AreKeys, AreStale, AreWithin, KeyStack, fresh_key, inner, key_at, key_view, stack_of, view_of}
 use Rattle.yaml_scan_core.specs.Margins.{AreLevels}
-use Rattle.yaml_scan_core.specs.Rows.{HasRoom, RowView, first_kind, lexeme_at, row_of}
+use Rattle.yaml_scan_core.specs.Rows.{HasRoom, RowView, first_kind, lexeme_at, loses_none, row_of}
 use Rattle.yaml_scan_core.specs.Shown.{KeepsTaken, ShowsRow, entry_at, place_mark}
 
 -- ---- places
@@ -164,7 +165,7 @@ history_of s = history s.text.now (read_by s)
 abbrev pub HasNoNul : List ℕ → Type 0
 HasNoNul text = (p : ℕ) → p < length text → 0 < byte text p
 
--- characters begin behind ASCII and breaks, and where lexemes do
+-- characters begin after ASCII and breaks, and where lexemes do
 pub record SpelledOut (text : List ℕ) : Type 0 where
   pub spelled : IsSpelled text
   pub clear : (n : ℕ) → starts (byte text (gap_behind text (history text n)).place) ≡ true
@@ -178,7 +179,7 @@ pub record IsDecoded (text : List ℕ) : Type 0 where
   pub some : HasNoNul text
   pub spells : Spells text
 
--- the row, the keys and what was settled, behind lexemes
+-- the row, the keys and what was settled, after lexemes
 pub record Holds (s : Scanner) (h : List Read) : Type 0 where
   pub long : length s.text.now < 2 ^ 63
   pub row : ShowsRow (stream_of s) (row_of s.row) (entries h)
@@ -198,7 +199,7 @@ pub record Shows (s : Scanner) (h : List Read) : Type 0 where
   pub allowed : ended h ≡ false → s.key_allowed ≡ key_allowed h
   pub margins : AreLevels s.levels (levels h)
 
--- the state behind the gap
+-- the state after the gap
 pub record IsBehind (s : Scanner) (h : List Read) : Type 0 where
   pub holds : Holds s h
   pub is : h ≡ history_of s
@@ -278,12 +279,20 @@ pub record FindsKey (k : SimpleKey) (s : Scanner) (h : List Read) : Type 0 where
 abbrev pub FindsNone : Scanner → List Read → Type 0
 FindsNone s h = fresh_key s.text.now (own_key s) (mark_at s.text.now s.at) ≡ None
 
--- what is taken of these entries stays, and how many lexemes are read at once
+-- what no call changes: how many lexemes are read at once, and how the stream's bytes were spelled
+pub record Fixed : Type 0 where
+  pub batch : ℕ
+  pub encoding : yaml_encoding_t
+
+abbrev pub fixed_of : Scanner → Fixed
+fixed_of s = record { batch = s.batch; encoding = s.encoding }
+
+-- what is taken of these entries stays
 pub record Keeps (old new : Scanner) (es : List Entry) : Type 0 where
-  pub batch : new.batch ≡ old.batch
+  pub fixed : fixed_of new ≡ fixed_of old
   pub row : KeepsTaken (row_of old.row) (row_of new.row) es
 
--- The state behind a lexeme that was read, where it isn't tested yet whether a required candidate is stale.
+-- The state after a lexeme that was read, where it isn't tested yet whether a required candidate is stale.
 pub record Takes (old new : Scanner) (h : List Read) : Type 0 where
   pub lexeme : Read
   pub shows : Shows new (lexeme ∷ h)
@@ -297,7 +306,7 @@ pub record Takes (old new : Scanner) (h : List Read) : Type 0 where
       ⊎ (missed (candidate 0 (lexeme ∷ h)) lexeme.reached ≡ None)
   pub passed : new.keys.passed ≤ old.keys.passed
   pub settled : new.row.dropped + new.row.settled ≡ old.row.dropped + old.row.settled
-  -- behind the stream's end none is
+  -- after the stream's end none is
   pub idle : is_end lexeme.kind ≡ true → (missed (candidate 0 (lexeme ∷ h)) lexeme.reached ≡ None)
       × (missed (candidate 0 (lexeme ∷ h)) (mark_at old.text.now new.at) ≡ None)
   pub kept : Keeps old new (entries (lexeme ∷ h))
@@ -337,7 +346,7 @@ pub record Falls (old new : Scanner) (h : List Read) : Type 0 where
   pub told : IsTold old.text.now new.fault (next old.text.now h)
   pub kept : Keeps old new settled.all
 
--- The state behind a key and its `:`, which were read at once.
+-- The state after a key and its `:`, which were read at once.
 pub record TakesBoth (old new : Scanner) (h : List Read) : Type 0 where
   pub key : Read
   pub value : Read
@@ -347,6 +356,7 @@ pub record TakesBoth (old new : Scanner) (h : List Read) : Type 0 where
   pub text : new.text.now ≡ old.text.now
   pub idle : new.keys.required ≡ false
   pub kept : Keeps old new (entries (value ∷ key ∷ h))
+  pub many : 1 < old.batch
 
 abbrev pub Reads : Scanner → Scanner → List Read → Result (Unit {0}) Refused → Type 0
 Reads old new h (Ok u) = Takes old new h ⊎ TakesBoth old new h
@@ -355,15 +365,16 @@ Reads old new h (Err e) = Falls old new h
 -- where a lexeme of that kind stands, so that no required candidate is stale, and its levels are closed; or none was read
 abbrev pub Finds : Scanner → Scanner → List Read → Result ReadKind Refused → Type 0
 Finds old new h (Ok k) = StandsAt k new h × (new.text.now ≡ old.text.now) × (new.row ≡ old.row)
-    × (new.batch ≡ old.batch)
+    × (fixed_of new ≡ fixed_of old)
 Finds old new h (Err e) = Falls old new h
 
--- one lexeme more, or two
+-- one lexeme more, or two where more than one is read at once
 pub record Advances (old new : Scanner) : Type 0 where
   pub shows : Shows new (history_of new)
   pub further : read_by old < read_by new
   pub text : new.text.now ≡ old.text.now
   pub kept : Keeps old new (entries (history_of new))
+  pub one : (1 < old.batch) ⊎ (read_by new ≡ read_by old + 1)
 
 -- what one step comes to
 abbrev pub Steps : Scanner → Scanner → List Read → Result (Unit {0}) Refused → Type 0
@@ -372,7 +383,7 @@ Steps old new h (Err e) = Falls old new h
 
 -- ---- settling
 
--- The keys tell the earliest open candidate of the first n lexemes, behind which that place is reached, in a line that starts there.
+-- The keys tell the earliest open candidate of the first n lexemes, after which that place is reached, in a line that starts there.
 pub record MaySettle (s : Scanner) (at line n : ℕ) : Type 0 where
   pub long : length s.text.now < 2 ^ 63
   pub mark : reached (history s.text.now n) ≡ mark_at s.text.now at
@@ -419,7 +430,7 @@ pub record IsLost (text : List ℕ) (none : Bool) (x : Lexeme) (e : Entry) : Typ
   pub whole : none ≡ true → x.ends ≡ e.ends
   pub start : 0 < x.ends → place_mark text x.start ≡ e.lexeme.start
 
--- Behind h the tokens end by the fault that comes, or by want of memory: the lexemes from the earliest open candidate on are lost.
+-- After h the tokens end by the fault that comes, or by out of memory: the lexemes from the earliest open candidate on are lost.
 pub record HasFailed (s : Scanner) (h : List Read) : Type 0 where
   pub over : s.ended ≡ true
   pub row : ShowsRow (stream_of s) (but_last (row_of s.row)) (take (first_open h h) (entries h))
@@ -427,6 +438,8 @@ pub record HasFailed (s : Scanner) (h : List Read) : Type 0 where
   pub all : s.row.settled ≡ length s.row.lexemes.items
   pub lost : IsLost s.text.now (nat_lt (s.row.next + 1) s.row.settled)
       (lexeme_at (row_of s.row) (s.row.settled - 1)) (entry_at (entries h) (first_open h h))
+  pub none : loses_none (lexeme_at (row_of s.row) (s.row.settled - 1))
+      ≡ not (nat_lt (first_open h h) (length h))
   pub told : IsTold s.text.now s.fault (next s.text.now h)
 
 -- so much is read that the next tokens are known, or more may be read

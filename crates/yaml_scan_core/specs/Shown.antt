@@ -1,5 +1,6 @@
 -- The entries that the lexemes of a row show.
-use Rattle.std.specs.Prelude.{ℕ, pos, ◌+◌, ◌-◌, ◌*◌, ◌≡◌, ◌≤◌, ◌<◌, ◌⊎◌, Bool, true, false, nat_lt, if◌then◌else◌, List, [], ◌∷◌, length, slice_index_or, slice_range}
+use Rattle.std.specs.Prelude.{ℕ, pos, ◌+◌, ◌-◌, ◌*◌, ◌^◌, ◌≡◌, ◌≤◌, ◌<◌, ◌⊎◌, Bool, true, false, nat_lt, if◌then◌else◌, List, [], ◌∷◌, length, slice_index_or, slice_range}
+use Rattle.std.specs.Str.{is_utf8}
 use Rattle.yaml_scan_model.specs.declared.record.yaml_mark_t.{yaml_mark_t}
 use Rattle.yaml_scan_model.specs.declared.name.yaml_scalar_style_t.{yaml_scalar_style_t}
 use Rattle.yaml_scan_model.specs.declared.name.yaml_scalar_style_t.TheVariants as styles
@@ -11,8 +12,8 @@ use Rattle.yaml_scan_history.specs.declared.lexeme.Opens.{Opens}
 use Rattle.yaml_scan_history.specs.declared.lexeme.Opens.TheVariants as opening
 use Rattle.yaml_scan_history.specs.Next.{first_lexeme}
 use Rattle.yaml_scan_history.specs.Remaining.{SpelledText, body_in}
-use Rattle.yaml_scan_core.specs.declared.lexeme.Kind.{Kind}
-use Rattle.yaml_scan_core.specs.declared.lexeme.Kind.TheVariants as kinds
+use Rattle.yaml_scan_tokens.specs.declared.kind.Kind.{Kind}
+use Rattle.yaml_scan_tokens.specs.declared.kind.Kind.TheVariants as kinds
 use Rattle.yaml_scan_core.specs.declared.lexeme.Lexeme.{Lexeme}
 use Rattle.yaml_scan_core.specs.declared.lexeme.Note.{Note}
 use Rattle.yaml_scan_core.specs.declared.lexeme.Span.{Span}
@@ -52,7 +53,7 @@ pub record NoteHolds (s : Store) (x : Lexeme) (a b : List ℕ) : Type 0 where
   pub first : SpanHolds s (note_at s x.end).first a
   pub second : SpanHolds s (note_at s x.end).second b
 
--- how many bytes stand before and behind the value of a scalar without note, and of an anchor or alias
+-- how many bytes stand before and after the value of a scalar without note, and of an anchor or alias
 abbrev pub quotes : yaml_scalar_style_t → ℕ × ℕ
 quotes styles.YAML_PLAIN_SCALAR_STYLE = (0, 0)
 quotes styles.YAML_ANY_SCALAR_STYLE = (1, 0)
@@ -73,6 +74,11 @@ unfoldable pub number_of : ℕ → List ℕ → ℕ
 number_of n [] = n
 number_of n (d ∷ ds) = number_of (n * 10 + (d - 48)) ds
 
+-- both numbers of a version are such as an i32 holds
+pub record AreSmall (m n : List ℕ) : Type 0 where
+  pub major : number_of 0 m < 2 ^ 31
+  pub minor : number_of 0 n < 2 ^ 31
+
 -- ---- what a lexeme's own token carries
 
 -- it has no note, and is no key
@@ -83,11 +89,11 @@ abbrev pub Carries : Store → SpelledText → Lexeme → Kind → TokenBody →
 Carries s t x kinds.StreamStart b = IsBare x × (b ≡ tokens.stream_start t.encoding)
 Carries s t x kinds.StreamEnd b = IsBare x × (b ≡ tokens.stream_end)
 Carries s t x kinds.VersionDirective b = (m n : List ℕ) × NoteHolds s x m n
-    × (b ≡ tokens.version_directive (pos (number_of 0 m)) (pos (number_of 0 n)))
+    × (b ≡ tokens.version_directive (pos (number_of 0 m)) (pos (number_of 0 n))) × AreSmall m n
 Carries s t x kinds.TagDirective b = (h p : List ℕ) × NoteHolds s x h p
-    × (b ≡ tokens.tag_directive h p)
+    × (b ≡ tokens.tag_directive h p) × (is_utf8 p ≡ true)
 Carries s t x kinds.BadPrefix b = (h p : List ℕ) × NoteHolds s x h p
-    × (b ≡ tokens.tag_directive h p)
+    × (b ≡ tokens.tag_directive h p) × (is_utf8 p ≡ false)
 Carries s t x kinds.DocumentStart b = IsBare x × (b ≡ tokens.document_start)
 Carries s t x kinds.DocumentEnd b = IsBare x × (b ≡ tokens.document_end)
 Carries s t x kinds.FlowSequenceStart b = IsBare x × (b ≡ tokens.flow_sequence_start)
@@ -100,8 +106,10 @@ Carries s t x kinds.Key b = IsBare x × (b ≡ tokens.key) × (is_set 4 x ≡ fa
 Carries s t x kinds.Value b = IsBare x × (b ≡ tokens.value)
 Carries s t x kinds.Alias b = (v : List ℕ) × HoldsValue s x v × (b ≡ tokens.alias v)
 Carries s t x kinds.Anchor b = (v : List ℕ) × HoldsValue s x v × (b ≡ tokens.anchor v)
-Carries s t x kinds.Tag b = (h v : List ℕ) × NoteHolds s x h v × (b ≡ tokens.tag h v)
-Carries s t x kinds.BadTag b = (h v : List ℕ) × NoteHolds s x h v × (b ≡ tokens.tag h v)
+Carries s t x kinds.Tag b = (h v : List ℕ) × NoteHolds s x h v
+    × (b ≡ tokens.tag h v) × (is_utf8 v ≡ true)
+Carries s t x kinds.BadTag b = (h v : List ℕ) × NoteHolds s x h v
+    × (b ≡ tokens.tag h v) × (is_utf8 v ≡ false)
 Carries s t x kinds.Scalar b = (v : List ℕ) × HoldsValue s x v × (b ≡ tokens.scalar v x.style)
 Carries s t x kinds.Failed b = ⊥
 Carries s t x kinds.Nothing b = ⊥
@@ -111,7 +119,7 @@ Carries s t x kinds.BlockEnd b = ⊥
 
 -- ---- entries
 
--- the mark of a place; behind the text's end, that of the stream's end on a line of its own
+-- the mark of a place; after the text's end, that of the stream's end on a line of its own
 abbrev pub place_mark : List ℕ → ℕ → yaml_mark_t
 place_mark text p = if nat_lt (length text) p
     then record { index = length text; line = line_at text (length text) + 1; column = 0 }
@@ -141,7 +149,7 @@ pub record ShowsWhole (s : Store) (t : SpelledText) (x : Lexeme) (e : Entry) : T
   pub ends : x.ends ≡ e.ends
   pub front : x.front ≡ first_kind x
 
--- behind the BLOCK-ENDs that are taken, more is taken where it is settled
+-- after the BLOCK-ENDs that are taken, more is taken where it is settled
 abbrev pub IsFront : Bool → Lexeme → Type 0
 IsFront settled x = (x.front ≡ first_kind x)
     ⊎ ((settled ≡ true) × (x.ends ≡ 0) × ((x.front ≡ behind_start x) ⊎ (x.front ≡ x.kind)))

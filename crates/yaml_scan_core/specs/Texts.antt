@@ -48,7 +48,7 @@ is_scalar _ = false
 abbrev pub notes_of : Word → List Note
 notes_of w = elim w.note as (λ _. List Note) [ Some n ↦ n ∷ [] | None ↦ [] ]
 
--- its lexeme, behind so many notes
+-- its lexeme, after so many notes
 abbrev pub lexeme_of : Word → ℕ → Lexeme
 lexeme_of w n = elim w.note as (λ _. Lexeme) [ Some x ↦ noted n w.lexeme | None ↦ w.lexeme ]
 
@@ -67,7 +67,7 @@ pub record PutsWord (w : Word) (old new : Scanner)
 
 -- ---- what is read
 
--- what is put behind the arena, and a fault
+-- what is put after the arena, and a fault
 pub record StoresMore (old new : Scanner) : Type 0 where
   pub bytes : List ℕ
   pub row : row_of new.row

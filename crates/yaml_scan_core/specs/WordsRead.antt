@@ -18,8 +18,8 @@ use Rattle.yaml_scan_text.specs.Refused.{IsMemory, Refuses}
 use Rattle.yaml_scan_text.specs.declared.refusal.Refusal.{Refusal}
 use Rattle.yaml_scan_text.specs.declared.refusal.Refusal.TheVariants as refusals
 use Rattle.yaml_scan_core.specs.declared.fault.Fault.{Fault}
-use Rattle.yaml_scan_core.specs.declared.lexeme.Kind.{Kind}
-use Rattle.yaml_scan_core.specs.declared.lexeme.Kind.TheVariants as kinds
+use Rattle.yaml_scan_tokens.specs.declared.kind.Kind.{Kind}
+use Rattle.yaml_scan_tokens.specs.declared.kind.Kind.TheVariants as kinds
 use Rattle.yaml_scan_core.specs.declared.lexeme.Lexeme.{Lexeme}
 use Rattle.yaml_scan_core.specs.declared.lexeme.Note.{Note}
 use Rattle.yaml_scan_core.specs.declared.lexeme.Span.{Span}
@@ -42,11 +42,11 @@ pub record ShowsWord (o : Store) (t : SpelledText) (y : Lexeme) (x : WordText) :
   pub front : y.front ≡ first_kind y
   pub carries : Carries o t y y.kind x.body
 
--- where the texts of a word lie, once it is put behind these notes
+-- where the texts of a word lie, once it is put after these notes
 abbrev pub store_behind : List ℕ → List ℕ → List Note → Word → Store
 store_behind text arena notes w = record { text = text; notes = notes ++ notes_of w; arena = arena }
 
--- a word that starts there shows a text, whatever notes it is put behind, and leads to a place
+-- a word that starts there shows a text, whatever notes it is put after, and leads to a place
 pub record IsWordAt (text arena : List ℕ) (spot : Spot) (w : Word) (x : WordText) : Type 0 where
   pub start : w.lexeme.start ≡ spot.at
   pub ends : w.lexeme.ends ≡ spot.ends

@@ -10,11 +10,12 @@ ghost use Rattle.yaml_scan_core.specs.Scanning.{FindsKey, IsCloser, IsMark, IsOp
 
 use crate::fault::Refused;
 use crate::keys::SimpleKey;
-use crate::lexeme::{Kind, Lexeme, MAPPING, SEQUENCE};
+use crate::lexeme::{Lexeme, MAPPING, SEQUENCE};
 use crate::scanner::Scanner;
 use std::alloc::AllocError;
 use yaml_scan_history::Kind as LexemeKind;
 use yaml_scan_model::{Context, Problem, yaml_scalar_style_t};
+use yaml_scan_tokens::Kind;
 
 impl Lexeme {
     /// A lexeme that carries nothing.
@@ -166,8 +167,8 @@ impl Scanner<'_> {
         Ok(())
     }
 
-    /// `:`, which makes the open candidate a key, or stands behind none.
-    pub(crate) fn value(&mut self) -> Result<(), Refused>
+    /// `:`, which makes the open candidate a key, or stands after none.
+    pub(crate) fn value_mark(&mut self) -> Result<(), Refused>
         requires { StandsAt kinds.ValueMark self.old (history_of self.old) }
         ensures { Reads self.old self.new (history_of self.old) result }
     {
@@ -194,7 +195,7 @@ impl Scanner<'_> {
         Ok(())
     }
 
-    /// A `:` behind no key.
+    /// A `:` after no key.
     fn value_alone(&mut self, ends: u32) -> Result<(), Refused>
         requires stands { StandsAs kinds.ValueMark self.old (history_of self.old) ends }
         requires none { FindsNone self.old (history_of self.old) }

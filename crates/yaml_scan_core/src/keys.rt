@@ -12,7 +12,7 @@ use crate::scanner::Scanner;
 use std::alloc::AllocError;
 use yaml_scan_model::{Context, Problem};
 
-/// So many bytes behind its start a key's `:` may stand.
+/// So many bytes after its start a key's `:` may stand.
 pub(crate) const KEY_BYTES: usize = 1024;
 
 /// A lexeme that may be a key: its number among all lexemes, and where it starts.
@@ -59,7 +59,7 @@ const NO_KEY: SimpleKey = SimpleKey {
 #[derive(Drop)]
 pub(crate) struct Keys {
     pub levels: Vec<SimpleKey>,
-    /// No candidate of so many of the outermost levels is possible, or all are stale. It only grows but for changes of the
+    /// No candidate of so many of the outermost levels is possible, or all are stale. It only grows except for changes of the
     /// innermost level, so each candidate is passed once.
     pub passed: usize,
     /// The block level's candidate is possible, and its `:` must come.

@@ -6,7 +6,7 @@ ghost use Rattle.yaml_scan_core.specs.Margins.{AreLevels, left_of};
 
 use std::alloc::{AllocError, Global};
 
-/// More levels than these and one aren't counted in 32 bits, and are refused as want of memory.
+/// More levels than these and one aren't counted in 32 bits, and are refused as out of memory.
 const MOST_LEVELS: usize = 0xFFFF_FFFE;
 
 /// The open block levels, each by its margin: its column and one.

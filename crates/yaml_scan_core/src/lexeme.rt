@@ -4,53 +4,16 @@ ghost use Rattle.std.specs.Prelude.{◌≡◌, ◌&&◌, ◌<◌, false, if◌th
 ghost use Rattle.yaml_scan_core.specs.Rows.{behind_start, first_kind, keyed, may_lead};
 
 use yaml_scan_model::yaml_scalar_style_t;
+use yaml_scan_tokens::Kind;
 
-/// What a token is. `Failed` stands where the tokens end by a fault, `Nothing` behind their end, and `BadTag` and `BadPrefix` for
-/// a tag and a directive's prefix that aren't UTF-8.
-#[derive(Clone, Copy, PartialEq, Eq)]
-pub enum Kind {
-    Failed,
-    BadTag,
-    BadPrefix,
-    Nothing,
-    StreamStart,
-    StreamEnd,
-    VersionDirective,
-    TagDirective,
-    DocumentStart,
-    DocumentEnd,
-    BlockSequenceStart,
-    BlockMappingStart,
-    BlockEnd,
-    FlowSequenceStart,
-    FlowSequenceEnd,
-    FlowMappingStart,
-    FlowMappingEnd,
-    BlockEntry,
-    FlowEntry,
-    Key,
-    Value,
-    Alias,
-    Anchor,
-    Tag,
-    Scalar,
-}
-
-impl Kind {
-    /// Whether the tokens that a parser takes end before it by a fault.
-    pub fn is_fault(self) -> bool {
-        matches!(self, Kind::Failed | Kind::BadTag | Kind::BadPrefix)
-    }
-
-    /// Whether such a token may stand before a lexeme's own one.
-    pub(crate) fn may_lead(self) -> bool
-        ensures { result ≡ may_lead self }
-    {
-        matches!(
-            self,
-            Kind::BlockEnd | Kind::BlockSequenceStart | Kind::BlockMappingStart | Kind::Key
-        )
-    }
+/// Whether a token of that kind may stand before a lexeme's own one.
+pub(crate) fn may_lead(kind: Kind) -> bool
+    ensures { result ≡ may_lead kind }
+{
+    matches!(
+        kind,
+        Kind::BlockEnd | Kind::BlockSequenceStart | Kind::BlockMappingStart | Kind::Key
+    )
 }
 
 /// A lexeme, and the tokens that it is spelled as: so many BLOCK-ENDs, a block's start, KEY, its own.
@@ -111,7 +74,7 @@ pub struct Note {
 }
 
 impl Lexeme {
-    /// The kind of the first token behind a block's start.
+    /// The kind of the first token after a block's start.
     pub(crate) fn behind_start(&self) -> Kind
         ensures { result ≡ behind_start self.now }
     {
@@ -136,7 +99,7 @@ impl Lexeme {
             self.behind_start()
         }
     }
-    /// It is a key, in front of which a mapping opens or nothing.
+    /// It is a key, before which a mapping opens or nothing.
     pub(crate) fn become_key(&mut self, mapping: bool)
         ensures { self.new ≡ keyed mapping self.old }
     {

@@ -7,11 +7,17 @@ mod keys;
 mod laws;
 mod levels;
 mod lexeme;
+mod owned;
+mod place;
 mod row;
 mod scanner;
 mod text;
+mod texts;
+mod tokens;
 mod word;
 
 pub use fault::Fault;
-pub use lexeme::{Kind, Lexeme, Note, Span};
+pub use lexeme::{Lexeme, Note, Span};
+pub use owned::next_token;
+pub use place::{Locator, mark_in};
 pub use scanner::Scanner;

@@ -4,12 +4,14 @@ ghost use Rattle.std.specs.Prelude.{ℕ, List, ◌≡◌, ◌≢◌, ◌+◌, �
 ghost use Rattle.yaml_scan_history.specs.declared.lexeme.Entry.{Entry};
 ghost use Rattle.yaml_scan_history.specs.Remaining.{SpelledText};
 ghost use Rattle.yaml_scan_core.specs.Handed.{Drops};
-ghost use Rattle.yaml_scan_core.specs.Shown.{ShowsRow};
-ghost use Rattle.yaml_scan_core.specs.declared.lexeme.Kind.TheVariants.{BlockEnd};
-ghost use Rattle.yaml_scan_core.specs.Rows.{HasRoom, failed, is_set, led, key_marked, lexeme_at, pushed, pushed_noted, row_of};
+ghost use Rattle.yaml_scan_core.specs.Shown.{ShowsRow, store_of};
+ghost use Rattle.yaml_scan_core.specs.Told.{SpanFits, span_in};
+ghost use Rattle.yaml_scan_tokens.specs.declared.kind.Kind.TheVariants.{BlockEnd};
+ghost use Rattle.yaml_scan_core.specs.Rows.{HasRoom, failed, is_set, led, key_marked, lexeme_at, may_lead, pushed, pushed_noted, row_of};
 
-use crate::lexeme::{Kind, Lexeme, NOTED, Note};
+use crate::lexeme::{Lexeme, NOTED, Note, Span, may_lead};
 use std::alloc::{AllocError, Global};
+use yaml_scan_tokens::Kind;
 
 /// The lexemes that were read and aren't dropped, the first of which are taken.
 #[derive(Drop)]
@@ -54,7 +56,7 @@ impl Row {
         self.dropped + self.lexemes.len()
     }
 
-    /// How many lexemes wait whose first token no later one changes: the settled ones, or one that isn't, behind a BLOCK-END.
+    /// How many lexemes wait whose first token no later one changes: the settled ones, or one that isn't, after a BLOCK-END.
     pub(crate) fn waiting(&self) -> usize
         requires { self.now.next ≤ self.now.settled }
         ensures ends { self.now.next < length self.now.lexemes.items
@@ -76,7 +78,7 @@ impl Row {
         ensures more { OnOk result (HasRoom self.new) }
         ensures room { HasRoom self.old → HasRoom self.new }
     {
-        // One more than is put: a fault that stands behind all has room.
+        // One more than is put: a fault that stands after all has room.
         self.lexemes.reserve(2)?;
         self.lexemes.push_reserved(lexeme);
         Ok(())
@@ -100,7 +102,7 @@ impl Row {
         Ok(())
     }
 
-    /// The lexeme of that number is a key, in front of which a mapping opens or nothing.
+    /// The lexeme of that number is a key, before which a mapping opens or nothing.
     pub(crate) fn mark_key(&mut self, number: usize, mapping: bool)
         requires kept { self.old.dropped ≤ number }
         requires read { number - self.old.dropped < length self.old.lexemes.items }
@@ -145,7 +147,8 @@ impl Row {
         requires kind { kind ≡ (lexeme_at (row_of self.old) self.old.next).front }
         requires ends { (lexeme_at (row_of self.old) self.old.next).front ≡ BlockEnd
             → 0 < (lexeme_at (row_of self.old) self.old.next).ends }
-        requires shows { (t : SpelledText) × (es : List Entry) × ShowsRow t (row_of self.old) es }
+        requires own { may_lead kind ≡ false → (lexeme_at (row_of self.old) self.old.next).front
+            ≡ (lexeme_at (row_of self.old) self.old.next).kind }
         ensures own { (lexeme_at (row_of self.old) self.old.next).front
             ≡ (lexeme_at (row_of self.old) self.old.next).kind
             → row_of self.new ≡ record (row_of self.old) { next = self.old.next + 1 } }
@@ -157,7 +160,7 @@ impl Row {
             → self.old.next < self.old.settled) → ShowsRow t (row_of self.new) es }
         ensures room { HasRoom self.old → HasRoom self.new }
     {
-        if kind.may_lead() {
+        if may_lead(kind) {
             return self.skip_lead();
         }
         self.next += 1;
@@ -206,14 +209,27 @@ impl Row {
         false
     }
 
-    /// Behind the settled lexemes stands the fault. The BLOCK-ENDs before the first of the others were settled with them.
+    /// The bytes of a span, of the text or of the arena.
+    pub(crate) fn span<'a>(&'a self, text: &'a [u8], span: Span) -> &'a [u8]
+        requires { SpanFits (store_of text.now (row_of self.now)) span }
+        ensures { result.now ≡ span_in (store_of text.now (row_of self.now)) span }
+    {
+        if span.joined {
+            &self.arena[span.from..span.to]
+        } else {
+            &text[span.from..span.to]
+        }
+    }
+
+    /// After the settled lexemes stands the fault. The BLOCK-ENDs before the first of the others were settled with them. Where
+    /// there is no other it ends after its start.
     pub(crate) fn fail(&mut self)
         requires settled { self.old.settled ≤ length self.old.lexemes.items }
         requires room { HasRoom self.old }
         ensures { row_of self.new ≡ failed (row_of self.old) }
     {
         let count = self.settled;
-        let mut failed = Lexeme::new(Kind::Failed, 0, 0, 0);
+        let mut failed = Lexeme::new(Kind::Failed, 0, 0, 1);
         if count < self.lexemes.len() {
             let lost = self.lexemes[count];
             failed = Lexeme::new(Kind::Failed, lost.ends, lost.start, lost.start);

@@ -8,15 +8,17 @@ ghost use Rattle.yaml_scan_model.specs.Classes.{is_bom};
 ghost use Rattle.yaml_scan_history.specs.History.{keeps};
 ghost use Rattle.yaml_scan_history.specs.Words.{indicator_of, kind_at};
 ghost use Rattle.yaml_scan_text.specs.White.{is_thrice};
+ghost use Rattle.yaml_scan_core.specs.Asked.{Starts};
 ghost use Rattle.yaml_scan_core.specs.Candidates.{inner, stack_of};
 ghost use Rattle.yaml_scan_core.specs.Handed.{HandsOn};
-ghost use Rattle.yaml_scan_core.specs.Rows.{HasRoom, failed, row_of};
-ghost use Rattle.yaml_scan_core.specs.Scanning.{Finds, IsCalm, IsDecoded, IsGoing, IsPlace, MayBreak, Passes, PassesOne, Reads, Rests, Shows, StandsAs, StandsAt, StaysAt, Steps, gap_there, history_of, read_by, stream_of};
+ghost use Rattle.yaml_scan_core.specs.Rows.{HasRoom, IsThere, failed, row_of};
+ghost use Rattle.yaml_scan_core.specs.Scanning.{Finds, IsCalm, IsDecoded, IsGoing, IsPlace, MayBreak, Passes, PassesOne, Reads, Rests, Shows, StandsAs, StandsAt, StaysAt, Steps, gap_there, history_of, read_by};
+ghost use Rattle.yaml_scan_core.specs.Waiting.{Needs, ReadsOne};
 
 use crate::fault::{Fault, Refused};
 use crate::keys::Keys;
 use crate::levels::Levels;
-use crate::lexeme::{Kind, Lexeme};
+use crate::lexeme::Lexeme;
 use crate::row::Row;
 use crate::text::{
     break_width, byte, continuing, is_blank, is_blank_or_end, is_thrice, line_end, skip_spaces,
@@ -24,8 +26,9 @@ use crate::text::{
 use std::alloc::{AllocError, Global};
 use yaml_scan_history::Kind as LexemeKind;
 use yaml_scan_model::{Context, Problem, yaml_encoding_t};
+use yaml_scan_tokens::Kind;
 
-/// Behind so many bytes of joined texts no more are read at once.
+/// After so many bytes of joined texts no more are read at once.
 const LONG_TEXT: usize = 4096;
 
 /// A scanner of a text: what it has read waits in its row.
@@ -62,8 +65,8 @@ impl<'a> Scanner<'a> {
     ) -> Result<Scanner<'a>, AllocError>
         requires long { length text.now < 2 ^ 63 }
         requires decoded { IsDecoded text.now }
-        ensures { IfOk result (λ s. IsGoing s
-            × (stream_of s ≡ record { encoding = encoding; text = text.now })) }
+        requires some { 0 < batch }
+        ensures { IfOk result (λ s. Starts encoding text.now s) }
     {
         let mut keys = Keys::new(Vec::new(alloc));
         keys.reserve()?;
@@ -139,9 +142,9 @@ impl<'a> Scanner<'a> {
         requires { IsGoing self.old }
         ensures rests { Rests self.new }
         ensures hands { HandsOn self.old self.new }
-        ensures waits { self.new.ended ≡ false → 0 < self.new.batch
-            → self.new.row.next < length self.new.row.lexemes.items }
+        ensures waits { self.new.ended ≡ false → 0 < self.new.batch → IsThere (row_of self.new.row) }
         ensures text { self.new.text.now ≡ self.old.text.now }
+        ensures needs { self.old.batch ≡ 1 → Needs self.old self.new }
     {
         self.row.drop_taken();
         'batches: while !self.ended && self.row.waiting() < self.batch {
@@ -149,7 +152,7 @@ impl<'a> Scanner<'a> {
         }
     }
 
-    /// Reads so many lexemes, or less behind a long text, and settles those before the earliest open candidate.
+    /// Reads so many lexemes, or less after a long text, and settles those before the earliest open candidate.
     fn read_batch(&mut self)
         requires shows { Shows self.old (history_of self.old) }
         requires some { 0 < read_by self.old }
@@ -158,6 +161,7 @@ impl<'a> Scanner<'a> {
         ensures hands { HandsOn self.old self.new }
         ensures further { self.new.ended ≡ false → read_by self.old < read_by self.new }
         ensures text { self.new.text.now ≡ self.old.text.now }
+        ensures one { self.old.batch ≡ 1 → ReadsOne self.old self.new }
     {
         let start = self.row.count();
         'steps: loop {
@@ -266,7 +270,7 @@ impl<'a> Scanner<'a> {
             LexemeKind::FlowEntry => self.flow_entry(),
             LexemeKind::BlockEntry => self.block_entry(),
             LexemeKind::KeyMark => self.key(),
-            LexemeKind::ValueMark => self.value(),
+            LexemeKind::ValueMark => self.value_mark(),
             LexemeKind::Directive | LexemeKind::Literal | LexemeKind::Folded => {
                 self.line_word(kind)
             }
@@ -426,7 +430,7 @@ impl<'a> Scanner<'a> {
         self.in_flow() || !self.key_allowed
     }
 
-    /// Whether a key may begin behind a break.
+    /// Whether a key may begin after a break.
     fn allows_behind(&self) -> bool
         requires { 0 < length self.now.keys.levels.items }
         ensures { result
@@ -496,7 +500,7 @@ impl<'a> Scanner<'a> {
     }
 }
 
-/// The kind that the byte tells, in brackets or not; `alone` where a blank, a break or the end stands behind it.
+/// The kind that the byte tells, in brackets or not; `alone` where a blank, a break or the end stands after it.
 #[tactic(auto, unfolding(yaml_scan_history::specs::Words::indicator_of))]
 fn indicator(byte: u8, flow: bool, alone: bool) -> Option<LexemeKind>
     ensures { result ≡ indicator_of flow alone byte }

@@ -1,6 +1,7 @@
 //! Lexemes that carry a text.
 
-ghost use Rattle.std.specs.Prelude.{ℕ, ◌≡◌, ◌+◌, ◌-◌, ◌<◌, ◌≤◌, true, false, List, Some, None, length, if◌then◌else◌};
+ghost use Rattle.std.specs.Prelude.{ℕ, ◌≡◌, ◌+◌, ◌-◌, ◌<◌, ◌≤◌, true, false, List, [], Some, None, length, if◌then◌else◌};
+ghost use Rattle.std.specs.Str.{is_utf8};
 ghost use Rattle.yaml_scan_model.specs.Ascii as ascii;
 ghost use Rattle.yaml_scan_model.specs.Marks.{break_width, byte, splits_break, starts};
 ghost use Rattle.yaml_scan_model.specs.Runs.{columns_over};
@@ -14,14 +15,15 @@ ghost use Rattle.yaml_scan_history.specs.Words.{blocked, directed, plainly, tagg
 ghost use Rattle.yaml_scan_text.specs.Lines.{line_start};
 ghost use Rattle.yaml_scan_text.specs.PlainRead as plainly_read;
 ghost use Rattle.yaml_scan_text.specs.Refused.{Keeps};
-ghost use Rattle.yaml_scan_core.specs.declared.lexeme.Kind.TheVariants as kinds;
+ghost use Rattle.yaml_scan_tokens.specs.declared.kind.Kind.TheVariants as kinds;
 ghost use Rattle.yaml_scan_core.specs.Rows.{bare};
 ghost use Rattle.yaml_scan_core.specs.Scanning.{IsPlace, Reads, StandsAs, StandsAt, history_of};
 ghost use Rattle.yaml_scan_core.specs.Texts.{PutsWord, ReadsWord, StoresMore, is_key_word, is_line_word, is_scalar};
+ghost use Rattle.yaml_scan_core.specs.Told.{SpanFits, span_in};
 ghost use Rattle.yaml_scan_core.specs.WordsRead.{GivesWord, IsMarkedBy, IsNamed, IsQuotedBy, IsSpot, StandsThere, has_text, joined_note, name_body, scalar_body, told_by, value_span};
 
 use crate::fault::{Fault, Refused};
-use crate::lexeme::{Kind, Lexeme, Note, Span};
+use crate::lexeme::{Lexeme, Note, Span};
 use crate::scanner::Scanner;
 use crate::text::{break_width, continuing};
 use simdutf8::is_utf8;
@@ -32,9 +34,10 @@ use yaml_scan_text::{
     PlainLine, Refusal, Wrong, block_scalar, is_bad_colon, name, plain_line, plain_lines,
     quoted_scalar, read_directive, read_tag,
 };
+use yaml_scan_tokens::Kind;
 
-/// A lexeme's text as it was read: the lexeme, its note, if it has one, the place that is reached behind it, where the line of that
-/// starts, how many bytes between these continue a character, and whether the blanks behind a plain scalar hold a break.
+/// A lexeme's text as it was read: the lexeme, its note, if it has one, the place that is reached after it, where the line of that
+/// starts, how many bytes between these continue a character, and whether the blanks after a plain scalar hold a break.
 #[derive(Clone, Copy)]
 pub(crate) struct Word {
     pub lexeme: Lexeme,
@@ -90,7 +93,7 @@ impl Scanner<'_> {
         Ok(())
     }
 
-    /// The text of the lexeme of that kind that stands here. What has to be joined is put behind the arena.
+    /// The text of the lexeme of that kind that stands here. What has to be joined is put after the arena.
     fn word(&mut self, kind: LexemeKind, ends: u32) -> Result<Word, Refused>
         requires kind { has_text kind ≡ true }
         requires stands { StandsAs kind self.old (history_of self.old) ends }
@@ -142,7 +145,7 @@ fn is_scalar(kind: LexemeKind) -> bool
 }
 
 /// The fault that a refusal tells, of what starts there, unless memory ran out.
-// No place lies behind the text's end: the test goes once that is a law of the definitions.
+// No place lies after the text's end: the test goes once that is a law of the definitions.
 fn fault_told(refusal: Refusal, start: usize, end: usize) -> Option<Fault>
     ensures { result ≡ told_by refusal start end }
 {
@@ -199,7 +202,7 @@ fn read_word(
 }
 
 /// How many bytes continue a character between a line's start and a place in it, which is reached from a spot; `wide` where some may
-/// behind the spot.
+/// after the spot.
 fn wide_behind(text: &[u8], spot: Spot, at: usize, line: usize, wide: bool) -> usize
     requires place { IsPlace text.now spot.at spot.line spot.wide }
     requires order { spot.at ≤ at }
@@ -292,11 +295,24 @@ fn span(joined: bool, from: usize, to: usize, base: usize, end: usize) -> Span
     }
 }
 
-/// Whether what escapes spelled in the arena from there on is UTF-8, as the text is.
-fn is_text(arena: &[u8], base: usize, joined: bool) -> bool
-    requires { base ≤ length arena.now }
+/// Whether the bytes of a span are UTF-8: those that escapes spell may be none.
+fn is_text(arena: &[u8], text: &[u8], span: Span) -> bool
+    requires { SpanFits (record { text = text.now; notes = []; arena = arena.now }) span }
+    ensures { result ≡ is_utf8 (span_in (record { text = text.now; notes = []; arena = arena.now })
+        span) }
 {
-    !joined || is_utf8(&arena[base..])
+    if span.joined {
+        spells_text(&arena[span.from..span.to])
+    } else {
+        spells_text(&text[span.from..span.to])
+    }
+}
+
+/// Whether bytes are UTF-8. Most are ASCII alone: a look at them costs less than what the decoder sets up.
+fn spells_text(bytes: &[u8]) -> bool
+    ensures { result ≡ is_utf8 bytes.now }
+{
+    bytes.is_ascii() || is_utf8(bytes)
 }
 
 /// What a tag is, by whether its suffix is UTF-8.
@@ -316,13 +332,14 @@ fn tag_word(arena: &mut Vec<u8>, text: &[u8], spot: Spot, flow: bool) -> Result<
 {
     let base = arena.len();
     let tag = read_tag(arena, text, spot.at, flow)?;
-    let kind = tag_kind(is_text(arena, base, tag.joined));
+    let suffix = span(tag.joined, tag.from, tag.to, base, arena.len());
+    let kind = tag_kind(is_text(arena, text, suffix));
     Ok(Word {
         lexeme: Lexeme::new(kind, spot.ends, spot.at, tag.end),
         note: Some(Note {
             end: tag.end,
             first: Span::of_text(spot.at, tag.handle),
-            second: span(tag.joined, tag.from, tag.to, base, arena.len()),
+            second: suffix,
         }),
         at: tag.end,
         line: spot.line,
@@ -356,14 +373,15 @@ fn directive_word(arena: &mut Vec<u8>, text: &[u8], spot: Spot) -> Result<Word, 
     let base = arena.len();
     let read = read_directive(arena, text, spot.at, spot.line)?;
     let value = read.value;
-    let kind = directive_kind(value.is_tag, is_text(arena, base, value.joined));
     let end = value.second_end;
+    let second = span(value.joined, value.second, end, base, arena.len());
+    let kind = directive_kind(value.is_tag, is_text(arena, text, second));
     Ok(Word {
         lexeme: Lexeme::new(kind, spot.ends, spot.at, end),
         note: Some(Note {
             end,
             first: Span::of_text(value.first, value.first_end),
-            second: span(value.joined, value.second, end, base, arena.len()),
+            second,
         }),
         at: read.place,
         line: read.line,
@@ -459,7 +477,7 @@ fn plain_word(
     })
 }
 
-/// The same, where a break stands behind that part of it.
+/// The same, where a break stands after that part of it.
 fn plain_lines_word(
     arena: &mut Vec<u8>,
     text: &[u8],

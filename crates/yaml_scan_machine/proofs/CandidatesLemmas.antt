@@ -4,7 +4,7 @@ use Rattle.yaml_scan_machine.proofs.Words.{Turns, cases_lt, nat_tests, get_or_ap
 use Rattle.std.proofs.lemmas.List.{length-append}
 use Rattle.yaml_scan_history.proofs.HistoryLemmas.{near_before}
 
--- ---- the candidates behind one more lexeme
+-- ---- the candidates after one more lexeme
 
 pub lower : (d : ℕ) (l : Lexeme) (h : List Lexeme) → d < l.depth
     → candidate d (l ∷ h) ≡ candidate d h

@@ -1,4 +1,4 @@
--- A `:` that stands directly behind a key comes next.
+-- A `:` that stands directly after a key comes next.
 use Rattle.std.proofs.Common.{◌≡◌, ℕ, ◌+◌, true, false, cond, ltb, ◌&&◌, not, List, ◌∷◌, length, Some, None, refl, sym, ap, subst, ◌∙◌, ◌||◌, arith}
 use Rattle.yaml_scan_machine.proofs.Words.{nat_tests, is_some, yaml_mark_t, mark_at, indicator_of, kind_at, word_at, Gap, Lexeme, cancels, Candidate, candidate, fresh, reached, depth, levels, left_by, key_allowed, history, next, Read, missed, behind, unless_missed, of_kind, required_in, late}
 use Rattle.std.proofs.Math.Bool.{and-false}
@@ -20,14 +20,14 @@ pub key_found : (text : List ℕ) (l : Lexeme) (h : List Lexeme) → IsKeyed tex
     → fresh (candidate l.depth (l ∷ h)) l.reached ≡ Some (key_of l h)
 key_found text l h k = ap (λ o. fresh o l.reached) (top_saved l h k.saved) ∙ ap (λ b. cond b (Some (key_of l h)) None) k.fresh
 
--- no candidate is missed behind a lexeme that cancels its depth's
+-- no candidate is missed after a lexeme that cancels its depth's
 colon_unmissed : (c l : Lexeme) (h : List Lexeme) (p : yaml_mark_t) → c.depth ≡ l.depth
     → c.saved ≡ false → cancels c.kind ≡ true → missed (candidate 0 h) p ≡ None
     → missed (candidate 0 (c ∷ l ∷ h)) p ≡ None
 unfolding candidate
 colon_unmissed c l h p same idle ends none = grind (arith, nat_tests)
 
--- The `:` behind a key comes next, where no other candidate must come to its own.
+-- The `:` after a key comes next, where no other candidate must come to its own.
 pub colon_next : (text : List ℕ) (n : ℕ) (l : Lexeme) → let h = history text n in
     next text h ≡ Read l → IsKeyed text l
     → is_some (required_in (fresh (candidate 0 h) (reached h))) ≡ false

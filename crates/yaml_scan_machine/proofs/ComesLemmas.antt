@@ -139,7 +139,7 @@ fault_machine m (errors.Fault p) i stuck more r =
           ap (λ k. remaining (stream_of m) k m.given) (sym at) ∙ fault_comes (stream_of m) n p m.given r (omega (arith, count, ends, few))
     ]
 
--- behind the first look all that is left is to come
+-- after the first look all that is left is to come
 pub left_is : (m : Machine) → m.started ≡ true → left_in m ≡ to_come m
 left_is m on = ap (λ b. left_from b (to_come m) (scanned m.setting m.input.now)) on
 

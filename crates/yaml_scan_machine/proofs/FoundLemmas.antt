@@ -1,4 +1,4 @@
--- Reading on behind a machine of which the same is to come.
+-- Reading on after a machine of which the same is to come.
 use Rattle.std.proofs.Common.{◌≡◌, ◌<◌, ◌≤◌, ◌+◌, ◌⊎◌, ℕ, zero, suc, Bool, true, false, List, [], ◌∷◌, length, refl, sym, ap, subst, ◌∙◌, inl, inr, arith, Option, Some, Result, Ok, Err}
 use Rattle.yaml_scan_machine.proofs.Words.{Line, cases_lt, cases_Bool, Reader, ScanError, Fault, memory_fault, option_map, result_err, Offence, reader_fault, decoded_characters, in_utf8, text_bytes, Remaining, Machine, Waiting, left_in, IsTold, IsLocated, IsMachine, ReadsMore, WantsMore, is_ready, ready_in, MayReadAt, Kind, HasMore, Token}
 use Rattle.yaml_scan_machine.specs.Stood.{Steps}
@@ -84,7 +84,7 @@ spelled_text (Err o) text g e bad = cc
 decoded_plain : (m : Machine) (f : Fault) → IsMachine m → m.started ≡ true → PlainIsTold m f
 decoded_plain m f i on g utf8 is = absurd (spelled_text (decoded_characters m.setting m.input.now) (text_bytes m.text) g (i.decoded on) is)
 
--- what reading on behind a machine comes to, where the same is to come: so many more lexemes are read as are needed
+-- what reading on after a machine comes to, where the same is to come: so many more lexemes are read as are needed
 pub record ReadsFrom (first m : Machine) : Type 0 where
   pub stands : IsMachine m
   pub started : m.started ≡ true
@@ -135,7 +135,7 @@ told_unless m errors.Memory f i on more refused is why = told_error m errors.Mem
 told_unless m (errors.Fault p) f i on more refused is (inl lack) = absurd (true≢false (sym lack ∙ ap (λ (g : Fault). is_lack g.kind) is))
 told_unless m (errors.Fault p) f i on more refused is (inr stuck) = told_error m (errors.Fault p) f on (fault_machine m (errors.Fault p) i stuck more refused) is
 
--- or is refused, with the fault that a machine tells; a step's want of memory is the scanner's
+-- or is refused, with the fault that a machine tells; a step's out of memory is the scanner's
 pub steps_off : (first m new : Machine) (f : Fault) (b : Bool) → ReadsFrom first m
     → m.ended ≡ false → is_ready first ≡ false → b ≡ false → Steps m new f b → MayTell m f
     → Denies first new f
@@ -172,7 +172,7 @@ steps_back first m new f b found.Known r more sought failed step (kept, ready) =
 steps_back first m new f b found.Nothing r more sought failed step back = absurd back
 steps_back first m new f b found.Refused r more sought failed step back = steps_off first m new f b r more sought failed step (may_tell m new f b failed step back)
 
--- behind the end nothing is to come
+-- after the end nothing is to come
 pub steps_end : (first m : Machine) → ReadsFrom first m → is_ready m ≡ false → m.ended ≡ true
     → Finishes first m
 steps_end first m r stuck over =

@@ -65,7 +65,7 @@ front_is m k ks x s wait =
     let here : get_or (map f (entries h)) (m.dropped + 0) (f x) ≡ k = sym (get_or-drop m.dropped (map f (entries h)) 0 (f x)) ∙ ap (λ xs. get_or xs 0 (f x)) (sym s.waiting ∙ wait) in
     (sym (get_or-map f (entries h) m.dropped x (f x) (omega (arith, low, length-entries h))) ∙ ap (λ j. get_or (map f (entries h)) j (f x)) {x = m.dropped} {y = m.dropped + 0} (omega arith) ∙ here, low)
 
--- an entry for the places behind a list
+-- an entry for the places after a list
 abbrev pub no_entry : Entry
 no_entry = record { lexeme = first_lexeme; ends = 0; opens = opening.Nothing; key = false }
 

@@ -106,7 +106,7 @@ unfolding candidate
 deeper_later [] d e c x is ix deep = cc
 deeper_later (l ∷ h) d e c x is ix deep = grind (arith, nat_tests, candidate_top e l h x ix, candidate_top d l h c is, candidate_below d h c, inner e l h, deeper_later h d e c x)
 
--- the candidate of a depth outside a key's, where the keys in front of that one are stale
+-- the candidate of a depth outside a key's, where the keys before that one are stale
 gone_before : (n : ℕ) (s : KeyStack) (h : List Lexeme) (p : yaml_mark_t) (i e : ℕ)
     → AreKeysTo n s h p → i ≤ length s.outer + 1
     → ((j : ℕ) → j < i → fresh_key (key_at s j) p ≡ None) → e < s.gone + i
@@ -282,7 +282,7 @@ key_waits m ws p n s wait more u is =
     λ w. sym (get_or-map g ws i w (f z) room) ∙ ap (λ (ks : List KeptLexeme). get_or ks i (f z)) (sym wait ∙ s.waiting) ∙ get_or-drop m.dropped (map f (entries h)) i (f z) ∙ ap (λ k. get_or (map f (entries h)) k (f z)) (sym at) ∙ get_or-map f (entries h) c.number z (f z) inside in
     (low, room, (c, here, at, λ w. ap (λ (k : KeptLexeme). k.start) (there w) ∙ ap (λ (l : Lexeme). l.start) (start_is m.depth h c z isc)))
 
--- the keys behind one more lexeme
+-- the keys after one more lexeme
 pub put_keys : (m : Fields) (l : Lexeme) (old new : KeyStack) (number : ℕ) → GoesForward m.text
     → IsShown m → let h = read m.text m.dropped m.waiting in next m.text h ≡ Read l → old ≡ m.keys
     → number ≡ m.dropped + length m.waiting

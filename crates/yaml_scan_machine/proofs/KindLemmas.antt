@@ -46,7 +46,7 @@ unfolding word_at
 right_end kinds.StreamEnd flow level text p w e = cc
 right_end _ flow level text p w e = refl
 
--- what the test behind a lexeme comes to
+-- what the test after a lexeme comes to
 abbrev by_test : Option yaml_mark_t → Lexeme → Next
 by_test o l = elim o as (λ _. Next) [ Some start ↦ no_colon start l.reached | None ↦ Read l ]
 
@@ -71,7 +71,7 @@ body_is : (s : SpelledText) (l x : Lexeme) (w : WordText) → (l.kind ≡ kinds.
 body_is s l x w other same reads =
     body_other x.kind s x (λ e. other (sym same.kind ∙ e)) ∙ rw (same.kind, same.depth, same.level, same.start, reads) refl
 
--- the test behind a lexeme whose word is read is the definition's
+-- the test after a lexeme whose word is read is the definition's
 word_tested : (text : List ℕ) (n : ℕ) (word : Word) (w : WordText) (l : Lexeme)
     (reach : yaml_mark_t) (required : Option yaml_mark_t)
     → let h = history text n in let x = finished text l w in let y = ended_by l word reach in
@@ -109,7 +109,7 @@ pub finished_safe : (text : List ℕ) (l : Lexeme) (word : Word) (reach : yaml_m
 finished_safe text l word reach required (Ok r) place (a, b, d, none) = let same = ended_same l word.end reach word.broke in rw a record { kind = same.kind; start = same.start; depth = same.depth; level = same.level; saved = same.saved; place = λ e. rw e place }
 finished_safe text l word reach required (Err e) place f = tt
 
--- what is told of what stands behind it
+-- what is told of what stands after it
 pub finished_colon : (text : List ℕ) (at : ℕ) (place : Place) (l : Lexeme) (word : Word)
     (x : Result WordText Wrong) (reach : yaml_mark_t) (required : Option yaml_mark_t)
     (result : Result (Lexeme × yaml_token_body_t × Bool) ScanError)

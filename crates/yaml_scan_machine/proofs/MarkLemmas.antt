@@ -6,13 +6,13 @@ use Rattle.yaml_scan_history.specs.History.{as_key}
 use Rattle.yaml_scan_history.proofs.HistoryLemmas.{first_open-grows}
 use Rattle.yaml_scan_machine.proofs.ReadLemmas.{next_is, first_is, begun_at, finished_same}
 
--- nothing comes behind the end
+-- nothing comes after the end
 pub next_ended : (text : List ℕ) (h : List Lexeme) → ended h ≡ true → next text h ≡ Ends
 unfolding next
 next_ended text [] e = cc
 next_ended text (l ∷ h) e = rw e refl
 
--- what is read next stands behind what was reached
+-- what is read next stands after what was reached
 pub further_on : (text : List ℕ) (d : ℕ) (es : List KeptLexeme) (l : Lexeme) → GoesForward text
     → next text (read text d es) ≡ Read l
     → Upto (reached (read text d es)) l.start × Upto l.start l.reached
@@ -45,7 +45,7 @@ as_key_set ls (x ∷ es) (suc i) e lt is = ap (λ r. x ∷ r) (as_key_set ls es 
 abbrev pub kept_entries : Fields → Lexeme → List KeptLexeme
 kept_entries m l = drop m.dropped (all_kept (spelled m) (keyed l (read m.text m.dropped m.waiting) (entries (read m.text m.dropped m.waiting))))
 
--- the fields x are those behind one more lexeme, but what is settled
+-- the fields x are those after one more lexeme, but what is settled
 pub record IsPushed (m : Fields) (l : Lexeme) (x : Fields) : Type 0 where
   pub encoding : x.encoding ≡ m.encoding
   pub text : x.text ≡ m.text

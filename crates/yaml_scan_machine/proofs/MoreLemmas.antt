@@ -52,7 +52,7 @@ by_all s k given (Read l) e h = absurd (all_ends s.text l e)
 by_all s k given (Fails p) e h = fault_more (remaining s k given).tokens (remaining s k given).fault (scanner_fault p) (fault_is s k given ∙ ap fault_in e)
 by_all s k given Ends e h = h refl
 
--- behind lexemes that aren't all
+-- after lexemes that aren't all
 more_comes : (s : SpelledText) (n k given : ℕ) (e : Entry)
     → (next s.text (history s.text n) ≡ Ends → ⊥) → k ≤ length (history s.text n)
     → Untaken (history s.text n) k given e

@@ -116,7 +116,7 @@ lost_same text n p b at u early =
     let stays = stays_gone (candidate 0 h) (reached h) p in
     grind (arith, nat_tests, outer, stays, fresh_is (candidate 0 h) (reached h))
 
--- the test behind a lexeme
+-- the test after a lexeme
 pub tested_same : (text : List ℕ) (n : ℕ) (l : Lexeme) (p : yaml_mark_t) → let h = history text n in
     (l.required ≡ true → l.saved ≡ true)
     → late (required_behind (required_in (fresh (candidate 0 h) (reached h))) l) p

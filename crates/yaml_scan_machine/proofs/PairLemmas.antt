@@ -1,4 +1,4 @@
--- A key and the `:` directly behind it: two lexemes more, one behind the other.
+-- A key and the `:` directly after it: two lexemes more, one after the other.
 use Rattle.std.proofs.Common.{◌≡◌, ℕ, zero, suc, ◌+◌, ◌-◌, ◌≤◌, true, false, ltb, List, [], ◌∷◌, ◌++◌, length, drop, Some, refl, sym, ap, subst, ◌∙◌, inl, inr, arith}
 use Rattle.yaml_scan_machine.proofs.Words.{cases_Bool, cases_lt, nat_tests, is_some, map, length-map, map-append, yaml_mark_t, mark_at, line_at, column_at, Kind, Lexeme, Entry, Opens, TokenBody, candidate, cancels, depth, depth_after, entries, entry_of, first_lexeme, found_by, fresh, inside, is_end, is_start, is_value, keeps, key_allowed, keyed, left_by, left_of, levels, mark_key, reached, start_of, AreKeysTo, Read, history, next, word_at, body_in, length-entries, opens_for, required_in, Fields, IsShown, kept_in, read, settled_in, spelled, KeptLexeme}
 use Rattle.std.proofs.lemmas.List.{drop-append-le}
@@ -67,11 +67,11 @@ starts_none _ e = (refl, refl)
 abbrev pub read_in : Fields → List Lexeme
 read_in m = read m.text m.dropped m.waiting
 
--- the `:` behind a key
+-- the `:` after a key
 abbrev pub colon_in : Fields → Lexeme → Lexeme
 colon_in m l = colon_of m.text l (read_in m)
 
--- the fields behind the key alone
+-- the fields after the key alone
 abbrev pub between : Fields → Lexeme → Fields
 between m l = record m {
   waiting = kept_entries m l ++ kept_in (spelled m) (entry_of l (read_in m)) ∷ [];
@@ -88,7 +88,7 @@ between m l = record m {
 abbrev pub with_key_in : Fields → Lexeme → List Lexeme
 with_key_in m l = read_in (between m l)
 
--- behind a key its `:` comes next, which finds it and closes no level
+-- after a key its `:` comes next, which finds it and closes no level
 pub record IsPaired (m : Fields) (l : Lexeme) : Type 0 where
   pub shown : IsShown (between m l)
   pub read : with_key_in m l ≡ l ∷ read_in m
@@ -134,7 +134,7 @@ unfolding mark_key
 mark_last ls [] e n is = rw is refl
 mark_last ls (x ∷ es) e n is = rw is (ap (λ r. x ∷ r) (mark_last ls es e (length es) refl))
 
--- what waits behind the key, of which the `:` makes one
+-- what waits after the key, of which the `:` makes one
 pub key_row : (m : Fields) (l : Lexeme) (ends : ℕ) (o : Opens) (b : TokenBody) (lv : List ℕ)
     → IsShown m → IsPaired m l → lv ≡ inside l (read_in m) → ends ≡ length m.levels - length lv
     → o ≡ opens_for kinds.ValueMark l.depth (l.start.column + 1) lv → b ≡ body_in (spelled m) l
@@ -158,7 +158,7 @@ key_row m l ends o b lv s p left many opens body =
     ap (λ (k : KeptLexeme). m.waiting ++ k ∷ []) row ∙ ap (λ (ks : List KeptLexeme). ks ++ f a ∷ []) s.waiting ∙ sym (drop-append-le m.dropped (map f es) (f a ∷ []) low)
     ∙ ap (λ (ks : List KeptLexeme). drop m.dropped ks) (sym (map-append f es (a ∷ []))) ∙ ap (λ (xs : List Entry). drop m.dropped (map f xs)) (sym all)
 
--- what is kept of a `:` behind its key
+-- what is kept of a `:` after its key
 abbrev pub colon_row : yaml_mark_t → yaml_mark_t → KeptLexeme
 colon_row start end = record { start = start; end = end; ends = 0; opens = opening.Nothing; key = false; body = tokens.value }
 

@@ -1,4 +1,4 @@
--- The fields behind one more lexeme, and the lexemes that wait, where one of them is told what a later one makes of it.
+-- The fields after one more lexeme, and the lexemes that wait, where one of them is told what a later one makes of it.
 use Rattle.std.proofs.Common.{rules, ◌≡◌, ℕ, ◌<◌, ◌≤◌, List, length, get_or, ap, sym, subst, ◌∙◌, inl, inr, arith, refl, Result, Ok, Err, ◌+◌, ◌-◌, Bool, true, false, cond, ltb, eqb, ◌&&◌, ◌||◌, not, ◌∷◌, drop, Option, Some, None}
 use Rattle.yaml_scan_machine.proofs.Words.{set, KeptLexeme, Entry, mark_key, keyed, get_or-drop, get_or-map, candidate_below, length-entries, Opens, Line, Waiting, marked, IsShort, StaysShort, AreInside, cases_Bool, map, is_some, Kind, Lexeme, is_value, is_start, is_end, allows_key, Candidate, candidate, has, first_open, entries, entry_of, levels, key_allowed, found_by, inside, start_of, opens_at, opened, Read, next, yaml_mark_t, TokenBody, body_in, Machine, Fields, fields_of, IsShown, all_kept, kept_in, read, settled_in, spelled, Picks, history_of, stream_of, kept_of, opens_for, keyed_by, get_or_default, fresh_is, IsMachine, ReadsMore, Answer, Next, Fails, Ends, GivesNext, text_bytes}
 use Rattle.std.proofs.lemmas.List.{length-set, map-set, drop-set-add}
@@ -16,7 +16,7 @@ use Rattle.yaml_scan_machine.proofs.MarkLemmas.{as_key_set, kept_entries}
 use Rattle.yaml_scan_machine.proofs.StepLemmas.{start_is}
 use Rattle.yaml_scan_machine.proofs.NextLemmas.{candidate_depth}
 
--- a lexeme that is told what opens in front of it stays where it stands
+-- a lexeme that is told what opens before it stays where it stands
 pub marked_stays : (ws new : List Waiting) (o : Opens) (i : ℕ) → i < length ws
     → ((w : Waiting) → new ≡ set ws i (marked o (get_or ws i w)))
     → (length new ≡ length ws) × ((n : ℕ) → AreInside n ws → AreInside n new)
@@ -91,7 +91,7 @@ pub more_paused : (m new : Machine) (n : ℕ) → n ≤ m.enough → ReadsMore (
     → ReadsMore m new
 more_paused m new n low g = let enough : new.enough ≤ m.enough = omega (arith, low, g.enough) in search rules
 
--- ---- the fields behind one more lexeme
+-- ---- the fields after one more lexeme
 
 -- what was settled, by what the code finds
 pub settled_value : (x : Fields) (l : Lexeme) (h : List Lexeme) (n : ℕ)

@@ -7,7 +7,7 @@ use Rattle.yaml_scan_history.specs.Next.{begun}
 abbrev pub gap_of : List ℕ → List Lexeme → Gap
 gap_of text h = gap_at (ltb 0 (depth h)) (key_allowed h) text (reached h).index
 
--- a lexeme that starts behind the gap
+-- a lexeme that starts after the gap
 abbrev pub begun_at : List ℕ → List Lexeme → Kind → Lexeme
 begun_at text h k = begun k (placed k (mark_at text (gap_of text h).place)) (allowed_behind h (gap_of text h)) h
 
@@ -82,7 +82,7 @@ of_kind_is (Some k) text gap h x e =
           (k, refl, lost_is (lost_by b (fresh (candidate (depth h) h) (mark_at text gap.place))) text gap.place b h x (rw good at e))
     ]
 
--- what is read next behind a lexeme
+-- what is read next after a lexeme
 pub next_is : (text : List ℕ) (y : Lexeme) (h : List Lexeme) (x : Lexeme)
     → next text (y ∷ h) ≡ Read x → IsNextRead text (y ∷ h) x
 unfolding next

@@ -48,7 +48,7 @@ pub settled_open : (h : List Lexeme) → settled_in h < length h → settled_in 
 unfolding settled_in
 settled_open h low = grind arith
 
--- how many BLOCK-END tokens are told in front of the first lexeme that isn't settled
+-- how many BLOCK-END tokens are told before the first lexeme that isn't settled
 abbrev fronts : List Lexeme → ℕ
 fronts h = length (front_ends (drop (settled_in h) (entries h)))
 
@@ -70,7 +70,7 @@ fronts_come s n =
           ]
     ]
 
--- how many tokens are open: those from the first lexeme that isn't settled on, but for BLOCK-END in front of it
+-- how many tokens are open: those from the first lexeme that isn't settled on, except for BLOCK-END before it
 open_is : (s : SpelledText) (n : ℕ) → let h = history s.text n in
     length (offline s).tokens - length (settled_tokens s n) ≡ from s (settled_in h) - fronts h
 unfolding settled_tokens
@@ -80,7 +80,7 @@ open_is s n =
     let same : count s (take f (handed s.text)) ≡ count s (take f (entries h)) = ap (λ es. count s es) (known_upto s.text n f (omega arith)).same in
     omega (arith, same, count_split s f (handed s.text), left_length s 0 0, length-append (flat_map (spell s) (take f (entries h))) (front_ends (drop f (entries h))))
 
--- in front of it more are to come
+-- before it more are to come
 before_open : (s : SpelledText) (n k given : ℕ) → let h = history s.text n in k < settled_in h
     → given < length (spell s (get_or (entries h) k no_entry))
     → from s (settled_in h) < from s k - given

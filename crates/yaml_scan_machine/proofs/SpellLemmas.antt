@@ -29,7 +29,7 @@ start_count-le : (o : Opens) (k : Bool) → start_count o + key_count k ≤ 2
 start_count-le opening.Nothing k = grind arith
 start_count-le _ k = grind arith
 
--- at most a block start and KEY stand behind the levels that a lexeme closes
+-- at most a block start and KEY stand after the levels that a lexeme closes
 pub front_count-le : (e : KeptLexeme) → front_count e ≤ e.ends + 2
 front_count-le e = let low = start_count-le e.opens e.key in omega (arith, low)
 
@@ -42,7 +42,7 @@ start_length : (s : SpelledText) (l : Lexeme) (o : Opens) (k : Bool)
 start_length s l opening.Nothing k = grind arith
 start_length s l _ k = grind arith
 
--- A lexeme is spelled as what stands in front of it, and itself.
+-- A lexeme is spelled as what stands before it, and itself.
 pub spell_length : (s : SpelledText) (e : Entry)
     → length (spell s e) ≡ front_count (kept_in s e) + 1
 spell_length s e =
@@ -61,7 +61,7 @@ start_token s l _ _ (suc zero) t low = grind arith
 start_token s l _ _ (suc (suc zero)) t low = grind arith
 start_token s l _ _ (suc (suc (suc n))) t low = grind arith
 
--- behind so many tokens of a lexeme stands that one
+-- after so many tokens of a lexeme stands that one
 pub spell_token : (s : SpelledText) (e : Entry) (n : ℕ) (t : Token) → n ≤ front_count (kept_in s e)
     → get_or (spell s e) n t ≡ fronted (token_in s e.lexeme) (front_at (kept_in s e) n)
 spell_token s e n t low =

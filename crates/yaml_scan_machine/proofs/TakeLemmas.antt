@@ -43,7 +43,7 @@ settled_front m w rest i items low =
       λ none. let past = front_done (kept_of w) m.given none in settled_done s n m.dropped (m.given + 1) no_entry known (omega (arith, long, few, past)),
     )
 
--- the token in front of the first lexeme is what comes: it is settled, or a level that it closes comes first
+-- the token before the first lexeme is what comes: it is settled, or a level that it closes comes first
 pub gives_front : (m : Machine) (w : Waiting) (rest : List Waiting) (b : TokenBody) → IsMachine m
     → m.waiting.items ≡ w ∷ rest → is_ready m ≡ true → front_at (kept_of w) m.given ≡ Some b
     → GivesFirst (to_come m) (fronted (own_token (kept_of w)) (Some b))
@@ -80,7 +80,7 @@ gives_own m w rest i items low none =
     let (gives, done) = settled_front m w rest i items low in
     subst (λ (c : Remaining). GivesFirst (to_come m) (own_token (kept_of w)) c) (done none) (subst (λ o. GivesFirst (to_come m) (fronted (own_token (kept_of w)) o) (remaining (stream_of m) m.dropped (m.given + 1))) none gives)
 
--- so few tokens stand in front of a lexeme
+-- so few tokens stand before a lexeme
 pub front_few : (m : Machine) (w : Waiting) (rest : List Waiting) → IsMachine m
     → m.waiting.items ≡ w ∷ rest → front_count (kept_of w) < 2 ^ 64 - 1
 front_few m w rest i items =
@@ -133,7 +133,7 @@ record GaveOne (P : Token → Type 0) (old new : Machine) : Type 0 where
   gives : GivesTo P (left_in old) (left_in new)
   keeps : KeepsInput old new
 
--- or KEY and the scalar behind it
+-- or KEY and the scalar after it
 pub record Gave (P Q : Token → Type 0) (old new : Machine) : Type 0 where
   pub stands : IsMachine new
   pub gives : Hands P Q old new
@@ -143,7 +143,7 @@ first_here : (ws : List Waiting) (w : Waiting) (rest : List Waiting) → ws ≡ 
     → get_or ws 0 w ≡ w
 first_here ws w rest items = ap (λ (xs : List Waiting). get_or xs 0 w) items
 
--- the token in front of what waits first is taken
+-- the token before what waits first is taken
 gives_front_of : (P : Token → Type 0) (m : Machine) (g d : ℕ) (q : Line) (w : Waiting)
     (rest : List Waiting) → IsMachine m → is_ready m ≡ true → m.waiting.items ≡ w ∷ rest
     → GivesFront P w (handing m.given m.dropped m.waiting) (handing g d q)
@@ -212,7 +212,7 @@ scalar_text (token.tag x y) e = cc
 scalar_text (token.tag_directive x y) e = cc
 scalar_text _ e = refl
 
--- KEY stands behind all that closes a level
+-- KEY stands after all that closes a level
 key_past : (k : KeptLexeme) (g : ℕ) → front_at k g ≡ Some token.key → g < k.ends → ⊥
 key_past k g some fewer =
     let t : ltb g k.ends ≡ true = grind (arith, nat_tests) in
@@ -290,7 +290,7 @@ ready_gives m i ready =
 
 -- ---- whether the next token is known to spell UTF-8
 
--- the token that comes is the one in front of what waits first, or its own
+-- the token that comes is the one before what waits first, or its own
 first_token : (m : Machine) (w : Waiting) (rest : List Waiting) → IsMachine m
     → m.waiting.items ≡ w ∷ rest → is_ready m ≡ true
     → (t : Token) (r : Remaining) → GivesFirst (left_in m) t r
@@ -305,7 +305,7 @@ start_text : (o : Opens) (k : Bool) (n : ℕ)
     → IfSome (start_at o k n) (λ b. spells_text b ≡ true)
 start_text _ k n = grind arith
 
--- nothing in front of a lexeme is a tag
+-- nothing before a lexeme is a tag
 front_text : (k : KeptLexeme) (n : ℕ) → IfSome (front_at k n) (λ b. spells_text b ≡ true)
 front_text k n = grind (arith, start_text k.opens k.key (n - k.ends))
 

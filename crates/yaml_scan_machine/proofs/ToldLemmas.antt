@@ -11,7 +11,7 @@ use Rattle.yaml_scan_machine.specs.Settled.{settled_behind}
 use Rattle.yaml_scan_machine.proofs.GivenLemmas.{no_entry}
 use Rattle.yaml_scan_machine.proofs.SettledLemmas.{known_upto, settled_open}
 
--- the BLOCK-END tokens in front of a lexeme come first
+-- the BLOCK-END tokens before a lexeme come first
 ends_first : (s : SpelledText) (n j : ℕ) → let h = history s.text n in let f = settled_in h in
     f < length h → let x = get_or (entries h) f no_entry in j ≤ x.ends
     → (remaining s f (x.ends - j)).tokens
@@ -28,7 +28,7 @@ ends_first s n (suc j) low most =
     let (tokens, fault) = ends_token s n f (x.ends - suc j) no_entry (omega (arith, opens)) low (omega (arith, most)) in
     tokens ∙ ap (λ g. before block_end x.lexeme ∷ (remaining s f g).tokens) {x = x.ends - suc j + 1} {y = x.ends - j} (omega (arith, most)) ∙ ap (λ ts. before block_end x.lexeme ∷ ts) (ends_first s n j low (omega (arith, most)))
 
--- so what is told in front of the first lexeme that isn't settled does
+-- so what is told before the first lexeme that isn't settled does
 fronts_first : (s : SpelledText) (n : ℕ) → let h = history s.text n in let f = settled_in h in
     (rest : List Token) × ((remaining s f 0).tokens ≡ front_ends (drop f (entries h)) ++ rest)
 fronts_first s n =

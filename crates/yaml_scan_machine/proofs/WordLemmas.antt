@@ -40,7 +40,7 @@ unfolding word_at
 indicator_word kinds.Plain b flow level text p e = cc
 indicator_word _ b flow level text p e = cc
 
--- the mark behind a byte of ASCII that is no break
+-- the mark after a byte of ASCII that is no break
 pub mark_past : (text : List ℕ) (p : ℕ) → splits_break text p ≡ false → break_width text p ≡ 0
     → byte text p < 128
     → record { index = p + 1; line = line_at text p; column = column_at text p + 1 }
@@ -101,7 +101,7 @@ spaces_between (suc k) n flow allowed text p h room = elim (cases_Bool (byte tex
       rw stop (gap_stop n flow allowed text p p (lexeme_here (flow || not allowed) text p (rw stop at h)) room)
 ]
 
--- a line feed stands between, and the spaces behind it
+-- a line feed stands between, and the spaces after it
 pub one_line : (flow allowed : Bool) (text : List ℕ) (p : ℕ) → byte text p ≡ 10
     → goes_on (byte text (past_spaces text (p + 1))) ≡ true
     → gap_at flow allowed text p ≡ record { place = past_spaces text (p + 1); broke = true }

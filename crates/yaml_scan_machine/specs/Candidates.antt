@@ -74,7 +74,7 @@ required_at s = if s.gone == 0 then required_view (key_view (key_at s 0)) else N
 abbrev pub AreStale : KeyStack → yaml_mark_t → Type 0
 AreStale s place = (i : ℕ) → i < s.stale → fresh_key (key_at s i) place ≡ None
 
--- On a line and in front of an end, the first of the outer keys that aren't known as stale is fresh, and has that number.
+-- On a line and before an end, the first of the outer keys that aren't known as stale is fresh, and has that number.
 abbrev pub IsFirst : Keys → Type 0
 IsFirst k = (p : yaml_mark_t) → p.index < k.first.end → p.line ≤ k.first.line
     → (k.stale < length k.outer.items)
@@ -88,7 +88,7 @@ IsDue k = k.due ≡ false → 0 < length k.outer.items → required_at (stack_of
 abbrev pub IsKey : Key → Option Candidate → yaml_mark_t → Type 0
 IsKey k o place = (key_view k ≡ view_of o) ⊎ ((key_view k ≡ None) × (fresh o place ≡ None))
 
--- The keys are the candidates of the depths up to that one, but for the outermost ones that are forgotten, which are stale at
+-- The keys are the candidates of the depths up to that one, except for the outermost ones that are forgotten, which are stale at
 -- a place, as are so many of the outermost keys.
 pub record AreKeysTo (n : ℕ) (s : KeyStack) (h : List Lexeme) (place : yaml_mark_t) : Type 0 where
   pub long : s.gone + length s.outer ≡ n
@@ -107,7 +107,7 @@ abbrev pub Forgets : KeyStack → KeyStack → Type 0
 Forgets old new = (n : ℕ) (h : List Lexeme) (p : yaml_mark_t) → AreKeysTo n old h p
     → AreKeysTo n new h p
 
--- A lexeme, in front of which so many stand, makes the old keys of one depth the new ones of another.
+-- A lexeme, before which so many stand, makes the old keys of one depth the new ones of another.
 abbrev pub Turns : Lexeme → ℕ → (ℕ → ℕ) → KeyStack → KeyStack → Type 0
 Turns l number deeper old new = (n : ℕ) (h : List Lexeme) (p : yaml_mark_t) → AreKeysTo n old h p
     → Upto p l.reached → l.depth ≡ n → number ≡ length h
@@ -118,7 +118,7 @@ abbrev pub IsPut : Lexeme → ℕ → KeyStack → KeyStack → Type 0
 IsPut l number old new = (h : List Lexeme) (p : yaml_mark_t) → AreKeys old h p
     → Upto p l.reached → l.depth ≡ depth h → number ≡ length h → AreKeys new (l ∷ h) l.reached
 
--- how many brackets are open behind a lexeme of that kind, and whether it cancels its depth's candidate
+-- how many brackets are open after a lexeme of that kind, and whether it cancels its depth's candidate
 abbrev pub HasEffect : Kind → Effect → Type 0
 HasEffect k effects.Opens = ((d : ℕ) → depth_after k d ≡ d + 1) × (cancels k ≡ false)
 HasEffect k effects.Closes = ((d : ℕ) → depth_after k d ≡ d - 1) × (cancels k ≡ true)

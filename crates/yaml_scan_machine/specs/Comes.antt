@@ -1,4 +1,4 @@
--- What is still to come behind the lexemes that a machine has read.
+-- What is still to come after the lexemes that a machine has read.
 use Rattle.std.specs.Prelude.{◌≡◌, Some, []}
 use Rattle.yaml_scan_model.specs.declared.problem.ScanError.{ScanError}
 use Rattle.yaml_scan_model.specs.declared.problem.ScanError.TheVariants as errors

@@ -30,7 +30,7 @@ pub record ReadsAsNeeded (old new : Machine) : Type 0 where
   pub needed : old.ahead ≡ 0 → (n : ℕ) → read_by old ≤ n → n < read_by new
       → settles old.setting old.input.now (left_in old).tokens n ≡ false
 
--- Want of memory is told of the reader only before the input is decoded, and where it isn't UTF-8, which takes none.
+-- Out of memory is told of the reader only before the input is decoded, and where it isn't UTF-8, which takes none.
 abbrev pub ReaderLacks : Machine → Fault → Type 0
 ReaderLacks m f = f ≡ memory_fault Reader
     → (read_by m ≡ 0) × (encoding_of m.setting m.input.now ≢ YAML_UTF8_ENCODING)
@@ -70,7 +70,7 @@ pub record Denies (old new : Machine) (f : Fault) : Type 0 where
   pub plain : PlainIsTold old f
   pub few : StaysShort old new
 
--- the kind is that of want of memory
+-- the kind is that of out of memory
 unfoldable pub is_lack : yaml_error_type_t → Bool
 is_lack YAML_MEMORY_ERROR = true
 is_lack _ = false

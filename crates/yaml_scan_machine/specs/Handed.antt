@@ -17,7 +17,7 @@ pub record GivesTo (P : Token → Type 0) (old new : Remaining) : Type 0 where
   pub has : P token
   pub first : GivesFirst old token new
 
--- KEY and the scalar behind it, which has that, were the first to come, and are taken; and the machine between them
+-- KEY and the scalar after it, which has that, were the first to come, and are taken; and the machine between them
 pub record GivesKeyTo (P : Token → Type 0) (old new : Machine) : Type 0 where
   pub token : Token
   pub middle : Machine
@@ -29,7 +29,7 @@ pub record GivesKeyTo (P : Token → Type 0) (old new : Machine) : Type 0 where
   pub before : KeepsInput old middle
   pub behind : KeepsInput middle new
 
--- one token, which has the first, or KEY with the scalar behind it, which has the second
+-- one token, which has the first, or KEY with the scalar after it, which has the second
 abbrev pub Hands : (Token → Type 0) → (Token → Type 0) → Machine → Machine → Type 0
 Hands P Q old new = GivesTo P (left_in old) (left_in new) ⊎ GivesKeyTo Q old new
 

@@ -1,4 +1,4 @@
--- A key whose `:` stands directly behind it.
+-- A key whose `:` stands directly after it.
 use Rattle.std.specs.Prelude.{◌≡◌, ◌+◌, ◌||◌, nat_lt, true, false, List, ◌∷◌, ℕ}
 use Rattle.yaml_scan_model.specs.Ascii as ascii
 use Rattle.yaml_scan_model.specs.Marks.{byte, is_blank_or_end, mark_at}
@@ -8,7 +8,7 @@ use Rattle.yaml_scan_history.specs.Kinds.{depth_after, is_end}
 use Rattle.yaml_scan_history.specs.History.{indent, is_fresh, left_by, levels}
 use Rattle.yaml_scan_machine.specs.State.{IsPlace}
 
--- a lexeme that may be a key, behind which a `:` stands
+-- a lexeme that may be a key, after which a `:` stands
 pub record IsKeyed (text : List ℕ) (l : Lexeme) : Type 0 where
   pub saved : l.saved ≡ true
   pub depth : depth_after l.kind l.depth ≡ l.depth

@@ -40,7 +40,7 @@ lost None l = None
 lost (Some start) l = if l.depth == 0 && (l.saved || (cancels l.kind && not (is_value l.kind)))
     then Some start else None
 
--- the start of the required candidate that is open behind a lexeme
+-- the start of the required candidate that is open after a lexeme
 abbrev pub required_behind : Option yaml_mark_t → Lexeme → Option yaml_mark_t
 required_behind o l = if nat_lt 0 l.depth || (not l.saved && not (cancels l.kind)) then o
     else if l.required then Some l.start else None
@@ -83,7 +83,7 @@ pub record EndsAt (text : List ℕ) (b l : Lexeme) : Type 0 where
   pub saved : l.saved ≡ b.saved
   pub place : is_end b.kind ≡ false → IsPlace text l.reached
 
--- where it is told that a `:` of its own stands behind it, one does
+-- where it is told that a `:` of its own stands after it, one does
 abbrev pub IsFollowed : List ℕ → Lexeme → Bool → Type 0
 IsFollowed text l colon = is_end l.kind ≡ false → colon ≡ true
     → IsColon (nat_lt 0 l.depth) text l.reached.index
@@ -93,7 +93,7 @@ abbrev pub ended_by : Lexeme → Word → yaml_mark_t → Lexeme
 ended_by l word reached = if is_end l.kind then l
     else record l { end = word.end; reached = reached; broke = word.broke }
 
--- The start of a required candidate that is stale behind it is refused.
+-- The start of a required candidate that is stale after it is refused.
 abbrev pub Finishes : Lexeme → Word → yaml_mark_t → Option yaml_mark_t
     → Result (Lexeme × yaml_token_body_t × Bool) ScanError → Type 0
 Finishes l word reached required (Ok r) = (r.0 ≡ ended_by l word reached) × (r.1 ≡ word.body)
@@ -104,7 +104,7 @@ Finishes l word reached required (Err e) = (start : yaml_mark_t)
     × (late (required_behind required (ended_by l word reached)) (ended_by l word reached).reached
     ≡ Some start) × (e ≡ errors.Fault (colon_missing start (ended_by l word reached).reached))
 
--- want of memory is told wherever a lexeme or a fault comes
+-- out of memory is told wherever a lexeme or a fault comes
 abbrev pub Stops : ScanError → Next → Type 0
 Stops e (Read l) = IsMemory e
 Stops e (Fails p) = Tells e p

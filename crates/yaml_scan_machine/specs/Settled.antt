@@ -14,7 +14,7 @@ use Rattle.yaml_scan_history.specs.Scanned.{scanned_in}
 use Rattle.yaml_scan_machine.specs.Shows.{settled_in}
 
 -- The tokens of the lexemes that no later one changes, those before the earliest open candidate, or all at the end; and
--- the BLOCK-END tokens in front of the next lexeme, whatever that becomes.
+-- the BLOCK-END tokens before the next lexeme, whatever that becomes.
 abbrev pub settled_behind : SpelledText → List Lexeme → List Token
 settled_behind s h = flat_map (spell s) (take (settled_in h) (entries h))
     ++ front_ends (drop (settled_in h) (entries h))

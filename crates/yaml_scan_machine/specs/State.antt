@@ -82,7 +82,7 @@ abbrev pub Leaves : Kind → ℕ → ℕ → List ℕ → ℕ → Type 0
 Leaves k depth column levels left = (left ≤ length levels)
     × (take left levels ≡ left_by k depth column levels)
 
--- what is read behind a machine's place
+-- what is read after a machine's place
 pub record IsNext (m : Machine) (r : Read) : Type 0 where
   pub column : r.lexeme.start.column ≤ length (text_bytes m.text)
   pub depth : r.lexeme.depth ≡ m.depth

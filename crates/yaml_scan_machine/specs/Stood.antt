@@ -1,4 +1,4 @@
--- What stands behind the gap, where a further lexeme is to be read.
+-- What stands after the gap, where a further lexeme is to be read.
 use Rattle.std.specs.Prelude.{◌≡◌, ◌⊎◌, ℕ, Bool, true, false, nat_lt, List, Option, Some, None, Ok}
 use Rattle.yaml_scan_model.specs.declared.problem.ScanError.{ScanError}
 use Rattle.yaml_scan_model.specs.declared.problem.ScanFault.{ScanFault}
@@ -24,7 +24,7 @@ use Rattle.yaml_scan_machine.specs.Comes.{Refused}
 use Rattle.yaml_scan_machine.specs.Left.{IsLocated}
 use Rattle.yaml_scan_machine.specs.State.{IsPlace, StaysShort, IsMachine, IsNext, ReadsMore, WantsMore}
 
--- a lexeme of a kind behind a gap, unless a required candidate that starts there is stale
+-- a lexeme of a kind after a gap, unless a required candidate that starts there is stale
 abbrev pub unless_late : Option yaml_mark_t → Kind → yaml_mark_t → List ℕ → Gap → List Lexeme → Next
 unless_late (Some start) k mark text gap h = no_colon start mark
 unless_late None k mark text gap h = of_kind (Some k) text gap h

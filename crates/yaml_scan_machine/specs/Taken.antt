@@ -1,4 +1,4 @@
--- A lexeme's tokens, and how many of those in front of its own one are taken.
+-- A lexeme's tokens, and how many of those before its own one are taken.
 use Rattle.std.specs.Prelude.{ℕ, ◌≡◌, ◌<◌, ◌≤◌, ◌⊎◌, List, [], ◌∷◌, Option, Some, None}
 use Rattle.yaml_scan_model.specs.Tokens.{Token, TokenBody}
 use Rattle.yaml_scan_queue.specs.Front.{front_count}
@@ -9,12 +9,12 @@ use Rattle.yaml_scan_machine.specs.Shows.{Fields}
 abbrev pub own_token : KeptLexeme → Token
 own_token k = record { body = k.body; start_mark = k.start; end_mark = k.end }
 
--- the token in front of a lexeme's own one, or that
+-- the token before a lexeme's own one, or that
 abbrev pub fronted : Token → Option TokenBody → Token
 fronted t None = t
 fronted t (Some b) = record { body = b; start_mark = t.start_mark; end_mark = t.start_mark }
 
--- What is taken of the first lexeme that waits: levels that it closes, or what else stands in front of it where it is
+-- What is taken of the first lexeme that waits: levels that it closes, or what else stands before it where it is
 -- settled.
 abbrev pub given_in : ℕ → ℕ → ℕ → List KeptLexeme → Type 0
 given_in dropped settled given [] = given ≡ 0

@@ -12,7 +12,7 @@ use yaml_scan_model::{mark_again, yaml_mark_t};
 /// So many stale candidates are forgotten at once: about as many as there are others at most.
 const STALE_KEPT: usize = 1024;
 
-/// So many bytes behind its start a candidate isn't stale on its line.
+/// So many bytes after its start a candidate isn't stale on its line.
 const SURE_BYTES: u64 = 1024;
 
 /// A lexeme that may still become a key: how many stand before it, and where it starts.
@@ -30,7 +30,7 @@ pub struct Key {
 #[derive(Clone, Copy)]
 pub struct Earliest {
     pub number: usize,
-    /// At a place on this line, in front of that end, it isn't stale.
+    /// At a place on this line, before that end, it isn't stale.
     pub line: u64,
     /// An index; 0 where no candidate is known.
     pub end: u64,
@@ -265,7 +265,7 @@ impl Keys {
         false
     }
 
-    /// A lexeme comes, in front of which so many stand.
+    /// A lexeme comes, before which so many stand.
     // Inlined: the kind is known where it is called.
     #[inline(always)]
     pub(crate) fn put(&mut self, lexeme: Lexeme, number: usize) -> Result<(), AllocError>

@@ -101,7 +101,7 @@ fn innermost(columns: &[u64], n: usize) -> u64
     columns[n - 1]
 }
 
-/// How many columns are not right of a column. Mostly all: that is asked before the loop, in front of which LLVM would
+/// How many columns are not right of a column. Mostly all: that is asked before the loop, before which LLVM would
 /// compute its places.
 // Inlined: a comparison, asked for each lexeme.
 #[inline(always)]

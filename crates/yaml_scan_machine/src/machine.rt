@@ -23,7 +23,7 @@ use yaml_scan_slot::{Taking, TokenSlot, TokenTaker};
 /// How many lexemes are read until they are settled, where some are read before they are needed.
 pub const READ_AHEAD: usize = 16;
 
-/// Behind a text of more bytes no lexeme is read before it is needed, so that few such texts wait.
+/// After a text of more bytes no lexeme is read before it is needed, so that few such texts wait.
 const LONG_TEXT: usize = 4096;
 
 /// The state between two lexemes.
@@ -46,7 +46,7 @@ pub struct Machine<'a> {
     pub settled: usize,
     /// How many lexemes are read until they are settled; or 0, and none is read before it is needed.
     pub ahead: usize,
-    /// Where so many of all lexemes are settled and the next token is known, no more are read; 0 behind a long text.
+    /// Where so many of all lexemes are settled and the next token is known, no more are read; 0 after a long text.
     pub enough: usize,
     /// The candidate of each open depth.
     pub keys: Keys,
@@ -234,7 +234,7 @@ impl<'a> Machine<'a> {
         token.take()
     }
 
-    /// Has a taker take the next token; or KEY and the scalar behind it.
+    /// Has a taker take the next token; or KEY and the scalar after it.
     // Inlined: it is a part of the way of each token.
     #[inline(always)]
     pub fn give<T: TokenTaker>(
@@ -285,7 +285,7 @@ impl<'a> Machine<'a> {
         }
     }
 
-    /// How many of so many lexemes no later one changes: those before the earliest open candidate, or all behind the end.
+    /// How many of so many lexemes no later one changes: those before the earliest open candidate, or all after the end.
     // Inlined: the kind is known where it is called.
     #[inline(always)]
     pub(crate) fn settle(&mut self, count: usize, ended: bool) -> usize
@@ -366,7 +366,7 @@ impl<'a> Machine<'a> {
         Ok(level_of(lexeme.kind))
     }
 
-    /// Has no lexeme read before it is needed behind a long text, and none behind the stream's end.
+    /// Has no lexeme read before it is needed after a long text, and none after the stream's end.
     // Inlined: the kind is known where it is called, and of a text it is a comparison.
     #[inline(always)]
     pub(crate) fn pause_behind(&mut self, body: &yaml_token_body_t)
@@ -430,7 +430,7 @@ pub(crate) fn opens_here(opens: Opens, found: bool) -> Opens
     if found { Opens::Nothing } else { opens }
 }
 
-/// Whether a key may begin behind a lexeme.
+/// Whether a key may begin after a lexeme.
 // Inlined: the kind is known where it is called.
 #[inline(always)]
 pub(crate) fn allows(lexeme: Lexeme, found: bool) -> bool

@@ -33,21 +33,21 @@ pub struct Read {
     pub key: Option<usize>,
     /// How many block levels it leaves open.
     pub left: usize,
-    /// It is known that a `:` that is a lexeme of its own stands directly behind it.
+    /// It is known that a `:` that is a lexeme of its own stands directly after it.
     pub colon: bool,
 }
 
-/// The place where a lexeme stands, behind the gap, and what is known there before its kind is.
+/// The place where a lexeme stands, after the gap, and what is known there before its kind is.
 #[derive(Clone, Copy)]
 pub struct LexemeSpot {
     pub mark: yaml_mark_t,
     /// A key may begin there.
     pub allowed: bool,
-    /// A required candidate may be open in front of it.
+    /// A required candidate may be open before it.
     pub due: bool,
 }
 
-/// The place where a lexeme stands, behind the gap.
+/// The place where a lexeme stands, after the gap.
 #[derive(Clone, Copy)]
 struct KindSpot {
     mark: yaml_mark_t,
@@ -320,7 +320,7 @@ fn stream_start(place: yaml_mark_t, encoding: yaml_encoding_t) -> Read
     }
 }
 
-/// The lexeme with its end, where the place behind it is reached. The stream's end stays where it starts.
+/// The lexeme with its end, where the place after it is reached. The stream's end stays where it starts.
 // Inlined: the kind is known where it is called.
 #[inline(always)]
 fn ended_at(lexeme: Lexeme, read: &Word, reached: yaml_mark_t) -> Lexeme
@@ -338,7 +338,7 @@ fn ended_at(lexeme: Lexeme, read: &Word, reached: yaml_mark_t) -> Lexeme
     }
 }
 
-/// The required candidate that is open behind a lexeme.
+/// The required candidate that is open after a lexeme.
 // Inlined: the kind is known where it is called.
 #[inline(always)]
 fn still_required(required: Option<yaml_mark_t>, lexeme: Lexeme) -> Option<yaml_mark_t>
@@ -353,7 +353,7 @@ fn still_required(required: Option<yaml_mark_t>, lexeme: Lexeme) -> Option<yaml_
     None
 }
 
-/// The required candidate that is open behind a lexeme that may be one itself.
+/// The required candidate that is open after a lexeme that may be one itself.
 // Asked by itself: where none was open, what else the lexeme says isn't asked of one that is none.
 // Inlined: the kind is known where it is called.
 #[inline(always)]

@@ -1,4 +1,4 @@
-//! A key and the `:` that stands directly behind it, read in one go.
+//! A key and the `:` that stands directly after it, read in one go.
 
 ghost use Rattle.std.specs.Prelude.{◌≡◌, ◌+◌, ◌<◌, ◌||◌, OnOk, OnErr, is_some, true, false, ℕ};
 ghost use Rattle.yaml_scan_decode.specs.DecodedText.{text_bytes};
@@ -25,7 +25,7 @@ impl<'a> Machine<'a> {
     ghost use Rattle.yaml_scan_machine.specs.Reads.{IsFollowed, required_in};
     ghost use Rattle.yaml_scan_history.specs.History.{candidate, fresh, reached};
 
-    /// Reads the lexeme of that kind, which stands there, as `step_at` does, and with it a `:` that stands directly behind it and makes
+    /// Reads the lexeme of that kind, which stands there, as `step_at` does, and with it a `:` that stands directly after it and makes
     /// a key of it.
     // No hint: it is larger than what the kit inlines always. It is called at one place for each kind, so LLVM inlines it.
     pub(crate) fn step_key<R: Reading>(
@@ -57,7 +57,7 @@ impl<'a> Machine<'a> {
         }
     }
 
-    /// Puts a lexeme that was read behind those that wait, and with it the `:` behind it that makes a key of it.
+    /// Puts a lexeme that was read after those that wait, and with it the `:` after it that makes a key of it.
     // Inlined: its kind is known where it is called.
     #[inline(always)]
     fn push_read(&mut self, read: Read, spares: &mut Spares) -> Result<(), AllocError>
@@ -77,7 +77,7 @@ impl<'a> Machine<'a> {
         self.push_pair(read, spares)
     }
 
-    /// Whether lexemes are read ahead, and a lexeme is a text of which the `:` makes a key that may stand behind it.
+    /// Whether lexemes are read ahead, and a lexeme is a text of which the `:` makes a key that may stand after it.
     // Inlined: its kind is known where it is called.
     #[inline(always)]
     fn is_keyed(&self, lexeme: Lexeme, colon: bool) -> bool
@@ -93,7 +93,7 @@ impl<'a> Machine<'a> {
         0 < self.ahead && is_fresh(lexeme.start, lexeme.reached)
     }
 
-    /// The place behind a `:`.
+    /// The place after a `:`.
     fn behind_colon(&self, place: yaml_mark_t) -> yaml_mark_t
         requires place { IsPlace (text_bytes self.now.text) place }
         requires colon { byte (text_bytes self.now.text) place.index ≡ ascii.colon }
@@ -105,7 +105,7 @@ impl<'a> Machine<'a> {
         reader.stop()
     }
 
-    /// Puts a lexeme that was read and the `:` behind it, which makes a key of it, behind those that wait.
+    /// Puts a lexeme that was read and the `:` after it, which makes a key of it, after those that wait.
     // Inlined: its kind is known where it is called.
     #[inline(always)]
     fn push_pair(&mut self, read: Read, spares: &mut Spares) -> Result<(), AllocError>

@@ -57,7 +57,7 @@ pub fn put_over(place: &mut yaml_token_t, token: yaml_token_t)
 }
 
 /// Puts the empty token into a slot.
-// Out of line and cold: it is put there behind the last token, so a token that is known is asked for first.
+// Out of line and cold: it is put there after the last token, so a token that is known is asked for first.
 #[cold]
 #[inline(never)]
 pub fn put_empty(slot: &mut TokenSlot)
@@ -137,7 +137,7 @@ fn fill_first(machine: &mut Machine, spares: &mut Spares, fault: &mut yaml_fault
     fill_further(machine, spares, fault)
 }
 
-/// Reads on behind the lexemes that were read until the next token is known and as many lexemes as may be read ahead, or there is
+/// Reads on after the lexemes that were read until the next token is known and as many lexemes as may be read ahead, or there is
 /// none. The next token isn't known yet.
 // Out of line: mostly the next token is known.
 #[inline(never)]
@@ -167,7 +167,7 @@ fn fill_further(machine: &mut Machine, spares: &mut Spares, fault: &mut yaml_fau
 }
 
 /// What a refusal came to. Where the next token is known, lexemes were read ahead: it is answered, and the fault where it isn't known
-/// any more. Want of memory is answered at once.
+/// any more. Out of memory is answered at once.
 // Out of line and cold: mostly nothing is refused.
 #[cold]
 #[inline(never)]
@@ -184,7 +184,7 @@ fn refused(machine: &Machine, fault: &yaml_fault_t) -> Sought
     Sought::Refused
 }
 
-/// Whether a fault of that kind is want of memory.
+/// Whether a fault of that kind is out of memory.
 #[tactic(auto, unfolding(crate::specs::Found::is_lack))]
 fn is_lack(kind: yaml_error_type_t) -> bool
     ensures { result ≡ is_lack kind }
@@ -192,7 +192,7 @@ fn is_lack(kind: yaml_error_type_t) -> bool
     matches!(kind, yaml_error_type_t::YAML_MEMORY_ERROR)
 }
 
-/// Reads one lexeme more, and with a key the `:` behind it where lexemes are read ahead; or puts the fault into the slot that was lent.
+/// Reads one lexeme more, and with a key the `:` after it where lexemes are read ahead; or puts the fault into the slot that was lent.
 /// The place where the lexeme stands gets a slot too.
 // Inlined: it is called at one place.
 #[inline(always)]

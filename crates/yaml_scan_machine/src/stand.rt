@@ -21,7 +21,7 @@ impl<'a> Machine<'a> {
     ghost use Rattle.yaml_scan_machine.specs.State.{IsMachine};
     ghost use Rattle.yaml_scan_machine.specs.Stood.{StandsAsNext, IsMissing, IsRefused, mark_of};
 
-    /// The kind of what stands behind the gap, where a lexeme was read before, with its place in a slot; or nothing, and the
+    /// The kind of what stands after the gap, where a lexeme was read before, with its place in a slot; or nothing, and the
     /// fault is put into the other slot.
     // The place is written where it is lent on: one that is answered goes by way of the stack.
     // Inlined: it is called at one place.
@@ -84,7 +84,7 @@ impl LexemeSpot {
     }
 }
 
-/// Past what stands between lexemes; whether a key may begin behind it, and the byte that stands there. Mostly it is nothing, one space,
+/// Past what stands between lexemes; whether a key may begin after it, and the byte that stands there. Mostly it is nothing, one space,
 /// or a line feed with the spaces of the next line, which is asked before the loop over all that may stand there.
 // Inlined: a reader that is lent to a call lives in memory.
 #[inline(always)]
@@ -115,7 +115,7 @@ fn pass_gap(reader: &mut Reader, flow: bool, allowed: bool) -> (bool, u8)
     (allowed_behind(allowed, broke, flow), reader.here())
 }
 
-/// What each byte is behind a gap: `1` one of ASCII that begins a lexeme, `0` any other.
+/// What each byte is after a gap: `1` one of ASCII that begins a lexeme, `0` any other.
 static BEGINNERS: [u8; 256] = *b"\
     00000000000000000000000000000000\
     01101111111111111111111111111111\
@@ -135,7 +135,7 @@ fn begins(byte: u8) -> bool
     BEGINNERS[byte as usize] == b'1'
 }
 
-/// Past the line feed here and the spaces behind it; answers whether a byte stands there that begins a lexeme.
+/// Past the line feed here and the spaces after it; answers whether a byte stands there that begins a lexeme.
 // Inlined: mostly a look at some bytes. A reader that is lent to a call out of line lies in memory.
 #[inline(always)]
 fn crosses_line(reader: &mut Reader) -> bool
@@ -152,7 +152,7 @@ fn crosses_line(reader: &mut Reader) -> bool
     begins(reader.here())
 }
 
-/// Whether a key may begin behind a gap: in block context a break allows one.
+/// Whether a key may begin after a gap: in block context a break allows one.
 fn allowed_behind(allowed: bool, broke: bool, flow: bool) -> bool
     ensures { result ≡ (allowed || (broke && not flow)) }
 {

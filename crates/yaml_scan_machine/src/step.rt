@@ -92,7 +92,7 @@ impl<'a> Machine<'a> {
         }
     }
 
-    /// Puts a lexeme that was read behind those that wait.
+    /// Puts a lexeme that was read after those that wait.
     // Inlined: its kind is known where it is called.
     #[inline(always)]
     fn push_lexeme(&mut self, read: Read, spares: &mut Spares, fault: &mut yaml_fault_t) -> bool
@@ -112,7 +112,7 @@ impl<'a> Machine<'a> {
         }
     }
 
-    /// Puts a lexeme that was read behind those that wait. Behind a long text no more are read than are needed.
+    /// Puts a lexeme that was read after those that wait. After a long text no more are read than are needed.
     // Inlined: its kind is known where it is called.
     #[inline(always)]
     pub(crate) fn push(&mut self, read: Read, spares: &mut Spares) -> Result<(), AllocError>
@@ -128,7 +128,7 @@ impl<'a> Machine<'a> {
         self.put(read, spares)
     }
 
-    /// Puts a lexeme that was read behind those that wait.
+    /// Puts a lexeme that was read after those that wait.
     // Inlined: its kind is known where it is called.
     #[inline(always)]
     fn put(&mut self, read: Read, spares: &mut Spares) -> Result<(), AllocError>

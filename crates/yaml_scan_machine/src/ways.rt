@@ -89,7 +89,7 @@ impl<'a> Machine<'a> {
         }
     }
 
-    /// Reads a lexeme of a kind that is met less often; in the general way where a required candidate is open in front of it.
+    /// Reads a lexeme of a kind that is met less often; in the general way where a required candidate is open before it.
     // Inlined, with a copy of the mark: see above.
     #[inline(always)]
     fn apart<R: Reading>(
@@ -109,7 +109,7 @@ impl<'a> Machine<'a> {
         self.read_apart(reading, &mark, spot.allowed, spares, fault)
     }
 
-    /// Reads a lexeme of such a kind, which stands at a place that is lent, and no required candidate is open in front of it.
+    /// Reads a lexeme of such a kind, which stands at a place that is lent, and no required candidate is open before it.
     // Out of line: it is met less often. The mark alone is lent: what else is known of the place goes by registers.
     #[inline(never)]
     fn read_apart<R: Reading>(
@@ -175,7 +175,7 @@ impl<'a> Machine<'a> {
     }
 }
 
-/// A place once more, number by number: of one that is copied whole the gap behind its numbers would be set to zero for each
+/// A place once more, number by number: of one that is copied whole the gap after its numbers would be set to zero for each
 /// token.
 // Inlined: some moves.
 #[inline(always)]

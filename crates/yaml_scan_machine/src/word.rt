@@ -25,9 +25,9 @@ use yaml_scan_words::{Directive, directive, is_document_end, is_document_start};
 pub(crate) struct Word {
     pub body: yaml_token_body_t,
     pub end: yaml_mark_t,
-    /// The blanks behind a plain scalar hold a break.
+    /// The blanks after a plain scalar hold a break.
     pub broke: bool,
-    /// It is known that a `:` that is a lexeme of its own stands directly behind it.
+    /// It is known that a `:` that is a lexeme of its own stands directly after it.
     pub colon: bool,
 }
 
@@ -243,7 +243,7 @@ fn read_indicator(reader: &mut Reader, body: yaml_token_body_t) -> Word
     carrier(reader, body)
 }
 
-/// Past a byte of ASCII that is no break: what is behind it is known without a look at it.
+/// Past a byte of ASCII that is no break: what is after it is known without a look at it.
 // Inlined: two additions.
 #[inline(always)]
 pub(crate) fn go_past(reader: &mut Reader)

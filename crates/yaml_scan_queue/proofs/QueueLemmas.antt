@@ -73,7 +73,7 @@ put_last [] l y lt = absurd (omega (arith, lt))
 put_last (x ∷ xs) zero y lt = refl
 put_last (x ∷ xs) (suc l) y lt = ap (λ (zs : List Waiting). x ∷ zs) (put_last xs l y (omega (arith, lt)))
 
--- a lexeme more stands behind the others, where the slot behind them is filled
+-- a lexeme more stands after the others, where the slot after them is filled
 pub part_put : (xs : List Waiting) (f l : ℕ) (y : Waiting) (items : List Waiting)
     → drop f (take l xs) ≡ items → f ≤ l → l < length xs
     → drop f (take (l + 1) (set xs l y)) ≡ items ++ y ∷ []
@@ -95,7 +95,7 @@ start_done opening.Sequence true = refl
 start_done opening.Mapping false = refl
 start_done opening.Mapping true = refl
 
--- behind all that stand in front none does
+-- after all that stand in front none does
 pub front_done : (k : KeptLexeme) (n : ℕ) → k.ends + (start_count k.opens + key_count k.key) ≡ n
     → front_at k n ≡ None
 front_done k n all =
@@ -135,7 +135,7 @@ tells_unchecked n x w None is few some none = elim (none refl) [
   | inr left ↦ inr (λ done. left (omega (arith, few, ap (λ (y : Waiting). front_count (kept_of y)) is, all_given (kept_of w) n done)))
 ]
 
--- A row is turned until its part comes behind the first slot.
+-- A row is turned until its part comes after the first slot.
 pub part_turned : {X : Type 0} → (xs zs : List X) (f l : ℕ)
     → zs ≡ drop (f - 1) xs ++ take (f - 1) xs → 0 < f → f ≤ l → l ≤ length xs
     → drop 1 (take (l - (f - 1)) zs) ≡ drop f (take l xs)
@@ -181,7 +181,7 @@ pub counted_set : (xs : List Waiting) (f l i : ℕ) (y : Waiting) → f + i < l
 counted_set xs f l i y low h k =
     counted_same _ _ (part_set xs f l i y low) (All-set (λ w. IsCounted w) (drop f (take l xs)) i y k h)
 
--- of those behind the first
+-- of those after the first
 pub counted_drop : (xs ys : List Waiting) → ys ≡ drop 1 xs → AreCounted xs → AreCounted ys
 counted_drop xs ys is h = counted_same _ ys is (All-drop (λ w. IsCounted w) 1 xs h)
 
@@ -194,7 +194,7 @@ counted_keyed o w = record {
   text = λ bare. plain_spells (kept_of w).body bare;
 }
 
--- the two stand behind the others
+-- the two stand after the others
 pub put_twice : {old : List Waiting} {r s : ReadLexeme} {new : List Waiting}
     → (p : PushesBoth old r s new) → new ≡ (old ++ p.first.waiting ∷ []) ++ p.second.waiting ∷ []
 put_twice p = p.second.items ∙ ap (λ (ws : List Waiting). ws ++ p.second.waiting ∷ []) p.first.items
@@ -216,7 +216,7 @@ pub own_next : (k : Bool) (a b : ℕ) → (k || a == b) ≡ true → k ≡ false
 own_next true a b e off = cc
 own_next false a b e off = grind (arith, nat_tests)
 
--- else one in front of it is
+-- else one before it is
 pub front_next : (k : Bool) (a b : ℕ) → (k || a == b) ≡ false → (k ≡ false) × (a ≢ b)
 front_next true a b e = cc
 front_next false a b e = (refl, grind (arith, nat_tests))

@@ -20,7 +20,7 @@ pub record Handing : Type 0 where
 abbrev pub handing : ℕ → ℕ → Line → Handing
 handing given dropped line = record { given = given; dropped = dropped; line = line }
 
--- a token in front of its own one, behind so many of its tokens, which has that
+-- a token before its own one, after so many of its tokens, which has that
 pub record GivesFront (P : Token → Type 0) (w : Waiting) (old new : Handing) : Type 0 where
   pub token : Token
   pub has : P token
@@ -40,7 +40,7 @@ pub record GivesOwn (P : Token → Type 0) (w : Waiting) (old new : Handing) : T
   pub rest : new.line.items ≡ drop 1 old.line.items
   pub slots : new.line.slots ≡ old.line.slots
 
--- KEY is next, and its own token behind it is a scalar
+-- KEY is next, and its own token after it is a scalar
 pub record KeyComes (k : KeptLexeme) (given : ℕ) : Type 0 where
   pub key : front_at k given ≡ Some token.key
   pub none : front_at k (given + 1) ≡ None
@@ -55,7 +55,7 @@ pub record GivesKeyed (P : Token → Type 0) (w : Waiting) (old new : Handing) :
   pub rest : new.line.items ≡ drop 1 old.line.items
   pub slots : new.line.slots ≡ old.line.slots
 
--- one token, which has the first, or KEY with the scalar behind it, which has the second
+-- one token, which has the first, or KEY with the scalar after it, which has the second
 abbrev pub Gives : (Token → Type 0) → (Token → Type 0) → Waiting → Handing → Handing → Type 0
 Gives P Q w old new = GivesFront P w old new ⊎ GivesOwn P w old new ⊎ GivesKeyed Q w old new
 

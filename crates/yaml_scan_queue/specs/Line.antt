@@ -1,4 +1,4 @@
--- The lexemes that wait, as a list, whether a slot behind them is free, and how many slots there are.
+-- The lexemes that wait, as a list, whether a slot after them is free, and how many slots there are.
 use Rattle.std.specs.Prelude.{ℕ, ◌+◌, ◌≡◌, ◌≤◌, ◌⊎◌, Bool, List, length}
 use Rattle.yaml_scan_queue.specs.declared.waiting.Waiting.{Waiting}
 

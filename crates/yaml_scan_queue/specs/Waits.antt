@@ -27,7 +27,7 @@ kept_of w = record {
   body = body_in_slot w.token.body;
 }
 
--- how many of block start and KEY stand in front of a lexeme's own token
+-- how many of block start and KEY stand before a lexeme's own token
 abbrev pub start_count : Opens → ℕ
 start_count opening.Nothing = 0
 start_count opening.Sequence = 1
@@ -37,7 +37,7 @@ abbrev pub key_count : Bool → ℕ
 key_count true = 1
 key_count false = 0
 
--- how many tokens stand in front of a lexeme's own one
+-- how many tokens stand before a lexeme's own one
 abbrev pub front_count : KeptLexeme → ℕ
 front_count k = k.ends + (start_count k.opens + key_count k.key)
 
@@ -45,7 +45,7 @@ front_count k = k.ends + (start_count k.opens + key_count k.key)
 abbrev pub fronts_of : KeptLexeme → ℕ
 fronts_of k = front_count k % 2 ^ 64
 
--- behind how many of its tokens its own one comes; the greatest number where that is told to be unchecked
+-- after how many of its tokens its own one comes; the greatest number where that is told to be unchecked
 abbrev pub own_of : Bool → KeptLexeme → ℕ
 own_of is_unchecked k = if is_unchecked then 2 ^ 64 - 1 else fronts_of k
 
@@ -56,7 +56,7 @@ pub record IsCounted (w : Waiting) : Type 0 where
   pub tagged : is_unchecked ≡ true → is_tagged (kept_of w).body ≡ true
   pub text : is_unchecked ≡ false → spells_text (kept_of w).body ≡ true
 
--- few tokens stand in front of its own one, so many of which are taken
+-- few tokens stand before its own one, so many of which are taken
 abbrev pub IsGiven : Waiting → ℕ → Type 0
 IsGiven w given = IsCounted w × (front_count (kept_of w) < 2 ^ 64 - 1)
     × (given ≤ front_count (kept_of w))
@@ -84,7 +84,7 @@ kept_in_read r = record {
   body = body_of r.body;
 }
 
--- one lexeme more waits behind the others, of which that is kept
+-- one lexeme more waits after the others, of which that is kept
 pub record Pushes (old : List Waiting) (r : ReadLexeme) (new : List Waiting) : Type 0 where
   pub waiting : Waiting
   pub kept : kept_of waiting ≡ kept_in_read r

@@ -82,7 +82,7 @@ impl Queue {
         self.slots[self.first + i].mark(opens);
     }
 
-    /// Makes a slot behind the last lexeme, where none is free.
+    /// Makes a slot after the last lexeme, where none is free.
     // Inlined: mostly a slot is free.
     #[inline(always)]
     pub fn reserve(&mut self) -> Result<(), AllocError>
@@ -96,7 +96,7 @@ impl Queue {
         self.grow()
     }
 
-    /// Makes a slot behind the last lexeme. Where more lexemes were taken than wait, these are moved down, so that each
+    /// Makes a slot after the last lexeme. Where more lexemes were taken than wait, these are moved down, so that each
     /// move is paid for by one that was taken.
     // Out of line and cold: mostly a slot is free.
     #[cold]
@@ -137,7 +137,7 @@ impl Queue {
         self.last += 1;
     }
 
-    /// Puts two lexemes behind the last one, where memory for their slots isn't refused.
+    /// Puts two lexemes after the last one, where memory for their slots isn't refused.
     // Both slots in one go where two are free: one comparison, and one address.
     // Inlined: the lexemes are built in their slots.
     #[inline(always)]
@@ -161,7 +161,7 @@ impl Queue {
         Ok(())
     }
 
-    /// Puts two lexemes behind the last one, one after the other.
+    /// Puts two lexemes after the last one, one after the other.
     // Out of line and cold: mostly two slots are free.
     #[cold]
     #[inline(never)]
@@ -210,7 +210,7 @@ impl Queue {
     }
 
     /// Has a taker take the next token of the first lexeme, where so many of its tokens and so many lexemes were taken before; or KEY and
-    /// the scalar behind it. With its own token the lexeme is taken. One in front of that is put into the slot before it, which is free.
+    /// the scalar after it. With its own token the lexeme is taken. One before that is put into the slot before it, which is free.
     // The slot of the two is told by its number, so that the taker is called at one place, where it is inlined. All else is done in front
     // of it: what it answers decides how things go on.
     // Inlined: it is called at one place, for each token.
@@ -274,7 +274,7 @@ impl Queue {
     }
 }
 
-/// Whether KEY is next of a lexeme, and a taker takes it with the scalar behind it.
+/// Whether KEY is next of a lexeme, and a taker takes it with the scalar after it.
 // Inlined: mostly one comparison, since a lexeme's own token is next.
 #[inline(always)]
 fn comes_keyed<T: TokenTaker>(first: &Waiting, given: usize, taker: &T) -> bool

@@ -24,7 +24,7 @@ pub struct Waiting {
     pub opens: Opens,
     /// Its `:` has come.
     pub key: bool,
-    /// Behind how many of its tokens its own one comes. The greatest number, where that is a tag or a directive that isn't known to spell
+    /// After how many of its tokens its own one comes. The greatest number, where that is a tag or a directive that isn't known to spell
     /// UTF-8: it is looked at before it is taken.
     pub own_after: usize,
 }
@@ -68,7 +68,7 @@ impl Waiting {
         self.note_own(is_tagged(self.token.body.kind));
     }
 
-    /// Notes behind how many of its tokens its own one comes, where it is told whether that is unchecked: not known to spell UTF-8.
+    /// Notes after how many of its tokens its own one comes, where it is told whether that is unchecked: not known to spell UTF-8.
     // Inlined: two sums, of which the first is of two bytes.
     #[inline(always)]
     pub(crate) fn note_own(&mut self, unchecked: bool)
@@ -81,7 +81,7 @@ impl Waiting {
         };
     }
 
-    /// How many tokens stand in front of its own one: BLOCK-END tokens, a block start, KEY. The sum wraps, so that nothing is asked of
+    /// How many tokens stand before its own one: BLOCK-END tokens, a block start, KEY. The sum wraps, so that nothing is asked of
     /// it: a text has fewer levels.
     // Inlined: two sums, of which the first is of two bytes.
     #[inline(always)]
@@ -92,7 +92,7 @@ impl Waiting {
         self.ends.wrapping_add(others)
     }
 
-    /// Its own token, where that is next behind so many of its tokens, and a tag or a directive that declares one.
+    /// Its own token, where that is next after so many of its tokens, and a tag or a directive that declares one.
     // No hint: LLVM inlines it, since it is short.
     pub(crate) fn tag_at(&self, given: usize) -> Option<&TokenSlot>
         requires { IsGiven self.now given }
@@ -107,7 +107,7 @@ impl Waiting {
         None
     }
 
-    /// Whether KEY is next, and its own token behind that, where `given` tokens were taken.
+    /// Whether KEY is next, and its own token after that, where `given` tokens were taken.
     // Inlined: mostly a comparison.
     #[inline(always)]
     pub(crate) fn is_before_key(&self, given: usize) -> bool
@@ -122,7 +122,7 @@ impl Waiting {
         self.key
     }
 
-    /// Whether its own token is taken next: with KEY, or since so many tokens are given and none stands in front of it any more.
+    /// Whether its own token is taken next: with KEY, or since so many tokens are given and none stands before it any more.
     // Inlined: a comparison.
     #[inline(always)]
     pub(crate) fn comes_own(&self, is_key: bool, given: usize) -> bool
@@ -132,7 +132,7 @@ impl Waiting {
         is_key || self.own_after == given || self.tag_at(given).is_some()
     }
 
-    /// The kind of the token in front of its own one, where `given` tokens were taken.
+    /// The kind of the token before its own one, where `given` tokens were taken.
     // A kind, and no token: a token that is moved is copied whole.
     // Inlined: it is called at one place.
     #[inline(always)]
@@ -151,7 +151,7 @@ impl Waiting {
     }
 }
 
-/// The kind of the first token behind the levels that a lexeme closes: the block start, or else KEY.
+/// The kind of the first token after the levels that a lexeme closes: the block start, or else KEY.
 // Inlined: it is called at one place.
 #[inline(always)]
 fn first_kind(opens: Opens) -> yaml_token_type_t
@@ -166,7 +166,7 @@ fn first_kind(opens: Opens) -> yaml_token_type_t
     }
 }
 
-/// How many block starts stand in front of a lexeme's own token.
+/// How many block starts stand before a lexeme's own token.
 // Inlined: a comparison of the number of the variant.
 #[inline(always)]
 fn start_number(opens: Opens) -> u8
@@ -179,7 +179,7 @@ fn start_number(opens: Opens) -> u8
     }
 }
 
-/// How many of KEY stand in front of a lexeme's own token.
+/// How many of KEY stand before a lexeme's own token.
 // Inlined: it is the byte of the bool.
 #[inline(always)]
 fn key_number(is_key: bool) -> u8

@@ -11,7 +11,7 @@ use std::mem;
 use yaml_scan_model::yaml_fault_t;
 
 /// What takes tokens where they lie, so that none is moved, and fills a slot by each. A KEY that gives nothing it takes with the scalar
-/// in front of which it stands.
+/// before which it stands.
 pub trait TokenTaker {
     /// What it fills.
     type Slot;
@@ -23,11 +23,11 @@ pub trait TokenTaker {
     ghost wants: { Self → Type 0 };
 
     // What taking a token comes to, and before it a KEY that stands where the token begins, or none: taker and slot before it, the
-    // token, and taker, slot, fault and answer behind it.
+    // token, and taker, slot, fault and answer after it.
     ghost takes: { Bool → Self → Self.Slot → Token → Self → Self.Slot → Fault → Self.Answer
         → Type 0 };
 
-    /// Whether a KEY gives nothing here, and may be taken with the scalar behind it.
+    /// Whether a KEY gives nothing here, and may be taken with the scalar after it.
     fn wants_key(&self) -> bool
         ensures { result ≡ true → wants self.now };
 

@@ -126,7 +126,7 @@ PassesIndent level text line (Err w) = (p : ℕ) × InIndent level text line p
     × ((byte text p == ascii.tab && nat_lt (p - line) level) ≡ true)
     × (wrong_of w ≡ record { problem = problems.TabInIndentation; context = contexts.PlainScalar; place = p })
 
--- Behind a break, white, and the place after it.
+-- After a break, white, and the place after it.
 pub record IsHead (level : ℕ) (text : List ℕ) (p : ℕ) (h : Head) : Type 0 where
   pub pieces : List Piece
   pub white : White level text (p + break_width text p) h.at pieces

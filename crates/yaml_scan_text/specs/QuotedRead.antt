@@ -67,7 +67,7 @@ pub record IsRead (quote : ℕ) (text : List ℕ) (start : ℕ) (old new : List 
   pub seat : InQuotes text r.line r.at
   pub narrow : IsNarrow text start r
 
--- Behind what was taken the scalar comes to the same.
+-- After what was taken the scalar comes to the same.
 pub record Goes (quote : ℕ) (text old new : List ℕ) (read r : Quoted) : Type 0 where
   pub more : List ℕ
   pub is : new ≡ old ++ more

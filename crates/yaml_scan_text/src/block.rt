@@ -244,7 +244,7 @@ pub(crate) struct Stack {
     pub empties: usize,
 }
 
-/// Behind the break of an empty line.
+/// After the break of an empty line.
 #[tactic(auto, using(crate::proofs::TextLemmas::break_inside))]
 fn behind_empty(text: &[u8], stack: Stack, break_at: usize) -> Stack
     requires { 0 < break_width text.now break_at }
@@ -258,7 +258,7 @@ fn behind_empty(text: &[u8], stack: Stack, break_at: usize) -> Stack
     }
 }
 
-/// Behind the line whose text starts and ends there.
+/// After the line whose text starts and ends there.
 fn behind_text(text: &[u8], stack: Stack, first: usize, end: usize) -> Stack
     requires { stack.line ≡ line_start text.now end }
     ensures { result ≡ spec.after_text text.now stack first end }

@@ -41,7 +41,7 @@ pub struct Directive {
 }
 
 /// The directive whose `%` stands there, in a line that starts at the other place: `%YAML` with a version, or `%TAG` with a handle and
-/// a prefix. Behind it blanks, a comment and the break are passed.
+/// a prefix. After it blanks, a comment and the break are passed.
 pub fn read_directive(
     arena: &mut Vec<u8>,
     text: &[u8],

@@ -1,4 +1,4 @@
-//! Looks at a text. Behind its end stands a byte 0, which it doesn't hold.
+//! Looks at a text. After its end stands a byte 0, which it doesn't hold.
 
 ghost use Rattle.std.specs.Prelude.{◌≡◌, ◌≤◌, ◌<◌, ◌+◌, ◌-◌, ◌&&◌, ◌==◌, nat_lt, ℕ, true, false, length};
 ghost use Rattle.yaml_scan_model.specs.Ascii as ascii;

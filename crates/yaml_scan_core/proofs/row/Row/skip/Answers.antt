@@ -1,15 +1,11 @@
 use Rattle.std.proofs.Common.{◌≡◌, ◌∙◌, false, ap, sym}
 use Rattle.yaml_scan_core.specs.Rows.{lexeme_at, may_lead, row_of}
 use Rattle.yaml_scan_core.proofs.DropsLemmas.{shown_own}
-use Rattle.yaml_scan_core.proofs.TokensLemmas.{no_end, own_front}
+use Rattle.yaml_scan_core.proofs.TokensLemmas.{no_end}
 use Rattle.yaml_scan_core.proofs.row.Row.skip.Goals as goal
 
 pub returns-clause-lead : goal.returns-clause-lead
-returns-clause-lead c = λ other.
-    let r = row_of c.args.self.now in
-    let (t, es, h) = c.requires.shows in
-    let no_lead : may_lead (lexeme_at r r.next).front ≡ false = ap may_lead (sym c.requires.kind) ∙ sym c.may_lead.ensures ∙ c.if-may_lead.false in
-    absurd (other (own_front t r es h c.requires.some no_lead))
+returns-clause-lead c = λ other. absurd (other (c.requires.own (sym c.may_lead.ensures ∙ c.if-may_lead.false)))
 
 pub returns-clause-shows : goal.returns-clause-shows
 returns-clause-shows c = λ t es h ready.

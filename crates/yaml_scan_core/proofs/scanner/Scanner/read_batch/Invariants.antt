@@ -1,5 +1,5 @@
 use Rattle.std.proofs.Common.{◌≡◌, ◌+◌, ◌-◌, ◌<◌, ◌≤◌, false, length}
-use Rattle.yaml_scan_core.proofs.BatchLemmas.{HandsSame}
+use Rattle.yaml_scan_core.specs.Handed.{HandsOn}
 use Rattle.yaml_scan_core.specs.Scanning.{Shows, history_of, read_by}
 use Rattle.yaml_scan_core.proofs.scanner.Scanner.read_batch.Given as goal
 
@@ -11,7 +11,8 @@ invariant-steps l = record {
   text : l.self.text.now ≡ l.initial.self.text.now;
   further : read_by l.initial.self ≤ read_by l.self;
   start : l.start ≡ read_by l.initial.self;
-  hands : HandsSame l.initial.self l.self;
+  hands : HandsOn l.initial.self l.self;
+  first : l.initial.self.batch ≡ 1 → l.self ≡ l.initial.self;
 }
 
 abbrev pub decreases-steps : goal.decreases-steps

@@ -9,7 +9,7 @@ use Rattle.yaml_scan_machine.proofs.CandidatesLemmas.{opened_turns}
 use Rattle.yaml_scan_machine.proofs.keys.Keys.open.Goals.{After-tell_due}
 use Rattle.yaml_scan_machine.proofs.keys.Keys.open.Goals as goal
 
--- the keys behind the push, and what is told of them
+-- the keys after the push, and what is told of them
 abbrev pushed : After-tell_due → Keys
 pushed c = record c.save.new.self {
   outer = c.push_reserved.new.self;

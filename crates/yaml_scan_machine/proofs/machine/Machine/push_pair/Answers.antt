@@ -20,7 +20,7 @@ use Rattle.yaml_scan_machine.proofs.PairLemmas.{IsPaired, between, colon_in, col
 use Rattle.yaml_scan_machine.proofs.machine.Machine.push_pair.Goals.{After-push_both}
 use Rattle.yaml_scan_machine.proofs.machine.Machine.push_pair.Goals as goal
 
--- the machine behind the two, but what is settled
+-- the machine after the two, but what is settled
 abbrev behind : After-push_both → Keys → Machine → Machine
 behind c k y = record y { waiting = c.push_both.new.self; keys = k; place = c.behind_colon-behind.result; allowed = false }
 
@@ -39,7 +39,7 @@ key_kept c = record {
   body = body_of c.args.read.body;
 }
 
--- they are those behind the `:` behind the fields with the key
+-- they are those after the `:` after the fields with the key
 pushed : (c : After-push_both) (w v : Waiting)
     → c.push_both.new.self.items ≡ (c.open_level.new.self.waiting.items ++ w ∷ []) ++ v ∷ []
     → kept_of w ≡ key_kept c

@@ -20,7 +20,7 @@ same_but : (m a b d : Machine) → a ≡ record m { levels = a.levels }
     → b ≡ record a { levels = b.levels } → d ≡ record b { waiting = d.waiting } → d ≡ record m { levels = b.levels; waiting = d.waiting }
 same_but m a b d to_a to_b to_d = to_d ∙ ap (λ (y : Machine). record y { waiting = d.waiting }) (to_b ∙ ap (λ (y : Machine). record y { levels = b.levels }) to_a)
 
--- the fields behind the push, but what is settled
+-- the fields after the push, but what is settled
 abbrev fields : After-is_end-self → Fields
 fields c = record {
   encoding = c.args.self.now.encoding;
@@ -37,7 +37,7 @@ fields c = record {
   ended = c.is_end-self.result;
 }
 
--- they are those behind one more lexeme, which is counted
+-- they are those after one more lexeme, which is counted
 pushed : (c : After-is_end-self)
     → IsPushed (fields_of c.args.self.now) c.args.read.lexeme (fields c)
     × (c.count-number.result ≡ length (history_of c.args.self.now))

@@ -21,7 +21,7 @@ passed c = record {
 abbrev open_in : After-is_due-spot → Option yaml_mark_t
 open_in c = let h = history_of c.args.self.now in required_in (fresh (candidate 0 h) (reached h))
 
--- what comes behind it, by that candidate
+-- what comes after it, by that candidate
 comes : (c : After-is_due-spot) → let m = c.args.self.now in
     let q = c.pass_gap-allowed.new.reader in let g = passed c in (gap_of (text_bytes m.text) (history_of m) ≡ g)
     × (q.text ≡ text_bytes m.text) × (c.stop-spot.result ≡ mark_at (text_bytes m.text) q.at)

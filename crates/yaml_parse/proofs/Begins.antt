@@ -4,7 +4,7 @@ use Rattle.yaml_scan_model.specs.Tokens.{Token}
 use Rattle.yaml_scan_model.specs.Faults.{Fault}
 use Rattle.yaml_parse_grammar.specs.Machine.{Outcome, initial, run}
 use Rattle.yaml_parse_grammar.specs.Resolve.{no_directives, reading}
-use Rattle.yaml_parse_grammar.specs.Remaining.{reading_of}
+use Rattle.yaml_parse_grammar.specs.Remaining.{reading_of, unasked_of}
 use Rattle.yaml_parse_grammar.specs.Trees.{Given, Stream, spell}
 use Rattle.yaml_parse_grammar.specs.TreeEvents.{given_of}
 use Rattle.yaml_parse_grammar.proofs.CompleteStream.{stream_runs}
@@ -14,6 +14,27 @@ use Rattle.yaml_parse_laws_trees.proofs.Ending.{ends_in_fault, told_at_place}
 use Rattle.yaml_parse_laws_trees.proofs.Giving.{run_gives_events}
 use Rattle.yaml_parse_laws_trees.proofs.Turns.{items_given}
 use Rattle.yaml_parse_states.specs.Coming.{Coming, read}
+
+-- ---- in the grammar's words
+
+pub reads_events : (ts : List Token) (f : Option Fault) (c : Coming)
+    → c ≡ read ts f initial no_directives
+    → c.events ≡ (reading_of (run ts initial f) no_directives).events
+unfolding read
+reads_events ts f c h = ap (λ (z : Coming). z.events) h
+
+pub reads_ending : (ts : List Token) (f : Option Fault) (c : Coming)
+    → c ≡ read ts f initial no_directives
+    → c.ending ≡ (reading_of (run ts initial f) no_directives).ending
+unfolding read
+reads_ending ts f c h = ap (λ (z : Coming). z.ending) h
+
+pub reads_unasked : (ts : List Token) (f : Option Fault) (c : Coming)
+    → c ≡ read ts f initial no_directives → c.ending_unasked ≡ unasked_of ts f initial no_directives
+unfolding read
+reads_unasked ts f c h = ap (λ (z : Coming). z.ending_unasked) h
+
+-- ---- in words of tokens and trees
 
 -- of those tokens
 pub begins : (ts us : List Token) (f e : Option Fault) (c : Coming)

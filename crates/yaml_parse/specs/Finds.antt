@@ -1,5 +1,5 @@
 -- What a call that fills lent slots gives.
-use Rattle.std.specs.Prelude.{◌≡◌, Bool, [], ◌∷◌, None}
+use Rattle.std.specs.Prelude.{◌≡◌, ◌≤◌, ℕ, Bool, [], ◌∷◌, None}
 use Rattle.yaml_scan_model.specs.Faults.{Fault}
 use Rattle.yaml_parse_model.specs.Events.{Event, no_event}
 use Rattle.yaml_parse_model.specs.Constructors.{HasUtf8}
@@ -34,3 +34,7 @@ IsUtf8Found _ e = Unit {0}
 abbrev pub IsStackFound : yaml_found_t → Event → Bool → Type 0
 IsStackFound found.Event e between = between ≡ parts_documents_behind e.body
 IsStackFound _ e between = Unit {0}
+
+-- no more tokens are held than such tokens hold at most
+abbrev pub IsHeldBy : {T : Type 0} → (T → ℕ) → ℕ → Type 0
+IsHeldBy held n = (most : ℕ) → ((ts : _) → held ts ≤ most) → n ≤ most

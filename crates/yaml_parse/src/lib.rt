@@ -1,10 +1,11 @@
-//! Events and documents of tokens, over any source: libyaml's parser and loader.
+//! Events and documents of tokens: libyaml's parser and loader over a caller's source, and over any tokens.
 #![tactic(auto)]
 
 mod found;
 mod law;
 mod load;
 mod parser;
+mod token_parser;
 
 pub use found::yaml_found_t;
 pub use law::events_keep_to_tokens;
@@ -13,6 +14,7 @@ pub use parser::{
     yaml_parser_between, yaml_parser_delete, yaml_parser_initialize, yaml_parser_parse,
     yaml_parser_parse_into, yaml_parser_prefix, yaml_parser_t,
 };
+pub use token_parser::TokenParser;
 pub use yaml_parse_document::{
     document_is_sound, yaml_document_add_mapping, yaml_document_add_scalar,
     yaml_document_add_sequence, yaml_document_append_mapping_pair,

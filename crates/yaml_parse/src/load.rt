@@ -13,7 +13,7 @@ use yaml_parse_model::{yaml_event_body_t, yaml_event_t, yaml_token_source_t};
 use yaml_scan_model::{yaml_fault_t, yaml_memory_fault, yaml_origin_t};
 
 // Both are let go. A call for each way out of a load: there each field that is freed by itself would be a step of its own.
-fn let_go(loader: Loader, event: yaml_event_t) {
+pub(crate) fn let_go(loader: Loader, event: yaml_event_t) {
     loader.let_go();
     drop(event);
 }

@@ -111,7 +111,7 @@ new_mapping tag style = unplaced (node.mapping [] style) (tag_or tag map_tag)
 abbrev pub with_node : Document → Node → Document
 with_node d n = record d { nodes = d.nodes ++ n ∷ [] }
 
--- an adding call gives the new node's number; that a text isn't UTF-8, exactly where one isn't; else want of memory. Only
+-- an adding call gives the new node's number; that a text isn't UTF-8, exactly where one isn't; else out of memory. Only
 -- where it gives a number the document changes
 abbrev pub Adds : Document → Node → Type 0 → Result ℤ yaml_text_fault_t → Document → Type 0
 Adds old n IsUtf8Texts (Ok id) new = (new ≡ with_node old n) × (id ≡ pos (suc (length old.nodes)))

@@ -67,7 +67,7 @@ impl yaml_document_t {
         self.parts.start_implicit
     }
 
-    /// No `...` stands behind.
+    /// No `...` stands after.
     pub fn end_implicit(&self) -> bool
         ensures { result ≡ self.now.end_implicit }
     {

@@ -1,4 +1,4 @@
--- The machine gives the items of a tree, and goes on behind it.
+-- The machine gives the items of a tree, and goes on after it.
 use Rattle.std.proofs.Common.{◌≡◌, ℕ, Bool, true, false, List, [], ◌∷◌, ◌++◌, length, Option, Some, None, refl, sym, ap, subst, ◌∙◌, ◌&&◌, ◌||◌, arith}
 use Rattle.std.proofs.lemmas.List.{append_assoc}
 use Rattle.std.proofs.Math.Bool.{not}
@@ -15,11 +15,11 @@ use Rattle.yaml_parse_grammar.specs.TreeSteps.{items_content, items_colon, items
 use Rattle.yaml_parse_grammar.specs.Trees as tree
 use Rattle.yaml_parse_grammar.specs.Machine.{items_taken, above, lone_below}
 
--- what a list of items does in front of an outcome
+-- what a list of items does before an outcome
 abbrev pub giving : (List Given → List Given) → Outcome → Outcome
 giving g o = record { items = g o.items; ending = o.ending }
 
--- one item in front of others
+-- one item before others
 abbrev pub one : RawEvent → ℕ → List Given → List Given
 one i left = λ more. (i, left) ∷ more
 
@@ -132,7 +132,7 @@ abbrev pub run_node : Wants → List Token → List State → Option Fault → O
 run_node w [] s f = finished
 run_node w (t ∷ ts) s f = carry (length ts) (given_by (node_taken w t.start_mark t.end_mark t.body) s) (λ s'. run ts s' f)
 
--- what a content's first token does above a stack, behind properties or without
+-- what a content's first token does above a stack, after properties or without
 abbrev run_content : Wants → Option Properties → List Token → List State → Option Fault → Outcome
 run_content w p [] s f = finished
 run_content w p (t ∷ ts) s f = carry (length ts) (given_by (content_taken w p t.start_mark t.end_mark t.body) s) (λ s'. run ts s' f)
@@ -210,7 +210,7 @@ lone_runs b opener ts s f h = grind (arith, step_take, items_takes, type_of, Fed
 
 -- ---- pairs in brackets
 
--- the states behind a pair inside brackets
+-- the states after a pair inside brackets
 abbrev pair_below : Brackets → List State → List State
 pair_below brackets.Sequence s = state.pair_end ∷ s
 pair_below brackets.Mapping s = s
@@ -223,7 +223,7 @@ flow_pair_opens : (b : Brackets) (p : Span) (o : yaml_mark_t) (ts : List Token) 
     ∷ pair_below b (state.more b o ∷ s)) f)
 flow_pair_opens b p o ts s f = grind (arith, step_take)
 
--- ---- what stands behind a node
+-- ---- what stands after a node
 
 -- More in brackets ends a node.
 pub more_ends : (b : Brackets) (m : More) (rest : List Token) → Ends Flow (spell_more b m rest)
@@ -265,7 +265,7 @@ pairs_leave : (m : Pairs) (rest : List Token)
 pairs_leave (tree.end_pairs p) rest = refl
 pairs_leave (tree.block_pair p key v m) rest = refl
 
--- A value or the pairs behind it may follow a key that is left out.
+-- A value or the pairs after it may follow a key that is left out.
 pub block_colon_follows : (v : Colon (Block (Some Value))) (m : Pairs) (rest : List Token)
     → Follows (BlockPair Key) (spell_colon v (spell_pairs m rest))
 block_colon_follows tree.no_colon m rest = pairs_follow Key m rest

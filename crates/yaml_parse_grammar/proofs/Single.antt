@@ -41,7 +41,7 @@ pub front_runs : (ts : List Token) (f : Option Fault) → MayAnswer ts f → (s 
     → run (front_of ts ∷ rest_of ts) s f ≡ run ts s f
 front_runs ts f h s = grind (arith, unfinished)
 
--- Behind the tokens, what is told of a fault is told by the topmost state.
+-- After the tokens, what is told of a fault is told by the topmost state.
 pub ending_runs : (s : List State) (f : Fault) → run [] s (Some f) ≡ ending_at s f
 unfolding run
 ending_runs s f = refl
@@ -103,13 +103,13 @@ stops_by : (fed : Fed) (t : Token) (ts : List Token) (s : List State) → feed s
 unfolding unasked_at_stop
 stops_by fed t ts s h = ap (λ (fed : Fed). left_where_stopped (length ts) fed (λ s'. unasked_at_stop ts s')) h
 
--- Behind a refusal the tokens behind the refused one are left.
+-- After a refusal the tokens after the refused one are left.
 pub refuses_stops : (x : State) (p : ParseProblem) (o : Option yaml_mark_t) (t : Token)
     (ts : List Token) (s : List State) → choice_at x (type_of t.body) ≡ Refuse p o
     → unasked_at_stop (t ∷ ts) (x ∷ s) ≡ length ts
 refuses_stops x p o t ts s h = stops_by _ t ts (x ∷ s) (fed_by (Refuse p o) x t s h)
 
--- A state that takes a token leaves those behind it.
+-- A state that takes a token leaves those after it.
 pub takes_stops : (x : State) (i : Option RawEvent) (above : List State) (t : Token)
     (ts : List Token) (s : List State) → choice_at x (type_of t.body) ≡ Take
     → taken_at x t ≡ record { item = i; above = above }

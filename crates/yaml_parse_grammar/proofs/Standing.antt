@@ -72,7 +72,7 @@ taken_stands x t s c h = grind (arith, stream_stands, documents_stand, takes_ins
 
 -- ---- leaving a state
 
--- Leaving a state of a sound stack leaves a sound stack, and the item stands behind it.
+-- Leaving a state of a sound stack leaves a sound stack, and the item stands after it.
 pub left_stands : (x : State) (k : yaml_token_type_t) (start : yaml_mark_t) (s : List State)
     → choice_at x k ≡ Leave → IsStack (x ∷ s)
     → IsStack s × StandsBehind (left_at x start).body (is_between s)

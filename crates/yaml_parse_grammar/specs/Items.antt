@@ -54,7 +54,7 @@ blank mark = item_at (node None None empty) mark mark
 abbrev pub properties_alone : Properties → RawEvent
 properties_alone p = item_at (node p.anchor p.tag empty) p.from p.to
 
--- a node behind its properties, if it has any, whose first token stands from one mark to another
+-- a node after its properties, if it has any, whose first token stands from one mark to another
 abbrev pub node_at : Option Properties → Shape → yaml_mark_t → yaml_mark_t → RawEvent
 node_at None shape from to = item_at (node None None shape) from to
 node_at (Some p) shape from to = item_at (node p.anchor p.tag shape) p.from to

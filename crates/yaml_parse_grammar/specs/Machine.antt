@@ -353,7 +353,7 @@ abbrev pub ending_at : List State → Fault → Outcome
 ending_at [] f = finished
 ending_at (x ∷ s) f = record { items = []; ending = Some f }
 
--- behind the last token the source's fault comes, or else the empty token
+-- after the last token the source's fault comes, or else the empty token
 abbrev pub at_end : Option Fault → List State → Outcome
 at_end (Some f) s = ending_at s f
 at_end None s = carry 0 (feed s no_token) (λ _. finished)
@@ -367,12 +367,12 @@ initial = state.stream ∷ []
 
 -- ---- where it stops
 
--- at a token that is refused with so many behind it, or where the tokens behind it say
+-- at a token that is refused with so many after it, or where the tokens after it say
 abbrev pub left_where_stopped : ℕ → Fed → (List State → ℕ) → ℕ
 left_where_stopped left (stop is f) k = left
 left_where_stopped left (go is s) k = k s
 
--- how many tokens stand behind the first that is refused; none, where none is
+-- how many tokens stand after the first that is refused; none, where none is
 unfoldable pub unasked_at_stop : List Token → List State → ℕ
 unasked_at_stop [] s = 0
 unasked_at_stop (t ∷ ts) s = left_where_stopped (length ts) (feed s t) (λ s'. unasked_at_stop ts s')

@@ -72,7 +72,7 @@ pub record Gives (e : Event) (told : Told) (rest : List Told) (f : Option Fault)
   pub unasked : new.unasked ≡ told.1
   pub answered : new.answered ≡ old.answered
 
--- behind the end the empty event is given, and no token is asked for
+-- after the end the empty event is given, and no token is asked for
 pub record GivesNothing (e : Event) (old new : ParserRemaining) : Type 0 where
   pub given : e ≡ no_event
   pub finished : IsFinished new
@@ -94,8 +94,8 @@ abbrev pub next_unasked : List Told → ℕ → ℕ
 next_unasked [] behind = behind
 next_unasked (g ∷ gs) behind = g.1
 
--- A fault is answered: the one that is to come, or want of memory, the source's or the parser's. Something was to come, so it is
--- neither behind the end nor behind a fault; nothing comes behind it.
+-- A fault is answered: the one that is to come, or out of memory, the source's or the parser's. Something was to come, so it is
+-- neither after the end nor after a fault; nothing comes after it.
 pub record FaultOf (old : ParserRemaining) (f : Fault) (new : ParserRemaining) : Type 0 where
   pub more : HasMore old.events old.ending
   pub finished : IsFinished new
@@ -103,6 +103,6 @@ pub record FaultOf (old : ParserRemaining) (f : Fault) (new : ParserRemaining) :
   pub reason : IsMemoryFault parse_layers f ⊎ ((old.events ≡ []) × (old.ending ≡ Some f))
   -- with so many tokens asked for
   pub unasked : IsMemoryFault parse_layers f ⊎ (new.unasked ≡ old.ending_unasked)
-  -- None was asked for behind the place of what was to come; where the source lacks memory, none of its tokens is left.
+  -- None was asked for after the place of what was to come; where the source lacks memory, none of its tokens is left.
   pub asked : IsMemoryFault scan_layers f
       ⊎ (next_unasked old.events old.ending_unasked ≤ new.unasked)

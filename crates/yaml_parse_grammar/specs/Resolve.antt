@@ -160,7 +160,7 @@ unasked_on (refused f) left k = left
 unasked_on (gave body ds) left k = k ds
 unasked_on (noted ds) left k = k ds
 
--- the same of all items; the number given is that of the fault behind them
+-- the same of all items; the number given is that of the fault after them
 unfoldable pub unasked_at_fault : List Given → ℕ → Directives → ℕ
 unasked_at_fault [] behind ds = behind
 unasked_at_fault (g ∷ gs) behind ds = unasked_on (settle g.0 ds) g.1

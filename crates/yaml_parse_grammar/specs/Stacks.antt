@@ -1,4 +1,4 @@
--- How states stand above one another, and whether a document is half taken behind an event.
+-- How states stand above one another, and whether a document is half taken after an event.
 use Rattle.std.specs.Prelude.{◌≡◌, Bool, true, false, List, [], ◌∷◌}
 use Rattle.yaml_parse_model.specs.Events.{EventBody}
 use Rattle.yaml_parse_model.specs.Events as event
@@ -7,7 +7,7 @@ use Rattle.yaml_parse_grammar.specs.Items as item
 use Rattle.yaml_parse_grammar.specs.States.{State}
 use Rattle.yaml_parse_grammar.specs.States as state
 
--- no document is half taken behind the event
+-- no document is half taken after the event
 abbrev pub parts_documents_behind : EventBody → Bool
 parts_documents_behind event.no = true
 parts_documents_behind (event.stream_start encoding) = true
@@ -31,7 +31,7 @@ IsInner (state.directives from) = ⊥
 IsInner state.document_end = ⊥
 IsInner _ = Unit {0}
 
--- in a document the states of its nodes stand above its end, and that above the documents behind it
+-- in a document the states of its nodes stand above its end, and that above the documents after it
 abbrev pub InsideAt : State → List State → Type 0 → Type 0
 InsideAt state.document_end s below = s ≡ state.documents ∷ []
 InsideAt x s below = IsInner x × below

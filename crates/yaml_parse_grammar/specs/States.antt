@@ -12,7 +12,7 @@ pub data State : Type 0 where
   stream : State
   first : State
   documents : State
-  -- behind directives
+  -- after directives
   directives : yaml_mark_t → State
   -- a node or nothing; the mark is the end of the indicator before it
   optional : Site → yaml_mark_t → State
@@ -23,9 +23,9 @@ pub data State : Type 0 where
   pairs : yaml_mark_t → State
   -- a VALUE and that place, or nothing
   colon : Site → State
-  -- the rest of a node behind properties
+  -- the rest of a node after properties
   with_properties : Wants → Properties → State
-  -- behind an opening bracket or a comma; behind a part
+  -- after an opening bracket or a comma; after a part
   items : Brackets → yaml_mark_t → State
   more : Brackets → yaml_mark_t → State
   -- the end of a pair's own mapping

@@ -15,7 +15,7 @@ use Rattle.yaml_parse_grammar.specs.Items.{RawEvent, Properties, item_at, blank,
 use Rattle.yaml_parse_grammar.specs.Items as item
 use Rattle.yaml_parse_grammar.specs.Trees.{Span, PropertyTokens, Node, Content, Maybe, Colon, Items, More, Entries, Others, Pairs, Directive, Documents, First, Stream, Given, properties_of, flow_shape, end_event, event_at, mark_at, start_of, anchor, anchor_tag, tag, tag_anchor, alias, only_properties, with_properties, bare, scalar, flow, block_sequence, block_mapping, indentless, left_out, there, no_colon, colon, end_items, single, pair, end_more, comma, end_entries, entry, no_others, other, end_pairs, block_pair, version, handle, end_stream, document, no_first, first}
 
--- ---- where the parts of a tree begin; next is the start of the token behind a part
+-- ---- where the parts of a tree begin; next is the start of the token after a part
 
 abbrev pub content_start : {w : Wants} → Content w → yaml_mark_t
 content_start (scalar s value style) = s.from
@@ -285,13 +285,13 @@ tokens_in (asks ∷ turns) = tokens_in turns + 1
 tokens_in (gives ∷ turns) = tokens_in turns
 tokens_in (gives_at_next ∷ turns) = tokens_in turns
 
--- behind is the number of tokens behind the turns
+-- after is the number of tokens after the turns
 abbrev pub unasked : List Turn → ℕ → List ℕ
 unasked [] behind = []
 unasked (asks ∷ turns) behind = unasked turns behind
 unasked (gives ∷ turns) behind = (tokens_in turns + behind) ∷ unasked turns behind
 unasked (gives_at_next ∷ turns) behind = ((tokens_in turns + behind) - 1) ∷ unasked turns behind
 
--- behind is the number of tokens behind the tree
+-- after is the number of tokens after the tree
 abbrev pub given_of : Stream → ℕ → List Given
 given_of t behind = zip (tree_events t) (unasked (tree_turns t) behind)

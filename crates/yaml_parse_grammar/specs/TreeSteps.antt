@@ -1,5 +1,5 @@
 -- The events of a tree in the form that computes: each beside the number of tokens that are not asked for as it is given, with
--- the tokens and the events behind it handed down. The laws of the machine use it; it is what `TreeEvents.antt` says.
+-- the tokens and the events after it handed down. The laws of the machine use it; it is what `TreeEvents.antt` says.
 use Rattle.std.specs.Prelude.{ℕ, true, false, List, [], ◌∷◌, length, Option, Some, None}
 use Rattle.yaml_parse_model.specs.declared.yaml_mark_t.{yaml_mark_t}
 use Rattle.yaml_parse_model.specs.declared.yaml_sequence_style_t.TheVariants.{YAML_BLOCK_SEQUENCE_STYLE}
@@ -18,7 +18,7 @@ use Rattle.yaml_parse_grammar.specs.Items.{Properties, item_at, blank, propertie
 use Rattle.yaml_parse_grammar.specs.Items as item
 use Rattle.yaml_parse_grammar.specs.Trees.{Span, Node, Content, Maybe, Colon, Items, More, Entries, Others, Pairs, Directive, Documents, First, Stream, Given, token_at, spell_items, spell_more, spell_entries, spell_others, spell_pairs, spell_colon, spell_maybe, spell_node, spell_directives, spell_ends, spell_documents, spell_first, next, properties_of, flow_shape, end_event, event_at, mark_at, start_of, alias, only_properties, with_properties, bare, scalar, flow, block_sequence, block_mapping, indentless, left_out, there, no_colon, colon, end_items, single, pair, end_more, comma, end_entries, entry, no_others, other, end_pairs, block_pair, version, handle, end_stream, document, no_first, first}
 
--- how many tokens are left behind the next
+-- how many tokens are left after the next
 abbrev pub behind : List Token → ℕ
 behind [] = 0
 behind (t ∷ ts) = length ts

@@ -115,7 +115,7 @@ pub record Stream : Type 0 where
   pub first : First
   pub documents : Documents
 
--- ---- the tokens of a tree, in front of what follows them
+-- ---- the tokens of a tree, before what follows them
 
 abbrev pub anchor_token : AnchorToken → Token
 anchor_token a = token_at (token.anchor a.name) a.span

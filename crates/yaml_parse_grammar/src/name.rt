@@ -29,11 +29,11 @@ pub enum Brackets {
 /// A place where a node may stand, or be left out.
 #[derive(Clone, Copy)]
 pub enum Site {
-    /// Behind `---`.
+    /// After `---`.
     Root,
-    /// Behind a `-`.
+    /// After a `-`.
     Entry,
-    /// Behind a `-` of a sequence that isn't indented, which is that part of a pair.
+    /// After a `-` of a sequence that isn't indented, which is that part of a pair.
     IndentlessEntry(Side),
     /// That part of a pair of a block mapping.
     BlockPair(Side),

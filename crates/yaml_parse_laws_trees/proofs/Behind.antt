@@ -70,7 +70,7 @@ pub none_given : (x : State) (s : List State) (t : Token) → open_behind (told 
 unfolding feed
 none_given x s t o h = none_turn (choice_at x (type_of t.body)) x t s (feed s t) (λ e. open_leaves x t s o h (leave_rule x (type_of t.body) e))
 
--- ---- else it gives what an end gives that stands there, but for that end
+-- ---- else it gives what an end gives that stands there, except for that end
 
 pub record OneMore (is js : List RawEvent) : Type 0 where
   pub last : RawEvent

@@ -9,7 +9,7 @@ use Rattle.yaml_parse_loader.proofs.Loads as numbering
 use Rattle.yaml_parse_laws_trees.specs.NextLoad as next
 use Rattle.yaml_parse_laws_trees.proofs.NextLoads.{AreInner, Knows, Inner, start_event, end_event, started_by, knows_nothing, inner_step, inner_front, no_rest}
 
--- ---- events in front of others
+-- ---- events before others
 
 mutual
   events_more : (c : Content) (xs ys : List Event) → events c (xs ++ ys) ≡ events c xs ++ ys
@@ -30,7 +30,7 @@ mutual
       ∙ ap (events key) (events_more value (pair_events more xs) ys)
       ∙ events_more key (events value (pair_events more xs)) ys
 
--- a document's events but for its last
+-- a document's events except for its last
 abbrev open_events : DocumentContent → List Event
 open_events d = start_event d ∷ events d.root []
 

@@ -4,7 +4,7 @@ use Rattle.yaml_parse_laws_trees.proofs.Words.{Fault, IsMemoryFault, Document, T
 use Rattle.yaml_parse_document.specs.Documents.{no_document}
 use Rattle.yaml_parse_loader.specs.Loading.{refused}
 
--- What events come to that a loader is fed, and the fault behind them: the document that ends first, the events that are
+-- What events come to that a loader is fed, and the fault after them: the document that ends first, the events that are
 -- left and the number of tokens that are not asked for then; or the fault that comes first; or neither.
 pub data Loads : Type 0 where
   document : Document → List Told → ℕ → Loads
@@ -25,7 +25,7 @@ loads [] f l = behind_all f
 loads (g ∷ gs) f l = load_on (step g.0 l) (loads gs f) gs g.1
 
 -- How many tokens are not asked for as a load is refused: those that stand with the event that a loader refuses, or with the
--- fault behind all.
+-- fault after all.
 abbrev pub unasked_on : LoadStep → ℕ → (Loading → ℕ) → ℕ
 unasked_on (goes_on l) left go = go l
 unasked_on _ left go = left
@@ -56,7 +56,7 @@ LoadGives (document e left unasked) d old new = (d ≡ e) × GivesDocument left 
 LoadGives nothing d old new = (d ≡ no_document) × GivesNoDocument old new
 LoadGives (faulty f) d old new = ⊥
 
--- a load is refused by the fault that comes first, of the loader or of the parser, or for want of memory; nothing comes behind it
+-- a load is refused by the fault that comes first, of the loader or of the parser, or when out of memory; nothing comes after it
 pub record LoadRefuses (f : Fault) (old new : ParserRemaining) : Type 0 where
   pub finished : IsFinished new
   pub answered : new.answered ≡ f

@@ -37,7 +37,7 @@ pub token_items : (n m b : ℕ) (is : List RawEvent) (ys : List Given)
 token_items n m b [] ys = refl
 token_items n m b (i ∷ is) ys = keep n m b (i, n) (numbered n is ++ ys) (omega arith) ∙ ap (λ (z : List Given). (i, (n + b) - m) ∷ z) (token_items n m b is ys)
 
--- and none of the tokens behind it
+-- and none of the tokens after it
 none_numbered : (n m b k : ℕ) (is : List RawEvent) (ys : List Given) → k < n
     → first_items n m b ys ≡ [] → first_items n m b (numbered k is ++ ys) ≡ []
 none_numbered n m b k [] ys h e = e

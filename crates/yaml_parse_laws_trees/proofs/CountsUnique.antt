@@ -353,7 +353,7 @@ handle_same p q a b c d x y h =
     let g : b ≡ d = cc in
     (three tree.handle p q a c b d (span_same _ _ p q x y h) f g, rest_same _ _ x y h)
 
--- directives and the `---` behind them
+-- directives and the `---` after them
 abbrev begin : List Directive → Span → List Token → List Token
 begin ds p ts = spell_directives ds (token_at token.document_start p ∷ ts)
 

@@ -21,7 +21,7 @@ cons_same a b x y p q = cc
 empty_length : (a : Token) (past : List Token) → length (a ∷ past) ≡ length {A = Token} [] → ⊥
 empty_length a past h = omega arith
 
--- two cuts behind as many tokens are the same
+-- two cuts after as many tokens are the same
 pub same_cut : (past other ts us : List Token) → followed_by past ts ≡ followed_by other us
     → length past ≡ length other → SameCut past other ts us
 same_cut [] [] ts us h n = record { before = refl; behind = h }

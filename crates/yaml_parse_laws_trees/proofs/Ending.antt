@@ -19,7 +19,7 @@ use Rattle.yaml_parse_laws_trees.proofs.Taking.{stack_solid, Takes, takes, Stops
 use Rattle.yaml_parse_laws_trees.proofs.Clean.{Clean, Unfinished, FirstAt, no_fault, free, handle_first, token_first, no_sentence, no_whole_sentence}
 use Rattle.yaml_parse_laws_trees.proofs.Refusal.{not_none}
 
--- what the stack and the directives are behind the tokens that were read
+-- what the stack and the directives are after the tokens that were read
 pub record At (x : State) (s : List State) (past : List Token) (ds : Directives) : Type 0 where
   pub signs : open_in (x ∷ s) ≡ signs_of (opened past)
   pub last : told x ≡ last_in past

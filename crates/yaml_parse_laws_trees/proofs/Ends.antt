@@ -15,12 +15,12 @@ fault_on (goes_on l) rest = rest l
 fault_on (loaded d) rest = unless_rootless d.nodes (rest nothing_loaded)
 fault_on (refused f) rest = Some f
 
--- of events with a fault behind them, from a document in the making on
+-- of events with a fault after them, from a document in the making on
 unfoldable pub fault_of_loads : List Told → Option Fault → Loading → Option Fault
 fault_of_loads [] f l = f
 fault_of_loads (g ∷ gs) f l = fault_on (step g.0 l) (fault_of_loads gs f)
 
--- ---- it is the fault behind all documents
+-- ---- it is the fault after all documents
 
 in_front_alike : (ns : List Node) (d : Document) (rest : Loads) (f : Option Fault) → rest.fault ≡ f
     → (in_front ns d rest).fault ≡ unless_rootless ns f

@@ -94,7 +94,7 @@ ended_next (x ∷ s) e m ds = refl
 
 -- ---- all events
 
--- each stands with no less than those behind it
+-- each stands with no less than those after it
 abbrev Down : List Given → ℕ → Type 0
 Down [] m = Unit {0}
 Down (g ∷ gs) m = Within g.1 gs × ((m ≤ g.1) × Down gs m)

@@ -15,7 +15,7 @@ use Rattle.yaml_parse_laws_trees.proofs.Walking.{raised, numbered, before, Knows
 use Rattle.yaml_parse_laws_trees.proofs.Behind.{open_behind, front_open, GivesNone, none_given, OneMore, Alike, feed_alike, closed_top}
 use Rattle.yaml_parse_laws_trees.proofs.Counting.{front_items, token_items, none_from, but_one, any_ending, more_begin}
 
--- ---- behind the front
+-- ---- after the front
 
 accepted : (ts : List Token) (t : Stream) → ts ≡ spell t []
     → run ts initial None ≡ record { items = items t []; ending = None }
@@ -27,7 +27,7 @@ start = record { topped = (refl, tt); nested = (tt, tt); stack = refl; stood = (
 unfinished : (ts : List Token) → (BeginsWithTree ts → ⊥) → Unfinished initial ts
 unfinished ts n = λ us vs p o. n (record { tree = o.tree; rest = vs; same = p ∙ ap (λ (z : List Token). z ++ vs) (o.same ∙ ap (spell o.tree) o.goes) ∙ spelled_before o.tree vs })
 
--- the stack behind the front
+-- the stack after the front
 record Here (front : List Token) : Type 0 where
   items : List Given
   top : State
@@ -52,7 +52,7 @@ here ts n l =
     walk l.front l.behind l.more nothing initial start (subst (Unfinished initial) l.list (unfinished ts n)) (ap (λ (o : Outcome). o.ending) (accepted (l.front ++ l.more) l.tree l.same))
     in here_at l.front l.behind w.items w.stack w.knows w.runs w.goes w.unfinished
 
--- ---- the token behind the front is refused
+-- ---- the token after the front is refused
 
 record StoppedAt (s : List State) (at : yaml_mark_t) (is : List RawEvent) : Type 0 where
   token : Token
@@ -159,7 +159,7 @@ front_given ts l w =
     (none_of_more (length l.behind) l.more w.top w.below (last_behind nothing l.front) w.knows (tree_ending l.front l.more l.tree w l.same))
     ∙ append-nil (raised (length l.behind) w.items)
 
--- ---- where nothing is given behind the front
+-- ---- where nothing is given after the front
 
 top_open : (front : List Token) (w : Here front)
     → open_behind (told w.top) ≡ last_leaves_open true front
@@ -190,7 +190,7 @@ gives_front ts own l w r q =
     ∙ sym (front_given ts l w)
     ∙ ap (first_items (length l.more) (length l.more) (length l.behind)) (items_given l.tree []))
 
--- ---- where an end stands behind the front
+-- ---- where an end stands after the front
 
 record Ended (s : List State) (u : Token) (us : List Token) : Type 0 where
   items : List RawEvent
@@ -321,7 +321,7 @@ run_gives_least ts own n = λ l. let w : Here l.front = here ts n l in least_giv
 
 -- ---- the longest front
 
--- another tree that goes on with it: what is open is closed where the token behind it stands
+-- another tree that goes on with it: what is open is closed where the token after it stands
 closing_tree : (ts : List Token) (l : LongestFront ts) → Here l.front → LongestFront ts
 closing_tree ts l w =
     let us : List Token = closers (next l.behind) (w.top ∷ w.below) in

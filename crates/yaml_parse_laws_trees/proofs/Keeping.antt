@@ -6,7 +6,7 @@ use Rattle.yaml_parse_laws_trees.specs.parse_grammar.declared.name.Brackets.TheV
 use Rattle.yaml_parse_laws_trees.specs.parse_grammar.States as state
 use Rattle.yaml_parse_laws_trees.proofs.FaultsStanding.{Sign, signs_behind, open_in, bracketed, last_of, Plain, Topped, plain_topped, is_flow, Nested}
 
--- the states behind a token, by what was open before it
+-- the states after a token, by what was open before it
 pub record Kept (b : TokenBody) (at : yaml_mark_t) (gs : List Sign) (s : List State) : Type 0 where
   pub opened : open_in s ≡ signs_behind b at gs
   pub topped : Topped (last_of b) s

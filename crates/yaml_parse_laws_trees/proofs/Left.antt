@@ -8,14 +8,14 @@ use Rattle.yaml_parse_laws_trees.specs.parse_grammar.States as state
 use Rattle.yaml_parse_laws_trees.specs.parse_grammar.Trees as tree
 use Rattle.yaml_parse_laws_trees.proofs.Single.{opens_node}
 
--- tokens that a tree of a kind spells, in front of others
+-- tokens that a tree of a kind spells, before others
 pub record Spelled (T : Type 0) (spelling : T → List Token → List Token) (P : List Token → Type 0) (ts : List Token) : Type 0 where
   pub tree : T
   pub rest : List Token
   pub same : ts ≡ spelling tree rest
   pub goes : P rest
 
--- one part behind another
+-- one part after another
 pub together : {A B : Type 0} {front : A → List Token → List Token}
     {back : B → List Token → List Token} {Q P : List Token → Type 0} {ts : List Token}
     (h : Spelled A front Q ts) → Spelled B back P h.rest
@@ -30,7 +30,7 @@ pub ahead : {A B : Type 0} {front : A → List Token → List Token}
     → Spelled B back P (t ∷ ts)
 ahead h t make e = record { tree = make h.tree; rest = h.rest; same = ap (λ us. t ∷ us) h.same ∙ sym (e h.tree h.rest); goes = h.goes }
 
--- a document behind the directives that were read, and the documents behind it
+-- a document after the directives that were read, and the documents after it
 pub record Opening : Type 0 where
   pub directives : List Directive
   pub start : Span
@@ -47,7 +47,7 @@ abbrev pub spell_end : Option Span → List Token → List Token
 spell_end None rest = rest
 spell_end (Some s) rest = token_at token.document_end s ∷ rest
 
--- behind some properties: what makes a node of them, whichever tokens they were
+-- after some properties: what makes a node of them, whichever tokens they were
 abbrev pub WithPropertiesLeft : Wants → Option (List ℕ) → Option Tag → (List Token → Type 0)
     → List Token → Type 0
 WithPropertiesLeft w (Some a) None P ts = (x : AnchorToken) → Spelled (Node w) spell_node P (anchor_token x ∷ ts)
@@ -135,7 +135,7 @@ node_left w start end (token.anchor name) c P ts h = h (record { name = name; sp
 node_left w start end (token.tag handle suffix) c P ts h = h (record { handle = handle; suffix = suffix; span = span start end })
 node_left w start end b c P ts h = bare_left w P _ (content_left w None start end b c P ts h)
 
--- ---- taking a token behind properties
+-- ---- taking a token after properties
 
 content_with_properties : (w : Wants) (anchor : Option (List ℕ)) (tag : Option Tag)
     (P : List Token → Type 0) (ts : List Token) → Spelled (Content w) spell_content P ts
@@ -167,7 +167,7 @@ with_properties_left w anchor tag from to start end b c P ts h =
 
 -- ---- taking a token between documents
 
--- the optional end of a document, and the ends behind it
+-- the optional end of a document, and the ends after it
 abbrev all_ends : Option Span → List Span → List Span
 all_ends None ends = ends
 all_ends (Some s) ends = s ∷ ends
@@ -177,7 +177,7 @@ spell_all_ends : (o : Option Span) (ends : List Span) (rest : List Token)
 spell_all_ends None ends rest = refl
 spell_all_ends (Some s) ends rest = refl
 
--- a document behind its `---`
+-- a document after its `---`
 begun_left : (start end before : yaml_mark_t) (P : List Token → Type 0) (ts : List Token)
     → Left (state.optional Root before) (Over (state.document_end ∷ state.documents ∷ []) P) ts
     → Spelled Opening spell_opening P (token_at token.document_start (span start end) ∷ ts)
@@ -191,7 +191,7 @@ begun_left start end before P ts h = record {
   goes = h.goes.goes.goes.goes;
 }
 
--- the same behind one directive more
+-- the same after one directive more
 abbrev directed : Directive → Opening → Opening
 directed d o = record { directives = d ∷ o.directives; start = o.start; root = o.root; ends = o.ends; documents = o.documents }
 

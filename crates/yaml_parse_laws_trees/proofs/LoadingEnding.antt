@@ -19,7 +19,7 @@ use Rattle.yaml_parse_laws_trees.proofs.StacksFit.{stack_sits, fed_loads}
 
 -- ---- a fault at a token
 
--- what the list with its end is, behind the tokens that were read
+-- what the list with its end is, after the tokens that were read
 record Rest (past us : List Token) (f : Option Fault) : Type 0 where
   rest : List Token
   same : with_end f (followed_by past us) ≡ followed_by past (us ++ rest)
@@ -97,7 +97,7 @@ abbrev LoadsFrom : List State → List Token → Directives → Loading → List
     → Type 0
 LoadsFrom s past ds l ts f = FaultOfLoading (followed_by past ts) f (ends_in (reading_of (run ts s f) ds) l)
 
--- each stack behind the token
+-- each stack after the token
 abbrev Behind : Token → List Token → List Token → Option Fault → Type 0
 Behind t past ts f = (y : State) (z : List State) (ds : Directives) (m : Loading) → At y z (t ∷ past) ds → Anchored (t ∷ past) → Fits (y ∷ z) (t ∷ past) m → LoadsFrom (y ∷ z) (t ∷ past) ds m ts f
 

@@ -218,7 +218,7 @@ starts_part false p h = cc
 
 -- ---- each state
 
--- between documents one state stands alone, and the end of one stands above the documents behind it
+-- between documents one state stands alone, and the end of one stands above the documents after it
 abbrev pub SitsAt : State → List State → Type 0 → Type 0
 SitsAt state.stream s below = s ≡ []
 SitsAt state.first s below = s ≡ []

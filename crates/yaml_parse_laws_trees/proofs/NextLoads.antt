@@ -23,7 +23,7 @@ abbrev pub AreInner : List Event → Type 0
 AreInner [] = Unit {0}
 AreInner (e ∷ es) = IsInner e.body × AreInner es
 
--- whatever has events in front of it, and one more, has inner ones there
+-- whatever has events before it, and one more, has inner ones there
 abbrev pub InnerFronts : List Event → Type 0
 InnerFronts es = (xs : List Event) (y : Event) (ys : List Event) → es ≡ xs ++ y ∷ ys → AreInner xs
 
@@ -118,7 +118,7 @@ inner_step _ from to l names h k = (refl, k)
 abbrev RefusedAt : Loads → ℕ → Fault × ℕ → Type 0
 RefusedAt r count w = (r ≡ told.faulty w.0) × (count ≡ w.1)
 
--- nothing is wrong, and what is behind comes
+-- nothing is wrong, and what is after comes
 abbrev EndsAt : Loads → ℕ → Option Fault → ℕ → Type 0
 EndsAt r count f behind = (r ≡ behind_all f) × (count ≡ behind)
 
@@ -137,7 +137,7 @@ pub inner_front : (d : DocumentContent) (gs : List Told) (y : Event) (ys : List 
     → events d.root (end_event d ∷ []) ≡ told_events gs ++ y ∷ ys → AreInner (told_events gs)
 inner_front d gs y ys e = inner_content d.root (end_event d ∷ []) (inner_last (end_event d)) (told_events gs) y ys e
 
--- An answer and the number beside it, for a front of a document in front of others: what the first wrong alias makes of them where
+-- An answer and the number beside it, for a front of a document before others: what the first wrong alias makes of them where
 -- there is one, else what the others do.
 module _ (R : Loads → ℕ → Type 0) (o : Option (Fault × ℕ)) (left : List Told) (f : Option Fault)
     (behind : ℕ) (wrong_is : (e : Fault) (n : ℕ) → Some (e, n) ≡ o → R (told.faulty e) n)

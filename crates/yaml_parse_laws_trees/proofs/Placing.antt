@@ -63,7 +63,7 @@ loadable past c a p e s =
 
 -- ---- the first fault
 
--- what the parser finds wrong first, behind tokens of which each alias has its anchor
+-- what the parser finds wrong first, after tokens of which each alias has its anchor
 pub parser_first : (past us ts : List Token) (e : Fault) → ts ≡ followed_by past us → Anchored past
     → FirstAt ts (length past) e → IsFirstIn ts e
 parser_first past us ts e l a first = record {

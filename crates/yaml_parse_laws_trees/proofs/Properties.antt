@@ -162,7 +162,7 @@ pub taken_props : (x : State) (t : Token) (s : List State) (past : List Token) �
     past → PropsTop ((taken_at x t).above ++ s) (t ∷ past)
 taken_props x t s past c h e k = taken_props_by x t.start_mark t.end_mark t.body s past c h e k
 
--- ---- reading a node behind them
+-- ---- reading a node after them
 
 pub props_read : (anchor : Option (List ℕ)) (tag : Option Tag) (from to : yaml_mark_t)
     (shape : Shape) (end : yaml_mark_t) (ts : List Token) (ds : Directives) (k : Directives → Done)

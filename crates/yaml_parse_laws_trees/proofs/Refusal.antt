@@ -163,7 +163,7 @@ own_end [] (Some g) e q = cc
 own_end (x ∷ s) (Some g) e q = inl q
 own_end s None e q = inr (refl, placed_end s e (feed s no_token) (feed_stops s no_token) q)
 
--- what is given behind the last token
+-- what is given after the last token
 source_gives : (s : List State) (g : Fault) → bare (ending_at s g).items ≡ []
 source_gives [] g = refl
 source_gives (x ∷ s) g = refl

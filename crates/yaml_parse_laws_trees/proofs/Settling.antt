@@ -46,7 +46,7 @@ node_quiet w start end (token.anchor name) = tt
 node_quiet w start end (token.tag handle suffix) = tt
 node_quiet w start end b = content_quiet w start end b
 
--- a state inside a document that isn't behind properties
+-- a state inside a document that isn't after properties
 abbrev pub IsMute : State → Type 0
 IsMute state.stream = ⊥
 IsMute state.first = ⊥
@@ -104,7 +104,7 @@ pub none_agree : Agree [] no_directives
 unfolding directive_for
 none_agree = record { version = refl; handles = λ h. refl }
 
--- a directive gives the fault, or the directives agree behind it
+-- a directive gives the fault, or the directives agree after it
 abbrev pub Behind : Option Fault → List Token → Done → Type 0
 Behind fault ts (bad e) = fault ≡ Some e
 Behind fault ts (fine ds) = (fault ≡ None) × Agree ts ds
@@ -184,7 +184,7 @@ tag_in p = of_tag p.tag
     of_tag None = None
     of_tag (Some t) = Some (record { handle = t.handle; tag = t.mark; node = p.from })
 
--- what reading a node behind properties gives, by the fault of its handle
+-- what reading a node after properties gives, by the fault of its handle
 abbrev pub by_fault : Option Fault → Directives → (Directives → Done) → Done
 by_fault None ds k = k ds
 by_fault (Some e) ds k = bad e

@@ -11,12 +11,12 @@ use Rattle.yaml_parse_laws_trees.proofs.Left.{Left, Over, over_both, leaving, ta
 
 -- ---- a stack at a token
 
--- behind an empty stack tokens are passed over
+-- after an empty stack tokens are passed over
 abbrev pub MayPass : (List Token → Type 0) → List State → Type 0
 MayPass P [] = (t : Token) (ts : List Token) → P ts → P (t ∷ ts)
 MayPass P (x ∷ s) = Unit {0}
 
--- what the stack behind a token waits for, with the token in front, is what the stack before it waits for
+-- what the stack after a token waits for, with the token in front, is what the stack before it waits for
 abbrev pub FedLeft : (List Token → Type 0) → List State → Token → Fed → Type 0
 FedLeft P s t (stop is f) = Unit {0}
 FedLeft P s t (go is s') = MayPass P s' → (ts : List Token) → Over s' P ts → Over s P (t ∷ ts)
@@ -65,7 +65,7 @@ feed_left P (x ∷ s) t = turn_left P (choice_at x (type_of t.body)) x t s (feed
 
 -- ---- the end of a list
 
--- where nothing is refused behind the last token, the states wait for nothing
+-- where nothing is refused after the last token, the states wait for nothing
 abbrev EndLeft : (List Token → Type 0) → List State → Fed → Type 0
 EndLeft P s (stop is f) = Unit {0}
 EndLeft P s (go is s') = Over s P []

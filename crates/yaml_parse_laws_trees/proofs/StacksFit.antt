@@ -1,4 +1,4 @@
--- One token: what a stack gives is loaded, and the stack behind it fits the tokens from then on.
+-- One token: what a stack gives is loaded, and the stack after it fits the tokens from then on.
 use Rattle.std.proofs.Common.{◌≡◌, true, List, [], ◌∷◌, None, refl, sym, subst}
 use Rattle.yaml_parse_laws_trees.proofs.Words.{yaml_mark_t, yaml_token_type_t, Token, type_of, Block, Root, Choice, Refuse, Take, Leave, Open, item_at, blank, State, IsInside, IsStack, choice_at, taken_at, left_at, Fed, with_item, given_by, turn, feed, Directives, settle, Loading, nothing_loaded, MayLeave, leave_rule, opens_first}
 use Rattle.yaml_parse_laws_trees.specs.parse_grammar.Items as item

@@ -127,7 +127,7 @@ directives_stepped past ds (token.tag_directive handle prefix) from start end a 
 directives_stepped past ds token.document_start from start end a = (refl, a)
 directives_stepped past ds _ from start end a = tt
 
--- behind the end of a document no directives are left
+-- after the end of a document no directives are left
 ended_before : (past : List Token) (ds : Directives) (t : Token) (implicit : Bool)
     (from to : yaml_mark_t) (fed : Fed) → Stepped past no_directives t fed
     → Stepped past ds t (with_item (item_at (item.event (event.document_end implicit)) from to) fed)
@@ -159,7 +159,7 @@ pub none_before : (past : List Token) → (last_in past ≡ directive → ⊥)
     → Agree (directives_before past) no_directives
 none_before past h = subst (λ (z : List Token). Agree z no_directives) (sym (no_directives_before past h)) none_agree
 
--- the end of a document stands above the documents behind it
+-- the end of a document stands above the documents after it
 pub data Within (x : State) (s : List State) : Type 0 where
   at_end : x ≡ state.document_end → s ≡ state.documents ∷ [] → Within x s
   deeper : IsInner x → IsInside s → Within x s
@@ -204,7 +204,7 @@ at_end_stepped x s t past ds p q a =
     subst (λ (y : State). Stepped past ds t (feed (y ∷ s) t)) (sym p)
     (subst (λ (z : List State). Stepped past ds t (feed (state.document_end ∷ z) t)) (sym q) (end_stepped past ds t.body t.start_mark t.end_mark a))
 
--- above a stack inside a document, of which the state on top isn't behind properties
+-- above a stack inside a document, of which the state on top isn't after properties
 pub mute_stepped : (x : State) (s : List State) (t : Token) (past : List Token) (ds : Directives)
     → Within x s → (IsInner x → IsMute x) → Plain s → Nested (x ∷ s)
     → Agree (document_directives past) ds

@@ -1,4 +1,4 @@
--- One token, behind properties too: the fault of a handle comes first.
+-- One token, after properties too: the fault of a handle comes first.
 use Rattle.std.proofs.Common.{◌≡◌, Bool, true, false, if◌then◌else◌, ◌||◌, List, [], ◌∷◌, ◌++◌, Option, Some, None, refl, ap, sym, subst, ◌∙◌}
 use Rattle.yaml_parse_laws_trees.proofs.Words.{yaml_mark_t, Token, TokenBody, type_of, Fault, Wants, Take, Leave, RawEvent, Properties, State, IsInner, IsInside, IsStack, joins, starts_content, choice_at, with_properties_taken, Fed, stop, go, with_item, given_by, turn, feed, Directives, no_directives, settle, NodeTag, directives_before, document_directives, ended_tag, handle_fault, tag_fault, properties_alone, false≢true}
 use Rattle.yaml_parse_laws_trees.specs.parse_grammar.parse_model.Tokens as token
@@ -16,7 +16,7 @@ Step past ds t (Some f) (stop is e) = read_all is ds ≡ bad f
 Step past ds t (Some f) (go is s) = read_all is ds ≡ bad f
 Step past ds t None fed = Stepped past ds t fed
 
--- ---- no properties in front of the token
+-- ---- no properties before the token
 
 no_ended : (past : List Token) (b : TokenBody) → (last_in past ≡ property → ⊥)
     → ended_tag past b ≡ None
@@ -39,7 +39,7 @@ quiet_step : (past : List Token) (ds : Directives) (t : Token) (fed : Fed)
     → Step past ds t (handle_fault past t.body) fed
 quiet_step past ds t fed h k = subst (λ (f : Option Fault). Step past ds t f fed) (sym h) k
 
--- ---- properties in front of it
+-- ---- properties before it
 
 faulty : (past : List Token) (ds : Directives) (t : Token) (f : Option Fault) (i : RawEvent)
     (fed : Fed) → ((k : Directives → Done) → then_read (settle i ds) k ≡ by_fault f ds k)

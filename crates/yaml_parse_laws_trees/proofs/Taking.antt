@@ -45,7 +45,7 @@ solid_left state.documents k A l h = absurd l
 solid_left (state.directives from) k A l h = absurd l
 solid_left _ k A l h = h
 
--- ---- what the stack behind a token waits for, with the token in front, is what the stack before it waits for
+-- ---- what the stack after a token waits for, with the token in front, is what the stack before it waits for
 
 abbrev pub Takes : (List Token → Type 0) → List State → Token → Fed → Type 0
 Takes P s t (stop is e) = Unit {0}

@@ -14,7 +14,7 @@ use Rattle.yaml_parse_loader.specs.Numbering.{Span, Content, Pairs}
 
 -- ---- parts
 
--- the events of a part, in front of others
+-- the events of a part, before others
 pub record Part (T : Type 0) (events_of : T → List Event → List Event) (P : List Event → Type 0) (es : List Event) : Type 0 where
   pub part : T
   pub rest : List Event
@@ -100,7 +100,7 @@ pub over_both : (xs ys : List State) (P : List Event → Type 0)
 over_both [] ys P = refl
 over_both (x ∷ xs) ys P = ap (ToGive x) (over_both xs ys P)
 
--- ---- what an item gives, in front of what is given behind it
+-- ---- what an item gives, before what is given after it
 
 abbrev pub IsScalar : EventBody → Type 0
 IsScalar (event.scalar anchor tag value plain quoted style) = Unit {0}

@@ -29,7 +29,7 @@ as_many (g ∷ gs) = let h : length (numbers_in gs) ≡ length (events_in gs) = 
         → length (g.1 ∷ numbers_in gs) ≡ length (g.0 ∷ events_in gs)
     more h = omega arith
 
--- ---- turns one behind another
+-- ---- turns one after another
 
 tokens_on : (xs ys : List Turn) (n : ℕ)
     → tokens_in (xs ++ ys) + n ≡ tokens_in xs + (tokens_in ys + n)
@@ -53,7 +53,7 @@ unasked_on (gives_at_next ∷ xs) ys n =
     ap (λ (k : ℕ). (k - 1) ∷ unasked (xs ++ ys) n) (tokens_on xs ys n)
     ∙ ap (λ (ks : List ℕ). ((tokens_in xs + (tokens_in ys + n)) - 1) ∷ ks) (unasked_on xs ys n)
 
--- ---- a part of a tree: its events, its turns, its tokens in front of others, its items in front of others
+-- ---- a part of a tree: its events, its turns, its tokens before others, its items before others
 
 record Part (es : List RawEvent) (ts : List Turn) (rest all : List Token) (more gs : List Given) : Type 0 where
   tokens : length all ≡ tokens_in ts + length rest
@@ -98,7 +98,7 @@ gave_next {es = es} {ts = ts} {rest = rest} {all = all} {more = more} {gs = gs} 
       ∙ ap (λ (z : List ℕ). ((tokens_in ts + length rest) - 1) ∷ z) h.numbers;
 }
 
--- one part in front of another
+-- one part before another
 both : {es fs : List RawEvent} {ts us : List Turn} {rest middle all : List Token}
     {more between gs : List Given}
     → Part es ts middle all between gs → Part fs us rest middle more between

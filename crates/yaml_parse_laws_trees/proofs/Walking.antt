@@ -10,7 +10,7 @@ use Rattle.yaml_parse_laws_trees.proofs.StacksBehind.{Stacked, FedKept, fed_kept
 use Rattle.yaml_parse_laws_trees.proofs.Ending.{runs_fed}
 use Rattle.yaml_parse_laws_trees.proofs.Refusal.{not_none}
 
--- ---- items with as many tokens more behind them
+-- ---- items with as many tokens more after them
 
 abbrev pub raised : ℕ → List Given → List Given
 raised n [] = []
@@ -67,7 +67,7 @@ abbrev pub last_behind : Last → List Token → Last
 last_behind l [] = l
 last_behind l (t ∷ ts) = last_behind (last_of t.body) ts
 
--- the items that the front gives, counted without what is behind it, and the stack behind it
+-- the items that the front gives, counted without what is after it, and the stack after it
 pub record Walked (front behind : List Token) (l : Last) (s : List State) : Type 0 where
   pub items : List Given
   pub stack : List State

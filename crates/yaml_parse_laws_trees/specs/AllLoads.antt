@@ -14,7 +14,7 @@ pub record Loads : Type 0 where
 abbrev pub no_more : Option Fault → Loads
 no_more f = record { documents = []; fault = f }
 
--- A document in front of the others. One without a root would end them.
+-- A document before the others. One without a root would end them.
 abbrev pub in_front : List Node → Document → Loads → Loads
 in_front [] d rest = no_more None
 in_front (n ∷ ns) d rest = record {
@@ -27,7 +27,7 @@ load_on (goes_on l) rest = rest l
 load_on (loaded d) rest = in_front d.nodes d (rest nothing_loaded)
 load_on (refused f) rest = no_more (Some f)
 
--- the documents of events with a fault behind them, from a document in the making on
+-- the documents of events with a fault after them, from a document in the making on
 unfoldable pub load_all : List Told → Option Fault → Loading → Loads
 load_all [] f l = no_more f
 load_all (g ∷ gs) f l = load_on (step g.0 l) (load_all gs f)

@@ -22,7 +22,7 @@ abbrev pub FaultEnds : Type 0
 FaultEnds = (ts : List Token) (own fault : Option Fault) → FaultOfTokens ts own fault
     → (reading_of (run ts initial own) no_directives).ending ≡ fault
 
--- It is told as its place is reached, with no token asked for behind that.
+-- It is told as its place is reached, with no token asked for after that.
 abbrev pub FaultIsToldAtPlace : Type 0
 FaultIsToldAtPlace = (ts : List Token) (own : Option Fault) (e : Fault)
     → (reading_of (run ts initial own) no_directives).ending ≡ Some e

@@ -54,7 +54,7 @@ abbrev pub grammar_rows : List FaultRow
 grammar_rows =
     -- nothing at all
     row [] (alone (codes "did not find expected <stream-start>") zero_mark)
-    -- `a` behind `a`
+    -- `a` after `a`
     ∷ row (stream (in_column 1 word ∷ in_column 2 word ∷ []))
     (alone (codes "did not find expected <document start>") (column 2))
     -- `- a`, and in the sequence `a` again

@@ -17,7 +17,7 @@ abbrev pub IsLongest : List Token → List Token → Type 0
 IsLongest front [] = Unit {0}
 IsLongest front (t ∷ ts) = TreeGoesOn (front ++ t ∷ []) → ⊥
 
--- A tree that goes on with the longest front of the tokens with which one does; it has tokens of its own behind that.
+-- A tree that goes on with the longest front of the tokens with which one does; it has tokens of its own after that.
 pub record LongestFront (ts : List Token) : Type 0 where
   pub front : List Token
   pub behind : List Token
@@ -29,7 +29,7 @@ pub record LongestFront (ts : List Token) : Type 0 where
 
 -- ---- what is given
 
--- The first events of a tree, up to one that is given with fewer tokens unasked for than so many. The tree has so many tokens behind the
+-- The first events of a tree, up to one that is given with fewer tokens unasked for than so many. The tree has so many tokens after the
 -- front, and the list so many: of those it is counted how many are unasked for.
 abbrev pub first_items : ℕ → ℕ → ℕ → List Given → List Given
 first_items fewest more behind [] = []
@@ -42,7 +42,7 @@ first_items fewest more behind (g ∷ gs) =
 abbrev pub events_of : List Given → List Told
 events_of gs = (reading gs None no_directives).events
 
--- What a tree gives with no token asked for behind the front.
+-- What a tree gives with no token asked for after the front.
 abbrev pub events_of_front : {ts : List Token} → LongestFront ts → List Told
 events_of_front l = events_of
     (first_items (length l.more) (length l.more) (length l.behind) (given_of l.tree 0))
@@ -52,13 +52,13 @@ but_last [] = []
 but_last (g ∷ []) = []
 but_last (g ∷ h ∷ gs) = g ∷ but_last (h ∷ gs)
 
--- What a tree gives with one token asked for behind the front, but for the last of it.
+-- What a tree gives with one token asked for after the front, except for the last of it.
 abbrev pub events_at_next : {ts : List Token} → LongestFront ts → List Told
 events_at_next l = events_of
     (but_last (first_items (length l.more - 1) (length l.more) (length l.behind)
     (given_of l.tree 0)))
 
--- ---- where the first token behind the front gives something though no tree goes on with it
+-- ---- where the first token after the front gives something though no tree goes on with it
 
 -- it ends a collection or the stream, and gives that end: one event of its own, the last that comes with it
 abbrev pub is_end : TokenBody → Bool
@@ -73,7 +73,7 @@ abbrev pub EndsAt : yaml_mark_t → List Token → Type 0
 EndsAt at [] = ⊥
 EndsAt at (t ∷ ts) = (is_end t.body ≡ true) × (t.start_mark ≡ at)
 
--- Behind the token a node may come or be left out, or a document must come: so far nothing is told by what doesn't fit.
+-- After the token a node may come or be left out, or a document must come: so far nothing is told by what doesn't fit.
 abbrev pub leaves_open : TokenBody → Bool
 leaves_open b = asks_for_node b || is_directive b
 
@@ -87,7 +87,7 @@ abbrev pub has_fault : List Token → Option Fault → Bool
 has_fault [] (Some own) = true
 has_fault _ _ = false
 
--- nothing is given behind the front
+-- nothing is given after the front
 abbrev pub gives_no_more : {ts : List Token} → LongestFront ts → Option Fault → Bool
 gives_no_more l own = last_leaves_open true l.front || has_fault l.behind own
 
@@ -96,8 +96,8 @@ GivesAt true l events = events ≡ events_of_front l
 GivesAt false l events = EndsAt (next l.behind) l.more → events ≡ events_at_next l
 
 -- The events of tokens that don't begin with those of a tree: what every tree gives that goes on with their longest front, with
--- no token asked for behind it. Where the token behind the front, or the list's end, is looked at and a node is whole by then,
--- they are what every tree gives that has a token in its place which ends something, but for that end.
+-- no token asked for after it. Where the token after the front, or the list's end, is looked at and a node is whole by then,
+-- they are what every tree gives that has a token in its place which ends something, except for that end.
 abbrev pub GivesFront : List Token → Option Fault → List Told → Type 0
 GivesFront ts own events = (l : LongestFront ts) → GivesAt (gives_no_more l own) l events
 
@@ -106,7 +106,7 @@ pub record BeginsWith (first events : List Told) : Type 0 where
   pub others : List Told
   pub same : events ≡ first ++ others
 
--- Each event comes that a tree gives with no token asked for behind the front.
+-- Each event comes that a tree gives with no token asked for after the front.
 abbrev pub GivesLeast : List Token → List Told → Type 0
 GivesLeast ts events = (l : LongestFront ts) → BeginsWith (events_of_front l) events
 

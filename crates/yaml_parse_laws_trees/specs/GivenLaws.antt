@@ -13,7 +13,7 @@ use Rattle.yaml_parse_laws_trees.specs.Given.{LongestFront, gives_no_more, EndsA
 abbrev pub events_run : List Token → Option Fault → List Told
 events_run ts own = (reading_of (run ts initial own) no_directives).events
 
--- A tree goes on with the longest front, and where something may be given behind that, one that has an end there.
+-- A tree goes on with the longest front, and where something may be given after that, one that has an end there.
 pub record HasFront (ts : List Token) (own : Option Fault) : Type 0 where
   pub front : LongestFront ts
   pub ends : gives_no_more front own ≡ false → EndsAt (next front.behind) front.more
@@ -36,7 +36,7 @@ abbrev pub EventsAreRun : Type 0
 EventsAreRun = (ts : List Token) (own : Option Fault) (events : List Told)
     → EventsOfTokens ts own events → events ≡ events_run ts own
 
--- What every tree gives with no token asked for behind the front, the machine gives.
+-- What every tree gives with no token asked for after the front, the machine gives.
 abbrev pub RunGivesLeast : Type 0
 RunGivesLeast = (ts : List Token) (own : Option Fault) → (BeginsWithTree ts → ⊥)
     → GivesLeast ts (events_run ts own)

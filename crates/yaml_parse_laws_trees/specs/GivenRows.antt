@@ -21,7 +21,7 @@ at_mark mark body left = (record { body = body; start_mark = mark; end_mark = ma
 abbrev pub told_at : ℕ → EventBody → ℕ → Told
 told_at n body left = at_mark (column n) body left
 
--- a stream's start, and that of its first document, in column 1; so many tokens stand behind the first
+-- a stream's start, and that of its first document, in column 1; so many tokens stand after the first
 abbrev pub begun : ℕ → ℕ → List Told → List Told
 begun left less others = told_at 0 (event.stream_start YAML_UTF8_ENCODING) left
     ∷ told_at 1 (event.document_start None [] true) less ∷ others
@@ -60,7 +60,7 @@ rows =
     ∷ row (stream (in_column 1 token.block_sequence_start ∷ in_column 2 token.block_entry
     ∷ in_column 3 token.flow_sequence_end ∷ [])) None
     (begun 3 2 (told_at 1 (event.sequence_start None None true YAML_BLOCK_SEQUENCE_STYLE) 2 ∷ []))
-    -- `a` behind `a`: the document's end is
+    -- `a` after `a`: the document's end is
     ∷ row (stream (in_column 1 word ∷ in_column 2 word ∷ [])) None
     (begun 2 1 (told_at 1 word_event 1 ∷ told_at 2 (event.document_end true) 0 ∷ []))
     -- an anchor, and the list ends

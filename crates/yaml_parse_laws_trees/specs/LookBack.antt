@@ -1,11 +1,11 @@
--- Looking back over the tokens in front of a token, the latest first.
+-- Looking back over the tokens before a token, the latest first.
 use Rattle.std.specs.Prelude.{ℕ, Bool, true, false, if◌then◌else◌, ◌||◌, List, [], ◌∷◌, Option, Some, None, codes}
 use Rattle.std.specs.Str.{bytes_eq}
 use Rattle.yaml_parse_laws_trees.specs.parse_grammar.parse_model.declared.yaml_mark_t.{yaml_mark_t}
 use Rattle.yaml_parse_laws_trees.specs.parse_grammar.parse_model.Tokens.{Token, TokenBody}
 use Rattle.yaml_parse_laws_trees.specs.parse_grammar.parse_model.Tokens as token
 
--- the tokens that were read, the latest first, in front of those that follow
+-- the tokens that were read, the latest first, before those that follow
 abbrev pub followed_by : List Token → List Token → List Token
 followed_by [] ts = ts
 followed_by (t ∷ past) ts = followed_by past (t ∷ ts)
@@ -29,7 +29,7 @@ abbrev pub surrounding : List Token → List Token
 surrounding [] = []
 surrounding (t ∷ others) = others
 
--- what is open behind a token, by what was open before it
+-- what is open after a token, by what was open before it
 abbrev pub opened_behind : Token → List Token → List Token
 opened_behind t others = if opens t.body then t ∷ others
     else if closes t.body then surrounding others
@@ -50,7 +50,7 @@ abbrev pub in_brackets : List Token → Bool
 in_brackets [] = false
 in_brackets (t ∷ others) = opens_brackets t.body
 
--- behind the token a node must come, or what may follow a left-out one
+-- after the token a node must come, or what may follow a left-out one
 abbrev pub asks_for_node : TokenBody → Bool
 asks_for_node (token.stream_start encoding) = true
 asks_for_node token.document_start = true

@@ -70,7 +70,7 @@ abbrev pub AreOutside : List Told → Type 0
 AreOutside [] = Unit {0}
 AreOutside (g ∷ gs) = IsOutside g.0.body × AreOutside gs
 
--- A whole document comes next: events of none, those of its content, and what is left behind them.
+-- A whole document comes next: events of none, those of its content, and what is left after them.
 pub record NextDocument (gs : List Told) (d : DocumentContent) (left : List Told)
     (unasked : ℕ) : Type 0 where
   pub outside : List Told
@@ -93,7 +93,7 @@ pub record NextFront (gs told left : List Told) : Type 0 where
 
 -- ---- what is loaded of it
 
--- the next document with what is left behind it; a fault, with so many tokens not asked for; or no document any more
+-- the next document with what is left after it; a fault, with so many tokens not asked for; or no document any more
 pub data NextLoad : Type 0 where
   next_document : Document → List Told → ℕ → NextLoad
   next_fault : Fault → ℕ → NextLoad
@@ -120,7 +120,7 @@ pub record NoneNext (gs : List Told) : Type 0 where
   pub right : first_wrong told [] ≡ None
 
 -- What a load of the events to come gives: the document that comes next, its nodes numbered; the fault of an alias in it, which
--- comes before the fault behind the events; that fault, where no document ends before it; or that there is none any more.
+-- comes before the fault after the events; that fault, where no document ends before it; or that there is none any more.
 abbrev pub IsLoadOf : List Told → Option Fault → ℕ → NextLoad → Type 0
 IsLoadOf gs own behind (next_document e left unasked) = NumbersNext gs e left unasked
 IsLoadOf gs own behind (next_fault f unasked) = WrongAliasNext gs f unasked
@@ -130,7 +130,7 @@ IsLoadOf gs own behind next_none = NoneNext gs × (own ≡ None)
 abbrev pub IsNextLoad : ParserRemaining → NextLoad → Type 0
 IsNextLoad c n = IsLoadOf c.events c.ending c.ending_unasked n
 
--- a document was loaded, and what stands behind it is left
+-- a document was loaded, and what stands after it is left
 pub record GivesDocument (left : List Told) (count : ℕ) (old new : ParserRemaining) : Type 0 where
   pub events : new.events ≡ left
   pub ending : new.ending ≡ old.ending
@@ -138,7 +138,7 @@ pub record GivesDocument (left : List Told) (count : ℕ) (old new : ParserRemai
   pub unasked : new.unasked ≡ count
   pub answered : new.answered ≡ old.answered
 
--- no document comes any more, and behind the last event no token is asked for
+-- no document comes any more, and after the last event no token is asked for
 pub record GivesNoDocument (old new : ParserRemaining) : Type 0 where
   pub finished : IsFinished new
   pub unasked : new.unasked ≡ left_behind old.events old.unasked
@@ -160,14 +160,14 @@ load_unasked (next_document e left unasked) old = unasked
 load_unasked (next_fault f unasked) old = unasked
 load_unasked next_none old = left_behind old.events old.unasked
 
--- Or is refused so, or for want of memory. Something was to come, so it is refused once, and behind that, as behind the last
+-- Or is refused so, or when out of memory. Something was to come, so it is refused once, and after that, as after the last
 -- document, the document without root comes.
 pub record RefusesNext (n : NextLoad) (f : Fault) (old new : ParserRemaining) : Type 0 where
   pub more : HasMore old.events old.ending
   pub finished : IsFinished new
   pub answered : new.answered ≡ f
   pub reason : IsMemoryFault load_layers f ⊎ IsRefusalOf n f new.unasked
-  -- No token was asked for behind the place of what was to come; where the source lacks memory, none of its tokens is left.
+  -- No token was asked for after the place of what was to come; where the source lacks memory, none of its tokens is left.
   pub asked : IsMemoryFault scan_layers f ⊎ (load_unasked n old ≤ new.unasked)
 
 -- The next load is the one that content says, whichever content's the events are.
@@ -192,13 +192,13 @@ pub data LoadsByContent (own : Option Fault) (behind : ℕ) : List Told → Type
 abbrev pub AreLoadsByContent : ParserRemaining → Type 0
 AreLoadsByContent c = LoadsByContent c.ending c.ending_unasked c.events
 
--- the events of documents, and one behind them
+-- the events of documents, and one after them
 abbrev pub contents_events : List DocumentContent → Event → List Event
 contents_events [] last = last ∷ []
 contents_events (d ∷ ds) last = document_events d (contents_events ds last)
 
--- Where the events to come are a front of some documents' and of the stream's end, behind events of no document, each load is
--- one that content says, whatever fault is behind them.
+-- Where the events to come are a front of some documents' and of the stream's end, after events of no document, each load is
+-- one that content says, whatever fault is after them.
 abbrev pub FrontsLoadByContent : Type 0
 FrontsLoadByContent = (ds : List DocumentContent) (last : Event) → IsOutside last.body
     → (outside gs : List Told) (more : List Event) (own : Option Fault) (behind : ℕ)

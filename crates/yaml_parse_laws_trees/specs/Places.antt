@@ -9,7 +9,7 @@ use Rattle.yaml_parse_laws_trees.specs.Wrong.{grammar_fault, directive_fault, ha
 
 -- ---- places
 
--- At a token the fault of a handle comes first: the node in front of the token has it.
+-- At a token the fault of a handle comes first: the node before the token has it.
 -- Then comes the token's own.
 pub data Rank : Type 0 where
   of_handle : Rank
@@ -90,7 +90,7 @@ FaultOfTokens ts own (Some e) = TokensAreRefused ts own e
 
 -- ---- the tokens that are asked for
 
--- The fault is told as its place is reached: the tokens behind that place aren't asked for.
+-- The fault is told as its place is reached: the tokens after that place aren't asked for.
 pub record IsToldAtPlace (ts : List Token) (own : Option Fault) (e : Fault)
     (unasked : ℕ) : Type 0 where
   pub first : IsOfLeastPlace (StandsIn (with_end own ts)) e

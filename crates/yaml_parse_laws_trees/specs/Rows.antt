@@ -22,7 +22,7 @@ abbrev pub alias_rows : List FaultRow
 alias_rows =
     -- `*b`
     row (stream (in_column 1 alias_b ∷ in_column 2 token.stream_end ∷ [])) (no_anchor_at 1)
-    -- `[*b, &b a`: an anchor behind it doesn't count, and what is wrong behind it comes later
+    -- `[*b, &b a`: an anchor after it doesn't count, and what is wrong after it comes later
     ∷ row (stream (in_column 1 token.flow_sequence_start ∷ in_column 2 alias_b
     ∷ in_column 3 token.flow_entry ∷ in_column 4 anchor_b ∷ in_column 5 word ∷ []))
     (no_anchor_at 2)
@@ -57,7 +57,7 @@ right_rows =
     ∷ in_column 3 alias_b ∷ []))
     (while_parsing (codes "while parsing a flow sequence") (column 2)
     (codes "did not find expected ',' or ']'") zero_mark)
-    -- `&b [*b]`, and an alias behind the stream's end
+    -- `&b [*b]`, and an alias after the stream's end
     ∷ record {
       tokens = stream (in_column 1 anchor_b ∷ in_column 2 token.flow_sequence_start
           ∷ in_column 3 alias_b ∷ in_column 4 token.flow_sequence_end

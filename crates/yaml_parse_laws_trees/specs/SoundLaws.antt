@@ -82,13 +82,13 @@ pub record RefusedAt (ts : List Token) (given : List RawEvent) (e : Fault) : Typ
   pub wrong : TreeGoesOn (front ++ token ∷ []) → ⊥
   pub stands : StandsAtLoad token.start_mark e
 
--- a tree goes on with the whole list and gives what was given: the fault is the source's own, or where it has none, stands at the empty token behind the list
+-- a tree goes on with the whole list and gives what was given: the fault is the source's own, or where it has none, stands at the empty token after the list
 pub record RunsOut (ts : List Token) (f : Option Fault) (given : List RawEvent) (e : Fault) : Type 0
   where
     pub before : TreeGoesOnGiving ts given
     pub own : (f ≡ Some e) ⊎ ((f ≡ None) × StandsAtLoad zero_mark e)
 
--- A list ends in a fault at the first token that no tree goes on with, or else behind its last token.
+-- A list ends in a fault at the first token that no tree goes on with, or else after its last token.
 abbrev pub FaultsStandAtFirst : Type 0
 FaultsStandAtFirst = (ts : List Token) (f : Option Fault) (e : Fault) → (run ts initial f).ending
     ≡ Some e

@@ -14,7 +14,7 @@ pub fn laws_of_events()
     ensures the_machine_gives_the_events { RunGivesEvents }
     // And whatever events a list has, the machine gives them.
     ensures the_events_are_what_the_machine_gives { EventsAreRun }
-    // Of each tree that goes on with the longest front the machine gives all that needs no token behind it.
+    // Of each tree that goes on with the longest front the machine gives all that needs no token after it.
     ensures the_machine_gives_all_of_the_front { RunGivesLeast }
     // Lists with their events before a fault: a node that has properties alone, the end of a single pair
     // and that of a document are given; a node that may be left out isn't, and nothing is told by a fault

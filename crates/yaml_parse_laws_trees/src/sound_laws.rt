@@ -11,7 +11,7 @@ pub fn laws_of_acceptance()
     // And each list that begins with such a tree's tokens is accepted.
     ensures sentences_are_accepted { SentencesAreAccepted }
     // A list ends in a fault of the parser at the first token that no tree goes on with. Where a tree goes on with the whole list,
-    // it ends in the source's own fault, or where the source has none, at the empty token behind the list. What is given before the
+    // it ends in the source's own fault, or where the source has none, at the empty token after the list. What is given before the
     // fault begins the items of a tree that goes on with the tokens before it.
     ensures faults_stand_at_the_first_wrong_token { FaultsStandAtFirst }
     // No token is refused of a list with which a tree goes on.

@@ -1,4 +1,4 @@
--- Behind a document's explicit end a directive begins a document as behind the stream's start.
+-- After a document's explicit end a directive begins a document as after the stream's start.
 use Rattle.std.proofs.Common.{◌≡◌, ◌≢◌, List, [], ◌∷◌, ◌++◌, length, Option, Some, None, refl, sym, ap, subst, ◌∙◌}
 use Rattle.std.proofs.lemmas.List.{append_assoc, same_from_push}
 use Rattle.yaml_parse_laws_windows.proofs.Words.{yaml_mark_t, yaml_encoding_t, Token, TokenBody, Event, Fault, Root, Entry, IndentlessEntry, BlockPair, FlowPair, Key, Value, Flow, Block, RawEvent, event_at, Directives, no_directives, placed, State, left_at, Fed, stop, go, with_item, feed, carry, run, initial, parse_of, events_in, GoOn}
@@ -15,7 +15,7 @@ use Rattle.yaml_parse_laws_windows.proofs.Following.{items_of, Plain, plain, see
 abbrev pub over_at : yaml_mark_t → yaml_mark_t → Token
 over_at m e = record { body = token.document_end; start_mark = m; end_mark = e }
 
--- ---- the stack behind DOCUMENT-END
+-- ---- the stack after DOCUMENT-END
 
 -- it awaits documents
 abbrev pub IsOver : Fed → Type 0
@@ -69,7 +69,7 @@ feed_over (state.more brackets.Mapping opener ∷ s) ds g m e = tt
 feed_over (state.pair_end ∷ s) ds g m e = over_item (left_at state.pair_end m) (feed s (over_at m e)) (feed_over s ds (within_stands s ds g) m e)
 feed_over (state.lone ∷ s) ds g m e = over_item (left_at state.lone m) (feed s (over_at m e)) (feed_over s ds (within_stands s ds g) m e)
 
--- ---- what begins a document does the same there and behind the stream's start
+-- ---- what begins a document does the same there and after the stream's start
 
 record Begun (t : Token) : Type 0 where
   pub item : RawEvent
@@ -134,7 +134,7 @@ over_of front goes m e ts none =
     let s = after front initial no_directives (refl, refl) goes us es z told quiet in
     overed front m e s ts es z (ap (λ y. through y no_directives) (sym (s.gives us None)) ∙ told) (sym (s.ends us None) ∙ quiet)
 
--- what is read behind DOCUMENT-END
+-- what is read after DOCUMENT-END
 over_plain : (front : List Token) (m e : yaml_mark_t) (x : Over front m e)
     (rest : List Token) (own : Option Fault)
     → seen (parse_of (front ++ over_at m e ∷ rest) own)
@@ -171,7 +171,7 @@ pub nothing_more : items_of (run [] [] None).items ≡ []
 unfolding run feed
 nothing_more = refl
 
--- the stream's end behind DOCUMENT-END
+-- the stream's end after DOCUMENT-END
 end_plain : (m e : yaml_mark_t)
     → (read_of (run (end_at m e ∷ []) (state.documents ∷ []) None) no_directives).events
     ≡ placed event.stream_end (event_at event.stream_end m e) ∷ []
@@ -180,7 +180,7 @@ end_plain m e =
     ap (λ (p : Plain). p.events) (went (end_at m e) [] (state.documents ∷ []) [] None (End ∷ []) no_directives (end_taken m e)
     ∙ ap (λ z. plain (End ∷ z) (run [] [] None).ending no_directives) nothing_more)
 
--- what is read behind the stream's start
+-- what is read after the stream's start
 first_plain : (x : yaml_encoding_t) (a c : yaml_mark_t) (rest : List Token) (own : Option Fault)
     → let first : Token = record { body = token.stream_start x; start_mark = a; end_mark = c } in
     seen (parse_of (first ∷ rest) own)
@@ -189,7 +189,7 @@ first_plain x a c rest own =
     let first : Token = record { body = token.stream_start x; start_mark = a; end_mark = c } in
     parse_plain (first ∷ rest) own ∙ went first rest initial (state.first ∷ []) own (event_at (event.stream_start x) a c ∷ []) no_directives (start_taken x a c)
 
--- it is the same behind both
+-- it is the same after both
 same_rest : (rest : List Token) (own : Option Fault) → GoesOn rest own
     → read_of (run rest (state.documents ∷ []) own) no_directives ≡ read_of (run rest (state.first ∷ []) own) no_directives
 unfolding run

@@ -34,7 +34,7 @@ opened_on (x ∷ xs) s = adds (weight x) (opened xs) (opened s) (opened (xs ++ s
 
 -- ---- a state at a token
 
--- states that stand in place of one, of that weight, behind a token
+-- states that stand in place of one, of that weight, after a token
 abbrev Rises : List State → ℕ → TokenBody → Type 0
 Rises above x b = (n : ℕ) → opened above + n ≡ depth_after b (x + n)
 
@@ -173,7 +173,7 @@ levels_at x t = levels_at_by x t.start_mark t.end_mark t.body
 
 -- ---- a stack at a token
 
--- what goes on has as many open as there are behind the token, where n are open in front of it
+-- what goes on has as many open as there are after the token, where n are open before it
 abbrev pub IsLevel : Fed → TokenBody → ℕ → Type 0
 IsLevel (stop is f) b n = Unit {0}
 IsLevel (go is s) b n = opened s ≡ depth_after b n
@@ -199,7 +199,7 @@ turn_level Open x t s h below =
     let none : 0 + (0 + opened s) ≡ opened s = omega arith in
     opened_on above (state.document_end ∷ state.documents ∷ s) ∙ h (0 + (0 + opened s)) ∙ ap (λ k. depth_after t.body (weight x + k)) none
 
--- A stack that stands has a state for each bracket that is open, behind each token that it takes.
+-- A stack that stands has a state for each bracket that is open, after each token that it takes.
 pub feed_level : (s : List State) (ds : Directives) → Stands s ds → (t : Token)
     → IsLevel (feed s t) t.body (opened s)
 unfolding feed

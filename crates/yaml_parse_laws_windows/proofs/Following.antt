@@ -130,7 +130,7 @@ through_parts (i ∷ is) js ds behind es h = by (settle i ds) refl h (λ z es k.
         let (fs, w, gs, told, more) = rec z es k in
         (fs, w, gs, ap (λ w. then_through w i (λ x. through is x)) e ∙ told, more)
 
--- ---- a list of tokens behind others
+-- ---- a list of tokens after others
 
 items_numbered : (n : ℕ) (is : List RawEvent)
     → items_of (map (λ (i : RawEvent). (i, n)) is) ≡ is
@@ -148,7 +148,7 @@ carried_items : (n : ℕ) (x : Fed) (is : List RawEvent) (s : List State) (k : L
 carried_items n x is s k e = ap (λ y. items_of (carry n y k).items) e ∙
     (map-append (λ (g : Given). g.0) (map (λ (i : RawEvent). (i, n)) is) (k s).items ∙ ap (λ z. z ++ items_of (k s).items) (items_numbered n is))
 
--- The items of a token that is taken come in front of those of the rest.
+-- The items of a token that is taken come before those of the rest.
 pub step_items : (t : Token) (ts : List Token) (s z : List State) (f : Option Fault)
     (is : List RawEvent)
     → feed s t ≡ go is z → items_of (run (t ∷ ts) s f).items ≡ is ++ items_of (run ts z f).items
@@ -180,7 +180,7 @@ halted t ts s f is p ds e =
     ap (λ o. read_of o ds) (run_step t ts s f ∙ ap (λ y. carry (length ts) y (λ z. run ts z f)) e)
     ∙ ap (λ y. plain y (Some p) ds) (items_numbered (length ts) is ∙ sym (append-nil is))
 
--- what a stack is behind tokens that are taken
+-- what a stack is after tokens that are taken
 pub record After (front : List Token) (s : List State) (ds : Directives) : Type 0 where
   pub items : List RawEvent
   pub stack : List State
@@ -192,7 +192,7 @@ pub record After (front : List Token) (s : List State) (ds : Directives) : Type 
   pub gives : (ts : List Token) (f : Option Fault) → items_of (run (front ++ ts) s f).items ≡ items ++ items_of (run ts stack f).items
   pub ends : (ts : List Token) (f : Option Fault) → (run (front ++ ts) s f).ending ≡ (run ts stack f).ending
 
--- What settles two lists of items, one behind another, settles each in its turn.
+-- What settles two lists of items, one after another, settles each in its turn.
 pub through_joined : (is js : List RawEvent) (ds w behind : Directives) (fs gs : List Event)
     → through is ds ≡ Some (fs, w) → through js w ≡ Some (gs, behind)
     → through (is ++ js) ds ≡ Some (fs ++ gs, behind)
@@ -220,7 +220,7 @@ through_joined (i ∷ is) js ds w behind fs gs one two = by (settle i ds) one (�
     by (gave body z) k rec = on body (through is z) z refl k rec
     by (noted z) k rec = rec z fs k
 
--- Tokens in front of others that are accepted.
+-- Tokens before others that are accepted.
 pub after : (front : List Token) (s : List State) (ds : Directives) → Stands s ds → GoOn front
     → (ts : List Token)
     → (es : List Event) (behind : Directives)
@@ -273,7 +273,7 @@ stopped : (m e : yaml_mark_t) (s : List State) (is : List RawEvent) (g : Fault)
     → feed s (end_at m e) ≡ stop is g → (run (end_at m e ∷ []) s None).ending ≡ None → ⊥
 stopped m e s is g h none = none_some (sym none ∙ ap (λ (y : Outcome). y.ending) (run_step (end_at m e) [] s None) ∙ ap (λ y. (carry 0 y (λ z. run [] z None)).ending) h)
 
--- the items of tokens behind a stream's start
+-- the items of tokens after a stream's start
 rest_items : (x : yaml_encoding_t) (a c m f : yaml_mark_t) (behind : List Token)
     (own : Option Fault)
     → let first : Token = record { body = token.stream_start x; start_mark = a; end_mark = c } in
@@ -295,7 +295,7 @@ rest_ending x a c m f behind own =
     step_ending first (start_at m f ∷ behind) initial (state.first ∷ []) own (event_at (event.stream_start x) a c ∷ []) refl
     ∙ step_ending (start_at m f) behind (state.first ∷ []) (begun f) own (item_at (item.document false) m f ∷ []) refl
 
--- What stands behind the first is the same where all is.
+-- What stands after the first is the same where all is.
 pub uncons : {A : Type 0} (x y : A) (xs ys : List A) → x ∷ xs ≡ y ∷ ys → xs ≡ ys
 uncons x y xs ys e = cc
 
@@ -308,7 +308,7 @@ parse_plain ts own = reading_plain (run ts initial own).items (run ts initial ow
 pub inner_pair : {x y : List Event × Directives} → Some x ≡ Some y → x ≡ y
 inner_pair e = cc
 
--- what is given in front of the end, and the directives there
+-- what is given before the end, and the directives there
 pub record Front (front : List Token) (m e f : yaml_mark_t) : Type 0 where
   pub taken : After front initial no_directives
   pub ended : Ended taken.stack m e f
@@ -346,7 +346,7 @@ front_of front goes m e f none =
       | inl r ↦ fronted front m e f s r es z told
     ]
 
--- the events of others behind a front
+-- the events of others after a front
 front_plain : (front : List Token) (m e f : yaml_mark_t) → (x : Front front m e f)
     → (is : List RawEvent) (g : Option Fault)
     → plain (x.taken.items ++ (x.ended.left ++ is)) g no_directives

@@ -27,7 +27,7 @@ Within (state.directives from ∷ s) = ⊥
 Within (state.document_end ∷ s) = s ≡ state.documents ∷ []
 Within (_ ∷ s) = Within s
 
--- A stack with directives that were noted: behind a document none are.
+-- A stack with directives that were noted: after a document none are.
 abbrev pub Stands : List State → Directives → Type 0
 Stands [] ds = ⊥
 Stands (state.stream ∷ s) ds = (s ≡ []) × (ds ≡ no_directives)

@@ -22,7 +22,7 @@ then_through (refused f) i k = None
 then_through (gave body ds) i k = with_event (placed body i) (k ds)
 then_through (noted ds) i k = k ds
 
--- their events, and the directives behind them
+-- their events, and the directives after them
 abbrev pub through : List RawEvent → Directives → Option (List Event × Directives)
 through [] ds = Some ([], ds)
 through (i ∷ is) ds = then_through (settle i ds) i (λ x. through is x)
@@ -34,7 +34,7 @@ none_some e = cc
 pub pair_last : {x y : List Event × Directives} → Some x ≡ Some y → x.1 ≡ y.1
 pair_last e = let same = same_Some _ _ e in ap (λ (z : List Event × Directives). z.1) same
 
--- ---- a stack behind a token
+-- ---- a stack after a token
 
 abbrev pub Fine : Fed → Directives → Type 0
 Fine (stop is f) ds = Unit {0}
@@ -135,7 +135,7 @@ last_fine Leave t s ds is below shut =
     leave_fine (left_at state.document_end t.start_mark) (feed s t) ds (settle (left_at state.document_end t.start_mark) ds) refl (λ z f. subst (Fine (feed s t)) f below)
 last_fine Open t s ds is below shut = absurd (shut refl)
 
--- A stack stands behind each token but the stream's end, with the directives that are noted then.
+-- A stack stands after each token but the stream's end, with the directives that are noted then.
 pub stands_feed : (s : List State) (ds : Directives) → Stands s ds → (t : Token)
     → t.body ≢ token.stream_end → Fine (feed s t) ds
 unfolding feed

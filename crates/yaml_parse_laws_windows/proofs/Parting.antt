@@ -1,4 +1,4 @@
--- A document's start does to a stack what the stream's end does, but for its own event.
+-- A document's start does to a stack what the stream's end does, except for its own event.
 use Rattle.std.proofs.Common.{◌≡◌, false, List, [], ◌∷◌, ◌++◌, Option, Some, None, refl, sym, ap, subst, ◌∙◌, inl, inr, ◌⊎◌}
 use Rattle.yaml_parse_laws_windows.proofs.Words.{yaml_mark_t, Token, Event, Fault, Refuse, Leave, ParseProblem, Root, Entry, IndentlessEntry, BlockPair, FlowPair, Key, Value, Flow, Block, RawEvent, item_at, event_at, Directives, no_directives, Settled, refused, gave, noted, settle, placed, State, choice_at, left_at, stop, go, with_item, turn, feed}
 use Rattle.yaml_parse_grammar.specs.parse_model.declared.yaml_token_type_t.TheVariants as kind
@@ -16,7 +16,7 @@ end_at m e = record { body = token.stream_end; start_mark = m; end_mark = e }
 abbrev pub start_at : yaml_mark_t → yaml_mark_t → Token
 start_at m e = record { body = token.document_start; start_mark = m; end_mark = e }
 
--- the states of a document behind its `---`
+-- the states of a document after its `---`
 abbrev pub begun : yaml_mark_t → List State
 begun e = state.optional Root e ∷ state.document_end ∷ state.documents ∷ []
 
@@ -50,7 +50,7 @@ more_same : (b : _) (opener : yaml_mark_t) → Same (state.more b opener)
 more_same brackets.Sequence opener = inr (_, _, refl)
 more_same brackets.Mapping opener = inr (_, _, refl)
 
--- what both give, and then each its own; behind a document nothing is noted
+-- what both give, and then each its own; after a document nothing is noted
 pub record Ended (s : List State) (m e f : yaml_mark_t) : Type 0 where
   pub left : List RawEvent
   pub ends : feed s (end_at m e) ≡ go (left ++ event_at event.stream_end m e ∷ []) []

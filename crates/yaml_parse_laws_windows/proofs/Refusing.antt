@@ -77,7 +77,7 @@ within_halts (state.more brackets.Mapping opener ∷ s) w m e f = refl
 within_halts (state.pair_end ∷ s) w m e f = halts_item (left_at state.pair_end m) (feed s (end_at m e)) (feed s (start_at m f)) (within_halts s w m e f)
 within_halts (state.lone ∷ s) w m e f = halts_item (left_at state.lone m) (feed s (end_at m e)) (feed s (start_at m f)) (within_halts s w m e f)
 
--- so at each stack, but behind directives
+-- so at each stack, but after directives
 abbrev AfterDirectives : List State → yaml_mark_t → yaml_mark_t → Type 0
 AfterDirectives s m e = feed s (end_at m e) ≡ stop [] (parser_fault problem.NoDocumentStart m m)
 

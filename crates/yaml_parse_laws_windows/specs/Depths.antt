@@ -1,9 +1,9 @@
--- How many brackets are open behind tokens.
+-- How many brackets are open after tokens.
 use Rattle.std.specs.Prelude.{ℕ, ◌+◌, ◌-◌, List, [], ◌∷◌}
 use Rattle.yaml_parse_grammar.specs.parse_model.Tokens.{Token, TokenBody}
 use Rattle.yaml_parse_grammar.specs.parse_model.Tokens as token
 
--- behind a token; a closer closes none where none is open
+-- after a token; a closer closes none where none is open
 abbrev pub depth_after : TokenBody → ℕ → ℕ
 depth_after token.flow_sequence_start n = n + 1
 depth_after token.flow_mapping_start n = n + 1
@@ -11,7 +11,7 @@ depth_after token.flow_sequence_end n = n - 1
 depth_after token.flow_mapping_end n = n - 1
 depth_after _ n = n
 
--- behind tokens, where n are open in front of them
+-- after tokens, where n are open before them
 abbrev pub depth_behind : List Token → ℕ → ℕ
 depth_behind [] n = n
 depth_behind (t ∷ ts) n = depth_behind ts (depth_after t.body n)

@@ -1,4 +1,4 @@
--- The events of tokens behind a document's end.
+-- The events of tokens after a document's end.
 use Rattle.std.specs.Prelude.{◌≡◌, ◌≢◌, ◌⊎◌, List, [], ◌∷◌, ◌++◌, map, Option, Some, None}
 use Rattle.yaml_parse_grammar.specs.parse_model.declared.yaml_encoding_t.{yaml_encoding_t}
 use Rattle.yaml_parse_grammar.specs.parse_model.Tokens.{Token, TokenBody, stream_start, stream_end, document_start, document_end, version_directive, tag_directive}
@@ -11,7 +11,7 @@ use Rattle.yaml_parse_grammar.specs.Resolve.{Reading, Told, no_directives}
 use Rattle.yaml_parse_grammar.specs.Remaining.{reading_of}
 use Rattle.yaml_parse_laws_windows.specs.Depths.{depth_behind}
 
--- what a parser reads of tokens, and of the fault behind them
+-- what a parser reads of tokens, and of the fault after them
 abbrev pub parse_of : List Token → Option Fault → Reading
 parse_of tokens own = reading_of (run tokens initial own) no_directives
 
@@ -24,8 +24,8 @@ abbrev pub GoOn : List Token → Type 0
 GoOn [] = Unit {0}
 GoOn (t ∷ ts) = (t.body ≢ stream_end) × GoOn ts
 
--- Where tokens that end in STREAM-END are accepted, and a DOCUMENT-START stands in its place, with others behind it, the events are
--- those in front of the stream's end, and then those that these tokens have behind a STREAM-START; and so is what they end in.
+-- Where tokens that end in STREAM-END are accepted, and a DOCUMENT-START stands in its place, with others after it, the events are
+-- those before the stream's end, and then those that these tokens have after a STREAM-START; and so is what they end in.
 abbrev pub WindowsAreParsed : Type 0
 WindowsAreParsed = (front : List Token) (last : Token) → GoOn front → last.body ≡ stream_end
     → (parse_of (front ++ last ∷ []) None).ending ≡ None
@@ -51,7 +51,7 @@ abbrev pub GoesOn : List Token → Option Fault → Type 0
 GoesOn [] own = own ≢ None
 GoesOn (mark ∷ behind) own = BeginsDocument mark.body
 
--- Where DOCUMENT-END stands in front of STREAM-END, a directive may stand in the latter's place too, wherever it is told, and so may
+-- Where DOCUMENT-END stands before STREAM-END, a directive may stand in the latter's place too, wherever it is told, and so may
 -- a fault.
 abbrev pub DirectivesAreParsed : Type 0
 DirectivesAreParsed = (front : List Token) (over last : Token) → GoOn front
@@ -66,8 +66,8 @@ DirectivesAreParsed = (front : List Token) (over last : Token) → GoOn front
     → (events_in (parse_of (front ++ over ∷ rest) own) ≡ before ++ later)
     × ((parse_of (front ++ over ∷ rest) own).ending ≡ (parse_of (first ∷ rest) own).ending)
 
--- Where tokens that end in STREAM-END are refused, and not for want of a document behind directives that end them, they are refused
--- so with a DOCUMENT-START in its place, whatever stands behind.
+-- Where tokens that end in STREAM-END are refused, and not for want of a document after directives that end them, they are refused
+-- so with a DOCUMENT-START in its place, whatever stands after.
 abbrev pub RefusedFrontsStay : Type 0
 RefusedFrontsStay = (front : List Token) (last : Token) → GoOn front → last.body ≡ stream_end
     → (f : Fault) → (parse_of (front ++ last ∷ []) None).ending ≡ Some f
@@ -78,7 +78,7 @@ RefusedFrontsStay = (front : List Token) (last : Token) → GoOn front → last.
     ≡ events_in (parse_of (front ++ last ∷ []) None))
     × ((parse_of (front ++ mark ∷ behind) own).ending ≡ Some f)
 
--- Where tokens that end in DOCUMENT-END and STREAM-END are refused, they are refused so whatever stands behind DOCUMENT-END.
+-- Where tokens that end in DOCUMENT-END and STREAM-END are refused, they are refused so whatever stands after DOCUMENT-END.
 abbrev pub EndedFrontsStay : Type 0
 EndedFrontsStay = (front : List Token) (over last : Token) → GoOn front
     → over.body ≡ document_end → last.body ≡ stream_end
@@ -88,7 +88,7 @@ EndedFrontsStay = (front : List Token) (over last : Token) → GoOn front
     ≡ events_in (parse_of (front ++ over ∷ last ∷ []) None))
     × ((parse_of (front ++ over ∷ behind) own).ending ≡ Some f)
 
--- Where tokens that a fault ends are refused, that is their fault, or they are refused so whatever stands behind them.
+-- Where tokens that a fault ends are refused, that is their fault, or they are refused so whatever stands after them.
 abbrev pub RefusedTokensStay : Type 0
 RefusedTokensStay = (front : List Token) (g f : Fault) → (parse_of front (Some g)).ending ≡ Some f
     → (f ≡ g) ⊎ ((behind : List Token) (own : Option Fault)

@@ -3,12 +3,12 @@
 ghost use Rattle.yaml_parse_laws_windows.specs.Laws.{WindowsAreParsed, DirectivesAreParsed, RefusedFrontsStay, EndedFrontsStay, RefusedTokensStay, BracketsAreClosed};
 
 /// The events of tokens that go on with a document's start where others end are those of these others, without the stream's end,
-/// and then those of what comes behind, without the stream's start.
+/// and then those of what comes after, without the stream's start.
 pub fn windows_are_parsed()
     ensures { WindowsAreParsed }
 {}
 
-/// So may they go on with a directive, where a document's end stands in front of it.
+/// So may they go on with a directive, where a document's end stands before it.
 pub fn directives_are_parsed()
     ensures { DirectivesAreParsed }
 {}
@@ -23,7 +23,7 @@ pub fn ended_fronts_stay()
     ensures { EndedFrontsStay }
 {}
 
-/// Tokens that a fault ends are refused for it, or so whatever stands behind them.
+/// Tokens that a fault ends are refused for it, or so whatever stands after them.
 pub fn refused_tokens_stay()
     ensures { RefusedTokensStay }
 {}

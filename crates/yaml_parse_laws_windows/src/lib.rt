@@ -1,4 +1,4 @@
-//! Laws of tokens behind a document's end: what a parser reads of them is what it reads of them behind a stream's start. No code.
+//! Laws of tokens after a document's end: what a parser reads of them is what it reads of them after a stream's start. No code.
 #![tactic(auto)]
 
 mod laws;

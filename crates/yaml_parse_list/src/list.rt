@@ -55,7 +55,7 @@ impl yaml_token_list_t {
         Ok(())
     }
 
-    /// The fault that comes behind the tokens.
+    /// The fault that comes after the tokens.
     pub fn end(&mut self, fault: yaml_fault_t)
         ensures { self.new ≡ record self.old { fault = Some (fault_of fault) } }
     {
@@ -79,7 +79,7 @@ impl yaml_token_source_t for yaml_token_list_t {
     }
 }
 
-/// Whether all texts of the token are UTF-8. The scanner's are, but for tags and prefixes, whose escapes can spell any
+/// Whether all texts of the token are UTF-8. The scanner's are, except for tags and prefixes, whose escapes can spell any
 /// bytes.
 pub fn yaml_token_utf8(token: &yaml_token_t) -> bool
     ensures { IsTrue result ↔ HasUtf8 (token_of token.now).body }

@@ -68,7 +68,7 @@ named_sound m (Some name) new known s h = λ q.
     subst (λ (o : Option ℤ). IfSome o (λ i. IsId m i)) (sym (map.get-insert nat_list_cmp_total known name new q))
     (cond_both (eq_by_cmp (slice_cmp nat_cmp) q name) (Some new) (map.get known q) (λ o. IfSome o (λ i. IsId m i)) (λ _. h) (λ _. s q))
 
--- the anchors behind one node more
+-- the anchors after one node more
 next_sound : (l : Loading) (anchor : Option (List ℕ)) → IsLoading l
     → AreAnchors (suc (length l.document.nodes)) (named anchor (next l) l.anchors)
 next_sound l anchor s = grind (arith, named_sound, IfSome_then, wider_id)

@@ -40,7 +40,7 @@ named_table : (anchor : Option (List ℕ)) (n : ℤ) (before : Anchored)
     → named anchor n (table before) ≡ table (and_node anchor n before)
 named_table anchor n before = grind arith
 
--- ---- what is there, and content behind it
+-- ---- what is there, and content after it
 
 -- several numbers, and several pairs of them, put where they belong
 abbrev attach_all : List ℤ → List Open → List Open
@@ -59,7 +59,7 @@ made d ns os known = record { document = record d { nodes = ns }; levels = os; a
 abbrev behind_nodes : Loading → Anchored → Loading
 behind_nodes l before = record l { anchors = table before }
 
--- numbered content behind what is there
+-- numbered content after what is there
 abbrev add : Loading → List ℤ → List Node → Anchored → Loading
 add l ids ns before = made l.document (l.document.nodes ++ ns) (attach_all ids l.levels) (table before)
 
@@ -79,7 +79,7 @@ attached_pairs [] pairs place os = ap (λ qs. open_mapping place qs None ∷ os)
 attached_pairs (p ∷ ps) pairs place os =
     attached_pairs ps (pairs ++ p ∷ []) place os ∙ ap (λ qs. open_mapping place qs None ∷ os) (append_assoc pairs (p ∷ []) ps)
 
--- the node behind others, changed
+-- the node after others, changed
 changed_at : (f : Node → Node) (xs ys : List Node) (x : Node)
     → change_place f (length xs) ((xs ++ x ∷ []) ++ ys) ≡ xs ++ f x ∷ ys
 changed_at f [] ys x = refl

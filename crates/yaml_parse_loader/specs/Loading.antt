@@ -171,7 +171,7 @@ Feeds fed (Err f) new = (IsStarved f ⊎ (fed ≡ refused (fault_of f))) × (new
 
 -- ---- whole runs
 
--- the document that events begin with and the events behind it; or the fault that comes first; or the document so far
+-- the document that events begin with and the events after it; or the fault that comes first; or the document so far
 pub data Loaded : Type 0 where
   unfinished : Loading → Loaded
   document : Document → List Event → Loaded

@@ -54,7 +54,7 @@ mutual
 abbrev pub spanning : event.EventBody → yaml_mark_t → yaml_mark_t → Event
 spanning body from to = record { body = body; start_mark = from; end_mark = to }
 
--- the events of content, in front of others
+-- the events of content, before others
 abbrev mutual
   pub events : Content → List Event → List Event
   events (alias name at) rest = spanning (event.alias name) at.start_mark at.end_mark ∷ rest
@@ -128,7 +128,7 @@ abbrev pub and_node : Option (List ℕ) → ℤ → Anchored → Anchored
 and_node None number before = before
 and_node (Some anchor) number before = (anchor, number) ∷ before
 
--- the number that stands for a node, its own nodes in preorder, and the nodes with an anchor before what is behind it
+-- the number that stands for a node, its own nodes in preorder, and the nodes with an anchor before what is after it
 pub record Numbered (A : Type 0) : Type 0 where
   pub number : A
   pub nodes : List Node
@@ -165,7 +165,7 @@ mapping_node h pairs style to = record {
   end_mark = to;
 }
 
--- content behind that many nodes, of which those have an anchor, numbered; or its first fault
+-- content after that many nodes, of which those have an anchor, numbered; or its first fault
 unfoldable mutual
   pub number : Content → ℕ → Anchored → Result (Numbered ℤ) Fault
   number (alias name at) count before = alias_number (last_with name before) at.start_mark before

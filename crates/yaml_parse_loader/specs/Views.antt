@@ -31,7 +31,7 @@ loading_of m = record {
   anchors = m.anchors;
 }
 
--- what a step came to that only want of memory refuses
+-- what a step came to that only out of memory refuses
 abbrev pub taken_by : Result Unit yaml_text_fault_t → Fed
 taken_by (Ok _) = fed.Taken
 taken_by (Err _) = fed.Starved

@@ -88,7 +88,7 @@ impl Loader {
 
     /// Takes an event: at a DOCUMENT-END it gives the document, at every other one nothing. Nodes count from 1 in
     /// preorder. An alias stands for the last node before it that has its anchor, and is refused where there is none
-    /// (`found undefined alias`). Where a list would get more than 2,147,483,647 entries, want of memory is answered.
+    /// (`found undefined alias`). Where a list would get more than 2,147,483,647 entries, out of memory is answered.
     /// After a document and after a refusal it starts anew.
     #[tactic(auto, using(crate::proofs::Keeps::nothing_sound, crate::proofs::Sizing::nothing_sized, crate::proofs::Keeps::step_sound, crate::proofs::Sizing::step_sized))]
     pub fn feed(

@@ -1,16 +1,17 @@
 //! A document in the making, and what an event makes of it.
 
-ghost use Rattle.std.specs.Prelude.{◌≡◌, [], length, None, OnOk};
+ghost use Rattle.std.specs.Prelude.{◌≡◌, [], length, map, None, OnOk};
 ghost use Rattle.std.specs.FinMap as finite;
 ghost use Rattle.yaml_parse_model.specs.declared.yaml_mark_t.{yaml_mark_t};
-ghost use Rattle.yaml_parse_model.specs.Events.{event_of, body_of, text_of};
+ghost use Rattle.yaml_parse_model.specs.Events.{event_of, body_of, directive_of, text_of};
 ghost use Rattle.yaml_parse_model.specs.Nodes.{node_of, tag_of};
 ghost use Rattle.yaml_parse_model.specs.Nodes as node;
-ghost use Rattle.yaml_parse_document.specs.Documents.{IsDocument};
+ghost use Rattle.yaml_parse_document.specs.Documents.{IsDocument, map_tag, seq_tag, str_tag};
 ghost use Rattle.yaml_parse_document.specs.Sizes.{IsSized};
-ghost use Rattle.yaml_parse_loader.specs.Loading.{open_sequence, open_mapping, attach, attached, nothing_loaded, named, enter_leaf, enter_open, aliased, closed, place_of, filled, step, step_body};
+ghost use Rattle.yaml_parse_loader.specs.Loading.{open_sequence, open_mapping, attach, attached, nothing_loaded, named, enter_leaf, enter_open, aliased, closed, place_of, filled, goes_on, started, step, step_body};
 ghost use Rattle.yaml_parse_loader.specs.Numbering.{loaded_tag};
 ghost use Rattle.yaml_parse_loader.specs.Sizes.{HasRoom, HaveRoom, HasRoomForNode, HasRoomFor};
+ghost use Rattle.yaml_parse_loader.specs.declared.making.Fed.TheVariants as fed;
 ghost use Rattle.yaml_parse_loader.specs.Views.{level_of, levels_of, loading_of, node_with, taken_by, Applies};
 
 use crate::anchors::AnchorTable;
@@ -21,7 +22,8 @@ use yaml_parse_document::{DocumentParts, yaml_document_t};
 use yaml_parse_model::{
     mark_again, yaml_event_body_t, yaml_event_t, yaml_mapping_style_t, yaml_mark_t,
     yaml_node_body_t, yaml_node_pair_t, yaml_node_t, yaml_node_tag_t, yaml_node_text_t,
-    yaml_sequence_style_t, yaml_text_fault_t,
+    yaml_scalar_style_t, yaml_sequence_style_t, yaml_tag_directive_t, yaml_text_fault_t,
+    yaml_version_directive_t,
 };
 
 /// An open collection: the place of its node, and what it holds so far. A mapping may have a key without its value.
@@ -183,7 +185,7 @@ pub enum Fed {
     Starved,
 }
 
-// What a step came to that only want of memory refuses.
+// What a step came to that only out of memory refuses.
 #[inline(always)]
 fn fed_of(step: Result<(), yaml_text_fault_t>) -> Fed
     ensures { result ≡ taken_by step }
@@ -403,7 +405,86 @@ impl Making {
         }
     }
 
-    // The same, of any event's body. It is long because it has an arm for each kind of event.
+    // A document begins. What was loaded before is let go.
+    fn begin_document(
+        &mut self,
+        version_directive: Option<yaml_version_directive_t>,
+        tag_directives: &mut Vec<yaml_tag_directive_t>,
+        implicit: bool,
+        start_mark: &yaml_mark_t,
+    ) -> Fed
+        ensures taken { result ≡ fed.Taken }
+        ensures started { loading_of self.new ≡ started version_directive
+            (map directive_of tag_directives.old.items) implicit start_mark.now }
+    {
+        self.begin_anew();
+        self.parts.version_directive = version_directive;
+        mem::swap(&mut self.parts.tag_directives, tag_directives);
+        self.parts.start_implicit = implicit;
+        self.parts.start_mark = *start_mark;
+        Fed::Taken
+    }
+
+    // A scalar that may have properties. Its texts are taken out.
+    fn any_scalar(
+        &mut self,
+        anchor: &mut Option<Vec<u8>>,
+        tag: &mut Option<Vec<u8>>,
+        value: &mut Vec<u8>,
+        style: yaml_scalar_style_t,
+        start_mark: &yaml_mark_t,
+        end_mark: &yaml_mark_t,
+    ) -> Fed
+        ensures { Applies (goes_on (enter_leaf (loading_of self.old) (text_of anchor.old)
+            (node_with (loaded_tag (text_of tag.old) str_tag)
+            (node.scalar value.old.items style) start_mark.now end_mark.now))) start_mark.now
+            (HasRoomForNode (loading_of self.old)) result (loading_of self.new) }
+    {
+        let tag = tag_or_default(tag.take(), yaml_node_tag_t::Str);
+        let value = yaml_node_text_t::taken(value);
+        let scalar = yaml_node_body_t::Scalar { value, style };
+        fed_of(self.add(anchor.take(), node_with(scalar, tag, start_mark, end_mark)))
+    }
+
+    // The beginning of a sequence that may have properties. Their texts are taken out.
+    fn any_sequence(
+        &mut self,
+        anchor: &mut Option<Vec<u8>>,
+        tag: &mut Option<Vec<u8>>,
+        style: yaml_sequence_style_t,
+        start_mark: &yaml_mark_t,
+        end_mark: &yaml_mark_t,
+    ) -> Fed
+        ensures { Applies (goes_on (enter_open (loading_of self.old) (text_of anchor.old)
+            (node_with (loaded_tag (text_of tag.old) seq_tag) (node.sequence [] style)
+            start_mark.now end_mark.now)
+            (open_sequence (length (loading_of self.old).document.nodes) []))) start_mark.now
+            (HasRoomForNode (loading_of self.old)) result (loading_of self.new) }
+    {
+        let tag = tag_or_default(tag.take(), yaml_node_tag_t::Seq);
+        fed_of(self.sequence(anchor.take(), tag, style, start_mark, end_mark))
+    }
+
+    // The beginning of a mapping that may have properties. Their texts are taken out.
+    fn any_mapping(
+        &mut self,
+        anchor: &mut Option<Vec<u8>>,
+        tag: &mut Option<Vec<u8>>,
+        style: yaml_mapping_style_t,
+        start_mark: &yaml_mark_t,
+        end_mark: &yaml_mark_t,
+    ) -> Fed
+        ensures { Applies (goes_on (enter_open (loading_of self.old) (text_of anchor.old)
+            (node_with (loaded_tag (text_of tag.old) map_tag) (node.mapping [] style)
+            start_mark.now end_mark.now)
+            (open_mapping (length (loading_of self.old).document.nodes) [] None))) start_mark.now
+            (HasRoomForNode (loading_of self.old)) result (loading_of self.new) }
+    {
+        let tag = tag_or_default(tag.take(), yaml_node_tag_t::Map);
+        fed_of(self.mapping(anchor.take(), tag, style, start_mark, end_mark))
+    }
+
+    // The same, of any event's body.
     // Out of line: the rare ones, which would have their room set to zero for each event.
     #[inline(never)]
     fn apply_other(
@@ -421,15 +502,7 @@ impl Making {
                 version_directive,
                 tag_directives,
                 implicit,
-            } => {
-                // What was loaded before is let go.
-                self.begin_anew();
-                self.parts.version_directive = *version_directive;
-                mem::swap(&mut self.parts.tag_directives, tag_directives);
-                self.parts.start_implicit = *implicit;
-                self.parts.start_mark = *start_mark;
-                Fed::Taken
-            }
+            } => self.begin_document(*version_directive, tag_directives, *implicit, start_mark),
             yaml_event_body_t::DocumentEnd { implicit } => {
                 self.parts.end_implicit = *implicit;
                 self.parts.end_mark = *end_mark;
@@ -442,31 +515,19 @@ impl Making {
                 value,
                 style,
                 ..
-            } => {
-                let tag = tag_or_default(tag.take(), yaml_node_tag_t::Str);
-                let value = yaml_node_text_t::taken(value);
-                let style = *style;
-                let scalar = yaml_node_body_t::Scalar { value, style };
-                fed_of(self.add(anchor.take(), node_with(scalar, tag, start_mark, end_mark)))
-            }
+            } => self.any_scalar(anchor, tag, value, *style, start_mark, end_mark),
             yaml_event_body_t::SequenceStart {
                 anchor,
                 tag,
                 style,
                 ..
-            } => {
-                let tag = tag_or_default(tag.take(), yaml_node_tag_t::Seq);
-                fed_of(self.sequence(anchor.take(), tag, *style, start_mark, end_mark))
-            }
+            } => self.any_sequence(anchor, tag, *style, start_mark, end_mark),
             yaml_event_body_t::MappingStart {
                 anchor,
                 tag,
                 style,
                 ..
-            } => {
-                let tag = tag_or_default(tag.take(), yaml_node_tag_t::Map);
-                fed_of(self.mapping(anchor.take(), tag, *style, start_mark, end_mark))
-            }
+            } => self.any_mapping(anchor, tag, *style, start_mark, end_mark),
             yaml_event_body_t::SequenceEnd | yaml_event_body_t::MappingEnd => {
                 self.close(*end_mark);
                 Fed::Taken

@@ -27,7 +27,7 @@ HasUtf8 (event.sequence_start anchor tag implicit style) = IsUtf8Option anchor �
 HasUtf8 (event.mapping_start anchor tag implicit style) = IsUtf8Option anchor × IsUtf8Option tag
 HasUtf8 _ = Unit {0}
 
--- a constructor answers the event with zero marks; that a text isn't UTF-8, exactly where one isn't; else want of memory
+-- a constructor answers the event with zero marks; that a text isn't UTF-8, exactly where one isn't; else out of memory
 abbrev pub Constructs : EventBody → Result yaml_event_t yaml_text_fault_t → Type 0
 Constructs body (Ok e) = (event_of e ≡ unplaced body) × HasUtf8 body
 Constructs body (Err NotUtf8) = ¬ HasUtf8 body

@@ -1,36 +1,13 @@
 -- What a source of tokens gives.
-use Rattle.std.specs.Prelude.{◌≡◌, ◌⊎◌, Bool, true, false, List, [], ◌∷◌, Option, Some, None, Result, Ok, Err, IsUtf8}
+use Rattle.std.specs.Prelude.{◌≡◌, ◌⊎◌, Bool, true, false, List, [], ◌∷◌, Option, Some, None, Result, Ok, Err}
 use Rattle.yaml_scan_model.specs.declared.token.yaml_token_t.{yaml_token_t}
 use Rattle.yaml_scan_model.specs.declared.fault.yaml_fault_t.{yaml_fault_t}
-use Rattle.yaml_scan_model.specs.Tokens.{Token, TokenBody, token_of, no_token}
-use Rattle.yaml_scan_model.specs.Tokens as token
+use Rattle.yaml_scan_model.specs.Tokens.{Token, token_of}
 use Rattle.yaml_scan_model.specs.Faults.{Fault, fault_of, IsMemoryFault, scan_layers}
+pub use Rattle.yaml_scan_model.specs.Coming.{front_of, rest_of, MayAnswer, HasUtf8}
 pub use Rattle.yaml_scan_slot.specs.Lending.{key_of}
 use Rattle.yaml_scan_slot.specs.declared.taker.Lent.{Lent}
 use Rattle.yaml_scan_slot.specs.declared.taker.Lent.TheVariants.{Taken, Left, Refused}
-
--- the first token to come, and the others; behind the last the empty token
-abbrev pub front_of : List Token → Token
-front_of [] = no_token
-front_of (t ∷ ts) = t
-
-abbrev pub rest_of : List Token → List Token
-rest_of [] = []
-rest_of (t ∷ ts) = ts
-
--- behind the last token only a fault may come, if there is one
-abbrev pub MayAnswer : List Token → Option Fault → Type 0
-MayAnswer [] fault = fault ≡ None
-MayAnswer (t ∷ ts) fault = Unit {0}
-
--- each text is UTF-8
-abbrev pub HasUtf8 : TokenBody → Type 0
-HasUtf8 (token.tag_directive handle prefix) = IsUtf8 handle × IsUtf8 prefix
-HasUtf8 (token.alias value) = IsUtf8 value
-HasUtf8 (token.anchor value) = IsUtf8 value
-HasUtf8 (token.tag handle suffix) = IsUtf8 handle × IsUtf8 suffix
-HasUtf8 (token.scalar value style) = IsUtf8 value
-HasUtf8 _ = Unit {0}
 
 -- a token was given: the first to come
 pub record GivesToken (old : List Token) (fault : Option Fault) (t : Token) (new : List Token)
@@ -47,7 +24,7 @@ HasMore [] None = ⊥
 HasMore [] (Some f) = Unit {0}
 HasMore (x ∷ xs) fault = Unit {0}
 
--- A fault was given: that to come, or want of memory in a layer that scans. Something was to come, and nothing comes behind it:
+-- A fault was given: that to come, or out of memory in a layer that scans. Something was to come, and nothing comes after it:
 -- it is given once.
 pub record GivesFault (old : List Token) (fault : Option Fault) (f : Fault) (new : List Token)
     (after : Option Fault) : Type 0 where
@@ -74,7 +51,7 @@ pub record LendsToken (P : Token → Type 0) (own : Answer → Type 0) (old : Li
   pub gives : GivesToken old fault token new after
   pub goes : own (Ok token)
 
--- KEY and the scalar behind it were given, which a taker took, and the source's own state went on with each
+-- KEY and the scalar after it were given, which a taker took, and the source's own state went on with each
 pub record LendsKeyed {S : Type 0} (P : Token → Type 0) (own : S → Answer → S → Type 0) (s : S)
     (old : List Token) (fault : Option Fault) (s' : S) (new : List Token) (after : Option Fault)
     : Type 0 where
@@ -88,7 +65,7 @@ pub record LendsKeyed {S : Type 0} (P : Token → Type 0) (own : S → Answer �
   pub gives : GivesToken rest ending token new after
   pub goes : own middle (Ok token) s'
 
--- What a source comes to that lends its next token: a taker took it, or KEY with the scalar behind it; or none is given, and what is
+-- What a source comes to that lends its next token: a taker took it, or KEY with the scalar after it; or none is given, and what is
 -- to come stays; or a fault is given.
 abbrev pub LendsNext : {A S : Type 0} → (Token → A → Type 0) → (Token → A → Type 0)
     → (S → Answer → S → Type 0) → S → S → Lent A → List Token → Option Fault → Fault

@@ -55,7 +55,7 @@ pub fn yaml_document_start_event_initialize(
     }))
 }
 
-/// A DOCUMENT-END event; `implicit`: no `...` stands behind.
+/// A DOCUMENT-END event; `implicit`: no `...` stands after.
 pub fn yaml_document_end_event_initialize(implicit: bool) -> yaml_event_t
     ensures { event_of result ≡ unplaced (event.document_end implicit) }
 {
@@ -112,7 +112,7 @@ struct Texts {
     tag: Option<Vec<u8>>,
 }
 
-// Copies of these texts, behind a look at both.
+// Copies of these texts, after a look at both.
 fn node_texts(
     alloc: Global,
     anchor: Option<&[u8]>,

@@ -32,7 +32,7 @@ pub enum yaml_event_body_t {
         implicit: bool,
     },
     DocumentEnd {
-        /// No `...` stands behind.
+        /// No `...` stands after.
         implicit: bool,
     },
     Alias {

@@ -65,7 +65,7 @@ fn put_one(bytes: &mut [u8], text: &[u8])
     }
 }
 
-// A text in front of what stands there.
+// A text before what stands there.
 // Inlined into its one caller, so that the bytes lie where they are to stay.
 #[inline(always)]
 fn put_front(bytes: &mut [u8], text: &[u8])

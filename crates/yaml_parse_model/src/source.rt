@@ -11,7 +11,7 @@ use yaml_scan_model::{yaml_fault_t, yaml_token_t};
 use yaml_scan_slot::{Lent, TokenSlot, TokenTaker};
 
 /// A source of tokens. Its meaning is the finite list of tokens to come, whose texts are UTF-8, and the fault that
-/// ends the list, if any. Behind both it answers the empty token. Where a growth is refused it answers
+/// ends the list, if any. After both it answers the empty token. Where a growth is refused it answers
 /// `yaml_memory_fault` of the layer `Scanner` or `Reader`; after that nothing is to come.
 pub trait yaml_token_source_t: Drop {
     // The tokens to come.
@@ -52,7 +52,7 @@ pub trait yaml_token_source_t: Drop {
         }
     }
 
-    /// Has a taker take the next token where it lies, or KEY and the scalar behind it; or lends none: it is left, and the other calls give it. A source whose tokens
+    /// Has a taker take the next token where it lies, or KEY and the scalar after it; or lends none: it is left, and the other calls give it. A source whose tokens
     /// lie in a row of its own has a body of its own for it.
     fn lend_next<T: TokenTaker>(
         &mut self,

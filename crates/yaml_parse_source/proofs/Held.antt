@@ -1,5 +1,5 @@
 -- How many tokens of a source are held.
-use Rattle.std.proofs.Common.{◌≤◌, ℕ, Bool, true, false, Option, Some, None, arith}
+use Rattle.std.proofs.Common.{◌≤◌, Bool, true, false, Option, Some, None, arith}
 use Rattle.yaml_scan_model.specs.declared.yaml_fault_t.{yaml_fault_t}
 use Rattle.yaml_parse_source.specs.declared.source.SourceTokens.{SourceTokens}
 use Rattle.yaml_parse_source.specs.Coming.{held_if}

@@ -1,12 +1,12 @@
 -- The ghost members of a source's tokens, by those of the source.
-use Rattle.std.specs.Prelude.{◌≡◌, ℕ, List, length, Option}
+use Rattle.std.specs.Prelude.{List, length, Option}
 use Rattle.yaml_scan_model.specs.declared.yaml_mark_t.{yaml_mark_t}
 use Rattle.yaml_scan_model.specs.Tokens.{Token, token_of, body_of}
 use Rattle.yaml_scan_model.specs.Faults.{Fault}
 use Rattle.yaml_scan_tokens.specs.declared.tokens.Tokens.{Ghosts}
 use Rattle.yaml_scan_tokens.specs.Texts.{texts_in}
 use Rattle.yaml_parse_source.specs.declared.source.SourceTokens.{SourceTokens}
-use Rattle.yaml_parse_source.specs.Coming.{coming, fault_coming, left_of, Tells}
+use Rattle.yaml_parse_source.specs.Coming.{coming, fault_coming, held_if, left_of, Tells}
 
 abbrev pub members_of : {S : Type 0} → (S → List Token) → (S → Option Fault)
     → Ghosts (SourceTokens S) yaml_mark_t
@@ -16,5 +16,6 @@ members_of to_come fault_to_come = record {
   mark_of = λ s p. p;
   texts = λ s. texts_in (body_of s.token.body);
   tells = λ s b. Tells s.fault s.is_next b;
-  unasked = λ s n. length (left_of s.fault (to_come s.source)) ≡ n;
+  unasked = λ s. length (left_of s.fault (to_come s.source));
+  held = λ s. held_if s.fault s.is_next;
 }

@@ -7,7 +7,7 @@ ghost use Rattle.yaml_scan_tokens.specs.Shows.{Shows, left_behind};
 ghost use Rattle.yaml_scan_tokens.specs.Texts.{texts_in};
 ghost use Rattle.yaml_scan_tokens.specs.Utf8.{IsUtf8Next};
 ghost use Rattle.yaml_parse_source.specs.Counts.{held_of, unasked_of};
-ghost use Rattle.yaml_parse_source.specs.Coming.{coming, fault_coming, left_of, Tells};
+ghost use Rattle.yaml_parse_source.specs.Coming.{coming, fault_coming, held_if, left_of, Tells};
 ghost use Rattle.yaml_parse_model.specs.Source.{front_of, HasUtf8};
 
 use yaml_parse_model::{ZERO_MARK, yaml_token_source_t};
@@ -117,7 +117,9 @@ impl<S: yaml_token_source_t> Tokens for SourceTokens<S> {
 
     ghost tells = { λ s b. Tells s.fault s.is_next b };
 
-    ghost unasked = { λ s n. length (left_of s.fault (S.to_come s.source)) ≡ n };
+    ghost unasked = { λ s. length (left_of s.fault (S.to_come s.source)) };
+
+    ghost held = { λ s. held_if s.fault s.is_next };
 
     fn kind(&mut self) -> Kind {
         match self.fault {

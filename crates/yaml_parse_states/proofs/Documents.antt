@@ -162,14 +162,14 @@ noted_by g k i s from turn.Given old mid new n t same c y e h = (
   ap (λ (p : Parser _ _). g.to_come p.tokens) h.1 ∙ t.rest,
 )
 noted_by g k i s from turn.Refused old mid new n t same c y e h =
-    let u : g.unasked mid.tokens (left_behind (g.to_come old.tokens)) = subst (λ ts. g.unasked mid.tokens (length ts)) t.rest t.unasked in
+    let u : g.unasked mid.tokens ≡ left_behind (g.to_come old.tokens) = t.unasked ∙ ap length t.rest in
     elim h.reason [
       | inl z ↦ inl (record {
         fault = h.refuses.fault;
         told = h.refuses.told;
         over = h.refuses.over;
         unasked = left_behind (g.to_come old.tokens);
-        left = h.refuses.unasked (left_behind (g.to_come old.tokens)) u;
+        left = h.refuses.unasked ∙ u;
         reason = inr (takes_refused k (grammar.directives from) i (grammar.directives from ∷ []) [] (g.to_come old.tokens) (g.fault_to_come old.tokens) (directives_of old.directives) h.fault n c y (e ∙ z)
             ∙ ap (λ f. stopped f (left_behind (g.to_come old.tokens))) (sym h.refuses.is));
       })
@@ -178,7 +178,7 @@ noted_by g k i s from turn.Refused old mid new n t same c y e h =
         told = h.refuses.told;
         over = h.refuses.over;
         unasked = left_behind (g.to_come old.tokens);
-        left = h.refuses.unasked (left_behind (g.to_come old.tokens)) u;
+        left = h.refuses.unasked ∙ u;
         memory = h.refuses.is ∙ m;
         asked = next_asked k (g.to_come old.tokens) (g.fault_to_come old.tokens) (grammar.directives from ∷ []) (directives_of old.directives) n;
       })
@@ -192,7 +192,7 @@ refuses_from g f old mid new e h = record {
   told = h.told;
   is = h.is;
   over = h.over;
-  unasked = λ n u. h.unasked n (subst (λ z. g.unasked z n) (sym e) u);
+  unasked = h.unasked ∙ ap (λ z. g.unasked z) e;
 }
 
 pub noted_refused : {T P : Type 0} (g : Ghosts T P) (was : Coming) (from : yaml_mark_t) (r : Turn)

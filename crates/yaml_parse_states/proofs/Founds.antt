@@ -47,7 +47,7 @@ use Rattle.yaml_parse_states.proofs.Parts.{memory_told, no_answer, refused_fault
 
 pub gave : {T P : Type 0} (g : Ghosts T P) (was rest : Coming) (r : Turn) (e : Event) (n : ℕ)
     (new : Parser T P) → r ≡ turn.Given → was ≡ ahead e n rest → event_in g new ≡ e
-    → g.unasked new.tokens n → coming_of g new ≡ rest → Found g was r new
+    → g.unasked new.tokens ≡ n → coming_of g new ≡ rest → Found g was r new
 gave g was rest r e n new is w h u c =
     subst (λ z. Found g was z new) (sym is) (record {
       unasked = n;
@@ -56,7 +56,7 @@ gave g was rest r e n new is w h u c =
     })
 
 pub lacks : {T P : Type 0} (g : Ghosts T P) (was : Coming) (r : Turn) (n : ℕ) (mid new : Parser T P)
-    → r ≡ turn.Refused → Refuses g (memory_fault ParserLayer) mid new → g.unasked mid.tokens n
+    → r ≡ turn.Refused → Refuses g (memory_fault ParserLayer) mid new → g.unasked mid.tokens ≡ n
     → next_unasked was.events was.ending_unasked ≤ n → Found g was r new
 lacks g was r n mid new is h u l =
     subst (λ z. Found g was z new) (sym is) (inr (record {
@@ -64,13 +64,13 @@ lacks g was r n mid new is h u l =
       told = h.told;
       over = h.over;
       unasked = n;
-      left = h.unasked n u;
+      left = h.unasked ∙ u;
       memory = h.is;
       asked = l;
     }))
 
 pub refused_with : {T P : Type 0} (g : Ghosts T P) (was : Coming) (r : Turn) (f : Fault) (n : ℕ)
-    (mid new : Parser T P) → r ≡ turn.Refused → Refuses g f mid new → g.unasked mid.tokens n
+    (mid new : Parser T P) → r ≡ turn.Refused → Refuses g f mid new → g.unasked mid.tokens ≡ n
     → was ≡ stopped f n → Found g was r new
 refused_with g was r f n mid new is h u w =
     subst (λ z. Found g was z new) (sym is) (inl (record {
@@ -78,7 +78,7 @@ refused_with g was r f n mid new is h u w =
       told = h.told;
       over = h.over;
       unasked = n;
-      left = h.unasked n u;
+      left = h.unasked ∙ u;
       reason = inr (w ∙ ap (λ f. stopped f n) (sym h.is));
     }))
 
@@ -104,8 +104,8 @@ coming_then g old new s ds t h d =
     ∙ ap (λ z. read (rest_of (g.to_come old.tokens)) (g.fault_to_come old.tokens) s z) d
 
 pub taken_unasked : {T P : Type 0} (g : Ghosts T P) (old new : T) → IsTaken g old new
-    → g.unasked new (left_behind (g.to_come old))
-taken_unasked g old new t = subst (λ ts. g.unasked new (length ts)) t.rest t.unasked
+    → g.unasked new ≡ left_behind (g.to_come old)
+taken_unasked g old new t = t.unasked ∙ ap length t.rest
 
 -- ---- contents
 
@@ -227,7 +227,7 @@ loose_found g q turn.Given old new shown h b n =
     let comes = content_comes g kind.BlockEntry (Block (Some x)) q (item.sequence _) (grammar.optional (IndentlessEntry x) u.end_mark ∷ grammar.others x ∷ []) old shown refl refl b n in
     gave g (begun g (Block (Some x)) q old) _ turn.Given _ (left_behind (g.to_come old.tokens)) new refl
     comes (event_told g kind_.SequenceStart false state.IndentlessSequenceEntry old new new.tokens h (ap (λ (p : Parser _ _). g.mark_of p.tokens) h.same))
-    (subst (λ (p : Parser _ _). g.unasked p.tokens (left_behind (g.to_come old.tokens))) (sym h.same) shown.unasked)
+    (subst (λ (p : Parser _ _). g.unasked p.tokens ≡ left_behind (g.to_come old.tokens)) (sym h.same) shown.unasked)
     (ap (λ (p : Parser _ _). read (g.to_come p.tokens) (g.fault_to_come p.tokens) (stack (g.mark_of p.tokens) p.state (reverse new.levels.items)) (directives_of p.directives)) h.same
     ∙ ap (λ z. read (g.to_come old.tokens) (g.fault_to_come old.tokens) (grammar.others (side_of z) ∷ below (g.mark_of old.tokens) (reverse new.levels.items)) ds) h.opens.next
     ∙ ap (λ z. read (g.to_come old.tokens) (g.fault_to_come old.tokens) (grammar.others x ∷ z) ds) (ap (λ (p : Parser _ _). below (g.mark_of p.tokens) (reverse new.levels.items)) (sym h.same) ∙ h.opens.below)
@@ -251,7 +251,7 @@ empty_found g k w q r old mid new shown j h a n same is kept event =
     gave g (begun g w (Some q) old) _ r _ (left_behind (g.to_come old.tokens)) new is
     (alone_read g k w q old shown j h a n)
     (event ∙ ap (λ (p : Parser _ _). node_told g item.empty (g.mark_of p.tokens p.event.end) p) same)
-    (subst (λ (p : Parser _ _). g.unasked p.tokens (left_behind (g.to_come old.tokens))) (sym kept') shown.unasked)
+    (subst (λ (p : Parser _ _). g.unasked p.tokens ≡ left_behind (g.to_come old.tokens)) (sym kept') shown.unasked)
     (ap (coming_of g) kept')
 
 -- ---- kinds that begin no content

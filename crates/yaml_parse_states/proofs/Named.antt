@@ -62,7 +62,7 @@ begins_joined g old = (refl, λ w q a. record { properties = q; are = a; same = 
 
 pub is_shown : {T P : Type 0} (g : Ghosts T P) (k : Kind) (t0 t1 : T)
     → Shows k (g.to_come t0) (g.fault_to_come t0) (g.to_come t1) (g.fault_to_come t1)
-    → is_fault k ≡ false → g.tells t1 (is_fault k) → g.unasked t1 (left_behind (g.to_come t1))
+    → is_fault k ≡ false → g.tells t1 (is_fault k) → g.unasked t1 ≡ left_behind (g.to_come t1)
     → IsShown g k t1
 is_shown g k t0 t1 shows e tells u = record {
   tells = subst (λ b. g.tells t1 b) e tells;

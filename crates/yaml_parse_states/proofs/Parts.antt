@@ -40,13 +40,13 @@ turned_by g was r s new mid e d h = subst (λ z. Turned g was z new) (sym e) (su
 -- an event was given, which was the next one
 pub gave_next : {T P : Type 0} (g : Ghosts T P) (was : Coming) (r : Turn) (next : State) (e : Event)
     (mid new : Parser T P) (n : ℕ) → r ≡ turn.Given → Gives g next e mid new
-    → g.unasked mid.tokens n
+    → g.unasked mid.tokens ≡ n
     → was ≡ ahead e n (coming_with g (states_in g next mid) mid)
     → Turned g was r new
 gave_next g was r next e mid new n is h u w =
     subst (λ z. Turned g was z new) (sym is) (record {
       unasked = n;
-      left = subst (λ (p : Parser _ _). g.unasked p.tokens n) (sym h.same) u;
+      left = subst (λ (p : Parser _ _). g.unasked p.tokens ≡ n) (sym h.same) u;
       next = w ∙ ap (λ e. ahead e n (coming_with g (states_in g next mid) mid)) (sym h.event) ∙ ap (ahead (event_in g new) n) (sym (gives_rest g next e mid new h));
     })
 
@@ -62,7 +62,7 @@ pub record IsIndicator (x : grammar.State) (k : Kind) (place : Site) (above : Li
 pub record Passed {T P : Type 0} (g : Ghosts T P) (k l : Kind) (t0 t1 t2 : T) : Type 0 where
   pub first : ShowsToken k (g.to_come t0) (g.fault_to_come t0) (g.to_come t1) (g.fault_to_come t1)
   pub second : Shows l (rest_of (g.to_come t1)) (g.fault_to_come t1) (g.to_come t2) (g.fault_to_come t2)
-  pub unasked : g.unasked t2 (left_behind (g.to_come t2))
+  pub unasked : g.unasked t2 ≡ left_behind (g.to_come t2)
   pub places : g.mark_of t2 ≡ g.mark_of t0
 
 -- after an indicator the place of a node is next
@@ -270,7 +270,7 @@ pub left_here : {T P : Type 0} (g : Ghosts T P) (k : Kind) (t1 : T) (x : grammar
     (s : List grammar.State) (b : EventBody) (next : State) (r : Turn) (e : Event)
     (old new : Parser T P)
     → Shows k (g.to_come old.tokens) (g.fault_to_come old.tokens) (g.to_come t1) (g.fault_to_come t1)
-    → g.unasked t1 (left_behind (g.to_come t1)) → g.mark_of t1 ≡ g.mark_of old.tokens
+    → g.unasked t1 ≡ left_behind (g.to_come t1) → g.mark_of t1 ≡ g.mark_of old.tokens
     → is_fault k ≡ false → choice_at x (type_by k) ≡ Leave
     → settle (left_at x (front_of (g.to_come t1)).start_mark) (directives_of old.directives) ≡ gave b (directives_of old.directives)
     → e ≡ placed b (left_at x (front_of (g.to_come t1)).start_mark)

@@ -30,7 +30,7 @@ refuses_by g r f old new same h = record {
   told = keeps g r f old new same h;
   is = refl;
   over = ap (λ (p : Parser _ _). p.state) same;
-  unasked = λ n u. subst (λ (p : Parser _ _). g.unasked p.tokens n) (sym same) u;
+  unasked = ap (λ (p : Parser _ _). g.unasked p.tokens) same;
 }
 
 none_behind : (ts : List Token) → ts ≡ [] → left_behind ts ≡ 0
@@ -49,7 +49,7 @@ refused_as_told g p b old mid new l e same was none some =
       told = keeps g refusal.OfTokens h.told mid new same (subst (g.tells mid.tokens) fails l.2.tells, h.ends);
       over = ap (λ (p : Parser _ _). p.state) same;
       unasked = 0;
-      left = subst (λ (p : Parser _ _). g.unasked p.tokens 0) (sym same) (subst (g.unasked mid.tokens) (none_behind (g.to_come mid.tokens) h.none) l.2.unasked);
+      left = ap (λ (p : Parser _ _). g.unasked p.tokens) same ∙ l.2.unasked ∙ none_behind (g.to_come mid.tokens) h.none;
       reason = elim h.reason [
         | inl m ↦ inl m
         | inr q ↦ inr (none h.told q.0 q.1)

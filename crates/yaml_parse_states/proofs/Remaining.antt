@@ -153,7 +153,7 @@ told_made : {T P : Type 0} (g : Ghosts T P) (held : T → ℕ) (n : ℕ) (a f : 
     → ToldNext g held n a f old new
 told_made g held n a f old mid made new h stays same over_ is = record {
   unasked = h.unasked;
-  left = subst (λ z. g.unasked z h.unasked) (sym same) (stays.unasked h.unasked h.left);
+  left = ap (λ z. g.unasked z) same ∙ stays.unasked ∙ h.left;
   tells = fault_next (coming_of g old) (coming_of g new) n h.unasked (held old.tokens) (held new.tokens) _ _ a f
       (ahead_more (coming_of g old) _ _ h.unasked h.next) (over_coming g new over_) (over_between g new over_)
       (inl (inl is))
@@ -190,7 +190,7 @@ pub gave_front : {T P : Type 0} (g : Ghosts T P) (e : Event) (old mid new : Pars
     → GaveFront g e old new
 gave_front g e old mid new h s is = record {
   unasked = h.unasked;
-  left = s.unasked h.unasked h.left;
+  left = s.unasked ∙ h.left;
   next = h.next ∙ ap (λ z. ahead z h.unasked (coming_of g mid)) (sym is) ∙ ap (λ z. ahead e h.unasked z) (sym (stays_coming g mid new s));
 }
 

@@ -142,7 +142,7 @@ refused_next g p b at context old mid new l e start where_ r was none some =
       told = r.told;
       over = r.over;
       unasked = left_behind (g.to_come mid.tokens);
-      left = r.unasked (left_behind (g.to_come mid.tokens)) l.2.unasked;
+      left = r.unasked ∙ l.2.unasked;
       reason = inr (some l.0 token.may (subst (λ (t : Token). IsOf l.0 t.body) front token.next.is)
           ∙ ap (λ (f : Fault). stopped f (left_behind (g.to_come old.tokens))) (sym is)
           ∙ ap (λ (ts : List Token). stopped r.fault (length (rest_of ts))) (sym token.front));

@@ -50,7 +50,7 @@ Found g was r new = ⊥
 pub record IsShown {T P : Type 0} (g : Ghosts T P) (k : Kind) (t : T) : Type 0 where
   pub tells : g.tells t false
   pub next : IsNext k (g.to_come t)
-  pub unasked : g.unasked t (left_behind (g.to_come t))
+  pub unasked : g.unasked t ≡ left_behind (g.to_come t)
 
 -- ---- a node in the making
 

@@ -1,5 +1,5 @@
 -- What the making of an owned event leaves as it is.
-use Rattle.std.specs.Prelude.{◌≡◌, ℕ, false}
+use Rattle.std.specs.Prelude.{◌≡◌, false}
 use Rattle.yaml_scan_tokens.specs.declared.tokens.Tokens.{Ghosts}
 use Rattle.yaml_parse_states.specs.declared.parser.Parser.{Parser}
 
@@ -11,4 +11,4 @@ pub record Stays {T P : Type 0} (g : Ghosts T P) (old new : Parser T P) : Type 0
   pub texts : g.texts new.tokens ≡ g.texts old.tokens
   pub places : g.mark_of new.tokens ≡ g.mark_of old.tokens
   pub told : g.tells new.tokens false → g.tells old.tokens false
-  pub unasked : (n : ℕ) → g.unasked old.tokens n → g.unasked new.tokens n
+  pub unasked : g.unasked new.tokens ≡ g.unasked old.tokens

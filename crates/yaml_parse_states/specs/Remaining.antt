@@ -1,5 +1,5 @@
 -- What a call gives, in the words of what is still to come of a parser.
-use Rattle.std.specs.Prelude.{ℕ, Bool, reverse}
+use Rattle.std.specs.Prelude.{◌≡◌, ℕ, Bool, reverse}
 use Rattle.yaml_parse_model.specs.Faults.{Fault}
 use Rattle.yaml_parse_grammar.specs.Remaining.{ParserRemaining, FaultOf, is_between}
 use Rattle.yaml_scan_tokens.specs.declared.tokens.Tokens.{Ghosts}
@@ -33,7 +33,7 @@ remaining_of g held p n a = remaining (coming_of g p) n (held p.tokens)
 pub record ToldNext {T P : Type 0} (g : Ghosts T P) (held : T → ℕ) (n : ℕ) (a : Fault) (f : Fault)
     (old new : Parser T P) : Type 0 where
   pub unasked : ℕ
-  pub left : g.unasked new.tokens unasked
+  pub left : g.unasked new.tokens ≡ unasked
   pub tells : FaultOf (remaining_of g held old n a) f (remaining_of g held new unasked f)
 
 abbrev pub Told : {T P : Type 0} → Ghosts T P → Fault → Parser T P → Parser T P → Type 0

@@ -46,7 +46,7 @@ pub record IsTaken {T P : Type 0} (g : Ghosts T P) (old new : T) : Type 0 where
   pub rest : g.to_come new ≡ rest_of (g.to_come old)
   pub fault : g.fault_to_come new ≡ g.fault_to_come old
   pub texts : AreTextsOf (front_of (g.to_come old)).body (g.texts new)
-  pub unasked : g.unasked new (length (g.to_come new))
+  pub unasked : g.unasked new ≡ length (g.to_come new)
   pub places : g.mark_of new ≡ g.mark_of old
 
 -- the token that is next is taken, and gives an event of that kind, with that state after it
@@ -69,7 +69,7 @@ pub record Looks {T P : Type 0} (g : Ghosts T P) (k : Kind) (old new : Parser T 
   pub shows : Shows k (g.to_come old.tokens) (g.fault_to_come old.tokens) (g.to_come new.tokens)
       (g.fault_to_come new.tokens)
   pub tells : g.tells new.tokens (is_fault k)
-  pub unasked : g.unasked new.tokens (left_behind (g.to_come new.tokens))
+  pub unasked : g.unasked new.tokens ≡ left_behind (g.to_come new.tokens)
   pub places : g.mark_of new.tokens ≡ g.mark_of old.tokens
 
 abbrev pub LooksFor : {T P : Type 0} → Ghosts T P → Bool → Parser T P → Parser T P → Type 0
@@ -93,7 +93,7 @@ pub record Refuses {T P : Type 0} (g : Ghosts T P) (f : Fault) (old new : Parser
   pub told : Keeps g fault new
   pub is : fault ≡ f
   pub over : new.state ≡ state.End
-  pub unasked : (n : ℕ) → g.unasked old.tokens n → g.unasked new.tokens n
+  pub unasked : g.unasked new.tokens ≡ g.unasked old.tokens
 
 -- where the context of a refusal begins: at the collection that is open, for the faults that tell it, or else at the token
 abbrev pub context_at : ParseProblem → yaml_mark_t → yaml_mark_t → yaml_mark_t
@@ -119,7 +119,7 @@ pub record IsLost (ts : List Token) (f : Option Fault) : Type 0 where
 -- an event was given, which was the next one, and the rest is left
 pub record GaveEvent {T P : Type 0} (g : Ghosts T P) (was : Coming) (new : Parser T P) : Type 0 where
   pub unasked : ℕ
-  pub left : g.unasked new.tokens unasked
+  pub left : g.unasked new.tokens ≡ unasked
   pub next : was ≡ ahead (event_in g new) unasked (coming_of g new)
 
 -- a fault was told, the next one or that of the memory of a layer that scans, and nothing is left
@@ -128,7 +128,7 @@ pub record IsRefused {T P : Type 0} (g : Ghosts T P) (was : Coming) (new : Parse
   pub told : Keeps g fault new
   pub over : new.state ≡ state.End
   pub unasked : ℕ
-  pub left : g.unasked new.tokens unasked
+  pub left : g.unasked new.tokens ≡ unasked
   pub reason : IsMemoryFault scan_layers fault ⊎ (was ≡ stopped fault unasked)
 
 -- The fault of the tokens is told, or that of the token which is next, where it is what comes.
@@ -148,7 +148,7 @@ pub record LacksMemory {T P : Type 0} (g : Ghosts T P) (was : Coming) (new : Par
   pub told : Keeps g fault new
   pub over : new.state ≡ state.End
   pub unasked : ℕ
-  pub left : g.unasked new.tokens unasked
+  pub left : g.unasked new.tokens ≡ unasked
   pub memory : fault ≡ memory_fault ParserLayer
   pub asked : next_unasked was.events was.ending_unasked ≤ unasked
 

@@ -2,7 +2,7 @@
 use Rattle.std.specs.Prelude.{◌≡◌, ◌⊎◌, ℕ, List, [], ◌∷◌, length, Option, Some}
 use Rattle.yaml_scan_model.specs.Tokens.{Token}
 use Rattle.yaml_scan_model.specs.Faults.{Fault, IsMemoryFault, scan_layers}
-use Rattle.yaml_parse_model.specs.Source.{front_of, rest_of, MayAnswer}
+use Rattle.yaml_scan_model.specs.Coming.{front_of, rest_of, MayAnswer}
 use Rattle.yaml_scan_tokens.specs.declared.kind.Kind.{Kind}
 use Rattle.yaml_scan_tokens.specs.declared.kind.Kind.TheVariants as kind
 use Rattle.yaml_scan_tokens.specs.Kinds.{IsOf}

@@ -1,6 +1,6 @@
 -- The texts of the token that is next are UTF-8.
 use Rattle.std.specs.Prelude.{false}
-use Rattle.yaml_parse_model.specs.Source.{front_of, HasUtf8}
+use Rattle.yaml_scan_model.specs.Coming.{front_of, HasUtf8}
 use Rattle.yaml_scan_tokens.specs.declared.tokens.Tokens.{Ghosts}
 
 -- where it was told

@@ -4,7 +4,7 @@ ghost use Rattle.std.specs.Prelude.{◌≡◌, ℕ, Bool, true, false, List, Opt
 ghost use Rattle.yaml_scan_model.specs.Tokens.{Token, zero_mark};
 ghost use Rattle.yaml_scan_model.specs.Faults.{Fault, fault_of};
 ghost use Rattle.yaml_scan_model.specs.declared.yaml_mark_t.{yaml_mark_t};
-ghost use Rattle.yaml_parse_model.specs.Source.{front_of, rest_of, HasUtf8};
+ghost use Rattle.yaml_scan_model.specs.Coming.{front_of, rest_of, HasUtf8};
 ghost use Rattle.yaml_scan_tokens.specs.Kinds.{is_fault};
 ghost use Rattle.yaml_scan_tokens.specs.Texts.{Texts, AreTextsOf, style_in};
 ghost use Rattle.yaml_scan_tokens.specs.Shows.{IsNext, Shows, left_behind};
@@ -32,15 +32,17 @@ pub trait Tokens: Drop {
     // The first of what is to come was told: a fault or a token.
     ghost tells: { Self → Bool → Type 0 };
 
-    // So many tokens weren't asked for. Of tokens that are asked for in batches nothing is said.
-    ghost unasked: { Self → ℕ → Type 0 } = { λ _ _. Unit {0} };
+    // How many tokens weren't asked for, and how many were and weren't taken.
+    ghost unasked: { Self → ℕ };
+
+    ghost held: { Self → ℕ };
 
     /// The kind of the next token, which is asked for where it hasn't come.
     fn kind(&mut self) -> Kind
         ensures shows { Shows result (to_come self.old) (fault_to_come self.old) (to_come self.new)
             (fault_to_come self.new) }
         ensures tells { tells self.new (is_fault result) }
-        ensures unasked { unasked self.new (left_behind (to_come self.new)) }
+        ensures unasked { unasked self.new ≡ left_behind (to_come self.new) }
         // The texts of a token are UTF-8 that was told just now.
         ensures utf8 { (tells self.old false → HasUtf8 (front_of (to_come self.old)).body)
             → HasUtf8 (front_of (to_come self.new)).body }
@@ -53,7 +55,7 @@ pub trait Tokens: Drop {
         ensures rest { to_come self.new ≡ rest_of (to_come self.old) }
         ensures fault { fault_to_come self.new ≡ fault_to_come self.old }
         ensures texts { AreTextsOf (front_of (to_come self.old)).body (texts self.new) }
-        ensures unasked { unasked self.new (length (to_come self.new)) }
+        ensures unasked { unasked self.new ≡ length (to_come self.new) }
         ensures utf8 { tells self.new false → HasUtf8 (front_of (to_come self.new)).body }
         ensures places { mark_of self.new ≡ mark_of self.old };
 
@@ -64,7 +66,7 @@ pub trait Tokens: Drop {
         ensures shows { Shows result (rest_of (to_come self.old)) (fault_to_come self.old)
             (to_come self.new) (fault_to_come self.new) }
         ensures tells { tells self.new (is_fault result) }
-        ensures unasked { unasked self.new (left_behind (to_come self.new)) }
+        ensures unasked { unasked self.new ≡ left_behind (to_come self.new) }
         ensures utf8 { HasUtf8 (front_of (to_come self.new)).body }
         ensures places { mark_of self.new ≡ mark_of self.old }
     {
@@ -116,7 +118,7 @@ pub trait Tokens: Drop {
         ensures texts { texts self.new ≡ texts self.old }
         ensures tells { (b : Bool) → tells self.old b → tells self.new b }
         ensures told { tells self.new false → tells self.old false }
-        ensures unasked { (n : ℕ) → unasked self.old n → unasked self.new n }
+        ensures unasked { unasked self.new ≡ unasked self.old }
         ensures places { mark_of self.new ≡ mark_of self.old };
 
     /// The place of a text's start.

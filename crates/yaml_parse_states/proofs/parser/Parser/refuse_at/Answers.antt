@@ -23,5 +23,5 @@ returns-clause-refuses g c =
       told = h.told;
       is = h.is;
       over = h.over;
-      unasked = λ n u. h.unasked n (c.mark-2.ensures.unasked n (c.mark.ensures.unasked n u));
+      unasked = h.unasked ∙ c.mark-2.ensures.unasked ∙ c.mark.ensures.unasked;
     }

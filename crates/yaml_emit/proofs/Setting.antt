@@ -1,4 +1,4 @@
--- Settings that were read are set again, but for one.
+-- Settings that were read are set again, except for one.
 use mir.Syntax.{w32}
 use mir.Val.{SFits, to_z, of_z}
 use Rattle.std.proofs.Common.{◌≡◌, ◌∙◌, ap, ℤ}

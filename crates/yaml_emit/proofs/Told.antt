@@ -20,7 +20,7 @@ on_err X fault (Err f) a k = k (λ none. cc)
 pub never : (X : Type 0) (fault : Option Fault) (f : Fault) → fault ≡ None → fault ≡ Some f → X
 never X fault f none some = absurd (cc)
 
--- Behind a fault a dump opens nothing.
+-- After a fault a dump opens nothing.
 pub opens_nothing : (e : Emitter) (f : Fault) → e.fault ≡ Some f → OpensStream e e
 opens_nothing e f some = record {
   kept = λ on. on;

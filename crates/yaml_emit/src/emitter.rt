@@ -20,7 +20,7 @@ use yaml_emit_machine::{
 };
 
 /// An emitter whose text has at most `limit` bytes. It is fresh, with any encoding, canonical and unicode off, indent 2,
-/// width 80 and any break. Refused only for want of memory; today it takes none.
+/// width 80 and any break. Refused only when out of memory; today it takes none.
 pub fn yaml_emitter_initialize(alloc: Global, limit: u64) -> Result<yaml_emitter_t, yaml_fault_t>
     ensures is { IfOk result (λ e. IsNew e limit) }
     ensures memory { IfErr result (λ f. fault_of f ≡ memory_fault from.Emitter) }
@@ -161,7 +161,7 @@ pub fn yaml_emitter_delete(emitter: yaml_emitter_t) {
     let_go(emitter);
 }
 
-// The answer of a call behind which there is that fault, or none.
+// The answer of a call after which there is that fault, or none.
 // Inlined: one look at it.
 #[inline(always)]
 fn outcome_of(fault: Option<&yaml_fault_t>) -> Result<(), yaml_fault_t>
@@ -174,7 +174,7 @@ fn outcome_of(fault: Option<&yaml_fault_t>) -> Result<(), yaml_fault_t>
 }
 
 /// Takes an event and lays out what no longer has to be held. The first fault is answered again from then on: `write error`
-/// past the limit, the grammar's fault for the first event that it refuses, `indentation is too deep`, or want of memory.
+/// past the limit, the grammar's fault for the first event that it refuses, `indentation is too deep`, or out of memory.
 /// At most three events are held then. Marks are ignored. The event's texts have to be UTF-8, which `yaml_event_utf8` tells.
 pub fn yaml_emitter_emit(
     emitter: &mut yaml_emitter_t,

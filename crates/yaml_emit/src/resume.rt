@@ -17,8 +17,8 @@ use yaml_emit_machine::{
 
 /// An emitter that goes on from where another one stood: that stand, the open collections round the innermost one, the outermost
 /// first, and the document's directives. Its text is what is written from there on, of at most `limit` bytes. The settings are those
-/// that were asked for, but for the encoding, which is the stand's; no event is held, so that those that waited are to be given
-/// again. Refused for want of memory, and where no emitter stands: a collection is open where no node comes, or is indented
+/// that were asked for, except the encoding, which is the stand's; no event is held, so that those that waited are to be given
+/// again. Refused when out of memory, and where no emitter stands: a collection is open where no node comes, or is indented
 /// by more than 2,147,483,647 columns.
 pub fn yaml_emitter_resume(
     alloc: Global,

@@ -1,4 +1,4 @@
--- An alias is laid out, and the state behind it.
+-- An alias is laid out, and the state after it.
 use Rattle.std.proofs.Common.{◌≡◌, ℕ, ◌+◌, List, [], ◌∷◌, ◌++◌, length, Bool, true, false, refl, sym, subst, ◌∙◌, ap, append-nil}
 use Rattle.std.specs.Prelude.{◌&&◌, not, nat_le, if◌then◌else◌, Option, Some, None}
 use Rattle.yaml_emit_layout.specs.declared.cursor.Cursor.{Cursor}
@@ -22,7 +22,7 @@ use Rattle.yaml_emit_core.specs.declared.level.State.{State}
 use Rattle.yaml_emit_core.specs.declared.level.State.TheVariants as state
 use Rattle.yaml_emit_core.specs.Levels.{phase_of, level_by, is_key, awaits_node, Stack, stepped, state_at}
 
--- behind letters the cursor is behind a text
+-- after letters the cursor is after a text
 pub ended : (x : ℕ) (xs : List ℕ) (c : Cursor) (rest : Rest)
     → letters (x ∷ xs) c (λ e. after_text e rest) ≡ letters (x ∷ xs) c rest
 unfolding letters
@@ -87,7 +87,7 @@ alias_piece st u ls flow n s ds name empty simple a b w t e p =
     (before_node s (level_by (phase_of st) flow n) x ▹ alias_layout (position_of (level_by (phase_of st) flow n) x) name)
     (λ rest. alias_text st flow n s name x a.output.cursor rest w) (subst P e p))
 
--- the state behind a node
+-- the state after a node
 
 some_or : Open → Option Open → Open
 some_or d None = d

@@ -1,4 +1,4 @@
--- What ends a collection, and the state behind it.
+-- What ends a collection, and the state after it.
 use Rattle.std.proofs.Common.{◌≡◌, ◌≢◌, ℕ, zero, suc, ◌+◌, ◌-◌, ◌<◌, List, [], ◌∷◌, Bool, true, false, refl, sym, subst, ◌∙◌, ap, arith}
 use Rattle.std.specs.Prelude.{◌&&◌, Option}
 use Rattle.yaml_emit_layout.specs.declared.cursor.Cursor.{Cursor}

@@ -7,7 +7,7 @@ use Rattle.yaml_emit_layout.specs.Sink.{Puts}
 use Rattle.yaml_emit_layout.specs.Nodes.{MOST, checked, deep_if}
 use Rattle.yaml_emit_output.specs.Draft.{Page as Paper}
 use Rattle.yaml_emit_scalars.specs.Lays.{Lays}
-use Rattle.yaml_emit_scalars.proofs.LaysLemmas.{lays_is, lays_same}
+use Rattle.yaml_emit_scalars.proofs.LaysLemmas.{lays_is}
 
 deep_test : (n : ℕ) → MOST < n → nat_lt MOST n ≡ true
 deep_test n h = grind (arith, nat_tests, h)
@@ -19,6 +19,3 @@ pub deep_lays : (n : ℕ) (a b : Paper) → MOST < n → Puts a.output b.output 
     → (b.line_break ≡ a.line_break) × (b.width ≡ a.width) → Lays a b (checked n) stay
 deep_lays n a b h p s =
     lays_is a b too_deep (checked n) (λ rest. ap (λ z. deep_if z (rest a.output.cursor)) (deep_test n h)) (record { owes = p; line_break = s.0; width = s.1 })
-
-pub calm_lays : (n : ℕ) (a : Paper) → n ≤ MOST → Lays a a (checked n) stay
-calm_lays n a h = lays_is a a stay (checked n) (λ rest. ap (λ z. deep_if z (rest a.output.cursor)) (calm_test n h)) (lays_same a stay)

@@ -1,17 +1,16 @@
 -- What ends a document.
-use Rattle.std.proofs.Common.{◌≡◌, List, [], ◌∷◌, ◌++◌, Bool, false, not, refl, subst, ap}
+use Rattle.std.proofs.Common.{◌≡◌, List, [], Bool, false, not, subst, ap}
 use Rattle.yaml_emit_layout.specs.declared.cursor.Cursor.{Cursor}
 use Rattle.yaml_emit_layout.specs.declared.settings.LineBreak.{LineBreak}
 use Rattle.yaml_emit_layout.specs.declared.settings.Settings.{Settings}
-use Rattle.yaml_emit_layout.specs.Layout.{Rest, ◌▹◌, stay, when, char, letters, gap, word, line, after_text}
+use Rattle.yaml_emit_layout.specs.Layout.{◌▹◌, stay, when, char, line}
 use Rattle.yaml_parse_model.specs.Events.{TagDirective}
 use Rattle.yaml_emit_layout.specs.Content as said
 use Rattle.yaml_emit_layout.specs.Nodes.{dots, line_at, end_layout}
 use Rattle.yaml_emit_layout.specs.State.{text_at, depth_at, piece, next, next_at}
 use Rattle.yaml_emit_output.specs.Draft.{Page as Paper, line_mark}
 use Rattle.yaml_emit_scalars.specs.Lays.{Lays}
-use Rattle.yaml_emit_scalars.proofs.LaysLemmas.{lays_is, lays_both}
-use Rattle.yaml_emit_scalars.proofs.Words.{behind_gap}
+use Rattle.yaml_emit_scalars.proofs.LaysLemmas.{lays_both}
 use Rattle.yaml_emit_core.specs.declared.level.State.TheVariants as state
 use Rattle.yaml_emit_core.specs.Levels.{Stack, state_at}
 
@@ -19,18 +18,6 @@ pub home_lays : (s : Settings) (k : LineBreak) (a b : Paper) → k ≡ s.line_br
     → Lays a b (when false (char 44) ▹ (line k 0 ▹ line_mark 0 false)) stay
     → Lays a b (line_at s 0) stay
 home_lays s k a b e p = let P : LineBreak → Type 0 = λ z. Lays a b (line z 0) stay in subst P e p
-
-dotted : (c : Cursor) (rest : Rest) → letters (46 ∷ 46 ∷ 46 ∷ []) c rest ≡
-    (letters ((([] ++ []) ++ 46 ∷ 46 ∷ 46 ∷ []) ++ []) ▹ after_text) c rest
-unfolding letters
-dotted c rest = refl
-
-pub dots_lay : (a b : Paper) → Lays a b
-    (gap ▹ (letters ((([] ++ []) ++ 46 ∷ 46 ∷ 46 ∷ []) ++ []) ▹ after_text)) stay
-    → Lays a b (word (46 ∷ 46 ∷ 46 ∷ [])) stay
-dots_lay a b p =
-    lays_is a b (gap ▹ (letters ((([] ++ []) ++ 46 ∷ 46 ∷ 46 ∷ []) ++ []) ▹ after_text)) (word (46 ∷ 46 ∷ 46 ∷ []))
-    (λ rest. behind_gap (letters (46 ∷ 46 ∷ 46 ∷ [])) (letters ((([] ++ []) ++ 46 ∷ 46 ∷ 46 ∷ []) ++ []) ▹ after_text) rest a.output.cursor (λ d l. dotted d rest)) p
 
 pub end_lays : (s : Settings) (old : Stack) (u implicit empty : Bool) (ds : List TagDirective)
     (a b c : Paper) → Lays a b (line_at s 0) stay → Lays b c (when (not implicit) (dots s)) stay

@@ -157,7 +157,7 @@ before_block s at false n simple a b i f k w =
     writes_as a b (line s.line_break n ▹ line_mark (mark_of at false simple) true) (before_node s (level_by (phase_of at) false n) simple) (n + 4) (n + 4) (omega arith)
     (λ rest. block_entry s at n simple a.output.cursor rest i) (subst P k w)
 
--- behind a simple key
+-- after a simple key
 pub before_simple : (s : Settings) (at : State) (flow : Bool) (n : ℕ) (simple : Bool) (a b : Page)
     → is_behind_simple at ≡ true → Writes a b (letters (58 ∷ [])) 1
     → Writes a b (before_node s (level_by (phase_of at) flow n) simple) (n + 4)

@@ -61,7 +61,7 @@ pub same_settings : (old new : Core) → new.settings ≡ old.settings
     → new.sink.encoding ≡ old.sink.encoding → settings_of new ≡ settings_of old
 same_settings old new e x = rw (e, x) refl
 
--- Behind an event that was laid out the others finish what all would have.
+-- After an event that was laid out the others finish what all would have.
 pub finishes_on : (old new : Core) (e : Event) (es : List Event) (whole : List Item)
     → LaysOut old new e (opens_empty e es)
     → Finishes (settings_of old) (state_of old) old.sink (e ∷ es) whole

@@ -83,7 +83,7 @@ laid_by old new e empty h s t =
       blames = record { levels = λ _ off on. absurd (cc (t, off, on)) };
     }
 
--- the emitter behind what was laid out and settled
+-- the emitter after what was laid out and settled
 abbrev pub behind : Inside → Paper → Sheet → Stack → Bool → List TagDirective → Inside
 behind c d o l u ds = record { settings = c.settings; draft = d; output = o; levels = l; unended = u; directives = ds; refused = c.refused; starved = c.starved }
 

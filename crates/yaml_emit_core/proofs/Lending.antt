@@ -1,5 +1,5 @@
 -- What the lent parts of an event say.
-use Rattle.std.proofs.Common.{◌≡◌, ℕ, List, Bool, true, false, refl, subst, ◌∙◌, ap}
+use Rattle.std.proofs.Common.{◌≡◌, ℕ, List, Bool, true, false, refl, subst, ◌∙◌}
 use Rattle.std.specs.Prelude.{Option, Some, None, option_map, ◌||◌, Vec}
 use Rattle.std.specs.Option.{is_some}
 use Rattle.std.specs.Global.{Global}

@@ -5,6 +5,7 @@ pub mod Closings
 pub mod Depths
 pub mod Endings
 pub mod Values
+pub mod Broken
 pub mod Spellings
 pub mod Opened
 pub mod Texts

@@ -14,7 +14,7 @@ use Rattle.yaml_emit_layout.proofs.Sinks.{grows_rest, owes_then, puts_stopped}
 use Rattle.yaml_emit_layout.specs.Content.{Event}
 use Rattle.yaml_emit_layout.specs.State.{problem_at, piece}
 
--- an output that went on behind a part of it
+-- an output that went on after a part of it
 pub notes_behind : (takes : Bool) (a b c : Status) → (b ≡ Going → a ≡ Going)
     → may_note takes a c ≡ false → may_note takes b c ≡ false
 notes_behind false a b c p h = refl
@@ -22,7 +22,7 @@ notes_behind true Going Going c p h = h
 notes_behind true _ Going c p h = let k = p refl in absurd (cc)
 notes_behind true a _ c p h = refl
 
--- and in front of the other part
+-- and before the other part
 notes_before : (takes : Bool) (a b c : Status) → (c ≡ Going → b ≡ Going)
     → may_note takes a c ≡ false → may_note takes a b ≡ false
 notes_before false a b c q h = refl
@@ -124,7 +124,7 @@ nothing_blank : (x : Encoding) → Blank x []
 unfolding encode shallow
 nothing_blank x = record { is = refl; front = refl }
 
--- ---- memory that is refused behind an event's text, and in front of it
+-- ---- memory that is refused after an event's text, and before it
 
 stopped_notes : (a b : Status) → a ≡ Going → b ≢ Going → may_note true a b ≡ true
 stopped_notes Going Going e n = absurd (n refl)

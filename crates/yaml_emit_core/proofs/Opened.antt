@@ -1,4 +1,4 @@
--- What is written for the start of a collection, and the state behind it.
+-- What is written for the start of a collection, and the state after it.
 use Rattle.std.proofs.Common.{◌≡◌, ℕ, ◌+◌, List, ◌∷◌, Bool, true, false, refl, sym, subst, ◌∙◌, ap}
 use Rattle.std.proofs.Math.Nat.{add-zero}
 use Rattle.std.specs.Prelude.{◌&&◌, ◌||◌, not, nat_le, Option, Some, None, option_map}
@@ -138,7 +138,7 @@ start_piece st u ls flow n m br s ds o q simple f a b c d e h t w v k j p1 p2 p3
     let P : Layout → Type 0 = λ z. Lays a e z stay in
     subst P (layouts ∙ (ap (λ z. start_at (context_of s ds) z x o.sequence q o.empty) t ∙ start_is s st u ls ds o.sequence q o.empty)) all
 
--- the state behind it
+-- the state after it
 opened_is : (st : State) (u : Bool) (ls : List Open) (f : Bool) (m : ℕ) (s : Settings)
     (ds : List TagDirective) (sequence : Bool) (q : Start) (empty simple : Bool) (c : Cursor)
     → f ≡ is_flow s (position_of (top_of ls) (is_simple_start (context_of s ds) q empty)) q empty

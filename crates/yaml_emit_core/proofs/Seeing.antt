@@ -23,7 +23,7 @@ pub next_mapped : {X Y : Type 0} (f : X → Y) (xs : List X) (i : ℕ) (y : X) �
     → y ≡ get_or xs i y → map f (drop i xs) ≡ f y ∷ map f (drop (i + 1) xs)
 next_mapped f xs i y h is = ap (map f) (next_item xs i y h is)
 
--- those behind which one more stands
+-- those after which one more stands
 pub taken_more : {X Y : Type 0} (f : X → Y) (xs : List X) (i : ℕ) (y : X) → i < length xs
     → y ≡ get_or xs i y → map f (take (i + 1) xs) ≡ map f (take i xs) ++ f y ∷ []
 taken_more f xs i y h is = ap (map f) (take_more xs i y h ∙ ap (λ z. take i xs ++ z ∷ []) (sym is)) ∙ map-append f (take i xs) (y ∷ [])
@@ -79,7 +79,7 @@ pub adds_key : (old new : Handles) (k : Bor (List ℕ)) → Updates order old ne
     → Adds k old new
 adds_key old new k e g = e.0 g ∙ either _ _ _ (is_eq-slice_cmp k.now g.now)
 
--- ---- a directive behind those of the set
+-- ---- a directive after those of the set
 
 pub wrong : (d : TagDirective) (old new : Handles) (r : Option Problem) (p : Problem)
     (ds : List TagDirective) → Judges d old (Ok r) new → r ≡ Some p → HasHandles old ds

@@ -50,7 +50,7 @@ pub begun : (p t : List ℕ) → length p < length t → take (length p) t ≡ p
     → has_shorter_prefix p t ≡ true
 begun p t h e = let k : bytes_eq (take (length p) t) p ≡ true = (bytes_eq-Decides (take (length p) t) p).1 e in rw k (grind (arith, nat_tests))
 
--- the byte behind is the tag's
+-- the byte after is the tag's
 pub begins_key : (d : ℕ) (p t : List ℕ) → Begins p t → d < length p → key p d ≡ get_or t d 0 + 1
 begins_key d p t b h = key_within p d h ∙ ap (λ q. get_or q d 0 + 1) (sym b.same) ∙ ap (λ n. n + 1) (get_or-take (length p) t d 0 h)
 

@@ -43,7 +43,7 @@ anchor_lays name a b p =
     lays_is a b (gap ▹ (letters ((([] ++ 38 ∷ []) ++ name) ++ []) ▹ after_text)) (word (38 ∷ name))
     (λ rest. behind_gap (letters (38 ∷ name)) (letters ((([] ++ 38 ∷ []) ++ name) ++ []) ▹ after_text) rest a.output.cursor (λ d l. named name d rest)) p
 
--- a text behind another, and behind a word
+-- a text after another, and after a word
 pub letters_more : (a b c : Paper) (xs ys : List ℕ) → Lays a b (letters xs) stay
     → Lays b c (letters ys) stay → Lays a c (letters (xs ++ ys)) stay
 letters_more a b c xs ys p q = let P : Layout → Type 0 = λ t. Lays a c t stay in subst P (sym (letters_append xs ys)) (lays_both a b c (letters xs) (letters ys) p q)

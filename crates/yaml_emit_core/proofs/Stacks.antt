@@ -11,7 +11,7 @@ use Rattle.yaml_emit_core.specs.declared.level.State.TheVariants as state
 use Rattle.yaml_emit_core.specs.declared.level.Level.{Level}
 use Rattle.yaml_emit_core.specs.Levels.{phase_of, place_of, level_by, level_of, state_in, state_behind, stack, upon, AreNarrow, Stack, stepped, opened}
 
--- behind a node the innermost collection is in the phase behind it
+-- after a node the innermost collection is in the phase after it
 pub stack_behind : (s : State) (flow : Bool) (n : ℕ) (simple : Bool) (ls : List Open)
     → stack (level_by (phase_of (state_behind s simple)) flow n) ls ≡ levels_behind (stack (level_by (phase_of s) flow n) ls) simple
 unfolding phase_behind

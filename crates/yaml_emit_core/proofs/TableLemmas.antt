@@ -20,7 +20,7 @@ pub none_of : (ds : List yaml_tag_directive_t) (i : ℕ) → length ds ≤ i
     → map directive_of (drop i ds) ≡ []
 none_of ds i h = ap (map directive_of) (drop_all _ _ h)
 
--- One directive more: it defines the handle, or those behind it do.
+-- One directive more: it defines the handle, or those after it do.
 pub defines_next : (v b : Bool) (ds : List yaml_tag_directive_t) (i : ℕ) (d : yaml_tag_directive_t)
     (handle : List ℕ) → i < length ds → d ≡ get_or ds i d
     → b ≡ defines (map directive_of (drop i ds)) handle → bytes_eq d.handle.items handle ≡ v

@@ -1,4 +1,4 @@
--- What is written for a scalar, and the state behind it.
+-- What is written for a scalar, and the state after it.
 use Rattle.std.proofs.Common.{◌≡◌, ◌≢◌, ℕ, ◌+◌, ◌<◌, ◌≤◌, List, [], ◌∷◌, length, Bool, true, false, refl, sym, subst, ◌∙◌, ap}
 use Rattle.std.specs.Prelude.{◌&&◌, ◌||◌, ◌==◌, not, nat_le, Option, Some, None, option_map, if◌then◌else◌}
 use Rattle.std.specs.Str.{chars}
@@ -155,7 +155,7 @@ scalar_piece st u ls inside n m s ds o q empty simple flow marked chosen a b c d
     let P : Layout → Type 0 = λ z. Lays a d z stay in
     subst P ((λ i. before i ▹ layout i) ∙ (ap (λ z. before_node s z x ▹ scalar_layout (context_of s ds) (position_of z x) q) t ∙ scalar_is s st u ls ds q empty)) all
 
--- the state behind it
+-- the state after it
 pub scalar_next : (st : State) (u : Bool) (ls : List Open) (inside : Bool) (n : ℕ) (s : Settings)
     (ds : List TagDirective) (o : Scalar) (q : said.Scalar) (empty simple : Bool) (behind : Cursor)
     (new : Stack)

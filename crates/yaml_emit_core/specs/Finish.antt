@@ -21,13 +21,13 @@ pub record FinishesBy (s : Settings) (st : State) (o : Output) (es : List Event)
   pub right : own_problems s.canonical es ≡ None
   pub ends : Ends o (layout s rest o.cursor nothing_more) whole
 
--- behind a limit or want of memory, the output is a first part of the text
+-- after a limit or out of memory, the output is a first part of the text
 abbrev pub FinishesAt : Status → Settings → State → Output → List Event → List Item → Type 0
 FinishesAt Going s st o es whole = FinishesBy s st o es whole
 FinishesAt Full s st o es whole = Ends o [] whole
 FinishesAt Deep s st o es whole = Ends o [] whole
 FinishesAt Starved s st o es whole = Ends o [] whole
 
--- In these settings, from this state and behind this output, with these events to come, the text is `whole`.
+-- In these settings, from this state and after this output, with these events to come, the text is `whole`.
 unfoldable pub Finishes : Settings → State → Output → List Event → List Item → Type 0
 Finishes s st o es whole = FinishesAt o.status s st o es whole

@@ -59,7 +59,7 @@ place_of state.Key unended = at.Node
 place_of state.SimpleValue unended = at.Node
 place_of state.Value unended = at.Node
 
--- what comes behind a node
+-- what comes after a node
 abbrev pub state_behind : State → Bool → State
 state_behind state.FirstItem simple = state.Item
 state_behind state.Item simple = state.Item

@@ -15,7 +15,7 @@ pub record IsOf (s : Settings) (page : Page) : Type 0 where
   pub line_break : page.line_break ≡ s.line_break
   pub width : page.width ≡ s.width
 
--- the cursor behind a comma, where one is due
+-- the cursor after a comma, where one is due
 abbrev pub behind_comma : Bool → Cursor → Cursor
 behind_comma true c = lettered 1 c
 behind_comma false c = c
@@ -24,7 +24,7 @@ behind_comma false c = c
 abbrev pub entry : Settings → Bool → ℕ → ℕ → Layout
 entry s comma n m = when comma (char ascii.comma) ▹ (turned s n ▹ mark_word m)
 
--- the character in front of an entry, of which 0 is none: in block collections `-` too
+-- the character before an entry, of which 0 is none: in block collections `-` too
 abbrev pub mark_of : State → Bool → Bool → ℕ
 mark_of state.FirstItem flow simple = if flow then 0 else ascii.hyphen
 mark_of state.Item flow simple = if flow then 0 else ascii.hyphen

@@ -22,7 +22,7 @@ at xs k = slice_index_or xs k ([], 0)
 abbrev pub entry_cmp : Entry → Entry → Ordering
 entry_cmp a b = ordering_then (slice_cmp nat_cmp a.0 b.0) (nat_cmp a.1 b.1)
 
--- the byte at a place plus one, or 0 behind the end
+-- the byte at a place plus one, or 0 after the end
 unfoldable pub key : List ℕ → ℕ → ℕ
 key [] d = 0
 key (b ∷ bs) zero = b + 1

@@ -29,7 +29,7 @@ Adds h old new = (g : Bor (List ℕ))
 abbrev pub HasHandles : Handles → List TagDirective → Type 0
 HasHandles s ds = (h : Bor (List ℕ)) → is_among h s ≡ list_any (has_handle h.now) ds
 
--- a directive behind those of the set is judged, and where nothing is wrong with it the set has its handle too
+-- a directive after those of the set is judged, and where nothing is wrong with it the set has its handle too
 abbrev pub Judges : TagDirective → Handles → Result (Option Problem) AllocError → Handles → Type 0
 Judges d old (Ok None) new = (ds : List TagDirective) → HasHandles old ds
     → (directive_problem ds d ≡ None) × HasHandles new (ds ++ d ∷ [])

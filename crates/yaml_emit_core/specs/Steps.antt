@@ -115,7 +115,7 @@ abbrev pub next_piece : Option Problem → Layout → Layout
 next_piece None a = a
 next_piece (Some p) a = stay
 
--- the text, and the state by the cursor behind it, while the output goes on
+-- the text, and the state by the cursor after it, while the output goes on
 pub record LaysOut (old new : Core) (e : Event) (empty : Bool) : Type 0 where
   pub settings : new.settings ≡ old.settings
   pub state : new.sink.status ≡ Going
@@ -127,7 +127,7 @@ pub record LaysOut (old new : Core) (e : Event) (empty : Bool) : Type 0 where
   pub blames : Blames old new e (next_piece (problem_at (settings_of old) (state_of old) e)
       (piece (settings_of old) (state_of old) e empty))
 
--- what is written for an event, and the state behind it, are the same for both answers whether it opens an empty collection
+-- what is written for an event, and the state after it, are the same for both answers whether it opens an empty collection
 abbrev pub IsSame : Settings → State → Event → Bool → Bool → Type 0
 IsSame s st e v w = (piece s st e v ≡ piece s st e w)
     × ((c : Cursor) → next s st e v c ≡ next s st e w c)

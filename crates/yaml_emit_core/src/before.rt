@@ -4,14 +4,14 @@ ghost use Rattle.std.specs.Prelude.{◌≡◌, ◌<◌, ◌≤◌, ◌+◌, ◌^
 ghost use Rattle.yaml_emit_layout.specs.Layout.{is_past};
 ghost use Rattle.yaml_emit_layout.specs.State.{before_node};
 ghost use Rattle.yaml_emit_output.specs.Draft.{Writes};
-ghost use Rattle.yaml_emit_core.specs.Levels.{level_of, is_entry};
+ghost use Rattle.yaml_emit_core.specs.Levels.{phase_of, level_by, is_entry};
 ghost use Rattle.yaml_emit_core.specs.Pages.{IsOf, entry, behind_comma, mark_of};
 
-use crate::level::{Level, State};
+use crate::level::State;
 use yaml_emit_layout::Settings;
 use yaml_emit_output::Draft;
 
-// Whether the column is past the width, behind a comma where one is due.
+// Whether the column is past the width, after a comma where one is due.
 fn is_past(draft: &Draft, comma: bool) -> bool
     ensures { result ≡ is_past draft.now.width (behind_comma comma draft.now.output.cursor) }
 {
@@ -40,7 +40,7 @@ fn put_entry(draft: &mut Draft, settings: &Settings, comma: bool, indent: u64, m
     }
 }
 
-// The character in front of an entry, of which 0 is none: in block collections `-` too.
+// The character before an entry, of which 0 is none: in block collections `-` too.
 fn mark_of(state: State, flow: bool, simple: bool) -> u8
     ensures mark { result ≡ mark_of state flow simple }
     ensures ascii { result < 0x80 }
@@ -54,39 +54,47 @@ fn mark_of(state: State, flow: bool, simple: bool) -> u8
 }
 
 // The same for an entry of any collection.
-fn put_lead(draft: &mut Draft, settings: &Settings, level: Level, simple: bool)
+fn put_lead(
+    draft: &mut Draft,
+    settings: &Settings,
+    state: State,
+    flow: bool,
+    indent: u64,
+    simple: bool,
+)
     requires on { IsOf settings.now draft.old }
-    requires room { level.indent + 25 ≤ draft.old.room }
-    requires indent { level.indent < 2 ^ 32 }
-    requires entry { is_entry level.state ≡ true }
-    ensures { Writes draft.old draft.new (before_node settings.now (level_of level) simple)
-        (level.indent + 4) }
+    requires room { indent + 25 ≤ draft.old.room }
+    requires indent { indent < 2 ^ 32 }
+    requires entry { is_entry state ≡ true }
+    ensures { Writes draft.old draft.new
+        (before_node settings.now (level_by (phase_of state) flow indent) simple) (indent + 4) }
 {
-    let mark = mark_of(level.state, level.flow, simple);
-    if level.flow {
-        put_entry(
-            draft,
-            settings,
-            level.state.is_further(),
-            level.indent,
-            mark,
-        );
+    let mark = mark_of(state, flow, simple);
+    if flow {
+        put_entry(draft, settings, state.is_further(), indent, mark);
     } else {
-        draft.put_line(false, level.indent as usize, mark, true);
+        draft.put_line(false, indent as usize, mark, true);
     }
 }
 
-/// What comes before a node in its collection, by whether the node is a simple key.
-pub fn put_before(draft: &mut Draft, settings: &Settings, level: Level, simple: bool)
+/// What comes before a node in its collection, by the parts of its level, and by whether the node is a simple key.
+pub fn put_before(
+    draft: &mut Draft,
+    settings: &Settings,
+    state: State,
+    flow: bool,
+    indent: u64,
+    simple: bool,
+)
     requires on { IsOf settings.now draft.old }
-    requires room { level.indent + 25 ≤ draft.old.room }
-    requires indent { level.indent < 2 ^ 32 }
-    ensures { Writes draft.old draft.new (before_node settings.now (level_of level) simple)
-        (level.indent + 4) }
+    requires room { indent + 25 ≤ draft.old.room }
+    requires indent { indent < 2 ^ 32 }
+    ensures { Writes draft.old draft.new
+        (before_node settings.now (level_by (phase_of state) flow indent) simple) (indent + 4) }
 {
-    if level.state.is_entry() {
-        put_lead(draft, settings, level, simple);
-    } else if level.state.is_behind_simple() {
+    if state.is_entry() {
+        put_lead(draft, settings, state, flow, indent, simple);
+    } else if state.is_behind_simple() {
         draft.put_text(b":");
     }
 }

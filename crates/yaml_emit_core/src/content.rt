@@ -26,7 +26,7 @@ use crate::nodes::put_before_node;
 use crate::scalars::{Manner, put_sign_if, put_value};
 use yaml_emit_layout::{Page, Settings, Style};
 use yaml_emit_output::Draft;
-use yaml_emit_scalars::{allowed_by, taken};
+use yaml_emit_scalars::{BREAK, allowed_by, taken};
 use yaml_scan_classes::has_break;
 use yaml_types::yaml_scalar_style_t;
 
@@ -42,8 +42,21 @@ pub struct Scalar<'a> {
     pub classes: u16,
 }
 
+// Whether the value has a break: that it has none its classes mostly tell.
+fn is_broken(scalar: &Scalar) -> bool
+    requires { Covers scalar.now.classes scalar.now.value.now 0 (length scalar.now.value.now) }
+    ensures { result ≡ has_break scalar.now.value.now }
+{
+    if scalar.classes & BREAK == 0 {
+        false
+    } else {
+        has_break(scalar.value.as_bytes())
+    }
+}
+
 // Whether it is a simple key: it has no break, and isn't long.
 fn is_simple(settings: &Settings, state: State, scalar: &Scalar) -> bool
+    requires { Covers scalar.now.classes scalar.now.value.now 0 (length scalar.now.value.now) }
     ensures { result ≡ (is_key state && (not settings.now.canonical
         && (not (has_break scalar.now.value.now)
         && nat_le (names_size scalar.now.properties + length scalar.now.value.now)
@@ -51,7 +64,7 @@ fn is_simple(settings: &Settings, state: State, scalar: &Scalar) -> bool
 {
     state.awaits_key()
         && !settings.canonical
-        && !has_break(scalar.value.as_bytes())
+        && !is_broken(scalar)
         && are_short(&scalar.properties, scalar.value.len())
 }
 

@@ -14,15 +14,6 @@ use yaml_emit_output::Draft;
 /// The largest indentation, in columns.
 pub const DEEPEST: u64 = 2147483647;
 
-/// An indentation that is too deep is marked, and nothing more is put.
-pub fn put_checked(draft: &mut Draft, indent: u64)
-    ensures { Lays draft.old draft.new (checked indent) stay }
-{
-    if DEEPEST < indent {
-        draft.stop_deep();
-    }
-}
-
 /// What opens a flow collection.
 pub fn put_opener(draft: &mut Draft, flow: bool, bracket: u8)
     requires { bracket < 0x80 }
@@ -42,7 +33,7 @@ fn put_some_opener(draft: &mut Draft, bracket: u8)
     }
 }
 
-/// A collection opens behind a node that it is; one that is too deep is marked, and nothing more is put. Refused only for want of
+/// A collection opens after a node that it is; one that is too deep is marked, and nothing more is put. Refused only for want of
 /// memory.
 pub fn open(
     draft: &mut Draft,

@@ -104,7 +104,7 @@ fn opening_problem(alloc: Global, opening: &Opening) -> Result<Option<Problem>, 
 }
 
 /// What is wrong with the start of a document: a version is 1.1 or 1.2, handles are `!` or `!name!`, and none comes twice; prefixes aren't
-/// empty. Refused only for want of memory.
+/// empty. Refused only when out of memory.
 pub fn document_start_problem(
     alloc: Global,
     levels: &Levels,

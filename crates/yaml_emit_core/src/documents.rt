@@ -1,9 +1,8 @@
 //! What ends a document.
 
-ghost use Rattle.std.specs.Prelude.{◌≡◌, ◌∷◌, [], Bool, List};
-ghost use Rattle.yaml_types.specs.Ascii as ascii;
+ghost use Rattle.std.specs.Prelude.{◌≡◌, [], Bool, List};
 ghost use Rattle.yaml_emit_layout.specs.declared.Cursor.{Cursor};
-ghost use Rattle.yaml_emit_layout.specs.Layout.{stay, when, word};
+ghost use Rattle.yaml_emit_layout.specs.Layout.{stay, when};
 ghost use Rattle.yaml_emit_layout.specs.Content as said;
 ghost use Rattle.yaml_emit_layout.specs.Nodes.{dots, line_at};
 ghost use Rattle.yaml_parse_model.specs.Events.{TagDirective};
@@ -13,6 +12,7 @@ ghost use Rattle.yaml_emit_core.specs.Levels.{state_at};
 ghost use Rattle.yaml_emit_core.specs.Pages.{IsOf};
 
 use crate::level::{Levels, State};
+use crate::names::put_front;
 use yaml_emit_layout::Settings;
 use yaml_emit_output::Draft;
 
@@ -26,21 +26,12 @@ pub fn put_line(draft: &mut Draft, settings: &Settings)
     }
 }
 
-// `...` in its line.
-fn put_three_dots(draft: &mut Draft)
-    ensures { Lays draft.old draft.new (word (ascii.dot ∷ ascii.dot ∷ ascii.dot ∷ [])) stay }
-{
-    if draft.has_room(3) {
-        draft.put_word(false, 0, b"...", 0);
-    }
-}
-
 /// `...` and a line.
 pub fn put_dots(draft: &mut Draft, settings: &Settings)
     requires { IsOf settings.now draft.old }
     ensures { Lays draft.old draft.new (dots settings.now) stay }
 {
-    put_three_dots(draft);
+    put_front(draft, b"...");
     put_line(draft, settings);
 }
 

@@ -107,7 +107,7 @@ impl Core {
         self.starved
     }
 
-    /// Lays out an event, by whether it opens a collection that the next event closes; or refuses it. For want of memory the output
+    /// Lays out an event, by whether it opens a collection that the next event closes; or refuses it. For out of memory the output
     /// stops.
     pub fn lay_out(&mut self, event: &yaml_event_body_t, empty: bool)
         requires { HasUtf8 (body_of event.now) }

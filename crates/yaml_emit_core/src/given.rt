@@ -49,6 +49,8 @@ pub fn kept_tag<'a>(canonical: bool, left_out: bool, tag: Option<&'a [u8]>) -> O
 }
 
 /// A tag as a document's directives cut it.
+// Out of line: most nodes have no tag.
+#[inline(never)]
 pub fn cut_tag<'a>(directives: &'a DirectiveTable, tag: &'a [u8]) -> Spelling<'a>
     ensures { split_in result ≡ split_tag directives.now tag.now }
 {

@@ -57,7 +57,7 @@ impl Model for Levels {
 }
 
 impl State {
-    /// What comes behind a node, by whether it was a simple key.
+    /// What comes after a node, by whether it was a simple key.
     pub fn behind(self, simple: bool) -> State
         ensures { result ≡ state_behind self simple }
     {
@@ -245,7 +245,7 @@ impl Levels {
         self.top.state = state;
     }
 
-    /// A collection opens behind the step to it; refused only for want of memory.
+    /// A collection opens after the step to it; refused only when out of memory.
     pub fn push(&mut self, level: Level) -> Result<(), AllocError>
         requires open { phase_of level.state ≢ None }
         requires narrow { level.indent < 2 ^ 31 }

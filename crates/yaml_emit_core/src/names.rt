@@ -8,7 +8,7 @@ ghost use Rattle.yaml_emit_layout.specs.Layout.{stay, letters, word, gap};
 ghost use Rattle.yaml_emit_layout.specs.Tags.{suffix_keeps, keeps_byte, uri_byte, uri_text, shorthand, verbatim, spelled, split_size};
 ghost use Rattle.yaml_emit_layout.specs.Nodes.{anchor_text, text_size, simple_key_bytes};
 ghost use Rattle.yaml_emit_scalars.specs.Lays.{Lays};
-ghost use Rattle.yaml_emit_core.specs.Names.{split_in, split_text, cut_size, name_in, tag_in, names_text, names_size, IsName};
+ghost use Rattle.yaml_emit_core.specs.Names.{split_by, split_in, split_text, cut_size, name_in, tag_in, names_text, names_size, IsName};
 
 use yaml_emit_output::Draft;
 
@@ -62,7 +62,8 @@ fn keeps_byte(flow: bool, byte: u8) -> bool
     }
 }
 
-fn put_text(draft: &mut Draft, text: &[u8])
+/// A text in ASCII, as it is.
+pub fn put_text(draft: &mut Draft, text: &[u8])
     requires some { 0 < length text.now }
     requires ascii { IsAscii text.now }
     ensures { Lays draft.old draft.new (letters text.now) stay }
@@ -164,16 +165,21 @@ fn put_verbatim(draft: &mut Draft, tag: &[u8])
     put_text(draft, b">");
 }
 
-fn put_tag(draft: &mut Draft, tag: &Spelling)
-    ensures { Lays draft.old draft.new (word (spelled (split_in tag.now))) stay }
+// Whole, or a handle and the rest.
+// Out of line: most nodes have no tag.
+#[inline(never)]
+fn put_tag(draft: &mut Draft, whole: bool, handle: &[u8], rest: &[u8])
+    ensures { Lays draft.old draft.new (word (spelled (split_by whole handle.now rest.now))) stay }
 {
-    if tag.whole {
-        put_verbatim(draft, tag.rest);
+    if whole {
+        put_verbatim(draft, rest);
     } else {
-        put_shorthand(draft, tag.handle, tag.rest);
+        put_shorthand(draft, handle, rest);
     }
 }
 
+// Out of line: most nodes have no anchor.
+#[inline(never)]
 fn put_anchor(draft: &mut Draft, name: &[u8])
     requires { IsAscii name.now }
     ensures { Lays draft.old draft.new (word (ascii.ampersand ∷ name.now)) stay }
@@ -196,7 +202,7 @@ fn put_tag_if(draft: &mut Draft, properties: &Properties)
     ensures { Lays draft.old draft.new (split_text (tag_in properties.now)) stay }
 {
     if let Some(tag) = &properties.tag {
-        put_tag(draft, tag);
+        put_tag(draft, tag.whole, tag.handle, tag.rest);
     }
 }
 

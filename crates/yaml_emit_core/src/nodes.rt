@@ -15,22 +15,31 @@ ghost use Rattle.yaml_emit_core.specs.Pages.{IsOf, closer_by};
 
 use crate::before::put_before;
 use crate::level::{Level, Levels};
-use crate::names::SIMPLE_KEY_BYTES;
+use crate::names::{SIMPLE_KEY_BYTES, put_text};
 use yaml_emit_layout::Settings;
 use yaml_emit_output::Draft;
 
 /// What comes before a node, where there is room.
+// Inlined: the node's level stays in registers.
+#[inline(always)]
 pub fn put_before_node(draft: &mut Draft, settings: &Settings, level: Level, simple: bool)
     requires on { IsOf settings.now draft.old }
     requires narrow { level.indent < 2 ^ 31 }
     ensures { Lays draft.old draft.new (before_node settings.now (level_of level) simple) stay }
 {
     if draft.has_room(level.indent as usize) {
-        put_before(draft, settings, level, simple);
+        put_before(
+            draft,
+            settings,
+            level.state,
+            level.flow,
+            level.indent,
+            simple,
+        );
     }
 }
 
-// The space behind an alias that is a simple key, or 0.
+// The space after an alias that is a simple key, or 0.
 fn space_behind(simple: bool) -> u8
     ensures mark { result ≡ (if simple then ascii.space else 0) }
     ensures ascii { result < 0x80 }
@@ -61,15 +70,6 @@ fn put_last_line(draft: &mut Draft, indent: u64, bracket: u8)
     }
 }
 
-fn put_bracket(draft: &mut Draft, bracket: u8)
-    requires { bracket < 0x80 }
-    ensures { Lays draft.old draft.new (char bracket) stay }
-{
-    if draft.has_room(1) {
-        draft.put_text(&[bracket]);
-    }
-}
-
 // What ends a flow collection.
 fn put_closer(draft: &mut Draft, settings: &Settings, level: Level, bracket: u8)
     requires on { IsOf settings.now draft.old }
@@ -81,7 +81,7 @@ fn put_closer(draft: &mut Draft, settings: &Settings, level: Level, bracket: u8)
     if settings.canonical & level.state.is_further() {
         put_last_line(draft, level.indent.saturating_sub(settings.indent), bracket);
     } else {
-        put_bracket(draft, bracket);
+        put_text(draft, &[bracket]);
     }
 }
 
@@ -122,7 +122,7 @@ pub fn lay_end(draft: &mut Draft, settings: &Settings, levels: &mut Levels, sequ
     levels.pop();
 }
 
-/// An alias where a node may come, of a name that was judged: a word behind `*`, and as a simple key a space behind it.
+/// An alias where a node may come, of a name that was judged: a word after `*`, and as a simple key a space after it.
 pub fn lay_alias(draft: &mut Draft, settings: &Settings, levels: &mut Levels, name: &[u8])
     requires on { IsOf settings.now draft.old }
     requires due { awaits_node levels.old.state ≡ true }

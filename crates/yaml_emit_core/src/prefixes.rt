@@ -9,7 +9,7 @@ ghost use Rattle.yaml_emit_layout.specs.Tags.{has_shorter_prefix};
 use std::alloc::{AllocError, Global};
 use yaml_scan_model::{SHORT, stands_in_front, yaml_tag_directive_t};
 
-/// Whether a tag begins with the prefix, and goes on behind it.
+/// Whether a tag begins with the prefix, and goes on after it.
 // Inlined: of a handle's own prefix the length is known, and it is a comparison or two.
 #[inline(always)]
 pub fn has_shorter_prefix(prefix: &[u8], tag: &[u8]) -> bool
@@ -25,7 +25,7 @@ pub fn has_shorter_prefix(prefix: &[u8], tag: &[u8]) -> bool
     }
 }
 
-// The byte behind the first `depth` ones, plus one; 0 where there is none.
+// The byte after the first `depth` ones, plus one; 0 where there is none.
 #[tactic(auto, using(crate::proofs::Sorting::key_within, crate::proofs::Sorting::key_behind))]
 fn key(prefix: &[u8], depth: usize) -> u16
     ensures { result ≡ key prefix.now depth }

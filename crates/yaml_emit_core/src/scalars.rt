@@ -8,6 +8,7 @@ ghost use Rattle.yaml_emit_layout.specs.Scalars.{scalar_text};
 ghost use Rattle.yaml_emit_scalars.specs.Classes.{Covers};
 ghost use Rattle.yaml_emit_scalars.specs.Lays.{Lays, IsOn};
 
+use crate::names::put_front;
 use yaml_emit_layout::{Page, Style};
 use yaml_emit_output::Draft;
 use yaml_emit_scalars::{put_scalar, put_word};
@@ -22,20 +23,12 @@ pub struct Manner {
     pub marked: bool,
 }
 
-fn put_sign(draft: &mut Draft)
-    ensures { Lays draft.old draft.new (word (ascii.exclamation ∷ [])) stay }
-{
-    if draft.has_room(1) {
-        draft.put_word(false, b'!', b"", 0);
-    }
-}
-
 /// `!` where it is due.
 pub fn put_sign_if(draft: &mut Draft, marked: bool)
     ensures { Lays draft.old draft.new (when marked (word (ascii.exclamation ∷ []))) stay }
 {
     if marked {
-        put_sign(draft);
+        put_front(draft, b"!");
     }
 }
 

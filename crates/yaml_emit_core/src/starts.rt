@@ -52,11 +52,11 @@ fn is_simple(settings: &Settings, state: State, start: &Opener) -> bool
     ensures { result ≡ (is_key state && (not settings.now.canonical && (start.now.empty
         && nat_le (names_size start.now.properties + 0) simple_key_bytes))) }
 {
-    state.awaits_key() & (!settings.canonical & (start.empty & are_short(&start.properties, 0)))
+    state.awaits_key() && !settings.canonical && start.empty && are_short(&start.properties, 0)
 }
 
 /// The start of a sequence or a mapping where a node may come: what comes before it, an anchor and a tag, and the bracket of a flow
-/// collection. Refused only for want of memory.
+/// collection. Refused only when out of memory.
 pub fn lay_start(
     draft: &mut Draft,
     settings: &Settings,

@@ -107,7 +107,7 @@ impl DirectiveTable {
         }
     }
 
-    /// The directives in this order; refused only for want of memory.
+    /// The directives in this order; refused only when out of memory.
     pub fn of(list: Vec<yaml_tag_directive_t>) -> Result<DirectiveTable, AllocError>
         ensures { IfOk result (λ t. t ≡ map directive_of list.items) }
     {

@@ -4,3 +4,4 @@ pub mod Counting
 pub mod Naming
 pub mod Leaving
 pub mod Joining
+pub mod Decimals

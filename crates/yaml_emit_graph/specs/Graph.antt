@@ -1,5 +1,6 @@
 -- What a document says: its nodes as a tree, and the events of a dump.
-use Rattle.std.specs.Prelude.{ℕ, zero, suc, ℤ, pos, ◌==◌, Bool, true, false, if◌then◌else◌, List, [], ◌∷◌, ◌++◌, length, get_or, set, replicate, Option, Some, None, nat_eq, codes, decimal}
+use Rattle.std.specs.Prelude.{ℕ, zero, suc, ℤ, pos, ◌==◌, Bool, true, false, if◌then◌else◌, List, [], ◌∷◌, ◌++◌, length, get_or, set, replicate, Option, Some, None, nat_eq, codes}
+use Rattle.std.specs.Fmt.{digits_onto}
 use Rattle.std.specs.Cmp.Lexicographic.{pointwise}
 use Rattle.yaml_scan_model.specs.declared.yaml_scalar_style_t.{yaml_scalar_style_t}
 use Rattle.yaml_scan_model.specs.declared.yaml_scalar_style_t.TheVariants.{YAML_ANY_SCALAR_STYLE}
@@ -72,7 +73,7 @@ abbrev pub none_met : List model.Node → Met
 none_met nodes = replicate (length nodes) false
 
 mutual
-  -- The visit of the node under a number: it was met before; or it is met first, and what it holds is visited behind it. (A
+  -- The visit of the node under a number: it was met before; or it is met first, and what it holds is visited after it. (A
   -- visit is cut off where the bound of the depth is used up: a law says that none is.)
   pub data Visit : Type 0 where
     cut_off : Visit
@@ -120,7 +121,7 @@ walked nodes = (visit_node (suc (length nodes)) nodes (pos 1) (none_met nodes)).
 
 -- ---- its turns, in their order
 
--- a collection is left behind what it holds
+-- a collection is left after what it holds
 abbrev pub leaving : ℤ → model.NodeBody → List Turn
 leaving id body = if is_collection body then Leave id ∷ [] else []
 
@@ -179,8 +180,12 @@ number_at table id = number_in table (place_at id)
 abbrev pub lead : ℕ → List ℕ
 lead size = if size == 1 then codes "id00" else if size == 2 then codes "id0" else codes "id"
 
+-- the decimal digits, as many as the number has; below 2 ^ 64 they are what a program writes
+unfoldable pub decimal_text : ℕ → List ℕ
+decimal_text number = digits_onto (suc number) 10 false number []
+
 unfoldable pub name_of : ℕ → List ℕ
-name_of number = lead (length (decimal number)) ++ decimal number
+name_of number = lead (length (decimal_text number)) ++ decimal_text number
 
 abbrev pub anchor_of : ℕ → Option (List ℕ)
 anchor_of number = if number == 0 then None else Some (name_of number)

@@ -20,7 +20,7 @@ unfoldable pub over : (ℤ → Rest → Rest) → List ℤ → Rest → Rest
 over visit [] rest = rest
 over visit (id ∷ ids) rest = visit id (over visit ids rest)
 
--- a collection is left behind what it holds
+-- a collection is left after what it holds
 abbrev pub inside : (ℤ → Rest → Rest) → ℤ → model.NodeBody → Rest → Rest
 inside visit id body rest = if is_collection body then over visit (child_ids body)
     (λ m. Leave id ∷ rest m) else rest

@@ -96,7 +96,7 @@ impl Walk {
         }
     }
 
-    // One more open node; refused only for want of memory.
+    // One more open node; refused only when out of memory.
     fn push(&mut self, next: Open) -> Result<(), AllocError>
         ensures stack { OnOk result (stack_of self.new ≡ next ∷ stack_of self.old) }
         ensures rest { (self.new.met ≡ self.old.met) × (self.new.started ≡ self.old.started) }

@@ -9,7 +9,7 @@ use Rattle.yaml_emit_graph.specs.emit_layout.Content.{Node}
 use Rattle.yaml_emit_laws_dumps.proofs.Passing.{or_none}
 use Rattle.yaml_emit_laws_dumps.proofs.Naming.{not_zero, name_right, anchor_right}
 
--- ---- nodes with which nothing is wrong, in front of any such events
+-- ---- nodes with which nothing is wrong, before any such events
 
 record RightNode (canonical : Bool) (v : Node) : Type 0 where
   front : (es : List Event) → own_problems canonical es ≡ None

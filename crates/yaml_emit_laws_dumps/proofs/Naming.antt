@@ -1,8 +1,9 @@
 -- The anchors of a dump are names.
-use Rattle.std.proofs.Common.{◌≡◌, ◌<◌, ℕ, zero, suc, ◌%◌, ◌/◌, Bool, true, false, List, [], ◌∷◌, ◌++◌, length, Some, None, refl, ◌∙◌, inl, inr, arith, length-append, decimal, ◌==◌, if◌then◌else◌}
+use Rattle.std.proofs.Common.{◌≡◌, ◌<◌, ℕ, zero, suc, ◌%◌, ◌/◌, Bool, true, false, List, [], ◌∷◌, ◌++◌, length, Some, None, refl, ◌∙◌, inl, inr, arith, length-append, ◌==◌, if◌then◌else◌}
 use Rattle.std.specs.List.{list_all}
-use Rattle.std.specs.Fmt.{digits, digits_onto, digit_glyph}
+use Rattle.std.specs.Fmt.{digits_onto, digit_glyph}
 use Rattle.yaml_emit_laws_dumps.proofs.Words.{cases_Bool, nat_tests, Problem, name_problem, anchor_problem, lead, name_of, anchor_of}
+use Rattle.yaml_emit_graph.specs.Graph.{decimal_text}
 use Rattle.std.proofs.lemmas.List.Folds.{list_all-append}
 use Rattle.yaml_emit_graph.specs.emit_layout.scan_model.Classes.{is_digit_byte, is_alpha_byte}
 
@@ -40,11 +41,11 @@ not_zero n h = grind (arith, nat_tests)
 
 pub name_right : (empty characters : Problem) (n : ℕ)
     → name_problem empty characters (name_of n) ≡ None
-unfolding name_of digits
+unfolding name_of decimal_text
 name_right empty characters n =
-    let l = lead_right (length (decimal n)) in
-    let some : (length (lead (length (decimal n)) ++ decimal n) == 0) ≡ false = not_zero _ (omega (arith, length-append (lead (length (decimal n))) (decimal n), l.some)) in
-    let alpha : list_all is_alpha_byte (lead (length (decimal n)) ++ decimal n) ≡ true = list_all-append is_alpha_byte (lead (length (decimal n))) (decimal n) ∙ (rw (l.alpha, (digits_alpha 64 n [] refl)) refl) in
+    let l = lead_right (length (decimal_text n)) in
+    let some : (length (lead (length (decimal_text n)) ++ decimal_text n) == 0) ≡ false = not_zero _ (omega (arith, length-append (lead (length (decimal_text n))) (decimal_text n), l.some)) in
+    let alpha : list_all is_alpha_byte (lead (length (decimal_text n)) ++ decimal_text n) ≡ true = list_all-append is_alpha_byte (lead (length (decimal_text n))) (decimal_text n) ∙ (rw (l.alpha, (digits_alpha (suc n) n [] refl)) refl) in
     rw (some, alpha) refl
 
 anchor_if : (b : Bool) (n : ℕ) → anchor_problem (if b then None else Some (name_of n)) ≡ None

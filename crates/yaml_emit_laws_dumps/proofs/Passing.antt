@@ -11,7 +11,7 @@ use Rattle.yaml_emit_graph.specs.emit_layout.Content.{Node, Document}
 
 -- ---- what goes on from a place to the end of a stream
 
--- the end of a document, and the documents behind it
+-- the end of a document, and the documents after it
 record Ending (es : List Event) : Type 0 where
   implicit : Bool
   documents : List Document
@@ -31,7 +31,7 @@ record PairsLeft (P : List Event → Type 0) (es : List Event) : Type 0 where
   same : es ≡ pairs_events pairs (mapping_end ∷ rest)
   goes : P rest
 
--- the same behind a key
+-- the same after a key
 record ValueLeft (P : List Event → Type 0) (es : List Event) : Type 0 where
   value : Node
   pairs : Pairs
@@ -80,7 +80,7 @@ from_inside : (due : List Due) (es : List Event) → From (inside due) es → Le
 from_inside [] es k = k
 from_inside (d ∷ due) es k = k
 
--- a node in front of what follows it
+-- a node before what follows it
 put : (due : List Due) (n : Node) (es : List Event) → Left (behind_node due) es
     → GoesOn at.Node due (node_events n es)
 unfolding items_events pairs_events

@@ -4,16 +4,14 @@ use Rattle.yaml_emit_laws_dumps.proofs.Words.{Fault, Node, Document, Loading, lo
 use Rattle.yaml_emit_graph.specs.emit_layout.parse_model.Events.{Event}
 use Rattle.yaml_parse_loader.specs.Loading as loading
 use Rattle.yaml_emit_graph.specs.emit_layout.Content as emit
-use Rattle.yaml_emit_laws_dumps.proofs.Apart.{given_most}
 use Rattle.yaml_emit_laws_dumps.proofs.Finding.{found}
 use Rattle.yaml_emit_laws_dumps.proofs.Marks.{none_yet}
 
 pub numbers_found : NumbersAreApart → NumbersAreFound
 unfolding numbers
-numbers_found apart nodes small seen k h le some =
+numbers_found apart nodes seen k h le some =
     let s : Numbering = numbered (none_numbered (length nodes)) (turns nodes) in
-    let a = apart (length nodes) (turns nodes) in
-    found s.table (λ j. let b = a.bound j in let m = given_most (length nodes) (turns nodes) in omega (arith, b, m, small)) a.apart seen k h some
+    found s.table (apart (length nodes) (turns nodes)).apart seen k h some
 
 agains_weaker : (P Q : ℕ → Type 0) (nodes : List Node) (seen : ℕ) (ids : List ℤ) (after : ℕ)
     → ((k : ℕ) → P k → Q k) → (v : VisitsInPreorder nodes seen ids after) → AgainsAre P v
@@ -82,14 +80,14 @@ whole d a =
 pub number_back : MetAgainAreNumbered → AgainsAreTurns → NumbersAreFound → VisitsNumberBack
     → DumpsNumberBack
 unfolding numbers
-number_back met turns_are finds backs d l small =
+number_back met turns_are finds backs d l =
     let n : ℕ = length d.nodes in
     let numbered_again = agains_weaker (λ k. (k < n) × MeetsAgain k (turns d.nodes)) (IsNumbered (numbers d.nodes)) d.nodes 0 (pos 1 ∷ []) n (λ k h. met n (turns d.nodes) k h.0 h.1) l.order (turns_are d.nodes l.order) in
-    whole d (backs d.nodes (numbers d.nodes) l.nodes (finds d.nodes small) (suc n) 0 (pos 1 ∷ []) n l.order numbered_again (omega arith) (omega arith))
+    whole d (backs d.nodes (numbers d.nodes) l.nodes (finds d.nodes) (suc n) 0 (pos 1 ∷ []) n l.order numbered_again (omega arith) (omega arith))
 
 -- what is loaded of the events of content that can be numbered
 pub load_back : ((c : DocumentContent) (rest : List Event) (l : Loading)
     → load (document_events c rest) l ≡ behind (document_of c) (λ e. loading.document e rest))
     → DumpsNumberBack → DumpsLoadBack
-load_back loads number d l small rest begun =
-    loads (as_document (graph_content d)) rest begun ∙ ap (λ r. behind r (λ e. loading.document e rest)) (number d l small)
+load_back loads number d l rest begun =
+    loads (as_document (graph_content d)) rest begun ∙ ap (λ r. behind r (λ e. loading.document e rest)) (number d l)

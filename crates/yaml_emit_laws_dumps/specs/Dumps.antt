@@ -132,7 +132,7 @@ pub record AreApart (s : Numbering) : Type 0 where
   pub bound : (k : ℕ) → get_or s.table k 0 ≤ s.given
   pub apart : (j k : ℕ) → get_or s.table j 0 ≡ get_or s.table k 0 → IsNumbered s.table j → j ≡ k
 
--- ---- the anchors of a dump behind its first nodes
+-- ---- the anchors of a dump after its first nodes
 
 -- the first nodes are met
 abbrev pub met_so : List Node → ℕ → Met
@@ -153,7 +153,7 @@ AreAsMany emit.no_nodes (id ∷ ids) = ⊥
 AreAsMany (emit.node v vs) [] = ⊥
 AreAsMany (emit.node v vs) (id ∷ ids) = AreAsMany vs ids
 
--- What a dump says of the nodes under some numbers, behind that many nodes, is numbered by the same numbers, and its nodes are
+-- What a dump says of the nodes under some numbers, after that many nodes, is numbered by the same numbers, and its nodes are
 -- those of the document that follow.
 pub record NumbersBack (nodes : List Node) (table : List ℕ) (f seen : ℕ) (ids : List ℤ) (after : ℕ)
     : Type 0 where

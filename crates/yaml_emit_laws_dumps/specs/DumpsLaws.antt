@@ -1,5 +1,5 @@
 -- What a dump of a loaded document says, numbered as the loader numbers, is that document again.
-use Rattle.std.specs.Prelude.{◌≡◌, ◌<◌, ◌≤◌, ◌+◌, ◌^◌, ℕ, suc, ℤ, pos, List, length, Some, Ok, IfOk}
+use Rattle.std.specs.Prelude.{◌≡◌, ◌<◌, ◌≤◌, ◌+◌, ℕ, suc, ℤ, pos, List, length, Some, Ok, IfOk}
 use Rattle.yaml_emit_graph.specs.emit_layout.parse_model.Nodes.{Node}
 use Rattle.yaml_parse_laws_trees.specs.parse_document.Documents.{Document}
 use Rattle.yaml_emit_graph.specs.emit_layout.parse_model.Events.{Event}
@@ -29,7 +29,7 @@ AgainsAreTurns = (nodes : List Node) (v : IsInPreorder nodes)
 
 -- Numbers have names of their own.
 abbrev pub NamesAreApart : Type 0
-NamesAreApart = (m n : ℕ) → m < 2 ^ 64 → n < 2 ^ 64 → name_of m ≡ name_of n → m ≡ n
+NamesAreApart = (m n : ℕ) → name_of m ≡ name_of n → m ≡ n
 
 -- ---- the walk
 
@@ -39,7 +39,7 @@ WalksAreWhole = (nodes : List Node) → IsWhole (walked nodes)
 
 -- ---- visits
 
--- behind some nodes the name of each that has a number is found
+-- after some nodes the name of each that has a number is found
 abbrev pub NamesAreFound : List ℕ → ℕ → Type 0
 NamesAreFound table n = (seen k : ℕ) → k < seen → seen ≤ n → IsNumbered table k
     → last_with (name_of (number_at table (pos (suc k)))) (before_at table seen)
@@ -53,10 +53,9 @@ VisitsNumberBack = (nodes : List Node) (table : List ℕ) → AreLoadedNodes nod
     → AgainsAre (IsNumbered table) v → length nodes < f + seen → seen ≤ length nodes
     → NumbersBack nodes table f seen ids after
 
--- The name of each node that has a number is found behind it.
+-- The name of each node that has a number is found after it.
 abbrev pub NumbersAreFound : Type 0
-NumbersAreFound = (nodes : List Node) → length nodes < 2 ^ 64
-    → NamesAreFound (numbers nodes) (length nodes)
+NumbersAreFound = (nodes : List Node) → NamesAreFound (numbers nodes) (length nodes)
 
 -- ---- documents
 
@@ -66,12 +65,12 @@ DocumentsAreLoaded = (c : DocumentContent) → IfOk (document_of c) IsLoadedDocu
 
 -- What a dump of a loaded document says is that document, styles and marks aside.
 abbrev pub DumpsNumberBack : Type 0
-DumpsNumberBack = (d : Document) → IsLoadedDocument d → length d.nodes < 2 ^ 64
+DumpsNumberBack = (d : Document) → IsLoadedDocument d
     → document_of (as_document (graph_content d)) ≡ Ok (core_document d)
 
 -- So the events that say it load that document.
 abbrev pub DumpsLoadBack : Type 0
-DumpsLoadBack = (d : Document) → IsLoadedDocument d → length d.nodes < 2 ^ 64
+DumpsLoadBack = (d : Document) → IsLoadedDocument d
     → (rest : List Event) (l : Loading)
     → load (document_events (as_document (graph_content d)) rest) l
     ≡ loading.document (core_document d) rest

@@ -1,4 +1,4 @@
--- Which event an emitter refuses, by looking back over the events in front of it, the latest first.
+-- Which event an emitter refuses, by looking back over the events before it, the latest first.
 use Rattle.std.specs.Prelude.{◌≡◌, ℕ, zero, suc, Bool, true, false, not, ◌&&◌, ◌||◌, List, [], ◌∷◌, Option, Some, None}
 use Rattle.yaml_emit_graph.specs.emit_layout.declared.Problem.{Problem}
 use Rattle.yaml_emit_graph.specs.emit_layout.declared.Problem.TheVariants as problem
@@ -81,12 +81,12 @@ wrong_place (last ∷ past) e = wrong_in (innermost 0 true (last ∷ past)) e
 
 -- ---- the event that is refused
 
--- what is wrong with an event behind others: its anchor or tag, its place, then its directives or flags
+-- what is wrong with an event after others: its anchor or tag, its place, then its directives or flags
 abbrev pub wrong_behind : Bool → List Event → Event → Option Problem
 wrong_behind canonical past e = or_else (event_problem canonical e)
     (or_else (wrong_place past e) (last_problem e))
 
--- what is wrong with the first event of a list, behind others, with which something is
+-- what is wrong with the first event of a list, after others, with which something is
 unfoldable pub first_wrong : Bool → List Event → List Event → Option Problem
 first_wrong canonical past [] = None
 first_wrong canonical past (e ∷ es) = or_else (wrong_behind canonical past e)

@@ -18,7 +18,7 @@ use Rattle.yaml_emit_graph.specs.emit_layout.Progress.{Progress, first_progress,
 use Rattle.yaml_emit_graph.specs.emit_layout.Streams.{IsStream}
 use Rattle.yaml_emit_graph.specs.Graph.{graph_opening, graph_content, dumped}
 
--- what a list of events has come to behind others
+-- what a list of events has come to after others
 unfoldable pub progress_behind : Progress → List Event → Progress
 progress_behind h [] = h
 progress_behind h (e ∷ es) = progress_behind (progress_after h e) es

@@ -14,7 +14,7 @@ pub fn laws_of_dumps()
     ensures agains_are_turns { AgainsAreTurns }
     // No two numbers have one name.
     ensures names_are_apart { NamesAreApart }
-    // The name of each node that has a number is found behind it.
+    // The name of each node that has a number is found after it.
     ensures numbers_are_found { NumbersAreFound }
     // The bound of a walk's depth is never used up.
     ensures walks_are_whole { WalksAreWhole }

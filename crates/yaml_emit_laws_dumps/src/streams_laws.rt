@@ -19,8 +19,8 @@ pub fn laws_of_dumped_streams()
     ensures taken_are_right { TakenAreRight }
     // A loader makes right documents of such events, event by event.
     ensures steps_keep_right { StepsKeepRight }
-    // A document that is loaded of such events is right, and the events behind it are such.
+    // A document that is loaded of such events is right, and the events after it are such.
     ensures loads_are_right { LoadsAreRight }
-    // The event that is refused first is told by looking back over the events in front of it.
+    // The event that is refused first is told by looking back over the events before it.
     ensures refusal_looks_back { RefusalLooksBack }
 {}

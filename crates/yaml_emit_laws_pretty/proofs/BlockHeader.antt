@@ -8,7 +8,7 @@ use Rattle.yaml_emit_laws_pretty.proofs.BlockWaiting.{read_chomp}
 use Rattle.yaml_emit_laws_text.specs.emit_layout.declared.page.Page.{Page}
 use Rattle.yaml_emit_laws_pretty.specs.BlockPassing.{begins_white, behind_line, BlockPassed, BlockIsPassed}
 
--- behind CR no LF may stand
+-- after CR no LF may stand
 abbrev pub NoFeed : LineBreak → ℕ → Type 0
 NoFeed Lf x = Unit {0}
 NoFeed Cr x = x ≢ 10
@@ -275,7 +275,7 @@ chomp_text chomping.Strip = 45 ∷ []
 chomp_text chomping.Clip = []
 chomp_text chomping.Keep = 43 ∷ []
 
--- what stands behind the header
+-- what stands after the header
 record Behind (text : List ℕ) (p w : ℕ) : Type 0 where
   begins : Begins text p
   width : break_width text p ≡ w
@@ -293,7 +293,7 @@ behind_at b text p h f =
     long Cr = omega arith
     long CrLf = omega arith
 
--- the header, and the column 0 behind it
+-- the header, and the column 0 after it
 pub record HeaderReads (text : List ℕ) (p d q : ℕ) (k : ℕ) : Type 0 where
   pub header : header_at text p ≡ Ok record { chomp = chomp_at k; digit = d; place = q }
   pub column : column_at text q ≡ 0
@@ -337,9 +337,9 @@ header_reads b true d chomping.Keep text p e some small s (j, (i, h)) f =
     header_is text p d 43 (p + 1 + 1) (length (break_text b)) e x (sym far)
     (header_both text p (length (break_text b)) d 43 (digit_is (byte text p) d j some small) (keep_is (byte text (p + 1)) i) x.begins x.width)
 
--- ==== A text that goes on with a block scalar goes on behind it.
+-- ==== A text that goes on with a block scalar goes on after it.
 
--- each byte that is left, and 0 behind the end
+-- each byte that is left, and 0 after the end
 left_byte : (text : List ℕ) (p : ℕ) (bs : List ℕ) (k : ℕ) → Left text p bs
     → byte text (p + k) ≡ get_or bs k 0
 left_byte text p bs k l =

@@ -16,7 +16,7 @@ indent_is : (n : ℕ) (kept : Bool) (rest : Rest)
     ≡ in_front (replicate n 32) (rest (after_blanks n (at_line kept)))
 indent_is n kept rest = ap (λ k. blanks k (at_line kept) rest) (from_start n) ∙ blanks_are n (at_line kept) rest
 
--- behind a character a line begins with a break
+-- after a character a line begins with a break
 pub line_is : (b : LineBreak) (n : ℕ) (c : Cursor) (rest : Rest) → c.bare ≡ false
     → line b n c rest ≡ in_front (break_text b ++ replicate n 32)
     (rest (after_blanks n (at_line c.kept)))
@@ -44,7 +44,7 @@ value_break_is b own c rest = new_line_is b c rest
 value_break_is b separator c rest = refl
 value_break_is b paragraph c rest = refl
 
--- what stands in front of a break that one more comes before
+-- what stands before a break that one more comes before
 abbrev pub added : Bool → LineBreak → List ℕ
 added true b = break_text b
 added false b = []
@@ -71,7 +71,7 @@ no_and false b c d e = refl
 no_and true false c d e = refl
 no_and true true c d e = rw e refl
 
--- behind a break none is added
+-- after a break none is added
 pub none_added : (folded blank : Bool) (before x : ℕ) (xs : List ℕ) → is_break before ≡ true
     → adds_break folded blank before x xs ≡ false
 none_added folded blank before x xs e = no_and folded (x == 10) (is_break before) (not blank && not (is_blank (behind_breaks xs))) e

@@ -114,7 +114,7 @@ run_on text a p (b ∷ bs) (e, t) r =
     let same : p + 1 + length bs ≡ p + suc (length bs) = omega arith in
     subst (λ q. InRun is_text text a q) same (run_on text a (p + 1) bs t (run_more is_text text a p r e some))
 
--- a text ends at the break behind it
+-- a text ends at the break after it
 pub text_end : (text : List ℕ) (p : ℕ) (bs : List ℕ) → AllText text p bs
     → 0 < break_width text (p + length bs) → line_end text p ≡ p + length bs
 text_end text p bs t w = run_done is_text text p (p + length bs) (run_on text p p bs t (run_start is_text text p)) (no_text_there (byte text (p + length bs)) (break_width text (p + length bs)) w)
@@ -168,7 +168,7 @@ mark_long CrLf own = omega arith
 mark_long b separator = omega arith
 mark_long b paragraph = omega arith
 
--- what a line in a text is: what is read, and the place behind it, at the start of a line
+-- what a line in a text is: what is read, and the place after it, at the start of a line
 record IsLine (n : ℕ) (text : List ℕ) (p : ℕ) (l : BlockLine) (q : ℕ) : Type 0 where
   spot : line_spot n text p ≡ Line l q
   start : p < length text
@@ -211,7 +211,7 @@ first_text : (text : List ℕ) (p : ℕ) (bs : List ℕ) → 0 < length bs → A
 first_text text p [] l t = absurd (omega (arith, l))
 first_text text p (b ∷ bs) l (e, t) = e
 
--- the words of a text, behind the indentation and before a break
+-- the words of a text, after the indentation and before a break
 words_line : (n : ℕ) (b : LineBreak) (m : LineMark) (text : List ℕ) (p : ℕ) (words : List ℕ) → 0 < n
     → column_at text p ≡ 0 → Has text p (replicate n 32) → Has text (p + n) words → 0 < length words
     → AllText text (p + n) words → Has text (p + n + length words) (mark_bytes b m)
@@ -280,7 +280,7 @@ line_feed : (b : LineBreak) (n : ℕ) (l : BodyLine) (text : List ℕ) (q : ℕ)
 line_feed b n (bare m) text q some h = mark_feed_none b m text q h
 line_feed b n (full x xs m) text q some h = spaced_feed b n text q (encode_utf8_all (x ∷ xs) ++ mark_bytes b m) some h
 
--- what stands behind a line is no LF of its own, behind CR
+-- what stands after a line is no LF of its own, after CR
 pub next_feed : (b : LineBreak) (n k : ℕ) (ls : List BodyLine) (text : List ℕ) (q e : ℕ) → 0 < n
     → Has text q (body_bytes b n ls) → e ≡ q + length (body_bytes b n ls) → Left text e n k
     → NoFeed b (byte text q)
@@ -384,7 +384,7 @@ body_read b n k (x ∷ ls) text (suc fuel) p e some i c room l h f s =
     ap (λ t. line_then (λ r. lines_from fuel n text r r) p t) here.spot
     ∙ with_first (read_line x) (read_lines ls) e (e + k) (lines_from fuel n text q q) (body_read b n k ls text fuel q e some more here.column longer here.inside rest far s)
 
--- the lines of a body, in front of a text that stands left of them
+-- the lines of a body, before a text that stands left of them
 pub body_reads : (b : LineBreak) (n k : ℕ) (ls : List BodyLine) (text : List ℕ) (p e : ℕ) → 0 < n
     → AreInside ls → column_at text p ≡ 0 → p ≤ length text → Has text p (body_bytes b n ls)
     → e ≡ p + length (body_bytes b n ls) → StandsLeft text e n k
@@ -392,7 +392,7 @@ pub body_reads : (b : LineBreak) (n k : ℕ) (ls : List BodyLine) (text : List �
     ≡ Ok record { lines = read_lines ls; end = e; place = e + k }
 body_reads b n k ls text p e some i c l h f s = body_read b n k ls text (suc (length text)) p e some i c (omega arith) l h f (left_of text e n k s)
 
--- behind them a line starts
+-- after them a line starts
 pub body_column : (b : LineBreak) (n k : ℕ) (ls : List BodyLine) (text : List ℕ) (p e : ℕ) → 0 < n
     → AreInside ls → column_at text p ≡ 0 → Has text p (body_bytes b n ls)
     → e ≡ p + length (body_bytes b n ls) → Left text e n k → column_at text e ≡ 0

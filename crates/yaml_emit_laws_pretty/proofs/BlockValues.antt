@@ -22,7 +22,7 @@ inside_one : (x : ℕ) → is_printable x ≡ true → is_break x ≡ false
     → (not (is_break x) && not (x == 0)) ≡ true
 inside_one x s e = rw (e, (not_printed x 0 s refl)) refl
 
--- ---- what is behind
+-- ---- what is after
 
 pub record Ends (kept : Bool) (behind : Cursor) (broke : Bool) : Type 0 where
   pub at_start : broke ≡ true → behind ≡ at_line kept
@@ -344,7 +344,7 @@ goes_cut page folded blank k before x y ys kept c e f s i t p bar same g =
       ends = g.ends;
     }
 
--- ---- what waits behind the end of a line
+-- ---- what waits after the end of a line
 
 adds_waits : (folded blank : Bool) (before : ℕ) (m : LineMark) (xs : List ℕ)
     → adds_break folded blank before (mark_char m) xs ≡ true

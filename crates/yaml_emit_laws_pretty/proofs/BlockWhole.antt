@@ -1,4 +1,4 @@
--- A block scalar and the line behind it, and both at a position of a layout.
+-- A block scalar and the line after it, and both at a position of a layout.
 use Rattle.std.proofs.Common.{◌≡◌, ℕ, zero, suc, ◌+◌, ◌-◌, ◌<◌, ◌≤◌, Bool, true, false, not, ◌&&◌, ◌||◌, ◌==◌, List, ◌++◌, length, replicate, Option, Some, None, refl, sym, ap, subst, ◌∙◌, arith, append_assoc, encode_utf8_all, if◌then◌else◌, chars, length-append, ◌≢◌, Ok, add-zero, nat_lt, [], ◌∷◌, Result, encode_utf8}
 use Rattle.yaml_emit_laws_pretty.proofs.ScalarWords.{encodes-append, encode_ascii, encodes-chars, HasAt, has, has_front, has_rest, has_at, Has, Cursor, LineBreak, Style, Rest, line, when, char, new_line, after_block, allowed, plain_fits, single_or, block_or, plain_or, taken, somewhere, is_special, ends_in_space, last_or, chomp, ends_in_break, digit_char, chomp_mark, block_body, scalar_text, in_front, break_text, yaml_scalar_style_t, NodePosition, Scalar, is_some, scalar_tag, Context, is_simple_part, deeper, style_of, page_at, front_append, moved_by, closing, NoWhite, own, mark_bytes, BodyLine, bare, full, body_text, body_bytes, read_lines, AreInside, StandsLeft, is_keep, BlockStands, BlockReads, BlockIsReadBack, BlockBeforeLine, margin_round, block_style, BlockIsChosen, BlockAtPosition, from_indicator, kind_of, read_style, BlockIsLaidOut, after_blanks, special_left, at_line, nat_tests, byte, break_width, column_at, is_blank, is_space_there, InRun, run_start, run_more, run_done, no_space, text_parts, false≢true, true≢false, not-true, or_parts, eqb-false, Wrong, is_document_start, is_document_end, indicator_of, kind_at, blocked, word_at, starts_blank, block_value, stacked_with, chomp_at, Lines, lines_from, Chomp, letter, is_break, is_printable, first, cond_true}
 use Rattle.yaml_emit_laws_text.specs.emit_layout.declared.page.Page.{Page}
@@ -17,7 +17,7 @@ use Rattle.yaml_emit_laws_pretty.proofs.BlockValues.{AreGood, HasFirst, Begins, 
 use Rattle.yaml_emit_laws_pretty.proofs.Writing.{spaces_low}
 use Rattle.yaml_emit_laws_text.proofs.Turns.{length_spaces}
 
--- ---- the line behind
+-- ---- the line after
 
 spaced_cursor : (m k : ℕ) (kept : Bool)
     → after_blanks m (record { column = k; white = true; bare = true; kept = kept })
@@ -31,7 +31,7 @@ spaced_start : (m : ℕ) (kept : Bool)
     → after_blanks m (at_line kept) ≡ record { column = m; white = true; bare = true; kept = kept }
 spaced_start m kept = let e : 0 + m ≡ m = omega arith in spaced_cursor m 0 kept ∙ ap (λ j. record { column = j; white = true; bare = true; kept = kept }) e
 
--- the cursor behind a line's spaces
+-- the cursor after a line's spaces
 abbrev line_cursor : ℕ → Bool → Cursor
 line_cursor m kept = record { column = m; white = true; bare = true; kept = kept }
 

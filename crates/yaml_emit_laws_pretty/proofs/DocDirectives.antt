@@ -29,7 +29,7 @@ pub next_calm : (b : ℕ) → IsNext b → b ≡ 10 → ⊥
 next_calm b (inl e) f = omega (arith, e, f)
 next_calm b (inr e) f = omega (arith, e, f)
 
--- A break stands there, and behind it the rest of the text stands at the start of a line.
+-- A break stands there, and after it the rest of the text stands at the start of a line.
 record Broken (text : List ℕ) (q : ℕ) (rest : Rest) (kept : Bool) : Type 0 where
   white : List ℕ
   has : HasAt text q white
@@ -411,7 +411,7 @@ says_as x text after kept T U e a =
       left = a.left;
     }
 
--- its root and the line behind it
+-- its root and the line after it
 root_walks : (s : Settings) → RootsWalk (pretty s) → (d : Document) (ds : List Document)
     → AreWritable (d ∷ ds)
     → (x : yaml_encoding_t) (text : List ℕ) (c : Cursor) (o : WalkState)
@@ -430,7 +430,7 @@ root_walks s roots d ds (right, root, good) x text c o T kept st l =
     let k = says_as x text after (node_kept p false part.Item d.root c.kept) (λ bs. T (node_bodies p false part.Item c.bare d.root bs)) (λ bs. T (root_bodies z d bs)) (λ bs. ap (λ xs. T xs) (item_bodies_same p false c.bare d.root bs)) h in
     subst (λ (b : Bool). AtLine x text after (node_kept p false part.Item d.root b) (λ bs. T (root_bodies z d bs))) kept k
 
--- behind `...` comes nothing, a directive or `---`
+-- after `...` comes nothing, a directive or `---`
 explicit_calm : (s : Settings) (ds : List Document) (kept : Bool)
     → first (bytes (documents_layout (pretty s) false false ds (at_line kept) nothing_more)) ≡ 10
     → ⊥

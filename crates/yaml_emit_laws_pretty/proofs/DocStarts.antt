@@ -1,4 +1,4 @@
--- The start of a line outside of all levels, and what may stand there behind a root.
+-- The start of a line outside of all levels, and what may stand there after a root.
 use Rattle.std.proofs.Common.{◌≡◌, ◌⊎◌, ℕ, ◌==◌, ◌&&◌, ◌||◌, Bool, true, false, List, [], ◌∷◌, ◌++◌, Some, None, refl, sym, ap, subst, ◌∙◌, inl, inr, arith, if◌then◌else◌, not, Option, ◌+◌, nat_lt}
 use Rattle.yaml_emit_laws_pretty.proofs.Words.{false≢true, eqb-true, and_parts, yaml_encoding_t, TokenBody, column_at, break_of, byte, is_blank_or_end, Cursor, LineBreak, Lf, Cr, CrLf, Rest, line, blanks, must_break, new_line, indent_to, when, nothing_more, word, break_text, Left, bytes, first, letter_low, WalkState, WalkReads, behind, begins_white, begins_mark, stops_plain_at, begins_blank, NodeStage, Lined, NoFeed, no_comment, Ending, NodeWalks, at_line, yaml_version_directive_t, TagDirective, Settings, encode, Opening, Document, Node, dots, dashes, context_of, root_position, node_layout, directives_text, start_layout, end_layout, stop_layout, documents_layout, IsWritable, IsWritableOpening, AreWritable, three, behind_three, Thrice, thrice_dash, thrice_dot, line_blank, pretty, Kind, allows_key, is_outside, is_end, WordText, kind_at, word_at, left_first, left_more, line_at-grows, Comes, words_leave, walk_outer}
 use Rattle.yaml_emit_laws_pretty.proofs.Lining.{line_on, no_gap}
@@ -48,12 +48,12 @@ on_from x text rest kept T a =
     let (now, column) = a.stage.bare refl in
     record { place = a.place; more = a.more; reads = a.stage.reads; flat = a.stage.flat; column = column; left = a.left }
 
--- nothing, or a document's mark with white or the end behind it
+-- nothing, or a document's mark with white or the end after it
 abbrev pub is_outer : List ℕ → Bool
 is_outer [] = true
 is_outer (b ∷ bs) = begins_mark b bs
 
--- At the start of the line behind a root nothing comes, or a document's mark.
+-- At the start of the line after a root nothing comes, or a document's mark.
 abbrev pub EndsRoot : Rest → Type 0
 EndsRoot after = (kept : Bool) → is_outer (bytes (after (at_line kept))) ≡ true
 
@@ -108,7 +108,7 @@ outer_solid (b ∷ bs) h = elim (mark_first b bs h) [
   | inr e ↦ subst (λ x. begins_blank (x ∷ bs) ≡ false) (sym e) refl
 ]
 
--- a line behind text, in bytes
+-- a line after text, in bytes
 new_line_bytes : (b : LineBreak) (c : Cursor) (rest : Rest)
     → bytes (new_line b c (λ k. indent_to 0 k rest)) ≡ break_text b
     ++ bytes (rest (at_line c.kept))
@@ -159,7 +159,7 @@ root_ending b after ends = record {
   solid = λ e bare white column. ap (λ (c : Cursor). begins_blank (bytes (after c))) (at_start e e.kept bare white column refl) ∙ outer_solid (bytes (after (at_line e.kept))) (ends e.kept);
 }
 
--- ---- the line behind text
+-- ---- the line after text
 
 pub line_lands : (b : LineBreak) (x : yaml_encoding_t) (text : List ℕ) (c : Cursor) (o : WalkState)
     (more : List ℕ) (T : List TokenBody → List TokenBody) (rest : Rest) → NodeStage x text c o [] more T
@@ -167,7 +167,7 @@ pub line_lands : (b : LineBreak) (x : yaml_encoding_t) (text : List ℕ) (c : Cu
     → Left text o.at (bytes (line b 0 c rest)) → AtLine x text rest c.kept T
 line_lands b x text c o more T rest s calm l = from_lined x text rest c.kept more T (line_on b 0 x text c o [] more T rest s calm l)
 
--- ==== What stands behind a root: a document's mark, or nothing.
+-- ==== What stands after a root: a document's mark, or nothing.
 
 -- ---- marks
 
@@ -213,7 +213,7 @@ RootsWalk s = (o : Opening) → IsWritableOpening o → (n : Node) → IsWritabl
 abbrev pub behind_root : Settings → Bool → List Document → Rest
 behind_root s implicit ds e = when (not implicit) (dots s) e (λ k. documents_layout s false implicit ds k nothing_more)
 
--- a root, and the line behind it
+-- a root, and the line after it
 abbrev pub from_root : Settings → Document → List Document → Rest
 from_root s d ds e = node_layout (context_of s d.opening.directives) root_position d.root e (λ k. line s.line_break 0 k (behind_root s d.implicit_end ds))
 
@@ -237,7 +237,7 @@ root_ends s roots true ds good kept = documents_outer s roots ds good kept
 
 -- ==== Document marks.
 
--- what is left of the text behind three equal signs at the start of a line
+-- what is left of the text after three equal signs at the start of a line
 record Threes (text : List ℕ) (p x : ℕ) (kept : Bool) (rest : Rest) : Type 0 where
   first : byte text p ≡ x
   second : byte text (p + 1) ≡ x
@@ -259,7 +259,7 @@ threes text p x low kept rest l =
       left = subst (λ (q : ℕ). Left text q (bytes (rest (behind_three kept)))) far (left_more text (p + 1 + 1) x _ m2);
     }
 
--- Behind a document's mark.
+-- After a document's mark.
 pub record Marked (x : yaml_encoding_t) (text : List ℕ) (rest : Rest) (kept : Bool) (T : List TokenBody → List TokenBody) : Type 0 where
   pub place : WalkState
   pub stage : NodeStage x text (behind_three kept) place [] [] T

@@ -149,7 +149,7 @@ mutual
 
 -- ==== Collections in brackets at positions of a block.
 
--- ---- brackets, behind properties or without
+-- ---- brackets, after properties or without
 
 opened_block : (mapping : Bool) (a : Layout) (B : List TokenBody → List TokenBody) (ls : List ℕ)
     (rest : Rest) → BodyIn a B ls rest
@@ -177,7 +177,7 @@ opened_block mapping a B ls rest body c x text o T st right l =
       same = g.same;
     }
 
--- behind properties
+-- after properties
 dressed_block : PropertiesAreWalked → (s : Settings) (d : Opening) → IsPretty s d
     → (anchor tag : Option (List ℕ)) → IsWritableAnchor anchor → IsWritableTag tag
     → (has anchor || has tag) ≡ true

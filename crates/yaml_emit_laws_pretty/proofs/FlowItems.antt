@@ -11,7 +11,7 @@ use Rattle.yaml_emit_laws_pretty.proofs.SpokenWords.{anchor_word, alias_word, ta
 use Rattle.yaml_emit_laws_pretty.proofs.SpokenLayouts.{anchor_says, alias_says, tag_says, mark_says, double_says, single_says, plain_says}
 use Rattle.yaml_emit_laws_pretty.proofs.NearKeys.{kept_writable}
 
--- Behind a closing bracket, where d are open.
+-- After a closing bracket, where d are open.
 pub record Closed (x : yaml_encoding_t) (text : List ℕ) (rest : Rest) (kept : Bool) (d : ℕ) (cs ls : List ℕ) (T : List TokenBody → List TokenBody) : Type 0 where
   pub behind : Cursor
   pub place : WalkState
@@ -28,12 +28,12 @@ pub record Closed (x : yaml_encoding_t) (text : List ℕ) (rest : Rest) (kept : 
 abbrev pub NodeIn : Settings → List TagDirective → Node → Type 0
 NodeIn s ds y = (n : ℕ) (q : Part) → is_simple_part q ≡ false → (bare : Bool) (ls : List ℕ) → indent ls ≤ n → (rest : Rest) → FollowsIn rest → (c : Cursor) → WalksIn (node_layout (prettily s ds) (position true n q) y) (node_bodies (prettily s ds) true q bare y) ls c rest
 
--- what stands behind an opening bracket, with what closes it
+-- what stands after an opening bracket, with what closes it
 abbrev pub BodyIn : Layout → (List TokenBody → List TokenBody) → List ℕ → Rest → Type 0
 BodyIn a B ls rest = (c : Cursor) → c.bare ≡ false → (x : yaml_encoding_t) (text : List ℕ) (o : WalkState) (d : ℕ) (cs : List ℕ) (T : List TokenBody → List TokenBody) → WalkReads x text o cs ls [] T → o.depth ≡ d + 1 → o.now ≡ true → Outside (d + 1) cs
     → Left text o.at (bytes (a c rest)) → Closed x text rest c.kept d cs ls (λ bs. T (B bs))
 
--- likewise behind an item or a pair
+-- likewise after an item or a pair
 abbrev pub MoreIn : Layout → (List TokenBody → List TokenBody) → List ℕ → Rest → Type 0
 MoreIn a B ls rest = (c : Cursor) → c.bare ≡ false → (x : yaml_encoding_t) (text : List ℕ) (o : WalkState) (d : ℕ) (cs : List ℕ) (T : List TokenBody → List TokenBody) → WalkReads x text o cs ls [] T → o.depth ≡ d + 1 → Outside (d + 1) cs
     → Left text o.at (bytes (a c rest)) → Closed x text rest c.kept d cs ls (λ bs. T (B bs))
@@ -70,7 +70,7 @@ mapping_shut ls rest c bare x text o d cs T r deep out l =
     let g = closer_on true x text (bytes (rest e)) o d cs ls T r deep out (left_letter text o.at 125 (rest e) refl l) in
     record { behind = e; place = g.place; reads = g.reads; deep = g.deep; now = g.begin; broken = g.broken; left = g.left; bare = refl; white = refl; same = refl }
 
--- behind a comma a key may begin
+-- after a comma a key may begin
 comma_then : (a : Layout) (B : List TokenBody → List TokenBody) (ls : List ℕ) (rest : Rest)
     → BodyIn a B ls rest → MoreIn (char 44 ▹ a) (λ bs. tokens.flow_entry ∷ B bs) ls rest
 comma_then a B ls rest body c bare x text o d cs T r deep out l =
@@ -130,7 +130,7 @@ pub pairs_closed : (s : Settings) (ds : List TagDirective) → MorePairs s ds no
 unfolding pairs_layout closer pairs_bodies
 pairs_closed s ds n ls low rest c bare x text o d cs T r deep out l = mapping_shut ls rest c bare x text o d cs T r deep out l
 
--- a value, and the pairs behind it
+-- a value, and the pairs after it
 value_in : (s : Settings) (ds : List TagDirective) (v : Node) (ps : Pairs) → NodeIn s ds v
     → MorePairs s ds ps → (bare : Bool) (n : ℕ) (ls : List ℕ) → indent ls ≤ n → (rest : Rest)
     → MoreIn (node_layout (prettily s ds) (position true n part.Value) v
@@ -146,7 +146,7 @@ value_in s ds v ps value more b n ls low rest c bare x text o d cs T r deep out 
 
 -- ---- a `?`, its key and its `:`
 
--- a byte that is a word, behind the space that is due
+-- a byte that is a word, after the space that is due
 sign_left : (b : ℕ) → nat_lt b 128 ≡ true
     → (x : yaml_encoding_t) (text : List ℕ) (c : Cursor) (rest : Rest) (o : WalkState)
     (cs ls : List ℕ)
@@ -160,7 +160,7 @@ sign_left b low x text c rest o cs ls T r l =
     let sp = space_on (not c.white) x text (bytes (K e)) o cs ls [] T r (gap_left text o.at c.white c K l) in
     record { place = sp.place; reads = sp.reads; deep = sp.deep; same = sp.same; broken = sp.broken; right = sp.right; left = left_letter text sp.place.at b (rest (lettered_on e)) low sp.left }
 
--- Behind a `?` or its `:`, where d + 1 brackets are open.
+-- After a `?` or its `:`, where d + 1 brackets are open.
 record Asked (x : yaml_encoding_t) (text : List ℕ) (rest : Rest) (kept : Bool) (d : ℕ) (cs ls : List ℕ) (T : List TokenBody → List TokenBody) : Type 0 where
   cursor : Cursor
   place : WalkState

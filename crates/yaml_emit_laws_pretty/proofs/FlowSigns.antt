@@ -60,13 +60,13 @@ pub colon_calm : (bs : List ℕ) → no_comment (58 ∷ bs) ≡ true
 unfolding no_comment
 colon_calm bs = refl
 
--- behind white
+-- after white
 colon_bytes : (d : Cursor) (after : Rest) → d.white ≡ true
     → bytes (word (58 ∷ []) d after) ≡ 58 ∷ bytes (after (lettered_on d))
 unfolding letters
 colon_bytes d after white = ap (λ (b : Bool). bytes (if b then char 58 d after else blank d (λ k. char 58 k after))) white ∙ letter_low 58 (after (lettered_on d)) refl
 
--- behind text
+-- after text
 spaced_bytes : (d : Cursor) (after : Rest) → d.white ≡ false
     → bytes (word (58 ∷ []) d after) ≡ 32 ∷ 58
     ∷ bytes (after (lettered_on (record
@@ -166,7 +166,7 @@ mark_spaced false a rest h = h
 abbrev from_sign : Page → ℕ → Bool → List ℕ → Layout
 from_sign page digit folded value = (char (if folded then 62 else 124) ▹ (digit_mark digit value ▹ chomp_mark (chomp true true value))) ▹ (new_line page.line_break ▹ (block_body page folded true 10 value ▹ after_block))
 
--- in brackets a space stands in front of a scalar of every style
+-- in brackets a space stands before a scalar of every style
 pub text_spaced : (page : Page) (digit : ℕ) (s : Style) (value : List ℕ) (rest : Rest)
     → Spaced (λ e. scalar_text page digit true s value e rest)
 unfolding scalar_text
@@ -180,7 +180,7 @@ text_spaced page digit style.Folded value rest = gap_spaced (from_sign page digi
 
 -- ---- lines
 
--- Behind white in brackets.
+-- After white in brackets.
 pub record Turned (x : yaml_encoding_t) (text : List ℕ) (rest : Rest) (kept : Bool) (o : WalkState) (cs ls : List ℕ) (T : List TokenBody → List TokenBody) : Type 0 where
   pub cursor : Cursor
   pub place : WalkState
@@ -254,7 +254,7 @@ gap_kept false c = refl
 
 -- ---- commas and brackets
 
--- Behind a sign in brackets, of which d are open.
+-- After a sign in brackets, of which d are open.
 pub record Signed (x : yaml_encoding_t) (text bs : List ℕ) (d : ℕ) (now : Bool) (cs ls : List ℕ) (T : List TokenBody → List TokenBody) : Type 0 where
   pub place : WalkState
   pub reads : WalkReads x text place cs ls [] T

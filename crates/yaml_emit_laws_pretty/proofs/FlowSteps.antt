@@ -159,7 +159,7 @@ word_walks ls a c w says rest fits x text o cs T r deep clear l =
       same = says.kept;
     }
 
--- one behind the other
+-- one after the other
 pub both : (ls : List ℕ) (a b : Layout) (B C : List TokenBody → List TokenBody) (c : Cursor)
     (rest : Rest) → WalksIn a B ls c (λ k. b k rest)
     → ((k : Cursor) → k.bare ≡ false → k.white ≡ false → WalksIn b C ls k rest)

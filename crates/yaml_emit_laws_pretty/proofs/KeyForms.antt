@@ -9,7 +9,7 @@ use Rattle.yaml_emit_laws_pretty.proofs.OneLine.{near_fresh}
 use Rattle.yaml_emit_laws_pretty.proofs.KeySteps.{columns_grow, Frame, KeyFit, KeyRuns, front, spot_at, key_words, key_front, key_begun, key_space, key_colon, square, curly, brackets_first, brackets_more}
 use Rattle.yaml_emit_laws_pretty.proofs.LeafProps.{Dress, Moved, Leads, NonePlain}
 
--- what stands between a key's words and its `:`: nothing, the space behind an alias, or a pair of brackets, by the space in front
+-- what stands between a key's words and its `:`: nothing, the space after an alias, or a pair of brackets, by the space in front
 pub data KeyEnd : Type 0 where
   at_once : KeyEnd
   spaced : KeyEnd
@@ -55,7 +55,7 @@ pub record KeyForm (flow : Bool) (level : ℕ) (a : Layout) (c : Cursor) (B : Li
 
 -- ---- the end of a key
 
--- behind words
+-- after words
 ends_more : (k : KeyEnd) (d : ℕ) (ls tail : List ℕ) (x : yaml_encoding_t) (text : List ℕ)
     (p q end : ℕ) (cs : List ℕ) (T K : List TokenBody → List TokenBody) → Frame text d p end cs ls
     → p < q → q + length (end_bytes k) ≤ end
@@ -206,7 +206,7 @@ reads_as : (x : yaml_encoding_t) (text : List ℕ) (o : WalkState) (cs ls : List
     → ((bs : List TokenBody) → T bs ≡ U bs) → WalkReads x text o cs ls [] U
 reads_as x text o cs ls T U r e = walk_says.other x text o cs ls [] T U r e
 
--- Behind a key's `:`, at that depth.
+-- After a key's `:`, at that depth.
 pub record KeyDone (x : yaml_encoding_t) (text : List ℕ) (rest : Rest) (c : Cursor) (o d : ℕ) (cs ls : List ℕ) (T : List TokenBody → List TokenBody) : Type 0 where
   pub behind : Cursor
   pub at : ℕ
@@ -271,7 +271,7 @@ key_done d ls a c B form near x text o line broken cs more new what T rest reads
       grown = omega (arith, next, up);
     }
 
--- ==== Lists of words, and the last word of a key behind its properties.
+-- ==== Lists of words, and the last word of a key after its properties.
 
 -- ---- lists of words
 
@@ -306,7 +306,7 @@ pub plains_none : (flow : Bool) (level : ℕ) (xs : List (Spoken flow level)) (b
 plains_none flow level [] bs f = tt
 plains_none flow level (x ∷ xs) bs (f, fs) = (λ e. absurd (f e), plains_none flow level xs bs fs)
 
--- ---- a last word behind properties
+-- ---- a last word after properties
 
 pub calm_starts : (own : List ℕ) → 0 < length own → AreCalm own → (text : List ℕ) (p : ℕ)
     → Has text p own → starts (byte text p) ≡ true

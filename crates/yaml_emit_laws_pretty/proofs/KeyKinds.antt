@@ -279,7 +279,7 @@ leads_ends flow level [] k c e leads m (inl same) = subst (λ i. StartsEnd i (no
 leads_ends flow level [] k c e leads m (inr same) = subst (λ i. StartsEnd i (not c.white)) (sym same) (ap (λ (x : Cursor). not x.white) m)
 leads_ends flow level (w ∷ ws) k c e (gap, own, calm) m same = (gap, own, calm_starts w.own own calm)
 
--- an opener and a closer, behind properties
+-- an opener and a closer, after properties
 record Closed (a : Layout) (c : Cursor) (k : KeyEnd) : Type 0 where
   behind : Cursor
   written : (rest : Rest) → bytes (a c rest) ≡ end_bytes k ++ bytes (rest behind)
@@ -310,7 +310,7 @@ empty_flow s at q = all s.canonical at.flow q.flow
     all false false true = refl
     all false false false = refl
 
--- an opener and a closer directly behind it
+-- an opener and a closer directly after it
 closed_by : (first last : ℕ) → nat_lt first 128 ≡ true → (body : Layout)
     → ((d : Cursor) (rest : Rest) → bytes (body d rest) ≡ last
     ∷ bytes (rest (record { column = d.column + 1; white = false; bare = false; kept = d.kept })))
@@ -358,7 +358,7 @@ abbrev empty_layout : Bool → Context → ℕ → Layout
 empty_layout true p n = pairs_layout p true n true no_pairs
 empty_layout false p n = items_layout p true n true no_nodes
 
--- behind its properties
+-- after its properties
 abbrev empty_rest : Bool → Context → NodePosition → Layout
 empty_rest mapping p at = opener (opening_of mapping) ▹ indented (indent_of p.settings at (not mapping) true) (λ n. checked n ▹ empty_layout mapping p n)
 

@@ -1,4 +1,4 @@
--- Columns don't fall in a line, and rise behind text.
+-- Columns don't fall in a line, and rise after text.
 use Rattle.std.proofs.Common.{◌≡◌, ℕ, ◌+◌, ◌-◌, ◌<◌, ◌≤◌, Bool, true, false, List, [], ◌∷◌, length, zero, suc, refl, sym, ap, subst, ◌∙◌, inl, inr, arith, encode_utf8, encode_utf8_all, add-zero, if◌then◌else◌, ◌==◌, ◌&&◌, ◌||◌, not, nat_lt, ◌++◌, append_assoc, length-append}
 use Rattle.yaml_emit_laws_pretty.proofs.Words.{cases_Bool, cases_lt, false≢true, or_right, byte, column_at, line_at, starts, ends_break, ends_of, mark_at, Has, Left, AreCalm, calm_end, line_more, has_front, has_at, left_first, left_more, left_rest, line_at-grows, high_starts, low_starts, nat_tests, yaml_encoding_t, TokenBody, indent, is_fresh, margin_at, opened, start_of, depth_after, may_be_key, cancels, is_value, allows_key, WordText, kind_at, word_at, Kind, Opens, IsRight, stays_level, Comes, WordLeaves, SignComes, sign, start_bodies, WalkState, WalkReads, ReadsKey, ClosesAt, Outside, behind, signs_come, words_leave, walk_white, walk_key_starts, walk_key_goes, walk_key_stops, walk_says, deeper_leaves, begins_white, white_of, is_text, Fits, WordStands, Spoken, spoken_bytes, all_bytes, all_bodies, AllFit}
 use Rattle.yaml_emit_laws_text.proofs.Chars.{encode_1, encode_2, encode_3, encode_4}
@@ -36,7 +36,7 @@ column_first text q h s = elim (cases_Bool (ends_break text q)) [
   | inr e ↦ rw (e, s) refl
 ]
 
--- behind what begins with a character's first byte the column is greater
+-- after what begins with a character's first byte the column is greater
 pub columns_grow : (text : List ℕ) (p k : ℕ) → line_at text (p + suc k) ≤ line_at text p
     → starts (byte text p) ≡ true → column_at text p + 1 ≤ column_at text (p + suc k)
 columns_grow text p k h s =
@@ -84,7 +84,7 @@ calm_columns text p xs a h q up low =
     let far : p + (q - p) ≡ q = omega (arith, up) in
     subst (λ i. column_at text p ≤ column_at text i) far (columns_rise text p (q - p) (subst (λ i. line_at text i ≤ line_at text p) (sym far) (omega (arith, all, one))))
 
--- ==== Words of a simple key, one behind the other, and its `:`: at any depth.
+-- ==== Words of a simple key, one after the other, and its `:`: at any depth.
 
 pub both : (a b : Bool) → a ≡ true → b ≡ false → (a && not b) ≡ true
 both true false e f = refl
@@ -144,7 +144,7 @@ stands_leaves d level k body text p e bs t s =
 
 -- ---- in a key
 
--- Within a key of that depth that began at p, behind a word of text.
+-- Within a key of that depth that began at p, after a word of text.
 pub record KeyRuns (x : yaml_encoding_t) (text : List ℕ) (e d p : ℕ) (cs ls : List ℕ) (T K : List TokenBody → List TokenBody) : Type 0 where
   pub line : ℕ
   pub wide : Bool
@@ -209,7 +209,7 @@ key_more d ls w bs x text p q line wide cs T K reads out right l fits plain here
     line_of : ℕ → List ℕ → ℕ
     line_of q text = (mark_at text q).line
 
--- the space in front of a word
+-- the space before a word
 pub key_space : (x : yaml_encoding_t) (text : List ℕ) (p e line d : ℕ) (now wide : Bool)
     (cs ls bs : List ℕ) (T K : List TokenBody → List TokenBody)
     → ReadsKey x text (spot_at e line d false wide) d (mark_at text p) cs ls T K
@@ -234,7 +234,7 @@ KeyFit {flow} {level} (w ∷ ws) bs = (w.kind ≡ kinds.Plain → white_of (all_
 abbrev pub front : Bool → ℕ
 front b = if b then 1 else 0
 
--- behind the space in front of a word, if any
+-- after the space before a word, if any
 pub record Fronted (x : yaml_encoding_t) (text : List ℕ) (q d p : ℕ) (cs ls : List ℕ) (T K : List TokenBody → List TokenBody) (spaced : Bool) (own bs : List ℕ) : Type 0 where
   pub at : ℕ
   pub up : q ≤ at
@@ -277,7 +277,7 @@ key_list d ls (w ∷ ws) bs x text p q end cs T K f more few r l (fit, fits) (pl
     let same : e + length rest ≡ q + length (spoken_bytes w ++ rest) = omega (arith, far, all) in
     subst (λ i. KeyRuns x text i d p cs ls T (λ bs. K (w.body ∷ all_bodies ws bs))) same tail
 
--- behind the space in front of the first word, if any
+-- after the space before the first word, if any
 pub record Begun (x : yaml_encoding_t) (text : List ℕ) (p line d : ℕ) (cs ls more : List ℕ) (T : List TokenBody → List TokenBody) (bs : List ℕ) : Type 0 where
   pub broken : Bool
   pub reads : WalkReads x text (spot_at p line d true broken) cs ls more T
@@ -398,7 +398,7 @@ curly = record {
   shown_last = (omega arith, omega arith, λ h. omega (arith, h));
 }
 
--- behind the opener
+-- after the opener
 record Opened (x : yaml_encoding_t) (text : List ℕ) (e d p : ℕ) (cs ls : List ℕ) (T K : List TokenBody → List TokenBody) : Type 0 where
   line : ℕ
   now : Bool
@@ -459,7 +459,7 @@ brackets_first first last k l opens closes b d ls bs x text p line end broken cs
     subst (λ i. KeyRuns x text i d p cs ls T (λ bs. opens ∷ closes ∷ bs)) two
     (bracket_closes first last k l opens closes b d ls bs x text p (p + 1) end cs T (λ bs. opens ∷ bs) f (omega (arith, few)) o (left_more text p first (last ∷ bs) left))
 
--- behind properties
+-- after properties
 pub brackets_more : (first last : ℕ) (k l : Kind) (opens closes : TokenBody)
     → Brackets first last k l opens closes
     → (d : ℕ) (ls bs : List ℕ) (x : yaml_encoding_t) (text : List ℕ) (p q end : ℕ) (cs : List ℕ)

@@ -1,4 +1,4 @@
--- A block scalar and the line behind it.
+-- A block scalar and the line after it.
 use Rattle.std.proofs.Common.{◌≡◌, ℕ, ◌+◌, ◌-◌, ◌<◌, ◌≤◌, ◌&&◌, ◌||◌, not, nat_lt, Bool, true, false, List, [], ◌∷◌, length, suc, Option, Some, None, Result, Ok, refl, sym, ap, subst, ◌∙◌, inl, inr, arith, if◌then◌else◌, IsUtf8, chars}
 use Rattle.yaml_emit_laws_pretty.proofs.Words.{cases_Bool, cases_lt, false≢true, or_left, yaml_encoding_t, TokenBody, byte, line_at, column_at, Wrong, indent, depth_after, allows_key, is_end, is_value, WordText, kind_at, word_at, Kind, Cursor, Page, Rest, ◌▹◌, gap, blank, line, Layout, when, word, char, chomp, scalar_text, Part, Scalar, Opening, alias_node, scalar_node, Context, style_of, deeper, page_at, context_of, MOST, checked, is_plain, is_simple_part, properties_text, anchor_text, tag_text, alias_layout, scalar_layout, node_layout, Left, bytes, first, has_at, left_first, left_more, left_letter, letter_low, deep_bytes, from_indicator, keeps_all, read_style, margin_round, block_style, behind_line, BlockPassed, line_at-grows, stays_level, Comes, WordLeaves, WalkState, WalkReads, LeaveClear, behind, printed_begins, letter_columns, words_leave, walk_white, walk_word, is_keep, style_at, takes_mark, scalar_bodies, scalar_kept, node_bodies, node_kept, NodeStage, LinedUp, PlainIsWalked, SingleIsWalked, Ending, block_position, column_round, NodeWalks, IsPretty, LeavesAreWalked, BlockScalarsAreWalked, is_block, low_starts, LineBreak, Settings, Style, double_quoted, has, scalar_tag, anchor_bodies, tag_bodies, mark_bodies, QuotedIsReadBack, between_quotes, between_single, IsWritable, anchor_is_read, begins_white, PlainHasGap, StylesAreAllowed, kept_writable}
 use Rattle.yaml_emit_laws_text.specs.emit_layout.scan_model.Tokens as tokens
@@ -151,7 +151,7 @@ not_right (Some n) m level column low same right = omega (arith, low, same, righ
 inside : (text : List ℕ) (p b : ℕ) (bs : List ℕ) → Left text p (b ∷ bs) → p < length text
 inside text p b bs l = let e = l.ends in omega (arith, e)
 
--- it is behind its start
+-- it is after its start
 lands : (k : Kind) (text : List ℕ) (p level : ℕ) (w : WordText) → is_end k ≡ false → Fits k text p
     → word_at k false level text p ≡ Ok w → p < w.reached
 lands k text p level w no_end fits e =
@@ -184,7 +184,7 @@ block_from false page digit x text c o ls T value m rest k s right low l passed 
     word_on kinds.Literal literal_is x text c (behind_line m value) o ls T 124 e w m rest s right (left_first text o.at 124 _ sign) (omega arith) (omega arith) (λ y. omega (arith, y)) passed.stands.kind passed.stands.word refl refl far passed.stands.column low refl refl refl
     (is_keep (chomp true true (chars value))) (keep_same (chomp true true (chars value))) passed.left
 
--- A block scalar with the space in front and the line behind it, at each position where a layout chooses its style.
+-- A block scalar with the space in front and the line after it, at each position where a layout chooses its style.
 pub block_line : (p : Context) (around : Option ℕ) (q : Part) (v : Scalar) (folded : Bool)
     → 0 < p.settings.indent → p.settings.indent < 10 → IsUtf8 v.value
     → style_of p (block_position around q) v ≡ block_style folded
@@ -206,11 +206,11 @@ block_line p around q v folded some few utf8 chosen ls c m after level low endin
     block_from folded page p.settings.indent x text g.cursor g.place ls T v.value m after line_on g.stage g.right (not_right around m (indent ls) (column_at text g.place.at) low level g.right) g.left
     (subst (λ (n : ℕ). BlockPassed folded n text g.place.at v.value m (bytes (after (behind_line m v.value)))) (sym level) passed)
 
--- ==== Aliases and scalars in a block, up to the line behind them.
+-- ==== Aliases and scalars in a block, up to the line after them.
 
 -- ---- white
 
--- behind text a line begins with a break
+-- after text a line begins with a break
 text_line_white : (b : LineBreak) (m : ℕ) (after : Rest) (e : Cursor) → e.bare ≡ false
     → begins_white (bytes (line b m e after)) ≡ true
 text_line_white b m after e bare = ap (λ bs. begins_white bs) (line_bytes b m e after bare) ∙ break_white b _
@@ -271,9 +271,9 @@ scalar_shape s o pretty around q v c R =
     let all : Bool → Style → Layout = λ b t. properties_text p v.anchor (scalar_tag b v) ▹ (when (not (has (scalar_tag b v)) && (not v.quoted && not (is_plain t))) (word (33 ∷ [])) ▹ body t) in
     ap (λ (b : Bool). all b (style_of p at v) c R) pretty ∙ ap (λ (t : Style). all false t c R) (position_style p around q v)
 
--- ---- the text of a scalar, up to the line behind it
+-- ---- the text of a scalar, up to the line after it
 
--- behind its properties
+-- after its properties
 abbrev TextLines : Settings → Opening → Option ℕ → Part → Scalar → Style → Type 0
 TextLines s o around q v st = (ls : List ℕ) (c : Cursor) (m : ℕ) (after : Rest) → indent ls ≡ margin_round around → m ≤ column_round around → Ending s.line_break m (indent ls) after
     → (x : yaml_encoding_t) (text : List ℕ) (w : WalkState) (T : List TokenBody → List TokenBody) → NodeStage x text c w ls [] T → indent ls ≤ column_at text w.at

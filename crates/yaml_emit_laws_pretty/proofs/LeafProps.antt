@@ -1,4 +1,4 @@
--- Words as content, one behind the other: at any depth.
+-- Words as content, one after the other: at any depth.
 use Rattle.std.proofs.Common.{◌≡◌, ℕ, ◌+◌, ◌≤◌, ◌&&◌, ◌||◌, nat_lt, Bool, true, false, List, [], ◌∷◌, ◌++◌, length, suc, refl, sym, subst, ◌∙◌, arith, append_assoc, length-append, if◌then◌else◌, ◌/◌, ◌%◌, ◌<◌, not, Option, Some, None, ap, inl, inr, append-nil}
 use Rattle.yaml_emit_laws_pretty.proofs.Words.{false≢true, cases_Bool, yaml_encoding_t, TokenBody, column_at, line_at, indent, WordText, Kind, Left, bytes, first, has_at, left_first, left_more, left_rest, has_front, line_at-grows, IsRight, WalkReads, LeaveClear, Outside, WalkState, walk_white, walk_word, deeper_leaves, walk_says, is_text, Fits, Spoken, spoken_bytes, all_bytes, all_bodies, AllFit, SaysTokens, nat_tests, Cursor, Settings, Layout, Rest, ◌▹◌, stay, when, letters, word, blank, keeps_byte, uri_byte, uri_text, Split, shorthand, verbatim, spelled, split_tag, Opening, context_of, anchor_text, tag_text, anchor_bodies, tag_bodies, mark_bodies, IsReadable, IsWritableAnchor, IsWritableTag, IsWritableOpening, spelled_ascii, AreCalm, calm_from, written_readable, letter_low, split_read, lettered_on, lone_mark_is_read, anchor_is_read, begins_white, kept_above, calm_all, Above, above_append, alphas_calm, digit_above, handle_above, marked_ascii, has, letter_columns, NodeStage, Walks, IsPretty, PropertiesAreWalked}
 use Rattle.yaml_emit_laws_pretty.proofs.KeySteps.{texty, stands_comes, stands_leaves, spot_at, front, calm_columns}
@@ -12,7 +12,7 @@ use Rattle.yaml_emit_laws_text.proofs.Sinks.{cond_true, cond_false}
 abbrev pub ClearFor : Bool → ℕ → List ℕ → Type 0
 ClearFor now d cs = (a : Bool) → (now ≡ false → a ≡ false) → (k : Kind) → is_text k ≡ true → LeaveClear k d a cs
 
--- Behind words of text, at that depth.
+-- After words of text, at that depth.
 pub record WordsRun (x : yaml_encoding_t) (text : List ℕ) (e d : ℕ) (cs ls : List ℕ) (T : List TokenBody → List TokenBody) : Type 0 where
   pub line : ℕ
   pub wide : Bool
@@ -155,7 +155,7 @@ tag_some o (fine, u) t (some, utf8) =
 
 -- ---- words of calm letters
 
--- letters, and the cursor behind them
+-- letters, and the cursor after them
 record Lettered (xs : List ℕ) (c : Cursor) : Type 0 where
   behind : Cursor
   written : (rest : Rest) → bytes (letters xs c rest) ≡ xs ++ bytes (rest behind)
@@ -215,7 +215,7 @@ word_wrote xs are some c =
 
 -- ---- lists of such words
 
--- where none is written the cursor is as before, else it stands behind text
+-- where none is written the cursor is as before, else it stands after text
 abbrev pub Moved : {flow : Bool} {level : ℕ} → List (Spoken flow level) → Cursor → Cursor → Type 0
 Moved {flow} {level} [] c e = e ≡ c
 Moved {flow} {level} (w ∷ ws) c e = (e.bare ≡ false) × (e.white ≡ false)
@@ -283,7 +283,7 @@ moved_on : {flow : Bool} {level : ℕ} (ws : List (Spoken flow level)) (c e : Cu
 moved_on [] c e bare white m = (ap (λ (x : Cursor). x.bare) m ∙ bare, ap (λ (x : Cursor). x.white) m ∙ white)
 moved_on (w ∷ ws) c e bare white m = m
 
--- one word in front of others
+-- one word before others
 dress_word : (flow : Bool) (level : ℕ) (w : Spoken flow level) (xs : List ℕ) (c : Cursor)
     → AreCalm xs → (some : 0 < length xs) → w.spaced ≡ not c.white → w.own ≡ xs → (r : Wrote xs c)
     → (b : Layout) (more marked : Bool) (B : List TokenBody → List TokenBody)
@@ -400,7 +400,7 @@ word_walks a c ls w says rest fits x text o T s right l =
 
 -- ---- properties and the `!`
 
--- behind a node's properties and its `!`, if it has any
+-- after a node's properties and its `!`, if it has any
 pub record Dressing (x : yaml_encoding_t) (text : List ℕ) (rest : Rest) (c : Cursor) (some : Bool) (ls : List ℕ) (T : List TokenBody → List TokenBody) : Type 0 where
   pub cursor : Cursor
   pub place : WalkState

@@ -8,11 +8,11 @@ use Rattle.yaml_emit_laws_pretty.proofs.BlockValues.{unblank, not_printed}
 
 -- ---- characters
 
--- what a character of such a value is, by the one behind it
+-- what a character of such a value is, by the one after it
 pub record Shows (x next : ℕ) : Type 0 where
   pub scalar : scalar x ≡ true
   pub printable : is_printable x ≡ true
-  -- no space stands before a break or behind one
+  -- no space stands before a break or after one
   pub space : (x == 32 && is_break next) ≡ false
   pub broken : (is_break x && next == 32) ≡ false
 

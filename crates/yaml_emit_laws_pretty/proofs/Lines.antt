@@ -58,7 +58,7 @@ pub record BreakOf (b : LineBreak) (x : ℕ) : Type 0 where
   pub fits : (is_return end && is_feed_end (end_of b)) ≡ false
   pub apart : (e : LineEnd) → (is_return e && is_feed_end (end_of b)) ≡ false
       → (is_return e && is_feed_end end) ≡ false
-  -- one that doesn't read as LF stays in front of others
+  -- one that doesn't read as LF stays before others
   pub stays : (x == 10) ≡ false → (ts : List ℕ) → gap (end_means end) ts ≡ end_means end ++ ts
 
 pub own_fits : (b : LineBreak) → (is_return (end_of b) && is_feed_end (end_of b)) ≡ false

@@ -1,4 +1,4 @@
--- Lines between nodes, and the indicators behind them.
+-- Lines between nodes, and the indicators after them.
 use Rattle.std.proofs.Common.{◌≡◌, ℕ, ◌-◌, ◌+◌, ◌<◌, ◌==◌, ◌&&◌, ◌||◌, not, nat_lt, Bool, true, false, List, [], ◌∷◌, ◌++◌, zero, suc, refl, ap, ◌∙◌, inl, inr, arith, if◌then◌else◌, sym, subst, ◌≤◌}
 use Rattle.yaml_emit_laws_pretty.proofs.Words.{cases_Bool, false≢true, or_left, or_right, not-false, ltb-false, eq-eqb, nat_tests, yaml_encoding_t, TokenBody, break_of, byte, column_at, line_at, ends_of, ends_break, Cursor, LineBreak, Lf, Cr, CrLf, Rest, blank, blanks, line, letters, indicator, must_break, new_line, indent_to, word, letter, Item, bytes, Left, first, letter_low, left_letter, behind_return, walk_ends, walk_says, walk_mark, walk_white, begins_white, begins_solid, LinedUp, BareIndicator, Entry, Question, Answer, mark_byte, no_comment, mark_body, mark_level, IsLone, MarkIsWalked, NodeStage, NoFeed, Lined, LineIsWalked, LineEndsNode, ShowsNode, indent, margin_at, opened, start_of, level_of, is_start, is_value, allows_key, Kind, begins_lexeme, left_first, left_more, has_at, line_at-grows, Rises, IsGap, WalkState, ClosesAt, behind, sign, MarkComes, WordLeaves, signs_come, printed_begins, letter_columns, feed_line, words_leave, left_byte, column_end, line_end, line_start}
 use Rattle.yaml_emit_laws_text.specs.emit_layout.scan_model.Tokens as tokens
@@ -28,7 +28,7 @@ space_due column n true true w e = absurd (cc)
 space_due column n false white w e = absurd (cc)
 space_due column n true false w e = grind (arith, nat_tests)
 
--- behind what isn't white a line begins with a break or a space
+-- after what isn't white a line begins with a break or a space
 pub line_begins_white : (b : LineBreak) (n : ℕ) (c : Cursor) (rest : Rest) → c.white ≡ false
     → begins_white (bytes (line b n c rest)) ≡ true
 unfolding line
@@ -77,7 +77,7 @@ mark_shows k n rest = record {
   calm = λ e bare white column. ap (λ bs. no_comment bs) (indicator_bytes (mark_byte k) rest e (mark_small k) white) ∙ mark_calm k (bytes (rest (record { column = e.column + 1; white = false; bare = e.bare; kept = e.kept })));
 }
 
--- ---- behind a line
+-- ---- after a line
 
 -- the innermost level is left to whoever opened the others
 pub up_ends : (x : yaml_encoding_t) (text : List ℕ) (rest : Rest) (n : ℕ) (kept : Bool) (l : ℕ)
@@ -130,7 +130,7 @@ up_says x text rest n kept ls T U up e =
 pub no_gap : (text : List ℕ) (p : ℕ) → begins_lexeme text p ≡ true → IsGap text p []
 no_gap text p e = let z : p + 0 ≡ p = omega arith in record { has = λ k few. absurd (omega (arith, few)); blank = refl; ends = ap (λ n. begins_lexeme text n) z ∙ e }
 
--- A sign that is next, behind no gap.
+-- A sign that is next, after no gap.
 pub record SignNext (text : List ℕ) (p b : ℕ) (bs : List ℕ) : Type 0 where
   pub none : IsGap text p []
   pub at : byte text (p + 0) ≡ b
@@ -218,7 +218,7 @@ mark_on k x text n kept ls more new what T rest here lone low rises opens starts
 
 -- ---- spaces
 
--- a line that was come to stays behind
+-- a line that was come to stays after
 pub line_on_to : (text : List ℕ) (p q i : ℕ) → i ≤ line_at text p → p ≤ q → i ≤ line_at text q
 line_on_to text p q i low up = let more = line_at-grows text p q up in omega (arith, low, more)
 

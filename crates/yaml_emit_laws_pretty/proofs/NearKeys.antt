@@ -22,7 +22,7 @@ abbrev pub Above : List ℕ → Type 0
 Above [] = Unit {0}
 Above (b ∷ bs) = (13 < b) × Above bs
 
--- Bytes above the control characters, and more of them behind.
+-- Bytes above the control characters, and more of them after.
 pub above_append : (xs ys : List ℕ) → Above xs → Above ys → Above (xs ++ ys)
 above_append [] ys h k = k
 above_append (x ∷ xs) ys (a, h) k = (a, above_append xs ys h k)

@@ -8,7 +8,7 @@ use Rattle.yaml_emit_laws_pretty.proofs.NodePairs.{BlockWalks, MoreItems, sequen
 
 -- ---- properties, or none
 
--- behind a collection's properties, if it has any
+-- after a collection's properties, if it has any
 record Opened (x : yaml_encoding_t) (text : List ℕ) (rest : Rest) (kept bare : Bool) (ls : List ℕ) (T : List TokenBody → List TokenBody) : Type 0 where
   cursor : Cursor
   place : WalkState
@@ -92,7 +92,7 @@ unfolding node_bodies
 mapping_said p q bare o k v ps block bs =
     sym (ap (λ (b : Bool). anchor_bodies o.anchor (tag_bodies p.directives (start_tag false o) (mapping_opens b (pairs_bodies p b true (pair k v ps) (mapping_closes b bs))))) block)
 
--- ---- behind the properties
+-- ---- after the properties
 
 -- all items of a sequence at whatever column
 pub record ItemsWalk (p : Context) (y : Node) (ys : Nodes) : Type 0 where
@@ -124,7 +124,7 @@ items_on p (Some n) q true y ys deep place walk x text c o ls m after T s level 
 
 -- ---- collections
 
--- A block collection by what it holds at a column: behind its properties, where that begins with a line.
+-- A block collection by what it holds at a column: after its properties, where that begins with a line.
 block_collection : PropertiesAreWalked → (s : Settings) (d : Opening) → IsPretty s d
     → (around : Option ℕ) (q : Part) (bare : Bool) (y : Node) (a t : Option (List ℕ))
     → IsWritableAnchor a → IsWritableTag t

@@ -1,4 +1,4 @@
--- Block sequences, item by item, each up to the line behind it.
+-- Block sequences, item by item, each up to the line after it.
 use Rattle.std.proofs.Common.{◌≡◌, ℕ, ◌+◌, ◌<◌, ◌≤◌, Bool, true, false, List, [], ◌∷◌, ◌++◌, refl, sym, ap, subst, ◌∙◌, arith, Some, not, inl, inr}
 use Rattle.yaml_emit_laws_pretty.proofs.Words.{Layout, yaml_encoding_t, TokenBody, indent, opened, start_of, Opens, Cursor, Rest, line, indicator, ◌▹◌, when, char, Node, Nodes, no_nodes, node, Pairs, no_pairs, pair, Context, position, node_layout, items_layout, before_item, closer, is_simple, key_part, question, pairs_layout, before_key, before_value, Left, bytes, Rises, start_bodies, WalkState, level_opens, levels_part, begins_white, node_bodies, items_bodies, node_kept, items_kept, pairs_bodies, pairs_kept, NodeStage, Lined, LinedUp, Entry, Question, Answer, Ending, NodeWalks, ShowsNode, KeyWalks, cases_Bool, column_at}
 use Rattle.yaml_emit_laws_text.specs.emit_layout.scan_model.Tokens as tokens
@@ -9,7 +9,7 @@ use Rattle.yaml_emit_laws_pretty.proofs.Following.{shown_ends, shows_no_feed, en
 
 -- ---- a block, line by line
 
--- From the line at which `shown` begins to the one behind the block: where the line leaves a level or opens one, `said` comes, and the
+-- From the line at which `shown` begins to the one after the block: where the line leaves a level or opens one, `said` comes, and the
 -- last block scalar in it is told by `keeps`.
 abbrev pub LinesOn : Context → ℕ → Opens → (ℕ → Rest → Rest) → (Bool → Bool)
     → (List TokenBody → List TokenBody) → Type 0
@@ -19,7 +19,7 @@ LinesOn p n begun shown keeps said = (x : yaml_encoding_t) (text : List ℕ) (ke
     → m ≤ n → Ending p.settings.line_break m (n + 1) after
     → LinedUp x text after m (keeps kept) new (λ bs. T (start_bodies what (said bs)))
 
--- From where a block begins, in levels that satisfy `Round`, to the line behind it.
+-- From where a block begins, in levels that satisfy `Round`, to the line after it.
 abbrev pub BlockWalks : Context → (List ℕ → Type 0) → ℕ → Layout → (Bool → Bool)
     → (List TokenBody → List TokenBody) → Type 0
 BlockWalks p Round most held keeps said = (x : yaml_encoding_t) (text : List ℕ) (c : Cursor) (o : WalkState) (ls : List ℕ) (m : ℕ) (after : Rest) (T : List TokenBody → List TokenBody)
@@ -28,7 +28,7 @@ BlockWalks p Round most held keeps said = (x : yaml_encoding_t) (text : List ℕ
     → Left text o.at (bytes (held c (λ e. line p.settings.line_break m e after)))
     → LinedUp x text after m (keeps c.kept) ls (λ bs. T (said bs))
 
--- ---- what follows an item: a line at the sequence's column, or the one behind the sequence
+-- ---- what follows an item: a line at the sequence's column, or the one after the sequence
 
 abbrev pub items_column : ℕ → ℕ → Nodes → ℕ
 items_column n m no_nodes = m
@@ -60,7 +60,7 @@ items_ending p n m after (node y ys) e =
 
 -- ---- items
 
--- the items behind others, up to the line behind the sequence
+-- the items after others, up to the line after the sequence
 abbrev pub MoreItems : Context → ℕ → Nodes → Type 0
 MoreItems p n xs = (x : yaml_encoding_t) (text : List ℕ) (kept : Bool) (now : List ℕ) (m : ℕ) (after : Rest) (T : List TokenBody → List TokenBody) → indent now ≡ n + 1 → m ≤ n → Ending p.settings.line_break m (n + 1) after
     → LinedUp x text (items_after p n m after xs) (items_column n m xs) kept now T → LinedUp x text after m (items_kept p false xs kept) now (λ bs. T (items_bodies p false false xs bs))
@@ -140,11 +140,11 @@ loose_walks p n y xs walk others x text c o ls m after T s last up ending l =
     let here = sequence_line p n y xs x text c o ls m after T s l in
     item_on p n y xs walk others x text c.kept ls [] ls opening.Nothing m after T here (omega (arith, last)) (none_rise (n + 1)) opens starts last up (subst (λ i. Ending p.settings.line_break m i after) last ending)
 
--- ==== Block mappings, pair by pair, each up to the line behind it.
+-- ==== Block mappings, pair by pair, each up to the line after it.
 
--- ---- what a pair writes behind its line, and what follows a pair
+-- ---- what a pair writes after its line, and what follows a pair
 
--- a pair from its key on, up to the line behind the mapping
+-- a pair from its key on, up to the line after the mapping
 abbrev pair_rest : Context → ℕ → ℕ → Rest → Node → Node → Pairs → Bool → Rest
 pair_rest p n m after k v ps simple = λ d. (when (not simple) (question false) ▹ (node_layout p (position false n (key_part simple)) k ▹ (before_value p.settings false n simple
     ▹ (node_layout p (position false n part.Value) v ▹ pairs_layout p false n false ps)))) d (λ e. line p.settings.line_break m e after)
@@ -169,7 +169,7 @@ pairs_up : (n m : ℕ) (ps : Pairs) → m ≤ n → pairs_column n m ps ≤ n
 pairs_up n m no_pairs up = up
 pairs_up n m (pair k v ps) up = omega arith
 
--- what stands behind a pair's value
+-- what stands after a pair's value
 abbrev value_rest : Context → ℕ → ℕ → Rest → Node → Pairs → Rest
 value_rest p n m after v ps = λ h. node_layout p (position false n part.Value) v h (λ e. pairs_layout p false n false ps e (λ i. line p.settings.line_break m i after))
 
@@ -230,7 +230,7 @@ pairs_ending p n m after (pair k v ps) (one, all) e = shown_ends p.settings.line
 
 -- ---- values
 
--- a value up to the line behind it
+-- a value up to the line after it
 value_on : (p : Context) (n : ℕ) (k v : Node) (ps : Pairs) (bare : Bool) → PairWalks p n k v
     → PairsWalk p n ps
     → (x : yaml_encoding_t) (text : List ℕ) (c : Cursor) (o : WalkState) (kept : Bool)
@@ -251,7 +251,7 @@ value_on p n k v ps bare walk all x text c o kept new m after U s is same right 
 
 -- ---- pairs
 
--- the pairs behind others, up to the line behind the mapping
+-- the pairs after others, up to the line after the mapping
 abbrev pub MorePairs : Context → ℕ → Pairs → Type 0
 MorePairs p n ps = (x : yaml_encoding_t) (text : List ℕ) (kept : Bool) (now : List ℕ) (m : ℕ) (after : Rest) (T : List TokenBody → List TokenBody) → indent now ≡ n + 1 → m ≤ n → Ending p.settings.line_break m (n + 1) after
     → LinedUp x text (pairs_after p n m after ps) (pairs_column n m ps) kept now T → LinedUp x text after m (pairs_kept p false ps kept) now (λ bs. T (pairs_bodies p false false ps bs))

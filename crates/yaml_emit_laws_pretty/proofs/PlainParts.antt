@@ -33,7 +33,7 @@ Spells n [] (x ∷ xs) = ⊥
 Spells n (p ∷ ps) [] = ⊥
 Spells n (p ∷ ps) (x ∷ xs) = IsOne n p x × Spells n ps xs
 
--- a character that plain text may have, by the one before it and the one behind it
+-- a character that plain text may have, by the one before it and the one after it
 pub record Good (flow : Bool) (before x next : ℕ) : Type 0 where
   pub plainly : Plainly x
   pub some : x ≢ 0
@@ -77,7 +77,7 @@ firm flow level text p x bytes c =
           }
     ]
 
--- behind a colon stands something
+-- after a colon stands something
 abbrev pub FirmNext : List ℕ → ℕ → ℕ → Type 0
 FirmNext text p x = x ≡ 58 → is_blank_or_end text (p + 1) ≡ false
 
@@ -138,7 +138,7 @@ space_spot flow level text p h =
     spot_blank flow level text p (rw h (calm_break 32 _ _ calm)) (space_blank (byte text p) h) (no_tab (byte text p) (leads text p && nat_lt (column_at text p) level) h)
     ∙ ap (λ b. Takes (Blank b) (p + 1)) h
 
--- columns and lines behind a space
+-- columns and lines after a space
 pub record Spaced (text : List ℕ) (p : ℕ) : Type 0 where
   pub ends : ends_break text p ≡ false
   pub column : column_at text (p + 1) ≡ column_at text p + 1
@@ -214,7 +214,7 @@ end_at text p next_line xs good h = absurd (true≢false (sym good))
 end_at text p line_separator xs good h = absurd (true≢false (sym good))
 end_at text p paragraph_separator xs good h = absurd (true≢false (sym good))
 
--- a fold, and what stands behind it
+-- a fold, and what stands after it
 pub record Folded (flow : Bool) (level : ℕ) (text : List ℕ) (p n : ℕ) (e : LineEnd) : Type 0 where
   pub reads : (ps : List Piece) (f place : ℕ) (broke : Bool) → is_nothing ps ≡ false
       → Read flow level text (p + length (end_bytes e) + n) ps f place broke
@@ -278,7 +278,7 @@ unfolding last_or
 behind_white n ps [] h l = absurd (true≢false l)
 behind_white n ps (x ∷ xs) h l = some_parts n ps x xs h
 
--- the character behind a colon
+-- the character after a colon
 pub colon_next : (flow : Bool) (level n : ℕ) (text : List ℕ) (p before : ℕ) (ps : List QuotedPart)
     (xs : List ℕ) → Spells n ps xs → AreGood flow before xs → Has text p (spelling ps)
     → (first xs ≢ 0) × (first xs ≢ 32) × (first xs ≢ 9) → is_blank_or_end text p ≡ false
@@ -295,7 +295,7 @@ colon_next flow level n text p before (numbered i digits c ∷ ps) (x ∷ xs) (e
 colon_next flow level n text p before (fold t ts ∷ ps) (x ∷ xs) (e, s) g h (a, b, d) = absurd (b e.0)
 colon_next flow level n text p before (joint t ts ∷ ps) (x ∷ xs) (e, s) g h d = absurd e
 
--- ==== A plain scalar's parts, one behind the other, are read as one scalar.
+-- ==== A plain scalar's parts, one after the other, are read as one scalar.
 
 -- ---- all parts
 
@@ -309,7 +309,7 @@ next_firm flow level n text p before x ps xs g s gs h e =
     let one : length (encode_utf8 x) ≡ 1 = ap (λ k. length (encode_utf8 k)) e ∙ ap (λ (t : List ℕ). length t) (encode_1 58 (omega arith)) in
     colon_next flow level n text (p + 1) x ps xs s gs (subst (λ k. Has text (p + k) (spelling ps)) one h) (g.colon e)
 
--- from a place on, up to what is read behind the last part
+-- from a place on, up to what is read after the last part
 abbrev ReadsOn : Bool → ℕ → List ℕ → ℕ → ℕ → List Piece → Type 0
 ReadsOn flow level text p q ps = (place : ℕ) (broke : Bool) → Read flow level text q [] q place broke → Read flow level text p ps q place broke
 
@@ -401,7 +401,7 @@ parts_read flow level m text p before (fold t (u ∷ us) ∷ ps) (x ∷ xs) deep
     no_more u us e = cc
 parts_read flow level m text p before _ (x ∷ xs) deep (e, s) g l st h = absurd e
 
--- ---- the gap behind
+-- ---- the gap after
 
 some_gap : (b : ℕ) → (b == 32 || (b == 10 || b == 13)) ≡ true → 0 < b
 some_gap b h = grind (arith, nat_tests)
@@ -442,7 +442,7 @@ begun flow level text p b ps e place broke h i r =
     ∙ ap (λ x. let y : Result PlainText Wrong = Ok (plain_text (with_piece (Kept (x ∷ [])) (p + 1) (sealed ps e place broke))) in y) h
     ∙ ap (λ (w : Words). let y : Result PlainText Wrong = Ok (plain_text w) in y) kept
 
--- a character, which isn't white, and parts behind it
+-- a character, which isn't white, and parts after it
 pub scalar_read : (flow : Bool) (level m quote : ℕ) (text : List ℕ) (p c : ℕ) (ps : List QuotedPart)
     (xs : List ℕ) (place : ℕ) (broke : Bool) → level ≤ suc m → IsSpelling quote (raw c ∷ ps)
     → Spells (suc m) ps xs → c ≢ 32 → AreGood flow 32 (c ∷ xs) → (last_or c xs == 32) ≡ false

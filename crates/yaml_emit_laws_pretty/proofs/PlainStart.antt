@@ -23,7 +23,7 @@ pub bracket_46 : is_bracket 46 ≡ false
 unfolding is_bracket
 bracket_46 = refl
 
--- b is one of `- .`, and stands there; then it doesn't stand behind the scalar
+-- b is one of `- .`, and stands there; then it doesn't stand after the scalar
 no_stop : (flow : Bool) (level : ℕ) (text : List ℕ) (r b : ℕ) → (b ≡ 45) ⊎ (b ≡ 46)
     → byte text r ≡ b → Stops flow level text (r + 1) → byte text (r + 1) ≡ b → ⊥
 no_stop flow level text r b which here stop next =
@@ -63,7 +63,7 @@ no_stop flow level text r b which here stop next =
     no_bracket (inl e) = rw e bracket_45
     no_bracket (inr e) = rw e bracket_46
 
--- behind the scalar stands a gap, and then what ends it
+-- after the scalar stands a gap, and then what ends it
 pub record Ended (flow : Bool) (level : ℕ) (text : List ℕ) (q : ℕ) (gap : List ℕ) : Type 0 where
   pub has : Has text q gap
   pub blank : are_gap gap ≡ true

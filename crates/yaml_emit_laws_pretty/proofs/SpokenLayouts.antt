@@ -43,7 +43,7 @@ gap_case flow level a make spaced wrote c false =
       kept = r.kept;
     }
 
--- a word behind the space that is due
+-- a word after the space that is due
 pub gap_says : (flow : Bool) (level : ℕ) (a : Layout) (make : Bool → Cursor → Spoken flow level)
     → ((b : Bool) (d : Cursor) → (make b d).spaced ≡ b)
     → ((b : Bool) (d : Cursor) → Wrote a d (make b d).own) → (c : Cursor)
@@ -96,7 +96,7 @@ tag_says split ascii readable flow level o fine t good c =
 
 -- ---- scalars
 
--- behind a character no white was last
+-- after a character no white was last
 cancelled : (xs : List ℕ) (s t : List Item) → in_front xs s ≡ in_front xs t → s ≡ t
 unfolding in_front
 cancelled [] s t e = e

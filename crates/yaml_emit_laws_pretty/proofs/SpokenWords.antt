@@ -95,7 +95,7 @@ walks_gap a B ls c rest w x text o T s right l =
           w d x text u T t (omega (arith, next, right)) (left_more text o.at 32 _ m)
     ]
 
--- ---- a lexeme begins behind the white
+-- ---- a lexeme begins after the white
 
 pub no_hash : (text : List ℕ) (p : ℕ) (bs : List ℕ) → Left text p bs → no_comment bs ≡ true
     → byte text (p + length (white_of bs)) ≡ 35 → ⊥

@@ -7,7 +7,7 @@ use Rattle.yaml_emit_laws_text.proofs.GapsRead.{cr_width, byte_cases}
 
 -- ---- readings, from the right
 
--- pieces, the place behind the last character, the place behind the white, and whether that has a break
+-- pieces, the place after the last character, the place after the white, and whether that has a break
 abbrev pub sealed : List Piece → ℕ → ℕ → Bool → Words
 sealed [] e place broke = record { pieces = []; end = place; place = place; broke = broke }
 sealed (x ∷ xs) e place broke = record { pieces = x ∷ xs; end = e; place = place; broke = broke }
@@ -52,7 +52,7 @@ break_sealed : (bytes : List ℕ) (q e place : ℕ) (broke : Bool) (ps : List Pi
 break_sealed bytes q e place broke [] h = absurd (true≢false h)
 break_sealed bytes q e place broke (x ∷ xs) h = refl
 
--- a piece in front of what is read
+-- a piece before what is read
 read_piece : (flow : Bool) (level : ℕ) (text : List ℕ) (p q : ℕ) (x : Piece) (ps : List Piece)
     (e place : ℕ) (broke : Bool) → spot_at flow level text p ≡ Takes x q → p < q → q ≤ length text
     → with_piece x q (sealed ps e place broke) ≡ sealed (x ∷ ps) e place broke
@@ -86,13 +86,13 @@ read_break flow level text p q bytes ps e place broke s more i some r = read_pie
 
 -- ---- where a byte stands
 
--- inside a line, not left of the level, behind that character
+-- inside a line, not left of the level, after that character
 pub record InLine (level : ℕ) (text : List ℕ) (p before : ℕ) : Type 0 where
   pub column : 0 < column_at text p
   pub inner : (leads text p && nat_lt (column_at text p) level) ≡ false
   pub white : after_white text p ≡ true → before ≡ 32
 
--- behind a byte that isn't white
+-- after a byte that isn't white
 pub stand_behind : (level : ℕ) (text : List ℕ) (p x : ℕ) → is_blank (byte text p) ≡ false
     → ends_break text p ≡ false → 0 < column_at text (p + 1) → InLine level text (p + 1) x
 stand_behind level text p x b e c = record {
@@ -309,7 +309,7 @@ char_at flow level text p c s =
       ]
     ]
 
--- ==== The gap behind a plain scalar, and the end that it comes before.
+-- ==== The gap after a plain scalar, and the end that it comes before.
 
 -- no word more: what is left ends at the place
 abbrev pub none_to : ℕ → Bool → Words
@@ -444,7 +444,7 @@ reads (suc k) (suc n) flow level text p (b ∷ bs) few room (e, h) (white, back)
       | inr (inr (inr s)) ↦ rw (s, end) (returns k (reads k) n flow level text p bs (omega (arith, few)) (omega (arith, room)) (e ∙ s) h back after)
     ]
 
--- White behind a plain scalar is taken.
+-- White after a plain scalar is taken.
 pub white_words : (n : ℕ) (flow : Bool) (level : ℕ) (text : List ℕ) (p : ℕ) (gap : List ℕ)
     → length gap < n → Has text p gap → AreWhite level gap → Stops flow level text (p + length gap)
     → words n flow level text p ≡ Ok (none_to (p + length gap) (has_break gap))

@@ -463,12 +463,12 @@ pub break_low : (b : LineBreak) (n : ℕ) → AreLow (break_text b ++ replicate 
 break_low CrLf n = (omega arith, (omega arith, spaces_low n))
 break_low _ n = (omega arith, spaces_low n)
 
--- Behind blanks a line that was bare is bare.
+-- After blanks a line that was bare is bare.
 pub blanks_bare : (n : ℕ) (c : Cursor) → c.bare ≡ true → (after_blanks n c).bare ≡ true
 blanks_bare zero c e = e
 blanks_bare (suc n) c e = blanks_bare n (spaced_by c) e
 
--- Behind blanks the cursor stands behind white, if it did.
+-- After blanks the cursor stands after white, if it did.
 pub blanks_white : (n : ℕ) (c : Cursor) → c.white ≡ true → (after_blanks n c).white ≡ true
 blanks_white zero c e = e
 blanks_white (suc n) c e = blanks_white n (spaced_by c) refl

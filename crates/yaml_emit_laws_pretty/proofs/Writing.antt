@@ -7,7 +7,7 @@ use Rattle.yaml_emit_laws_pretty.proofs.Letters.{AllShow, quote_byte, seat, Step
 
 -- ---- all characters
 
--- behind a character that ends no line
+-- after a character that ends no line
 pub record Left (page : Page) (quote : Bool) (before : ℕ) (c : Cursor) (last : QuotedPart) (value : List ℕ) : Type 0 where
   pub parts : List QuotedPart
   pub letters : List ℕ
@@ -22,7 +22,7 @@ pub record Left (page : Page) (quote : Bool) (before : ℕ) (c : Cursor) (last :
   pub column : behind.column ≡ 0 → (c.column ≡ 0) × (value ≡ [])
   pub kept : behind.kept ≡ c.kept
 
--- behind a break, where a line starts: spaces first, and further breaks
+-- after a break, where a line starts: spaces first, and further breaks
 record Run (page : Page) (quote : Bool) (before : ℕ) (c : Cursor) (value : List ℕ) : Type 0 where
   spaces : ℕ
   turns : List LineTurn
@@ -139,7 +139,7 @@ spelling_more : (q : QuotedPart) (ps : List QuotedPart)
 unfolding spelling
 spelling_more q ps = refl
 
--- a line feed in front of others is lost
+-- a line feed before others is lost
 feed_lost : (e : LineEnd) (u : LineTurn) (ts : List LineTurn) → end_means e ≡ 10 ∷ []
     → end_means u.end ≡ 10 ∷ []
     → meant (fold (record { end = e; spaces = 0 }) (u ∷ ts)) ≡ 10 ∷ turn_means ts
@@ -194,7 +194,7 @@ fold_next : (last : QuotedPart) (t : LineTurn) (ts : List LineTurn) (ps : List Q
     → is_raw_blank last ≡ false → is_turn last ≡ false → may_be_next last (fold t ts ∷ ps) ≡ true
 fold_next last t ts ps a b = fold_follows last (fold t ts) refl refl a b
 
--- behind what a break is written as
+-- after what a break is written as
 behind_run : (x : ℕ) (c : Cursor) (value : List ℕ) (t : LineTurn) (ts : List LineTurn)
     → is_break x ≡ true → (first value == 32) ≡ false → Behind x c (fold t ts) value
 behind_run x c value t ts b f = record { blank = λ h. absurd (true≢false (sym h)); turn = λ h. (inr b, f); bare = λ g h. absurd (true≢false (sym b ∙ h)) }

@@ -45,8 +45,8 @@ abbrev pub read_style : Bool → yaml_scalar_style_t
 read_style folded = if folded then styles.YAML_FOLDED_SCALAR_STYLE
     else styles.YAML_LITERAL_SCALAR_STYLE
 
--- A block scalar stands there, which has the value: its end is behind its last break, at the start of a line, and the place that
--- is reached is where it stopped, behind so many spaces.
+-- A block scalar stands there, which has the value: its end is after its last break, at the start of a line, and the place that
+-- is reached is where it stopped, after so many spaces.
 pub record BlockStands (folded : Bool) (level : ℕ) (text : List ℕ) (p : ℕ) (value : List ℕ)
     (end k : ℕ) : Type 0 where
   pub block : block_at level text p ≡ Ok record { value = value; end = end; place = end + k }
@@ -59,7 +59,7 @@ pub record BlockStands (folded : Bool) (level : ℕ) (text : List ℕ) (p : ℕ)
   }
   pub column : column_at text (end + k) ≡ k
 
--- From a cursor on, a layout writes these characters, the indicator first, whatever follows. Where their bytes stand, and behind
+-- From a cursor on, a layout writes these characters, the indicator first, whatever follows. Where their bytes stand, and after
 -- them the break of the next line where the value ends in none, before a text that stands left of the page's indentation: there
 -- the value is read, up to the spaces that stand before that text.
 pub record BlockReads (page : Page) (digit : ℕ) (folded : Bool) (level : ℕ) (c : Cursor)
@@ -98,8 +98,8 @@ BlockIsReadBack = (page : Page) (digit : ℕ) (folded : Bool) (level : ℕ) (c :
     → (allowed page.unicode (chars value)).block ≡ true
     → BlockReads page digit folded level c value
 
--- From a cursor on, a block scalar and the start of a line behind it, which is indented by m, are written so; where their bytes
--- stand, before a text or the end, the value is read, and the place that is reached is behind these spaces.
+-- From a cursor on, a block scalar and the start of a line after it, which is indented by m, are written so; where their bytes
+-- stand, before a text or the end, the value is read, and the place that is reached is after these spaces.
 pub record BlockAndLineRead (page : Page) (digit : ℕ) (folded : Bool) (level : ℕ) (c : Cursor)
     (value : List ℕ) (m : ℕ) : Type 0 where
   pub letters : List ℕ
@@ -154,7 +154,7 @@ BlockAtPosition = (p : Context) (at : NodePosition) (x : Scalar) (folded : Bool)
     → BlockIsChosen p at x × BlockAndLineRead (page_at p.settings at) p.settings.indent folded
     (margin_round at.around) c x.value m
 
--- In both styles a scalar is laid out so, behind the space that is due in front of it.
+-- In both styles a scalar is laid out so, after the space that is due before it.
 pub record BlockIsLaidOut : Type 0 where
   pub literal : (page : Page) (digit : ℕ) (flow : Bool) (value : List ℕ)
       → scalar_text page digit flow style.Literal value

@@ -10,7 +10,7 @@ use Rattle.yaml_emit_laws_text.specs.scan_history.Next.{Read, next, gap_behind, 
 use Rattle.yaml_emit_laws_text.specs.scan_history.Remaining.{body_in}
 use Rattle.yaml_emit_laws_pretty.specs.BlockLaws.{kind_of, read_style, BlockStands}
 
--- Behind these lexemes a block scalar comes, with that value. It opens no level, no candidate is behind it, and a key may begin.
+-- After these lexemes a block scalar comes, with that value. It opens no level, no candidate is after it, and a key may begin.
 pub record BlockComes (folded : Bool) (text : List ℕ) (h : List Lexeme) (value : List ℕ)
     (end k : ℕ) : Type 0 where
   pub lexeme : Lexeme
@@ -28,7 +28,7 @@ pub record BlockComes (folded : Bool) (text : List ℕ) (h : List Lexeme) (value
   pub clear : candidate 0 (lexeme ∷ h) ≡ None
   pub allowed : key_allowed (lexeme ∷ h) ≡ true
 
--- Behind lexemes, outside of brackets, where no candidate is missed or lost, a block scalar that stands behind the gap comes.
+-- After lexemes, outside of brackets, where no candidate is missed or lost, a block scalar that stands after the gap comes.
 abbrev pub BlockIsNext : Type 0
 BlockIsNext = (folded : Bool) (text : List ℕ) (h : List Lexeme) (value : List ℕ) (end k : ℕ)
     → 0 < length h → ended h ≡ false → depth h ≡ 0 → stale_before text h ≡ None

@@ -39,12 +39,12 @@ mark_means own = ascii.line_feed ∷ []
 mark_means separator = points.line_separator_utf8
 mark_means paragraph = points.paragraph_separator_utf8
 
--- A line behind the header: one without a text, or the characters of a text, the first one and others; and its break.
+-- A line after the header: one without a text, or the characters of a text, the first one and others; and its break.
 pub data BodyLine : Type 0 where
   bare : LineMark → BodyLine
   full : ℕ → List ℕ → LineMark → BodyLine
 
--- a text stands behind the indentation; a line without one has none
+-- a text stands after the indentation; a line without one has none
 abbrev pub line_text : LineBreak → ℕ → BodyLine → List ℕ
 line_text b n (bare m) = mark_text b m
 line_text b n (full x xs m) = replicate n ascii.space ++ ((x ∷ xs) ++ mark_text b m)
@@ -81,7 +81,7 @@ AreInside [] = Unit {0}
 AreInside (bare m ∷ ls) = AreInside ls
 AreInside (full x xs m ∷ ls) = (are_inside (x ∷ xs) ≡ true) × AreInside ls
 
--- the break behind a last line that has none of its own, which comes with the next line
+-- the break after a last line that has none of its own, which comes with the next line
 abbrev pub closing : LineBreak → Bool → List ℕ
 closing b ended = if ended then [] else break_text b
 
@@ -91,7 +91,7 @@ pub record NoWhite (text : List ℕ) (q : ℕ) : Type 0 where
   pub no_tab : byte text q ≢ ascii.tab
   pub no_break : break_width text q ≡ 0
 
--- At a line's start, so many spaces stand there, fewer than n, and behind them a text left of column n, or the end.
+-- At a line's start, so many spaces stand there, fewer than n, and after them a text left of column n, or the end.
 pub record StandsLeft (text : List ℕ) (q n k : ℕ) : Type 0 where
   pub fewer : k < n
   pub spaces : HasAt text q (replicate k ascii.space)

@@ -16,7 +16,7 @@ abbrev pub begins_white : List ℕ → Bool
 begins_white bs = is_blank (get_or bs 0 0)
     || nat_lt 0 (break_of (get_or bs 0 0) (get_or bs 1 0) (get_or bs 2 0))
 
--- the cursor behind the start of a line that is indented by m, behind a block scalar with that value
+-- the cursor after the start of a line that is indented by m, after a block scalar with that value
 abbrev pub behind_line : ℕ → List ℕ → Cursor
 behind_line m value = record {
   column = m;
@@ -25,7 +25,7 @@ behind_line m value = record {
   kept = is_keep (chomp true true (chars value));
 }
 
--- A block scalar stands there, and where the scanner has come to behind it, these bytes are left of the text.
+-- A block scalar stands there, and where the scanner has come to after it, these bytes are left of the text.
 pub record BlockPassed (folded : Bool) (level : ℕ) (text : List ℕ) (p : ℕ) (value : List ℕ) (m : ℕ)
     (bs : List ℕ) : Type 0 where
   pub end : ℕ

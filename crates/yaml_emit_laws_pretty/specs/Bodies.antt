@@ -1,4 +1,4 @@
--- The tokens of pretty text by structure alone, without their marks, in front of those that follow.
+-- The tokens of pretty text by structure alone, without their marks, before those that follow.
 use Rattle.std.specs.Prelude.{ℕ, Bool, true, false, not, ◌&&◌, List, [], ◌∷◌, Option, None}
 use Rattle.std.specs.Str.{chars}
 use Rattle.yaml_emit_laws_text.specs.emit_layout.scan_model.declared.yaml_scalar_style_t.{yaml_scalar_style_t}
@@ -47,8 +47,8 @@ takes_mark quoted s = not quoted && not (is_plain s)
 abbrev pub is_bare : Option (List ℕ) → Option (List ℕ) → Bool
 is_bare anchor tag = not (has anchor) && not (has tag)
 
--- A block sequence that is a key or a value keeps the indentation round it, where its line isn't bare. A line is bare behind `-`, behind
--- `?` and behind the `:` of such a key, up to the properties.
+-- A block sequence that is a key or a value keeps the indentation round it, where its line isn't bare. A line is bare after `-`, after
+-- `?` and after the `:` of such a key, up to the properties.
 abbrev pub keeps : Part → Bool → Start → Bool
 keeps q bare o = is_of_mapping q && not (bare && is_bare o.anchor (start_tag false o))
 
@@ -98,7 +98,7 @@ abbrev pub pair_bodies : Bool → Bool → List TokenBody → List TokenBody
 pair_bodies true fresh bs = comma_bodies fresh (tokens.key ∷ bs)
 pair_bodies false fresh bs = tokens.key ∷ bs
 
--- By whether it stands in brackets, its part there, and whether its line is bare. Simple keys and those behind `?` have the same tokens.
+-- By whether it stands in brackets, its part there, and whether its line is bare. Simple keys and those after `?` have the same tokens.
 unfoldable mutual
   pub node_bodies : Context → Bool → Part → Bool → Node → List TokenBody → List TokenBody
   node_bodies p flow q bare (alias_node name) bs = tokens.alias name ∷ bs
@@ -181,7 +181,7 @@ root_bodies s d bs = node_bodies (context_in s d) false part.Item true d.root bs
 abbrev pub is_root_kept : Settings → Document → Bool
 is_root_kept s d = node_kept (context_in s d) false part.Item d.root false
 
--- behind a document that ended implicitly a `...` comes before directives, and at the stream's end where the last block scalar keeps
+-- after a document that ended implicitly a `...` comes before directives, and at the stream's end where the last block scalar keeps
 abbrev pub has_dots : Bool → List Document → Bool
 has_dots kept [] = kept
 has_dots kept (d ∷ ds) = is_directed d.opening

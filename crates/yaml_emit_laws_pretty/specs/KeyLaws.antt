@@ -1,4 +1,4 @@
--- Behind a simple key and its `:`.
+-- After a simple key and its `:`.
 use Rattle.std.specs.Prelude.{◌≡◌, ◌≤◌, ◌+◌, ℕ, Bool, false, List, []}
 use Rattle.yaml_emit_laws_text.specs.emit_layout.scan_model.declared.yaml_encoding_t.{yaml_encoding_t}
 use Rattle.yaml_emit_laws_text.specs.emit_layout.scan_model.Tokens.{TokenBody}
@@ -9,7 +9,7 @@ use Rattle.yaml_emit_laws_text.specs.Walk.{Left, bytes}
 use Rattle.yaml_scan_laws_texts.specs.Walks.{WalkState}
 use Rattle.yaml_emit_laws_pretty.specs.Walk.{NodeStage}
 
--- Behind a key's `:`, in the levels that it leaves.
+-- After a key's `:`, in the levels that it leaves.
 pub record Keyed (x : yaml_encoding_t) (text : List ℕ) (rest : Rest) (n : ℕ) (kept : Bool)
     (ls : List ℕ) (T : List TokenBody → List TokenBody) : Type 0 where
   pub cursor : Cursor

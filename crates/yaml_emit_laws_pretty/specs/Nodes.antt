@@ -1,4 +1,4 @@
--- Nodes in a block: each is walked with the line behind it.
+-- Nodes in a block: each is walked with the line after it.
 use Rattle.std.specs.Prelude.{◌≡◌, ◌≤◌, ◌+◌, ℕ, Bool, true, false, not, ◌||◌, List, [], ◌∷◌, Option, Some, None}
 use Rattle.yaml_emit_laws_text.specs.emit_layout.scan_model.Ascii as ascii
 use Rattle.yaml_emit_laws_text.specs.emit_layout.scan_model.Indents.{least_indent, most_indent}
@@ -34,16 +34,16 @@ use Rattle.yaml_emit_laws_pretty.specs.Bodies.{style_at, is_flow_at, node_bodies
 use Rattle.yaml_emit_laws_pretty.specs.Walk.{NodeStage, Lined, LinedUp, Follows, NoFeed, no_comment}
 use Rattle.yaml_emit_laws_pretty.specs.KeyLaws.{Keyed}
 
--- ---- what stands behind a node
+-- ---- what stands after a node
 
--- What stands behind a line is neither white nor a comment.
+-- What stands after a line is neither white nor a comment.
 pub record ShowsNode (n : ℕ) (rest : Rest) : Type 0 where
   pub solid : (e : Cursor) → e.bare ≡ true → e.white ≡ true → e.column ≡ n
       → begins_solid (bytes (rest e)) ≡ true
   pub calm : (e : Cursor) → e.bare ≡ true → e.white ≡ true → e.column ≡ n
       → no_comment (bytes (rest e)) ≡ true
 
--- A line of m columns and what comes behind it end a node whose innermost level is that or more: it stops plain and block scalars, and
+-- A line of m columns and what comes after it end a node whose innermost level is that or more: it stops plain and block scalars, and
 -- is no comment.
 pub record Ending (b : LineBreak) (m level : ℕ) (after : Rest) : Type 0 where
   pub follows : Follows level (λ e. line b m e after)
@@ -78,9 +78,9 @@ pub record IsPretty (s : Settings) (d : Opening) : Type 0 where
   pub most : s.indent ≤ most_indent
   pub fine : IsWritableOpening d
 
--- A node at a position of a block, up to the line behind it, whose column isn't right of the innermost level: where a text goes on with the
+-- A node at a position of a block, up to the line after it, whose column isn't right of the innermost level: where a text goes on with the
 -- node and then with that line and `after`, right of the innermost level or at it, the node's tokens come. It begins with white, where
--- the cursor isn't behind white.
+-- the cursor isn't after white.
 pub record NodeWalks (p : Context) (around : Option ℕ) (q : Part) (bare : Bool) (y : Node)
     : Type 0 where
   pub walks : (ls : List ℕ) (c : Cursor) (m : ℕ) (after : Rest) → c.bare ≡ bare
@@ -151,7 +151,7 @@ BracketsAreWalked = (s : Settings) (d : Opening) → IsPretty s d → (y : Node)
     → (around : Option ℕ) (q : Part) (bare : Bool) → is_simple_part q ≡ false
     → NodeWalks (context_of s d.directives) around q bare y
 
--- Behind an anchor, a tag, or both, in their line.
+-- After an anchor, a tag, or both, in their line.
 pub record Dressed (x : yaml_encoding_t) (text : List ℕ) (rest : Rest) (kept : Bool) (ls : List ℕ)
     (T : List TokenBody → List TokenBody) : Type 0 where
   pub cursor : Cursor
@@ -163,7 +163,7 @@ pub record Dressed (x : yaml_encoding_t) (text : List ℕ) (rest : Rest) (kept :
   pub right : indent ls ≤ column_at text place.at
   pub same : cursor.kept ≡ kept
 
--- white or nothing stands behind properties, or behind a key's `:`
+-- white or nothing stands after properties, or after a key's `:`
 abbrev pub PartedBehind : Rest → Type 0
 PartedBehind rest = (e : Cursor) → e.bare ≡ false → e.white ≡ false
     → begins_white (bytes (rest e)) ≡ true

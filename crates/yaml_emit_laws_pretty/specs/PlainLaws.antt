@@ -14,7 +14,7 @@ use Rattle.yaml_emit_laws_text.specs.emit_layout.Scalars.{flow_body}
 use Rattle.yaml_emit_laws_text.specs.emit_layout.Spelling.{in_front}
 use Rattle.yaml_emit_laws_text.specs.emit_layout.Style.{allowed}
 
--- a plain scalar of these bytes, with the white behind it
+-- a plain scalar of these bytes, with the white after it
 abbrev pub plain_of : List ℕ → List ℕ → List ℕ → ℕ → PlainText
 plain_of value bytes gap p = record {
   value = value;
@@ -30,8 +30,8 @@ pub record IsReadPlain (flow : Bool) (level : ℕ) (value bytes gap text : List 
   pub kind : kind_at flow text p ≡ Some kinds.Plain
   pub read : plain_at flow level text p ≡ Ok (plain_of value bytes gap p)
 
--- From a cursor on, a layout writes these characters, whatever follows; and wherever their bytes stand before a gap behind which
--- a plain scalar ends, they are one plain scalar with the value. Behind them the line isn't bare and ends in no space.
+-- From a cursor on, a layout writes these characters, whatever follows; and wherever their bytes stand before a gap after which
+-- a plain scalar ends, they are one plain scalar with the value. After them the line isn't bare and ends in no space.
 pub record PlainIsBack (flow : Bool) (level : ℕ) (a : Layout) (c : Cursor) (value : List ℕ)
     : Type 0 where
   pub letters : List ℕ

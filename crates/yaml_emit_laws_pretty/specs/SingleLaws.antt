@@ -13,7 +13,7 @@ use Rattle.yaml_emit_laws_text.specs.emit_layout.Style.{allowed}
 use Rattle.yaml_emit_laws_text.specs.ReadBack.{between_single, is_one_line}
 
 -- From a cursor on, a layout writes these characters, a single quote first, whatever follows; and wherever their bytes stand, with
--- no single quote behind them, the value is read, up to their end. Behind them the line isn't bare and ends in no space.
+-- no single quote after them, the value is read, up to their end. After them the line isn't bare and ends in no space.
 pub record SingleIsBack (a : Layout) (c : Cursor) (value : List ℕ) : Type 0 where
   pub letters : List ℕ
   pub inside : List ℕ

@@ -1,4 +1,4 @@
--- Words that a layout writes for a node, one behind the other: as content or as a key, at any depth.
+-- Words that a layout writes for a node, one after the other: as content or as a key, at any depth.
 use Rattle.std.specs.Prelude.{◌≡◌, ◌+◌, ℕ, ◌==◌, ◌||◌, nat_lt, if◌then◌else◌, Bool, true, false, List, [], ◌∷◌, ◌++◌, length, None, Some, Ok}
 use Rattle.yaml_emit_laws_text.specs.emit_layout.scan_model.Ascii as ascii
 use Rattle.yaml_emit_laws_text.specs.emit_layout.scan_model.Tokens.{TokenBody}
@@ -23,7 +23,7 @@ is_text kinds.DoubleQuoted = true
 is_text kinds.Plain = true
 is_text _ = false
 
--- what has to stand behind a word
+-- what has to stand after a word
 pub data Behind : Type 0 where
   -- anything
   anything : Behind

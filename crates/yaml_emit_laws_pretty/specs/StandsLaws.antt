@@ -19,14 +19,14 @@ use Rattle.yaml_emit_laws_text.specs.Walk.{Left, bytes, first}
 use Rattle.yaml_emit_laws_pretty.specs.PlainLaws.{IsReadPlain, may_be_plain}
 use Rattle.yaml_emit_laws_pretty.specs.Stops.{white_of, stops_plain_at}
 
--- a cursor behind text, with `kept` as it was
+-- a cursor after text, with `kept` as it was
 pub record IsBehind (e c : Cursor) : Type 0 where
   pub bare : e.bare ≡ false
   pub white : e.white ≡ false
   pub column : e.column ≡ 0 → ⊥
   pub kept : e.kept ≡ c.kept
 
--- These bytes stand there, and behind them the text goes on as `rest` does behind text.
+-- These bytes stand there, and after them the text goes on as `rest` does after text.
 pub record GoesBehind (text : List ℕ) (p : ℕ) (c : Cursor) (rest : Rest) : Type 0 where
   pub own : List ℕ
   pub behind : Cursor
@@ -104,7 +104,7 @@ pub record IsLinedUp (e c : Cursor) (n : ℕ) : Type 0 where
   pub column : e.column ≡ n
   pub kept : e.kept ≡ c.kept
 
--- What comes behind text on a line of n columns stops a plain scalar, if it does so at column n.
+-- What comes after text on a line of n columns stops a plain scalar, if it does so at column n.
 pub record LinesUp (flow : Bool) (level : ℕ) (b : LineBreak) (n : ℕ) (c : Cursor) (rest : Rest)
     : Type 0 where
   pub behind : Cursor

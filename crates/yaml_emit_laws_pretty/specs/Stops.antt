@@ -1,4 +1,4 @@
--- What stands behind a plain scalar stops it: a test of the bytes that are left.
+-- What stands after a plain scalar stops it: a test of the bytes that are left.
 use Rattle.std.specs.Prelude.{ℕ, ◌+◌, ◌≡◌, Bool, true, false, not, ◌&&◌, ◌||◌, ◌==◌, nat_lt, if◌then◌else◌, List, [], ◌∷◌, ◌++◌, length, Option, Some, None, replicate, ◌<◌, encode_utf8, encode_utf8_all}
 use Rattle.yaml_emit_laws_text.specs.scan_model.Ascii as ascii
 use lib.Utf8.{scalar}
@@ -30,14 +30,14 @@ abbrev pub begins_white : List ℕ → Bool
 begins_white [] = true
 begins_white (b ∷ bs) = is_gap_byte b
 
--- `---` or `...`, and white or the end behind it
+-- `---` or `...`, and white or the end after it
 abbrev pub begins_mark : ℕ → List ℕ → Bool
 begins_mark a (b ∷ c ∷ bs) = (((a == ascii.hyphen && b == ascii.hyphen) && c == ascii.hyphen)
     || ((a == ascii.dot && b == ascii.dot) && c == ascii.dot)) && begins_white bs
 begins_mark a (b ∷ []) = false
 begins_mark a [] = false
 
--- behind so many columns: a document mark, or in a block what stands left of the level
+-- after so many columns: a document mark, or in a block what stands left of the level
 abbrev pub stops_line : Bool → ℕ → Option ℕ → ℕ → List ℕ → Bool
 stops_line flow level None b bs = false
 stops_line flow level (Some n) b bs = (n == 0 && begins_mark b bs) || (not flow && nat_lt n level)
@@ -53,7 +53,7 @@ abbrev pub one_more : Option ℕ → Option ℕ
 one_more None = None
 one_more (Some n) = Some (n + 1)
 
--- the column behind a space or a break
+-- the column after a space or a break
 abbrev pub column_behind : ℕ → Option ℕ → Option ℕ
 column_behind b at = if b == ascii.space then one_more at else Some 0
 
@@ -89,7 +89,7 @@ abbrev pub CharactersAreSolid : Type 0
 CharactersAreSolid = (x : ℕ) (bs : List ℕ) → scalar x ≡ true → is_printable x ≡ true
     → is_break x ≡ false → (x == ascii.space) ≡ false → begins_solid (encode_utf8 x ++ bs) ≡ true
 
--- Where such bytes are left, they begin with a gap, and behind it a plain scalar ends.
+-- Where such bytes are left, they begin with a gap, and after it a plain scalar ends.
 abbrev pub StopsEndPlain : Type 0
 StopsEndPlain = (flow : Bool) (level : ℕ) (text : List ℕ) (p : ℕ) (bs : List ℕ) → Left text p bs
     → stops_plain_at flow level None bs ≡ true

@@ -35,7 +35,7 @@ pub record NodeStage (x : yaml_encoding_t) (text : List ℕ) (c : Cursor) (o : W
   pub bare : c.bare ≡ true → (o.now ≡ true) × (column_at text o.at ≡ c.column)
   pub line : o.line ≤ line_at text o.at
 
--- Behind a node: its levels are left to whoever closes them, and the line has text. The document's last block scalar is the one before.
+-- After a node: its levels are left to whoever closes them, and the line has text. The document's last block scalar is the one before.
 pub record GoesBehindNode (x : yaml_encoding_t) (text : List ℕ) (rest : Rest) (kept : Bool) (ls :
     List ℕ)
     (T : List TokenBody → List TokenBody) : Type 0 where
@@ -54,7 +54,7 @@ Walks a B ls c rest = (x : yaml_encoding_t) (text : List ℕ) (o : WalkState)
     → indent ls ≤ column_at text o.at → Left text o.at (bytes (a c rest))
     → GoesBehindNode x text rest c.kept ls (λ bs. T (B bs))
 
--- behind the white that bytes begin with stands no `#`
+-- after the white that bytes begin with stands no `#`
 unfoldable pub no_comment : List ℕ → Bool
 no_comment [] = true
 no_comment (b ∷ bs) = if is_gap_byte b then no_comment bs else not (b == ascii.hash)
@@ -90,14 +90,14 @@ LineIsWalked = (b : LineBreak) (n : ℕ) (x : yaml_encoding_t) (text : List ℕ)
     → NodeStage x text c o ls more T → NoFeed n rest → Left text o.at (bytes (line b n c rest))
     → Lined x text rest n c.kept ls more T
 
--- A line behind a node, whose levels are left to whoever closes them: no key of the node's lines may be looked for there.
+-- A line after a node, whose levels are left to whoever closes them: no key of the node's lines may be looked for there.
 pub record LinedUp (x : yaml_encoding_t) (text : List ℕ) (rest : Rest) (n : ℕ) (kept : Bool)
     (ls : List ℕ) (T : List TokenBody → List TokenBody) : Type 0 where
   pub more : List ℕ
   pub lined : Lined x text rest n kept ls more T
   pub later : lined.place.line < line_at text lined.place.at
 
--- So a line leads there behind text.
+-- So a line leads there after text.
 abbrev pub LineEndsNode : Type 0
 LineEndsNode = (b : LineBreak) (n : ℕ) (x : yaml_encoding_t) (text : List ℕ) (kept : Bool)
     (ls : List ℕ) (T : List TokenBody → List TokenBody) (rest : Rest) → NoFeed n rest
@@ -133,12 +133,12 @@ IsLone Entry text o = Unit {0}
 IsLone Question text o = Unit {0}
 IsLone Answer text o = o.line < line_at text o.at
 
--- what stands behind an indicator of a bare line, at that column, begins with white or is nothing
+-- what stands after an indicator of a bare line, at that column, begins with white or is nothing
 abbrev pub Parted : ℕ → Rest → Type 0
 Parted n rest = (e : Cursor) → e.bare ≡ true → e.white ≡ false → e.column ≡ n
     → begins_white (bytes (rest e)) ≡ true
 
--- Behind an indicator of a bare line, in the innermost level.
+-- After an indicator of a bare line, in the innermost level.
 pub record Entered (x : yaml_encoding_t) (text : List ℕ) (rest : Rest) (n : ℕ) (kept : Bool)
     (ls : List ℕ) (T : List TokenBody → List TokenBody) : Type 0 where
   pub cursor : Cursor

@@ -7,9 +7,9 @@ ghost use Rattle.yaml_emit_laws_pretty.specs.Nodes.{NodesFollow, ShownEnds};
 pub fn laws_of_nodes()
     // A line leads to its column, by a break and spaces or by spaces alone.
     ensures line_is_walked { LineIsWalked }
-    // Behind text a line leads to its column, on a later line.
+    // After text a line leads to its column, on a later line.
     ensures line_ends_node { LineEndsNode }
-    // A `-`, a `?` or a `:` behind one opens a level or closes those right of it.
+    // A `-`, a `?` or a `:` after one opens a level or closes those right of it.
     ensures mark_is_walked { MarkIsWalked }
     // What is neither white nor a comment ends what stands in a level right of it.
     ensures shown_ends { ShownEnds }

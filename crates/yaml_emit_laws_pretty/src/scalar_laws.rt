@@ -14,11 +14,11 @@ pub fn laws_of_scalars()
     ensures plain_is_read_back { PlainIsReadBack }
     // What an emitter writes for a value between single quotes, with line breaks too, is read as the value.
     ensures single_lines_are_read_back { SingleLinesAreReadBack }
-    // Bytes that stop a plain scalar begin with a gap, behind which a plain scalar ends.
+    // Bytes that stop a plain scalar begin with a gap, after which a plain scalar ends.
     ensures stops_end_plain { StopsEndPlain }
     // A text that goes on with what is written for a plain value, and then with bytes that stop it, has that scalar there.
     ensures plain_goes_on { PlainGoesOn }
-    // Whether bytes stop a plain scalar, behind lines and spaces.
+    // Whether bytes stop a plain scalar, after lines and spaces.
     ensures lines_lead_to_columns { StopsBehindLines }
     // What is written for a simple key ends no line, and has at most 530 bytes.
     ensures simple_keys_are_near { SimpleKeysAreNear }
@@ -39,13 +39,13 @@ pub fn laws_of_scalars()
     ensures single_stands { SingleStands }
     // Plain and single quoted scalars that are read are words, with their tokens.
     ensures scalars_are_words { ScalarsAreWords }
-    // A line of n columns behind text stops a plain scalar, if what comes does so at column n.
+    // A line of n columns after text stops a plain scalar, if what comes does so at column n.
     ensures lines_stop_plain { LinesStopPlain }
     // Pages indent new lines, and not left of the level.
     ensures pages_indent { PagesIndent }
 {}
 
-/// What an emitter writes for a value of one line between single quotes is read as the value, unless a single quote stands behind.
+/// What an emitter writes for a value of one line between single quotes is read as the value, unless a single quote stands after.
 pub fn single_is_read_back()
     ensures { SingleIsReadBack }
 {}

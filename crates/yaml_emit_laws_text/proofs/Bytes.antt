@@ -81,7 +81,7 @@ pub hex_start : (text : List ℕ) (p : ℕ) → hex_value text p 0 ≡ Some 0
 unfolding hex_value
 hex_start text p = refl
 
--- digits behind k others, and that they are calm
+-- digits after k others, and that they are calm
 pub record Digits (text : List ℕ) (p k w : ℕ) (ds : List ℕ) : Type 0 where
   pub calm : AreCalm ds
   pub value : hex_value text p (k + length ds) ≡ Some w
@@ -171,7 +171,7 @@ pub first_end : (x y b c : ℕ) → 192 ≤ b → ends_of x y b c ≡ false
 unfolding ends_of
 first_end x y b c h = grind (arith, nat_tests)
 
--- A second byte ends a break only behind 0xC2, as NEXT LINE.
+-- A second byte ends a break only after 0xC2, as NEXT LINE.
 pub second_end : (x y b c : ℕ) → 128 ≤ b → b < 192 → 192 ≤ y → (b ≡ 0x85 → y ≡ 0xC2 → ⊥)
     → ends_of x y b c ≡ false
 unfolding ends_of

@@ -23,7 +23,7 @@ unfoldable events_mark : ℕ → ℕ → List Event → Bool
 events_mark i m [] = false
 events_mark i m (e ∷ es) = mark_at m e || events_mark i (behind i m e) es
 
--- behind a collection the indentation is what it was
+-- after a collection the indentation is what it was
 closed : (i m : ℕ) (d : Bool) (es : List Event)
     → (d || events_mark i (m + i - i) es) ≡ (d || events_mark i m es)
 closed i m d es = ap (λ n. d || events_mark i n es) (omega (arith))

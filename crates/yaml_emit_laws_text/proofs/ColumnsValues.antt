@@ -1,4 +1,4 @@
--- Whether a line is bare behind a layout, by whether it was in front of it.
+-- Whether a line is bare after a layout, by whether it was before it.
 use Rattle.std.proofs.Common.{◌≡◌, ℕ, zero, suc, ◌-◌, Bool, true, false, not, List, [], ◌∷◌, Option, Some, None, refl, ap, inl, inr}
 use Rattle.yaml_emit_laws_text.proofs.Shared.{cases_Bool, Cursor, LineBreak, Lf, Cr, CrLf, letter, Rest, Layout, ◌▹◌, stay, choose, char, letters, blank, blanks, is_white, gap, word, indicator, new_line, must_break, indent_to, line, tag_spelling, Start, Nodes, sequence_node, start_tag, Context, position, is_flow, are_none, anchor_text, tag_text, properties_text, checked, block_indent_in, before_value, node_layout, items_layout, ValuesStandByKeys}
 use Rattle.yaml_emit_layout.specs.declared.level.Part.TheVariants as part
@@ -44,7 +44,7 @@ unfolding letters
 letters_lead [] = stay_leads false
 letters_lead (t ∷ ts) = leads_on false false false (char t) (letters ts) (char_leads false t) (letters_lead ts)
 
--- behind a word a line is as it was if that is empty
+-- after a word a line is as it was if that is empty
 abbrev behind : Bool → List ℕ → Bool
 behind x [] = x
 behind x (t ∷ ts) = false
@@ -100,7 +100,7 @@ line_leads false b n = leads_on false true true (choose (must_break n) (new_line
 line_leads true b n = leads_on true true true (choose (must_break n) (new_line b) stay) (indent_to n)
     (choose_leads true true (must_break n) (new_line b) stay (new_line_leads true b) (stay_leads true)) (indent_leads n)
 
--- in front of a value's properties
+-- before a value's properties
 value_leads : (x : Bool) (p : Context) (n : ℕ) (simple : Bool)
     → Leads x (not simple) (before_value p.settings false n simple)
 unfolding before_value

@@ -52,7 +52,7 @@ pub record WritesLine (a : Layout) (b : LineBreak) (xs : List ℕ) (kept : Bool)
   pub bare : behind.bare ≡ false
   pub still : behind.kept ≡ kept
 
--- Such bytes are read as what is said, with the break behind them.
+-- Such bytes are read as what is said, with the break after them.
 abbrev pub ReadsLine : List ℕ → Said → Type 0
 ReadsLine xs said = (text : List ℕ) (p : ℕ) → Has text p (37 ∷ xs) → is_break text (p + length (37 ∷ xs)) ≡ true
     → let end = p + length (37 ∷ xs) in directive_at text p ≡ Ok (record { said = said; end = end; place = end + break_width text end })
@@ -141,14 +141,14 @@ pub tag_front : (kept : Bool) (rest : Rest)
 unfolding letters encode char_bytes
 tag_front kept rest = refl
 
--- a space and letters, behind a cursor that isn't white
+-- a space and letters, after a cursor that isn't white
 record Spaces (xs : List ℕ) (c : Cursor) : Type 0 where
   behind : Cursor
   same : (rest : Rest) → bytes (word xs c rest) ≡ 32 ∷ (xs ++ bytes (rest behind))
   bare : behind.bare ≡ false
   kept : behind.kept ≡ c.kept
 
--- A word behind another one has a space in front.
+-- A word after another one has a space in front.
 pub space_here : (xs : List ℕ) (c : Cursor) → c.white ≡ false → (rest : Rest)
     → bytes (word xs c rest) ≡ 32 ∷ bytes (letters xs (spaced_by c) rest)
 space_here xs c white rest =
@@ -160,7 +160,7 @@ spaces xs low c white bare =
     let r = letters_are xs low (spaced_by c) in
     record { behind = r.behind; same = λ rest. space_here xs c white rest ∙ ap (λ (t : List ℕ). 32 ∷ t) (r.same rest); bare = r.bare bare; kept = r.kept }
 
--- the same, with a letter at least: the cursor behind isn't white
+-- the same, with a letter at least: the cursor after isn't white
 record Handles (xs : List ℕ) (c : Cursor) : Type 0 where
   behind : Cursor
   same : (rest : Rest) → bytes (word xs c rest) ≡ 32 ∷ (xs ++ bytes (rest behind))
@@ -214,7 +214,7 @@ tag_lands law reads ascii s d may rest calm =
     line_lands law (directive_text s d) s.line_break xs (directives.tag d.handle d.prefix) (λ kept. tag_writes s.line_break d.handle (uri_text true d.prefix) marked low kept)
     (λ text p has stop. reads d may text p (has_at text p (37 ∷ xs) has) stop) rest calm
 
--- ---- one behind the other
+-- ---- one after the other
 
 tag_first : (s : Settings) (d : TagDirective) (rest : Rest)
     → NoFeed (λ c. directive_text s d c rest)

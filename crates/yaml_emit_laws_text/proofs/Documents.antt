@@ -140,7 +140,7 @@ thrice_lands law x k body t b rest kept text p ws s l =
     let g = line_lined b text (behind_three kept) (p + 3) (word_of k p said ∷ ws) 0 rest refl (subst (λ (d : ℕ). WordStage text (behind_three kept) (p + 3) (word_of k p said ∷ ws) d) t.flat stage) n in
     record { kept = kept; place = g.place; words = word_of k p said ∷ ws; stage = g.stage; left = g.left; kinds = refl; bodies = λ bs. refl }
 
--- ---- lines one behind another
+-- ---- lines one after another
 
 both_land : (a b : Layout) (K L : List Kind → List Kind) (B C : List TokenBody → List TokenBody)
     → LinesWalk a K B → LinesWalk b L C → LinesWalk (a ▹ b) (λ ks. L (K ks)) (λ bs. B (C bs))
@@ -300,7 +300,7 @@ documents_end law names quoted mark s some opens (d ∷ ds) (right, root, good) 
 
 -- ---- the whole text
 
--- What stands behind a front is found at the front's length.
+-- What stands after a front is found at the front's length.
 pub has_all : (text : List ℕ) (before rest : List ℕ) → text ≡ before ++ rest
     → Has text (length before) rest
 has_all text before [] e = tt

@@ -336,7 +336,7 @@ part_of (emitted.fold b n) s = record {
   blank = refl;
 }
 
--- all of them, behind one
+-- all of them, after one
 pub record PartsOf (before : emitted.SpelledPart) (xs : List emitted.SpelledPart) : Type 0 where
   pub parts : List QuotedPart
   pub right : IsSpelling 34 parts

@@ -37,7 +37,7 @@ canonical_settings s = (canonically s []).settings
 abbrev pub at_line : Bool → Cursor
 at_line kept = record { column = 0; white = true; bare = true; kept = kept }
 
--- Behind the words ws stand more, up to the start of a line from which on the text goes on with `rest`.
+-- After the words ws stand more, up to the start of a line from which on the text goes on with `rest`.
 pub record Lands (text : List ℕ) (rest : Rest) (ks : List Kind) (B : List TokenBody → List TokenBody) (ws : List Word) : Type 0 where
   pub kept : Bool
   pub place : ℕ
@@ -54,7 +54,7 @@ LinesWalkTo rest a K B = (kept : Bool) (text : List ℕ) (p : ℕ) (ws : List Wo
 abbrev pub LinesWalk : Layout → (List Kind → List Kind) → (List TokenBody → List TokenBody) → Type 0
 LinesWalk a K B = (rest : Rest) → LinesWalkTo rest a K B
 
--- what follows begins with no line feed: behind CR that would belong to one break with it
+-- what follows begins with no line feed: after CR that would belong to one break with it
 abbrev pub NoFeed : Rest → Type 0
 NoFeed rest = (kept : Bool) → first (bytes (rest (at_line kept))) ≡ 10 → ⊥
 

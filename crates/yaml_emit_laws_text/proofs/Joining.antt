@@ -47,11 +47,11 @@ held h e =
       inner = alphas_of (between h) (none_all (list_all is_alpha_byte (between h)) _ inner);
     }
 
--- and how many behind the second
+-- and how many after the second
 pub long_rest : (c r : ℕ) (rs : List ℕ) → length (c ∷ r ∷ rs) - 1 - 1 ≡ length rs
 long_rest c r rs = omega arith
 
--- of two bytes or more, how many stand behind the first
+-- of two bytes or more, how many stand after the first
 pub last_rest : (c r : ℕ) (rs : List ℕ) → length (c ∷ r ∷ rs) - 1 ≡ suc (length rs)
 last_rest c r rs = omega arith
 

@@ -88,7 +88,7 @@ unfolding in_front is_deep
 front_deep [] t = refl
 front_deep (x ∷ xs) t = front_deep xs t
 
--- So the cursor behind quoted text keeps breaks where the one before it does.
+-- So the cursor after quoted text keeps breaks where the one before it does.
 pub body_keeps : (page : Page) (before : ℕ) (xs : List ℕ) (c behind : Cursor) (front : List ℕ)
     → ((rest : Rest) → quoted_body page before xs c rest ≡ in_front front (rest behind))
     → behind.kept ≡ c.kept

@@ -7,12 +7,12 @@ pub use Rattle.yaml_scan_laws_texts.proofs.HasLemmas.{has_at, has_front, has_res
 pub left_first : (text : List ℕ) (p b : ℕ) (bs : List ℕ) → Left text p (b ∷ bs) → byte text p ≡ b
 left_first text p b bs l = let (e, h) = l.has in e
 
--- Behind the first byte the others are left.
+-- After the first byte the others are left.
 pub left_more : (text : List ℕ) (p b : ℕ) (bs : List ℕ) → Left text p (b ∷ bs)
     → Left text (p + 1) bs
 left_more text p b bs l = let (e, h) = l.has in let x = l.ends in record { has = h; ends = omega arith }
 
--- Behind a text the rest is left.
+-- After a text the rest is left.
 pub left_rest : (text : List ℕ) (p : ℕ) (xs ys : List ℕ) → Left text p (xs ++ ys)
     → Left text (p + length xs) ys
 left_rest text p [] ys l = rw add-zero l

@@ -65,7 +65,7 @@ pub column_more : (text : List ℕ) (p : ℕ) → ends_break text p ≡ false �
 unfolding column_at
 column_more text p h c = rw (add-one, h) (omega arith)
 
--- Behind a character that ends no line the column is no longer 0.
+-- After a character that ends no line the column is no longer 0.
 pub column_start : (text : List ℕ) (p : ℕ) → ends_break text p ≡ false → starts (byte text p) ≡ true
     → 0 < column_at text (p + 1)
 unfolding column_at
@@ -122,7 +122,7 @@ space_column text p e = column_start text p (rw e (calm_end _ _ 32 _ space_calm)
 
 -- ---- characters past ASCII
 
--- No break ends behind two bytes that no break ends with.
+-- No break ends after two bytes that no break ends with.
 pub ends_1 : (text : List ℕ) (p y b : ℕ) → byte text p ≡ y → byte text (p + 1) ≡ b
     → ((x c : ℕ) → ends_of x y b c ≡ false) → ends_break text (p + 1) ≡ false
 ends_1 text p y b h k f =

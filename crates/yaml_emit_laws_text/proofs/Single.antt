@@ -26,7 +26,7 @@ pub broken : (a b d : Bool) → a ≡ false → (not a || b || d) ≡ true
 broken false b d e = refl
 broken true b d e = absurd (cc)
 
--- behind a character a line begins with a break
+-- after a character a line begins with a break
 pub line_is : (b : LineBreak) (n : ℕ) (c : Cursor) (rest : Rest) → c.bare ≡ false
     → line b n c rest ≡ in_front (break_text b ++ replicate n 32)
     (rest (after_blanks n (line_start c)))
@@ -64,7 +64,7 @@ pub other_follows : (last q : QuotedPart) → is_fold q ≡ false → is_raw_bla
     → may_follow last q ≡ true
 other_follows last q a b = rw (a, b) refl
 
--- Behind what turns no line anything but a fold may follow.
+-- After what turns no line anything but a fold may follow.
 pub blank_follows : (last q : QuotedPart) → is_fold q ≡ false → is_turn last ≡ false
     → may_follow last q ≡ true
 blank_follows last q a e = rw (a, e) (no_and (is_raw_blank q))

@@ -89,7 +89,7 @@ after_text_most x n m rest h c = let i : size x (rest (record { column = c.colum
 after_block_most : (x : Encoding) (n : ℕ) → AtMost x n after_block
 after_block_most x n m rest h c = let i : size x (rest (record { column = c.column; white = true; bare = c.bare; kept = c.kept })) ≤ m = h _ in omega arith
 
--- a break of a value, and one in front of a line feed alone
+-- a break of a value, and one before a line feed alone
 run_most : (s : Settings) (b : LineBreak) (w : Bool) (x : ℕ) → (w ≡ true → (x == 10) ≡ true)
     → Takes s (ascii s 4) (when w (new_line b) ▹ value_break b x)
 run_most s b true x f =
@@ -123,7 +123,7 @@ text_char_most s at quote false x =
     joined s.encoding (unit s.encoding) (ascii s 4) (ascii s (n + 6)) (when (quote && x == 39) (char 39)) (char x)
     (when_most s.encoding (unit s.encoding) (quote && x == 39) (char 39) (ascii_most s.encoding 39 refl)) (raw_char s x) (omega arith)
 
--- the line that is due behind a break
+-- the line that is due after a break
 abbrev due : Settings → ℕ → ℕ → ℕ
 due s n before = if is_break before then ascii s (n + 2) else 0
 
@@ -203,7 +203,7 @@ not_cut true false c d = refl
 not_cut true true false d = refl
 not_cut true true true d = refl
 
--- a character behind a break has a line before it, and isn't cut
+-- a character after a break has a line before it, and isn't cut
 spoken_most : (s : Settings) (at : NodePosition) (folded blank : Bool) (before x : ℕ)
     (rest : List ℕ)
     → Takes s (ascii s (deeper (easy s) at.around + 6))

@@ -25,7 +25,7 @@ line_at_most s n = line_most s.encoding s.line_break n
 
 -- ---- properties
 
--- a character in front of a name
+-- a character before a name
 led_most : (s : Settings) (i : ℕ) (name : List ℕ) → nat_lt i 128 ≡ true
     → Takes s (unit s.encoding + text_bytes s.encoding name) (letters (i ∷ name))
 unfolding letters

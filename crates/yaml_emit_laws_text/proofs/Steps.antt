@@ -63,7 +63,7 @@ pub record Here (text : List ℕ) (rest : Rest) (ws : List Word) (d : ℕ) : Typ
   pub stage : WordStage text cursor place ws d
   pub left : Left text place (bytes (rest cursor))
 
--- A place behind another one is not the start.
+-- A place after another one is not the start.
 pub not_start : (n : ℕ) → n + 1 ≡ 0 → ⊥
 not_start n e = omega arith
 
@@ -100,12 +100,12 @@ return_ends : (x y c : ℕ) → c ≢ 10 → ends_of x y 13 c ≡ true
 unfolding ends_of
 return_ends x y c h = let e : (c == 10) ≡ false = grind (arith, nat_tests) in rw e refl
 
--- A line starts behind a line feed.
+-- A line starts after a line feed.
 pub behind_feed : (text : List ℕ) (p : ℕ) → byte text p ≡ 10 → Starts text (p + 1)
 unfolding ends_of
 behind_feed text p h n = column_end text p (rw h refl)
 
--- A line starts behind a carriage return.
+-- A line starts after a carriage return.
 pub behind_return : (text : List ℕ) (p : ℕ) → byte text p ≡ 13 → Starts text (p + 1)
 behind_return text p h n = column_end text p (rw h (return_ends _ _ (byte text (p + 1)) n))
 
@@ -184,7 +184,7 @@ pub walks_checked : (n : ℕ) (a : Layout) (K : List Kind → List Kind)
     → Walks a K B d e c rest → Walks (checked n ▹ a) K B d e c rest
 walks_checked n a K B d e c rest w text p ws s l = w text p ws s (subst (λ (bs : List ℕ). Left text p bs) (deep_bytes (nat_lt MOST n) (a c rest)) l)
 
--- one behind the other
+-- one after the other
 pub both : (a b : Layout) (K L : List Kind → List Kind) (B C : List TokenBody → List TokenBody)
     (d e f : ℕ) (c : Cursor) (rest : Rest) → Walks a K B d e c (λ k. b k rest)
     → ((k : Cursor) → k.bare ≡ false → Walks b L C e f k rest)
@@ -212,7 +212,7 @@ reached_index : (text : List ℕ) (k : Kind) (start end : ℕ) → is_end k ≡ 
     → (end_in text k start end).index ≡ end
 reached_index text k start end e = rw e refl
 
--- a word behind which a line may start
+-- a word after which a line may start
 pub push_to : GapReads
     → (text : List ℕ) (c e : Cursor) (p : ℕ) (ws : List Word) (d : ℕ) (k : Kind) (said : WordText)
     → WordStage text c p ws d → begins_lexeme text p ≡ true → kind_at (nat_lt 0 d) text p ≡ Some k

@@ -1,11 +1,11 @@
--- The break behind a directive, which belongs to its word.
+-- The break after a directive, which belongs to its word.
 use Rattle.std.proofs.Common.{◌≡◌, ℕ, ◌+◌, ◌==◌, nat_lt, Bool, true, false, List, [], ◌∷◌, refl, sym, ap, subst, ◌∙◌, arith, if◌then◌else◌}
 use Rattle.yaml_emit_laws_text.proofs.Shared.{nat_tests, get_or_past, byte, break_of, break_width, is_break, Cursor, LineBreak, Lf, Cr, CrLf, letter, Rest, line, blanks, new_line, must_break, indent_to, Left, Starts, bytes, first}
 use Rattle.yaml_emit_laws_text.proofs.Forms.{at_line, NoFeed}
 use Rattle.yaml_emit_laws_text.proofs.Places.{left_first, left_more}
 use Rattle.yaml_emit_laws_text.proofs.Steps.{left_letter, behind_feed, behind_return}
 
--- A break stands there, and the rest of the text stands at the start of the line behind it.
+-- A break stands there, and the rest of the text stands at the start of the line after it.
 pub record Broken (text : List ℕ) (q : ℕ) (rest : Rest) (kept : Bool) : Type 0 where
   pub is : is_break text q ≡ true
   pub starts : Starts text (q + break_width text q)

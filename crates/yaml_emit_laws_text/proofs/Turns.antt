@@ -41,7 +41,7 @@ numbered_at text p l n c e a h more v s =
     let z : break_width text (p + 1) ≡ 0 = rw e (calm_break l _ _ a) in
     rw (z, e, h, more, v, s) refl
 
--- what stands behind a backslash
+-- what stands after a backslash
 escape_run : (text : List ℕ) (p : ℕ) (xs bs : List ℕ) → 0 < column_at text p → AreCalm xs
     → Has text p (92 ∷ xs)
     → escape_at text p ≡ Pieces (Kept bs ∷ []) (p + length (92 ∷ xs))
@@ -116,7 +116,7 @@ unfolding standing_at
 end_standing quote text p e q a =
     (rw ((no_mark text p a.first a.is a.no_dash a.no_dot), a.width, a.read, a.is, a.some, (no_quote quote a.first q a.no_double a.no_single), (lt-ltb 0 (length (end_bytes e)) (end_some e))) refl)
 
--- CR has no LF behind it
+-- CR has no LF after it
 spaces_first : (text : List ℕ) (p n : ℕ) (xs : List ℕ) → Has text p (replicate (suc n) 32 ++ xs)
     → (byte text p == 10) ≡ false
 spaces_first text p n xs (e, h) = rw e refl
@@ -130,7 +130,7 @@ end_first text p next_line xs f (e, h) = rw e refl
 end_first text p line_separator xs f (e, h) = rw e refl
 end_first text p paragraph_separator xs f (e, h) = rw e refl
 
--- the spaces of a turn, and those behind it
+-- the spaces of a turn, and those after it
 abbrev after_end : LineTurn → List LineTurn → List ℕ
 after_end t ts = replicate t.spaces 32 ++ turn_bytes ts
 
@@ -145,7 +145,7 @@ no_split text p zero r (u ∷ us) i m h =
     let b : is_feed_end u.end ≡ false = sym (ap (λ t. t && is_feed_end u.end) i) ∙ a in
     end_first text p u.end (after_end u us) b h
 
--- the byte behind CR
+-- the byte after CR
 behind_end : (text : List ℕ) (p : ℕ) (t : LineTurn) (ts : List LineTurn) → may_turn t ts ≡ true
     → Has text p (turn_bytes (t ∷ ts)) → is_return t.end ≡ true → (byte text (p + 1) == 10) ≡ false
 unfolding turn_bytes
@@ -188,7 +188,7 @@ pub length_spaces : (n : ℕ) → length {A = ℕ} (replicate n 32) ≡ n
 length_spaces zero = refl
 length_spaces (suc n) = ap (λ k. suc k) (length_spaces n)
 
--- behind the end of a line
+-- after the end of a line
 abbrev pub tail_read : LineTurn → List LineTurn → List Piece
 tail_read t ts = blanks_of t.spaces ++ turns_read ts
 

@@ -15,7 +15,7 @@ keeps bs = map (λ b. Kept (b ∷ [])) bs
 abbrev pub blanks_of : ℕ → List Piece
 blanks_of n = replicate n (Blank 32)
 
--- ends of lines behind others
+-- ends of lines after others
 unfoldable pub turns_read : List LineTurn → List Piece
 turns_read [] = []
 turns_read (t ∷ ts) = Break (end_means t.end) ∷ (blanks_of t.spaces ++ turns_read ts)

@@ -138,7 +138,7 @@ value_walks law d c rest =
 
 -- ---- names
 
--- letters in ASCII, and the cursor behind them
+-- letters in ASCII, and the cursor after them
 pub record Letters (xs : List ℕ) (c : Cursor) : Type 0 where
   pub behind : Cursor
   pub same : (rest : Rest) → bytes (letters xs c rest) ≡ xs ++ bytes (rest behind)
@@ -316,7 +316,7 @@ pub quote_kind : (flow alone : Bool) → indicator_of flow alone 34 ≡ Some kin
 unfolding indicator_of
 quote_kind flow alone = refl
 
--- A text in front of a layout's items is its UTF-8.
+-- A text before a layout's items is its UTF-8.
 pub front_encodes : (xs : List ℕ) (t : List Item)
     → bytes (in_front xs t) ≡ encode_utf8_all xs ++ bytes t
 unfolding in_front encode char_bytes encode_char
@@ -324,7 +324,7 @@ front_encodes [] t = refl
 front_encodes (x ∷ xs) t =
     refl ∙ ap (λ b. encode_utf8 x ++ b) (front_encodes xs t) ∙ sym (append_assoc (encode_utf8 x) (encode_utf8_all xs) (bytes t))
 
--- A double quote in front of a text is its own byte.
+-- A double quote before a text is its own byte.
 pub quote_first : (xs : List ℕ) → encode_utf8_all (34 ∷ xs) ≡ 34 ∷ encode_utf8_all xs
 quote_first xs = let e : encode_utf8 34 ≡ 34 ∷ [] = encode_ascii 34 (omega arith) in rw e refl
 

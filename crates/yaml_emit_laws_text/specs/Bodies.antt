@@ -1,4 +1,4 @@
--- The tokens that canonical layout writes, without their marks, in front of those that follow.
+-- The tokens that canonical layout writes, without their marks, before those that follow.
 use Rattle.std.specs.Prelude.{ℕ, Bool, true, false, not, ◌&&◌, List, [], ◌∷◌, Option, Some, None}
 use Rattle.yaml_emit_layout.specs.scan_model.Ascii as ascii
 use Rattle.yaml_emit_layout.specs.scan_model.declared.yaml_scalar_style_t.TheVariants.{YAML_DOUBLE_QUOTED_SCALAR_STYLE}

@@ -1,4 +1,4 @@
--- The kinds of lexemes that canonical layout writes, put in front of those before it: the newest first.
+-- The kinds of lexemes that canonical layout writes, put before those before it: the newest first.
 use Rattle.std.specs.Prelude.{ℕ, Bool, true, false, not, ◌&&◌, List, [], ◌∷◌, Option, Some, None}
 use Rattle.yaml_scan_laws_texts.specs.scan_history.declared.kind.Kind.{Kind}
 use Rattle.yaml_scan_laws_texts.specs.scan_history.declared.kind.Kind.TheVariants as kinds
@@ -20,7 +20,7 @@ properties_kinds anchor tag ks = put_if (has tag) kinds.Tag (put_if (has anchor)
 abbrev pub is_marked : Scalar → Bool
 is_marked x = not (has (scalar_tag true x)) && not x.quoted
 
--- A comma stands behind each item and each value, and `?` before each key.
+-- A comma stands after each item and each value, and `?` before each key.
 unfoldable mutual
   pub node_kinds : Node → List Kind → List Kind
   node_kinds (alias_node name) ks = kinds.Alias ∷ ks

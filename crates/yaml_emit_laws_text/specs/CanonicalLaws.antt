@@ -10,7 +10,7 @@ use Rattle.yaml_emit_laws_text.specs.Canonical.{stream_kinds}
 abbrev pub CanonicalIsKeyFree : Type 0
 CanonicalIsKeyFree = (ds : List Document) → is_key_free (stream_kinds ds) ≡ true
 
--- A text in which words of these kinds stand one behind another is read as their tokens, without fault.
+-- A text in which words of these kinds stand one after another is read as their tokens, without fault.
 abbrev pub CanonicalWordsAreRead : Type 0
 CanonicalWordsAreRead = (s : SpelledText) (ds : List Document) (ws : List Word)
     → WordsStand s.text ws

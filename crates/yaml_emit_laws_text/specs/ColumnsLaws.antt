@@ -47,7 +47,7 @@ BlocksForgetColumns = (s : Settings) (directives : List TagDirective) (fs : List
     → Forgets (layout s (frames directives fs implicit ds))
 
 -- A block sequence that is a value in a block mapping: its indentation is told by the mapping's, by whether its key is simple, and by
--- its own properties, whatever came before and comes behind. (By definition a root stands at 0, and items, and mappings that are
+-- its own properties, whatever came before and comes after. (By definition a root stands at 0, and items, and mappings that are
 -- values, one indent deeper.)
 abbrev pub ValuesStandByKeys : Type 0
 ValuesStandByKeys = (p : Context) (n : ℕ) (simple : Bool) (q : Start) → (m : ℕ)

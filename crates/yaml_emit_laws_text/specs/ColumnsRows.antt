@@ -80,7 +80,7 @@ rows =
     ∷ row 715827882 (in_sequence (in_sequence a)) false
     ∷ row 715827883 (in_sequence (in_sequence a)) true
     ∷ row 715827883 (in_sequence (of_pair star_a star_a)) false
-    -- in a document behind another one
+    -- in a document after another one
     ∷ record { indent = 1073741824; roots = a ∷ in_sequence a ∷ []; passed = true } ∷ []
 
 unfoldable pub documents_of : List Node → List Document

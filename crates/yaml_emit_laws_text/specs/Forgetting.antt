@@ -14,7 +14,7 @@ unfoldable pub are_block : List Frame → Bool
 are_block [] = true
 are_block (f ∷ fs) = is_block f && are_block fs
 
--- From two cursors in lines that have text, behind block scalars of which both keep their breaks or both don't, the same is laid out.
+-- From two cursors in lines that have text, after block scalars of which both keep their breaks or both don't, the same is laid out.
 abbrev pub Forgets : Layout → Type 0
 Forgets a = (c d : Cursor) (rest : Rest) → c.bare ≡ false → d.bare ≡ false → c.kept ≡ d.kept
     → a c rest ≡ a d rest

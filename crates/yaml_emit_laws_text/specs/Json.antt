@@ -1,16 +1,14 @@
 -- Documents shaped as JSON is: collections in brackets, keys that are scalars, and scalars that are
 -- double quoted or plain.
-use Rattle.std.specs.Prelude.{◌≡◌, ◌⊎◌, true, false, List, [], ◌∷◌, None}
+use Rattle.std.specs.Prelude.{◌≡◌, ◌⊎◌, true, List, [], ◌∷◌, None}
 use Rattle.yaml_emit_layout.specs.scan_model.declared.yaml_scalar_style_t.TheVariants.{YAML_PLAIN_SCALAR_STYLE, YAML_DOUBLE_QUOTED_SCALAR_STYLE}
 use Rattle.yaml_emit_layout.specs.Content.{Scalar, Start, Node, alias_node, scalar_node, sequence_node, mapping_node, Nodes, no_nodes, node, Pairs, no_pairs, pair, Document}
 use Rattle.yaml_scan_laws_texts.specs.Values.{is_plain_value}
 
--- double quoted, without anchor and tag, and flagged so
+-- double quoted, without anchor and tag
 pub record IsQuotedScalar (x : Scalar) : Type 0 where
   pub anchor : x.anchor ≡ None
   pub tag : x.tag ≡ None
-  pub plain : x.plain ≡ false
-  pub quoted : x.quoted ≡ true
   pub style : x.style ≡ YAML_DOUBLE_QUOTED_SCALAR_STYLE
 
 -- plain, without anchor and tag; its value is of letters, digits and `+ - .`, and begins with a

@@ -1,4 +1,4 @@
--- The tokens that pretty layout writes for nodes shaped as JSON, without their marks, in front of those
+-- The tokens that pretty layout writes for nodes shaped as JSON, without their marks, before those
 -- that follow.
 use Rattle.std.specs.Prelude.{Bool, true, false, List, [], ◌∷◌}
 use Rattle.yaml_emit_layout.specs.scan_model.Tokens as tokens

@@ -18,13 +18,13 @@ use Rattle.yaml_emit_laws_text.specs.ReadBack.{ValueIsReadBack, ValueIsReadBackB
 -- ---- spellings
 
 -- Where a spelling stands between double quotes, that is one scalar and has the value that it means, whatever stands before and
--- behind.
+-- after.
 abbrev pub SpellingReads : Type 0
 SpellingReads = (parts : List QuotedPart) (text : List ℕ) (p : ℕ) → IsSpelling ascii.quote parts
     → HasAt text p (quoted ascii.quote parts)
     → double_quoted_at text p ≡ Ok (meaning parts, p + length (quoted ascii.quote parts))
 
--- So it is between single quotes, where no single quote stands behind.
+-- So it is between single quotes, where no single quote stands after.
 abbrev pub SingleSpellingReads : Type 0
 SingleSpellingReads =
     (parts : List QuotedPart) (text : List ℕ) (p : ℕ) → IsSpelling ascii.apostrophe parts
@@ -41,7 +41,7 @@ QuotedIsReadBack = (page : Page) (c : Cursor) (value : List ℕ) → IsUtf8 valu
     → (page.cuts ≡ true → 0 < page.indentation)
     → ValueIsReadBack double_quoted_at (between_quotes page (chars value)) c value
 
--- Wherever a text has a double quoted scalar's bytes in UTF-8, the value is read behind the space in front.
+-- Wherever a text has a double quoted scalar's bytes in UTF-8, the value is read after the space in front.
 abbrev pub QuotedTextIsReadBack : Type 0
 QuotedTextIsReadBack = (page : Page) (c : Cursor) (value text : List ℕ) (p : ℕ) → IsUtf8 value
     → (page.cuts ≡ true → 0 < page.indentation)
@@ -55,7 +55,7 @@ KeysStayInLine = (page : Page) (c : Cursor) (value : List ℕ) → IsUtf8 value 
     → StaysInLine (between_quotes page (chars value)) c
 
 -- What is written for a value of one line between single quotes, where they are allowed, is read as the value, unless a single
--- quote stands behind; with lines that may be broken, where new lines are indented.
+-- quote stands after; with lines that may be broken, where new lines are indented.
 abbrev pub SingleIsReadBack : Type 0
 SingleIsReadBack = (page : Page) (c : Cursor) (value : List ℕ) → IsUtf8 value
     → (page.cuts ≡ true → 0 < page.indentation)

@@ -13,7 +13,7 @@ use Rattle.yaml_emit_layout.specs.Spelling.{in_front}
 use Rattle.yaml_emit_laws_text.specs.Stands.{HasAt}
 
 -- From a cursor on, a layout writes these characters, a double quote first, whatever follows; and
--- wherever their bytes stand, the reading gives the value, and ends behind them. Behind them the
+-- wherever their bytes stand, the reading gives the value, and ends after them. After them the
 -- line isn't bare, none starts, and `kept` is as it was.
 pub record ValueIsReadBack (reading : List ℕ → ℕ → Result (List ℕ × ℕ) Wrong) (a : Layout)
     (c : Cursor) (value : List ℕ) : Type 0 where
@@ -28,7 +28,7 @@ pub record ValueIsReadBack (reading : List ℕ → ℕ → Result (List ℕ × �
   pub column : behind.column ≡ 0 → ⊥
   pub kept : behind.kept ≡ c.kept
 
--- the same, where the byte behind fits
+-- the same, where the byte after fits
 pub record ValueIsReadBackBefore (Fits : ℕ → Type 0)
     (reading : List ℕ → ℕ → Result (List ℕ × ℕ) Wrong) (a : Layout) (c : Cursor)
     (value : List ℕ) : Type 0 where
@@ -44,7 +44,7 @@ abbrev pub between_quotes : Page → List ℕ → Layout
 between_quotes page value =
     char ascii.quote ▹ (quoted_body page ascii.space value ▹ char ascii.quote)
 
--- the bytes of the space that is due in front of a scalar
+-- the bytes of the space that is due before a scalar
 abbrev pub gap_width : Cursor → ℕ
 gap_width c = if c.white then 0 else 1
 

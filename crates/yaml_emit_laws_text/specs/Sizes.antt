@@ -70,12 +70,12 @@ most_of_value s n [] = 0
 most_of_value s n (c ∷ cs) = most_of_char s n c + most_of_value s n cs
 
 -- A line of a collection, with what parts it from the one before: a comma, a break of two characters, the indentation, and `?` or
--- `:` behind a space, or a bracket.
+-- `:` after a space, or a bracket.
 abbrev pub most_of_line : Settings → ℕ → ℕ
 most_of_line s n = ascii s (n + 5)
 
--- A node whose lines are indented by n: the properties, and a name behind a space and `*`; a value in quotes, a space before it,
--- and `!` behind one; or a bracket behind a space, and a line for each item, key and value, and for the closing bracket. In pretty
+-- A node whose lines are indented by n: the properties, and a name after a space and `*`; a value in quotes, a space before it,
+-- and `!` after one; or a bracket after a space, and a line for each item, key and value, and for the closing bracket. In pretty
 -- form some of this isn't written.
 unfoldable mutual
   pub most_of_node : Context → ℕ → Node → ℕ

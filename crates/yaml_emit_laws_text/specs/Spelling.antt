@@ -56,7 +56,7 @@ abbrev pub is_feed_end : LineEnd → Bool
 is_feed_end feed = true
 is_feed_end _ = false
 
--- The last line has an indentation, so that no `---` stands at its start; and CR with LF behind it is one end, not two.
+-- The last line has an indentation, so that no `---` stands at its start; and CR with LF after it is one end, not two.
 unfoldable pub may_turn : LineTurn → List LineTurn → Bool
 may_turn t [] = nat_lt 0 t.spaces
 may_turn t (u ∷ us) = not (is_return t.end && (t.spaces == 0 && is_feed_end u.end)) && may_turn u us
@@ -75,7 +75,7 @@ pub data QuotedPart : Type 0 where
   numbered : ℕ → List ℕ → ℕ → QuotedPart
   -- the ends of one line and more
   fold : LineTurn → List LineTurn → QuotedPart
-  -- such ends behind a backslash
+  -- such ends after a backslash
   joint : LineTurn → List LineTurn → QuotedPart
 
 abbrev pub spelled : QuotedPart → List ℕ
@@ -86,7 +86,7 @@ spelled (numbered b digits c) = ascii.backslash ∷ b ∷ digits
 spelled (fold t ts) = turn_bytes (t ∷ ts)
 spelled (joint t ts) = ascii.backslash ∷ turn_bytes (t ∷ ts)
 
--- A lone line feed means a space, and one before other ends of lines nothing; behind a backslash the first end means nothing.
+-- A lone line feed means a space, and one before other ends of lines nothing; after a backslash the first end means nothing.
 abbrev pub meant : QuotedPart → List ℕ
 meant (raw c) = encode_utf8 c
 meant doubled = ascii.apostrophe ∷ []
@@ -103,7 +103,7 @@ unfoldable pub meaning : List QuotedPart → List ℕ
 meaning [] = []
 meaning (p ∷ ps) = meant p ++ meaning ps
 
--- the number that hexadecimal digits spell behind others, or none
+-- the number that hexadecimal digits spell after others, or none
 unfoldable pub number_behind : ℕ → List ℕ → Option ℕ
 number_behind n [] = Some n
 number_behind n (d ∷ ds) = option_and_then (λ low. number_behind (n * 16 + low) ds) (hex_digit d)

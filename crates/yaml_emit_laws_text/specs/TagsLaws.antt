@@ -84,7 +84,7 @@ abbrev pub are_ascii : List ℕ → Bool
 are_ascii [] = true
 are_ascii (b ∷ bs) = nat_lt b 128 && are_ascii bs
 
--- `!`, and ASCII behind it
+-- `!`, and ASCII after it
 pub record IsMarked (bs : List ℕ) : Type 0 where
   pub more : List ℕ
   pub begins : bs ≡ ascii.exclamation ∷ more

@@ -18,7 +18,7 @@ use Rattle.yaml_emit_laws_text.specs.Walk.{Walks, Parts}
 
 -- Wherever a text goes on as the canonical layout of a node that may be written, it goes on with
 -- the node's words. The node is no simple key, which canonical form doesn't have, and a comma or a
--- break comes behind it.
+-- break comes after it.
 abbrev pub NodesAreWords : Type 0
 NodesAreWords = (s : Settings) → s.canonical ≡ true → 0 < s.indent → (o : Opening)
     → IsWritableOpening o → (n : Node) → IsWritable n

@@ -1,4 +1,4 @@
--- A text that goes on as a layout writes it, behind words that stand in it.
+-- A text that goes on as a layout writes it, after words that stand in it.
 use Rattle.std.specs.Prelude.{◌≡◌, ℕ, ◌+◌, ◌==◌, ◌||◌, Bool, true, false, List, [], ◌∷◌, length}
 use Rattle.yaml_emit_laws_text.specs.scan_model.Ascii as ascii
 use Rattle.yaml_emit_laws_text.specs.scan_model.Tokens.{TokenBody}
@@ -46,7 +46,7 @@ told (w ∷ ws) bs = told ws (w.said.body ∷ bs)
 abbrev pub bytes : List Item → List ℕ
 bytes t = encode Utf8 t
 
--- Behind the words ws stand more, up to a place from which on the text goes on with `rest`.
+-- After the words ws stand more, up to a place from which on the text goes on with `rest`.
 pub record GoesBehindWords (text : List ℕ) (rest : Rest) (d : ℕ) (ks : List Kind)
     (B : List TokenBody → List TokenBody) (ws : List Word) : Type 0 where
   pub behind : Cursor

@@ -7,11 +7,11 @@ ghost use Rattle.yaml_emit_laws_text.specs.QuotedLaws.{KeysStayInLine, QuotedIsR
 pub fn laws_of_quotes()
     // A spelling between double quotes is read as what it means, wherever it stands.
     ensures spelling_reads { SpellingReads }
-    // So is one between single quotes, where no single quote stands behind.
+    // So is one between single quotes, where no single quote stands after.
     ensures single_spelling_reads { SingleSpellingReads }
     // What an emitter writes for a value between double quotes is read as the value.
     ensures quoted_is_read_back { QuotedIsReadBack }
-    // So is a double quoted scalar's text, behind the space in front.
+    // So is a double quoted scalar's text, after the space in front.
     ensures quoted_text_is_read_back { QuotedTextIsReadBack }
     // As a simple key, double quoted text stays in its line.
     ensures keys_stay_in_line { KeysStayInLine }

@@ -14,7 +14,7 @@ use Rattle.yaml_emit_layout.specs.Nodes.{context_of, is_simple, is_flow, indent_
 use Rattle.yaml_emit_layout.specs.State.{State, next, next_at, piece, text_at, depth_at, opens_empty, is_simple_event, top_of, position_of, before_node, levels_behind, phase_behind, among}
 use Rattle.yaml_emit_layout.specs.ToCome.{Frame, items_left, pairs_left, value_left, ToCome, stream, documents, root, frames, nothing, levels_of, state_of, events, frame_events, frames_events, ending_events, layout, frame_layout, frames_layout}
 
--- an event at a state, by whether it opens an empty collection, and what comes behind it
+-- an event at a state, by whether it opens an empty collection, and what comes after it
 pub record Goes (s : Settings) (st : State) (e : Event) (empty : Bool) (es : List Event) (k : ToCome) : Type 0 where
   pub rest : Cursor → ToCome
   pub there : place_problem st.place (top_of st.levels) e ≡ None
@@ -41,7 +41,7 @@ empty_pairs p no_pairs es = refl
 empty_pairs p (pair (alias_node name) v ps) es = refl
 empty_pairs p (pair _ v ps) es = refl
 
--- the place of a node: its levels, what is left of the open collections behind it, and what was to come with it
+-- the place of a node: its levels, what is left of the open collections after it, and what was to come with it
 record Positioned (s : Settings) (g : List TagDirective) (ls : List Level) (outer : List Frame) (implicit : Bool) (ds : List Document) (v : Node) (k : ToCome) : Type 0 where
   levels : levels_behind ls (is_simple (context_of s g) v) ≡ levels_of outer
   text : (c : Cursor) (f : Rest)
@@ -129,7 +129,7 @@ document_goes : (s : Settings) (first unended : Bool) (d : Document) (ds : List 
 unfolding state_of events layout text_at depth_at next_at place_problem documents_layout
 document_goes s first unended d ds = record { rest = λ c. root d.opening.directives d.root d.implicit_end ds; there = refl; fits = λ c. refl; same = λ c. refl; text = λ c f. refl }
 
--- What is to come behind an event goes on from the state behind it.
+-- What is to come after an event goes on from the state after it.
 pub goes : (s : Settings) (e : Event) (es : List Event) (k : ToCome) → e ∷ es ≡ events k
     → Goes s (state_of k) e (opens_empty e es) es k
 unfolding state_of events layout levels_of frames_events frames_layout next_at text_at depth_at place_problem documents_events documents_layout stream_layout opens_empty

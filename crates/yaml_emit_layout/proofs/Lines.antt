@@ -1,4 +1,4 @@
--- A break and the spaces behind it.
+-- A break and the spaces after it.
 use Rattle.std.proofs.Common.{◌≡◌, ℕ, ◌+◌, ◌-◌, ◌≤◌, List, ◌∷◌, Bool, true, false, refl, sym, ◌∙◌, ap, arith}
 use Rattle.std.specs.Prelude.{zero, suc, ◌&&◌, ◌==◌, nat_lt}
 use Rattle.std.proofs.lemmas.Bool.{false≢true, or_parts, ltb-false, eq-eqb}
@@ -30,7 +30,7 @@ line_stays k n c rest m = cond_false (must_break n c) _ _ m
 
 -- ---- where a line ends
 
--- two layouts are the same behind so many spaces in a bare line
+-- two layouts are the same after so many spaces in a bare line
 abbrev pub AreSame : ℕ → Layout → Layout → Rest → Type 0
 AreSame n x y rest = (kept : Bool) → x (record { column = n; white = true; bare = true; kept = kept }) rest
     ≡ y (record { column = n; white = true; bare = true; kept = kept }) rest
@@ -79,7 +79,7 @@ lands_by true b n c x y rest m f =
 lands_by false b n c x y rest m f =
     line_stays b n c (λ d. x d rest) m ∙ lands_joined n c.column c.white c.bare c.kept x y rest m f ∙ sym (line_stays b n c (λ d. y d rest) m)
 
--- behind a line the column is its indentation, and it is bare
+-- after a line the column is its indentation, and it is bare
 pub line_lands : (b : LineBreak) (n : ℕ) (x y : Layout) (rest : Rest)
     → AreSame n x y rest
     → (c : Cursor) → (line b n ▹ x) c rest ≡ (line b n ▹ y) c rest

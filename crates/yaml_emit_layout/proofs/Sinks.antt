@@ -116,7 +116,7 @@ cond_true b x y e = cond-true b x y e
 pub cond_false : {A : Type 0} (b : Bool) (x y : A) → b ≡ false → cond b x y ≡ y
 cond_false b x y e = cond-false b x y e
 
--- a text is those bytes and then `more`, and no place in front of `more` is too deep
+-- a text is those bytes and then `more`, and no place before `more` is too deep
 pub record Leads (x : Encoding) (text more : List Item) (bytes : List ℕ) : Type 0 where
   pub all : encode x text ≡ bytes ++ encode x more
   pub deep : is_deep text ≡ is_deep more
@@ -171,7 +171,7 @@ puts_sure a b y bytes n g t e l u o r k =
     let P : Status → Type 0 = λ z. AppendsBy z a.limit a.bytes b.bytes bytes in
     puts_run a b y bytes n g e l u (subst P (sym (t ∙ g)) (o, rw o (omega (arith, r, length-append a.bytes bytes)))) (λ _. k)
 
--- the cursor behind a space and then some
+-- the cursor after a space and then some
 pub stepped : ℕ → Cursor → Cursor
 stepped zero c = c
 stepped (suc n) c = stepped n (record { column = c.column + 1; white = true; bare = c.bare; kept = c.kept })
@@ -196,7 +196,7 @@ blanks_lead (suc n) c rest =
     let l = blanks_lead n (record { column = c.column + 1; white = true; bare = c.bare; kept = c.kept }) rest in
     record { all = ap (λ (t : List ℕ). 32 ∷ t) l.all; deep = l.deep; front = ap (λ (t : List ℕ). 32 ∷ t) l.front }
 
--- what is in front of the first place that is too deep is a front
+-- what is before the first place that is too deep is a front
 pub shallow_front : (x : Encoding) (t : List Item)
     → (rest : List ℕ) × (encode x t ≡ encode x (shallow t) ++ rest)
 unfolding encode shallow

@@ -17,13 +17,13 @@ use Rattle.yaml_emit_layout.proofs.Sinks.{cond_false, cond_true}
 use Rattle.yaml_emit_layout.proofs.Bools.{bool_cases}
 use Rattle.yaml_emit_layout.proofs.Escapes.{char_is}
 
--- Layouts that write characters, and the cursor behind them.
+-- Layouts that write characters, and the cursor after them.
 
--- The cursor behind a letter.
+-- The cursor after a letter.
 abbrev pub moved_by : Cursor → Cursor
 moved_by c = record { column = c.column + 1; white = false; bare = false; kept = c.kept }
 
--- The cursor behind a space.
+-- The cursor after a space.
 abbrev pub spaced_by : Cursor → Cursor
 spaced_by c = record { column = c.column + 1; white = true; bare = c.bare; kept = c.kept }
 
@@ -35,7 +35,7 @@ abbrev after_letters : List ℕ → Cursor → Cursor
 after_letters [] c = c
 after_letters (x ∷ xs) c = after_letters xs (moved_by c)
 
--- The cursor behind spaces.
+-- The cursor after spaces.
 abbrev pub after_blanks : ℕ → Cursor → Cursor
 after_blanks zero c = c
 after_blanks (suc n) c = after_blanks n (spaced_by c)
@@ -46,14 +46,14 @@ unfolding letters in_front
 letters_are [] c rest = refl
 letters_are (x ∷ xs) c rest = ap (λ t. letter x ∷ t) (letters_are xs (moved_by c) rest)
 
--- Blanks are spaces in front of the rest.
+-- Blanks are spaces before the rest.
 pub blanks_are : (n : ℕ) (c : Cursor) (rest : Rest)
     → blanks n c rest ≡ in_front (replicate n 32) (rest (after_blanks n c))
 unfolding blanks in_front
 blanks_are zero c rest = refl
 blanks_are (suc n) c rest = ap (λ t. letter 32 ∷ t) (blanks_are n (spaced_by c) rest)
 
--- A new line is its break in front of the rest.
+-- A new line is its break before the rest.
 pub new_line_is : (b : LineBreak) (c : Cursor) (rest : Rest)
     → new_line b c rest ≡ in_front (break_text b) (rest (line_start c))
 unfolding in_front
@@ -61,7 +61,7 @@ new_line_is Lf c rest = refl
 new_line_is Cr c rest = refl
 new_line_is CrLf c rest = refl
 
--- Two texts in front of a layout's items are one behind another.
+-- Two texts before a layout's items are one after another.
 pub in_front_append : (xs ys : List ℕ) (t : List Item)
     → in_front (xs ++ ys) t ≡ in_front xs (in_front ys t)
 unfolding in_front
@@ -91,7 +91,7 @@ fold_is page cs c rest =
     ∙ ap (in_front (replicate page.indentation 32)) (slash_is (first cs == 32) (after_blanks page.indentation (line_start c)) rest))
     ∙ sym (in_front_append (break_text page.line_break) (replicate page.indentation 32) (slashed (first cs == 32) (rest (after_fold page cs c))))
 
--- A rest of a value behind a part, and behind a backslash where one was written for its space.
+-- A rest of a value after a part, and after a backslash where one was written for its space.
 record Left (page : Page) (before : ℕ) (c : Cursor) (slash : Bool) (last : SpelledPart) (value : List ℕ) : Type 0 where
   parts : List SpelledPart
   behind : Cursor
@@ -173,7 +173,7 @@ part_more page before x c d cs slash slash' last p follow stand same step r = re
   means = ap (λ k. k ∷ cs) (sym same) ∙ ap (λ t. meant p ∷ t) r.means;
 }
 
--- a space that is written as it is, or behind a backslash
+-- a space that is written as it is, or after a backslash
 space_char : (page : Page) (before x : ℕ) (cs : List ℕ) (c : Cursor) → x ≡ 32
     → (may_fold page before x cs && is_past page.width c) ≡ false → (rest : Rest)
     → quoted_char page before x cs c rest ≡ char x c rest

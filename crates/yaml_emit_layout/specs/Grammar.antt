@@ -148,7 +148,7 @@ opening_problem o = or_else (version_problem o.version) (directives_problem [] o
 abbrev pub flags_problem : Scalar → Option Problem
 flags_problem x = if has x.tag || (x.plain || x.quoted) then None else Some problem.NoFlags
 
--- what is judged behind the place
+-- what is judged after the place
 unfoldable pub last_problem : Event → Option Problem
 last_problem (document_start o) = opening_problem o
 last_problem (scalar x) = flags_problem x

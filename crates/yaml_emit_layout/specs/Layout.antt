@@ -1,4 +1,4 @@
--- Layouts: what is written from a cursor on, with what follows at the cursor behind it.
+-- Layouts: what is written from a cursor on, with what follows at the cursor after it.
 use Rattle.std.specs.Prelude.{ℕ, zero, suc, ◌+◌, ◌-◌, Bool, true, false, not, ◌&&◌, ◌||◌, ◌==◌, nat_lt, if◌then◌else◌, List, [], ◌∷◌}
 use Rattle.yaml_types.specs.Ascii as ascii
 use Rattle.yaml_types.specs.Points as points
@@ -16,7 +16,7 @@ abbrev pub Layout : Type 0
 Layout = Cursor → Rest → List Item
 
 infixr 10 ◌▹◌
--- one behind the other
+-- one after the other
 abbrev pub ◌▹◌ : Layout → Layout → Layout
 (a ▹ b) c rest = a c (λ d. b d rest)
 
@@ -76,7 +76,7 @@ abbrev pub indicator : ℕ → Layout
 indicator x = gap ▹ (λ c rest. letter x ∷ rest
     (record { column = c.column + 1; white = false; bare = c.bare; kept = c.kept }))
 
--- what opens a flow collection needs no space behind it
+-- what opens a flow collection needs no space after it
 abbrev pub opener : ℕ → Layout
 opener x = gap ▹ (λ c rest. letter x ∷ rest
     (record { column = c.column + 1; white = true; bare = false; kept = c.kept }))
@@ -106,11 +106,11 @@ wrap width b n = choose (is_past width) (line b n) stay
 abbrev pub keep : Bool → Layout
 keep b c rest = rest (record { column = c.column; white = c.white; bare = c.bare; kept = b })
 
--- behind a scalar in one line or in quotes
+-- after a scalar in one line or in quotes
 abbrev pub after_text : Layout
 after_text c rest = rest (record { column = c.column; white = false; bare = false; kept = c.kept })
 
--- behind a block scalar
+-- after a block scalar
 abbrev pub after_block : Layout
 after_block c rest = rest (record { column = c.column; white = true; bare = c.bare; kept = c.kept })
 

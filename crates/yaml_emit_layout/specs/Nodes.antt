@@ -110,7 +110,7 @@ scalar_layout p at x =
     ▹ scalar_text (page_at p.settings at) p.settings.indent at.flow (style_of p at x)
     (chars x.value)
 
--- an alias as a simple key has a space behind it
+-- an alias as a simple key has a space after it
 unfoldable pub alias_layout : NodePosition → List ℕ → Layout
 alias_layout at name = word (ascii.asterisk ∷ name)
     ▹ when (is_simple_part at.part) (char ascii.space)
@@ -173,7 +173,7 @@ block_indent_in s (Some n) keeps = if keeps then n else n + s.indent
 abbrev pub is_flow : Settings → NodePosition → Start → Bool → Bool
 is_flow s at q empty = s.canonical || (at.flow || (q.flow || empty))
 
--- the indentation of a collection, found behind its properties: a block sequence that is a key or a value keeps that round it where the line isn't bare
+-- the indentation of a collection, found after its properties: a block sequence that is a key or a value keeps that round it where the line isn't bare
 abbrev pub indent_of : Settings → NodePosition → Bool → Bool → Cursor → ℕ
 indent_of s at sequence flow c = if flow then deeper s at.around else block_indent_in s at.around
     (sequence && (is_of_mapping at.part && not c.bare))

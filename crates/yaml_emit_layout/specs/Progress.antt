@@ -29,7 +29,7 @@ at_place p = record { place = p; due = [] }
 abbrev pub first_progress : Progress
 first_progress = at_place at.StreamStart
 
--- in these open collections; behind the last one the document ends
+-- in these open collections; after the last one the document ends
 abbrev pub inside : List Due → Progress
 inside [] = at_place at.DocumentEnd
 inside (d ∷ ds) = record { place = at.Node; due = d ∷ ds }
@@ -69,7 +69,7 @@ abbrev pub level_due : List Due → Option Level
 level_due [] = None
 level_due (d ∷ ds) = Some (record { phase = phase_due d; flow = false; indent = 0 })
 
--- what is wrong with an event behind a list
+-- what is wrong with an event after a list
 abbrev pub problem_in : Bool → Progress → Event → Option Problem
 problem_in canonical h e = problem_by canonical h.place (level_due h.due) e
 

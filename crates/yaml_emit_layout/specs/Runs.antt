@@ -7,7 +7,7 @@ unfoldable pub all_pass : (ℕ → ℕ → Bool) → ℕ → List ℕ → Bool
 all_pass test column [] = true
 all_pass test column (b ∷ bs) = test column b && all_pass test (column + 1) bs
 
--- from space to `~`, but for # , : ? [ ] { }: it says nothing against a style, but for a space before a break
+-- from space to `~`, except for # , : ? [ ] { }: it says nothing against a style, except for a space before a break
 unfoldable pub is_calm : ℕ → Bool
 is_calm b = nat_le ascii.space b
     && (nat_le b ascii.tilde && not (b == ascii.hash || b == ascii.comma || b == ascii.colon

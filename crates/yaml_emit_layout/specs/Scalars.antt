@@ -55,12 +55,12 @@ abbrev pub single_quoted : Page → List ℕ → Layout
 single_quoted page value = gap
     ▹ (char ascii.apostrophe ▹ (flow_body page true ascii.space value ▹ char ascii.apostrophe))
 
--- the first character behind a run of breaks; the end counts as a blank
+-- the first character after a run of breaks; the end counts as a blank
 unfoldable pub behind_breaks : List ℕ → ℕ
 behind_breaks [] = ascii.space
 behind_breaks (c ∷ cs) = if is_break c then behind_breaks cs else c
 
--- folded: a break more before LF, behind a line that does not begin with a blank, before one that does not
+-- folded: a break more before LF, after a line that does not begin with a blank, before one that does not
 abbrev pub adds_break : Bool → Bool → ℕ → ℕ → List ℕ → Bool
 adds_break folded blank before x rest = folded
     && (x == ascii.line_feed
@@ -103,7 +103,7 @@ chomp_of broken last = if last then (if broken then chomping.Keep else chomping.
 abbrev pub ends_in_break : List ℕ → Bool
 ends_in_break text = is_break (last_or ascii.line_feed text)
 
--- by how it ends, behind a break or not
+-- by how it ends, after a break or not
 unfoldable pub chomp : Bool → Bool → List ℕ → Chomp
 chomp broken last [] = chomp_of broken last
 chomp broken last (x ∷ xs) = chomp last (is_break x) xs
@@ -122,7 +122,7 @@ abbrev pub digit_mark : ℕ → List ℕ → Layout
 digit_mark digit value = when (first value == ascii.space || is_break (first value))
     (char (digit_char digit))
 
--- the start counts as a break, in front of nothing
+-- the start counts as a break, before nothing
 abbrev pub block_header : ℕ → Bool → List ℕ → Layout
 block_header digit folded value = gap
     ▹ (char (if folded then ascii.greater else ascii.bar)

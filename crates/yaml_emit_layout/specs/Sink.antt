@@ -15,8 +15,8 @@ pub record Output : Type 0 where
   pub status : Status
   pub cursor : Cursor
 
--- With `text` to come, the whole is `whole`: all in front of it is written, and none of that is too deep; or the first bytes up
--- to the limit are; or all in front of the first place that is too deep; or some first bytes, since memory was refused.
+-- With `text` to come, the whole is `whole`: all before it is written, and none of that is too deep; or the first bytes up
+-- to the limit are; or all before the first place that is too deep; or some first bytes, since memory was refused.
 abbrev pub EndsBy : Status → ℕ → Encoding → List ℕ → List Item → List Item → Type 0
 EndsBy Going limit x output text whole = (encode x whole ≡ output ++ encode x text)
     × ((length output ≤ limit) × ((is_deep whole ≡ is_deep text)
@@ -30,7 +30,7 @@ EndsBy Starved limit x output text whole = (rest : List ℕ) × (encode x whole 
 unfoldable pub Ends : Output → List Item → List Item → Type 0
 Ends s text whole = EndsBy s.status s.limit s.encoding s.bytes text whole
 
--- all that stood there stands there still, in front of what came
+-- all that stood there stands there still, before what came
 abbrev pub Grows : List ℕ → List ℕ → Type 0
 Grows old new = take (length old) new ≡ old
 

@@ -77,12 +77,12 @@ unfoldable pub IsSpelling : SpelledPart → List SpelledPart → Type 0
 IsSpelling before [] = is_fold before ≡ false
 IsSpelling before (p ∷ ps) = (may_follow before p ≡ true) × (may_stand p ≡ true) × IsSpelling p ps
 
--- characters in front of a text
+-- characters before a text
 unfoldable pub in_front : List ℕ → List Item → List Item
 in_front [] t = t
 in_front (c ∷ cs) t = letter c ∷ in_front cs t
 
--- From a cursor on, a layout writes a spelling of the value, whatever follows. Behind a space, at the start, no fold may stand.
+-- From a cursor on, a layout writes a spelling of the value, whatever follows. After a space, at the start, no fold may stand.
 pub record WritesSpelling (a : Layout) (c : Cursor) (value : List ℕ) : Type 0 where
   pub parts : List SpelledPart
   pub behind : Cursor

@@ -82,7 +82,7 @@ abbrev pub before_node : Settings → Option Level → Bool → Layout
 before_node s None simple = stay
 before_node s (Some l) simple = before_at s l.phase l.flow l.indent simple
 
--- what comes behind a node in its collection
+-- what comes after a node in its collection
 unfoldable pub phase_behind : Phase → Bool → Phase
 phase_behind (Items fresh) simple = Items false
 phase_behind (Keys fresh) simple = Value simple
@@ -133,12 +133,12 @@ abbrev pub start_text : Context → NodePosition → ℕ → Start → Bool → 
 start_text p at x q empty = properties_text p q.anchor (start_tag p.settings.canonical q)
     ▹ when (is_flow p.settings at q empty) (opener x)
 
--- a collection that is too deep is marked behind that
+-- a collection that is too deep is marked after that
 abbrev pub depth_text : Context → NodePosition → Bool → Start → Bool → Layout
 depth_text p at sequence q empty = indented
     (indent_of p.settings at sequence (is_flow p.settings at q empty)) checked
 
--- what is written for an event, but for the depth
+-- what is written for an event, except for the depth
 unfoldable pub text_at : Context → Expected → Option Level → Event → Bool → Layout
 text_at p place top no_event empty = stay
 text_at p place top (stream_start x) empty = order_mark p.settings.encoding
@@ -180,7 +180,7 @@ piece_at p place top e empty = text_at p place top e empty ▹ depth_at p top e 
 abbrev pub piece : Settings → State → Event → Bool → Layout
 piece s st e empty = piece_at (context_of s st.directives) st.place (top_of st.levels) e empty
 
--- the state behind it, by the cursor behind what is written
+-- the state after it, by the cursor after what is written
 unfoldable pub next_at : Context → Expected → List Level → Event → Bool → Cursor → State
 next_at p place ls no_event empty
     c = record { place = place; levels = ls; directives = p.directives }

@@ -17,7 +17,7 @@ is_blank c = c == ascii.space || c == ascii.tab
 abbrev pub ends_word : ℕ → Bool
 ends_word c = is_blank c || is_break c || c == 0
 
--- somewhere in a text this holds of a character, the one before it and the one behind it
+-- somewhere in a text this holds of a character, the one before it and the one after it
 unfoldable pub somewhere : (ℕ → ℕ → ℕ → Bool) → ℕ → List ℕ → Bool
 somewhere p before [] = false
 somewhere p before (c ∷ cs) = p before c (first cs) || somewhere p c cs
@@ -27,7 +27,7 @@ abbrev pub is_special : Bool → ℕ → ℕ → ℕ → Bool
 is_special unicode before c next = not (is_printable c) || (not unicode && nat_le 0x80 c)
     || (c == ascii.space && is_break next)
 
--- a break with a space behind it
+-- a break with a space after it
 abbrev pub is_break_space : ℕ → ℕ → ℕ → Bool
 is_break_space before c next = is_break c && next == ascii.space
 
@@ -61,7 +61,7 @@ is_indicator c =
     || c == ascii.apostrophe || c == ascii.quote || c == ascii.percent || c == ascii.at
     || c == ascii.grave
 
--- not at the start of a plain scalar: by the first three characters, 0 behind the end
+-- not at the start of a plain scalar: by the first three characters, 0 after the end
 abbrev pub is_badly_begun : ℕ → ℕ → ℕ → Bool
 is_badly_begun a b c = is_indicator a || ((a == ascii.hyphen || a == ascii.question) && ends_word b)
     || (a == ascii.hyphen && b == ascii.hyphen && c == ascii.hyphen)
@@ -75,7 +75,7 @@ abbrev pub starts_badly : List ℕ → Bool
 starts_badly value = is_badly_begun (first value) (first (behind value))
     (first (behind (behind value)))
 
--- what a character adds to what was seen, by the one before it and the one behind it
+-- what a character adds to what was seen, by the one before it and the one after it
 abbrev pub seen : Bool → ℕ → ℕ → ℕ → Seen
 seen unicode before c next = record {
   special = is_special unicode before c next;

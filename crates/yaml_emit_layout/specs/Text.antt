@@ -53,7 +53,7 @@ is_deep [] = false
 is_deep (letter c ∷ t) = is_deep t
 is_deep (deep ∷ t) = true
 
--- all in front of the first such place
+-- all before the first such place
 unfoldable pub shallow : List Item → List Item
 shallow [] = []
 shallow (letter c ∷ t) = letter c ∷ shallow t

@@ -16,14 +16,14 @@ use Rattle.yaml_emit_layout.specs.State.{State, among, placed}
 pub data Frame : Type 0 where
   items_left : Bool → ℕ → Bool → Nodes → Frame
   pairs_left : Bool → ℕ → Bool → Pairs → Frame
-  -- behind a key, by whether it was simple
+  -- after a key, by whether it was simple
   value_left : Bool → ℕ → Bool → Node → Pairs → Frame
 
 pub data ToCome : Type 0 where
   stream : yaml_encoding_t → List Document → ToCome
   -- whether none went before, whether the last ended implicitly
   documents : Bool → Bool → List Document → ToCome
-  -- the document's directives, its root, its end, and the documents behind it
+  -- the document's directives, its root, its end, and the documents after it
   root : List TagDirective → Node → Bool → List Document → ToCome
   -- the open collections, the innermost first
   frames : List TagDirective → List Frame → Bool → List Document → ToCome

@@ -1,7 +1,7 @@
 //! The layouts that an emitter writes, canonical and pretty, and the lists of events that it takes.
 //!
 //! Definitions, the types that they speak of, and laws: `specs/` says what is written, `proofs/` that laying out one event
-//! behind another gives it.
+//! after another gives it.
 #![tactic(auto)]
 
 mod cursor;

@@ -5,9 +5,9 @@ use crate::settings::LineBreak;
 /// Where a scalar stands.
 #[derive(Clone, Copy)]
 pub struct Page {
-    /// Behind this column a line may be broken.
+    /// After this column a line may be broken.
     pub width: u64,
-    /// Columns in front of the scalar's lines but the first.
+    /// Columns before the scalar's lines but the first.
     pub indentation: u64,
     /// Characters above U+007F may stand as they are.
     pub unicode: bool,
@@ -55,7 +55,7 @@ pub enum Chomp {
 pub struct Seen {
     /// A character for double quotes alone.
     pub special: bool,
-    /// A break with a space behind it.
+    /// A break with a space after it.
     pub broken: bool,
     /// A character that is not for plain scalars.
     pub not_plain: bool,

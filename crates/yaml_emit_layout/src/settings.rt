@@ -46,7 +46,7 @@ pub struct Settings {
     pub canonical: bool,
     /// How many columns deeper a collection stands than the one round it: 2 to 9.
     pub indent: u64,
-    /// Behind this column a line may be broken.
+    /// After this column a line may be broken.
     pub width: u64,
     /// Characters above U+007F may stand as they are.
     pub unicode: bool,

@@ -1,4 +1,4 @@
--- What an event that was given does: the state behind it is as it has to be, and where memory was refused outside the output it is
+-- What an event that was given does: the state after it is as it has to be, and where memory was refused outside the output it is
 -- known which events stand in it.
 use Rattle.std.proofs.Common.{◌≡◌, ◌⊎◌, inl, inr, ℕ, suc, drop, List, [], ◌∷◌, ◌++◌, Bool, true, false, Option, append_assoc, refl, sym, ◌∙◌, ap, None, option_map, rules}
 use Rattle.yaml_scan_model.specs.Faults.{Fault, fault_of}
@@ -60,9 +60,9 @@ pub blames_marked : (e : Event) (old mid new : Emitter) (o k : Bool)
     → BlamesLevels e old new
 blames_marked e old mid new o k same m = rw same m
 
--- ---- behind an event the state is as it has to be
+-- ---- after an event the state is as it has to be
 
--- Behind what was laid out an emitter is as it has to be.
+-- After what was laid out an emitter is as it has to be.
 pub inside_held : (i : Inside) (core : Core) (held : Held)
     (fault : Option yaml_fault_t) (e : Event) → IsEmitter i → i.fresh ≡ false
     → option_map fault_of fault ≡ refusal_by core.place core.sink.status core.starved

@@ -10,13 +10,13 @@ use Rattle.yaml_emit_machine.specs.Taking.{TakesEvents, Stuck, NotesMemoryOf}
 use Rattle.yaml_emit_machine.specs.Dumping.{Dumps, DumpsSome}
 use Rattle.yaml_emit_machine.proofs.Taking.{takes_none, takes_on, takes_first, notes_any, notes_on}
 
--- ---- one behind another
+-- ---- one after another
 
 -- Nothing was taken yet.
 pub dumps_none : (e : Emitter) (es : List Event) → Dumps e es e es
 dumps_none e es = record { takes = takes_none e es; memory = λ n. refl; keeps = (refl, refl) }
 
--- Some were taken behind others.
+-- Some were taken after others.
 pub dumps_on : (a b c : Emitter) (es fs gs : List Event) → Dumps a es b fs → Dumps b fs c gs
     → Dumps a es c gs
 dumps_on a b c es fs gs p q = record {
@@ -30,14 +30,14 @@ pub dumps_starved : (d : Document) (old new : Emitter) (before after : Events)
     → ((es : List Event) → Dumps old es new []) → DumpsSome d old new before after false
 dumps_starved d old new before after t = record { dumps = t (remaining_events d before); on = λ on. absurd (false≢true on); less = λ on. absurd (false≢true on) }
 
--- An event of those that are left was taken; behind a fault the others count for nothing.
+-- An event of those that are left was taken; after a fault the others count for nothing.
 takes_by : (b : Bool) (old new : Emitter) (e : Event) (es : List Event)
     → TakesEvents old (e ∷ es) new es → (b ≡ false → Stuck new)
     → TakesEvents old (e ∷ es) new (left_if b es)
 takes_by true old new e es t stuck = t
 takes_by false old new e es t stuck = takes_on old new new (e ∷ es) es [] t (stuck refl es [])
 
--- The first event of those that are left was taken; behind a fault the others count for nothing.
+-- The first event of those that are left was taken; after a fault the others count for nothing.
 pub dumps_event : (d : Document) (old new : Emitter) (before after : Events) (b : Bool)
     (e : Event) → remaining_events d before ≡ e ∷ remaining_events d after → IsEvents d after
     → TakesEvents old (e ∷ []) new [] → NotesMemoryOf e old new → Keeps old new

@@ -35,7 +35,7 @@ use Rattle.yaml_emit_machine.specs.Held.{held_events, is_ready}
 use Rattle.yaml_emit_layout.specs.Progress.{Progress, first_refusal}
 use Rattle.yaml_emit_machine.specs.Verdict.{verdict, Writes, wrong, Lays, HasLetOut, TellsOutcome}
 
--- an emitter behind what was laid out, by whether no event was given and by what is held
+-- an emitter after what was laid out, by whether no event was given and by what is held
 abbrev pub left : Inside → Core → Bool → List Event → Option Fault → Emitter
 left i core fresh held fault = record {
   requested_settings = i.requested_settings;
@@ -77,7 +77,7 @@ going_right : (v : Settings) (st : State) (o : Output) (es : List Event) (whole 
     → FinishesBy v st o es whole → refused_at st.place ≡ None
 going_right v st o es whole r = ap (λ (z : State). refused_at z.place) r.fits ∙ never_refused r.rest
 
--- behind a fault the events that come count for nothing
+-- after a fault the events that come count for nothing
 pub stopped_at : (s : Status) (v : Settings) (st : State) (o : Output) (levels : Bool) (f : Fault)
     (xs ys : List Event) (whole : List Item) → refusal_by st.place s levels ≡ Some f
     → FinishesAt s v st o xs whole → FinishesAt s v st o ys whole
@@ -195,7 +195,7 @@ pub inside_limited : (i : Inside) → IsEmitter i → (f : Fault) → option_map
     → IsLimited (emitter_of i) f
 inside_limited i inv f is = limited_by i.core.sink.status (emitter_of i) f refl (inside_begun i inv f is) (sym inv.faulty ∙ is) (inside_front i inv)
 
--- all that was let out is there, and an output that an indentation has stopped has all in front of that
+-- all that was let out is there, and an output that an indentation has stopped has all before that
 told_by : (s : Status) (limit : ℕ) (x : Encoding) (bytes : List ℕ) (text whole : List Item)
     → (s ≡ Going → text ≡ []) → EndsBy s limit x bytes text whole
     → HasLetOut s limit bytes (encode x whole) (is_deep whole)
@@ -205,7 +205,7 @@ told_by Going limit x bytes text whole n h = let k = rw (n refl) at h in ((sym (
 told_by Deep limit x bytes text whole n h = (written_by Deep limit x bytes text whole h, λ d. h.1)
 told_by s limit x bytes text whole n h = (written_by s limit x bytes text whole h, λ d. absurd (cc))
 
--- nothing is to come behind a refusal, and what is held isn't let out
+-- nothing is to come after a refusal, and what is held isn't let out
 refusal_now : (p : Option Problem) (canonical : Bool) (h : Progress) (es : List Event)
     → (p ≡ None → is_ready es ≡ false) → p ≡ or_else p (first_refusal canonical h (let_out es))
 unfolding first_refusal
@@ -241,7 +241,7 @@ unfolding LetsOut Ends
 told_now i x whole inv k =
     rw (← k.0) (told_by i.core.sink.status i.core.sink.limit i.core.sink.encoding i.core.sink.bytes _ whole (λ g. text_now (refused_at i.core.place) _ _ (held_events i.held ++ []) _ (waits_now i inv g)) k.1)
 
--- behind a refused event
+-- after a refused event
 refused_front : (i : Inside) (p : Problem) (x : Encoding) (more : List Event) (whole : List Item)
     → i.core.sink.status ≡ Going → refused_at i.core.place ≡ Some p
     → Says LaysAll (emitter_of i) x more whole → i.core.sink.bytes ≡ encode x whole

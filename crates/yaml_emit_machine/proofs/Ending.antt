@@ -67,7 +67,7 @@ mapping_ready q (pair n v ps) es =
 
 -- ---- so it is let out
 
--- an event that needs nothing behind it
+-- an event that needs nothing after it
 out_alone : (e : Event) (es : List Event) → needs e ≡ 0 → AreOut es → AreOut (e ∷ es)
 out_alone e es none out = out_next e es (none_needed e es none) out
 

@@ -17,9 +17,9 @@ use Rattle.yaml_emit_machine.proofs.Opening.{opens_none}
 use Rattle.yaml_emit_machine.proofs.Holding.{ready_empty}
 use Rattle.yaml_emit_machine.proofs.Judging.{ready_more, going_open, goes_going, text_step, some_step, some_one, some_none, going_notes, noted_takes, drop_next, refusal_on, wrong_on, lays_first}
 
--- ---- an event that is laid out before those behind it are known
+-- ---- an event that is laid out before those after it are known
 
--- with any events behind it, it is the same as with that answer
+-- with any events after it, it is the same as with that answer
 abbrev pub Settles : Core → Event → Bool → List Event → Type 0
 Settles b e empty y = (es : List Event)
     → IsSame (settings_of b) (state_of b) e empty (opens_empty e (y ++ es))
@@ -40,7 +40,7 @@ settles_by : (b : Core) (e : Event) (empty : Bool) (y : List Event)
 settles_by b e empty y h = λ es.
     (ap (piece (settings_of b) (state_of b) e) (h es), λ (c : Cursor). ap (λ (z : Bool). next (settings_of b) (state_of b) e z c) (h es))
 
--- the first event behind it tells
+-- the first event after it tells
 told : (e : Event) (z : List Event) (f : Event) (es : List Event)
     → opens_empty e (z ++ f ∷ []) ≡ opens_empty e ((z ++ f ∷ []) ++ es)
 unfolding opens_empty
@@ -126,7 +126,7 @@ lays_more a b c h y e empty p goes r is l =
           blamed a b c h y e empty p o on_still is takes (l.blames.levels on_still off' on);
     }
 
--- the oldest of those that are held, with an event behind them
+-- the oldest of those that are held, with an event after them
 pub lays_oldest : (a b c : Core) (h held new z : List Event) (e f : Event)
     → LaysEvents a h b (held ++ f ∷ []) → held ≡ e ∷ z → new ≡ z
     → goes_on b.sink.status b.place ≡ true → is_ready (held ++ f ∷ []) ≡ true

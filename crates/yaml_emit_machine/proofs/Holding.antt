@@ -26,7 +26,7 @@ pub closes_last : (e : Event) → ends_level e ≡ closes (e ∷ [])
 closes_last no_event = refl
 closes_last _ = refl
 
--- what has behind it what it needs is ready
+-- what has after it what it needs is ready
 pub enough : (e : Event) (es : List Event) → needs e ≤ length es → is_ready (e ∷ es) ≡ true
 unfolding is_ready
 enough e es h = ap (λ v. v || closes es) (le-leb (needs e) (length es) h)
@@ -65,7 +65,7 @@ pub some_released : (xs : List Event) (f : Event) → releases xs f ≡ true →
 some_released [] f h = absurd (cc)
 some_released (e ∷ es) f h = refl
 
--- an event that neither releases others nor passes is held behind them
+-- an event that neither releases others nor passes is held after them
 pub pushed_waits : (xs ys : List Event) (f : Event) → ys ≡ xs ++ f ∷ [] → releases xs f ≡ false
     → passes xs f ≡ false → is_ready ys ≡ false
 pushed_waits [] ys f same r p = ap is_ready same ∙ p
@@ -115,7 +115,7 @@ pub last_passed : (all held : List Event) (e : Event) → passes held e ≡ true
 last_passed all [] e h = (all, sym (append-nil all))
 last_passed all (f ∷ fs) e h = absurd (cc)
 
--- it is held behind the others
+-- it is held after the others
 pub last_pushed : (all held new : List Event) (e : Event) → AreLast all held → new ≡ held ++ e ∷ []
     → AreLast (all ++ e ∷ []) new
 last_pushed all held new e l h = (l.0, ap (λ z. z ++ e ∷ []) l.1 ∙ append_assoc l.0 held (e ∷ []) ∙ ap (λ z. l.0 ++ z) (sym h))

@@ -108,18 +108,18 @@ shape_at p place ls sequence_end empty d = among_shape p.directives (outer_of ls
 shape_at p place ls mapping_end empty d = among_shape p.directives (outer_of ls) ∙ ap inside (dues_outer ls)
 shape_at p place ls _ empty d = refl
 
--- The shape behind an event is what the shape before it becomes.
+-- The shape after an event is what the shape before it becomes.
 pub shape_next : (s : Settings) (st : State) (e : Event) (empty : Bool) (d : Cursor)
     → shape_of (next s st e empty d) ≡ progress_after (shape_of st) e
 shape_next s st e empty d = shape_at (context_of s st.directives) st.place st.levels e empty d
 
--- ---- behind an event in its right place nothing is refused
+-- ---- after an event in its right place nothing is refused
 
 place_open : (l : Option Level) → refused_at (place_at l) ≡ None
 place_open None = refl
 place_open (Some l) = refl
 
--- behind an event no place is refused where none was
+-- after an event no place is refused where none was
 pub open_at : (p : Context) (place : Expected) (ls : List Level) (e : Event) (empty : Bool)
     (d : Cursor)
     → refused_at place ≡ None → refused_at (next_at p place ls e empty d).place ≡ None
@@ -190,7 +190,7 @@ pub unless_none : (p : Option Problem) (a : Layout) (c : Cursor) (rest : Rest) �
 unless_none None a c rest e = refl
 unless_none (Some x) a c rest e = absurd (cc)
 
--- Behind a problem nothing of the layout is written.
+-- After a problem nothing of the layout is written.
 pub unless_some : (p : Option Problem) (x : Problem) (a : Layout) (c : Cursor) (rest : Rest)
     → p ≡ Some x → unless p a c rest ≡ rest c
 unless_some None x a c rest e = absurd (cc)
@@ -230,12 +230,12 @@ empty_out (sequence_start p) es = ends_begin is_sequence_end end_sequence es
 empty_out (mapping_start p) es = ends_begin is_mapping_end end_mapping es
 empty_out _ es = refl
 
--- what is written for an event, and behind it what `body` tells
+-- what is written for an event, and after it what `body` tells
 ahead : (Settings → State → Layout) → Settings → State → Event → Bool → Layout
 ahead body s st e empty = unless (refused_at st.place) (unless (problem_at s st e)
     (λ c rest. piece s st e empty c (λ d. body s (next s st e empty d) d rest)))
 
--- Behind an event that was laid out the same is to come, by what was wrong with it.
+-- After an event that was laid out the same is to come, by what was wrong with it.
 text_on : (p : Option Problem) (body : Settings → State → Layout) (old new : Core) (e : Event)
     (empty : Bool) (whole : List Item) → refused_at old.place ≡ None
     → problem_at (settings_of old) (state_of old) e ≡ p → LaysOut old new e empty
@@ -269,7 +269,7 @@ text_on (Some x) body old new e empty whole o is l h =
     rw there back)
     (λ n. ends_other new.sink _ _ whole n back)
 
--- an event that is laid out before those behind it are known
+-- an event that is laid out before those after it are known
 pub lays_first : (b c : Core) (e : Event) (es : List Event) (whole : List Item)
     → refused_at b.place ≡ None → LaysOut b c e (opens_empty e es)
     → LaysAll (settings_of b) (state_of b) b.sink (e ∷ es) whole
@@ -333,7 +333,7 @@ drop_next (suc k) (x ∷ xs) e ys h = drop_next k xs e ys h
 
 -- ---- one event
 
--- The first wrong event of a list is that of the rest behind an event that was laid out.
+-- The first wrong event of a list is that of the rest after an event that was laid out.
 pub wrong_on : (b c : Core) (e : Event) (es : List Event) (empty : Bool) → refused_at b.place ≡ None
     → LaysOut b c e empty → c.sink.status ≡ Going
     → first_wrong (settings_of c) (state_of c) es

@@ -15,7 +15,7 @@ use Rattle.yaml_emit_machine.specs.Laid.{StreamsAreLaid}
 use Rattle.yaml_emit_machine.proofs.Ending.{no_event_left}
 use Rattle.yaml_emit_machine.proofs.Grammatical.{first_right, right_there}
 
--- a right event is laid out in front of those behind it
+-- a right event is laid out before those after it
 pub laid_on : (s : Settings) (st : State) (e : Event) (es : List Event) (c : Cursor) (f : Rest)
     → problem_at s st e ≡ None
     → laid s st (e ∷ es) c f ≡ piece s st e (opens_empty e es) c

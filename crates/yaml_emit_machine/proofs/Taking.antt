@@ -33,7 +33,7 @@ use Rattle.yaml_emit_machine.specs.Taking.{TakesEvents, Stuck, NotesMemory, Note
 use Rattle.yaml_emit_machine.proofs.Emitting.{left, inside_begun, stopped_at, begin_finishes}
 use Rattle.yaml_emit_machine.proofs.Judging.{or_some, unless_some}
 
--- ---- one call behind another
+-- ---- one call after another
 
 -- nothing was taken
 pub takes_none : (e : Emitter) (es : List Event) → TakesEvents e es e es
@@ -181,7 +181,7 @@ inside_begins i core e s z inv fr a b f most =
       keeps = (refl, refl);
     })
 
--- ---- behind a fault
+-- ---- after a fault
 
 refused_by : (s : Status) (b : Bool) (p : Option Problem) (f : Fault) → s ≡ Going
     → fault_by s b p ≡ Some f → (x : Problem) × (p ≡ Some x)

@@ -12,7 +12,7 @@ use Rattle.yaml_emit_machine.specs.Within.{Fits}
 use Rattle.yaml_emit_machine.specs.Verdict.{verdict, Writes}
 use Rattle.yaml_emit_machine.specs.Taking.{TakesEvents, NotesMemory, NotesMemoryOf}
 
--- An event is right behind what was given: no event is refused that is let out with it, and what is written then passes no limit.
+-- An event is right after what was given: no event is refused that is let out with it, and what is written then passes no limit.
 pub record IsRightNext (e : Emitter) (event : Event) : Type 0 where
   pub refused : verdict e (event ∷ []) ≡ None
   pub within : (x : Encoding) (whole : List Item) → Writes e x (event ∷ []) whole

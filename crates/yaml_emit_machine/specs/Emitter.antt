@@ -41,7 +41,7 @@ use Rattle.yaml_emit_core.specs.Finish.{Finishes}
 use Rattle.yaml_emit_machine.specs.Judged.{refused_at}
 use Rattle.yaml_emit_graph.specs.Graph.{dumped}
 
--- How the text goes on behind the output, from the first event on. What it makes of the events that follow is all that is said of
+-- How the text goes on after the output, from the first event on. What it makes of the events that follow is all that is said of
 -- it: no clause of a call speaks of its parts, but those that hand them out and take them up again (`Resuming.antt`).
 pub record Course : Type 0 where
   -- the settings in force
@@ -71,7 +71,7 @@ pub record Emitter : Type 0 where
   -- the first fault
   pub fault : Option Fault
   pub course : Course
-  -- that the output goes on, or what has stopped it: the limit, an indentation that is too deep, or want of memory
+  -- that the output goes on, or what has stopped it: the limit, an indentation that is too deep, or out of memory
   pub status : Status
   -- it was stopped by memory that was refused for the open collections, the directives or a dump, and not for the text
   pub starved : Bool
@@ -253,6 +253,6 @@ abbrev pub Answers : Option Fault → Result (Unit {0}) yaml_fault_t → Type 0
 Answers fault (Ok x) = fault ≡ None
 Answers fault (Err f) = fault ≡ Some (fault_of f)
 
--- behind a fault nothing changes
+-- after a fault nothing changes
 abbrev pub Stays : Emitter → Emitter → Type 0
 Stays old new = (f : Fault) → old.fault ≡ Some f → new ≡ old

@@ -7,14 +7,14 @@ use Rattle.yaml_emit_machine.specs.declared.held.Held.{Held}
 use Rattle.yaml_emit_machine.specs.declared.held.Count.{Count}
 use Rattle.yaml_emit_machine.specs.declared.held.Count.TheVariants.{Nothing, One, Two, Three}
 
--- those behind the oldest one, of so many in all
+-- those after the oldest one, of so many in all
 abbrev pub back : Count → EventBody → EventBody → List EventBody
 back Nothing b c = []
 back One b c = []
 back Two b c = b ∷ []
 back Three b c = b ∷ c ∷ []
 
--- the oldest one and those behind it, where any is held
+-- the oldest one and those after it, where any is held
 abbrev pub all_held : Count → EventBody → List EventBody → List EventBody
 all_held Nothing a bs = []
 all_held One a bs = a ∷ bs
@@ -35,7 +35,7 @@ held_events h = map emitter_event (held_bodies h)
 abbrev pub oldest_event : Held → Event
 oldest_event h = emitter_event (body_of h.first)
 
--- those behind the oldest
+-- those after the oldest
 abbrev pub later_events : Held → List Event
 later_events h = map emitter_event (later_bodies h)
 
@@ -64,7 +64,7 @@ abbrev pub closes : List Event → Bool
 closes [] = false
 closes (e ∷ es) = ends_level e || (not (opens_level e) && closes es)
 
--- how many events an event needs behind it
+-- how many events an event needs after it
 abbrev pub needs : Event → ℕ
 needs (document_start o) = 1
 needs (sequence_start p) = 2
@@ -86,7 +86,7 @@ unfoldable pub is_ready : List Event → Bool
 is_ready [] = false
 is_ready (e ∷ es) = has_enough e es
 
--- nothing is held, and the event needs nothing behind it
+-- nothing is held, and the event needs nothing after it
 abbrev pub passes : List Event → Event → Bool
 passes [] e = is_ready (e ∷ [])
 passes (f ∷ fs) e = false
@@ -99,7 +99,7 @@ are_some (e ∷ es) = true
 abbrev pub AreLast : List Event → List Event → Type 0
 AreLast all last = (front : List Event) × (all ≡ front ++ last)
 
--- some are held, and the oldest has what it needs, with this event behind them
+-- some are held, and the oldest has what it needs, with this event after them
 abbrev pub releases : List Event → Event → Bool
 releases [] e = false
 releases (f ∷ fs) e = is_ready (f ∷ fs ++ e ∷ [])

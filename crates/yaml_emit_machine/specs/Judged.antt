@@ -18,7 +18,7 @@ use Rattle.yaml_emit_layout.specs.State.{State, piece, next, problem_at, opens_e
 use Rattle.yaml_emit_core.specs.Steps.{next_piece, takes_memory, is_document_start}
 use Rattle.yaml_emit_machine.specs.Held.{is_ready}
 
--- The events of a list that are let out: all in front of the first one that is still held.
+-- The events of a list that are let out: all before the first one that is still held.
 unfoldable pub let_out : List Event → List Event
 let_out [] = []
 let_out (e ∷ es) = if is_ready (e ∷ es) then e ∷ let_out es else []
@@ -37,7 +37,7 @@ laid s st [] = stay
 laid s st (e ∷ es) = unless (problem_at s st e) (λ c rest. piece s st e (opens_empty e es) c
     (λ d. laid s (next s st e (opens_empty e es) d) es d rest))
 
--- ---- behind some events that were laid out
+-- ---- after some events that were laid out
 
 abbrev pub refused_at : Expected → Option Problem
 refused_at (at.Refused p) = Some p
@@ -64,7 +64,7 @@ abbrev pub refusal_among : Bool → State → List Event → Option Problem
 refusal_among canonical st es = or_else (refused_at st.place)
     (first_refusal canonical (shape_of st) es)
 
--- what is written for them; behind a refusal nothing
+-- what is written for them; after a refusal nothing
 abbrev pub text_among : Settings → State → List Event → Layout
 text_among s st es = unless (refused_at st.place) (laid s st es)
 
@@ -79,7 +79,7 @@ text_from s st es = text_among s st (let_out es)
 unfoldable pub refusal_behind : Settings → State → List Event → Option Problem
 refusal_behind s st es = refusal_from s.canonical st es
 
--- `whole` is what is written behind that output, once these events are given too
+-- `whole` is what is written after that output, once these events are given too
 unfoldable pub LetsOut : Settings → State → Output → List Event → List Item → Type 0
 LetsOut s st o es whole = Ends o (text_from s st es o.cursor nothing_more) whole
 
@@ -104,11 +104,11 @@ laid_some (suc n) s st (e ∷ es) = unless (problem_at s st e)
     (λ c rest. piece s st e (opens_empty e es) c
     (λ d. laid_some n s (next s st e (opens_empty e es) d) es d rest))
 
--- the same; behind a refusal nothing
+-- the same; after a refusal nothing
 abbrev pub some_among : ℕ → Settings → State → List Event → Layout
 some_among n s st es = unless (refused_at st.place) (laid_some n s st es)
 
--- `whole` is what is written behind that output when the first n of these are laid out
+-- `whole` is what is written after that output when the first n of these are laid out
 unfoldable pub LaysSome : ℕ → Settings → State → Output → List Event → List Item → Type 0
 LaysSome n s st o es whole = Ends o (some_among n s st es o.cursor nothing_more) whole
 
@@ -122,7 +122,7 @@ abbrev pub first_starts : List Event → Bool
 first_starts [] = false
 first_starts (e ∷ es) = is_document_start e
 
--- Memory was refused outside the output for one of these events: all in front of it are laid out, and it is too; or, where it begins
+-- Memory was refused outside the output for one of these events: all before it are laid out, and it is too; or, where it begins
 -- a document, whose directives are looked at first, nothing of it. `laid n` tells that the first n are laid out, and nothing else.
 pub record RefusesHeld (es : List Event) (laid : ℕ → Type 0) : Type 0 where
   pub front : ℕ

@@ -55,7 +55,7 @@ pub record LaysEvents (old : Core) (before : List Event) (new : Core) (after : L
     pub blames : old.starved ≡ false → new.starved ≡ true
         → RefusesHeld before (HasLaid old before new.sink.bytes)
 
--- An event was given behind those that are held, and what no longer has to be held was laid out, the event itself too.
+-- An event was given after those that are held, and what no longer has to be held was laid out, the event itself too.
 pub record HoldsOrLays (old : Core) (held : Held) (e : Event) (new : Core) (left : Held) : Type 0
   where
     pub lays : LaysEvents old (held_events held ++ e ∷ []) new (held_events left)

@@ -23,7 +23,7 @@ course_at w stand outer directives = record {
   cursor = stand.cursor;
 }
 
--- It goes on from there, under settings that were asked for, but for the encoding, which is that in which the text began. No event
+-- It goes on from there, under settings that were asked for, except the encoding, which is that in which the text began. No event
 -- is held, and nothing is written.
 abbrev pub resumed : RequestedSettings → ℕ → yaml_emitter_stand_t → List Level → List TagDirective
     → Emitter
@@ -48,6 +48,6 @@ pub record StandsWhere (e : Emitter) (stand : yaml_emitter_stand_t) : Type 0 whe
   pub innermost : stand.innermost ≡ top_of e.course.state.levels
   pub cursor : stand.cursor ≡ e.course.cursor
   pub waiting : stand.waiting ≡ length e.held
-  -- the settings in force are those that were asked for, but for the encoding
+  -- the settings in force are those that were asked for, except for the encoding
   pub forced : e.fresh ≡ false
       → e.course.settings ≡ settings_in e.requested_settings stand.encoding

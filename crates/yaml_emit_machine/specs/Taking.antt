@@ -34,7 +34,7 @@ pub record TakesEvents (old : Emitter) (es : List Event) (new : Emitter)
   -- one that is still fresh has taken nothing
   pub begun : new.fresh ≡ true → (old.fresh ≡ true) × (left ≡ es)
 
--- What is given behind a refusal counts for nothing: with any events to come it is the same as with any others.
+-- What is given after a refusal counts for nothing: with any events to come it is the same as with any others.
 abbrev pub Stuck : Emitter → Type 0
 Stuck e = (es left : List Event) → TakesEvents e es e left
 
@@ -54,7 +54,7 @@ HasFirst old es output n = (x : Encoding) (more : List Event) (whole : List Item
     → LaysFirst n old x (es ++ more) whole → encode x whole ≡ output
 
 -- Where it is noted, the text wanted no memory: the output ends where the text of an event does that opens a collection or a
--- document, or in front of a document's start.
+-- document, or before a document's start.
 abbrev pub BlamesLevels : Event → Emitter → Emitter → Type 0
 BlamesLevels e old new = old.starved ≡ false → new.starved ≡ true
     → RefusesHeld (old.held ++ e ∷ []) (HasFirst old (e ∷ []) new.output)
@@ -70,7 +70,7 @@ pub record TakesOne (old : Emitter) (e : Event) (new : Emitter) : Type 0 where
   -- what is held are the last that were given
   pub last : AreLast (old.held ++ e ∷ []) new.held
 
--- The settings came into force in front of the first event, which is still to come.
+-- The settings came into force before the first event, which is still to come.
 pub record ComesIntoForce (old : Emitter) (e : Event) (new : Emitter) : Type 0 where
   pub takes : TakesEvents old (e ∷ []) new (e ∷ [])
   pub begun : new.fresh ≡ false

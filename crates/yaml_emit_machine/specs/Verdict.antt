@@ -87,19 +87,19 @@ HasLetOut Deep limit output bytes deep = HasWritten Deep limit output bytes deep
 HasLetOut Starved limit output bytes deep = HasWritten Starved limit output bytes deep
 
 -- The fault is that of the first refused event among those that were let out, or, once the output has stopped, that of what
--- stopped it; the output has all that was let out, or stopped at a limit that this passes or for want of memory. While it goes
+-- stopped it; the output has all that was let out, or stopped at a limit that this passes or when out of memory. While it goes
 -- on, no memory was refused outside it.
 pub record TellsOutcome (e : Emitter) : Type 0 where
   pub fault : e.fault ≡ fault_by e.status e.starved (verdict e [])
   pub output : (x : Encoding) (whole : List Item) → Writes e x [] whole
       → HasLetOut e.status e.limit e.output (encode x whole) (is_deep whole)
-  -- a refused event is the first of all that is wrong, whatever follows, and the output is what stands in front of it
+  -- a refused event is the first of all that is wrong, whatever follows, and the output is what stands before it
   pub first : e.status ≡ Going → (p : Problem) → verdict e [] ≡ Some p
       → (more : List Event) → wrong e more ≡ Some p
   pub front : e.status ≡ Going → (p : Problem) → verdict e [] ≡ Some p
       → (x : Encoding) (more : List Event) (whole : List Item) → Lays e x more whole
       → e.output ≡ encode x whole
-  -- stopped by an indentation that is too deep, it has all in front of the first such place
+  -- stopped by an indentation that is too deep, it has all before the first such place
   pub deep : e.status ≡ Deep → (x : Encoding) (whole : List Item) → Writes e x [] whole
       → e.output ≡ encode x (shallow whole)
   pub memory : e.status ≡ Going → e.starved ≡ false

@@ -200,7 +200,7 @@ impl yaml_emitter_t {
         self.fresh = false;
     }
 
-    // An event is given behind those that are held.
+    // An event is given after those that are held.
     fn lay(&mut self, event: &mut yaml_event_body_t)
         requires utf8 { HasUtf8 (body_of event.old) }
         requires right { self.old.fault ≡ None }

@@ -20,7 +20,7 @@ pub enum Count {
     Three,
 }
 
-/// Events in their slots, the oldest first; what stands in the slots behind them doesn't count.
+/// Events in their slots, the oldest first; what stands in the slots after them doesn't count.
 #[derive(Drop)]
 pub struct Held {
     count: Count,
@@ -91,7 +91,7 @@ impl Held {
         }
     }
 
-    // How many events an event needs behind it.
+    // How many events an event needs after it.
     fn needs(event: &yaml_event_body_t) -> u64
         ensures { result ≡ needs (emitter_event (body_of event.now)) }
     {
@@ -118,7 +118,7 @@ impl Held {
         }
     }
 
-    /// Whether an event that comes needn't be held: nothing is, and it needs nothing behind it.
+    /// Whether an event that comes needn't be held: nothing is, and it needs nothing after it.
     #[tactic(auto, unfolding(crate::specs::Held::is_ready))]
     pub fn passes(&self, event: &yaml_event_body_t) -> bool
         ensures { result ≡ passes (held_events self.now) (emitter_event (body_of event.now)) }
@@ -127,6 +127,8 @@ impl Held {
     }
 
     /// One more. What is left of the event counts for nothing.
+    // Out of line: most events are laid out as they come.
+    #[inline(never)]
     pub fn push(&mut self, event: &mut yaml_event_body_t)
         requires few { length (held_events self.old) < 3 }
         requires utf8 { HeldUtf8 self.old × HasUtf8 (body_of event.old) }
@@ -150,7 +152,7 @@ impl Held {
         }
     }
 
-    // The oldest is gone: those behind it take the slots before theirs.
+    // The oldest is gone: those after it take the slots before theirs.
     fn go_forward(&mut self)
         ensures { held_bodies self.new ≡ later_bodies self.old }
     {
@@ -168,7 +170,7 @@ impl Held {
         }
     }
 
-    /// Some are held, and the oldest has what it needs, with this event behind them.
+    /// Some are held, and the oldest has what it needs, with this event after them.
     #[tactic(auto, unfolding(crate::specs::Held::is_ready), using(crate::proofs::Holding::closes_last))]
     pub fn releases(&self, event: &yaml_event_body_t) -> bool
         ensures is { result ≡ releases (held_events self.now) (emitter_event (body_of event.now)) }
@@ -186,7 +188,7 @@ impl Held {
         }
     }
 
-    // The oldest opens a collection that the next one closes, with this event behind those that are held.
+    // The oldest opens a collection that the next one closes, with this event after those that are held.
     #[tactic(auto, using(crate::proofs::Opening::opens_first))]
     fn opens_empty(&self, event: &yaml_event_body_t) -> bool
         ensures { result ≡ opens_empty (oldest_event self.now) (later_events self.now
@@ -198,7 +200,9 @@ impl Held {
         }
     }
 
-    /// Lays out the oldest, which isn't held then, with this event behind those that are held.
+    /// Lays out the oldest, which isn't held then, with this event after those that are held.
+    // Out of line: most events are laid out as they come.
+    #[inline(never)]
     pub fn lay_oldest(&mut self, core: &mut Core, event: &yaml_event_body_t)
         requires ready { are_some (held_events self.old) ≡ true }
         requires utf8 { HeldUtf8 self.old }

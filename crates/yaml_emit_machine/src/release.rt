@@ -12,7 +12,7 @@ use crate::held::Held;
 use yaml_emit_core::Core;
 use yaml_parse_model::yaml_event_body_t;
 
-// Whether the oldest event is to be laid out, with this one behind those that are held.
+// Whether the oldest event is to be laid out, with this one after those that are held.
 fn is_due(core: &Core, held: &Held, event: &yaml_event_body_t) -> bool
     ensures is { result ≡ (releases (held_events held.now) (emitter_event (body_of event.now))
         && goes_on core.now.sink.status core.now.place) }
@@ -30,7 +30,7 @@ fn passes(core: &Core, held: &Held, event: &yaml_event_body_t) -> bool
     held.passes(event) && core.is_going()
 }
 
-// What lies ready with an event behind it is laid out, up to the first event that is refused. That event isn't held yet.
+// What lies ready with an event after it is laid out, up to the first event that is refused. That event isn't held yet.
 fn release(core: &mut Core, held: &mut Held, event: &yaml_event_body_t)
     requires utf8 { HeldUtf8 held.old }
     requires going { goes_on core.old.sink.status core.old.place ≡ true }
@@ -49,7 +49,7 @@ fn release(core: &mut Core, held: &mut Held, event: &yaml_event_body_t)
     }
 }
 
-/// An event is given behind the held ones, and what no longer has to be held is laid out, the event itself where it lies. What is
+/// An event is given after the held ones, and what no longer has to be held is laid out, the event itself where it lies. What is
 /// left of the event counts for nothing.
 pub fn hold_or_lay(core: &mut Core, held: &mut Held, event: &mut yaml_event_body_t)
     requires few { is_ready (held_events held.old) ≡ false }

@@ -99,16 +99,6 @@ impl Draft {
         }
     }
 
-    /// From now on that break and that width count.
-    pub fn set_page(&mut self, line_break: LineBreak, width: usize)
-        ensures output { self.new.output ≡ self.old.output }
-        ensures room { self.new.room ≡ self.old.room }
-        ensures set { (self.new.line_break ≡ line_break) × (self.new.width ≡ width) }
-    {
-        self.line_break = line_break;
-        self.width = width;
-    }
-
     /// The bytes of the text.
     pub fn into_bytes(self) -> Vec<u8>
         ensures { result.items ≡ self.output.bytes }
@@ -228,8 +218,11 @@ impl Draft {
         ensures due { result ≡ (comma || must_break indent self.now.output.cursor) }
         ensures short { result ≡ false → self.now.output.cursor.column ≤ indent }
     {
+        if comma | !self.bare {
+            return true;
+        }
         let column = self.column();
-        comma | !self.bare | (indent < column) | ((column == indent) & !self.white)
+        (indent < column) | ((column == indent) & !self.white)
     }
 
     /// A line that begins so: a comma in the line before where one is due; a break, unless the line is bare up to the indentation;

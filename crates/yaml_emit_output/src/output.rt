@@ -45,19 +45,6 @@ impl Output {
         }
     }
 
-    /// From now on the text is in that encoding.
-    pub fn set_encoding(&mut self, encoding: Encoding)
-        ensures { self.new ≡ record {
-          encoding = encoding;
-          limit = self.old.limit;
-          encoded = self.old.encoded;
-          done = self.old.done;
-          full = self.old.full;
-        } }
-    {
-        self.encoding = encoding;
-    }
-
     /// The bytes of a draft's text, up to the limit.
     pub fn bytes<'a>(&'a self, draft: &'a Draft) -> &'a [u8]
         ensures { result.now ≡ (output_of self.now draft.now.output).bytes }
@@ -94,13 +81,6 @@ impl Output {
         } else {
             draft.status()
         }
-    }
-
-    /// Whether more than the limit was laid out.
-    pub fn is_full(&self) -> bool
-        ensures { result ≡ self.now.full }
-    {
-        self.full
     }
 
     /// An event was laid out: in UTF-16 what is new of the text is encoded. Where the limit is passed the draft stops, and where memory

@@ -12,7 +12,7 @@ mod scalar;
 mod style;
 mod word;
 
-pub use class::classes_of;
+pub use class::{BREAK, classes_of};
 pub use scalar::put_scalar;
 pub use style::{allowed_by, taken};
 pub use word::put_word;

@@ -145,6 +145,8 @@ impl Core {
     }
 
     // Of a sequence or a mapping. Where memory is refused for the open collections, its text stands in the output.
+    // Inlined: it is judged where it comes, and laid out by one call.
+    #[inline(always)]
     fn lay_start(&mut self, named: &Named, implicit: bool, sequence: bool, flow: bool, empty: bool)
         requires { goes_on self.old.sink.status self.old.place ≡ true }
         ensures { LaysOut self.old self.new (opening sequence

@@ -20,7 +20,7 @@ use std::alloc::Global;
 use yaml_parse_model::{copy_directives, yaml_event_body_t};
 use yaml_scan_model::yaml_tag_directive_t;
 
-// A table of copies of the directives; none for want of memory.
+// A table of copies of the directives; none when out of memory.
 fn table_of(alloc: Global, directives: &[yaml_tag_directive_t]) -> Option<DirectiveTable>
     ensures { IfSome result (λ t. t ≡ map directive_of directives.now) }
 {

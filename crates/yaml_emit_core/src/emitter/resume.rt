@@ -66,7 +66,7 @@ fn refused_in(place: Expected) -> Option<Problem>
 
 impl Core {
     /// It goes on where an emitter stood, with an output of its own: there the collections round the innermost one were open, the
-    /// outermost first, and the document had these directives. Refused only for want of memory.
+    /// outermost first, and the document had these directives. Refused only when out of memory.
     pub fn resumed(
         alloc: Global,
         settings: Settings,

@@ -51,7 +51,7 @@ fn is_stand(stand: &yaml_emitter_stand_t, outer: &[Level]) -> bool
     }
 }
 
-/// An emitter that goes on from there, with no event held, and a text of its own of at most `limit` bytes. Refused for want of memory,
+/// An emitter that goes on from there, with no event held, and a text of its own of at most `limit` bytes. Refused when out of memory,
 /// and where no emitter stands: a collection is open where no node comes, or is indented by more than 2,147,483,647 columns.
 #[tactic(auto, using(yaml_emit_core::proofs::Fresh::settled_step))]
 pub fn resumed(

@@ -1,7 +1,11 @@
-use Rattle.std.proofs.Common.{ap, ◌∙◌, sym}
+use Rattle.std.proofs.Common.{[], ap, ◌∙◌, sym}
 use Rattle.std.specs.Prelude.{◌&&◌}
-use Rattle.yaml_emit_core.proofs.Closings.{closer_due, closer_none}
+use Rattle.std.proofs.lemmas.Str.Ascii.{IsAscii-cons, IsAscii-nil}
+use Rattle.yaml_emit_core.proofs.Closings.{closer_due, closer_none, one_lays}
 use Rattle.yaml_emit_core.proofs.nodes.put_closer.Goals as goal
+
+pub put_text-requires-clause-ascii : goal.put_text-requires-clause-ascii
+put_text-requires-clause-ascii c = IsAscii-cons c.args.bracket [] c.requires.bracket.1 IsAscii-nil
 
 pub returns-then-settings-is_further : goal.returns-then-settings-is_further
 returns-then-settings-is_further c =
@@ -11,4 +15,4 @@ returns-then-settings-is_further c =
 pub returns-else-settings-is_further : goal.returns-else-settings-is_further
 returns-else-settings-is_further c =
     let s = c.args.settings.now in
-    closer_none s c.args.level.indent c.args.bracket _ _ _ (sym (ap (λ z. s.canonical && z) c.is_further.ensures) ∙ c.if-settings-is_further.false) c.put_bracket.ensures
+    closer_none s c.args.level.indent c.args.bracket _ _ _ (sym (ap (λ z. s.canonical && z) c.is_further.ensures) ∙ c.if-settings-is_further.false) (one_lays c.args.bracket _ _ c.put_text.ensures)

@@ -1,0 +1,4 @@
+pub mod Holding
+pub mod Labels
+pub mod Meeting
+pub mod Ranking

@@ -1,0 +1,5 @@
+pub mod Same
+pub mod Shapes
+pub mod ShapeView
+pub mod Ranks
+pub mod Telling

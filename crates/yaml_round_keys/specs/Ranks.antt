@@ -1,0 +1,104 @@
+-- Nodes by ranks: nodes that agree to the ground have one rank.
+use Rattle.std.specs.Prelude.{◌≡◌, ◌⊎◌, ◌↔◌, ◌<◌, ◌≤◌, ℕ, suc, ◌+◌, ◌==◌, ℤ, pos, Bool, true, false, not, ◌&&◌, if◌then◌else◌, List, [], ◌∷◌, ◌++◌, length, get_or, map, Some, None, Result, Ok, Err}
+use Rattle.std.specs.declared.alloc.AllocError.{AllocError}
+use Rattle.std.specs.FinMap as map
+use Rattle.yaml_parse_model.specs.Nodes.{Node, NodeBody}
+use Rattle.yaml_parse_model.specs.Nodes as node
+use Rattle.yaml_parse_document.specs.Documents.{IsId}
+use Rattle.yaml_emit_graph.specs.Graph.{child_ids, body_of_id, tag_of_id, number_at}
+use Rattle.yaml_emit_graph.specs.Numbers.{counted}
+use Rattle.yaml_round_keys.specs.Shapes.{Shapes}
+use Rattle.yaml_round_keys.specs.Same.{text_of, AgreeWithin, AreSame}
+use Rattle.yaml_round_keys.specs.declared.ranks.Ranks.{Ranks}
+
+-- a kind as a number
+abbrev pub kind_of : NodeBody → ℕ
+kind_of node.no = 0
+kind_of (node.scalar value style) = 1
+kind_of (node.sequence items style) = 2
+kind_of (node.mapping pairs style) = 3
+
+-- What a node looks like except for what it holds: its kind, how long its text and its tag are, and
+-- these.
+abbrev pub look : NodeBody → List ℕ → List ℕ
+look b tag = kind_of b ∷ length (text_of b) ∷ length tag ∷ (text_of b ++ tag)
+
+-- what it looks like where those that it holds have these ranks
+abbrev pub shape_of : List ℕ → List Node → ℤ → List ℕ
+shape_of ranks nodes id = look (body_of_id nodes id) (tag_of_id nodes id)
+    ++ map (number_at ranks) (child_ids (body_of_id nodes id))
+
+-- all these have ranks; 0 stands for none
+abbrev pub all_ranked : List ℕ → List ℤ → Bool
+all_ranked ranks [] = true
+all_ranked ranks (id ∷ ids) = not (number_at ranks id == 0) && all_ranked ranks ids
+
+abbrev pub holds_ranked : List ℕ → List Node → ℤ → Bool
+holds_ranked ranks nodes id = all_ranked ranks (child_ids (body_of_id nodes id))
+
+-- Each rank is that of one shape. A node with a rank has a ground, what it holds has ranks, and its
+-- own is that of its shape.
+pub record AreRanks (nodes : List Node) (table : List ℕ) (shapes : Shapes)
+    (given : ℕ) : Type 0 where
+  pub depth : ℕ
+  pub sized : length table ≡ length nodes
+  pub ground : (a : ℤ) → 0 < number_at table a → AgreeWithin depth nodes a a
+  pub held : (a : ℤ) → 0 < number_at table a → holds_ranked table nodes a ≡ true
+  pub found : (a : ℤ) → 0 < number_at table a
+      → map.get shapes (shape_of table nodes a) ≡ Some (number_at table a)
+  pub told : (x y : List ℕ) (n : ℕ) → map.get shapes x ≡ Some n → map.get shapes y ≡ Some n
+      → x ≡ y
+  pub below : (x : List ℕ) (n : ℕ) → map.get shapes x ≡ Some n → (0 < n) × (n ≤ given)
+
+abbrev pub IsRanking : List Node → Ranks → Type 0
+IsRanking nodes r = AreRanks nodes r.table.items r.shapes r.given
+
+-- it has a rank, or holds a node that has none
+abbrev pub IsJudged : List Node → List ℕ → ℤ → Type 0
+IsJudged nodes table id = holds_ranked table nodes id ≡ true → 0 < number_at table id
+
+-- so are all nodes from a place on
+abbrev pub AreJudgedFrom : ℕ → List Node → List ℕ → Type 0
+AreJudgedFrom from nodes table = (k : ℕ) → from ≤ k → k < length nodes
+    → IsJudged nodes table (pos (suc k))
+
+-- more nodes have ranks; or none got one, and that holds
+abbrev pub Ranked : (List ℕ → Type 0) → List Node → Ranks → Result Bool AllocError → Ranks → Type 0
+Ranked P nodes old (Ok true) new = IsRanking nodes new
+    × (counted old.table.items < counted new.table.items)
+Ranked P nodes old (Ok false) new = IsRanking nodes new × (new.table.items ≡ old.table.items)
+    × P new.table.items
+Ranked P nodes old (Err e) new = Unit {0}
+
+-- the place of a node that is due to get a rank; none where it is judged
+abbrev pub IsDue : List Node → List ℕ → ℕ → Bool → Type 0
+IsDue nodes table at true = (get_or table at 0 ≡ 0)
+    × (holds_ranked table nodes (pos (suc at)) ≡ true)
+IsDue nodes table at false = IsJudged nodes table (pos (suc at))
+
+-- the rank that a shape has, or the next one, which it has from now on
+abbrev pub GivesRank : Ranks → List ℕ → Result ℕ AllocError → Ranks → Type 0
+GivesRank old x (Ok n) new =
+    ((map.get old.shapes x ≡ Some n) × (new.shapes ≡ old.shapes) × (new.given ≡ old.given))
+    ⊎ ((map.get old.shapes x ≡ None) × (new.shapes ≡ map.insert old.shapes x n)
+    × (n ≡ suc old.given) × (new.given ≡ n))
+GivesRank old x (Err e) new = Unit {0}
+
+-- a node's number as a natural one
+abbrev pub natural : ℤ → ℕ
+natural (pos n) = n
+natural _ = 0
+
+-- the rank; of a node without one a number of its own after all ranks
+abbrev pub label_of : List ℕ → ℕ → ℤ → ℕ
+label_of table given id = if number_at table id == 0 then given + natural id else number_at table id
+
+-- nodes have one label exactly where they are the same
+abbrev pub Tells : List Node → Ranks → Type 0
+Tells nodes r = (a b : ℤ) → IsId (length nodes) a → IsId (length nodes) b
+    → (label_of r.table.items r.given a ≡ label_of r.table.items r.given b) ↔ AreSame nodes a b
+
+-- they lie below a bound
+abbrev pub IsWithin : List Node → Ranks → Type 0
+IsWithin nodes r = (a : ℤ) → IsId (length nodes) a
+    → label_of r.table.items r.given a < suc (r.given + length r.table.items)

@@ -1,0 +1,39 @@
+-- Which nodes of a document are the same as keys.
+use Rattle.std.specs.Prelude.{◌≡◌, ◌⊎◌, ℕ, zero, suc, ℤ, List, [], ◌∷◌, length}
+use Rattle.yaml_parse_model.specs.Nodes.{Node, NodeBody, type_of}
+use Rattle.yaml_parse_model.specs.Nodes as node
+use Rattle.yaml_parse_document.specs.Documents.{IsId}
+use Rattle.yaml_emit_graph.specs.Graph.{child_ids, body_of_id, tag_of_id}
+
+-- the text of a scalar; none of a collection
+abbrev pub text_of : NodeBody → List ℕ
+text_of (node.scalar value style) = value
+text_of _ = []
+
+-- two numbers of nodes, of one kind, with one tag and one text
+pub record LookAlike (nodes : List Node) (a b : ℤ) : Type 0 where
+  pub first : IsId (length nodes) a
+  pub second : IsId (length nodes) b
+  pub kind : type_of (body_of_id nodes a) ≡ type_of (body_of_id nodes b)
+  pub tag : tag_of_id nodes a ≡ tag_of_id nodes b
+  pub text : text_of (body_of_id nodes a) ≡ text_of (body_of_id nodes b)
+
+-- one by one, and as many
+abbrev pub OneByOne : (ℤ → ℤ → Type 0) → List ℤ → List ℤ → Type 0
+OneByOne P [] [] = Unit {0}
+OneByOne P [] (b ∷ bs) = ⊥
+OneByOne P (a ∷ xs) [] = ⊥
+OneByOne P (a ∷ xs) (b ∷ bs) = P a b × OneByOne P xs bs
+
+-- They look alike, and so do one by one the nodes that they hold, and those that these hold, to the
+-- ground, which lies at most so many levels deep. (A node that holds itself has no ground.)
+unfoldable pub AgreeWithin : ℕ → List Node → ℤ → ℤ → Type 0
+AgreeWithin zero nodes a b = ⊥
+AgreeWithin (suc n) nodes a b = LookAlike nodes a b
+    × OneByOne (AgreeWithin n nodes) (child_ids (body_of_id nodes a))
+    (child_ids (body_of_id nodes b))
+
+-- One node, as where one is an alias of the other; or nodes that agree to the ground. Anchors,
+-- styles and places are no part of it.
+abbrev pub AreSame : List Node → ℤ → ℤ → Type 0
+AreSame nodes a b = (a ≡ b) ⊎ ((n : ℕ) × AgreeWithin n nodes a b)

@@ -1,0 +1,228 @@
+//! Ranks of nodes: one for all that agree to the ground.
+
+ghost use Rattle.std.specs.Prelude.{◌≡◌, ◌<◌, ◌≤◌, ◌+◌, ◌≤ℤ◌, ◌||◌, pos, suc, OnOk, IfOk, length};
+ghost use Rattle.yaml_round_keys.specs.Ranks.{label_of, AreJudgedFrom, GivesRank, IsDue, IsJudged, IsRanking, IsWithin, Ranked, Tells};
+
+use crate::shape::{holds_ranked, id_of, put_shape, rank_of};
+use crate::shapes::ShapeTable;
+use std::alloc::{AllocError, Global};
+use yaml_emit_graph::{Turn, Walked, place_of, walk_nodes};
+use yaml_parse_document::yaml_document_t;
+
+/// The rank of each node by its place, 0 where it has none; the ranks of shapes; and the last rank
+/// that was given.
+#[derive(Drop)]
+pub struct Ranks {
+    table: Vec<u32>,
+    shapes: ShapeTable,
+    given: u32,
+    alloc: Global,
+}
+
+// One of both.
+fn either(first: bool, second: bool) -> bool
+    ensures { result ≡ (first || second) }
+{
+    if first { true } else { second }
+}
+
+// Whether the node at a place is to get a rank: it has none, and all that it holds have ranks.
+fn is_due(ranks: &[u32], document: &yaml_document_t, at: usize) -> bool
+    requires table { at < length ranks.now }
+    requires small { at < 2147483647 }
+    ensures { IsDue document.now.nodes ranks.now at result }
+{
+    if ranks[at] == 0 {
+        holds_ranked(ranks, document, id_of(at))
+    } else {
+        false
+    }
+}
+
+impl Ranks {
+    // No node has a rank.
+    #[tactic(auto, using(crate::proofs::Labels::no_ranks))]
+    fn none(alloc: Global, document: &yaml_document_t) -> Result<Ranks, AllocError>
+        ensures { IfOk result (λ r. IsRanking document.now.nodes r) }
+    {
+        Ok(Ranks {
+            table: vec![in alloc; 0; document.node_count()]?,
+            shapes: ShapeTable::new(alloc),
+            given: 0,
+            alloc,
+        })
+    }
+
+    // The rank of a shape, or the next one.
+    fn rank_of_shape(&mut self, shape: &[u32]) -> Result<u32, AllocError>
+        ensures gives { GivesRank self.old shape.now result self.new }
+        ensures table { self.new.table ≡ self.old.table }
+    {
+        match self.shapes.get(shape) {
+            Some(rank) => Ok(rank),
+            None => {
+                if self.given == u32::MAX {
+                    return Err(AllocError);
+                }
+                let rank = self.given + 1;
+                let kept = Vec::from_slice(self.alloc, shape)?;
+                self.shapes.insert(kept, rank)?;
+                self.given = rank;
+                Ok(rank)
+            }
+        }
+    }
+
+    // The node at a place gets a rank, where it is due.
+    fn rank_node(
+        &mut self,
+        room: &mut Vec<u32>,
+        document: &yaml_document_t,
+        at: usize,
+    ) -> Result<bool, AllocError>
+        requires ranking { IsRanking document.now.nodes self.old }
+        requires within { at < length document.now.nodes }
+        requires small { at < 2147483647 }
+        ensures { Ranked (λ t. IsJudged document.now.nodes t (pos (suc at))) document.now.nodes
+            self.old result self.new }
+    {
+        if !is_due(&self.table, document, at) {
+            return Ok(false);
+        }
+        put_shape(room, &self.table, document, at)?;
+        let rank = self.rank_of_shape(room)?;
+        self.table[at] = rank;
+        Ok(true)
+    }
+
+    #[tactic(auto, using(crate::proofs::Labels::ranked_more, crate::proofs::Labels::none_ranked))]
+    // The same of each node, the last one first.
+    fn rank_each(
+        &mut self,
+        room: &mut Vec<u32>,
+        document: &yaml_document_t,
+    ) -> Result<bool, AllocError>
+        requires ranking { IsRanking document.now.nodes self.old }
+        requires small { length document.now.nodes ≤ 2147483647 }
+        ensures { Ranked (AreJudgedFrom 0 document.now.nodes) document.now.nodes self.old result
+            self.new }
+    {
+        let mut any = false;
+        let mut left = document.node_count();
+        'nodes: while left > 0 {
+            left -= 1;
+            let one = self.rank_node(room, document, left)?;
+            any = either(one, any);
+        }
+        Ok(any)
+    }
+
+    // The node of a number gets a rank, where it is due.
+    #[tactic(auto, using(crate::proofs::Labels::ranking_of))]
+    fn rank_id(
+        &mut self,
+        room: &mut Vec<u32>,
+        document: &yaml_document_t,
+        id: i32,
+    ) -> Result<(), AllocError>
+        requires ranking { IsRanking document.now.nodes self.old }
+        requires small { length document.now.nodes ≤ 2147483647 }
+        ensures { OnOk result (IsRanking document.now.nodes self.new) }
+    {
+        match place_of(id) {
+            Some(at) if at < document.node_count() => {
+                // whether it got one is no matter here
+                let _ranked = self.rank_node(room, document, at)?;
+                Ok(())
+            }
+            _ => Ok(()),
+        }
+    }
+
+    // A node gets one as a walk meets or leaves it.
+    fn rank_turn(
+        &mut self,
+        room: &mut Vec<u32>,
+        document: &yaml_document_t,
+        turn: Turn,
+    ) -> Result<(), AllocError>
+        requires ranking { IsRanking document.now.nodes self.old }
+        requires small { length document.now.nodes ≤ 2147483647 }
+        ensures { OnOk result (IsRanking document.now.nodes self.new) }
+    {
+        match turn {
+            Turn::First(id) => self.rank_id(room, document, id),
+            Turn::Again(_) => Ok(()),
+            Turn::Leave(id) => self.rank_id(room, document, id),
+        }
+    }
+
+    // The same along a walk, which leaves a node after what it holds.
+    fn rank_walked(
+        &mut self,
+        room: &mut Vec<u32>,
+        document: &yaml_document_t,
+    ) -> Result<(), AllocError>
+        requires ranking { IsRanking document.now.nodes self.old }
+        requires small { length document.now.nodes ≤ 2147483647 }
+        ensures { OnOk result (IsRanking document.now.nodes self.new) }
+    {
+        let Walked { turns, numbers: _ } = walk_nodes(self.alloc, document)?;
+        for turn in &turns {
+            self.rank_turn(room, document, *turn)?;
+        }
+        Ok(())
+    }
+
+    #[tactic(auto, using(crate::proofs::Labels::counted_most))]
+    // Each node gets a rank, or holds one that has none.
+    fn rank_all(&mut self, document: &yaml_document_t) -> Result<(), AllocError>
+        requires ranking { IsRanking document.now.nodes self.old }
+        requires small { length document.now.nodes ≤ 2147483647 }
+        ensures { OnOk result (IsRanking document.now.nodes self.new
+            × AreJudgedFrom 0 document.now.nodes self.new.table.items) }
+    {
+        let mut room = Vec::new(self.alloc);
+        self.rank_walked(&mut room, document)?;
+        'passes: loop {
+            match self.rank_each(&mut room, document) {
+                Err(refusal) => return Err(refusal),
+                Ok(false) => return Ok(()),
+                Ok(true) => {}
+            }
+        }
+    }
+
+    /// The ranks of a document's nodes.
+    pub fn of(alloc: Global, document: &yaml_document_t) -> Result<Ranks, AllocError>
+        requires { length document.now.nodes ≤ 2147483647 }
+        ensures tells { IfOk result (λ r. Tells document.now.nodes r) }
+        ensures within { IfOk result (λ r. IsWithin document.now.nodes r) }
+    {
+        let mut ranks = Ranks::none(alloc, document)?;
+        match ranks.rank_all(document) {
+            Ok(()) => Ok(ranks),
+            Err(refusal) => Err(refusal),
+        }
+    }
+
+    /// All labels are below this.
+    pub fn label_count(&self) -> usize
+        ensures { result ≡ suc (self.now.given + length self.now.table.items) }
+    {
+        self.given as usize + self.table.len() + 1
+    }
+
+    /// The label of a node: two nodes have one label exactly where they are the same as keys.
+    pub fn label_of(&self, id: i32) -> usize
+        requires { pos 1 ≤ℤ id }
+        ensures { result ≡ label_of self.now.table.items self.now.given id }
+    {
+        let rank = rank_of(&self.table, id);
+        if rank == 0 {
+            self.given as usize + id as usize
+        } else {
+            rank as usize
+        }
+    }
+}

@@ -1,0 +1,212 @@
+//! The keys that are told.
+
+ghost use Rattle.std.specs.Prelude.{◌≡◌, ◌<◌, ◌≤◌, ◌++◌, suc, pos, OnOk, IfOk, length};
+ghost use Rattle.yaml_parse_document.specs.Documents.{ArePairs, IsId, node_at};
+ghost use Rattle.yaml_emit_graph.specs.Graph.{body_of_id};
+ghost use Rattle.yaml_round_keys.specs.Telling.{AreSameKeys, HasRoom, IsFresh, Meets, TellsKey, TellsKeys, is_plain_merge, keys_of, label_by, mark_at, pair_keys, told_in, told_of};
+
+use crate::ranks::Ranks;
+use crate::shape::id_of;
+use std::alloc::{AllocError, Global};
+use yaml_parse_document::{MAX_ENTRIES, yaml_document_get_node, yaml_document_t};
+use yaml_parse_model::{
+    ZERO_MARK, yaml_mark_t, yaml_node_body_t, yaml_node_pair_t, yaml_scalar_style_t,
+};
+
+/// A key that is the same as an earlier key of its mapping.
+#[derive(Clone, Copy, PartialEq, Eq, Debug)]
+pub struct yaml_same_key_t {
+    /// The number of its node.
+    pub key: i32,
+    /// The number of the first one's node.
+    pub first: i32,
+    /// Where its node begins.
+    pub mark: yaml_mark_t,
+    /// Where the first one's node begins.
+    pub first_mark: yaml_mark_t,
+}
+
+/// A key that was met, in the mapping of that number; 0 stands for none.
+#[derive(Clone, Copy)]
+pub struct Slot {
+    mapping: usize,
+    key: i32,
+}
+
+// Where a node begins.
+fn mark_at(document: &yaml_document_t, id: i32) -> yaml_mark_t
+    ensures { result ≡ mark_at (node_at document.now.nodes id) }
+{
+    match yaml_document_get_node(document, id) {
+        None => ZERO_MARK,
+        Some(node) => node.start_mark,
+    }
+}
+
+fn is_plain_merge(document: &yaml_document_t, id: i32) -> bool
+    ensures { result ≡ is_plain_merge (body_of_id document.now.nodes id) }
+{
+    match yaml_document_get_node(document, id) {
+        None => false,
+        Some(node) => match &node.body {
+            yaml_node_body_t::Scalar {
+                value,
+                style: yaml_scalar_style_t::YAML_PLAIN_SCALAR_STYLE,
+            } => value.as_slice() == b"<<".as_slice(),
+            _ => false,
+        },
+    }
+}
+
+// The first key with that label that was met in that mapping; where there is none, this one is it
+// from now on.
+fn meet(slots: &mut [Slot], mapping: usize, label: usize, key: i32) -> Option<i32>
+    requires { label < length slots.old }
+    ensures { Meets slots.old mapping label key result slots.new }
+{
+    let slot = slots[label];
+    if slot.mapping == mapping {
+        return Some(slot.key);
+    }
+    slots[label] = Slot { mapping, key };
+    None
+}
+
+// A key is told where one before it is the same.
+fn tell(
+    told: &mut Vec<yaml_same_key_t>,
+    document: &yaml_document_t,
+    key: i32,
+    first: Option<i32>,
+) -> Result<(), AllocError>
+    ensures { OnOk result (told.new.items ≡ told.old.items
+        ++ told_of document.now.nodes key first) }
+{
+    match first {
+        None => Ok(()),
+        Some(first) => {
+            if is_plain_merge(document, key) {
+                return Ok(());
+            }
+            told.push(yaml_same_key_t {
+                key,
+                first,
+                mark: mark_at(document, key),
+                first_mark: mark_at(document, first),
+            })?;
+            Ok(())
+        }
+    }
+}
+
+// A pair's key is met, and told where one before it is the same.
+fn tell_key(
+    told: &mut Vec<yaml_same_key_t>,
+    document: &yaml_document_t,
+    ranks: &Ranks,
+    slots: &mut [Slot],
+    mapping: usize,
+    pair: yaml_node_pair_t,
+) -> Result<(), AllocError>
+    requires id { IsId (length document.now.nodes) pair.key }
+    requires room { HasRoom document.now.nodes ranks.now slots.old }
+    ensures { OnOk result (TellsKey document.now.nodes mapping (label_by ranks.now pair.key)
+        pair.key slots.old slots.new told.old.items told.new.items) }
+{
+    let label = ranks.label_of(pair.key);
+    let first = meet(slots, mapping, label, pair.key);
+    tell(told, document, pair.key, first)
+}
+
+// The keys of a mapping.
+#[tactic(auto, using(crate::proofs::Meeting::so_far_none, crate::proofs::Meeting::so_far_all, crate::proofs::Meeting::room_along))]
+fn tell_pairs(
+    told: &mut Vec<yaml_same_key_t>,
+    document: &yaml_document_t,
+    ranks: &Ranks,
+    slots: &mut [Slot],
+    mapping: usize,
+    pairs: &[yaml_node_pair_t],
+) -> Result<(), AllocError>
+    requires pairs { ArePairs (length document.now.nodes) pairs.now }
+    requires fresh { IsFresh slots.old mapping }
+    requires room { HasRoom document.now.nodes ranks.now slots.old }
+    ensures { OnOk result (TellsKeys document.now.nodes (label_by ranks.now) mapping
+        (pair_keys pairs.now) slots.old slots.new told.old.items told.new.items) }
+{
+    for place in 0..pairs.len() {
+        let pair = pairs[place];
+        tell_key(told, document, ranks, slots, mapping, pair)?;
+    }
+    Ok(())
+}
+
+// The keys of the node at a place, if it is a mapping.
+#[tactic(auto, using(crate::proofs::Meeting::no_keys))]
+fn tell_node(
+    told: &mut Vec<yaml_same_key_t>,
+    document: &yaml_document_t,
+    ranks: &Ranks,
+    slots: &mut [Slot],
+    place: usize,
+) -> Result<(), AllocError>
+    requires small { place < 2147483647 }
+    requires fresh { IsFresh slots.old (suc place) }
+    requires room { HasRoom document.now.nodes ranks.now slots.old }
+    ensures { OnOk result (TellsKeys document.now.nodes (label_by ranks.now) (suc place)
+        (keys_of (body_of_id document.now.nodes (pos (suc place)))) slots.old slots.new
+        told.old.items told.new.items) }
+{
+    match yaml_document_get_node(document, id_of(place)) {
+        None => Ok(()),
+        Some(node) => match &node.body {
+            yaml_node_body_t::No => Ok(()),
+            yaml_node_body_t::Scalar { .. } => Ok(()),
+            yaml_node_body_t::Sequence { .. } => Ok(()),
+            yaml_node_body_t::Mapping { pairs, .. } => {
+                tell_pairs(told, document, ranks, slots, place + 1, pairs)
+            }
+        },
+    }
+}
+
+// The keys of all mappings.
+#[tactic(auto, using(crate::proofs::Meeting::nodes_none, crate::proofs::Meeting::nodes_all, crate::proofs::Meeting::room_along))]
+fn tell_nodes(
+    told: &mut Vec<yaml_same_key_t>,
+    document: &yaml_document_t,
+    ranks: &Ranks,
+    slots: &mut [Slot],
+) -> Result<(), AllocError>
+    requires small { length document.now.nodes ≤ 2147483647 }
+    requires fresh { IsFresh slots.old 1 }
+    requires room { HasRoom document.now.nodes ranks.now slots.old }
+    ensures { OnOk result (told.new.items ≡ told.old.items
+        ++ told_in (label_by ranks.now) document.now.nodes document.now.nodes) }
+{
+    for place in 0..document.node_count() {
+        tell_node(told, document, ranks, slots, place)?;
+    }
+    Ok(())
+}
+
+/// The keys of a document's mappings, in order, to which an earlier key of the same mapping is the
+/// same, each with the first such one. Keys are the same where they are one node, as where one is
+/// an alias of the other, or agree in kind, tag, text and what they hold, to the ground. A plain
+/// `<<` may come again. Mappings follow their nodes' numbers.
+#[tactic(auto, using(crate::proofs::Meeting::fresh_start, crate::proofs::Meeting::room_start, crate::proofs::Meeting::all_told))]
+pub fn yaml_document_check_keys(
+    alloc: Global,
+    document: &yaml_document_t,
+) -> Result<Vec<yaml_same_key_t>, AllocError>
+    ensures { IfOk result (λ told. AreSameKeys document.now.nodes told.items) }
+{
+    if document.node_count() > MAX_ENTRIES {
+        return Err(AllocError);
+    }
+    let ranks = Ranks::of(alloc, document)?;
+    let mut slots = vec![in alloc; Slot { mapping: 0, key: 0 }; ranks.label_count()]?;
+    let mut told = Vec::new(alloc);
+    tell_nodes(&mut told, document, &ranks, &mut slots)?;
+    Ok(told)
+}

@@ -10,7 +10,7 @@ use yaml_cli_main::{UNNAMED, WRONG_WORDS, shown_bytes, yaml_main};
 // How many bytes a word has at most at first.
 const FIRST: usize = 256;
 
-// The bytes of a word; nothing behind the last one.
+// The bytes of a word; nothing after the last one.
 fn bytes_of(rt: &HostRuntime, number: usize) -> Result<Option<Vec<u8>>, AllocError> {
     let mut bytes = Vec::new(rt.alloc());
     let mut room = FIRST;

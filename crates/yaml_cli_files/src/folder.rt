@@ -166,7 +166,7 @@ impl Folder {
         }
     }
 
-    // Puts what is read of a folder in front of what is to come.
+    // Puts what is read of a folder before what is to come.
     fn open<H: Files>(
         &mut self,
         rt: &H,

@@ -63,7 +63,7 @@ fn fill<H: Files>(
 }
 
 /// Puts a file of that text in the place of the one that the path names, by a new one beside it, which has the same mode: the path
-/// names the old text, whole, until it names the new one, whole. Where it names a link the file behind that is replaced.
+/// names the old text, whole, until it names the new one, whole. Where it names a link the file after that is replaced.
 pub fn replace<H: Files>(rt: &H, alloc: Global, path: &str, text: &[u8]) -> Result<(), Unreplaced> {
     let real = rt.canonicalize(alloc, path)?;
     let real = real.as_path().as_str();

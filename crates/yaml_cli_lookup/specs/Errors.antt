@@ -5,7 +5,7 @@ use Rattle.yaml_scan.specs.declared.yaml_error_type_t.TheVariants.{YAML_MEMORY_E
 use Rattle.yaml_cli_lookup.specs.declared.error.LookupError.{LookupError}
 use Rattle.yaml_cli_lookup.specs.declared.error.LookupError.TheVariants.{Unreadable, NotAMapping, OutOfMemory, CopyRefused}
 
--- want of memory has an error of its own
+-- out of memory has an error of its own
 abbrev pub IsErrorOf : yaml_fault_t → LookupError → Type 0
 IsErrorOf f (Unreadable g) = (g ≡ f) × ¬ (f.kind ≡ YAML_MEMORY_ERROR)
 IsErrorOf f NotAMapping = ⊥

@@ -34,7 +34,7 @@ fn first_document(
     }
 }
 
-/// The first document of the input, whose root is a mapping. No document behind it is loaded.
+/// The first document of the input, whose root is a mapping. No document after it is loaded.
 pub fn load_mapping(
     alloc: Global,
     input: &[u8],

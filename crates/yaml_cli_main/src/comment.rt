@@ -29,7 +29,7 @@ fn hash_in_head(scalar: &[u8]) -> Option<u64> {
     None
 }
 
-// The first `#` of a comment in front of a token, or in it; the token before ends at that byte.
+// The first `#` of a comment before a token, or in it; the token before ends at that byte.
 fn hash_before(text: &[u8], end: u64, token: &yaml_token_t) -> Option<u64> {
     let start = token.start_mark.index;
     let found = hash_between(text, end, start);

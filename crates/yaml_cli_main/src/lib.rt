@@ -1,4 +1,4 @@
-//! The program but for its `main`: the runs by the engine that `yaml_round` has.
+//! The program except for its `main`: the runs by the engine that `yaml_round` has.
 #![tactic(auto)]
 
 mod comment;

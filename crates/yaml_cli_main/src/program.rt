@@ -8,7 +8,7 @@ use yaml_cli_program::main_by;
 
 /// Does what the words say, the program's name first, over `input`, `output` and `errors`; files are opened through
 /// `rt`. Answers the status: 0, 1 where a command was refused or failed, 2 where the words are wrong. A refusal is a
-/// line on `errors`; nothing is written to `output` then, but for a front of the text where writing itself fails.
+/// line on `errors`; nothing is written to `output` then, except for a front of the text where writing itself fails.
 pub fn yaml_main<H: Files + AllocGlobal, S: AsStr, R: Read, W: Write, E: Write>(
     rt: &H,
     words: &[S],

@@ -73,7 +73,7 @@ pub(crate) fn ends_line(next: Next) -> bool {
     )
 }
 
-// What is behind the byte order mark of a text, and the encoding that the mark tells.
+// What is after the byte order mark of a text, and the encoding that the mark tells.
 fn detected(input: &[u8]) -> (&[u8], yaml_encoding_t) {
     if let Some(left) = input.strip_prefix(b"\xFF\xFE") {
         return (left, yaml_encoding_t::YAML_UTF16LE_ENCODING);
@@ -86,7 +86,7 @@ fn detected(input: &[u8]) -> (&[u8], yaml_encoding_t) {
 }
 
 impl<'a> Chars<'a> {
-    /// All of them, behind a byte order mark that tells their encoding.
+    /// All of them, after a byte order mark that tells their encoding.
     pub(crate) fn of(input: &'a [u8], from: yaml_encoding_t) -> Chars<'a> {
         let (left, form) = match from {
             yaml_encoding_t::YAML_ANY_ENCODING => detected(input),
@@ -111,7 +111,7 @@ impl<'a> Chars<'a> {
         }
     }
 
-    /// The next character; a CR and a LF behind it are one line feed.
+    /// The next character; a CR and a LF after it are one line feed.
     pub(crate) fn next(&mut self) -> Next {
         let next = self.next_char();
         if let Next::Char('\r') = next {
@@ -134,7 +134,7 @@ impl<'a> Chars<'a> {
         }
     }
 
-    // Goes on behind the row of bytes that comes next and tells how many lines end in it, where these are fewer than `most`,
+    // Goes on after the row of bytes that comes next and tells how many lines end in it, where these are fewer than `most`,
     // each ends by a LF or a CR LF and, if not `wide`, each byte is a character. A NEL begins with C2, a LS and a PS with E2,
     // which stand nowhere but at the beginning of a character or of bytes that spell none.
     // Inlined, and without an early exit, so that the bytes are looked at side by side.
@@ -161,7 +161,7 @@ impl<'a> Chars<'a> {
         Some(lines)
     }
 
-    /// Goes on behind so many ends of lines, or to the text's end; answers how many are missing.
+    /// Goes on after so many ends of lines, or to the text's end; answers how many are missing.
     pub(crate) fn skip_lines(&mut self, lines: u64) -> u64 {
         let mut missing = lines;
         for _ in 0..self.left.len() {
@@ -181,7 +181,7 @@ impl<'a> Chars<'a> {
         missing
     }
 
-    /// Goes on by so many characters of the line, or behind the line's end.
+    /// Goes on by so many characters of the line, or after the line's end.
     pub(crate) fn skip_columns(&mut self, columns: u64) {
         let mut left = columns;
         for _ in 0..self.left.len() {

@@ -9,12 +9,12 @@ use yaml_types::yaml_mark_t;
 // A line of no more columns is shown whole.
 const WHOLE: u64 = 80;
 
-// A longer line is shown from that many characters before the place on, where there are more than a few in front of these.
+// A longer line is shown from that many characters before the place on, where there are more than a few before these.
 const BEFORE: u64 = 50;
 
 const FEW: u64 = 10;
 
-// And it is shown to that many characters behind the place.
+// And it is shown to that many characters after the place.
 const BEHIND: u64 = 30;
 
 // Stands for what isn't shown of a line.
@@ -31,7 +31,7 @@ pub(crate) fn is_hidden(c: char) -> bool {
         )
 }
 
-/// Adds a character; a hidden one by its number, but for a tab.
+/// Adds a character; a hidden one by its number, except for a tab.
 pub(crate) fn push_shown(text: &mut String, c: char) -> Result<(), AllocError> {
     if c != '\t' && is_hidden(c) {
         let code = u32::from(c);
@@ -41,7 +41,7 @@ pub(crate) fn push_shown(text: &mut String, c: char) -> Result<(), AllocError> {
     }
 }
 
-// How many columns a character takes behind that many.
+// How many columns a character takes after that many.
 fn width_of(c: char, columns: u64) -> u64 {
     if c == '\t' {
         8 - columns % 8
@@ -75,7 +75,7 @@ fn push_blank(text: &mut String, c: char) -> Result<(), AllocError> {
     Ok(())
 }
 
-// Adds up to so many characters of the line, or what takes as many columns; answers whether the line goes on behind them.
+// Adds up to so many characters of the line, or what takes as many columns; answers whether the line goes on after them.
 fn push_columns(
     text: &mut String,
     mut line: Chars<'_>,

@@ -24,7 +24,7 @@ impl Walk<'_> {
         next
     }
 
-    // Goes on behind the spaces that a line begins with.
+    // Goes on after the spaces that a line begins with.
     fn skip_indent(&mut self) {
         if self.place.column > 0 {
             return;

@@ -3,7 +3,7 @@
 use crate::chars::{Chars, Next, Source};
 use yaml_types::{yaml_error_type_t, yaml_fault_t, yaml_mark_t};
 
-/// The place of the character that has that byte, or of the first bytes in front of it that spell none.
+/// The place of the character that has that byte, or of the first bytes before it that spell none.
 pub fn place_of_byte(source: Source<'_>, offset: u64) -> yaml_mark_t {
     let input = source.input.get(..offset as usize).unwrap_or(source.input);
     let before = Source { input, ..source };

@@ -15,7 +15,7 @@ pub const INPUT_LIMIT: u64 = 1_073_741_824;
 /// The status where a command was refused or failed.
 pub(crate) const FAILED: u8 = 1;
 
-/// The status where a file couldn't be judged or compared: that of wrong words.
+/// The status where a file couldn't be judged or compared: that of wrong arguments.
 pub(crate) const UNJUDGED: u8 = WRONG_WORDS;
 
 /// A fault that isn't one of a text. Its text is what is reported of it.
@@ -95,7 +95,7 @@ pub(crate) fn told<E: Write>(errors: &mut E, name: &str, fault: &Fault<'_>) {
     let _ = writeln!(errors, "yaml_cli: {name}{colon}{fault}");
 }
 
-// Reports a fault of a text, behind the words that say of which input it is. Of want of memory for the line only the status tells.
+// Reports a fault of a text, after the words that say of which input it is. Of out of memory for the line only the status tells.
 fn tell_fault<E: Write>(alloc: Global, errors: &mut E, input: &str, fault: &yaml_fault_t) {
     if let Ok(line) = yaml_fault_line(alloc, fault) {
         let line = str::from_utf8(line.as_slice()).unwrap_or("");
@@ -103,7 +103,7 @@ fn tell_fault<E: Write>(alloc: Global, errors: &mut E, input: &str, fault: &yaml
     }
 }
 
-/// Reports why a run, or the reading of that input, was refused, a fault of a text behind the words that say of which input it is;
+/// Reports why a run, or the reading of that input, was refused, a fault of a text after the words that say of which input it is;
 /// answers the status.
 pub(crate) fn run_failed<E: Write>(
     alloc: Global,
@@ -124,7 +124,7 @@ pub(crate) fn run_failed<E: Write>(
     FAILED
 }
 
-/// Shows the fault of a file, unless `quiet`; answers the status. Of want of memory, where there is none for the line either, only
+/// Shows the fault of a file, unless `quiet`; answers the status. Of out of memory, where there is none for the line either, only
 /// the status tells.
 pub(crate) fn shown<E: Write>(
     alloc: Global,
@@ -142,7 +142,7 @@ pub(crate) fn shown<E: Write>(
     refusal_status(fault)
 }
 
-/// The status where a file is refused for that: of want of memory, that of a file that couldn't be judged.
+/// The status where a file is refused for that: of out of memory, that of a file that couldn't be judged.
 pub(crate) fn refusal_status(fault: &yaml_fault_t) -> u8 {
     if fault.kind == yaml_error_type_t::YAML_MEMORY_ERROR {
         UNJUDGED

@@ -73,7 +73,7 @@ fn read_again<R: Read>(file: &mut R, piece: &mut [u8]) -> Result<usize, Error> {
     file.read(piece)
 }
 
-// Puts one piece more of the file behind the bytes; answers whether there was one.
+// Puts one piece more of the file after the bytes; answers whether there was one.
 fn read_piece<R: Read>(
     file: &mut R,
     piece: &mut [u8],

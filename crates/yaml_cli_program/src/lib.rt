@@ -1,4 +1,4 @@
-//! The program but for its engine: its words and what they order, the runs over files and streams, and what is told where one
+//! The program except for its engine: its words and what they order, the runs over files and streams, and what is told where one
 //! fails.
 #![tactic(auto)]
 

@@ -70,7 +70,7 @@ pub(crate) enum Does {
 #[derive(Clone, Copy)]
 pub(crate) struct Order<'o, 'a> {
     pub(crate) does: Does,
-    /// What stands behind it.
+    /// What stands after it.
     pub(crate) told: &'o ArgMatches<'a>,
     /// The files; standard input where there are none.
     pub(crate) files: &'o [&'a str],
@@ -185,7 +185,7 @@ impl<'a> Words<'_, 'a> {
     }
 }
 
-// The settings but for those that are words.
+// The settings except for those that are words.
 fn numbers_in(told: &ArgMatches<'_>) -> yaml_settings_t {
     let usual = yaml_settings_t::new();
     yaml_settings_t {

@@ -126,7 +126,7 @@ fn follow<G: Engine, H: Files, R: Read, W: Write, E: Write>(
 
 /// Does what the words say, the program's name first, by `engine`, over `input`, `output` and `errors`; files are opened
 /// through `rt`. Answers the status: 0, 1 where a command was refused or failed, 2 where a word is wrong. A refusal is a line
-/// on `errors`; nothing is written to `output` then, but for a front of the text where writing itself fails.
+/// on `errors`; nothing is written to `output` then, except for a front of the text where writing itself fails.
 pub fn main_by<G: Engine, H: Files + AllocGlobal, S: AsStr, R: Read, W: Write, E: Write>(
     engine: &G,
     rt: &H,

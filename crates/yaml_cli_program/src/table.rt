@@ -65,7 +65,7 @@ const MANY: u8 = FMT | NORM | CHECK;
 
 const ALL: u8 = 127;
 
-/// What stands behind the help of the program.
+/// What stands after the help of the program.
 pub(crate) const AFTER: &'static str = "\
 Examples:
   yaml_cli check config.yaml

@@ -24,7 +24,7 @@ fn put_text(reply: &mut Reply, line: &Value, name: &'static str, text: &[u8], is
 }
 
 /// The status that the program ends with on the line's words, what it writes, and what it tells. One function owns the streams, and
-/// asks all there is to ask behind the run.
+/// asks all there is to ask after the run.
 pub fn run(rt: &HostRuntime, reply: &mut Reply, line: &Value) {
     let words = words_of(reply, line);
     // Whether the output's writer fails to pass on what it took.

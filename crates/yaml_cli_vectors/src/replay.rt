@@ -28,7 +28,7 @@ fn judge_text(rt: &HostRuntime, tally: &mut Tally, line: &Value, text: &[u8]) {
     }
 }
 
-// What the call answers on the line, and behind that its fault, or that alone where it refuses; and the line that tells the fault
+// What the call answers on the line, and after that its fault, or that alone where it refuses; and the line that tells the fault
 // where the vector wants that.
 fn put_answer(rt: &HostRuntime, reply: &mut Reply, line: &Value) {
     answer(rt, reply, line);

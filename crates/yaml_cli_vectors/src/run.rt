@@ -24,7 +24,7 @@ pub fn refusal_word(fault: &yaml_run_fault_t) -> &'static str {
     }
 }
 
-// The text that the command makes of the input, behind which stands its form.
+// The text that the command makes of the input, after which stands its form.
 fn run_over(
     text: &mut Vec<u8>,
     reply: &mut Reply,

@@ -1,5 +1,5 @@
 -- From the documents that two inputs load to where they part.
-use Rattle.std.proofs.Common.{◌≡◌, ◌⊎◌, inl, inr, refl, ap, subst, ℕ, true, List, Ok, Err}
+use Rattle.std.proofs.Common.{◌≡◌, ◌⊎◌, inl, inr, refl, ap, ℕ, true, List, Ok, Err}
 use Rattle.std.specs.Prelude.{pos}
 use Rattle.yaml_scan_model.specs.declared.yaml_encoding_t.{yaml_encoding_t}
 use Rattle.yaml_scan_model.specs.declared.yaml_encoding_t.TheVariants.{YAML_UTF8_ENCODING}
@@ -12,7 +12,7 @@ use Rattle.yaml_round_writing.specs.round_laws_documents.round_content.Loads.{lo
 use Rattle.yaml_round_writing.specs.round_laws_documents.round_content.Said as content
 use Rattle.yaml_round_writing.specs.round_laws_documents.round_content.Canon.{canon}
 use Rattle.yaml_round_writing.specs.round_laws_documents.round_content.Agree.{AreAgreeing}
-use Rattle.yaml_round_writing.specs.round_laws_documents.round_content.DumpsEvents.{trees_of_dumps, AreNumerable}
+use Rattle.yaml_round_writing.specs.round_laws_documents.round_content.DumpsEvents.{trees_of_dumps}
 use Rattle.yaml_round_writing.specs.Reload.{AreLoaded, IsLoaded}
 use Rattle.yaml_round_writing.proofs.Whole.{loads_are, texts_tell}
 use Rattle.yaml_round_writing.proofs.Loaded.{faulty_load}
@@ -23,7 +23,6 @@ use Rattle.yaml_round_compare.specs.Dumps.{documents_left, IsStarted, PartsBehin
 use Rattle.yaml_round_compare.proofs.Inputs.{loads, short, all_agree, all_part}
 use Rattle.yaml_round_writing.specs.declared.yaml_side_t.{yaml_side_t}
 use Rattle.yaml_round_writing.specs.declared.yaml_side_t.TheVariants.{First, Second}
-use Rattle.yaml_round_writing.proofs.Reloading.{unended_small}
 
 -- ---- documents with the same dumps agree
 
@@ -31,22 +30,17 @@ use Rattle.yaml_round_writing.proofs.Reloading.{unended_small}
 abbrev settings : RequestedSettings
 settings = record { encoding = YAML_UTF8_ENCODING; canonical = true; indent = pos 2; width = pos 80; unicode = true; line_break = YAML_LN_BREAK }
 
-numerable : (from : yaml_encoding_t) (input : List ℕ) (ds : List Document) → AreLoaded from input ds
-    → AreNumerable (loads_of from input).documents
-numerable from input ds h = unended_small (loads_of from input).documents (subst AreNumerable h.same h.small)
-
 tell : (a_from : yaml_encoding_t) (a : List ℕ) (b_from : yaml_encoding_t) (b : List ℕ)
-    → AreNumerable (loads_of a_from a).documents → AreNumerable (loads_of b_from b).documents
     → trees_of_dumps (loads_of a_from a).documents ≡ trees_of_dumps (loads_of b_from b).documents
     → AreAgreeing (loads_of a_from a).documents (loads_of b_from b).documents
-tell a_from a b_from b h k e =
-    (texts_tell settings refl (loads_of a_from a).documents (loads_of b_from b).documents (loads_are a_from a h) (loads_are b_from b k)).0 (ap (λ (c : List content.Document). canon settings c) e)
+tell a_from a b_from b e =
+    (texts_tell settings refl (loads_of a_from a).documents (loads_of b_from b).documents (loads_are a_from a) (loads_are b_from b)).0 (ap (λ (c : List content.Document). canon settings c) e)
 
 pub agree_told : (a_from : yaml_encoding_t) (a : List ℕ) (b_from : yaml_encoding_t) (b : List ℕ)
     (ds es : List Document) → AreLoaded a_from a ds → AreLoaded b_from b es
     → documents_left ds ≡ documents_left es → SameDocuments a_from a b_from b
 agree_told a_from a b_from b ds es h k e =
-    all_agree a_from a b_from b ds es (tell a_from a b_from b (numerable a_from a ds h) (numerable b_from b es k)) h.right k.right h.same k.same e
+    all_agree a_from a b_from b ds es (tell a_from a b_from b) h.right k.right h.same k.same e
 
 pub parting_told : (a_from : yaml_encoding_t) (a : List ℕ) (b_from : yaml_encoding_t) (b : List ℕ)
     (ds es : List Document) (old new : Front) (d : yaml_difference_t) → AreLoaded a_from a ds
@@ -69,7 +63,7 @@ pub second_refused : (a_from : yaml_encoding_t) (a : List ℕ) (b_from : yaml_en
     → IsDocumentsDiff a_from a b_from b (Err (Second, f))
 second_refused a_from a b_from b ds f l h = elim h [ inl m ↦ inl (loads a_from a l.right, m) | inr k ↦ inr (loads a_from a l.right, faulty_load b_from b (fault_of f) k) ]
 
--- both inputs load, so a fault that is met where their events are read again is want of memory
+-- both inputs load, so a fault that is met where their events are read again is out of memory
 pub not_told : (a_from : yaml_encoding_t) (a : List ℕ) (b_from : yaml_encoding_t) (b : List ℕ)
     (ds es : List Document) (new : Front) (r : yaml_side_t × yaml_fault_t) → AreLoaded a_from a ds
     → AreLoaded b_from b es

@@ -5,22 +5,22 @@ ghost use Rattle.yaml_round_compare.specs.Loaded.{IsDocumentsDiff};
 
 use std::alloc::Global;
 use yaml_round_compare::{Front, Trail, place_behind, same_as, same_documents, yaml_difference_t};
-use yaml_round_writing::{documents_of, let_documents_go, let_go, reading_of, yaml_side_t};
+use yaml_round_writing::{
+    ReadText, documents_of, let_documents_go, let_go, let_text_go, read_text, reading_of,
+    yaml_side_t,
+};
 use yaml_scan_model::{yaml_encoding_t, yaml_fault_t, yaml_memory_fault, yaml_origin_t};
 
-/// The first place at which the contents of two inputs part: in front of it both say the same, event by event, and their next
-/// events don't. Nothing is answered exactly where `yaml_same` answers true. Refusals are those of `yaml_same`, with kinds 1 to
-/// 4 and the side: the first input's fault first, also where the contents part in front of a fault.
-pub fn yaml_diff(
+// The first place at which the content of an input whose text it is and another's part.
+fn diff_text(
     alloc: Global,
-    a: &[u8],
-    a_encoding: yaml_encoding_t,
+    text: &ReadText<'_>,
     b: &[u8],
     b_encoding: yaml_encoding_t,
 ) -> Result<Option<yaml_difference_t>, (yaml_side_t, yaml_fault_t)>
-    ensures { IsDiff a_encoding a.now b_encoding b.now result }
+    ensures { IsDiff text.now.from text.now.bytes b_encoding b.now result }
 {
-    match reading_of(alloc, a, a_encoding) {
+    match reading_of(alloc, text) {
         Err(fault) => Err((yaml_side_t::First, fault)),
         Ok(mut first) => {
             let mut trail = Trail::new(alloc);
@@ -35,9 +35,27 @@ pub fn yaml_diff(
     }
 }
 
+/// The first place at which the contents of two inputs part: before it both say the same, event by event, and their next
+/// events don't. Nothing is answered exactly where `yaml_same` answers true. Refusals are those of `yaml_same`, with kinds 1 to
+/// 4 and the side: the first input's fault first, also where the contents part before a fault.
+pub fn yaml_diff(
+    alloc: Global,
+    a: &[u8],
+    a_encoding: yaml_encoding_t,
+    b: &[u8],
+    b_encoding: yaml_encoding_t,
+) -> Result<Option<yaml_difference_t>, (yaml_side_t, yaml_fault_t)>
+    ensures { IsDiff a_encoding a.now b_encoding b.now result }
+{
+    let text = read_text(alloc, a, a_encoding);
+    let answer = diff_text(alloc, &text, b, b_encoding);
+    let_text_go(text);
+    answer
+}
+
 /// The first place at which the loaded documents of two inputs part; nothing exactly where they agree, as `yaml_reload` compares
 /// them: version and directives, and under each number the same kind, tag and value, and the same numbers of what it holds, so
-/// that names of anchors and untagged quoting don't count, but sharing and cycles do. In front of the place both dumps are the
+/// that names of anchors and untagged quoting don't count, but sharing and cycles do. Before the place both dumps are the
 /// same, event by event; a node that is met again has an anchor in its dump. Its marks and kinds are those of the inputs' events.
 /// Refusals are those of `yaml_reload`, with kinds 1 to 5 and the side: the first input's fault first.
 pub fn yaml_diff_documents(

@@ -6,7 +6,9 @@ ghost use Rattle.yaml_round_writing.specs.Answers.{IsReformatted, IsInCanonicalF
 
 use std::alloc::Global;
 use yaml_round_device::{yaml_form_t, yaml_settings_t};
-use yaml_round_writing::{Form, in_pretty_form, let_go, lines_of, reading_of, written};
+use yaml_round_writing::{
+    Form, ReadText, in_pretty_form, let_go, let_text_go, lines_of, read_text, reading_of, written,
+};
 use yaml_scan_model::{yaml_encoding_t, yaml_fault_t};
 
 // The text in canonical form.
@@ -29,7 +31,7 @@ fn in_canonical_form(
 /// document has no `---` and is a `!` alone) it doesn't, and the answer is in canonical form all the same.
 ///
 /// Refusals: a fault of the input (kinds 2, 3 and 4), which comes before a limit; `write error` (kind 6) where the text
-/// has more than `settings.limit` bytes; `indentation is too deep` (kind 7); want of memory (kind 1).
+/// has more than `settings.limit` bytes; `indentation is too deep` (kind 7); out of memory (kind 1).
 pub fn yaml_reformat(
     alloc: Global,
     input: &[u8],
@@ -54,8 +56,23 @@ pub fn yaml_reformat(
     }
 }
 
+// A line for each event of the input whose text it is.
+fn lines_in(alloc: Global, text: &ReadText<'_>) -> Result<Vec<u8>, yaml_fault_t>
+    ensures { Answers list_layers bytes_of (IsListed text.now.from text.now.bytes) result }
+{
+    match reading_of(alloc, text) {
+        Err(refusal) => Err(refusal),
+        Ok(mut reading) => {
+            // Mostly the lines have at most twice the input's bytes.
+            let answer = lines_of(alloc, &mut reading, text.input_len().saturating_mul(2));
+            let_go(reading);
+            answer
+        }
+    }
+}
+
 /// A line for each event of the input, as the parser gives it. Refused by a fault of the input (kinds 2, 3 and 4) or for
-/// want of memory.
+/// out of memory.
 pub fn yaml_events(
     alloc: Global,
     input: &[u8],
@@ -63,13 +80,8 @@ pub fn yaml_events(
 ) -> Result<Vec<u8>, yaml_fault_t>
     ensures { Answers list_layers bytes_of (IsListed from input.now) result }
 {
-    match reading_of(alloc, input, from) {
-        Err(refusal) => Err(refusal),
-        Ok(mut reading) => {
-            // Mostly the lines have at most twice the input's bytes.
-            let answer = lines_of(alloc, &mut reading, input.len().saturating_mul(2));
-            let_go(reading);
-            answer
-        }
-    }
+    let text = read_text(alloc, input, from);
+    let answer = lines_in(alloc, &text);
+    let_text_go(text);
+    answer
 }

@@ -15,7 +15,7 @@ use yaml_scan_model::{yaml_encoding_t, yaml_fault_t};
 /// and it is its own normal form. `settings.canonical` isn't looked at.
 ///
 /// Refusals: a fault of the input (kinds 2, 3 and 4), which comes before a limit; `write error` (kind 6) where the text
-/// has more than `settings.limit` bytes; `indentation is too deep` (kind 7); want of memory (kind 1).
+/// has more than `settings.limit` bytes; `indentation is too deep` (kind 7); out of memory (kind 1).
 pub fn yaml_normalize(
     alloc: Global,
     input: &[u8],

@@ -63,7 +63,7 @@ pub fn yaml_run<I: yaml_input_t, O: yaml_output_t>(
         })
         (record { to_come = I.to_come input.old; received = O.received output.old })
         (record { to_come = I.to_come input.new; received = O.received output.new }) result }
-    // No byte is taken behind the one past the limit, whether or not the input tells its bytes.
+    // No byte is taken after the one past the limit, whether or not the input tells its bytes.
     ensures taken { RunTakes (I.given input.old) (I.given input.new) input_limit result }
     // After a whole answer the output is finished, and after a failed write it isn't.
     ensures finished { OnOk result (O.is_finished output.new ≡ true) }

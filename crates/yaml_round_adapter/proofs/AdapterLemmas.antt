@@ -51,7 +51,7 @@ first_texts : (ts : List Token) → All (λ t. HasTexts t.body) ts → HasTexts 
 first_texts [] h = tt
 first_texts (t ∷ ts) h = All-head (λ t. HasTexts t.body) t ts h
 
--- what is left behind the first token
+-- what is left after the first token
 pub texts_left : (old new : Remaining) → new ≡ behind_first old → HaveTexts old → HaveTexts new
 texts_left old new e h = rw e (others_texts old.tokens h)
 
@@ -86,7 +86,7 @@ gives_text old new t texts g =
     (let own : HasTexts (first_of old.remaining.tokens).body = first_texts old.remaining.tokens texts in rw g.takes.token own)
     g.text
 
--- Where a token's tag isn't UTF-8 no fault was answered: behind one comes the empty token, which has none.
+-- Where a token's tag isn't UTF-8 no fault was answered: after one comes the empty token, which has none.
 unanswered : (old : View) (t : Token) (a : Option Fault) → old.answered ≡ a → EndsAnswered old
     → t ≡ first_of old.remaining.tokens → spells_text t.body ≡ false → old.answered ≡ None
 unanswered old t None e over first bytes = e
@@ -108,7 +108,7 @@ other_bytes old behind new t f g (bytes, told) ends = inr record {
   ends = ends;
 }
 
--- behind a fault nothing is left
+-- after a fault nothing is left
 stopped : (old new : View) (f : Fault) → Stops old f new → new.remaining ≡ nothing
 stopped old new f (inl r) = r.over
 stopped old new f (inr b) = ap (λ (v : View). v.remaining) b.ends

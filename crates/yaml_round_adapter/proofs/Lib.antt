@@ -1,1 +1,4 @@
 pub mod AdapterLemmas
+mod Asking
+mod Spelling
+mod Telling

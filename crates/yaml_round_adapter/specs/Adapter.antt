@@ -27,7 +27,7 @@ pub record TakesText (old : View) (t : Token) (new : View) : Type 0 where
   pub text : spells_text t.body ≡ true
 
 -- A token was taken whose tag isn't UTF-8: the fault is that of the tag. No fault was answered before; this one is kept, and
--- nothing comes behind it.
+-- nothing comes after it.
 pub record TakesOtherBytes (old : View) (f : Fault) (new : View) : Type 0 where
   pub token : Token
   pub behind : View
@@ -37,12 +37,12 @@ pub record TakesOtherBytes (old : View) (f : Fault) (new : View) : Type 0 where
   pub once : old.answered ≡ None
   pub ends : new ≡ ended behind f
 
--- A refusal is the session's own, which keeps it, with what it says of want of memory; or it is the next token's tag's.
+-- A refusal is the session's own, which keeps it, with what it says of out of memory; or it is the next token's tag's.
 abbrev pub Stops : View → Fault → View → Type 0
 Stops old f new = Refuses old f new ⊎ TakesOtherBytes old f new
 
--- A call is a step of the session: it reads what the next token needs, and want of memory is the session's own. Behind it few
--- lexemes wait, and few spare texts are kept. Behind a fault the empty token is given, and nothing changes.
+-- A call is a step of the session: it reads what the next token needs, and out of memory is the session's own. After it few
+-- lexemes wait, and few spare texts are kept. After a fault the empty token is given, and nothing changes.
 abbrev pub IsStep : View → Answer → View → Type 0
 IsStep old (Ok t) new = TakesText old t new × HoldsLittle new
 IsStep old (Err f) new = Stops old f new × HoldsLittle new

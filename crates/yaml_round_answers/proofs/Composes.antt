@@ -1,4 +1,4 @@
--- Events that are drawn one behind another.
+-- Events that are drawn one after another.
 use Rattle.std.proofs.Common.{◌≡◌, ℕ, ◌+◌, ◌<◌, ◌≤◌, length, get_or, drop, add-one, Bool, true, false, ◌&&◌, List, [], ◌∷◌, ◌++◌, refl, sym, ap, ◌∙◌, Option, None, Some, append-nil, append_assoc}
 use Rattle.std.proofs.Math.Seq.{drop-cons}
 use Rattle.std.proofs.lemmas.List.{drop_all}
@@ -39,7 +39,7 @@ steps_end bytes rs i h inv = sym (no_steps bytes) ∙ ap (are_steps bytes) (sym 
 
 -- ---- what the events come to
 
--- in front of what is left stand these
+-- before what is left stand these
 abbrev pub put_before : List yaml_c_spot → List yaml_c_spot × Bool → List yaml_c_spot × Bool
 put_before xs r = (xs ++ r.0, r.1)
 

@@ -169,19 +169,19 @@ front_kind : (m : yaml_encoding_t) (input : List ℕ) (blocks : yaml_c_parsed)
 front_kind m input blocks (Ok es) a h = text_kind [] (pos 0) a h.0
 front_kind m input blocks (Err f) a h = placed_kind (spelled_text m input) f a h.0
 
--- What is answered to events in front of a fault is so of the caller's own numbers.
+-- What is answered to events before a fault is so of the caller's own numbers.
 pub front_told : (n from : ℤ) (input : List ℕ) (blocks : yaml_c_parsed) (a : yaml_c_answer)
     → n ≡ from
     → AnswersMeant (encoding_meant n) (Fronts input blocks) a
     → AnswersMeant (encoding_meant from) (Fronts input blocks) a
 front_told n from input blocks a p h = subst (λ z. AnswersMeant (encoding_meant z) (Fronts input blocks) a) p h
 
--- Where a number means nothing, nothing of events in front of a fault is handed out.
+-- Where a number means nothing, nothing of events before a fault is handed out.
 pub front_none : (n from : ℤ) (blocks : yaml_c_parsed) → n ≡ from
     → NothingUnmeant (encoding_meant n) blocks → NothingUnmeant (encoding_meant from) blocks
 front_none n from blocks p h = subst (λ z. NothingUnmeant (encoding_meant z) blocks) p h
 
--- The answer -1 of events in front of a fault comes exactly where a number means nothing.
+-- The answer -1 of events before a fault comes exactly where a number means nothing.
 pub front_exact : (n from k : ℤ) (input : List ℕ) (blocks : yaml_c_parsed) (a : yaml_c_answer)
     → n ≡ from → k ≡ a.kind
     → AnswersMeant (encoding_meant n) (Fronts input blocks) a → IsExact (encoding_meant from) k

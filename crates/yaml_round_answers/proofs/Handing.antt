@@ -84,13 +84,13 @@ pub says_in : (from : yaml_encoding_t) (input text : List ℕ) (l : Listing) (p 
     → SayEvents (spelled_text from input) p es
 says_in from input text l p es e h s a = handed_says (spelled_text from input) l p es (subst (λ t. HandsOut t l p) e h) s a
 
--- what ends a listing to its end isn't want of memory
+-- what ends a listing to its end isn't out of memory
 pub ended : (b : Bool) (r : Result (Unit {0}) yaml_fault_t) (text : List ℕ) (l : Listing)
     (p : yaml_c_parsed) → b ≡ is_starved r → r ≡ Ok tt → HandsOutUnless b text l p
     → HandsOut text l p
 ended b r text l p is done h = subst (λ c. HandsOutUnless c text l p) (is ∙ ap is_starved done) h
 
--- the answer to want of memory tells that
+-- the answer to out of memory tells that
 told_want : (k : yaml_error_type_t) (n : ℤ) → is_memory k ≡ true → n ≡ error_number k
     → n ≡ error_number error.YAML_MEMORY_ERROR
 told_want error.YAML_MEMORY_ERROR n is e = e
@@ -107,7 +107,7 @@ pub tells_want : (text : List ℕ) (f : Fault) (a : yaml_c_answer) → is_memory
 tells_want text f a is (inl t) = told_want f.kind a.kind is t.kind
 tells_want text f a is (inr s) = (s Parser []).kind
 
--- want of memory is seen by its kind
+-- out of memory is seen by its kind
 pub memory_kind : (layers : List yaml_origin_t) (f : Fault) → IsMemoryFault layers f
     → is_memory f.kind ≡ true
 memory_kind [] f m = absurd m
@@ -115,7 +115,7 @@ memory_kind (layer ∷ []) f m = ap (λ (g : Fault). is_memory g.kind) m
 memory_kind (layer ∷ other ∷ layers) f (inl m) = ap (λ (g : Fault). is_memory g.kind) m
 memory_kind (layer ∷ other ∷ layers) f (inr m) = memory_kind (other ∷ layers) f m
 
--- the blocks say what stands in front of the fault, or there are none for want of memory
+-- the blocks say what stands before the fault, or there are none when out of memory
 front_says : (from : yaml_encoding_t) (input text : List ℕ) (f : yaml_fault_t) (l : Listing)
     (p : yaml_c_parsed) (a : yaml_c_answer) (b : Bool) → b ≡ is_memory f.kind
     → text ≡ spelled_text from input → HandsOutUnless b text l p

@@ -53,7 +53,7 @@ refused_answer layers layer Is TellsIt f a may tells is (inr s) = record {
   told = tells (memory_fault layer) (s.told layer);
 }
 
--- the same where it is told with the characters in front of its places
+-- the same where it is told with the characters before its places
 pub refused_answer_in : {Y : Type 0} (layers : List yaml_origin_t) (layer : yaml_origin_t)
     (Is : Result Y Fault → Type 0) (TellsIt : Result Y Fault → yaml_c_answer → Type 0)
     (text : List ℕ) (f : Fault) (a : yaml_c_answer) → IsMemoryFault layers (memory_fault layer)
@@ -66,7 +66,7 @@ refused_answer_in layers layer Is TellsIt text f a may tells is (inr s) = record
   told = tells (memory_fault layer) (s layer text);
 }
 
--- ---- the characters in front of a fault's places
+-- ---- the characters before a fault's places
 
 abbrev with_characters : ℕ → ℕ → yaml_c_answer → yaml_c_answer
 with_characters m n a = record a {
@@ -92,7 +92,7 @@ counted_in text f a m n e h t = record {
   line = t.line;
 }
 
--- in front of the beginning no text has any
+-- before the beginning no text has any
 none_before : (text other : List ℕ) (k : ℕ) → k ≡ 0
     → characters_before text k ≡ characters_before other k
 none_before text other k e = rw e refl
@@ -106,7 +106,7 @@ counted_refused text f a m n e h (inr s) = inr (λ layer other. counted_in other
     (e ∙ none_before text other a.problem_mark.index (ap (λ (z : yaml_c_mark). z.index) (s.told layer).problem_mark))
     (h ∙ none_before text other a.context_mark.index (ap (λ (z : yaml_c_mark). z.index) (s.told layer).context_mark)) (s.told layer))
 
--- want of memory alone is refused so
+-- out of memory alone is refused so
 memory_told : (text : List ℕ) (layer : yaml_origin_t) (a : yaml_c_answer)
     → RefusesIn text (memory_fault layer) a → TellsMemory a
 memory_told text layer a (inl t) = λ other_layer other. record {

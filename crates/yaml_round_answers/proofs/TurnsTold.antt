@@ -1,4 +1,4 @@
--- Turns that are told one behind another.
+-- Turns that are told one after another.
 use Rattle.std.proofs.Common.{◌≡◌, ℕ, ◌+◌, ◌<◌, ◌≤◌, List, [], ◌∷◌, ◌++◌, length, get_or, take, map, sym, ◌∙◌, ap}
 use Rattle.std.proofs.lemmas.List.{map-append, take_more, take_all}
 use Rattle.yaml_round_answers.specs.declared.record.yaml_c_graph.{yaml_c_graph}

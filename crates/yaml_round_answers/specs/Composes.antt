@@ -36,7 +36,7 @@ pub record TellsSpots (given : List yaml_c_spot) (m : Steps) (a : yaml_c_answer)
   pub told : TellsWhole whole a
   pub composed : AreComposed m given whole
 
--- where memory was refused there is none; or those in front of an alias whose refusal has no room for its line
+-- where memory was refused there is none; or those before an alias whose refusal has no room for its line
 abbrev pub HoldsFew : List yaml_c_spot → Steps → Type 0
 HoldsFew given m = (given ≡ []) ⊎ AreComposed m given false
 

@@ -192,7 +192,7 @@ spots_on (goes_on l) x rest = (x ∷ (rest l).0, (rest l).1)
 spots_on (loaded d) x rest = ([], None)
 spots_on (refused f) x rest = ([], Some f)
 
--- those of events, one after another, in front of their end or of the one that is refused, with its fault
+-- those of events, one after another, before their end or of the one that is refused, with its fault
 unfoldable pub spots_of : List Event → Loading → List yaml_c_spot × Option Fault
 spots_of [] l = ([], None)
 spots_of (e ∷ es) l = spots_on (step e l) (spot_of e.body l) (spots_of es)

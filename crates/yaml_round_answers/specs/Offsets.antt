@@ -12,7 +12,7 @@ use Rattle.yaml_round_answers.specs.contracts.record.yaml_c_node as node
 use Rattle.yaml_round_answers.specs.contracts.record.yaml_c_graph as graph
 use Rattle.yaml_round_answers.specs.contracts.record.yaml_c_turn as turn
 
--- ---- the layouts, which are those that the header asserts: a list is a pointer with its length behind it
+-- ---- the layouts, which are those that the header asserts: a list is a pointer with its length after it
 
 pub record AnswerLies : Type 0 where
   pub kind : LiesAt answer.the_type 0 (λ d. d.kind) 0

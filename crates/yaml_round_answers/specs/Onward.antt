@@ -31,7 +31,7 @@ pub record HandsStand (s : StandRecords) (b : yaml_c_stand) : Type 0 where
   pub directives : b.directives.now ≡ s.directives.items
   pub bytes : b.bytes.now ≡ s.bytes.items
 
--- The text, and the stand behind it; with a fault that stand is left as it was.
+-- The text, and the stand after it; with a fault that stand is left as it was.
 abbrev pub TellsOnward : yaml_c_stand → yaml_c_stand → Result (List ℕ × StandRecords) Fault
     → yaml_c_answer → Type 0
 TellsOnward old new (Ok o) a = TellsText o.0 (pos 0) a × HandsStand o.1 new

@@ -30,7 +30,7 @@ pub record HasNothing (p : yaml_c_parsed) : Type 0 where
   pub bytes : p.bytes.now ≡ []
 
 -- The records say the events, one by one, with what is counted and told of them in their text. The bytes are the texts that they
--- name, one behind another, and the list of directives is of theirs; neither holds anything beside.
+-- name, one after another, and the list of directives is of theirs; neither holds anything beside.
 pub record SayEvents (text : List ℕ) (p : yaml_c_parsed) (es : List Told) : Type 0 where
   pub said : List yaml_c_event
   pub say : AllSay p.bytes.now p.directives.now said (events_alone es)
@@ -49,12 +49,12 @@ Parses input p from = IsAnswered (OrMemory parse_layers (IsParsed from input))
 
 -- ---- what the code hands on
 
--- the listing says the events in front of what ends the input, and nothing beside
+-- the listing says the events before what ends the input, and nothing beside
 abbrev pub IsFront : yaml_encoding_t → List ℕ → Listing → Type 0
 IsFront from input l = AreSaid l (events_alone (events_of from input))
     × HoldsAll l (events_alone (events_of from input))
 
--- the listing says the input's events, and nothing beside; or its fault, or want of memory
+-- the listing says the input's events, and nothing beside; or its fault, or out of memory
 abbrev pub IsCollected : yaml_encoding_t → List ℕ → Result Listing yaml_fault_t → Type 0
 IsCollected from input (Ok l) = (ending_of from input ≡ None) × IsFront from input l
 IsCollected from input (Err f) = IsMemoryFault parse_layers (fault_of f)
@@ -71,14 +71,14 @@ abbrev pub HandsOutUnless : Bool → List ℕ → Listing → yaml_c_parsed → 
 HandsOutUnless true text l p = HasNothing p
 HandsOutUnless false text l p = HandsOut text l p
 
--- ---- events in front of a fault
+-- ---- events before a fault
 
 abbrev pub EndsFront : yaml_encoding_t → List ℕ → Result (Unit {0}) yaml_fault_t → Listing → Type 0
 EndsFront from input (Ok done) l = (ending_of from input ≡ None) × IsFront from input l
 EndsFront from input (Err f) l = IsMemoryFault parse_layers (fault_of f)
     ⊎ ((ending_of from input ≡ Some (fault_of f)) × IsFront from input l)
 
--- the records say the events in front of the fault; where want of memory is told there may be none, but no other ones
+-- the records say the events before the fault; where out of memory is told there may be none, but no other ones
 abbrev pub SayFront : yaml_encoding_t → List ℕ → yaml_c_parsed → yaml_c_answer → Type 0
 SayFront from input p a = (TellsWant a × HasNothing p)
     ⊎ SayEvents (spelled_text from input) p (events_of from input)

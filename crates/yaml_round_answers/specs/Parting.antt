@@ -51,7 +51,7 @@ pub record TellsPartingPlace (path : List ℕ) (d : yaml_difference_t) (p : yaml
 abbrev pub NoPlaceBeside : (yaml_c_answer → Type 0) → yaml_c_parting → Type 0
 NoPlaceBeside Tells p = Tells p.answer × TellsNoPlace p
 
--- nowhere, a place, or a fault; want of memory where the path has no room, or a fault's line
+-- nowhere, a place, or a fault; out of memory where the path has no room, or a fault's line
 abbrev pub TellsParting : Result (Option yaml_difference_t) (yaml_side_t × yaml_fault_t)
     → yaml_c_parting → Type 0
 TellsParting (Ok None) p = NoPlaceBeside (TellsText [] (pos 1)) p

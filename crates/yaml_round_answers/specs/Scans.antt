@@ -17,8 +17,8 @@ pub record HasNoToken (p : yaml_c_scanned) : Type 0 where
   pub tokens : p.tokens.now ≡ []
   pub bytes : p.bytes.now ≡ []
 
--- the records are those of these tokens, with the characters counted in front of their marks, and the bytes are their texts, one
--- behind another
+-- the records are those of these tokens, with the characters counted before their marks, and the bytes are their texts, one
+-- after another
 pub record AreTokens (text : List ℕ) (p : yaml_c_scanned) (ts : List Token) : Type 0 where
   pub tokens : p.tokens.now ≡ map (token_counted text) (records_from 0 ts)
   pub bytes : p.bytes.now ≡ all_texts ts
@@ -39,7 +39,7 @@ abbrev pub TellsScan : yaml_encoding_t → List ℕ → yaml_c_answer → Type 0
 TellsScan from input a = TellsRefusal (spelled_text from input) a
     ⊎ TellsEnd (spelled_text from input) (scanned from input).fault a
 
--- The records are those of the input's tokens, in front of its end or of the fault that ends them; where want of memory is told
+-- The records are those of the input's tokens, before its end or of the fault that ends them; where out of memory is told
 -- there may be none, but no other ones.
 abbrev pub Scans : List ℕ → yaml_c_scanned → yaml_encoding_t → yaml_c_answer → Type 0
 Scans input p from a = TellsScan from input a × ((TellsWant a × HasNoToken p)

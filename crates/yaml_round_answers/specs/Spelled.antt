@@ -14,7 +14,7 @@ text_or_none (Err e) = []
 abbrev pub spelled_text : yaml_encoding_t → List ℕ → List ℕ
 spelled_text from input = text_or_none (decoded_text from input)
 
--- the kind of a fault is want of memory
+-- the kind of a fault is out of memory
 abbrev pub is_memory : yaml_error_type_t → Bool
 is_memory YAML_MEMORY_ERROR = true
 is_memory _ = false

@@ -46,7 +46,7 @@ pub record TellsText (bytes : List ℕ) (number : ℤ) (a : yaml_c_answer) : Typ
   pub text : a.text.now ≡ bytes
   pub line : a.line.now ≡ []
 
--- the fault's line; of want of memory alone it may be left out
+-- the fault's line; of out of memory alone it may be left out
 abbrev pub LineTold : Fault → List ℕ → Type 0
 LineTold fault line = (line ≡ fault_line fault)
     ⊎ ((fault.kind ≡ YAML_MEMORY_ERROR) × (line ≡ []))
@@ -66,11 +66,11 @@ pub record TellsFaultBy (tell : yaml_mark_t → yaml_c_mark) (fault : Fault) (wh
   pub text : a.text.now ≡ []
   pub line : LineTold fault a.line.now
 
--- no character in front of its marks is counted
+-- no character before its marks is counted
 abbrev pub TellsFault : Fault → ℤ → yaml_c_answer → Type 0
 TellsFault = TellsFaultBy mark_told
 
--- a fault of a text, with the characters that stand in front of its marks
+-- a fault of a text, with the characters that stand before its marks
 abbrev pub TellsFaultIn : List ℕ → Fault → yaml_c_answer → Type 0
 TellsFaultIn text fault = TellsFaultBy (λ m. mark_counted text (mark_told m)) fault (pos 0)
 
@@ -83,11 +83,11 @@ pub record TellsStarved (whose : ℤ) (a : yaml_c_answer) : Type 0 where
 abbrev pub Refuses : Fault → ℤ → yaml_c_answer → Type 0
 Refuses fault whose a = TellsFault fault whose a ⊎ TellsStarved whose a
 
--- the kind of the answer is want of memory
+-- the kind of the answer is out of memory
 abbrev pub TellsWant : yaml_c_answer → Type 0
 TellsWant a = a.kind ≡ error_number YAML_MEMORY_ERROR
 
--- want of memory is told; C isn't told of the layer
+-- out of memory is told; C isn't told of the layer
 abbrev pub TellsMemory : yaml_c_answer → Type 0
 TellsMemory a = (layer : yaml_origin_t) (text : List ℕ) → TellsFaultIn text (memory_fault layer) a
 
@@ -136,7 +136,7 @@ abbrev pub TellsSame : Result Bool (yaml_side_t × yaml_fault_t) → yaml_c_answ
 TellsSame (Ok same) a = TellsText [] (same_number same) a
 TellsSame (Err (side, fault)) a = TellsFault (fault_of fault) (side_number side) a
 
--- what the relation allows, or want of memory in one of these layers
+-- what the relation allows, or out of memory in one of these layers
 abbrev pub OrMemory : List yaml_origin_t → {Y : Type 0} → (Result Y Fault → Type 0)
     → Result Y Fault → Type 0
 OrMemory layers Is (Ok y) = Is (Ok y)

@@ -27,7 +27,7 @@ pub struct yaml_c_answer {
     pub context: &'static [u8],
     /// A block that the caller frees, where it has any byte.
     pub text: &'static [u8],
-    /// The fault as a line, which want of memory alone may lack. A block that the caller frees, where it has any byte.
+    /// The fault as a line, which out of memory alone may lack. A block that the caller frees, where it has any byte.
     pub line: &'static [u8],
 }
 
@@ -121,7 +121,7 @@ pub(crate) fn refused(alloc: Global, fault: &yaml_fault_t, second: i32) -> yaml_
     }
 }
 
-/// An answer that is the fault of a text, with the characters counted in front of its places.
+/// An answer that is the fault of a text, with the characters counted before its places.
 pub(crate) fn refused_in(alloc: Global, text: &[u8], fault: &yaml_fault_t) -> yaml_c_answer
     ensures { RefusesIn text.now (fault_of fault.now) result }
 {

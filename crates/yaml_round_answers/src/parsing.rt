@@ -157,7 +157,7 @@ fn parsed_in(
     }
 }
 
-// Nothing is handed out, for want of memory.
+// Nothing is handed out, when out of memory.
 fn starved(alloc: Global, blocks: &mut yaml_c_parsed) -> yaml_c_answer
     ensures told { TellsMemory result }
     ensures none { HasNothing blocks.new }
@@ -233,7 +233,7 @@ fn front(
     }
 }
 
-/// What a parse answers, and the events in front of its end or its fault.
+/// What a parse answers, and the events before its end or its fault.
 pub fn front_by(alloc: Global, input: &[u8], from: i32, blocks: &mut yaml_c_parsed) -> yaml_c_answer
     ensures told { AnswersMeant (encoding_meant from) (Fronts input.now blocks.new) result }
     ensures none { NothingUnmeant (encoding_meant from) blocks.new }

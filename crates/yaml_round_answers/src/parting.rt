@@ -21,7 +21,7 @@ use yaml_round_records::{encoding_of, mark_told, yaml_c_mark};
 #[derive(Drop)]
 pub struct yaml_c_parting {
     pub answer: yaml_c_answer,
-    /// So many documents end in front of it.
+    /// So many documents end before it.
     pub document: u64,
     pub first_kind: i32,
     pub second_kind: i32,
@@ -86,7 +86,7 @@ fn with_place(path: Vec<u8>, difference: &yaml_difference_t) -> yaml_c_parting
     }
 }
 
-// What C is told of what a search for a difference answered. Where the path has no room, want of memory is.
+// What C is told of what a search for a difference answered. Where the path has no room, out of memory is.
 fn parting_told(
     alloc: Global,
     parted: &Result<Option<yaml_difference_t>, (yaml_side_t, yaml_fault_t)>,

@@ -1,7 +1,7 @@
 //! Nodes as records over one list of numbers, and the turns of a dump.
 
 /// A node. `kind` has libyaml's number: 0 none, 1 a scalar, 2 a sequence, 3 a mapping. A collection holds `count` numbers of
-/// the list from `first` on: a mapping each pair's key and its value behind it.
+/// the list from `first` on: a mapping each pair's key and its value after it.
 #[repr(C)]
 #[derive(Clone, Copy, Drop)]
 pub struct yaml_c_node {

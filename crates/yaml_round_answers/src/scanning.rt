@@ -106,7 +106,7 @@ fn scanned_in(
     }
 }
 
-// Nothing is handed out, for want of memory.
+// Nothing is handed out, when out of memory.
 fn starved(alloc: Global, blocks: &mut yaml_c_scanned) -> yaml_c_answer
     ensures told { TellsMemory result }
     ensures none { HasNoToken blocks.new }
@@ -129,7 +129,7 @@ fn scanned(
     }
 }
 
-/// What a scan answers, where its number means something, and the tokens in front of its end or its fault.
+/// What a scan answers, where its number means something, and the tokens before its end or its fault.
 pub fn scanned_by(
     alloc: Global,
     input: &[u8],

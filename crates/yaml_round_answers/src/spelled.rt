@@ -24,7 +24,7 @@ pub(crate) fn is_starved(end: &Result<(), yaml_fault_t>) -> bool
     }
 }
 
-/// The text that an input's bytes spell, and an empty one where they spell none. None for want of memory.
+/// The text that an input's bytes spell, and an empty one where they spell none. None when out of memory.
 pub(crate) fn spelled_text<'a>(
     alloc: Global,
     input: &'a [u8],

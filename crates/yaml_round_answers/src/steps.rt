@@ -21,7 +21,7 @@ pub struct Sketching {
     names: Names,
 }
 
-/// What events come to, in front of their end or of an alias that no node before it has the name of.
+/// What events come to, before their end or of an alias that no node before it has the name of.
 #[derive(Drop)]
 pub struct Composed {
     pub spots: Vec<yaml_c_spot>,

@@ -60,7 +60,7 @@ fn is_asked_plain(style: yaml_scalar_style_t) -> bool
     }
 }
 
-// Behind the stream's start.
+// After the stream's start.
 fn behind_stream(event: &yaml_event_t) -> Beginning
     ensures { (es : List Event) → spec.opens_with_nothing
         (emitter_event (event_of event.now).body ∷ es) ≡ spec.nothing_comes result es }
@@ -81,7 +81,7 @@ fn behind_stream(event: &yaml_event_t) -> Beginning
     }
 }
 
-// Behind the start of a document without `---`.
+// After the start of a document without `---`.
 fn behind_document(event: &yaml_event_t) -> Beginning
     ensures { (es : List Event) → spec.is_nothing_next
         (emitter_event (event_of event.now).body ∷ es) ≡ spec.nothing_comes result es }

@@ -17,7 +17,7 @@ use yaml_scan_model::{
 /// Where an event stands.
 #[derive(Clone, Copy)]
 pub enum OpeningPosition {
-    /// In front of all documents.
+    /// Before all documents.
     Before,
     /// It is the root of a first document that needs no `---`.
     Starts,
@@ -46,7 +46,7 @@ fn quoted_style(value: &[u8], broken: bool) -> yaml_scalar_style_t
     }
 }
 
-// The style of a value that counts as plain: it is plain, but for what would be nothing where the text begins.
+// The style of a value that counts as plain: it is plain, except for what would be nothing where the text begins.
 fn plain_style(at: OpeningPosition, anchor: &Option<Vec<u8>>, value: &[u8]) -> yaml_scalar_style_t
     ensures { result ≡ spec.plain_style at (text_of anchor.now) value.now }
 {

@@ -8,7 +8,7 @@ use std::alloc::Global;
 use yaml_round_calls::{emit_on, yaml_c_answer, yaml_c_parsed, yaml_c_settings, yaml_c_stand};
 
 /// The text that the events add from a stand on: what an emitter writes for them that stands there, or its fault without any text. The
-/// events that wait at the stand are to be given again in front of the new ones. Behind the call `behind` is where the emitter stands
+/// events that wait at the stand are to be given again before the new ones. After the call `behind` is where the emitter stands
 /// then; with a fault it is left as it is. All records are looked at before an event is given, and the stand too, so that -1 comes exactly
 /// where a number means nothing, a span that is looked at lies outside, or a text of an event isn't UTF-8.
 #[unsafe(no_mangle)]

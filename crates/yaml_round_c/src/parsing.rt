@@ -25,7 +25,7 @@ pub extern "C" fn yaml_c_parse(
     parse(alloc, input, from, blocks, answer)
 }
 
-/// The events of the input in front of its end or its fault, as records over one block of bytes.
+/// The events of the input before its end or its fault, as records over one block of bytes.
 #[unsafe(no_mangle)]
 pub extern "C" fn yaml_c_front(
     alloc: Global,

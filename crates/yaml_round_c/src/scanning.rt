@@ -24,7 +24,7 @@ pub extern "C" fn yaml_c_decode(
     decode(alloc, input, from, answer)
 }
 
-/// The tokens of the input in front of its end or its fault, as records over one block of bytes.
+/// The tokens of the input before its end or its fault, as records over one block of bytes.
 #[unsafe(no_mangle)]
 pub extern "C" fn yaml_c_scan(
     alloc: Global,

@@ -9,7 +9,7 @@ use yaml_round_answers::{composed_by, yaml_c_answer, yaml_c_spots, yaml_c_step};
 
 /// For each event between a document's start and its end the node that it begins, stands for or ends, and the collection that takes
 /// it: what the loader does with all events that the records show. An alias that no node before it has the name of is refused, with the
-/// records of the events in front of it. -1 comes exactly where a kind means nothing, or a name doesn't lie within the bytes.
+/// records of the events before it. -1 comes exactly where a kind means nothing, or a name doesn't lie within the bytes.
 pub fn compose(
     alloc: Global,
     steps: &[yaml_c_step],

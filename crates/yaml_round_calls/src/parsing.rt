@@ -25,7 +25,7 @@ pub fn parse(
     answer.kind
 }
 
-/// The events of the input in front of its end or its fault, as records over one block of bytes.
+/// The events of the input before its end or its fault, as records over one block of bytes.
 pub fn front_events(
     alloc: Global,
     input: &[u8],

@@ -19,7 +19,7 @@ pub fn decode(alloc: Global, input: &[u8], from: i32, answer: &mut yaml_c_answer
     answer.kind
 }
 
-/// The tokens of the input in front of its end or its fault, as records over one block of bytes.
+/// The tokens of the input before its end or its fault, as records over one block of bytes.
 pub fn scan(
     alloc: Global,
     input: &[u8],

@@ -48,7 +48,7 @@ unfolding dumped
 dumped_said d =
     ap (λ (bs : List EventBody). event.document_start d.version d.directives true ∷ bs) (node_said (graph_content d).root (emit.document_end d.end_implicit ∷ []))
 
--- ---- one document behind another
+-- ---- one document after another
 
 mutual
   unfolding node_says items_say pairs_say
@@ -76,7 +76,7 @@ unfolding documents_say
 documents_more d ds =
     ap (λ (bs : List EventBody). event.document_start d.version d.directives true ∷ bs) (node_more (document_tree (graph_content d)).root (event.document_end true ∷ []) (documents_left ds))
 
--- ---- no document's events begin with all of another's: its end stands behind all else
+-- ---- no document's events begin with all of another's: its end stands after all else
 
 -- how many ends of a document there are
 abbrev ends : List EventBody → ℕ
@@ -132,7 +132,7 @@ counts_both (x ∷ xs) ys =
     let c = counts_both xs ys in
     omega (arith, a, b, c)
 
--- the last of a list is that of each part behind
+-- the last of a list is that of each part after
 some_end : (xs : List EventBody) (y : EventBody) (ys pre : List EventBody)
     → xs ++ y ∷ ys ≡ pre ++ event.document_end true ∷ [] → 1 < suc (ends (y ∷ ys))
 some_end [] y ys pre e =

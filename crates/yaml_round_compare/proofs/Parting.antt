@@ -42,7 +42,7 @@ nothing_behind : (xs : List EventBody) → xs ++ [] ≡ xs
 nothing_behind [] = refl
 nothing_behind (x ∷ xs) = ap (λ (ys : List EventBody). x ∷ ys) (nothing_behind xs)
 
--- neither ends in front of the other
+-- neither ends before the other
 longer : (c d : List Document) (before other_before : List EventBody) (b : EventBody)
     (bs : List EventBody) → before ++ [] ≡ stream_says c → other_before ++ b ∷ bs ≡ stream_says d
     → before ≡ other_before → ⊥

@@ -1,4 +1,4 @@
--- In front of each event of a stream, but the first, there is a place.
+-- Before each event of a stream, but the first, there is a place.
 use Rattle.std.proofs.Common.{◌≡◌, ◌∙◌, ◌⊎◌, inl, inr, ℕ, List, [], ◌∷◌, ◌++◌, Option, true, refl, sym, ap}
 use Rattle.yaml_round_content.specs.scan_model.declared.yaml_encoding_t.TheVariants.{YAML_ANY_ENCODING}
 use Rattle.yaml_round_content.specs.scan_model.declared.yaml_sequence_style_t.TheVariants.{YAML_ANY_SEQUENCE_STYLE}
@@ -25,7 +25,7 @@ first_splits e f whole fs g gs s = cc
 pub heads : (a b : EventBody) (x y : List EventBody) → a ≡ b → x ≡ y → a ∷ x ≡ b ∷ y
 heads a b x y p q = cc
 
--- ---- a node behind items and pairs
+-- ---- a node after items and pairs
 
 abbrev with_item : Nodes → Node → Nodes
 with_item no_nodes m = node m no_nodes
@@ -58,9 +58,9 @@ document_said : (ds : List Document) (d : Document) (es : List EventBody)
 document_said [] d es = refl
 document_said (c ∷ ds) d es = ap (λ (x : List EventBody). event.document_start c.version c.directives true ∷ node_says c.root (event.document_end true ∷ x)) (document_said ds d es)
 
--- ---- inside a node, or behind it
+-- ---- inside a node, or after it
 
--- behind what stands outside, these events are in front of a place
+-- after what stands outside, these events are before a place
 abbrev Reached : (List EventBody → List EventBody) → List EventBody → Type 0
 Reached around fs = (i : Inside) × (around fs ≡ inside_says i [])
 
@@ -80,7 +80,7 @@ leaf : (outer : Inside) (e : EventBody) (rest fs : List EventBody) (g : EventBod
 leaf outer e rest [] g gs s = inl (outer, refl)
 leaf outer e rest (f ∷ fs) g gs s = inr (fs, rest_splits e f rest fs g gs s, heads f e fs fs (first_splits e f rest fs g gs s) refl)
 
--- the end of a collection: in front of it is the place behind all that it holds
+-- the end of a collection: before it is the place after all that it holds
 closing : (inside : Inside) (around : List EventBody → List EventBody)
     (says : List EventBody → List EventBody) (e : EventBody)
     → around (says []) ≡ inside_says inside []
@@ -208,7 +208,7 @@ placed_end : (before : List Document) (fs : List EventBody) (g : EventBody) (gs 
 placed_end before [] g gs s = (between before, refl)
 placed_end before (f ∷ fs) g gs s = absurd (nothing_split fs g gs (rest_splits event.stream_end f [] fs g gs s))
 
--- behind the document's start
+-- after the document's start
 abbrev in_document : List Document → Document → List EventBody → List EventBody
 in_document before d es = event.stream_start YAML_ANY_ENCODING ∷ whole_say before (event.document_start d.version d.directives true ∷ es)
 
@@ -251,7 +251,7 @@ unfolding documents_say
 in_documents [] before fs g gs s = placed_end before fs g gs s
 in_documents (d ∷ ds) before fs g gs s = document_placed before ds d g gs (λ hs t. in_documents ds (with_document before d) hs g gs t) fs s
 
--- What stands in front of an event of a stream is in front of a place.
+-- What stands before an event of a stream is before a place.
 pub placed : (c : List Document) (f : EventBody) (fs : List EventBody) (g : EventBody)
     (gs : List EventBody) → stream_says c ≡ f ∷ fs ++ g ∷ gs
     → (p : StreamPosition) × (f ∷ fs ≡ position_says p [])

@@ -41,7 +41,7 @@ AreApart [] (f ∷ fs) d = Unit {0}
 AreApart (e ∷ es) [] d = Unit {0}
 AreApart (e ∷ es) (f ∷ fs) d = (saying e.0.body ≡ saying f.0.body → ⊥) × TellsOf e.0 f.0 d
 
--- Behind fronts that say the same the events are apart. Where it is kept, the path is that behind these fronts.
+-- After fronts that say the same the events are apart. Where it is kept, the path is that after these fronts.
 pub record Parted (kept : Bool) (first second : List Told) (old new : Trail) : Type 0 where
   pub before : List Told
   pub other_before : List Told
@@ -173,7 +173,7 @@ WhereDifferent (Ok false) P = P
 WhereDifferent (Ok true) P = Unit {0}
 WhereDifferent (Err f) P = Unit {0}
 
--- neither has a fault, or the first fault; that of the second only where the first has none, for want of memory too
+-- neither has a fault, or the first fault; that of the second only where the first has none, when out of memory too
 abbrev pub IsSideFault : ParserRemaining → ParserRemaining → yaml_side_t → yaml_fault_t → Type 0
 IsSideFault first second First f = IsFaultOf first.ending f
 IsSideFault first second Second f = (first.ending ≡ None) × IsFaultOf second.ending f

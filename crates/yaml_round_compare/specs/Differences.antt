@@ -25,7 +25,7 @@ pub record TellsOf (first second : Event) (d : yaml_difference_t) : Type 0 where
   pub second_mark : d.second_mark ≡ second.start_mark
   pub second_type : d.second_type ≡ type_of second.body
 
--- Both inputs are accepted. The events in front say the same, and are what stands in front of a place; the next ones
+-- Both inputs are accepted. The events in front say the same, and are what stands before a place; the next ones
 -- don't. It tells where these begin, what they are, and the path to that place.
 pub record IsParting (a_from : yaml_encoding_t) (a : List ℕ) (b_from : yaml_encoding_t)
     (b : List ℕ) (d : yaml_difference_t) : Type 0 where

@@ -124,7 +124,7 @@ TurnsOn first second (Err e) first_new second_new = Unit {0}
 
 -- ---- what stands in front
 
--- behind the streams' start
+-- after the streams' start
 pub record IsStarted (f : Front) : Type 0 where
   pub path : path_of f.trail.place ≡ start
   pub events : f.events ≡ 1
@@ -171,7 +171,7 @@ FindsEvent n events ending (Ok found) = (found.0 ≡ (event_at events n).start_m
     × (found.1 ≡ type_of (event_at events n).body)
 FindsEvent n events ending (Err f) = IsFaultOf ending f
 
--- it tells of both inputs' events behind the front, and the path behind it; or the fault of a reading
+-- it tells of both inputs' events after the front, and the path after it; or the fault of a reading
 abbrev pub TellsOfInputs : yaml_encoding_t → List ℕ → yaml_encoding_t → List ℕ → Front
     → Result yaml_difference_t (yaml_side_t × yaml_fault_t) → Type 0
 TellsOfInputs a_from a b_from b front (Ok d) = TellsOf (event_at (events_of a_from a) front.events)

@@ -32,7 +32,7 @@ next_of (e ∷ es) = Some e
 abbrev pub nothing : Event
 nothing = record { body = event.no; start_mark = zero_mark; end_mark = zero_mark }
 
--- the event of that number, from 0; nothing behind the last
+-- the event of that number, from 0; nothing after the last
 abbrev pub event_at : List Told → ℕ → Event
 event_at [] n = nothing
 event_at (t ∷ ts) zero = t.0
@@ -47,8 +47,8 @@ pub record SameDocuments (a_from : yaml_encoding_t) (a : List ℕ) (b_from : yam
   pub second_loads : PlainLoading b_from b (Ok second)
   pub agree : AreAgreeing first second
 
--- Both inputs load, and their documents don't agree. What stands in front of a place is the same in their dumps, and what is
--- next isn't. It tells of the inputs' events behind as many, where these begin and what they are, and the path to that place.
+-- Both inputs load, and their documents don't agree. What stands before a place is the same in their dumps, and what is
+-- next isn't. It tells of the inputs' events after as many, where these begin and what they are, and the path to that place.
 pub record IsDocumentsParting (a_from : yaml_encoding_t) (a : List ℕ) (b_from : yaml_encoding_t)
     (b : List ℕ) (d : yaml_difference_t) : Type 0 where
   pub first : List Document

@@ -1,4 +1,4 @@
--- Places in a stream: what stands in front of an event, and the path to it.
+-- Places in a stream: what stands before an event, and the path to it.
 use Rattle.std.specs.Prelude.{ℕ, suc, true, List, [], ◌∷◌, length, Option, Some, None, map, reverse}
 use Rattle.yaml_round_content.specs.scan_model.declared.yaml_encoding_t.TheVariants.{YAML_ANY_ENCODING}
 use Rattle.yaml_round_content.specs.scan_model.declared.yaml_version_directive_t.{yaml_version_directive_t}
@@ -11,16 +11,16 @@ use Rattle.yaml_round_compare.specs.declared.difference.yaml_step_t.{yaml_step_t
 use Rattle.yaml_round_compare.specs.declared.difference.yaml_step_t.TheVariants as declared
 use Rattle.yaml_round_compare.specs.declared.difference.yaml_difference_t.{yaml_difference_t}
 
--- Where in a document: at its root; in an open sequence, behind whole items; in an open mapping, at a key behind whole pairs,
--- or at the value behind them and that key. A collection has an anchor and a tag.
+-- Where in a document: at its root; in an open sequence, after whole items; in an open mapping, at a key after whole pairs,
+-- or at the value after them and that key. A collection has an anchor and a tag.
 pub data Inside : Type 0 where
   at_root : Inside
   at_item : Inside → Option (List ℕ) → Option (List ℕ) → Nodes → Inside
   at_key : Inside → Option (List ℕ) → Option (List ℕ) → Pairs → Inside
   at_value : Inside → Option (List ℕ) → Option (List ℕ) → Pairs → Node → Inside
 
--- Where in a stream, behind whole documents: between two or at the end; inside one with that version and those
--- directives; or behind the root of one, at its end.
+-- Where in a stream, after whole documents: between two or at the end; inside one with that version and those
+-- directives; or after the root of one, at its end.
 pub data StreamPosition : Type 0 where
   between : List Document → StreamPosition
   within : List Document → Option yaml_version_directive_t → List TagDirective → Inside

@@ -1,4 +1,4 @@
--- What each event makes of the path to the place in front of it.
+-- What each event makes of the path to the place before it.
 use Rattle.std.specs.Prelude.{◌≡◌, Bool, true, ℕ, suc, List, [], ◌∷◌, Option, Some, None}
 use Rattle.yaml_parse.specs.Events.{EventBody}
 use Rattle.yaml_parse.specs.Events as event
@@ -8,7 +8,7 @@ use Rattle.yaml_round_compare.specs.Places as place
 
 -- ---- the steps
 
--- behind a node in the same collection; the text is that of the node, where it is a scalar
+-- after a node in the same collection; the text is that of the node, where it is a scalar
 abbrev pub step_behind : PathStep → Option (List ℕ) → PathStep
 step_behind (place.item n) text = place.item (suc n)
 step_behind (place.key n) text = place.value n text
@@ -40,11 +40,11 @@ abbrev pub past : List EventBody → Path → Path
 past [] p = p
 past (e ∷ es) p = past es (past_event e p)
 
--- in front of a stream
+-- before a stream
 abbrev pub start : Path
 start = record { document = 0; steps = [] }
 
--- in front of a stream, and the path is kept
+-- before a stream, and the path is kept
 pub record IsFreshTrail (keeps : Bool) (t : Trail) : Type 0 where
   pub kept : keeps ≡ true
   pub path : path_of t.place ≡ start

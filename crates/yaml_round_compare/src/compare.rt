@@ -15,7 +15,10 @@ use std::alloc::Global;
 use yaml_parse::{
     yaml_encoding_t, yaml_event_t, yaml_fault_t, yaml_found_t, yaml_memory_fault, yaml_origin_t,
 };
-use yaml_round_reading::{Reading, let_go, normalize_event, read_out, reading_of, yaml_side_t};
+use yaml_round_reading::{
+    ReadText, Reading, let_go, let_text_go, normalize_event, read_out, read_text, reading_of,
+    yaml_side_t,
+};
 
 /// How two streams of events go on.
 #[derive(Clone, Copy)]
@@ -176,6 +179,33 @@ fn compared(
     }
 }
 
+// The same, of the second input's text.
+fn compared_with(
+    alloc: Global,
+    first: &mut Reading<'_>,
+    text: &ReadText<'_>,
+    trail: &mut Trail,
+    kept: bool,
+) -> Result<bool, SideFault>
+    requires { AreReal first.old.parser.events }
+    ensures same { (from : yaml_encoding_t) (input : List ℕ)
+        → ReadsInput from input first.old.parser
+        → IsSame from input text.now.from text.now.bytes result }
+    ensures parting { (from : yaml_encoding_t) (input : List ℕ)
+        → ReadsInput from input first.old.parser → IsFreshTrail kept trail.old
+        → WhereDifferent result
+        (IsParting from input text.now.from text.now.bytes trail.new.place) }
+{
+    match reading_of(alloc, text) {
+        Err(fault) => Err(behind_first(first, fault)),
+        Ok(mut second) => {
+            let answer = compared(first, &mut second, trail, kept);
+            let_go(second);
+            answer
+        }
+    }
+}
+
 /// Whether the second input has the content of the first one's reading. Where it hasn't, the trail tells where they part, with
 /// the path where that is `kept`.
 // In line, as the loop.
@@ -196,12 +226,8 @@ pub fn same_as(
         → ReadsInput from input first.old.parser → IsFreshTrail kept trail.old
         → WhereDifferent result (IsParting from input b_encoding b.now trail.new.place) }
 {
-    match reading_of(alloc, b, b_encoding) {
-        Err(fault) => Err(behind_first(first, fault)),
-        Ok(mut second) => {
-            let answer = compared(first, &mut second, trail, kept);
-            let_go(second);
-            answer
-        }
-    }
+    let text = read_text(alloc, b, b_encoding);
+    let answer = compared_with(alloc, first, &text, trail, kept);
+    let_text_go(text);
+    answer
 }

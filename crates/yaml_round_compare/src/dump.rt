@@ -16,7 +16,7 @@ pub(crate) struct Dump {
 }
 
 impl Dump {
-    /// In front of the document.
+    /// Before the document.
     pub fn of(alloc: Global, document: yaml_document_t) -> Result<Dump, AllocError>
         ensures { IfOk result (λ d. IsDump d × (dump_left d ≡ document_says document)) }
     {
@@ -28,7 +28,7 @@ impl Dump {
         })
     }
 
-    /// The next event, in the slot; none behind the document's end.
+    /// The next event, in the slot; none after the document's end.
     pub fn next(&mut self) -> Result<bool, AllocError>
         requires { IsDump self.old }
         ensures { GivesDumped self.old result self.new }

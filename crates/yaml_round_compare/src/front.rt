@@ -1,4 +1,4 @@
-//! What stands in front of a place in two streams, as far as it was passed.
+//! What stands before a place in two streams, as far as it was passed.
 
 ghost use Rattle.std.specs.Prelude.{◌≡◌, OnOk};
 ghost use Rattle.yaml_parse.specs.Events.{event_of};
@@ -16,7 +16,7 @@ pub struct Front {
 }
 
 impl Front {
-    /// Behind the start of both streams.
+    /// After the start of both streams.
     pub fn new(alloc: Global) -> Front
         ensures { IsStarted result }
     {
@@ -26,7 +26,7 @@ impl Front {
         }
     }
 
-    // The event stands in front of both dumps' next ones.
+    // The event stands before both dumps' next ones.
     pub(crate) fn pass(&mut self, event: &mut yaml_event_t) -> Result<(), AllocError>
         ensures { OnOk result (PassesEvent (event_of event.old).body self.old self.new) }
     {

@@ -1,4 +1,4 @@
-//! What stands in two inputs behind so many events.
+//! What stands in two inputs after so many events.
 
 ghost use Rattle.std.specs.Prelude.{◌≡◌};
 ghost use Rattle.yaml_round_content.specs.Input.{events_of, ending_of};
@@ -9,9 +9,11 @@ use crate::difference::yaml_difference_t;
 use crate::front::Front;
 use std::alloc::Global;
 use yaml_parse::{yaml_encoding_t, yaml_event_type_t, yaml_fault_t, yaml_found_t, yaml_mark_t};
-use yaml_round_reading::{Reading, let_go, reading_of, yaml_side_t};
+use yaml_round_reading::{
+    ReadText, Reading, let_go, let_text_go, read_text, reading_of, yaml_side_t,
+};
 
-// Where the event of that number begins, from 0, and what it is; no event at no place behind the last.
+// Where the event of that number begins, from 0, and what it is; no event at no place after the last.
 fn found_at(
     reading: &mut Reading<'_>,
     number: u64,
@@ -41,6 +43,25 @@ fn found_at(
     }
 }
 
+// The same of an input's text.
+fn seen_in(
+    alloc: Global,
+    text: &ReadText<'_>,
+    number: u64,
+) -> Result<(yaml_mark_t, yaml_event_type_t), yaml_fault_t>
+    ensures { FindsEvent number (events_of text.now.from text.now.bytes)
+        (ending_of text.now.from text.now.bytes) result }
+{
+    match reading_of(alloc, text) {
+        Err(fault) => Err(fault),
+        Ok(mut reading) => {
+            let answer = found_at(&mut reading, number);
+            let_go(reading);
+            answer
+        }
+    }
+}
+
 // The same of an input.
 fn seen_at(
     alloc: Global,
@@ -50,14 +71,10 @@ fn seen_at(
 ) -> Result<(yaml_mark_t, yaml_event_type_t), yaml_fault_t>
     ensures { FindsEvent number (events_of from input.now) (ending_of from input.now) result }
 {
-    match reading_of(alloc, input, from) {
-        Err(fault) => Err(fault),
-        Ok(mut reading) => {
-            let answer = found_at(&mut reading, number);
-            let_go(reading);
-            answer
-        }
-    }
+    let text = read_text(alloc, input, from);
+    let answer = seen_in(alloc, &text, number);
+    let_text_go(text);
+    answer
 }
 
 // The place, told of these two events.
@@ -82,7 +99,7 @@ fn placed(
     }
 }
 
-/// The place behind what was passed of both inputs' dumps: an input's events are as many as those of its documents' dumps.
+/// The place after what was passed of both inputs' dumps: an input's events are as many as those of its documents' dumps.
 pub fn place_behind(
     alloc: Global,
     a: &[u8],

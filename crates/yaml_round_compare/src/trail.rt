@@ -18,7 +18,7 @@ pub struct Trail {
     alloc: Global,
 }
 
-/// The number behind another. There is none behind the largest: it is refused as memory is.
+/// The number after another. There is none after the largest: it is refused as memory is.
 pub(crate) fn one_more(number: u64) -> Result<u64, AllocError>
     ensures { IfOk result (λ next. next ≡ suc number) }
 {
@@ -29,7 +29,7 @@ pub(crate) fn one_more(number: u64) -> Result<u64, AllocError>
     }
 }
 
-// The step to what stands behind a node in the same collection; `text` is that of the node, where it is a scalar.
+// The step to what stands after a node in the same collection; `text` is that of the node, where it is a scalar.
 fn step_behind(step: yaml_step_t, text: Option<Vec<u8>>) -> Result<yaml_step_t, AllocError>
     ensures { IfOk result (λ next. step_of next ≡ step_behind (step_of step) (text_of text)) }
 {
@@ -117,7 +117,7 @@ fn pass(
 }
 
 impl Trail {
-    /// In front of two streams.
+    /// Before two streams.
     pub fn new(alloc: Global) -> Trail
         ensures { path_of result.place ≡ start }
     {
@@ -139,7 +139,7 @@ impl Trail {
         }
     }
 
-    // The event stands in front of both inputs' next ones.
+    // The event stands before both inputs' next ones.
     // In line: where no path is kept nothing is done.
     #[inline(always)]
     pub(crate) fn go_past(&mut self, event: &mut yaml_event_t, kept: bool) -> Result<(), AllocError>

@@ -104,10 +104,10 @@ agree_again (d ∷ ds) = λ i. (let c : Core = record { version = d.version; dir
 -- Dumps load back as their documents, by these four laws.
 pub dumps_loaded : ContentIsSaid → ContentIsLoaded → DumpsAreNumberedBack → LoadsOfContent
     → DumpsLoadBack
-dumps_loaded said numbered back alike ds l small w es h =
+dumps_loaded said numbered back alike ds l w es h =
     let c : List Document = trees_of_dumps ds in
     let a = alike es (events_saying c) None None ((λ x. refl), (λ x. refl)) (h ∙ sym (said c w)) in
-    let n = numbered c ∙ back ds l small in
+    let n = numbered c ∙ back ds l in
     record {
       agree = sym (a.agree ∙ ap (λ (x : Loads). map core_of x.documents) n ∙ agree_again ds);
       right = a.both.1 (ap (λ (x : Loads). x.fault) n);

@@ -29,7 +29,7 @@ pub record CoreLoads : Type 0 where
   pub documents : List Core
   pub refused : Bool
 
--- a node more, behind that many
+-- a node more, after that many
 abbrev pub core_leaf : ℕ → Option (List ℕ) → CoreNode → CoreLoading → CoreLoading
 core_leaf k anchor n l = record {
   document = record { version = l.document.version; directives = l.document.directives; nodes = l.document.nodes ++ n ∷ [] };
@@ -105,7 +105,7 @@ core_on (core_goes_on l) rest = rest l
 core_on (core_loaded d) rest = core_in_front d.nodes d (rest core_nothing)
 core_on core_refused rest = record { documents = []; refused = true }
 
--- the documents of what events say, with or without a fault behind them
+-- the documents of what events say, with or without a fault after them
 unfoldable pub core_loads : List EventBody → Bool → CoreLoading → CoreLoads
 core_loads [] f l = record { documents = []; refused = f }
 core_loads (b ∷ bs) f l = core_on (core_step b l) (core_loads bs f)

@@ -60,7 +60,7 @@ directive_right : (ds : List TagDirective) (handle prefix : List ℕ) → IsHand
 directive_right ds handle prefix h p n =
     or_none (handle_problem handle) _ (spelled_handle handle h) (or_none (prefix_problem prefix) (twice_problem ds handle) (prefix_right prefix p) (once handle ds (not_twice handle ds n)))
 
--- one more behind right ones
+-- one more after right ones
 one_more : (before ds : List TagDirective) (d : TagDirective) → directives_problem before ds ≡ None
     → directive_problem (before ++ ds) d ≡ None → directives_problem before (ds ++ d ∷ []) ≡ None
 unfolding directives_problem

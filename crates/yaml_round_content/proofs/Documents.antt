@@ -23,7 +23,7 @@ directives v tags = record { version = v; tags = tags }
 not_none : (e : Fault) → Some e ≡ None → ⊥
 not_none e h = cc
 
--- behind the directives of a document, where none is refused
+-- after the directives of a document, where none is refused
 abbrev pub Behind : List Directive → List Token → List Given → Option Fault
     → Option yaml_version_directive_t → List TagDirective → Type 0
 Behind ds rest gs f v tags = (reading (items_directives ds rest gs) f (directives v tags)).ending ≡ None

@@ -64,12 +64,11 @@ marks_aside d e (Ok x) h = ap (λ (ns : List model.Node). Ok (made_again d ns)) 
 marks_aside d e (Err f) h = absurd (cc)
 
 document_numbered : DumpsNumberBack → (d : documents.Document) → IsLoadedDocument d
-    → length d.nodes < 2 ^ 64
     → document_of (loader_content (document_tree (graph_content d))) ≡ Ok (loaded_again d)
-document_numbered back d l small =
+document_numbered back d l =
     let root = (graph_content d).root in
     ap (λ r. r >>= λ x. Ok (made_again d x.nodes)) (node_numbered root 0 [])
-    ∙ marks_aside d (core_document d) (number (as_content root) 0 []) (back d l small)
+    ∙ marks_aside d (core_document d) (number (as_content root) 0 []) (back d l)
 
 no_node : (n : model.Node) (ns : List model.Node) → ns ≡ [] → slice_get ns 0 ≡ Some n → ⊥
 no_node n [] z at = cc
@@ -91,8 +90,8 @@ no_core [] h e = h refl
 no_core (n ∷ ns) h e = cc
 
 pub numbered_back : DumpsNumberBack → DumpsAreNumberedBack
-numbered_back back [] l s = refl
-numbered_back back (d ∷ ds) l s =
-    ap (λ r. load_of r (load_each (trees_of_dumps ds))) (document_numbered back d l.0 s.0)
+numbered_back back [] l = refl
+numbered_back back (d ∷ ds) l =
+    ap (λ r. load_of r (load_each (trees_of_dumps ds))) (document_numbered back d l.0)
     ∙ in_front_of (map core_node d.nodes) (loaded_again d) (load_each (trees_of_dumps ds)) (no_core d.nodes (rooted d.nodes (length d.nodes) l.0.order))
-    ∙ ap (λ (x : Loads). record { documents = loaded_again d ∷ x.documents; fault = x.fault }) (numbered_back back ds l.1 s.1)
+    ∙ ap (λ (x : Loads). record { documents = loaded_again d ∷ x.documents; fault = x.fault }) (numbered_back back ds l.1)

@@ -1,4 +1,4 @@
--- What characters spell, in an encoding that is named or behind its mark.
+-- What characters spell, in an encoding that is named or after its mark.
 use Rattle.std.proofs.Common.{◌≡◌, ℕ, ◌||◌, Bool, true, false, if◌then◌else◌, List, ◌++◌, drop, refl, sym, ap, ◌∙◌, encode_utf8_all}
 use Rattle.yaml_round_content.proofs.Words.{AllPass, yaml_encoding_t, YAML_ANY_ENCODING, YAML_UTF8_ENCODING, YAML_UTF16LE_ENCODING, YAML_UTF16BE_ENCODING, is_allowed, encoding_of, mark_length, Spells, EncodingsDoNotMatter, begins_low_first, begins_high_first, begins_utf8, spellings, CharactersAreEnough, IsNamed}
 use Rattle.yaml_round_content.specs.EncodingsLaws.{mark_of}

@@ -8,7 +8,7 @@ Text = Option (List ℕ)
 
 -- ---- events read back
 
--- what has begun: a collection's properties, what stands in it so far, in front of what follows, and a key without its value
+-- what has begun: a collection's properties, what stands in it so far, before what follows, and a key without its value
 data Begun : Type 0 where
   in_sequence : Text → Text → (Nodes → Nodes) → Begun
   in_mapping : Text → Text → (Pairs → Pairs) → Begun
@@ -17,14 +17,14 @@ data Begun : Type 0 where
 abbrev Read : Type 0
 Read = Option (Node × List EventBody)
 
--- behind a node
+-- after a node
 abbrev behind_node : Node → List Begun → List EventBody → (List Begun → Read) → Read
 behind_node n [] es k = Some (n, es)
 behind_node n (in_sequence a t f ∷ s) es k = k (in_sequence a t (λ ns. f (node n ns)) ∷ s)
 behind_node n (in_mapping a t f ∷ s) es k = k (at_value a t f n ∷ s)
 behind_node n (at_value a t f key ∷ s) es k = k (in_mapping a t (λ ps. f (pair key n ps)) ∷ s)
 
--- the node with whose events they begin, and the events behind it
+-- the node with whose events they begin, and the events after it
 read : List EventBody → List Begun → Read
 read (event.alias name ∷ es) s = behind_node (alias name) s es (λ z. read es z)
 read (event.scalar a None value plain quoted style ∷ es) s = behind_node (scalar a (untagged plain) value) s es (λ z. read es z)

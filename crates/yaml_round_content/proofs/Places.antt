@@ -22,7 +22,7 @@ twice (item_due ∷ ds) = refl
 twice (key_due ∷ ds) = refl
 twice (value_due ∷ ds) = refl
 
--- behind a node stands what is expected below
+-- after a node stands what is expected below
 behind : (s : List State) → shape_of s ≡ inside (dues s)
     → inside (behind_node (behind_node (dues s))) ≡ shape_of s
 behind s e = ap inside (twice (dues s)) ∙ sym e

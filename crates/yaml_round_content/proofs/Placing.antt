@@ -10,7 +10,7 @@ use Rattle.yaml_round_content.specs.parse_grammar.Trees as tree
 use Rattle.yaml_round_content.specs.parse_grammar.Resolve as resolve
 use Rattle.yaml_round_content.proofs.Saying.{full_is, not_none}
 
--- where the first reading has no fault, the second one has none, and the events of the first are those in front of the second's
+-- where the first reading has no fault, the second one has none, and the events of the first are those before the second's
 pub record ReadsAs (R : List Event → List Event) (r q : Reading) : Type 0 where
   pub right : r.ending ≡ None → q.ending ≡ None
   pub reads : r.ending ≡ None → events_told r.events ≡ R (events_told q.events)

@@ -1,4 +1,4 @@
--- Over a list of tokens: the items come in their right places and are well spelled, and behind the last the stream has ended.
+-- Over a list of tokens: the items come in their right places and are well spelled, and after the last the stream has ended.
 use Rattle.std.proofs.Common.{◌≡◌, ℕ, List, [], ◌∷◌, ◌++◌, length, map, Option, Some, None, refl, sym, ap, subst, ◌∙◌}
 use Rattle.yaml_round_content.proofs.Words.{Token, Fault, RawEvent, State, Given, Fed, stop, go, feed, Outcome, carry, run, initial, Progress, at_place, first_progress, IsSpelled, AreSpelled, no_token, finished, GivenAre, Each, run_are}
 use Rattle.yaml_emit_laws_dumps.proofs.Single.{Emptied, emptied}

@@ -10,7 +10,7 @@ use Rattle.yaml_parse_loader.specs.Numbering.{scalar}
 pub record Says (es : List Event) (xs : List EventBody) : Type 0 where
   pub same : map (λ (e : Event). content_of (normalize_body true e.body)) es ≡ xs
 
--- one event in front of others
+-- one event before others
 on : (b : EventBody) (from to : yaml_mark_t) (x : EventBody) {es : List Event} {xs : List EventBody}
     → content_of (normalize_body true b) ≡ x → Says es xs → Says (spanning b from to ∷ es) (x ∷ xs)
 on b from to x {es} {xs} p h = record { same = ap (λ (y : EventBody). y ∷ map (λ (e : Event). content_of (normalize_body true e.body)) es) p ∙ ap (λ (ys : List EventBody). x ∷ ys) h.same }

@@ -46,7 +46,7 @@ unfolding bare reading
 is_bare [] ds = (refl, refl)
 is_bare (g ∷ gs) ds = on_bare (settle g.0 ds) g.0 g.1 (λ d. reading gs None d) (λ d. bare (raw_of gs) d) (λ d. is_bare gs d)
 
--- ---- what items say, in front of others
+-- ---- what items say, before others
 
 -- where the first has no fault, the second one has none, and the first says these before the second
 record Passes (es : List Event) (r q : Bare) : Type 0 where

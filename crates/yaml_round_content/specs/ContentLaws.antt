@@ -29,7 +29,7 @@ pub record SaysFront (bs : List EventBody) : Type 0 where
   pub rest : List EventBody
   pub same : bs ++ rest ≡ stream_says content
 
--- What any input says, also in front of a fault, is a front of what a content does.
+-- What any input says, also before a fault, is a front of what a content does.
 abbrev pub InputsSayFronts : Type 0
 InputsSayFronts = (from : yaml_encoding_t) (input : List ℕ)
     → SaysFront (contents (events_of from input))

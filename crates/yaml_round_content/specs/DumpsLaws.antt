@@ -9,7 +9,7 @@ use Rattle.yaml_round_content.specs.Said.{Document, stream_says, HasContent}
 use Rattle.yaml_round_content.specs.Loads.{load_all, loads_of}
 use Rattle.yaml_round_content.specs.Writable.{AreWritable}
 use Rattle.yaml_round_content.specs.Agree.{AreAgreeing}
-use Rattle.yaml_round_content.specs.DumpsEvents.{events_saying, load_each, trees_of_dumps, loaded_again, AreLoadedDocuments, AreNumerable}
+use Rattle.yaml_round_content.specs.DumpsEvents.{events_saying, load_each, trees_of_dumps, loaded_again, AreLoadedDocuments}
 
 -- ---- the events of a content
 
@@ -30,7 +30,7 @@ ContentLoadsDocuments = (c : List Document) → AreLoadedDocuments (load_each c)
 
 -- What loaded documents say is numbered as they are, styles and marks aside.
 abbrev pub DumpsAreNumberedBack : Type 0
-DumpsAreNumberedBack = (ds : List documents.Document) → AreLoadedDocuments ds → AreNumerable ds
+DumpsAreNumberedBack = (ds : List documents.Document) → AreLoadedDocuments ds
     → load_each (trees_of_dumps ds)
     ≡ record { documents = map loaded_again ds; fault = None }
 
@@ -40,7 +40,7 @@ pub record LoadBack (ds : List documents.Document) (es : List Told) : Type 0 whe
   pub right : (load_all es None nothing_loaded).fault ≡ None
 
 abbrev pub DumpsLoadBack : Type 0
-DumpsLoadBack = (ds : List documents.Document) → AreLoadedDocuments ds → AreNumerable ds
+DumpsLoadBack = (ds : List documents.Document) → AreLoadedDocuments ds
     → AreWritable (trees_of_dumps ds) → (es : List Told)
     → contents es ≡ stream_says (trees_of_dumps ds) → LoadBack ds es
 

@@ -35,7 +35,7 @@ tree_events t rest = spanning (event.stream_start t.encoding) t.start.from t.sta
 abbrev pub events_told : List Told → List Event
 events_told gs = map (λ (g : Told). g.0) gs
 
--- what a parser of a source reads: the tokens to come, and the fault behind them
+-- what a parser of a source reads: the tokens to come, and the fault after them
 abbrev pub read_of : List Token → Option Fault → Reading
 read_of ts own = reading_of (run ts initial own) no_directives
 
@@ -58,7 +58,7 @@ InputsAreNumbered = (from : yaml_encoding_t) (input : List ℕ)
 
 -- ---- one load after another
 
--- What is loaded in all, by what the next load gives: its document in front of the others, its fault, or nothing.
+-- What is loaded in all, by what the next load gives: its document before the others, its fault, or nothing.
 abbrev pub by_next : NextLoad → Option Fault → Loads
 by_next (next_document d left unasked) f = in_front d.nodes d (load_all left f nothing_loaded)
 by_next (next_fault e unasked) f = no_more (Some e)

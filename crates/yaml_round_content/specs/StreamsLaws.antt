@@ -32,7 +32,7 @@ pub record IsRightReading (canonical : Bool) (es : List Event) (ending : Option 
     pub passes : first_refusal canonical first_progress es ≡ None
     pub ends : ending ≡ None → (progress_behind first_progress es).place ≡ at.End
 
--- The events of well spelled tokens, normalized or not, are right, also those in front of a fault.
+-- The events of well spelled tokens, normalized or not, are right, also those before a fault.
 abbrev pub ParsedIsRight : Type 0
 ParsedIsRight = (normalize : EventBody → EventBody) → IsNormalizing normalize → (ts : List Token)
     → AreSpelled ts → (f : Option Fault) (canonical : Bool)

@@ -93,11 +93,11 @@ abbrev pub pairs_end : tree.Pairs → Span
 pairs_end (tree.end_pairs s) = span_of s
 pairs_end (tree.block_pair s key value pairs) = pairs_end pairs
 
--- at the start of the token behind it
+-- at the start of the token after it
 abbrev pub ends_before : List Token → Span
 ends_before rest = span (next rest) (next rest)
 
--- ---- nodes, in front of the tokens behind them
+-- ---- nodes, before the tokens after them
 
 abbrev mutual
   pub placed_node : {w : Wants} → List TagDirective → tree.Node w → List Token → Content
@@ -191,7 +191,7 @@ abbrev mutual
 
 -- ---- documents
 
--- it ends at its first `...`, or before the token behind it
+-- it ends at its first `...`, or before the token after it
 abbrev pub ends_at : List tree.Span → List Token → Span
 ends_at [] rest = ends_before rest
 ends_at (s ∷ ends) rest = span_of s
@@ -225,7 +225,7 @@ placed_first (tree.first n ends) rest documents = record {
   end_at = ends_at ends rest;
 } ∷ documents
 
--- The documents of a tree, in front of the tokens behind it.
+-- The documents of a tree, before the tokens after it.
 abbrev pub tree_documents : tree.Stream → List Token → List DocumentContent
 tree_documents t rest = placed_first t.first (spell_documents t.documents rest)
     (placed_documents t.documents rest)

@@ -30,7 +30,7 @@ abbrev pub told_under : Option yaml_version_directive_t → List TagDirective �
 told_under version ds is = flat_map
     (λ i. map (λ body. placed body i) (said_under version ds i.body)) is
 
--- a document's start, its node and its end, then the documents behind it
+-- a document's start, its node and its end, then the documents after it
 abbrev pub documents_told : Documents → List Event
 documents_told (tree.end_stream s) = told_under None []
     (event_at event.stream_end s.from s.to ∷ [])

@@ -1,5 +1,5 @@
 -- What may be written of a content: names of alphas, tags and values in UTF-8, directives that an
--- emitter takes. No tag is empty, and no scalar's is `!`: canonical text has that in front of an
+-- emitter takes. No tag is empty, and no scalar's is `!`: canonical text has that before an
 -- untagged scalar that doesn't count as plain.
 use Rattle.std.specs.Prelude.{◌≡◌, ℕ, ◌<◌, true, List, [], ◌∷◌, length, codes, Option, Some, None}
 use Rattle.std.specs.List.{list_all}

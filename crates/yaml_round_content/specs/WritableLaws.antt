@@ -16,7 +16,7 @@ use Rattle.yaml_round_content.specs.Writable.{AreWritable}
 
 -- ---- flags
 
--- Of an input's normalized events, also those in front of a fault, an untagged scalar may be quoted exactly where it doesn't count
+-- Of an input's normalized events, also those before a fault, an untagged scalar may be quoted exactly where it doesn't count
 -- as plain.
 abbrev pub InputsAreFlagged : Type 0
 InputsAreFlagged = (from : yaml_encoding_t) (input : List ℕ)
@@ -43,7 +43,7 @@ abbrev pub HaveUtf8Texts : List Told → Type 0
 HaveUtf8Texts [] = Unit {0}
 HaveUtf8Texts (t ∷ ts) = HasUtf8 t.0.body × HaveUtf8Texts ts
 
--- The texts of an input's events, also of those in front of a fault, are UTF-8.
+-- The texts of an input's events, also of those before a fault, are UTF-8.
 abbrev pub InputsHaveUtf8 : Type 0
 InputsHaveUtf8 = (from : yaml_encoding_t) (input : List ℕ) → HaveUtf8Texts (events_of from input)
 

@@ -8,7 +8,7 @@ pub fn laws_of_contents()
     ensures says_is_injective { SaysIsInjective }
     // Each input that is accepted has a content.
     ensures inputs_have_content { InputsHaveContent }
-    // What any input says, also in front of a fault, is a front of what a content does.
+    // What any input says, also before a fault, is a front of what a content does.
     ensures inputs_say_fronts { InputsSayFronts }
     // What is laid out in canonical form for events that say a content is the content's layout.
     ensures layout_is_of_content { LayoutIsOfContent }

@@ -16,7 +16,7 @@ pub struct yaml_settings_t {
     pub canonical: bool,
     /// Columns of a level's indentation, 2 to 9; any other number means 2.
     pub indent: i32,
-    /// The column behind which a line is folded. A negative one means 2,147,483,647, and one from 0 to twice the indent
+    /// The column after which a line is folded. A negative one means 2,147,483,647, and one from 0 to twice the indent
     /// means 80.
     pub width: i32,
     /// Printable characters that aren't ASCII are written as they are; escaped where it is off.

@@ -24,7 +24,7 @@ abbrev pub TagIsRefused : Type 0
 TagIsRefused = (old : Remaining) (t : Token) → t ≡ front_of old.tokens → spells_text t.body ≡ false
     → GivesFault (adapted old).tokens (adapted old).fault (tag_fault t.start_mark) [] None
 
--- Where something is to come, its fault, and want of memory, is given as it is.
+-- Where something is to come, its fault, and out of memory, is given as it is.
 abbrev pub FaultIsGiven : Type 0
 FaultIsGiven = (old : Remaining) (f : Fault) → HasMore old.tokens old.fault
     → IsMemoryFault scan_layers f ⊎ ((old.tokens ≡ []) × (old.fault ≡ Some f))

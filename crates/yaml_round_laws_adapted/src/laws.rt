@@ -12,7 +12,7 @@ pub fn adapted_is_utf8()
     ensures { AdaptedIsUtf8 }
 {}
 
-/// A token whose tag is UTF-8 is the next one, and the others come behind it.
+/// A token whose tag is UTF-8 is the next one, and the others come after it.
 pub fn front_is_given()
     ensures { FrontIsGiven }
 {}

@@ -26,7 +26,7 @@ decoded bytes t e allowed told spelled =
     let spells : Spells YAML_ANY_ENCODING bytes (encode Utf8 t) = record { characters = shown t; allowed = all_pass (shown t) allowed; spelled = same; is = bytes_8 t } in
     (spells_decoded YAML_ANY_ENCODING bytes (encode Utf8 t) spells, told)
 
--- a text in front of which no mark is taken from it
+-- a text before which no mark is taken from it
 pub decodes : (x : Encoding) (rest : Rest) → Allowed (rest start) → Told (encode Utf8 (rest start))
     → Decodes (encode x (order_mark x start rest)) (encode Utf8 (rest start)) (encoding_named x)
 decodes Utf8 rest allowed (told, none) =

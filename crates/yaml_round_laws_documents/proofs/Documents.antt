@@ -101,7 +101,7 @@ abbrev pub no_spans : List Span → Bool
 no_spans [] = true
 no_spans (s ∷ ss) = false
 
--- Behind `...` the reading goes on without directives.
+-- After `...` the reading goes on without directives.
 pub ends_say : (ends : List Span) (more : List Token) (gs : List Given) (f : Option Fault)
     (D : Directives)
     → SaysTree (λ es. event.document_end (no_spans ends) ∷ es) (reading (items_ends ends more gs) f D)
@@ -109,7 +109,7 @@ pub ends_say : (ends : List Span) (more : List Token) (gs : List Given) (f : Opt
 ends_say [] more gs f D = item_says _ gs f D no_directives (event.document_end true) refl
 ends_say (s ∷ ends) more gs f D = item_says _ gs f D no_directives (event.document_end false) refl
 
--- the ends of the document before, and the documents behind them
+-- the ends of the document before, and the documents after them
 record Parsed (explicit unended : Bool) (ds : List Document) (ts : List Token) : Type 0 where
   ends : List Span
   documents : trees.Documents

@@ -58,7 +58,7 @@ step_says g gs f D b e = on_says (settle g.0 D) b D g.0 g.1 (λ x. reading gs f 
 abbrev pub Reads : Type 0
 Reads = List EventBody → List EventBody
 
--- Tokens in front of a rest are spelled so, and these events are read of them, whatever follows.
+-- Tokens before a rest are spelled so, and these events are read of them, whatever follows.
 pub record Said (ds : List TagDirective) (R : Reads) (ts rest : List Token) (spell : List Token → List Token) (items : List Token → List Given → List Given) : Type 0 where
   pub same : ts ≡ spell rest
   pub gives : (more : List Token) (gs : List Given) (f : Option Fault) (D : Directives)
@@ -78,7 +78,7 @@ pub tells : (ds : List TagDirective) {ts : List Token} {b : TokenBody} {bs : Lis
     (λ more gs. (i, length more) ∷ gs)
 tells ds t i e settles = record { same = t.same; gives = λ more gs f D h. step_says (i, length more) gs f D e (settles D h) }
 
--- Some behind others.
+-- Some after others.
 pub also : {ds : List TagDirective} {R Q : Reads} {ts us rest : List Token}
     {s q : List Token → List Token} {i j : List Token → List Given → List Given}
     → Said ds R ts us s i → Said ds Q us rest q j
@@ -298,7 +298,7 @@ dress_gives w (Some d) c rest more = refl
 
 -- ---- contents
 
--- The tokens begin with a content of that shape: whatever its properties settle to stands in front of the events in it.
+-- The tokens begin with a content of that shape: whatever its properties settle to stands before the events in it.
 pub record Contained (w : Wants) (ds : List TagDirective) (shape : Shape) (R : Reads) (ts : List Token) (bs : List TokenBody) : Type 0 where
   pub tree : trees.Content w
   pub rest : List Token
@@ -370,14 +370,14 @@ brackets_end b ds ts bs e =
     let t = take ts (closing b) bs e in
     record { tree = end_items t.span; rest = t.rest; left = t.left; said = tells ds t (trees.event_at (end_event b) t.span.from t.span.to) (end_event b) (λ D h. end_settles b t.span.from t.span.to D) }
 
--- So it is behind an item or a pair.
+-- So it is after an item or a pair.
 pub brackets_done : (b : Brackets) (ds : List TagDirective) (ts : List Token) (bs : List TokenBody)
     → token_bodies ts ≡ closing b ∷ bs → Followed b ds (λ es. end_event b ∷ es) ts bs
 brackets_done b ds ts bs e =
     let t = take ts (closing b) bs e in
     record { tree = end_more t.span; rest = t.rest; left = t.left; said = tells ds t (trees.event_at (end_event b) t.span.from t.span.to) (end_event b) (λ D h. end_settles b t.span.from t.span.to D) }
 
--- A comma is followed by what stands behind it.
+-- A comma is followed by what stands after it.
 pub comma_follows : (b : Brackets) (ds : List TagDirective) (R : Reads) (cs bs : List TokenBody)
     → ((ts : List Token) → token_bodies ts ≡ cs → Filled b ds R ts bs)
     → (ts : List Token) → token_bodies ts ≡ token.flow_entry ∷ cs → Followed b ds R ts bs

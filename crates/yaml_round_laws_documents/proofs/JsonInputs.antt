@@ -1,6 +1,6 @@
 -- Inputs shaped as JSON don't begin with nothing.
 use Rattle.std.proofs.Common.{◌≡◌, ℕ, Bool, true, false, not, ◌&&◌, List, [], ◌∷◌, refl, sym, ap, ◌∙◌, inl, inr}
-use Rattle.yaml_round_laws_documents.proofs.PrettyWords.{false≢true, and-false, yaml_encoding_t, Told, Event, stream_start, document_start, Scalar, Node, scalar_node, Opening, node_events, documents_events, is_directed, emitter_events, is_bare, is_asked_plain, says_nothing, begins_with_nothing, JsonBeginsWithSomething}
+use Rattle.yaml_round_laws_documents.proofs.PrettyWords.{false≢true, and-false, yaml_encoding_t, yaml_scalar_style_t, Told, Event, stream_start, document_start, Scalar, Node, scalar_node, Opening, node_events, documents_events, is_directed, emitter_events, is_bare, is_asked_plain, says_nothing, begins_with_nothing, JsonBeginsWithSomething}
 use Rattle.yaml_emit_laws_text.specs.Json.{IsJsonScalar, IsJsonNode}
 use Rattle.yaml_emit_laws_text.specs.scan_laws_texts.Values.{is_plain_value}
 use Rattle.yaml_round_content.proofs.Joining.{events_of_tree}
@@ -12,7 +12,10 @@ some_value [] h = absurd (false≢true h)
 some_value (b ∷ bs) h = refl
 
 scalar_says : (x : Scalar) → IsJsonScalar x → says_nothing x ≡ false
-scalar_says x (inl is) = ap (λ (p : Bool). is_bare x.anchor x.tag && (is_empty x.value && (p && is_asked_plain x.style))) is.plain ∙ ap (λ (b : Bool). is_bare x.anchor x.tag && b) (and-false (is_empty x.value)) ∙ and-false (is_bare x.anchor x.tag)
+scalar_says x (inl is) =
+    ap (λ (s : yaml_scalar_style_t). is_bare x.anchor x.tag && (is_empty x.value && (x.plain && is_asked_plain s))) is.style
+    ∙ ap (λ (b : Bool). is_bare x.anchor x.tag && (is_empty x.value && b)) (and-false x.plain)
+    ∙ ap (λ (b : Bool). is_bare x.anchor x.tag && b) (and-false (is_empty x.value)) ∙ and-false (is_bare x.anchor x.tag)
 scalar_says x (inr is) = ap (λ (e : Bool). is_bare x.anchor x.tag && (e && (x.plain && is_asked_plain x.style))) (some_value x.value is.value) ∙ and-false (is_bare x.anchor x.tag)
 
 root_begins : (x : yaml_encoding_t) (o : Opening) (n : Node) (es : List Event) → IsJsonNode n

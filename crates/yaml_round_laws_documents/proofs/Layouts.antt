@@ -18,7 +18,7 @@ pub nothing_allowed : Allowed []
 unfolding shown
 nothing_allowed = tt
 
--- A letter that fits in front of what is allowed is allowed.
+-- A letter that fits before what is allowed is allowed.
 pub letter_allowed : (x : ℕ) (t : List Item) → Fits x → Allowed t → Allowed (letter x ∷ t)
 unfolding shown
 letter_allowed x t f h = (f, h)
@@ -28,7 +28,7 @@ pub deep_allowed : (t : List Item) → Allowed t → Allowed (deep ∷ t)
 unfolding shown
 deep_allowed t h = h
 
--- Two tame layouts are tame one behind another.
+-- Two tame layouts are tame one after another.
 pub both : (a b : Layout) → Tame a → Tame b → Tame (a ▹ b)
 both a b ta tb c rest h = ta c (λ d. b d rest) (λ d. tb d rest h)
 

@@ -42,7 +42,7 @@ pub low_told : (t : List Item)
 unfolding encoding_of encode char_bytes
 low_told t = refl
 
--- Behind the mark of UTF-16LE stands the text.
+-- After the mark of UTF-16LE stands the text.
 pub low_behind : (t : List Item)
     → drop (mark_length YAML_ANY_ENCODING (encode Utf16Le (letter 0xFEFF ∷ t)))
     (encode Utf16Le (letter 0xFEFF ∷ t)) ≡ encode Utf16Le t
@@ -55,7 +55,7 @@ pub high_told : (t : List Item)
 unfolding encoding_of encode char_bytes
 high_told t = refl
 
--- Behind the mark of UTF-16BE stands the text.
+-- After the mark of UTF-16BE stands the text.
 pub high_behind : (t : List Item)
     → drop (mark_length YAML_ANY_ENCODING (encode Utf16Be (letter 0xFEFF ∷ t)))
     (encode Utf16Be (letter 0xFEFF ∷ t)) ≡ encode Utf16Be t

@@ -86,7 +86,7 @@ pub version_spells : (v : Option yaml_version_directive_t) (bs : List TokenBody)
 version_spells None bs s = s
 version_spells (Some v) bs s = (refl, s)
 
--- Tag directives in UTF-8 spell, in front of what spells.
+-- Tag directives in UTF-8 spell, before what spells.
 pub directives_spell : (ds : List TagDirective) → HaveUtf8 ds → (bs : List TokenBody) → Spell bs
     → Spell (directives_bodies ds bs)
 unfolding directives_bodies

@@ -22,13 +22,13 @@ pub record Ends (r : Reading) (bs : List EventBody) : Type 0 where
   pub events : event_bodies r ≡ bs
   pub ending : r.ending ≡ None
 
--- what is put in front of a reading that ends so
+-- what is put before a reading that ends so
 pub ends_by : (R : List EventBody → List EventBody) (r q : Reading) (bs : List EventBody)
     → SaysTree R r q
     → Ends q bs → Ends r (R bs)
 ends_by R r q bs s e = record { events = s.events ∙ ap (λ (x : List EventBody). R x) e.events; ending = s.ending ∙ e.ending }
 
--- the ends of the document before, and the documents behind them
+-- the ends of the document before, and the documents after them
 pub record Parsed (s : Settings) (explicit unended kept : Bool) (ds : List Document) (ts : List Token) : Type 0 where
   pub ends : List Span
   pub documents : trees.Documents
@@ -56,7 +56,7 @@ flags : (i b : Bool) → not (not i || (i && b)) ≡ (i && not b)
 flags true b = refl
 flags false b = refl
 
--- the end of a document, and the documents behind it
+-- the end of a document, and the documents after it
 record Closed (s : Settings) (implicit : Bool) (ds : List Document) (ts : List Token) (es : List EventBody) : Type 0 where
   ends : List Span
   documents : trees.Documents
@@ -84,7 +84,7 @@ closed s implicit kept ds ts b =
           record { events = x.events ∙ ap (λ (y : Bool). event.document_end y ∷ documents_reads s false ds) flag; ending = x.ending };
     }
 
--- what stands behind a document's root
+-- what stands after a document's root
 abbrev pub After : Settings → Document → List Document → List TokenBody
 After s d ds = end_bodies (not d.implicit_end) (documents_bodies s false d.implicit_end (is_root_kept s d) ds)
 
@@ -402,7 +402,7 @@ both_are : (m n : Bool) → (not m && n) ≡ true → (m ≡ false) × (n ≡ tr
 both_are true n e = absurd (false≢true e)
 both_are false n e = (refl, e)
 
--- the tokens behind the stream's start are those behind the root
+-- the tokens after the stream's start are those after the root
 behind_start : (s : Settings) (d : Document) (ds : List Document)
     → is_marked s true d.opening ≡ false
     → is_left_out (context_in s d) false part.Item d.root ≡ true → (us : List Token)

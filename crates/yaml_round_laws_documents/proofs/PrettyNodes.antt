@@ -1,4 +1,4 @@
--- Properties in front of a content, and nodes that have nothing else.
+-- Properties before a content, and nodes that have nothing else.
 use Rattle.std.proofs.Common.{◌≡◌, ℕ, Bool, true, false, not, ◌&&◌, ◌||◌, List, [], ◌∷◌, Option, Some, None, refl, sym, ap, subst, ◌∙◌, codes, bytes_eq}
 use Rattle.yaml_round_laws_documents.proofs.PrettyWords.{false≢true, true≢false, Token, TokenBody, EventBody, TagDirective, node_at, RawEvent, Properties, PropertyTokens, Given, spell_maybe, properties_of, spell_entries, spell_others, spell_pairs, single, colon, end_entries, entry, no_others, other, end_pairs, block_pair, items_maybe, behind, items_entries, items_others, items_pairs, Directives, gave, settle, node_event, is_missing, Style, has, scalar_tag, start_tag, anchor_bodies, tag_bodies, mark_bodies, token_bodies, IsNoMark, Grown, HasNoMark, HaveNoMark, PairsHaveNoMark, Spelt, grown, dressed_named, scalar_contained, step_says, tagged_event, spell_if, properties_if, Named, IsNamed, named_bodies, full_of, some_tokens, some_named, with_properties, tag_named, tag_is_named, tag_bodies_are, full_is, bang, Reads, Filled, Followed, Contained, take, silent, tells, also, alias_grown, dressed, bracketed, brackets_end, brackets_done, comma_follows, style_named, takes_mark, is_bare, is_nothing, scalar_bodies, style_at, is_flow_at, keeps, sequence_opens, sequence_closes, mapping_opens, mapping_closes, node_bodies, items_bodies, pairs_bodies, is_left_out, scalar_reads, sequence_style, mapping_style, node_reads, items_reads, pairs_reads, Resolves, YAML_FLOW_SEQUENCE_STYLE, YAML_BLOCK_SEQUENCE_STYLE, YAML_FLOW_MAPPING_STYLE, YAML_BLOCK_MAPPING_STYLE, Entry, IndentlessEntry, BlockPair, FlowPair, Part, Scalar, Start, Node, alias_node, scalar_node, sequence_node, mapping_node, Nodes, no_nodes, node, Pairs, no_pairs, pair, Context, is_simple, is_of_mapping, key_part, are_none, are_no_pairs}
 use Rattle.yaml_round_content.specs.parse_grammar.parse_model.declared.yaml_mark_t.{yaml_mark_t}

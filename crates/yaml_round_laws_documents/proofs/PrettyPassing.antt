@@ -7,7 +7,7 @@ use Rattle.yaml_round_laws_documents.proofs.Passing.{Spell, passes, directives_s
 
 -- ---- properties
 
--- a document's start in front of bodies that are spelled
+-- a document's start before bodies that are spelled
 pub start_spells : (b : Bool) (bs : List TokenBody) → Spell bs → Spell (start_bodies b bs)
 start_spells true bs s = s
 start_spells false bs s = (refl, s)
@@ -43,7 +43,7 @@ mapping_closed : (f : Bool) (bs : List TokenBody) → Spell bs → Spell (mappin
 mapping_closed true bs s = (refl, s)
 mapping_closed false bs s = (refl, s)
 
--- a comma, if there is one, in front of bodies that are spelled
+-- a comma, if there is one, before bodies that are spelled
 pub comma_spells : (fresh : Bool) (bs : List TokenBody) → Spell bs → Spell (comma_bodies fresh bs)
 comma_spells true bs s = s
 comma_spells false bs s = (refl, s)

@@ -1,6 +1,6 @@
 -- The laws of loaded documents and of their texts, joined from the laws beneath.
 use Rattle.std.proofs.Common.{◌≡◌, ℕ, List, map, Option, Some, None, Ok, sym, ap, subst, ◌∙◌}
-use Rattle.yaml_round_laws_documents.proofs.Words.{YAML_ANY_ENCODING, Fault, nothing_loaded, HasContent, events_of, ending_of, Loads, load_all, loads_of, canon, core_of, AreAgreeing, loads_of_contents, trees_of_dumps, AreNumerable, ContentIsLoaded, DumpsLoadBack, dumps_loaded, AllLoadDocuments, LoadedAreSound, LoadedAreWritable}
+use Rattle.yaml_round_laws_documents.proofs.Words.{YAML_ANY_ENCODING, Fault, nothing_loaded, HasContent, events_of, ending_of, Loads, load_all, loads_of, canon, core_of, AreAgreeing, loads_of_contents, trees_of_dumps, ContentIsLoaded, DumpsLoadBack, dumps_loaded, AllLoadDocuments, LoadedAreSound, LoadedAreWritable}
 use Rattle.yaml_round_content.specs.parse_laws_trees.parse_document.Documents.{Document}
 use Rattle.yaml_round_content.proofs.Loads.{loads_document}
 use Rattle.yaml_round_content.proofs.Visited.{numbered_in_order}
@@ -61,7 +61,7 @@ texts_load_again w k ds d =
     let c : List content.Document = trees_of_dumps ds in
     let h : HasContent YAML_ANY_ENCODING (canon w c) c = reads_back w k c d.writable in
     let es = events_of YAML_ANY_ENCODING (canon w c) in
-    let b = dumps_load ds d.loaded d.small d.writable es h.says in
+    let b = dumps_load ds d.loaded d.writable es h.says in
     let same = ap (λ (f : Option Fault). load_all es f nothing_loaded) (sym h.right) in
     let agree : AreAgreeing ds (loads_of YAML_ANY_ENCODING (canon w c)).documents = b.agree ∙ ap (λ (l : Loads). map core_of l.documents) same in
     let says = agreeing_said ds (loads_of YAML_ANY_ENCODING (canon w c)).documents agree in
@@ -83,7 +83,7 @@ texts_tell w k ds es d e =
 -- ---- of inputs
 
 pub loads_are : LoadsAreDocuments
-loads_are from input small = record { loaded = all_load from input; small = small; writable = all_writable from input }
+loads_are from input = record { loaded = all_load from input; writable = all_writable from input }
 
 -- documents that no fault ends are those that are answered
 pub documents_alike : (ds es : List Document) (o : Option Fault) → unless_faulty ds o ≡ Ok es
@@ -92,16 +92,16 @@ documents_alike ds es None h = cc
 documents_alike ds es (Some f) h = cc
 
 pub plain_documents : PlainDocuments
-plain_documents from input ds h small =
+plain_documents from input ds h =
     let e = documents_alike (loads_of from input).documents ds (loads_of from input).fault (loading_loads from input (Ok ds) h) in
-    subst AreWritableDocuments e (loads_are from input (subst AreNumerable (sym e) small))
+    subst AreWritableDocuments e (loads_are from input)
 
 pub load_again : DumpTextsLoadAgain
-load_again w k from input small = texts_load_again w k (loads_of from input).documents (loads_are from input small)
+load_again w k from input = texts_load_again w k (loads_of from input).documents (loads_are from input)
 
 pub tell_documents : DumpTextsTellDocuments
-tell_documents w k a_from a small b_from b little =
-    texts_tell w k (loads_of a_from a).documents (loads_of b_from b).documents (loads_are a_from a small) (loads_are b_from b little)
+tell_documents w k a_from a b_from b =
+    texts_tell w k (loads_of a_from a).documents (loads_of b_from b).documents (loads_are a_from a) (loads_are b_from b)
 
 pub inputs_load_alike : InputsLoadAlike
 inputs_load_alike c a_from a h b_from b g =

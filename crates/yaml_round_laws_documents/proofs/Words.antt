@@ -38,7 +38,7 @@ pub use Rattle.yaml_round_content.proofs.Layouts.{NodeFlagged, NodesFlagged, Nor
 pub use Rattle.yaml_round_content.specs.Agree.{AreAgreeing, Core, CoreNode, core_of}
 pub use Rattle.yaml_round_content.specs.Canon.{canon, canon_encoding, canon_items, written_document, written_documents, written_node, written_nodes, written_pairs, written_scalar}
 pub use Rattle.yaml_round_content.specs.ContentLaws.{InputsSayFronts, SaysIsInjective}
-pub use Rattle.yaml_round_content.specs.DumpsEvents.{AreLoadedDocuments, AreNumerable, content_events, events_saying, load_each, told_by, trees_of_dumps, unplaced}
+pub use Rattle.yaml_round_content.specs.DumpsEvents.{AreLoadedDocuments, content_events, events_saying, load_each, told_by, trees_of_dumps, unplaced}
 pub use Rattle.yaml_round_content.specs.DumpsLaws.{ContentIsLoaded, ContentLoadsDocuments, DumpsLoadBack}
 pub use Rattle.yaml_round_content.specs.Events.{contents}
 pub use Rattle.yaml_round_content.specs.Input.{ending_of, events_of, parsed, tokens_of}

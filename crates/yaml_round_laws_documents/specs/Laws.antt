@@ -8,7 +8,7 @@ use Rattle.yaml_round_content.specs.Loads.{loads_of}
 use Rattle.yaml_round_content.specs.Writable.{AreWritable}
 use Rattle.yaml_round_content.specs.DumpsEvents.{trees_of_dumps, AreLoadedDocuments}
 
--- The documents of each input, also those in front of a fault, are documents as loading makes them: their numbers follow the first
+-- The documents of each input, also those before a fault, are documents as loading makes them: their numbers follow the first
 -- visits from the root, each node has a kind, and no tag is `!`.
 abbrev pub AllLoadDocuments : Type 0
 AllLoadDocuments = (from : yaml_encoding_t) (input : List ℕ)

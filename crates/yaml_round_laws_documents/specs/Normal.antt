@@ -16,7 +16,7 @@ use Rattle.yaml_round_content.specs.Agree.{AreAgreeing, LoadAlike}
 use Rattle.yaml_round_content.specs.Renamed.{Renaming, renamed, AreOneToOne}
 use Rattle.yaml_round_content.specs.Writable.{AreWritable}
 use Rattle.yaml_round_content.specs.PlainLoading.{PlainLoading}
-use Rattle.yaml_round_content.specs.DumpsEvents.{trees_of_dumps, AreLoadedDocuments, AreNumerable}
+use Rattle.yaml_round_content.specs.DumpsEvents.{trees_of_dumps, AreLoadedDocuments}
 
 -- the documents as they are written
 abbrev pub ended : List Document → List Document
@@ -30,10 +30,9 @@ dump_events ds = stream_events YAML_ANY_ENCODING (map graph_content (ended ds))
 abbrev pub dump_text : RequestedSettings → List Document → List ℕ
 dump_text w ds = canon w (trees_of_dumps ds)
 
--- Documents as loading makes them, each with fewer nodes than a `u64` can number, and what they say may be written.
+-- Documents as loading makes them, and what they say may be written.
 pub record AreWritableDocuments (ds : List Document) : Type 0 where
   pub loaded : AreLoadedDocuments ds
-  pub small : AreNumerable ds
   pub writable : AreWritable (trees_of_dumps ds)
 
 -- For the dumps of an input's documents the canonical text of what they say is laid out.
@@ -62,28 +61,26 @@ DocumentTextsTell = (w : RequestedSettings) → w.canonical ≡ true
     → (ds es : List Document) → AreWritableDocuments ds → AreWritableDocuments es
     → (dump_text w ds ≡ dump_text w es) ↔ AreAgreeing ds es
 
--- Such are the documents of each input, also those in front of a fault.
+-- Such are the documents of each input, also those before a fault.
 abbrev pub LoadsAreDocuments : Type 0
 LoadsAreDocuments = (from : yaml_encoding_t) (input : List ℕ)
-    → AreNumerable (loads_of from input).documents
     → AreWritableDocuments (loads_of from input).documents
 
 -- And so are those of its plain loading.
 abbrev pub PlainDocuments : Type 0
 PlainDocuments = (from : yaml_encoding_t) (input : List ℕ) (ds : List Document)
-    → PlainLoading from input (Ok ds) → AreNumerable ds → AreWritableDocuments ds
+    → PlainLoading from input (Ok ds) → AreWritableDocuments ds
 
 -- So the canonical text of what an input's documents say loads again.
 abbrev pub DumpTextsLoadAgain : Type 0
 DumpTextsLoadAgain = (w : RequestedSettings) → w.canonical ≡ true
-    → (from : yaml_encoding_t) (input : List ℕ) → AreNumerable (loads_of from input).documents
+    → (from : yaml_encoding_t) (input : List ℕ)
     → LoadsAgain w (loads_of from input).documents (dump_text w (loads_of from input).documents)
 
 -- Inputs have one such text exactly if their documents agree.
 abbrev pub DumpTextsTellDocuments : Type 0
 DumpTextsTellDocuments = (w : RequestedSettings) → w.canonical ≡ true
-    → (a_from : yaml_encoding_t) (a : List ℕ) → AreNumerable (loads_of a_from a).documents
-    → (b_from : yaml_encoding_t) (b : List ℕ) → AreNumerable (loads_of b_from b).documents
+    → (a_from : yaml_encoding_t) (a : List ℕ) (b_from : yaml_encoding_t) (b : List ℕ)
     → (dump_text w (loads_of a_from a).documents ≡ dump_text w (loads_of b_from b).documents)
     ↔ AreAgreeing (loads_of a_from a).documents (loads_of b_from b).documents
 
@@ -94,7 +91,7 @@ InputsLoadAlike = (c : List content.Document)
     → (b_from : yaml_encoding_t) (b : List ℕ) → HasContent b_from b c
     → LoadAlike (loads_of a_from a) (loads_of b_from b)
 
--- The names of anchors don't matter: inputs with one content but for the names of each document have one such text.
+-- The names of anchors don't matter: inputs with one content except for the names of each document have one such text.
 abbrev pub NamesDoNotMatter : Type 0
 NamesDoNotMatter = (w : RequestedSettings) (r : ℕ → Renaming) (c : List content.Document)
     → AreOneToOne r c → (a_from : yaml_encoding_t) (a : List ℕ) → HasContent a_from a c

@@ -31,7 +31,7 @@ abbrev pub quoted_style : List ℕ → yaml_scalar_style_t
 quoted_style value = if may_be_literal value then YAML_LITERAL_SCALAR_STYLE
     else YAML_SINGLE_QUOTED_SCALAR_STYLE
 
--- By whether nothing but it would begin the text: what counts as plain is plain, but for what would be nothing there. A tagged scalar
+-- By whether nothing but it would begin the text: what counts as plain is plain, except what would be nothing there. A tagged scalar
 -- is plain in one line.
 abbrev pub readable_style : Bool → Option (List ℕ) → ScalarMark → List ℕ → yaml_scalar_style_t
 readable_style starts anchor (untagged true) value =

@@ -25,7 +25,7 @@ token_bodies ts = map (λ (t : Token). t.body) ts
 abbrev pub event_bodies : Reading → List EventBody
 event_bodies r = map (λ (g : Told). g.0.body) r.events
 
--- one reading has these events in front of the other, and ends as it does
+-- one reading has these events before the other, and ends as it does
 pub record SaysTree (R : List EventBody → List EventBody) (r q : Reading) : Type 0 where
   pub events : event_bodies r ≡ R (event_bodies q)
   pub ending : r.ending ≡ q.ending

@@ -15,7 +15,7 @@ ghost use Rattle.yaml_round_laws_documents.specs.Normal.{
 
 /// Documents, their canonical text and what it is read as.
 pub fn laws_of_documents()
-    // The documents of each input, also those in front of a fault, are documents as loading makes them.
+    // The documents of each input, also those before a fault, are documents as loading makes them.
     ensures all_load_documents { AllLoadDocuments }
     // Their texts are UTF-8, their numbers name their nodes, and follow the first visits in preorder from the root.
     ensures loaded_are_sound { LoadedAreSound }
@@ -28,7 +28,7 @@ pub fn laws_of_documents()
     ensures document_texts_load_again { DocumentTextsLoadAgain }
     // Such documents have one such text exactly if they agree.
     ensures document_texts_tell { DocumentTextsTell }
-    // The documents of each input are such, also those in front of a fault.
+    // The documents of each input are such, also those before a fault.
     ensures loads_are_documents { LoadsAreDocuments }
     // So are those of its plain loading.
     ensures plain_documents { PlainDocuments }
@@ -38,6 +38,6 @@ pub fn laws_of_documents()
     ensures dump_texts_tell_documents { DumpTextsTellDocuments }
     // Inputs with one content load documents that agree, and both or neither are refused.
     ensures inputs_load_alike { InputsLoadAlike }
-    // The names of anchors don't matter: inputs with one content but for the names of each document have one such text.
+    // The names of anchors don't matter: inputs with one content except for the names of each document have one such text.
     ensures names_do_not_matter { NamesDoNotMatter }
 {}

@@ -25,7 +25,7 @@ use Rattle.yaml_round_content.specs.scan_history.Kinds as by_kind
 use Rattle.yaml_round_content.specs.scan_history.Words.{word_at, valued, tagged, body_said, directed, blocked, plainly}
 use Rattle.yaml_scan_laws_texts.proofs.Depths.{AllDeep, all_deep}
 
--- Tokens behind others go on from their depth.
+-- Tokens after others go on from their depth.
 pub behind_both : (ts us : List Token) (n : ℕ)
     → depth_behind (ts ++ us) n ≡ depth_behind us (depth_behind ts n)
 behind_both [] us n = refl
@@ -105,7 +105,7 @@ spell_deep s e n =
 
 -- ---- the tokens of lexemes
 
--- how many brackets are open behind entries
+-- how many brackets are open after entries
 abbrev entries_behind : List Entry → ℕ → ℕ
 entries_behind [] n = n
 entries_behind (e ∷ es) n = entries_behind es (by_kind.depth_after e.lexeme.kind n)

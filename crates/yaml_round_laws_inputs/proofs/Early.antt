@@ -1,11 +1,11 @@
--- A front that is refused in front of its end is refused so in the whole.
+-- A front that is refused before its end is refused so in the whole.
 use Rattle.std.proofs.Common.{◌≡◌, ◌≢◌, ℕ, ◌<◌, true, List, [], ◌∷◌, ◌++◌, length, Option, Some, None, refl, sym, ap, subst, ◌∙◌, inl, inr, arith}
 use Rattle.yaml_round_laws_inputs.proofs.WindowsWords.{append-nil, yaml_encoding_t, Fault, Remaining, is_document_start, parser_fault, Reading, spells_text, cut, IsCut, scan_of, refused_fronts_are_scanned, begun, stream_ends, parse_of, refused_fronts_stay, refused_tokens_stay, tokens_in, reading_in, EarlyFaultsAreRead}
 use Rattle.yaml_round_content.specs.parse_grammar.declared.ParseProblem.TheVariants.{NoDocumentStart}
 use Rattle.yaml_parse_laws_windows.specs.Laws as parse
 use Rattle.yaml_round_laws_inputs.proofs.WindowsJoining.{AllSpell, cut_same, cut_behind, behind_tokens, passed, go_on, read_to, cut_marked, spell_push, spell_or}
 
--- it is refused so, behind the same events
+-- it is refused so, after the same events
 abbrev ReadSo : yaml_encoding_t → List ℕ → List ℕ → Fault → Type 0
 ReadSo x a b f =
     (parse.events_in (reading_in x (a ++ b)) ≡ parse.events_in (reading_in x a))

@@ -1,4 +1,4 @@
--- A front that ends in a line `...` and is refused in front of it is refused so in the whole.
+-- A front that ends in a line `...` and is refused before it is refused so in the whole.
 use Rattle.std.proofs.Common.{◌≡◌, ℕ, ◌+◌, ◌<◌, List, [], ◌∷◌, ◌++◌, length, Option, Some, None, refl, sym, ap, subst, ◌∙◌, inl, inr, arith}
 use Rattle.yaml_round_laws_inputs.proofs.WindowsWords.{append-nil, append_assoc, length-append, yaml_encoding_t, yaml_mark_t, Fault, mark_at, Token, TokenBody, Remaining, Reading, spells_text, cut, EndsIn, IsCut, IsEndLine, scan_of, refused_fronts_are_scanned, begun_over, TailSo, line_tail, stream_ends, parse_of, GoOn, ended_fronts_stay, refused_tokens_stay, tokens_in, reading_in, EndedFaultsAreRead}
 use Rattle.yaml_round_content.specs.scan_model.Tokens as token
@@ -7,7 +7,7 @@ use Rattle.yaml_scan_laws_texts.proofs.CutsEnding.{line_long, whole_end, line_cu
 use Rattle.yaml_parse_laws_windows.specs.Laws as parse
 use Rattle.yaml_round_laws_inputs.proofs.WindowsJoining.{AllSpell, cut_same, cut_behind, go_on, read_to, spell_push, spell_or}
 
--- one text is refused as another one is, behind the same events
+-- one text is refused as another one is, after the same events
 abbrev SameRefusal : yaml_encoding_t → List ℕ → List ℕ → Fault → Type 0
 SameRefusal x t w f =
     (parse.events_in (reading_in x w) ≡ parse.events_in (reading_in x t))
@@ -94,7 +94,7 @@ told_both x a t w f front mark goes over tail behind mine others so refused low 
           ]
     ]
 
--- by what the scanner says of what stands in front of the line
+-- by what the scanner says of what stands before the line
 by_front : (x : yaml_encoding_t) (a line b : List ℕ) → IsCut a line → IsCut a (line ++ b)
     → IsEndLine line
     → (f : Fault) → (reading_in x (a ++ line)).ending ≡ Some f → f.problem_mark.index < length a

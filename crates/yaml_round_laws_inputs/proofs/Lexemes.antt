@@ -1,4 +1,4 @@
--- Indicators, and the blanks behind those of blocks, take a character each.
+-- Indicators, and the blanks after those of blocks, take a character each.
 use Rattle.std.proofs.Common.{◌≡◌, ℕ, zero, suc, ◌+◌, ◌≤◌, Bool, true, false, not, ◌&&◌, ◌||◌, ◌==◌, nat_lt, if◌then◌else◌, List, [], ◌∷◌, Option, Some, None, refl, sym, ap, subst, ◌∙◌, arith, inl, inr, le_refl}
 use Rattle.yaml_round_laws_inputs.proofs.SizesWords.{cases_Bool, ltb-false, ne_eqb, or_parts, byte, starts, column_at, break_of, is_blank_or_end, starts_plain, Kind, Lexeme, is_end, kind_at, indicator_of, or_plain}
 use Rattle.yaml_scan_history.specs.scan_words.Indicators.{is_thrice, is_document_start, is_document_end}

@@ -36,7 +36,7 @@ ended_keeps text l (Ok w) =
     (λ _. record { kind = refl; depth = refl; start = refl })
 ended_keeps text l (Err w) = record { kind = refl; depth = refl; start = refl }
 
--- the place behind an indicator of blocks is the next one
+-- the place after an indicator of blocks is the next one
 behind_of : (k : Kind) (text : List ℕ) (h : List Lexeme)
     → apart k (depth h) ≤ one_if (is_blank_or_end text ((gap_behind text h).place + 1))
     → apart k (depth h) ≤ one_if (is_blank_or_end text (lexeme_behind k text h).reached.index)

@@ -1,4 +1,4 @@
--- The white behind a plain scalar, with tabs, where no level is open, and the end that it comes before.
+-- The white after a plain scalar, with tabs, where no level is open, and the end that it comes before.
 use Rattle.std.proofs.Common.{◌≡◌, ◌≢◌, ℕ, zero, suc, ◌+◌, ◌<◌, ◌≤◌, ◌==◌, ◌&&◌, Bool, true, false, List, [], ◌∷◌, length, Result, Ok, refl, sym, ap, subst, ◌∙◌, inl, inr, arith, ne_eqb, ◌||◌, ◌++◌, Some, None, ◌⊎◌, add-zero}
 use Rattle.yaml_round_laws_inputs.proofs.JsonWords.{and_parts, or_cases, or_left, or_right, nat_tests, byte, break_of, break_width, column_at, is_blank, ends_of, ends_break, starts, is_blank_or_end, Wrong, Has, Takes, spot_at, ends_at, Words, words_from, follows, words, is_bracket, is_indicator_byte, starts_plain, after_white, with_piece, PlainText, plain_with, plain_text, plain_at, is_white, are_white, has_break, is_letter_or_digit, is_value_byte, first, begins_value, is_plain_value, list_all, and-false, begins_lexeme, is_document_start, is_document_end, indicator_of, kind_at}
 use Rattle.yaml_scan_history.specs.scan_model.Breaks.{is_document_indicator}
@@ -72,12 +72,12 @@ calm text p h =
 no_column : (n : ℕ) → (n + 1 == 0) ≡ false
 no_column n = grind (arith, nat_tests)
 
--- no `---` and no `...` stands behind such a byte
+-- no `---` and no `...` stands after such a byte
 no_indicator : (text : List ℕ) (p : ℕ) → IsCalm text p → is_document_indicator text (p + 1) ≡ false
 unfolding is_document_indicator
 no_indicator text p c = let e = column_more text p c.ends c.starts in rw (e, no_column (column_at text p)) refl
 
--- nothing ends before such a byte behind another one
+-- nothing ends before such a byte after another one
 not_ended : (flow : Bool) (level : ℕ) (text : List ℕ) (p : ℕ) → IsCalm text p → IsCalm text (p + 1)
     → ends_at flow level text (p + 1) ≡ false
 unfolding ends_at
@@ -111,7 +111,7 @@ run_text : (bs : List ℕ) → line_text (kept_run bs) ≡ bs
 run_text [] = refl
 run_text (b ∷ bs) = ap (λ (xs : List ℕ). b ∷ xs) (run_text bs)
 
--- ---- the words behind its first byte
+-- ---- the words after its first byte
 
 abbrev run_words : List ℕ → ℕ → Words → Words
 run_words [] p w = w

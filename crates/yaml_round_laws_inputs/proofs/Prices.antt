@@ -55,7 +55,7 @@ body_spans kinds.StreamStart s l q f = tt
 body_spans kinds.StreamEnd s l q f = end_spans s l q
 body_spans _ s l q f = carried l.start.index q _ (word_spans _ (nat_lt 0 l.depth) l.level s.text l.start.index) (f refl)
 
--- the place that a lexeme reaches is that behind its word
+-- the place that a lexeme reaches is that after its word
 ended_reach : (text : List ℕ) (b : Lexeme) (r : Result WordText Wrong) → is_end b.kind ≡ false
     → (with_end text b r).reached.index ≡ reached_or r b.reached.index
 ended_reach text b (Ok w) e = rw e refl
@@ -107,7 +107,7 @@ next_spans : (s : SpelledText) (x : Lexeme) (h : List Lexeme) → is_end x.kind 
 unfolding next
 next_spans s x h more = rw more (coming_spans (kind_behind s.text (x ∷ h)) s (x ∷ h))
 
--- ---- how many bytes lexemes take, and the blanks behind those that want one
+-- ---- how many bytes lexemes take, and the blanks after those that want one
 
 abbrev pub taking : Lexeme → ℕ
 taking l = (l.reached.index - l.start.index) + apart l.kind l.depth
@@ -289,7 +289,7 @@ body_pays u b wide _ p q some f = omega arith
 more_pays : (b o x k n : ℕ) → x ≤ (b + b) * k → o ≤ b * n → o + x ≤ (b + b) * (k + n)
 more_pays b o x k n w v = omega (arith, w, v)
 
--- a mapping opens outside of brackets, where a blank stands behind what opens it
+-- a mapping opens outside of brackets, where a blank stands after what opens it
 key_pays : (b d o x k : ℕ) → x ≤ (b + b) * k → o ≤ outer d b → o + x ≤ (b + b) * (k + outside d)
 key_pays b zero o x k w v = omega (arith, w, v)
 key_pays b (suc d) o x k w v = omega (arith, w, v)

@@ -95,7 +95,7 @@ mutual
   node_shaped : (v : Value) → IsValue v → IsJsonNode (json_node (json_value v))
   node_shaped (literal l) h = inr (record { anchor = refl; tag = refl; plain = refl; style = refl; value = literal_plain l })
   node_shaped (number n) h = inr (record { anchor = refl; tag = refl; plain = refl; style = refl; value = number_plain n h })
-  node_shaped (string ls) h = inl (record { anchor = refl; tag = refl; plain = refl; quoted = refl; style = refl })
+  node_shaped (string ls) h = inl (record { anchor = refl; tag = refl; style = refl })
   node_shaped (array w elements) (hw, h) = (record { anchor = refl; tag = refl; flow = refl }, elements_shaped elements h)
   node_shaped (object w members) (hw, h) = (record { anchor = refl; tag = refl; flow = refl }, members_shaped members h)
   node_shaped _ h = (record { anchor = refl; tag = refl; flow = refl }, tt)
@@ -107,8 +107,8 @@ mutual
 
   members_shaped : (members : Members) → AreMembers members
       → AreJsonPairs (json_pairs (json_members members))
-  members_shaped (last_member k a b v c) (hk, ha, hb, h, hc) = (inl (record { anchor = refl; tag = refl; plain = refl; quoted = refl; style = refl }), node_shaped v h, tt)
-  members_shaped (member k a b v c d members) (hk, ha, hb, h, hc, hd, hs) = (inl (record { anchor = refl; tag = refl; plain = refl; quoted = refl; style = refl }), node_shaped v h, members_shaped members hs)
+  members_shaped (last_member k a b v c) (hk, ha, hb, h, hc) = (inl (record { anchor = refl; tag = refl; style = refl }), node_shaped v h, tt)
+  members_shaped (member k a b v c d members) (hk, ha, hb, h, hc, hd, hs) = (inl (record { anchor = refl; tag = refl; style = refl }), node_shaped v h, members_shaped members hs)
 
 pub document_shaped : (v : Value) → IsValue v → IsJsonDocument (json_document (json_value v))
 document_shaped v h = record { version = refl; directives = refl; root = node_shaped v h }

@@ -79,7 +79,7 @@ key_near ls ws text p h k white near at =
     let F : List ℕ → Type 0 = λ bs. is_fresh (mark_at text p) (mark_at text (p + length bs)) ≡ true in
     subst F s.is (line_near s.characters text p (one_line s.characters s.all) (omega (arith, size, few)) (subst (λ (bs : List ℕ). HasAt text p bs) (sym s.is) at))
 
--- ==== A walk over a JSON text, word by word: each word goes with the white behind it, up to the next word.
+-- ==== A walk over a JSON text, word by word: each word goes with the white after it, up to the next word.
 
 abbrev pub Tell : Type 0
 Tell = List TokenBody → List TokenBody
@@ -101,7 +101,7 @@ pub left_starts : (text : List ℕ) (p : ℕ) (bs : List ℕ) → Left text p bs
 left_starts text p [] l h = absurd (true≢false (sym h))
 left_starts text p (b ∷ bs) l h = solid_starts text p b (left_first text p b bs l) h
 
--- ---- what stands behind a value and its white
+-- ---- what stands after a value and its white
 
 -- in brackets a comma or a closing one; outside the end
 abbrev pub Behind : ℕ → List ℕ → Type 0
@@ -244,7 +244,7 @@ colon_sign : (d : ℕ) → nat_lt 0 d ≡ true → IsSign 58 kinds.ValueMark tok
 unfolding word_at
 colon_sign d deep = record { solid = refl; kind = λ text p h. kind_by (nat_lt 0 d) text p 58 kinds.ValueMark h refl refl refl refl (colon_kind (nat_lt 0 d) (is_blank_or_end text (p + 1)) deep); word = λ text p. refl }
 
--- a sign and the white behind it
+-- a sign and the white after it
 sign_step : (x : yaml_encoding_t) (text : List ℕ) (b f : ℕ) (T : Tell) (k : Kind) (body : TokenBody)
     (ws bs : List ℕ) (o : WalkState) → WalkReads x text o [] [] [] T → IsSign b k body o.depth
     → stays_level k o.depth ≡ true → is_value k ≡ false → depth_after k o.depth ≡ f

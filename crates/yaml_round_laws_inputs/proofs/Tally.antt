@@ -10,7 +10,7 @@ use Rattle.yaml_round_content.specs.Events.{emitter_events, contents}
 use Rattle.yaml_round_content.specs.Said.{tagged}
 use Rattle.yaml_round_content.specs.Said as content
 
--- what an event takes, a line before each node and behind each collection, where nodes are indented by n; of a document w besides
+-- what an event takes, a line before each node and after each collection, where nodes are indented by n; of a document w besides
 abbrev tally_of : Settings → ℕ → List TagDirective → ℕ → Event → ℕ
 tally_of s w ds n (document_start o) = w + ascii s 34 + directives_bytes s o.directives
 tally_of s w ds n (alias name) = most_of_line s (n - s.indent) + ascii s 3 + text_bytes s.encoding name
@@ -41,7 +41,7 @@ tally s w ds n (e ∷ es) = tally_of s w ds n e + tally s w (directives_behind d
 back : (n i : ℕ) → (n + i) - i ≡ n
 back n i = omega arith
 
--- behind a collection the indentation is what it was
+-- after a collection the indentation is what it was
 closed : (s : Settings) (w : ℕ) (ds : List TagDirective) (n : ℕ) (es : List Event)
     → most_of_line s ((n + s.indent) - s.indent) + tally s w ds ((n + s.indent) - s.indent) es
     ≡ most_of_line s n + tally s w ds n es
@@ -147,7 +147,7 @@ said_tally s w c = omega (arith, said_documents s w [] c)
 
 -- ---- flags and styles don't count
 
--- one event counts as another does, and so do those behind them
+-- one event counts as another does, and so do those after them
 record CountsAs (a b : Event) : Type 0 where
   same : (s : Settings) (w : ℕ) (ds : List TagDirective) (n : ℕ)
       → tally_of s w ds n a ≡ tally_of s w ds n b

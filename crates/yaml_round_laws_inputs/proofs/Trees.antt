@@ -13,7 +13,7 @@ properties_count : (d : PropertyTokens) (rest : List Token)
 properties_count (tree.anchor a) rest = omega arith
 properties_count _ rest = omega arith
 
--- ---- tokens in front of others
+-- ---- tokens before others
 
 properties_grow : (w : Weight) (d : PropertyTokens) (rest : List Token)
     → weigh w rest ≤ weigh w (spell_properties d rest)

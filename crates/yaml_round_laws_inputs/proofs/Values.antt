@@ -132,7 +132,7 @@ unfolding pieces
 pieces_spent zero quote text p = tt
 pieces_spent (suc n) quote text p = followed_spent (pieces n quote text) p (standing_at quote text p) (pieces_spent n quote text) (standing_spent quote text p)
 
--- a value and the place behind it
+-- a value and the place after it
 abbrev pub ValueSpent : ℕ → Result (List ℕ × ℕ) Wrong → Type 0
 ValueSpent p (Ok x) = 2 * length x.0 + 3 * p ≤ 3 * x.1
 ValueSpent p (Err w) = Unit {0}

@@ -25,7 +25,7 @@ says_as : (x : yaml_encoding_t) (text bs : List ℕ) (d : ℕ) (T U : Tell)
     → ((es : List TokenBody) → T es ≡ U es) → At x text bs d T → At x text bs d U
 says_as x text bs d T U e a = record { place = a.place; reads = walk_says.other x text a.place [] [] [] T U a.reads e; deep = a.deep; left = a.left }
 
--- behind a comma stand elements, or members
+-- after a comma stand elements, or members
 more_elements : (elements : Elements) (es : List TokenBody)
     → json_items false (json_nodes (values.json_elements elements)) es ≡ tokens.flow_entry
     ∷ json_items true (json_nodes (values.json_elements elements)) es

@@ -68,7 +68,7 @@ byte_cases b h = grind (arith, nat_tests)
 
 -- ---- where tabs are skipped
 
--- in brackets all are; else those in front of a break, where no key may begin
+-- in brackets all are; else those before a break, where no key may begin
 abbrev pub tabs_fit : Bool → Bool → List ℕ → Bool
 tabs_fit true allowed ws = true
 tabs_fit false true ws = not (has_tab ws)
@@ -99,7 +99,7 @@ fits_break true _ b bs e h = refl
 
 -- ---- gaps
 
--- gaps of at most k bytes lead to the place behind them
+-- gaps of at most k bytes lead to the place after them
 abbrev Leads : ℕ → Type 0
 Leads k = (n : ℕ) (flow allowed : Bool) (text : List ℕ) (p : ℕ) (ws : List ℕ) → length ws ≤ k → Has text p ws → are_white ws ≡ true → tabs_fit flow allowed ws ≡ true → begins_lexeme text (p + length ws) ≡ true
     → length text ≤ p + n → (gap_within n flow allowed text p).place ≡ p + length ws
@@ -179,9 +179,9 @@ leads (suc k) n flow allowed text p (b ∷ bs) few (e, h) are fits stop room =
           rw end (returns k (leads k) n flow allowed text p bs (omega (arith, few)) (e ∙ s) h back (fits_break flow allowed b bs breaks fits) after room)
     ]
 
--- ---- behind a word
+-- ---- after a word
 
--- whether a key may begin behind white
+-- whether a key may begin after white
 abbrev pub may_then : List ℕ → ℕ → Bool → WordText → Bool
 may_then text d allows w = (allows || w.broke) || ((gap_at (nat_lt 0 d) (allows || w.broke) text w.reached).broke && not (nat_lt 0 d))
 
@@ -210,7 +210,7 @@ place_leaves text d allows w e there stop h at key deep =
           ∙ or_off (may_then text d allows w) _;
     }
 
--- Behind a word that reaches to white.
+-- After a word that reaches to white.
 pub white_leaves : (text : List ℕ) (d : ℕ) (allows : Bool) (w : WordText) (ws : List ℕ)
     → Has text w.reached ws → are_white ws ≡ true
     → tabs_fit (nat_lt 0 d) (allows || w.broke) ws ≡ true
@@ -218,7 +218,7 @@ pub white_leaves : (text : List ℕ) (d : ℕ) (allows : Bool) (w : WordText) (w
     → WordLeaves text d allows w (w.reached + length ws) (may_then text d allows w) false
 white_leaves text d allows w ws h are fits stop = place_leaves text d allows w (w.reached + length ws) (leads (length ws) (length text) (nat_lt 0 d) (allows || w.broke) text w.reached ws (omega arith) h are fits stop (omega arith)) stop
 
--- Behind one that has taken it.
+-- After one that has taken it.
 pub word_leaves : (text : List ℕ) (d : ℕ) (allows : Bool) (w : WordText)
     → begins_lexeme text w.reached ≡ true
     → WordLeaves text d allows w w.reached (may_then text d allows w) false

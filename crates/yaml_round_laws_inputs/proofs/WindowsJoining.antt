@@ -202,7 +202,7 @@ marks_are_read x a b at begins ga before end came start later come =
           (subst (λ (o : Option Fault). IsMovedEnd d n (read_to (with_token h.first (with_token h.mark h.behind))).ending o) (sym (ap (λ (r : Reading). r.ending) whole ∙ over)) ending),
     )
 
--- ---- behind a line `...`
+-- ---- after a line `...`
 
 directive_begins : (b : TokenBody) → IsDirective b → parse.BeginsDocument b
 directive_begins (token.version_directive major minor) h = tt

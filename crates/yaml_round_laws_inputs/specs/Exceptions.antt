@@ -40,7 +40,7 @@ abbrev pub has_break : List ℕ → Bool
 has_break [] = false
 has_break (b ∷ bs) = is_break b || has_break bs
 
--- A key stands on the line of its `:`, which is at most `key_bytes` behind the key's start.
+-- A key stands on the line of its `:`, which is at most `key_bytes` after the key's start.
 abbrev pub is_near : List Letter → List ℕ → Bool
 is_near key white = not (has_break white) && nat_le (length (string_bytes key ++ white)) key_bytes
 
@@ -55,7 +55,7 @@ abbrev pub has_tab_below : List ℕ → Bool
 has_tab_below [] = false
 has_tab_below (b ∷ bs) = if is_break b then has_tab bs else has_tab_below bs
 
--- a literal or a number, which takes the white behind it
+-- a literal or a number, which takes the white after it
 abbrev pub is_bare : Value → Bool
 is_bare (literal l) = true
 is_bare (number n) = true

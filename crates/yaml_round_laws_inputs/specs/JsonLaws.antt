@@ -28,7 +28,7 @@ pub record JsonIsRead : Type 0 where
   -- bytes in UTF-8
   pub in_utf8 : (from : yaml_encoding_t) → may_be_utf8 from ≡ true → (bytes : List ℕ) (t : Text)
       → IsJsonText bytes t → IsUsualText t → IsReadAsValue from bytes (json_value t.value)
-  -- bytes that spell it in whichever encoding, behind a byte order mark or without one
+  -- bytes that spell it in whichever encoding, after a byte order mark or without one
   pub spelled : (from : yaml_encoding_t) (input text : List ℕ) (t : Text) → Spells from input text
       → IsJsonText text t → IsUsualText t → IsReadAsValue from input (json_value t.value)
   -- it has one value

@@ -27,7 +27,7 @@ mutual
     no_pairs : JsonPairs
     pair : List ℕ → Json → JsonPairs → JsonPairs
 
--- the number behind `\u` names a character, but for surrogates, which are an exception
+-- the number after `\u` names a character, except for surrogates, which are an exception
 abbrev pub letter_means : Letter → List ℕ
 letter_means (raw c) = encode_utf8 c
 letter_means (short s) = short_means s ∷ []

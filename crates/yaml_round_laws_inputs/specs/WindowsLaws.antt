@@ -35,7 +35,7 @@ pub record IsAccepted (encoding : yaml_encoding_t) (text : List ℕ) : Type 0 wh
   pub scanned : (tokens_in encoding text).fault ≡ None
   pub parsed : (reading_in encoding text).ending ≡ None
 
--- A cut between documents: in front of a line `---`; or behind a line `...`, where the rest leads to a directive.
+-- A cut between documents: before a line `---`; or after a line `...`, where the rest leads to a directive.
 abbrev pub CutsDocuments : List ℕ → List ℕ → Type 0
 CutsDocuments front rest = (IsCut front rest × (is_document_start rest 0 ≡ true))
     ⊎ (IsEndCut front rest × LeadsToDirective rest)
@@ -59,13 +59,13 @@ abbrev pub WindowsAreAccepted : Type 0
 WindowsAreAccepted = (encoding : yaml_encoding_t) (front rest : List ℕ) → CutsDocuments front rest
     → IsAccepted encoding front → IsAccepted encoding rest → IsAccepted encoding (front ++ rest)
 
--- the fault of a text that ends behind directives
+-- the fault of a text that ends after directives
 abbrev pub AwaitsDocument : yaml_encoding_t → List ℕ → Fault → Type 0
 AwaitsDocument encoding text f = (before : List Token) × (last : Token)
     × ((scan_of encoding text).tokens ≡ before ++ last ∷ [])
     × (f ≡ parser_fault NoDocumentStart last.start_mark last.start_mark)
 
--- Where a front is refused, but not by the scanner, and leaves no bracket open, nor ends behind directives, the whole has its events
+-- Where a front is refused, but not by the scanner, and leaves no bracket open, nor ends after directives, the whole has its events
 -- and its fault.
 abbrev pub RefusedFrontsAreRead : Type 0
 RefusedFrontsAreRead = (encoding : yaml_encoding_t) (front rest : List ℕ) → IsCut front rest
@@ -76,7 +76,7 @@ RefusedFrontsAreRead = (encoding : yaml_encoding_t) (front rest : List ℕ) → 
     → (events_in encoding (front ++ rest) ≡ events_in encoding front)
     × ((reading_in encoding (front ++ rest)).ending ≡ Some f)
 
--- Where a front is refused with a fault that stands in front of its end, by whomever, the whole has its events and its fault.
+-- Where a front is refused with a fault that stands before its end, by whomever, the whole has its events and its fault.
 abbrev pub EarlyFaultsAreRead : Type 0
 EarlyFaultsAreRead = (encoding : yaml_encoding_t) (front rest : List ℕ) → IsCut front rest
     → is_document_start rest 0 ≡ true
@@ -85,7 +85,7 @@ EarlyFaultsAreRead = (encoding : yaml_encoding_t) (front rest : List ℕ) → Is
     → (events_in encoding (front ++ rest) ≡ events_in encoding front)
     × ((reading_in encoding (front ++ rest)).ending ≡ Some f)
 
--- So it is where a front that ends in a line `...` is refused with a fault that stands in front of that line, whatever follows.
+-- So it is where a front that ends in a line `...` is refused with a fault that stands before that line, whatever follows.
 abbrev pub EndedFaultsAreRead : Type 0
 EndedFaultsAreRead = (encoding : yaml_encoding_t) (front rest : List ℕ)
     → (at : IsEndCut front rest)

@@ -6,7 +6,7 @@ use Rattle.yaml_emit_layout.specs.declared.Expected.TheVariants as at
 abbrev cursor : ℕ → Bool → Bool → Bool → Cursor
 cursor column white bare kept = record { column = column; white = white; bare = bare; kept = kept }
 
--- a line of three dots, behind which breaks are kept or not, as before
+-- a line of three dots, after which breaks are kept or not, as before
 dots_same : (b : LineBreak) (column : ℕ) (white bare k l : Bool) (rest : Rest)
     → ((word (46 ∷ 46 ∷ 46 ∷ []) ▹ line b 0) ▹ keep false) (cursor column white bare k) rest
     ≡ ((word (46 ∷ 46 ∷ 46 ∷ []) ▹ line b 0) ▹ keep false) (cursor column white bare l) rest

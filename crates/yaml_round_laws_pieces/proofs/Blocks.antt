@@ -2,7 +2,7 @@
 use Rattle.std.proofs.Common.{◌≡◌, ℕ, Bool, true, false, true≢false, not, ◌&&◌, List, [], ◌∷◌, refl, sym, Option, Some, None}
 use Rattle.yaml_round_laws_pieces.proofs.Words.{Cursor, Settings, LineBreak, Lf, Rest, Layout, line, nothing_more, TagDirective, Level, Problem, Phase, Items, Keys, Value, Event, document_end, alias, scalar, sequence_start, sequence_end, mapping_start, mapping_end, or_else, problem_by, place_problem, last_problem, before_item, before_key, closer, end_layout, State, among, piece, next, next_at, problem_at, opens_empty, text_at, depth_at, top_of, place_at, let_out, unless, laid, refused_at, is_between, are_between, BlocksStandByLevels}
 
--- both lines have text, behind block scalars that both keep their breaks or both don't
+-- both lines have text, after block scalars that both keep their breaks or both don't
 record Lined (c d : Cursor) : Type 0 where
   first : c.bare ≡ false
   second : d.bare ≡ false
@@ -29,7 +29,7 @@ abbrev Same : Settings → List TagDirective → List Level → Event → Bool �
     → (State → Rest) → Type 0
 Same s g ls e b c d k = piece s (among g ls) e b c (λ z. k (next s (among g ls) e b z) z) ≡ piece s (among g ls) e b d (λ z. k (next s (among g ls) e b z) z)
 
--- behind the last collection only the document's end is right
+-- after the last collection only the document's end is right
 root_same : (s : Settings) (g : List TagDirective) (e : Event) (b : Bool) (c d : Cursor)
     (k : State → Rest) → Lined c d → problem_at s (among g []) e ≡ None → Same s g [] e b c d k
 unfolding problem_by place_problem text_at depth_at end_layout
@@ -66,7 +66,7 @@ keys_same s g n fresh ls (mapping_start q) b c d k h r p = line_same s.line_brea
 keys_same s g n fresh ls mapping_end b c d k h r p = r
 keys_same s g n fresh ls e b c d k h r p = absurd (never _ (last_problem e) _ p)
 
--- those behind an event are laid out from the state that it leads to
+-- those after an event are laid out from the state that it leads to
 later : Settings → List Event → State → Rest
 later s es st z = laid s st es z nothing_more
 

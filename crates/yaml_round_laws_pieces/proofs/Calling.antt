@@ -1,9 +1,9 @@
--- Calls one behind another.
+-- Calls one after another.
 use Rattle.std.proofs.Common.{◌≡◌, ℕ, suc, ◌+◌, List, [], ◌∷◌, ◌++◌, length, refl, sym, ap, ◌∙◌, arith, append_assoc, append-nil, length-append}
 use Rattle.yaml_round_laws_pieces.proofs.Words.{Encoding, Settings, encode, nothing_more, Event, let_out, laid, refusal_behind, text_from, Stand, first_stand, added, joined}
 use Rattle.yaml_round_laws_pieces.specs.Calls.{LeadsIn, taken_up, Calls, no_call, call, CallsAreWholes}
 
--- where events wait, what is given behind them is what is given with them
+-- where events wait, what is given after them is what is given with them
 pub taken_leads : (x : Encoding) (s : Settings) (a b : Stand) (es : List Event)
     → LeadsIn x s (taken_up a) (a.held ++ es) b → LeadsIn x s a es b
 taken_leads x s a b es l = record {

@@ -1,4 +1,4 @@
--- Pieces one behind another, and what stands in for what was written.
+-- Pieces one after another, and what stands in for what was written.
 use Rattle.std.proofs.Common.{◌≡◌, suc, ◌+◌, List, [], ◌∷◌, ◌++◌, length, refl, sym, ap, ◌∙◌, arith, append_assoc, append-nil, length-append, map}
 use Rattle.yaml_round_laws_pieces.proofs.Words.{Encoding, Settings, Item, letter, deep, char_bytes, encode, Event, let_out, laid, Stand, first_stand, added, whole, LeadsToStand, joined, Cuts, no_piece, CuttingsAreWholes, CutsAreThere, FrontsAreShown, StandInsStand}
 use Rattle.yaml_round_laws_pieces.specs.Pieces.{piece}
@@ -16,14 +16,14 @@ unfolding joined encode
 joined_bytes x [] = refl
 joined_bytes x (t ∷ texts) = ap (λ z. encode x t ++ z) (joined_bytes x texts) ∙ sym (encode_both x t (joined texts))
 
--- a text that something is behind, and that is the same without it
+-- a text that something is after, and that is the same without it
 no_more : (xs ys : List Item) → xs ≡ xs ++ ys → ys ≡ []
 no_more xs [] h = refl
 no_more xs (y ∷ ys) h =
     let k : length xs ≡ length xs + suc (length ys) = ap length h ∙ length-append xs (y ∷ ys) in
     absurd (omega arith)
 
--- of one piece, and those behind it
+-- of one piece, and those after it
 one_more : (s : Settings) (a b : Stand) (es more : List Event) (texts : List Item)
     → LeadsToStand s a es b
     → texts ≡ added s b more → added s a es ++ texts ≡ added s a (es ++ more)

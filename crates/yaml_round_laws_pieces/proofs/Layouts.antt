@@ -131,7 +131,7 @@ end_in_mapping : (canonical : Bool) (h : Progress) (p : _)
 unfolding problem_by progress_after event_problem last_problem place_problem
 end_in_mapping canonical h p = refl
 
--- so a wrong event behind what opens a collection doesn't close it
+-- so a wrong event after what opens a collection doesn't close it
 wrong_closes_none : (canonical : Bool) (h : Progress) (e f : Event) (more : List Event)
     (x : Problem)
     → problem_in canonical (progress_after h e) f ≡ Some x → opens_empty e (f ∷ more) ≡ false

@@ -22,7 +22,7 @@ first_judged : (canonical : Bool) (st : State) (e : Event) (es : List Event)
 unfolding first_refusal
 first_judged canonical st e es o r = or_none (refused_at st.place) _ o ∙ ap (first_refusal canonical (shape_of st)) (first_out e es r)
 
--- behind a right event the others are judged from where it leads
+-- after a right event the others are judged from where it leads
 right_judged : (s : Settings) (st : State) (e : Event) (es : List Event) (empty : Bool) (d : Cursor)
     → refused_at st.place ≡ None → is_ready (e ∷ es) ≡ true → problem_at s st e ≡ None
     → refusal_behind s st (e ∷ es) ≡ refusal_behind s (next s st e empty d) es
@@ -37,7 +37,7 @@ wrong_judged : (s : Settings) (st : State) (e : Event) (es : List Event) (x : Pr
 unfolding refusal_behind
 wrong_judged s st e es x o r p = first_judged s.canonical st e es o r ∙ or_some _ _ x (sym (same_problem s st e) ∙ p)
 
--- what comes of a list behind its first event
+-- what comes of a list after its first event
 behind : Settings → State → Event → Bool → List Event → Rest
 behind s st e empty es d = text_from s (next s st e empty d) es d nothing_more
 
@@ -93,7 +93,7 @@ waiting s st c xs h n = record {
   last = refl;
 }
 
--- behind a refusal nothing counts
+-- after a refusal nothing counts
 abbrev refused : Problem → State → State
 refused x st = record { place = at.Refused x; levels = st.levels; directives = st.directives }
 

@@ -1,4 +1,4 @@
--- Calls of an emitter that goes on: each is given the events that wait in front of its own, and tells its text in bytes.
+-- Calls of an emitter that goes on: each is given the events that wait before its own, and tells its text in bytes.
 use Rattle.std.specs.Prelude.{◌≡◌, ℕ, List, [], ◌∷◌, ◌++◌}
 use Rattle.yaml_emit_layout.specs.declared.Encoding.{Encoding}
 use Rattle.yaml_emit_layout.specs.declared.Settings.{Settings}
@@ -23,7 +23,7 @@ pub record LeadsIn (x : Encoding) (s : Settings) (a : Stand) (es : List Event) (
 abbrev pub taken_up : Stand → Stand
 taken_up a = record { state = a.state; cursor = a.cursor; held = [] }
 
--- The pieces of a list are given one behind another, each behind the events that wait where the one before it leads. These are the
+-- The pieces of a list are given one after another, each after the events that wait where the one before it leads. These are the
 -- bytes of their texts, and there the last one leads.
 pub data Calls (x : Encoding) (s : Settings) : Stand → List (List Event) → List (List ℕ) → Stand
     → Type 0 where
@@ -32,8 +32,8 @@ pub data Calls (x : Encoding) (s : Settings) : Stand → List (List Event) → L
       → LeadsIn x s (taken_up a) (a.held ++ es) b → Calls x s b pieces texts c
       → Calls x s a (es ∷ pieces) (encode x (added s (taken_up a) (a.held ++ es)) ∷ texts) c
 
--- However a list is cut, the texts of the calls are one behind another the text of the whole, and what follows is refused as it is
--- behind the whole.
+-- However a list is cut, the texts of the calls are one after another the text of the whole, and what follows is refused as it is
+-- after the whole.
 abbrev pub CallsAreWholes : Type 0
 CallsAreWholes = (x : Encoding) (s : Settings) (pieces : List (List Event)) (texts : List (List ℕ))
     (b : Stand) → Calls x s first_stand pieces texts b

@@ -20,7 +20,7 @@ abbrev pub StandsAreThere : Type 0
 StandsAreThere = (s : Settings) (a : Stand) (es : List Event) → (b : Stand)
     × (LeadsToStand s a es b × Waits a es b)
 
--- However a list is cut, the texts of its pieces, one behind another, are the text of the whole, in bytes too.
+-- However a list is cut, the texts of its pieces, one after another, are the text of the whole, in bytes too.
 abbrev pub CuttingsAreWholes : Type 0
 CuttingsAreWholes = (s : Settings) (pieces : List (List Event)) (texts : List (List Item))
     → Cuts s first_stand pieces texts
@@ -71,7 +71,7 @@ between_documents first unended column white bare kept = record {
   held = [];
 }
 
--- In front of a document it doesn't count whether the last one's breaks are kept: a document that stands in for others has to end as
+-- Before a document it doesn't count whether the last one's breaks are kept: a document that stands in for others has to end as
 -- the last of them did, and that is all.
 abbrev pub DocumentsStandByEnds : Type 0
 DocumentsStandByEnds = (s : Settings) (first unended : Bool) (column : ℕ) (white bare k l : Bool)

@@ -18,7 +18,7 @@ use Rattle.yaml_round_laws_pieces.specs.Pieces.{whole}
 abbrev pub all_written : Settings → List Event → List Item
 all_written s es = written (laid s (placed at.StreamStart) es)
 
--- these events, with others behind them, are those of a stream of these documents, in which nothing is wrong
+-- these events, with others after them, are those of a stream of these documents, in which nothing is wrong
 pub record BeginsStream (s : Settings) (es more : List Event) (ds : List Document) : Type 0 where
   pub encoding : yaml_encoding_t
   pub same : es ++ more ≡ stream_events encoding ds
@@ -48,7 +48,7 @@ AllIsOfLayouts = (s : Settings) (es more : List Event) (ds : List Document)
     → BeginsStream s es more ds → stays_open es more ≡ true
     → (rest : List Item) × (written (stream_layout s ds) ≡ all_written s es ++ rest)
 
--- An event that is wrong behind others adds nothing to what is written for them, and neither does what follows it.
+-- An event that is wrong after others adds nothing to what is written for them, and neither does what follows it.
 abbrev pub WrongAddNothing : Type 0
 WrongAddNothing = (s : Settings) (es : List Event) (e : Event) (more : List Event) (p : Problem)
     → first_refusal s.canonical first_progress es ≡ None

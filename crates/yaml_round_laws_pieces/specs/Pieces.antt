@@ -1,4 +1,4 @@
--- An emitter that goes on from call to call: what is known behind some events, and what others add to their text.
+-- An emitter that goes on from call to call: what is known after some events, and what others add to their text.
 use Rattle.std.specs.Prelude.{◌≡◌, ◌≤◌, length, List, [], ◌∷◌, ◌++◌}
 use Rattle.yaml_emit_layout.specs.declared.Cursor.{Cursor}
 use Rattle.yaml_emit_layout.specs.declared.Settings.{Settings}
@@ -41,12 +41,12 @@ pub record Waits (a : Stand) (es : List Event) (b : Stand) : Type 0 where
   pub front : List Event
   pub last : a.held ++ es ≡ front ++ b.held
 
--- lists one behind another
+-- lists one after another
 unfoldable pub joined : {A : Type 0} → List (List A) → List A
 joined [] = []
 joined (x ∷ xs) = x ++ joined xs
 
--- The pieces of a list are given one behind another, each from where the one before it leads, and these are the texts.
+-- The pieces of a list are given one after another, each from where the one before it leads, and these are the texts.
 pub data Cuts (s : Settings) : Stand → List (List Event) → List (List Item) → Type 0 where
   no_piece : (a : Stand) → Cuts s a [] []
   piece : (a b : Stand) (es : List Event) (pieces : List (List Event)) (texts : List (List Item))

@@ -9,7 +9,7 @@ pub fn stands_are_there()
     ensures { StandsAreThere }
 {}
 
-/// However a list of events is cut, the texts of its pieces, one behind another, are the text of the whole.
+/// However a list of events is cut, the texts of its pieces, one after another, are the text of the whole.
 pub fn cuttings_are_wholes()
     ensures { CuttingsAreWholes }
 {}
@@ -24,7 +24,7 @@ pub fn fronts_are_shown()
     ensures { FrontsAreShown }
 {}
 
-/// What follows adds the same behind events and behind others that lead to a stand that is alike.
+/// What follows adds the same after events and after others that lead to a stand that is alike.
 pub fn stand_ins_stand()
     ensures { StandInsStand }
 {}
@@ -34,13 +34,13 @@ pub fn blocks_stand_by_levels()
     ensures { BlocksStandByLevels }
 {}
 
-/// In front of a document it counts how the last one ended, and not whether its breaks are kept.
+/// Before a document it counts how the last one ended, and not whether its breaks are kept.
 pub fn documents_stand_by_ends()
     ensures { DocumentsStandByEnds }
 {}
 
 /// What is written for events is said by the trees of the streams that they begin: the layout of a whole stream, and fronts of it for
-/// its first events; a wrong event and those behind it add nothing.
+/// its first events; a wrong event and those after it add nothing.
 pub fn texts_are_of_layouts()
     ensures streams { StreamsAreLayouts }
     ensures fronts { FrontsAreOfLayouts }

@@ -14,7 +14,7 @@ use Rattle.yaml_round_content.proofs.Injective.{rest_same}
 
 -- ---- lists
 
--- Two lists that go on apart behind a front do so behind no other.
+-- Two lists that go on apart after a front do so after no other.
 one_front : (b b' l o l' o' : List EventBody) → b ++ l ≡ b' ++ l' → b ++ o ≡ b' ++ o'
     → (next_of l ≡ next_of o → ⊥) → (next_of l' ≡ next_of o' → ⊥) → b ≡ b'
 one_front [] [] l o l' o' p q d d' = refl

@@ -80,7 +80,7 @@ of_documents from settings input text n =
       is = n.is;
       right = right_loads YAML_ANY_ENCODING text n.back n.right;
       agree = subst (λ (ds : List Document). AreAgreeing (loads_of from input).documents ds) (sym e) n.agree;
-      only = λ other source small k. n.any (loads_of other source).documents (loads_are other source small) k;
+      only = λ other source k. n.any (loads_of other source).documents (loads_are other source) k;
       again = subst (λ (ds : List Document). IsDumped settings ds (Ok text)) (sym e) n.again;
     }
 

@@ -96,7 +96,7 @@ there anchor (Some tag) (item.scalar value style) h = marked_scalar (bytes_eq ta
 there anchor tag (item.sequence style) h = refl
 there anchor tag (item.mapping style) h = refl
 
--- ---- an empty node behind its properties
+-- ---- an empty node after its properties
 
 empty_at : (m : Bool) (anchor : Option (List ℕ)) (tag : List ℕ)
     → is_nothing_next (emitter_event (normalize_scalar m anchor (Some tag) [] false false

@@ -29,7 +29,7 @@ firsts a b x y e = cc
 nothing_said : (a : EventBody) (x : List EventBody) → [] ≡ a ∷ x → ⊥
 nothing_said a x e = absurd (cc)
 
--- behind one front the first events are the same
+-- after one front the first events are the same
 behind_front : (front : List EventBody) (a b : EventBody) (x y : List EventBody)
     → front ++ a ∷ x ≡ front ++ b ∷ y → a ≡ b
 behind_front [] a b x y e = firsts a b x y e

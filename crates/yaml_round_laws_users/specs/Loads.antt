@@ -5,7 +5,7 @@ use Rattle.yaml_round.specs.declared.yaml_encoding_t.TheVariants.{YAML_ANY_ENCOD
 use Rattle.yaml_emit_laws_text.specs.emit_layout.scan_model.Faults.{Fault}
 use Rattle.yaml_round.specs.round_laws_documents.round_content.Loads.{loads_of}
 use Rattle.yaml_round.specs.round_laws_documents.round_content.Agree.{AreAgreeing}
-use Rattle.yaml_round.specs.round_laws_documents.round_content.DumpsEvents.{trees_of_dumps, AreNumerable}
+use Rattle.yaml_round.specs.round_laws_documents.round_content.DumpsEvents.{trees_of_dumps}
 use Rattle.yaml_round.specs.declared.yaml_settings_t.{yaml_settings_t}
 use Rattle.yaml_round.specs.Answers.{canonical_text}
 use Rattle.yaml_round.specs.Reload.{IsDumped, IsNormalOfDocuments, IsReloaded}
@@ -31,7 +31,7 @@ ReloadsAreOfLoads = (from : yaml_encoding_t) (settings : yaml_settings_t) (input
     (r : Result (List ℕ) Fault)
     → IsReloaded from settings input r ↔ AreLoadsReloaded from settings input r
 
--- The normal form, said of what events load: the documents that a source loads in front of a fault are told by the text too.
+-- The normal form, said of what events load: the documents that a source loads before a fault are told by the text too.
 pub record IsNormalOfLoads (from : yaml_encoding_t) (settings : yaml_settings_t)
     (input text : List ℕ) : Type 0 where
   pub is : text ≡ canonical_text settings (trees_of_dumps (loads_of from input).documents)
@@ -39,7 +39,6 @@ pub record IsNormalOfLoads (from : yaml_encoding_t) (settings : yaml_settings_t)
   pub agree : AreAgreeing (loads_of from input).documents
       (loads_of YAML_ANY_ENCODING text).documents
   pub only : (other : yaml_encoding_t) (source : List ℕ)
-      → AreNumerable (loads_of other source).documents
       → canonical_text settings (trees_of_dumps (loads_of other source).documents) ≡ text
       → AreAgreeing (loads_of from input).documents (loads_of other source).documents
   pub again : IsDumped settings (loads_of YAML_ANY_ENCODING text).documents (Ok text)

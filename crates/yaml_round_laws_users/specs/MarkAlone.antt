@@ -24,7 +24,7 @@ is_mark_alone (tree.anchor_tag a t) = false
 is_mark_alone (tree.tag t) = is_mark t
 is_mark_alone (tree.tag_anchor t a) = false
 
--- and nothing behind it
+-- and nothing after it
 abbrev pub is_mark_node : {w : Wants} → tree.Node w → Bool
 is_mark_node (tree.alias s name) = false
 is_mark_node (tree.only_properties d) = is_mark_alone d

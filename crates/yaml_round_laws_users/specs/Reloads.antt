@@ -34,7 +34,7 @@ AnswersAndReloadsAgree = (from : yaml_encoding_t) (s z : yaml_settings_t) (input
     (form : yaml_form_t) → IsReformatted from s input (Ok (t, form))
     → IsReloaded from z input (Ok u) → LoadAgreeing t u
 
--- Inputs with one content but for the names of each document's anchors, no two names becoming one, have one answer.
+-- Inputs with one content except for the names of each document's anchors, no two names becoming one, have one answer.
 abbrev pub NamesLeaveReloads : Type 0
 NamesLeaveReloads = (s : yaml_settings_t) (r : ℕ → Renaming) (c : List content.Document)
     → AreOneToOne r c

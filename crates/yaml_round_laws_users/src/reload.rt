@@ -17,7 +17,7 @@ pub fn answers_and_reloads_agree()
     ensures { AnswersAndReloadsAgree }
 {}
 
-/// To inputs with one content but for the names of each document's anchors, no two names becoming one, `yaml_reload` answers one
+/// To inputs with one content except the names of each document's anchors, no two names becoming one, `yaml_reload` answers one
 /// text.
 pub fn names_leave_reloads()
     ensures { NamesLeaveReloads }
@@ -29,7 +29,7 @@ pub fn reloads_are_of_loads()
     ensures { ReloadsAreOfLoads }
 {}
 
-/// And what it answers is a normal form of what events load: documents that a source loads in front of a fault, and whose text it is,
+/// And what it answers is a normal form of what events load: documents that a source loads before a fault, and whose text it is,
 /// agree with the input's too.
 pub fn reloads_are_normal_of_loads()
     ensures { ReloadsAreNormalOfLoads }

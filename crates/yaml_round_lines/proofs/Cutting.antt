@@ -2,7 +2,7 @@
 use Rattle.std.proofs.Common.{◌≡◌, ℕ, List, [], ◌∷◌, ◌++◌, sym, ◌∙◌, append_assoc}
 use Rattle.std.proofs.lemmas.List.{same_from_push}
 
--- behind two that are cut off one by one stands what was put before them
+-- after two that are cut off one by one stands what was put before them
 pub before_two : (line front whole more last : List ℕ) (a b x y : ℕ)
     → whole ≡ line ++ (front ++ a ∷ b ∷ []) → whole ≡ more ++ y ∷ [] → more ≡ last ++ x ∷ []
     → last ≡ line ++ front

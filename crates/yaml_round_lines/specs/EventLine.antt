@@ -66,12 +66,12 @@ event_text event.mapping_end = codes "-MAP"
 abbrev pub event_line : EventBody → List ℕ
 event_line body = event_text body ++ ascii.line_feed ∷ []
 
--- a part is put behind a line, or nothing
+-- a part is put after a line, or nothing
 abbrev pub Puts : Bool → List ℕ → List ℕ → List ℕ → Type 0
 Puts true old part new = new ≡ old ++ part
 Puts false old part new = new ≡ old
 
--- a part is put behind a line, or something else
+-- a part is put after a line, or something else
 abbrev pub PutsOver : Bool → List ℕ → List ℕ → List ℕ → Type 0
 PutsOver true old part new = new ≡ old ++ part
 PutsOver false old part new = take (length old) new ≡ old

@@ -5,7 +5,7 @@ use Rattle.yaml_scan_model.specs.Ascii as ascii
 use Rattle.yaml_scan_model.specs.Ends.{most_short}
 use Rattle.yaml_round_lines.specs.EventLine.{escaped}
 
--- it stands behind the control characters that are escaped, and is no backslash
+-- it stands after the control characters that are escaped, and is no backslash
 unfoldable pub is_kept : ℕ → Bool
 is_kept b = nat_lt ascii.carriage_return b && not (b == ascii.backslash)
 

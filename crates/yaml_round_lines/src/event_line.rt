@@ -16,13 +16,13 @@ use yaml_scan_model::{
 };
 
 // What the line of a node takes at most where its texts are short: twelve beside them, and twice of a tag and of a value. For a
-// longer one so much is made as well: then the short ones behind it have room.
+// longer one so much is made as well: then the short ones after it have room.
 const ROOM: usize = 12 + 5 * SHORT;
 
 // The indicator of each style.
 const INDICATORS: [u8; 6] = *b"::'\"|>";
 
-// The same behind a scalar's word and a space, and two spaces that are cut off again.
+// The same after a scalar's word and a space, and two spaces that are cut off again.
 const FRONTS: [u8; 48] = *b"=VAL :  =VAL :  =VAL '  =VAL \"  =VAL |  =VAL >  ";
 
 // The parts of which `put_plain_part` has a copy each.
@@ -38,7 +38,7 @@ fn style_indicator(style: yaml_scalar_style_t) -> u8
     INDICATORS[style as usize]
 }
 
-// A scalar's word, the style's indicator behind a space, and two spaces.
+// A scalar's word, the style's indicator after a space, and two spaces.
 // Inlined: one load.
 #[inline(always)]
 fn front_of(style: yaml_scalar_style_t) -> [u8; 8]
@@ -133,9 +133,9 @@ fn put_plain_scalar(line: &mut Vec<u8>, event: &yaml_event_t) -> bool
 }
 
 // The same where there is room; else nothing.
-// Out of line: LLVM looks at a hundred uses of the line at most to see that nobody keeps it, and reads its place again behind each
+// Out of line: LLVM looks at a hundred uses of the line at most to see that nobody keeps it, and reads its place again after each
 // byte where it can't. It leaves what isn't plain to its caller, so that no argument is kept for that, and reads the event
-// itself, so that its parts aren't read in front of the choice between it and `put_bare`.
+// itself, so that its parts aren't read before the choice between it and `put_bare`.
 #[inline(never)]
 fn put_named_scalar(line: &mut Vec<u8>, event: &yaml_event_t) -> bool
     ensures { Puts result line.old.items (event_line (event_of event.now).body) line.new.items }
@@ -378,7 +378,7 @@ fn push_rare(line: &mut Vec<u8>, word: &[u8]) -> Result<(), AllocError>
     Ok(())
 }
 
-// Puts the line of an event that its word alone tells behind so many bytes, where there is room; else nothing.
+// Puts the line of an event that its word alone tells after so many bytes, where there is room; else nothing.
 // Inlined: some stores, for words of a fixed length.
 #[inline(always)]
 fn put_word(line: &mut Vec<u8>, from: usize, word: &[u8]) -> bool
@@ -430,7 +430,7 @@ fn push_any(line: &mut Vec<u8>, event: &yaml_event_t) -> Result<(), AllocError>
     }
 }
 
-// Puts the line of an event that is no scalar behind so many bytes, where there is room, and its texts are short and plain; else
+// Puts the line of an event that is no scalar after so many bytes, where there is room, and its texts are short and plain; else
 // nothing.
 // Inlined into its one caller.
 #[inline(always)]
@@ -483,9 +483,9 @@ fn put_line(line: &mut Vec<u8>, event: &yaml_event_t) -> bool
 }
 
 /// Pushes the line that tells an event, with a line feed at its end: `+STR`, `-STR`, `+DOC` (` ---` where it is explicit),
-/// `-DOC` (` ...` where it is explicit), `=ALI *name`, `+SEQ`, `-SEQ`, `+MAP`, `-MAP`, `=VAL`; behind a node's word its
-/// ` &anchor` and ` <tag>`, behind `=VAL` a space, the style's indicator (`: ' " | >`) and the value. In tags and values a
-/// backslash, 00, 08, 09, 0A and 0D are escaped. Behind an error what stands in the line counts for nothing.
+/// `-DOC` (` ...` where it is explicit), `=ALI *name`, `+SEQ`, `-SEQ`, `+MAP`, `-MAP`, `=VAL`; after a node's word its
+/// ` &anchor` and ` <tag>`, after `=VAL` a space, the style's indicator (`: ' " | >`) and the value. In tags and values a
+/// backslash, 00, 08, 09, 0A and 0D are escaped. After an error what stands in the line counts for nothing.
 pub fn yaml_push_event_line(line: &mut Vec<u8>, event: &yaml_event_t) -> Result<(), AllocError>
     ensures { OnOk result (line.new.items ≡ line.old.items ++ event_line
         (event_of event.now).body) }

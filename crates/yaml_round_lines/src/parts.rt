@@ -10,7 +10,7 @@ ghost use Rattle.yaml_round_lines.specs.EventLine.{escaped, anchor_part, tag_par
 use crate::runs::{are_kept_ends, put_runs};
 use yaml_scan_model::{SHORT, moved, put_back, put_each, put_near, put_short};
 
-/// Puts a text of any length behind a space and an indicator, and a byte that ends it.
+/// Puts a text of any length after a space and an indicator, and a byte that ends it.
 // Inlined: some stores and a call.
 #[inline(always)]
 pub(crate) fn put_part(line: &mut Vec<u8>, indicator: u8, text: &[u8], end: u8)

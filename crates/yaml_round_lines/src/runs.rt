@@ -108,7 +108,7 @@ fn put_half<'a>(line: &mut Vec<u8>, text: &'a [u8]) -> &'a [u8]
     &text[HALF..]
 }
 
-// Puts the kept bytes in front, and the byte behind them; the answer is the rest.
+// Puts the kept bytes in front, and the byte after them; the answer is the rest.
 // Inlined: see `put_chunks`.
 #[inline(always)]
 fn put_bytes<'a>(line: &mut Vec<u8>, text: &'a [u8]) -> &'a [u8]
@@ -129,7 +129,7 @@ fn put_bytes<'a>(line: &mut Vec<u8>, text: &'a [u8]) -> &'a [u8]
     left
 }
 
-// Puts the kept bytes in front, and the byte behind them; the answer is the rest. Where none is kept, as in an empty line, no chunk
+// Puts the kept bytes in front, and the byte after them; the answer is the rest. Where none is kept, as in an empty line, no chunk
 // is looked at.
 // Inlined: see `put_chunks`.
 #[inline(always)]

@@ -1,2 +1,3 @@
 pub mod Reading
 pub mod Answers
+pub use Rattle.yaml_round_adapter.specs.Input

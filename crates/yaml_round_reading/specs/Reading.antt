@@ -13,7 +13,7 @@ pub use Rattle.yaml_round_content.specs.Events.{emitter_events, contents}
 
 -- ---- events
 
--- the empty event, which stands behind the last one
+-- the empty event, which stands after the last one
 abbrev pub is_empty : EventBody → Bool
 is_empty event.no = true
 is_empty body = false
@@ -37,7 +37,7 @@ pub record HasNothingToCome (c : ParserRemaining) : Type 0 where
   pub events : c.events ≡ []
   pub ending : c.ending ≡ None
 
--- the fault is the one that ends the reading, or want of memory
+-- the fault is the one that ends the reading, or out of memory
 abbrev pub IsFaultOf : Option Fault → yaml_fault_t → Type 0
 IsFaultOf ending f = IsMemoryFault parse_layers (fault_of f) ⊎ (ending ≡ Some (fault_of f))
 

@@ -10,38 +10,36 @@ ghost use Rattle.yaml_round_reading.specs.Reading.{AreReal, FindsNextEvent, Ends
 
 use std::alloc::Global;
 use yaml_parse::{
-    yaml_document_t, yaml_encoding_t, yaml_event_body_t, yaml_event_t, yaml_fault_t, yaml_found_t,
-    yaml_memory_fault, yaml_origin_t, yaml_parser_delete, yaml_parser_initialize, yaml_parser_load,
-    yaml_parser_parse_into, yaml_parser_t,
+    TokenParser, yaml_document_t, yaml_event_body_t, yaml_event_t, yaml_fault_t, yaml_found_t,
+    yaml_memory_fault, yaml_origin_t,
 };
-use yaml_round_adapter::yaml_adapter_t;
+use yaml_round_adapter::{ReadText, ScannedTokens};
 
 /// A parser of an input's tokens, and slots in which its next event stands, or the fault that ends it.
 #[derive(Drop)]
 pub struct Reading<'a> {
-    pub parser: yaml_parser_t<yaml_adapter_t<'a>>,
+    pub parser: TokenParser<ScannedTokens<'a>>,
     pub event: yaml_event_t,
     pub fault: yaml_fault_t,
 }
 
-/// A reading of the input that has given nothing yet.
-pub fn reading_of<'a>(
-    alloc: Global,
-    input: &'a [u8],
-    from: yaml_encoding_t,
-) -> Result<Reading<'a>, yaml_fault_t>
-    ensures reads { IfOk result (λ r. ReadsInput from input.now r.parser) }
+/// A reading of the input whose text it is, that has given nothing yet.
+pub fn reading_of<'a>(alloc: Global, text: &'a ReadText<'a>) -> Result<Reading<'a>, yaml_fault_t>
+    ensures reads { IfOk result (λ r. ReadsInput text.now.from text.now.bytes r.parser) }
     ensures real { IfOk result (λ r. AreReal r.parser.events) }
     ensures between { IfOk result (λ r. r.parser.between ≡ true) }
     ensures memory { IfErr result (λ f. fault_of f ≡ memory_fault yaml_origin_t.Parser) }
 {
-    match yaml_parser_initialize(alloc, yaml_adapter_t::reading_ahead(alloc, input, from)) {
-        Ok(parser) => Ok(Reading {
-            parser,
-            event: yaml_event_t::unplaced(yaml_event_body_t::No),
-            fault: yaml_memory_fault(yaml_origin_t::Parser),
-        }),
-        Err(fault) => Err(fault),
+    match ScannedTokens::new(alloc, text) {
+        Ok(tokens) => {
+            let parser = TokenParser::new(alloc, tokens);
+            Ok(Reading {
+                parser,
+                event: yaml_event_t::unplaced(yaml_event_body_t::No),
+                fault: yaml_memory_fault(yaml_origin_t::Parser),
+            })
+        }
+        Err(_) => Err(yaml_memory_fault(yaml_origin_t::Parser)),
     }
 }
 
@@ -52,7 +50,7 @@ impl Reading<'_> {
         ensures { FindsNextEvent self.old.parser result (event_of self.new.event) self.new.fault
             self.new.parser }
     {
-        yaml_parser_parse_into(&mut self.parser, &mut self.event, &mut self.fault)
+        self.parser.parse_into(&mut self.event, &mut self.fault)
     }
 
     /// What `next` answers, of a reading whose events may be any. It is a call, so that no proof above writes out the drops of all
@@ -61,10 +59,10 @@ impl Reading<'_> {
         ensures finds { Finds self.old.parser result (event_of self.new.event)
             (fault_of self.new.fault) self.new.parser }
     {
-        yaml_parser_parse_into(&mut self.parser, &mut self.event, &mut self.fault)
+        self.parser.parse_into(&mut self.event, &mut self.fault)
     }
 
-    /// The next document; behind the last one a document without root. It is a call, so that no proof above writes out the drops
+    /// The next document; after the last one a document without root. It is a call, so that no proof above writes out the drops
     /// of all that a parser holds.
     pub fn load(&mut self) -> Result<yaml_document_t, yaml_fault_t>
         requires { self.old.parser.between ≡ true }
@@ -74,14 +72,14 @@ impl Reading<'_> {
             self.new.parser) }
         ensures between { self.new.parser.between ≡ true }
     {
-        yaml_parser_load(&mut self.parser)
+        self.parser.load()
     }
 }
 
 /// Lets a reading go. It is a call, so that no owner's proof writes out the drop of all that a parser holds.
 pub fn let_go(reading: Reading<'_>) {
     let Reading { parser, event, .. } = reading;
-    yaml_parser_delete(parser);
+    drop(parser);
     drop(event);
 }
 

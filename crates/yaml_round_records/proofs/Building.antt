@@ -70,7 +70,7 @@ meant_body bytes list r b is h =
     let may : may_give b ≡ true = some_if (may_give b) b (subst (λ (o : Option EventBody). is_some (given o) ≡ true) is h) in
     (ap given is ∙ given_true (may_give b) b may, has_utf8 b may)
 
--- ---- directives one behind another
+-- ---- directives one after another
 
 -- What was put, and whatever the rest means, is what all mean.
 abbrev pub PutSome : List ℕ → List yaml_c_directive → List TagDirective → List yaml_c_directive
@@ -106,7 +106,7 @@ pub put_all : (bytes : List ℕ) (list : List yaml_c_directive) (i : ℕ) (front
     → all_directives bytes list ≡ Some front
 put_all bytes list i front h inv = inv [] (ap (all_directives bytes) (drop_all i list h) ∙ none_directives bytes) ∙ ap (λ (ds : List TagDirective). Some ds) (append-nil front)
 
--- ---- the same of an event that was put, or refused for want of memory
+-- ---- the same of an event that was put, or refused when out of memory
 
 abbrev Put : {X E : Type 0} → Result X E → Option EventBody → EventBody → Type 0
 Put r o b = OnOk r (o ≡ Some b)

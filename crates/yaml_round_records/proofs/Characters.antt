@@ -15,7 +15,7 @@ parted text a k h =
     ∙ ap (λ n. take (n + k) (take a text ++ drop a text)) (sym (length-take-le a text h))
     ∙ take-append-add (take a text) (drop a text) k
 
--- the characters between two places are those in front of the later one that aren't in front of the earlier one
+-- the characters between two places are those before the later one that aren't before the earlier one
 pub between : (text : List ℕ) (a b : ℕ) → a ≤ b → a ≤ length text
     → characters_before text b ≡ characters_before text a + count_by starts (slice_range text a b)
 between text a b h w =
@@ -25,7 +25,7 @@ between text a b h w =
 pub most : (text : List ℕ) (a : ℕ) → a ≤ length text → characters_before text a ≤ a
 most text a h = subst (λ n. characters_before text a ≤ n) (length-take-le a text h) (count_by-le-length starts (take a text))
 
--- where each byte begins a character, so does each in front of a place
+-- where each byte begins a character, so does each before a place
 pub each : (text : List ℕ) (a : ℕ) → count_by starts text ≡ length text → a ≤ length text
     → a ≡ characters_before text a
 each text a e h =

@@ -1,4 +1,4 @@
--- Directives that are put one behind another.
+-- Directives that are put one after another.
 use Rattle.std.proofs.Common.{◌≡◌, ◌∙◌, ◌+◌, ◌<◌, ◌≤◌, ap, sym, subst, refl, suc, ℕ, List, [], ◌∷◌, ◌++◌, length, map, take, get_or, Option, Some, None, append_assoc}
 use Rattle.yaml_parse.specs.declared.yaml_tag_directive_t.{yaml_tag_directive_t}
 use Rattle.yaml_parse.specs.Events.{TagDirective, directive_of}
@@ -11,7 +11,7 @@ use Rattle.yaml_round_records.specs.Listing.{Grows, PutsDirective, AppendsDirect
 use Rattle.std.proofs.lemmas.List.{append-nil, map_more, take_all, length-map}
 use Rattle.yaml_round_records.proofs.Placing.{put_on, grows_on, grows_itself, part_stands}
 
--- the parts of a list that something stands in front of
+-- the parts of a list that something stands before
 record Parted (o : Option TagDirective) (p : Option (List TagDirective)) (ts : List TagDirective) : Type 0 where
   first : TagDirective
   others : List TagDirective
@@ -45,7 +45,7 @@ snoc bytes (x ∷ ds) d ts t e f =
     ap2_front (directive_at bytes x) (all_directives bytes (ds ++ d ∷ [])) h.first (h.others ++ t ∷ []) h.first_is (snoc bytes ds d h.others t h.others_are f)
     ∙ ap (λ z. Some (z ++ t ∷ [])) (sym h.all)
 
--- directives behind others
+-- directives after others
 appended : (bytes : List ℕ) (ds fs : List yaml_c_directive) (ts us : List TagDirective)
     → all_directives bytes ds ≡ Some ts
     → all_directives bytes fs ≡ Some us → all_directives bytes (ds ++ fs) ≡ Some (ts ++ us)
@@ -76,7 +76,7 @@ still : (old new : List ℕ) (ds : List yaml_c_directive) (ts : List TagDirectiv
 still old new ds ts g h more =
     subst (λ z. all_directives z ds ≡ Some ts) (sym (ap (λ z. z ++ more) g.is ∙ append_assoc old g.more more)) (h (g.more ++ more))
 
--- what the list meant before, and what was put behind it
+-- what the list meant before, and what was put after it
 pub append_on : (old new : List ℕ) (ds fs : List yaml_c_directive) (ts us : List TagDirective)
     → Grows old new → HoldDirectives old ds ts
     → AppendsDirectives new ds us fs → HoldDirectives new fs (ts ++ us)
@@ -148,7 +148,7 @@ next_put old l m xs i x d h is a p e f =
     map_more directive_of xs i x h ∙ ap (λ z. map directive_of (take i xs) ++ directive_of z ∷ []) (sym is) in
     subst (λ z. AddsDirectives old z m) (sym more) (one_more old l m (map directive_of (take i xs)) (directive_of x) d a p e f)
 
--- behind the last one
+-- after the last one
 pub last_put : (old l : Listing) (xs : List yaml_tag_directive_t) (i : ℕ) (s : yaml_c_span)
     → length xs ≤ i
     → AddsDirectives old (map directive_of (take i xs)) l → s.at ≡ length old.directives.items

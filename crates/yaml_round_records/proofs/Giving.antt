@@ -15,7 +15,7 @@ use Rattle.yaml_round_records.specs.Meaning.{event_meant, events_meant}
 use Rattle.yaml_round_records.specs.Leading.{all_events, LeadsOnward, TakesAllEvents}
 use Rattle.yaml_round_records.proofs.Leading.{events_left, none_left, leads_same, leads_end}
 
--- Of all events those in front of `left` were given, and those that are held are the last of what was held and these.
+-- Of all events those before `left` were given, and those that are held are the last of what was held and these.
 abbrev pub LastGiven : List Event → List Event → List Event → List Event → Type 0
 LastGiven before all left held = (front : List Event) × ((all ≡ front ++ left) × AreLast (before ++ front) held)
 
@@ -37,7 +37,7 @@ last_more before all rest held new x l m = (
   ),
 )
 
--- without a fault behind a call there was none before it
+-- without a fault after a call there was none before it
 none_before : (old new : Emitter) → Stays old new → new.fault ≡ None → (f : Option Fault)
     → old.fault ≡ f → old.fault ≡ None
 none_before old new s h None e = e

@@ -85,7 +85,7 @@ unfolding refusal_behind
 start_verdict e w limit [] s = first_verdict e w limit [] s
 start_verdict e w limit (f ∷ es) s = first_verdict e w limit (f ∷ es) s
 
--- ---- behind the events
+-- ---- after the events
 
 -- what an emitter that goes on has written, with others to come
 gone_bytes : (e : Emitter) (x : Encoding) (es : List Event) (whole : List Item) → e.fresh ≡ false

@@ -11,7 +11,7 @@ use Rattle.yaml_round_records.specs.declared.record.yaml_c_event.{yaml_c_event}
 use Rattle.yaml_round_records.specs.Numbers.{is_set, is_there, flag_told}
 use Rattle.yaml_round_records.specs.Listing.{Grows, PutsText, PutsOptional, PutsProperties, HoldsText, HoldsOptional}
 
--- a text behind another
+-- a text after another
 pub put_on : (old mid new a b : List ℕ) → mid ≡ old ++ a → new ≡ mid ++ b → new ≡ old ++ (a ++ b)
 put_on old mid new a b p q = q ∙ ap (λ z. z ++ b) p ∙ append_assoc old a b
 
@@ -34,7 +34,7 @@ long : {X : Type 0} (old text more : List X)
     → nat_le (length old + length text) (length ((old ++ text) ++ more)) ≡ true
 long old text more = grind (arith, common_steps)
 
--- a part that stands behind the first one
+-- a part that stands after the first one
 pub part_stands : {X : Type 0} (old text more : List X) (s : yaml_c_span) → s.at ≡ length old
     → s.len ≡ length text
     → part_at ((old ++ text) ++ more) s ≡ Some text
@@ -83,7 +83,7 @@ pub told_back : (b : Bool) (z : ℤ) → z ≡ flag_told b → to_z w32 (of_z w3
 told_back true z e = rw e refl
 told_back false z e = rw e refl
 
--- an anchor and a tag behind it
+-- an anchor and a tag after it
 pub put_properties : (old mid new : List ℕ) (base : yaml_c_event) (a t : Option (List ℕ))
     (m n x y : ℤ) (s u : yaml_c_span) → x ≡ m → y ≡ n
     → PutsOptional old a mid m s → PutsOptional mid t new n u

@@ -45,7 +45,7 @@ spanned : (f : yaml_c_span → yaml_c_span → yaml_c_event) (s t u v : yaml_c_s
     → f s u ≡ f t v
 spanned f s t u v p q = ap (λ z. f z u) p ∙ ap (λ z. f t z) q
 
--- the body's texts and directives stand behind the old ones
+-- the body's texts and directives stand after the old ones
 put_as : (old new : List ℕ) (b d : EventBody) → d ≡ b → new ≡ old ++ body_texts b
     → new ≡ old ++ body_texts d
 put_as old new b d e h = h ∙ ap (λ z. old ++ body_texts z) (sym e)

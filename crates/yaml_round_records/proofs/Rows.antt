@@ -33,7 +33,7 @@ apart k m h = untrue (int_eq (pos m) (pos k)) (λ e. h (ap nat_abs ((Decides-int
 below : (k n : ℕ) → int_eq (negsuc n) (pos k) ≡ false
 below k n = untrue (int_eq (negsuc n) (pos k)) (λ e. let h = (Decides-int_eq (negsuc n) (pos k)).0 e in absurd (cc))
 
--- behind k rows the j-th is the one with the number k + j
+-- after k rows the j-th is the one with the number k + j
 found_at : {X : Type 0} (xs : List X) (k j m : ℕ) → m ≡ k + j → tested xs k (pos m) ≡ entry_at xs j
 found_at [] k j m h = refl
 found_at (x ∷ xs) k zero m h = found (int_eq (pos m) (pos k)) x (tested xs (suc k) (pos m)) (same (pos m) k (ap pos (omega (arith, h))))

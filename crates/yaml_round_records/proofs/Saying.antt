@@ -1,4 +1,4 @@
--- Events that are said one behind another.
+-- Events that are said one after another.
 use Rattle.std.proofs.Common.{false, Result, Ok, Err, ◌≡◌, ◌∙◌, ap, sym, subst, refl, ℕ, List, [], ◌∷◌, ◌++◌, append_assoc}
 use Rattle.std.proofs.lemmas.List.{append-nil}
 use Rattle.std.specs.Result.{IfOk, is_err}

@@ -91,7 +91,7 @@ both_spans (Some h) (Some p) = refl
 
 -- ---- levels
 
--- whatever follows, in front of it stand these
+-- whatever follows, before it stand these
 abbrev pub FrontLevels : List yaml_c_level → List Level → List yaml_c_level → Type 0
 FrontLevels ls front left = (rest : List Level) → levels_meant left ≡ Some rest → levels_meant ls ≡ Some (front ++ rest)
 

@@ -1,4 +1,4 @@
--- Tokens that are listed one behind another.
+-- Tokens that are listed one after another.
 use Rattle.std.proofs.Common.{◌≡◌, ◌∙◌, ap, sym, subst, ℕ, ◌+◌, List, [], ◌∷◌, ◌++◌, length, append_assoc, arith}
 use Rattle.std.proofs.lemmas.List.{append-nil, length-append}
 use Rattle.yaml_scan.specs.Tokens.{Token}
@@ -7,7 +7,7 @@ use Rattle.yaml_scan.specs.Session.{HasFirst, first_of, others_of, behind_first}
 use Rattle.yaml_round_records.specs.declared.token_listing.TokenListing.{TokenListing}
 use Rattle.yaml_round_records.specs.TokensListed.{body_texts, record_at, records_from, all_texts, ListsTokens, Adds}
 
--- one more token's record, behind the others
+-- one more token's record, after the others
 records_snoc : (n : ℕ) (ts : List Token) (t : Token)
     → records_from n (ts ++ t ∷ []) ≡ records_from n ts ++ record_at (n + length (all_texts ts)) t
     ∷ []

@@ -1,4 +1,4 @@
--- What the blocks of a parse hold: the texts and the directives of its events, one behind another, and nothing beside.
+-- What the blocks of a parse hold: the texts and the directives of its events, one after another, and nothing beside.
 use Rattle.std.specs.Prelude.{ℕ, List, [], ◌∷◌, ◌++◌, Option, None, Some}
 use Rattle.yaml_parse.specs.Events.{Event, EventBody, TagDirective}
 use Rattle.yaml_parse.specs.Events as event

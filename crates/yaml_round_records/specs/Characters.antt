@@ -1,4 +1,4 @@
--- Characters in front of a place, and what stands where a node begins.
+-- Characters before a place, and what stands where a node begins.
 use Rattle.std.specs.Prelude.{◌≡◌, ◌≤◌, ℕ, Bool, true, false, ◌&&◌, ◌||◌, ◌==◌, List, length, take, drop, slice_range}
 use Rattle.std.specs.List.{count_by}
 use Rattle.yaml_scan_model.specs.Ascii as ascii
@@ -8,11 +8,11 @@ use Rattle.yaml_round_records.specs.declared.counting.Count.{Count}
 
 -- ---- characters
 
--- how many characters begin in front of a place of a text; behind its end, all
+-- how many characters begin before a place of a text; after its end, all
 abbrev pub characters_before : List ℕ → ℕ → ℕ
 characters_before text place = count_by starts (take place text)
 
--- so many stand in front of that place; where each byte begins one, that is known alone
+-- so many stand before that place; where each byte begins one, that is known alone
 pub record Counts (text : List ℕ) (c : Count) : Type 0 where
   pub single : c.is_single ≡ true → count_by starts text ≡ length text
   pub within : c.place ≤ length text
@@ -20,15 +20,15 @@ pub record Counts (text : List ℕ) (c : Count) : Type 0 where
 
 -- ---- tags
 
--- the byte behind the blanks, comments and breaks with which a text begins
+-- the byte after the blanks, comments and breaks with which a text begins
 abbrev pub behind_gap : List ℕ → ℕ
 behind_gap text = byte text (gap_at true false text 0).place
 
--- the tag of a node stands behind an anchor, whose name has so many bytes
+-- the tag of a node stands after an anchor, whose name has so many bytes
 abbrev pub stands_behind : List ℕ → ℕ → Bool
 stands_behind node name = behind_gap (drop name (drop 1 node)) == ascii.exclamation
 
--- a node begins with its tag, which begins with `!`, or with an anchor, and has it behind that
+-- a node begins with its tag, which begins with `!`, or with an anchor, and has it after that
 abbrev pub begins_tag : List ℕ → ℕ → Bool
 begins_tag node name = byte node 0 == ascii.exclamation
     || (byte node 0 == ascii.ampersand && stands_behind node name)

@@ -1,11 +1,11 @@
--- Records of an input's events in their text: the characters in front of their marks, and which tags were left out.
+-- Records of an input's events in their text: the characters before their marks, and which tags were left out.
 use Rattle.std.specs.Prelude.{ℕ, ℤ, pos, Bool, true, false, ◌&&◌, List}
 use Rattle.std.specs.Ordering.{int_eq}
 use Rattle.yaml_round_records.specs.Characters.{characters_before, has_tag}
 use Rattle.yaml_round_records.specs.declared.record.yaml_c_mark.{yaml_c_mark}
 use Rattle.yaml_round_records.specs.declared.record.yaml_c_event.{yaml_c_event}
 
--- a mark with the characters that stand in front of it
+-- a mark with the characters that stand before it
 abbrev pub mark_counted : List ℕ → yaml_c_mark → yaml_c_mark
 mark_counted text m = record m { character = characters_before text m.index }
 

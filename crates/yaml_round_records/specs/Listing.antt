@@ -1,4 +1,4 @@
--- Events that are put into records, one behind another: what a record says stays as the block and the list grow.
+-- Events that are put into records, one after another: what a record says stays as the block and the list grow.
 use Rattle.std.specs.Prelude.{◌≡◌, ◌⊎◌, ℕ, ℤ, List, [], ◌∷◌, ◌++◌, length, map, Option, None, Some, Result, Ok, Err}
 use Rattle.std.specs.Option.{is_some}
 use Rattle.yaml_parse.specs.declared.yaml_fault_t.{yaml_fault_t}
@@ -108,7 +108,7 @@ pub record PutsDirective (old : List ℕ) (t : TagDirective) (new : List ℕ)
 abbrev pub HoldDirectives : List ℕ → List yaml_c_directive → List TagDirective → Type 0
 HoldDirectives bytes ds ts = (more : List ℕ) → all_directives (bytes ++ more) ds ≡ Some ts
 
--- Behind the old directives stand those that mean these, whatever bytes follow.
+-- After the old directives stand those that mean these, whatever bytes follow.
 pub record AppendsDirectives (bytes : List ℕ) (old : List yaml_c_directive) (ts : List TagDirective)
     (new : List yaml_c_directive) : Type 0 where
   pub added : List yaml_c_directive
@@ -194,14 +194,14 @@ pub record HoldsAll (l : Listing) (es : List Event) : Type 0 where
   pub bytes : l.bytes.items ≡ all_texts es
   pub directives : HoldDirectives l.bytes.items l.directives.items (listed_directives es)
 
--- of events that were to come, those in front of what is left are said
+-- of events that were to come, those before what is left are said
 pub record Collected (start left : List Told) (l : Listing) : Type 0 where
   pub given : List Event
   pub said : AreSaid l given
   pub holds : HoldsAll l given
   pub split : events_alone start ≡ given ++ events_alone left
 
--- all of the reading's events are said, or the fault is the one that ends them, or want of memory
+-- all of the reading's events are said, or the fault is the one that ends them, or out of memory
 abbrev pub Collects : ParserRemaining → Result (Unit {0}) yaml_fault_t → Listing → Type 0
 Collects reading (Ok done) l = (reading.ending ≡ None) × Collected reading.events [] l
 Collects reading (Err f) l = IsMemoryFault parse_layers (fault_of f)

@@ -98,7 +98,7 @@ pub record PlaceLies : Type 0 where
   pub waiting : LiesAt place.the_type 7 (λ d. d.waiting) 32
   pub innermost : LiesAt place.the_type 8 (λ d. d.innermost) 40
 
--- a list is a pointer with its length behind it
+-- a list is a pointer with its length after it
 pub record StandLies : Type 0 where
   pub place : LiesAt stand.the_type 0 (λ d. d.place) 0
   pub levels : LiesAt stand.the_type 1 (λ d. d.levels) 56

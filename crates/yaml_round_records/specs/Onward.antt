@@ -54,7 +54,7 @@ Means s next = IsFew s.place.column
     → stand_meant s.place s.levels.items s.directives.items s.bytes.items ≡ Some next
 
 -- The records tell a stand where so many events wait, and nothing beside: every number of its place, the collections round the
--- innermost one, and the document's directives, with the bytes of their texts, one behind another.
+-- innermost one, and the document's directives, with the bytes of their texts, one after another.
 pub record TellsAt (s : StandRecords) (next : Option At) (waiting : ℕ) : Type 0 where
   pub place : s.place ≡ place_told next waiting
   pub levels : levels_meant s.levels.items ≡ Some (levels_round next)
@@ -78,7 +78,7 @@ pub record AddsWholeText (w : RequestedSettings) (limit : ℕ) (at : Option At) 
       (stand_of next held)
   pub same : next ≢ None → (more : List Event) → settings_on w next more ≡ settings_on w at es
 
--- An event is refused with that fault, and what is written in front of it passes no limit.
+-- An event is refused with that fault, and what is written before it passes no limit.
 pub record IsRefusedOn (w : RequestedSettings) (limit : ℕ) (at : Option At) (es : List Event)
     (fault : Fault) : Type 0 where
   pub problem : Problem

@@ -16,7 +16,7 @@ use Rattle.yaml_round_records.specs.declared.record.yaml_c_directive.{yaml_c_dir
 use Rattle.yaml_round_records.specs.declared.record.yaml_c_event.{yaml_c_event}
 use Rattle.yaml_round_records.specs.Numbers.{is_set, is_there, flag_told, encoding_meant, kind_meant, scalar_style_meant, sequence_style_meant, mapping_style_meant}
 
--- a mark as C reads it, in front of which no character is counted yet
+-- a mark as C reads it, before which no character is counted yet
 abbrev pub mark_told : yaml_mark_t → yaml_c_mark
 mark_told m = record { index = m.index; line = m.line; column = m.column; character = 0 }
 

@@ -1,4 +1,4 @@
--- Records of an input's tokens with the characters in front of their marks.
+-- Records of an input's tokens with the characters before their marks.
 use Rattle.std.specs.Prelude.{ℕ, List}
 use Rattle.yaml_round_records.specs.Counted.{mark_counted}
 use Rattle.yaml_round_records.specs.declared.token_record.yaml_c_token.{yaml_c_token}

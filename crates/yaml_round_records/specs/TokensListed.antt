@@ -53,7 +53,7 @@ plain kind start end = record {
   end = end;
 }
 
--- one with a text that stands there, and one with two of them, one behind the other
+-- one with a text that stands there, and one with two of them, one after the other
 abbrev pub with_value : ℕ → List ℕ → yaml_c_token → yaml_c_token
 with_value n text r = record r { value = span_at n text }
 
@@ -104,7 +104,7 @@ body_texts _ = []
 abbrev pub record_at : ℕ → Token → yaml_c_token
 record_at n t = body_record n t.body (mark_told t.start_mark) (mark_told t.end_mark)
 
--- the records of tokens whose texts stand one behind another
+-- the records of tokens whose texts stand one after another
 unfoldable pub records_from : ℕ → List Token → List yaml_c_token
 records_from n [] = []
 records_from n (t ∷ ts) = record_at n t ∷ records_from (n + length (body_texts t.body)) ts
@@ -120,7 +120,7 @@ pub record ListsTokens (ts : List Token) (l : TokenListing) : Type 0 where
   pub tokens : l.tokens.items ≡ records_from 0 ts
   pub bytes : l.bytes.items ≡ all_texts ts
 
--- all of a session's tokens are listed, in front of its end or of the fault that ends them; or memory was refused
+-- all of a session's tokens are listed, before its end or of the fault that ends them; or memory was refused
 abbrev pub EndsListed : Remaining → Result (Unit {0}) yaml_fault_t → TokenListing → Type 0
 EndsListed c (Ok done) l = (c.fault ≡ None) × ListsTokens c.tokens l
 EndsListed c (Err f) l = IsMemoryFault scan_layers (fault_of f)
@@ -128,12 +128,12 @@ EndsListed c (Err f) l = IsMemoryFault scan_layers (fault_of f)
 
 -- ---- one token
 
--- a token's texts were put behind the others, and its record was made
+-- a token's texts were put after the others, and its record was made
 pub record MakesRecord (old : List ℕ) (t : Token) (new : List ℕ) (r : yaml_c_token) : Type 0 where
   pub bytes : new ≡ old ++ body_texts t.body
   pub is : r ≡ record_at (length old) t
 
--- a token's record stands behind the others
+-- a token's record stands after the others
 pub record Adds (old : TokenListing) (t : Token) (new : TokenListing) : Type 0 where
   pub bytes : new.bytes.items ≡ old.bytes.items ++ body_texts t.body
   pub tokens : new.tokens.items ≡ old.tokens.items ++ record_at (length old.bytes.items) t ∷ []

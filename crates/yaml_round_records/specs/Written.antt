@@ -52,7 +52,7 @@ pub record IsEmittedText (w : RequestedSettings) (limit : ℕ) (es : List Event)
   -- of a stream in which nothing is wrong it is the layout
   pub stream : (x : Encoding) (whole : List Item) → IsStream w x es whole → text ≡ encode x whole
 
--- An event is refused with that fault, and what is written in front of it passes no limit.
+-- An event is refused with that fault, and what is written before it passes no limit.
 pub record IsEventRefused (w : RequestedSettings) (limit : ℕ) (es : List Event)
     (fault : Fault) : Type 0 where
   pub problem : Problem
@@ -60,7 +60,7 @@ pub record IsEventRefused (w : RequestedSettings) (limit : ℕ) (es : List Event
   pub told : fault ≡ problem_fault problem
   pub short : IsShort w limit es
 
--- It is refused: an event is, or the text in front of such a one passes a limit.
+-- It is refused: an event is, or the text before such a one passes a limit.
 pub record IsFault (w : RequestedSettings) (limit : ℕ) (es : List Event) (fault : Fault) : Type 0
   where
     pub is : IsEventRefused w limit es fault ⊎ IsLong w limit es fault
@@ -69,7 +69,7 @@ pub record IsFault (w : RequestedSettings) (limit : ℕ) (es : List Event) (faul
         → Passes limit (encode x whole) (is_deep whole) fault
 
 -- An emitter may answer this: the text of the events that are let out; the fault of the first one that is refused, where what
--- is written in front of it passes no limit; or the limit that this passes.
+-- is written before it passes no limit; or the limit that this passes.
 unfoldable pub IsEmitted : RequestedSettings → ℕ → List Event → Result (List ℕ) Fault → Type 0
 IsEmitted w limit es (Ok text) = IsEmittedText w limit es text
 IsEmitted w limit es (Err fault) = IsFault w limit es fault

@@ -1,4 +1,4 @@
-//! Records of an input's events in their text: the characters in front of their marks, and which tags were left out.
+//! Records of an input's events in their text: the characters before their marks, and which tags were left out.
 
 ghost use Rattle.std.specs.Prelude.{◌≡◌, map};
 ghost use Rattle.yaml_round_records.specs.Characters.{Counts};
@@ -8,7 +8,7 @@ use crate::counting::Count;
 use crate::record::{yaml_c_event, yaml_c_mark};
 use crate::tag::has_tag;
 
-/// Counts the characters in front of a mark.
+/// Counts the characters before a mark.
 // Inlined: mostly each character is a byte.
 #[inline(always)]
 pub(crate) fn count_mark(text: &[u8], count: &mut Count, mark: &mut yaml_c_mark)
@@ -41,7 +41,7 @@ fn count_event(text: &[u8], count: &mut Count, event: &mut yaml_c_event)
     }
 }
 
-/// Counts the characters in front of the marks of all events of a text, and tells of each scalar whether its tag was left out.
+/// Counts the characters before the marks of all events of a text, and tells of each scalar whether its tag was left out.
 pub fn count_events(text: &[u8], events: &mut Vec<yaml_c_event>)
     ensures { events.new.items ≡ map (event_counted text.now) events.old.items }
 {

@@ -1,4 +1,4 @@
-//! The characters in front of places in a text.
+//! The characters before places in a text.
 
 ghost use Rattle.std.specs.Prelude.{◌≡◌, ◌≤◌, length, slice_range};
 ghost use Rattle.std.specs.List.{count_by};
@@ -7,7 +7,7 @@ ghost use Rattle.yaml_round_records.specs.Characters.{characters_before, Counts}
 
 use yaml_scan_model::starts;
 
-/// How many characters stand in front of a place in a text, from which the next one is counted. Where each character of the text is a
+/// How many characters stand before a place in a text, from which the next one is counted. Where each character of the text is a
 /// byte, none is counted.
 #[derive(Drop)]
 pub(crate) struct Count {
@@ -60,7 +60,7 @@ impl Count {
         self.place = place;
     }
 
-    /// How many characters of the text stand in front of a place; behind its end, all.
+    /// How many characters of the text stand before a place; after its end, all.
     // Inlined: mostly each character is a byte.
     #[inline(always)]
     pub(crate) fn characters_before(&mut self, text: &[u8], place: u64) -> u64
@@ -77,7 +77,7 @@ impl Count {
     }
 }
 
-/// How many characters of a text stand in front of a place; behind its end, all.
+/// How many characters of a text stand before a place; after its end, all.
 pub fn characters_before(text: &[u8], place: u64) -> u64
     ensures { result ≡ characters_before text.now place }
 {

@@ -91,7 +91,7 @@ pub(crate) fn emitter_under(
     Ok(emitter)
 }
 
-// Gives the events of records, one after another, each in place of the one before it. Refused for want of memory alone.
+// Gives the events of records, one after another, each in place of the one before it. Refused when out of memory alone.
 fn give_from(
     rooms: &mut Rooms,
     bytes: &[u8],

@@ -1,4 +1,4 @@
-//! The events that records mean. Refused where a record means none, or for want of memory.
+//! The events that records mean. Refused where a record means none, or when out of memory.
 
 ghost use Rattle.std.specs.Prelude.{◌≡◌, Some, map, option_map, IfOk, IfSome, IsSome, OnOk};
 ghost use Rattle.yaml_parse.specs.Constructors.{HasUtf8};
@@ -449,7 +449,7 @@ fn put_body(
     }
 }
 
-/// Puts the event that a record means in place of another one. Refused for want of memory.
+/// Puts the event that a record means in place of another one. Refused when out of memory.
 pub(crate) fn put_event(
     rooms: &mut Rooms,
     bytes: &[u8],

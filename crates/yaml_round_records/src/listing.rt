@@ -1,4 +1,4 @@
-//! Events put into records, one behind another.
+//! Events put into records, one after another.
 
 ghost use Rattle.std.specs.Prelude.{◌≡◌, [], Some, pos, IfOk, map};
 ghost use Rattle.yaml_parse.specs.Events.{event_of, directive_of, text_of};
@@ -52,7 +52,7 @@ fn plain(kind: i32, event: &yaml_event_t) -> yaml_c_event
     }
 }
 
-// Pushes a text behind the others; the answer is where it stands.
+// Pushes a text after the others; the answer is where it stands.
 pub(crate) fn push_text(bytes: &mut Vec<u8>, text: &[u8]) -> Result<yaml_c_span, AllocError>
     ensures { IfOk result (λ s. PutsText bytes.old.items text.now bytes.new.items s) }
 {
@@ -82,7 +82,7 @@ fn push_optional(
     }
 }
 
-// Pushes a node's properties behind the other texts, and has them in its record.
+// Pushes a node's properties after the other texts, and has them in its record.
 fn with_properties(
     bytes: &mut Vec<u8>,
     base: yaml_c_event,
@@ -131,7 +131,7 @@ fn scalar_record(
     Ok(record)
 }
 
-// Pushes a directive's texts behind the others.
+// Pushes a directive's texts after the others.
 fn directive_record(
     bytes: &mut Vec<u8>,
     directive: &yaml_tag_directive_t,
@@ -158,7 +158,7 @@ impl Listing {
     }
 }
 
-// Pushes directives behind the others.
+// Pushes directives after the others.
 pub(crate) fn push_directives(
     listing: &mut Listing,
     directives: &[yaml_tag_directive_t],
@@ -303,7 +303,7 @@ fn mapping_base(event: &yaml_event_t, implicit: bool, style: yaml_mapping_style_
     record
 }
 
-// The record of an event, whose texts and directives are put behind the others. It is long because it has an arm for each
+// The record of an event, whose texts and directives are put after the others. It is long because it has an arm for each
 // kind of event.
 fn record_of(listing: &mut Listing, event: &yaml_event_t) -> Result<yaml_c_event, AllocError>
     ensures { IfOk result (Records listing.old (event_of event.now) listing.new) }
@@ -364,7 +364,7 @@ fn record_of(listing: &mut Listing, event: &yaml_event_t) -> Result<yaml_c_event
 }
 
 impl Listing {
-    /// Pushes an event behind the others.
+    /// Pushes an event after the others.
     pub fn push(&mut self, event: &yaml_event_t) -> Result<(), AllocError>
         ensures { IfOk result (λ _. AddsRecord self.old (event_of event.now) self.new) }
     {

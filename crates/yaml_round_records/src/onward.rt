@@ -33,7 +33,7 @@ pub struct StandRecords {
     pub bytes: Vec<u8>,
 }
 
-/// A text, and where the emitter stands behind it.
+/// A text, and where the emitter stands after it.
 #[derive(Drop)]
 pub struct Onward {
     pub text: Vec<u8>,
@@ -197,7 +197,7 @@ fn somewhere(alloc: Global, emitter: &yaml_emitter_t) -> Result<StandRecords, Al
     })
 }
 
-// Where an emitter stands. Refused only for want of memory.
+// Where an emitter stands. Refused only when out of memory.
 fn stand_behind(alloc: Global, emitter: &yaml_emitter_t) -> Result<StandRecords, AllocError>
     ensures { IfOk result (TellsStand emitter.now) }
 {

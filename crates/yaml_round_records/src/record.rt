@@ -12,7 +12,7 @@ pub struct yaml_c_mark {
     pub index: u64,
     pub line: u64,
     pub column: u64,
-    /// How many characters stand in front of it, where they are counted.
+    /// How many characters stand before it, where they are counted.
     pub character: u64,
 }
 
@@ -84,7 +84,7 @@ const _: () = prove!(size_of::<yaml_c_directive>() == 32);
 
 const _: () = prove!(size_of::<yaml_c_event>() == 168);
 
-/// A mark as C reads it, in front of which no character is counted yet.
+/// A mark as C reads it, before which no character is counted yet.
 pub fn mark_told(mark: yaml_mark_t) -> yaml_c_mark
     ensures { result ≡ mark_told mark }
 {

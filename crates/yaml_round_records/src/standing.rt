@@ -22,7 +22,7 @@ pub struct yaml_c_level {
     pub indent: u64,
 }
 
-/// Where an emitter stands, but for the collections round the innermost one and the document's directives. Flags are off at 0 and on at
+/// Where an emitter stands, except the collections round the innermost one and the document's directives. Flags are off at 0 and on at
 /// every other number.
 #[repr(C)]
 #[derive(Clone, Copy, Drop)]

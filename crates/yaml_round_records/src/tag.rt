@@ -8,7 +8,7 @@ ghost use Rattle.yaml_round_records.specs.Characters.{behind_gap, stands_behind,
 use yaml_scan_model::Reader;
 use yaml_scan_words::skip_gap;
 
-// What stands behind so many bytes of a text.
+// What stands after so many bytes of a text.
 fn past(text: &[u8], count: u64) -> &[u8]
     ensures { result.now ≡ drop count text.now }
 {
@@ -22,7 +22,7 @@ fn up_to(text: &[u8], count: u64) -> &[u8]
     &text[..text.len().min(count as usize)]
 }
 
-// The byte behind the gap with which a text begins.
+// The byte after the gap with which a text begins.
 fn behind_gap(text: &[u8]) -> u8
     ensures { result ≡ behind_gap text.now }
 {
@@ -31,7 +31,7 @@ fn behind_gap(text: &[u8]) -> u8
     reader.here()
 }
 
-// Whether the tag's `!` stands behind an anchor.
+// Whether the tag's `!` stands after an anchor.
 // Out of line: few nodes have an anchor.
 #[cold]
 #[inline(never)]
@@ -41,7 +41,7 @@ fn stands_behind(part: &[u8], name: u64) -> bool
     behind_gap(past(past(part, 1), name)) == b'!'
 }
 
-// Whether a node begins with its tag, or has it behind its anchor.
+// Whether a node begins with its tag, or has it after its anchor.
 fn begins_tag(part: &[u8], name: u64) -> bool
     ensures { result ≡ begins_tag part.now name }
 {
@@ -52,7 +52,7 @@ fn begins_tag(part: &[u8], name: u64) -> bool
     }
 }
 
-/// Whether the node between two places in a text has a tag, which stands first or behind the anchor; `name` is the length of the
+/// Whether the node between two places in a text has a tag, which stands first or after the anchor; `name` is the length of the
 /// anchor's name.
 pub(crate) fn has_tag(text: &[u8], start: u64, end: u64, name: u64) -> bool
     ensures { result ≡ has_tag text.now start end name }

@@ -1,4 +1,4 @@
-//! Records of an input's tokens with the characters in front of their marks.
+//! Records of an input's tokens with the characters before their marks.
 
 ghost use Rattle.std.specs.Prelude.{◌≡◌, map};
 ghost use Rattle.yaml_round_records.specs.Characters.{Counts};
@@ -17,7 +17,7 @@ fn count_token(text: &[u8], count: &mut Count, token: &mut yaml_c_token)
     count_mark(text, count, &mut token.end);
 }
 
-/// Counts the characters in front of the marks of all tokens of a text.
+/// Counts the characters before the marks of all tokens of a text.
 pub fn count_tokens(text: &[u8], tokens: &mut Vec<yaml_c_token>)
     ensures { tokens.new.items ≡ map (token_counted text.now) tokens.old.items }
 {

@@ -1,4 +1,4 @@
-//! The tokens of an input, one behind another.
+//! The tokens of an input, one after another.
 
 ghost use Rattle.std.specs.Prelude.{◌≡◌, [], ◌++◌, length, pos, IfOk};
 ghost use Rattle.yaml_scan.specs.Tokens.{token_of};
@@ -61,7 +61,7 @@ fn named_twice(
     Ok(record)
 }
 
-// The record of a token, whose texts are put behind the others. It is long because it has an arm for each kind of token.
+// The record of a token, whose texts are put after the others. It is long because it has an arm for each kind of token.
 fn record_of(bytes: &mut Vec<u8>, token: &yaml_token_t) -> Result<yaml_c_token, AllocError>
     ensures { IfOk result (MakesRecord bytes.old.items (token_of token.now) bytes.new.items) }
 {
@@ -120,7 +120,7 @@ fn record_of(bytes: &mut Vec<u8>, token: &yaml_token_t) -> Result<yaml_c_token, 
 }
 
 impl TokenListing {
-    /// Pushes a token behind the others.
+    /// Pushes a token after the others.
     pub fn push(&mut self, token: &yaml_token_t) -> Result<(), AllocError>
         ensures { IfOk result (λ _. Adds self.old (token_of token.now) self.new) }
     {
@@ -146,7 +146,7 @@ fn list_next(session: &mut yaml_parser_t, listing: &mut TokenListing) -> Result<
     }
 }
 
-/// Lists the tokens of a session, in front of its end or of the fault that ends them, which is the answer. Where memory was
+/// Lists the tokens of a session, before its end or of the fault that ends them, which is the answer. Where memory was
 /// refused, what is listed means nothing. Each is looked at before it is taken, so that the end is told.
 pub fn list_tokens(
     session: &mut yaml_parser_t,

@@ -7,7 +7,7 @@ use Rattle.yaml_emit.specs.Within.{Fits}
 use Rattle.yaml_round_laws_documents.specs.round_content.Said as content
 use Rattle.yaml_round_laws_documents.specs.round_content.Loads.{loads_of}
 use Rattle.yaml_round_laws_documents.specs.round_content.Canon.{canon_items, canon_encoding}
-use Rattle.yaml_round_laws_documents.specs.round_content.DumpsEvents.{trees_of_dumps, AreNumerable}
+use Rattle.yaml_round_laws_documents.specs.round_content.DumpsEvents.{trees_of_dumps}
 use Rattle.yaml_round_laws_documents.specs.Normal.{ended, LoadsAgain}
 use Rattle.yaml_round_laws_documents.proofs.Laid.{laid_out}
 use Rattle.yaml_round_laws_documents.proofs.Whole.{loads_are, plain_documents, texts_load_again, texts_tell}
@@ -36,22 +36,21 @@ dumped_again s c text is fits says =
     }
 
 pub in_normal_documents : (from : yaml_encoding_t) (s : yaml_settings_t) (input text : List ℕ)
-    → AreNumerable (loads_of from input).documents
     → IsEachDump s (ended (loads_of from input).documents) (Ok text)
     → IsNormalOfDocuments s (loads_of from input).documents text
-in_normal_documents from s input text small each =
+in_normal_documents from s input text each =
     let w = requested_under s true in
     let ds : List Document = (loads_of from input).documents in
     let c : List content.Document = trees_of_dumps ds in
     let t = each (canon_encoding w) (canon_items w c) (laid_out w (canonical_under s) from input) in
-    let own = loads_are from input small in
+    let own = loads_are from input in
     let l : LoadsAgain w ds text = subst (LoadsAgain w ds) (sym t.is) (texts_load_again w refl ds own) in
     record {
       is = t.is;
       back = (loads_of YAML_ANY_ENCODING text).documents;
       right = faultless_load YAML_ANY_ENCODING text l.right;
       agree = l.agree;
-      only = λ other source others p little e. (texts_tell w refl ds others own (plain_documents other source others p little)).0 (sym t.is ∙ sym e);
+      only = λ other source others p e. (texts_tell w refl ds others own (plain_documents other source others p)).0 (sym t.is ∙ sym e);
       any = λ others d e. (texts_tell w refl ds others own d).0 (sym t.is ∙ sym e);
       again = dumped_again s c text t.is t.fits l.says;
     }

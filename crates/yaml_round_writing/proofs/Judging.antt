@@ -43,7 +43,7 @@ not_listed from input r f h e = elim e [ inl m ↦ inl m | inr k ↦ inr (faulty
 
 -- ---- writing
 
--- The rest was written behind a front.
+-- The rest was written after a front.
 rest_led : (a b c : Form) (e e' e'' : Emitter) (es fs : List Told) → LeadsOn a e es b e' fs
     → LeadsOn b e' fs c e'' [] → LeadsOn a e es c e'' []
 rest_led a b c e e' e'' es fs l k = record {

@@ -61,7 +61,7 @@ name_stays text more s h =
     ap (take (s.to - s.from)) (drop-append-le s.from text more (omega (arith, h, from)))
     ∙ take-append-le (s.to - s.from) (drop s.from text) more (omega (arith, h, from, length-drop s.from text)))
 
--- what is put behind the text stands there
+-- what is put after the text stands there
 name_put : (text name : List ℕ) (s : Span) → s.from ≡ length text
     → s.to ≡ length (text ++ name) → name_at (text ++ name) s ≡ name
 name_put text name s from to =

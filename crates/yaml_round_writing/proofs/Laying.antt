@@ -49,7 +49,7 @@ pub layout : (w : RequestedSettings) (limit : ℕ) (es : List Event) (e : Emitte
     → IsEachLayout w limit es text
 layout w limit es e text l f = λ x whole s. subst (λ (n : ℕ). IsText n x whole text) l.0 (f x whole (l.1 x whole s))
 
--- a fault is want of memory, or a limit that the layout passes
+-- a fault is out of memory, or a limit that the layout passes
 pub past : (w : RequestedSettings) (limit : ℕ) (es : List Event) (e : Emitter) (left : List Event)
     (f : yaml_fault_t) → Led w limit es e left → IsLimited e (fault_of f)
     → IsMemoryFault emit_layers (fault_of f) ⊎ IsPastEach w limit es (fault_of f)
@@ -63,7 +63,7 @@ pub whole_text : (e : Emitter) (text : Vec ℕ Global) → e.fault ≡ None → 
     → IsWithin e → FinishesText e (Ok text)
 whole_text e text none w k = (none, λ x whole c. record { is = w none x whole c; fits = k none x whole c })
 
--- behind the last event the form gives nothing
+-- after the last event the form gives nothing
 none_given : (v : Form) → given_in v [] ≡ []
 none_given form.Canonical = refl
 none_given (form.Pretty beginning) = refl

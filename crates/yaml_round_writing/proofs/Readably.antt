@@ -61,7 +61,7 @@ past_readable from s input f h =
       passes = h.each (readable_encoding s) (readable_layout s c) (stream from s input c said);
     }
 
--- A fault of the readable form is want of memory, or an answer by its contract.
+-- A fault of the readable form is out of memory, or an answer by its contract.
 pub not_readable : (from : yaml_encoding_t) (s : yaml_settings_t) (input : List ℕ) (f : Fault)
     → IsMemoryFault reformat_layers f
     ⊎ IsWrittenIn (form.Readable place.Before) from s input (Err f)

@@ -251,7 +251,7 @@ mutual
       ∙ ap (node_events k) (node_more v (pairs_events ps es) fs)
       ∙ node_more k (node_events v (pairs_events ps es)) fs
 
--- a dump, and the other documents behind it
+-- a dump, and the other documents after it
 dumped_more : (d : Document) (ds : List Document)
     → documents_events (map graph_content (d ∷ ds)) ≡ dumped d
     ++ documents_events (map graph_content ds)
@@ -406,11 +406,6 @@ laid_out : (from : yaml_encoding_t) (input : List ℕ) (settings : yaml_settings
     → LaysOutLoading from settings input result
 laid_out from input settings result h d = record { documents = (loads_of from input).documents; loading = faultless_load from input h; dumped = d }
 
--- documents' ends are no part of whether they can be numbered
-pub unended_small : (ds : List Document) → AreNumerable (ended ds) → AreNumerable ds
-unended_small [] h = tt
-unended_small (d ∷ ds) h = (h.0, unended_small ds h.1)
-
 -- The dumps of all loaded documents are a reload's answer.
 pub reloaded : (from : yaml_encoding_t) (input : List ℕ) (settings : yaml_settings_t)
     (ds : List Document) (result : Result (Vec ℕ Global) yaml_fault_t)
@@ -420,7 +415,7 @@ unfolding IsReloaded
 reloaded from input settings ds (Ok text) a d =
     let P : List Document → Type 0 = λ z. IsEachDump settings z (Ok text.items) in
     let each = subst P a.same d in
-    (record { documents = (loads_of from input).documents; loading = faultless_load from input a.right; dumped = one_dump from input settings (Ok text.items) each }, in_normal_documents from settings input text.items (unended_small (loads_of from input).documents (subst AreNumerable a.same a.small)) each)
+    (record { documents = (loads_of from input).documents; loading = faultless_load from input a.right; dumped = one_dump from input settings (Ok text.items) each }, in_normal_documents from settings input text.items each)
 reloaded from input settings ds (Err f) a d =
     let P : List Document → Type 0 = λ z. IsEachDump settings z (Err (fault_of f)) in
     elim d [ inl m ↦ inl (elim m [ inl e ↦ inl e | inr w ↦ inr (inl w) ]) | inr p ↦ inr (inr (laid_out from input settings (Err (fault_of f)) a.right (one_dump from input settings (Err (fault_of f)) (subst P a.same p)))) ]

@@ -47,7 +47,7 @@ pub record IsKnown (k : Known) (l : Loading) : Type 0 where
   pub within : IsWithin k
   pub names : (name : List ℕ) → is_some (map.get l.anchors name) ≡ has_name name k
 
--- What a step of the loader comes to is told, and what is known behind it; nothing where memory ran out.
+-- What a step of the loader comes to is told, and what is known after it; nothing where memory ran out.
 abbrev pub Follows : LoadStep → yaml_mark_t → Passed → Known → Type 0
 Follows step at passed.Starved k = Unit {0}
 Follows (goes_on l) at passed.On k = IsKnown k l

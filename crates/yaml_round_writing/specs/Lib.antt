@@ -12,3 +12,4 @@ pub use Rattle.yaml_emit.specs as emit
 pub use Rattle.yaml_round_lines.specs.EventLine
 pub use Rattle.yaml_round_reading.specs.Reading
 pub use Rattle.yaml_round_beginning.specs.round_laws_documents.Flags
+pub use Rattle.yaml_round_reading.specs.Input

@@ -60,9 +60,9 @@ pub record IsNormalOfDocuments (settings : yaml_settings_t) (documents : List Do
   pub agree : AreAgreeing documents back
   -- the documents of any input whose text it is agree with them
   pub only : (other : yaml_encoding_t) (source : List ℕ) (others : List Document)
-      → PlainLoading other source (Ok others) → AreNumerable others
+      → PlainLoading other source (Ok others)
       → canonical_text settings (trees_of_dumps others) ≡ text → AreAgreeing documents others
-  -- and so do any that are as loading makes them, as those in front of a fault are
+  -- and so do any that are as loading makes them, as those before a fault are
   pub any : (others : List Document) → AreWritableDocuments others
       → canonical_text settings (trees_of_dumps others) ≡ text → AreAgreeing documents others
   -- it is laid out for the documents that it loads itself

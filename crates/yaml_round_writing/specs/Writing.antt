@@ -119,7 +119,7 @@ pub record IsText (limit : ℕ) (x : Encoding) (whole : List Item) (text : List 
   pub is : text ≡ encode x whole
   pub fits : Fits limit x whole
 
--- the emitter's text, where it is whole, or its fault: a limit that each text that the emitter completes passes, or want of memory
+-- the emitter's text, where it is whole, or its fault: a limit that each text that the emitter completes passes, or out of memory
 abbrev pub FinishesText : Emitter → Result (Vec ℕ Global) yaml_fault_t → Type 0
 FinishesText e (Ok text) = (e.fault ≡ None)
     × ((x : Encoding) (whole : List Item) → Completes e x [] whole

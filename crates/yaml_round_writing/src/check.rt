@@ -12,7 +12,7 @@ use yaml_parse::{
     undefined_alias_fault, yaml_encoding_t, yaml_fault_t, yaml_found_t, yaml_memory_fault,
     yaml_origin_t,
 };
-use yaml_round_reading::{Reading, let_go, reading_of};
+use yaml_round_reading::{ReadText, Reading, let_go, let_text_go, read_text, reading_of};
 
 // ReadsInput to the end, or to what loading refuses or ends at.
 fn look_through(reading: &mut Reading<'_>, known: &mut Known) -> Result<(), yaml_fault_t>
@@ -34,11 +34,11 @@ fn look_through(reading: &mut Reading<'_>, known: &mut Known) -> Result<(), yaml
     }
 }
 
-/// Whether the documents of the input load.
-pub fn load_out(alloc: Global, input: &[u8], from: yaml_encoding_t) -> Result<(), yaml_fault_t>
-    ensures { Answers load_layers (λ done. done) (IsChecked from input.now) result }
+// Whether the documents of the input load whose text it is.
+fn load_text(alloc: Global, text: &ReadText<'_>) -> Result<(), yaml_fault_t>
+    ensures { Answers load_layers (λ done. done) (IsChecked text.now.from text.now.bytes) result }
 {
-    match reading_of(alloc, input, from) {
+    match reading_of(alloc, text) {
         Err(fault) => Err(fault),
         Ok(mut reading) => {
             let mut known = Known::new(alloc);
@@ -48,4 +48,14 @@ pub fn load_out(alloc: Global, input: &[u8], from: yaml_encoding_t) -> Result<()
             answer
         }
     }
+}
+
+/// Whether the documents of the input load.
+pub fn load_out(alloc: Global, input: &[u8], from: yaml_encoding_t) -> Result<(), yaml_fault_t>
+    ensures { Answers load_layers (λ done. done) (IsChecked from input.now) result }
+{
+    let text = read_text(alloc, input, from);
+    let answer = load_text(alloc, &text);
+    let_text_go(text);
+    answer
 }

@@ -10,7 +10,7 @@ use std::alloc::Global;
 use std::collections::BTreeSet;
 use yaml_parse::{yaml_event_body_t, yaml_event_t};
 
-/// Where a name stands in the text of names: its first byte, and the one behind its last.
+/// Where a name stands in the text of names: its first byte, and the one after its last.
 #[derive(Clone, Copy)]
 pub struct Span {
     pub from: usize,
@@ -30,7 +30,7 @@ pub struct Known {
 /// What an event comes to.
 #[derive(Clone, Copy)]
 pub enum Passed {
-    /// Loading goes on behind it.
+    /// Loading goes on after it.
     On,
     /// It ends a document without a node, and so all loads.
     Over,

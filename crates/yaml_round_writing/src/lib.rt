@@ -14,4 +14,6 @@ pub use reload::{documents_of, let_documents_go, written_documents};
 pub use text::{in_pretty_form, written};
 pub use writing::Form;
 pub use yaml_round_beginning::{Beginning, OpeningPosition};
-pub use yaml_round_reading::{let_go, reading_of, yaml_adapter_t, yaml_side_t};
+pub use yaml_round_reading::{
+    ReadText, let_go, let_text_go, read_text, reading_of, yaml_adapter_t, yaml_side_t,
+};

@@ -16,7 +16,7 @@ use yaml_emit::yaml_emitter_t;
 use yaml_parse::{yaml_encoding_t, yaml_fault_t};
 use yaml_round_beginning::Beginning;
 use yaml_round_device::yaml_settings_t;
-use yaml_round_reading::{Reading, let_go, read_out, reading_of};
+use yaml_round_reading::{ReadText, Reading, let_go, let_text_go, read_out, read_text, reading_of};
 
 // A text that has more than this many bytes for each byte of its input has outgrown it.
 const OUTGROWN: usize = 32;
@@ -24,11 +24,11 @@ const OUTGROWN: usize = 32;
 // No input has as many bytes: so the product stays within a word, and isn't asked about at each event.
 const UNREACHED: usize = 1 << 58;
 
-// ReadsInput the input to its end and writes nothing. Its fault is the answer.
-fn judge(alloc: Global, input: &[u8], from: yaml_encoding_t) -> Result<(), yaml_fault_t>
-    ensures { Answers parse_layers (λ done. done) (IsJudged from input.now) result }
+// Reads the input to its end and writes nothing. Its fault is the answer.
+fn judge(alloc: Global, text: &ReadText<'_>) -> Result<(), yaml_fault_t>
+    ensures { Answers parse_layers (λ done. done) (IsJudged text.now.from text.now.bytes) result }
 {
-    match reading_of(alloc, input, from) {
+    match reading_of(alloc, text) {
         Err(fault) => Err(fault),
         Ok(mut reading) => {
             let answer = read_out(&mut reading);
@@ -43,46 +43,66 @@ fn judge(alloc: Global, input: &[u8], from: yaml_encoding_t) -> Result<(), yaml_
 #[tactic(auto, using(crate::proofs::Judging::then_rest, crate::proofs::Judging::met_again))]
 fn write_events(
     alloc: Global,
-    input: &[u8],
-    from: yaml_encoding_t,
+    text: &ReadText<'_>,
     reading: &mut Reading<'_>,
     emitter: &mut yaml_emitter_t,
     form: &mut Form,
 ) -> Result<(), yaml_fault_t>
     requires real { AreReal reading.old.parser.events }
-    requires ending { reading.old.parser.ending ≡ ending_of from input.now }
+    requires ending { reading.old.parser.ending ≡ ending_of text.now.from text.now.bytes }
     ensures { WritesAll form.old reading.old.parser emitter.old result form.new emitter.new }
 {
-    let most = input.len() % UNREACHED * OUTGROWN;
+    let most = text.input_len() % UNREACHED * OUTGROWN;
     if write_up_to(reading, emitter, form, most)? {
         return Ok(());
     }
-    judge(alloc, input, from)?;
+    judge(alloc, text)?;
     write_rest(reading, emitter, form)
 }
 
 // The text of the events of the input's reading in that form, or their fault.
 fn written_from(
     alloc: Global,
-    input: &[u8],
-    from: yaml_encoding_t,
+    text: &ReadText<'_>,
     reading: &mut Reading<'_>,
     settings: &yaml_settings_t,
     form: &mut Form,
 ) -> Result<Vec<u8>, yaml_fault_t>
-    requires reads { ReadsInput from input.now reading.old.parser }
+    requires reads { ReadsInput text.now.from text.now.bytes reading.old.parser }
     requires real { AreReal reading.old.parser.events }
-    ensures text { Answers reformat_layers bytes_of (IsWrittenIn form.old from settings.now
-        input.now) result }
-    ensures beginning { IfOk result (λ _. comes_to_nothing form.old (events_of from input.now)
-        ≡ comes_to_nothing form.new []) }
+    ensures text { Answers reformat_layers bytes_of (IsWrittenIn form.old text.now.from settings.now
+        text.now.bytes) result }
+    ensures beginning { IfOk result (λ _. comes_to_nothing form.old
+        (events_of text.now.from text.now.bytes) ≡ comes_to_nothing form.new []) }
 {
     let mut emitter = emitter_under(alloc, settings, is_canonical(*form))?;
-    let written = write_events(alloc, input, from, reading, &mut emitter, form);
-    let text = finished(emitter);
+    let written = write_events(alloc, text, reading, &mut emitter, form);
+    let output = finished(emitter);
     match written {
         Err(fault) => Err(fault),
-        Ok(()) => text,
+        Ok(()) => output,
+    }
+}
+
+// The text of the input's events in that form, by the input's text.
+fn written_of(
+    alloc: Global,
+    text: &ReadText<'_>,
+    settings: &yaml_settings_t,
+    form: &mut Form,
+) -> Result<Vec<u8>, yaml_fault_t>
+    ensures text { Answers reformat_layers bytes_of (IsWrittenIn form.old text.now.from settings.now
+        text.now.bytes) result }
+    ensures beginning { IfOk result (λ _. comes_to_nothing form.old
+        (events_of text.now.from text.now.bytes) ≡ comes_to_nothing form.new []) }
+{
+    match reading_of(alloc, text) {
+        Err(fault) => Err(fault),
+        Ok(mut reading) => {
+            let answer = written_from(alloc, text, &mut reading, settings, form);
+            let_go(reading);
+            answer
+        }
     }
 }
 
@@ -100,14 +120,10 @@ pub fn written(
     ensures beginning { IfOk result (λ _. comes_to_nothing form.old (events_of from input.now)
         ≡ comes_to_nothing form.new []) }
 {
-    match reading_of(alloc, input, from) {
-        Err(fault) => Err(fault),
-        Ok(mut reading) => {
-            let answer = written_from(alloc, input, from, &mut reading, settings, form);
-            let_go(reading);
-            answer
-        }
-    }
+    let text = read_text(alloc, input, from);
+    let answer = written_of(alloc, &text, settings, form);
+    let_text_go(text);
+    answer
 }
 
 /// The text in pretty form, and whether the input begins with nothing; where it doesn't, the text reads back.

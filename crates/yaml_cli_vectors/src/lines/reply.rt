@@ -16,7 +16,7 @@ pub const MEMORY: &'static str = "out of memory";
 const NO_FIELD: &'static str = "no such field, or not of its form: ";
 
 /// Reads fields of a line one after another, and writes the answer, an object, as JSON. The first error is kept, and `finish` answers it:
-/// what is read of a field that is missing, and all that is written behind it, stand for nothing, so that the calls in between
+/// what is read of a field that is missing, and all that is written after it, stand for nothing, so that the calls in between
 /// have no exits, which are dear to prove.
 #[derive(Drop)]
 pub struct Reply {
@@ -25,7 +25,7 @@ pub struct Reply {
     /// What the answer is written by.
     pub(crate) writer: Writer,
     wrong: Option<Wrong>,
-    /// The fault that stands behind what else was answered, or of a call that refuses.
+    /// The fault that stands after what else was answered, or of a call that refuses.
     pub fault: Option<yaml_fault_t>,
     /// The first error is that the call refuses.
     pub is_refused: bool,
@@ -105,7 +105,7 @@ impl Reply {
         }
     }
 
-    /// Adds an item behind those of the list.
+    /// Adds an item after those of the list.
     pub fn push<T: Drop>(&mut self, list: &mut Vec<T>, item: T) {
         if list.push(item).is_err() {
             self.memory();

@@ -52,7 +52,7 @@ impl Script {
         }
     }
 
-    // The step that comes next, or the one that stands behind the last.
+    // The step that comes next, or the one that stands after the last.
     fn next(&self, behind: Step) -> Step {
         if self.at < self.steps.len() {
             self.steps[self.at]

@@ -82,7 +82,7 @@ impl Reply {
         self.put_fault(line, fault);
     }
 
-    /// A fault that a call answers: in its place, or behind all else where that was the last call. Whether there may be more.
+    /// A fault that a call answers: in its place, or after all else where that was the last call. Whether there may be more.
     pub fn put_refused(&mut self, line: &Value, is_last: bool, fault: &yaml_fault_t) -> bool {
         if is_last {
             self.fault = Some(*fault);

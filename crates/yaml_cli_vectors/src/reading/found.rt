@@ -6,7 +6,7 @@ use serde_json::Value;
 use yaml_parse::{yaml_event_t, yaml_event_type_t, yaml_fault_t, yaml_parser_t_prefix};
 use yaml_scan::{yaml_token_t, yaml_token_type_t};
 
-/// Puts the token, and lets it go, or the fault, which stands behind the tokens where all are asked for.
+/// Puts the token, and lets it go, or the fault, which stands after the tokens where all are asked for.
 pub fn put_token(
     reply: &mut Reply,
     line: &Value,
@@ -26,7 +26,7 @@ pub fn put_token(
     }
 }
 
-/// Puts the event, unless all are asked for and it is the empty one behind the last, or they are kept; or the fault, by which the
+/// Puts the event, unless all are asked for and it is the empty one after the last, or they are kept; or the fault, by which the
 /// whole line is refused where all are asked for. The event is kept anyway: to let go each by itself is dearer to prove.
 pub fn put_event(
     reply: &mut Reply,

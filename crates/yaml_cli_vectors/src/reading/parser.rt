@@ -28,7 +28,7 @@ fn put_into<S: yaml_token_source_t>(
     reply.push(kept, event);
 }
 
-// Puts the next document, or the fault, which stands behind the documents where all are asked for. Behind the last one without a
+// Puts the next document, or the fault, which stands after the documents where all are asked for. After the last one without a
 // root stands.
 fn put_loaded<S: yaml_token_source_t>(
     reply: &mut Reply,
@@ -53,7 +53,7 @@ fn put_loaded<S: yaml_token_source_t>(
     }
 }
 
-// Whether there may be more behind the call.
+// Whether there may be more after the call.
 fn put_turn<S: yaml_token_source_t>(
     reply: &mut Reply,
     line: &Value,

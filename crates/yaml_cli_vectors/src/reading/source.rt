@@ -24,7 +24,7 @@ pub fn parse_input(reply: &mut Reply, line: &Value, asked: Turn, input: &Input<'
     }
 }
 
-// The tokens that the line lists, whose texts are to be UTF-8, and behind them its own fault where it has one.
+// The tokens that the line lists, whose texts are to be UTF-8, and after them its own fault where it has one.
 fn list_of(reply: &mut Reply, line: &Value) -> yaml_token_list_t {
     let mut list = yaml_token_list_t::new(reply.alloc);
     for listed in reply.list(line, "/tokens") {

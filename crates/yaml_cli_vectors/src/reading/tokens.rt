@@ -29,7 +29,7 @@ fn put_skipped(reply: &mut Reply, session: &mut yaml_parser_t<'_>) {
     reply.put(Part::Flag(known));
 }
 
-// Whether there may be more behind the call.
+// Whether there may be more after the call.
 fn put_turn(reply: &mut Reply, line: &Value, turn: Turn, session: &mut yaml_parser_t<'_>) -> bool {
     match turn {
         Turn::Scan | Turn::Tokens => {
@@ -46,7 +46,7 @@ fn put_turn(reply: &mut Reply, line: &Value, turn: Turn, session: &mut yaml_pars
     true
 }
 
-// What so many calls of the input's source answer, as a parser makes them: a token, the empty one behind the end, or a fault.
+// What so many calls of the input's source answer, as a parser makes them: a token, the empty one after the end, or a fault.
 fn put_next(reply: &mut Reply, line: &Value, input: &Input<'_>) {
     let mut adapter = yaml_adapter_t::new(reply.alloc, input.text, input.from);
     for _ in 0..reply.count(line, "/calls") {
@@ -66,7 +66,7 @@ fn put_turns(reply: &mut Reply, line: &Value, asked: Turn, input: &Input<'_>) {
     drop(session);
 }
 
-/// The tokens of the input, and the fault behind them where there is one; or what the line's calls answer.
+/// The tokens of the input, and the fault after them where there is one; or what the line's calls answer.
 pub fn scan(reply: &mut Reply, line: &Value, asked: Turn, input: &Input<'_>) {
     reply.field("answer", Part::List);
     match asked {

@@ -10,13 +10,13 @@ pub enum Turn {
     Listed,
     /// A source's next token, as many as the line says.
     Counted,
-    /// A session's tokens, up to the last, and the fault behind them where there is one.
+    /// A session's tokens, up to the last, and the fault after them where there is one.
     Tokens,
     /// A parser's events, up to the last.
     Events,
     /// The same, which are kept for an emitter. A line whose input is refused needn't have settings: it wants the fault of a parser.
     Kept,
-    /// A parser's documents, up to the last, and the fault behind them where there is one.
+    /// A parser's documents, up to the last, and the fault after them where there is one.
     Documents,
     /// A token that is given.
     Scan,
@@ -55,7 +55,7 @@ const TURNS: [(&'static str, Turn); 10] = [
     ("between", Turn::Between),
 ];
 
-/// The call that comes behind so many.
+/// The call that comes after so many.
 pub fn turn_at(reply: &mut Reply, line: &Value, asked: Turn, number: u64) -> Turn {
     match asked {
         Turn::Listed => match reply.list(line, "/calls").get(number as usize) {

@@ -76,7 +76,7 @@ pub fn put_calls(reply: &mut Reply, line: &Value, emitter: &mut yaml_emitter_t) 
     reply.put(Part::EndList);
 }
 
-/// What open, dump and close write of the line's document. Behind a fault each call answers it again.
+/// What open, dump and close write of the line's document. After a fault each call answers it again.
 pub fn put_dump(reply: &mut Reply, line: &Value, emitter: &mut yaml_emitter_t) {
     reply.done(turn(emitter));
     let fields = reply.value(line, "/document");

@@ -14,7 +14,7 @@ struct Course {
     fault: Option<yaml_fault_t>,
     // How many calls there were before it.
     number: u64,
-    // Whether each call behind it answered it again, and the text stayed.
+    // Whether each call after it answered it again, and the text stayed.
     kept: bool,
     // How many bytes the text had then.
     size: usize,
@@ -51,8 +51,8 @@ fn give_all(reply: &mut Reply, line: &Value, emitter: &mut yaml_emitter_t, cours
     course.take(fault, yaml_emitter_output(emitter).len());
 }
 
-// What became of the events, behind a last flush: the text, and whether the events end the stream; or the fault, and where it came:
-// the number of the refused call where the event is refused, else the output. No line wants `kept`: a call behind the fault answered
+// What became of the events, after a last flush: the text, and whether the events end the stream; or the fault, and where it came:
+// the number of the refused call where the event is refused, else the output. No line wants `kept`: a call after the fault answered
 // something else, or wrote.
 fn put_course(reply: &mut Reply, text: &[u8], course: &Course) {
     if !course.kept {
@@ -72,7 +72,7 @@ fn put_course(reply: &mut Reply, text: &[u8], course: &Course) {
 }
 
 /// What the emitter answers on the line's events: the text, and whether the events end the stream; or the fault, with the
-/// refused call's number or the output; and what flushes in mid-stream show. A call behind a fault is to answer it again
+/// refused call's number or the output; and what flushes in mid-stream show. A call after a fault is to answer it again
 /// and to write nothing.
 pub fn put_events(reply: &mut Reply, line: &Value, emitter: &mut yaml_emitter_t) {
     let mut course = Course {

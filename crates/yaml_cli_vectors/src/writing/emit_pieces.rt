@@ -19,7 +19,7 @@ fn is_right(whole: &Pieces, limit: usize, got: &Pieces) -> bool {
     got.fault == whole.fault && got.text == whole.text
 }
 
-// How many limits or sizes of pieces are tried: limits up to two behind the text's end, where that has no fault.
+// How many limits or sizes of pieces are tried: limits up to two after the text's end, where that has no fault.
 fn count_of(reply: &mut Reply, line: &Value, by_limit: bool, whole: &Pieces) -> usize {
     match whole.fault {
         None if by_limit => whole.text.len().saturating_add(2),

@@ -25,7 +25,7 @@ fn set(emitter: &mut yaml_emitter_t, asked: &RequestedSettings)
     yaml_emitter_set_break(emitter, asked.line_break);
 }
 
-/// An emitter under these settings but for the limit, that was given nothing yet.
+/// An emitter under these settings except for the limit, that was given nothing yet.
 pub fn emitter_under(
     alloc: Global,
     settings: &Settings,

@@ -5,7 +5,7 @@ use crate::lines::{Part, Reply};
 use serde_json::Value;
 use yaml_emit::{yaml_emitter_output, yaml_emitter_t};
 
-// Whether the text is the front and, behind it, only what stands between nodes: blanks, breaks, and the indicators that part
+// Whether the text is the front and, after it, only what stands between nodes: blanks, breaks, and the indicators that part
 // nodes or open a collection; in UTF-16 their other byte.
 fn is_close(text: &[u8], front: &[u8]) -> bool {
     let Some(rest) = text.strip_prefix(front) else {
@@ -23,7 +23,7 @@ fn is_close(text: &[u8], front: &[u8]) -> bool {
 }
 
 // Whether the text is what the line wants of a flush: those bytes at least and a front of the line's answer, where it says so,
-// else those bytes but for what stands between nodes. How much of that a flush shows is open: in canonical form what parts two
+// else those bytes except for what stands between nodes. How much of that a flush shows is open: in canonical form what parts two
 // nodes is written with the second, and a collection's opener with the collection.
 fn is_wanted(reply: &mut Reply, line: &Value, wanted: &Value, text: &[u8]) -> bool {
     let want = reply.bytes(wanted, "/1");
@@ -45,7 +45,7 @@ fn put_wanted(reply: &mut Reply, wanted: &Value) {
     }
 }
 
-// Flushes, and puts that as the line wants it, or as it is, behind the number of events.
+// Flushes, and puts that as the line wants it, or as it is, after the number of events.
 fn put_flush(reply: &mut Reply, line: &Value, wanted: &Value, emitter: &mut yaml_emitter_t) {
     let fault = flush(emitter);
     let text = yaml_emitter_output(emitter);
@@ -61,7 +61,7 @@ fn put_flush(reply: &mut Reply, line: &Value, wanted: &Value, emitter: &mut yaml
     reply.put(Part::EndList);
 }
 
-/// Flushes behind that many events where the line has a flush there.
+/// Flushes after that many events where the line has a flush there.
 pub fn put_flushes(reply: &mut Reply, line: &Value, count: u64, emitter: &mut yaml_emitter_t) {
     for wanted in reply.list(line, "/flushed") {
         if reply.count(wanted, "/0") == count {

@@ -153,7 +153,7 @@ pub fn written(reply: &mut Reply, line: &Value, settings: &Settings, size: usize
         }
     }
     match pieces.fault {
-        // Want of memory is answered whichever pieces meet it.
+        // Out of memory is answered whichever pieces meet it.
         Some(fault) if fault.kind == yaml_error_type_t::YAML_MEMORY_ERROR => reply.refused(fault),
         _ => {}
     }

@@ -1,20 +1,10 @@
--- The place is that of the first input's reading. Not searched for, so that a wrong value fails by its type, at once.
-use Rattle.std.proofs.Common.{inl, subst, refl, Bool, Ok}
-use Rattle.yaml_round_compare.specs.Compare.{WhereDifferent}
-use Rattle.yaml_round_compare.specs.Differences.{IsParting}
+-- The answer is that of the input's text.
+use Rattle.std.proofs.Common.{subst}
+use Rattle.yaml_round_writing.specs.Input.{Input}
+use Rattle.yaml_round_compare.specs.Differences.{IsDiff}
 use Rattle.yaml_round.proofs.diff.yaml_diff.Goals as goal
 
-pub returns-in-Err : goal.returns-in-Err
-returns-in-Err c = inl (inl c.in-Err.ensures.memory)
-
-pub returns-in-Ok-true : goal.returns-in-Ok-true
-returns-in-Ok-true c = (c.in-Ok-true.ensures.same c.args.a_encoding c.args.a.now c.in-Ok.ensures.reads).told.0 c.in-Ok-true.field-0-test
-
-pub returns-in-Ok-false : goal.returns-in-Ok-false
-returns-in-Ok-false c =
-    let parts = IsParting c.args.a_encoding c.args.a.now c.args.b_encoding c.args.b.now c.same_as-answer.new.trail.place in
-    subst (λ (same : Bool). WhereDifferent (Ok same) parts) c.in-Ok-false.field-0-test
-    (c.in-Ok-false.ensures.parting c.args.a_encoding c.args.a.now c.in-Ok.ensures.reads record { kept = refl; path = c.new-trail.ensures })
-
-pub returns-in-Err-answer : goal.returns-in-Err-answer
-returns-in-Err-answer c = c.in-Err-answer.ensures.same c.args.a_encoding c.args.a.now c.in-Ok.ensures.reads
+pub returns : goal.returns
+returns c =
+    subst (λ (i : Input). IsDiff i.from i.bytes c.args.b_encoding c.args.b.now c.diff_text-answer.result)
+    c.read_text-text.ensures c.diff_text-answer.ensures

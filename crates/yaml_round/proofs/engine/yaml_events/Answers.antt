@@ -1,9 +1,12 @@
--- The lines are those of the input that was read.
-use Rattle.std.proofs.Common.{inl, inr}
+-- The answer is that of the input's text.
+use Rattle.std.proofs.Common.{subst}
+use Rattle.yaml_scan_model.specs.Faults.{Answers}
+use Rattle.yaml_round_writing.specs.Input.{Input}
+use Rattle.yaml_round_writing.specs.Layers.{list_layers}
+use Rattle.yaml_round_writing.specs.Answers.{IsListed, bytes_of}
 use Rattle.yaml_round.proofs.engine.yaml_events.Goals as goal
 
-pub returns-in-Err : goal.returns-in-Err
-returns-in-Err c = inl (inr (inl c.in-Err.ensures.memory))
-
-pub returns-in-Ok : goal.returns-in-Ok
-returns-in-Ok c = c.lines_of-answer.ensures c.args.from c.args.input.now c.in-Ok.ensures.reads
+pub returns : goal.returns
+returns c =
+    subst (λ (i : Input). Answers list_layers bytes_of (IsListed i.from i.bytes) c.lines_in-answer.result)
+    c.read_text-text.ensures c.lines_in-answer.ensures

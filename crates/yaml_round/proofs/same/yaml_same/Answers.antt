@@ -1,9 +1,10 @@
--- The comparison is of the first input's reading.
-use Rattle.std.proofs.Common.{inl}
+-- The answer is that of the input's text.
+use Rattle.std.proofs.Common.{subst}
+use Rattle.yaml_round_writing.specs.Input.{Input}
+use Rattle.yaml_round_writing.specs.Answers.{IsSame}
 use Rattle.yaml_round.proofs.same.yaml_same.Goals as goal
 
-pub returns-in-Err : goal.returns-in-Err
-returns-in-Err c = inl (inl c.in-Err.ensures.memory)
-
-pub returns-in-Ok : goal.returns-in-Ok
-returns-in-Ok c = c.same_as-answer.ensures.same c.args.a_encoding c.args.a.now c.in-Ok.ensures.reads
+pub returns : goal.returns
+returns c =
+    subst (λ (i : Input). IsSame i.from i.bytes c.args.b_encoding c.args.b.now c.same_text-answer.result)
+    c.read_text-text.ensures c.same_text-answer.ensures

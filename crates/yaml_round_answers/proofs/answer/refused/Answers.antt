@@ -1,4 +1,4 @@
--- The fault with its line, or want of memory without.
+-- The fault with its line, or out of memory without.
 use mir.Syntax.{w32}
 use mir.Val.{SFits}
 use Rattle.std.proofs.Common.{inl, inr, subst, rules}

@@ -1,4 +1,4 @@
--- The characters in front of both places are counted.
+-- The characters before both places are counted.
 use Rattle.yaml_round_answers.proofs.Refusing.{counted_refused}
 use Rattle.yaml_round_answers.proofs.answer.refused_in.Goals as goal
 

@@ -1,4 +1,4 @@
--- What the listing says is what stands in front of the input's end.
+-- What the listing says is what stands before the input's end.
 use Rattle.yaml_round_answers.proofs.Handing.{front_ended}
 use Rattle.yaml_round_answers.proofs.parsing.fronted.Goals as goal
 

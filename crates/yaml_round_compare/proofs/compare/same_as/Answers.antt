@@ -1,19 +1,21 @@
-use Rattle.yaml_round_compare.proofs.Comparing.{same_told, not_begun}
-use Rattle.yaml_round_compare.proofs.Parting.{told_where}
+-- The answer is that of the second input's text.
+use Rattle.std.proofs.Common.{ℕ, List, subst}
+use Rattle.yaml_parse.specs.declared.yaml_encoding_t.{yaml_encoding_t}
+use Rattle.yaml_round_reading.specs.Input.{Input}
+use Rattle.yaml_round_content.specs.Input.{ReadsInput}
+use Rattle.yaml_round_reading.specs.Answers.{IsSame}
+use Rattle.yaml_round_compare.specs.Compare.{WhereDifferent}
+use Rattle.yaml_round_compare.specs.Differences.{IsParting}
+use Rattle.yaml_round_compare.specs.Walking.{IsFreshTrail}
 use Rattle.yaml_round_compare.proofs.compare.same_as.Goals as goal
 
-pub returns-in-Ok-clause-same : goal.returns-in-Ok-clause-same
-returns-in-Ok-clause-same c = λ from input h.
-    same_told from input c.args.b_encoding c.args.b.now c.args.first.now.parser c.in-Ok.second.parser c.compared-answer.result h c.in-Ok.ensures.reads c.compared-answer.ensures.compares
+pub returns-clause-same : goal.returns-clause-same
+returns-clause-same c =
+    subst (λ (i : Input). (from : yaml_encoding_t) (input : List ℕ) → ReadsInput from input c.args.first.now.parser → IsSame from input i.from i.bytes c.compared_with-answer.result)
+    c.read_text-text.ensures c.compared_with-answer.ensures.same
 
-pub returns-in-Ok-clause-parting : goal.returns-in-Ok-clause-parting
-returns-in-Ok-clause-parting c = λ from input h fresh.
-    told_where c.args.kept from input c.args.b_encoding c.args.b.now c.args.first.now.parser c.in-Ok.second.parser c.args.trail.now c.compared-answer.new.trail c.compared-answer.result
-    h c.in-Ok.ensures.reads c.compared-answer.ensures.compares c.compared-answer.ensures.parted fresh
-
-pub returns-in-Err-clause-same : goal.returns-in-Err-clause-same
-returns-in-Err-clause-same c = λ from input h.
-    not_begun from input c.args.b_encoding c.args.b.now c.args.first.now.parser c.in-Err.fault c.behind_first.result h c.in-Err.ensures.memory c.behind_first.ensures
-
-pub returns-in-Err-clause-parting : goal.returns-in-Err-clause-parting
-returns-in-Err-clause-parting c = λ from input h fresh. tt
+pub returns-clause-parting : goal.returns-clause-parting
+returns-clause-parting c =
+    subst (λ (i : Input). (from : yaml_encoding_t) (input : List ℕ) → ReadsInput from input c.args.first.now.parser → IsFreshTrail c.args.kept c.args.trail.now
+    → WhereDifferent c.compared_with-answer.result (IsParting from input i.from i.bytes c.compared_with-answer.new.trail.place))
+    c.read_text-text.ensures c.compared_with-answer.ensures.parting

@@ -1,4 +1,4 @@
--- What was passed is in front of what is left, in both.
+-- What was passed is before what is left, in both.
 use Rattle.std.proofs.Common.{length}
 use Rattle.yaml_round_compare.specs.Dumps.{documents_left, GoesPast}
 use Rattle.yaml_round_compare.proofs.documents.same_documents.Given as goal

@@ -1,4 +1,4 @@
--- The line, or want of memory. Not searched for, so that a wrong answer fails by its type, at once.
+-- The line, or out of memory. Not searched for, so that a wrong answer fails by its type, at once.
 use Rattle.std.proofs.Common.{ap, ◌∙◌}
 use Rattle.yaml_round_device.proofs.fault_line.yaml_fault_line.Goals as goal
 

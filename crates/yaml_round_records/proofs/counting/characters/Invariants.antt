@@ -1,4 +1,4 @@
--- What begins in front of the place is counted.
+-- What begins before the place is counted.
 use Rattle.std.proofs.Common.{◌≡◌, ◌≤◌, take}
 use Rattle.std.specs.List.{count_by}
 use Rattle.yaml_scan_model.specs.Marks.{starts as starts_of}

@@ -1,4 +1,4 @@
--- Each directive is added behind the others.
+-- Each directive is added after the others.
 use Rattle.std.proofs.Common.{refl, rules}
 use Rattle.yaml_round_records.proofs.Directing.{none_put, next_put, last_put}
 use Rattle.yaml_round_records.proofs.listing.push_directives.Goals as goal

@@ -1,4 +1,4 @@
--- Each byte in front of the place begins a character.
+-- Each byte before the place begins a character.
 use Rattle.yaml_round_records.proofs.Characters.{nearest}
 use Rattle.yaml_round_records.proofs.counting.Count.characters_before.Goals as goal
 

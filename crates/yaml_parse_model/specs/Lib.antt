@@ -8,4 +8,3 @@ pub mod TextView
 pub use Rattle.yaml_scan_model.specs.Ascii
 pub use Rattle.yaml_scan_model.specs.Tokens
 pub use Rattle.yaml_scan_model.specs.Faults
-pub use Rattle.yaml_scan_slot.specs.Slots

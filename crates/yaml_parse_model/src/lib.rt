@@ -33,4 +33,3 @@ pub use yaml_scan_model::{
     yaml_sequence_style_t, yaml_tag_directive_t, yaml_token_body_t, yaml_token_t,
     yaml_token_type_t, yaml_version_directive_t,
 };
-pub use yaml_scan_slot::{BodySlot, Lent, TokenSlot, TokenTaker};

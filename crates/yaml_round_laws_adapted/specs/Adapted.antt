@@ -5,7 +5,7 @@ use Rattle.yaml_parse_model.specs.declared.yaml_error_type_t.TheVariants.{YAML_S
 use Rattle.yaml_parse_model.specs.declared.yaml_origin_t.TheVariants.{Adapter}
 use Rattle.yaml_parse_model.specs.Tokens.{Token}
 use Rattle.yaml_parse_model.specs.Faults.{Fault}
-pub use Rattle.yaml_parse_model.specs.Slots.{spells_text}
+pub use Rattle.yaml_parse_model.specs.Source.{spells_text}
 use Rattle.yaml_scan_laws_texts.specs.scan_history.Remaining.{Remaining}
 
 -- the fault of a token whose tag isn't UTF-8, at its start

@@ -1,5 +1,6 @@
 -- Tokens that are to come, the first of them and the others.
-use Rattle.std.specs.Prelude.{◌≡◌, List, [], ◌∷◌, Option, None, IsUtf8}
+use Rattle.std.specs.Prelude.{◌≡◌, Bool, true, List, [], ◌∷◌, Option, None, IsUtf8}
+use Rattle.std.specs.Str.{is_utf8}
 use Rattle.yaml_scan_model.specs.Tokens.{Token, TokenBody, no_token}
 use Rattle.yaml_scan_model.specs.Tokens as token
 use Rattle.yaml_scan_model.specs.Faults.{Fault}
@@ -26,3 +27,9 @@ HasUtf8 (token.anchor value) = IsUtf8 value
 HasUtf8 (token.tag handle suffix) = IsUtf8 handle × IsUtf8 suffix
 HasUtf8 (token.scalar value style) = IsUtf8 value
 HasUtf8 _ = Unit {0}
+
+-- What escapes spell byte by byte is UTF-8: a tag's suffix, and a directive's prefix.
+abbrev pub spells_text : TokenBody → Bool
+spells_text (token.tag_directive handle prefix) = is_utf8 prefix
+spells_text (token.tag handle suffix) = is_utf8 suffix
+spells_text _ = true

@@ -1,8 +1,7 @@
 -- Block scalars' lines, a step at a time.
-use Rattle.std.proofs.Common.{◌≡◌, ◌≢◌, ℕ, min, zero, suc, ◌+◌, ◌-◌, ◌<◌, ◌≤◌, ◌==◌, nat_lt, ◌&&◌, ◌||◌, true, false, not, List, length, refl, ap, sym, ◌∙◌, arith, rules}
-use Rattle.std.proofs.lemmas.Bool.{cases_lt}
+use Rattle.std.proofs.Common.{◌≡◌, ◌≢◌, ℕ, zero, suc, ◌+◌, ◌-◌, ◌<◌, ◌≤◌, ◌==◌, nat_lt, ◌&&◌, ◌||◌, true, false, not, List, refl, ap, ◌∙◌, arith}
 use Rattle.std.specs.Prelude.{slice_range}
-use Rattle.yaml_scan_block.proofs.Words.{nat_tests, lt-ltb, byte, break_width, column_at, break_value, feed_at, is_text, line_end, column_more, no_end-blank, within, past_some, Empty, Words, spaces, spot_behind, Stops, Line, Tab}
+use Rattle.yaml_scan_block.proofs.Words.{nat_tests, lt-ltb, byte, break_width, column_at, break_value, feed_at, is_text, line_end, column_more, no_end-blank, past_some, Empty, Words, spaces, spot_behind, Stops, Line, Tab}
 
 -- A space moves the column on by one.
 pub space_column : (text : List ℕ) (p : ℕ) → byte text p ≡ 32
@@ -13,11 +12,6 @@ spaces_more : (n : ℕ) (text : List ℕ) (p : ℕ) → byte text p ≡ 32
     → spaces (suc n) text p ≡ suc (spaces n text (p + 1))
 unfolding spaces
 spaces_more n text p h = rw h refl
-
-spaces_alike : (n m : ℕ) (text : List ℕ) (p : ℕ) → spaces n text (p + 1) ≡ spaces m text (p + 1)
-    → spaces (suc n) text p ≡ spaces (suc m) text p
-unfolding spaces
-spaces_alike n m text p h = rw h refl
 
 -- As many spaces as stand there and are asked for are passed.
 pub spaces_run : (n left : ℕ) (text : List ℕ) (p : ℕ) → n ≤ left
@@ -44,31 +38,6 @@ spaces_other (suc n) text p h = let f : (byte text p == 32) ≡ false = grind (a
 pub spaces_none : (text : List ℕ) (p : ℕ) → spaces 0 text p ≡ 0
 unfolding spaces
 spaces_none text p = refl
-
--- No more than the text holds need be asked for.
-pub spaces_within : (m n : ℕ) (text : List ℕ) (p : ℕ) → m ≤ n → length text ≤ p + m
-    → spaces n text p ≡ spaces m text p
-spaces_within zero n text p few past =
-    spaces_other n text p (λ h. let inside : p < length text = within text p (omega (arith, h)) in omega (arith, inside, past)) ∙ sym (spaces_none text p)
-spaces_within (suc m) n text p few past =
-    let d : n ≡ suc (n - 1) = omega (arith, few) in
-    let behind = spaces_within m (n - 1) text (p + 1) (omega (arith, few)) (omega (arith, past)) in
-    ap (λ (l : ℕ). spaces l text p) d ∙ spaces_alike (n - 1) m text p behind
-
--- So the lesser of what is asked for and what the text holds does as well.
-pub spaces_lesser : (n : ℕ) (text : List ℕ) (p : ℕ) → p ≤ length text
-    → (p + min n (length text - p) ≤ length text)
-    × (spaces n text p ≡ spaces (min n (length text - p)) text p)
-spaces_lesser n text p inside = search (rules, cases_lt, spaces_within)
-
-pub one_space : (text : List ℕ) (p : ℕ) → byte text p ≡ 32 → (k : ℕ) → p ≤ k → k < p + 1
-    → byte text k ≡ 32
-one_space text p h k after before = let same : k ≡ p = omega arith in rw same h
-
--- those up to a place, and those after it
-pub spaces_join : (text : List ℕ) (p q r : ℕ) → ((k : ℕ) → p ≤ k → k < q → byte text k ≡ 32)
-    → ((k : ℕ) → q ≤ k → k < r → byte text k ≡ 32) → (k : ℕ) → p ≤ k → k < r → byte text k ≡ 32
-spaces_join text p q r front behind k after before = search (rules, cases_lt)
 
 pub tab_spot : (c : ℕ) (text : List ℕ) (q : ℕ)
     → (byte text q == 9 && nat_lt (column_at text q) c) ≡ true → spot_behind c text q ≡ Tab q

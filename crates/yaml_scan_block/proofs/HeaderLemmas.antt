@@ -1,18 +1,11 @@
 -- Headers of block scalars, a byte at a time.
-use Rattle.std.proofs.Common.{◌≡◌, ◌≢◌, ℕ, ◌+◌, ◌<◌, Bool, true, false, List, if◌then◌else◌, Ok, Err, refl, arith}
+use Rattle.std.proofs.Common.{◌≡◌, ◌≢◌, ℕ, ◌+◌, ◌<◌, true, false, List, Ok, Err, refl, arith}
 use Rattle.yaml_scan_block.proofs.Words.{nat_tests, eq-eqb, ne_eqb, byte, break_of, break_width, is_text, no_break, in_block, is_chomping, indicators, digit_place, chomping_place, digit_of, chomp_of, header_end, header_at}
 use Rattle.yaml_scan_model.specs.declared.problem.Problem.TheVariants as problems
 use Rattle.yaml_scan_model.specs.Classes.{is_digit_byte}
 
-pub second_two : (b c n : ℕ) → n ≡ indicators b c → n ≢ 0 → n ≢ 1 → indicators b c ≡ 2
-unfolding indicators
-second_two b c n e h k = grind (arith, nat_tests)
-
 between : (b c d : ℕ) → (42 < b) × (b < 58) → (0 < b) × (break_of b c d ≡ 0)
 between b c d (h, k) = (omega arith, no_break b c d (omega arith) (omega arith) (omega arith) (omega arith))
-
-pub chomping_parts : (b c d : ℕ) → is_chomping b ≡ true → (0 < b) × (break_of b c d ≡ 0)
-chomping_parts b c d h = between b c d (unfold is_chomping in (grind (arith, nat_tests), grind (arith, nat_tests)))
 
 pub first_parts : (b c d e n : ℕ) → n ≡ indicators b c → n ≢ 0 → (0 < b) × (break_of b d e ≡ 0)
 first_parts b c d e n i h = between b d e (unfold indicators is_chomping is_digit_byte in (grind (arith, nat_tests), grind (arith, nat_tests)))
@@ -20,20 +13,6 @@ first_parts b c d e n i h = between b d e (unfold indicators is_chomping is_digi
 pub second_parts : (b c d e n : ℕ) → n ≡ indicators b c → n ≢ 0 → n ≢ 1
     → (0 < c) × (break_of c d e ≡ 0)
 second_parts b c d e n i h k = between c d e (unfold indicators is_chomping is_digit_byte in (grind (arith, nat_tests), grind (arith, nat_tests)))
-
-at_either : (text : List ℕ) (b : Bool) (p q : ℕ)
-    → (if b then byte text p else byte text q) ≡ byte text (if b then p else q)
-at_either text b p q = grind arith
-
-pub digit_there : (text : List ℕ) (p : ℕ)
-    → (if is_chomping (byte text p) then byte text (p + 1) else byte text p)
-    ≡ byte text (digit_place text p)
-digit_there text p = at_either text (is_chomping (byte text p)) (p + 1) p
-
-pub chomping_there : (text : List ℕ) (p : ℕ)
-    → (if is_digit_byte (byte text p) then byte text (p + 1) else byte text p)
-    ≡ byte text (chomping_place text p)
-chomping_there text p = at_either text (is_digit_byte (byte text p)) (p + 1) p
 
 pub zero_header : (text : List ℕ) (p : ℕ) → byte text (digit_place text p) ≡ 48
     → header_at text p ≡ Err (in_block problems.ZeroIndentation (digit_place text p))

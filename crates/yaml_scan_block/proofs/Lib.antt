@@ -1,7 +1,6 @@
 mod Words
 pub mod StackingLemmas
 pub mod BlockLemmas
-pub mod LinesLemmas
 pub mod HeaderLemmas
 pub mod DepthLemmas
 pub mod ScalarLemmas

@@ -36,7 +36,6 @@ pub use Rattle.yaml_scan_model.specs.Tokens.{Token, TokenBody, block_end, body_o
 pub use Rattle.yaml_scan_model.specs.Wrong.{Wrong}
 pub use Rattle.yaml_scan_model.specs.declared.fault.yaml_origin_t.TheVariants.{Reader}
 pub use Rattle.yaml_scan_model.specs.declared.name.yaml_encoding_t.{yaml_encoding_t}
-pub use Rattle.yaml_scan_model.specs.declared.problem.ScanError.{ScanError}
 pub use Rattle.yaml_scan_model.specs.declared.problem.ScanFault.{ScanFault}
 pub use Rattle.yaml_scan_model.specs.declared.record.yaml_mark_t.{yaml_mark_t}
 pub use Rattle.yaml_scan_words.specs.Between.{Gap, gap_at}

@@ -2,7 +2,7 @@
 use Rattle.std.proofs.Common.{◌≡◌, ◌≢◌, ℕ, ◌+◌, ◌-◌, ◌<◌, ◌≤◌, ◌==◌, true, false, List, [], ◌∷◌, length, refl, sym, arith, rules}
 use Rattle.std.proofs.lemmas.Bool.{cases_Bool, lt-ltb}
 use Rattle.std.proofs.lemmas.Bool.Decides.{nat_tests}
-use Rattle.yaml_scan_model.specs.Marks.{byte, break_of, ends_of, break_width, ends_break, is_blank}
+use Rattle.yaml_scan_model.specs.Marks.{byte, ends_of, break_width, ends_break, is_blank}
 use Rattle.yaml_scan_model.specs.Breaks.{break_value, feed_at}
 use Rattle.yaml_scan_model.proofs.MarksLemmas.{widths, one, two, three}
 
@@ -14,18 +14,6 @@ value_three text p w = rw w refl
 pub value_other : (text : List ℕ) (p : ℕ) → break_width text p ≢ 3 → break_value text p ≡ 10 ∷ []
 unfolding break_value
 value_other text p w = let f : (break_width text p == 3) ≡ false = grind (arith, nat_tests) in rw f refl
-
-second : (b c d : ℕ) → break_of b c d ≡ 3 → d ≢ 168 → d ≡ 169
-unfolding break_of
-second b c d h k = grind (arith, nat_tests)
-
-pub feed_first : (text : List ℕ) (p : ℕ) → break_width text p ≡ 3 → byte text (p + 2) ≡ 168
-    → 226 ∷ 128 ∷ 168 ∷ [] ≡ feed_at text p
-feed_first text p w h = rw (value_three text p w, w, h) refl
-
-pub feed_second : (text : List ℕ) (p : ℕ) → break_width text p ≡ 3 → byte text (p + 2) ≢ 168
-    → 226 ∷ 128 ∷ 169 ∷ [] ≡ feed_at text p
-feed_second text p w h = let e : byte text (p + 2) ≡ 169 = second _ _ _ w h in rw (value_three text p w, w, e) refl
 
 pub feed_other : (text : List ℕ) (p : ℕ) → 0 < break_width text p → break_width text p ≢ 3
     → 10 ∷ [] ≡ feed_at text p

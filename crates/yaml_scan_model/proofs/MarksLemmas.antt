@@ -169,13 +169,6 @@ pub start_column : (text : List ℕ) → 0 ≡ column_at text 0
 unfolding column_at
 start_column text = refl
 
-whole_start : (b c : ℕ) → splits_of b b b c ≡ false
-unfolding splits_of
-whole_start b c = grind (arith, nat_tests)
-
-pub start_whole : (text : List ℕ) → splits_break text 0 ≡ false
-start_whole text = whole_start (byte text 0) (byte text (0 + 1))
-
 -- these bytes begin no break
 pub no_break : (b c d : ℕ) → b ≢ 13 → b ≢ 10 → b ≢ 0xC2 → b ≢ 0xE2 → break_of b c d ≡ 0
 unfolding break_of

@@ -1,14 +1,10 @@
 -- Runs of text: of printed ASCII, the space too, and of bytes that are text whatever follows.
-use Rattle.std.proofs.Common.{◌≡◌, ◌≢◌, if◌then◌else◌, ℕ, zero, suc, ◌+◌, ◌-◌, ◌<◌, ◌≤◌, ◌==◌, ◌||◌, nat_lt, not, Bool, true, false, List, length, refl, sym, arith, add-one, rules}
+use Rattle.std.proofs.Common.{◌≡◌, ◌≢◌, ℕ, zero, suc, ◌+◌, ◌-◌, ◌<◌, ◌≤◌, ◌==◌, ◌||◌, nat_lt, not, Bool, true, false, List, length, refl, arith, rules}
 use Rattle.std.proofs.lemmas.Bool.{cases_Bool}
-use Rattle.std.proofs.lemmas.Bool.Decides.{nat_tests}
 use Rattle.yaml_scan_model.specs.Marks.{byte, break_of, ends_break, splits_break, starts, line_at, column_at}
 use Rattle.yaml_scan_model.specs.Runs.{is_text, passes, ArePassed, columns_over}
 use Rattle.yaml_scan_model.proofs.MarksLemmas.{no_break, within, end_next, split_next, line_more, column_more, column_same}
 use Rattle.yaml_scan_model.proofs.RunsLemmas.{InRun, run_more, text_parts}
-
-starts_printed : (b : ℕ) → b < 127 → starts b ≡ true
-starts_printed b h = grind (arith, nat_tests)
 
 -- what text leaves after it
 pub record IsBehind (text : List ℕ) (p n : ℕ) : Type 0 where
@@ -41,35 +37,6 @@ behind (suc n) text p room whole each =
     let next : p + suc n ≡ p + n + 1 = omega arith in
     search (rules, end_next, line_more, more_columns, split_next, text_parts, within, before, some, far, ends, next)
 
--- each printed byte is a column
-printed_columns : (n : ℕ) (text : List ℕ) (p : ℕ)
-    → ((k : ℕ) → p ≤ k → k < p + n → byte text k < 127) → columns_over n text p ≡ n
-unfolding columns_over
-printed_columns zero text p high = refl
-printed_columns (suc n) text p high =
-    let before = printed_columns n text p (λ k after less. high k after (omega arith)) in
-    rw (starts_printed _ (high (p + n) (omega arith) (omega arith))) (omega (arith, before))
-
-plain_text : (b c d : ℕ) → 31 < b → b < 127 → not (b == 0 || nat_lt 0 (break_of b c d)) ≡ true
-plain_text b c d low high = search (rules, no_break)
-
--- what a leap over printed bytes leaves after it
-pub record IsLeap (text : List ℕ) (p q : ℕ) : Type 0 where
-  pub inside : q ≤ length text
-  pub line : line_at text p ≡ line_at text q
-  pub column : column_at text p + (q - p) ≡ column_at text q
-  pub whole : splits_break text q ≡ false
-
-pub leaps : (text : List ℕ) (p q : ℕ) → p ≤ q → p ≤ length text → splits_break text p ≡ false
-    → ((k : ℕ) → p ≤ k → k < q → 31 < byte text k) → ((k : ℕ) → p ≤ k → k < q → byte text k < 127)
-    → IsLeap text p q
-leaps text p q forward room whole low high =
-    let count : p + (q - p) ≡ q = omega arith in
-    let b = behind (q - p) text p room whole (λ k after less. plain_text _ _ _ (low k after (omega arith)) (high k after (omega arith))) in
-    let columns = printed_columns (q - p) text p (λ k after less. high k after (omega arith)) in
-    let inside = b.inside in
-    record { inside = omega arith; line = sym (rw count at b.line); column = sym (rw (count, columns) at b.column); whole = rw count at b.whole }
-
 passed_parts : (wide : Bool) (b : ℕ) → passes wide b ≡ true → (31 < b) × (b ≢ 0xC2) × (b ≢ 0xE2)
 passed_parts wide b h = grind arith
 
@@ -101,15 +68,3 @@ passed_run wide text a p q h passed =
     let forward = passed.forward in
     let count : p + (q - p) ≡ q = omega arith in
     rw count at (text_run (q - p) text a p h (λ k after less. passed_text wide text k (passed.each k after (omega arith))))
-
--- what a row of such bytes leaves after it
-pub passed_behind : (wide : Bool) (n : ℕ) (text : List ℕ) (p : ℕ) → p ≤ length text
-    → splits_break text p ≡ false → ArePassed wide text p (p + n) → IsBehind text p n
-passed_behind wide n text p room whole passed = behind n text p room whole (λ k after less. passed_text wide text k (passed.each k after less))
-
--- the character that begins after
-pub columns_more : (n : ℕ) (text : List ℕ) (p columns own : ℕ) → columns ≡ columns_over n text p
-    → own ≡ (if starts (byte text (p + n)) then 1 else 0)
-    → columns + own ≡ columns_over (n + 1) text p
-unfolding columns_over
-columns_more n text p columns own h g = rw (h, g, add-one) refl

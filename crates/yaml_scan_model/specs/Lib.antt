@@ -3,7 +3,6 @@ pub use Rattle.yaml_types.specs.Classes
 pub use Rattle.yaml_types.specs.Tokens
 pub use Rattle.yaml_types.specs.Faults
 pub use Rattle.yaml_types.specs.Ends
-pub use Rattle.yaml_types.specs.Rooms
 pub use Rattle.yaml_types.specs.Widths
 pub use Rattle.yaml_types.specs.Ascii
 pub use Rattle.yaml_types.specs.Points
@@ -11,7 +10,5 @@ pub use Rattle.yaml_types.specs.Indents
 pub mod Problems
 pub mod Breaks
 pub mod Runs
-pub mod Spares
-pub mod Views
 pub mod Wrong
 pub mod Coming

@@ -1,11 +1,9 @@
 -- Why no lexeme stands at a place, and the refusal that tells it.
-use Rattle.std.specs.Prelude.{ℕ, List, ◌≡◌}
+use Rattle.std.specs.Prelude.{ℕ, List}
 use Rattle.yaml_types.specs.declared.yaml_mark_t.{yaml_mark_t}
 use Rattle.yaml_scan_model.specs.declared.problem.Problem.{Problem}
 use Rattle.yaml_scan_model.specs.declared.problem.Context.{Context}
 use Rattle.yaml_scan_model.specs.declared.problem.ScanFault.{ScanFault}
-use Rattle.yaml_scan_model.specs.declared.problem.ScanError.{ScanError}
-use Rattle.yaml_scan_model.specs.declared.problem.ScanError.TheVariants as errors
 use Rattle.yaml_scan_model.specs.Marks.{mark_at}
 
 -- a problem, what was being read, and the place of the first character that doesn't fit
@@ -22,22 +20,3 @@ scan_fault text start w = record {
   context_mark = start;
   problem_mark = mark_at text w.place;
 }
-
--- the refusal of what starts at one mark, by what doesn't fit at another
-abbrev pub refused : Problem → Context → yaml_mark_t → yaml_mark_t → ScanError
-refused problem context start place = errors.Fault record {
-  problem = problem;
-  context = context;
-  context_mark = start;
-  problem_mark = place;
-}
-
--- the refusal tells what is wrong, unless memory ran out
-abbrev pub Refuses : List ℕ → yaml_mark_t → ScanError → Wrong → Type 0
-Refuses text start errors.Memory w = Unit {0}
-Refuses text start (errors.Fault f) w = f ≡ scan_fault text start w
-
--- memory ran out
-abbrev pub IsMemory : ScanError → Type 0
-IsMemory errors.Memory = Unit {0}
-IsMemory (errors.Fault f) = ⊥

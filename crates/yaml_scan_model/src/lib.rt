@@ -1,32 +1,26 @@
-//! What the whole port stands on: marks, tokens, faults, the byte classes, and the cursor over a text.
+//! What the whole port stands on: marks, tokens, faults, the byte classes, and the scanner's problems.
 #![tactic(auto)]
 
+mod character;
 pub mod fault;
-pub mod keeping;
 pub mod name;
 mod problem;
-mod reader;
 pub mod record;
-mod run;
-mod spares;
 pub mod token;
 
+pub use character::starts;
 pub use fault::{yaml_fault_t, yaml_origin_t};
-pub use keeping::Spares;
 pub use name::{
     yaml_break_t, yaml_encoding_t, yaml_error_type_t, yaml_event_type_t, yaml_mapping_style_t,
     yaml_node_type_t, yaml_scalar_style_t, yaml_sequence_style_t, yaml_token_type_t,
 };
-pub use problem::{Context, Problem, ScanError, ScanFault};
-pub use reader::{Reader, is_blank as is_blank_byte, starts};
+pub use problem::{Context, Problem, ScanFault};
 pub use record::{
     mark_again, yaml_mark_t, yaml_simple_key_t, yaml_tag_directive_t, yaml_version_directive_t,
 };
-pub use run::{is_text, leap, skip_blanks, skip_spaces, skip_text};
-pub use spares::{copied, copied_more, room, spare};
 pub use token::{yaml_token_body_t, yaml_token_t};
 pub use yaml_types::{
     ByteTest, DEFAULT_INDENT, DEFAULT_WIDTH, SHORT, all_pass, are_ends, followed, is_run, is_short,
-    lifted, moved, put_back, put_between, put_each, put_many, put_near, put_short, refilled,
-    room_of, stands_in_front, yaml_memory_fault, yaml_parser_state_t, yaml_token_delete,
+    moved, put_back, put_between, put_each, put_near, put_short, refilled, room_of, stands_in_front,
+    yaml_memory_fault, yaml_parser_state_t, yaml_token_delete,
 };

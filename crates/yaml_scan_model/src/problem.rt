@@ -1,15 +1,12 @@
 //! Why a text can't be scanned, and the texts that tell it.
 
 ghost use Rattle.std.specs.Prelude.{◌≡◌, option_map};
-ghost use Rattle.yaml_scan_model.specs.declared.problem.ScanError.TheVariants.{Memory};
 ghost use Rattle.yaml_scan_model.specs.Faults.{fault_of};
 ghost use Rattle.yaml_scan_model.specs.Problems.{problem_text_of, context_text_of, scanner_fault};
-ghost use Rattle.yaml_scan_model.specs.Wrong.{refused};
 
 use crate::fault::{yaml_fault_t, yaml_origin_t};
 use crate::name::yaml_error_type_t;
 use crate::record::yaml_mark_t;
-use std::alloc::{AllocError, AllocFailed};
 
 /// What is wrong.
 #[derive(Clone, Copy)]
@@ -76,49 +73,6 @@ pub struct ScanFault {
     pub context: Context,
     pub context_mark: yaml_mark_t,
     pub problem_mark: yaml_mark_t,
-}
-
-/// Why a call of the scanner's helpers was refused.
-#[derive(Drop)]
-pub enum ScanError {
-    /// A growth was refused.
-    Memory,
-    Fault(ScanFault),
-}
-
-impl ScanError {
-    /// The refusal of a lexeme that starts at the context mark, by what doesn't fit at the problem mark.
-    pub fn refusal(
-        problem: Problem,
-        context: Context,
-        context_mark: yaml_mark_t,
-        problem_mark: yaml_mark_t,
-    ) -> ScanError
-        ensures { result ≡ refused problem context context_mark problem_mark }
-    {
-        ScanError::Fault(ScanFault {
-            problem,
-            context,
-            context_mark,
-            problem_mark,
-        })
-    }
-}
-
-impl From<AllocError> for ScanError {
-    ghost from_gives = { λ _ e. e ≡ Memory };
-
-    fn from(_e: AllocError) -> ScanError {
-        ScanError::Memory
-    }
-}
-
-impl<T: Drop> From<AllocFailed<T>> for ScanError {
-    ghost from_gives = { λ _ e. e ≡ Memory };
-
-    fn from(_e: AllocFailed<T>) -> ScanError {
-        ScanError::Memory
-    }
 }
 
 impl Problem {

@@ -1,7 +1,7 @@
 -- Escapes, a digit at a time.
 use Rattle.std.proofs.Common.{◌≡◌, ℕ, zero, suc, ◌+◌, ◌-◌, ◌*◌, ◌<◌, ◌≤◌, List, Some, None, ◌^◌, refl, arith, add-one, add-zero, add-suc, rules}
 use Rattle.std.proofs.Math.Nat.{pow-le-pow_right, pow-suc}
-use Rattle.yaml_scan_scalars.proofs.Words.{byte, break_width, hex_digit, hex_value, hex_len, simple_escape, escape_at, coded}
+use Rattle.yaml_scan_scalars.proofs.Words.{byte, break_width, hex_digit, hex_value, hex_len, escape_at, coded}
 
 pub hex_more : (text : List ℕ) (p k v d : ℕ) → hex_value text p k ≡ Some v
     → hex_digit (byte text (p + k)) ≡ Some d → hex_value text p (k + 1) ≡ Some (v * 16 + d)
@@ -26,17 +26,6 @@ power-more k = rw add-one (pow-suc 16 k)
 
 pub power-room : (k : ℕ) → k < 8 → 16 ^ k * 16 ≤ 4294967296
 power-room k h = search (rules, pow-le-pow_right, pow-suc)
-
-pub hex_len-zero : hex_len 0 ≡ 0
-unfolding hex_len
-hex_len-zero = refl
-
-pub simple_escape-zero : simple_escape 0 ≡ None
-unfolding simple_escape
-simple_escape-zero = refl
-
-pub not_zero : (text : List ℕ) (p : ℕ) → (byte text p ≡ 0 → ⊥) → 0 < byte text p
-not_zero text p h = omega (arith, h)
 
 pub escape_code : (text : List ℕ) (p : ℕ) → break_width text (p + 1) ≡ 0
     → 0 < hex_len (byte text (p + 1))

@@ -4,9 +4,6 @@ pub mod EscapeLemmas
 pub mod QuotedLemmas
 pub mod RunLemmas
 pub mod PlainLemmas
-pub mod PlainRunLemmas
-mod TableLemmas
-mod OneRunLemmas
 mod Unbounding
 mod Digits
 -- what it stands on, for crates of laws that name this one alone

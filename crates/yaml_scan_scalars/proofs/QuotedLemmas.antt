@@ -1,6 +1,6 @@
 -- Quoted scalars, a step at a time.
-use Rattle.std.proofs.Common.{◌≡◌, ◌≢◌, ℕ, zero, suc, ◌+◌, ◌-◌, ◌<◌, ◌≤◌, true, false, List, [], ◌∷◌, ◌++◌, length, Result, Ok, Err, refl, ap, ◌⊎◌, ◌==◌, ◌&&◌, arith, rules}
-use Rattle.yaml_scan_scalars.proofs.Words.{cond_both, eqb-false, ltb-true, nat_tests, ne_eqb, yaml_mark_t, ScanError, Place, byte, mark_at, break_of, break_width, is_blank, is_document_indicator, Wrong, IsMemory, no_break, within, Piece, Kept, Blank, value, Took, Reads, QuotedSpot, Closing, Pieces, Bad, with_front, followed, pieces, valued, quoted_at, quote_at, standing_at, escape_at, eq-eqb}
+use Rattle.std.proofs.Common.{◌≡◌, ◌≢◌, ℕ, zero, suc, ◌+◌, ◌-◌, ◌<◌, ◌≤◌, true, false, List, [], ◌∷◌, ◌++◌, length, Result, refl, ap, ◌==◌, ◌&&◌, arith, rules}
+use Rattle.yaml_scan_scalars.proofs.Words.{cond_both, eqb-false, ltb-true, ne_eqb, byte, break_width, is_blank, is_document_indicator, Wrong, within, Piece, Kept, Blank, value, QuotedSpot, Closing, Pieces, Bad, with_front, followed, pieces, valued, quoted_at, quote_at, standing_at, escape_at, eq-eqb}
 
 -- ---- what goes on moves
 
@@ -52,48 +52,7 @@ pub front : (old new : List Piece → List ℕ) (qs : List Piece) (r : Result (L
     → ((ps : List Piece) → new ps ≡ old (qs ++ ps)) → valued old (with_front qs r) ≡ valued new r
 front old new qs r h = grind arith
 
--- what a step that goes on leaves
-pub record GoesOn (quote : ℕ) (text : List ℕ) (p : ℕ) (old new : List Piece → List ℕ) (place : Place) : Type 0 where
-  pub same : place.text ≡ text
-  pub further : p < place.at
-  pub inside : p < length text
-  pub rest : valued old (pieces_on quote text p) ≡ valued new (pieces_on quote text place.at)
-
-pub turn_more : (text : List ℕ) (start : yaml_mark_t) (quote p : ℕ)
-    (old new : List Piece → List ℕ) (place : Place) (s : QuotedSpot) → standing_at quote text p ≡ s
-    → Took text start p old new place (Ok true) s → GoesOn quote text p old new place
-turn_more text start quote p old new place s is h = grind (arith, front, pieces_here)
-
-pub turn_done : (text : List ℕ) (start : yaml_mark_t) (quote p : ℕ)
-    (old new : List Piece → List ℕ) (place : Place) (s : QuotedSpot) → standing_at quote text p ≡ s
-    → Took text start p old new place (Ok false) s
-    → (place ≡ record { text = text; at = p + 1 })
-    × (valued old (pieces_on quote text p) ≡ Ok (new [], p + 1))
-turn_done text start quote p old new place s is h = grind (arith, pieces_here)
-
-only_memory : (text : List ℕ) (a : ℕ) (place : Place) (e : ScanError)
-    (r : Result (List ℕ × ℕ) Wrong) → IsMemory e → Reads text a place (Err e) r
-only_memory text a place e r h = grind arith
-
-pub turn_refused : (text : List ℕ) (quote a p : ℕ) (old new : List Piece → List ℕ) (place : Place)
-    (e : ScanError) (s : QuotedSpot) → standing_at quote text p ≡ s
-    → Took text (mark_at text a) p old new place (Err e) s
-    → Reads text a place (Err e) (valued old (pieces_on quote text p))
-turn_refused text quote a p old new place e (Pieces qs q) is h = only_memory text a place e (valued old (pieces_on quote text p)) h
-turn_refused text quote a p old new place e Closing is h = absurd h
-turn_refused text quote a p old new place e (Bad w) is h = rw (pieces_here quote text p, is) h
-
 -- ---- quotes are no breaks
-
-pub quote_some : (quote b : ℕ) → b ≡ quote → (quote ≡ 34) ⊎ (quote ≡ 39) → 0 < b
-quote_some quote b e h = grind arith
-
-pub quote_no_break : (quote b c d : ℕ) → b ≡ quote → (quote ≡ 34) ⊎ (quote ≡ 39)
-    → break_of b c d ≡ 0
-quote_no_break quote b c d e h = grind (arith, no_break)
-
-pub doubled_next : (quote next : ℕ) → (quote == 39 && next == 39) ≡ true → next ≡ 39
-doubled_next quote next h = grind (arith, nat_tests)
 
 -- ---- what stands inside the quotes
 

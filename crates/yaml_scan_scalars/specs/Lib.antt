@@ -1,9 +1,7 @@
 pub mod Pieces
 pub mod Resume
 pub mod Quoted
-pub mod Readings
 pub mod Plain
-pub mod Joined
 pub mod Ordinary
 pub mod Unbounded
 -- what it stands on, for crates of laws that name this one alone

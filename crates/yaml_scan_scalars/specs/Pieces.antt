@@ -1,5 +1,5 @@
 -- The value of a plain or quoted scalar, from its lines.
-use Rattle.std.specs.Prelude.{ℕ, ◌==◌, Bool, true, false, if◌then◌else◌, List, [], ◌∷◌, ◌++◌}
+use Rattle.std.specs.Prelude.{ℕ, Bool, true, false, if◌then◌else◌, List, [], ◌∷◌, ◌++◌}
 use Rattle.yaml_scan_model.specs.Ascii as ascii
 use Rattle.yaml_scan_model.specs.Breaks.{is_feed}
 
@@ -9,10 +9,6 @@ pub data Piece : Type 0 where
   Kept : List ℕ → Piece
   Blank : ℕ → Piece
   Break : List ℕ → Piece
-
--- a byte of a run as a piece
-abbrev pub piece_of : ℕ → Piece
-piece_of b = if b == ascii.space then Blank b else Kept (b ∷ [])
 
 -- A line's pieces, with no break among them.
 abbrev pub Line : Type 0

@@ -7,7 +7,7 @@ use Rattle.yaml_scan_model.specs.declared.problem.Context.TheVariants as context
 use Rattle.yaml_scan_model.specs.Marks.{byte, break_width, ends_break, column_at, is_blank, is_blank_or_end}
 use Rattle.yaml_scan_model.specs.Breaks.{break_value, is_document_indicator}
 use Rattle.yaml_scan_model.specs.Wrong.{Wrong}
-use Rattle.yaml_scan_scalars.specs.Pieces.{Piece, Kept, Blank, Break, piece_of, value}
+use Rattle.yaml_scan_scalars.specs.Pieces.{Piece, Kept, Blank, Break, value}
 
 -- one of `, [ ] { }`
 unfoldable pub is_bracket : ℕ → Bool
@@ -101,11 +101,6 @@ with_piece (Blank b) q w =
 with_piece (Break b) q w =
     if is_nothing w.pieces then record { pieces = []; end = w.end; place = w.place; broke = true }
     else record { pieces = Break b ∷ w.pieces; end = w.end; place = w.place; broke = w.broke }
-
--- d bytes from p on, each a piece
-abbrev pub with_run : List ℕ → ℕ → ℕ → Words → Words
-with_run text p zero w = w
-with_run text p (suc d) w = with_piece (piece_of (byte text p)) (p + 1) (with_run text (p + 1) d w)
 
 abbrev pub words_from : Piece → ℕ → Result Words Wrong → Result Words Wrong
 words_from x q (Ok w) = Ok (with_piece x q w)

@@ -36,11 +36,6 @@ feed_of b c d h = rw h refl
 pub feed_width : (text : List ℕ) (p : ℕ) → byte text p ≡ 10 → break_width text p ≡ 1
 feed_width text p h = feed_of (byte text p) (byte text (p + 1)) (byte text (p + 2)) h
 
--- a space is a byte, and no break
-pub space_byte : (text : List ℕ) (p : ℕ) → byte text p ≡ 32
-    → (0 < byte text p) × (break_width text p ≡ 0)
-space_byte text p e = blank_parts _ _ _ (rw e refl)
-
 -- the bytes of U+FEFF
 pub bom_bytes : (text : List ℕ) (p : ℕ) → is_bom text p ≡ true
     → (byte text p ≡ 0xEF) × (byte text (p + 1) ≡ 0xBB) × (byte text (p + 2) ≡ 0xBF)
@@ -71,27 +66,12 @@ pub break_here : (tabs : Bool) (text : List ℕ) (p : ℕ) → 0 < break_width t
 unfolding step_at
 break_here tabs text p h = search (rules, break_parts, lt-ltb, ne_eqb, no_bom, no_skip)
 
--- a line feed is passed
-pub feed_here : (tabs : Bool) (text : List ℕ) (p : ℕ) → byte text p ≡ 10
-    → step_at tabs text p ≡ record { standing = gap_spots.Break; place = p + 1 }
-feed_here tabs text p h = search (rules, break_here, feed_width)
-
 -- what begins neither white nor a comment nor a break, stays
 pub stays : (tabs : Bool) (text : List ℕ) (p : ℕ) → byte text p ≢ 32 → byte text p ≢ 9
     → byte text p ≢ 35 → nat_lt 0 (break_width text p) ≡ false → (p == 0 && is_bom text p) ≡ false
     → step_at tabs text p ≡ record { standing = gap_spots.Lexeme; place = p }
 unfolding step_at
 stays tabs text p space tab hash none first = search (rules, ne_eqb, no_skip)
-
-byte_parts : (b : ℕ) → (nat_lt 32 b && (nat_lt b 128 && not (b == 35))) ≡ true
-    → (32 < b) × (b < 128) × (b ≢ 35)
-byte_parts b h = (grind (arith, nat_tests), grind (arith, nat_tests), grind (arith, nat_tests))
-
---- these bytes begin a lexeme
-pub lexeme_here : (tabs : Bool) (text : List ℕ) (p : ℕ)
-    → (nat_lt 32 (byte text p) && (nat_lt (byte text p) 128 && not (byte text p == 35))) ≡ true
-    → step_at tabs text p ≡ record { standing = gap_spots.Lexeme; place = p }
-lexeme_here tabs text p h = search (rules, byte_parts, no_bom, no_break_between, stays)
 
 -- a step stops at a lexeme, or goes on inside the text
 abbrev Moved : List ℕ → ℕ → GapStep → Type 0

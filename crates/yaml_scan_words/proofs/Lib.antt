@@ -9,5 +9,4 @@ pub mod GapsRead
 pub mod NamesRead
 pub mod UrisRead
 pub mod TagsRead
-pub mod ShortLemmas
 mod Unbounding

@@ -1,6 +1,6 @@
 -- Names that are written.
-use Rattle.std.proofs.Common.{◌≡◌, ℕ, nat_lt, suc, ◌+◌, ◌<◌, ◌≤◌, ◌==◌, ◌||◌, true, false, List, [], ◌∷◌, length, Ok, refl, sym, ◌∙◌, inl, inr, arith, rules}
-use Rattle.yaml_scan_words.proofs.Words.{false_from_ne_true, ne_eqb, no_break_between, true≢false, and_parts, cases_Bool, or_cases, or_left, or_parts, or_right, nat_tests, Context, byte, is_blank, is_alpha_byte, is_digit_byte, belongs, run_within, run_end, anchor_at, may_end_name, HasAt, are_alphas, is_name_end, is_blank_or_end, break_of, break_width}
+use Rattle.std.proofs.Common.{◌≡◌, ℕ, suc, ◌+◌, ◌<◌, ◌≤◌, ◌==◌, ◌||◌, true, false, List, [], ◌∷◌, length, Ok, refl, sym, ◌∙◌, arith, rules}
+use Rattle.yaml_scan_words.proofs.Words.{false_from_ne_true, ne_eqb, no_break_between, true≢false, and_parts, nat_tests, Context, byte, is_blank, is_alpha_byte, is_digit_byte, belongs, run_within, run_end, anchor_at, may_end_name, HasAt, are_alphas, is_name_end, break_width}
 use Rattle.yaml_scan_words.specs.declared.run.Run.TheVariants as runs
 use Rattle.yaml_scan_words.proofs.RunsLemmas.{alpha_range, belongs_inside, run_more, run_stop, run_within-le}
 use Rattle.yaml_scan_words.proofs.HasLemmas.{Has, has, range_reads}
@@ -38,25 +38,6 @@ alpha_ends_none text p h =
     let blank : (is_blank (byte text p) || byte text p == 0) ≡ false = grind (arith, nat_tests) in
     let end : is_name_end (byte text p) ≡ false = unfold is_alpha_byte is_digit_byte in grind (arith, nat_tests) in
     rw (blank, none, end) refl
-
--- a byte that is a break by itself begins one whatever follows
-breaks_alone : (b c d : ℕ) → nat_lt 0 (break_of b 0 0) ≡ true → nat_lt 0 (break_of b c d) ≡ true
-unfolding break_of
-breaks_alone b c d h = grind (arith, nat_tests)
-
--- a byte that ends a name by itself ends it whatever follows
-pub ends_alone : (text : List ℕ) (p : ℕ) → may_end_name (byte text p ∷ []) 0 ≡ true
-    → may_end_name text p ≡ true
-unfolding may_end_name
-ends_alone text p h = search (rules, or_cases, or_left, or_right, breaks_alone)
-
--- where the byte doesn't by itself, a blank, a break or the end does
-pub ends_wide : (text : List ℕ) (p : ℕ) → may_end_name (byte text p ∷ []) 0 ≡ false
-    → may_end_name text p ≡ is_blank_or_end text p
-unfolding may_end_name
-ends_wide text p h =
-    let none : is_name_end (byte text p) ≡ false = (or_parts (is_blank_or_end (byte text p ∷ []) 0) (is_name_end (byte text p)) h).1 in
-    rw none (elim (cases_Bool (is_blank_or_end text p)) [ inl e ↦ rw e refl | inr e ↦ rw e refl ])
 
 pub anchor_is_read : (context : Context) (text : List ℕ) (p : ℕ) (name : List ℕ)
     → HasAt text (p + 1) name → 0 < length name → are_alphas name ≡ true

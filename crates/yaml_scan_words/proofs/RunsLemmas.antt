@@ -1,6 +1,6 @@
 -- Runs, a byte at a time.
 use Rattle.std.proofs.Common.{◌≡◌, ◌≢◌, ℕ, zero, suc, ◌+◌, ◌<◌, ◌≤◌, Bool, true, false, List, length, refl, ◌∙◌, inl, inr, ◌⊎◌, arith, rules}
-use Rattle.yaml_scan_words.proofs.Words.{cases_Bool, cases_lt, false_from_ne_true, nat_tests, byte, break_of, break_width, is_blank, is_alpha_byte, is_digit_byte, no_break_between, within, IsPrinted, Run, belongs, run_within, run_end}
+use Rattle.yaml_scan_words.proofs.Words.{cases_Bool, cases_lt, false_from_ne_true, nat_tests, byte, break_of, break_width, is_blank, is_alpha_byte, is_digit_byte, no_break_between, within, Run, belongs, run_within, run_end}
 use Rattle.yaml_scan_words.specs.declared.run.Run.TheVariants as runs
 
 digit_range : (b : ℕ) → is_digit_byte b ≡ true → (48 ≤ b) × (b ≤ 57)
@@ -128,19 +128,3 @@ run_within-le (suc n) run text p h =
       | inl e ↦ let inside = belongs_inside run text p e in rw e (run_within-le n run text (p + 1) (omega arith))
       | inr e ↦ rw e h
     ]
-
--- a letter or digit is printed ASCII
-alpha_printed : (text : List ℕ) (p : ℕ) → belongs runs.Alphas text p ≡ true
-    → (32 < byte text p) × (byte text p < 127)
-unfolding belongs
-alpha_printed text p h = let (low, high, angle) = alpha_range (byte text p) h in (omega arith, omega arith)
-
-pub digit_printed : (text : List ℕ) (p : ℕ) → belongs runs.Digits text p ≡ true
-    → (32 < byte text p) × (byte text p < 127)
-unfolding belongs
-digit_printed text p h = let (low, high) = digit_range (byte text p) h in (omega arith, omega arith)
-
--- an indicator and the alphas that follow it
-pub name_printed : (text : List ℕ) (p : ℕ) → (32 < byte text p) × (byte text p < 127)
-    → IsPrinted text p (run_end runs.Alphas text (p + 1))
-name_printed text p first = search (rules, alpha_printed, cases_lt, run_each, run_within-ge)

@@ -1,6 +1,6 @@
 -- URIs, a byte at a time.
 use Rattle.std.proofs.Common.{◌≡◌, ◌≢◌, ℕ, zero, suc, ◌+◌, ◌<◌, ◌≤◌, ◌==◌, ◌&&◌, ◌||◌, nat_lt, Bool, true, false, List, [], ◌∷◌, ◌++◌, length, take, drop, slice_range, Option, Some, None, IsSome, Result, Ok, Err, refl, sym, ap, ◌∙◌, ◌-◌, inl, inr, append_assoc, append-nil, arith, rules}
-use Rattle.yaml_scan_words.proofs.Words.{cond_both, false_from_ne_true, ne_eqb, true≢false, or_cases, nat_tests, drop_more, Context, byte, is_alpha_byte, Wrong, within, IsKept, IsPrinted, is_punctuation, is_wide_punctuation, is_kept, is_uri, hex_digit, octet_of, octet_at, UriSpot, Spells, Ends, Faulty, octet_spot, spot_at, with_bytes, uri_from, uri_within, uri_at}
+use Rattle.yaml_scan_words.proofs.Words.{cond_both, false_from_ne_true, ne_eqb, true≢false, or_cases, nat_tests, drop_more, Context, byte, is_alpha_byte, Wrong, within, IsKept, is_punctuation, is_wide_punctuation, is_kept, is_uri, hex_digit, octet_of, octet_at, UriSpot, Spells, Ends, Faulty, octet_spot, spot_at, with_bytes, uri_from, uri_within, uri_at}
 use Rattle.yaml_scan_words.proofs.RunsLemmas.{alpha_range}
 
 -- ---- bytes
@@ -29,10 +29,6 @@ uri_inside wide text p h = let (low, high) = uri_range wide text p h in within t
 -- nothing of a URI stands past the end
 pub past_uri : (wide : Bool) (text : List ℕ) (p : ℕ) → length text ≤ p → is_uri wide text p ≡ false
 past_uri wide text p past = false_from_ne_true _ (λ h. let inside = uri_inside wide text p h in omega arith)
-
-pub kept_printed : (wide : Bool) (text : List ℕ) (p q : ℕ) → IsKept wide text p q
-    → IsPrinted text p q
-kept_printed wide text p q h = record { forward = h.forward; each = λ k a b. uri_range wide text k (h.kept k a b) }
 
 hex_range : (b : ℕ) → IsSome (hex_digit b) → (32 < b) × (b < 127)
 unfolding hex_digit

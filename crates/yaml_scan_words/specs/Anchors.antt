@@ -1,8 +1,8 @@
 -- Anchors and aliases.
-use Rattle.std.specs.Prelude.{ℕ, ◌+◌, ◌≡◌, Bool, true, not, ◌||◌, ◌==◌, if◌then◌else◌, List, slice_range, Result, Ok, Err}
+use Rattle.std.specs.Prelude.{ℕ, ◌+◌, Bool, not, ◌||◌, ◌==◌, if◌then◌else◌, List, slice_range, Result, Ok, Err}
 use Rattle.yaml_scan_model.specs.Ascii as ascii
 use Rattle.yaml_scan_words.specs.declared.run.Run.TheVariants as runs
-use Rattle.yaml_scan_words.specs.Runs.{run_end, IsShortRun}
+use Rattle.yaml_scan_words.specs.Runs.{run_end}
 use Rattle.yaml_scan_model.specs.declared.problem.Context.{Context}
 use Rattle.yaml_scan_model.specs.declared.problem.Problem.TheVariants as problems
 use Rattle.yaml_scan_model.specs.Marks.{byte, is_blank_or_end}
@@ -29,8 +29,3 @@ name_between context text p q =
 -- the name of the anchor or alias that starts there, and the place after it, or what is wrong
 abbrev pub anchor_at : Context → List ℕ → ℕ → Result (List ℕ × ℕ) Wrong
 anchor_at context text p = name_between context text (p + 1) (run_end runs.Alphas text (p + 1))
-
--- a short name stands from one place to another, where it may end
-pub record IsShortName (text : List ℕ) (p q : ℕ) : Type 0 where
-  pub run : IsShortRun text p q
-  pub ends : may_end_name text q ≡ true

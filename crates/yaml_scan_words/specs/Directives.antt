@@ -31,9 +31,6 @@ pub record DirectiveText : Type 0 where
 abbrev pub value_end : ValueText → ℕ
 value_end v = v.end
 
-abbrev pub directive_place : DirectiveText → ℕ
-directive_place d = d.place
-
 abbrev pub name_behind : DirectiveName × ℕ → ℕ
 name_behind x = x.1
 

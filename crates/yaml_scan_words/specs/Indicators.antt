@@ -1,5 +1,5 @@
 -- Which indicator stands at a place.
-use Rattle.std.specs.Prelude.{ℕ, ◌+◌, Bool, ◌&&◌, ◌||◌, ◌==◌, List}
+use Rattle.std.specs.Prelude.{ℕ, ◌+◌, Bool, ◌&&◌, ◌==◌, List}
 use Rattle.yaml_scan_model.specs.Ascii as ascii
 use Rattle.yaml_scan_model.specs.Marks.{byte, column_at, is_blank_or_end}
 
@@ -18,15 +18,3 @@ unfoldable pub is_document_end : List ℕ → ℕ → Bool
 is_document_end text p =
     (column_at text p == 0 && is_thrice ascii.dot text p) && is_blank_or_end text
     (p + 3)
-
--- `-` before a blank, a break or the end
-abbrev pub is_block_entry : List ℕ → ℕ → Bool
-is_block_entry text p = byte text p == ascii.hyphen && is_blank_or_end text (p + 1)
-
--- `?` in flow context, or before a blank, a break or the end
-abbrev pub is_key : Bool → List ℕ → ℕ → Bool
-is_key flow text p = byte text p == ascii.question && (flow || is_blank_or_end text (p + 1))
-
--- `:` in flow context, or before a blank, a break or the end
-abbrev pub is_value : Bool → List ℕ → ℕ → Bool
-is_value flow text p = byte text p == ascii.colon && (flow || is_blank_or_end text (p + 1))

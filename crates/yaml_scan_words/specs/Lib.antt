@@ -4,9 +4,7 @@ pub mod Indicators
 pub mod Anchors
 pub mod Readings
 pub mod Uris
-pub mod Spelt
 pub mod Tags
-pub mod TagsGiven
 pub mod Directives
 pub mod DirectivesGiven
 pub mod Written

@@ -1,10 +1,8 @@
 -- Runs of bytes that go together.
-use Rattle.std.specs.Prelude.{ℕ, zero, suc, ◌+◌, ◌<◌, ◌≤◌, ◌≡◌, Bool, if◌then◌else◌, List, length}
-use Rattle.yaml_scan_model.specs.Ascii as ascii
+use Rattle.std.specs.Prelude.{ℕ, zero, suc, ◌+◌, Bool, if◌then◌else◌, List, length}
 use Rattle.yaml_scan_words.specs.declared.run.Run.{Run}
 use Rattle.yaml_scan_words.specs.declared.run.Run.TheVariants as runs
 use Rattle.yaml_scan_model.specs.Classes.{is_alpha, is_digit, is_blank}
-use Rattle.yaml_scan_model.specs.Marks.{byte}
 
 -- what stands there belongs to the run
 unfoldable pub belongs : Run → List ℕ → ℕ → Bool
@@ -20,14 +18,3 @@ run_within (suc n) run text p = if belongs run text p then run_within n run text
 -- the place after the run that stands there
 abbrev pub run_end : Run → List ℕ → ℕ → ℕ
 run_end run text p = run_within (length text) run text p
-
--- some alphas stand from one place to another within the text, and no further one
-pub record IsShortRun (text : List ℕ) (p q : ℕ) : Type 0 where
-  pub some : p < q
-  pub inside : q < length text
-  pub end : run_end runs.Alphas text p ≡ q
-
--- printed characters of ASCII but the space stand from one place to another
-pub record IsPrinted (text : List ℕ) (p q : ℕ) : Type 0 where
-  pub forward : p ≤ q
-  pub each : (k : ℕ) → p ≤ k → k < q → (ascii.space < byte text k) × (byte text k < ascii.delete)

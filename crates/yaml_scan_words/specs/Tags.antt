@@ -1,12 +1,12 @@
 -- Tags.
-use Rattle.std.specs.Prelude.{ℕ, ◌+◌, ◌≡◌, Bool, true, false, ◌&&◌, ◌||◌, ◌==◌, if◌then◌else◌, List, [], ◌∷◌, length, slice_range, Result, Ok, Err}
+use Rattle.std.specs.Prelude.{ℕ, ◌+◌, Bool, true, false, ◌&&◌, ◌||◌, ◌==◌, if◌then◌else◌, List, [], ◌∷◌, length, slice_range, Result, Ok, Err}
 use Rattle.yaml_scan_model.specs.Ascii as ascii
 use Rattle.yaml_scan_words.specs.declared.run.Run.TheVariants as runs
 use Rattle.yaml_scan_model.specs.declared.problem.Context.TheVariants as contexts
 use Rattle.yaml_scan_model.specs.declared.problem.Problem.TheVariants as problems
 use Rattle.yaml_scan_model.specs.Marks.{byte, is_blank_or_end}
 use Rattle.yaml_scan_model.specs.Wrong.{Wrong}
-use Rattle.yaml_scan_words.specs.Runs.{run_end, IsShortRun}
+use Rattle.yaml_scan_words.specs.Runs.{run_end}
 use Rattle.yaml_scan_words.specs.Uris.{uri_at, some_uri_at}
 
 -- a tag, and the place after it
@@ -32,20 +32,6 @@ verbatim_at text p = bracketed text (some_uri_at contexts.TagUri true text (p + 
 -- the place after the alphas that follow the `!` there
 abbrev pub name_end : List ℕ → ℕ → ℕ
 name_end text p = run_end runs.Alphas text (p + 1)
-
--- the place after the handle of a tag in a short form: `!alphas!`, or else `!`
-abbrev pub handle_end : List ℕ → ℕ → ℕ
-handle_end text p =
-    if byte text (name_end text p) == ascii.exclamation then name_end text p + 1 else p + 1
-
--- the place after the handle of a short tag: `!!`, or else `!`
-abbrev pub short_middle : List ℕ → ℕ → ℕ
-short_middle text p = if byte text (p + 1) == ascii.exclamation then p + 2 else p + 1
-
--- alphas stand from one place to another, and a space or a line feed after
-pub record IsShortSuffix (text : List ℕ) (p q : ℕ) : Type 0 where
-  pub run : IsShortRun text p q
-  pub ends : (byte text q == ascii.space || byte text q == ascii.line_feed) ≡ true
 
 abbrev pub with_handle : List ℕ → Result (List ℕ × ℕ) Wrong → Result TagText Wrong
 with_handle handle (Ok u) = Ok record { handle = handle; suffix = u.0; end = u.1 }

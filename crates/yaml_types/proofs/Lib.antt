@@ -1,2 +1,1 @@
 pub use Rattle.yaml_types_plain.proofs.Ends
-pub mod RoomsLemmas

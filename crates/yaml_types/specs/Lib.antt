@@ -4,8 +4,6 @@ pub mod Marks
 pub mod Classes
 pub mod Tokens
 pub mod Faults
-pub mod Bounds
-pub mod Rooms
 pub mod Ascii
 pub mod Points
 pub mod Indents

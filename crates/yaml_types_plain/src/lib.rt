@@ -24,12 +24,10 @@ pub use event_name::{
 };
 pub use fault::{yaml_fault_t, yaml_origin_t};
 pub use indent::DEFAULT_INDENT;
-pub use lifting::{lifted, moved, put_back};
+pub use lifting::{moved, put_back};
 pub use name::{yaml_encoding_t, yaml_error_type_t, yaml_scalar_style_t, yaml_token_type_t};
 pub use passing::{ByteTest, all_pass, are_ends, is_run};
-pub use putting::{
-    SHORT, is_short, put_between, put_each, put_many, put_near, put_short, put_sixteen,
-};
+pub use putting::{SHORT, is_short, put_between, put_each, put_near, put_short};
 pub use record::{yaml_mark_t, yaml_simple_key_t};
 pub use refilling::{followed, refilled, room_of};
 pub use standing::stands_in_front;

@@ -17,18 +17,6 @@ pub fn moved(text: &mut Vec<u8>) -> Vec<u8>
     mem::replace(text, Vec::new(alloc))
 }
 
-/// The text, of which an empty one without room is left.
-// Inlined: some moves. That it is asked for no room has its fields kept in registers: what is only moved goes by way of memory.
-#[inline(always)]
-pub fn lifted(text: &mut Vec<u8>) -> Vec<u8>
-    ensures items { result.items ≡ text.old.items }
-    ensures left { vec_capacity text.new ≡ 0 }
-{
-    let mut own = moved(text);
-    let _ = own.reserve(0);
-    own
-}
-
 /// The text, lifted out of its place, with room for so many bytes more: the room is made once, and what is put then can't fail.
 // Inlined: a comparison, and some moves.
 #[inline(always)]

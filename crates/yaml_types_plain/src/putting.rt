@@ -28,7 +28,7 @@ pub fn put_each(text: &mut Vec<u8>, bytes: &[u8])
 /// Puts these bytes, which may be many, after a text.
 // Out of line: what a copy needs would take registers from the few bytes beside it.
 #[inline(never)]
-pub fn put_many(text: &mut Vec<u8>, bytes: &[u8])
+pub(crate) fn put_many(text: &mut Vec<u8>, bytes: &[u8])
     requires { vec_len text.old + length bytes.now ≤ vec_capacity text.old }
     ensures items { text.new.items ≡ text.old.items ++ bytes.now }
     ensures len { vec_len text.new ≡ vec_len text.old + length bytes.now }
@@ -139,19 +139,6 @@ fn sixteen_at(text: &[u8], at: usize) -> [u8; 16]
         text[at + 14],
         text[at + 15],
     ]
-}
-
-/// Puts the sixteen bytes of another text that stand at a place after a text.
-// Inlined: one load and one store.
-#[inline(always)]
-pub fn put_sixteen(bytes: &mut Vec<u8>, text: &[u8], at: usize)
-    requires inside { at + 16 ≤ length text.now }
-    requires room { vec_len bytes.old + 16 ≤ vec_capacity bytes.old }
-    ensures items { bytes.new.items ≡ bytes.old.items ++ bytes_at 16 text.now at }
-    ensures len { vec_len bytes.new ≡ vec_len bytes.old + 16 }
-    ensures room { vec_capacity bytes.new ≡ vec_capacity bytes.old }
-{
-    put_each(bytes, &sixteen_at(text, at));
 }
 
 // Puts a text that is made of a front and an end of the same length, which may have bytes in common.

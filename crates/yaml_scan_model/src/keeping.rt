@@ -1,3 +1,0 @@
-//! The spare texts, passed on.
-
-pub use yaml_types::Spares;

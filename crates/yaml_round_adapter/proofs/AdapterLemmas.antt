@@ -4,9 +4,7 @@ use Rattle.std.proofs.lemmas.List.Elements.{All-nil, All-head, All-tail}
 use Rattle.yaml_scan.specs.declared.yaml_encoding_t.{yaml_encoding_t}
 use Rattle.yaml_scan.specs.Tokens.{Token, TokenBody, no_token}
 use Rattle.yaml_scan.specs.Tokens as token
-use Rattle.yaml_parse_model.specs.Source.{key_of, front_of, rest_of, MayAnswer, HasMore, GivesToken, GivesFault, LendsNext}
-use Rattle.yaml_scan.specs.declared.Lent.{Lent}
-use Rattle.yaml_scan.specs.declared.Lent.TheVariants.{Taken, Left, Refused}
+use Rattle.yaml_parse_model.specs.Source.{front_of, rest_of, MayAnswer, HasMore, GivesToken, GivesFault}
 use Rattle.yaml_scan.specs.Faults.{Fault}
 use Rattle.yaml_scan.specs.scan_decode.declared.offence.Offence.{Offence}
 use Rattle.yaml_scan.specs.scan_decode.Encodings.{encoding_of}
@@ -38,9 +36,8 @@ pub scanned_texts : (s : yaml_encoding_t) (bytes : List ℕ) → AreBytes bytes
 scanned_texts s bytes are = in_texts s bytes (decoded_text s bytes) are refl
 
 -- a session of which nothing was read
-pub begun_little : (s : yaml_encoding_t) (bytes : List ℕ) (ahead : ℕ)
-    → HoldsLittle (begun s bytes ahead)
-begun_little s bytes ahead = ((omega arith, omega arith), (omega arith, All-nil (λ room. room ≤ 256)))
+pub begun_little : (s : yaml_encoding_t) (bytes : List ℕ) → HoldsLittle (begun s bytes)
+begun_little s bytes = omega arith
 
 others_texts : (ts : List Token) → All (λ t. HasTexts t.body) ts
     → All (λ t. HasTexts t.body) (others_of ts)
@@ -127,45 +124,3 @@ pub gives_fault : (old new : View) (f : Fault) → Stops old f new
     → GivesFault (adapted old.remaining).tokens (adapted old.remaining).fault f
     (adapted new.remaining).tokens (adapted new.remaining).fault
 gives_fault old new f s = subst (λ (c : Remaining). GivesFault (adapted old.remaining).tokens (adapted old.remaining).fault f (adapted c).tokens (adapted c).fault) (sym (stopped old new f s)) (gives_stop old new f s)
-
--- what is known to spell UTF-8 does, and what is checked
-checked_spells : (b : TokenBody) → (spells_text b ≡ true) ⊎ (spells_text b ≡ true)
-    → spells_text b ≡ true
-checked_spells b (inl text) = text
-checked_spells b (inr text) = text
-
--- what the session lends is what the adapter does
-pub lends_text : {A : Type 0} → (P Q : Token → A → Type 0) (old new : View) (r : Lent A)
-    (f : Fault) → HaveTexts old.remaining → HoldsLittle new
-    → session.LendsNext (λ t. spells_text t.body ≡ true) P Q old r f new
-    → LendsNext P Q IsStep old new r (adapted old.remaining).tokens
-    (adapted old.remaining).fault f (adapted new.remaining).tokens (adapted new.remaining).fault
-lends_text P Q old new (Taken a) f texts little (inl s) =
-    let g : TakesText old s.token new = record { takes = s.takes; text = checked_spells s.token.body s.checked } in
-    inl record { token = s.token; has = s.has; gives = gives_text old new s.token texts g; goes = (g, little) }
-lends_text P Q old new (Taken a) f texts little (inr s) =
-    let k : TakesText old (key_of s.token) s.middle = record { takes = s.key; text = refl } in
-    let g : TakesText s.middle s.token new = record { takes = s.takes; text = s.text } in
-    inr record {
-      token = s.token;
-      has = s.has;
-      middle = s.middle;
-      rest = (adapted s.middle.remaining).tokens;
-      ending = (adapted s.middle.remaining).fault;
-      key = gives_text old s.middle (key_of s.token) texts k;
-      key_goes = (k, s.few);
-      gives = gives_text s.middle new s.token (texts_left old.remaining s.middle.remaining s.key.rest texts) g;
-      goes = (g, little);
-    }
-lends_text P Q old new Left f texts little s =
-    (ap (λ (c : Remaining). (adapted c).tokens) s.all, ap (λ (c : Remaining). (adapted c).fault) s.all)
-lends_text P Q old new Refused f texts little s = (gives_fault old new f (inl s), (inl s, little))
-
--- the texts of what is left then
-pub lent_texts : {A : Type 0} → (P Q : Token → A → Type 0) (old new : View) (r : Lent A)
-    (f : Fault) → HaveTexts old.remaining
-    → session.LendsNext (λ t. spells_text t.body ≡ true) P Q old r f new → HaveTexts new.remaining
-lent_texts P Q old new (Taken a) f texts (inl s) = texts_left old.remaining new.remaining s.takes.rest texts
-lent_texts P Q old new (Taken a) f texts (inr s) = texts_left s.middle.remaining new.remaining s.takes.rest (texts_left old.remaining s.middle.remaining s.key.rest texts)
-lent_texts P Q old new Left f texts s = subst HaveTexts (sym s.all) texts
-lent_texts P Q old new Refused f texts s = no_texts new.remaining s.over

@@ -1,7 +1,6 @@
 -- What an adapter's steps answer. An adapter is seen as its session, which keeps the fault that was answered.
-use Rattle.std.specs.Prelude.{◌≡◌, ◌⊎◌, Bool, true, false, None, Ok, Err}
-use Rattle.yaml_scan.specs.Tokens.{Token, TokenBody}
-use Rattle.yaml_scan.specs.Tokens as token
+use Rattle.std.specs.Prelude.{◌≡◌, ◌⊎◌, true, false, None, Ok, Err}
+use Rattle.yaml_scan.specs.Tokens.{Token}
 use Rattle.yaml_scan.specs.Faults.{Fault}
 use Rattle.yaml_scan.specs.scan_history.Remaining.{Remaining}
 use Rattle.yaml_scan.specs.Session.{View, Takes, Refuses, HoldsLittle, ended}
@@ -11,15 +10,6 @@ use Rattle.yaml_round_adapter.specs.Adapted.{adapted, spells_text, tag_fault}
 -- what is to come of it: what is of its session, up to the first tag that isn't UTF-8
 abbrev pub remaining_of : View → Remaining
 remaining_of v = adapted v.remaining
-
-abbrev pub is_tag : TokenBody → Bool
-is_tag (token.tag handle suffix) = true
-is_tag b = false
-
--- whether a token's tag is UTF-8; where it isn't, the fault of the tag
-abbrev pub Checks : Token → Bool → Fault → Type 0
-Checks t true f = spells_text t.body ≡ true
-Checks t false f = (spells_text t.body ≡ false) × (f ≡ tag_fault t.start_mark)
 
 -- a token was taken, and its tag is UTF-8
 pub record TakesText (old : View) (t : Token) (new : View) : Type 0 where
@@ -42,7 +32,7 @@ abbrev pub Stops : View → Fault → View → Type 0
 Stops old f new = Refuses old f new ⊎ TakesOtherBytes old f new
 
 -- A call is a step of the session: it reads what the next token needs, and out of memory is the session's own. After it few
--- lexemes wait, and few spare texts are kept. After a fault the empty token is given, and nothing changes.
+-- lexemes wait. After a fault the empty token is given, and nothing changes.
 abbrev pub IsStep : View → Answer → View → Type 0
 IsStep old (Ok t) new = TakesText old t new × HoldsLittle new
 IsStep old (Err f) new = Stops old f new × HoldsLittle new

@@ -3,27 +3,13 @@
 ghost use Rattle.std.specs.Prelude.{◌≡◌};
 ghost use Rattle.std.specs.Str.{is_utf8};
 ghost use Rattle.yaml_scan.specs.Tokens.{token_of};
-ghost use Rattle.yaml_scan.specs.Slots.{token_in_slot};
 ghost use Rattle.yaml_scan.specs.Faults.{fault_of};
 ghost use Rattle.yaml_round_adapter.specs.Adapted.{spells_text, tag_fault};
 
 use simdutf8::is_utf8;
 use yaml_scan::{
-    TokenSlot, yaml_error_type_t, yaml_fault_t, yaml_mark_t, yaml_origin_t, yaml_token_body_t,
-    yaml_token_t, yaml_token_type_t,
+    yaml_error_type_t, yaml_fault_t, yaml_mark_t, yaml_origin_t, yaml_token_body_t, yaml_token_t,
 };
-
-/// Whether the suffix of a tag in a slot, or a directive's prefix, is UTF-8.
-pub(crate) fn slot_spells_text(token: &TokenSlot) -> bool
-    ensures { result ≡ spells_text (token_in_slot token.now).body }
-{
-    match token.body.kind {
-        yaml_token_type_t::YAML_TAG_DIRECTIVE_TOKEN | yaml_token_type_t::YAML_TAG_TOKEN => {
-            is_text(&token.body.other)
-        }
-        _ => true,
-    }
-}
 
 // Whether the bytes are UTF-8.
 // Out of line: the decoder sets up an aligned buffer, and few tags aren't known to be UTF-8.

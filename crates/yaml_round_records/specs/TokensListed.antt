@@ -10,7 +10,7 @@ use Rattle.yaml_scan.specs.Tokens as token
 use Rattle.yaml_scan.specs.Faults.{fault_of, IsMemoryFault, scan_layers}
 use Rattle.yaml_scan.specs.Remaining.{Remaining}
 use Rattle.yaml_scan.specs.Session.{first_of, behind_first}
-use Rattle.yaml_scan.specs.Left.{IsTold}
+use Rattle.yaml_scan.specs.Found.{IsTold}
 use Rattle.yaml_round_records.specs.declared.record.yaml_c_mark.{yaml_c_mark}
 use Rattle.yaml_round_records.specs.declared.record.yaml_c_span.{yaml_c_span}
 use Rattle.yaml_round_records.specs.Records.{mark_told}

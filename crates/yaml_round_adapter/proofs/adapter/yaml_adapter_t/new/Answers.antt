@@ -6,7 +6,7 @@ use Rattle.yaml_round_adapter.proofs.adapter.yaml_adapter_t.new.Goals as goal
 pub invariant_of-result : goal.invariant_of-result
 invariant_of-result c =
     let texts : HaveTexts (scanned c.args.encoding c.args.input.now) = scanned_texts c.args.encoding c.args.input.now (λ k. omega (arith, c.type_inv.input k)) in
-    rw c.new.ensures (record { little = begun_little c.args.encoding c.args.input.now 0; texts = texts })
+    rw c.new.ensures (record { little = begun_little c.args.encoding c.args.input.now; texts = texts })
 
 pub returns-clause-begun : goal.returns-clause-begun
 returns-clause-begun c = rw c.new.ensures refl

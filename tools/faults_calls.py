@@ -99,11 +99,6 @@ OTHERS = {"tokens", "lookup", *UNTOLD} - {*LAYERS}
 AGAIN = {"least_limit", "emit_limits", "emit_pieces"}
 # The members' calls that may lack memory and that the program doesn't name, each by the call of a line that comes to it.
 THROUGH = {
-    "yaml_parser_scan_into": "parse",
-    "next_token_into": "parse",
-    "yaml_parser_lend": "parse",
-    "wants_key": "parse",
-    "lend_next": "parse",
     "yaml_write_all": "run",
 }
 # What an input has where one of these stands in it.

@@ -1,12 +1,10 @@
 //! Whether a node's tag is written where it begins.
 
-ghost use Rattle.std.specs.Prelude.{◌≡◌, drop, take};
-ghost use Rattle.yaml_scan_model.specs.Marks.{byte};
-ghost use Rattle.yaml_scan_words.specs.Between.{gap_at};
+ghost use Rattle.std.specs.Prelude.{◌≡◌, ◌≤◌, ◌+◌, drop, take, length};
+ghost use Rattle.yaml_scan_words.specs.Between.{step_at};
 ghost use Rattle.yaml_round_records.specs.Characters.{behind_gap, stands_behind, begins_tag, has_tag};
 
-use yaml_scan_model::Reader;
-use yaml_scan_words::skip_gap;
+use yaml_scan_text::{break_width, byte, line_end};
 
 // What stands after so many bytes of a text.
 fn past(text: &[u8], count: u64) -> &[u8]
@@ -22,13 +20,44 @@ fn up_to(text: &[u8], count: u64) -> &[u8]
     &text[..text.len().min(count as usize)]
 }
 
+// Past U+FEFF, where the text begins with it.
+#[tactic(auto, using(crate::proofs::Gaps::mark_step))]
+fn past_mark(text: &[u8], at: usize) -> usize
+    requires { byte text.now at ≡ 0xEF }
+    ensures { result ≡ (step_at true text.now at).place }
+{
+    if at == 0 && byte(text, 1) == 0xBB && byte(text, 2) == 0xBF {
+        3
+    } else {
+        at
+    }
+}
+
+// Past the blank, the comment or the break that stands there; the same place, where a lexeme does.
+#[tactic(auto, using(crate::proofs::Gaps::blank_step, crate::proofs::Gaps::comment_step, crate::proofs::Gaps::other_step))]
+fn past_white(text: &[u8], at: usize) -> usize
+    requires { at ≤ length text.now }
+    ensures { result ≡ (step_at true text.now at).place }
+{
+    match byte(text, at) {
+        b' ' | b'\t' => at + 1,
+        b'#' => line_end(text, at),
+        0xEF => past_mark(text, at),
+        _ => at + break_width(text, at),
+    }
+}
+
 // The byte after the gap with which a text begins.
 fn behind_gap(text: &[u8]) -> u8
     ensures { result ≡ behind_gap text.now }
 {
-    let mut reader = Reader::new(text);
-    skip_gap(&mut reader, true, false);
-    reader.here()
+    let mut at = 0;
+    let mut next = past_white(text, 0);
+    'gap: while at < next {
+        at = next;
+        next = past_white(text, at);
+    }
+    byte(text, at)
 }
 
 // Whether the tag's `!` stands after an anchor.

@@ -77,7 +77,7 @@ pub use Rattle.yaml_scan_block.specs.Header.{chomping_place, digit_place, header
 unfoldable pub use Rattle.yaml_scan_block.specs.Header.{chomp_of as chomp_at, digit_of, indicators, is_chomping, past_comment}
 pub use Rattle.yaml_scan_block.specs.Lines.{Line, Lines, line_spot, line_then, spot_behind, with_line}
 unfoldable pub use Rattle.yaml_scan_block.specs.Lines.{lines_from, spaces}
-unfoldable pub use Rattle.yaml_scan_block.specs.Stacked.{stacked_with}
+unfoldable pub use Rattle.yaml_scan_block.specs.Value.{stacked_with}
 pub use Rattle.yaml_scan_block.specs.Value.{BlockLine, Empty, Words, at_end, behind_text, block_value, space_or, starts_blank, texts_of, value_with}
 pub use Rattle.yaml_emit_laws_text.proofs.Sinks.{cond_true, cond_false}
 unfoldable pub use Rattle.yaml_scan_block.specs.Value.{between}

@@ -7,7 +7,7 @@ pub use Rattle.yaml_scan_block.specs.Header.{HeaderText, chomp_of, chomping_plac
 unfoldable pub use Rattle.yaml_scan_block.specs.Header.{header_at, indicators, is_chomping}
 pub use Rattle.yaml_scan_block.specs.Lines.{Line, LineSpot, Lines, Stops, Tab, in_block, line_spot, line_then, with_line}
 unfoldable pub use Rattle.yaml_scan_block.specs.Lines.{lines_from, spaces, spot_behind}
-unfoldable pub use Rattle.yaml_scan_block.specs.Stacked.{stacked_with}
+unfoldable pub use Rattle.yaml_scan_block.specs.Value.{stacked_with}
 pub use Rattle.yaml_scan_block.specs.Unbounded.{AreLinesFrom, Deepest, DeepestIs, DeepestIsOne, EndsBlockRun, LeadsTo, LinesAre, LinesAreOne, RunEndsOnce, RunsEnd, at_once, behind_blank, goes_on, has_tab, indent_at, stops}
 pub use Rattle.yaml_scan_block.specs.Value.{BlockLine, Empty, TextLine, Words, at_end, behind_text, block_value, space_or, starts_blank, texts_of, value_with}
 unfoldable pub use Rattle.yaml_scan_block.specs.Value.{between}

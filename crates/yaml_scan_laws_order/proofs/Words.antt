@@ -34,6 +34,6 @@ pub use Rattle.yaml_scan_history.specs.scan_scalars.Quoted.{Bad, Closing, Pieces
 unfoldable pub use Rattle.yaml_scan_history.specs.scan_scalars.Quoted.{escape_at, hex_digit, hex_value, pieces, quote_at, simple_escape, standing_at}
 pub use Rattle.yaml_scan_history.specs.scan_words.Anchors.{anchor_at}
 pub use Rattle.yaml_scan_history.specs.scan_words.Directives.{DirectiveText, Said, ValueText, directive_at, line_end_at, line_place, value_at, value_end, with_line}
-pub use Rattle.yaml_scan_history.specs.scan_words.Readings.{behind_bytes}
+pub use Rattle.yaml_scan_history.specs.scan_words.Uris.{behind_bytes}
 pub use Rattle.yaml_scan_history.specs.scan_words.Tags.{TagText, tag_at, tag_end}
 pub use Rattle.yaml_scan_laws_order.specs.Standing.{StandsIn, TakesBytes}

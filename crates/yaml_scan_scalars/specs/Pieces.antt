@@ -1,6 +1,7 @@
 -- The value of a plain or quoted scalar, from its lines.
-use Rattle.std.specs.Prelude.{ℕ, Bool, true, false, if◌then◌else◌, List, [], ◌∷◌, ◌++◌}
+use Rattle.std.specs.Prelude.{ℕ, zero, suc, ◌+◌, Bool, true, false, if◌then◌else◌, List, [], ◌∷◌, ◌++◌}
 use Rattle.yaml_scan_model.specs.Ascii as ascii
+use Rattle.yaml_scan_model.specs.Marks.{byte}
 use Rattle.yaml_scan_model.specs.Breaks.{is_feed}
 
 -- A piece of the text: bytes that stay, a blank, or a break by what it reads as. An escaped break is
@@ -86,3 +87,15 @@ folded l (next ∷ ls) =
 
 abbrev pub value : List Piece → List ℕ
 value ps = let ls = lines ps in folded ls.first ls.others
+
+-- the value of pieces that stand after a gap's first break
+abbrev pub behind : List ℕ → List Piece → List ℕ
+behind first ps =
+    let ls = lines ps in
+    let rest = rest_of ls.first ls.others in
+    gap first rest.breaks ++ rest.value
+
+-- d bytes from there on
+unfoldable pub bytes_at : List ℕ → ℕ → ℕ → List ℕ
+bytes_at text p zero = []
+bytes_at text p (suc d) = byte text p ∷ bytes_at text (p + 1) d

@@ -13,7 +13,7 @@ use Rattle.yaml_scan_words.specs.declared.directives.DirectiveName.TheVariants a
 use Rattle.yaml_scan_text.specs.declared.directive.Value.{Value}
 use Rattle.yaml_scan_words.specs.Runs.{belongs, run_end, run_within}
 use Rattle.yaml_scan_words.specs.Directives.{DirectiveText, comment_end, decimal, directive_at, finished, named_value_at, with_line, handle_at, handle_between, prefix_at, prefix_ended, tag_directive_at, value_at, ValueText, with_prefix, line_end_at, minor_at, name_at, name_between, number_at, then_at, version_at, with_major}
-use Rattle.yaml_scan_words.specs.DirectivesGiven.{name_of}
+use Rattle.yaml_scan_words.specs.Directives.{name_of}
 use Rattle.yaml_scan_words.proofs.DirectivesLemmas.{AreDigits, number_done, number_long, number_none}
 use Rattle.yaml_scan_text.specs.Classes.{AreAlphas}
 use Rattle.yaml_scan_text.specs.DirectivesRead.{AreParts, EndsLine, IsSaid, ReadsDirective, ReadsHandle, ReadsValue, ReadsName, ReadsNumber, ReadsVersion}

@@ -6,7 +6,7 @@ use Rattle.yaml_scan_model.proofs.RunsLemmas.{past-inside}
 use Rattle.yaml_scan_model.specs.declared.problem.Problem.TheVariants as problems
 use Rattle.yaml_scan_block.specs.declared.header.Chomp.{Chomp}
 use Rattle.yaml_scan_block.specs.Value.{BlockLine, Empty, Words, at_end, between, block_value, starts_blank, texts_of}
-use Rattle.yaml_scan_block.specs.Stacked.{stacked_with}
+use Rattle.yaml_scan_block.specs.Value.{stacked_with}
 use Rattle.yaml_scan_block.specs.Lines.{Line, LineSpot, Lines, Stops, Tab, in_block, line_spot, lines_from, spaces, spot_behind, with_line}
 use Rattle.yaml_scan_block.specs.Header.{HeaderText, header_at}
 use Rattle.yaml_scan_block.specs.Block.{BlockText, block_at, block_with, column_of}

@@ -11,7 +11,7 @@ pub use Rattle.yaml_scan_model.proofs.MarksLemmas.{end_next, past_break, split_n
 pub use Rattle.yaml_scan_model.proofs.RunsLemmas.{blank_parts, no_space, run_done, run_more, run_start, space_parts, text_parts}
 pub use Rattle.yaml_scan_model.specs.Breaks.{feed_at, is_feed}
 unfoldable pub use Rattle.yaml_scan_model.specs.Breaks.{break_value, is_document_indicator}
-unfoldable pub use Rattle.yaml_scan_scalars.specs.Ordinary.{bytes_at}
+unfoldable pub use Rattle.yaml_scan_scalars.specs.Pieces.{bytes_at}
 pub use Rattle.yaml_scan_scalars.proofs.RunLemmas.{calm_between, calm_ends_none, bytes_long, bytes_more, bytes_none, slice_bytes}
 pub use Rattle.yaml_scan_model.proofs.MarksLemmas.{column_more, column_same, column_end}
 pub use Rattle.yaml_scan_scalars.proofs.PlainLemmas.{lead_break, lead_text, leads-blank, leads-text, white-blank, white-text, plain_whole, spot_blank, spot_break, spot_ends, spot_kept, not_ended, words_here, words_on}

@@ -5,7 +5,7 @@ ghost use Rattle.yaml_scan_model.specs.Ascii as ascii;
 ghost use Rattle.yaml_scan_model.specs.Marks.{byte, column_at, splits_break};
 ghost use Rattle.yaml_scan_model.specs.Classes.{is_digit_byte};
 ghost use Rattle.yaml_scan_words.specs.Directives as directives;
-ghost use Rattle.yaml_scan_words.specs.DirectivesGiven.{name_of};
+ghost use Rattle.yaml_scan_words.specs.Directives.{name_of};
 ghost use Rattle.yaml_scan_text.specs.DirectivesRead as spec;
 ghost use Rattle.yaml_scan_text.specs.Lines.{line_start};
 ghost use Rattle.yaml_scan_text.specs.Refused.{Keeps, wrong_of};

@@ -77,6 +77,7 @@ stays tabs text p space tab hash none first = search (rules, ne_eqb, no_skip)
 abbrev Moved : List ℕ → ℕ → GapStep → Type 0
 Moved text p s = (s ≡ record { standing = gap_spots.Lexeme; place = p }) ⊎ ((p < s.place) × (s.place ≤ length text))
 
+-- each step does
 pub step_moves : (tabs : Bool) (text : List ℕ) (p : ℕ) → Moved text p (step_at tabs text p)
 unfolding step_at
 step_moves tabs text p =

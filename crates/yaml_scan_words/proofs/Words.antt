@@ -17,7 +17,7 @@ pub use Rattle.yaml_scan_words.specs.Between.{Gap, GapStep, gap_at, gap_behind, 
 unfoldable pub use Rattle.yaml_scan_words.specs.Between.{gap_within, step_at}
 pub use Rattle.yaml_scan_words.specs.Directives.{break_end, comment_end, handle_at, line_end_at, line_place, minor_at, name_at, name_behind, named_value_at, number_at, number_behind, prefix_at, tag_directive_at, then_at, value_at, value_end, version_at}
 unfoldable pub use Rattle.yaml_scan_words.specs.Directives.{decimal}
-pub use Rattle.yaml_scan_words.specs.Readings.{behind_bytes}
+pub use Rattle.yaml_scan_words.specs.Uris.{behind_bytes}
 pub use Rattle.yaml_scan_words.specs.Runs.{run_end}
 unfoldable pub use Rattle.yaml_scan_words.specs.Runs.{belongs, run_within}
 pub use Rattle.yaml_scan_words.specs.Tags.{ended, may_end_tag, name_end, tag_at, tag_end}

@@ -5,6 +5,7 @@ use Rattle.yaml_scan_words.specs.declared.run.Run.TheVariants as runs
 use Rattle.yaml_scan_words.specs.declared.directives.DirectiveName.{DirectiveName}
 use Rattle.yaml_scan_words.specs.declared.directives.DirectiveName.TheVariants as names
 use Rattle.yaml_scan_model.specs.declared.problem.Context.TheVariants as contexts
+use Rattle.yaml_scan_model.specs.declared.problem.Problem.{Problem}
 use Rattle.yaml_scan_model.specs.declared.problem.Problem.TheVariants as problems
 use Rattle.yaml_scan_model.specs.Marks.{byte, break_width, is_blank_or_end}
 use Rattle.yaml_scan_model.specs.Runs.{line_end}
@@ -206,3 +207,12 @@ finished text (Err w) = Err w
 -- the directive whose `%` stands there, with its line's end, or what is wrong
 abbrev pub directive_at : List ℕ → ℕ → Result DirectiveText Wrong
 directive_at text p = finished text (value_at text p)
+
+-- the name that an answer tells, up to that place
+abbrev pub name_of : Result DirectiveName Problem → ℕ → Result (DirectiveName × ℕ) Wrong
+name_of (Ok name) q = Ok (name, q)
+name_of (Err problem) q = Err record {
+  problem = problem;
+  context = contexts.Directive;
+  place = q;
+}

@@ -2,11 +2,9 @@ pub mod Runs
 pub mod Between
 pub mod Indicators
 pub mod Anchors
-pub mod Readings
 pub mod Uris
 pub mod Tags
 pub mod Directives
-pub mod DirectivesGiven
 pub mod Written
 pub mod Laws
 pub mod Unbounded

@@ -120,3 +120,7 @@ filled context (Err w) = Err w
 
 abbrev pub some_uri_at : Context → Bool → List ℕ → ℕ → Result (List ℕ × ℕ) Wrong
 some_uri_at context wide text p = filled context (uri_at context wide text p)
+
+-- the place after bytes that were read
+abbrev pub behind_bytes : List ℕ × ℕ → ℕ
+behind_bytes x = x.1

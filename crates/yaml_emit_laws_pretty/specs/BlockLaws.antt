@@ -7,7 +7,7 @@ use Rattle.yaml_emit_laws_text.specs.scan_history.scan_words.Written.{HasAt}
 use Rattle.yaml_emit_laws_text.specs.scan_model.declared.name.yaml_scalar_style_t.{yaml_scalar_style_t}
 use Rattle.yaml_emit_laws_text.specs.scan_model.declared.name.yaml_scalar_style_t.TheVariants as styles
 use Rattle.yaml_emit_laws_text.specs.scan_model.Tokens.{scalar}
-use Rattle.yaml_scan_block.specs.Block.{block_at}
+use Rattle.yaml_scan_words.specs.Block.{block_at}
 use Rattle.yaml_emit_laws_text.specs.scan_history.declared.kind.Kind.{Kind}
 use Rattle.yaml_emit_laws_text.specs.scan_history.declared.kind.Kind.TheVariants as kinds
 use Rattle.yaml_emit_laws_text.specs.scan_history.Words.{kind_at, word_at}

@@ -80,9 +80,9 @@ pub use Rattle.yaml_scan_laws_texts.specs.scan_history.scan_words.Tags.{TagText,
 unfoldable pub use Rattle.yaml_scan_laws_texts.specs.scan_history.scan_words.Uris.{due_behind, is_punctuation, is_wide_punctuation}
 pub use Rattle.yaml_scan_laws_texts.specs.scan_history.scan_words.Written.{HasAt, IsUri, UriPiece, are_alphas, are_gap, begins_lexeme, escape, has_no_mark, is_kept, piece_byte, piece_text, uri_bytes}
 unfoldable pub use Rattle.yaml_scan_laws_texts.specs.scan_history.scan_words.Written.{capital}
-pub use Rattle.yaml_scan_scalars.specs.Pieces.{Blank, Break, Kept, Line, Piece, folded, lines, rest_of, value}
-pub use Rattle.yaml_scan_scalars.specs.Quoted.{Bad, Closing, Pieces, QuotedSpot, double_quoted_at, followed, is_scalar, quoted_at, single_quoted_at, valued, with_front}
-unfoldable pub use Rattle.yaml_scan_scalars.specs.Quoted.{escape_at, hex_digit, hex_len, hex_value, pieces, quote_at, simple_escape, standing_at}
-unfoldable pub use Rattle.yaml_scan_scalars.specs.scan_model.Breaks.{break_value, is_document_indicator}
-pub use Rattle.yaml_scan_scalars.specs.scan_model.Classes.{is_break}
-unfoldable pub use Rattle.yaml_scan_scalars.specs.scan_model.Classes.{is_alpha_byte, is_digit_byte, is_printable_by, is_special}
+pub use Rattle.yaml_scan_words.specs.Pieces.{Blank, Break, Kept, Line, Piece, folded, lines, rest_of, value}
+pub use Rattle.yaml_scan_words.specs.Quoted.{Bad, Closing, Pieces, QuotedSpot, double_quoted_at, followed, is_scalar, quoted_at, single_quoted_at, valued, with_front}
+unfoldable pub use Rattle.yaml_scan_words.specs.Quoted.{escape_at, hex_digit, hex_len, hex_value, pieces, quote_at, simple_escape, standing_at}
+unfoldable pub use Rattle.yaml_scan_words.specs.scan_model.Breaks.{break_value, is_document_indicator}
+pub use Rattle.yaml_scan_words.specs.scan_model.Classes.{is_break}
+unfoldable pub use Rattle.yaml_scan_words.specs.scan_model.Classes.{is_alpha_byte, is_digit_byte, is_printable_by, is_special}

@@ -11,9 +11,9 @@ use Rattle.yaml_round_content.specs.scan_history.scan_words.Anchors.{anchor_at}
 use Rattle.yaml_round_content.specs.scan_history.scan_words.Tags.{TagText, tag_at}
 use Rattle.yaml_round_content.specs.scan_history.scan_words.Directives as directives
 use Rattle.yaml_round_content.specs.scan_history.scan_words.Directives.{Said, DirectiveText, directive_at}
-use Rattle.yaml_round_content.specs.scan_history.scan_scalars.Quoted.{double_quoted_at, single_quoted_at}
-use Rattle.yaml_round_content.specs.scan_history.scan_scalars.Plain.{PlainText, plain_at}
-use Rattle.yaml_round_content.specs.scan_history.scan_block.Block.{BlockText, block_at, style_at}
+use Rattle.yaml_round_content.specs.scan_history.scan_words.Quoted.{double_quoted_at, single_quoted_at}
+use Rattle.yaml_round_content.specs.scan_history.scan_words.Plain.{PlainText, plain_at}
+use Rattle.yaml_round_content.specs.scan_history.scan_words.Block.{BlockText, block_at, style_at}
 use Rattle.yaml_round_content.specs.scan_history.declared.Kind.{Kind}
 use Rattle.yaml_round_content.specs.scan_history.declared.Kind.TheVariants as kinds
 use Rattle.yaml_round_content.specs.scan_history.declared.Lexeme.{Lexeme}

@@ -40,8 +40,8 @@ unfoldable pub use Rattle.yaml_scan_history.specs.Words.{indicator_of, kind_at, 
 pub use Rattle.yaml_scan_history.specs.scan_model.Marks.{break_width, byte, column_at, ends_break, is_blank, is_blank_or_end, mark_at, starts}
 unfoldable pub use Rattle.yaml_scan_history.specs.scan_model.Marks.{break_of, ends_of}
 pub use Rattle.yaml_scan_history.specs.scan_model.Wrong.{Wrong}
-pub use Rattle.yaml_scan_history.specs.scan_scalars.Plain.{Ends, PlainSpot, PlainText, Takes, Words, after_white, follows, leads, plain_at, plain_text, plain_with, spot_at, with_piece, words_from}
-unfoldable pub use Rattle.yaml_scan_history.specs.scan_scalars.Plain.{ends_at, is_bracket, is_indicator_byte, starts_plain, words}
+pub use Rattle.yaml_scan_history.specs.scan_words.Plain.{Ends, PlainSpot, PlainText, Takes, Words, after_white, follows, leads, plain_at, plain_text, plain_with, spot_at, with_piece, words_from}
+unfoldable pub use Rattle.yaml_scan_history.specs.scan_words.Plain.{ends_at, is_bracket, is_indicator_byte, starts_plain, words}
 unfoldable pub use Rattle.yaml_scan_history.specs.scan_words.Indicators.{is_document_end, is_document_start}
 pub use Rattle.yaml_scan_history.specs.scan_words.Written.{HasAt, are_gap, begins_lexeme}
 pub use Rattle.yaml_scan_laws_texts.proofs.Signing.{chain, marks_come, no_end, no_percent, no_start, printed_begins}

@@ -2,7 +2,7 @@
 use Rattle.std.proofs.Common.{◌≡◌, ◌≢◌, ℕ, zero, suc, ◌+◌, ◌<◌, ◌≤◌, ◌==◌, ◌&&◌, Bool, true, false, List, [], ◌∷◌, length, Result, Ok, refl, sym, ap, subst, ◌∙◌, inl, inr, arith, ne_eqb, ◌||◌, ◌++◌, Some, None, ◌⊎◌, add-zero}
 use Rattle.yaml_round_laws_inputs.proofs.JsonWords.{and_parts, or_cases, or_left, or_right, nat_tests, byte, break_of, break_width, column_at, is_blank, ends_of, ends_break, starts, is_blank_or_end, Wrong, Has, Takes, spot_at, ends_at, Words, words_from, follows, words, is_bracket, is_indicator_byte, starts_plain, after_white, with_piece, PlainText, plain_with, plain_text, plain_at, is_white, are_white, has_break, is_letter_or_digit, is_value_byte, first, begins_value, is_plain_value, list_all, and-false, begins_lexeme, is_document_start, is_document_end, indicator_of, kind_at}
 use Rattle.yaml_scan_history.specs.scan_model.Breaks.{is_document_indicator}
-use Rattle.yaml_scan_history.specs.scan_scalars.Pieces.{Kept, Piece, Lines, lines, split_one, text as line_text, folded}
+use Rattle.yaml_scan_history.specs.scan_words.Pieces.{Kept, Piece, Lines, lines, split_one, text as line_text, folded}
 use Rattle.yaml_scan_history.proofs.PlainLemmas.{leads-text, spot_kept}
 use Rattle.yaml_round_laws_inputs.proofs.Whites.{byte_cases}
 use Rattle.yaml_scan_history.proofs.MarksLemmas.{no_break_between, column_more, within}

@@ -50,11 +50,11 @@ unfoldable pub use Rattle.yaml_scan_history.specs.Words.{indicator_of, kind_at, 
 pub use Rattle.yaml_scan_history.specs.declared.kind.Kind.{Kind}
 pub use Rattle.yaml_scan_history.specs.declared.lexeme.Lexeme.{Lexeme}
 pub use Rattle.yaml_scan_history.specs.declared.lexeme.Opens.{Opens}
-pub use Rattle.yaml_scan_history.specs.scan_block.Block.{BlockText, block_at, block_lines, block_with, column_of, style_at}
-pub use Rattle.yaml_scan_history.specs.scan_block.Header.{chomping_place, digit_of, digit_place, header_end, indicators}
-unfoldable pub use Rattle.yaml_scan_history.specs.scan_block.Header.{chomp_of, header_at, past_comment}
-pub use Rattle.yaml_scan_history.specs.scan_block.Value.{BlockLine, Empty, TextLine, Texts, Words, add_line, at_end, behind_text, block_value, space_or, starts_blank, texts_of, value_with}
-unfoldable pub use Rattle.yaml_scan_history.specs.scan_block.Value.{between}
+pub use Rattle.yaml_scan_history.specs.scan_words.Block.{BlockText, block_at, block_lines, block_with, column_of, style_at}
+pub use Rattle.yaml_scan_history.specs.scan_words.Header.{chomping_place, digit_of, digit_place, header_end, indicators}
+unfoldable pub use Rattle.yaml_scan_history.specs.scan_words.Header.{chomp_of, header_at, past_comment}
+pub use Rattle.yaml_scan_history.specs.scan_words.Value.{BlockLine, Empty, TextLine, Texts, Words, add_line, at_end, behind_text, block_value, space_or, starts_blank, texts_of, value_with}
+unfoldable pub use Rattle.yaml_scan_history.specs.scan_words.Value.{between}
 pub use Rattle.yaml_scan_history.specs.scan_model.Breaks.{feed_at, is_document_indicator, is_feed}
 unfoldable pub use Rattle.yaml_scan_history.specs.scan_model.Breaks.{break_value}
 pub use Rattle.yaml_scan_history.specs.scan_model.Faults.{Fault}
@@ -65,11 +65,11 @@ pub use Rattle.yaml_scan_history.specs.scan_model.Wrong.{Wrong}
 pub use Rattle.yaml_scan_history.specs.scan_model.declared.problem.ScanFault.{ScanFault}
 pub use Rattle.yaml_scan_history.specs.scan_model.declared.yaml_encoding_t.{yaml_encoding_t}
 pub use Rattle.yaml_scan_history.specs.scan_model.declared.yaml_encoding_t.TheVariants.{YAML_ANY_ENCODING, YAML_UTF16BE_ENCODING, YAML_UTF16LE_ENCODING, YAML_UTF8_ENCODING}
-pub use Rattle.yaml_scan_history.specs.scan_scalars.Pieces.{Blank, Break, Kept, Line, Lines, Piece, folded, gap, is_empty, lines, rest_of, split_one, text, trim_end, trim_start, value}
-pub use Rattle.yaml_scan_history.specs.scan_scalars.Plain.{Ends as PlainEnds, Faulty as PlainFaulty, PlainSpot, PlainText, Takes, Words as PlainWords, ends_at, follows, is_bracket, is_nothing, leads, plain_at, plain_text, plain_with, with_piece, words_from}
-unfoldable pub use Rattle.yaml_scan_history.specs.scan_scalars.Plain.{spot_at as plain_spot_at, starts_plain, words}
-pub use Rattle.yaml_scan_history.specs.scan_scalars.Quoted.{Bad, Closing, Pieces, QuotedSpot, coded, double_quoted_at, escaped, followed, hex_value, is_scalar, quoted_at, single_quoted_at, valued as valued_pieces, with_front}
-unfoldable pub use Rattle.yaml_scan_history.specs.scan_scalars.Quoted.{escape_at, hex_len, pieces, quote_at, simple_escape, standing_at}
+pub use Rattle.yaml_scan_history.specs.scan_words.Pieces.{Blank, Break, Kept, Line, Lines, Piece, folded, gap, is_empty, lines, rest_of, split_one, text, trim_end, trim_start, value}
+pub use Rattle.yaml_scan_history.specs.scan_words.Plain.{Ends as PlainEnds, Faulty as PlainFaulty, PlainSpot, PlainText, Takes, Words as PlainWords, ends_at, follows, is_bracket, is_nothing, leads, plain_at, plain_text, plain_with, with_piece, words_from}
+unfoldable pub use Rattle.yaml_scan_history.specs.scan_words.Plain.{spot_at as plain_spot_at, starts_plain, words}
+pub use Rattle.yaml_scan_history.specs.scan_words.Quoted.{Bad, Closing, Pieces, QuotedSpot, coded, double_quoted_at, escaped, followed, hex_value, is_scalar, quoted_at, single_quoted_at, valued as valued_pieces, with_front}
+unfoldable pub use Rattle.yaml_scan_history.specs.scan_words.Quoted.{escape_at, hex_len, pieces, quote_at, simple_escape, standing_at}
 pub use Rattle.yaml_scan_history.specs.scan_words.Anchors.{anchor_at, may_end_name, name_between}
 pub use Rattle.yaml_scan_history.specs.scan_words.Directives.{DirectiveText, Said, ValueText, break_end, comment_end, directive_at, finished, handle_at, handle_between, is_tag, is_yaml, line_end_at, minor_at, name_at, name_between as directive_name_between, named_value_at, number_at, prefix_at, prefix_ended, tag_directive_at, then_at, value_at, version_at, with_line as with_line_end, with_major, with_prefix}
 pub use Rattle.yaml_scan_history.specs.scan_words.Tags.{TagText, bare, bracketed, ended, may_end_tag, name_end, tag_at, with_handle}

@@ -7,7 +7,7 @@ use Rattle.std.proofs.lemmas.List.Sums.{AllPass-from_list_all}
 use Rattle.std.proofs.Math.Utf8.{scalar_cases}
 use Rattle.yaml_round_content.specs.scan_history.scan_decode.Characters.{is_allowed}
 use Rattle.yaml_round_laws_documents.proofs.Encoding.{bytes_utf8}
-use Rattle.yaml_scan_history.specs.scan_scalars.Quoted.{hex_digit, hex_len, simple_escape, double_quoted_at}
+use Rattle.yaml_scan_history.specs.scan_words.Quoted.{hex_digit, hex_len, simple_escape, double_quoted_at}
 use Rattle.yaml_emit_laws_text.specs.Spelling.{QuotedPart, spelled, meant, spelling, meaning, number_behind, MayStand, is_raw_blank, is_fold, is_turn, may_be_next, IsSpelling, quoted}
 use Rattle.yaml_emit_laws_text.specs.Spelling as part
 use Rattle.yaml_emit_laws_text.proofs.Parts.{spelling_reads}

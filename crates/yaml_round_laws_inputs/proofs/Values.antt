@@ -3,7 +3,7 @@ use Rattle.std.proofs.Common.{◌&&◌, not, ℕ, zero, suc, ◌+◌, ◌-◌, �
 use Rattle.yaml_round_laws_inputs.proofs.SizesWords.{is_document_indicator, is_bracket, leads, ends_at, is_blank, is_scalar, cases_Bool, ltb-true, byte, break_width, column_at, feed_at, Wrong, Piece, Kept, Blank, Break, value, QuotedSpot, Closing, Pieces, Bad, hex_value, coded, hex_len, simple_escape, escaped, escape_at, quote_at, standing_at, with_front, followed, pieces, valued_pieces, quoted_at, PlainSpot, PlainEnds, Takes, PlainFaulty, plain_spot_at, PlainWords, is_nothing, with_piece, words_from, follows, words, PlainText, plain_with, plain_text, plain_at, BlockLine, block_value, indicators, chomp_of, digit_of, digit_place, chomping_place, past_comment, header_end, header_at, BlockText, column_of, block_with, block_lines, block_at}
 use Rattle.yaml_scan_history.specs.scan_model.Runs.{is_blank_there, is_text, past_blanks, line_end}
 use Rattle.yaml_scan_history.proofs.RunsLemmas.{past-le}
-use Rattle.yaml_scan_history.specs.scan_block.Lines.{spaces, LineSpot, Stops, Line, Tab, spot_behind, line_spot, Lines, with_line, line_then, lines_from}
+use Rattle.yaml_scan_history.specs.scan_words.Lines.{spaces, LineSpot, Stops, Line, Tab, spot_behind, line_spot, Lines, with_line, line_then, lines_from}
 use Rattle.yaml_round_laws_inputs.proofs.Pieces.{piece_size, pieces_size, pieces_append, value_size, break_size, line_size, block_size, block_value_size, slice_size}
 use Rattle.yaml_round_laws_inputs.proofs.Decoded.{char_size}
 

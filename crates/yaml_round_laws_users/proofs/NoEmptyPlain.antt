@@ -9,9 +9,9 @@ use Rattle.yaml_round_content.specs.scan_model.Tokens.{Token, TokenBody, block_e
 use Rattle.yaml_emit_laws_text.specs.emit_layout.scan_model.Faults.{Fault}
 use Rattle.yaml_round_content.specs.scan_history.scan_model.Wrong.{Wrong}
 use Rattle.yaml_round_content.specs.scan_history.scan_model.Marks.{byte}
-use Rattle.yaml_round_content.specs.scan_history.scan_scalars.Pieces.{Line, Kept, lines, folded}
-use Rattle.yaml_round_content.specs.scan_history.scan_scalars.Plain.{Words, words_from, plain_with, plain_text, words}
-use Rattle.yaml_round_content.specs.scan_history.scan_block.Block.{BlockText}
+use Rattle.yaml_round_content.specs.scan_history.scan_words.Pieces.{Line, Kept, lines, folded}
+use Rattle.yaml_round_content.specs.scan_history.scan_words.Plain.{Words, words_from, plain_with, plain_text, words}
+use Rattle.yaml_round_content.specs.scan_history.scan_words.Block.{BlockText}
 use Rattle.yaml_round_content.specs.scan_history.scan_words.Directives.{Said, DirectiveText}
 use Rattle.yaml_round_content.specs.scan_history.scan_words.Directives as directives
 use Rattle.yaml_round_content.specs.scan_history.scan_words.Tags.{TagText}

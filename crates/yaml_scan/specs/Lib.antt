@@ -19,7 +19,5 @@ pub use Rattle.yaml_scan_decode.specs.DecodedText
 -- its helpers, for crates of laws that name the member alone
 pub use Rattle.yaml_scan_model.specs as scan_model
 pub use Rattle.yaml_scan_machine.specs.scan_words as scan_words
-pub use Rattle.yaml_scan_machine.specs.scan_scalars as scan_scalars
-pub use Rattle.yaml_scan_machine.specs.scan_block as scan_block
 pub use Rattle.yaml_scan_decode.specs as scan_decode
 pub use Rattle.yaml_scan_history.specs as scan_history

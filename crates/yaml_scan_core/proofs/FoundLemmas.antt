@@ -5,8 +5,8 @@ use Rattle.yaml_scan_model.specs.Tokens as tokens
 use Rattle.yaml_scan_model.specs.Tokens.{TokenBody}
 use Rattle.yaml_scan_words.specs.Tags.{TagText, tag_at}
 use Rattle.yaml_scan_words.specs.Anchors.{anchor_at}
-use Rattle.yaml_scan_scalars.specs.Quoted.{double_quoted_at, single_quoted_at}
-use Rattle.yaml_scan_scalars.specs.Plain.{PlainText, plain_at}
+use Rattle.yaml_scan_words.specs.Quoted.{double_quoted_at, single_quoted_at}
+use Rattle.yaml_scan_words.specs.Plain.{PlainText, plain_at}
 use Rattle.yaml_scan_model.specs.declared.problem.Context.TheVariants as contexts
 use Rattle.yaml_scan_model.specs.declared.name.yaml_scalar_style_t.TheVariants as styles
 use Rattle.yaml_scan_history.specs.History.{marked}

@@ -4,7 +4,7 @@ use Rattle.yaml_scan_core.proofs.Words.{cases_Bool, nat_tests, byte, mark_at, st
 use Rattle.yaml_scan_model.specs.Marks.{break_width, is_blank}
 use Rattle.yaml_scan_model.proofs.MarksLemmas.{within}
 use Rattle.yaml_scan_model.specs.Wrong.{scan_fault}
-use Rattle.yaml_scan_scalars.specs.Plain.{plain_at, starts_plain}
+use Rattle.yaml_scan_words.specs.Plain.{plain_at, starts_plain}
 use Rattle.yaml_scan_words.specs.Indicators.{is_document_start, is_document_end}
 use Rattle.yaml_scan_history.specs.History.{keeps}
 use Rattle.yaml_scan_history.specs.Next.{gap_behind}
@@ -15,8 +15,8 @@ use Rattle.yaml_scan_model.specs.declared.name.yaml_scalar_style_t.{yaml_scalar_
 use Rattle.yaml_scan_model.specs.declared.name.yaml_scalar_style_t.TheVariants as styles
 use Rattle.yaml_scan_model.specs.declared.problem.Context.TheVariants as contexts
 use Rattle.yaml_scan_model.specs.Tokens as tokens
-use Rattle.yaml_scan_block.specs.Block.{BlockText, block_at, style_at}
-use Rattle.yaml_scan_scalars.specs.Quoted.{quoted_at}
+use Rattle.yaml_scan_words.specs.Block.{BlockText, block_at, style_at}
+use Rattle.yaml_scan_words.specs.Quoted.{quoted_at}
 use Rattle.yaml_scan_words.specs.Anchors.{anchor_at}
 use Rattle.yaml_scan_words.specs.Directives.{directive_at}
 use Rattle.yaml_scan_words.specs.Tags.{tag_at}

@@ -3,7 +3,7 @@
 ghost use Rattle.std.specs.Prelude.{IfOk, ℕ, ◌≡◌, ◌+◌, ◌-◌, ◌<◌, ◌≤◌, ◌^◌, ◌&&◌, ◌||◌, ◌==◌, not, true, false, length, nat_lt, Some, None, List};
 ghost use Rattle.yaml_scan_model.specs.Ascii as ascii;
 ghost use Rattle.yaml_scan_model.specs.Marks.{byte, column_at};
-ghost use Rattle.yaml_scan_scalars.specs.Plain.{is_indicator_byte, starts_plain};
+ghost use Rattle.yaml_scan_words.specs.Plain.{is_indicator_byte, starts_plain};
 ghost use Rattle.yaml_scan_model.specs.Classes.{is_bom};
 ghost use Rattle.yaml_scan_history.specs.History.{keeps};
 ghost use Rattle.yaml_scan_history.specs.Words.{indicator_of, kind_at};
@@ -331,7 +331,7 @@ impl<'a> Scanner<'a> {
     }
 
     /// Whether a plain scalar starts here.
-    #[tactic(auto, unfolding(yaml_scan_scalars::specs::Plain::starts_plain))]
+    #[tactic(auto, unfolding(yaml_scan_words::specs::Plain::starts_plain))]
     fn starts_plain(&self) -> bool
         requires some { 0 < length self.now.keys.levels.items }
         requires few { self.now.at < 2 ^ 63 }
@@ -526,7 +526,7 @@ fn indicator(byte: u8, flow: bool, alone: bool) -> Option<LexemeKind>
 }
 
 /// Whether the byte is one of YAML's indicators.
-#[tactic(auto, unfolding(yaml_scan_scalars::specs::Plain::is_indicator_byte, yaml_scan_scalars::specs::Plain::is_bracket))]
+#[tactic(auto, unfolding(yaml_scan_words::specs::Plain::is_indicator_byte, yaml_scan_words::specs::Plain::is_bracket))]
 fn is_indicator(byte: u8) -> bool
     ensures { result ≡ is_indicator_byte byte }
 {

@@ -7,7 +7,7 @@ pub use Rattle.yaml_scan_decode.proofs.CompleteLemmas
 pub use Rattle.yaml_scan_decode.proofs.SpellingLemmas
 pub use Rattle.yaml_scan_model.proofs.MarksLemmas
 pub use Rattle.yaml_scan_model.proofs.RunsLemmas
-pub use Rattle.yaml_scan_scalars.proofs.PlainLemmas
+pub use Rattle.yaml_scan_words.proofs.PlainLemmas
 pub use Rattle.yaml_scan_words.proofs.BetweenLemmas
 pub use Rattle.yaml_scan_words.proofs.GapsRead
 pub use Rattle.yaml_scan_words.proofs.HasLemmas

@@ -11,6 +11,4 @@ pub mod Rules
 -- what it stands on, for crates of laws that name this one alone
 pub use Rattle.yaml_scan_model.specs as scan_model
 pub use Rattle.yaml_scan_words.specs as scan_words
-pub use Rattle.yaml_scan_scalars.specs as scan_scalars
-pub use Rattle.yaml_scan_block.specs as scan_block
 pub use Rattle.yaml_scan_decode.specs as scan_decode

@@ -10,16 +10,16 @@ use Rattle.yaml_scan_model.specs.Breaks.{is_document_indicator}
 use Rattle.yaml_scan_model.specs.Classes.{is_alpha, is_digit, is_blank}
 use Rattle.yaml_scan_model.specs.Runs.{is_text, past_spaces}
 use Rattle.yaml_scan_model.specs.Wrong.{Wrong}
-use Rattle.yaml_scan_block.specs.Unbounded.{EndsBlockRun, IsTabbed}
+use Rattle.yaml_scan_words.specs.UnboundedBlocks.{EndsBlockRun, IsTabbed}
 use Rattle.yaml_scan_words.specs.Anchors.{may_end_name}
 use Rattle.yaml_scan_words.specs.Uris.{UriSpot, Spells, Ends, Faulty, octet_at, spot_at, uri_at, some_uri_at}
 use Rattle.yaml_scan_words.specs.Tags.{TagText, parts_at, may_end_tag}
 use Rattle.yaml_scan_words.specs.Directives.{is_yaml, is_tag, value_at, ValueText, handle_at, comment_end, most_digits}
-use Rattle.yaml_scan_scalars.specs.Quoted.{QuotedSpot, Bad, standing_at, hex_len, hex_value, is_scalar, simple_escape}
-use Rattle.yaml_scan_scalars.specs.Quoted as quoted
-use Rattle.yaml_scan_scalars.specs.Plain as plain
-use Rattle.yaml_scan_block.specs.Header.{digit_place, header_end, header_at}
-use Rattle.yaml_scan_block.specs.Lines.{Tab, line_spot, lines_from}
+use Rattle.yaml_scan_words.specs.Quoted.{QuotedSpot, Bad, standing_at, hex_len, hex_value, is_scalar, simple_escape}
+use Rattle.yaml_scan_words.specs.Quoted as quoted
+use Rattle.yaml_scan_words.specs.Plain as plain
+use Rattle.yaml_scan_words.specs.Header.{digit_place, header_end, header_at}
+use Rattle.yaml_scan_words.specs.Lines.{Tab, line_spot, lines_from}
 use Rattle.yaml_scan_history.specs.declared.kind.Kind.TheVariants as kinds
 use Rattle.yaml_scan_history.specs.Words.{word_at}
 use Rattle.yaml_scan_history.specs.Next.{colon_missing, no_start, not_allowed_there}

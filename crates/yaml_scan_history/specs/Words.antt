@@ -13,9 +13,9 @@ use Rattle.yaml_scan_words.specs.Anchors.{anchor_at}
 use Rattle.yaml_scan_words.specs.Tags.{TagText, tag_at}
 use Rattle.yaml_scan_words.specs.Directives as directives
 use Rattle.yaml_scan_words.specs.Directives.{Said, DirectiveText, directive_at}
-use Rattle.yaml_scan_scalars.specs.Quoted.{double_quoted_at, single_quoted_at}
-use Rattle.yaml_scan_scalars.specs.Plain.{PlainText, plain_at, starts_plain}
-use Rattle.yaml_scan_block.specs.Block.{BlockText, block_at, style_at}
+use Rattle.yaml_scan_words.specs.Quoted.{double_quoted_at, single_quoted_at}
+use Rattle.yaml_scan_words.specs.Plain.{PlainText, plain_at, starts_plain}
+use Rattle.yaml_scan_words.specs.Block.{BlockText, block_at, style_at}
 use Rattle.yaml_scan_history.specs.declared.kind.Kind.{Kind}
 use Rattle.yaml_scan_history.specs.declared.kind.Kind.TheVariants as kinds
 

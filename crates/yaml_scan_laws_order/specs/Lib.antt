@@ -6,5 +6,3 @@ pub mod Streams
 pub use Rattle.yaml_scan_history.specs as scan_history
 pub use Rattle.yaml_scan_history.specs.scan_model
 pub use Rattle.yaml_scan_history.specs.scan_words
-pub use Rattle.yaml_scan_history.specs.scan_scalars
-pub use Rattle.yaml_scan_history.specs.scan_block

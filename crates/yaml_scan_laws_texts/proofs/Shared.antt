@@ -25,8 +25,8 @@ unfoldable pub use Rattle.yaml_scan_history.specs.Words.{indicator_of, kind_at, 
 pub use Rattle.yaml_scan_history.specs.declared.kind.Kind.{Kind}
 pub use Rattle.yaml_scan_history.specs.declared.lexeme.Entry.{Entry}
 pub use Rattle.yaml_scan_history.specs.declared.lexeme.Lexeme.{Lexeme}
-pub use Rattle.yaml_scan_history.specs.scan_block.Block.{BlockText, block_at, block_behind, block_lines, block_with, depth_behind, larger_of, style_at}
-unfoldable pub use Rattle.yaml_scan_history.specs.scan_block.Block.{column_of, deepest, larger}
+pub use Rattle.yaml_scan_history.specs.scan_words.Block.{BlockText, block_at, block_behind, block_lines, block_with, depth_behind, larger_of, style_at}
+unfoldable pub use Rattle.yaml_scan_history.specs.scan_words.Block.{column_of, deepest, larger}
 pub use Rattle.yaml_scan_history.specs.scan_model.Breaks.{feed_at}
 unfoldable pub use Rattle.yaml_scan_history.specs.scan_model.Breaks.{break_value, is_document_indicator}
 pub use Rattle.yaml_scan_history.specs.scan_model.Classes.{is_bom}
@@ -42,11 +42,11 @@ pub use Rattle.yaml_scan_history.specs.scan_model.Wrong.{Wrong}
 pub use Rattle.yaml_scan_history.specs.scan_model.declared.name.yaml_encoding_t.{yaml_encoding_t}
 pub use Rattle.yaml_scan_history.specs.scan_model.declared.problem.ScanFault.{ScanFault}
 pub use Rattle.yaml_scan_history.specs.scan_model.declared.record.yaml_mark_t.{yaml_mark_t}
-pub use Rattle.yaml_scan_history.specs.scan_scalars.Pieces.{Blank, Break, Kept, Piece, value}
-pub use Rattle.yaml_scan_history.specs.scan_scalars.Plain.{Faulty, PlainSpot, PlainText, Takes, Words, after_white, is_bracket, is_indicator_byte, is_nothing, plain_at, plain_text, plain_with, with_piece, words_from}
-unfoldable pub use Rattle.yaml_scan_history.specs.scan_scalars.Plain.{ends_at, leads, spot_at, starts_plain, words}
-pub use Rattle.yaml_scan_history.specs.scan_scalars.Quoted.{Bad, Closing, Pieces, QuotedSpot, coded, double_quoted_at, escaped, in_quotes, is_scalar, quoted_at, single_quoted_at, with_front}
-unfoldable pub use Rattle.yaml_scan_history.specs.scan_scalars.Quoted.{escape_at, hex_digit, hex_len, hex_value, pieces, quote_at, simple_escape, standing_at}
+pub use Rattle.yaml_scan_history.specs.scan_words.Pieces.{Blank, Break, Kept, Piece, value}
+pub use Rattle.yaml_scan_history.specs.scan_words.Plain.{Faulty, PlainSpot, PlainText, Takes, Words, after_white, is_bracket, is_indicator_byte, is_nothing, plain_at, plain_text, plain_with, with_piece, words_from}
+unfoldable pub use Rattle.yaml_scan_history.specs.scan_words.Plain.{ends_at, leads, spot_at, starts_plain, words}
+pub use Rattle.yaml_scan_history.specs.scan_words.Quoted.{Bad, Closing, Pieces, QuotedSpot, coded, double_quoted_at, escaped, in_quotes, is_scalar, quoted_at, single_quoted_at, with_front}
+unfoldable pub use Rattle.yaml_scan_history.specs.scan_words.Quoted.{escape_at, hex_digit, hex_len, hex_value, pieces, quote_at, simple_escape, standing_at}
 pub use Rattle.yaml_scan_history.specs.scan_words.Anchors.{anchor_at, is_name_end, name_between}
 unfoldable pub use Rattle.yaml_scan_history.specs.scan_words.Anchors.{may_end_name}
 pub use Rattle.yaml_scan_history.specs.scan_words.Between.{Gap, gap_at, is_skipped, with_break}

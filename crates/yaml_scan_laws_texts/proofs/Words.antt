@@ -10,7 +10,7 @@ pub use Rattle.std.specs.List.{AllPass, list_all}
 pub use Rattle.yaml_scan_laws_order.proofs.MarksLemmas.{widths, within}
 pub use Rattle.yaml_scan_laws_order.proofs.NextForward.{placed_index, with_end}
 pub use Rattle.yaml_scan_laws_order.proofs.StepwiseLemmas.{stepwise}
-pub use Rattle.yaml_scan_laws_order.specs.scan_block.Block.{BlockText, block_at, block_behind, block_lines, block_with, column_of, style_at}
+pub use Rattle.yaml_scan_laws_order.specs.scan_words.Block.{BlockText, block_at, block_behind, block_lines, block_with, column_of, style_at}
 pub use Rattle.yaml_scan_laws_order.specs.scan_history.History.{Candidate, depth, ended, entry_of, first_open, found_by, fresh, has, inside, is_fresh, key_allowed, keyed, left_by, level_of, marked, opened, opens_at, placed, reached, start_of}
 unfoldable pub use Rattle.yaml_scan_laws_order.specs.scan_history.History.{candidate, entries, indent, levels, mark_key}
 pub use Rattle.yaml_scan_laws_order.specs.scan_history.Kinds.{allows_key, cancels, depth_after, is_end, is_start, is_value, may_be_key}
@@ -35,11 +35,11 @@ pub use Rattle.yaml_scan_laws_order.specs.scan_model.Wrong.{Wrong}
 pub use Rattle.yaml_scan_laws_order.specs.scan_model.declared.Context.{Context}
 pub use Rattle.yaml_scan_laws_order.specs.scan_model.declared.name.yaml_scalar_style_t.{yaml_scalar_style_t}
 pub use Rattle.yaml_scan_laws_order.specs.scan_model.declared.record.yaml_mark_t.{yaml_mark_t}
-pub use Rattle.yaml_scan_laws_order.specs.scan_scalars.Pieces.{Blank, Break, Kept, Line, Piece, folded, gap, is_empty, lines, rest_of, text, trim_end, trim_start, value}
-pub use Rattle.yaml_scan_laws_order.specs.scan_scalars.Plain.{Faulty, PlainSpot, PlainText, Takes, Words, after_white, follows, is_nothing, plain_at, plain_text, plain_with, starts_plain, with_piece, words_from}
-unfoldable pub use Rattle.yaml_scan_laws_order.specs.scan_scalars.Plain.{ends_at, is_bracket, leads, spot_at, words}
-pub use Rattle.yaml_scan_laws_order.specs.scan_scalars.Quoted.{Bad, Closing, Pieces, QuotedSpot, coded, double_quoted_at, escaped, followed, hex_len, is_scalar, quoted_at, single_quoted_at, with_front}
-unfoldable pub use Rattle.yaml_scan_laws_order.specs.scan_scalars.Quoted.{escape_at, hex_digit, hex_value, pieces, quote_at, simple_escape, standing_at}
+pub use Rattle.yaml_scan_laws_order.specs.scan_words.Pieces.{Blank, Break, Kept, Line, Piece, folded, gap, is_empty, lines, rest_of, text, trim_end, trim_start, value}
+pub use Rattle.yaml_scan_laws_order.specs.scan_words.Plain.{Faulty, PlainSpot, PlainText, Takes, Words, after_white, follows, is_nothing, plain_at, plain_text, plain_with, starts_plain, with_piece, words_from}
+unfoldable pub use Rattle.yaml_scan_laws_order.specs.scan_words.Plain.{ends_at, is_bracket, leads, spot_at, words}
+pub use Rattle.yaml_scan_laws_order.specs.scan_words.Quoted.{Bad, Closing, Pieces, QuotedSpot, coded, double_quoted_at, escaped, followed, hex_len, is_scalar, quoted_at, single_quoted_at, with_front}
+unfoldable pub use Rattle.yaml_scan_laws_order.specs.scan_words.Quoted.{escape_at, hex_digit, hex_value, pieces, quote_at, simple_escape, standing_at}
 pub use Rattle.yaml_scan_laws_order.specs.scan_words.Between.{Gap}
 pub use Rattle.yaml_scan_laws_texts.specs.KeyFree.{around, asked_after, fits, innermost, is_inside, keeps_level, kinds_of, marked_so}
 unfoldable pub use Rattle.yaml_scan_laws_texts.specs.KeyFree.{asked, is_key_free, is_level_free}

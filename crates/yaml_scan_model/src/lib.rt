@@ -21,6 +21,6 @@ pub use record::{
 pub use token::{yaml_token_body_t, yaml_token_t};
 pub use yaml_types::{
     ByteTest, DEFAULT_INDENT, DEFAULT_WIDTH, SHORT, all_pass, are_ends, followed, is_run, is_short,
-    moved, put_back, put_between, put_each, put_near, put_short, refilled, room_of, stands_in_front,
-    yaml_memory_fault, yaml_parser_state_t, yaml_token_delete,
+    moved, put_back, put_between, put_each, put_near, put_short, refilled, room_of,
+    stands_in_front, yaml_memory_fault, yaml_parser_state_t, yaml_token_delete,
 };

@@ -6,10 +6,10 @@ use Rattle.yaml_scan_text.proofs.Words.{nat_tests, true≢false, false≢true, c
 use Rattle.yaml_scan_model.proofs.RunsLemmas.{InRun, run_done, run_more, run_start}
 use Rattle.yaml_scan_model.specs.declared.problem.Problem.TheVariants as problems
 use Rattle.yaml_scan_model.specs.declared.problem.Context.TheVariants as contexts
-use Rattle.yaml_scan_scalars.specs.Quoted.{Bad, Closing, Pieces, QuotedSpot, coded, escape_at, escaped, followed, hex_digit, hex_len, hex_value, is_scalar, quote_at, quoted_at, simple_escape, standing_at, valued, with_front}
-use Rattle.yaml_scan_scalars.proofs.QuotedLemmas as standings
-use Rattle.yaml_scan_scalars.proofs.QuotedLemmas.{front, pieces_here, pieces_on, quoted_whole}
-use Rattle.yaml_scan_scalars.proofs.EscapeLemmas as escapes
+use Rattle.yaml_scan_words.specs.Quoted.{Bad, Closing, Pieces, QuotedSpot, coded, escape_at, escaped, followed, hex_digit, hex_len, hex_value, is_scalar, quote_at, quoted_at, simple_escape, standing_at, valued, with_front}
+use Rattle.yaml_scan_words.proofs.QuotedLemmas as standings
+use Rattle.yaml_scan_words.proofs.QuotedLemmas.{front, pieces_here, pieces_on, quoted_whole}
+use Rattle.yaml_scan_words.proofs.EscapeLemmas as escapes
 use Rattle.yaml_scan_text.specs.White.{IsTrimmed}
 use Rattle.yaml_scan_runs.specs.Runs.{RunsTo}
 use Rattle.yaml_scan_runs.specs.Runs as runs

@@ -2,7 +2,7 @@
 
 ghost use Rattle.std.specs.Prelude.{◌≡◌, ◌≤◌, length};
 ghost use Rattle.yaml_scan_model.specs.Classes.{is_alpha_byte};
-ghost use Rattle.yaml_scan_scalars.specs.Plain.{is_bracket};
+ghost use Rattle.yaml_scan_words.specs.Plain.{is_bracket};
 ghost use Rattle.yaml_scan_words.specs.Uris.{IsKept};
 ghost use Rattle.yaml_scan_words.specs.Written.{is_kept};
 ghost use Rattle.yaml_scan_text.specs.Classes as spec;
@@ -19,7 +19,7 @@ static NAMES: [u8; 256] = *b"\
     00000000000000000000000000000000";
 
 /// One of `, [ ] { }`.
-#[tactic(auto, unfolding(yaml_scan_scalars::specs::Plain::is_bracket))]
+#[tactic(auto, unfolding(yaml_scan_words::specs::Plain::is_bracket))]
 pub fn is_bracket(byte: u8) -> bool
     ensures { result ≡ is_bracket byte }
 {

@@ -10,3 +10,21 @@ pub mod NamesRead
 pub mod UrisRead
 pub mod TagsRead
 mod Unbounding
+mod ScalarWords
+pub mod FoldingLemmas
+pub mod EscapeLemmas
+pub mod QuotedLemmas
+pub mod RunLemmas
+pub mod PlainLemmas
+mod UnboundingScalars
+mod Digits
+mod BlockWords
+pub mod StackingLemmas
+pub mod BlockLemmas
+pub mod HeaderLemmas
+pub mod DepthLemmas
+pub mod ScalarLemmas
+mod UnboundingBlocks
+mod Indents
+-- what it stands on, for crates of laws that name this one alone
+pub use Rattle.yaml_scan_model.proofs as scan_model

@@ -8,3 +8,14 @@ pub mod Directives
 pub mod Written
 pub mod Laws
 pub mod Unbounded
+pub mod Pieces
+pub mod Quoted
+pub mod Plain
+pub mod UnboundedScalars
+pub mod Value
+pub mod Lines
+pub mod Header
+pub mod Block
+pub mod UnboundedBlocks
+-- what it stands on, for crates of laws that name this one alone
+pub use Rattle.yaml_scan_model.specs as scan_model

@@ -66,7 +66,7 @@ impl<'a> Scanner<'a> {
         requires long { length text.now < 2 ^ 63 }
         requires decoded { IsDecoded text.now }
         requires some { 0 < batch }
-        ensures { IfOk result (λ s. Starts encoding text.now s) }
+        ensures { IfOk result (λ s. Starts encoding text.now batch s) }
     {
         let mut keys = Keys::new(Vec::new(alloc));
         keys.reserve()?;

@@ -6,7 +6,8 @@ use Rattle.yaml_scan_tokens.specs.declared.kind.Kind.TheVariants as kinds
 use Rattle.yaml_scan_core.specs.declared.scanner.Scanner.{Scanner}
 use Rattle.yaml_scan_core.specs.Asked.{front_lexeme}
 use Rattle.yaml_scan_core.specs.Handed.{to_come}
-use Rattle.yaml_scan_core.specs.Scanning.{IsGoing, IsOver, fixed_of, read_by, stream_of, taken_by}
+use Rattle.yaml_scan_core.specs.Scanning.{IsGoing, IsOver, fixed_of, read_by, stream_of}
+pub use Rattle.yaml_scan_core.specs.Scanning.{taken_by}
 use Rattle.yaml_scan_core.specs.Settled.{settles_in}
 
 -- The next token is known, whatever follows: its lexeme is settled, or it is a BLOCK-END before one that isn't.
@@ -55,7 +56,8 @@ pub record TellsNeeded (k : Kind) (old new : Scanner) : Type 0 where
   pub fixed : fixed_of new ≡ fixed_of old
   pub taken : taken_by new ≡ taken_by old
   pub short : IsShort old → IsShort new
-  pub reads : ((k ≢ kinds.Failed) × ReadsNeeded old new) ⊎ ((k ≡ kinds.Failed) × FailsNeeded old new)
+  pub reads : ((k ≢ kinds.Failed) × ReadsNeeded old new)
+      ⊎ ((k ≡ kinds.Failed) × FailsNeeded old new)
 
 -- What taking a token came to: none is read.
 pub record TakesNeeded (old new : Scanner) : Type 0 where

@@ -1,7 +1,7 @@
 -- What is to come where the end wasn't read, and whether the next token is known, of a scanner that reads one lexeme at once.
 use Rattle.std.proofs.Common.{◌≡◌, ◌⊎◌, ℕ, ◌+◌, ◌<◌, ◌≤◌, true, false, cond, Bool, List, [], ◌∷◌, ◌++◌, length, get_or, Option, Some, None, Result, Ok, Err, refl, sym, ap, subst, ◌∙◌, inl, inr, arith, length-append, ◌-◌, ◌^◌, ltb}
 use Rattle.std.proofs.lemmas.List.{length-replicate}
-use Rattle.yaml_scan_core.proofs.Words.{cases_lt, yaml_encoding_t, Fault, scanner_fault, Token, block_end, key, no_token, ScanFault, Kind, Entry, Lexeme, before, end_tokens, ended, entries, entries_ends, Next, Read, Fails, Ends, kind_behind, no_start, coming, next, history, spell, start_tokens, SpelledText, Remaining, all, remaining, scanned_in, cases_Bool, nat_tests, length-entries, offline}
+use Rattle.yaml_scan_core.proofs.Words.{cases_lt, yaml_encoding_t, Fault, scanner_fault, Token, block_end, key, no_token, ScanFault, Kind, Entry, Lexeme, before, end_tokens, ended, entries, entries_ends, first_open, Next, Read, Fails, Ends, kind_behind, no_start, coming, next, history, spell, start_tokens, SpelledText, Remaining, all, remaining, scanned_in, cases_Bool, nat_tests, length-entries, offline}
 use Rattle.yaml_scan_decode.specs.declared.offence.Offence.{Offence}
 use Rattle.yaml_scan_history.specs.Next.{place_behind, lexeme_behind, stale_before, faults, first_fault_or}
 use Rattle.yaml_scan_history.specs.Remaining.{fault_in, own_tokens, token_in, nothing}
@@ -189,18 +189,24 @@ next_knows s k = elim (cases_lt s.row.next s.row.settled) [
 -- a test that tells whether the next token is known
 pub token_known : (s : Scanner) (b : Bool) → IsRead s → (b ≡ true → KnowsNext s)
     → (KnowsNext s → b ≡ true) → b ≡ knows s
-token_known s b i yes no = elim (cases_Bool b) [
-  | inl is ↦ is ∙ sym (next_knows s (yes is))
+token_known s b i tells_it told = elim (cases_Bool b) [
+  | inl is ↦ is ∙ sym (next_knows s (tells_it is))
   | inr isnt ↦ elim (cases_Bool (knows s)) [
-    | inl known ↦ absurd (true≢false (sym (no (knows_next s i known)) ∙ isnt))
+    | inl known ↦ absurd (true≢false (sym (told (knows_next s i known)) ∙ isnt))
     | inr none ↦ isnt ∙ sym none
   ]
 ]
 
--- no lexeme settles no token
+-- no lexeme settles no token, where all are to come
+unsettled_all : (n : ℕ) → ltb n n ≡ false
+unsettled_all n = grind (arith, nat_tests)
+
 pub none_settled : (s : SpelledText) → settles_in s (offline s).tokens 0 ≡ false
-unfolding settled_tokens settled_in entries history
-none_settled s = grind (arith, nat_tests)
+unfolding settled_tokens settled_in first_open entries history
+none_settled s =
+    let none : settled_tokens s 0 ≡ [] = refl in
+    let same : open_in s 0 ≡ length (offline s).tokens = omega (arith, ap length none) in
+    ap (λ m. ltb m (length (offline s).tokens)) same ∙ unsettled_all (length (offline s).tokens)
 
 -- ---- numbers
 

@@ -1,7 +1,7 @@
 -- What is to come where the end wasn't read, and whether the next token is known, of a scanner that reads one lexeme at once.
-use Rattle.std.proofs.Common.{◌≡◌, ◌⊎◌, ℕ, ◌+◌, ◌<◌, ◌≤◌, true, false, cond, Bool, List, [], ◌∷◌, ◌++◌, length, get_or, Option, Some, None, Result, Ok, Err, refl, sym, ap, subst, ◌∙◌, inl, inr, arith, length-append, ◌-◌, ◌^◌, ltb}
+use Rattle.std.proofs.Common.{◌≡◌, ◌⊎◌, ℕ, ◌+◌, ◌<◌, ◌≤◌, true, false, cond, Bool, List, [], ◌∷◌, ◌++◌, length, get_or, Option, Some, None, Result, Ok, Err, refl, sym, ap, subst, ◌∙◌, inl, inr, arith, length-append, ◌^◌, ltb}
 use Rattle.std.proofs.lemmas.List.{length-replicate}
-use Rattle.yaml_scan_core.proofs.Words.{cases_lt, yaml_encoding_t, Fault, scanner_fault, Token, block_end, key, no_token, ScanFault, Kind, Entry, Lexeme, before, end_tokens, ended, entries, entries_ends, first_open, Next, Read, Fails, Ends, kind_behind, no_start, coming, next, history, spell, start_tokens, SpelledText, Remaining, all, remaining, scanned_in, cases_Bool, nat_tests, length-entries, offline}
+use Rattle.yaml_scan_core.proofs.Words.{cases_lt, yaml_encoding_t, Fault, scanner_fault, Token, block_end, key, no_token, ScanFault, Kind, Entry, Lexeme, before, end_tokens, ended, entries, entries_ends, first_open, Next, Read, Fails, Ends, kind_behind, no_start, coming, next, history, spell, start_tokens, SpelledText, all, remaining, scanned_in, cases_Bool, nat_tests, length-entries, offline}
 use Rattle.yaml_scan_decode.specs.declared.offence.Offence.{Offence}
 use Rattle.yaml_scan_history.specs.Next.{place_behind, lexeme_behind, stale_before, faults, first_fault_or}
 use Rattle.yaml_scan_history.specs.Remaining.{fault_in, own_tokens, token_in, nothing}
@@ -13,7 +13,7 @@ use Rattle.std.proofs.lemmas.Bool.{true≢false}
 use Rattle.yaml_scan_core.specs.declared.scanner.Scanner.{Scanner}
 use Rattle.yaml_scan_core.specs.Asked.{front_lexeme}
 use Rattle.yaml_scan_core.specs.Handed.{ends_at, given_in, to_come}
-use Rattle.yaml_scan_core.specs.Rows.{lexeme_at, row_of}
+use Rattle.yaml_scan_core.specs.Rows.{row_of}
 use Rattle.yaml_scan_core.specs.Scanning.{IsGoing, IsOver, history_of, read_by, stream_of, taken_by}
 use Rattle.yaml_scan_core.specs.Settled.{open_in, settled_in, settled_tokens, settles_in}
 use Rattle.yaml_scan_core.specs.Told.{KnowsNext}

@@ -316,12 +316,15 @@ all_comes : (s : Scanner) → row_of s.row ≡ first_row → to_come s ≡ offli
 all_comes s row = ap (λ r. come_of (stream_of s) r) row ∙ ap (λ g. remaining (stream_of s) 0 g) (none_given s.text.now)
 
 pub starts : (s : Scanner) → row_of s.row ≡ first_row → 0 < s.batch → IsGoing s
-    → Starts s.encoding s.text.now s
+    → Starts s.encoding s.text.now s.batch s
 starts s row some going = record {
   waits = record { rests = inl going; some = some };
   going = going;
   stream = refl;
   come = all_comes s row;
+  many = refl;
+  read = ap (λ (r : RowView). r.dropped + length r.lexemes) row;
+  taken = ap (λ (r : RowView). r.dropped + r.next) row;
 }
 
 -- ---- the lexeme that is read

@@ -47,11 +47,11 @@ left_length : (s : SpelledText) (k given : ℕ)
 left_length s k given = omega (arith, ap length (tokens_is s k given), length-drop given (flat_map (spell s) (drop k (handed s.text)) ++ kept s), length-append (flat_map (spell s) (drop k (handed s.text))) (kept s))
 
 -- what is known of the lexemes that no later one changes
-known_upto : (text : List ℕ) (n m : ℕ) → m ≤ settled_in (history text n) → Known text n m
+pub known_upto : (text : List ℕ) (n m : ℕ) → m ≤ settled_in (history text n) → Known text n m
 unfolding settled_in
 known_upto text n m low = grind (arith, known_ended text n m, known_settled text n m, ends_after text (history text n))
 
-settled_open : (h : List Read) → settled_in h < length h → settled_in h ≡ first_open h h
+pub settled_open : (h : List Read) → settled_in h < length h → settled_in h ≡ first_open h h
 unfolding settled_in
 settled_open h low = grind arith
 

@@ -41,5 +41,7 @@ pub mod SpotLemmas
 pub mod KnowsLemmas
 pub mod WaitsLemmas
 pub mod OwnedLemmas
+pub mod MoreLemmas
+pub mod FollowsLemmas
 pub mod TextsOfLemmas
 pub mod ToldLemmas

@@ -80,7 +80,7 @@ lead_spelled _ b lead is = cc
 -- the fault that is told where one is next
 pub told_refused : (r : Remaining) (s : Scanner) → TellsFault r s
     → IsRefused r (fault_told s.text.now s.fault)
-told_refused r s (inl none) = let is : fault_told s.text.now s.fault ≡ memory_fault OfScanner = ap (λ o. fault_told s.text.now o) none in inl (inl is)
+told_refused r s (inl none) = let is : fault_told s.text.now s.fault ≡ memory_fault OfScanner = ap (λ o. fault_told s.text.now o) none in inl is
 told_refused r s (inr (none, (f, some, told))) =
     let is : fault_told s.text.now s.fault ≡ scanner_fault (fault_in s.text.now f) = ap (λ o. fault_told s.text.now o) some in
     inr (none, told ∙ ap (λ x. Some x) (sym is))
@@ -99,7 +99,9 @@ owned_needed old mid new k other t n =
     let r : ReadsNeeded old mid = elim t.reads [ inl (was, r) ↦ r | inr (failed, f) ↦ absurd (other failed) ] in
     record {
       fixed = n.fixed ∙ t.fixed;
+      taken = omega (arith, t.taken, n.taken);
       short = λ few. n.short (t.short few);
+      few = λ few. omega (arith, t.short few, t.taken, n.count);
       reads = record {
         read = n.read r.read;
         further = omega (arith, r.further, n.count);
@@ -111,7 +113,9 @@ pub owned_none : (old mid : Scanner) (k : Kind) → k ≢ kinds.Failed → Tells
     → OwnedNeeded old mid
 owned_none old mid k other t = record {
   fixed = t.fixed;
+  taken = omega (arith, t.taken);
   short = t.short;
+  few = λ few. omega (arith, t.short few, t.taken);
   reads = elim t.reads [ inl (was, r) ↦ r | inr (failed, f) ↦ absurd (other failed) ];
 }
 
@@ -171,7 +175,7 @@ pub owned_told : (k : Kind) (r : Remaining) (mid new : Scanner)
 owned_told k r mid new (Ok t) same f gives rest =
     let some : r.tokens ≡ f.token ∷ f.rest = ap (λ (c : Remaining). c.tokens) (sym same) ∙ f.first in
     (gives ∙ ap (λ (c : Remaining). front_of c.tokens) same, rest ∙ ap (λ (c : Remaining). behind_first c) same, subst (λ ts. MayAnswer ts r.fault) (sym some) tt)
-owned_told k r mid new (Err e) same f gives rest = inl (inl gives)
+owned_told k r mid new (Err e) same f gives rest = inl gives
 
 pub if_ok : (r : Result yaml_token_t yaml_fault_t) (old new : Scanner) → OwnedNeeded old new
     → IfOk r (λ t. OwnedNeeded old new)

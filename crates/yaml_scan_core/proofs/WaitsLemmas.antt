@@ -14,8 +14,8 @@ use Rattle.yaml_scan_core.specs.declared.row.Row.{Row}
 use Rattle.yaml_scan_core.specs.declared.scanner.Scanner.{Scanner}
 use Rattle.yaml_scan_core.specs.declared.lexeme.Lexeme.{Lexeme}
 use Rattle.yaml_scan_core.specs.Rows.{RowView, failed, lexeme_at, lost_at, no_lexeme, row_of}
-use Rattle.yaml_scan_core.specs.Scanning.{Advances, Falls, IsGoing, Rests, fixed_of, history_of, read_by, stream_of}
-use Rattle.yaml_scan_core.specs.Handed.{Drops, to_come}
+use Rattle.yaml_scan_core.specs.Scanning.{Advances, Falls, IsGoing, Rests, history_of, read_by, stream_of}
+use Rattle.yaml_scan_core.specs.Handed.{Drops, HandsOn, to_come}
 use Rattle.yaml_scan_core.specs.Shown.{Carries, ShowsRow, entry_at, no_entry, store_of}
 use Rattle.yaml_scan_core.specs.Settled.{settles_in}
 use Rattle.yaml_scan_core.specs.Waiting.{IsRead, Needs, ReadsNeeded, ReadsOne, TakesNeeded, TellsNeeded, knows}
@@ -78,7 +78,7 @@ one_read old was new v same one =
     let batch : was.batch ≡ 1 = ap (λ (s : Scanner). s.batch) same ∙ one in
     elim v.one [ inl many ↦ absurd (omega (arith, many, batch)) | inr is ↦ omega (arith, is, number) ]
 
-known_not : (s : Scanner) → knows s ≡ false → s.row.settled ≤ s.row.next
+pub known_not : (s : Scanner) → knows s ≡ false → s.row.settled ≤ s.row.next
 known_not s none = elim (cases_lt s.row.next s.row.settled) [
   | inl low ↦ absurd (true≢false (sym (knows_settled s low) ∙ none))
   | inr high ↦ high
@@ -210,7 +210,7 @@ by_lead x (lead_key e set) own bad = let no_key = sym e ∙ bad in cc
 by_lead x (lead_own e) own bad = own (sym e ∙ bad)
 
 -- no lexeme that shows an entry stands for a fault
-not_failed : (s : Scanner) → IsRead s → s.row.next < length s.row.lexemes.items
+pub not_failed : (s : Scanner) → IsRead s → s.row.next < length s.row.lexemes.items
     → (front_lexeme s).front ≢ kinds.Failed
 not_failed s i some =
     let r = row_of s.row in
@@ -224,17 +224,18 @@ still s i = record { read = i; further = omega arith; needed = λ n low high. ab
 
 -- nothing is read after the stream's end
 pub tells_nothing : (s : Scanner) → IsRead s → TellsNeeded kinds.Nothing s s
-tells_nothing s i = record { fixed = refl; short = λ few. few; reads = inl (λ e. cc, still s i) }
+tells_nothing s i = record { fixed = refl; taken = refl; short = λ few. few; reads = inl (λ e. cc, still s i) }
 
 -- nor where a settled lexeme waits
 pub tells_front : (s : Scanner) → IsRead s → s.row.next < length s.row.lexemes.items
     → TellsNeeded (front_lexeme s).front s s
-tells_front s i some = record { fixed = refl; short = λ few. few; reads = inl (not_failed s i some, still s i) }
+tells_front s i some = record { fixed = refl; taken = refl; short = λ few. few; reads = inl (not_failed s i some, still s i) }
 
-pub tells_read : (old new : Scanner) → fixed_of new ≡ fixed_of old → Needs old new
+pub tells_read : (old new : Scanner) → HandsOn old new → Needs old new
     → new.row.next < length new.row.lexemes.items → TellsNeeded (front_lexeme new).front old new
-tells_read old new fixed needs some = record {
-  fixed = fixed;
+tells_read old new hands needs some = record {
+  fixed = hands.fixed;
+  taken = hands.taken;
   short = needs.short;
   reads = elim needs.reads [ inl r ↦ inl (not_failed new r.read some, r) | inr f ↦ inr (f.fault.front, f) ];
 }
@@ -261,6 +262,7 @@ takes_needed s k row w f h =
     let next = next_on (stream_of s) r q first taken in
     record {
       fixed = refl;
+      taken = omega (arith, next, on.dropped);
       short = λ few. omega (arith, few, next, on.long);
       read = λ i. elim i [ inl g ↦ inl (going_taken s row g on shows h.room) | inr o ↦ inr (over_taken s row o on shows) ];
       count = omega (arith, on.dropped, on.long);

@@ -14,19 +14,23 @@ use Rattle.yaml_scan_core.specs.declared.scanner.Scanner.{Scanner}
 use Rattle.yaml_scan_core.specs.Rows.{lexeme_at, row_of}
 use Rattle.yaml_scan_core.specs.Shown.{Carries, Store, end_at, place_mark, store_of}
 use Rattle.yaml_scan_core.specs.Handed.{to_come}
-use Rattle.yaml_scan_core.specs.Scanning.{IsGoing, Rests, fault_in, stream_of}
+use Rattle.yaml_scan_core.specs.Scanning.{IsGoing, Rests, fault_in, read_by, stream_of, taken_by}
 
 -- the state between two calls
 pub record Waits (s : Scanner) : Type 0 where
   pub rests : Rests s
   pub some : 0 < s.batch
 
--- before the first token of a text: all of it is to come
-pub record Starts (encoding : yaml_encoding_t) (text : List ℕ) (s : Scanner) : Type 0 where
+-- before the first token of a text, of which so many lexemes are read at once: all of it is to come
+pub record Starts (encoding : yaml_encoding_t) (text : List ℕ) (batch : ℕ) (s : Scanner)
+    : Type 0 where
   pub waits : Waits s
   pub going : IsGoing s
   pub stream : stream_of s ≡ record { encoding = encoding; text = text }
   pub come : to_come s ≡ offline (stream_of s)
+  pub many : s.batch ≡ batch
+  pub read : read_by s ≡ 1
+  pub taken : taken_by s ≡ 0
 
 -- where its texts lie
 abbrev pub store_in : Scanner → Store

@@ -6,6 +6,7 @@ pub mod Shown
 pub mod Scanning
 pub mod Handed
 pub mod Asked
+pub mod Found
 pub mod Settled
 pub mod Waiting
 pub mod Owned

@@ -1,13 +1,14 @@
 -- Tokens with texts of their own.
-use Rattle.std.specs.Prelude.{◌≡◌, ◌⊎◌, [], Some, Result, Ok, Err}
+use Rattle.std.specs.Prelude.{◌+◌, ◌≡◌, ◌≤◌, ◌⊎◌, [], Some, Result, Ok, Err}
 use Rattle.yaml_scan_model.specs.declared.fault.yaml_fault_t.{yaml_fault_t}
 use Rattle.yaml_scan_model.specs.declared.fault.yaml_origin_t.TheVariants.{Scanner as OfScanner}
 use Rattle.yaml_scan_model.specs.declared.name.yaml_scalar_style_t.{yaml_scalar_style_t}
 use Rattle.yaml_scan_model.specs.declared.token.yaml_token_t.{yaml_token_t}
 use Rattle.yaml_scan_model.specs.Coming.{MayAnswer, front_of}
-use Rattle.yaml_scan_model.specs.Faults.{Fault, IsMemoryFault, fault_of, memory_fault, scan_layers}
+use Rattle.yaml_scan_model.specs.Faults.{Fault, fault_of, memory_fault}
 use Rattle.yaml_scan_model.specs.Tokens.{TokenBody, token_of}
 use Rattle.yaml_scan_model.specs.Tokens as tokens
+use Rattle.yaml_scan_history.specs.History.{most_waiting}
 use Rattle.yaml_scan_history.specs.Remaining.{Remaining}
 use Rattle.yaml_scan_tokens.specs.Texts.{Texts}
 use Rattle.yaml_scan_tokens.specs.declared.kind.Kind.{Kind}
@@ -15,7 +16,7 @@ use Rattle.yaml_scan_tokens.specs.declared.kind.Kind.TheVariants as kinds
 use Rattle.yaml_scan_core.specs.declared.scanner.Scanner.{Scanner}
 use Rattle.yaml_scan_core.specs.Asked.{behind_first}
 use Rattle.yaml_scan_core.specs.Handed.{to_come}
-use Rattle.yaml_scan_core.specs.Scanning.{fixed_of}
+use Rattle.yaml_scan_core.specs.Scanning.{fixed_of, read_by, taken_by}
 use Rattle.yaml_scan_core.specs.Waiting.{IsShort, ReadsNeeded}
 
 -- what a token of that kind carries, where it has no text
@@ -56,7 +57,7 @@ GivesOwned r (Err f) = fault_of f ≡ memory_fault OfScanner
 
 -- memory ran out, or no token is to come, and that fault is
 abbrev pub IsRefused : Remaining → Fault → Type 0
-IsRefused r f = IsMemoryFault scan_layers f ⊎ ((r.tokens ≡ []) × (r.fault ≡ Some f))
+IsRefused r f = (f ≡ memory_fault OfScanner) ⊎ ((r.tokens ≡ []) × (r.fault ≡ Some f))
 
 -- The first token was given, and is taken: after the last the empty one, where no fault is to come. Or it was refused.
 abbrev pub TellsOwned : Remaining → Scanner → Result yaml_token_t yaml_fault_t → Type 0
@@ -64,8 +65,11 @@ TellsOwned r new (Ok t) = (token_of t ≡ front_of r.tokens) × (to_come new ≡
     × MayAnswer r.tokens r.fault
 TellsOwned r new (Err f) = IsRefused r (fault_of f)
 
--- what giving a token came to where one lexeme is read at once: few wait, and none was read before it was needed
+-- What giving a token came to where one lexeme is read at once: few wait, also while the token isn't taken, and none was read before
+-- it was needed.
 pub record OwnedNeeded (old new : Scanner) : Type 0 where
   pub fixed : fixed_of new ≡ fixed_of old
+  pub taken : taken_by old ≤ taken_by new
   pub short : IsShort old → IsShort new
+  pub few : IsShort old → read_by new ≤ taken_by old + most_waiting
   pub reads : ReadsNeeded old new

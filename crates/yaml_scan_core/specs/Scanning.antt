@@ -157,6 +157,10 @@ stream_of s = record { encoding = s.encoding; text = s.text.now }
 abbrev pub read_by : Scanner → ℕ
 read_by s = s.row.dropped + length s.row.lexemes.items
 
+-- how many lexemes have all their tokens taken
+abbrev pub taken_by : Scanner → ℕ
+taken_by s = s.row.dropped + s.row.next
+
 -- the lexemes that were read
 abbrev pub history_of : Scanner → List Read
 history_of s = history s.text.now (read_by s)

@@ -1,5 +1,5 @@
 -- Which tokens the lexemes that were read settle: whatever follows, they are told.
-use Rattle.std.specs.Prelude.{ℕ, ◌-◌, nat_lt, if◌then◌else◌, Bool, List, [], ◌++◌, length, take, drop, Result, Ok, Err}
+use Rattle.std.specs.Prelude.{ℕ, ◌-◌, ◌≡◌, nat_lt, if◌then◌else◌, All, Bool, List, [], ◌++◌, length, take, drop, Result, Ok, Err}
 use Rattle.std.specs.List.{flat_map}
 use Rattle.yaml_scan_model.specs.declared.name.yaml_encoding_t.{yaml_encoding_t}
 use Rattle.yaml_scan_model.specs.Tokens.{Token}
@@ -9,7 +9,7 @@ use Rattle.yaml_scan_decode.specs.Decoding.{decoded_text}
 use Rattle.yaml_scan_history.specs.declared.lexeme.Lexeme.{Lexeme}
 use Rattle.yaml_scan_history.specs.History.{ended, entries, first_open}
 use Rattle.yaml_scan_history.specs.Next.{history}
-use Rattle.yaml_scan_history.specs.Remaining.{SpelledText, front_ends, offline, spell}
+use Rattle.yaml_scan_history.specs.Remaining.{SpelledText, body_in, front_ends, offline, spell}
 use Rattle.yaml_scan_history.specs.Scanned.{scanned_in}
 
 -- How many lexemes no later one changes: those before the earliest open candidate, or all at the end.
@@ -48,3 +48,10 @@ open_count setting bytes n = open_of (encoding_of setting bytes) (decoded_text s
 
 abbrev pub settles : yaml_encoding_t → List ℕ → List Token → ℕ → Bool
 settles setting bytes tokens n = nat_lt (open_count setting bytes n) (length tokens)
+
+-- Whatever follows n lexemes of a text: of every text that has these too, which carry the same, the first tokens are those
+-- that they settle.
+abbrev pub WhateverFollows : Type 0
+WhateverFollows = (s t : SpelledText) (n : ℕ) → history t.text n ≡ history s.text n
+    → All (λ e. body_in t e.lexeme ≡ body_in s e.lexeme) (entries (history s.text n))
+    → (rest : List Token) × ((offline t).tokens ≡ settled_tokens s n ++ rest)

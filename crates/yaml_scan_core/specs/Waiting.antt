@@ -7,6 +7,7 @@ use Rattle.yaml_scan_core.specs.declared.scanner.Scanner.{Scanner}
 use Rattle.yaml_scan_core.specs.Asked.{front_lexeme}
 use Rattle.yaml_scan_core.specs.Handed.{to_come}
 use Rattle.yaml_scan_core.specs.Scanning.{IsGoing, IsOver, fixed_of, read_by, stream_of}
+pub use Rattle.yaml_scan_core.specs.Scanning.{taken_by}
 use Rattle.yaml_scan_core.specs.Settled.{settles_in}
 
 -- The next token is known, whatever follows: its lexeme is settled, or it is a BLOCK-END before one that isn't.
@@ -53,12 +54,15 @@ pub record Needs (old new : Scanner) : Type 0 where
 -- What telling the next token's kind came to, where one is read at once.
 pub record TellsNeeded (k : Kind) (old new : Scanner) : Type 0 where
   pub fixed : fixed_of new ≡ fixed_of old
+  pub taken : taken_by new ≡ taken_by old
   pub short : IsShort old → IsShort new
-  pub reads : ((k ≢ kinds.Failed) × ReadsNeeded old new) ⊎ ((k ≡ kinds.Failed) × FailsNeeded old new)
+  pub reads : ((k ≢ kinds.Failed) × ReadsNeeded old new)
+      ⊎ ((k ≡ kinds.Failed) × FailsNeeded old new)
 
 -- What taking a token came to: none is read.
 pub record TakesNeeded (old new : Scanner) : Type 0 where
   pub fixed : fixed_of new ≡ fixed_of old
+  pub taken : taken_by old ≤ taken_by new
   pub short : IsShort old → IsShort new
   pub read : IsRead old → IsRead new
   pub count : read_by new ≡ read_by old

@@ -9,6 +9,7 @@ mod levels;
 mod lexeme;
 mod owned;
 mod place;
+mod resting;
 mod row;
 mod scanner;
 mod text;

@@ -8,7 +8,7 @@ ghost use Rattle.yaml_scan_core.specs.Owned.{GivesOwned, OwnedNeeded, TellsOwned
 ghost use Rattle.yaml_scan_core.specs.Rows.{may_lead};
 ghost use Rattle.yaml_scan_core.specs.Scanning.{stream_of};
 ghost use Rattle.yaml_scan_core.specs.Told.{Locates, texts_of};
-ghost use Rattle.yaml_scan_core.specs.Waiting.{IsRead, TakesNeeded};
+ghost use Rattle.yaml_scan_core.specs.Waiting.{IsRead, IsShort, TakesNeeded};
 
 use crate::place::Locator;
 use crate::scanner::Scanner;
@@ -34,6 +34,8 @@ pub fn next_token(
     ensures tells { TellsOwned (to_come scanner.old) scanner.new result }
     ensures needs { scanner.old.batch ≡ 1 → IsRead scanner.old
         → IfOk result (λ t. OwnedNeeded scanner.old scanner.new) }
+    ensures short { scanner.old.batch ≡ 1 → IsRead scanner.old
+        → IsShort scanner.old → IsShort scanner.new }
 {
     match scanner.kind() {
         Kind::Failed => Err(scanner.fault()),

@@ -66,7 +66,7 @@ impl<'a> Scanner<'a> {
         requires long { length text.now < 2 ^ 63 }
         requires decoded { IsDecoded text.now }
         requires some { 0 < batch }
-        ensures { IfOk result (λ s. Starts encoding text.now s) }
+        ensures { IfOk result (λ s. Starts encoding text.now batch s) }
     {
         let mut keys = Keys::new(Vec::new(alloc));
         keys.reserve()?;
@@ -142,7 +142,8 @@ impl<'a> Scanner<'a> {
         requires { IsGoing self.old }
         ensures rests { Rests self.new }
         ensures hands { HandsOn self.old self.new }
-        ensures waits { self.new.ended ≡ false → 0 < self.new.batch → IsThere (row_of self.new.row) }
+        ensures waits { self.new.ended ≡ false → 0 < self.new.batch
+            → IsThere (row_of self.new.row) }
         ensures text { self.new.text.now ≡ self.old.text.now }
         ensures needs { self.old.batch ≡ 1 → Needs self.old self.new }
     {

@@ -23,6 +23,12 @@ returns-in-Nothing-clause-needs c = λ one read.
     let other : c.kind.result ≢ kinds.Failed = λ e. (let bad = sym c.in-Nothing.is ∙ e in cc) in
     owned_none c.args.scanner.now c.kind.new.self c.kind.result other (c.kind.ensures.needs one read)
 
+pub returns-in-Failed-clause-short : goal.returns-in-Failed-clause-short
+returns-in-Failed-clause-short c = λ one read. (c.kind.ensures.needs one read).short
+
+pub returns-in-Nothing-clause-short : goal.returns-in-Nothing-clause-short
+returns-in-Nothing-clause-short c = λ one read. (c.kind.ensures.needs one read).short
+
 pub returns-in_default : goal.returns-in_default
 returns-in_default c =
     let old = c.args.scanner.now in
@@ -36,4 +42,5 @@ returns-in_default c =
       locates = e.locates;
       tells = owned_told c.kind.result (to_come old) mid new c.take_front.result shown.1 shown.0 e.gives e.rest;
       needs = λ one read. if_ok c.take_front.result old new (owned_needed old mid new c.kind.result c.in_default.not-Failed (c.kind.ensures.needs one read) e.kept);
+      short = λ one read few. e.kept.short ((c.kind.ensures.needs one read).short few);
     }

@@ -40,4 +40,4 @@ returns-clause-needs c = λ one was.
     let read : HasRead old new = record { rests = e.rests; hands = e.hands; waits = e.waits; text = e.text } in
     let some = some_there new e.rests (read_there old new c.requires.waits c.if-self.false read) in
     let is = front_read new c.index.result.now some c.index.ensures in
-    subst (λ k. TellsNeeded k old new) (sym is) (tells_read old new e.hands.fixed (e.needs one) some)
+    subst (λ k. TellsNeeded k old new) (sym is) (tells_read old new e.hands (e.needs one) some)

@@ -28,7 +28,7 @@ fn bytes_of(rt: &HostRuntime, number: usize) -> Result<Option<Vec<u8>>, AllocErr
     Err(AllocError)
 }
 
-// A word's text; of one that isn't UTF-8 what people are shown of it, after the character that tells so.
+// A word's text; of one that isn't UTF-8 what people are shown of it, after the character that says so.
 fn text_of(alloc: Global, bytes: &[u8]) -> Result<String, AllocError> {
     match str::from_utf8(bytes) {
         Ok(word) => String::from_str(alloc, word),
@@ -62,7 +62,7 @@ fn status_of(rt: &HostRuntime, words: &[String]) -> u8 {
     )
 }
 
-// Where there is no room for the words only the status tells that.
+// Where there is no room for the words only the status says that.
 fn main(rt: HostRuntime) -> ExitCode {
     match words_of(&rt) {
         Ok(words) => ExitCode::from(status_of(&rt, words.as_slice())),

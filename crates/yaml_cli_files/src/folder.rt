@@ -70,7 +70,7 @@ enum Kind {
     Other,
 }
 
-// What a link is: links to folders aren't followed, and one that leads nowhere can't be read, which is told then.
+// What a link is: links to folders aren't followed, and one that leads nowhere can't be read, which is reported then.
 fn kind_of_link<H: Files>(rt: &H, path: &str) -> Kind {
     match rt.metadata(path) {
         Ok(found) if !found.is_file() => Kind::Other,
@@ -78,7 +78,7 @@ fn kind_of_link<H: Files>(rt: &H, path: &str) -> Kind {
     }
 }
 
-// What is at that path. Of what the file system tells nothing, the reading of it tells why.
+// What is at that path. Of what the file system tells nothing, the reading of it says why.
 fn kind_of<H: Files>(rt: &H, path: &str) -> Kind {
     match rt.symlink_metadata(path) {
         Ok(found) if found.is_dir() => Kind::Folder,

@@ -17,7 +17,7 @@ pub fn shown_bytes(text: &mut String, name: &[u8]) -> Result<(), AllocError> {
     Ok(())
 }
 
-/// A name without what tells that it isn't UTF-8.
+/// A name without what says that it isn't UTF-8.
 pub fn bare(name: &str) -> &str {
     name.strip_prefix(UNNAMED).unwrap_or(name)
 }

@@ -33,7 +33,7 @@ pub record IsFirstDocument (encoding : yaml_encoding_t) (input : List ℕ)
   pub reading : Reading
   pub parsed : IsReadingOf (tokens_of encoding input) reading
   pub load : NextLoad
-  -- so many tokens are not asked for as the fault after the events is told
+  -- that many tokens are not asked for as the fault after the events is told
   pub unasked : ℕ
   pub is : IsLoadOf reading.events reading.ending unasked load
   pub same : first ≡ outcome load

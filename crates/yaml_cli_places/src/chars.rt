@@ -73,7 +73,7 @@ pub(crate) fn ends_line(next: Next) -> bool {
     )
 }
 
-// What is after the byte order mark of a text, and the encoding that the mark tells.
+// What is after the byte order mark of a text, and the encoding that the mark shows.
 fn detected(input: &[u8]) -> (&[u8], yaml_encoding_t) {
     if let Some(left) = input.strip_prefix(b"\xFF\xFE") {
         return (left, yaml_encoding_t::YAML_UTF16LE_ENCODING);
@@ -134,7 +134,7 @@ impl<'a> Chars<'a> {
         }
     }
 
-    // Goes on after the row of bytes that comes next and tells how many lines end in it, where these are fewer than `most`,
+    // Goes on after the row of bytes that comes next and says how many lines end in it, where these are fewer than `most`,
     // each ends by a LF or a CR LF and, if not `wide`, each byte is a character. A NEL begins with C2, a LS and a PS with E2,
     // which stand nowhere but at the beginning of a character or of bytes that spell none.
     // Inlined, and without an early exit, so that the bytes are looked at side by side.
@@ -161,7 +161,7 @@ impl<'a> Chars<'a> {
         Some(lines)
     }
 
-    /// Goes on after so many ends of lines, or to the text's end; answers how many are missing.
+    /// Goes on after that many ends of lines, or to the text's end; answers how many are missing.
     pub(crate) fn skip_lines(&mut self, lines: u64) -> u64 {
         let mut missing = lines;
         for _ in 0..self.left.len() {
@@ -181,7 +181,7 @@ impl<'a> Chars<'a> {
         missing
     }
 
-    /// Goes on by so many characters of the line, or after the line's end.
+    /// Goes on by that many characters of the line, or after the line's end.
     pub(crate) fn skip_columns(&mut self, columns: u64) {
         let mut left = columns;
         for _ in 0..self.left.len() {

@@ -75,7 +75,7 @@ fn push_blank(text: &mut String, c: char) -> Result<(), AllocError> {
     Ok(())
 }
 
-// Adds up to so many characters of the line, or what takes as many columns; answers whether the line goes on after them.
+// Adds up to that many characters of the line, or what takes as many columns; answers whether the line goes on after them.
 fn push_columns(
     text: &mut String,
     mut line: Chars<'_>,

@@ -33,7 +33,7 @@ fn has_conflict(input: &[u8]) -> bool {
     false
 }
 
-// Whether the two characters come one after the other among so many of the line.
+// Whether the two characters come one after the other among that many of the line.
 fn has_pair(mut line: Chars<'_>, columns: u64, first: char, second: char) -> bool {
     let mut before = '\0';
     for _ in 0..columns {

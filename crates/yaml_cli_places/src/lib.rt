@@ -1,4 +1,4 @@
-//! Places in texts, as people and programs are told them: the lines that tell a fault, with the source line and a caret under it,
+//! Places in texts, as people and programs are told them: the lines that report a fault, with the source line and a caret under it,
 //! and what helps; findings in a line each; the path to a place in the documents; and names of files.
 #![tactic(auto)]
 

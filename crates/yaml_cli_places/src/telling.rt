@@ -1,4 +1,4 @@
-//! The lines that tell a fault of a file, and those of a place.
+//! The lines that report a fault of a file, and those of a place.
 
 use crate::chars::{Chars, Source};
 use crate::excerpt::{push_excerpt, push_shown};
@@ -162,7 +162,7 @@ fn push_hint(
     }
 }
 
-/// Adds the lines that tell a fault of a file's text: `NAME:LINE:COLUMN: K error: PROBLEM`, the source line with a caret under the
+/// Adds the lines that report a fault of a file's text: `NAME:LINE:COLUMN: K error: PROBLEM`, the source line with a caret under the
 /// place, then the context's place in the same way, where there is another one, and a line that helps. Lines and columns count from
 /// 1, columns in characters.
 pub fn push_fault(

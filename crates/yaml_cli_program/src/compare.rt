@@ -21,7 +21,7 @@ struct Pair<'a> {
     is_itself: bool,
     // Where they part is shown; else it is told whether they do.
     shows: bool,
-    // Only the status tells.
+    // Only the status says.
     quiet: bool,
 }
 
@@ -49,7 +49,7 @@ fn input_name(side: Side) -> &'static str {
     }
 }
 
-// Why an input wasn't read, as a run tells it.
+// Why an input wasn't read, as a run says it.
 fn fault_of(why: &Fault<'_>) -> yaml_run_fault_t {
     match why {
         Fault::TooLong => yaml_run_fault_t::TooLong,
@@ -80,7 +80,7 @@ fn read_side<H: Files, R: Read, W, E: Write>(
     }
 }
 
-// Tells whether they have the same content; answers the status.
+// Says whether they have the same content; answers the status.
 fn tell_same<G: Engine, R, W: Write, E: Write>(
     engine: &G,
     by: Measure,
@@ -120,7 +120,7 @@ fn tell_difference<R, W: Write, E: Write>(
     }
 }
 
-// Tells where they part; answers the status, as diff's: 0 where they don't, 1 where they do, 2 where they couldn't be compared.
+// Says where they part; answers the status, as diff's: 0 where they don't, 1 where they do, 2 where they couldn't be compared.
 fn tell_diff<G: Engine, R, W: Write, E: Write>(
     engine: &G,
     by: Measure,
@@ -142,7 +142,7 @@ fn tell_diff<G: Engine, R, W: Write, E: Write>(
     }
 }
 
-// Whether they differ, as only the status tells it.
+// Whether they differ, as only the status says it.
 fn compare_quietly<G: Engine, R, W, E>(
     engine: &G,
     pair: &Pair<'_>,

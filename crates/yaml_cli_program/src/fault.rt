@@ -95,7 +95,7 @@ pub(crate) fn told<E: Write>(errors: &mut E, name: &str, fault: &Fault<'_>) {
     let _ = writeln!(errors, "yaml_cli: {name}{colon}{fault}");
 }
 
-// Reports a fault of a text, after the words that say of which input it is. Of out of memory for the line only the status tells.
+// Reports a fault of a text, after the words that say of which input it is. Of out of memory for the line only the status says.
 fn tell_fault<E: Write>(alloc: Global, errors: &mut E, input: &str, fault: &yaml_fault_t) {
     if let Ok(line) = yaml_fault_line(alloc, fault) {
         let line = str::from_utf8(line.as_slice()).unwrap_or("");
@@ -125,7 +125,7 @@ pub(crate) fn run_failed<E: Write>(
 }
 
 /// Shows the fault of a file, unless `quiet`; answers the status. Of out of memory, where there is none for the line either, only
-/// the status tells.
+/// the status says.
 pub(crate) fn shown<E: Write>(
     alloc: Global,
     errors: &mut E,

@@ -139,7 +139,7 @@ pub(crate) fn whole_of<H: Files, R: Read, W, E>(
     }
 }
 
-/// Writes the answer of a comparison, or tells how much of it was written; answers the status.
+/// Writes the answer of a comparison, or says how much of it was written; answers the status.
 pub(crate) fn write_answer<W: Write, E: Write>(
     alloc: Global,
     answer: &[u8],

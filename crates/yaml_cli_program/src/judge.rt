@@ -38,7 +38,7 @@ fn shown_name<'n>(order: &'n Order<'_, '_>, name: &'n str) -> &'n str {
     }
 }
 
-// Judges what was read of a file, or tells why it wasn't read.
+// Judges what was read of a file, or says why it wasn't read.
 fn judge_read<G: Engine, H: Files, R, W: Write, E: Write>(
     engine: &G,
     rt: &H,

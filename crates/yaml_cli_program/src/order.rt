@@ -262,7 +262,7 @@ fn judge_width(words: &mut Words<'_, '_>, settings: &yaml_settings_t) {
     }
 }
 
-/// What the words of a command say, and which files of a folder are read; nothing where `wrong` tells that they are wrong. How many files one is given is judged in front
+/// What the words of a command say, and which files of a folder are read; nothing where `wrong` says that they are wrong. How many files one is given is judged in front
 /// of its other words.
 pub(crate) fn order_in<'o, 'a>(
     name: &'a str,

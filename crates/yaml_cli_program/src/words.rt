@@ -32,8 +32,8 @@ pub(crate) fn matches_of<'a, S: AsStr>(
     }
 }
 
-/// Tells what is wrong with the words, or the help that they ask for, and answers the status: of bad words their own, whether or
-/// not the text could be written. Of out of memory only the status tells.
+/// Says what is wrong with the words, or the help that they ask for, and answers the status: of bad words their own, whether or
+/// not the text could be written. Of out of memory only the status says.
 pub(crate) fn tell<R, W: Write, E: Write>(error: &WordFault, streams: &mut Streams<R, W, E>) -> u8 {
     if error.kind() == ErrorKind::OutOfMemory {
         WRONG_WORDS

@@ -1,4 +1,4 @@
-//! The calls of the engine: events, loads, reformat, normalize, reload, same, both diffs, and the line that tells a fault; and the
+//! The calls of the engine: events, loads, reformat, normalize, reload, same, both diffs, and the line that reports a fault; and the
 //! decoder's.
 
 use crate::difference::put_difference;
@@ -144,7 +144,7 @@ pub fn compare(reply: &mut Reply, line: &Value, compared: Compared, input: &Inpu
     }
 }
 
-/// The line that tells a fault with the line's fields, whose problem is `x`, met while `y` was being read, or nothing.
+/// The line that reports a fault with the line's fields, whose problem is `x`, met while `y` was being read, or nothing.
 pub fn told(reply: &mut Reply, line: &Value) {
     let fields = reply.value(line, "/own");
     let context = if reply.flag(fields, "/context") {

@@ -5,7 +5,7 @@ use crate::lines::{Part, Reply};
 use serde_json::Value;
 use yaml_round::{yaml_error_type_t, yaml_reformat, yaml_reload, yaml_settings_t};
 
-// Whether the call refuses that limit: tells that the text has more bytes. Any other refusal is kept.
+// Whether the call refuses that limit: says that the text has more bytes. Any other refusal is kept.
 fn is_refused(reply: &mut Reply, of: &str, input: &Input<'_>, settings: &yaml_settings_t) -> bool {
     let refused = match of {
         "reload" => yaml_reload(reply.alloc, input.text, input.from, settings).err(),

@@ -1,4 +1,4 @@
--- What a call's answer tells of the emitter's fault.
+-- What a call's answer says of the emitter's fault.
 use Rattle.std.proofs.Common.{◌≡◌, ◌≢◌, ◌∙◌, sym, Option, Some, None, Result, Ok, Err}
 use Rattle.std.proofs.lemmas.Bool.{false≢true}
 use Rattle.std.specs.Prelude.{OnOk, OnErr}

@@ -1,4 +1,4 @@
--- What the lent parts of an event say.
+-- What the borrowed parts of an event say.
 use Rattle.std.proofs.Common.{◌≡◌, ℕ, List, Bool, true, false, refl, subst, ◌∙◌}
 use Rattle.std.specs.Prelude.{Option, Some, None, option_map, ◌||◌, Vec}
 use Rattle.std.specs.Option.{is_some}

@@ -1,4 +1,4 @@
--- What the lent parts of an event say.
+-- What the borrowed parts of an event say.
 use Rattle.std.specs.Prelude.{Bool, option_map}
 use Rattle.yaml_emit_layout.specs.Content as said
 use Rattle.yaml_emit_core.specs.declared.given.Named.{Named}

@@ -1,4 +1,4 @@
-//! The parts of an event of a node, lent.
+//! The parts of an event of a node, borrowed.
 
 ghost use Rattle.std.specs.Prelude.{◌≡◌, option_map, IsUtf8};
 ghost use Rattle.yaml_emit_layout.specs.Content.{is_flow_sequence, is_flow_mapping};
@@ -29,7 +29,7 @@ pub struct Value<'a> {
     pub style: yaml_scalar_style_t,
 }
 
-/// An anchor and a tag, lent.
+/// An anchor and a tag, borrowed.
 pub fn names_of<'a>(anchor: &'a Option<Vec<u8>>, tag: &'a Option<Vec<u8>>) -> Named<'a>
     ensures anchor { option_map (λ t. t.now) result.anchor ≡ text_of anchor.now }
     ensures tag { option_map (λ t. t.now) result.tag ≡ text_of tag.now }

@@ -243,7 +243,7 @@ fn tag_size(properties: &Properties) -> usize
     }
 }
 
-/// Whether an anchor, a tag and a value of so many bytes may be a simple key's.
+/// Whether an anchor, a tag and a value of that many bytes may be a simple key's.
 pub fn are_short(properties: &Properties, size: usize) -> bool
     ensures { result ≡ nat_le (names_size properties.now + size) simple_key_bytes }
 {

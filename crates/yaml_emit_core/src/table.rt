@@ -11,7 +11,7 @@ use std::alloc::{AllocError, Global};
 use std::marker::Model;
 use yaml_scan_model::yaml_tag_directive_t;
 
-// So many directives, or fewer, have no index: a walk over them is as fast, and takes no memory.
+// That many directives, or fewer, have no index: a walk over them is as fast, and takes no memory.
 const FEW: usize = 32;
 
 /// The tag directives of a document, in their order. Each is found by its prefix.

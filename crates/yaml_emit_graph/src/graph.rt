@@ -337,7 +337,7 @@ impl Events {
         })
     }
 
-    /// The next event, in a slot that is lent; none after the document's end.
+    /// The next event, in a slot that is passed by reference; none after the document's end.
     #[tactic(auto, using(crate::proofs::Leaving::start_comes, crate::proofs::Leaving::turn_comes, crate::proofs::Leaving::end_comes, crate::proofs::Leaving::none_comes))]
     pub fn next(
         &mut self,

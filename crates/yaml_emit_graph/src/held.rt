@@ -8,7 +8,7 @@ use crate::walk::{Open, Walkable};
 use yaml_parse_document::{yaml_document_get_node, yaml_document_t};
 use yaml_parse_model::{yaml_node_body_t, yaml_node_pair_t};
 
-/// The number at an index, if there are so many.
+/// The number at an index, if there are as many.
 pub fn next_held(held: &[i32], index: usize) -> Option<i32>
     ensures { NextHeld held.now index result }
 {

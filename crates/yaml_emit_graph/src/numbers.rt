@@ -32,7 +32,7 @@ pub fn number_of(table: &[u64], id: i32) -> u64
 }
 
 impl Numbers {
-    /// No number is given, of so many nodes.
+    /// No number is given, of that many nodes.
     pub fn none(alloc: Global, count: usize) -> Result<Numbers, AllocError>
         ensures { IfOk result (λ n. numbering_of n ≡ none_numbered count) }
     {

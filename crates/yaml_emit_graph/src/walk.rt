@@ -64,7 +64,7 @@ pub fn place_of(id: i32) -> Option<usize>
 }
 
 impl Walk {
-    /// Before the root of so many nodes.
+    /// Before the root of that many nodes.
     pub fn new(alloc: Global, count: usize) -> Result<Walk, AllocError>
         ensures { IfOk result (λ w. (w.started ≡ false) × (stack_of w ≡ [])
             × (w.met.items ≡ replicate count false)) }

@@ -8,7 +8,7 @@ use Rattle.yaml_emit_graph.specs.emit_layout.declared.Phase.{Phase}
 use Rattle.yaml_emit_graph.specs.emit_layout.declared.Phase.TheVariants.{Items}
 use Rattle.yaml_emit_laws_dumps.specs.LookBack.{Collection, in_sequence, in_mapping, met, innermost, begins_document, ends_stream, unless_so, wrong_in, wrong_place, wrong_behind, first_wrong, RefusalLooksBack}
 
--- what the collection that so many are inside of is due, where an odd number of nodes more has come in it
+-- what the collection that as many are inside of is due, where an odd number of nodes more has come in it
 abbrev due_at : ℕ → Bool → List Due → Option Collection
 due_at n even [] = None
 due_at zero even (item_due ∷ ds) = Some in_sequence

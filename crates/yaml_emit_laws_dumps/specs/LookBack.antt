@@ -18,7 +18,7 @@ abbrev pub met : ℕ → Bool → Bool
 met zero even = not even
 met (suc closed) even = even
 
--- The innermost open collection of a document. So many were closed on the way back whose start hasn't been met, and it is
+-- The innermost open collection of a document. That many were closed on the way back whose start hasn't been met, and it is
 -- told whether an even number of nodes has been met in the one that is looked for.
 unfoldable pub innermost : ℕ → Bool → List Event → Option Collection
 innermost closed even [] = None

@@ -181,7 +181,7 @@ spaces_run (suc k) text a p (e, h) r =
     let same : p + 1 + k ≡ p + suc k = omega arith in
     subst (λ q. InRun is_space_there text a q) same (spaces_run k text a (p + 1) h (run_more is_space_there text a p r (grind (arith, nat_tests)) (omega (arith, e))))
 
--- without a digit the first line tells it
+-- without a digit the first line says it
 pub column_by_text : (level n : ℕ) (text : List ℕ) (p : ℕ) → level ≤ n → 0 < n
     → column_at text p ≡ 0 → Has text p (replicate n 32) → byte text (p + n) ≢ 32
     → byte text (p + n) ≢ 9 → break_width text (p + n) ≡ 0

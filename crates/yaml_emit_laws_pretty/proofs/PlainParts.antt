@@ -17,7 +17,7 @@ is_plain_end next_line = false
 is_plain_end line_separator = false
 is_plain_end paragraph_separator = false
 
--- a character as itself, or a space as a fold into a line of so many spaces
+-- a character as itself, or a space as a fold into a line of that many spaces
 abbrev pub IsOne : ℕ → QuotedPart → ℕ → Type 0
 IsOne n (raw c) x = c ≡ x
 IsOne n doubled x = ⊥

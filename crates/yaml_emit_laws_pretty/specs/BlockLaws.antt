@@ -46,7 +46,7 @@ read_style folded = if folded then styles.YAML_FOLDED_SCALAR_STYLE
     else styles.YAML_LITERAL_SCALAR_STYLE
 
 -- A block scalar stands there, which has the value: its end is after its last break, at the start of a line, and the place that
--- is reached is where it stopped, after so many spaces.
+-- is reached is where it stopped, after that many spaces.
 pub record BlockStands (folded : Bool) (level : ℕ) (text : List ℕ) (p : ℕ) (value : List ℕ)
     (end k : ℕ) : Type 0 where
   pub block : block_at level text p ≡ Ok record { value = value; end = end; place = end + k }

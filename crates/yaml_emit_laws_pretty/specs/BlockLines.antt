@@ -91,7 +91,7 @@ pub record NoWhite (text : List ℕ) (q : ℕ) : Type 0 where
   pub no_tab : byte text q ≢ ascii.tab
   pub no_break : break_width text q ≡ 0
 
--- At a line's start, so many spaces stand there, fewer than n, and after them a text left of column n, or the end.
+-- At a line's start, that many spaces stand there, fewer than n, and after them a text left of column n, or the end.
 pub record StandsLeft (text : List ℕ) (q n k : ℕ) : Type 0 where
   pub fewer : k < n
   pub spaces : HasAt text q (replicate k ascii.space)

@@ -25,7 +25,7 @@ abbrev pub IsClear : WalkState → List ℕ → Type 0
 IsClear o cs = Outside o.depth cs ⊎ ((ds : List ℕ) × (cs ≡ o.depth ∷ ds) × Outside o.depth ds
     × (o.now ≡ false))
 
--- After a node in brackets, of which so many are open.
+-- After a node in brackets, of which that many are open.
 pub record GoesIn (x : yaml_encoding_t) (text : List ℕ) (rest : Rest) (kept : Bool) (d : ℕ)
     (cs ls : List ℕ) (T : List TokenBody → List TokenBody) : Type 0 where
   pub behind : Cursor

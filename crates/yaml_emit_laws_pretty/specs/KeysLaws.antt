@@ -13,7 +13,7 @@ use Rattle.yaml_emit_laws_text.specs.ReadBack.{is_one_line}
 use Rattle.yaml_emit_laws_text.specs.Walk.{bytes}
 use Rattle.yaml_emit_laws_text.specs.Writable.{IsWritable, IsWritableOpening}
 
--- From a cursor on, a layout writes characters that end no line, of at most so many bytes, whatever follows.
+-- From a cursor on, a layout writes characters that end no line, of at most that many bytes, whatever follows.
 pub record StaysNear (a : Layout) (c : Cursor) (n : ℕ) : Type 0 where
   pub shown : List ℕ
   pub behind : Cursor

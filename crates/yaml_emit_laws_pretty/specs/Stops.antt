@@ -37,7 +37,7 @@ begins_mark a (b ∷ c ∷ bs) = (((a == ascii.hyphen && b == ascii.hyphen) && c
 begins_mark a (b ∷ []) = false
 begins_mark a [] = false
 
--- after so many columns: a document mark, or in a block what stands left of the level
+-- after that many columns: a document mark, or in a block what stands left of the level
 abbrev pub stops_line : Bool → ℕ → Option ℕ → ℕ → List ℕ → Bool
 stops_line flow level None b bs = false
 stops_line flow level (Some n) b bs = (n == 0 && begins_mark b bs) || (not flow && nat_lt n level)

@@ -1,4 +1,4 @@
--- Layouts of at most so many bytes, whatever follows.
+-- Layouts of at most that many bytes, whatever follows.
 use Rattle.std.proofs.Common.{◌≡◌, ℕ, zero, suc, ◌+◌, ◌-◌, ◌*◌, ◌<◌, ◌≤◌, Bool, true, false, ◌&&◌, nat_lt, List, [], ◌∷◌, length, refl, arith, length-append, inl, inr, le_refl, mul-suc, mul-le-mul_left, sub-le}
 use Rattle.yaml_emit_laws_text.proofs.Shared.{cases_Bool, ltb-true, lt-ltb, and_parts, Cursor, Encoding, Utf8, LineBreak, Lf, Cr, CrLf, Item, letter, char_bytes, encode, Rest, Layout, ◌▹◌, stay, choose, when, char, letters, blank, blanks, break, new_line, is_white, gap, word, opener, must_break, indent_to, line, keep, order_mark, MOST, deep_if, checked, unit, text_bytes}
 

@@ -183,7 +183,7 @@ spaces_column text p (suc n) (e, h) =
     let same : p + 1 + suc n ≡ p + suc (suc n) = omega arith in
     subst (λ q. 0 < column_at text q) same (spaces_column text (p + 1) n h)
 
--- so many spaces are so long
+-- that many spaces are so long
 pub length_spaces : (n : ℕ) → length {A = ℕ} (replicate n 32) ≡ n
 length_spaces zero = refl
 length_spaces (suc n) = ap (λ k. suc k) (length_spaces n)

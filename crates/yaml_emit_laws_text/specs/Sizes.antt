@@ -19,7 +19,7 @@ unit Utf8 = 1
 unit Utf16Le = 2
 unit Utf16Be = 2
 
--- so many of them
+-- that many of them
 abbrev pub ascii : Settings → ℕ → ℕ
 ascii s n = unit s.encoding * n
 

@@ -26,7 +26,7 @@ pub record Left (text : List ℕ) (p : ℕ) (bs : List ℕ) : Type 0 where
 abbrev pub Starts : List ℕ → ℕ → Type 0
 Starts text p = (byte text p ≡ ascii.line_feed → ⊥) → column_at text p ≡ 0
 
--- Words stand in the text up to a gap that goes up to the place; so many brackets are open.
+-- Words stand in the text up to a gap that goes up to the place; that many brackets are open.
 pub record WordStage (text : List ℕ) (c : Cursor) (p : ℕ) (ws : List Word) (d : ℕ) : Type 0 where
   pub stand : WordsStand text ws
   pub gap : List ℕ

@@ -30,7 +30,7 @@ line_stays k n c rest m = cond_false (must_break n c) _ _ m
 
 -- ---- where a line ends
 
--- two layouts are the same after so many spaces in a bare line
+-- two layouts are the same after that many spaces in a bare line
 abbrev pub AreSame : ℕ → Layout → Layout → Rest → Type 0
 AreSame n x y rest = (kept : Bool) → x (record { column = n; white = true; bare = true; kept = kept }) rest
     ≡ y (record { column = n; white = true; bare = true; kept = kept }) rest

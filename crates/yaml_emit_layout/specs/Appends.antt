@@ -12,10 +12,10 @@ AppendsBy Full limit old new bytes = (new ≡ take limit (old ++ bytes))
 AppendsBy Deep limit old new bytes = ⊥
 AppendsBy Starved limit old new bytes = new ≡ old
 
--- the cursor after so many spaces, one at least
+-- the cursor after that many spaces, one at least
 abbrev pub blanked : ℕ → Cursor → Cursor
 blanked n c = record { column = c.column + n; white = true; bare = c.bare; kept = c.kept }
 
--- the cursor after so many characters, one at least
+-- the cursor after that many characters, one at least
 abbrev pub lettered : ℕ → Cursor → Cursor
 lettered n c = record { column = c.column + n; white = false; bare = false; kept = c.kept }

@@ -205,7 +205,7 @@ abbrev pub Passes : ℕ → List ℕ → Bool → Fault → Type 0
 Passes limit bytes deep f = ((f ≡ write_error) × PassesSize limit bytes)
     ⊎ ((f ≡ too_deep) × PassesColumns deep)
 
--- The fault tells that memory ran out, or names a limit that each text passes which the emitter completes.
+-- The fault says that memory ran out, or names a limit that each text passes which the emitter completes.
 abbrev pub IsLimited : Emitter → Fault → Type 0
 IsLimited e f = IsMemoryFault emit_layers f ⊎ ((x : Encoding) (es : List Event) (whole : List Item)
     → Completes e x es whole → Passes e.limit (encode x whole) (is_deep whole) f)

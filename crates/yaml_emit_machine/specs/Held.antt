@@ -7,7 +7,7 @@ use Rattle.yaml_emit_machine.specs.declared.held.Held.{Held}
 use Rattle.yaml_emit_machine.specs.declared.held.Count.{Count}
 use Rattle.yaml_emit_machine.specs.declared.held.Count.TheVariants.{Nothing, One, Two, Three}
 
--- those after the oldest one, of so many in all
+-- those after the oldest one, of that many in all
 abbrev pub back : Count → EventBody → EventBody → List EventBody
 back Nothing b c = []
 back One b c = []

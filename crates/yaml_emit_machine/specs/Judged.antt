@@ -123,7 +123,7 @@ first_starts [] = false
 first_starts (e ∷ es) = is_document_start e
 
 -- Memory was refused outside the output for one of these events: all before it are laid out, and it is too; or, where it begins
--- a document, whose directives are looked at first, nothing of it. `laid n` tells that the first n are laid out, and nothing else.
+-- a document, whose directives are looked at first, nothing of it. `laid n` says that the first n are laid out, and nothing else.
 pub record RefusesHeld (es : List Event) (laid : ℕ → Type 0) : Type 0 where
   pub front : ℕ
   pub takes : first_takes (drop front es) ≡ true

@@ -4,7 +4,7 @@ use Rattle.yaml_emit_layout.specs.declared.Encoding.{Encoding}
 use Rattle.yaml_emit_layout.specs.Text.{Item, encode, is_deep}
 use Rattle.yaml_emit_machine.specs.Emitter.{Emitter, Completes}
 
--- the text has at most so many bytes, and no indentation in it passes the most columns
+-- the text has at most that many bytes, and no indentation in it passes the most columns
 pub record Fits (limit : ℕ) (x : Encoding) (whole : List Item) : Type 0 where
   pub size : length (encode x whole) ≤ limit
   pub columns : is_deep whole ≡ false

@@ -26,7 +26,7 @@ unfoldable pub spelled : Encoding → List ℕ → List ℕ
 spelled x [] = []
 spelled x (c ∷ cs) = char_bytes x c ++ spelled x cs
 
--- characters were appended, all of them or so many that the limit is passed; or memory was refused after some
+-- characters were appended, all of them or that many that the limit is passed; or memory was refused after some
 abbrev pub Spells : {A E : Type 0} → Result A E → Encoding → ℕ → List ℕ → List ℕ → List ℕ → Type 0
 Spells (Ok u) x limit old new cs = (new ≡ old ++ spelled x cs)
     ⊎ ((limit < length new) × ((more : List ℕ) × (new ++ more ≡ old ++ spelled x cs)))

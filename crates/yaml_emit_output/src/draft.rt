@@ -165,7 +165,7 @@ impl Draft {
         self.kept
     }
 
-    /// So many characters further no column is past the width.
+    /// That many characters further no column is past the width.
     pub fn left(&self) -> usize
         ensures { result ≡ self.now.width - self.now.output.cursor.column }
     {
@@ -414,7 +414,7 @@ impl Draft {
         self.kept = kept;
     }
 
-    /// Whether there is room for a text of so many bytes, and what stands around it: else the draft has stopped.
+    /// Whether there is room for a text of that many bytes, and what stands around it: else the draft has stopped.
     pub fn has_room(&mut self, count: usize) -> bool
         requires few { count < 2 ^ 63 }
         ensures puts { Puts self.old.output self.new.output stay }

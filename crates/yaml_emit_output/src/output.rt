@@ -147,14 +147,14 @@ impl Output {
     }
 }
 
-// The first bytes of a text, so many at most.
+// The first bytes of a text, that many at most.
 fn front_of(text: &[u8], limit: u64) -> &[u8]
     ensures { result.now ≡ take limit text.now }
 {
     &text[..text.len().min(limit as usize)]
 }
 
-// The first bytes, so many at most.
+// The first bytes, that many at most.
 fn cut_to(bytes: Vec<u8>, limit: u64) -> Vec<u8>
     ensures { result.items ≡ take limit bytes.items }
 {

@@ -55,7 +55,7 @@ abbrev pub goes_on : Body → Bool → ℕ → ℕ → ℕ → Bool
 goes_on body cuts width column c = stands body c
     && (not (c == ascii.space) || (not cuts || nat_le column width))
 
--- a text begins with a run of so many bytes, from that column on; where it isn't wide it is ASCII
+-- a text begins with a run of that many bytes, from that column on; where it isn't wide it is ASCII
 pub record Begins (body : Body) (cuts : Bool) (width column : ℕ) (text : List ℕ) (count : ℕ)
     (wide : Bool) : Type 0 where
   pub whole : IsCharBoundary text count

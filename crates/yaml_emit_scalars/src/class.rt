@@ -72,7 +72,7 @@ fn row_classes(text: &[u8], at: usize) -> u16
 /// Any class.
 const ANY: u16 = 0xFFFF;
 
-/// A text of so many bytes may have any class: it is looked through run by run when it is written.
+/// A text of that many bytes may have any class: it is looked through run by run when it is written.
 const LONG: usize = 64;
 
 /// The classes that the bytes of a text have, or more.

@@ -99,7 +99,7 @@ fn word_from(body: Body, text: &[u8], from: usize) -> Run
     }
 }
 
-// How many of so many bytes are put at columns that aren't past the width, where that counts.
+// How many of that many bytes are put at columns that aren't past the width, where that counts.
 fn free_of(draft: &Draft, cuts: bool, count: usize) -> usize
     ensures inside { result ≤ count }
     ensures free { cuts ≡ true → result ≤ draft.now.width - draft.now.output.cursor.column }
@@ -127,7 +127,7 @@ fn run_of(draft: &Draft, body: Body, cuts: bool, text: &str) -> Run
     }
 }
 
-// A text, cut after so many bytes.
+// A text, cut after that many bytes.
 pub(crate) fn cut<'a>(left: &'a str, count: usize) -> (&'a str, &'a str)
     requires { IsCharBoundary left.now count }
     ensures run { result.0.now ≡ take count left.now }

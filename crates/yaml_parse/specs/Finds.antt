@@ -1,4 +1,4 @@
--- What a call that fills lent slots gives.
+-- What a call that fills borrowed slots gives.
 use Rattle.std.specs.Prelude.{◌≡◌, ◌≤◌, ℕ, Bool, [], ◌∷◌, None}
 use Rattle.yaml_scan_model.specs.Faults.{Fault}
 use Rattle.yaml_parse_model.specs.Events.{Event, no_event}

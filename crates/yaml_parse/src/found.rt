@@ -1,4 +1,4 @@
-//! What a call that fills lent slots answers.
+//! What a call that fills borrowed slots answers.
 
 /// What a call finds: an event or a fault, which stands in its slot, or the end.
 #[derive(Clone, Copy, PartialEq, Eq, Debug)]

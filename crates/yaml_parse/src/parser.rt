@@ -130,7 +130,7 @@ fn told_fault<S: yaml_token_source_t>(tokens: &SourceTokens<S>, refusal: Refusal
     }
 }
 
-/// The next event in a slot that is lent, or a fault in another, or neither after the last event and after a fault: what
+/// The next event in a slot that is passed by reference, or a fault in another, or neither after the last event and after a fault: what
 /// `yaml_parser_parse` answers. A slot that isn't filled may hold anything afterwards.
 pub fn yaml_parser_parse_into<S: yaml_token_source_t>(
     parser: &mut yaml_parser_t<S>,
@@ -183,7 +183,7 @@ pub fn yaml_parser_parse<S: yaml_token_source_t>(
 ) -> Result<yaml_event_t, yaml_fault_t>
     ensures ok { IfOk result (λ e. EventOf parser.old (event_of e) parser.new) }
     ensures utf8 { IfOk result (λ e. HasUtf8 (event_of e).body) }
-    // What was given tells whether a document is half taken.
+    // What was given says whether a document is half taken.
     ensures between { IfOk result (λ e. parser.new.between ≡ parts_documents_behind
         (event_of e).body) }
     ensures err { IfErr result (λ f. FaultOf parser.old (fault_of f) parser.new) }

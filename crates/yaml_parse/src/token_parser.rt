@@ -62,7 +62,7 @@ impl<T: Tokens> TokenParser<T> {
             (T.fault_to_come tokens)) no_directives).events }
         ensures ending { result.ending ≡ (reading_of (run (T.to_come tokens) initial
             (T.fault_to_come tokens)) no_directives).ending }
-        // The fault is told with no token asked for after its place.
+        // The fault is reported with no token asked for after its place.
         ensures told { result.ending_unasked ≡ unasked_of (T.to_come tokens)
             (T.fault_to_come tokens) initial no_directives }
         // No token was asked for or taken here.
@@ -78,7 +78,7 @@ impl<T: Tokens> TokenParser<T> {
         }
     }
 
-    /// The next event in a slot that is lent, or a fault in another, or neither after the last
+    /// The next event in a slot that is passed by reference, or a fault in another, or neither after the last
     /// event and after a fault. A slot that isn't filled may hold anything afterwards.
     pub fn parse_into(&mut self, event: &mut yaml_event_t, fault: &mut yaml_fault_t) -> yaml_found_t
         ensures finds { Finds self.old result (event_of event.new) (fault_of fault.new) self.new }

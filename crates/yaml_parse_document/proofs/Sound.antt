@@ -208,7 +208,7 @@ pub sound_at : (n : ℕ) (nodes : List Node) (id : ℤ) → AreSound n nodes
     → IsSoundAt n (node_at nodes id)
 sound_at n nodes id h = grind (arith, sound_item)
 
--- A node that is lent is the view's at that place.
+-- A node that is passed by reference is the view's at that place.
 pub node_lent : (r : Option (Bor yaml_node_t)) (items : List yaml_node_t) (k : ℕ)
     → IsItemAt items k r → option_map (λ n. node_of n.now) r ≡ slice_get (map node_of items) k
 node_lent r items k h = grind (arith, slice_get-map, slice_get_past, slice_get_read)

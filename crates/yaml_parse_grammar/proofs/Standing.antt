@@ -1,4 +1,4 @@
--- A step keeps how states stand above one another, and tells by what it gives whether a document is half taken.
+-- A step keeps how states stand above one another, and says by what it gives whether a document is half taken.
 use Rattle.std.proofs.Common.{◌≡◌, Bool, false, List, [], ◌∷◌, ◌++◌, Option, Some, None, refl, ap, subst, arith}
 use Rattle.yaml_parse_grammar.proofs.Words.{yaml_mark_t, yaml_token_type_t, Token, TokenBody, type_of, Take, Leave, Open, RawEvent, RawEventBody, State, choice_at, taken_at, documents_taken, stream_taken, left_at, opened, Directives, settle_body, IsInner}
 use Rattle.yaml_parse_grammar.specs.Items as item

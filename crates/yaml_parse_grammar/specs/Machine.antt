@@ -367,7 +367,7 @@ initial = state.stream ∷ []
 
 -- ---- where it stops
 
--- at a token that is refused with so many after it, or where the tokens after it say
+-- at a token that is refused with that many after it, or where the tokens after it say
 abbrev pub left_where_stopped : ℕ → Fed → (List State → ℕ) → ℕ
 left_where_stopped left (stop is f) k = left
 left_where_stopped left (go is s) k = k s

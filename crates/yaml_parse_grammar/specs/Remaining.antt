@@ -25,7 +25,7 @@ is_between (state.first ∷ s) = true
 is_between (state.documents ∷ s) = true
 is_between _ = false
 
--- The events to come and the fault that ends them, how many tokens are not asked for as that fault is told, the tokens that
+-- The events to come and the fault that ends them, how many tokens are not asked for as that fault is reported, the tokens that
 -- are not asked for, how many are asked for and not consumed, whether no document is half taken, and the fault that was
 -- answered.
 pub record ParserRemaining : Type 0 where
@@ -40,7 +40,7 @@ pub record ParserRemaining : Type 0 where
 abbrev pub reading_of : Outcome → Directives → Reading
 reading_of o ds = reading o.items o.ending ds
 
--- how many tokens are not asked for as the fault is told
+-- how many tokens are not asked for as the fault is reported
 abbrev pub unasked_of : List Token → Option Fault → List State → Directives → ℕ
 unasked_of ts f s ds = unasked_at_fault (run ts s f).items (unasked_at_stop ts s) ds
 
@@ -89,7 +89,7 @@ GivesEvent [] (Some f) e old new = ⊥
 abbrev pub EventOf : ParserRemaining → Event → ParserRemaining → Type 0
 EventOf old e new = GivesEvent old.events old.ending e old new
 
--- how many tokens are not asked for as the next event is given, or where none is to come, as the fault is told
+-- how many tokens are not asked for as the next event is given, or where none is to come, as the fault is reported
 abbrev pub next_unasked : List Told → ℕ → ℕ
 next_unasked [] behind = behind
 next_unasked (g ∷ gs) behind = g.1
@@ -101,7 +101,7 @@ pub record FaultOf (old : ParserRemaining) (f : Fault) (new : ParserRemaining) :
   pub finished : IsFinished new
   pub answered : new.answered ≡ f
   pub reason : IsMemoryFault parse_layers f ⊎ ((old.events ≡ []) × (old.ending ≡ Some f))
-  -- with so many tokens asked for
+  -- with that many tokens asked for
   pub unasked : IsMemoryFault parse_layers f ⊎ (new.unasked ≡ old.ending_unasked)
   -- None was asked for after the place of what was to come; where the source lacks memory, none of its tokens is left.
   pub asked : IsMemoryFault scan_layers f

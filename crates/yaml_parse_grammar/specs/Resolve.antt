@@ -154,7 +154,7 @@ unfoldable pub reading : List Given → Option Fault → Directives → Reading
 reading [] f ds = record { events = []; ending = f }
 reading (g ∷ gs) f ds = read_on (settle g.0 ds) g.0 g.1 (λ ds'. reading gs f ds')
 
--- how many tokens are not asked for at the first fault: so many where an item has it
+-- how many tokens are not asked for at the first fault: that many where an item has it
 abbrev pub unasked_on : Settled → ℕ → (Directives → ℕ) → ℕ
 unasked_on (refused f) left k = left
 unasked_on (gave body ds) left k = k ds

@@ -61,7 +61,7 @@ pub record LoadRefuses (f : Fault) (old new : ParserRemaining) : Type 0 where
   pub finished : IsFinished new
   pub answered : new.answered ≡ f
   pub reason : IsMemoryFault load_layers f ⊎ (loads_of old ≡ faulty f)
-  -- with so many tokens asked for
+  -- with that many tokens asked for
   pub unasked : IsMemoryFault load_layers f ⊎ (new.unasked ≡ unasked_of old)
 
 -- what lasts while a loader is fed

@@ -74,7 +74,7 @@ handle_here past other t u ts us e p n h =
 abbrev placed : List Token → Rank → FaultPlace
 placed past r = record { number = length past; rank = r }
 
--- the first fault of a list has so many tokens before it
+-- the first fault of a list has that many tokens before it
 abbrev pub FirstAt : List Token → ℕ → Fault → Type 0
 FirstAt ts n e = (first : IsOfLeastPlace (StandsIn ts) e) × (first.place.number ≡ n)
 

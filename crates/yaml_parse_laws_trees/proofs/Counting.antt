@@ -1,4 +1,4 @@
--- Which items come with so many tokens unasked for, and what they mean.
+-- Which items come with that many tokens unasked for, and what they mean.
 use Rattle.std.proofs.Common.{◌≡◌, ◌+◌, ◌-◌, ◌≤◌, ◌<◌, nat_le, ℕ, Bool, true, false, if◌then◌else◌, List, [], ◌∷◌, ◌++◌, length, Option, None, refl, ap, ◌∙◌, arith}
 use Rattle.std.proofs.lemmas.Bool.Decides.{nat_tests}
 use Rattle.yaml_parse_laws_trees.proofs.Words.{Token, no_token, Fault, RawEvent, State, Given, Fed, stop, go, feed, Outcome, finished, carry, run, Directives, Settled, refused, gave, noted, settle, Reading, Told, placed, read_on, reading, first_items, but_last, BeginsWith}

@@ -64,7 +64,7 @@ go_number : (is : List RawEvent) (s : List State) (ts : List Token) (f : Option 
     (λ d. unasked_of ts f s d)
 go_number is s ts f ds = front_number is (length ts) (run ts s f).items (unasked_at_stop ts s) ds
 
--- a list's ending, with so many tokens that are not asked for
+-- a list's ending, with that many tokens that are not asked for
 abbrev Told : List Token → Option Fault → Option Fault → ℕ → Type 0
 Told ts f None n = Unit {0}
 Told ts f (Some e) n = IsToldWith ts f e n

@@ -20,7 +20,7 @@ nothing_more (x ∷ xs) f p q h = cc
 
 -- ---- items
 
--- none stands with more than so many
+-- none stands with more than that many
 abbrev Within : ℕ → List Given → Type 0
 Within n [] = Unit {0}
 Within n (g ∷ gs) = (g.1 ≤ n) × Within n gs
@@ -76,7 +76,7 @@ unfolding reading unasked_at_fault
 next_read [] f m n ds h l = l
 next_read (g ∷ gs) f m n ds h l = next_on (settle g.0 ds) g.0 g.1 n (λ d. reading gs f d) (λ d. unasked_at_fault gs m d) h.0 (λ d. next_read gs f m n d h.1 l)
 
--- As it is given, or the fault is told, the token in front was asked for.
+-- As it is given, or the fault is reported, the token in front was asked for.
 pub next_behind : (t : Token) (rest : List Token) (f : Option Fault) (s : List State)
     (ds : Directives)
     → next_unasked (reading_of (run (t ∷ rest) s f) ds).events
@@ -84,7 +84,7 @@ pub next_behind : (t : Token) (rest : List Token) (f : Option Fault) (s : List S
 next_behind t rest f s ds =
     next_read (run (t ∷ rest) s f).items (run (t ∷ rest) s f).ending (unasked_at_stop (t ∷ rest) s) (length rest) ds (within (t ∷ rest) f s (length rest) (omega arith)) (stop_within (t ∷ rest) s (length rest) (omega arith))
 
--- where the source's own fault comes at once, it is told there
+-- where the source's own fault comes at once, it is reported there
 pub ended_next : (s : List State) (e : Fault) (m : ℕ) (ds : Directives)
     → next_unasked (reading_of (ending_at s e) ds).events
     (unasked_at_fault (ending_at s e).items m ds) ≡ m

@@ -102,7 +102,7 @@ abbrev pub last_in : List Token → Last
 last_in [] = nothing
 last_in (t ∷ past) = last_of t.body
 
--- what a state on top tells of the last token
+-- what a state on top says of the last token
 abbrev pub told : State → Last
 told state.stream = nothing
 told state.first = asking

@@ -191,7 +191,7 @@ top_turn Leave x t s fed h w k =
     (stops_with (told_fault (told x) (open_in s) t.start_mark) (left_at x t.start_mark) fed (passed_on (told x) (open_in s) t.start_mark fed (w refl).0 (w refl).1 k))
 top_turn _ x t s fed h w k = tt
 
--- A stack that refuses a token tells what its topmost state does.
+-- A stack that refuses a token says what its topmost state does.
 pub top_stops : (x : State) (s : List State) (t : Token) → Plain s → Nested (x ∷ s) → Stood x s
     → StopsWith (told_fault (told x) (open_in (x ∷ s)) t.start_mark) (feed (x ∷ s) t)
 unfolding feed

@@ -25,8 +25,8 @@ TurnsFitTree = (t : Stream) (rest : List Token) → TurnsFit t rest
 abbrev pub ItemsAreGiven : Type 0
 ItemsAreGiven = (t : Stream) (rest : List Token) → items t rest ≡ given_of t (length rest)
 
--- Each event stands with the number of tokens, of so many in all, that are not asked for as it is given. The events up to it are
--- at most four times the tokens asked for, where so many were given before these.
+-- Each event stands with the number of tokens, of that many in all, that are not asked for as it is given. The events up to it are
+-- at most four times the tokens asked for, where that many were given before these.
 abbrev pub AtMostFourSoFar : {A : Type 0} → ℕ → ℕ → List (A × ℕ) → Type 0
 AtMostFourSoFar given all [] = Unit {0}
 AtMostFourSoFar given all (e ∷ es) = (given + 1 + 4 * e.1 ≤ 4 * all)

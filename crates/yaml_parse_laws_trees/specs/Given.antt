@@ -29,8 +29,8 @@ pub record LongestFront (ts : List Token) : Type 0 where
 
 -- ---- what is given
 
--- The first events of a tree, up to one that is given with fewer tokens unasked for than so many. The tree has so many tokens after the
--- front, and the list so many: of those it is counted how many are unasked for.
+-- The first events of a tree, up to one that is given with fewer tokens unasked for than that many. The tree has that many tokens after the
+-- front, and the list that many: of those it is counted how many are unasked for.
 abbrev pub first_items : ℕ → ℕ → ℕ → List Given → List Given
 first_items fewest more behind [] = []
 first_items fewest more behind (g ∷ gs) =

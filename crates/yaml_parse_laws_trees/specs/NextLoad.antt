@@ -78,7 +78,7 @@ pub record NextDocument (gs : List Told) (d : DocumentContent) (left : List Told
   pub split : gs ≡ outside ++ (told ++ left)
   pub none : AreOutside outside
   pub events : told_events (told ++ left) ≡ document_events d (told_events left)
-  -- so many tokens are not asked for as its last event is given
+  -- that many tokens are not asked for as its last event is given
   pub count : unasked ≡ left_behind told 0
 
 -- Less than a document comes next: events of none, and a front of those of a content, which may be empty.
@@ -93,7 +93,7 @@ pub record NextFront (gs told left : List Told) : Type 0 where
 
 -- ---- what is loaded of it
 
--- the next document with what is left after it; a fault, with so many tokens not asked for; or no document any more
+-- the next document with what is left after it; a fault, with that many tokens not asked for; or no document any more
 pub data NextLoad : Type 0 where
   next_document : Document → List Told → ℕ → NextLoad
   next_fault : Fault → ℕ → NextLoad

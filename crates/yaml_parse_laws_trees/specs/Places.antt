@@ -90,12 +90,12 @@ FaultOfTokens ts own (Some e) = TokensAreRefused ts own e
 
 -- ---- the tokens that are asked for
 
--- The fault is told as its place is reached: the tokens after that place aren't asked for.
+-- The fault is reported as its place is reached: the tokens after that place aren't asked for.
 pub record IsToldAtPlace (ts : List Token) (own : Option Fault) (e : Fault)
     (unasked : ℕ) : Type 0 where
   pub first : IsOfLeastPlace (StandsIn (with_end own ts)) e
   pub behind : unasked ≡ length ts - suc first.place.number
 
--- How many of a list's tokens are not asked for as its fault is told; for a fault of its own all are.
+-- How many of a list's tokens are not asked for as its fault is reported; for a fault of its own all are.
 abbrev pub IsToldWith : List Token → Option Fault → Fault → ℕ → Type 0
 IsToldWith ts own e unasked = IsToldAtPlace ts own e unasked ⊎ (IsOwn ts own e × (unasked ≡ 0))

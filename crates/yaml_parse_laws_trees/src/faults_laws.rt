@@ -13,7 +13,7 @@ pub fn laws_of_faults()
     ensures the_machine_ends_in_the_fault { EndsInFault }
     // And whichever fault a list has, the machine ends in it.
     ensures the_fault_is_what_the_machine_ends_in { FaultEnds }
-    // The machine tells it at its place: it asks for no token after that.
+    // The machine says it at its place: it asks for no token after that.
     ensures the_fault_is_told_at_its_place { FaultIsToldAtPlace }
     // Lists with their faults, one for each text of the parser's.
     ensures rows_of_faults_hold { RowsHold }

@@ -304,7 +304,7 @@ pub parse_plain : (ts : List Token) (own : Option Fault)
     → seen (parse_of ts own) ≡ plain (items_of (run ts initial own).items) (run ts initial own).ending no_directives
 parse_plain ts own = reading_plain (run ts initial own).items (run ts initial own).ending no_directives
 
--- What equals the same says the same.
+-- What equals the same has the same content.
 pub inner_pair : {x y : List Event × Directives} → Some x ≡ Some y → x ≡ y
 inner_pair e = cc
 

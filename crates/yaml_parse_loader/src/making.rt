@@ -49,7 +49,7 @@ pub struct Making {
     pub anchors: AnchorTable,
 }
 
-// A value of at most so many bytes lies in its node.
+// A value of at most that many bytes lies in its node.
 const SHORT: usize = 24;
 
 // No tag and the tag `!` become the default tag.

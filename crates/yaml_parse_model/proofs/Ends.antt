@@ -3,7 +3,7 @@ use Rattle.std.proofs.Common.{◌≡◌, ℕ, ◌+◌, ◌-◌, ◌≤◌, List,
 use Rattle.std.proofs.lemmas.List.{take_at, take-take, take-append-drop, take-append-le, length-take-le, append_assoc}
 use borrow.Rule.Slice.PartMut.{put_mid, post_of}
 
--- A front and an end of so many bytes each, the end put last, are the text.
+-- A front and an end of that many bytes each, the end put last, are the text.
 pub ends_are : (text old front end : List ℕ) (size k : ℕ) → size ≤ length text
     → length text ≤ size + size → front ≡ take size text → end ≡ drop (length text - size) text
     → take (length text) (put_mid (length text - size) k (front ++ drop size old) end) ≡ text

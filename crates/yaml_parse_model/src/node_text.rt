@@ -9,7 +9,7 @@ use std::alloc::Global;
 use std::marker::Model;
 use yaml_scan_model::moved;
 
-// A text of at most so many bytes lies in its node: as many as a longer one's place takes there.
+// A text of at most that many bytes lies in its node: as many as a longer one's place takes there.
 const WITHIN: usize = 24;
 
 /// Where the bytes of a text are kept.

@@ -1,4 +1,4 @@
--- As the next event is given, or the fault is told, no fewer tokens are asked for than are to come.
+-- As the next event is given, or the fault is reported, no fewer tokens are asked for than are to come.
 use Rattle.std.proofs.Common.{◌≤◌, ◌+◌, ℕ, List, [], ◌∷◌, ◌++◌, length, map, Option, Some, None, sym, subst, arith}
 use Rattle.yaml_parse_model.specs.Tokens.{Token, no_token}
 use Rattle.yaml_parse_model.specs.Faults.{Fault}
@@ -15,7 +15,7 @@ use Rattle.yaml_parse_states.specs.Coming.{read}
 
 -- ---- items
 
--- none stands with more than so many
+-- none stands with more than that many
 abbrev Within : ℕ → List Given → Type 0
 Within n [] = Unit {0}
 Within n (g ∷ gs) = (g.1 ≤ n) × Within n gs

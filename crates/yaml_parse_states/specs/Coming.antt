@@ -22,7 +22,7 @@ coming_by r n = record { events = r.events; ending = r.ending; ending_unasked = 
 abbrev pub nothing : Coming
 nothing = record { events = []; ending = None; ending_unasked = 0 }
 
--- an event is next, as which is given so many tokens are not asked for
+-- an event is next, as which is given that many tokens are not asked for
 abbrev pub ahead : Event → ℕ → Coming → Coming
 ahead e n c = record {
   events = (e, n) ∷ c.events;

@@ -36,7 +36,7 @@ Settles g s old turn.Given new = (s ≡ noted (directives_of new.directives))
 Settles g s old turn.Refused new = IsWrong g s old new
 Settles g s old r new = ⊥
 
--- after directives, of which the first starts there, one more is noted, or the fault is told
+-- after directives, of which the first starts there, one more is noted, or the fault is reported
 abbrev pub Noted : {T P : Type 0} → Ghosts T P → Coming → yaml_mark_t → Parser T P → Turn
     → Parser T P → Type 0
 Noted g was from old turn.Given new = (was ≡ coming_with g (grammar.directives from ∷ []) new)

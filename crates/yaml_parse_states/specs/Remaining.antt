@@ -11,7 +11,7 @@ use Rattle.yaml_parse_states.specs.Turned.{Means}
 use Rattle.yaml_parse_states.specs.Standing.{Stands}
 use Rattle.yaml_parse_states.specs.Utf8.{IsUtf8Held}
 
--- with so many tokens not asked for and so many held, no document half taken or one, and that fault answered
+-- with that many tokens not asked for and that many held, no document half taken or one, and that fault answered
 abbrev pub remaining : Coming → ℕ → ℕ → Bool → Fault → ParserRemaining
 remaining c n h b a = record {
   events = c.events;
@@ -23,7 +23,7 @@ remaining c n h b a = record {
   answered = a;
 }
 
--- of a parser, of whose tokens so many are held
+-- of a parser, of whose tokens that many are held
 abbrev pub remaining_of : {T P : Type 0} → Ghosts T P → (T → ℕ) → Parser T P → ℕ → Fault
     → ParserRemaining
 remaining_of g held p n a = remaining (coming_of g p) n (held p.tokens)

@@ -1,4 +1,4 @@
--- How states stand above open collections, and what the event that was given tells of them.
+-- How states stand above open collections, and what the event that was given says of them.
 use Rattle.std.specs.Prelude.{◌≡◌, Bool, true, false, List, [], ◌∷◌, reverse, Option, Some, None}
 use Rattle.yaml_parse_model.specs.Events.{Event}
 use Rattle.yaml_parse_grammar.specs.Remaining.{is_between}
@@ -77,7 +77,7 @@ Stands p = StandsIn p.state (reverse p.levels.items)
 abbrev pub StandsBehind : {T P : Type 0} → Parser T P → Type 0
 StandsBehind p = IsBehind p.state (AreNested (reverse p.levels.items))
 
--- the state stands so, and the event tells whether a document is half taken
+-- the state stands so, and the event says whether a document is half taken
 pub record Stood {T P : Type 0} (p : Parser T P) : Type 0 where
   pub stands : Stands p
   pub between : between_in p.state ≡ between_behind p.event.kind
@@ -105,7 +105,7 @@ IsAwaiting turn.IndentlessNode = Unit {0}
 IsAwaiting turn.FlowNode = Unit {0}
 IsAwaiting r = ⊥
 
--- an event tells whether a document is half taken, in the words of the grammar's states
+-- an event says whether a document is half taken, in the words of the grammar's states
 pub record StandsTold {T P : Type 0} (g : Ghosts T P) (e : Event) (new : Parser T P) : Type 0 where
   pub stands : Stands new
   pub between : is_between (stack (g.mark_of new.tokens) new.state (reverse new.levels.items))

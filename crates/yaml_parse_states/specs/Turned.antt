@@ -87,7 +87,7 @@ pub record Keeps {T P : Type 0} (g : Ghosts T P) (f : Fault) (p : Parser T P) : 
   pub kept : p.refusal ≡ Some refusal
   pub means : Means g p.tokens refusal f
 
--- a fault is told, and nothing is left
+-- a fault is reported, and nothing is left
 pub record Refuses {T P : Type 0} (g : Ghosts T P) (f : Fault) (old new : Parser T P) : Type 0 where
   pub fault : Fault
   pub told : Keeps g fault new

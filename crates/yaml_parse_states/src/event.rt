@@ -1,4 +1,4 @@
-//! Events, lent: their texts stay up to the next one.
+//! Events, borrowed: their texts stay up to the next one.
 
 use yaml_scan_model::yaml_scalar_style_t;
 
@@ -34,7 +34,7 @@ pub(crate) struct Slot<P> {
     pub end: P,
 }
 
-/// An event, whose texts are lent. An empty anchor or tag is none: no node has such a one.
+/// An event, whose texts are passed by reference. An empty anchor or tag is none: no node has such a one.
 #[derive(Clone, Copy)]
 pub struct Event<'e> {
     pub kind: EventKind,

@@ -44,7 +44,7 @@ impl<T: Tokens> Parser<T> {
         ensures fills { IfOk result (λ b. Fills T.Tokens b (event_of event.new) self.old self.new) }
         ensures utf8 { IfOk result (λ b. IsUtf8Held T.Tokens self.old
             → IsUtf8Filled T.Tokens b (event_of event.new) self.new) }
-        // What was given tells whether a document is half taken.
+        // What was given says whether a document is half taken.
         ensures between { IfOk result (λ b. Stands self.old
             → StandsFilled T.Tokens b (event_of event.new) self.new) }
         ensures stays { IfOk result (λ b. b ≡ false → event_of event.new ≡ event_of event.old) }

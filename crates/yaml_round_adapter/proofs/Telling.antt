@@ -1,4 +1,4 @@
--- What a scanner tells of the token that is next is what is to come of its input's tokens.
+-- What a scanner says of the token that is next is what is to come of its input's tokens.
 use Rattle.std.proofs.Common.{◌≡◌, ◌≢◌, ◌∙◌, ◌⊎◌, ◌+◌, ◌-◌, ◌<◌, Bool, true, false, true≢false, List, [], ◌∷◌, length, take, ltb, Option, Some, None, refl, sym, ap, subst, inl, inr, IsUtf8, All, arith}
 use Rattle.std.specs.Str.{is_utf8}
 use Rattle.std.proofs.lemmas.Bool.{cases_Bool, cases_lt}
@@ -276,7 +276,7 @@ nothing_shown c old new (was_open e) (none, left) again =
 nothing_shown c old new (was_over e none) (now, left) again = rw e record { front = refl; same = refl; may = tt; next = record { same = refl; is = refl } }
 nothing_shown c old new (was_failed e low front) (none, left) again = absurd (let bad : kinds.Nothing ≡ kinds.Failed = not_failed kinds.Nothing old new again low front in cc)
 
--- What a scanner's kind tells is what is to come.
+-- What a scanner's kind shows is what is to come.
 pub shows_told : (k : Kind) (st : Standing) (r : Remaining) (old new : Scanner)
     → Stands None st r old → Waits new → ShowsKind k (to_come old) new → ToldAgain k old new
     → Told k (coming None st r old) (coming None (standing.Told k) r new)
@@ -286,7 +286,7 @@ shows_told kinds.BadTag st r old new h w (f, same) again = bad_shown kinds.BadTa
 shows_told kinds.BadPrefix st r old new h w (f, same) again = bad_shown kinds.BadPrefix (coming None st r old) old new (was_of st r old h) f same again (λ e. let bad : kinds.BadPrefix ≡ kinds.Failed = e in cc) (front_spells new kinds.BadPrefix w f)
 shows_told k st r old new h w (f, same) again = token_shown k (coming None st r old) old new (was_of st r old h) w f same again refl
 
--- where there is no text, the fault is told
+-- where there is no text, the fault is reported
 pub shows_refused : (f : yaml_fault_t) (st : Standing) (r : Remaining) (s : Scanner)
     → Stands (Some f) st r s → Told kinds.Failed (coming (Some f) st r s) (ended_by (fault_of f))
 shows_refused f standing.Taken r s h = absurd h

@@ -16,7 +16,7 @@ use yaml_scan_core::{Locator, Scanner, mark_in};
 use yaml_scan_decode::stream_encoding;
 use yaml_scan_tokens::{Kind, Tokens};
 
-/// So many settled lexemes are read at once.
+/// That many settled lexemes are read at once.
 const BATCH: usize = 32;
 
 /// What was asked last: nothing of the next token, its kind, or nothing, where the last one was a lexeme's own.

@@ -22,7 +22,7 @@ turns_told g out given a handed is t = inr (
   },
 )
 
--- out of memory is told in either case
+-- out of memory is reported in either case
 pub memory_told : (g : yaml_c_graph) (p : List yaml_c_turn) (f : Fault) (a : yaml_c_answer)
     → f ≡ memory_fault Emitter → Refuses f (pos 0) a → Serializes p g a
 memory_told g p f a is (inl t) = inl (subst (λ z. TellsFault z (pos 0) a) is t)

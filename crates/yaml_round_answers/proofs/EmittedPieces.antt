@@ -26,7 +26,7 @@ on_told old new None m at r a is told = tt
 on_told old new (Some bs) m None r a is told = tt
 on_told old new (Some bs) m (Some at) r a is told = record { result = Ok r; is = is; told = told }
 
--- the fault is told, or that memory for its line was refused
+-- the fault is reported, or that memory for its line was refused
 pub on_refused : (old new : yaml_c_stand) (o : Option (List EventBody)) (m : RequestedSettings × ℕ)
     (at : Option (Option At)) (f : Fault) (a : yaml_c_answer) → new ≡ old
     → OrMemory emit_layers (IsOnwardAt m.0 (most_on m.1) at (all_events o)) (Err f)

@@ -90,7 +90,7 @@ pub ended : (b : Bool) (r : Result (Unit {0}) yaml_fault_t) (text : List ℕ) (l
     → HandsOut text l p
 ended b r text l p is done h = subst (λ c. HandsOutUnless c text l p) (is ∙ ap is_starved done) h
 
--- the answer to out of memory tells that
+-- the answer to out of memory says that
 told_want : (k : yaml_error_type_t) (n : ℤ) → is_memory k ≡ true → n ≡ error_number k
     → n ≡ error_number error.YAML_MEMORY_ERROR
 told_want error.YAML_MEMORY_ERROR n is e = e

@@ -1,4 +1,4 @@
--- A fault is told, or that memory for its line was refused.
+-- A fault is reported, or that memory for its line was refused.
 use Rattle.std.proofs.Common.{◌≡◌, ◌∙◌, ◌⊎◌, inl, inr, ap, sym, subst, refl, ℕ, ℤ, pos, List, Result, Err}
 use Rattle.yaml_parse.specs.declared.yaml_origin_t.{yaml_origin_t}
 use Rattle.yaml_parse.specs.declared.yaml_origin_t.TheVariants.{Writer, Parser}
@@ -40,7 +40,7 @@ starved refusal whose a e t = record {
   told = λ layer. layered layer whose a (subst (λ (f : Fault). TellsFault f whose a) e t);
 }
 
--- what a call may answer, where its fault is told so; memory may be refused in that layer
+-- what a call may answer, where its fault is reported so; memory may be refused in that layer
 pub refused_answer : {Y : Type 0} (layers : List yaml_origin_t) (layer : yaml_origin_t)
     (Is : Result Y Fault → Type 0) (TellsIt : Result Y Fault → yaml_c_answer → Type 0)
     (f : Fault) (a : yaml_c_answer) → IsMemoryFault layers (memory_fault layer)
@@ -128,7 +128,7 @@ pub memory_refused : (text : List ℕ) (layer : yaml_origin_t) (f : Fault) (a : 
     → f ≡ memory_fault layer → RefusesIn text f a → TellsMemory a
 memory_refused text layer f a e h = memory_told text layer a (subst (λ g. RefusesIn text g a) e h)
 
--- the same of a comparison, whose fault is told with its side
+-- the same of a comparison, whose fault is reported with its side
 in_layer : (refusal : yaml_fault_t) (layer : yaml_origin_t) → fault_of refusal ≡ memory_fault Writer
     → fault_of (record refusal { origin = layer }) ≡ memory_fault layer
 in_layer refusal layer e = ap (λ (f : Fault). record f { origin = layer }) e

@@ -17,7 +17,7 @@ pub all_told : (o : Option (List EventBody)) (m : RequestedSettings × ℕ) (r :
 all_told None m r a is told = tt
 all_told (Some bs) m r a is told = record { result = r; is = is; told = told }
 
--- the fault is told, or that memory for its line was refused
+-- the fault is reported, or that memory for its line was refused
 pub all_refused : (o : Option (List EventBody)) (m : RequestedSettings × ℕ) (f : Fault)
     (a : yaml_c_answer) → OrMemory emit_layers (IsEmitted m.0 m.1 (all_events o)) (Err f)
     → Refuses f (pos 0) a → EmitsAll o m a

@@ -78,7 +78,7 @@ EndsFront from input (Ok done) l = (ending_of from input ≡ None) × IsFront fr
 EndsFront from input (Err f) l = IsMemoryFault parse_layers (fault_of f)
     ⊎ ((ending_of from input ≡ Some (fault_of f)) × IsFront from input l)
 
--- the records say the events before the fault; where out of memory is told there may be none, but no other ones
+-- the records say the events before the fault; where out of memory is reported there may be none, but no other ones
 abbrev pub SayFront : yaml_encoding_t → List ℕ → yaml_c_parsed → yaml_c_answer → Type 0
 SayFront from input p a = (TellsWant a × HasNothing p)
     ⊎ SayEvents (spelled_text from input) p (events_of from input)

@@ -47,7 +47,7 @@ pub record TellsPartingPlace (path : List ℕ) (d : yaml_difference_t) (p : yaml
     pub first_mark : p.first_mark ≡ mark_told d.first_mark
     pub second_mark : p.second_mark ≡ mark_told d.second_mark
 
--- the answer tells that, and no place is told beside it
+-- the answer says that, and no place is told beside it
 abbrev pub NoPlaceBeside : (yaml_c_answer → Type 0) → yaml_c_parting → Type 0
 NoPlaceBeside Tells p = Tells p.answer × TellsNoPlace p
 

@@ -39,7 +39,7 @@ abbrev pub TellsScan : yaml_encoding_t → List ℕ → yaml_c_answer → Type 0
 TellsScan from input a = TellsRefusal (spelled_text from input) a
     ⊎ TellsEnd (spelled_text from input) (scanned from input).fault a
 
--- The records are those of the input's tokens, before its end or of the fault that ends them; where out of memory is told
+-- The records are those of the input's tokens, before its end or of the fault that ends them; where out of memory is reported
 -- there may be none, but no other ones.
 abbrev pub Scans : List ℕ → yaml_c_scanned → yaml_encoding_t → yaml_c_answer → Type 0
 Scans input p from a = TellsScan from input a × ((TellsWant a × HasNoToken p)

@@ -87,7 +87,7 @@ Refuses fault whose a = TellsFault fault whose a ⊎ TellsStarved whose a
 abbrev pub TellsWant : yaml_c_answer → Type 0
 TellsWant a = a.kind ≡ error_number YAML_MEMORY_ERROR
 
--- out of memory is told; C isn't told of the layer
+-- out of memory is reported; C isn't told of the layer
 abbrev pub TellsMemory : yaml_c_answer → Type 0
 TellsMemory a = (layer : yaml_origin_t) (text : List ℕ) → TellsFaultIn text (memory_fault layer) a
 

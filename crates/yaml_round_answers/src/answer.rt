@@ -111,7 +111,7 @@ fn fault_told(fault: &yaml_fault_t, second: i32, line: &'static [u8]) -> yaml_c_
     }
 }
 
-/// An answer that is a fault; `second` tells whose. Where memory for its line is refused, that is told in its place.
+/// An answer that is a fault; `second` says whose. Where memory for its line is refused, that is told in its place.
 pub(crate) fn refused(alloc: Global, fault: &yaml_fault_t, second: i32) -> yaml_c_answer
     ensures { Refuses (fault_of fault.now) second result }
 {

@@ -21,7 +21,7 @@ use yaml_round_records::{encoding_of, mark_told, yaml_c_mark};
 #[derive(Drop)]
 pub struct yaml_c_parting {
     pub answer: yaml_c_answer,
-    /// So many documents end before it.
+    /// That many documents end before it.
     pub document: u64,
     pub first_kind: i32,
     pub second_kind: i32,

@@ -114,7 +114,7 @@ in_front c d before (x ∷ xs) other_left p q differ =
 in_front c d before [] (y ∷ ys) p q differ =
     placed d (event.stream_start YAML_ANY_ENCODING) before y ys (ap (λ (es : List EventBody). event.stream_start YAML_ANY_ENCODING ∷ es) q)
 
--- so many are in front
+-- that many are in front
 counted : (m n : ℕ) (before : List EventBody) → n ≡ 1 → m ≡ n + length before
     → m ≡ length (event.stream_start YAML_ANY_ENCODING ∷ before)
 counted m n before p q = omega (arith, p, q)

@@ -44,7 +44,7 @@ same_type event.sequence_end = refl
 same_type (event.mapping_start anchor tag implicit style) = refl
 same_type event.mapping_end = refl
 
--- what tells of normalized events tells of the events
+-- what says of normalized events says of the events
 pub tells_of : (e f shown other : Event) (d : yaml_difference_t) → shown ≡ normalized e
     → other ≡ normalized f → TellsOf shown other d → TellsOf e f d
 tells_of e f shown other d p q t = record {

@@ -1,4 +1,4 @@
--- A place tells of the events that it was given.
+-- A place says of the events that it was given.
 use Rattle.std.proofs.Common.{◌≡◌, ◌∙◌, ap}
 use Rattle.yaml_parse.specs.declared.yaml_mark_t.{yaml_mark_t}
 use Rattle.yaml_parse.specs.declared.yaml_event_type_t.{yaml_event_type_t}

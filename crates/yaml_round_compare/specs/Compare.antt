@@ -34,7 +34,7 @@ BothReal first second = AreReal first.events × AreReal second.events
 
 -- ---- where events part
 
--- The first of these events differ, and it tells of them; or there are events on one side alone.
+-- The first of these events differ, and it says of them; or there are events on one side alone.
 abbrev pub AreApart : List Told → List Told → yaml_difference_t → Type 0
 AreApart [] [] d = ⊥
 AreApart [] (f ∷ fs) d = Unit {0}
@@ -55,7 +55,7 @@ pub record Parted (kept : Bool) (first second : List Told) (old new : Trail) : T
 
 -- ---- the steps
 
--- each gives an event that says the same, and what is left compares as before
+-- each gives an event that has the same content, and what is left compares as before
 pub record BothGoOn (first second : ParserRemaining) (first_new second_new : ParserRemaining)
     (shown : Event) : Type 0 where
   pub front : Told

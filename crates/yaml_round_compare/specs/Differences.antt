@@ -18,7 +18,7 @@ use Rattle.yaml_round_compare.specs.Places.{StreamPosition, position_says, path_
 abbrev pub saying : EventBody → EventBody
 saying e = content_of (normalize_body true e)
 
--- it tells where the events begin and what they are
+-- it says where the events begin and what they are
 pub record TellsOf (first second : Event) (d : yaml_difference_t) : Type 0 where
   pub first_mark : d.first_mark ≡ first.start_mark
   pub first_type : d.first_type ≡ type_of first.body
@@ -26,7 +26,7 @@ pub record TellsOf (first second : Event) (d : yaml_difference_t) : Type 0 where
   pub second_type : d.second_type ≡ type_of second.body
 
 -- Both inputs are accepted. The events in front say the same, and are what stands before a place; the next ones
--- don't. It tells where these begin, what they are, and the path to that place.
+-- don't. It says where these begin, what they are, and the path to that place.
 pub record IsParting (a_from : yaml_encoding_t) (a : List ℕ) (b_from : yaml_encoding_t)
     (b : List ℕ) (d : yaml_difference_t) : Type 0 where
   pub before : List Told

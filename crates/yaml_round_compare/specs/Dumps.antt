@@ -89,7 +89,7 @@ GivesDumped old (Err e) new = Unit {0}
 
 -- ---- two dumps
 
--- both give an event that says the same
+-- both give an event that has the same content
 pub record BothGive (first second first_new second_new : Dump) : Type 0 where
   pub first_events : dump_left first ≡ in_slot first_new ∷ dump_left first_new
   pub second_events : dump_left second ≡ in_slot first_new ∷ dump_left second_new
@@ -171,7 +171,7 @@ FindsEvent n events ending (Ok found) = (found.0 ≡ (event_at events n).start_m
     × (found.1 ≡ type_of (event_at events n).body)
 FindsEvent n events ending (Err f) = IsFaultOf ending f
 
--- it tells of both inputs' events after the front, and the path after it; or the fault of a reading
+-- it says of both inputs' events after the front, and the path after it; or the fault of a reading
 abbrev pub TellsOfInputs : yaml_encoding_t → List ℕ → yaml_encoding_t → List ℕ → Front
     → Result yaml_difference_t (yaml_side_t × yaml_fault_t) → Type 0
 TellsOfInputs a_from a b_from b front (Ok d) = TellsOf (event_at (events_of a_from a) front.events)

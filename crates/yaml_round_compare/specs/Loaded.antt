@@ -48,7 +48,7 @@ pub record SameDocuments (a_from : yaml_encoding_t) (a : List ℕ) (b_from : yam
   pub agree : AreAgreeing first second
 
 -- Both inputs load, and their documents don't agree. What stands before a place is the same in their dumps, and what is
--- next isn't. It tells of the inputs' events after as many, where these begin and what they are, and the path to that place.
+-- next isn't. It says of the inputs' events after as many, where these begin and what they are, and the path to that place.
 pub record IsDocumentsParting (a_from : yaml_encoding_t) (a : List ℕ) (b_from : yaml_encoding_t)
     (b : List ℕ) (d : yaml_difference_t) : Type 0 where
   pub first : List Document

@@ -61,7 +61,7 @@ pub data PathStep : Type 0 where
   key : ℕ → PathStep
   value : ℕ → Option (List ℕ) → PathStep
 
--- so many documents have ended, and steps in the one that is open, the innermost first
+-- that many documents have ended, and steps in the one that is open, the innermost first
 pub record Path : Type 0 where
   pub document : ℕ
   pub steps : List PathStep

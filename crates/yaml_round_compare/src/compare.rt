@@ -206,7 +206,7 @@ fn compared_with(
     }
 }
 
-/// Whether the second input has the content of the first one's reading. Where it hasn't, the trail tells where they part, with
+/// Whether the second input has the content of the first one's reading. Where it hasn't, the trail says where they part, with
 /// the path where that is `kept`.
 // In line, as the loop.
 #[inline(always)]

@@ -16,7 +16,7 @@ pub enum yaml_step_t {
 /// The first place at which the contents of two inputs part: the events in front say the same, the next ones don't.
 #[derive(Drop)]
 pub struct yaml_difference_t {
-    /// So many documents end before it.
+    /// That many documents end before it.
     pub document: u64,
     /// From the document's root inwards. It is empty at the root, and where a document or its directives differ.
     pub path: Vec<yaml_step_t>,

@@ -110,7 +110,7 @@ fn same_document(
     }
 }
 
-/// Whether documents have the same dumps, one after another. Where they haven't, the front tells what stands before the first
+/// Whether documents have the same dumps, one after another. Where they haven't, the front says what stands before the first
 /// events that differ. Documents are let go as they are passed.
 pub fn same_documents(
     alloc: Global,

@@ -1,4 +1,4 @@
-//! What stands in two inputs after so many events.
+//! What stands in two inputs after that many events.
 
 ghost use Rattle.std.specs.Prelude.{◌≡◌};
 ghost use Rattle.yaml_round_content.specs.Input.{events_of, ending_of};

@@ -84,7 +84,7 @@ numbers_same ns =
     ap (λ (k : ℕ). (numbered (none_numbered k) (turns ns)).table) (length_bare ns)
     ∙ ap (λ (ts : List Turn). (numbered (none_numbered (length (bare ns))) ts).table) (sym (turns_joined ns) ∙ onward_same ns ∙ turns_joined (bare ns))
 
--- ---- what is made of a walk: rests that say the same of what says the same
+-- ---- what is made of a walk: rests that say the same of what has the same content
 
 record SameNode (r s : emit.Node → Met → emit.Node) : Type 0 where
   goes : (v w : emit.Node) (m : Met) → tree_of v ≡ tree_of w → tree_of (r v m) ≡ tree_of (s w m)

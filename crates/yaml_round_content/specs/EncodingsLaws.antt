@@ -35,7 +35,7 @@ mark_of YAML_UTF8_ENCODING = points.byte_order_mark_utf8
 mark_of YAML_UTF16LE_ENCODING = points.byte_order_mark_low_first
 mark_of YAML_UTF16BE_ENCODING = points.byte_order_mark_high_first
 
--- Characters that a stream may hold, spelled in two encodings. Where none is named, a mark tells it,
+-- Characters that a stream may hold, spelled in two encodings. Where none is named, a mark says it,
 -- and without a mark it is UTF-8.
 pub record CharactersAreEnough : Type 0 where
   pub named : (cs : List ℕ) → AllPass is_allowed cs → (x y : yaml_encoding_t) → IsNamed x

@@ -1,4 +1,4 @@
-//! The line that tells a fault.
+//! The line that reports a fault.
 
 ghost use Rattle.std.specs.Prelude.{◌≡◌, IfOk, IfErr};
 ghost use Rattle.yaml_types.specs.Faults.{fault_of, memory_fault};
@@ -8,7 +8,7 @@ use std::alloc::Global;
 use yaml_round_device_plain::line_of;
 use yaml_types::{yaml_fault_t, yaml_memory_fault, yaml_origin_t};
 
-/// The line that tells a fault, without its end: `K error`, K the kind's word; for all kinds but out of memory then the
+/// The line that reports a fault, without its end: `K error`, K the kind's word; for all kinds but out of memory then the
 /// context and its place, where there is one, the problem, and for kinds 3 to 5 the problem's place, for kind 2 the
 /// byte's. Lines and columns count from 1, bytes from 0. A refused growth is a fault of memory, origin `Writer`.
 pub fn yaml_fault_line(alloc: Global, fault: &yaml_fault_t) -> Result<Vec<u8>, yaml_fault_t>

@@ -1,5 +1,5 @@
 //! What stands round the engine: its settings, the devices of a run, the reading of an input to its end, the writing of
-//! a text, and the line that tells a fault.
+//! a text, and the line that reports a fault.
 #![tactic(auto)]
 
 mod fault_line;

@@ -1,4 +1,4 @@
--- The line that tells a fault.
+-- The line that reports a fault.
 use Rattle.std.specs.Prelude.{ℕ, zero, ◌+◌, List, [], ◌++◌, Option, Some, None, codes, decimal, ℤ, negsuc}
 use Rattle.std.specs.Fmt.{signed_decimal}
 use Rattle.yaml_types.specs.declared.yaml_error_type_t.{yaml_error_type_t}
@@ -36,7 +36,7 @@ problem_place_of YAML_PARSER_ERROR offset number mark = place mark
 problem_place_of YAML_COMPOSER_ERROR offset number mark = place mark
 problem_place_of other offset number mark = []
 
--- where the problem is, as the kind tells it
+-- where the problem is, as the kind says it
 abbrev pub problem_place : Fault → List ℕ
 problem_place fault = problem_place_of fault.kind fault.offset fault.number fault.problem_mark
 

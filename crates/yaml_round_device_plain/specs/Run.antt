@@ -34,14 +34,14 @@ IsReadFault to_come before after limit (Yaml fault) = (after ≡ before)
     × (fault_of fault ≡ memory_fault Reader)
 IsReadFault to_come before after limit (Write written) = ⊥
 
--- this fault tells that cause
+-- this fault says that cause
 abbrev pub Tells : Cause → yaml_run_fault_t → Type 0
 Tells cause.Failed Read = Unit {0}
 Tells cause.TooLong TooLong = Unit {0}
 Tells cause.NoMemory (Yaml fault) = fault_of fault ≡ memory_fault Reader
 Tells why fault = ⊥
 
--- at most so many bytes were taken
+-- at most that many bytes were taken
 abbrev pub TakesAtMost : (before after : ℕ) → ℕ → Type 0
 TakesAtMost before after limit = (n : ℕ) × (n ≤ limit) × (after ≡ counted before n)
 

@@ -1,4 +1,4 @@
-//! The line that tells a fault.
+//! The line that reports a fault.
 
 ghost use Rattle.std.specs.Prelude.{◌≡◌, ◌++◌, IfOk, OnOk, string_bytes};
 ghost use Rattle.yaml_types.specs.Faults.{fault_of};
@@ -56,7 +56,7 @@ fn push_context(line: &mut String, fault: &yaml_fault_t) -> Result<(), AllocErro
     Ok(())
 }
 
-// Adds where the problem is, as the kind tells it.
+// Adds where the problem is, as the kind says it.
 fn push_problem_place(line: &mut String, fault: &yaml_fault_t) -> Result<(), AllocError>
     ensures { OnOk result (string_bytes line.new ≡ string_bytes line.old ++ problem_place_of
         fault.now.kind fault.now.offset fault.now.value fault.now.problem_mark) }
@@ -70,7 +70,7 @@ fn push_problem_place(line: &mut String, fault: &yaml_fault_t) -> Result<(), All
     }
 }
 
-/// The line that tells a fault, without its end.
+/// The line that reports a fault, without its end.
 pub fn line_of(alloc: Global, fault: &yaml_fault_t) -> Result<String, AllocError>
     ensures { IfOk result (λ line. string_bytes line ≡ fault_line (fault_of fault.now)) }
 {

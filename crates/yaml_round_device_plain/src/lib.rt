@@ -1,5 +1,5 @@
 //! What the calls round the engine stand on: what runs and answers are called, device traits, the loops over devices and std's
-//! streams, and the line that tells a fault. No must-fail edit stands here, so that all of this is proved once.
+//! streams, and the line that reports a fault. No must-fail edit stands here, so that all of this is proved once.
 #![tactic(auto)]
 
 mod device;

@@ -9,7 +9,7 @@ use crate::run_fault::yaml_run_fault_t;
 use std::alloc::Global;
 use yaml_types::{yaml_memory_fault, yaml_origin_t};
 
-// How many bytes are asked for at most, except for the one that tells whether there are more.
+// How many bytes are asked for at most, except for the one that says whether there are more.
 const PIECE: u64 = 4095;
 
 /// Why an input wasn't read to its end.

@@ -26,7 +26,7 @@ OneByOne P (a ∷ xs) [] = ⊥
 OneByOne P (a ∷ xs) (b ∷ bs) = P a b × OneByOne P xs bs
 
 -- They look alike, and so do one by one the nodes that they hold, and those that these hold, to the
--- ground, which lies at most so many levels deep. (A node that holds itself has no ground.)
+-- ground, which lies at most that many levels deep. (A node that holds itself has no ground.)
 unfoldable pub AgreeWithin : ℕ → List Node → ℤ → ℤ → Type 0
 AgreeWithin zero nodes a b = ⊥
 AgreeWithin (suc n) nodes a b = LookAlike nodes a b

@@ -42,7 +42,7 @@ DumpsAreLaidOut = (w : RequestedSettings) → AreCanonical w
     → IsStream w (canon_encoding w) (dump_events (loads_of from input).documents)
     (canon_items w (trees_of_dumps (loads_of from input).documents))
 
--- The text, read as its byte order mark tells, loads documents that agree with these, without a fault; those say the same, and
+-- The text, read as its byte order mark shows, loads documents that agree with these, without a fault; those say the same, and
 -- it is their text.
 pub record LoadsAgain (w : RequestedSettings) (ds : List Document) (text : List ℕ) : Type 0 where
   pub right : (loads_of YAML_ANY_ENCODING text).fault ≡ None

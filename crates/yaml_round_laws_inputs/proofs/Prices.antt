@@ -257,7 +257,7 @@ dashes_pay u b k wide some =
     let a : (b + b) * 3 ≤ (b + b) * k = mul-le-mul_left (b + b) some in
     omega (arith, wide, a)
 
--- so many lines
+-- that many lines
 one_pays : (b k : ℕ) → 1 ≤ k → b + b ≤ (b + b) * k
 one_pays b k some = let a : (b + b) * 1 ≤ (b + b) * k = mul-le-mul_left (b + b) some in omega (arith, a)
 

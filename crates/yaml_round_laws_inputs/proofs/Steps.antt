@@ -130,7 +130,7 @@ behind_starts d (b ∷ bs) text p (deep, which) l = solid_starts text p b (left_
 
 -- ---- places
 
--- At a word, or at the end: so many brackets are open, and these bytes are left.
+-- At a word, or at the end: that many brackets are open, and these bytes are left.
 pub record At (x : yaml_encoding_t) (text bs : List ℕ) (d : ℕ) (T : Tell) : Type 0 where
   pub place : WalkState
   pub reads : WalkReads x text place [] [] [] T

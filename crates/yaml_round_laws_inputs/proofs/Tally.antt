@@ -184,7 +184,7 @@ more_lines : (s : Settings) (k : ℕ) → lines_of s 1 k ≡ lines_of s 0 k + k
 more_lines s zero = refl
 more_lines s (suc k) = omega (arith, more_lines s k)
 
--- so many lines and documents on either side
+-- that many lines and documents on either side
 without_lines : (s : Settings) (a b k l : ℕ) → ((w : ℕ) → a + lines_of s w k ≡ b + lines_of s w l)
     → a ≡ b
 without_lines s a b k l same =

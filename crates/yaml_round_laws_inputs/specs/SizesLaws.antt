@@ -44,7 +44,7 @@ CanonicalTextsAreBounded = (w : RequestedSettings) → w.canonical ≡ true → 
 
 -- ---- by the input's length
 
--- An input is read as a text in UTF-8, of at most so many bytes for each of its own: one, or two where it is UTF-16.
+-- An input is read as a text in UTF-8, of at most that many bytes for each of its own: one, or two where it is UTF-16.
 abbrev pub text_times : yaml_encoding_t → ℕ
 text_times YAML_ANY_ENCODING = 1
 text_times YAML_UTF8_ENCODING = 1
@@ -68,7 +68,7 @@ ContentsAreBounded = (from : yaml_encoding_t) (input : List ℕ) (c : List Docum
     → most_bytes (settled w YAML_ANY_ENCODING) (written_documents c)
     ≤ most_of_input w (canon_encoding w) from input
 
--- So its canonical text has at most so many bytes.
+-- So its canonical text has at most that many bytes.
 abbrev pub CanonicalTextsAreShort : Type 0
 CanonicalTextsAreShort = (from : yaml_encoding_t) (input : List ℕ) (c : List Document)
     → PlainReading from input (Ok c) → (w : RequestedSettings) → w.canonical ≡ true

@@ -30,7 +30,7 @@ pub fn canonical_texts_are_bounded()
     ensures { CanonicalTextsAreBounded }
 {}
 
-/// What an input says tells at most so many bytes by its length alone: twice the indent times its square, eight bytes more.
+/// What an input says tells at most that many bytes by its length alone: twice the indent times its square, eight bytes more.
 pub fn contents_are_bounded()
     ensures { ContentsAreBounded }
 {}

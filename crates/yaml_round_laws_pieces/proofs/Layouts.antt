@@ -63,7 +63,7 @@ fronts_are_of_layouts s es more ds b =
     let (rest, is) = shown s es more in
     (rest, sym (streams_are_layouts s (es ++ more) ds (all_of s es more ds b)).0 ∙ is)
 
--- the first of two parts tells whether a collection is empty, where it isn't the last event that opens it
+-- the first of two parts says whether a collection is empty, where it isn't the last event that opens it
 opens_by_first : (e f : Event) (es more : List Event)
     → opens_empty e (f ∷ es ++ more) ≡ opens_empty e (f ∷ es)
 unfolding opens_empty

@@ -1,4 +1,4 @@
--- Where canonical form isn't asked for, the form tells whether the input begins with nothing.
+-- Where canonical form isn't asked for, the form says whether the input begins with nothing.
 use Rattle.std.proofs.Common.{◌≡◌, sym, ap, subst, refl, ℕ, Bool, true, false, true≢false, List}
 use Rattle.yaml_round.specs.declared.yaml_encoding_t.{yaml_encoding_t}
 use Rattle.yaml_round.specs.declared.yaml_encoding_t.TheVariants.{YAML_ANY_ENCODING}

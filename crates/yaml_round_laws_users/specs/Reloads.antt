@@ -20,7 +20,7 @@ ReloadsTellDocuments = (s : yaml_settings_t) (a_from b_from : yaml_encoding_t) (
     → (ds es : List Document) → PlainLoading a_from a (Ok ds) → PlainLoading b_from b (Ok es)
     → (t ≡ u) ↔ AreAgreeing ds es
 
--- Both texts, each read as its byte order mark tells, load without a fault, and documents that agree.
+-- Both texts, each read as its byte order mark shows, load without a fault, and documents that agree.
 pub record LoadAgreeing (t u : List ℕ) : Type 0 where
   pub documents : List Document
   pub others : List Document

@@ -68,7 +68,7 @@ fn length_of(text: &Option<Vec<u8>>) -> usize
     }
 }
 
-// Makes room for so many bytes, and for a text of so many that may all be escaped.
+// Makes room for that many bytes, and for a text of that many that may all be escaped.
 fn reserve_twice(line: &mut Vec<u8>, beside: usize, escaped: usize) -> Result<(), AllocError>
     ensures items { line.new.items ≡ line.old.items }
     ensures room { OnOk result (vec_len line.new + (beside + 2 * escaped) ≤ vec_capacity line.new) }
@@ -77,7 +77,7 @@ fn reserve_twice(line: &mut Vec<u8>, beside: usize, escaped: usize) -> Result<()
     Ok(())
 }
 
-// Whether there is room for so many bytes: what is put then calls nothing, so that no register is put aside.
+// Whether there is room for that many bytes: what is put then calls nothing, so that no register is put aside.
 // Inlined: a comparison.
 #[inline(always)]
 fn has_room(line: &Vec<u8>, count: usize) -> bool
@@ -316,7 +316,7 @@ fn put_plain_bare(line: &mut Vec<u8>, value: &[u8], style: yaml_scalar_style_t)
     put_back(line, own);
 }
 
-// The same, where the value's front and end, of so many bytes each, are all of it, and none of them is escaped; else nothing.
+// The same, where the value's front and end, of that many bytes each, are all of it, and none of them is escaped; else nothing.
 // Inlined: see `are_kept_ends`.
 #[inline(always)]
 fn put_kept(line: &mut Vec<u8>, value: &[u8], style: yaml_scalar_style_t, size: usize) -> bool
@@ -378,7 +378,7 @@ fn push_rare(line: &mut Vec<u8>, word: &[u8]) -> Result<(), AllocError>
     Ok(())
 }
 
-// Puts the line of an event that its word alone tells after so many bytes, where there is room; else nothing.
+// Puts the line of an event that its word alone tells after that many bytes, where there is room; else nothing.
 // Inlined: some stores, for words of a fixed length.
 #[inline(always)]
 fn put_word(line: &mut Vec<u8>, from: usize, word: &[u8]) -> bool
@@ -430,7 +430,7 @@ fn push_any(line: &mut Vec<u8>, event: &yaml_event_t) -> Result<(), AllocError>
     }
 }
 
-// Puts the line of an event that is no scalar after so many bytes, where there is room, and its texts are short and plain; else
+// Puts the line of an event that is no scalar after that many bytes, where there is room, and its texts are short and plain; else
 // nothing.
 // Inlined into its one caller.
 #[inline(always)]

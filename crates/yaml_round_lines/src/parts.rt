@@ -26,7 +26,7 @@ pub(crate) fn put_part(line: &mut Vec<u8>, indicator: u8, text: &[u8], end: u8)
     line.push_reserved(end);
 }
 
-// The same of a text whose front and end, of so many bytes each, are all of it, if none of its bytes is escaped; else nothing.
+// The same of a text whose front and end, of that many bytes each, are all of it, if none of its bytes is escaped; else nothing.
 // Inlined: see `are_kept_ends`. The line is lifted for each length: so LLVM sees that no byte that is put is one of those read.
 #[inline(always)]
 fn put_kept_part(line: &mut Vec<u8>, indicator: u8, text: &[u8], end: u8, size: usize) -> bool

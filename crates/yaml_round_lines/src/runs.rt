@@ -7,7 +7,7 @@ ghost use Rattle.yaml_round_lines.specs.EventLine.{escaped_byte, escaped};
 
 use yaml_scan_model::{ByteTest, SHORT, are_ends, is_run, moved, put_back, put_short};
 
-// So many bytes are looked at together, and then half as many; the kept bytes of a shorter text are counted byte by byte.
+// That many bytes are looked at together, and then half as many; the kept bytes of a shorter text are counted byte by byte.
 const CHUNK: usize = 16;
 
 const HALF: usize = 8;
@@ -65,7 +65,7 @@ impl ByteTest for Kept {
     }
 }
 
-/// Whether all bytes of a text are kept whose front and end, of so many bytes each, are all of it.
+/// Whether all bytes of a text are kept whose front and end, of that many bytes each, are all of it.
 // Inlined: some vector instructions, where their number is known.
 #[inline(always)]
 pub(crate) fn are_kept_ends(text: &[u8], size: usize) -> bool

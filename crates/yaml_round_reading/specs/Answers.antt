@@ -28,7 +28,7 @@ pub record SameContent (a_from : yaml_encoding_t) (a : List ℕ) (b_from : yaml_
   pub first : PlainReading a_from a (Ok content)
   pub second : PlainReading b_from b (Ok content)
 
--- both are accepted, and `same` tells whether their contents are equal
+-- both are accepted, and `same` says whether their contents are equal
 pub record IsCompared (a_from : yaml_encoding_t) (a : List ℕ) (b_from : yaml_encoding_t)
     (b : List ℕ) (same : Bool) : Type 0 where
   pub first : IsRight a_from a
@@ -55,6 +55,6 @@ IsSame a_from a b_from b (Err f) = IsSideStarved a_from a f.0 (fault_of f.1)
 
 -- ---- a text that is read back
 
--- The text, read as its byte order mark tells, is accepted and has the input's content.
+-- The text, read as its byte order mark shows, is accepted and has the input's content.
 abbrev pub ReadsBack : yaml_encoding_t → List ℕ → List ℕ → Type 0
 ReadsBack from input text = SameContent from input YAML_ANY_ENCODING text

@@ -221,7 +221,7 @@ some_problem limit x whole output (Some q) f h k =
     let is : problem_fault q ≡ f = cc in
     (q, (refl, (sym is, fits limit x whole output k)))
 
--- what a fault tells, by what has become of the output
+-- what a fault says, by what has become of the output
 abbrev pub FaultBy : ℕ → Encoding → List Item → Option Problem → Status → Fault → Type 0
 FaultBy limit x whole p s f = ((s ≡ Going) × ((q : Problem) × ((p ≡ Some q) × ((f ≡ problem_fault q) × Fits limit x whole))))
     ⊎ (Passes limit (encode x whole) (is_deep whole) f ⊎ IsMemoryFault emit_layers f)
@@ -249,7 +249,7 @@ some_fault Starved b p limit x whole output f h k = inr (inr (memory_told b f h)
 
 -- ---- the answer
 
--- what the emitter tells of the text of the events that it was given
+-- what the emitter says of the text of the events that it was given
 told_text : (e : Emitter) (first : Emitter) (w : RequestedSettings) (limit : ℕ) (es : List Event)
     → StartsUnder first w limit → LeadsEmitter first es e [] → TellsOutcome e
     → HasLetOut e.status limit e.output (text_bytes w es) (is_deep (whole_text w es))

@@ -12,7 +12,7 @@ use Rattle.yaml_round_records.specs.declared.counting.Count.{Count}
 abbrev pub characters_before : List ℕ → ℕ → ℕ
 characters_before text place = count_by starts (take place text)
 
--- so many stand before that place; where each byte begins one, that is known alone
+-- that many stand before that place; where each byte begins one, that is known alone
 pub record Counts (text : List ℕ) (c : Count) : Type 0 where
   pub single : c.is_single ≡ true → count_by starts text ≡ length text
   pub within : c.place ≤ length text
@@ -24,7 +24,7 @@ pub record Counts (text : List ℕ) (c : Count) : Type 0 where
 abbrev pub behind_gap : List ℕ → ℕ
 behind_gap text = byte text (gap_at true false text 0).place
 
--- the tag of a node stands after an anchor, whose name has so many bytes
+-- the tag of a node stands after an anchor, whose name has that many bytes
 abbrev pub stands_behind : List ℕ → ℕ → Bool
 stands_behind node name = behind_gap (drop name (drop 1 node)) == ascii.exclamation
 

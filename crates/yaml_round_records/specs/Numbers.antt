@@ -20,7 +20,7 @@ use Rattle.yaml_parse.specs.declared.yaml_mapping_style_t.TheVariants as mapping
 unfoldable pub is_set : ℤ → Bool
 is_set n = not (int_eq n (pos 0))
 
--- an anchor or a tag is there: its flag is on, and isn't 2, which tells of a tag that was left out
+-- an anchor or a tag is there: its flag is on, and isn't 2, which says of a tag that was left out
 unfoldable pub is_there : ℤ → Bool
 is_there n = is_set n && not (int_eq n (pos 2))
 

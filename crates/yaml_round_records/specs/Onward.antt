@@ -53,7 +53,7 @@ abbrev pub Means : StandRecords → Option At → Type 0
 Means s next = IsFew s.place.column
     → stand_meant s.place s.levels.items s.directives.items s.bytes.items ≡ Some next
 
--- The records tell a stand where so many events wait, and nothing beside: every number of its place, the collections round the
+-- The records tell a stand where that many events wait, and nothing beside: every number of its place, the collections round the
 -- innermost one, and the document's directives, with the bytes of their texts, one after another.
 pub record TellsAt (s : StandRecords) (next : Option At) (waiting : ℕ) : Type 0 where
   pub place : s.place ≡ place_told next waiting
@@ -137,7 +137,7 @@ at_of e = record {
   cursor = e.course.cursor;
 }
 
--- the records tell where an emitter without a fault stands
+-- the records say where an emitter without a fault stands
 pub record TellsStand (e : Emitter) (s : StandRecords) : Type 0 where
   pub nowhere : e.fresh ≡ true → Means s None × TellsAt s None 0
   pub somewhere : e.fresh ≡ false → refused_at e.course.state.place ≡ None

@@ -195,7 +195,7 @@ place_record x p i c n = record {
   innermost = innermost_told i;
 }
 
--- the record of a place where so many events wait; before any event all of it is 0
+-- the record of a place where that many events wait; before any event all of it is 0
 abbrev pub place_told : Option At → ℕ → yaml_c_place
 place_told None n = record {
   state = pos 0;

@@ -138,7 +138,7 @@ pub record Adds (old : TokenListing) (t : Token) (new : TokenListing) : Type 0 w
   pub bytes : new.bytes.items ≡ old.bytes.items ++ body_texts t.body
   pub tokens : new.tokens.items ≡ old.tokens.items ++ record_at (length old.bytes.items) t ∷ []
 
--- the next token is listed, or the refusal is told
+-- the next token is listed, or the refusal is reported
 abbrev pub ListsNext : Remaining → TokenListing → Result (Unit {0}) yaml_fault_t → Remaining
     → TokenListing → Type 0
 ListsNext c l (Ok done) c' l' = Adds l (first_of c.tokens) l' × (c' ≡ behind_first c)

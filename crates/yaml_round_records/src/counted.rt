@@ -41,7 +41,7 @@ fn count_event(text: &[u8], count: &mut Count, event: &mut yaml_c_event)
     }
 }
 
-/// Counts the characters before the marks of all events of a text, and tells of each scalar whether its tag was left out.
+/// Counts the characters before the marks of all events of a text, and says of each scalar whether its tag was left out.
 pub fn count_events(text: &[u8], events: &mut Vec<yaml_c_event>)
     ensures { events.new.items ≡ map (event_counted text.now) events.old.items }
 {

@@ -64,7 +64,7 @@ pub(crate) fn push_text(bytes: &mut Vec<u8>, text: &[u8]) -> Result<yaml_c_span,
     })
 }
 
-// Pushes a text that may be left out, and tells by a flag whether it is there.
+// Pushes a text that may be left out, and says by a flag whether it is there.
 #[tactic(auto, using(crate::proofs::Placing::put_some, crate::proofs::Placing::put_none))]
 fn push_optional(
     bytes: &mut Vec<u8>,

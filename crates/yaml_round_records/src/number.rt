@@ -16,7 +16,7 @@ pub fn is_set(number: i32) -> bool
     number != 0
 }
 
-/// Whether an anchor or a tag is there, by its flag: 2 tells of a tag that was left out.
+/// Whether an anchor or a tag is there, by its flag: 2 says of a tag that was left out.
 #[tactic(auto, unfolding(crate::specs::Numbers::is_there))]
 pub(crate) fn is_there(number: i32) -> bool
     ensures { result ≡ is_there number }

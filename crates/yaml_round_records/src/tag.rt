@@ -6,14 +6,14 @@ ghost use Rattle.yaml_round_records.specs.Characters.{behind_gap, stands_behind,
 
 use yaml_scan_text::{break_width, byte, line_end};
 
-// What stands after so many bytes of a text.
+// What stands after that many bytes of a text.
 fn past(text: &[u8], count: u64) -> &[u8]
     ensures { result.now ≡ drop count text.now }
 {
     &text[text.len().min(count as usize)..]
 }
 
-// So many bytes of a text.
+// That many bytes of a text.
 fn up_to(text: &[u8], count: u64) -> &[u8]
     ensures { result.now ≡ take count text.now }
 {

@@ -41,7 +41,7 @@ pub record IsReadableForm (from : yaml_encoding_t) (settings : yaml_settings_t)
   -- what the input says
   pub content : List Document
   pub of_input : PlainReading from input (Ok content)
-  -- the text, read as its byte order mark tells, is accepted and says the same
+  -- the text, read as its byte order mark shows, is accepted and has the same content
   pub of_text : PlainReading YAML_ANY_ENCODING text (Ok content)
   -- it is that content's text
   pub is : text ≡ readable_text settings content

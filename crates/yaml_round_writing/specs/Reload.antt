@@ -54,7 +54,7 @@ pub record IsNormalOfDocuments (settings : yaml_settings_t) (documents : List Do
     (text : List ℕ) : Type 0 where
   -- it is the canonical text of what they say
   pub is : text ≡ canonical_text settings (trees_of_dumps documents)
-  -- read as its byte order mark tells, it loads, without a fault, documents that agree with them
+  -- read as its byte order mark shows, it loads, without a fault, documents that agree with them
   pub back : List Document
   pub right : PlainLoading YAML_ANY_ENCODING text (Ok back)
   pub agree : AreAgreeing documents back

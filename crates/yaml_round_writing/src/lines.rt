@@ -31,7 +31,7 @@ fn push_lines(reading: &mut Reading<'_>, lines: &mut Vec<u8>) -> Result<(), yaml
     }
 }
 
-// No lines, and room for so many bytes of them, if there is so much.
+// No lines, and room for that many bytes of them, if there is so much.
 fn empty_lines(alloc: Global, room: usize) -> Vec<u8>
     ensures { result.items ≡ [] }
 {
@@ -41,7 +41,7 @@ fn empty_lines(alloc: Global, room: usize) -> Vec<u8>
     }
 }
 
-/// The lines of a reading's events, for so many bytes of which room is asked for at first: where there is less it is asked for as they
+/// The lines of a reading's events, for that many bytes of which room is asked for at first: where there is less it is asked for as they
 /// come.
 #[tactic(auto, using(crate::proofs::Judging::listed, crate::proofs::Judging::not_listed))]
 pub fn lines_of(

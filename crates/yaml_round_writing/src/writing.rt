@@ -144,7 +144,7 @@ fn emit_formed(emitter: &mut yaml_emitter_t, form: &mut Form, event: &mut yaml_e
 
 // The loop over events that writes.
 
-/// Writes the events while the text has at most so many bytes. True at the end of the events. A fault of theirs is the
+/// Writes the events while the text has at most that many bytes. True at the end of the events. A fault of theirs is the
 /// answer; the emitter keeps its own.
 pub(crate) fn write_up_to(
     reading: &mut Reading<'_>,
@@ -196,7 +196,7 @@ fn fault_in(emitter: &yaml_emitter_t) -> Option<yaml_fault_t>
     }
 }
 
-/// The text, which passes no limit, or the emitter's fault, which names a limit or tells that memory ran out.
+/// The text, which passes no limit, or the emitter's fault, which names a limit or says that memory ran out.
 #[tactic(auto, using(crate::proofs::Laying::whole_text))]
 pub(crate) fn finished(emitter: yaml_emitter_t) -> Result<Vec<u8>, yaml_fault_t>
     ensures { FinishesText emitter result }

@@ -33,7 +33,7 @@ pub no_fault : (o : Option yaml_fault_t) → is_some o ≡ false → o ≡ None
 no_fault None e = refl
 no_fault (Some f) e = cc
 
--- a fault that is lent is the one that is kept
+-- a fault that is passed by reference is the one that is kept
 pub lent_fault : (r : Option (Bor yaml_fault_t)) (o : Option yaml_fault_t) → option_copied r ≡ o
     → option_map (λ (f : Bor yaml_fault_t). fault_of f.now) r ≡ option_map (λ (f : yaml_fault_t). fault_of f) o
 lent_fault None o e = ap (option_map (λ (f : yaml_fault_t). fault_of f)) e
@@ -194,7 +194,7 @@ refuses x y None false after s t m n f e off i d = record { ahead = d.few.0; sou
 refuses x y None true after s t m n f e off i d = cc
 refuses x y (Some g) aside after s t m n f e off i d = cc
 
--- the token that was put aside is lent, or after a fault that was answered the empty one
+-- the token that was put aside is passed by reference, or after a fault that was answered the empty one
 pub lends_aside : (x y : List ℕ) (o : Option yaml_fault_t) (aside : Bool) (s : Token)
     (m : Machine) → aside ≡ true
     → (o ≡ None → IsMachine m) → ((f : yaml_fault_t) → o ≡ Some f → s ≡ no_token)
@@ -221,7 +221,7 @@ lends_own x y None false s t m n e off g = record {
 lends_own x y None true s t m n e off g = cc
 lends_own x y (Some f) aside s t m n e off g = cc
 
--- where none is to come, the empty token is lent
+-- where none is to come, the empty token is passed by reference
 pub lends_none : (x y : List ℕ) (o : Option yaml_fault_t) (aside : Bool) (s t : Token)
     (m n : Machine)
     → is_some o ≡ false → aside ≡ false → Lacks m n t

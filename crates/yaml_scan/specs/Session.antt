@@ -108,7 +108,7 @@ HoldsLittle v = FewWait v × KeepsFew v.spares
 abbrev pub IsKnown : View → Type 0
 IsKnown v = (is_settled v ≡ true) ⊎ (v.remaining ≡ nothing)
 
--- Out of memory is told of the reader only before the input is decoded, and where it isn't UTF-8, which takes none.
+-- Out of memory is reported of the reader only before the input is decoded, and where it isn't UTF-8, which takes none.
 abbrev pub ReaderMayLack : View → Fault → Type 0
 ReaderMayLack v f = f ≡ memory_fault Reader
     → (v.read ≡ 0) × (encoding_of v.setting v.bytes ≢ YAML_UTF8_ENCODING)
@@ -152,7 +152,7 @@ abbrev pub has_first : List Token → Bool
 has_first [] = false
 has_first (t ∷ ts) = true
 
--- a token was lent: the first to come, and none is taken; it is put aside
+-- a token was passed by reference: the first to come, and none is taken; it is put aside
 pub record Lends (old : View) (t : Token) (new : View) : Type 0 where
   pub token : t ≡ first_of old.remaining.tokens
   pub all : new.remaining ≡ old.remaining
@@ -167,7 +167,7 @@ abbrev pub Scans : View → View → Result yaml_token_t yaml_fault_t → Type 0
 Scans old new (Ok token) = Takes old (token_of token) new
 Scans old new (Err f) = Refuses old (fault_of f) new
 
--- what stands in the slots that were lent: a token, where one was taken, or else a fault
+-- what stands in the slots that were passed by reference: a token, where one was taken, or else a fault
 abbrev pub ScansInto : View → View → Bool → Token → Fault → Type 0
 ScansInto old new true token f = Takes old token new
 ScansInto old new false token f = Refuses old f new

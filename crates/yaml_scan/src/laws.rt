@@ -2,7 +2,7 @@
 
 ghost use Rattle.yaml_scan_machine.specs.Settled.{WhateverFollows};
 
-/// What is settled is told, whatever follows: the tokens that so many lexemes of a text settle are the first ones of every text
+/// What is settled is told, whatever follows: the tokens that as many lexemes of a text settle are the first ones of every text
 /// that has these lexemes too.
 pub fn settled_is_told()
     ensures { WhateverFollows }

@@ -38,7 +38,7 @@ pub struct yaml_parser_t<'a> {
     shown: yaml_token_t,
     /// The next token isn't the reader's: a peek put it aside, or a fault was answered.
     aside: bool,
-    /// So many lexemes may be lent before anything else is asked: none where a token is aside, and at most those that are settled.
+    /// That many lexemes may be lent before anything else is asked: none where a token is aside, and at most those that are settled.
     lendable: usize,
     /// Texts that were let go, whose room the next ones take.
     spares: Spares,
@@ -57,7 +57,7 @@ impl<'a> Model for yaml_parser_t<'a> {
 }
 
 impl<'a> yaml_parser_t<'a> {
-    /// A session over an input, in that encoding; with `YAML_ANY_ENCODING` in the one that a byte order mark tells, or
+    /// A session over an input, in that encoding; with `YAML_ANY_ENCODING` in the one that a byte order mark shows, or
     /// UTF-8 (YAML 1.1, 5.2).
     pub fn new(alloc: Global, input: &'a [u8], encoding: yaml_encoding_t) -> yaml_parser_t<'a>
         ensures { result ≡ begun encoding input.now 0 }
@@ -77,7 +77,7 @@ impl<'a> yaml_parser_t<'a> {
         yaml_parser_t::begin(alloc, input, encoding, READ_AHEAD)
     }
 
-    /// A session that reads so many lexemes until they are settled; or, with 0, none before it is needed.
+    /// A session that reads that many lexemes until they are settled; or, with 0, none before it is needed.
     fn begin(
         alloc: Global,
         input: &'a [u8],
@@ -121,7 +121,7 @@ pub fn yaml_parser_scan(parser: &mut yaml_parser_t) -> Result<yaml_token_t, yaml
     Err(fault)
 }
 
-/// The next token in a slot that is lent (true), or the fault in the other one (false): what `yaml_parser_scan` answers,
+/// The next token in a slot that is passed by reference (true), or the fault in the other one (false): what `yaml_parser_scan` answers,
 /// with nothing moved. A slot that isn't filled may hold anything afterwards.
 pub fn yaml_parser_scan_into(
     parser: &mut yaml_parser_t,

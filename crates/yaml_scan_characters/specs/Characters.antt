@@ -39,13 +39,13 @@ offends problem place number = Err record { problem = problem; offset = place; v
 abbrev pub no_value : ℤ
 no_value = negsuc 0
 
--- the character of that code, which so many bytes there spell, if a stream may hold it
+-- the character of that code, which that many bytes there spell, if a stream may hold it
 unfoldable pub allowed_at : ℕ → ℕ → ℕ → Result Character Offence
 allowed_at p width code =
     if is_allowed code then Ok record { code = code; width = width }
     else offends problems.ControlCharacter p (pos code)
 
--- the least code that needs so many bytes of UTF-8
+-- the least code that needs that many bytes of UTF-8
 unfoldable pub least_code : ℕ → ℕ
 least_code width = if width == 1 then 0 else if width == 2 then 0x80 else if width == 3 then 0x800
     else 0x1_0000
@@ -62,12 +62,12 @@ valued_at p width code =
 abbrev pub is_trailing : ℕ → Bool
 is_trailing b = between 0x80 0xBF b
 
--- what the first byte of a character of so many bytes adds to its code
+-- what the first byte of a character of that many bytes adds to its code
 unfoldable pub leading_bits : ℕ → ℕ → ℕ
 leading_bits width b = if width == 1 then b else if width == 2 then b - 0xC0 else if width == 3
     then b - 0xE0 else b - 0xF0
 
--- the code that so many of these bytes stand for
+-- the code that as many of these bytes stand for
 unfoldable pub utf8_code : ℕ → ℕ → ℕ → ℕ → ℕ → ℕ
 utf8_code width b c d e =
     let lead = leading_bits width b in
@@ -76,7 +76,7 @@ utf8_code width b c d e =
     else if width == 3 then (lead * 64 + (c - 0x80)) * 64 + (d - 0x80)
     else ((lead * 64 + (c - 0x80)) * 64 + (d - 0x80)) * 64 + (e - 0x80)
 
--- what so many of these bytes at p spell: each after the first must be a trailing one
+-- what that many of these bytes at p spell: each after the first must be a trailing one
 unfoldable pub sequence_of : ℕ → ℕ → ℕ → ℕ → ℕ → ℕ → Result Character Offence
 sequence_of width p b c d e =
     if nat_lt 1 width && not (is_trailing c) then offends problems.InvalidTrailingOctet (p + 1)
@@ -87,7 +87,7 @@ sequence_of width p b c d e =
     (pos e)
     else valued_at p width (utf8_code width b c d e)
 
--- what b begins at p, where c, d and e stand after it, and so many bytes are left with b
+-- what b begins at p, where c, d and e stand after it, and that many bytes are left with b
 unfoldable pub utf8_of : ℕ → ℕ → ℕ → ℕ → ℕ → ℕ → Result Character Offence
 utf8_of left p b c d e =
     if width_of b == 0 then offends problems.InvalidLeadingOctet p (pos b)
@@ -108,7 +108,7 @@ unfoldable pub unit_at : ByteOrder → List ℕ → ℕ → ℕ
 unit_at LowFirst bytes p = byte bytes p + byte bytes (p + 1) * 256
 unit_at HighFirst bytes p = byte bytes p * 256 + byte bytes (p + 1)
 
--- what the unit u begins at p, where v stands after it, and so many bytes are left with u
+-- what the unit u begins at p, where v stands after it, and that many bytes are left with u
 unfoldable pub utf16_of : ℕ → ℕ → ℕ → ℕ → Result Character Offence
 utf16_of left p u v =
     if nat_lt left 2 then offends problems.IncompleteCharacter p no_value

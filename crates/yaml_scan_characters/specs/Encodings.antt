@@ -15,7 +15,7 @@ begins_high_first bytes = starts_with nat_eq bytes points.byte_order_mark_high_f
 abbrev pub begins_utf8 : List ℕ → Bool
 begins_utf8 bytes = starts_with nat_eq bytes points.byte_order_mark_utf8
 
--- the encoding of the bytes: the set one, else the one that a mark tells, else UTF-8
+-- the encoding of the bytes: the set one, else the one that a mark shows, else UTF-8
 unfoldable pub encoding_of : yaml_encoding_t → List ℕ → yaml_encoding_t
 encoding_of YAML_ANY_ENCODING bytes =
     if begins_low_first bytes then YAML_UTF16LE_ENCODING

@@ -9,7 +9,7 @@ use Rattle.yaml_scan_characters.specs.declared.utf16.DecodeError.TheVariants.{Me
 use Rattle.yaml_scan_characters.specs.Characters.{is_allowed, is_trailing, utf8_at}
 use Rattle.yaml_scan_characters.specs.Decoding.{characters}
 
--- what the byte b, which stands so many places after the first of its character, adds to the code; 0 where the character has no such byte
+-- what the byte b, which stands that many places after the first of its character, adds to the code; 0 where the character has no such byte
 unfoldable pub trailing_bits : ℕ → ℕ → ℕ → ℕ → Result ℕ Offence
 trailing_bits p width ahead b =
     if nat_lt ahead width && not (is_trailing b)
@@ -34,7 +34,7 @@ outcome (Err o) = Err o
 unfoldable pub outcome_at : List ℕ → ℕ → Result (Unit {0}) Offence
 outcome_at bytes p = outcome (characters (length bytes) YAML_UTF8_ENCODING bytes p)
 
--- a character of so many bytes stands there
+-- a character of that many bytes stands there
 abbrev pub HasCharacter : List ℕ → ℕ → ℕ → Type 0
 HasCharacter bytes p width =
     (code : ℕ) × (utf8_at bytes p ≡ Ok record { code = code; width = width })

@@ -15,7 +15,7 @@ const HIGH_FIRST: [u8; 2] = [0xFE, 0xFF];
 const UTF8_MARK: [u8; 3] = [0xEF, 0xBB, 0xBF];
 
 /// The encoding of a stream: the one that is set, or with `YAML_ANY_ENCODING` the one that its byte order
-/// mark tells, UTF-8 where it has none (YAML 1.1, 5.2).
+/// mark shows, UTF-8 where it has none (YAML 1.1, 5.2).
 #[tactic(auto, unfolding(crate::specs::Encodings::encoding_of))]
 pub fn stream_encoding(input: &[u8], setting: yaml_encoding_t) -> yaml_encoding_t
     ensures { result ≡ encoding_of setting input.now }

@@ -106,7 +106,7 @@ fn is_allowed(code: u32) -> bool
     }
 }
 
-/// The character of that code, which so many bytes at that place spell, if a stream may hold it.
+/// The character of that code, which that many bytes at that place spell, if a stream may hold it.
 #[tactic(auto, unfolding(crate::specs::Characters::allowed_at))]
 pub fn allowed_character(place: usize, width: usize, code: u32) -> Result<Character, Offence>
     requires { code < 2 ^ 31 }

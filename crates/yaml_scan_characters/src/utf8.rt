@@ -33,7 +33,7 @@ fn trailing_bits(bytes: &[u8], at: usize, width: usize, ahead: usize) -> Result<
     }
 }
 
-// What the first byte of a character of so many bytes adds to its code.
+// What the first byte of a character of that many bytes adds to its code.
 #[tactic(auto, unfolding(crate::specs::Characters::leading_bits, yaml_types::specs::Classes::width_of))]
 fn leading_bits(byte: u8, width: usize) -> u32
     requires some { 0 < width }
@@ -49,7 +49,7 @@ fn leading_bits(byte: u8, width: usize) -> u32
     }
 }
 
-// The least code that needs so many bytes.
+// The least code that needs that many bytes.
 #[tactic(auto, unfolding(crate::specs::Characters::least_code))]
 fn least_code(width: usize) -> u32
     ensures { result ≡ least_code width }
@@ -62,7 +62,7 @@ fn least_code(width: usize) -> u32
     }
 }
 
-// The character of that code, which so many bytes there spell, if they are its shortest form and it is one.
+// The character of that code, which that many bytes there spell, if they are its shortest form and it is one.
 #[tactic(auto, unfolding(crate::specs::Characters::valued_at))]
 fn valued_character(at: usize, width: usize, code: u32) -> Result<Character, Offence>
     requires { code < 2 ^ 31 }
@@ -77,7 +77,7 @@ fn valued_character(at: usize, width: usize, code: u32) -> Result<Character, Off
     allowed_character(at, width, code)
 }
 
-// What so many bytes there spell.
+// What that many bytes there spell.
 #[tactic(auto, unfolding(crate::specs::Characters::sequence_of, crate::specs::Characters::utf8_code, crate::specs::Steps::trailing_bits))]
 fn sequence(bytes: &[u8], at: usize, width: usize) -> Result<Character, Offence>
     requires some { 0 < width }

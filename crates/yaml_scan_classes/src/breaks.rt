@@ -8,7 +8,7 @@ use crate::class::IS_BREAK;
 // How many bytes are looked at in a row.
 const ROW: usize = 32;
 
-// Whether the byte there tells by itself that no break begins there, as most do.
+// Whether the byte there says by itself that no break begins there, as most do.
 // Inlined: two comparisons a byte.
 #[inline(always)]
 #[tactic(auto, unfolding(yaml_types::specs::Marks::break_of))]
@@ -20,7 +20,7 @@ fn tells_none(text: &[u8], place: usize) -> bool
     (b'\r' < byte) & (byte < 0xC2)
 }
 
-// Whether so many bytes stand there, and all tell it.
+// Whether that many bytes stand there, and all tell it.
 // Inlined into the loop over such rows; without an early exit, so that the bytes are looked at side by side.
 #[inline(always)]
 fn row_tells_none(text: &[u8], at: usize) -> bool

@@ -67,7 +67,7 @@ spelled_same : (s t : SpelledText) (es : List Entry)
 spelled_same s t [] h = refl
 spelled_same s t (e ∷ es) h = rw (All-head (λ e. body_in t e.lexeme ≡ body_in s e.lexeme) e es h, spelled_same s t es (All-tail (λ e. body_in t e.lexeme ≡ body_in s e.lexeme) e es h)) refl
 
--- whatever follows, what so many lexemes settle is told first
+-- whatever follows, what that many lexemes settle is told first
 pub whatever_follows : (s t : SpelledText) (n : ℕ) → history t.text n ≡ history s.text n
     → All (λ e. body_in t e.lexeme ≡ body_in s e.lexeme) (entries (history s.text n))
     → (rest : List Token) × ((offline t).tokens ≡ settled_tokens s n ++ rest)

@@ -389,7 +389,7 @@ columns_more text p n m count k is before b =
       | inr x ↦ let k1 : k ≡ 1 = b ∙ (rw x refl) in rw x (omega (arith, k1, before))
     ])
 
--- the same by what the code tells of a byte
+-- the same by what the code says of a byte
 -- how many bytes continue a character, and how many begin one
 pub continuing_over : (text : List ℕ) (p n : ℕ) → p + n ≤ length text
     → count_by is_continuing (take n (drop p text)) + columns_over n text p ≡ n

@@ -290,7 +290,7 @@ pub record Puts (t : Token) (n width flags : ℕ) (old new : Scanner) : Type 0 w
   pub wide : new.wide ≡ old.wide
   pub fixed : fixed_of new ≡ fixed_of old
 
--- the word of so many bytes that carries that
+-- the word of that many bytes that carries that
 abbrev pub bare_word : TokenBody → ℕ → List ℕ → List Lexeme → WordText
 bare_word b width text h = record {
   body = b;

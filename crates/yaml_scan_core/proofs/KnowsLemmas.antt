@@ -137,7 +137,7 @@ pub knows_none : (s : Scanner) → s.row.settled ≤ s.row.next → length s.row
     → knows s ≡ false
 knows_none s high gone = rw (isnt_less s.row.next s.row.settled high, isnt_less s.row.next (length s.row.lexemes.items) gone) refl
 
--- so many are open, and so many to come; whether the next one is known
+-- that many are open, and that many to come; whether the next one is known
 pub record Tells (known : Bool) (unsettled left : ℕ) : Type 0 where
   pub is : known ≡ ltb unsettled left
   pub few : unsettled ≤ left

@@ -70,7 +70,7 @@ margin_is l ls a = sym (indent_snoc l.outer.items l.margin) ∙ ap indent a.all 
 pub count_is : (l : Levels) (ls : List ℕ) → AreLevels l ls → length l.outer.items ≡ length ls
 count_is l ls a = omega (arith, ap (λ (xs : List ℕ). length xs) a.all, length-append l.outer.items (l.margin ∷ []))
 
--- levels that are left of others after a column, where so many were
+-- levels that are left of others after a column, where that many were
 pub record AreLeft (column n : ℕ) (l : Levels) (ls : List ℕ) : Type 0 where
   pub left : List ℕ
   pub are : AreLevels l left

@@ -186,7 +186,7 @@ next_knows s k = elim (cases_lt s.row.next s.row.settled) [
   ]
 ]
 
--- a test that tells whether the next token is known
+-- a test that says whether the next token is known
 pub token_known : (s : Scanner) (b : Bool) → IsRead s → (b ≡ true → KnowsNext s)
     → (KnowsNext s → b ≡ true) → b ≡ knows s
 token_known s b i tells_it told = elim (cases_Bool b) [

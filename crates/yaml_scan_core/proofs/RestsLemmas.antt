@@ -232,7 +232,7 @@ loses_one r lt =
 loses_nothing : (r : RowView) → length r.lexemes ≤ r.settled → loses_none (lost_at r) ≡ true
 loses_nothing r past = let y : ltb r.settled (length r.lexemes) ≡ false = grind (arith, nat_tests) in rw y refl
 
--- the fault tells whether a lexeme is lost
+-- the fault says whether a lexeme is lost
 tells_lost : (s : Scanner) (h : List Read) (k : ℕ) → ShowsSettled s h
     → s.row.dropped + k ≡ first_open h h
     → loses_none (lost_at (record (row_of s.row) { settled = k })) ≡ not (ltb (first_open h h) (length h))

@@ -212,7 +212,7 @@ pub opened_by : (old mid new : Scanner) → mid ≡ old → new ≡ record mid {
     → new ≡ record old { levels = new.levels }
 opened_by old mid new same e = e ∙ ap (λ (x : Scanner). record x { levels = new.levels }) same
 
--- what the code tells of the level that opens
+-- what the code says of the level that opens
 pub level_by : (k : Kind) (old mid new : Scanner) (h : List Lexeme) (n : ℕ) (column : ℕ) (b : Bool)
     → StandsAs k old h n → mid ≡ old → column ≡ mid.at - mid.line - mid.wide
     → ((ls : List ℕ) → AreLevels mid.levels ls → AreLevels new.levels (opened (not (ltb 0 (inner (stack_of mid.keys)))) (column + 1) ls))

@@ -145,7 +145,7 @@ run_none text p q to some calm run k low high =
           ]
     ]
 
--- the mark after a run, in which so many bytes continue characters
+-- the mark after a run, in which that many bytes continue characters
 pub mark_over : (text : List ℕ) (m : yaml_mark_t) (q to count : ℕ) → m ≡ mark_at text m.index
     → 0 < m.index → may_split (byte text (m.index - 1)) ≡ false
     → RunsTo (is_stop []) text m.index to q

@@ -21,7 +21,7 @@ pub record Waits (s : Scanner) : Type 0 where
   pub rests : Rests s
   pub some : 0 < s.batch
 
--- before the first token of a text, of which so many lexemes are read at once: all of it is to come
+-- before the first token of a text, of which that many lexemes are read at once: all of it is to come
 pub record Starts (encoding : yaml_encoding_t) (text : List ℕ) (batch : ℕ) (s : Scanner)
     : Type 0 where
   pub waits : Waits s

@@ -90,7 +90,7 @@ abbrev pub fresh_key : List ℕ → SimpleKey → yaml_mark_t → Option KeyView
 fresh_key text k place = if k.possible && is_fresh (key_mark text k) place
     then Some (key_view text k) else None
 
--- so many of the outermost levels have none, or one that is stale there
+-- that many of the outermost levels have none, or one that is stale there
 abbrev pub AreStale : List ℕ → KeyStack → yaml_mark_t → Type 0
 AreStale text s place = (d : ℕ) → d < s.passed → fresh_key text (key_at s d) place ≡ None
 
@@ -121,7 +121,7 @@ abbrev pub index_in : Option yaml_mark_t → Option ℕ
 index_in None = None
 index_in (Some m) = Some m.index
 
--- no key stands after the text's end, which has so many bytes
+-- no key stands after the text's end, which has that many bytes
 abbrev pub AreWithin : ℕ → KeyStack → Type 0
 AreWithin n s = (d : ℕ) → (key_at s d).index ≤ n
 

@@ -27,7 +27,7 @@ left_from kinds.BlockMappingStart x = starts_in x + keys_in x + 1
 left_from kinds.Key x = keys_in x + 1
 left_from _ x = 1
 
--- how many of its tokens are taken, before which so many levels end
+-- how many of its tokens are taken, before which that many levels end
 abbrev pub given_of : ℕ → Lexeme → ℕ
 given_of ends x = (ends + starts_in x + keys_in x + 1) - (x.ends + left_from x.front x)
 

@@ -35,7 +35,7 @@ use Rattle.yaml_scan_core.specs.Shown.{KeepsTaken, ShowsRow, entry_at, place_mar
 
 -- ---- places
 
--- A lexeme may stand there, in a line that starts there, of which so many bytes continue characters.
+-- A lexeme may stand there, in a line that starts there, of which that many bytes continue characters.
 pub record IsPlace (text : List ℕ) (at line wide : ℕ) : Type 0 where
   pub inside : at ≤ length text
   pub whole : splits_break text at ≡ false
@@ -226,7 +226,7 @@ pub record StandsAt (k : ReadKind) (s : Scanner) (h : List Read) : Type 0 where
 abbrev pub left_behind : ReadKind → Scanner → List Read → List ℕ
 left_behind k s h = left_by k (depth h) (column_at s.text.now s.at) (levels h)
 
--- the same, where so many levels that it closes are closed
+-- the same, where that many levels that it closes are closed
 pub record StandsAs (k : ReadKind) (s : Scanner) (h : List Read) (n : ℕ) : Type 0 where
   pub behind : IsBehind s h
   pub early : missed (candidate 0 h) (mark_at s.text.now s.at) ≡ None
@@ -317,7 +317,7 @@ pub record Takes (old new : Scanner) (h : List Read) : Type 0 where
 
 -- ---- where no lexeme is read
 
--- The earliest open candidate is told by the keys: they are the candidates of so many lexemes, or the block level's is open.
+-- The earliest open candidate is told by the keys: they are the candidates of that many lexemes, or the block level's is open.
 abbrev pub TellsFirst : List ℕ → KeyStack → ℕ → List Read → Type 0
 TellsFirst text s n h = (AreKeys text s h (reached h) × (n ≡ length h))
     ⊎ ((fresh_key text (key_at s 0) (reached h) ≡ view_of (fresh (candidate 0 h) (reached h)))

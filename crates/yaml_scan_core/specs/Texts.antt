@@ -48,7 +48,7 @@ is_scalar _ = false
 abbrev pub notes_of : Word → List Note
 notes_of w = elim w.note as (λ _. List Note) [ Some n ↦ n ∷ [] | None ↦ [] ]
 
--- its lexeme, after so many notes
+-- its lexeme, after that many notes
 abbrev pub lexeme_of : Word → ℕ → Lexeme
 lexeme_of w n = elim w.note as (λ _. Lexeme) [ Some x ↦ noted n w.lexeme | None ↦ w.lexeme ]
 

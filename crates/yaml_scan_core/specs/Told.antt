@@ -1,4 +1,4 @@
--- What a scanner tells of its tokens: the texts of the one taken last, whether the next one is known, and the marks of places.
+-- What a scanner says of its tokens: the texts of the one taken last, whether the next one is known, and the marks of places.
 use Rattle.std.specs.Prelude.{ℕ, pos, ◌+◌, ◌-◌, ◌≡◌, ◌≢◌, ◌≤◌, ◌<◌, ◌⊎◌, Bool, ◌==◌, ◌||◌, true, false, if◌then◌else◌, List, [], length, slice_range, Option, Some, None}
 use Rattle.yaml_scan_model.specs.declared.fault.yaml_origin_t.TheVariants as origins
 use Rattle.yaml_scan_model.specs.Faults.{Fault as Told, memory_fault}

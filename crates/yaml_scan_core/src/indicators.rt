@@ -48,7 +48,7 @@ impl Lexeme {
 }
 
 impl Scanner<'_> {
-    /// Opens a block level at a column that is right of the innermost one's, and tells whether it does. In brackets none opens.
+    /// Opens a block level at a column that is right of the innermost one's, and says whether it does. In brackets none opens.
     fn open_level(&mut self, column: usize) -> Result<bool, AllocError>
         requires some { 0 < length self.old.keys.levels.items }
         requires few { column < 2 ^ 63 }

@@ -12,7 +12,7 @@ use crate::scanner::Scanner;
 use std::alloc::AllocError;
 use yaml_scan_model::{Context, Problem};
 
-/// So many bytes after its start a key's `:` may stand.
+/// That many bytes after its start a key's `:` may stand.
 pub(crate) const KEY_BYTES: usize = 1024;
 
 /// A lexeme that may be a key: its number among all lexemes, and where it starts.
@@ -59,7 +59,7 @@ const NO_KEY: SimpleKey = SimpleKey {
 #[derive(Drop)]
 pub(crate) struct Keys {
     pub levels: Vec<SimpleKey>,
-    /// No candidate of so many of the outermost levels is possible, or all are stale. It only grows except for changes of the
+    /// No candidate of that many of the outermost levels is possible, or all are stale. It only grows except for changes of the
     /// innermost level, so each candidate is passed once.
     pub passed: usize,
     /// The block level's candidate is possible, and its `:` must come.
@@ -349,7 +349,7 @@ impl Scanner<'_> {
         }
     }
 
-    /// Tells how many lexemes no later one changes: those before the earliest candidate that isn't stale at a place of that line.
+    /// Says how many lexemes no later one changes: those before the earliest candidate that isn't stale at a place of that line.
     pub(crate) fn settle(&mut self, at: usize, line: usize)
         requires { (n : ℕ) × MaySettle self.old at line n }
         ensures same { self.new ≡ record self.old {

@@ -28,7 +28,7 @@ impl Levels {
         }
     }
 
-    /// Closes the levels whose column is at or right of that one, and tells how many they are.
+    /// Closes the levels whose column is at or right of that one, and says how many they are.
     pub(crate) fn close_down_to(&mut self, column: usize) -> u32
         requires { length self.old.outer.items < 2 ^ 32 }
         ensures left { (ls : List ℕ) → AreLevels self.old ls
@@ -48,7 +48,7 @@ impl Levels {
         ends
     }
 
-    /// Opens a level at a column that is right of the innermost one's, and tells whether it does.
+    /// Opens a level at a column that is right of the innermost one's, and says whether it does.
     pub(crate) fn open(&mut self, column: usize) -> Result<bool, AllocError>
         requires { column < 2 ^ 63 }
         ensures levels { OnOk result ((ls : List ℕ) → AreLevels self.old ls

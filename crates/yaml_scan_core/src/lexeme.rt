@@ -16,7 +16,7 @@ pub(crate) fn may_lead(kind: Kind) -> bool
     )
 }
 
-/// A lexeme, and the tokens that it is spelled as: so many BLOCK-ENDs, a block's start, KEY, its own.
+/// A lexeme, and the tokens that it is spelled as: that many BLOCK-ENDs, a block's start, KEY, its own.
 ///
 /// Its own token stands from `start` to `end` in the text. One with a note has the note's number in place of its end.
 #[derive(Clone, Copy)]

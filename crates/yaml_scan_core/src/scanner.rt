@@ -28,7 +28,7 @@ use yaml_scan_history::Kind as LexemeKind;
 use yaml_scan_model::{Context, Problem, yaml_encoding_t};
 use yaml_scan_tokens::Kind;
 
-/// After so many bytes of joined texts no more are read at once.
+/// After that many bytes of joined texts no more are read at once.
 const LONG_TEXT: usize = 4096;
 
 /// A scanner of a text: what it has read waits in its row.
@@ -135,7 +135,7 @@ impl<'a> Scanner<'a> {
         Refused
     }
 
-    /// Reads on, so many lexemes at once, until as many are settled, or to the end.
+    /// Reads on, that many lexemes at once, until as many are settled, or to the end.
     // Out of line: mostly the next token is known.
     #[inline(never)]
     pub fn read_on(&mut self)
@@ -153,7 +153,7 @@ impl<'a> Scanner<'a> {
         }
     }
 
-    /// Reads so many lexemes, or less after a long text, and settles those before the earliest open candidate.
+    /// Reads that many lexemes, or less after a long text, and settles those before the earliest open candidate.
     fn read_batch(&mut self)
         requires shows { Shows self.old (history_of self.old) }
         requires some { 0 < read_by self.old }
@@ -227,7 +227,7 @@ impl<'a> Scanner<'a> {
         }
     }
 
-    /// Closes the block levels right of the place here, all where what stands here stands outside them, and tells how many they
+    /// Closes the block levels right of the place here, all where what stands here stands outside them, and says how many they
     /// are. In brackets none is.
     pub(crate) fn close_levels(&mut self, kind: LexemeKind) -> u32
         requires { StandsAt kind self.old (history_of self.old) }
@@ -367,7 +367,7 @@ impl<'a> Scanner<'a> {
         'gap: while self.pass_white() {}
     }
 
-    /// Past what stands here, unless it is a lexeme, and tells whether it is none.
+    /// Past what stands here, unless it is a lexeme, and says whether it is none.
     // In line: the body of the gap's loop.
     #[inline(always)]
     #[tactic(auto, using(crate::proofs::GapsLemmas::one_calm))]
@@ -501,7 +501,7 @@ impl<'a> Scanner<'a> {
     }
 }
 
-/// The kind that the byte tells, in brackets or not; `alone` where a blank, a break or the end stands after it.
+/// The kind that the byte shows, in brackets or not; `alone` where a blank, a break or the end stands after it.
 #[tactic(auto, unfolding(yaml_scan_history::specs::Words::indicator_of))]
 fn indicator(byte: u8, flow: bool, alone: bool) -> Option<LexemeKind>
     ensures { result ≡ indicator_of flow alone byte }

@@ -127,7 +127,7 @@ impl Scanner<'_> {
         }
     }
 
-    /// A place is reached, in a line that starts there, of which so many bytes continue characters.
+    /// A place is reached, in a line that starts there, of which that many bytes continue characters.
     fn reach(&mut self, at: usize, line: usize, wide: usize)
         ensures { self.new ≡ record self.old { at = at; line = line; wide = wide } }
     {

@@ -1,4 +1,4 @@
--- What is wrong with a text, rule by rule: what stands there, and what the fault tells, in its own words.
+-- What is wrong with a text, rule by rule: what stands there, and what the fault says, in its own words.
 use Rattle.std.specs.Prelude.{◌≡◌, ◌≢◌, ◌<◌, ◌≤◌, ◌⊎◌, ◌&&◌, ◌||◌, ◌==◌, ℕ, suc, ◌+◌, ◌-◌, Bool, true, false, List, [], length, Option, Some, None, Result, Ok, Err, codes}
 use Rattle.yaml_scan_model.specs.Ascii as ascii
 use Rattle.yaml_scan_model.specs.declared.record.yaml_mark_t.{yaml_mark_t}
@@ -24,7 +24,7 @@ use Rattle.yaml_scan_history.specs.declared.kind.Kind.TheVariants as kinds
 use Rattle.yaml_scan_history.specs.Words.{word_at}
 use Rattle.yaml_scan_history.specs.Next.{colon_missing, no_start, not_allowed_there}
 
--- what is wrong tells that problem, in that context, at that place
+-- what is wrong says that problem, in that context, at that place
 pub record TellsAll (w : Wrong) (doing what : List ℕ) (q : ℕ) : Type 0 where
   pub context : context_text_of w.context ≡ Some doing
   pub problem : problem_text_of w.problem ≡ what
@@ -250,7 +250,7 @@ pub record BlocksAreTold : Type 0 where
 
 -- ---- between lexemes
 
--- a fault tells that problem, in a context or none, and both places
+-- a fault says that problem, in a context or none, and both places
 pub record TellsByRule (f : ScanFault) (doing : Option (List ℕ)) (what : List ℕ)
     (from to : yaml_mark_t) : Type 0 where
   pub context : context_text_of f.context ≡ doing

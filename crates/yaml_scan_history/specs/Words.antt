@@ -19,7 +19,7 @@ use Rattle.yaml_scan_words.specs.Block.{BlockText, block_at, style_at}
 use Rattle.yaml_scan_history.specs.declared.kind.Kind.{Kind}
 use Rattle.yaml_scan_history.specs.declared.kind.Kind.TheVariants as kinds
 
--- The kind that the first byte tells, in flow context or not; `alone` tells that a blank, a break or the end
+-- The kind that the first byte shows, in flow context or not; `alone` says that a blank, a break or the end
 -- follows it.
 unfoldable pub indicator_of : Bool → Bool → ℕ → Option Kind
 indicator_of flow alone b =

@@ -101,7 +101,7 @@ impl Kind {
         matches!(self, Kind::StreamEnd)
     }
 
-    /// Whether a key may begin after it, with no break between them: `block` tells that no bracket is open,
+    /// Whether a key may begin after it, with no break between them: `block` says that no bracket is open,
     /// `found` that a `:` has its candidate.
     pub fn allows_key(self, block: bool, found: bool) -> bool
         ensures { result ≡ kinds.allows_key self block found }

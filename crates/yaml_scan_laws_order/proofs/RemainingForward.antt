@@ -32,7 +32,7 @@ pub fault_is : (s : SpelledText) (dropped given : ℕ)
 unfolding remaining
 fault_is s dropped given = refl
 
--- what is handed out of n steps: so many lexemes as they stand
+-- what is handed out of n steps: as many lexemes as they stand
 pub record Known (text : List ℕ) (n m : ℕ) : Type 0 where
   pub same : take m (handed text) ≡ take m (entries (history text n))
   pub few : m ≤ length (history text n)

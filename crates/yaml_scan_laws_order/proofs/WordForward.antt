@@ -11,7 +11,7 @@ use Rattle.yaml_scan_laws_order.proofs.QuotedForward.{quoted_place, some_of}
 use Rattle.yaml_scan_laws_order.proofs.PlainForward.{LandsPlain, plain_place}
 use Rattle.yaml_scan_laws_order.proofs.BlockForward.{LandsBlock, block_place}
 
--- what a kind tells of the text where it stands
+-- what a kind says of the text where it stands
 abbrev pub Fits : Kind → List ℕ → ℕ → Type 0
 Fits kinds.StreamStart text p = ⊥
 Fits kinds.StreamEnd text p = Unit {0}
@@ -95,12 +95,12 @@ tells_any : (P : Kind → Type 0) (text : List ℕ) (p : ℕ) (o : Option Kind)
 tells_any P text p None f t = tt
 tells_any P text p (Some k) f t = f k t
 
--- what the text tells of a kind holds of the one that stands there
+-- what the text says of a kind holds of the one that stands there
 pub kind_is : (P : Kind → Type 0) (flow : Bool) (text : List ℕ) (p : ℕ)
     → ((k : Kind) → Tells text p k → P k) → OfAny P (kind_at flow text p)
 kind_is P flow text p f = tells_any P text p (kind_at flow text p) f (kind_tells flow text p)
 
--- what stands there tells of its kind
+-- what stands there says of its kind
 pub kind_told : (flow : Bool) (text : List ℕ) (p : ℕ) (k : Kind) → kind_at flow text p ≡ Some k
     → Tells text p k
 kind_told flow text p k e = subst (λ (o : Option Kind). OfAny (Tells text p) o) e (kind_tells flow text p)

@@ -46,7 +46,7 @@ between_utf8 folded bare feed empties a b =
       | inr e ↦ rw e (IsUtf8-append feed empties a b)
     ]
 
--- by the byte that tells what happens to the last breaks
+-- by the byte that says what happens to the last breaks
 at_end_utf8 : (b : ℕ) (feed empties : List ℕ) → IsUtf8 feed → IsUtf8 empties
     → IsUtf8 (at_end (chomp_of b) feed empties)
 unfolding chomp_of

@@ -231,7 +231,7 @@ rest_carries x a b k B C g h s l e =
     carries x b (a ++ b) (length a) (suc (length b)) (line_at (a ++ b) (length a)) k (h ++ B) G pair l r
     (rest_said b (a ++ b) (length a) (suc (length b)) (line_at (a ++ b) (length a)) k (h ++ B) G pair (end_no_mark (a ++ b) (length a + suc (length b)) (rest_end a b)) g.marks (gap_in b (h ++ B) s) r.kind r.stands)
 
--- so many steps more
+-- that many steps more
 abbrev pub further : ℕ → ℕ → ℕ
 further zero i = i
 further (suc j) i = suc (further j i)

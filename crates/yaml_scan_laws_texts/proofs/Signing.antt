@@ -23,7 +23,7 @@ no_end text p b h e = rw (h, e, and-false (column_at text p == 0)) refl
 pub no_percent : (a b : Bool) → a ≡ false → (a && b) ≡ false
 no_percent a b e = rw e refl
 
--- a lexeme is what its first byte tells, where it is neither the end nor a mark of directives and documents
+-- a lexeme is what its first byte shows, where it is neither the end nor a mark of directives and documents
 pub chain : (z pc ds de s : Bool) (o : Option Kind) (k : Kind) → z ≡ false → pc ≡ false → ds ≡ false
     → de ≡ false → o ≡ Some k
     → cond z (Some kinds.StreamEnd) (cond pc (Some kinds.Directive)

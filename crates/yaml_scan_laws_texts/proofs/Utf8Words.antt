@@ -214,7 +214,7 @@ directive_word text (Err w) t h = tt
 
 -- Kinds.
 
--- what a kind tells of the text where it stands
+-- what a kind says of the text where it stands
 abbrev pub Fits : Kind → List ℕ → ℕ → Type 0
 Fits kinds.StreamStart text p = Unit {0}
 Fits kinds.StreamEnd text p = Unit {0}

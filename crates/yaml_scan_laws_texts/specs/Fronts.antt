@@ -24,7 +24,7 @@ unfoldable pub Rises : ℕ → List ℕ → Type 0
 Rises b [] = Unit {0}
 Rises b (m ∷ ms) = (b < m) × Rises m ms
 
--- What is known after lexemes: they came, and so many brackets, these levels and these entries
+-- What is known after lexemes: they came, and that many brackets, these levels and these entries
 -- stand there.
 pub record Front (text : List ℕ) (h : List Lexeme) (d : ℕ) (ms : List ℕ)
     (es : List Entry) : Type 0 where
@@ -54,7 +54,7 @@ pub record Holds (h : List Lexeme) (d : ℕ) (c : Candidate) : Type 0 where
   pub slot : candidate d h ≡ Some c
   pub others : (e : ℕ) → (d ≡ e → ⊥) → IsFree (candidate e h)
 
--- What stands after lexemes, where so many brackets are open: its place, whether a key may begin
+-- What stands after lexemes, where that many brackets are open: its place, whether a key may begin
 -- there, its kind, and its word in that level.
 pub record Meets (text : List ℕ) (h : List Lexeme) (d level : ℕ) (k : Kind) (q : ℕ) (a : Bool)
     (w : WordText) : Type 0 where
@@ -81,7 +81,7 @@ read_at text h k q a w = record {
 abbrev pub entry : Lexeme → ℕ → Opens → Entry
 entry l n what = record { lexeme = l; ends = n; opens = what; key = false }
 
--- A lexeme at a column, after so many open brackets, leaves ls of the levels ms, and closes n.
+-- A lexeme at a column, after that many open brackets, leaves ls of the levels ms, and closes n.
 pub record LeavesLevels (d c : ℕ) (ms ls : List ℕ) (n : ℕ) : Type 0 where
   pub left : (k : Kind) → is_outside k ≡ false → left_by k d c ms ≡ ls
   pub closed : length ms - length ls ≡ n

@@ -13,7 +13,7 @@ use Rattle.yaml_scan_laws_texts.specs.Fronts.{entry}
 abbrev pub bodies_of : SpelledText → List Entry → List TokenBody
 bodies_of s es = map (λ (t : Token). t.body) (flat_map (spell s) es)
 
--- what entries say, then BLOCK-END for so many levels that are still open, then others
+-- what entries say, then BLOCK-END for that many levels that are still open, then others
 abbrev pub told : SpelledText → List Entry → ℕ → List TokenBody → List TokenBody
 told s es n bs = bodies_of s es ++ (replicate n block_end ++ bs)
 

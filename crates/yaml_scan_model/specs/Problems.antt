@@ -1,4 +1,4 @@
--- The texts that tell why a text can't be scanned.
+-- The texts that say why a text can't be scanned.
 use Rattle.std.specs.Prelude.{ℕ, pos, List, Option, Some, None, codes}
 use Rattle.yaml_types.specs.declared.yaml_error_type_t.TheVariants.{YAML_SCANNER_ERROR}
 use Rattle.yaml_types.specs.declared.yaml_origin_t.TheVariants.{Scanner}

@@ -14,7 +14,7 @@ use mir.Val.{bool_byte}
 use Rattle.yaml_scan_runs.specs.Runs.{is_continuing}
 
 module _ (test : ℕ → Bool) (text : List ℕ) (from at : ℕ) (low : from ≤ at) where
-  -- a part, and so many bytes after it
+  -- a part, and that many bytes after it
   pub count_then : (n : ℕ)
       → count_by test (slice_range text from at) + count_by test (chunk at n text)
       ≡ count_by test (slice_range text from (at + n))

@@ -51,7 +51,7 @@ set_within : (test : ℕ → Bool) (v : List ℕ) → 0 < mask_l (map test v)
 set_within test [] some = absurd (omega arith)
 set_within test (x ∷ xs) some = set_first (test x) (mask_l (map test xs)) (position_or_len test xs) (length xs) some (set_within test xs)
 
--- a look of which so many lanes come first
+-- a look of which that many lanes come first
 pub look_is : (test : ℕ → Bool) (text : List ℕ) (at n : ℕ) → at + 16 ≤ length text
     → n ≡ position_or_len test (chunk at 16 text)
     → RunsTo test text at (at + 16) (at + n)

@@ -7,7 +7,7 @@ ghost use Rattle.yaml_scan_runs.specs.Runs.{RunsTo, IsNarrow, CopiesTo, is_stop,
 
 use std::simd::prelude::*;
 
-/// So many bytes are looked at together.
+/// That many bytes are looked at together.
 pub const LANES: usize = 16;
 
 // What may stop a run, beside control bytes and the first bytes of NEL, LS and PS, which always may.
@@ -240,7 +240,7 @@ pub fn skip_blanks(text: &[u8], from: usize) -> usize
     skip(text, from, b' ', b'\t')
 }
 
-/// Copies sixteen bytes, and tells how many of them stand before one that stops a run.
+/// Copies sixteen bytes, and says how many of them stand before one that stops a run.
 // Inlined: some moves.
 #[inline(always)]
 pub fn copy_look<const N: usize>(out: &mut [u8], at: usize, text: &[u8], stops: &[u8; N]) -> usize

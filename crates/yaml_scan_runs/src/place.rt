@@ -5,7 +5,7 @@ ghost use Rattle.yaml_scan_runs.specs.Placed.{Placed, due_byte};
 
 use std::simd::Simd;
 
-/// Spaces are placed by so many: what is too much counts for nothing.
+/// Spaces are placed by that many: what is too much counts for nothing.
 pub const BLANKS: usize = 16;
 
 /// A byte that is placed always, and counts only where it is due.
@@ -25,7 +25,7 @@ fn place_row_of_blanks(buf: &mut [u8], at: usize)
     Simd::<u8, 16>::splat(b' ').copy_to_slice(&mut buf[at..]);
 }
 
-/// So many spaces.
+/// That many spaces.
 pub fn place_blanks(buf: &mut [u8], at: usize, count: usize) -> usize
     requires { at + count + 16 ≤ length buf.old }
     ensures { Placed buf.old buf.new at (replicate count 0x20) result }

@@ -213,7 +213,7 @@ feed_test text q = elim (widths (byte text q) (byte text (q + 1)) (byte text (q 
 
 -- ---- spaces before a line's text
 
--- where spaces end, at most so many of them
+-- where spaces end, at most that many of them
 pub spaces_end : (text : List ℕ) (p q n : ℕ) → AreSpaces text p q → q ≤ p + n → (q < p + n → byte text q ≢ 32)
     → q ≡ p + spaces n text p
 spaces_end text p q n s few stop =
@@ -229,7 +229,7 @@ spaces_end text p q n s few stop =
 pub indent_forward : (text : List ℕ) (p s : ℕ) → s ≡ past_spaces text p → p ≤ s
 indent_forward text p s e = rw e (past-le is_space_there (length text) text p)
 
--- spaces that are passed, or so many of them
+-- spaces that are passed, or that many of them
 pub indent_taken : (text : List ℕ) (p s most m : ℕ) → s ≡ past_spaces text p → m ≡ min (s - p) most
     → AreSpaces text p (p + m) × (p + m ≡ p + spaces most text p)
 indent_taken text p s most m e least =

@@ -41,7 +41,7 @@ ReadsUri text p old new (Ok u) (Err w) = ⊥
 ReadsUri text p old new (Err e) (Ok x) = IsMemory e
 ReadsUri text p old new (Err e) (Err w) = Refuses e w
 
--- The octet of the escape there is appended, and so many are due after it.
+-- The octet of the escape there is appended, and that many are due after it.
 abbrev pub PutsOctet : Context → ℕ → List ℕ → List ℕ → Result ℕ Refusal → UriSpot → Type 0
 PutsOctet context p old new (Ok left) (Spells b due q) = (left ≡ due) × (q ≡ p + 3) × (new ≡ old ++ b ∷ [])
 PutsOctet context p old new (Ok left) (Ends q) = ⊥

@@ -42,7 +42,7 @@ pub record InQuotes (text : List ℕ) (line p : ℕ) : Type 0 where
 abbrev pub raw_piece : ℕ → Piece
 raw_piece b = if is_blank b then Blank b else Kept (b ∷ [])
 
--- so many bytes from a place on, each a piece
+-- that many bytes from a place on, each a piece
 unfoldable pub raw_at : List ℕ → ℕ → ℕ → List Piece
 raw_at text p zero = []
 raw_at text p (suc d) = raw_piece (byte text p) ∷ raw_at text (p + 1) d

@@ -9,7 +9,7 @@ use Rattle.yaml_scan_text.specs.declared.refusal.Refusal.TheVariants as refusals
 abbrev pub wrong_of : Told → Wrong
 wrong_of w = record { problem = w.problem; context = w.context; place = w.place }
 
--- the refusal tells what is wrong, unless memory ran out
+-- the refusal says what is wrong, unless memory ran out
 abbrev pub Refuses : Refusal → Wrong → Type 0
 Refuses refusals.Memory w = Unit {0}
 Refuses (refusals.Wrong told) w = wrong_of told ≡ w

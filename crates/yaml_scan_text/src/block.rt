@@ -187,7 +187,7 @@ fn deepest(text: &[u8], from: usize, least: usize) -> Result<usize, Wrong>
     }
 }
 
-/// The place after the spaces there, at most so many.
+/// The place after the spaces there, at most that many.
 fn past_indent(text: &[u8], from: usize, most: usize) -> usize
     ensures value { result ≡ from + lines.spaces most text.now from }
     ensures spaces { spec.AreSpaces text.now from result }

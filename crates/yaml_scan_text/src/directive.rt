@@ -128,7 +128,7 @@ fn read_name(text: &[u8], start: usize) -> Result<Name, Wrong>
     }
 }
 
-/// What the name tells that stands from one place to another.
+/// What the name says that stands from one place to another.
 fn name_told(text: &[u8], from: usize, end: usize) -> Result<DirectiveName, Problem>
     requires order { from ≤ end }
     requires inside { end ≤ length text.now }
@@ -181,7 +181,7 @@ fn read_value(arena: &mut Vec<u8>, text: &[u8], start: usize) -> Result<Value, R
     }
 }
 
-/// So many digits a version's number has at most.
+/// That many digits a version's number has at most.
 const DIGITS: usize = 9;
 
 /// The version there, after blanks.

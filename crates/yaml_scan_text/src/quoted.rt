@@ -367,7 +367,7 @@ fn wrong_escape(problem: Problem, place: usize) -> Wrong
     }
 }
 
-/// Appends the character whose number so many hexadecimal digits spell there, and answers the place after.
+/// Appends the character whose number that many hexadecimal digits spell there, and answers the place after.
 fn put_coded(arena: &mut Vec<u8>, text: &[u8], from: usize, digits: usize) -> Result<usize, Refusal>
     requires few { digits ≤ 8 }
     requires inside { from ≤ length text.now }
@@ -415,7 +415,7 @@ pub(crate) fn hex_digit(byte: u8) -> Option<u8>
     }
 }
 
-/// The number that so many hexadecimal digits spell there, eight at most.
+/// The number that as many hexadecimal digits spell there, eight at most.
 #[tactic(auto, using(yaml_scan_words::proofs::EscapeLemmas::hex_refused))]
 fn hex_value(text: &[u8], from: usize, digits: usize) -> Option<u32>
     requires few { digits ≤ 8 }

@@ -122,7 +122,7 @@ fn put_kept(
     Ok(end)
 }
 
-/// Appends the octet that the escape there spells, where so many are due with it, and answers how many are due after.
+/// Appends the octet that the escape there spells, where that many are due with it, and answers how many are due after.
 fn put_octet(
     arena: &mut Vec<u8>,
     text: &[u8],
@@ -155,7 +155,7 @@ struct Octet {
     due: usize,
 }
 
-/// The octet that the escape there spells, where so many are due with it.
+/// The octet that the escape there spells, where that many are due with it.
 fn octet_behind(text: &[u8], at: usize, due: usize) -> Result<Octet, Problem>
     requires { byte text.now at ≡ ascii.percent }
     ensures { spec.SpellsOctet at result (uris.octet_spot due at (uris.octet_at text.now at)) }
@@ -178,7 +178,7 @@ fn octet_at(text: &[u8], at: usize) -> Option<u8>
     Some(high * 16 + low)
 }
 
-/// How many escapes are due after an octet, where so many are due with it: those of the rest of its character.
+/// How many escapes are due after an octet, where that many are due with it: those of the rest of its character.
 #[tactic(auto, unfolding(yaml_scan_words::specs::Uris::due_behind))]
 fn due_behind(octet: u8, due: usize) -> Result<usize, Problem>
     ensures { result ≡ uris.due_behind octet due }

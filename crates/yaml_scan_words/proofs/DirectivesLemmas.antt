@@ -18,7 +18,7 @@ pub digit_here : (text : List ℕ) (p : ℕ) → belongs runs.Digits text p ≡ 
 unfolding belongs
 digit_here text p h = digit_small (byte text p) h
 
--- so many digits
+-- that many digits
 abbrev pub AreDigits : List ℕ → ℕ → ℕ → Type 0
 AreDigits text p q = (k : ℕ) → p ≤ k → k < q → belongs runs.Digits text k ≡ true
 

@@ -112,7 +112,7 @@ uri_turn (suc n) context wide due text p room =
     from_same (λ next q. uri_within (suc n) context wide next text q) (λ next q. uri_within (suc (suc n)) context wide next text q) context (spot_at wide due text p)
     (λ b next q e. let (far, inside) = rw e at (spot_moves wide due text p) in uri_turn n context wide next text q (omega arith))
 
--- the URI there, where so many escapes are due
+-- the URI there, where that many escapes are due
 abbrev pub uri_due : Context → Bool → ℕ → List ℕ → ℕ → Result (List ℕ × ℕ) Wrong
 uri_due context wide due text p = uri_within (suc (length text)) context wide due text p
 

@@ -208,7 +208,7 @@ finished text (Err w) = Err w
 abbrev pub directive_at : List ℕ → ℕ → Result DirectiveText Wrong
 directive_at text p = finished text (value_at text p)
 
--- the name that an answer tells, up to that place
+-- the name that an answer says, up to that place
 abbrev pub name_of : Result DirectiveName Problem → ℕ → Result (DirectiveName × ℕ) Wrong
 name_of (Ok name) q = Ok (name, q)
 name_of (Err problem) q = Err record {

@@ -51,7 +51,7 @@ GapIsOne = (flow allowed : Bool) (text : List ℕ) (p : ℕ) (gap : Gap)
 
 -- ---- URIs
 
--- What a URI spells from a place on, where so many escapes are due: byte by byte up to its end, or what is wrong.
+-- What a URI spells from a place on, where that many escapes are due: byte by byte up to its end, or what is wrong.
 pub data IsUriAt (context : Context) (wide : Bool) (text : List ℕ)
     : ℕ → ℕ → Result (List ℕ × ℕ) Wrong → Type 0 where
   spells_byte : (due p b next q : ℕ) (rest : Result (List ℕ × ℕ) Wrong)

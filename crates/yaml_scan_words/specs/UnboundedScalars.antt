@@ -17,7 +17,7 @@ abbrev pub number_of : List ℕ → ℕ
 number_of [] = 0
 number_of (d ∷ ds) = d * 16 ^ length ds + number_of ds
 
--- Hexadecimal digits are read as the number that they spell; what is read is spelled by so many, and where nothing is read, one of
+-- Hexadecimal digits are read as the number that they spell; what is read is spelled by that many, and where nothing is read, one of
 -- the characters is no digit.
 abbrev pub DigitsAreRead : Type 0
 DigitsAreRead = (text : List ℕ) (p : ℕ) (ds : List ℕ) → AreDigits text p ds

@@ -51,7 +51,7 @@ octet_of None None = None
 unfoldable pub octet_at : List ℕ → ℕ → Option ℕ
 octet_at text p = octet_of (hex_digit (byte text (p + 1))) (hex_digit (byte text (p + 2)))
 
--- How many escapes are due after an octet, where so many are due with it: a leading octet needs its trailing ones.
+-- How many escapes are due after an octet, where that many are due with it: a leading octet needs its trailing ones.
 -- What the octets spell together may be overlong, a surrogate or too large.
 unfoldable pub due_behind : ℕ → ℕ → Result ℕ Problem
 due_behind b due =
@@ -78,7 +78,7 @@ abbrev pub octet_spot : ℕ → ℕ → Option ℕ → UriSpot
 octet_spot due p (Some b) = escape_spot b p (due_behind b due)
 octet_spot due p None = Faulty problems.NoEscapedOctet p
 
--- what stands there, where so many escapes are due
+-- what stands there, where that many escapes are due
 unfoldable pub spot_at : Bool → ℕ → List ℕ → ℕ → UriSpot
 spot_at wide due text p =
     if byte text p == ascii.percent then octet_spot due p (octet_at text p)
@@ -102,7 +102,7 @@ uri_from more context (Faulty problem q) = Err record {
   place = q;
 }
 
--- the bytes of the URI there, of at most n spots, where so many escapes are due, and the place after it
+-- the bytes of the URI there, of at most n spots, where that many escapes are due, and the place after it
 unfoldable pub uri_within : ℕ → Context → Bool → ℕ → List ℕ → ℕ → Result (List ℕ × ℕ) Wrong
 uri_within zero context wide due text p = Ok ([], p)
 uri_within (suc n) context wide due text p = uri_from (λ next q. uri_within n context wide next text

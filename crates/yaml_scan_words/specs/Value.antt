@@ -75,7 +75,7 @@ value_with folded chomp lead (l ∷ ls) = lead
 abbrev pub block_value : Bool → Chomp → List BlockLine → List ℕ
 block_value folded chomp ls = value_with folded chomp (texts_of ls).lead (texts_of ls).lines
 
--- what a block scalar comes to, where so many of its lines are done and these follow
+-- what a block scalar comes to, where that many of its lines are done and these follow
 unfoldable pub stacked_with : Bool → List ℕ → Bool → Bool → List ℕ → List ℕ → Chomp → Texts → List ℕ
 stacked_with folded done any blank feed empties chomp g =
     if any then done ++ behind_text folded chomp blank feed (empties ++ g.lead) g.lines

@@ -63,7 +63,7 @@ uri_bytes (piece ∷ pieces) = piece_byte piece ∷ uri_bytes pieces
 abbrev pub is_kept : Bool → ℕ → Bool
 is_kept wide b = is_alpha_byte b || (is_punctuation b || (wide && is_wide_punctuation b))
 
--- The pieces are a URI, where so many escapes are due: what is raw is kept, and escapes spell whole characters, a leading
+-- The pieces are a URI, where that many escapes are due: what is raw is kept, and escapes spell whole characters, a leading
 -- byte and its trailing bytes.
 abbrev pub IsUri : Bool → ℕ → List UriPiece → Type 0
 IsUri wide due [] = due ≡ 0

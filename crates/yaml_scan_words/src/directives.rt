@@ -1,6 +1,6 @@
 //! Directives.
 
-/// Which directive a name tells.
+/// Which directive a name shows.
 #[derive(Clone, Copy)]
 pub enum DirectiveName {
     Yaml,

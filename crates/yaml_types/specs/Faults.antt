@@ -44,7 +44,7 @@ memory_fault origin = record {
   origin = origin;
 }
 
--- The fault tells, with nothing else in it, that memory ran out in one of these layers.
+-- The fault says, with nothing else in it, that memory ran out in one of these layers.
 abbrev pub IsMemoryFault : List yaml_origin_t → Fault → Type 0
 IsMemoryFault [] f = ⊥
 IsMemoryFault (o ∷ []) f = f ≡ memory_fault o

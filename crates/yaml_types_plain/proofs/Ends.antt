@@ -8,7 +8,7 @@ use Rattle.yaml_types_plain.specs.Ends.{bytes_at, same_run}
 
 -- ---- parts
 
--- so many bytes from a place on are that part of the text
+-- that many bytes from a place on are that part of the text
 pub bytes_are : (n : ℕ) (text : List ℕ) (p : ℕ) → p + n ≤ length text
     → bytes_at n text p ≡ take n (drop p text)
 unfolding bytes_at
@@ -20,7 +20,7 @@ bytes_are (suc n) text p inside =
 front_of : (m k : ℕ) (text : List ℕ) → m ≤ k → k ≤ length text → take m (take k text) ≡ take m text
 front_of m k text le inside = sym (ap (take m) (sym (take-append-drop k text)) ∙ take-append-le m (take k text) (drop k text) (omega (arith, length-take-le k text inside)))
 
--- a front and an end of so many bytes each
+-- a front and an end of that many bytes each
 pub ends_are : (k n : ℕ) (text : List ℕ) → k ≤ n → n ≤ k + k → n ≤ length text
     → take (n - k) (bytes_at k text 0) ++ bytes_at k text (n - k) ≡ take n text
 ends_are k n text least most inside =

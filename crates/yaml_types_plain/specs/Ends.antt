@@ -2,12 +2,12 @@
 use Rattle.std.specs.Prelude.{ℕ, zero, suc, ◌+◌, Bool, true, ◌&&◌, ◌==◌, List, [], ◌∷◌, ◌++◌, slice_index, ◌≤◌, length, Option, None, Some, Vec}
 use Rattle.std.specs.Global.{Global}
 
--- so many bytes from the place on
+-- that many bytes from the place on
 unfoldable pub bytes_at : ℕ → List ℕ → ℕ → List ℕ
 bytes_at zero text p = []
 bytes_at (suc n) text p = bytes_at n text p ++ slice_index text (p + n) ∷ []
 
--- so many bytes of two texts, from these places on, are the same
+-- that many bytes of two texts, from these places on, are the same
 unfoldable pub same_run : ℕ → List ℕ → ℕ → List ℕ → ℕ → Bool
 same_run zero a p b q = true
 same_run (suc n) a p b q = same_run n a p b q && slice_index a (p + n) == slice_index b (q + n)

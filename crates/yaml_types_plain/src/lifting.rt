@@ -17,7 +17,7 @@ pub fn moved(text: &mut Vec<u8>) -> Vec<u8>
     mem::replace(text, Vec::new(alloc))
 }
 
-/// The text, lifted out of its place, with room for so many bytes more: the room is made once, and what is put then can't fail.
+/// The text, lifted out of its place, with room for that many bytes more: the room is made once, and what is put then can't fail.
 // Inlined: a comparison, and some moves.
 #[inline(always)]
 pub(crate) fn with_room(text: &mut Vec<u8>, count: usize) -> Result<Vec<u8>, AllocError>

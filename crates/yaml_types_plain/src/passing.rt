@@ -15,7 +15,7 @@ pub trait ByteTest {
         ensures { result ≡ passed self.now byte };
 }
 
-/// Whether so many bytes from there on pass.
+/// Whether that many bytes from there on pass.
 // Inlined: some vector instructions, where their number is known.
 #[inline(always)]
 pub fn is_run<T: ByteTest>(test: &T, text: &[u8], at: usize, size: usize) -> bool
@@ -31,7 +31,7 @@ pub fn is_run<T: ByteTest>(test: &T, text: &[u8], at: usize, size: usize) -> boo
     all
 }
 
-/// Whether all bytes of a text pass whose front and end, of so many bytes each, are all of it.
+/// Whether all bytes of a text pass whose front and end, of that many bytes each, are all of it.
 // Inlined: see `is_run`.
 #[inline(always)]
 pub fn are_ends<T: ByteTest>(test: &T, text: &[u8], size: usize) -> bool

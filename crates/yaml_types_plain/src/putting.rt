@@ -5,10 +5,10 @@ ghost use Rattle.yaml_types_plain.specs.Ends.{bytes_at, IsShort};
 
 use crate::lifting::{moved, put_back};
 
-// Texts of at most so many bytes are brief: two loads and two stores of up to eight bytes put one.
+// Texts of at most that many bytes are brief: two loads and two stores of up to eight bytes put one.
 const BRIEF: usize = 16;
 
-/// Texts of at most so many bytes are short.
+/// Texts of at most that many bytes are short.
 pub const SHORT: usize = 32;
 
 /// Puts these bytes after a text, one by one.
@@ -38,7 +38,7 @@ pub(crate) fn put_many(text: &mut Vec<u8>, bytes: &[u8])
     let _ = text.extend_from_slice(bytes);
 }
 
-// Puts these bytes, which are so many, after a text.
+// Puts these bytes, which are that many, after a text.
 // Inlined: their number is known.
 #[inline(always)]
 fn put_so_many(text: &mut Vec<u8>, bytes: &[u8], count: usize)
@@ -161,7 +161,7 @@ fn put_ends(bytes: &mut Vec<u8>, text: &[u8], front: &[u8], end: &[u8])
     put_each(bytes, end);
 }
 
-// Cuts so many bytes off.
+// Cuts that many bytes off.
 // No hint: alone the loop becomes one difference, with no test as `truncate` has one, and that is inlined.
 fn cut_back(bytes: &mut Vec<u8>, count: usize)
     requires { count ≤ vec_len bytes.old }

@@ -46,7 +46,7 @@ pub fn followed(text: Vec<u8>, rest: &[u8]) -> Vec<u8>
     }
 }
 
-/// A text in the room of one that is done with, which is emptied and lifted out of its place: its room is made once, for so many bytes more
+/// A text in the room of one that is done with, which is emptied and lifted out of its place: its room is made once, for that many bytes more
 /// too, or refused when out of memory.
 // Inlined: a comparison, and a short text is two moves.
 #[inline(always)]

@@ -5,7 +5,7 @@ ghost use Rattle.yaml_types_plain.specs.Ends.{same_run};
 
 use crate::putting::SHORT;
 
-// Whether so many bytes of two texts, from these places on, are the same.
+// Whether that many bytes of two texts, from these places on, are the same.
 // Inlined: a comparison or two, where their number is known.
 #[inline(always)]
 fn is_same_run(a: &[u8], at: usize, b: &[u8], from: usize, size: usize) -> bool
@@ -22,7 +22,7 @@ fn is_same_run(a: &[u8], at: usize, b: &[u8], from: usize, size: usize) -> bool
     same
 }
 
-// Whether a text stands in front whose front and end, of so many bytes each, are all of it.
+// Whether a text stands in front whose front and end, of that many bytes each, are all of it.
 // Inlined: see `is_same_run`.
 #[inline(always)]
 fn stands_by_ends(left: &[u8], text: &[u8], size: usize) -> bool

@@ -58,7 +58,7 @@ fn stand_in(indent: u64) -> yaml_emitter_stand_t
     }
 }
 
-/// Gives the starts of sequences to an emitter of three bytes at most, in a flow sequence of that indentation: so many are right, and
+/// Gives the starts of sequences to an emitter of three bytes at most, in a flow sequence of that indentation: that many are right, and
 /// the next one stops the output with that kind of fault, as does each after it. What is put then isn't there.
 pub fn put_stop(reply: &mut Reply, name: &str, indent: u64, right: u64, wanted: yaml_error_type_t) {
     let alloc = reply.alloc;

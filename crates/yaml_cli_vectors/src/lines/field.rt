@@ -5,7 +5,7 @@ use crate::lines::words::ENCODINGS;
 use serde_json::Value;
 use yaml_scan::{yaml_encoding_t, yaml_mark_t};
 
-// A path is a pointer of JSON: `/settings/limit`, `/0`. An error tells it.
+// A path is a pointer of JSON: `/settings/limit`, `/0`. An error says it.
 impl Reply {
     /// What stands there, else the value itself.
     pub fn value<'a>(&mut self, of: &'a Value, path: &'static str) -> &'a Value {

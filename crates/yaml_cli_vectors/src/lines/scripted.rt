@@ -8,9 +8,9 @@ use std::io::{Cursor, ErrorKind, Read, Write};
 // What a stream does at its next calls.
 #[derive(Clone, Copy)]
 enum Step {
-    // So many bytes are given, over several calls where they do not fit. A writer takes as many at most, in one call.
+    // That many bytes are given, over several calls where they do not fit. A writer takes as many at most, in one call.
     Bytes(usize),
-    // So many calls in a row are interrupted.
+    // That many calls in a row are interrupted.
     Interrupted(usize),
     // A call gives or takes no byte.
     Zero,
@@ -70,7 +70,7 @@ impl Script {
         }
     }
 
-    // Does the step, by which no byte is moved, and tells whether the call fails.
+    // Does the step, by which no byte is moved, and says whether the call fails.
     fn fails(&mut self, step: Step) -> Option<ErrorKind> {
         match step {
             Step::Interrupted(times) => {

@@ -1,4 +1,4 @@
-//! Tokens and events that are found: each tells whether there may be more.
+//! Tokens and events that are found: each says whether there may be more.
 
 use super::turn::Turn;
 use crate::lines::{Reply, show_event, show_token};

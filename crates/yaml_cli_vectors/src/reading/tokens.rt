@@ -12,7 +12,7 @@ use yaml_scan::{
     yaml_parser_t,
 };
 
-// Puts the token that is lent, or the fault.
+// Puts the token that is passed by reference, or the fault.
 fn put_lent(reply: &mut Reply, line: &Value, session: &mut yaml_parser_t<'_>) {
     match yaml_parser_peek(session) {
         Ok(token) => show_token(reply, token),
@@ -20,7 +20,7 @@ fn put_lent(reply: &mut Reply, line: &Value, session: &mut yaml_parser_t<'_>) {
     }
 }
 
-// Drops the token that was lent, and puts whether there is one.
+// Drops the token that was passed by reference, and puts whether there is one.
 fn put_skipped(reply: &mut Reply, session: &mut yaml_parser_t<'_>) {
     let known = yaml_parser_has_token(session);
     if known {
@@ -46,7 +46,7 @@ fn put_turn(reply: &mut Reply, line: &Value, turn: Turn, session: &mut yaml_pars
     true
 }
 
-// What so many calls of the input's source answer, as a parser makes them: a token, the empty one after the end, or a fault.
+// What that many calls of the input's source answer, as a parser makes them: a token, the empty one after the end, or a fault.
 fn put_next(reply: &mut Reply, line: &Value, input: &Input<'_>) {
     let mut adapter = yaml_adapter_t::new(reply.alloc, input.text, input.from);
     for _ in 0..reply.count(line, "/calls") {

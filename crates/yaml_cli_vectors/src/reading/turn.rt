@@ -20,7 +20,7 @@ pub enum Turn {
     Documents,
     /// A token that is given.
     Scan,
-    /// A token that is lent.
+    /// A token that is passed by reference.
     Peek,
     /// Whether a token is known, which is dropped then.
     Skip,
@@ -55,7 +55,7 @@ const TURNS: [(&'static str, Turn); 10] = [
     ("between", Turn::Between),
 ];
 
-/// The call that comes after so many.
+/// The call that comes after that many.
 pub fn turn_at(reply: &mut Reply, line: &Value, asked: Turn, number: u64) -> Turn {
     match asked {
         Turn::Listed => match reply.list(line, "/calls").get(number as usize) {

@@ -133,7 +133,7 @@ fn put_piece(
     }
 }
 
-/// What is written of the line's events in pieces of so many, up to the first fault.
+/// What is written of the line's events in pieces of that many, up to the first fault.
 pub fn written(reply: &mut Reply, line: &Value, settings: &Settings, size: usize) -> Pieces {
     let mut pieces = Pieces {
         text: Vec::new(reply.alloc),

@@ -106,7 +106,7 @@ impl Core {
         })
     }
 
-    /// Where it stands; that so many events wait is handed in.
+    /// Where it stands; that as many events wait is handed in.
     pub fn stand(&self, waiting: u64) -> yaml_emitter_stand_t
         ensures { IsStandOfCore self.now waiting result }
     {

@@ -37,7 +37,7 @@ impl yaml_emitter_t {
         }
     }
 
-    // Whether an event was taken, by way of a slot that is lent, and no fault has come. What is left of it counts for nothing.
+    // Whether an event was taken, by way of a slot that is passed by reference, and no fault has come. What is left of it counts for nothing.
     fn dump_next(
         &mut self,
         events: &mut Events,

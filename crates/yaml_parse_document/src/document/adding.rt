@@ -167,7 +167,7 @@ fn push_pair(node: &mut yaml_node_t, pair: yaml_node_pair_t) -> Result<(), yaml_
     }
 }
 
-/// Appends an item to the sequence under a number. `yaml_document_get_node` tells whether a number names a node, and
+/// Appends an item to the sequence under a number. `yaml_document_get_node` says whether a number names a node, and
 /// of which kind. The one refusal is `Memory`, and leaves the document unchanged.
 pub fn yaml_document_append_sequence_item(
     document: &mut yaml_document_t,
@@ -184,7 +184,7 @@ pub fn yaml_document_append_sequence_item(
     push_item(&mut document.parts.nodes[node_place(sequence)], item)
 }
 
-/// Appends a pair to the mapping under a number. `yaml_document_get_node` tells whether a number names a node, and of which
+/// Appends a pair to the mapping under a number. `yaml_document_get_node` says whether a number names a node, and of which
 /// kind. The one refusal is `Memory`, and leaves the document unchanged.
 pub fn yaml_document_append_mapping_pair(
     document: &mut yaml_document_t,

@@ -1,4 +1,4 @@
--- Out of memory is told.
+-- Out of memory is reported.
 use Rattle.yaml_round_answers.proofs.Refusing.{memory_refused}
 use Rattle.yaml_round_answers.proofs.scanning.starved.Goals as goal
 

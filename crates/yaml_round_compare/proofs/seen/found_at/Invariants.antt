@@ -1,4 +1,4 @@
--- So many events more are before the one that is looked for.
+-- That many events more are before the one that is looked for.
 use Rattle.std.proofs.Common.{◌≡◌, length}
 use Rattle.yaml_round_reading.specs.Reading.{AreReal}
 use Rattle.yaml_round_compare.specs.Loaded.{event_at}

@@ -1,4 +1,4 @@
--- What is lent is the fault that is kept. Not searched for, so that a wrong value fails by its type, at once.
+-- What is passed by reference is the fault that is kept. Not searched for, so that a wrong value fails by its type, at once.
 use Rattle.yaml_scan.proofs.SessionLemmas.{lent_fault}
 use Rattle.yaml_scan.proofs.session.yaml_parser_fault.Goals as goal
 

@@ -107,7 +107,8 @@ pub parser_falls : {T P : Type 0} (g : Ghosts T P) (p : Parser T P) (a : Fault)
 parser_falls g p a = read_falls _ _ _ _
 
 -- nothing comes of a parser that was stopped
-pub parser_stops : {T P : Type 0} (g : Ghosts T P) (p : Parser T P) (a : Fault) → p.state ≡ state.End
+pub parser_stops : {T P : Type 0} (g : Ghosts T P) (p : Parser T P) (a : Fault)
+    → p.state ≡ state.End
     → IsFinished (remains g p a)
 parser_stops g p a h =
     let nothing = over_coming g p h in

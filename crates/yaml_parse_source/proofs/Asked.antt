@@ -19,7 +19,8 @@ shows_token kind.BadPrefix old new f g e h = absurd (false≢true (sym e))
 shows_token k old new f g e h = h
 
 -- it was asked for
-pub asked : (k : Kind) (fault : Option yaml_fault_t) (old : List Token) (f : Option Fault) (t : Token)
+pub asked : (k : Kind) (fault : Option yaml_fault_t) (old : List Token) (f : Option Fault)
+    (t : Token)
     (new : List Token) (g : Option Fault) → fault ≡ None → GivesToken old f t new g
     → IsOf k t.body → is_fault k ≡ false
     → Shows k old f (coming fault true t new) (fault_coming fault g)

@@ -123,7 +123,8 @@ opened_read k s ts f ds n h =
 
 -- ---- which kinds do what
 
-pub first_opens : (k : Kind) → (k ≡ kind.Scalar) ⊎ ((k ≡ kind.FlowSequenceStart) ⊎ ((k ≡ kind.FlowMappingStart)
+pub first_opens : (k : Kind) → (k ≡ kind.Scalar)
+    ⊎ ((k ≡ kind.FlowSequenceStart) ⊎ ((k ≡ kind.FlowMappingStart)
     ⊎ ((k ≡ kind.BlockSequenceStart) ⊎ ((k ≡ kind.BlockMappingStart) ⊎ ((k ≡ kind.Alias) ⊎ ((k ≡ kind.Anchor) ⊎ (k ≡ kind.Tag)))))))
     → choice_at grammar.first (type_by k) ≡ Open
 first_opens k (inl e) = ap (λ z. choice_at grammar.first (type_by z)) e
@@ -143,7 +144,8 @@ opens_no_fault k h = refl
 
 -- ---- directives
 
-pub noted_by : {T P : Type 0} (g : Ghosts T P) (k : Kind) (i : RawEvent) (s : Settled) (from : yaml_mark_t)
+pub noted_by : {T P : Type 0} (g : Ghosts T P) (k : Kind) (i : RawEvent) (s : Settled)
+    (from : yaml_mark_t)
     (r : Turn) (old mid new : Parser T P)
     → IsNext k (g.to_come old.tokens) → IsTaken g old.tokens mid.tokens
     → mid ≡ record old { tokens = mid.tokens }
@@ -218,7 +220,8 @@ pub stream_refuses : (k : Kind) → (k ≡ kind.StreamStart → ⊥)
 stream_refuses kind.StreamStart n = absurd (n refl)
 stream_refuses k n = refl
 
-pub first_parts : (k : Kind) → (k ≡ kind.StreamEnd) ⊎ ((k ≡ kind.DocumentStart) ⊎ ((k ≡ kind.VersionDirective) ⊎ (k ≡ kind.TagDirective)))
+pub first_parts : (k : Kind) → (k ≡ kind.StreamEnd)
+    ⊎ ((k ≡ kind.DocumentStart) ⊎ ((k ≡ kind.VersionDirective) ⊎ (k ≡ kind.TagDirective)))
     → parts_documents (type_by k) ≡ true
 first_parts k (inl e) = ap (λ z. parts_documents (type_by z)) e
 first_parts k (inr (inl e)) = ap (λ z. parts_documents (type_by z)) e
@@ -235,7 +238,9 @@ parts_no_fault kind.BadTag h = absurd (false≢true h)
 parts_no_fault kind.BadPrefix h = absurd (false≢true h)
 parts_no_fault k h = refl
 
-pub root_follows : (k : Kind) → (k ≡ kind.DocumentEnd) ⊎ ((k ≡ kind.StreamEnd) ⊎ ((k ≡ kind.VersionDirective) ⊎ ((k ≡ kind.TagDirective) ⊎ (k ≡ kind.DocumentStart))))
+pub root_follows : (k : Kind) → (k ≡ kind.DocumentEnd)
+    ⊎ ((k ≡ kind.StreamEnd) ⊎ ((k ≡ kind.VersionDirective)
+    ⊎ ((k ≡ kind.TagDirective) ⊎ (k ≡ kind.DocumentStart))))
     → follows Root (type_by k) ≡ true
 root_follows k (inl e) = ap (λ z. follows Root (type_by z)) e
 root_follows k (inr (inl e)) = ap (λ z. follows Root (type_by z)) e
@@ -295,7 +300,8 @@ directives_refuse kind.TagDirective m a b c = absurd (b refl)
 directives_refuse kind.DocumentStart m a b c = absurd (c refl)
 directives_refuse k m a b c = refl
 
-pub document_begins : (k : Kind) → (k ≡ kind.DocumentStart) ⊎ ((k ≡ kind.VersionDirective) ⊎ (k ≡ kind.TagDirective))
+pub document_begins : (k : Kind) → (k ≡ kind.DocumentStart)
+    ⊎ ((k ≡ kind.VersionDirective) ⊎ (k ≡ kind.TagDirective))
     → begins_document k ≡ true
 document_begins k (inl e) = ap begins_document e
 document_begins k (inr (inl e)) = ap begins_document e

@@ -148,7 +148,8 @@ scalar_found g w q r old new shown is t b n =
     (ap (λ p. directives_of p.directives) t.same))
 
 -- memory ran out for the collection that begins
-lacks_content : {T P : Type 0} (g : Ghosts T P) (k : Kind) (was rest : Coming) (e : Event) (r : Turn)
+lacks_content : {T P : Type 0} (g : Ghosts T P) (k : Kind) (was rest : Coming) (e : Event)
+    (r : Turn)
     (old new : Parser T P) → IsShown g k old.tokens → r ≡ turn.Refused
     → Refuses g (memory_fault ParserLayer) old new
     → was ≡ ahead e (left_behind (g.to_come old.tokens)) rest → Found g was r new
@@ -156,7 +157,8 @@ lacks_content g k was rest e r old new shown is h w =
     lacks g was r (left_behind (g.to_come old.tokens)) old new is h shown.unasked
     (let same : next_unasked was.events was.ending_unasked ≡ left_behind (g.to_come old.tokens) = ap (λ (c : Coming). next_unasked c.events c.ending_unasked) w in omega (arith, same))
 
-pub collection_found : {T P : Type 0} (g : Ghosts T P) (k : Kind) (w : Wants) (q : Option Properties)
+pub collection_found : {T P : Type 0} (g : Ghosts T P) (k : Kind) (w : Wants)
+    (q : Option Properties)
     (ek : EventKind) (flow : Bool) (first : State) (shape : Shape) (mk : yaml_mark_t → grammar.State)
     (r : Turn) (old new : Parser T P)
     → IsShown g k old.tokens → starts_content w (type_by k) ≡ true
@@ -263,7 +265,8 @@ no_flow_content kind.FlowSequenceStart a b c = absurd (b refl)
 no_flow_content kind.FlowMappingStart a b c = absurd (c refl)
 no_flow_content k a b c = refl
 
-pub block_starts : (k : Kind) (r : Turn) (x : State) → (k ≡ kind.BlockSequenceStart) ⊎ (k ≡ kind.BlockMappingStart)
+pub block_starts : (k : Kind) (r : Turn) (x : State) → (k ≡ kind.BlockSequenceStart)
+    ⊎ (k ≡ kind.BlockMappingStart)
     → (r ≡ turn.FlowNode → ⊥) → starts_content (wants_by r x) (type_by k) ≡ true
 block_starts k turn.FlowNode x e n = absurd (n refl)
 block_starts k turn.IndentlessNode x (inl e) n = ap (λ z. starts_content (Block (Some (side_of x))) (type_by z)) e

@@ -72,7 +72,8 @@ is_shown g k t0 t1 shows e tells u = record {
 
 -- ---- the next token is looked at
 
-resolved_moved : {T P : Type 0} (g : Ghosts T P) (t : Tag) (o : Option P) (now : Parser T P) (t1 : T)
+resolved_moved : {T P : Type 0} (g : Ghosts T P) (t : Tag) (o : Option P) (now : Parser T P)
+    (t1 : T)
     → g.mark_of t1 ≡ g.mark_of now.tokens → IsResolved g t o now → IsResolved g t o (with_tokens now t1)
 resolved_moved g t None now t1 places h = h
 resolved_moved g t (Some at) now t1 places h = (h.0, h.1 ∙ ap (λ f. f at) (sym places))
@@ -183,7 +184,8 @@ begins_bare g old new b = record {
   tag = b.tag;
 }
 
-pub begun_coming : {T P : Type 0} (g : Ghosts T P) (w : Wants) (old new : Parser T P) → Begins g old new
+pub begun_coming : {T P : Type 0} (g : Ghosts T P) (w : Wants) (old new : Parser T P)
+    → Begins g old new
     → begun g w None new ≡ node_coming g w old
 begun_coming g w old new b = ap (begun g w None) b.same
 

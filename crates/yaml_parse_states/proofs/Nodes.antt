@@ -61,7 +61,8 @@ taken_behind w q kind.Anchor t h = absurd (false≢true h)
 taken_behind w q kind.Tag t h = absurd (false≢true h)
 taken_behind w q k t h = refl
 
-type_is : (k : Kind) (t : Token) → Rattle.yaml_parse_model.specs.Tokens.type_of (body_by k t.body) ≡ type_by k
+type_is : (k : Kind) (t : Token)
+    → Rattle.yaml_parse_model.specs.Tokens.type_of (body_by k t.body) ≡ type_by k
 type_is k t = grind arith
 
 pub content_gives : (k : Kind) (w : Wants) (q : Option Properties) (i : RawEvent) (b : EventBody)

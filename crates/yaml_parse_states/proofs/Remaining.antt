@@ -49,7 +49,8 @@ has_more [] None h = h refl refl
 has_more [] (Some e) h = tt
 has_more (x ∷ xs) f h = tt
 
-read_more : (ts : List Token) (f : Option Fault) (s : List grammar.State) (ds : Directives) → Stands s
+read_more : (ts : List Token) (f : Option Fault) (s : List grammar.State) (ds : Directives)
+    → Stands s
     → HasMore (read ts f s ds).events (read ts f s ds).ending
 unfolding read
 read_more ts f s ds h =
@@ -121,7 +122,8 @@ meant : {T P : Type 0} (g : Ghosts T P) (f : Fault) (r : Refusal) (new : Parser 
     → ((s : Refusal) → new.refusal ≡ Some s → r ≡ s) → (k : Keeps g f new) → Means g new.tokens r f
 meant g f r new is k = subst (λ z. Means g new.tokens z f) (sym (is k.refusal k.kept)) k.means
 
-over_stands : {T P : Type 0} (p : Parser T P) → p.state ≡ state.End → StandsIn p.state (reverse p.levels.items)
+over_stands : {T P : Type 0} (p : Parser T P) → p.state ≡ state.End
+    → StandsIn p.state (reverse p.levels.items)
 over_stands p e = subst (λ x. StandsIn x (reverse p.levels.items)) (sym e) tt
 
 over_utf8 : {T P : Type 0} (g : Ghosts T P) (p : Parser T P) → p.state ≡ state.End → IsUtf8Held g p

@@ -31,7 +31,8 @@ behind_between state.DocumentStart ls h = absurd h
 behind_between state.End ls h = absurd h
 behind_between x ls h = refl
 
-inner_stands : {P : Type 0} (x : State) (ls : List (Level P)) → IsInner x → AreNested ls → StandsIn x ls
+inner_stands : {P : Type 0} (x : State) (ls : List (Level P)) → IsInner x → AreNested ls
+    → StandsIn x ls
 inner_stands state.StreamStart ls i h = tt
 inner_stands state.FirstDocument ls i h = tt
 inner_stands state.DocumentStart ls i h = tt

@@ -77,7 +77,8 @@ stack_between at state.End ls = refl
 stack_between at x ls = refl
 
 -- what an event says of it
-kind_between : {P : Type 0} (k : EventKind) (s : Slot P) (a t : List ℕ) (u : Texts) (ds : Directives)
+kind_between : {P : Type 0} (k : EventKind) (s : Slot P) (a t : List ℕ) (u : Texts)
+    (ds : Directives)
     → parts_documents_behind (body_in (record s { kind = k }) a t u ds) ≡ between_behind k
 kind_between kind.StreamStart s a t u ds = refl
 kind_between k s a t u ds = refl

@@ -44,7 +44,8 @@ looked_named g p t h k = record {
   tag = h.tag;
 }
 
-body_utf8 : {P : Type 0} (s : Slot P) (k : EventKind) (a t : List ℕ) (u : Texts) (ds : resolve.Directives)
+body_utf8 : {P : Type 0} (s : Slot P) (k : EventKind) (a t : List ℕ) (u : Texts)
+    (ds : resolve.Directives)
     → IsUtf8Option (anchor_in s a) → IsUtf8Option (tag_in s t) → IsUtf8 (value_if s.has_value u.value)
     → AreUtf8 ds.tags → HasUtf8 (body_in (record s { kind = k }) a t u ds)
 body_utf8 s kind.DocumentStart a t u ds ha ht hv hd = hd

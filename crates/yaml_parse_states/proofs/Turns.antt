@@ -16,7 +16,8 @@ pub turn_of : {T P : Type 0} (g : Ghosts T P) (x : State) (r : Turn) (old new : 
 turn_of g x turn.End old new e h = absurd h
 turn_of g x r old new e h = subst (λ z. Turned g (coming_in g z old) r new) (sym e) h
 
-pub awaits_of : {T P : Type 0} (g : Ghosts T P) (r : Turn) (old mid : Parser T P) → Turns g old r mid
+pub awaits_of : {T P : Type 0} (g : Ghosts T P) (r : Turn) (old mid : Parser T P)
+    → Turns g old r mid
     → (r ≡ turn.Given → ⊥) → (r ≡ turn.Refused → ⊥) → (r ≡ turn.End → ⊥)
     → AwaitsNode g (wants_by r mid.state) (coming_of g old) mid
 awaits_of g turn.Given old mid h a b c = absurd (a refl)

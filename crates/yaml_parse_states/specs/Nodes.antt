@@ -71,7 +71,8 @@ pub record Begins {T P : Type 0} (g : Ghosts T P) (old new : Parser T P) : Type 
 
 -- the tag in full, or where one starts whose handle stands for nothing
 abbrev pub IsResolved : {T P : Type 0} → Ghosts T P → Tag → Option P → Parser T P → Type 0
-IsResolved g t None p = resolved (directives_of p.directives).tags t.handle t.suffix ≡ Some p.tag.items
+IsResolved g t None p = resolved (directives_of p.directives).tags t.handle t.suffix
+    ≡ Some p.tag.items
 IsResolved g t (Some at) p = (resolved (directives_of p.directives).tags t.handle t.suffix ≡ None)
     × (t.mark ≡ g.mark_of p.tokens at)
 
@@ -80,7 +81,8 @@ IsTag g None p = (p.event.has_tag ≡ false) × (p.undefined ≡ None)
 IsTag g (Some t) p = (p.event.has_tag ≡ true) × IsResolved g t p.undefined p
 
 -- its properties are those
-pub record AreProperties {T P : Type 0} (g : Ghosts T P) (q : Properties) (p : Parser T P) : Type 0 where
+pub record AreProperties {T P : Type 0} (g : Ghosts T P) (q : Properties) (p : Parser T P) : Type 0
+    where
   pub from : g.mark_of p.tokens p.event.start ≡ q.from
   pub to : g.mark_of p.tokens p.event.end ≡ q.to
   pub anchor : q.anchor ≡ anchor_of p
@@ -127,7 +129,8 @@ PutsTag (Some full) at old new = (new.tag.items ≡ full) × (new.undefined ≡ 
 -- the tag that is next is put down so
 abbrev pub TakesTag : {T P : Type 0} → Ghosts T P → Parser T P → Parser T P → Type 0
 TakesTag g old new = old.undefined ≡ None → IsResolved g
-    (tag_at (handle_in (front_of (g.to_come old.tokens)).body) (suffix_in (front_of (g.to_come old.tokens)).body)
+    (tag_at (handle_in (front_of (g.to_come old.tokens)).body)
+        (suffix_in (front_of (g.to_come old.tokens)).body)
     (front_of (g.to_come old.tokens)).start_mark) new.undefined new
 
 -- the properties with the one that the token is
@@ -146,7 +149,8 @@ with_property k t q = record {
 }
 
 -- it is taken
-pub record TakesProperty {T P : Type 0} (g : Ghosts T P) (k : Kind) (old new : Parser T P) : Type 0 where
+pub record TakesProperty {T P : Type 0} (g : Ghosts T P) (k : Kind) (old new : Parser T P) : Type 0
+    where
   pub same : new ≡ record old {
     tokens = new.tokens;
     event = new.event;
@@ -213,7 +217,8 @@ collecting k flow p = record p.event {
 }
 
 -- its event
-abbrev pub collection_told : {T P : Type 0} → Ghosts T P → EventKind → Bool → Parser T P → Parser T P
+abbrev pub collection_told : {T P : Type 0} → Ghosts T P → EventKind → Bool → Parser T P
+    → Parser T P
     → Event
 collection_told g k flow old new = record {
   body = body_in (collecting k flow old) old.anchor.items old.tag.items (g.texts new.tokens)
@@ -251,7 +256,8 @@ Collected g k flow first old r new = ⊥
 
 -- the same of a sequence that isn't indented, whose first entry is next
 abbrev pub Loosely : {T P : Type 0} → Ghosts T P → Parser T P → Turn → Parser T P → Type 0
-Loosely g old turn.Given new = OpensWith g kind.SequenceStart false state.IndentlessSequenceEntry old new
+Loosely g old turn.Given new = OpensWith g kind.SequenceStart false state.IndentlessSequenceEntry
+    old new
 Loosely g old turn.Refused new = Refuses g (memory_fault ParserLayer) old new
 Loosely g old r new = ⊥
 

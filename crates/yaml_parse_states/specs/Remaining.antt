@@ -40,7 +40,8 @@ abbrev pub Told : {T P : Type 0} → Ghosts T P → Fault → Parser T P → Par
 Told g f old new = (held : _ → ℕ) (n : ℕ) (a : Fault) → ToldNext g held n a f old new
 
 -- it was told by that refusal
-pub record ToldBy {T P : Type 0} (g : Ghosts T P) (r : Refusal) (old new : Parser T P) : Type 0 where
+pub record ToldBy {T P : Type 0} (g : Ghosts T P) (r : Refusal) (old new : Parser T P) : Type 0
+    where
   pub fault : Fault
   pub means : Means g new.tokens r fault
   pub stands : Stands new

@@ -18,5 +18,6 @@ Turns g old r new = Turned g (coming_of g old) r new
 -- the next event is given, or a fault is reported, or nothing is left
 abbrev pub Steps : {T P : Type 0} → Ghosts T P → Parser T P → Step → Parser T P → Type 0
 Steps g old step.Event new = GaveEvent g (coming_of g old) new
-Steps g old step.Refused new = IsRefused g (coming_of g old) new ⊎ LacksMemory g (coming_of g old) new
+Steps g old step.Refused new = IsRefused g (coming_of g old) new
+    ⊎ LacksMemory g (coming_of g old) new
 Steps g old step.End new = (new ≡ old) × (old.state ≡ state.End)

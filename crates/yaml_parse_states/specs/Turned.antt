@@ -54,12 +54,14 @@ pub record Takes {T P : Type 0} (g : Ghosts T P) (k : EventKind) (next : State)
     (old new : Parser T P) : Type 0 where
   pub same : new ≡ record old { tokens = new.tokens; state = next; event = new.event }
   pub token : IsTaken g old.tokens new.tokens
-  pub event : event_in g new ≡ bare_event k (g.texts new.tokens) (front_of (g.to_come old.tokens)).start_mark
+  pub event : event_in g new ≡ bare_event k (g.texts new.tokens)
+      (front_of (g.to_come old.tokens)).start_mark
       (front_of (g.to_come old.tokens)).end_mark old
 
 -- a collection opens where the token that is next starts
 pub record Opens {T P : Type 0} (g : Ghosts T P) (old new : Parser T P) : Type 0 where
-  pub start : opener (g.mark_of new.tokens) (reverse new.levels.items) ≡ (front_of (g.to_come old.tokens)).start_mark
+  pub start : opener (g.mark_of new.tokens) (reverse new.levels.items)
+      ≡ (front_of (g.to_come old.tokens)).start_mark
   pub next : behind (reverse new.levels.items) ≡ old.state
   pub below : below_of g new ≡ stack (g.mark_of old.tokens) old.state (reverse old.levels.items)
 
@@ -117,13 +119,15 @@ pub record IsLost (ts : List Token) (f : Option Fault) : Type 0 where
   pub memory : IsMemoryFault scan_layers told
 
 -- an event was given, which was the next one, and the rest is left
-pub record GaveEvent {T P : Type 0} (g : Ghosts T P) (was : Coming) (new : Parser T P) : Type 0 where
+pub record GaveEvent {T P : Type 0} (g : Ghosts T P) (was : Coming) (new : Parser T P) : Type 0
+    where
   pub unasked : ℕ
   pub left : g.unasked new.tokens ≡ unasked
   pub next : was ≡ ahead (event_in g new) unasked (coming_of g new)
 
 -- a fault was told, the next one or that of the memory of a layer that scans, and nothing is left
-pub record IsRefused {T P : Type 0} (g : Ghosts T P) (was : Coming) (new : Parser T P) : Type 0 where
+pub record IsRefused {T P : Type 0} (g : Ghosts T P) (was : Coming) (new : Parser T P) : Type 0
+    where
   pub fault : Fault
   pub told : Keeps g fault new
   pub over : new.state ≡ state.End
@@ -132,7 +136,8 @@ pub record IsRefused {T P : Type 0} (g : Ghosts T P) (was : Coming) (new : Parse
   pub reason : IsMemoryFault scan_layers fault ⊎ (was ≡ stopped fault unasked)
 
 -- The fault of the tokens is told, or that of the token which is next, where it is what comes.
-abbrev pub RefusesNext : {T P : Type 0} → Ghosts T P → ParseProblem → Parser T P → Parser T P → Type 0
+abbrev pub RefusesNext : {T P : Type 0} → Ghosts T P → ParseProblem → Parser T P → Parser T P
+    → Type 0
 RefusesNext g p old new = (was : Coming)
     → ((f : Fault) → g.to_come old.tokens ≡ [] → g.fault_to_come old.tokens ≡ Some f
     → was ≡ stopped f 0)
@@ -171,7 +176,9 @@ abbrev pub Ends : {T P : Type 0} → Ghosts T P → Kind → EventKind → Parse
 Ends g token k old r new = (x : grammar.State) (b : EventBody)
     → choice_at x (type_by token) ≡ Take
     → taken_at x (token_by token (front_of (g.to_come old.tokens)))
-    ≡ taken (Some (event_at b (front_of (g.to_come old.tokens)).start_mark (front_of (g.to_come old.tokens)).end_mark)) []
-    → body_in (bare k old.event) old.anchor.items old.tag.items (g.texts new.tokens) (directives_of old.directives) ≡ b
+    ≡ taken (Some (event_at b (front_of (g.to_come old.tokens)).start_mark
+        (front_of (g.to_come old.tokens)).end_mark)) []
+    → body_in (bare k old.event) old.anchor.items old.tag.items (g.texts new.tokens)
+    (directives_of old.directives) ≡ b
     → behind_event b (directives_of old.directives) ≡ directives_of old.directives
     → Turned g (coming_with g (x ∷ below_of g old) old) r new

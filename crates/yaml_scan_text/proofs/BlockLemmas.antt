@@ -27,17 +27,20 @@ few_indicators b c = grind (arith, nat_tests)
 
 -- ---- the header
 
-pub header_zero : (text : List ℕ) (p digit : ℕ) (w : Told) → digit ≡ digit_place text p → byte text digit ≡ 48
+pub header_zero : (text : List ℕ) (p digit : ℕ) (w : Told) → digit ≡ digit_place text p
+    → byte text digit ≡ 48
     → wrong_of w ≡ in_block problems.ZeroIndentation digit → ReadsHeader text (Err w) (header_at text p)
 header_zero text p digit w e h same = rw (headers.zero_header text p (rw e at h)) (same ∙ rw e refl)
 
-pub header_wrong : (text : List ℕ) (p digit end : ℕ) (w : Told) → digit ≡ digit_place text p → byte text digit ≢ 48
+pub header_wrong : (text : List ℕ) (p digit end : ℕ) (w : Told) → digit ≡ digit_place text p
+    → byte text digit ≢ 48
     → end ≡ header_end text p → is_text text end ≡ true
     → wrong_of w ≡ in_block problems.NoCommentOrBreak end → ReadsHeader text (Err w) (header_at text p)
 header_wrong text p digit end w e h at t same = rw (headers.wrong_header text p (rw e at h) (rw at at t)) (same ∙ rw at refl)
 
 -- what stands up to the end of the header is no break
-indicators_none : (text : List ℕ) (p k : ℕ) → p ≤ k → k < p + indicators (byte text p) (byte text (p + 1))
+indicators_none : (text : List ℕ) (p k : ℕ) → p ≤ k
+    → k < p + indicators (byte text p) (byte text (p + 1))
     → (0 < byte text k) × (break_width text k ≡ 0)
 indicators_none text p k a b =
     let n = indicators (byte text p) (byte text (p + 1)) in
@@ -51,7 +54,8 @@ indicators_none text p k a b =
           rw e (headers.first_parts (byte text p) (byte text (p + 1)) (byte text (p + 1)) (byte text (p + 2)) n refl (λ z. absurd (omega arith)))
     ]
 
-indicators_inside : (text : List ℕ) (p : ℕ) → p ≤ length text → p + indicators (byte text p) (byte text (p + 1)) ≤ length text
+indicators_inside : (text : List ℕ) (p : ℕ) → p ≤ length text
+    → p + indicators (byte text p) (byte text (p + 1)) ≤ length text
 indicators_inside text p inside = elim (cases_lt 0 (indicators (byte text p) (byte text (p + 1)))) [
   | inl l ↦
       let n = indicators (byte text p) (byte text (p + 1)) in
@@ -74,7 +78,8 @@ blanks_none text p k a b = elim (cases_lt k (p + indicators (byte text p) (byte 
 blank_some : (text : List ℕ) (q : ℕ) → is_blank_there text q ≡ true → 0 < byte text q
 blank_some text q h = (blank_parts (byte text q) 0 0 h).0
 
-blanks_inside : (text : List ℕ) (p : ℕ) → p ≤ length text → (p ≤ blanks_end text p) × (blanks_end text p ≤ length text)
+blanks_inside : (text : List ℕ) (p : ℕ) → p ≤ length text
+    → (p ≤ blanks_end text p) × (blanks_end text p ≤ length text)
 blanks_inside text p inside =
     let n = indicators (byte text p) (byte text (p + 1)) in
     let le = past-le is_blank_there (length text) text (p + n) in
@@ -107,12 +112,14 @@ comment_end text p inside =
       | inr n ↦ rw n (record { after = after; inside = before; none = λ k a b. blanks_none text p k a b })
     ]
 
-pub header_unbroken : (text : List ℕ) (p : ℕ) → p ≤ length text → splits_break text p ≡ false → IsUnbroken text p (header_end text p)
+pub header_unbroken : (text : List ℕ) (p : ℕ) → p ≤ length text → splits_break text p ≡ false
+    → IsUnbroken text p (header_end text p)
 header_unbroken text p inside whole =
     let end = comment_end text p inside in
     unbroken text p (header_end text p) end.after whole end.none
 
-pub header_line : (text : List ℕ) (p line : ℕ) → p ≤ length text → splits_break text p ≡ false → line ≡ line_start text p
+pub header_line : (text : List ℕ) (p line : ℕ) → p ≤ length text → splits_break text p ≡ false
+    → line ≡ line_start text p
     → line ≡ line_start text (header_end text p)
 header_line text p line inside whole e =
     let end = comment_end text p inside in
@@ -122,7 +129,8 @@ no_text : (b w : ℕ) → not (b == 0 || nat_lt 0 w) ≡ false → w ≡ 0 → b
 no_text b w h z = grind (arith, nat_tests)
 
 -- the place after the break that ends a line there, or the text's end
-pub seat_behind : (text : List ℕ) (q : ℕ) → q ≤ length text → splits_break text q ≡ false → is_text text q ≡ false
+pub seat_behind : (text : List ℕ) (q : ℕ) → q ≤ length text → splits_break text q ≡ false
+    → is_text text q ≡ false
     → (line at : ℕ) → at ≡ q + break_width text q → line ≡ line_start text at
     → (AtLine text line at) × (0 < byte text at → column_at text at ≡ 0)
 seat_behind text q inside whole stop line at e own =
@@ -142,7 +150,8 @@ seat_behind text q inside whole stop line at e own =
           (record { inside = rw same inside; whole = rw same whole; order = omega arith; own = own; column = λ some. absurd (omega arith) }, λ some. absurd (omega arith))
     ]
 
-pub header_done : (text : List ℕ) (p digit end line : ℕ) (h : Header) → p ≤ length text → splits_break text p ≡ false
+pub header_done : (text : List ℕ) (p digit end line : ℕ) (h : Header) → p ≤ length text
+    → splits_break text p ≡ false
     → digit ≡ digit_place text p → byte text digit ≢ 48 → end ≡ header_end text p → is_text text end ≡ false
     → h ≡ record { chomp = chomp_of (byte text (chomping_place text p)); digit = digit_of (byte text digit); at = end + break_width text end; line = line }
     → digit_of (byte text digit) < 10 → line ≡ line_start text (end + break_width text end)
@@ -168,7 +177,8 @@ tab_test b col d c h = elim (cases_Bool (b == 9)) [
   | inr f ↦ rw f refl
 ]
 
-stop_test : (b col d c : ℕ) → (0 < b → col ≡ d) → (b == 0 || not (d == c)) ≡ (b == 0 || not (col == c))
+stop_test : (b col d c : ℕ) → (0 < b → col ≡ d)
+    → (b == 0 || not (d == c)) ≡ (b == 0 || not (col == c))
 stop_test b col d c h = elim (cases_Bool (b == 0)) [
   | inl t ↦ rw t refl
   | inr f ↦ rw (h (some b f)) refl
@@ -177,7 +187,8 @@ stop_test b col d c h = elim (cases_Bool (b == 0)) [
     some : (b : ℕ) → (b == 0) ≡ false → 0 < b
     some b f = grind (arith, nat_tests)
 
-pub seen_tab : (text : List ℕ) (q line c : ℕ) (w : Told) → (0 < byte text q → column_at text q ≡ q - line)
+pub seen_tab : (text : List ℕ) (q line c : ℕ) (w : Told)
+    → (0 < byte text q → column_at text q ≡ q - line)
     → (byte text q == 9 && nat_lt (q - line) c) ≡ true → wrong_of w ≡ in_block problems.TabForSpace q
     → IsSeen text q (Err w) (spot_behind c text q)
 seen_tab text q line c w col h e = (blocks.tab_spot c text q (sym (tab_test (byte text q) (column_at text q) (q - line) c col) ∙ h), e)
@@ -203,7 +214,8 @@ seen_text text q line c col h none stop =
     some b r f = grind (arith, nat_tests)
 
 -- a break reads as a line feed where it has one byte or two
-pub feed_test : (text : List ℕ) (q : ℕ) → is_feed (feed_at text q) ≡ (break_width text q == 1 || break_width text q == 2)
+pub feed_test : (text : List ℕ) (q : ℕ)
+    → is_feed (feed_at text q) ≡ (break_width text q == 1 || break_width text q == 2)
 feed_test text q = elim (widths (byte text q) (byte text (q + 1)) (byte text (q + 2))) [
   | inl z ↦ rw z refl
   | inr (inl z) ↦ rw (feed_some text q (omega (arith, z)), value_other text q (λ e. absurd (omega (arith, z, e))), z) refl
@@ -214,7 +226,8 @@ feed_test text q = elim (widths (byte text q) (byte text (q + 1)) (byte text (q 
 -- ---- spaces before a line's text
 
 -- where spaces end, at most that many of them
-pub spaces_end : (text : List ℕ) (p q n : ℕ) → AreSpaces text p q → q ≤ p + n → (q < p + n → byte text q ≢ 32)
+pub spaces_end : (text : List ℕ) (p q n : ℕ) → AreSpaces text p q → q ≤ p + n
+    → (q < p + n → byte text q ≢ 32)
     → q ≡ p + spaces n text p
 spaces_end text p q n s few stop =
     let forward = s.forward in
@@ -248,7 +261,8 @@ indent_taken text p s most m e least =
     other : (b : ℕ) → (b == 32) ≡ false → b ≢ 32
     other b h = grind (arith, nat_tests)
 
-spaces_column_over : (d : ℕ) (text : List ℕ) (p : ℕ) → ((k : ℕ) → p ≤ k → k < p + d → byte text k ≡ 32)
+spaces_column_over : (d : ℕ) (text : List ℕ) (p : ℕ)
+    → ((k : ℕ) → p ≤ k → k < p + d → byte text k ≡ 32)
     → (column_at text (p + d) ≡ column_at text p + d) × ((k : ℕ) → p ≤ k → k < p + d → ends_break text k ≡ false)
 spaces_column_over zero text p each =
     let z : p + 0 ≡ p = omega arith in
@@ -271,10 +285,12 @@ spaces_column text p q s =
     (rw at at over.0, line_same text p q forward (λ k a b. over.1 k a (rw at b)))
 
 -- a place after spaces is whole, as the one in front is
-pub spaces_whole : (text : List ℕ) (p q : ℕ) → AreSpaces text p q → splits_break text p ≡ false → splits_break text q ≡ false
+pub spaces_whole : (text : List ℕ) (p q : ℕ) → AreSpaces text p q → splits_break text p ≡ false
+    → splits_break text q ≡ false
 spaces_whole text p q s whole = (unbroken text p q s.forward whole (λ k a b. (blank_parts (byte text k) (byte text (k + 1)) (byte text (k + 2)) (rw (s.each k a b) refl)).1)).whole
 
-pub spaces_inside : (text : List ℕ) (p q : ℕ) → AreSpaces text p q → p ≤ length text → q ≤ length text
+pub spaces_inside : (text : List ℕ) (p q : ℕ) → AreSpaces text p q → p ≤ length text
+    → q ≤ length text
 spaces_inside text p q s inside = elim (cases_lt p q) [
   | inl l ↦
       let h = s.each (q - 1) (omega arith) (omega arith) in
@@ -303,7 +319,8 @@ pub record Depth (text : List ℕ) (from least p column : ℕ) : Type 0 where
   pub seat : 0 < byte text p → column_at text p ≡ 0
   pub later : 0 < byte text from → column_at text p ≡ 0
 
-pub depth_first : (text : List ℕ) (from least : ℕ) → (0 < byte text from → column_at text from ≡ 0) → Depth text from least from least
+pub depth_first : (text : List ℕ) (from least : ℕ) → (0 < byte text from → column_at text from ≡ 0)
+    → Depth text from least from least
 depth_first text from least h = record { steps = length text; room = omega arith; rest = refl; seat = h; later = h }
 
 behind_spaces : (text : List ℕ) (p : ℕ) → 0 < byte text (past_spaces text p) → 0 < byte text p
@@ -319,7 +336,8 @@ break_some text p h = elim (cases_lt 0 (byte text p)) [
 ]
 
 -- the next line
-pub depth_next : (text : List ℕ) (from least p column end : ℕ) → Depth text from least p column → end ≡ past_spaces text p
+pub depth_next : (text : List ℕ) (from least p column end : ℕ) → Depth text from least p column
+    → end ≡ past_spaces text p
     → byte text end ≢ 9 → 0 < break_width text end
     → Depth text from least (end + break_width text end) (max column (end - p))
 depth_next text from least p column end depth at tab some = rw at (
@@ -340,7 +358,8 @@ depth_next text from least p column end depth at tab some = rw at (
       later = λ s. behind.column;
     })
 
-pub depth_end : (text : List ℕ) (from least p column end : ℕ) → Depth text from least p column → end ≡ past_spaces text p
+pub depth_end : (text : List ℕ) (from least p column end : ℕ) → Depth text from least p column
+    → end ≡ past_spaces text p
     → byte text end ≢ 9 → break_width text end ≡ 0
     → FindsColumn text from (Ok (max column (end - p))) (larger_of least (deepest (suc (length text)) text from))
 depth_end text from least p column end depth at tab none =
@@ -348,7 +367,8 @@ depth_end text from least p column end depth at tab none =
     let over = (spaces_column text p (past_spaces text p) (spaces_past text p)).0 in
     rw (depth.rest, done) (λ s. let zero_is = depth.later s in let reached : column_at text (past_spaces text p) ≡ past_spaces text p - p = omega arith in rw (larger_max, reached, at) refl)
 
-pub depth_bad : (text : List ℕ) (from least p column end : ℕ) (w : Told) → Depth text from least p column → end ≡ past_spaces text p
+pub depth_bad : (text : List ℕ) (from least p column end : ℕ) (w : Told)
+    → Depth text from least p column → end ≡ past_spaces text p
     → byte text end ≡ 9 → wrong_of w ≡ in_block problems.TabForSpace end
     → FindsColumn text from (Err w) (larger_of least (deepest (suc (length text)) text from))
 depth_bad text from least p column end w depth at tab e =
@@ -357,16 +377,19 @@ depth_bad text from least p column end w depth at tab e =
 pub past_spaces-le : (text : List ℕ) (p : ℕ) → p ≤ past_spaces text p
 past_spaces-le text p = past-le is_space_there (length text) text p
 
-pub depth_smaller : (text : List ℕ) (from least p column end : ℕ) → Depth text from least p column → end ≡ past_spaces text p
+pub depth_smaller : (text : List ℕ) (from least p column end : ℕ) → Depth text from least p column
+    → end ≡ past_spaces text p
     → 0 < break_width text end → (p < end + break_width text end) × (p < length text) × (end + break_width text end ≤ length text)
 depth_smaller text from least p column end depth at some =
     let forward = (spaces_past text p).forward in
     let inside = (past_break text end some).inside in
     (omega arith, omega arith, inside)
 
-pub column_digit : (text : List ℕ) (p level digit c : ℕ) → 0 < digit → c ≡ (level - 1) + digit → FindsColumn text p (Ok c) (column_of level text digit p)
+pub column_digit : (text : List ℕ) (p level digit c : ℕ) → 0 < digit → c ≡ (level - 1) + digit
+    → FindsColumn text p (Ok c) (column_of level text digit p)
 column_digit text p level digit c h e = rw (depths.column_given level text digit p h) (λ some. e)
 
-pub column_deep : (text : List ℕ) (p level digit least : ℕ) (r : Result ℕ Told) → digit ≡ 0 → least ≡ max level 1
+pub column_deep : (text : List ℕ) (p level digit least : ℕ) (r : Result ℕ Told) → digit ≡ 0
+    → least ≡ max level 1
     → FindsColumn text p r (larger_of least (deepest (suc (length text)) text p)) → FindsColumn text p r (column_of level text digit p)
 column_deep text p level digit least r z e h = rw (depths.column_found level text digit p z, larger_max) (rw e at h)

@@ -30,7 +30,8 @@ within_more : (n : ℕ) (text : List ℕ) (p q : ℕ) → p < q
 unfolding feeds_within
 within_more n text p q l = rw (lt-ltb p q l) refl
 
-within_same : (n m : ℕ) (text : List ℕ) (p q : ℕ) → q ≤ p + n → q ≤ p + m → feeds_within n text p q ≡ feeds_within m text p q
+within_same : (n m : ℕ) (text : List ℕ) (p q : ℕ) → q ≤ p + n → q ≤ p + m
+    → feeds_within n text p q ≡ feeds_within m text p q
 within_same zero m text p q a b = within_done zero text p q (omega arith) ∙ sym (within_done m text p q (omega arith))
 within_same (suc n) zero text p q a b = within_done (suc n) text p q (omega arith) ∙ sym (within_done zero text p q (omega arith))
 within_same (suc n) (suc m) text p q a b = elim (cases_lt p q) [
@@ -43,14 +44,16 @@ within_same (suc n) (suc m) text p q a b = elim (cases_lt p q) [
 pub feeds_done : (text : List ℕ) (p q : ℕ) → q ≤ p → feeds text p q ≡ []
 feeds_done text p q l = within_done (q - p) text p q l
 
-pub feeds_here : (text : List ℕ) (p q : ℕ) → p < q → feeds text p q ≡ feed_at text p ++ feeds text (p + step_width text p) q
+pub feeds_here : (text : List ℕ) (p q : ℕ) → p < q
+    → feeds text p q ≡ feed_at text p ++ feeds text (p + step_width text p) q
 feeds_here text p q l =
     let d : q - p ≡ suc (q - p - 1) = omega arith in
     let some = step_some text p in
     ap (λ n. feeds_within n text p q) d ∙ within_more (q - p - 1) text p q l
     ∙ ap (λ x. feed_at text p ++ x) (within_same (q - p - 1) (q - (p + step_width text p)) text (p + step_width text p) q (omega arith) (omega arith))
 
-pub step_inside : (text : List ℕ) (p q : ℕ) → p < q → q ≤ length text → p + step_width text p ≤ length text
+pub step_inside : (text : List ℕ) (p q : ℕ) → p < q → q ≤ length text
+    → p + step_width text p ≤ length text
 step_inside text p q l inside = elim (cases_lt 0 (break_width text p)) [
   | inl w ↦ let far = break_inside text p w in omega arith
   | inr n ↦ omega arith
@@ -63,7 +66,8 @@ feeds_step old out new text p q r l e same before =
     rw (e, same, append_assoc) (rw (feeds_here text p q l) at before)
 
 -- blanks read as nothing
-feeds_blank : (text : List ℕ) (p q : ℕ) → is_blank (byte text p) ≡ true → feeds text p q ≡ feeds text (p + 1) q
+feeds_blank : (text : List ℕ) (p q : ℕ) → is_blank (byte text p) ≡ true
+    → feeds text p q ≡ feeds text (p + 1) q
 feeds_blank text p q h = elim (cases_lt p q) [
   | inl l ↦
       let none : break_width text p ≡ 0 = (blank_parts (byte text p) (byte text (p + 1)) (byte text (p + 2)) h).1 in
@@ -71,7 +75,8 @@ feeds_blank text p q h = elim (cases_lt p q) [
   | inr l ↦ feeds_done text p q l ∙ sym (feeds_done text (p + 1) q (omega arith))
 ]
 
-feeds_past : (n : ℕ) (text : List ℕ) (p q : ℕ) → feeds text (past is_blank_there n text p) q ≡ feeds text p q
+feeds_past : (n : ℕ) (text : List ℕ) (p q : ℕ)
+    → feeds text (past is_blank_there n text p) q ≡ feeds text p q
 unfolding past
 feeds_past zero text p q = refl
 feeds_past (suc n) text p q = elim (cases_Bool (is_blank (byte text p))) [
@@ -79,7 +84,8 @@ feeds_past (suc n) text p q = elim (cases_Bool (is_blank (byte text p))) [
   | inr b ↦ rw b refl
 ]
 
-pub feeds_behind : (text : List ℕ) (p q r : ℕ) → r ≡ past_blanks text p → feeds text r q ≡ feeds text p q
+pub feeds_behind : (text : List ℕ) (p q r : ℕ) → r ≡ past_blanks text p
+    → feeds text r q ≡ feeds text p q
 feeds_behind text p q r e = rw e (feeds_past (length text) text p q)
 
 pub blanks_behind : (text : List ℕ) (p r : ℕ) → r ≡ past_blanks text p → p ≤ r
@@ -87,7 +93,8 @@ blanks_behind text p r e = rw e (past-le is_blank_there (length text) text p)
 
 -- ---- the white round a break
 
-pub fold_three : (old text : List ℕ) (from to first : ℕ) (mid : List ℕ) → first ≡ past_blanks text from
+pub fold_three : (old text : List ℕ) (from to first : ℕ) (mid : List ℕ)
+    → first ≡ past_blanks text from
     → break_width text first ≡ 3 → mid ≡ (old ++ feed_at text first) ++ feeds text (first + break_width text first) to
     → (mid ≡ old ++ fold_of text from to) × (length old < length mid)
 fold_three old text from to first mid at w e =
@@ -102,7 +109,8 @@ fold_three old text from to first mid at w e =
     let front = length-append old (feed_at text first) in
     (e ∙ rw (← at, gone, append_assoc) refl, rw e (omega arith))
 
-pub fold_feed : (old text : List ℕ) (from to first : ℕ) (mid : List ℕ) → first ≡ past_blanks text from
+pub fold_feed : (old text : List ℕ) (from to first : ℕ) (mid : List ℕ)
+    → first ≡ past_blanks text from
     → 0 < break_width text first → break_width text first ≢ 3 → mid ≡ old ++ feeds text (first + break_width text first) to
     → (length mid ≡ length old → mid ++ 32 ∷ [] ≡ old ++ fold_of text from to)
     × (length mid ≢ length old → mid ≡ old ++ fold_of text from to)
@@ -128,10 +136,12 @@ pub record IsMarked (old out text : List ℕ) (p : ℕ) : Type 0 where
   pub three : break_width text p ≡ 3 → out ≡ old ++ feed_at text p
   pub other : break_width text p ≢ 3 → out ≡ old
 
-pub marked_three : (old out text : List ℕ) (p w : ℕ) → w ≡ break_width text p → w ≡ 3 → out ≡ old ++ feed_at text p → IsMarked old out text p
+pub marked_three : (old out text : List ℕ) (p w : ℕ) → w ≡ break_width text p → w ≡ 3
+    → out ≡ old ++ feed_at text p → IsMarked old out text p
 marked_three old out text p w e h same = record { three = λ x. same; other = λ n. absurd (n (sym e ∙ h)) }
 
-pub marked_other : (old out text : List ℕ) (p w : ℕ) → w ≡ break_width text p → w ≢ 3 → out ≡ old → IsMarked old out text p
+pub marked_other : (old out text : List ℕ) (p w : ℕ) → w ≡ break_width text p → w ≢ 3 → out ≡ old
+    → IsMarked old out text p
 marked_other old out text p w e h same = record { three = λ x. absurd (h (e ∙ x)); other = λ n. same }
 
 pub fold_done : (old out mid text : List ℕ) (from to first : ℕ) → first ≡ past_blanks text from

@@ -35,7 +35,8 @@ blank_low : (b : ℕ) → is_blank b ≡ true → b < 128
 blank_low b h = grind (arith, nat_tests)
 
 -- after a blank before a line's text
-pub head_blank : (text : List ℕ) (line p : ℕ) → IsSpelled text → InHead text line p → is_blank (byte text p) ≡ true
+pub head_blank : (text : List ℕ) (line p : ℕ) → IsSpelled text → InHead text line p
+    → is_blank (byte text p) ≡ true
     → InHead text line (p + 1)
 head_blank text line p spelled head h =
     let parts = blank_parts (byte text p) (byte text (p + 1)) (byte text (p + 2)) h in
@@ -66,7 +67,8 @@ pub passed_first : (level : ℕ) (text : List ℕ) (p : ℕ) → IsSpelled text 
     → Passed level text (p + break_width text p) (p + break_width text p) (p + break_width text p)
 passed_first level text p spelled h = record { pieces = []; white = no_white (p + break_width text p); head = head_break text p spelled h }
 
-pub passed_blank : (level : ℕ) (text : List ℕ) (p line q : ℕ) → IsSpelled text → Passed level text p line q
+pub passed_blank : (level : ℕ) (text : List ℕ) (p line q : ℕ) → IsSpelled text
+    → Passed level text p line q
     → is_blank (byte text q) ≡ true → (byte text q == 9 && nat_lt (q - line) level) ≡ false
     → Passed level text p line (q + 1)
 passed_blank level text p line q spelled passed h tab =
@@ -78,7 +80,8 @@ passed_blank level text p line q spelled passed h tab =
       head = head_blank text line q spelled head h;
     }
 
-pub passed_break : (level : ℕ) (text : List ℕ) (p line q : ℕ) → IsSpelled text → Passed level text p line q
+pub passed_break : (level : ℕ) (text : List ℕ) (p line q : ℕ) → IsSpelled text
+    → Passed level text p line q
     → 0 < break_width text q → Passed level text p (q + break_width text q) (q + break_width text q)
 passed_break level text p line q spelled passed h = record {
   pieces = passed.pieces ++ Break (feed_at text q) ∷ [];
@@ -86,7 +89,8 @@ passed_break level text p line q spelled passed h = record {
   head = head_break text q spelled h;
 }
 
-passed_over : (d level : ℕ) (text : List ℕ) (p line q : ℕ) → IsSpelled text → Passed level text p line q
+passed_over : (d level : ℕ) (text : List ℕ) (p line q : ℕ) → IsSpelled text
+    → Passed level text p line q
     → ((k : ℕ) → q ≤ k → k < q + d → (is_blank (byte text k) ≡ true) × ((byte text k == 9 && nat_lt (k - line) level) ≡ false))
     → Passed level text p line (q + d)
 passed_over zero level text p line q spelled passed each = let z : q + 0 ≡ q = omega arith in rw z passed
@@ -96,7 +100,8 @@ passed_over (suc d) level text p line q spelled passed each =
     rw e (passed_over d level text p line (q + 1) spelled (passed_blank level text p line q spelled passed blank tab) (λ k low high. each k (omega arith) (omega arith)))
 
 -- the indentation of the last line
-pub passed_indent : (level : ℕ) (text : List ℕ) (p line q : ℕ) → IsSpelled text → Passed level text p line line → InIndent level text line q
+pub passed_indent : (level : ℕ) (text : List ℕ) (p line q : ℕ) → IsSpelled text
+    → Passed level text p line line → InIndent level text line q
     → Passed level text p line q
 passed_indent level text p line q spelled passed indent =
     let forward = indent.forward in
@@ -104,10 +109,12 @@ passed_indent level text p line q spelled passed indent =
     rw e at (passed_over (q - line) level text p line line spelled passed (λ k low high. let below : k < q = rw e at high in (indent.blanks k low below, indent.tabs k low below)))
 
 -- spaces before a line's text
-space_byte : (b level n : ℕ) → (b == 32) ≡ true → (is_blank b ≡ true) × ((b == 9 && nat_lt n level) ≡ false)
+space_byte : (b level n : ℕ) → (b == 32) ≡ true
+    → (is_blank b ≡ true) × ((b == 9 && nat_lt n level) ≡ false)
 space_byte b level n h = (grind (arith, nat_tests), grind (arith, nat_tests))
 
-pub spaces_indent : (level : ℕ) (text : List ℕ) (line s : ℕ) → s ≡ past_spaces text line → InIndent level text line s
+pub spaces_indent : (level : ℕ) (text : List ℕ) (line s : ℕ) → s ≡ past_spaces text line
+    → InIndent level text line s
 spaces_indent level text line s e = rw e (record {
   forward = past-le is_space_there (length text) text line;
   blanks = λ k low high. (space_byte (byte text k) level (k - line) (past_each is_space_there (length text) text line k low high)).0;
@@ -115,7 +122,8 @@ spaces_indent level text line s e = rw e (record {
 })
 
 -- after them a blank is a tab, and those after that are further right
-pub indent_done : (level : ℕ) (text : List ℕ) (line s q : ℕ) → s ≡ past_spaces text line → (byte text s == 9 && nat_lt (s - line) level) ≡ false
+pub indent_done : (level : ℕ) (text : List ℕ) (line s q : ℕ) → s ≡ past_spaces text line
+    → (byte text s == 9 && nat_lt (s - line) level) ≡ false
     → q ≡ past_blanks text s → InIndent level text line q × (is_blank (byte text q) ≡ false)
 indent_done level text line s q e fine at =
     let front = spaces_indent level text line s e in
@@ -141,7 +149,8 @@ indent_done level text line s q e fine at =
     right b c m n level blank other order fine = grind (arith, nat_tests)
 
 -- a tab in the indentation
-pub tab_spot : (flow : Bool) (level : ℕ) (text : List ℕ) (line q : ℕ) → InHead text line q → is_blank (byte text q) ≡ true
+pub tab_spot : (flow : Bool) (level : ℕ) (text : List ℕ) (line q : ℕ) → InHead text line q
+    → is_blank (byte text q) ≡ true
     → (byte text q == 9 && nat_lt (q - line) level) ≡ true
     → spot_at flow level text q ≡ in_plain problems.TabInIndentation q
 unfolding spot_at
@@ -150,11 +159,13 @@ tab_spot flow level text line q head h tab =
     let bad : (byte text q == 9 && (leads text q && nat_lt (column_at text q) level)) ≡ true = rw (head.leading, head.column) tab in
     rw (none, h, bad) refl
 
-pub head_done : (level : ℕ) (text : List ℕ) (p line q : ℕ) → Passed level text (p + break_width text p) line q
+pub head_done : (level : ℕ) (text : List ℕ) (p line q : ℕ)
+    → Passed level text (p + break_width text p) line q
     → break_width text q ≡ 0 → is_blank (byte text q) ≡ false → IsHead level text p (record { at = q; line = line })
 head_done level text p line q passed none blank = record { pieces = passed.pieces; white = passed.white; head = passed.head; none = none; blank = blank }
 
-pub head_bad : (level : ℕ) (text : List ℕ) (p line q : ℕ) (w : Wrong) → Passed level text (p + break_width text p) line q
+pub head_bad : (level : ℕ) (text : List ℕ) (p line q : ℕ) (w : Wrong)
+    → Passed level text (p + break_width text p) line q
     → is_blank (byte text q) ≡ true → (byte text q == 9 && nat_lt (q - line) level) ≡ true
     → w ≡ record { problem = problems.TabInIndentation; context = contexts.PlainScalar; place = q } → IsBadTab level text p w
 head_bad level text p line q w passed h tab e =
@@ -163,7 +174,8 @@ head_bad level text p line q w passed h tab e =
 tab_blank : (b : ℕ) (x : Bool) → (b == 9 && x) ≡ true → is_blank b ≡ true
 tab_blank b x h = grind (arith, nat_tests)
 
-pub indent_bad : (level : ℕ) (text : List ℕ) (p line : ℕ) (told : Told) → IsSpelled text → Passed level text (p + break_width text p) line line
+pub indent_bad : (level : ℕ) (text : List ℕ) (p line : ℕ) (told : Told) → IsSpelled text
+    → Passed level text (p + break_width text p) line line
     → PassesIndent level text line (Err told) → PassesBreaks level text p (Err told)
 indent_bad level text p line told spelled passed bad =
     let (q, indent, tab, is) = bad in
@@ -171,7 +183,8 @@ indent_bad level text p line told spelled passed bad =
 
 -- ---- whether a scalar ends there
 
-ends_some : (z k c m d : Bool) → (z || (k || c)) ≡ true → ((z || m) || ((k && true) || (c || d))) ≡ true
+ends_some : (z k c m d : Bool) → (z || (k || c)) ≡ true
+    → ((z || m) || ((k && true) || (c || d))) ≡ true
 ends_some z k c m d h = grind arith
 
 pub ends_nothing : (flow : Bool) (level : ℕ) (text : List ℕ) (line p : ℕ) → InHead text line p
@@ -182,15 +195,18 @@ ends_nothing flow level text line p head h = rw head.white (sym (ends_some (byte
 ends_marked : (z k d : Bool) → ((z || true) || (k || d)) ≡ true
 ends_marked z k d = grind arith
 
-pub ends_mark : (flow : Bool) (level : ℕ) (text : List ℕ) (p : ℕ) → is_document_indicator text p ≡ true
+pub ends_mark : (flow : Bool) (level : ℕ) (text : List ℕ) (p : ℕ)
+    → is_document_indicator text p ≡ true
     → true ≡ ends_at flow level text p
 unfolding ends_at
 ends_mark flow level text p h = rw h (sym (ends_marked (byte text p == 0) (byte text p == 35 && after_white text p) (is_colon text p || (if flow then is_bracket (byte text p) else leads text p && nat_lt (column_at text p) level))))
 
-ends_none : (z k c d : Bool) → (z || (k || c)) ≡ false → ((z || false) || ((k && true) || (c || d))) ≡ d
+ends_none : (z k c d : Bool) → (z || (k || c)) ≡ false
+    → ((z || false) || ((k && true) || (c || d))) ≡ d
 ends_none z k c d h = grind arith
 
-pub ends_other : (flow : Bool) (level : ℕ) (text : List ℕ) (line p : ℕ) (apart : Bool) → InHead text line p
+pub ends_other : (flow : Bool) (level : ℕ) (text : List ℕ) (line p : ℕ) (apart : Bool)
+    → InHead text line p
     → (byte text p == 0 || (byte text p == 35 || is_colon text p)) ≡ false → is_document_indicator text p ≡ false
     → apart ≡ (if flow then is_bracket (byte text p) else nat_lt (p - line) level)
     → apart ≡ ends_at flow level text p
@@ -201,7 +217,8 @@ ends_other flow level text line p apart head h m e =
 pub mark_first : (text : List ℕ) (line p : ℕ) → InHead text line p → p ≡ line → column_at text p ≡ 0
 mark_first text line p head e = let c = head.column in omega arith
 
-pub mark_other : (text : List ℕ) (line p : ℕ) → InHead text line p → p ≢ line → false ≡ is_document_indicator text p
+pub mark_other : (text : List ℕ) (line p : ℕ) → InHead text line p → p ≢ line
+    → false ≡ is_document_indicator text p
 mark_other text line p head n =
     let c = head.column in
     let o = head.order in
@@ -212,7 +229,8 @@ mark_other text line p head n =
 no_left : (b : Bool) (n : ℕ) → (b && nat_lt n 0) ≡ false
 no_left b n = grind (arith, nat_tests)
 
-passed_blanks : (n : ℕ) (text : List ℕ) (p line q : ℕ) → IsSpelled text → Passed 0 text p line q → Passed 0 text p line (past is_blank_there n text q)
+passed_blanks : (n : ℕ) (text : List ℕ) (p line q : ℕ) → IsSpelled text → Passed 0 text p line q
+    → Passed 0 text p line (past is_blank_there n text q)
 unfolding past
 passed_blanks zero text p line q spelled passed = passed
 passed_blanks (suc n) text p line q spelled passed = elim (cases_Bool (is_blank (byte text q))) [
@@ -220,19 +238,23 @@ passed_blanks (suc n) text p line q spelled passed = elim (cases_Bool (is_blank 
   | inr b ↦ rw b passed
 ]
 
-pub lines_passed : (text : List ℕ) (p line at : ℕ) → IsSpelled text → Passed 0 text p line line → at ≡ past_blanks text line → Passed 0 text p line at
+pub lines_passed : (text : List ℕ) (p line at : ℕ) → IsSpelled text → Passed 0 text p line line
+    → at ≡ past_blanks text line → Passed 0 text p line at
 lines_passed text p line at spelled passed e = rw e (passed_blanks (length text) text p line line spelled passed)
 
-pub lines_done : (text : List ℕ) (p line at : ℕ) → IsSpelled text → Passed 0 text (p + break_width text p) line line → at ≡ past_blanks text line
+pub lines_done : (text : List ℕ) (p line at : ℕ) → IsSpelled text
+    → Passed 0 text (p + break_width text p) line line → at ≡ past_blanks text line
     → break_width text at ≡ 0 → IsHead 0 text p (record { at = at; line = line })
 lines_done text p line at spelled passed e none =
     head_done 0 text p line at (lines_passed text (p + break_width text p) line at spelled passed e) none (rw e (blanks_end text line))
 
-pub lines_next : (text : List ℕ) (p line at : ℕ) → IsSpelled text → Passed 0 text p line line → at ≡ past_blanks text line
+pub lines_next : (text : List ℕ) (p line at : ℕ) → IsSpelled text → Passed 0 text p line line
+    → at ≡ past_blanks text line
     → 0 < break_width text at → Passed 0 text p (at + break_width text at) (at + break_width text at)
 lines_next text p line at spelled passed e some = passed_break 0 text p line at spelled (lines_passed text p line at spelled passed e) some
 
-pub lines_further : (text : List ℕ) (line at : ℕ) → at ≡ past_blanks text line → 0 < break_width text at
+pub lines_further : (text : List ℕ) (line at : ℕ) → at ≡ past_blanks text line
+    → 0 < break_width text at
     → (line < at + break_width text at) × (at + break_width text at ≤ length text)
 lines_further text line at e some =
     let le : line ≤ at = rw e (past-le is_blank_there (length text) text line) in

@@ -18,7 +18,8 @@ feed_none : (text : List ℕ) (p : ℕ) → break_width text p ≡ 0 → feed_at
 feed_none text p z = rw z refl
 
 -- the bytes that breaks append are those of the pieces
-pub feeds_white : (level : ℕ) (text : List ℕ) (p q : ℕ) (ps : List Piece) → White level text p q ps → feeds text p q ≡ breaks_of ps
+pub feeds_white : (level : ℕ) (text : List ℕ) (p q : ℕ) (ps : List Piece) → White level text p q ps
+    → feeds text p q ≡ breaks_of ps
 feeds_white level text p q ps (no_white s) = feeds_done text s s (omega arith)
 feeds_white level text p q ps (white_blank s t rest b tab v) =
     let le = white_le level text (s + 1) q rest v in
@@ -42,7 +43,8 @@ pub record IsGap (level : ℕ) (text : List ℕ) (p q : ℕ) : Type 0 where
   pub white : White level text p q (blanks_of blanks ++ Break (feed_at text (past_blanks text p)) ∷ pieces)
   pub after : White level text (past_blanks text p + break_width text (past_blanks text p)) q pieces
 
-pub gap_of : (flow : Bool) (level : ℕ) (text : List ℕ) (p : ℕ) (l : PlainLine) (h : Head) → IsPlainLine flow text p l
+pub gap_of : (flow : Bool) (level : ℕ) (text : List ℕ) (p : ℕ) (l : PlainLine) (h : Head)
+    → IsPlainLine flow text p l
     → 0 < break_width text l.next → IsHead level text l.next h → IsGap level text l.end h.at
 gap_of flow level text p l h is broke head =
     let bs : AreBlanks text l.end (past_blanks text l.end) = blanks_there text l.end (row_of text l.end is.seat) in
@@ -57,7 +59,8 @@ gap_of flow level text p l h is broke head =
       after = after;
     }
 
-gap_value : (level : ℕ) (text : List ℕ) (p q : ℕ) (g : IsGap level text p q) (c : List ℕ) (ks : List Piece)
+gap_value : (level : ℕ) (text : List ℕ) (p q : ℕ) (g : IsGap level text p q) (c : List ℕ)
+    (ks : List Piece)
     → value ((blanks_of g.blanks ++ Break (feed_at text (past_blanks text p)) ∷ g.pieces) ++ Kept c ∷ ks)
     ≡ fold_of text p q ++ (c ++ value ks)
 gap_value level text p q g c ks =
@@ -69,7 +72,8 @@ gap_value level text p q g c ks =
 
 -- ---- from one line to the next
 
-pub join_step : (flow : Bool) (level : ℕ) (text : List ℕ) (p : ℕ) (l : PlainLine) (h : Head) → IsPlainLine flow text p l
+pub join_step : (flow : Bool) (level : ℕ) (text : List ℕ) (p : ℕ) (l : PlainLine) (h : Head)
+    → IsPlainLine flow text p l
     → 0 < break_width text l.next → IsHead level text l.next h → ends_at flow level text h.at ≡ false
     → is_bad_colon flow text h.at ≡ false → (done : List ℕ)
     → coming flow level text done l.end
@@ -79,11 +83,13 @@ join_step flow level text p l h is broke head more fine done =
     let spot = spot_kept flow level text h.at head.none head.blank more fine in
     coming_white flow level text l.end h.at (h.at + 1) (blanks_of g.blanks ++ Break (feed_at text (past_blanks text l.end)) ∷ g.pieces) g.white done (fold_of text l.end h.at) (byte text h.at ∷ []) (λ ks. gap_value level text l.end h.at g (byte text h.at ∷ []) ks) spot
 
-breaks_there : (bs : List ℕ) (b : List ℕ) (ps : List Piece) → has_break (blanks_of bs ++ Break b ∷ ps) ≡ true
+breaks_there : (bs : List ℕ) (b : List ℕ) (ps : List Piece)
+    → has_break (blanks_of bs ++ Break b ∷ ps) ≡ true
 breaks_there [] b ps = refl
 breaks_there (x ∷ bs) b ps = breaks_there bs b ps
 
-pub join_end : (flow : Bool) (level : ℕ) (text : List ℕ) (p : ℕ) (l : PlainLine) (h : Head) → IsPlainLine flow text p l
+pub join_end : (flow : Bool) (level : ℕ) (text : List ℕ) (p : ℕ) (l : PlainLine) (h : Head)
+    → IsPlainLine flow text p l
     → 0 < break_width text l.next → IsHead level text l.next h → ends_at flow level text h.at ≡ true → (done : List ℕ)
     → coming flow level text done l.end ≡ Ok (record { value = done; end = l.end; place = h.at; broke = true })
 join_end flow level text p l h is broke head ends done =
@@ -92,7 +98,8 @@ join_end flow level text p l h is broke head ends done =
     let b = feed_at text (past_blanks text l.end) in
     coming_end flow level text l.end h.at (blanks_of g.blanks ++ Break b ∷ g.pieces) g.white done spot ∙ rw (breaks_there g.blanks b g.pieces) refl
 
-pub join_colon : (flow : Bool) (level : ℕ) (text : List ℕ) (p : ℕ) (l : PlainLine) (h : Head) → IsPlainLine flow text p l
+pub join_colon : (flow : Bool) (level : ℕ) (text : List ℕ) (p : ℕ) (l : PlainLine) (h : Head)
+    → IsPlainLine flow text p l
     → 0 < break_width text l.next → IsHead level text l.next h → ends_at flow level text h.at ≡ false
     → is_bad_colon flow text h.at ≡ true → (done : List ℕ)
     → coming flow level text done l.end ≡ Err (bad_colon h.at)
@@ -101,7 +108,8 @@ join_colon flow level text p l h is broke head more bad done =
     let spot : spot_at flow level text h.at ≡ Faulty (bad_colon h.at) = unfold spot_at in rw (head.none, head.blank, more, bad) refl in
     coming_wrong flow level text l.end h.at (blanks_of g.blanks ++ Break (feed_at text (past_blanks text l.end)) ∷ g.pieces) (bad_colon h.at) g.white done spot
 
-pub join_tab : (flow : Bool) (level : ℕ) (text : List ℕ) (p : ℕ) (l : PlainLine) (w : Wrong) → IsPlainLine flow text p l
+pub join_tab : (flow : Bool) (level : ℕ) (text : List ℕ) (p : ℕ) (l : PlainLine) (w : Wrong)
+    → IsPlainLine flow text p l
     → 0 < break_width text l.next → IsBadTab level text l.next w → (done : List ℕ)
     → coming flow level text done l.end ≡ Err w
 join_tab flow level text p l w is broke bad done =
@@ -119,11 +127,13 @@ pub record Joins (flow : Bool) (level : ℕ) (text : List ℕ) (start : ℕ) (ol
   pub on : GoesOn flow level text from part h
   pub rest : plain_at flow level text start ≡ coming flow level text (done ++ slice_range text from part.end) part.end
 
-pub line_first : (flow : Bool) (level : ℕ) (text : List ℕ) (p : ℕ) (l : PlainLine) → p < length text → IsPlainLine flow text p l
+pub line_first : (flow : Bool) (level : ℕ) (text : List ℕ) (p : ℕ) (l : PlainLine)
+    → p < length text → IsPlainLine flow text p l
     → plain_at flow level text p ≡ coming flow level text (slice_range text p l.end) l.end
 line_first flow level text p l inside is = plain_coming flow level text p inside ∙ is.goes level []
 
-pub joins_first : (flow : Bool) (level : ℕ) (text : List ℕ) (start : ℕ) (old : List ℕ) (part : PlainLine) (h : Head)
+pub joins_first : (flow : Bool) (level : ℕ) (text : List ℕ) (start : ℕ) (old : List ℕ)
+    (part : PlainLine) (h : Head)
     → start < length text → GoesOn flow level text start part h → Joins flow level text start old old start part h
 joins_first flow level text start old part h inside on = record {
   done = [];
@@ -140,7 +150,8 @@ head_word flow level text p h head more =
     record { inside = within text h.at some; blank = head.blank; none = head.none; whole = head.head.whole; starts = head.head.starts }
 
 -- what was there is kept
-pub joins_keep : (flow : Bool) (level : ℕ) (text : List ℕ) (start : ℕ) (old new : List ℕ) (from : ℕ) (part : PlainLine) (h : Head)
+pub joins_keep : (flow : Bool) (level : ℕ) (text : List ℕ) (start : ℕ) (old new : List ℕ)
+    (from : ℕ) (part : PlainLine) (h : Head)
     → Joins flow level text start old new from part h → Keeps old new
 joins_keep flow level text start old new from part h joins = record { rest = joins.done; is = joins.is }
 
@@ -152,7 +163,8 @@ pub record Reached (flow : Bool) (level : ℕ) (text : List ℕ) (start : ℕ) (
   pub head : InHead text line from
   pub rest : plain_at flow level text start ≡ coming flow level text (done ++ slice_range text from part.end) part.end
 
-pub joins_reach : (flow : Bool) (level : ℕ) (text : List ℕ) (start : ℕ) (old mid new : List ℕ) (from : ℕ) (part next : PlainLine) (h : Head)
+pub joins_reach : (flow : Bool) (level : ℕ) (text : List ℕ) (start : ℕ) (old mid new : List ℕ)
+    (from : ℕ) (part next : PlainLine) (h : Head)
     → Joins flow level text start old mid from part h → is_bad_colon flow text h.at ≡ false
     → new ≡ mid ++ (slice_range text from part.end ++ fold_of text part.end h.at)
     → IsPlainLine flow text h.at next → Reached flow level text start old new h.at next h.line
@@ -169,7 +181,8 @@ joins_reach flow level text start old mid new from part next h joins fine e is =
       rest = joins.rest ∙ step ∙ goes;
     }
 
-pub reach_joins : (flow : Bool) (level : ℕ) (text : List ℕ) (start : ℕ) (old new : List ℕ) (from : ℕ) (part : PlainLine) (line : ℕ) (h : Head)
+pub reach_joins : (flow : Bool) (level : ℕ) (text : List ℕ) (start : ℕ) (old new : List ℕ)
+    (from : ℕ) (part : PlainLine) (line : ℕ) (h : Head)
     → Reached flow level text start old new from part line → 0 < break_width text part.next → IsHead level text part.next h
     → ends_at flow level text h.at ≡ false → Joins flow level text start old new from part h
 reach_joins flow level text start old new from part line h r broke head more = record {
@@ -181,11 +194,13 @@ reach_joins flow level text start old new from part line h r broke head more = r
 
 -- ---- answers
 
-head_starts : (text : List ℕ) (line p k : ℕ) → InHead text line p → line ≤ k → k < p → starts (byte text k) ≡ true
+head_starts : (text : List ℕ) (line p k : ℕ) → InHead text line p → line ≤ k → k < p
+    → starts (byte text k) ≡ true
 head_starts text line p k head a b = blank_starts (byte text k) (head.blanks k a b)
 
 -- it ends after a break
-pub answer_ended : (flow : Bool) (level : ℕ) (text : List ℕ) (start : ℕ) (old new last : List ℕ) (from : ℕ) (part : PlainLine) (line : ℕ) (h : Head)
+pub answer_ended : (flow : Bool) (level : ℕ) (text : List ℕ) (start : ℕ) (old new last : List ℕ)
+    (from : ℕ) (part : PlainLine) (line : ℕ) (h : Head)
     → Reached flow level text start old new from part line → 0 < break_width text part.next → IsHead level text part.next h
     → ends_at flow level text h.at ≡ true → last ≡ new ++ slice_range text from part.end → (s : PlainScalar)
     → s ≡ record { end = part.end; place = h.at; line = h.line; broke = true; wide = false; joined = true }
@@ -206,7 +221,8 @@ answer_ended flow level text start old new last from part line h r broke head en
     })
 
 -- it ends on its first line, after which a break stands
-pub answer_first : (flow : Bool) (level : ℕ) (text : List ℕ) (start : ℕ) (old : List ℕ) (part : PlainLine) (h : Head)
+pub answer_first : (flow : Bool) (level : ℕ) (text : List ℕ) (start : ℕ) (old : List ℕ)
+    (part : PlainLine) (h : Head)
     → start < length text → IsPlainLine flow text start part → 0 < break_width text part.next → IsHead level text part.next h
     → ends_at flow level text h.at ≡ true → (s : PlainScalar)
     → s ≡ record { end = part.end; place = h.at; line = h.line; broke = true; wide = false; joined = false }
@@ -226,34 +242,39 @@ answer_first flow level text start old part h inside is broke head ends s e =
     })
 
 -- a tab in the indentation is refused
-pub answer_tab : (flow : Bool) (level : ℕ) (text : List ℕ) (start : ℕ) (old new : List ℕ) (from : ℕ) (part : PlainLine) (line : ℕ) (w : Wrong) (e : Refusal)
+pub answer_tab : (flow : Bool) (level : ℕ) (text : List ℕ) (start : ℕ) (old new : List ℕ)
+    (from : ℕ) (part : PlainLine) (line : ℕ) (w : Wrong) (e : Refusal)
     → Reached flow level text start old new from part line → 0 < break_width text part.next → IsBadTab level text part.next w
     → Refuses e w → ReadsPlain text start old new (Err e) (plain_at flow level text start)
 answer_tab flow level text start old new from part line w e r broke bad h =
     rw (r.rest ∙ join_tab flow level text from part w r.own broke bad (r.done ++ slice_range text from part.end)) h
 
-pub answer_tab_first : (flow : Bool) (level : ℕ) (text : List ℕ) (start : ℕ) (old : List ℕ) (part : PlainLine) (w : Wrong) (e : Refusal)
+pub answer_tab_first : (flow : Bool) (level : ℕ) (text : List ℕ) (start : ℕ) (old : List ℕ)
+    (part : PlainLine) (w : Wrong) (e : Refusal)
     → start < length text → IsPlainLine flow text start part → 0 < break_width text part.next → IsBadTab level text part.next w
     → Refuses e w → ReadsPlain text start old old (Err e) (plain_at flow level text start)
 answer_tab_first flow level text start old part w e inside is broke bad h =
     rw (line_first flow level text start part inside is ∙ join_tab flow level text start part w is broke bad (slice_range text start part.end)) h
 
 -- so is a `:` before a bracket
-pub answer_colon : (flow : Bool) (level : ℕ) (text : List ℕ) (start : ℕ) (old new : List ℕ) (from : ℕ) (part : PlainLine) (h : Head) (e : Refusal)
+pub answer_colon : (flow : Bool) (level : ℕ) (text : List ℕ) (start : ℕ) (old new : List ℕ)
+    (from : ℕ) (part : PlainLine) (h : Head) (e : Refusal)
     → Joins flow level text start old new from part h → is_bad_colon flow text h.at ≡ true → Refuses e (bad_colon h.at)
     → ReadsPlain text start old new (Err e) (plain_at flow level text start)
 answer_colon flow level text start old new from part h e joins bad r =
     let on = joins.on in
     rw (joins.rest ∙ join_colon flow level text from part h on.line on.broke on.head on.more bad (joins.done ++ slice_range text from part.end)) r
 
-pub answer_memory : (text : List ℕ) (start : ℕ) (old new : List ℕ) (e : Refusal) (x : Result PlainText Wrong) → IsMemory e
+pub answer_memory : (text : List ℕ) (start : ℕ) (old new : List ℕ) (e : Refusal)
+    (x : Result PlainText Wrong) → IsMemory e
     → ReadsPlain text start old new (Err e) x
 answer_memory text start old new e (Ok x) h = h
 answer_memory text start old new refusals.Memory (Err w) h = tt
 answer_memory text start old new (refusals.Wrong told) (Err w) h = absurd h
 
 -- it ends on a line after which no break stands
-pub answer_last : (flow : Bool) (level : ℕ) (text : List ℕ) (start : ℕ) (old new last : List ℕ) (from : ℕ) (part : PlainLine) (line : ℕ)
+pub answer_last : (flow : Bool) (level : ℕ) (text : List ℕ) (start : ℕ) (old new last : List ℕ)
+    (from : ℕ) (part : PlainLine) (line : ℕ)
     → Reached flow level text start old new from part line → break_width text part.next ≡ 0 → (r : Result PlainScalar Refusal)
     → EndsLine flow text from part line new last r → ReadsPlain text start old last r (plain_at flow level text start)
 answer_last flow level text start old new last from part line r none (Ok s) (fine, e, is) =
@@ -279,7 +300,8 @@ answer_last flow level text start old new last from part line r none (Err e) (ba
 ]
 
 -- the next line starts further on
-pub on_further : (flow : Bool) (level : ℕ) (text : List ℕ) (from : ℕ) (part : PlainLine) (h : Head) → GoesOn flow level text from part h
+pub on_further : (flow : Bool) (level : ℕ) (text : List ℕ) (from : ℕ) (part : PlainLine) (h : Head)
+    → GoesOn flow level text from part h
     → from < h.at
 on_further flow level text from part h on =
     let le = white_le level text (part.next + break_width text part.next) h.at on.head.pieces on.head.white in

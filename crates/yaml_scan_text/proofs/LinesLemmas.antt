@@ -13,7 +13,8 @@ pub row_of : (text : List ℕ) (p : ℕ) → InLine text p → InRow text p
 row_of text p l = record { inside = l.inside; whole = l.whole; column = l.column; calm = l.calm }
 
 -- a column that isn't the first stays so
-pub column_on : (text : List ℕ) (p : ℕ) → 0 < column_at text p → ends_break text p ≡ false → 0 < column_at text (p + 1)
+pub column_on : (text : List ℕ) (p : ℕ) → 0 < column_at text p → ends_break text p ≡ false
+    → 0 < column_at text (p + 1)
 column_on text p h e = elim (cases_Bool (starts (byte text p))) [
   | inl s ↦ let more = column_more text p e s in omega arith
   | inr n ↦ let same = column_same text p e n in omega arith
@@ -33,7 +34,8 @@ word_line text p w =
     }
 
 -- after a character in a line
-pub row_char : (text : List ℕ) (p : ℕ) → InRow text p → 0 < byte text p → is_blank (byte text p) ≡ false
+pub row_char : (text : List ℕ) (p : ℕ) → InRow text p → 0 < byte text p
+    → is_blank (byte text p) ≡ false
     → break_width text p ≡ 0 → InLine text (p + 1)
 row_char text p r some blank none =
     let e = end_next text p r.whole none in
@@ -48,7 +50,8 @@ row_char text p r some blank none =
     }
 
 -- after a blank in a line
-pub row_blank : (text : List ℕ) (p : ℕ) → InRow text p → is_blank (byte text p) ≡ true → InRow text (p + 1)
+pub row_blank : (text : List ℕ) (p : ℕ) → InRow text p → is_blank (byte text p) ≡ true
+    → InRow text (p + 1)
 row_blank text p r blank =
     let parts = blank_parts (byte text p) (byte text (p + 1)) (byte text (p + 2)) blank in
     let e = end_next text p r.whole parts.1 in
@@ -67,15 +70,18 @@ no_mark text p h = rw (ne_eqb (column_at text p) 0 (omega arith)) refl
 
 -- ---- where a line starts
 
-pub line_on : (text : List ℕ) (p : ℕ) → ends_break text p ≡ false → line_start text (p + 1) ≡ line_start text p
+pub line_on : (text : List ℕ) (p : ℕ) → ends_break text p ≡ false
+    → line_start text (p + 1) ≡ line_start text p
 unfolding line_start
 line_on text p e = rw (add-one, e) refl
 
-pub line_behind : (text : List ℕ) (p : ℕ) → ends_break text p ≡ true → line_start text (p + 1) ≡ p + 1
+pub line_behind : (text : List ℕ) (p : ℕ) → ends_break text p ≡ true
+    → line_start text (p + 1) ≡ p + 1
 unfolding line_start
 line_behind text p e = rw (add-one, e) refl
 
-line_over : (d : ℕ) (text : List ℕ) (p : ℕ) → ((k : ℕ) → p ≤ k → k < p + d → ends_break text k ≡ false)
+line_over : (d : ℕ) (text : List ℕ) (p : ℕ)
+    → ((k : ℕ) → p ≤ k → k < p + d → ends_break text k ≡ false)
     → line_start text (p + d) ≡ line_start text p
 line_over zero text p each = let z : p + 0 ≡ p = omega arith in rw z refl
 line_over (suc d) text p each =
@@ -83,21 +89,24 @@ line_over (suc d) text p each =
     rw e (line_on text (p + d) (each (p + d) (omega arith) (omega arith)) ∙ line_over d text p (λ k a b. each k a (omega arith)))
 
 -- where no break ends the line stays the same
-pub line_same : (text : List ℕ) (p q : ℕ) → p ≤ q → ((k : ℕ) → p ≤ k → k < q → ends_break text k ≡ false)
+pub line_same : (text : List ℕ) (p q : ℕ) → p ≤ q
+    → ((k : ℕ) → p ≤ k → k < q → ends_break text k ≡ false)
     → line_start text q ≡ line_start text p
 line_same text p q l each =
     let e : p + (q - p) ≡ q = omega arith in
     rw e at (line_over (q - p) text p (λ k a b. each k a (rw e at b)))
 
 -- a blank ends no break
-pub blank_ends_none : (text : List ℕ) (p : ℕ) → is_blank (byte text p) ≡ true → ends_break text p ≡ false
+pub blank_ends_none : (text : List ℕ) (p : ℕ) → is_blank (byte text p) ≡ true
+    → ends_break text p ≡ false
 blank_ends_none text p h = no_end-blank _ _ _ _ h
 
 pub blank_starts : (b : ℕ) → is_blank b ≡ true → starts b ≡ true
 blank_starts b h = grind (arith, nat_tests)
 
 -- after a break a line starts
-pub line_next : (text : List ℕ) (p w : ℕ) → w ≡ break_width text p → 0 < w → p + w ≡ line_start text (p + break_width text p)
+pub line_next : (text : List ℕ) (p w : ℕ) → w ≡ break_width text p → 0 < w
+    → p + w ≡ line_start text (p + break_width text p)
 line_next text p w e h =
     let some : 0 < break_width text p = rw e at h in
     let last = last_of text p some in
@@ -130,11 +139,13 @@ unbroken text p q l whole each =
     let e : p + (q - p) ≡ q = omega arith in
     rw e at (unbroken_over (q - p) text p whole (λ k a b. each k a (rw e at b)))
 
-pub unbroken_line : (text : List ℕ) (p q : ℕ) → p ≤ q → IsUnbroken text p q → line_start text q ≡ line_start text p
+pub unbroken_line : (text : List ℕ) (p q : ℕ) → p ≤ q → IsUnbroken text p q
+    → line_start text q ≡ line_start text p
 unbroken_line text p q l u = line_same text p q l u.ends
 
 -- what a run passes is of its kind
-pub past_each : (kind : List ℕ → ℕ → Bool) (n : ℕ) (text : List ℕ) (p k : ℕ) → p ≤ k → k < past kind n text p → kind text k ≡ true
+pub past_each : (kind : List ℕ → ℕ → Bool) (n : ℕ) (text : List ℕ) (p k : ℕ) → p ≤ k
+    → k < past kind n text p → kind text k ≡ true
 unfolding past
 past_each kind zero text p k a b = absurd (omega arith)
 past_each kind (suc n) text p k a b = elim (cases_Bool (kind text p)) [
@@ -154,7 +165,8 @@ line_start-le text (suc p) = elim (cases_Bool (ends_break text p)) [
 ]
 
 -- where a run ends nothing of its kind stands
-pub past_stops : (kind : List ℕ → ℕ → Bool) (n : ℕ) (text : List ℕ) (p : ℕ) → ((q : ℕ) → kind text q ≡ true → 0 < byte text q)
+pub past_stops : (kind : List ℕ → ℕ → Bool) (n : ℕ) (text : List ℕ) (p : ℕ)
+    → ((q : ℕ) → kind text q ≡ true → 0 < byte text q)
     → length text ≤ p + n → kind text (past kind n text p) ≡ false
 unfolding past
 past_stops kind zero text p some room = elim (cases_Bool (kind text p)) [

@@ -26,11 +26,13 @@ pub record Alphas (text : List ℕ) (p q : ℕ) : Type 0 where
 pub alphas_none : (text : List ℕ) (p : ℕ) → Alphas text p p
 alphas_none text p = record { forward = omega arith; each = λ k a b. absurd (omega arith) }
 
-run_ends : (text : List ℕ) (p q : ℕ) → Alphas text p q → is_alpha_byte (byte text q) ≡ false → q ≡ run_end runs.Alphas text p
+run_ends : (text : List ℕ) (p q : ℕ) → Alphas text p q → is_alpha_byte (byte text q) ≡ false
+    → q ≡ run_end runs.Alphas text p
 unfolding belongs
 run_ends text p q s h = sym (run_is runs.Alphas text p q s.forward s.each h)
 
-pub alphas_done : (text : List ℕ) (p q : ℕ) → Alphas text p q → q ≤ length text → is_alpha_byte (byte text q) ≡ false → AreAlphas text p q
+pub alphas_done : (text : List ℕ) (p q : ℕ) → Alphas text p q → q ≤ length text
+    → is_alpha_byte (byte text q) ≡ false → AreAlphas text p q
 alphas_done text p q s inside h = record { end = run_ends text p q s h; forward = s.forward; inside = inside; each = s.each }
 
 -- the text's end is none
@@ -51,11 +53,13 @@ alphas_plain text p q s = record {
 
 -- ---- names
 
-name_same : (context : Context) (text : List ℕ) (p q : ℕ) (r : Result (List ℕ × ℕ) Wrong) → q ≡ run_end runs.Alphas text p → name_between context text p q ≡ r
+name_same : (context : Context) (text : List ℕ) (p q : ℕ) (r : Result (List ℕ × ℕ) Wrong)
+    → q ≡ run_end runs.Alphas text p → name_between context text p q ≡ r
     → name_between context text p (run_end runs.Alphas text p) ≡ r
 name_same context text p q r e h = rw e at h
 
-pub name_refused : (context : Context) (text : List ℕ) (start q : ℕ) (told : Told) → AreAlphas text (start + 1) q
+pub name_refused : (context : Context) (text : List ℕ) (start q : ℕ) (told : Told)
+    → AreAlphas text (start + 1) q
     → not (start + 1 == q || not (may_end_name text q)) ≡ false
     → wrong_of told ≡ record { problem = problems.NoAlphanumeric; context = context; place = q } → ReadsName text start (Err told) (anchor_at context text start)
 name_refused context text start q told run h e =
@@ -94,7 +98,8 @@ kept_plain wide text p q run = record {
   each = λ k a b. let (low, high) = uri_range wide text k (run.kept k a b) in (omega arith, omega arith, no_break _ _ _ (omega arith) (omega arith) (omega arith) (omega arith));
 }
 
-pub plain_join : (text : List ℕ) (p q r : ℕ) → ArePlain text p q → ArePlain text q r → ArePlain text p r
+pub plain_join : (text : List ℕ) (p q r : ℕ) → ArePlain text p q → ArePlain text q r
+    → ArePlain text p r
 plain_join text p q r a b = record {
   forward = omega (arith, a.forward, b.forward);
   each = λ k l m. elim (cases_lt k q) [ inl n ↦ a.each k l n | inr n ↦ b.each k n m ];
@@ -104,7 +109,8 @@ no_bytes : (r : Result (List ℕ × ℕ) Wrong) → r ≡ with_bytes [] r
 no_bytes (Ok u) = refl
 no_bytes (Err w) = refl
 
-pub kept_none : (wide : Bool) (due : ℕ) (text : List ℕ) (p : ℕ) (old : List ℕ) → 0 < due → p ≤ length text → IsKeptBehind wide due text p old old p
+pub kept_none : (wide : Bool) (due : ℕ) (text : List ℕ) (p : ℕ) (old : List ℕ) → 0 < due
+    → p ≤ length text → IsKeptBehind wide due text p old old p
 kept_none wide due text p old some inside = record {
   more = [];
   is = sym (append-nil old);
@@ -114,7 +120,8 @@ kept_none wide due text p old some inside = record {
   plain = record { forward = omega arith; each = λ k a b. absurd (omega arith) };
 }
 
-pub kept_run : (wide : Bool) (due : ℕ) (text : List ℕ) (p q : ℕ) (old new : List ℕ) → due ≡ 0 → IsKept wide text p q → q ≤ length text
+pub kept_run : (wide : Bool) (due : ℕ) (text : List ℕ) (p q : ℕ) (old new : List ℕ) → due ≡ 0
+    → IsKept wide text p q → q ≤ length text
     → new ≡ old ++ slice_range text p q → IsKeptBehind wide due text p old new q
 kept_run wide due text p q old new z run inside e = rw z (record {
   more = slice_range text p q;
@@ -125,7 +132,8 @@ kept_run wide due text p q old new z run inside e = rw z (record {
   plain = kept_plain wide text p q run;
 })
 
-slice_long : (text : List ℕ) (p q : ℕ) → p ≤ q → q ≤ length text → length (slice_range text p q) ≡ q - p
+slice_long : (text : List ℕ) (p q : ℕ) → p ≤ q → q ≤ length text
+    → length (slice_range text p q) ≡ q - p
 slice_long text p q l inside = rw (slice_bytes text p (q - p) (omega arith)) (bytes_long text p (q - p))
 
 pub long_none : (xs : List ℕ) → length xs ≡ 0 → xs ≡ []
@@ -143,7 +151,8 @@ pub record Spelled (context : Context) (wide : Bool) (text : List ℕ) (p : ℕ)
   pub none : q ≡ p → done ≡ []
   pub plain : ArePlain text p q
 
-pub spelled_first : (context : Context) (wide : Bool) (text : List ℕ) (p q : ℕ) (old new : List ℕ) → IsKept wide text p q → q ≤ length text
+pub spelled_first : (context : Context) (wide : Bool) (text : List ℕ) (p q : ℕ) (old new : List ℕ)
+    → IsKept wide text p q → q ≤ length text
     → new ≡ old ++ slice_range text p q → Spelled context wide text p old new q 0
 spelled_first context wide text p q old new run inside e =
     let forward = run.forward in
@@ -164,7 +173,8 @@ octet_some due p b left q None h = absurd (cc)
 octet_some due p b left q (Some x) h = refl
 
 -- an escape's bytes
-escape_plain : (text : List ℕ) (p due b left q : ℕ) → byte text p ≡ 37 → octet_spot due p (octet_at text p) ≡ Spells b left q
+escape_plain : (text : List ℕ) (p due b left q : ℕ) → byte text p ≡ 37
+    → octet_spot due p (octet_at text p) ≡ Spells b left q
     → (ArePlain text p (p + 3)) × (p + 3 ≤ length text)
 escape_plain text p due b left q mark spot =
     let (one, two) = octet_digits text p (octet_some due p b left q (octet_at text p) spot) in
@@ -187,7 +197,8 @@ escape_plain text p due b left q mark spot =
     low_plain : (text : List ℕ) (k : ℕ) → 31 < byte text k → byte text k < 127 → (0 < byte text k) × (byte text k < 128) × (break_width text k ≡ 0)
     low_plain text k low high = (omega arith, omega arith, no_break _ _ _ (omega arith) (omega arith) (omega arith) (omega arith))
 
-spot_escape : (wide : Bool) (due : ℕ) (text : List ℕ) (p : ℕ) → byte text p ≡ 37 → spot_at wide due text p ≡ octet_spot due p (octet_at text p)
+spot_escape : (wide : Bool) (due : ℕ) (text : List ℕ) (p : ℕ) → byte text p ≡ 37
+    → spot_at wide due text p ≡ octet_spot due p (octet_at text p)
 unfolding spot_at
 spot_escape wide due text p h = rw h refl
 
@@ -199,7 +210,8 @@ pub record IsOctet (text : List ℕ) (p due left : ℕ) (old new : List ℕ) : T
   pub plain : ArePlain text p (p + 3)
   pub inside : p + 3 ≤ length text
 
-octet_by : (context : Context) (text : List ℕ) (p due left : ℕ) (old new : List ℕ) (s : UriSpot) → byte text p ≡ 37 → octet_spot due p (octet_at text p) ≡ s
+octet_by : (context : Context) (text : List ℕ) (p due left : ℕ) (old new : List ℕ) (s : UriSpot)
+    → byte text p ≡ 37 → octet_spot due p (octet_at text p) ≡ s
     → PutsOctet context p old new (Ok left) s → IsOctet text p due left old new
 octet_by context text p due left old new (Spells b d q) mark is (e, f, g) =
     let spot : octet_spot due p (octet_at text p) ≡ Spells b left (p + 3) = is ∙ rw (← e, f) refl in
@@ -208,11 +220,13 @@ octet_by context text p due left old new (Spells b d q) mark is (e, f, g) =
 octet_by context text p due left old new (Ends q) mark is h = absurd h
 octet_by context text p due left old new (Faulty problem q) mark is h = absurd h
 
-pub octet_put : (context : Context) (text : List ℕ) (p due left : ℕ) (old new : List ℕ) → byte text p ≡ 37
+pub octet_put : (context : Context) (text : List ℕ) (p due left : ℕ) (old new : List ℕ)
+    → byte text p ≡ 37
     → PutsOctet context p old new (Ok left) (octet_spot due p (octet_at text p)) → IsOctet text p due left old new
 octet_put context text p due left old new mark h = octet_by context text p due left old new (octet_spot due p (octet_at text p)) mark refl h
 
-pub spelled_next : (context : Context) (wide : Bool) (text : List ℕ) (p : ℕ) (old mid put new : List ℕ) (q due left r : ℕ) → Spelled context wide text p old mid q due
+pub spelled_next : (context : Context) (wide : Bool) (text : List ℕ) (p : ℕ)
+    (old mid put new : List ℕ) (q due left r : ℕ) → Spelled context wide text p old mid q due
     → byte text q ≡ 37 → IsOctet text q due left mid put → IsKeptBehind wide left text (q + 3) put new r → Spelled context wide text p old new r left
 spelled_next context wide text p old mid put new q due left r s mark o k =
     let here : uri_due context wide due text q ≡ with_bytes (o.octet ∷ []) (uri_due context wide left text (q + 3)) = uri_here context wide due text q ∙ rw (spot_escape wide due text q mark ∙ o.spot) refl in
@@ -231,7 +245,8 @@ spelled_next context wide text p old mid put new q due left r s mark o k =
       plain = plain_join text p (q + 3) r (plain_join text p q (q + 3) s.plain o.plain) k.plain;
     }
 
-pub spelled_end : (context : Context) (wide : Bool) (text : List ℕ) (p : ℕ) (old new : List ℕ) (q due : ℕ) → Spelled context wide text p old new q due
+pub spelled_end : (context : Context) (wide : Bool) (text : List ℕ) (p : ℕ) (old new : List ℕ)
+    (q due : ℕ) → Spelled context wide text p old new q due
     → byte text q ≢ 37 → due ≡ 0 → ReadsUri text p old new (Ok (record { end = q; joined = true })) (uri_at context wide text p)
 spelled_end context wide text p old new q due s mark z =
     let here : uri_due context wide due text q ≡ Ok ([], q) = rw z (uri_here context wide 0 text q ∙ rw (spot_ends wide text q (ne_eqb (byte text q) 37 mark) (s.stop z)) refl) in
@@ -245,23 +260,27 @@ spelled_end context wide text p old new q due s mark z =
       plain = s.plain;
     })
 
-spot_due : (wide : Bool) (due : ℕ) (text : List ℕ) (p : ℕ) → (byte text p == 37) ≡ false → 0 < due → spot_at wide due text p ≡ Faulty problems.NoEscapedOctet p
+spot_due : (wide : Bool) (due : ℕ) (text : List ℕ) (p : ℕ) → (byte text p == 37) ≡ false → 0 < due
+    → spot_at wide due text p ≡ Faulty problems.NoEscapedOctet p
 unfolding spot_at
 spot_due wide due text p h some = rw (h, lt-ltb 0 due some) refl
 
-pub spelled_due : (context : Context) (wide : Bool) (text : List ℕ) (p : ℕ) (old new : List ℕ) (q due : ℕ) (told : Told) → Spelled context wide text p old new q due
+pub spelled_due : (context : Context) (wide : Bool) (text : List ℕ) (p : ℕ) (old new : List ℕ)
+    (q due : ℕ) (told : Told) → Spelled context wide text p old new q due
     → byte text q ≢ 37 → 0 < due → wrong_of told ≡ record { problem = problems.NoEscapedOctet; context = context; place = q }
     → ReadsUri text p old new (Err (refusals.Wrong told)) (uri_at context wide text p)
 spelled_due context wide text p old new q due told s mark some e =
     let here : uri_due context wide due text q ≡ Err (record { problem = problems.NoEscapedOctet; context = context; place = q }) = uri_here context wide due text q ∙ rw (spot_due wide due text q (ne_eqb (byte text q) 37 mark) some) refl in
     rw (s.rest, here) e
 
-pub uri_memory : (text : List ℕ) (p : ℕ) (old new : List ℕ) (e : Refusal) (x : Result (List ℕ × ℕ) Wrong) → IsMemory e → ReadsUri text p old new (Err e) x
+pub uri_memory : (text : List ℕ) (p : ℕ) (old new : List ℕ) (e : Refusal)
+    (x : Result (List ℕ × ℕ) Wrong) → IsMemory e → ReadsUri text p old new (Err e) x
 uri_memory text p old new e (Ok x) h = h
 uri_memory text p old new refusals.Memory (Err w) h = tt
 uri_memory text p old new (refusals.Wrong told) (Err w) h = absurd h
 
-refused_by : (context : Context) (wide : Bool) (text : List ℕ) (p : ℕ) (old mid new : List ℕ) (q due : ℕ) (e : Refusal) (t : UriSpot) → Spelled context wide text p old mid q due
+refused_by : (context : Context) (wide : Bool) (text : List ℕ) (p : ℕ) (old mid new : List ℕ)
+    (q due : ℕ) (e : Refusal) (t : UriSpot) → Spelled context wide text p old mid q due
     → byte text q ≡ 37 → octet_spot due q (octet_at text q) ≡ t → PutsOctet context q mid new (Err e) t → ReadsUri text p old new (Err e) (uri_at context wide text p)
 refused_by context wide text p old mid new q due e (Spells b d r) s mark is h = uri_memory text p old new e (uri_at context wide text p) h
 refused_by context wide text p old mid new q due e (Ends r) s mark is h = absurd h
@@ -269,12 +288,14 @@ refused_by context wide text p old mid new q due e (Faulty problem r) s mark is 
     let here : uri_due context wide due text q ≡ Err (record { problem = problem; context = context; place = r }) = uri_here context wide due text q ∙ rw (spot_escape wide due text q mark ∙ is) refl in
     rw (s.rest, here) h
 
-pub spelled_refused : (context : Context) (wide : Bool) (text : List ℕ) (p : ℕ) (old mid new : List ℕ) (q due : ℕ) (e : Refusal) → Spelled context wide text p old mid q due
+pub spelled_refused : (context : Context) (wide : Bool) (text : List ℕ) (p : ℕ)
+    (old mid new : List ℕ) (q due : ℕ) (e : Refusal) → Spelled context wide text p old mid q due
     → byte text q ≡ 37 → PutsOctet context q mid new (Err e) (octet_spot due q (octet_at text q)) → ReadsUri text p old new (Err e) (uri_at context wide text p)
 spelled_refused context wide text p old mid new q due e s mark h = refused_by context wide text p old mid new q due e (octet_spot due q (octet_at text q)) s mark refl h
 
 -- a URI without escapes
-pub plain_read : (context : Context) (wide : Bool) (text : List ℕ) (p q : ℕ) (old : List ℕ) → IsKept wide text p q → q ≤ length text → byte text q ≢ 37
+pub plain_read : (context : Context) (wide : Bool) (text : List ℕ) (p q : ℕ) (old : List ℕ)
+    → IsKept wide text p q → q ≤ length text → byte text q ≢ 37
     → ReadsUri text p old old (Ok (record { end = q; joined = false })) (uri_at context wide text p)
 plain_read context wide text p q old run inside mark =
     let forward = run.forward in

@@ -38,7 +38,8 @@ coming_kept flow level text done bytes p q h =
     ap (λ r. plain_with (so_far done p) r) here ∙ kept_from done bytes p q (words_on flow level text q)
 
 -- from the first character on
-first_far : (bytes : List ℕ) (q : ℕ) (w : Words) → plain_text (with_piece (Kept bytes) q w) ≡ so_far bytes q w
+first_far : (bytes : List ℕ) (q : ℕ) (w : Words)
+    → plain_text (with_piece (Kept bytes) q w) ≡ so_far bytes q w
 unfolding so_far
 first_far bytes q w = elim (cases_Bool (is_nothing w.pieces)) [
   | inl n ↦
@@ -86,7 +87,8 @@ white_from level text p q ps white done v c r same (Ok w) =
     ap (λ (t : PlainText). Ok t) (ap (so_far done p) some ∙ white_far done v c p r w ps (same w.pieces))
 
 -- white before a character that is taken
-pub coming_white : (flow : Bool) (level : ℕ) (text : List ℕ) (p q r : ℕ) (ps : List Piece) → White level text p q ps
+pub coming_white : (flow : Bool) (level : ℕ) (text : List ℕ) (p q r : ℕ) (ps : List Piece)
+    → White level text p q ps
     → (done v c : List ℕ)
     → ((ks : List Piece) → value (ps ++ Kept c ∷ ks) ≡ v ++ (c ++ value ks))
     → spot_at flow level text q ≡ Takes (Kept c) r
@@ -98,7 +100,8 @@ coming_white flow level text p q r ps white done v c same h =
     ∙ white_from level text p q ps white done v c r same (words_on flow level text r)
 
 -- white before the scalar's end
-pub coming_end : (flow : Bool) (level : ℕ) (text : List ℕ) (p q : ℕ) (ps : List Piece) → White level text p q ps
+pub coming_end : (flow : Bool) (level : ℕ) (text : List ℕ) (p q : ℕ) (ps : List Piece)
+    → White level text p q ps
     → (done : List ℕ) → spot_at flow level text q ≡ Ends
     → coming flow level text done p ≡ Ok (record { value = done; end = p; place = q; broke = has_break ps })
 unfolding so_far
@@ -109,7 +112,8 @@ coming_end flow level text p q ps white done h =
     ap (λ x. plain_with (so_far done p) x) (over ∙ ap (words_with (with_white ps)) here) ∙ rw nothing refl
 
 -- white before what is wrong
-pub coming_wrong : (flow : Bool) (level : ℕ) (text : List ℕ) (p q : ℕ) (ps : List Piece) (e : Wrong) → White level text p q ps
+pub coming_wrong : (flow : Bool) (level : ℕ) (text : List ℕ) (p q : ℕ) (ps : List Piece)
+    (e : Wrong) → White level text p q ps
     → (done : List ℕ) → spot_at flow level text q ≡ Faulty e → coming flow level text done p ≡ Err e
 coming_wrong flow level text p q ps e white done h =
     let over = white_words flow level text p q ps white in
@@ -127,7 +131,8 @@ ends_none true level text p z m h c b l = rw (z, m, h, c, b) refl
 ends_none false level text p z m h c b l = rw (z, m, h, c, l) refl
 
 -- a character that is taken, in a line or after blanks
-pub spot_char : (flow : Bool) (level : ℕ) (text : List ℕ) (p : ℕ) → InRow text p → (byte text p == 0) ≡ false
+pub spot_char : (flow : Bool) (level : ℕ) (text : List ℕ) (p : ℕ) → InRow text p
+    → (byte text p == 0) ≡ false
     → break_width text p ≡ 0 → is_blank (byte text p) ≡ false
     → (byte text p == 35 && after_white text p) ≡ false → is_colon text p ≡ false
     → is_bad_colon flow text p ≡ false → (flow && is_bracket (byte text p)) ≡ false
@@ -150,7 +155,8 @@ pub record AreBlanks (text : List ℕ) (p q : ℕ) : Type 0 where
   pub behind : p < q → after_white text q ≡ true
   pub each : (k : ℕ) → p ≤ k → k < q → is_blank (byte text k) ≡ true
 
-blanks_each : (text : List ℕ) (p q : ℕ) → AreBlanks text p q → (k : ℕ) → p ≤ k → k < q → is_blank (byte text k) ≡ true
+blanks_each : (text : List ℕ) (p q : ℕ) → AreBlanks text p q → (k : ℕ) → p ≤ k → k < q
+    → is_blank (byte text k) ≡ true
 blanks_each text p q bs k a b = bs.each k a b
 
 no_tab : (b : Bool) (c : Bool) (l : Bool) → l ≡ false → (b && (l && c)) ≡ false
@@ -161,7 +167,8 @@ blanks_none text p row =
     let z : p - p ≡ 0 = omega arith in
     record { after = omega arith; row = row; white = λ level. rw (z, bytes_none text p) (no_white p); behind = λ l. absurd (omega arith); each = λ k a b. absurd (omega arith) }
 
-blanks_more : (text : List ℕ) (p q : ℕ) → InRow text p → is_blank (byte text p) ≡ true → AreBlanks text (p + 1) q → AreBlanks text p q
+blanks_more : (text : List ℕ) (p q : ℕ) → InRow text p → is_blank (byte text p) ≡ true
+    → AreBlanks text (p + 1) q → AreBlanks text p q
 blanks_more text p q row h more =
     let after = more.after in
     let d : q - p ≡ suc (q - (p + 1)) = omega arith in
@@ -173,7 +180,8 @@ blanks_more text p q row h more =
       each = λ k a b. elim (cases_lt p k) [ inl s ↦ more.each k (omega arith) b | inr s ↦ let e : k ≡ p = omega arith in rw e h ];
     }
 
-blanks_within : (n : ℕ) (text : List ℕ) (p : ℕ) → InRow text p → AreBlanks text p (past is_blank_there n text p)
+blanks_within : (n : ℕ) (text : List ℕ) (p : ℕ) → InRow text p
+    → AreBlanks text p (past is_blank_there n text p)
 unfolding past
 blanks_within zero text p row = blanks_none text p row
 blanks_within (suc n) text p row = elim (cases_Bool (is_blank (byte text p))) [
@@ -185,7 +193,8 @@ pub blanks_there : (text : List ℕ) (p : ℕ) → InRow text p → AreBlanks te
 blanks_there text p row = blanks_within (length text) text p row
 
 -- after blanks none stands
-past_ends : (n : ℕ) (text : List ℕ) (p : ℕ) → length text ≤ p + n → is_blank (byte text (past is_blank_there n text p)) ≡ false
+past_ends : (n : ℕ) (text : List ℕ) (p : ℕ) → length text ≤ p + n
+    → is_blank (byte text (past is_blank_there n text p)) ≡ false
 unfolding past
 past_ends zero text p room = beyond (byte text p) (get_or_past text p 0 (omega arith))
   where
@@ -200,7 +209,8 @@ pub blanks_end : (text : List ℕ) (p : ℕ) → is_blank (byte text (past_blank
 blanks_end text p = past_ends (length text) text p (omega arith)
 
 -- white is after blanks, where there are any
-pub blanks_behind : (text : List ℕ) (p q : ℕ) → InLine text p → AreBlanks text p q → after_white text q ≡ nat_lt p q
+pub blanks_behind : (text : List ℕ) (p q : ℕ) → InLine text p → AreBlanks text p q
+    → after_white text q ≡ nat_lt p q
 blanks_behind text p q line bs = elim (cases_lt p q) [
   | inl l ↦ rw (lt-ltb p q l) (bs.behind l)
   | inr l ↦ let e : q ≡ p = omega (arith, bs.after) in rw e (line.dark ∙ sym (same p))
@@ -229,14 +239,16 @@ part_first flow text p word =
     }
 
 -- a stretch after another
-goes_on : (flow : Bool) (text done : List ℕ) (p : ℕ) (xs : List ℕ) (q : ℕ) (ys : List ℕ) (r : ℕ) → Goes flow text done p xs q
+goes_on : (flow : Bool) (text done : List ℕ) (p : ℕ) (xs : List ℕ) (q : ℕ) (ys : List ℕ) (r : ℕ)
+    → Goes flow text done p xs q
     → Goes flow text (done ++ xs) q ys r → Goes flow text done p (xs ++ ys) r
 goes_on flow text done p xs q ys r first next = record {
   seat = next.seat;
   goes = λ level. first.goes level ∙ rw (← append_assoc done xs ys) (next.goes level);
 }
 
-pub bytes_join : (text : List ℕ) (p d e : ℕ) → bytes_at text p (d + e) ≡ bytes_at text p d ++ bytes_at text (p + d) e
+pub bytes_join : (text : List ℕ) (p d e : ℕ)
+    → bytes_at text p (d + e) ≡ bytes_at text p d ++ bytes_at text (p + d) e
 bytes_join text p zero e =
     let z : 0 + e ≡ e = omega arith in
     let y : p + 0 ≡ p = omega arith in
@@ -265,7 +277,8 @@ record IsGoing (flow : Bool) (text : List ℕ) (p q : ℕ) : Type 0 where
   colon : is_bad_colon flow text q ≡ false
   part : (flow && is_bracket (byte text q)) ≡ false
 
-going : (flow : Bool) (text : List ℕ) (p q : ℕ) → stops flow (nat_lt p q) text q ≡ false → IsGoing flow text p q
+going : (flow : Bool) (text : List ℕ) (p q : ℕ) → stops flow (nat_lt p q) text q ≡ false
+    → IsGoing flow text p q
 going flow text p q h =
     let (z, w, k, c, f) = parts (byte text q == 0) (break_width text q) (byte text q == 35 && nat_lt p q) (is_bad_colon flow text q) (flow && is_bracket (byte text q)) h in
     record { some = z; none = w; hash = k; colon = c; part = f }
@@ -344,7 +357,8 @@ last_false : (a b : Bool) → (a || b) ≡ false → b ≡ false
 last_false a b h = grind arith
 
 -- before the place a blank stands, where blanks follow the part
-behind_part : (flow : Bool) (text : List ℕ) (p q : ℕ) (s : IsSeen flow text p q) → is_blank (byte text (q - 1)) ≡ nat_lt s.end q
+behind_part : (flow : Bool) (text : List ℕ) (p q : ℕ) (s : IsSeen flow text p q)
+    → is_blank (byte text (q - 1)) ≡ nat_lt s.end q
 behind_part flow text p q s = elim (cases_lt s.end q) [
   | inl l ↦ rw (lt-ltb s.end q l) (s.blanks (q - 1) (omega arith) (omega arith))
   | inr l ↦
@@ -355,11 +369,13 @@ behind_part flow text p q s = elim (cases_lt s.end q) [
     same : (p : ℕ) → nat_lt p p ≡ false
     same p = grind (arith, nat_tests)
 
-blanks_done : (flow : Bool) (text : List ℕ) (p q : ℕ) (s : IsSeen flow text p q) → is_blank (byte text q) ≡ false → q ≡ past_blanks text s.end
+blanks_done : (flow : Bool) (text : List ℕ) (p q : ℕ) (s : IsSeen flow text p q)
+    → is_blank (byte text q) ≡ false → q ≡ past_blanks text s.end
 blanks_done flow text p q s stop =
     run_is is_blank_there text s.end q s.order (λ k a b. (s.blanks k a b, (blank_parts (byte text k) 0 0 (s.blanks k a b)).0)) stop
 
-seen_char : (flow : Bool) (text : List ℕ) (p q : ℕ) → IsSeen flow text p q → is_blank (byte text q) ≡ false
+seen_char : (flow : Bool) (text : List ℕ) (p q : ℕ) → IsSeen flow text p q
+    → is_blank (byte text q) ≡ false
     → is_colon text q ≡ false → stops flow (is_blank (byte text (q - 1))) text q ≡ false → IsSeen flow text p (q + 1)
 seen_char flow text p q s dark c st =
     let part = part_char flow text p s.end q s.part (blanks_done flow text p q s dark) c (rw (behind_part flow text p q s) at st) in
@@ -371,7 +387,8 @@ seen_char flow text p q s dark c st =
       blanks = λ k a b. absurd (omega arith);
     }
 
-seen_blank : (flow : Bool) (text : List ℕ) (p q : ℕ) → IsSeen flow text p q → is_blank (byte text q) ≡ true → IsSeen flow text p (q + 1)
+seen_blank : (flow : Bool) (text : List ℕ) (p q : ℕ) → IsSeen flow text p q
+    → is_blank (byte text q) ≡ true → IsSeen flow text p (q + 1)
 seen_blank flow text p q s h = record {
   end = s.end;
   part = s.part;
@@ -381,7 +398,8 @@ seen_blank flow text p q s h = record {
 }
 
 -- what doesn't stop there is passed
-pub seen_more : (flow : Bool) (text : List ℕ) (p q : ℕ) → IsSeen flow text p q → is_colon text q ≡ false
+pub seen_more : (flow : Bool) (text : List ℕ) (p q : ℕ) → IsSeen flow text p q
+    → is_colon text q ≡ false
     → stops flow (is_blank (byte text (q - 1))) text q ≡ false → IsSeen flow text p (q + 1)
 seen_more flow text p q s c st = elim (cases_Bool (is_blank (byte text q))) [
   | inl b ↦ seen_blank flow text p q s b
@@ -402,7 +420,8 @@ unfolding is_bracket
 text_byte true b h = record { low = grind (arith, nat_tests); next = grind (arith, nat_tests); separator = grind (arith, nat_tests); no_hash = grind (arith, nat_tests); no_colon = grind (arith, nat_tests); no_part = grind (arith, nat_tests) }
 text_byte false b h = record { low = grind (arith, nat_tests); next = grind (arith, nat_tests); separator = grind (arith, nat_tests); no_hash = grind (arith, nat_tests); no_colon = grind (arith, nat_tests); no_part = refl }
 
-text_goes : (flow : Bool) (text : List ℕ) (p q : ℕ) → IsSeen flow text p q → may_stop flow (byte text q) ≡ false → IsSeen flow text p (q + 1)
+text_goes : (flow : Bool) (text : List ℕ) (p q : ℕ) → IsSeen flow text p q
+    → may_stop flow (byte text q) ≡ false → IsSeen flow text p (q + 1)
 text_goes flow text p q s h =
     let t = text_byte flow (byte text q) h in
     let low = t.low in
@@ -424,7 +443,8 @@ seen_over (suc d) flow text p q s each =
     rw e (seen_over d flow text p (q + 1) (text_goes flow text p q s (each q (omega arith) (omega arith))) (λ k a b. each k (omega arith) (omega arith)))
 
 -- a run that no byte stops
-pub seen_run : (flow : Bool) (text : List ℕ) (p q r : ℕ) → IsSeen flow text p q → RunsTo (may_stop flow) text q (length text) r → IsSeen flow text p r
+pub seen_run : (flow : Bool) (text : List ℕ) (p q r : ℕ) → IsSeen flow text p q
+    → RunsTo (may_stop flow) text q (length text) r → IsSeen flow text p r
 seen_run flow text p q r s run =
     let order = run.ordered in
     let e : q + (r - q) ≡ r = omega arith in
@@ -440,13 +460,15 @@ low_starts b h = grind (arith, nat_tests)
 pub starts_first : (text : List ℕ) (p : ℕ) → IsWord text p → Starts false text p (p + 1)
 starts_first text p word h k a b = let e : k ≡ p = omega arith in rw e word.starts
 
-pub starts_run : (text : List ℕ) (p q r : ℕ) (wide more : Bool) → Starts wide text p q → (more ≡ false → IsNarrow text q r) → Starts (wide || more) text p r
+pub starts_run : (text : List ℕ) (p q r : ℕ) (wide more : Bool) → Starts wide text p q
+    → (more ≡ false → IsNarrow text q r) → Starts (wide || more) text p r
 starts_run text p q r wide more before narrow h k a b = elim (cases_lt k q) [
   | inl l ↦ before (front_false wide more h) k a l
   | inr l ↦ low_starts (byte text k) (narrow (last_false wide more h) k l b)
 ]
 
-pub starts_byte : (text : List ℕ) (p q : ℕ) (wide : Bool) → Starts wide text p q → Starts (wide || nat_le 128 (byte text q)) text p (q + 1)
+pub starts_byte : (text : List ℕ) (p q : ℕ) (wide : Bool) → Starts wide text p q
+    → Starts (wide || nat_le 128 (byte text q)) text p (q + 1)
 starts_byte text p q wide before = starts_run text p q (q + 1) wide (nat_le 128 (byte text q)) before (λ h k a b. let e : k ≡ q = omega arith in rw e (low (byte text q) h))
   where
     low : (b : ℕ) → nat_le 128 b ≡ false → b < 128
@@ -459,7 +481,8 @@ bad_parts : (flow : Bool) (text : List ℕ) (p : ℕ) → is_bad_colon flow text
 unfolding is_bracket
 bad_parts flow text p h = (grind (arith, nat_tests), grind (arith, nat_tests), grind (arith, nat_tests), grind (arith, nat_tests))
 
-no_colon : (text : List ℕ) (p : ℕ) → 32 < byte text (p + 1) → byte text (p + 1) < 127 → is_colon text p ≡ false
+no_colon : (text : List ℕ) (p : ℕ) → 32 < byte text (p + 1) → byte text (p + 1) < 127
+    → is_colon text p ≡ false
 no_colon text p low high =
     let none : break_width text (p + 1) ≡ 0 = no_break _ _ _ (omega arith) (omega arith) (omega arith) (omega arith) in
     parts (byte text p) (byte text (p + 1)) (break_width text (p + 1)) low none
@@ -467,7 +490,8 @@ no_colon text p low high =
     parts : (a b w : ℕ) → 32 < b → w ≡ 0 → (a == 58 && ((is_blank b || b == 0) || nat_lt 0 w)) ≡ false
     parts a b w low none = grind (arith, nat_tests)
 
-spot_wrong : (flow : Bool) (level : ℕ) (text : List ℕ) (p : ℕ) → InRow text p → break_width text p ≡ 0
+spot_wrong : (flow : Bool) (level : ℕ) (text : List ℕ) (p : ℕ) → InRow text p
+    → break_width text p ≡ 0
     → is_blank (byte text p) ≡ false → is_bad_colon flow text p ≡ true
     → spot_at flow level text p ≡ Faulty (bad_colon p)
 unfolding spot_at is_bracket
@@ -476,7 +500,8 @@ spot_wrong flow level text p row none blank bad =
     let ends : ends_at flow level text p ≡ false = ends_none flow level text p (rw b refl) (no_mark text p row.column) (rw b refl) (no_colon text p low high) (rw (b, f) refl) row.calm in
     rw (none, blank, ends, bad) refl
 
-ends_true : (flow : Bool) (level : ℕ) (text : List ℕ) (q p : ℕ) → after_white text p ≡ nat_lt q p → break_width text p ≡ 0
+ends_true : (flow : Bool) (level : ℕ) (text : List ℕ) (q p : ℕ) → after_white text p ≡ nat_lt q p
+    → break_width text p ≡ 0
     → is_bad_colon flow text p ≡ false → (is_colon text p ≡ false → stops flow (nat_lt q p) text p ≡ true) → ends_at flow level text p ≡ true
 unfolding ends_at
 ends_true flow level text q p white none bad h = rw white (parts flow (byte text p == 0) (is_document_indicator text p) (byte text p == 35 && nat_lt q p) (is_colon text p) (is_bracket (byte text p)) (leads text p && nat_lt (column_at text p) level) (rw (none, bad) at h))
@@ -493,7 +518,8 @@ ends_true flow level text q p white none bad h = rw white (parts flow (byte text
     parts flow z m k true f d h = or_last z m k
     parts flow z m k false f d h = all flow z m k f d (h refl)
 
-pub spot_stop : (flow : Bool) (level : ℕ) (text : List ℕ) (q p : ℕ) → InRow text p → after_white text p ≡ nat_lt q p
+pub spot_stop : (flow : Bool) (level : ℕ) (text : List ℕ) (q p : ℕ) → InRow text p
+    → after_white text p ≡ nat_lt q p
     → break_width text p ≡ 0 → is_blank (byte text p) ≡ false
     → (is_colon text p ≡ false → stops flow (nat_lt q p) text p ≡ true)
     → spot_at flow level text p ≡ stop_at flow text p
@@ -503,7 +529,8 @@ spot_stop flow level text q p row white none blank h = elim (cases_Bool (is_bad_
 ]
 
 -- where a line ends no blank stands
-stop_dark : (flow : Bool) (text : List ℕ) (p : ℕ) (blank : Bool) → (is_colon text p ≡ false → stops flow blank text p ≡ true) → is_blank (byte text p) ≡ false
+stop_dark : (flow : Bool) (text : List ℕ) (p : ℕ) (blank : Bool)
+    → (is_colon text p ≡ false → stops flow blank text p ≡ true) → is_blank (byte text p) ≡ false
 unfolding is_bracket
 stop_dark flow text p blank h = elim (cases_Bool (is_blank (byte text p))) [
   | inl b ↦ absurd (parts flow (byte text p) (break_width text p) blank _ _ (blank_parts (byte text p) (byte text (p + 1)) (byte text (p + 2)) b).1 b h)
@@ -515,7 +542,8 @@ stop_dark flow text p blank h = elim (cases_Bool (is_blank (byte text p))) [
     parts flow b w blank next bad none is h = let c : (b == 58 && next) ≡ false = grind (arith, nat_tests) in let s = h c in grind (arith, nat_tests)
 
 -- the part ends where the blanks do that are trimmed
-trimmed_is : (flow : Bool) (text : List ℕ) (p q e : ℕ) (s : IsSeen flow text p q) → IsTrimmed text (p + 1) q e → e ≡ s.end
+trimmed_is : (flow : Bool) (text : List ℕ) (p q e : ℕ) (s : IsSeen flow text p q)
+    → IsTrimmed text (p + 1) q e → e ≡ s.end
 trimmed_is flow text p q e s t = elim (cases_lt e s.end) [
   | inl l ↦
       let after = t.after in
@@ -532,7 +560,8 @@ trimmed_is flow text p q e s t = elim (cases_lt e s.end) [
 ]
 
 -- a line that is read
-pub line_done : (flow : Bool) (text : List ℕ) (p r e : ℕ) (wide colon : Bool) → IsSeen flow text p r → IsWord text p → IsTrimmed text (p + 1) r e
+pub line_done : (flow : Bool) (text : List ℕ) (p r e : ℕ) (wide colon : Bool)
+    → IsSeen flow text p r → IsWord text p → IsTrimmed text (p + 1) r e
     → Starts wide text p r → colon ≡ is_colon text r → (is_colon text r ≡ false → stops flow (is_blank (byte text (r - 1))) text r ≡ true)
     → IsPlainLine flow text p (record { end = e; next = r; wide = wide; colon = colon })
 line_done flow text p r e wide colon s word trimmed narrow c h =
@@ -571,7 +600,8 @@ no_breaks [] = refl
 no_breaks (b ∷ bs) = no_breaks bs
 
 -- what is coming at the end of a line that no break ends
-pub line_last : (flow : Bool) (level : ℕ) (text done : List ℕ) (p : ℕ) (l : PlainLine) → IsPlainLine flow text p l
+pub line_last : (flow : Bool) (level : ℕ) (text done : List ℕ) (p : ℕ) (l : PlainLine)
+    → IsPlainLine flow text p l
     → break_width text l.next ≡ 0
     → coming flow level text done l.end ≡ (if is_bad_colon flow text l.next then Err (bad_colon l.next)
     else Ok (record { value = done; end = l.end; place = l.next; broke = false }))
@@ -584,7 +614,8 @@ line_last flow level text done p l is none =
       | inr f ↦ rw f (coming_end flow level text l.end l.next ps (bs.white level) done (rw f at stop) ∙ rw (no_breaks (bytes_at text l.end (l.next - l.end))) refl)
     ]
 
-pub line_one : (flow : Bool) (text : List ℕ) (p : ℕ) (l : PlainLine) → p < length text → IsPlainLine flow text p l
+pub line_one : (flow : Bool) (text : List ℕ) (p : ℕ) (l : PlainLine) → p < length text
+    → IsPlainLine flow text p l
     → break_width text l.next ≡ 0 → (level : ℕ) → plain_at flow level text p ≡ one_line flow text p l
 line_one flow text p l inside is none level =
     plain_coming flow level text p inside ∙ is.goes level [] ∙ line_last flow level text (slice_range text p l.end) p l is none

@@ -25,7 +25,8 @@ run_is kind text p q order each stop =
     sym (run_done kind text p q run stop)
 
 -- the byte where a run ends before the text does, or none
-ended : (is_end : ℕ → Bool) (text : List ℕ) (p q : ℕ) → RunsTo is_end text p (length text) q → is_end 0 ≡ true → is_end (byte text q) ≡ true
+ended : (is_end : ℕ → Bool) (text : List ℕ) (p q : ℕ) → RunsTo is_end text p (length text) q
+    → is_end 0 ≡ true → is_end (byte text q) ≡ true
 ended is_end text p q run none = elim (cases_lt q (length text)) [
   | inl l ↦ run.stopped l
   | inr l ↦ let z : byte text q ≡ 0 = get_or_past text q 0 l in rw z none
@@ -37,7 +38,8 @@ space b h = (grind (arith, nat_tests), grind (arith, nat_tests))
 other_space : (b : ℕ) → is_no_space b ≡ true → (b == 32) ≡ false
 other_space b h = grind (arith, nat_tests)
 
-pub spaces_run : (text : List ℕ) (p q : ℕ) → RunsTo is_no_space text p (length text) q → q ≡ past_spaces text p
+pub spaces_run : (text : List ℕ) (p q : ℕ) → RunsTo is_no_space text p (length text) q
+    → q ≡ past_spaces text p
 spaces_run text p q run =
     run_is is_space_there text p q run.ordered (λ k low high. space (byte text k) (run.passed k low high))
     (other_space (byte text q) (ended is_no_space text p q run refl))
@@ -52,7 +54,8 @@ blank b h = (grind (arith, nat_tests), grind (arith, nat_tests))
 other_blank : (b : ℕ) → is_no_blank b ≡ true → is_blank b ≡ false
 other_blank b h = grind (arith, nat_tests)
 
-pub blanks_run : (text : List ℕ) (p q : ℕ) → RunsTo is_no_blank text p (length text) q → q ≡ past_blanks text p
+pub blanks_run : (text : List ℕ) (p q : ℕ) → RunsTo is_no_blank text p (length text) q
+    → q ≡ past_blanks text p
 blanks_run text p q run =
     run_is is_blank_there text p q run.ordered (λ k low high. blank (byte text k) (run.passed k low high))
     (other_blank (byte text q) (ended is_no_blank text p q run refl))
@@ -65,16 +68,19 @@ text_byte : (b : ℕ) → is_stop [] b ≡ false → passes true b ≡ true
 text_byte b h = grind (arith, nat_tests)
 
 -- text that a run passed goes on with a line's
-pub line_run : (text : List ℕ) (a p q : ℕ) → InRun is_text text a p → RunsTo (is_stop []) text p (length text) q → InRun is_text text a q
+pub line_run : (text : List ℕ) (a p q : ℕ) → InRun is_text text a p
+    → RunsTo (is_stop []) text p (length text) q → InRun is_text text a q
 line_run text a p q before run =
     passed_run true text a p q before (record { forward = run.ordered; each = λ k low high. text_byte (byte text k) (run.passed k low high) })
 
-pub line_more : (text : List ℕ) (a p q : ℕ) → InRun is_text text a p → RunsTo (is_stop []) text p (length text) q → is_text text q ≡ true
+pub line_more : (text : List ℕ) (a p q : ℕ) → InRun is_text text a p
+    → RunsTo (is_stop []) text p (length text) q → is_text text q ≡ true
     → InRun is_text text a (q + 1) × (q < length text)
 line_more text a p q before run h =
     let some = (text_parts text q h).0 in
     (run_more is_text text a q (line_run text a p q before run) h some, within text q some)
 
-pub line_done : (text : List ℕ) (a p q : ℕ) → InRun is_text text a p → RunsTo (is_stop []) text p (length text) q → is_text text q ≡ false
+pub line_done : (text : List ℕ) (a p q : ℕ) → InRun is_text text a p
+    → RunsTo (is_stop []) text p (length text) q → is_text text q ≡ false
     → q ≡ past is_text (length text) text a
 line_done text a p q before run h = sym (run_done is_text text a q (line_run text a p q before run) h)

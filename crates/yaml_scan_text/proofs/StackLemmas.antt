@@ -39,7 +39,8 @@ record IsWhite (text : List ℕ) (p q : ℕ) : Type 0 where
 no_tab : (b : ℕ) (x : Bool) → b ≡ 32 → (b == 9 && x) ≡ false
 no_tab b x e = rw e refl
 
-spaces_over : (d : ℕ) (text : List ℕ) (p : ℕ) → ((k : ℕ) → p ≤ k → k < p + d → byte text k ≡ 32) → IsWhite text p (p + d)
+spaces_over : (d : ℕ) (text : List ℕ) (p : ℕ) → ((k : ℕ) → p ≤ k → k < p + d → byte text k ≡ 32)
+    → IsWhite text p (p + d)
 spaces_over zero text p each =
     let z : p + 0 ≡ p = omega arith in
     rw z (record { pieces = []; white = no_white p; none = refl })
@@ -61,7 +62,8 @@ spaces_white text p q s =
 
 -- ---- what lines come to
 
-block_same : (f g : List BlockLine → List ℕ) → ((ls : List BlockLine) → f ls ≡ g ls) → (r : Result Lines Wrong) → block_with f r ≡ block_with g r
+block_same : (f g : List BlockLine → List ℕ) → ((ls : List BlockLine) → f ls ≡ g ls)
+    → (r : Result Lines Wrong) → block_with f r ≡ block_with g r
 block_same f g same (Ok ls) = rw (same ls.lines) refl
 block_same f g same (Err w) = refl
 
@@ -70,34 +72,40 @@ line_out : (f : List BlockLine → List ℕ) (l : BlockLine) (r : Result Lines W
 line_out f l (Ok ls) = refl
 line_out f l (Err w) = refl
 
-line_here : (f : List BlockLine → List ℕ) (m c : ℕ) (text : List ℕ) (p q : ℕ) (l : BlockLine) → line_spot c text p ≡ Line l q
+line_here : (f : List BlockLine → List ℕ) (m c : ℕ) (text : List ℕ) (p q : ℕ) (l : BlockLine)
+    → line_spot c text p ≡ Line l q
     → block_with f (lines_from (suc m) c text p p) ≡ block_with (λ ls. f (l ∷ ls)) (lines_from m c text q q)
 unfolding lines_from
 line_here f m c text p q l h = rw h (line_out f l (lines_from m c text q q))
 
-line_stop : (f : List BlockLine → List ℕ) (m c : ℕ) (text : List ℕ) (p q : ℕ) → line_spot c text p ≡ Stops q
+line_stop : (f : List BlockLine → List ℕ) (m c : ℕ) (text : List ℕ) (p q : ℕ)
+    → line_spot c text p ≡ Stops q
     → block_with f (lines_from (suc m) c text p p) ≡ Ok (record { value = f []; end = p; place = q })
 unfolding lines_from
 line_stop f m c text p q h = rw h refl
 
-line_tab : (f : List BlockLine → List ℕ) (m c : ℕ) (text : List ℕ) (p q : ℕ) → line_spot c text p ≡ Tab q
+line_tab : (f : List BlockLine → List ℕ) (m c : ℕ) (text : List ℕ) (p q : ℕ)
+    → line_spot c text p ≡ Tab q
     → block_with f (lines_from (suc m) c text p p) ≡ Err (in_block problems.TabForSpace q)
 unfolding lines_from
 line_tab f m c text p q h = rw h refl
 
 -- where the column in front is 0, or the text ends, as many spaces count as the column has
-indent_same : (c : ℕ) (text : List ℕ) (p : ℕ) → (0 < byte text p → column_at text p ≡ 0) → spaces (c - column_at text p) text p ≡ spaces c text p
+indent_same : (c : ℕ) (text : List ℕ) (p : ℕ) → (0 < byte text p → column_at text p ≡ 0)
+    → spaces (c - column_at text p) text p ≡ spaces c text p
 indent_same c text p first = elim (cases_lt 0 (byte text p)) [
   | inl l ↦ let z : c - column_at text p ≡ c = omega (arith, first l) in rw z refl
   | inr l ↦ blocks.spaces_other (c - column_at text p) text p (λ e. absurd (omega arith)) ∙ sym (blocks.spaces_other c text p (λ e. absurd (omega arith)))
 ]
 
-spot_there : (c : ℕ) (text : List ℕ) (p first : ℕ) → (0 < byte text p → column_at text p ≡ 0) → first ≡ p + spaces c text p
+spot_there : (c : ℕ) (text : List ℕ) (p first : ℕ) → (0 < byte text p → column_at text p ≡ 0)
+    → first ≡ p + spaces c text p
     → (s : LineSpot) → spot_behind c text first ≡ s → line_spot c text p ≡ s
 spot_there c text p first zero_is at s h = rw (indent_same c text p zero_is, ← at) h
 
 -- a place after spaces is in their line
-pub spaces_seat : (text : List ℕ) (line p q : ℕ) → AtLine text line p → (0 < byte text p → column_at text p ≡ 0) → AreSpaces text p q → AtLine text line q
+pub spaces_seat : (text : List ℕ) (line p q : ℕ) → AtLine text line p
+    → (0 < byte text p → column_at text p ≡ 0) → AreSpaces text p q → AtLine text line q
 spaces_seat text line p q seat first sp =
     let forward = sp.forward in
     let order = seat.order in
@@ -116,7 +124,8 @@ spaces_seat text line p q seat first sp =
 -- ---- lines that are stacked
 
 -- what the lines from there come to, where so much of the value is done
-abbrev pub coming : Bool → Chomp → List ℕ → Bool → List ℕ → List ℕ → ℕ → ℕ → List ℕ → ℕ → Result BlockText Wrong
+abbrev pub coming : Bool → Chomp → List ℕ → Bool → List ℕ → List ℕ → ℕ → ℕ → List ℕ → ℕ
+    → Result BlockText Wrong
 coming folded chomp done blank feed empties m c text p =
     block_with (λ ls. stacked_with folded done true blank feed empties chomp (texts_of ls)) (lines_from m c text p p)
 
@@ -137,7 +146,8 @@ stack_none : (folded : Bool) (chomp : Chomp) (ls : List BlockLine)
 unfolding stacked_with
 stack_none folded chomp ls = sym (stacking.stack_start folded chomp (texts_of ls).lead (texts_of ls).lines)
 
-pub stacks_first : (folded : Bool) (chomp : Chomp) (c : ℕ) (text : List ℕ) (start : ℕ) (old : List ℕ) (line at : ℕ)
+pub stacks_first : (folded : Bool) (chomp : Chomp) (c : ℕ) (text : List ℕ) (start : ℕ)
+    (old : List ℕ) (line at : ℕ)
     → break_width text start ≡ 0 → AtLine text line at → (0 < byte text at → column_at text at ≡ 0)
     → Stacks folded chomp c text at old old (record { at = at; line = line; end = start; blank = false; empties = at })
 stacks_first folded chomp c text start old line at none seat first = record {
@@ -153,7 +163,8 @@ stacks_first folded chomp c text start old line at none seat first = record {
 }
 
 -- an empty line
-pub stacks_empty : (folded : Bool) (chomp : Chomp) (c : ℕ) (text : List ℕ) (from : ℕ) (old new : List ℕ) (s : Stack) (q : ℕ)
+pub stacks_empty : (folded : Bool) (chomp : Chomp) (c : ℕ) (text : List ℕ) (from : ℕ)
+    (old new : List ℕ) (s : Stack) (q : ℕ)
     → Stacks folded chomp c text from old new s → AreSpaces text s.at q → q ≡ s.at + spaces c text s.at → 0 < break_width text q
     → spot_behind c text q ≡ Line (Empty (break_value text q)) (q + break_width text q)
     → Stacks folded chomp c text from old new (after_empty text s q)
@@ -191,7 +202,8 @@ stacks_empty folded chomp c text from old new s q stacks sp at some spot =
     break_line : (text : List ℕ) (q : ℕ) → 0 < break_width text q → line_start text (q + break_width text q) ≡ q + break_width text q
     break_line text q h = sym (line_next text q (break_width text q) refl h)
 
-blank_there : (text : List ℕ) (p q : ℕ) → p < q → q ≤ length text → starts_blank (slice_range text p q) ≡ is_blank (byte text p)
+blank_there : (text : List ℕ) (p q : ℕ) → p < q → q ≤ length text
+    → starts_blank (slice_range text p q) ≡ is_blank (byte text p)
 blank_there text p q l inside =
     let d : q - p ≡ suc (q - p - 1) = omega arith in
     rw (slice_bytes text p (q - p) (omega arith), d, bytes_more text p (q - p - 1)) refl
@@ -207,7 +219,8 @@ record IsText (text : List ℕ) (p q : ℕ) : Type 0 where
   unbroken : IsUnbroken text p q
   line : line_start text q ≡ line_start text p
 
-text_of : (text : List ℕ) (p : ℕ) → 0 < byte text p → break_width text p ≡ 0 → splits_break text p ≡ false → IsText text p (line_end text p)
+text_of : (text : List ℕ) (p : ℕ) → 0 < byte text p → break_width text p ≡ 0
+    → splits_break text p ≡ false → IsText text p (line_end text p)
 text_of text p some none whole =
     let here = within text p some in
     let long = blocks.text_long text p (λ e. absurd (omega arith)) none in
@@ -220,14 +233,16 @@ text_of text p some none whole =
       line = unbroken_line text p (line_end text p) (omega arith) gone;
     }
 
-pub text_line : (text : List ℕ) (line p q : ℕ) → AtLine text line p → AreSpaces text p q → 0 < byte text q → break_width text q ≡ 0
+pub text_line : (text : List ℕ) (line p q : ℕ) → AtLine text line p → AreSpaces text p q
+    → 0 < byte text q → break_width text q ≡ 0
     → line ≡ line_start text (line_end text q)
 text_line text line p q seat sp some none =
     let t = text_of text q some none (spaces_whole text p q sp seat.whole) in
     seat.own ∙ sym (spaces_column text p q sp).1 ∙ sym t.line
 
 -- a line with text
-pub stacks_text : (folded : Bool) (chomp : Chomp) (c : ℕ) (text : List ℕ) (from : ℕ) (old mid new : List ℕ) (s : Stack) (q : ℕ)
+pub stacks_text : (folded : Bool) (chomp : Chomp) (c : ℕ) (text : List ℕ) (from : ℕ)
+    (old mid new : List ℕ) (s : Stack) (q : ℕ)
     → Stacks folded chomp c text from old mid s → AreSpaces text s.at q → q ≡ s.at + spaces c text s.at
     → 0 < byte text q → break_width text q ≡ 0
     → spot_behind c text q ≡ Line (Words (slice_range text q (line_end text q)) (feed_at text (line_end text q))) (line_end text q + break_width text (line_end text q))
@@ -264,7 +279,8 @@ stacks_text folded chomp c text from old mid new s q stacks sp at some none spot
 
 -- ---- answers
 
-pub stacks_stop : (folded : Bool) (chomp : Chomp) (c : ℕ) (text : List ℕ) (from : ℕ) (old mid new : List ℕ) (s : Stack) (q : ℕ)
+pub stacks_stop : (folded : Bool) (chomp : Chomp) (c : ℕ) (text : List ℕ) (from : ℕ)
+    (old mid new : List ℕ) (s : Stack) (q : ℕ)
     → Stacks folded chomp c text from old mid s → AreSpaces text s.at q → q ≡ s.at + spaces c text s.at → spot_behind c text q ≡ Stops q
     → new ≡ mid ++ at_end chomp (feed_at text s.end) (feeds text s.empties s.at)
     → ReadsBlock text old new (Ok (record { end = s.at; place = q; line = s.line })) (lines_at folded chomp c text from)
@@ -279,7 +295,8 @@ stacks_stop folded chomp c text from old mid new s q stacks sp at spot e =
       seat = spaces_seat text s.line s.at q stacks.seat stacks.first sp;
     })
 
-pub stacks_tab : (folded : Bool) (chomp : Chomp) (c : ℕ) (text : List ℕ) (from : ℕ) (old new : List ℕ) (s : Stack) (q : ℕ) (e : Refusal)
+pub stacks_tab : (folded : Bool) (chomp : Chomp) (c : ℕ) (text : List ℕ) (from : ℕ)
+    (old new : List ℕ) (s : Stack) (q : ℕ) (e : Refusal)
     → Stacks folded chomp c text from old new s → q ≡ s.at + spaces c text s.at → spot_behind c text q ≡ Tab q
     → Refuses e (in_block problems.TabForSpace q) → ReadsBlock text old new (Err e) (lines_at folded chomp c text from)
 stacks_tab folded chomp c text from old new s q e stacks at spot h =
@@ -287,14 +304,17 @@ stacks_tab folded chomp c text from old new s q e stacks at spot h =
     rw (stacks.rest ∙ stop) h
 
 -- the next line starts further on
-pub empty_further : (text : List ℕ) (s t : Stack) (q : ℕ) → t ≡ after_empty text s q → AreSpaces text s.at q → 0 < break_width text q
+pub empty_further : (text : List ℕ) (s t : Stack) (q : ℕ) → t ≡ after_empty text s q
+    → AreSpaces text s.at q → 0 < break_width text q
     → (s.at < t.at) × (t.at ≤ length text)
 empty_further text s t q e sp some =
     let forward = sp.forward in
     let inside = (past_break text q some).inside in
     rw e (omega arith, inside)
 
-pub text_further : (text : List ℕ) (s t : Stack) (q : ℕ) → t ≡ after_text text s q (line_end text q) → AreSpaces text s.at q → 0 < byte text q → break_width text q ≡ 0
+pub text_further : (text : List ℕ) (s t : Stack) (q : ℕ)
+    → t ≡ after_text text s q (line_end text q) → AreSpaces text s.at q → 0 < byte text q
+    → break_width text q ≡ 0
     → (s.at < t.at) × (t.at ≤ length text)
 text_further text s t q e sp some none =
     let forward = sp.forward in
@@ -309,7 +329,8 @@ text_further text s t q e sp some none =
       ],
     )
 
-pub text_end : (text : List ℕ) (q end : ℕ) → end ≡ line_end text q → 0 < byte text q → (q ≤ end) × (end ≤ length text)
+pub text_end : (text : List ℕ) (q end : ℕ) → end ≡ line_end text q → 0 < byte text q
+    → (q ≤ end) × (end ≤ length text)
 text_end text q end e some = let here = within text q some in rw e (past-le is_text (length text) text q, past-inside is_text (length text) text q (text_some text) (omega arith))
 
 -- ---- the scalar
@@ -325,17 +346,20 @@ end_stops c text p z =
     no_tab_end : (b : ℕ) (x : Bool) → b ≡ 0 → (b == 9 && x) ≡ false
     no_tab_end b x e = rw e refl
 
-lines_end : (folded : Bool) (chomp : Chomp) (c d : ℕ) (text : List ℕ) (p : ℕ) → byte text p ≡ 0 → lines_at folded chomp c text p ≡ lines_at folded chomp d text p
+lines_end : (folded : Bool) (chomp : Chomp) (c d : ℕ) (text : List ℕ) (p : ℕ) → byte text p ≡ 0
+    → lines_at folded chomp c text p ≡ lines_at folded chomp d text p
 lines_end folded chomp c d text p z =
     line_stop (block_value folded chomp) (length text) c text p p (end_stops c text p z) ∙ sym (line_stop (block_value folded chomp) (length text) d text p p (end_stops d text p z))
 
-lines_same : (folded : Bool) (chomp : Chomp) (c d : ℕ) (text : List ℕ) (p : ℕ) → (0 < byte text p → c ≡ d) → lines_at folded chomp c text p ≡ lines_at folded chomp d text p
+lines_same : (folded : Bool) (chomp : Chomp) (c d : ℕ) (text : List ℕ) (p : ℕ)
+    → (0 < byte text p → c ≡ d) → lines_at folded chomp c text p ≡ lines_at folded chomp d text p
 lines_same folded chomp c d text p same = elim (cases_lt 0 (byte text p)) [
   | inl l ↦ rw (same l) refl
   | inr l ↦ lines_end folded chomp c d text p (omega arith)
 ]
 
-whole_by : (level : ℕ) (text : List ℕ) (p c : ℕ) (h : Header) (x : HeaderText) (r : Result ℕ Wrong) → header_at text (p + 1) ≡ Ok x
+whole_by : (level : ℕ) (text : List ℕ) (p c : ℕ) (h : Header) (x : HeaderText) (r : Result ℕ Wrong)
+    → header_at text (p + 1) ≡ Ok x
     → ReadsHeader text (Ok h) (Ok x) → column_of level text h.digit h.at ≡ r → FindsColumn text h.at (Ok c) r
     → lines_at (byte text p == 62) h.chomp c text h.at ≡ block_at level text p
 whole_by level text p c h x (Ok d) e is col same =
@@ -343,7 +367,8 @@ whole_by level text p c h x (Ok d) e is col same =
     lines_same (byte text p == 62) h.chomp c d text h.at same ∙ rw (is.chomp, is.place) (sym found)
 whole_by level text p c h x (Err w) e is col same = absurd same
 
-pub block_whole : (level : ℕ) (text : List ℕ) (p c : ℕ) (h : Header) (x : Result HeaderText Wrong) → header_at text (p + 1) ≡ x
+pub block_whole : (level : ℕ) (text : List ℕ) (p c : ℕ) (h : Header) (x : Result HeaderText Wrong)
+    → header_at text (p + 1) ≡ x
     → ReadsHeader text (Ok h) x → FindsColumn text h.at (Ok c) (column_of level text h.digit h.at)
     → lines_at (byte text p == 62) h.chomp c text h.at ≡ block_at level text p
 block_whole level text p c h (Ok x) e is col = whole_by level text p c h x (column_of level text h.digit h.at) e is refl col
@@ -354,7 +379,8 @@ indicator_some b (inl e) = omega arith
 indicator_some b (inr e) = omega arith
 
 -- after the indicator
-pub indicator_parts : (text : List ℕ) (p line : ℕ) → (byte text p ≡ 124) ⊎ (byte text p ≡ 62) → splits_break text p ≡ false → line ≡ line_start text p
+pub indicator_parts : (text : List ℕ) (p line : ℕ) → (byte text p ≡ 124) ⊎ (byte text p ≡ 62)
+    → splits_break text p ≡ false → line ≡ line_start text p
     → (break_width text p ≡ 0) × (p + 1 ≤ length text) × (splits_break text (p + 1) ≡ false) × (line ≡ line_start text (p + 1))
 indicator_parts text p line is whole own =
     let none = scalars.indicator_no_break (byte text p) (byte text (p + 1)) (byte text (p + 2)) is in

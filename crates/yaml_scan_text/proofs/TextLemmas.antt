@@ -3,7 +3,8 @@ use Rattle.std.proofs.Common.{◌≡◌, ℕ, ◌+◌, ◌-◌, ◌<◌, ◌≤�
 use Rattle.yaml_scan_text.proofs.Words.{nat_tests, cases_lt, byte, break_of, break_width, feed_at, column_at, is_blank_or_end, is_document_indicator, past_break, value_three, feed_some, slice_bytes, bytes_more, bytes_none}
 use Rattle.yaml_scan_text.specs.White.{is_thrice}
 
-pub break_inside : (text : List ℕ) (p : ℕ) → 0 < break_width text p → p + break_width text p ≤ length text
+pub break_inside : (text : List ℕ) (p : ℕ) → 0 < break_width text p
+    → p + break_width text p ≤ length text
 break_inside text p h = (past_break text p h).inside
 
 pub three_inside : (text : List ℕ) (p : ℕ) → break_width text p ≡ 3 → p + 3 ≤ length text
@@ -31,7 +32,8 @@ is_mark text p h = rw h (parted (is_blank_or_end text (p + 3)) _ _)
     parted last a b = grind arith
 
 -- the place after a break, or the one where none stands, is no further than the text or the place
-pub break_within : (text : List ℕ) (p : ℕ) → (break_width text p ≡ 0) ⊎ (p + break_width text p ≤ length text)
+pub break_within : (text : List ℕ) (p : ℕ) → (break_width text p ≡ 0)
+    ⊎ (p + break_width text p ≤ length text)
 break_within text p = elim (cases_lt 0 (break_width text p)) [
   | inl l ↦ inr (break_inside text p l)
   | inr z ↦ inl (omega arith)

@@ -2,13 +2,15 @@
 use Rattle.std.proofs.Common.{◌≡◌, ℕ, ◌+◌, ◌≤◌, Bool, true, false, List, [], ◌∷◌, ◌++◌, Result, Ok, Err, refl, sym, ap, ◌∙◌, append_assoc, append-nil, arith}
 use Rattle.yaml_scan_text.proofs.Words.{byte, break_width, is_blank, spot_blank, spot_break, Words, Wrong, with_piece, words_from, words_here, words_on, Piece, Kept, Blank, Break, Line, lines, rest_of, Rest, gap, value, is_nothing, blanks_of, value-break, feed_at, break_of, blank_parts, White, no_white, white_blank, white_break}
 
-pub white_join : (level : ℕ) (text : List ℕ) (p q r : ℕ) (ps qs : List Piece) → White level text p q ps
+pub white_join : (level : ℕ) (text : List ℕ) (p q r : ℕ) (ps qs : List Piece)
+    → White level text p q ps
     → White level text q r qs → White level text p r (ps ++ qs)
 white_join level text p q r ps qs (no_white s) w = w
 white_join level text p q r ps qs (white_blank s t rest b tab v) w = white_blank s r (rest ++ qs) b tab (white_join level text (s + 1) q r rest qs v w)
 white_join level text p q r ps qs (white_break s t rest b v) w = white_break s r (rest ++ qs) b (white_join level text (s + break_width text s) q r rest qs v w)
 
-pub white_le : (level : ℕ) (text : List ℕ) (p q : ℕ) (ps : List Piece) → White level text p q ps → p ≤ q
+pub white_le : (level : ℕ) (text : List ℕ) (p q : ℕ) (ps : List Piece) → White level text p q ps
+    → p ≤ q
 white_le level text p q ps (no_white s) = omega arith
 white_le level text p q ps (white_blank s t rest b tab v) = let more = white_le level text (s + 1) q rest v in omega arith
 white_le level text p q ps (white_break s t rest b v) = let more = white_le level text (s + break_width text s) q rest v in omega arith
@@ -34,7 +36,8 @@ words_break : (b : List ℕ) (q : ℕ) (f : Words → Words) (r : Result Words W
     → words_from (Break b) q (words_with f r) ≡ words_with (λ w. with_piece (Break b) 0 (f w)) r
 words_break b q f r = grind arith
 
-pub white_words : (flow : Bool) (level : ℕ) (text : List ℕ) (p q : ℕ) (ps : List Piece) → White level text p q ps
+pub white_words : (flow : Bool) (level : ℕ) (text : List ℕ) (p q : ℕ) (ps : List Piece)
+    → White level text p q ps
     → words_on flow level text p ≡ words_with (with_white ps) (words_on flow level text q)
 white_words flow level text p q ps (no_white s) = words_none (words_on flow level text s)
 white_words flow level text p q ps (white_blank s t rest b tab v) =
@@ -52,7 +55,8 @@ white_there [] qs h = h
 white_there (p ∷ ps) qs h = refl
 
 -- before words it stands as its pieces
-pub white_some : (level : ℕ) (text : List ℕ) (p q : ℕ) (ps : List Piece) → White level text p q ps → (w : Words)
+pub white_some : (level : ℕ) (text : List ℕ) (p q : ℕ) (ps : List Piece) → White level text p q ps
+    → (w : Words)
     → is_nothing w.pieces ≡ false
     → with_white ps w ≡ record { pieces = ps ++ w.pieces; end = w.end; place = w.place; broke = w.broke }
 white_some level text p q ps (no_white s) w h = refl
@@ -67,7 +71,8 @@ has_break (Blank b ∷ ps) = has_break ps
 has_break (Break bytes ∷ ps) = true
 
 -- before nothing it says alone whether a break is among it
-pub white_nothing : (level : ℕ) (text : List ℕ) (p q : ℕ) (ps : List Piece) → White level text p q ps → (e place : ℕ)
+pub white_nothing : (level : ℕ) (text : List ℕ) (p q : ℕ) (ps : List Piece)
+    → White level text p q ps → (e place : ℕ)
     → with_white ps (record { pieces = []; end = e; place = place; broke = false })
     ≡ record { pieces = []; end = e; place = place; broke = has_break ps }
 white_nothing level text p q ps (no_white s) e place = refl
@@ -90,11 +95,13 @@ rest_after ps = (rest_of (lines ps).first (lines ps).others).breaks
 abbrev pub text_after : List Piece → List ℕ
 text_after ps = (rest_of (lines ps).first (lines ps).others).value
 
-blank_first : (b : ℕ) (l : Line) (ls : List (List ℕ × Line)) → rest_of (Blank b ∷ l) ls ≡ rest_of l ls
+blank_first : (b : ℕ) (l : Line) (ls : List (List ℕ × Line))
+    → rest_of (Blank b ∷ l) ls ≡ rest_of l ls
 blank_first b l [] = refl
 blank_first b l (next ∷ ls) = refl
 
-pub white_rest : (level : ℕ) (text : List ℕ) (p q : ℕ) (ps : List Piece) → White level text p q ps → (ks : List Piece)
+pub white_rest : (level : ℕ) (text : List ℕ) (p q : ℕ) (ps : List Piece) → White level text p q ps
+    → (ks : List Piece)
     → (rest_after (ps ++ ks) ≡ breaks_of ps ++ rest_after ks) × (text_after (ps ++ ks) ≡ text_after ks)
 white_rest level text p q ps (no_white s) ks = (refl, refl)
 white_rest level text p q ps (white_blank s t rest b tab v) ks =
@@ -106,7 +113,8 @@ white_rest level text p q ps (white_break s t rest b v) ks =
     (rw more.0 (sym (append_assoc (feed_at text s) (breaks_of rest) (rest_after ks))), more.1)
 
 -- the white after a break, before a text or of nothing
-pub fold_white : (level : ℕ) (text : List ℕ) (p q : ℕ) (bs first : List ℕ) (ps : List Piece) → White level text p q ps
+pub fold_white : (level : ℕ) (text : List ℕ) (p q : ℕ) (bs first : List ℕ) (ps : List Piece)
+    → White level text p q ps
     → (ks : List Piece) → rest_after ks ≡ [] → text_after ks ≡ value ks
     → value (blanks_of bs ++ (Break first ∷ ps ++ ks)) ≡ gap first (breaks_of ps) ++ value ks
 fold_white level text p q bs first ps w ks last same =

@@ -50,7 +50,8 @@ pub record AreSpaces (text : List ℕ) (p q : ℕ) : Type 0 where
 
 -- what is seen is that spot
 abbrev pub IsSeen : List ℕ → ℕ → Result Seen Told → LineSpot → Type 0
-IsSeen text q (Ok seen.Empty) s = (0 < break_width text q) × (s ≡ Line (Empty (break_value text q)) (q + break_width text q))
+IsSeen text q (Ok seen.Empty) s = (0 < break_width text q)
+    × (s ≡ Line (Empty (break_value text q)) (q + break_width text q))
 IsSeen text q (Ok seen.Text) s = (0 < byte text q) × (break_width text q ≡ 0)
     × (s ≡ Line (Words (slice_range text q (line_end text q)) (feed_at text (line_end text q)))
     (line_end text q + break_width text (line_end text q)))
@@ -79,7 +80,8 @@ after_text text s q end = record {
 
 -- the block scalar's lines, after its header
 abbrev pub lines_at : Bool → Chomp → ℕ → List ℕ → ℕ → Result BlockText Wrong
-lines_at folded chomp c text p = block_with (block_value folded chomp) (lines_from (suc (length text)) c text p p)
+lines_at folded chomp c text p = block_with (block_value folded chomp)
+    (lines_from (suc (length text)) c text p p)
 
 -- A block scalar is that text, its value joined after what was there.
 pub record IsBlock (text old new : List ℕ) (b : BlockScalar) (x : BlockText) : Type 0 where
@@ -89,7 +91,8 @@ pub record IsBlock (text old new : List ℕ) (b : BlockScalar) (x : BlockText) :
   pub seat : AtLine text b.line b.place
 
 -- What reading a block scalar answers.
-abbrev pub ReadsBlock : List ℕ → List ℕ → List ℕ → Result BlockScalar Refusal → Result BlockText Wrong → Type 0
+abbrev pub ReadsBlock : List ℕ → List ℕ → List ℕ → Result BlockScalar Refusal
+    → Result BlockText Wrong → Type 0
 ReadsBlock text old new (Ok b) (Ok x) = IsBlock text old new b x
 ReadsBlock text old new (Ok b) (Err w) = ⊥
 ReadsBlock text old new (Err e) (Ok x) = IsMemory e

@@ -16,21 +16,24 @@ use Rattle.yaml_scan_text.specs.Refused.{IsMemory, Refuses, wrong_of}
 
 -- a name ends there
 abbrev pub ReadsName : List ℕ → ℕ → Result Name Told → Result (DirectiveName × ℕ) Wrong → Type 0
-ReadsName text p (Ok n) (Ok x) = (n.told ≡ x.0) × (n.end ≡ x.1) × (n.end ≤ length text) × ArePlain text (p + 1) n.end
+ReadsName text p (Ok n) (Ok x) = (n.told ≡ x.0) × (n.end ≡ x.1) × (n.end ≤ length text)
+    × ArePlain text (p + 1) n.end
 ReadsName text p (Ok n) (Err w) = ⊥
 ReadsName text p (Err e) (Ok x) = ⊥
 ReadsName text p (Err e) (Err w) = wrong_of e ≡ w
 
 -- a number's digits end there
 abbrev pub ReadsNumber : List ℕ → ℕ → Result ℕ Told → Result (ℕ × ℕ) Wrong → Type 0
-ReadsNumber text p (Ok q) (Ok x) = (decimal text p (q - p) ≡ x.0) × (q ≡ x.1) × (q ≤ length text) × (q ≤ p + 9) × ArePlain text p q
+ReadsNumber text p (Ok q) (Ok x) = (decimal text p (q - p) ≡ x.0) × (q ≡ x.1) × (q ≤ length text)
+    × (q ≤ p + 9) × ArePlain text p q
 ReadsNumber text p (Ok q) (Err w) = ⊥
 ReadsNumber text p (Err e) (Ok x) = ⊥
 ReadsNumber text p (Err e) (Err w) = wrong_of e ≡ w
 
 -- a handle ends there
 abbrev pub ReadsHandle : List ℕ → ℕ → Result ℕ Told → Result (List ℕ × ℕ) Wrong → Type 0
-ReadsHandle text p (Ok q) (Ok x) = (slice_range text p q ≡ x.0) × (q ≡ x.1) × (q ≤ length text) × ArePlain text p q
+ReadsHandle text p (Ok q) (Ok x) = (slice_range text p q ≡ x.0) × (q ≡ x.1) × (q ≤ length text)
+    × ArePlain text p q
 ReadsHandle text p (Ok q) (Err w) = ⊥
 ReadsHandle text p (Err e) (Ok x) = ⊥
 ReadsHandle text p (Err e) (Err w) = wrong_of e ≡ w
@@ -39,9 +42,11 @@ ReadsHandle text p (Err e) (Err w) = wrong_of e ≡ w
 -- the text.
 abbrev pub IsSaid : List ℕ → List ℕ → List ℕ → Value → Said → Type 0
 IsSaid text old new v (version major minor) = (v.is_tag ≡ false) × (v.joined ≡ false) × (new ≡ old)
-    × (decimal text v.first (v.first_end - v.first) ≡ major) × (decimal text v.second (v.second_end - v.second) ≡ minor)
+    × (decimal text v.first (v.first_end - v.first) ≡ major)
+    × (decimal text v.second (v.second_end - v.second) ≡ minor)
     × (v.first_end ≤ v.first + 9) × (v.second_end ≤ v.second + 9)
-IsSaid text old new v (tag handle prefix) = (v.is_tag ≡ true) × (slice_range text v.first v.first_end ≡ handle)
+IsSaid text old new v (tag handle prefix) = (v.is_tag ≡ true)
+    × (slice_range text v.first v.first_end ≡ handle)
     × (v.joined ≡ true → new ≡ old ++ prefix)
     × (v.joined ≡ false → (new ≡ old) × (slice_range text v.second v.second_end ≡ prefix))
 
@@ -51,12 +56,13 @@ pub record AreParts (v : Value) : Type 0 where
   pub between : v.first_end ≤ v.second
   pub second : v.second ≤ v.second_end
 
-pub record IsValue (text : List ℕ) (p : ℕ) (old new : List ℕ) (v : Value) (x : ValueText) : Type 0 where
-  pub said : IsSaid text old new v x.said
-  pub parts : AreParts v
-  pub end : v.second_end ≡ x.end
-  pub inside : v.second_end ≤ length text
-  pub plain : ArePlain text p v.second_end
+pub record IsValue (text : List ℕ) (p : ℕ) (old new : List ℕ) (v : Value) (x : ValueText) : Type 0
+  where
+    pub said : IsSaid text old new v x.said
+    pub parts : AreParts v
+    pub end : v.second_end ≡ x.end
+    pub inside : v.second_end ≤ length text
+    pub plain : ArePlain text p v.second_end
 
 abbrev pub ReadsVersion : List ℕ → ℕ → Result Value Told → Result ValueText Wrong → Type 0
 ReadsVersion text p (Ok v) (Ok x) = (all : List ℕ) → IsValue text p all all v x
@@ -64,7 +70,8 @@ ReadsVersion text p (Ok v) (Err w) = ⊥
 ReadsVersion text p (Err e) (Ok x) = ⊥
 ReadsVersion text p (Err e) (Err w) = wrong_of e ≡ w
 
-abbrev pub ReadsValue : List ℕ → ℕ → List ℕ → List ℕ → Result Value Refusal → Result ValueText Wrong → Type 0
+abbrev pub ReadsValue : List ℕ → ℕ → List ℕ → List ℕ → Result Value Refusal
+    → Result ValueText Wrong → Type 0
 ReadsValue text p old new (Ok v) (Ok x) = IsValue text p old new v x
 ReadsValue text p old new (Ok v) (Err w) = ⊥
 ReadsValue text p old new (Err e) (Ok x) = IsMemory e
@@ -92,7 +99,8 @@ pub record IsDirective (text old new : List ℕ) (d : Directive) (x : DirectiveT
   pub seat : AtLine text d.line d.place
   pub first : 0 < byte text d.place → column_at text d.place ≡ 0
 
-abbrev pub ReadsDirective : List ℕ → List ℕ → List ℕ → Result Directive Refusal → Result DirectiveText Wrong → Type 0
+abbrev pub ReadsDirective : List ℕ → List ℕ → List ℕ → Result Directive Refusal
+    → Result DirectiveText Wrong → Type 0
 ReadsDirective text old new (Ok d) (Ok x) = IsDirective text old new d x
 ReadsDirective text old new (Ok d) (Err w) = ⊥
 ReadsDirective text old new (Err e) (Ok x) = IsMemory e

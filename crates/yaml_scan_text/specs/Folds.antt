@@ -35,4 +35,5 @@ pub data White (level : ℕ) (text : List ℕ) : ℕ → ℕ → List Piece → 
       → (byte text p == ascii.tab && (leads text p && nat_lt (column_at text p) level)) ≡ false
       → White level text (p + 1) q ps → White level text p q (Blank (byte text p) ∷ ps)
   white_break : (p q : ℕ) (ps : List Piece) → 0 < break_width text p
-      → White level text (p + break_width text p) q ps → White level text p q (Break (feed_at text p) ∷ ps)
+      → White level text (p + break_width text p) q ps
+      → White level text p q (Break (feed_at text p) ∷ ps)

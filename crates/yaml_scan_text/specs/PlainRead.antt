@@ -42,7 +42,8 @@ so_far done end w =
 
 -- what it comes to, where these bytes of it are done, and the text goes on at the place
 abbrev pub coming : Bool → ℕ → List ℕ → List ℕ → ℕ → Result PlainText Wrong
-coming flow level text done p = plain_with (so_far done p) (words (suc (length text)) flow level text p)
+coming flow level text done p = plain_with (so_far done p)
+    (words (suc (length text)) flow level text p)
 
 -- a `:` stands there as a mapping has it
 abbrev pub is_colon : List ℕ → ℕ → Bool
@@ -54,7 +55,12 @@ is_bad_colon flow text p = flow && (byte text p == ascii.colon
     && (is_bracket (byte text (p + 1)) || byte text (p + 1) == ascii.question))
 
 abbrev pub bad_colon : ℕ → Wrong
-bad_colon p = record { problem = problems.UnexpectedColon; context = contexts.PlainScalar; place = p }
+bad_colon p = record {
+  problem = problems.UnexpectedColon;
+  context = contexts.PlainScalar;
+  place
+      = p;
+}
 
 -- what stands where a line of the scalar stops, and no break does
 abbrev pub stop_at : Bool → List ℕ → ℕ → PlainSpot
@@ -83,7 +89,8 @@ one_line flow text p l =
     else Ok record { value = slice_range text p l.end; end = l.end; place = l.next; broke = false }
 
 -- A plain scalar is that text; its value is joined after what was there, or stands in the text.
-pub record IsPlain (text : List ℕ) (start : ℕ) (old new : List ℕ) (s : PlainScalar) (x : PlainText) : Type 0 where
+pub record IsPlain (text : List ℕ) (start : ℕ) (old new : List ℕ) (s : PlainScalar) (x : PlainText)
+    : Type 0 where
   pub joined : s.joined ≡ true → new ≡ old ++ x.value
   pub stands : s.joined ≡ false → (new ≡ old) × (slice_range text start s.end ≡ x.value)
   pub end : s.end ≡ x.end
@@ -94,7 +101,8 @@ pub record IsPlain (text : List ℕ) (start : ℕ) (old new : List ℕ) (s : Pla
   pub line : s.line ≡ line_start text s.place
   pub wide : s.wide ≡ false → (k : ℕ) → s.line ≤ k → k < s.place → starts (byte text k) ≡ true
 
-abbrev pub ReadsPlain : List ℕ → ℕ → List ℕ → List ℕ → Result PlainScalar Refusal → Result PlainText Wrong → Type 0
+abbrev pub ReadsPlain : List ℕ → ℕ → List ℕ → List ℕ → Result PlainScalar Refusal
+    → Result PlainText Wrong → Type 0
 ReadsPlain text start old new (Ok s) (Ok x) = IsPlain text start old new s x
 ReadsPlain text start old new (Ok s) (Err w) = ⊥
 ReadsPlain text start old new (Err e) (Ok x) = IsMemory e
@@ -102,7 +110,8 @@ ReadsPlain text start old new (Err e) (Err w) = Refuses e w
 
 -- a byte at which a line of a plain scalar may end
 abbrev pub may_stop : Bool → ℕ → Bool
-may_stop true = is_stop (ascii.colon ∷ ascii.hash ∷ ascii.comma ∷ ascii.open_bracket ∷ ascii.close_bracket
+may_stop true = is_stop (ascii.colon ∷ ascii.hash ∷ ascii.comma ∷ ascii.open_bracket
+    ∷ ascii.close_bracket
     ∷ ascii.open_brace ∷ ascii.close_brace ∷ [])
 may_stop false = is_stop (ascii.colon ∷ ascii.hash ∷ [])
 
@@ -117,14 +126,19 @@ stops flow blank text p =
 pub record InIndent (level : ℕ) (text : List ℕ) (line p : ℕ) : Type 0 where
   pub forward : line ≤ p
   pub blanks : (k : ℕ) → line ≤ k → k < p → is_blank (byte text k) ≡ true
-  pub tabs : (k : ℕ) → line ≤ k → k < p → (byte text k == ascii.tab && nat_lt (k - line) level) ≡ false
+  pub tabs : (k : ℕ) → line ≤ k → k < p
+      → (byte text k == ascii.tab && nat_lt (k - line) level) ≡ false
 
 -- The indentation ends there, or before a tab left of the margin.
 abbrev pub PassesIndent : ℕ → List ℕ → ℕ → Result ℕ Told → Type 0
 PassesIndent level text line (Ok p) = InIndent level text line p × (is_blank (byte text p) ≡ false)
 PassesIndent level text line (Err w) = (p : ℕ) × InIndent level text line p
     × ((byte text p == ascii.tab && nat_lt (p - line) level) ≡ true)
-    × (wrong_of w ≡ record { problem = problems.TabInIndentation; context = contexts.PlainScalar; place = p })
+    × (wrong_of w ≡ record {
+      problem = problems.TabInIndentation;
+      context = contexts.PlainScalar;
+      place = p;
+    })
 
 -- After a break, white, and the place after it.
 pub record IsHead (level : ℕ) (text : List ℕ) (p : ℕ) (h : Head) : Type 0 where
@@ -145,14 +159,16 @@ PassesBreaks level text p (Ok h) = IsHead level text p h
 PassesBreaks level text p (Err w) = IsBadTab level text p (wrong_of w)
 
 -- A plain scalar that starts there goes on after such a part on its first line, and such white.
-pub record GoesOn (flow : Bool) (level : ℕ) (text : List ℕ) (start : ℕ) (part : PlainLine) (h : Head) : Type 0 where
+pub record GoesOn (flow : Bool) (level : ℕ) (text : List ℕ) (start : ℕ) (part : PlainLine)
+    (h : Head) : Type 0 where
   pub line : IsPlainLine flow text start part
   pub broke : 0 < break_width text part.next
   pub head : IsHead level text part.next h
   pub more : ends_at flow level text h.at ≡ false
 
 -- The last line's part is taken, or a `:` is refused after it.
-abbrev pub EndsLine : Bool → List ℕ → ℕ → PlainLine → ℕ → List ℕ → List ℕ → Result PlainScalar Refusal → Type 0
+abbrev pub EndsLine : Bool → List ℕ → ℕ → PlainLine → ℕ → List ℕ → List ℕ
+    → Result PlainScalar Refusal → Type 0
 EndsLine flow text from part line old new (Ok s) = (is_bad_colon flow text part.next ≡ false)
     × (new ≡ old ++ slice_range text from part.end)
     × (s ≡ record {

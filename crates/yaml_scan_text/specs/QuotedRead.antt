@@ -24,11 +24,13 @@ IsQuote b = (b ≡ ascii.quote) ⊎ (b ≡ ascii.apostrophe)
 
 -- the quote that closes the scalar stands there
 abbrev pub closes : ℕ → List ℕ → ℕ → Bool
-closes quote text p = byte text p == quote && not (quote == ascii.apostrophe && byte text (p + 1) == ascii.apostrophe)
+closes quote text p = byte text p == quote && not
+    (quote == ascii.apostrophe && byte text (p + 1) == ascii.apostrophe)
 
 -- a byte at which what stands for itself between those quotes may end
 abbrev pub may_stop : ℕ → ℕ → Bool
-may_stop quote = if quote == ascii.quote then is_stop (ascii.quote ∷ ascii.backslash ∷ []) else is_stop (ascii.apostrophe ∷ [])
+may_stop quote = if quote == ascii.quote then is_stop (ascii.quote ∷ ascii.backslash ∷ []) else
+    is_stop (ascii.apostrophe ∷ [])
 
 -- a place between quotes, in a line that starts there
 pub record InQuotes (text : List ℕ) (line p : ℕ) : Type 0 where
@@ -51,27 +53,31 @@ raw_at text p (suc d) = raw_piece (byte text p) ∷ raw_at text (p + 1) d
 -- goes on at the other.
 abbrev pub to_come : ℕ → List ℕ → List ℕ → ℕ → ℕ → Result (List ℕ × ℕ) Wrong
 to_come quote text done from p =
-    valued (λ ps. done ++ value (raw_at text from (p - from) ++ ps)) (pieces (suc (length text)) quote text p)
+    valued (λ ps. done ++ value (raw_at text from (p - from) ++ ps))
+    (pieces (suc (length text)) quote text p)
 
 -- no character beyond ASCII stands in the line before the place, after the scalar's start
 abbrev pub IsNarrow : List ℕ → ℕ → Quoted → Type 0
-IsNarrow text start r = r.wide ≡ false → (k : ℕ) → start ≤ k → r.line ≤ k → k < r.at → starts (byte text k) ≡ true
+IsNarrow text start r = r.wide ≡ false → (k : ℕ) → start ≤ k → r.line ≤ k → k < r.at
+    → starts (byte text k) ≡ true
 
 -- The scalar that starts there, as far as it is read.
-pub record IsRead (quote : ℕ) (text : List ℕ) (start : ℕ) (old new : List ℕ) (r : Quoted) : Type 0 where
-  pub done : List ℕ
-  pub is : new ≡ old ++ done
-  pub rest : quoted_at quote text start ≡ to_come quote text done r.from r.at
-  pub order : r.from ≤ r.at
-  pub taken : ((r.from ≡ start + 1) × (done ≡ [])) ⊎ (start + 1 < r.from)
-  pub seat : InQuotes text r.line r.at
-  pub narrow : IsNarrow text start r
+pub record IsRead (quote : ℕ) (text : List ℕ) (start : ℕ) (old new : List ℕ) (r : Quoted) : Type 0
+  where
+    pub done : List ℕ
+    pub is : new ≡ old ++ done
+    pub rest : quoted_at quote text start ≡ to_come quote text done r.from r.at
+    pub order : r.from ≤ r.at
+    pub taken : ((r.from ≡ start + 1) × (done ≡ [])) ⊎ (start + 1 < r.from)
+    pub seat : InQuotes text r.line r.at
+    pub narrow : IsNarrow text start r
 
 -- After what was taken the scalar comes to the same.
 pub record Goes (quote : ℕ) (text old new : List ℕ) (read r : Quoted) : Type 0 where
   pub more : List ℕ
   pub is : new ≡ old ++ more
-  pub goes : (done : List ℕ) → to_come quote text done read.from read.at ≡ to_come quote text (done ++ more) r.from r.at
+  pub goes : (done : List ℕ) → to_come quote text done read.from read.at
+      ≡ to_come quote text (done ++ more) r.from r.at
   pub further : read.at < r.at
   pub order : r.from ≤ r.at
   pub taken : ((r.from ≡ read.from) × (more ≡ [])) ⊎ (read.from < r.from)
@@ -85,28 +91,37 @@ RefusedAs e (Err w) = Refuses e w
 
 abbrev pub ReadsPiece : ℕ → List ℕ → List ℕ → List ℕ → Quoted → Result Quoted Refusal → Type 0
 ReadsPiece quote text old new read (Ok r) = Goes quote text old new read r
-ReadsPiece quote text old new read (Err e) = (done : List ℕ) → RefusedAs e (to_come quote text done read.from read.at)
+ReadsPiece quote text old new read (Err e) = (done : List ℕ)
+    → RefusedAs e (to_come quote text done read.from read.at)
 
 -- what is wrong where a document's mark stands at a line's start
 abbrev pub marked : ℕ → Wrong
-marked p = record { problem = problems.DocumentIndicator; context = contexts.QuotedScalar; place = p }
+marked p = record {
+  problem = problems.DocumentIndicator;
+  context = contexts.QuotedScalar;
+  place
+      = p;
+}
 
 -- White after a break, and the place after it; a document's mark that stands there is refused.
 abbrev pub PassesLines : List ℕ → ℕ → Result Head Told → Type 0
 PassesLines text p (Ok h) = IsHead 0 text p h × (is_document_indicator text h.at ≡ false)
-PassesLines text p (Err e) = (h : Head) × IsHead 0 text p h × (is_document_indicator text h.at ≡ true) × (wrong_of e ≡ marked h.at)
+PassesLines text p (Err e) = (h : Head) × IsHead 0 text p h
+    × (is_document_indicator text h.at ≡ true) × (wrong_of e ≡ marked h.at)
 
 -- bytes of ASCII that are no breaks stand from one place to another
 pub record ArePlain (text : List ℕ) (p q : ℕ) : Type 0 where
   pub forward : p ≤ q
-  pub each : (k : ℕ) → p ≤ k → k < q → (0 < byte text k) × (byte text k < 128) × (break_width text k ≡ 0)
+  pub each : (k : ℕ) → p ≤ k → k < q
+      → (0 < byte text k) × (byte text k < 128) × (break_width text k ≡ 0)
 
 -- what a spot is whose bytes were appended, up to the place
-pub record IsTaken (text : List ℕ) (p : ℕ) (old new : List ℕ) (q : ℕ) (s : QuotedSpot) : Type 0 where
-  pub bytes : List ℕ
-  pub spot : s ≡ Pieces (Kept bytes ∷ []) q
-  pub is : new ≡ old ++ bytes
-  pub plain : ArePlain text p q
+pub record IsTaken (text : List ℕ) (p : ℕ) (old new : List ℕ) (q : ℕ) (s : QuotedSpot) : Type 0
+  where
+    pub bytes : List ℕ
+    pub spot : s ≡ Pieces (Kept bytes ∷ []) q
+    pub is : new ≡ old ++ bytes
+    pub plain : ArePlain text p q
 
 -- what is wrong there is told, unless memory ran out
 abbrev pub RefusesSpot : Refusal → QuotedSpot → Type 0
@@ -123,11 +138,13 @@ Codes text p old new (Err e) s = RefusesSpot e s
 
 -- the scalar is told as it was read
 abbrev pub IsClosed : ℕ → Quoted → Result QuotedScalar Refusal → Type 0
-IsClosed start r (Ok s) = s ≡ record { end = r.at + 1; line = r.line; wide = r.wide; joined = not (r.from == start + 1) }
+IsClosed start r (Ok s) = s ≡ record
+    { end = r.at + 1; line = r.line; wide = r.wide; joined = not (r.from == start + 1) }
 IsClosed start r (Err e) = IsMemory e
 
 -- A quoted scalar has that value and that end; its value is joined after what was there, or stands between the quotes.
-pub record IsQuoted (text : List ℕ) (start : ℕ) (old new : List ℕ) (s : QuotedScalar) (x : List ℕ × ℕ) : Type 0 where
+pub record IsQuoted (text : List ℕ) (start : ℕ) (old new : List ℕ) (s : QuotedScalar)
+    (x : List ℕ × ℕ) : Type 0 where
   pub joined : s.joined ≡ true → new ≡ old ++ x.0
   pub stands : s.joined ≡ false → (new ≡ old) × (slice_range text (start + 1) (s.end - 1) ≡ x.0)
   pub some : start + 1 < s.end
@@ -135,9 +152,11 @@ pub record IsQuoted (text : List ℕ) (start : ℕ) (old new : List ℕ) (s : Qu
   pub inside : s.end ≤ length text
   pub whole : splits_break text s.end ≡ false
   pub line : s.line ≡ line_start text s.end
-  pub wide : s.wide ≡ false → (k : ℕ) → start ≤ k → s.line ≤ k → k < s.end → starts (byte text k) ≡ true
+  pub wide : s.wide ≡ false → (k : ℕ) → start ≤ k → s.line ≤ k → k < s.end
+      → starts (byte text k) ≡ true
 
-abbrev pub ReadsQuoted : List ℕ → ℕ → List ℕ → List ℕ → Result QuotedScalar Refusal → Result (List ℕ × ℕ) Wrong → Type 0
+abbrev pub ReadsQuoted : List ℕ → ℕ → List ℕ → List ℕ → Result QuotedScalar Refusal
+    → Result (List ℕ × ℕ) Wrong → Type 0
 ReadsQuoted text start old new (Ok s) (Ok x) = IsQuoted text start old new s x
 ReadsQuoted text start old new (Ok s) (Err w) = ⊥
 ReadsQuoted text start old new (Err e) (Ok x) = IsMemory e

@@ -20,7 +20,8 @@ pub record IsTag (text : List ℕ) (p : ℕ) (old new : List ℕ) (t : Tag) (x :
   pub inside : t.end ≤ length text
   pub plain : ArePlain text p t.end
 
-abbrev pub ReadsTag : List ℕ → ℕ → List ℕ → List ℕ → Result Tag Refusal → Result TagText Wrong → Type 0
+abbrev pub ReadsTag : List ℕ → ℕ → List ℕ → List ℕ → Result Tag Refusal → Result TagText Wrong
+    → Type 0
 ReadsTag text p old new (Ok t) (Ok x) = IsTag text p old new t x
 ReadsTag text p old new (Ok t) (Err w) = ⊥
 ReadsTag text p old new (Err e) (Ok x) = IsMemory e

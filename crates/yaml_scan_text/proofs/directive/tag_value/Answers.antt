@@ -24,7 +24,8 @@ returns-in_err-prefix-clause-value c =
     let p = err_from_is_err_and c.from_residual-in_err-prefix.result c.from_residual-in_err-prefix.ensures.1 in
     rw (p.1, p.2) (uri_wrong c.args.text.now c.args.from c.skip_blanks-first.result c.in_ok-first_end.first_end c.skip_blanks-second.result c.args.arena.now.items c.some_uri.new.arena.items c.in_err-prefix.field-0.0 c.skip_blanks-first.ensures c.in_ok-first_end.ensures blank c.skip_blanks-second.ensures c.in_err-prefix.ensures.value)
 
-pub returns-then-not-is_blank_or_end-clause-value : goal.returns-then-not-is_blank_or_end-clause-value
+pub returns-then-not-is_blank_or_end-clause-value
+    : goal.returns-then-not-is_blank_or_end-clause-value
 returns-then-not-is_blank_or_end-clause-value c =
     let blank : is_blank (byte c.args.text.now c.in_ok-first_end.first_end) ≡ true = rw c.byte.ensures at (sym c.is_blank.ensures ∙ c.if-not-is_blank.false) in
     end_wrong c.args.text.now c.args.from c.skip_blanks-first.result c.in_ok-first_end.first_end c.skip_blanks-second.result c.args.arena.now.items c.some_uri.new.arena.items c.in_ok-prefix.prefix c.wrong-then-not-is_blank_or_end.result c.skip_blanks-first.ensures c.in_ok-first_end.ensures blank c.skip_blanks-second.ensures c.in_ok-prefix.ensures.value (sym c.is_blank_or_end.ensures ∙ c.if-not-is_blank_or_end.true) c.wrong-then-not-is_blank_or_end.ensures

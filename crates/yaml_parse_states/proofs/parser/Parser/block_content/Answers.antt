@@ -10,7 +10,8 @@ use Rattle.yaml_parse_states.specs.Nodes.{Found, IsShown, begun, wants_by}
 use Rattle.yaml_parse_states.proofs.Founds.{collection_found, loose_found, block_starts}
 use Rattle.yaml_parse_states.proofs.parser.Parser.block_content.Goals as goal
 
-pub returns-in-BlockSequenceStart-clause-contents : goal.returns-in-BlockSequenceStart-clause-contents
+pub returns-in-BlockSequenceStart-clause-contents
+    : goal.returns-in-BlockSequenceStart-clause-contents
 returns-in-BlockSequenceStart-clause-contents g c = λ q b n.
     let t = g.T.Tokens in
     let old = c.args.self.now in

@@ -12,7 +12,8 @@ use Rattle.yaml_parse_states.proofs.Documents.{directives_refuse, noted_stands, 
 use Rattle.yaml_parse_states.proofs.TextsKept.{noted_utf8}
 use Rattle.yaml_parse_states.proofs.parser.Parser.declared_document.Goals as goal
 
-pub returns-in_default-version_directive-clause-turned : goal.returns-in_default-version_directive-clause-turned
+pub returns-in_default-version_directive-clause-turned
+    : goal.returns-in_default-version_directive-clause-turned
 returns-in_default-version_directive-clause-turned g c =
     let t = g.T.Tokens in
     let now = c.directives.self in
@@ -22,7 +23,8 @@ returns-in_default-version_directive-clause-turned g c =
     (sym (c.directives.invariant.0 ∙ shown_same kind.VersionDirective (t.to_come now.tokens) (t.to_come t1) (t.fault_to_come now.tokens) (t.fault_to_come t1) (grammar.directives from ∷ []) (directives_of now.directives) c.in-VersionDirective.ensures.shows))
     (noted_refused t (coming_with t (grammar.directives from ∷ []) (with_tokens now t1)) from c.version_directive.result (with_tokens now t1) c.version_directive.new.self (c.version_directive.ensures.notes from) c.in_default-version_directive.not-Given)
 
-pub returns-in_default-tag_directive-clause-turned : goal.returns-in_default-tag_directive-clause-turned
+pub returns-in_default-tag_directive-clause-turned
+    : goal.returns-in_default-tag_directive-clause-turned
 returns-in_default-tag_directive-clause-turned g c =
     let t = g.T.Tokens in
     let now = c.directives.self in
@@ -52,19 +54,22 @@ returns-in_default-clause-turned g c =
     (refused_here t c.kind.result c.kind.new.self (grammar.directives from) [] problem.NoDocumentStart None c.refuse.result now c.refuse.new.self c.kind.ensures.shows
     (λ e. directives_refuse c.kind.result from c.in_default.not-VersionDirective c.in_default.not-TagDirective c.in_default.not-DocumentStart) (λ m. refl) c.kind.ensures.places c.refuse.ensures.refused c.refuse.ensures.next)
 
-pub returns-in_default-version_directive-clause-stands : goal.returns-in_default-version_directive-clause-stands
+pub returns-in_default-version_directive-clause-stands
+    : goal.returns-in_default-version_directive-clause-stands
 returns-in_default-version_directive-clause-stands g c =
     let t = g.T.Tokens in
     let from = t.mark_of c.args.self.now.tokens c.args.start in
     noted_stands t (coming_with t (grammar.directives from ∷ []) (with_tokens c.directives.self c.kind.new.self)) from c.version_directive.result (with_tokens c.directives.self c.kind.new.self) c.version_directive.new.self (c.version_directive.ensures.notes from) c.in_default-version_directive.not-Given
 
-pub returns-in_default-tag_directive-clause-stands : goal.returns-in_default-tag_directive-clause-stands
+pub returns-in_default-tag_directive-clause-stands
+    : goal.returns-in_default-tag_directive-clause-stands
 returns-in_default-tag_directive-clause-stands g c =
     let t = g.T.Tokens in
     let from = t.mark_of c.args.self.now.tokens c.args.start in
     noted_stands t (coming_with t (grammar.directives from ∷ []) (with_tokens c.directives.self c.kind.new.self)) from c.tag_directive.result (with_tokens c.directives.self c.kind.new.self) c.tag_directive.new.self (c.tag_directive.ensures.notes from) c.in_default-tag_directive.not-Given
 
-pub returns-in_default-version_directive-clause-utf8 : goal.returns-in_default-version_directive-clause-utf8
+pub returns-in_default-version_directive-clause-utf8
+    : goal.returns-in_default-version_directive-clause-utf8
 returns-in_default-version_directive-clause-utf8 g c = λ h.
     let t = g.T.Tokens in
     let from = t.mark_of c.args.self.now.tokens c.args.start in

@@ -10,7 +10,8 @@ use Rattle.yaml_scan_text.specs.declared.refusal.Refusal.TheVariants as refusals
 use Rattle.yaml_scan_text.proofs.LinesLemmas.{row_of, blank_starts}
 use Rattle.yaml_scan_text.proofs.WhiteLemmas.{white_join, white_le, has_break, breaks_of, fold_white}
 use Rattle.yaml_scan_text.proofs.FoldsLemmas.{feeds_done, feeds_here}
-use Rattle.yaml_scan_text.proofs.PlainLemmas.{AreBlanks, blanks_there, coming_white, coming_end, coming_wrong, plain_coming, line_last}
+use Rattle.yaml_scan_text.proofs.PlainLemmas.{AreBlanks, blanks_there, coming_white, coming_end, coming_wrong, plain_coming}
+use Rattle.yaml_scan_text.proofs.PlainStops.{line_last}
 
 -- ---- what the white between two lines reads as
 

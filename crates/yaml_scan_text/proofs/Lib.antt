@@ -5,11 +5,13 @@ pub mod LinesLemmas
 pub mod WhiteLemmas
 pub mod FoldsLemmas
 pub mod PlainLemmas
+pub mod PlainStops
 pub mod HeadLemmas
 pub mod JoinLemmas
 pub mod BlockLemmas
 pub mod StackLemmas
 pub mod QuotesLemmas
+pub mod QuotesRead
 pub mod Bytes
 pub mod NamesLemmas
 pub mod TagsLemmas

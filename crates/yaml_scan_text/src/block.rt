@@ -398,7 +398,8 @@ fn block_lines(
     requires seat { AtLine text.now header.line header.at }
     requires first { 0 < byte text.now header.at → column_at text.now header.at ≡ 0 }
     ensures value { spec.ReadsBlock text.now arena.old.items arena.new.items result
-        (spec.lines_at (byte text.now start == ascii.greater) header.chomp column text.now header.at) }
+        (spec.lines_at (byte text.now start == ascii.greater) header.chomp column text.now
+        header.at) }
     ensures kept { Keeps arena.old.items arena.new.items }
 {
     let folded = byte(text, start) == b'>';

@@ -80,6 +80,7 @@ pub(crate) fn take_line(
 }
 
 /// Whether a document's mark stands after such white.
+// In line: mostly a comparison.
 #[tactic(auto, using(crate::proofs::HeadLemmas::mark_first, crate::proofs::HeadLemmas::mark_other))]
 #[inline(always)]
 pub(crate) fn is_marked(text: &[u8], head: Head) -> bool

@@ -71,6 +71,7 @@ pub fn plain_line(text: &[u8], first: usize, flow: bool) -> PlainLine
 }
 
 /// The bytes there that a plain scalar holds, whatever follows: blanks are among them.
+// In line: called for each part of a scalar, with its kind known.
 #[inline(always)]
 fn plain_run(text: &[u8], from: usize, flow: bool) -> Run
     requires { from ≤ length text.now }
@@ -85,6 +86,7 @@ fn plain_run(text: &[u8], from: usize, flow: bool) -> Run
 }
 
 /// Whether a `:` stands there as a mapping has it.
+// In line: asked after each run.
 #[inline(always)]
 fn is_colon(text: &[u8], at: usize) -> bool
     ensures { result ≡ spec.is_colon text.now at }
@@ -94,6 +96,7 @@ fn is_colon(text: &[u8], at: usize) -> bool
 
 /// Whether the part of a plain scalar on a line ends there, `:` as a mapping has it aside: at a break or the end, a `#` after a blank,
 /// or in brackets a bracket or a `:` before such a one.
+// In line: asked after each run.
 #[inline(always)]
 #[tactic(auto, unfolding(yaml_types::specs::Marks::break_of, yaml_scan_words::specs::Plain::is_bracket))]
 fn stops(text: &[u8], at: usize, flow: bool) -> bool
@@ -110,6 +113,7 @@ fn stops(text: &[u8], at: usize, flow: bool) -> bool
 }
 
 /// Whether in brackets a `:` stands there before a bracket or a `?`.
+// In line: asked after each run.
 #[inline(always)]
 pub fn is_bad_colon(text: &[u8], at: usize, flow: bool) -> bool
     ensures { result ≡ spec.is_bad_colon flow text.now at }
@@ -118,6 +122,7 @@ pub fn is_bad_colon(text: &[u8], at: usize, flow: bool) -> bool
 }
 
 /// The place after the breaks that stand there, with the blanks of the lines after them, and where the last line starts.
+// In line: one caller for each line.
 #[inline(always)]
 fn pass_breaks(text: &[u8], from: usize, margin: usize) -> Result<Head, Wrong>
     requires text { IsSpelled text.now }
@@ -159,6 +164,7 @@ fn wrong_plain(problem: Problem, place: usize) -> Wrong
 }
 
 /// Whether a plain scalar ends before what stands after such white.
+// In line: asked after each line.
 #[inline(always)]
 fn ends_behind(text: &[u8], head: Head, flow: bool, margin: usize) -> bool
     requires { InHead text.now head.line head.at }
@@ -195,6 +201,7 @@ fn is_apart(text: &[u8], head: Head, flow: bool, margin: usize) -> bool
 
 /// The plain scalar that starts there, where such a part of it stands on the first line, and a break after. Its value is a part of
 /// the text, where the scalar ends on that line, else joined from its lines.
+// In line: mostly the scalar ends there.
 #[inline(always)]
 pub fn plain_lines(
     arena: &mut Vec<u8>,
@@ -221,7 +228,14 @@ pub fn plain_lines(
 
 /// The plain scalar that ends there, with such white after it.
 fn ended(end: usize, head: Head, joined: bool) -> PlainScalar
-    ensures { result ≡ record { end = end; place = head.at; line = head.line; broke = true; wide = false; joined = joined } }
+    ensures { result ≡ record {
+      end = end;
+      place = head.at;
+      line = head.line;
+      broke = true;
+      wide = false;
+      joined = joined;
+    } }
 {
     PlainScalar {
         end,
@@ -286,7 +300,8 @@ fn last_line(
 ) -> Result<PlainScalar, Refusal>
     requires order { from ≤ part.end }
     requires inside { part.end ≤ length text.now }
-    ensures value { spec.EndsLine flow text.now from part line arena.old.items arena.new.items result }
+    ensures value { spec.EndsLine flow text.now from part line arena.old.items arena.new.items
+        result }
     ensures kept { Keeps arena.old.items arena.new.items }
 {
     if is_bad_colon(text, part.next, flow) {

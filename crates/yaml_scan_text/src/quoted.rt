@@ -87,7 +87,8 @@ fn quoted_pieces(
 ) -> Result<QuotedScalar, Refusal>
     requires text { IsSpelled text.now }
     requires quote { spec.IsQuote (byte text.now start) }
-    requires read { spec.IsRead (byte text.now start) text.now start arena.old.items arena.old.items first }
+    requires read { spec.IsRead (byte text.now start) text.now start arena.old.items
+        arena.old.items first }
     requires goes_on { spec.closes (byte text.now start) text.now first.at ≡ false }
     ensures value { spec.ReadsQuoted text.now start arena.old.items arena.new.items result
         (quoted.quoted_at (byte text.now start) text.now start) }
@@ -108,7 +109,8 @@ fn quoted_pieces(
 fn behind_run(text: &[u8], quote: u8, read: Quoted) -> Quoted
     requires { read.at ≤ length text.now }
     ensures run { RunsTo (spec.may_stop quote) text.now read.at (length text.now) result.at }
-    ensures narrow { result.wide ≡ false → (read.wide ≡ false) × runs.IsNarrow text.now read.at result.at }
+    ensures narrow { result.wide ≡ false
+        → (read.wide ≡ false) × runs.IsNarrow text.now read.at result.at }
     ensures same { result ≡ record read { at = result.at; wide = result.wide } }
 {
     let part = quoted_run(text, read.at, quote);
@@ -120,6 +122,7 @@ fn behind_run(text: &[u8], quote: u8, read: Quoted) -> Quoted
 }
 
 /// The bytes there that stand for themselves between those quotes, whatever follows.
+// In line: called for each part of a scalar, with its quote known.
 #[inline(always)]
 fn quoted_run(text: &[u8], from: usize, quote: u8) -> Run
     requires { from ≤ length text.now }
@@ -286,7 +289,8 @@ fn escape(arena: &mut Vec<u8>, text: &[u8], read: Quoted) -> Result<Quoted, Refu
     requires first { byte text.now read.at ≡ ascii.backslash }
     requires seat { spec.InQuotes text.now read.line read.at }
     requires order { read.from ≤ read.at }
-    ensures value { spec.ReadsPiece ascii.quote text.now arena.old.items arena.new.items read result }
+    ensures value { spec.ReadsPiece ascii.quote text.now arena.old.items arena.new.items read
+        result }
     ensures kept { Keeps arena.old.items arena.new.items }
 {
     if break_width(text, read.at + 1) > 0 {
@@ -302,7 +306,8 @@ fn escape_line(arena: &mut Vec<u8>, text: &[u8], read: Quoted) -> Result<Quoted,
     requires broke { 0 < break_width text.now (read.at + 1) }
     requires seat { spec.InQuotes text.now read.line read.at }
     requires order { read.from ≤ read.at }
-    ensures value { spec.ReadsPiece ascii.quote text.now arena.old.items arena.new.items read result }
+    ensures value { spec.ReadsPiece ascii.quote text.now arena.old.items arena.new.items read
+        result }
     ensures kept { Keeps arena.old.items arena.new.items }
 {
     let broken = read.at + 1;
@@ -323,7 +328,8 @@ fn escape_character(arena: &mut Vec<u8>, text: &[u8], read: Quoted) -> Result<Qu
     requires none { break_width text.now (read.at + 1) ≡ 0 }
     requires seat { spec.InQuotes text.now read.line read.at }
     requires order { read.from ≤ read.at }
-    ensures value { spec.ReadsPiece ascii.quote text.now arena.old.items arena.new.items read result }
+    ensures value { spec.ReadsPiece ascii.quote text.now arena.old.items arena.new.items read
+        result }
     ensures kept { Keeps arena.old.items arena.new.items }
 {
     arena.extend_from_slice(&text[read.from..read.at])?;

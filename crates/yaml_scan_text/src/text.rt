@@ -11,6 +11,7 @@ ghost use Rattle.yaml_scan_text.specs.White as white;
 use yaml_scan_runs::{LINE, run_end};
 
 /// The byte that stands there, or 0 at the end.
+// In line: asked at each step.
 #[inline(always)]
 pub fn byte(text: &[u8], at: usize) -> u8
     ensures { result ≡ byte text.now at }
@@ -47,6 +48,7 @@ pub fn feed(text: &[u8], at: usize) -> &[u8]
     }
 }
 
+/// Whether it is a space or a tab.
 pub fn is_blank(byte: u8) -> bool
     ensures { result ≡ is_blank byte }
 {

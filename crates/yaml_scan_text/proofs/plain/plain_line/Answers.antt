@@ -1,6 +1,7 @@
 use Rattle.std.proofs.Common.{◌≡◌, ◌-◌, ◌∙◌, ◌||◌, sym, true, false}
 use Rattle.yaml_scan_text.proofs.Words.{byte, is_blank, is_colon, stops, false≢true}
-use Rattle.yaml_scan_text.proofs.PlainLemmas.{line_done, line_one, seen_first, seen_more, seen_run, starts_byte, starts_first, starts_run}
+use Rattle.yaml_scan_text.proofs.PlainLemmas.{seen_first, seen_more, seen_run, starts_byte, starts_first, starts_run}
+use Rattle.yaml_scan_text.proofs.PlainStops.{line_done, line_one}
 use Rattle.yaml_scan_text.proofs.plain.plain_line.Goals as goal
 use Rattle.yaml_scan_text.proofs.plain.plain_line.Goals.{then-colon-via-then-colon, then-colon-via-else-colon+then-stops}
 

@@ -1,4 +1,4 @@
-use Rattle.yaml_scan_text.proofs.QuotesLemmas.{doubled_goes}
+use Rattle.yaml_scan_text.proofs.QuotesRead.{doubled_goes}
 use Rattle.yaml_scan_text.proofs.quoted.doubled.Goals as goal
 
 pub returns-clause-value : goal.returns-clause-value

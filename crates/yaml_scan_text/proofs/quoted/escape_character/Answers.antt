@@ -1,5 +1,5 @@
 use Rattle.std.proofs.lemmas.Result.{err_from_is_err_and}
-use Rattle.yaml_scan_text.proofs.QuotesLemmas.{character_goes, character_refused}
+use Rattle.yaml_scan_text.proofs.QuotesRead.{character_goes, character_refused}
 use Rattle.yaml_scan_text.proofs.quoted.escape_character.Goals as goal
 
 pub returns-in_err-next-clause-value : goal.returns-in_err-next-clause-value

@@ -2,7 +2,7 @@ use Rattle.std.proofs.Common.{◌+◌, arith}
 use Rattle.std.proofs.lemmas.Result.{err_from_is_err_and}
 use Rattle.yaml_scan_text.proofs.TextLemmas.{break_inside}
 use Rattle.yaml_scan_text.proofs.FoldsLemmas.{keeps_on, keeps_more, keeps_same}
-use Rattle.yaml_scan_text.proofs.QuotesLemmas.{line_goes, line_refused}
+use Rattle.yaml_scan_text.proofs.QuotesRead.{line_goes, line_refused}
 use Rattle.yaml_scan_text.proofs.quoted.escape_line.Goals as goal
 
 pub returns-in_err-head-clause-value : goal.returns-in_err-head-clause-value

@@ -1,5 +1,6 @@
 use Rattle.std.proofs.lemmas.Result.{err_from_is_err_and}
-use Rattle.yaml_scan_text.proofs.QuotesLemmas.{fold_goes, fold_refused, trimmed_past}
+use Rattle.yaml_scan_text.proofs.QuotesLemmas.{fold_goes, trimmed_past}
+use Rattle.yaml_scan_text.proofs.QuotesRead.{fold_refused}
 use Rattle.yaml_scan_text.proofs.quoted.fold_lines.Goals as goal
 
 pub returns-in_err-head-clause-value : goal.returns-in_err-head-clause-value

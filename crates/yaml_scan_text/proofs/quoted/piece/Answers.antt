@@ -1,6 +1,6 @@
 use Rattle.std.proofs.Common.{◌≡◌, ◌≢◌, ◌==◌, ◌&&◌, false, ◌∙◌, sym, arith}
 use Rattle.yaml_scan_text.proofs.Words.{byte, break_width}
-use Rattle.yaml_scan_text.proofs.QuotesLemmas.{end_refused, no_slash_first, no_slash_last, wide_goes}
+use Rattle.yaml_scan_text.proofs.QuotesRead.{end_refused, no_slash_first, no_slash_last, wide_goes}
 use Rattle.yaml_scan_text.proofs.quoted.piece.Goals as goal
 use Rattle.yaml_scan_text.proofs.quoted.piece.Goals.{else-quote-eq34-via-then-quote-eq34+else-first-eq92, else-quote-eq34-via-else-quote-eq34}
 

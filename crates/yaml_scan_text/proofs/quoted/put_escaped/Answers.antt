@@ -1,5 +1,5 @@
 use Rattle.std.proofs.Common.{arith}
-use Rattle.yaml_scan_text.proofs.QuotesLemmas.{code_escapes, code_inside, simple_taken, unknown_refused}
+use Rattle.yaml_scan_text.proofs.QuotesRead.{code_escapes, code_inside, simple_taken, unknown_refused}
 use Rattle.yaml_scan_text.proofs.quoted.put_escaped.Goals as goal
 
 pub put_coded-requires-clause-inside : goal.put_coded-requires-clause-inside

@@ -3,7 +3,7 @@ use Rattle.yaml_scan_runs.specs.Runs.{RunsTo}
 use Rattle.yaml_scan_text.proofs.Words.{byte}
 use Rattle.yaml_scan_text.proofs.FoldsLemmas.{keeps_on}
 use Rattle.yaml_scan_text.specs.QuotedRead.{closes, may_stop}
-use Rattle.yaml_scan_text.proofs.QuotesLemmas.{read_behind, read_end, read_keep, read_on}
+use Rattle.yaml_scan_text.proofs.QuotesRead.{read_behind, read_end, read_keep, read_on}
 use Rattle.yaml_scan_text.proofs.quoted.quoted_pieces.Goals as goal
 
 pub returns-then-closes-clause-value : goal.returns-then-closes-clause-value

@@ -2,7 +2,7 @@ use Rattle.std.proofs.Common.{◌≡◌, ◌+◌, ◌∙◌, true, false, length
 use Rattle.yaml_scan_runs.specs.Runs.{RunsTo}
 use Rattle.yaml_scan_text.proofs.Words.{byte}
 use Rattle.yaml_scan_text.specs.QuotedRead.{closes, may_stop}
-use Rattle.yaml_scan_text.proofs.QuotesLemmas.{read_first, read_once, read_run}
+use Rattle.yaml_scan_text.proofs.QuotesRead.{read_first, read_once, read_run}
 use Rattle.yaml_scan_text.proofs.quoted.quoted_scalar.Goals as goal
 
 pub returns-then-closes-clause-value : goal.returns-then-closes-clause-value

@@ -54,7 +54,7 @@ SCAN = {"Scanner", "Reader"}
 PARSE = SCAN | {"Parser"}
 LOAD = PARSE | {"Loader"}
 EMIT = {"Emitter", "Writer"}
-# The layers that may report out of memory, by the calls' contracts (`Faults.antt` of yaml_types, `Layers.antt` of
+# The layers that may report out of memory, by the calls' contracts (`Faults.antt` of yaml_scan_types, `Layers.antt` of
 # yaml_round_writing); what a line makes of several calls, by all of them.
 LAYERS = {
     "decode": SCAN,

@@ -6,7 +6,7 @@
                                statements; bodies of more than 40 lines
                                without `long` in the comment above; functions of more than 6 arguments, without `arguments`
                                there; laws that code calls; hints of inlining and reads that nothing uses, without a reason;
-                               in specs/ and clauses of src/ decimal codes of characters that yaml_types/specs/Ascii.antt
+                               in specs/ and clauses of src/ decimal codes of characters that yaml_scan_types/specs/Ascii.antt
                                names, beside `==`, `≡`, `≢`, `∷` or as arguments of `char`, `indicator`, `word`, without
                                `number` in the comment above;
                                public items without a doc comment; lemmas that another crate brings in without a line of
@@ -55,7 +55,7 @@ ITEM = re.compile(r"\s*pub (?:fn|struct|enum|trait|const|extern|type)\b")
 # Where a clause of the code begins, and a name that a character's code has.
 CLAUSE = re.compile(r"\b(?:requires|ensures|ghost \w+)\b[^{};\n]*\{")
 CODE = re.compile(r"^(\w+) = (\d+)$", re.M)
-NAMED = "crates/yaml_types/specs/Ascii.antt"
+NAMED = "crates/yaml_scan_types/specs/Ascii.antt"
 
 
 def files():

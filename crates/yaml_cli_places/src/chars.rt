@@ -1,7 +1,7 @@
 //! The characters of a text, as far as its bytes spell any.
 
 use bstr::decode_utf8;
-use yaml_types::yaml_encoding_t;
+use yaml_scan_types::yaml_encoding_t;
 
 // How many bytes are looked at in a row.
 const ROW: usize = 32;

@@ -4,7 +4,7 @@ use crate::chars::{Chars, Source};
 use crate::place::from_place;
 use std::alloc::AllocError;
 use unicode_width::UnicodeWidthChar;
-use yaml_types::yaml_mark_t;
+use yaml_scan_types::yaml_mark_t;
 
 // A line of no more columns is shown whole.
 const WHOLE: u64 = 80;

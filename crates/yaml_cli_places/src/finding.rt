@@ -8,7 +8,7 @@ use std::alloc::{AllocError, Global};
 use std::fmt::{Display, Formatter, Result as Formatted, Write};
 use yaml_cli_files::bare;
 use yaml_round_device::headline;
-use yaml_types::{yaml_fault_t, yaml_mark_t};
+use yaml_scan_types::{yaml_fault_t, yaml_mark_t};
 
 /// How findings are reported.
 #[derive(Clone, Copy)]

@@ -3,7 +3,7 @@
 use crate::chars::{Chars, Next, Source};
 use crate::place::{from_place, is_at_end};
 use crate::rows::row_of;
-use yaml_types::{yaml_fault_t, yaml_mark_t};
+use yaml_scan_types::{yaml_fault_t, yaml_mark_t};
 
 const TABS: &'static str = "indent with spaces";
 

@@ -2,7 +2,7 @@
 
 use crate::chars::{Chars, Next, Source, ends_line};
 use crate::place::from_place;
-use yaml_types::yaml_mark_t;
+use yaml_scan_types::yaml_mark_t;
 
 // What is left of a text, and its place; `index` counts the characters.
 #[derive(Clone, Copy)]

@@ -3,7 +3,7 @@
 use crate::chars::{Chars, Next};
 use crate::excerpt::{is_hidden, push_shown};
 use std::alloc::AllocError;
-use yaml_types::yaml_encoding_t;
+use yaml_scan_types::yaml_encoding_t;
 
 // How many characters of a key are shown.
 const MOST_OF_KEY: usize = 40;

@@ -1,7 +1,7 @@
 //! Where a fault stands.
 
 use crate::chars::{Chars, Next, Source};
-use yaml_types::{yaml_error_type_t, yaml_fault_t, yaml_mark_t};
+use yaml_scan_types::{yaml_error_type_t, yaml_fault_t, yaml_mark_t};
 
 /// The place of the character that has that byte, or of the first bytes before it that spell none.
 pub fn place_of_byte(source: Source<'_>, offset: u64) -> yaml_mark_t {

@@ -8,7 +8,7 @@ use crate::rows::row_of;
 use crate::shown::Shown;
 use std::alloc::AllocError;
 use yaml_round_device::headline;
-use yaml_types::{yaml_error_type_t, yaml_fault_t, yaml_mark_t};
+use yaml_scan_types::{yaml_error_type_t, yaml_fault_t, yaml_mark_t};
 
 // How many characters of a wrong word are told.
 const MOST_OF_WORD: usize = 40;

@@ -9,7 +9,7 @@ use std::io::{Read, Write};
 use std::rt::Files;
 use yaml_cli_places::Source;
 use yaml_round_device::yaml_run_fault_t;
-use yaml_types::{yaml_memory_fault, yaml_origin_t};
+use yaml_scan_types::{yaml_memory_fault, yaml_origin_t};
 
 // Two files that are to be compared.
 #[derive(Clone, Copy)]

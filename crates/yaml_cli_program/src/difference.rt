@@ -3,7 +3,7 @@
 use crate::engine::{Difference, Met};
 use std::alloc::AllocError;
 use yaml_cli_places::{Source, parted, push_label};
-use yaml_types::yaml_event_type_t;
+use yaml_scan_types::yaml_event_type_t;
 
 // How people call what begins with such an event.
 fn event_words(kind: yaml_event_type_t) -> &'static str {

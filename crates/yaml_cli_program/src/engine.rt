@@ -4,7 +4,7 @@ use crate::order::{Judging, Manner, Measure, Task};
 use std::alloc::Global;
 use std::io::{Read, Write};
 use yaml_round_device::{yaml_form_t, yaml_run_fault_t};
-use yaml_types::{yaml_encoding_t, yaml_event_type_t, yaml_fault_t, yaml_mark_t};
+use yaml_scan_types::{yaml_encoding_t, yaml_event_type_t, yaml_fault_t, yaml_mark_t};
 
 /// An input of two.
 #[derive(Clone, Copy)]

@@ -7,7 +7,7 @@ use std::io::{Error as Failure, Write};
 use thiserror::Error;
 use yaml_cli_places::{Shown, Source, push_fault};
 use yaml_round_device::{yaml_fault_line, yaml_run_fault_t};
-use yaml_types::{yaml_error_type_t, yaml_fault_t};
+use yaml_scan_types::{yaml_error_type_t, yaml_fault_t};
 
 /// How many bytes an input may have.
 pub const INPUT_LIMIT: u64 = 1_073_741_824;

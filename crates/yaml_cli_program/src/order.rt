@@ -6,7 +6,7 @@ use std::io::ErrorKind;
 use yaml_cli_files::Choice;
 use yaml_cli_places::{Format, row_of};
 use yaml_round_device::{yaml_command_t, yaml_output_encoding_t, yaml_settings_t};
-use yaml_types::{yaml_break_t, yaml_encoding_t};
+use yaml_scan_types::{yaml_break_t, yaml_encoding_t};
 
 /// The status where the words are wrong.
 pub const WRONG_WORDS: u8 = 2;

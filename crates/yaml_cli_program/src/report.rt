@@ -5,7 +5,7 @@ use crate::file::{Streams, flushed};
 use crate::order::Judging;
 use std::io::Write;
 use yaml_cli_places::{Finding, Format, Shown, Source, push_finding};
-use yaml_types::{yaml_error_type_t, yaml_fault_t};
+use yaml_scan_types::{yaml_error_type_t, yaml_fault_t};
 
 // Writes a finding's line; answers the status that is handed in, or that of an output that takes no more.
 fn put_finding<R, W: Write, E: Write>(

@@ -9,7 +9,7 @@ use std::io::Write;
 use std::rt::Files;
 use yaml_cli_files::{Unreplaced, replace};
 use yaml_cli_places::{Shown, Source};
-use yaml_types::{yaml_fault_t, yaml_mark_t};
+use yaml_scan_types::{yaml_fault_t, yaml_mark_t};
 
 // Reports a comment, which the normal form hasn't; answers the status.
 fn has_comment<R, W, E: Write>(

@@ -2,8 +2,8 @@
 use Rattle.std.proofs.Common.{◌≡◌, ℕ, ◌<◌, Bool, false, List, length, slice_index, refl, arith}
 use Rattle.std.specs.Prelude.{zero, suc, nat_lt, bit_and}
 use Rattle.std.proofs.lemmas.Bool.Decides.{nat_tests}
-use Rattle.yaml_types.specs.Marks.{break_of}
-use Rattle.yaml_types.specs.Classes.{any_below, is_break, has_break}
+use Rattle.yaml_scan_types.specs.Marks.{break_of}
+use Rattle.yaml_scan_types.specs.Classes.{any_below, is_break, has_break}
 use Rattle.yaml_emit_scalars.specs.Classes.{class_of, is_of, leads_break, Covers}
 use Rattle.yaml_emit_scalars.proofs.ClassLemmas.{by_class, covers_none}
 

@@ -6,7 +6,7 @@ use Rattle.std.specs.Str.{IsAscii}
 use Rattle.std.proofs.lemmas.Bool.Decides.{nat_tests}
 use Rattle.std.proofs.lemmas.List.Sums.{AllPass-from_list_all}
 use Rattle.std.proofs.lemmas.Str.Ascii.{IsAscii-from_all}
-use Rattle.yaml_types.specs.Classes.{is_alpha_byte, is_digit_byte}
+use Rattle.yaml_scan_types.specs.Classes.{is_alpha_byte, is_digit_byte}
 use Rattle.yaml_emit_layout.specs.declared.settings.Settings.{Settings}
 use Rattle.yaml_parse_model.specs.Events.{TagDirective}
 use Rattle.yaml_emit_layout.specs.declared.level.Level.{Level as Open}
@@ -15,7 +15,7 @@ use Rattle.yaml_emit_layout.specs.declared.problem.Problem.TheVariants as proble
 use Rattle.yaml_emit_layout.specs.Content as said
 use Rattle.yaml_emit_layout.specs.Grammar.{or_else, name_problem, anchor_problem, tag_problem, start_tag, scalar_tag, has, opening_problem}
 use Rattle.yaml_emit_layout.specs.State.{top_of, problem_at}
-use Rattle.yaml_types.specs.declared.yaml_encoding_t.{yaml_encoding_t}
+use Rattle.yaml_scan_types.specs.declared.yaml_encoding_t.{yaml_encoding_t}
 use Rattle.yaml_emit_core.specs.declared.level.State.{State}
 use Rattle.yaml_emit_core.specs.declared.level.State.TheVariants as state
 use Rattle.yaml_emit_core.specs.Levels.{phase_of, level_by, is_between, awaits_node, may_end, opening, ending, Stack, Stands, state_at}

@@ -2,7 +2,7 @@
 use Rattle.std.proofs.Common.{◌≡◌, ◌≢◌, ℕ, ◌+◌, ◌<◌, ◌≤◌, List, [], ◌∷◌, length, Bool, true, false, refl, sym, subst, ◌∙◌, ap}
 use Rattle.std.specs.Prelude.{◌&&◌, ◌||◌, ◌==◌, not, nat_le, Option, Some, None, option_map, if◌then◌else◌}
 use Rattle.std.specs.Str.{chars}
-use Rattle.yaml_types.specs.Classes.{has_break}
+use Rattle.yaml_scan_types.specs.Classes.{has_break}
 use Rattle.yaml_emit_layout.specs.declared.cursor.Cursor.{Cursor}
 use Rattle.yaml_emit_layout.specs.declared.cursor.Status.TheVariants.{Going}
 use Rattle.yaml_emit_layout.specs.declared.settings.Settings.{Settings}

@@ -7,7 +7,7 @@ use Rattle.yaml_emit_layout.specs.declared.level.Expected.{Expected}
 use Rattle.yaml_emit_layout.specs.declared.level.Expected.TheVariants as at
 use Rattle.yaml_emit_layout.specs.State.{levels_behind, top_of, State as Standing}
 use Rattle.yaml_parse_model.specs.Events.{TagDirective}
-use Rattle.yaml_types.specs.Ascii as ascii
+use Rattle.yaml_scan_types.specs.Ascii as ascii
 use Rattle.yaml_emit_layout.specs.Content as said
 use Rattle.yaml_emit_layout.specs.Content.{Event, Start}
 use Rattle.yaml_emit_core.specs.declared.level.State.{State}

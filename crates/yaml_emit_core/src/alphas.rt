@@ -2,9 +2,9 @@
 
 ghost use Rattle.std.specs.Prelude.{◌≡◌};
 ghost use Rattle.std.specs.List.{list_all};
-ghost use Rattle.yaml_types.specs.Classes.{is_alpha_byte};
+ghost use Rattle.yaml_scan_types.specs.Classes.{is_alpha_byte};
 
-use yaml_types::{ByteTest, all_pass};
+use yaml_scan_types::{ByteTest, all_pass};
 
 /// Whether a byte is one of `0-9 A-Z a-z _ -`.
 #[derive(Drop)]
@@ -13,7 +13,7 @@ struct Alpha;
 impl ByteTest for Alpha {
     ghost passed = { λ test byte. is_alpha_byte byte };
 
-    #[tactic(auto, unfolding(yaml_types::specs::Classes::is_alpha_byte, yaml_types::specs::Classes::is_digit_byte))]
+    #[tactic(auto, unfolding(yaml_scan_types::specs::Classes::is_alpha_byte, yaml_scan_types::specs::Classes::is_digit_byte))]
     fn passes(&self, byte: u8) -> bool {
         ((b'0' <= byte) & (byte <= b'9'))
             | ((b'A' <= byte) & (byte <= b'Z'))

@@ -1,8 +1,8 @@
 //! Scalars where nodes come.
 
 ghost use Rattle.std.specs.Prelude.{◌≡◌, ◌≢◌, ◌<◌, ◌≤◌, ◌+◌, ◌^◌, ◌∷◌, ◌&&◌, [], ℕ, Bool, List, true, not, nat_le, length};
-ghost use Rattle.yaml_types.specs.Ascii as ascii;
-ghost use Rattle.yaml_types.specs.Classes.{has_break};
+ghost use Rattle.yaml_scan_types.specs.Ascii as ascii;
+ghost use Rattle.yaml_scan_types.specs.Classes.{has_break};
 ghost use Rattle.std.specs.Str.{chars};
 ghost use Rattle.yaml_emit_layout.specs.declared.Cursor.{Cursor};
 ghost use Rattle.yaml_emit_layout.specs.Layout.{Layout, ◌▹◌, stay, when, word};
@@ -28,7 +28,7 @@ use yaml_emit_layout::{Page, Settings, Style};
 use yaml_emit_output::Draft;
 use yaml_emit_scalars::{BREAK, allowed_by, taken};
 use yaml_scan_classes::has_break;
-use yaml_types::yaml_scalar_style_t;
+use yaml_scan_types::yaml_scalar_style_t;
 
 /// A scalar: whether it may be untagged where it is plain and where it isn't, the style that is asked for, and classes that its bytes
 /// have.

@@ -11,7 +11,7 @@ use crate::names::Spelling;
 use crate::table::DirectiveTable;
 use crate::tag::split_tag;
 use yaml_emit_layout::SplitTag;
-use yaml_types::{yaml_mapping_style_t, yaml_scalar_style_t, yaml_sequence_style_t};
+use yaml_scan_types::{yaml_mapping_style_t, yaml_scalar_style_t, yaml_sequence_style_t};
 
 /// What a node may have besides its content.
 #[derive(Clone, Copy)]

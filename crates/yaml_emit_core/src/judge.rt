@@ -6,7 +6,7 @@ ghost use Rattle.yaml_emit_layout.specs.Content as said;
 ghost use Rattle.yaml_parse_model.specs.Events.{body_of, text_of, TagDirective};
 ghost use Rattle.yaml_emit_layout.specs.Content.{emitter_event};
 ghost use Rattle.yaml_emit_layout.specs.Grammar.{event_problem, kept_tag, or_else, name_problem, anchor_problem, tag_problem, start_tag, scalar_tag, has};
-ghost use Rattle.yaml_types.specs.declared.yaml_encoding_t.{yaml_encoding_t};
+ghost use Rattle.yaml_scan_types.specs.declared.yaml_encoding_t.{yaml_encoding_t};
 ghost use Rattle.yaml_emit_layout.specs.State.{problem_at};
 ghost use Rattle.yaml_emit_core.specs.Judged.{misplaced, is_start, is_over};
 ghost use Rattle.yaml_emit_core.specs.Levels.{awaits_node, may_end, opening, ending, state_at, Stands};

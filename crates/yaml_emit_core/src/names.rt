@@ -2,7 +2,7 @@
 
 ghost use Rattle.std.specs.Prelude.{◌≡◌, ◌<◌, ◌+◌, ◌∷◌, [], length, nat_le};
 ghost use Rattle.std.specs.Str.{IsAscii};
-ghost use Rattle.yaml_types.specs.Ascii as ascii;
+ghost use Rattle.yaml_scan_types.specs.Ascii as ascii;
 ghost use Rattle.yaml_emit_layout.specs.Hex.{hex_digit};
 ghost use Rattle.yaml_emit_layout.specs.Layout.{stay, letters, word, gap};
 ghost use Rattle.yaml_emit_layout.specs.Tags.{suffix_keeps, keeps_byte, uri_byte, uri_text, shorthand, verbatim, spelled, split_size};

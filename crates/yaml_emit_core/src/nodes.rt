@@ -2,7 +2,7 @@
 
 ghost use Rattle.std.specs.Prelude.{◌≡◌, ◌<◌, ◌^◌, ◌∷◌, ◌&&◌, Bool, List, true, not, nat_le, length, if◌then◌else◌};
 ghost use Rattle.std.specs.Str.{IsAscii};
-ghost use Rattle.yaml_types.specs.Ascii as ascii;
+ghost use Rattle.yaml_scan_types.specs.Ascii as ascii;
 ghost use Rattle.yaml_emit_layout.specs.declared.Cursor.{Cursor};
 ghost use Rattle.yaml_emit_layout.specs.Layout.{◌▹◌, stay, when, char, line, word};
 ghost use Rattle.yaml_emit_layout.specs.Content as said;

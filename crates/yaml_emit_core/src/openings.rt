@@ -1,7 +1,7 @@
 //! What opens documents, and what ends the stream.
 
 ghost use Rattle.std.specs.Prelude.{◌≡◌, [], Bool, List, map, true, false, Some};
-ghost use Rattle.yaml_types.specs.declared.yaml_encoding_t.{yaml_encoding_t};
+ghost use Rattle.yaml_scan_types.specs.declared.yaml_encoding_t.{yaml_encoding_t};
 ghost use Rattle.yaml_parse_model.specs.Events.{directive_of, TagDirective};
 ghost use Rattle.yaml_emit_layout.specs.declared.Cursor.{Cursor};
 ghost use Rattle.yaml_emit_layout.specs.Layout.{stay, when, word, choose, order_mark};

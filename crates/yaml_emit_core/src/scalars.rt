@@ -1,7 +1,7 @@
 //! Scalars, as one word where they are one.
 
 ghost use Rattle.std.specs.Prelude.{◌≡◌, ◌≢◌, ◌≤◌, ◌+◌, ◌∷◌, [], true, length};
-ghost use Rattle.yaml_types.specs.Ascii as ascii;
+ghost use Rattle.yaml_scan_types.specs.Ascii as ascii;
 ghost use Rattle.std.specs.Str.{chars};
 ghost use Rattle.yaml_emit_layout.specs.Layout.{◌▹◌, stay, when, word};
 ghost use Rattle.yaml_emit_layout.specs.Scalars.{scalar_text};

@@ -1,6 +1,6 @@
 -- Hexadecimal digits.
 use Rattle.std.specs.Prelude.{ℕ, ◌+◌, ◌/◌, ◌%◌, nat_lt, if◌then◌else◌, List, [], ◌∷◌}
-use Rattle.yaml_types.specs.Ascii as ascii
+use Rattle.yaml_scan_types.specs.Ascii as ascii
 
 -- 0-9 A-F
 unfoldable pub hex_digit : ℕ → ℕ

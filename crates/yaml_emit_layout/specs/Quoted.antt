@@ -1,7 +1,7 @@
 -- Double quoted text: escapes, and folds at the width.
 use Rattle.std.specs.Prelude.{ℕ, ◌/◌, ◌%◌, Bool, true, false, not, ◌==◌, ◌&&◌, ◌||◌, nat_lt, nat_le, if◌then◌else◌, List, [], ◌∷◌, ◌++◌}
-use Rattle.yaml_types.specs.Ascii as ascii
-use Rattle.yaml_types.specs.Points as points
+use Rattle.yaml_scan_types.specs.Ascii as ascii
+use Rattle.yaml_scan_types.specs.Points as points
 use Rattle.yaml_emit_layout.specs.declared.page.Page.{Page}
 use Rattle.yaml_emit_layout.specs.Text.{is_break}
 use Rattle.yaml_emit_layout.specs.Hex.{hex_2}

@@ -1,6 +1,6 @@
 -- Runs of ASCII that are written as they are, and runs that allow every style.
 use Rattle.std.specs.Prelude.{ℕ, ◌+◌, Bool, true, not, ◌&&◌, ◌||◌, ◌==◌, nat_le, List, [], ◌∷◌}
-use Rattle.yaml_types.specs.Ascii as ascii
+use Rattle.yaml_scan_types.specs.Ascii as ascii
 
 -- all bytes pass a test, by their columns from a first one on
 unfoldable pub all_pass : (ℕ → ℕ → Bool) → ℕ → List ℕ → Bool

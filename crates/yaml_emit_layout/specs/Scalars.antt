@@ -1,6 +1,6 @@
 -- Scalars of each style.
 use Rattle.std.specs.Prelude.{ℕ, ◌+◌, Bool, true, false, not, ◌&&◌, ◌||◌, ◌==◌, nat_lt, if◌then◌else◌, List, [], ◌∷◌}
-use Rattle.yaml_types.specs.Ascii as ascii
+use Rattle.yaml_scan_types.specs.Ascii as ascii
 use Rattle.yaml_emit_layout.specs.declared.page.Page.{Page}
 use Rattle.yaml_emit_layout.specs.declared.page.Style.{Style}
 use Rattle.yaml_emit_layout.specs.declared.page.Style.TheVariants as style

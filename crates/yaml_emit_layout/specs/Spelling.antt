@@ -1,7 +1,7 @@
 -- Double quoted spellings: raw characters, escapes and folds, and the value that they spell.
 use Rattle.std.specs.Prelude.{◌≡◌, ℕ, ◌<◌, Bool, true, false, not, ◌&&◌, ◌||◌, ◌==◌, nat_lt, List, [], ◌∷◌, ◌++◌, replicate}
 use Rattle.std.specs.Str.{all_scalars}
-use Rattle.yaml_types.specs.Ascii as ascii
+use Rattle.yaml_scan_types.specs.Ascii as ascii
 use lib.Utf8.{scalar}
 use Rattle.yaml_emit_layout.specs.declared.cursor.Cursor.{Cursor}
 use Rattle.yaml_emit_layout.specs.declared.page.Page.{Page}

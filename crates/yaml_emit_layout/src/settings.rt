@@ -1,11 +1,11 @@
 //! Settings.
 
 ghost use Rattle.std.specs.Prelude.{◌≡◌, ◌<◌, pos, false};
-ghost use Rattle.yaml_types.specs.Indents.{default_indent};
-ghost use Rattle.yaml_types.specs.Widths.{default_width};
+ghost use Rattle.yaml_scan_types.specs.Indents.{default_indent};
+ghost use Rattle.yaml_scan_types.specs.Widths.{default_width};
 ghost use Rattle.yaml_emit_layout.specs.Settings.{settled, settled_indent, settled_width, settled_break, encoding_or};
 
-use yaml_types::{DEFAULT_INDENT, DEFAULT_WIDTH, yaml_break_t, yaml_encoding_t};
+use yaml_scan_types::{DEFAULT_INDENT, DEFAULT_WIDTH, yaml_break_t, yaml_encoding_t};
 
 /// How the characters are spelled in bytes.
 #[derive(Clone, Copy)]

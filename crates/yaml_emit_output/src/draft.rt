@@ -2,8 +2,8 @@
 
 ghost use Rattle.std.specs.Prelude.{◌≡◌, ◌≢◌, ◌<◌, ◌≤◌, ◌+◌, ◌-◌, ◌^◌, ◌∷◌, ◌||◌, ◌++◌, [], length, take, vec_len, vec_capacity, true, false};
 ghost use Rattle.std.specs.Str.{chars, IsAscii};
-ghost use Rattle.yaml_types.specs.Ascii as ascii;
-ghost use Rattle.yaml_types.specs.Points as points;
+ghost use Rattle.yaml_scan_types.specs.Ascii as ascii;
+ghost use Rattle.yaml_scan_types.specs.Points as points;
 ghost use Rattle.yaml_emit_output.specs.Placed.{due_blanks, mark_bytes, sign_bytes};
 
 use crate::place::{place_break, place_broken, place_byte, place_mark, place_sign};

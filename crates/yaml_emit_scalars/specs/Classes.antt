@@ -1,6 +1,6 @@
 -- Classes of bytes, by which values are judged and copied in runs.
 use Rattle.std.specs.Prelude.{◌≡◌, ℕ, ◌+◌, ◌<◌, ◌≤◌, Bool, true, false, not, ◌==◌, ◌||◌, ◌&&◌, nat_lt, nat_le, bit_and, get_or, length, if◌then◌else◌, List}
-use Rattle.yaml_types.specs.Ascii as ascii
+use Rattle.yaml_scan_types.specs.Ascii as ascii
 
 -- a bit where it is due
 abbrev pub bit : ℕ → Bool → ℕ

@@ -1,7 +1,7 @@
 -- Runs of a value that are put as they are.
 use Rattle.std.specs.Prelude.{◌≡◌, ℕ, ◌+◌, ◌≤◌, Bool, true, false, not, ◌&&◌, ◌||◌, ◌==◌, nat_le, List, [], ◌∷◌, ◌++◌, take}
 use Rattle.std.specs.Str.{chars, IsAscii, IsCharBoundary}
-use Rattle.yaml_types.specs.Ascii as ascii
+use Rattle.yaml_scan_types.specs.Ascii as ascii
 use Rattle.yaml_scan_runs.specs.Runs.{is_stop}
 use Rattle.yaml_emit_layout.specs.declared.cursor.Cursor.{Cursor}
 use Rattle.yaml_emit_layout.specs.Text.{is_break}

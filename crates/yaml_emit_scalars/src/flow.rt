@@ -1,7 +1,7 @@
 //! Plain and single quoted scalars (YAML 1.1, 9.1.3 and 9.1.2).
 
 ghost use Rattle.std.specs.Prelude.{◌≡◌, false, not, ◌&&◌, ◌||◌, ◌==◌};
-ghost use Rattle.yaml_types.specs.Ascii as ascii;
+ghost use Rattle.yaml_scan_types.specs.Ascii as ascii;
 ghost use Rattle.std.specs.Str.{chars};
 ghost use Rattle.yaml_emit_layout.specs.Text.{is_break};
 ghost use Rattle.yaml_emit_layout.specs.Layout.{◌▹◌, stay, when, char, break, new_line, gap, line, is_past};

@@ -1,7 +1,7 @@
 //! Double quoted scalars (YAML 1.1, 9.1.1), with escapes (5.6).
 
 ghost use Rattle.std.specs.Prelude.{◌≡◌, ◌<◌, if◌then◌else◌};
-ghost use Rattle.yaml_types.specs.Ascii as ascii;
+ghost use Rattle.yaml_scan_types.specs.Ascii as ascii;
 ghost use Rattle.std.specs.Str.{chars};
 ghost use Rattle.yaml_emit_layout.specs.Hex.{hex_digit, hex_2};
 ghost use Rattle.yaml_emit_layout.specs.Text.{is_break};

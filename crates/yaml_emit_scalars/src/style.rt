@@ -2,7 +2,7 @@
 
 ghost use Rattle.std.specs.Prelude.{◌≡◌, ◌<◌, ◌≤◌, ◌⊎◌, ℕ, length, take, get_or, IsUtf8, Bool, true, false, not, ◌&&◌, ◌||◌, ◌==◌};
 ghost use Rattle.yaml_scan_runs.specs.Runs.{RunsTo};
-ghost use Rattle.yaml_types.specs.Ascii as ascii;
+ghost use Rattle.yaml_scan_types.specs.Ascii as ascii;
 ghost use Rattle.std.specs.Str.{chars};
 ghost use Rattle.yaml_emit_layout.specs.Text.{is_break};
 ghost use Rattle.yaml_emit_layout.specs.Quoted.{is_printable, first, is_empty};
@@ -19,7 +19,7 @@ use crate::run::{cut, last_of, run_by};
 use yaml_emit_layout::{Allowed, Seen, Style};
 use yaml_scan_runs as runs;
 use yaml_scan_runs::run_end;
-use yaml_types::yaml_scalar_style_t;
+use yaml_scan_types::yaml_scalar_style_t;
 
 // The classes of bytes that may say something against a style.
 const TELLING: u16 = BREAK | SPECIAL | WIDE | FLOW | MARK;

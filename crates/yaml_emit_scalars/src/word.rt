@@ -1,7 +1,7 @@
 //! Scalars that are one word: most are.
 
 ghost use Rattle.std.specs.Prelude.{◌≡◌, ◌≢◌, ◌<◌, ◌≤◌, ◌+◌, ◌∷◌, [], ℕ, List, true, false, length};
-ghost use Rattle.yaml_types.specs.Ascii as ascii;
+ghost use Rattle.yaml_scan_types.specs.Ascii as ascii;
 ghost use Rattle.std.specs.Str.{chars};
 ghost use Rattle.yaml_emit_layout.specs.Layout.{◌▹◌, stay, when, char, letters, gap, word};
 ghost use Rattle.yaml_emit_layout.specs.Scalars.{plain, scalar_text};

@@ -1,12 +1,12 @@
 //! The line that reports a fault.
 
 ghost use Rattle.std.specs.Prelude.{◌≡◌, IfOk, IfErr};
-ghost use Rattle.yaml_types.specs.Faults.{fault_of, memory_fault};
+ghost use Rattle.yaml_scan_types.specs.Faults.{fault_of, memory_fault};
 ghost use Rattle.yaml_round_device_plain.specs.FaultLine.{fault_line};
 
 use std::alloc::Global;
 use yaml_round_device_plain::line_of;
-use yaml_types::{yaml_fault_t, yaml_memory_fault, yaml_origin_t};
+use yaml_scan_types::{yaml_fault_t, yaml_memory_fault, yaml_origin_t};
 
 /// The line that reports a fault, without its end: `K error`, K the kind's word; for all kinds but out of memory then the
 /// context and its place, where there is one, the problem, and for kinds 3 to 5 the problem's place, for kind 2 the

@@ -1,10 +1,10 @@
 -- The line that reports a fault.
 use Rattle.std.specs.Prelude.{ℕ, zero, ◌+◌, List, [], ◌++◌, Option, Some, None, codes, decimal, ℤ, negsuc}
 use Rattle.std.specs.Fmt.{signed_decimal}
-use Rattle.yaml_types.specs.declared.yaml_error_type_t.{yaml_error_type_t}
-use Rattle.yaml_types.specs.declared.yaml_error_type_t.TheVariants.{YAML_NO_ERROR, YAML_MEMORY_ERROR, YAML_READER_ERROR, YAML_SCANNER_ERROR, YAML_PARSER_ERROR, YAML_COMPOSER_ERROR, YAML_WRITER_ERROR, YAML_EMITTER_ERROR}
-use Rattle.yaml_types.specs.declared.yaml_mark_t.{yaml_mark_t}
-use Rattle.yaml_types.specs.Faults.{Fault}
+use Rattle.yaml_scan_types.specs.declared.yaml_error_type_t.{yaml_error_type_t}
+use Rattle.yaml_scan_types.specs.declared.yaml_error_type_t.TheVariants.{YAML_NO_ERROR, YAML_MEMORY_ERROR, YAML_READER_ERROR, YAML_SCANNER_ERROR, YAML_PARSER_ERROR, YAML_COMPOSER_ERROR, YAML_WRITER_ERROR, YAML_EMITTER_ERROR}
+use Rattle.yaml_scan_types.specs.declared.yaml_mark_t.{yaml_mark_t}
+use Rattle.yaml_scan_types.specs.Faults.{Fault}
 
 -- the kind's word, and `error`
 abbrev pub headline : yaml_error_type_t → List ℕ

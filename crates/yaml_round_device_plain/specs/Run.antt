@@ -1,14 +1,14 @@
 -- What a run over devices does, told by its answer.
 use Rattle.std.specs.Prelude.{◌≡◌, ◌⊎◌, ℕ, ◌+◌, ◌<◌, ◌≤◌, Bool, true, List, take, length, Option, IfSome, Result, Ok, Err}
 use Rattle.std.specs.Io.KnownBytes.{Keeps, Appends, Consumes, IsAtEnd}
-use Rattle.yaml_types.specs.declared.yaml_origin_t.{yaml_origin_t}
-use Rattle.yaml_types.specs.declared.yaml_origin_t.TheVariants.{Reader}
+use Rattle.yaml_scan_types.specs.declared.yaml_origin_t.{yaml_origin_t}
+use Rattle.yaml_scan_types.specs.declared.yaml_origin_t.TheVariants.{Reader}
 use Rattle.yaml_round_device_plain.specs.Counts.{counted}
 use Rattle.yaml_round_device_plain.specs.declared.read_all.Cause.{Cause}
 use Rattle.yaml_round_device_plain.specs.declared.read_all.Cause.TheVariants as cause
 use Rattle.yaml_round_device_plain.specs.declared.run_fault.yaml_run_fault_t.{yaml_run_fault_t}
 use Rattle.yaml_round_device_plain.specs.declared.run_fault.yaml_run_fault_t.TheVariants.{Read, TooLong, Yaml, Write}
-use Rattle.yaml_types.specs.Faults.{Fault, fault_of, memory_fault, IsMemoryFault}
+use Rattle.yaml_scan_types.specs.Faults.{Fault, fault_of, memory_fault, IsMemoryFault}
 
 -- these bytes are all that the input gave up to its end, and no more than the limit
 pub record GivesWholeInput (to_come rest : Option (List ℕ)) (limit : ℕ) (bytes : List ℕ) : Type 0

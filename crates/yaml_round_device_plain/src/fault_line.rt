@@ -1,11 +1,11 @@
 //! The line that reports a fault.
 
 ghost use Rattle.std.specs.Prelude.{◌≡◌, ◌++◌, IfOk, OnOk, string_bytes};
-ghost use Rattle.yaml_types.specs.Faults.{fault_of};
+ghost use Rattle.yaml_scan_types.specs.Faults.{fault_of};
 ghost use Rattle.yaml_round_device_plain.specs.FaultLine.{headline, place, bytes_place, context_part, problem_place_of, fault_line};
 
 use std::alloc::{AllocError, Global};
-use yaml_types::{yaml_error_type_t, yaml_fault_t, yaml_mark_t};
+use yaml_scan_types::{yaml_error_type_t, yaml_fault_t, yaml_mark_t};
 
 /// The kind's word, and `error`.
 pub fn headline(kind: yaml_error_type_t) -> &'static str

@@ -7,7 +7,7 @@ ghost use Rattle.yaml_round_device_plain.specs.Run.{GivesWholeInput, IsCause, Ca
 use crate::device::yaml_input_t;
 use crate::run_fault::yaml_run_fault_t;
 use std::alloc::Global;
-use yaml_types::{yaml_memory_fault, yaml_origin_t};
+use yaml_scan_types::{yaml_memory_fault, yaml_origin_t};
 
 // How many bytes are asked for at most, except for the one that says whether there are more.
 const PIECE: u64 = 4095;

@@ -1,6 +1,6 @@
 //! Why a run over devices was refused.
 
-use yaml_types::yaml_fault_t;
+use yaml_scan_types::yaml_fault_t;
 
 /// Why a run, or the reading of an input, was refused.
 #[derive(Clone, Copy, PartialEq, Eq, Debug)]

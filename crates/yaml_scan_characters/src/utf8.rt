@@ -34,7 +34,7 @@ fn trailing_bits(bytes: &[u8], at: usize, width: usize, ahead: usize) -> Result<
 }
 
 // What the first byte of a character of that many bytes adds to its code.
-#[tactic(auto, unfolding(crate::specs::Characters::leading_bits, yaml_types::specs::Classes::width_of))]
+#[tactic(auto, unfolding(crate::specs::Characters::leading_bits, yaml_scan_types::specs::Classes::width_of))]
 fn leading_bits(byte: u8, width: usize) -> u32
     requires some { 0 < width }
     requires width { width_of byte ≡ width }

@@ -3,7 +3,7 @@ use Rattle.std.proofs.Common.{◌≡◌, ◌∙◌, ℕ, ◌<◌, ◌+◌, Bool,
 use Rattle.std.specs.Prelude.{zero, suc, ◌&&◌}
 use Rattle.std.proofs.lemmas.Bool.{cases_eq}
 use Rattle.std.proofs.Math.Bool.{or-true}
-use Rattle.yaml_types.specs.Classes.{any_below}
+use Rattle.yaml_scan_types.specs.Classes.{any_below}
 
 -- a test of the first numbers
 pub below_found : (p : ℕ → Bool) (n i : ℕ) → i < n → p i ≡ true → any_below n p ≡ true

@@ -1,7 +1,7 @@
 //! Whether a text has a break anywhere.
 
 ghost use Rattle.std.specs.Prelude.{◌≡◌, ◌+◌, ◌<◌, ◌≤◌, true, false, length};
-ghost use Rattle.yaml_types.specs.Classes.{any_below, has_break, is_break};
+ghost use Rattle.yaml_scan_types.specs.Classes.{any_below, has_break, is_break};
 
 use crate::class::IS_BREAK;
 
@@ -11,7 +11,7 @@ const ROW: usize = 32;
 // Whether the byte there says by itself that no break begins there, as most do.
 // Inlined: two comparisons a byte.
 #[inline(always)]
-#[tactic(auto, unfolding(yaml_types::specs::Marks::break_of))]
+#[tactic(auto, unfolding(yaml_scan_types::specs::Marks::break_of))]
 fn tells_none(text: &[u8], place: usize) -> bool
     requires { place < length text.now }
     ensures { result ≡ true → is_break text.now place ≡ false }

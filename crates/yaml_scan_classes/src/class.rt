@@ -1,9 +1,9 @@
 //! The classes of bytes: what stands at a place of a text. A place from the text's length on is past its end.
 
 ghost use Rattle.std.specs.Prelude.{◌≡◌, ◌+◌, ◌-◌, ◌<◌, pos, length, true};
-ghost use Rattle.yaml_types.specs.Ascii as ascii;
-ghost use Rattle.yaml_types.specs.Marks.{byte, break_width};
-ghost use Rattle.yaml_types.specs.Classes.{is_alpha, is_digit, is_hex, is_ascii, is_bom, is_space, is_tab, is_blank, is_break, is_crlf, is_z, is_breakz, is_blankz, is_printable, width, hex_value_of, is_alpha_byte, is_digit_byte, is_hex_byte, is_printable_by};
+ghost use Rattle.yaml_scan_types.specs.Ascii as ascii;
+ghost use Rattle.yaml_scan_types.specs.Marks.{byte, break_width};
+ghost use Rattle.yaml_scan_types.specs.Classes.{is_alpha, is_digit, is_hex, is_ascii, is_bom, is_space, is_tab, is_blank, is_break, is_crlf, is_z, is_breakz, is_blankz, is_printable, width, hex_value_of, is_alpha_byte, is_digit_byte, is_hex_byte, is_printable_by};
 
 // The byte that stands there, or 0 past the end.
 fn byte_here(string: &[u8], place: usize) -> u8
@@ -23,21 +23,21 @@ fn byte_at(string: &[u8], place: usize, ahead: usize) -> u8
     }
 }
 
-#[tactic(auto, unfolding(yaml_types::specs::Classes::is_digit_byte))]
+#[tactic(auto, unfolding(yaml_scan_types::specs::Classes::is_digit_byte))]
 fn is_digit_of(byte: u8) -> bool
     ensures { result ≡ is_digit_byte byte }
 {
     byte >= b'0' && byte <= b'9'
 }
 
-#[tactic(auto, unfolding(yaml_types::specs::Classes::is_hex_byte))]
+#[tactic(auto, unfolding(yaml_scan_types::specs::Classes::is_hex_byte))]
 fn is_hex_of(byte: u8) -> bool
     ensures { result ≡ is_hex_byte byte }
 {
     is_digit_of(byte) || (byte >= b'A' && byte <= b'F' || byte >= b'a' && byte <= b'f')
 }
 
-#[tactic(auto, unfolding(yaml_types::specs::Classes::is_alpha_byte, yaml_types::specs::Classes::is_digit_byte))]
+#[tactic(auto, unfolding(yaml_scan_types::specs::Classes::is_alpha_byte, yaml_scan_types::specs::Classes::is_digit_byte))]
 fn is_alpha_of(byte: u8) -> bool
     ensures { result ≡ is_alpha_byte byte }
 {
@@ -59,7 +59,7 @@ pub fn IS_DIGIT(string: &[u8], place: usize) -> bool
 }
 
 // The value of a hexadecimal digit.
-#[tactic(auto, unfolding(yaml_types::specs::Classes::is_hex_byte, yaml_types::specs::Classes::hex_value_of, yaml_types::specs::Classes::is_digit_byte))]
+#[tactic(auto, unfolding(yaml_scan_types::specs::Classes::is_hex_byte, yaml_scan_types::specs::Classes::hex_value_of, yaml_scan_types::specs::Classes::is_digit_byte))]
 fn hex_digit_of(byte: u8) -> u8
     requires { is_hex_byte byte ≡ true }
     ensures { result ≡ hex_value_of byte }
@@ -74,7 +74,7 @@ fn hex_digit_of(byte: u8) -> u8
 }
 
 /// The value of the digit that stands there.
-#[tactic(auto, unfolding(yaml_types::specs::Classes::is_digit_byte))]
+#[tactic(auto, unfolding(yaml_scan_types::specs::Classes::is_digit_byte))]
 pub fn AS_DIGIT(string: &[u8], place: usize) -> i32
     requires { is_digit string.now place ≡ true }
     ensures { result ≡ pos (byte string.now place - ascii.digit_zero) }
@@ -138,7 +138,7 @@ pub fn IS_BLANK(string: &[u8], place: usize) -> bool
 }
 
 // How many bytes the break has that stands there, or 0.
-#[tactic(auto, unfolding(yaml_types::specs::Marks::break_of))]
+#[tactic(auto, unfolding(yaml_scan_types::specs::Marks::break_of))]
 fn break_width_of(string: &[u8], place: usize) -> usize
     ensures { result ≡ break_width string.now place }
 {
@@ -188,7 +188,7 @@ pub fn IS_BLANKZ(string: &[u8], place: usize) -> bool
     IS_BLANK(string, place) || IS_BREAKZ(string, place)
 }
 
-#[tactic(auto, unfolding(yaml_types::specs::Classes::is_printable_by, yaml_types::specs::Classes::is_special))]
+#[tactic(auto, unfolding(yaml_scan_types::specs::Classes::is_printable_by, yaml_scan_types::specs::Classes::is_special))]
 fn is_printable_of(first: u8, second: u8, third: u8) -> bool
     ensures { result ≡ is_printable_by first second third }
 {
@@ -214,7 +214,7 @@ pub fn IS_PRINTABLE(string: &[u8], place: usize) -> bool
 }
 
 /// How many bytes the character has that begins there, by its first byte, or 0 where none begins.
-#[tactic(auto, unfolding(yaml_types::specs::Classes::width_of))]
+#[tactic(auto, unfolding(yaml_scan_types::specs::Classes::width_of))]
 pub fn WIDTH(string: &[u8], place: usize) -> usize
     ensures { result ≡ width string.now place }
 {

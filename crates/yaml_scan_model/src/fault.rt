@@ -1,3 +1,3 @@
 //! Faults, passed on.
 
-pub use yaml_types::{yaml_fault_t, yaml_origin_t};
+pub use yaml_scan_types::{yaml_fault_t, yaml_origin_t};

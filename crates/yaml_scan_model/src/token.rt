@@ -1,3 +1,3 @@
 //! Tokens, passed on.
 
-pub use yaml_types::{yaml_token_body_t, yaml_token_t};
+pub use yaml_scan_types::{yaml_token_body_t, yaml_token_t};

@@ -99,7 +99,7 @@ fn chomp_of(byte: u8) -> Chomp
 }
 
 /// The digit's value, or 0.
-#[tactic(auto, unfolding(yaml_scan_words::specs::Header::digit_of, yaml_types::specs::Classes::is_digit_byte))]
+#[tactic(auto, unfolding(yaml_scan_words::specs::Header::digit_of, yaml_scan_types::specs::Classes::is_digit_byte))]
 fn digit_of(byte: u8) -> usize
     ensures value { result ≡ headers.digit_of byte }
     ensures small { result < 10 }

@@ -98,7 +98,7 @@ fn is_colon(text: &[u8], at: usize) -> bool
 /// or in brackets a bracket or a `:` before such a one.
 // In line: asked after each run.
 #[inline(always)]
-#[tactic(auto, unfolding(yaml_types::specs::Marks::break_of, yaml_scan_words::specs::Plain::is_bracket))]
+#[tactic(auto, unfolding(yaml_scan_types::specs::Marks::break_of, yaml_scan_words::specs::Plain::is_bracket))]
 fn stops(text: &[u8], at: usize, flow: bool) -> bool
     requires { (0 < at) × (at ≤ length text.now) }
     ensures { result ≡ spec.stops flow (is_blank (byte text.now (at - 1))) text.now at }

@@ -20,7 +20,7 @@ pub fn byte(text: &[u8], at: usize) -> u8
 }
 
 /// How many bytes the break has that stands there, or 0.
-#[tactic(auto, using(crate::proofs::Words::within), unfolding(yaml_types::specs::Marks::break_of))]
+#[tactic(auto, using(crate::proofs::Words::within), unfolding(yaml_scan_types::specs::Marks::break_of))]
 pub fn break_width(text: &[u8], at: usize) -> usize
     ensures { result ≡ break_width text.now at }
 {
@@ -56,7 +56,7 @@ pub fn is_blank(byte: u8) -> bool
 }
 
 /// Whether a blank, a break or the end stands there.
-#[tactic(auto, unfolding(yaml_types::specs::Marks::break_of))]
+#[tactic(auto, unfolding(yaml_scan_types::specs::Marks::break_of))]
 pub fn is_blank_or_end(text: &[u8], at: usize) -> bool
     ensures { result ≡ is_blank_or_end text.now at }
 {
@@ -152,7 +152,7 @@ pub fn is_bad_tab(text: &[u8], at: usize, line: usize, margin: usize) -> bool
 }
 
 /// One of `0-9`.
-#[tactic(auto, unfolding(yaml_types::specs::Classes::is_digit_byte))]
+#[tactic(auto, unfolding(yaml_scan_types::specs::Classes::is_digit_byte))]
 pub fn is_digit(byte: u8) -> bool
     ensures { result ≡ is_digit_byte byte }
 {

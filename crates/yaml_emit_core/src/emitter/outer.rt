@@ -2,7 +2,7 @@
 
 ghost use Rattle.std.specs.Prelude.{◌≡◌, Bool, true, map, IfSome};
 ghost use Rattle.yaml_parse_model.specs.Events.{body_of, directive_of};
-ghost use Rattle.yaml_types.specs.declared.yaml_encoding_t.{yaml_encoding_t};
+ghost use Rattle.yaml_scan_types.specs.declared.yaml_encoding_t.{yaml_encoding_t};
 ghost use Rattle.yaml_emit_layout.specs.Content as said;
 ghost use Rattle.yaml_emit_layout.specs.Content.{emitter_event};
 ghost use Rattle.yaml_emit_core.specs.Directives.{opening_of};

@@ -1,5 +1,5 @@
 use Rattle.std.proofs.Common.{arith}
-use Rattle.yaml_types.specs.Classes.{is_break}
+use Rattle.yaml_scan_types.specs.Classes.{is_break}
 use Rattle.yaml_scan_classes.proofs.BreaksLemmas.{row_more}
 use Rattle.yaml_scan_classes.proofs.breaks.row_tells_none.Goals as goal
 

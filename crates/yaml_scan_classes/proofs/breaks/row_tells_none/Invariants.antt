@@ -1,5 +1,5 @@
 use Rattle.std.proofs.Common.{◌≡◌, ◌+◌, ◌-◌, ◌≤◌, true, false}
-use Rattle.yaml_types.specs.Classes.{any_below, is_break}
+use Rattle.yaml_scan_types.specs.Classes.{any_below, is_break}
 use Rattle.yaml_scan_classes.proofs.breaks.row_tells_none.Given as goal
 
 abbrev pub invariant-bytes : goal.invariant-bytes

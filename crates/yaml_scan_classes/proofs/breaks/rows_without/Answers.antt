@@ -1,5 +1,5 @@
 use Rattle.std.proofs.Common.{refl, arith}
-use Rattle.yaml_types.specs.Classes.{any_below}
+use Rattle.yaml_scan_types.specs.Classes.{any_below}
 use Rattle.yaml_scan_classes.proofs.breaks.rows_without.Goals as goal
 
 pub rows-init : goal.rows-init

@@ -1,5 +1,5 @@
 use Rattle.std.proofs.Common.{◌≡◌, ◌-◌, ◌≤◌, false, length}
-use Rattle.yaml_types.specs.Classes.{any_below, is_break}
+use Rattle.yaml_scan_types.specs.Classes.{any_below, is_break}
 use Rattle.yaml_scan_classes.proofs.breaks.rows_without.Given as goal
 
 abbrev pub invariant-rows : goal.invariant-rows

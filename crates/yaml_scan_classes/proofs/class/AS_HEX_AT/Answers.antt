@@ -2,7 +2,7 @@ use mir.Syntax.{w32}
 use mir.Val.{SFits}
 use Rattle.std.proofs.Common.{rules, ◌∙◌, ap, pos}
 use Rattle.std.proofs.lemmas.Int.{to_z-of_z}
-use Rattle.yaml_types.specs.Classes.{hex_value_of}
+use Rattle.yaml_scan_types.specs.Classes.{hex_value_of}
 use Rattle.yaml_scan_classes.proofs.class.AS_HEX_AT.Goals as goal
 
 pub returns : goal.returns

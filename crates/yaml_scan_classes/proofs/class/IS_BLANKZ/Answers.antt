@@ -1,5 +1,5 @@
 use Rattle.std.proofs.Common.{◌≡◌, ◌∙◌, sym, true, false}
-use Rattle.yaml_types.specs.Classes.{is_blank}
+use Rattle.yaml_scan_types.specs.Classes.{is_blank}
 use Rattle.yaml_scan_classes.proofs.class.IS_BLANKZ.Goals as goal
 
 pub returns-then-IS_BLANK : goal.returns-then-IS_BLANK

@@ -1,5 +1,5 @@
 use Rattle.std.proofs.Common.{◌≡◌, ◌∙◌, sym, true, false}
-use Rattle.yaml_types.specs.Classes.{is_break}
+use Rattle.yaml_scan_types.specs.Classes.{is_break}
 use Rattle.yaml_scan_classes.proofs.class.IS_BREAKZ.Goals as goal
 
 pub returns-then-IS_BREAK : goal.returns-then-IS_BREAK

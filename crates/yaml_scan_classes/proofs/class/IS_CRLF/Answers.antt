@@ -1,5 +1,5 @@
 use Rattle.std.proofs.Common.{◌∙◌, ◌+◌, ◌==◌, ap, arith}
-use Rattle.yaml_types.specs.Marks.{byte}
+use Rattle.yaml_scan_types.specs.Marks.{byte}
 use Rattle.yaml_scan_classes.proofs.ClassesLemmas.{both_first, not_both}
 use Rattle.yaml_scan_classes.proofs.class.IS_CRLF.Goals as goal
 

@@ -1,5 +1,5 @@
 use Rattle.std.proofs.Common.{◌∙◌, ap}
-use Rattle.yaml_types.specs.Classes.{is_digit_byte}
+use Rattle.yaml_scan_types.specs.Classes.{is_digit_byte}
 use Rattle.yaml_scan_classes.proofs.class.IS_DIGIT.Goals as goal
 
 pub returns : goal.returns

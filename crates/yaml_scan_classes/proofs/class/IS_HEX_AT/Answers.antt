@@ -1,5 +1,5 @@
 use Rattle.std.proofs.Common.{◌∙◌, ap}
-use Rattle.yaml_types.specs.Classes.{is_hex_byte}
+use Rattle.yaml_scan_types.specs.Classes.{is_hex_byte}
 use Rattle.yaml_scan_classes.proofs.class.IS_HEX_AT.Goals as goal
 
 pub returns : goal.returns

@@ -1,6 +1,6 @@
 use Rattle.std.proofs.Common.{◌∙◌, ap, sym, false}
 use Rattle.yaml_emit_core.specs.Levels.{state_at}
-use Rattle.yaml_types.specs.declared.yaml_encoding_t.TheVariants.{YAML_ANY_ENCODING}
+use Rattle.yaml_scan_types.specs.declared.yaml_encoding_t.TheVariants.{YAML_ANY_ENCODING}
 use Rattle.yaml_emit_layout.specs.Content as said
 use Rattle.yaml_emit_core.proofs.Fits.{begin_fits}
 use Rattle.yaml_emit_core.proofs.Laying.{laid, core_laid, holds_laid, wrong, core_refused, goes}

@@ -1,0 +1,1 @@
+pub use Rattle.yaml_scan_types_plain.proofs.Ends

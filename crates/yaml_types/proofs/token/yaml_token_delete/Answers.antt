@@ -1,4 +1,0 @@
-use Rattle.yaml_types.proofs.token.yaml_token_delete.Goals as goal
-
-pub returns : goal.returns
-returns c = c.empty.ensures

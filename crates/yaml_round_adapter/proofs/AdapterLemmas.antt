@@ -9,8 +9,8 @@ use Rattle.yaml_scan.specs.Faults.{Fault}
 use Rattle.yaml_scan.specs.scan_decode.declared.offence.Offence.{Offence}
 use Rattle.yaml_scan.specs.scan_decode.Encodings.{encoding_of}
 use Rattle.yaml_scan.specs.scan_decode.Decoding.{decoded_text}
-use Rattle.yaml_scan.proofs.DecodeLemmas.{AreBytes}
-use Rattle.yaml_scan.proofs.CompleteLemmas.{decoded_spells}
+use Rattle.yaml_scan_decode.proofs.DecodeLemmas.{AreBytes}
+use Rattle.yaml_scan_decode.proofs.CompleteLemmas.{decoded_spells}
 use Rattle.yaml_round_laws_adapted.specs.scan_laws_texts.Utf8Texts.{HasTexts}
 use Rattle.yaml_round_laws_adapted.proofs.Decoded.{spelled_utf8}
 use Rattle.yaml_round_laws_adapted.proofs.TokensUtf8.{remaining_sound}

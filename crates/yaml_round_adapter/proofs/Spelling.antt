@@ -12,32 +12,11 @@ use Rattle.yaml_scan_decode.specs.Decoding.{decoded_characters, decoded_text, in
 use Rattle.yaml_scan_decode.specs.DecodedText.{decoding_fault}
 use Rattle.yaml_scan_decode.specs.Encodings.{encoding_of}
 use Rattle.yaml_scan_decode.specs.Offences.{reader_fault}
-use Rattle.yaml_scan_decode.specs.Spelling.{Spells as IsSpelledBy}
 use Rattle.yaml_scan_laws_texts.specs.scan_history.Remaining.{SpelledText}
 use Rattle.yaml_scan_laws_texts.specs.scan_history.Scanned.{scanned, scanned_in}
-use Rattle.yaml_scan_laws_texts.proofs.Characters.{characters_begin}
-use Rattle.yaml_scan_laws_texts.proofs.Decoded.{spelled_has_none, spelled_utf8}
+use Rattle.yaml_scan.proofs.Spelling.{spelled_out}
 use Rattle.yaml_scan_core.specs.Scanning.{IsDecoded}
-unfoldable use Rattle.yaml_scan_core.specs.Scanning.{Spells}
 use Rattle.yaml_round_adapter.specs.Coming.{Gives, ended_by}
-
-spelled_out : (s : SpelledText) → IsUtf8 s.text → Spells s.text
-unfolding Spells
-spelled_out s t =
-    let b = characters_begin s t in
-    record { spelled = record { front = b.front; ascii = b.ascii; breaks = b.breaks }; clear = b.clear }
-
--- a text that is spelled
-pub decoded_is : (from : yaml_encoding_t) (input text : List ℕ) → IsSpelledBy from input text
-    → IsDecoded text
-decoded_is from input text h = record {
-  some = spelled_has_none from input text h;
-  spells = spelled_out record { encoding = from; text = text } (spelled_utf8 from input text h);
-}
-
-pub utf8_is : (from : yaml_encoding_t) (input text : List ℕ) → IsSpelledBy from input text
-    → IsUtf8 text
-utf8_is = spelled_utf8
 
 pub no_text_utf8 : IsUtf8 []
 no_text_utf8 = ([], (refl, refl))

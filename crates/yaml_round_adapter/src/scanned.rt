@@ -52,7 +52,7 @@ impl<'a> Model for ScannedTokens<'a> {
 
 impl<'a> ScannedTokens<'a> {
     /// The tokens of an input, of which nothing is asked yet. The error is out of memory.
-    #[tactic(auto, using(crate::proofs::Spelling::decoded_is, crate::proofs::Spelling::utf8_is, crate::proofs::Spelling::no_text_decoded))]
+    #[tactic(auto, using(yaml_scan::proofs::Spelling::decoded_is, yaml_scan_laws_texts::proofs::Decoded::spelled_utf8, crate::proofs::Spelling::no_text_decoded))]
     pub fn new(alloc: Global, source: &'a ReadText<'a>) -> Result<ScannedTokens<'a>, AllocError>
         ensures comes { IfOk result (λ t. t.coming ≡ adapted (scanned_of source.now)) }
         ensures unasked { IfOk result (λ t. t.told ≡ None) }

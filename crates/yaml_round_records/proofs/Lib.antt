@@ -1,3 +1,4 @@
+mod Gaps
 pub mod Checked
 pub mod Characters
 pub mod Building

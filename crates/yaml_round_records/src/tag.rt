@@ -1,9 +1,11 @@
 //! Whether a node's tag is written where it begins.
 
-ghost use Rattle.std.specs.Prelude.{◌≡◌, ◌≤◌, ◌+◌, drop, take, length};
+ghost use Rattle.std.specs.Prelude.{◌≡◌, ◌≤◌, drop, take, length, true};
+ghost use Rattle.yaml_scan_model.specs.Marks.{byte};
 ghost use Rattle.yaml_scan_words.specs.Between.{step_at};
 ghost use Rattle.yaml_round_records.specs.Characters.{behind_gap, stands_behind, begins_tag, has_tag};
 
+use yaml_scan::IS_BOM;
 use yaml_scan_text::{break_width, byte, line_end};
 
 // What stands after that many bytes of a text.
@@ -21,20 +23,22 @@ fn up_to(text: &[u8], count: u64) -> &[u8]
 }
 
 // Past U+FEFF, where the text begins with it.
-#[tactic(auto, using(crate::proofs::Gaps::mark_step))]
+#[tactic(auto, using(crate::proofs::Gaps::mark_step, crate::proofs::Gaps::mark_stays))]
 fn past_mark(text: &[u8], at: usize) -> usize
     requires { byte text.now at ≡ 0xEF }
     ensures { result ≡ (step_at true text.now at).place }
 {
-    if at == 0 && byte(text, 1) == 0xBB && byte(text, 2) == 0xBF {
-        3
-    } else {
-        at
+    if at != 0 {
+        return at;
     }
+    if IS_BOM(text, 0) {
+        return 3;
+    }
+    0
 }
 
 // Past the blank, the comment or the break that stands there; the same place, where a lexeme does.
-#[tactic(auto, using(crate::proofs::Gaps::blank_step, crate::proofs::Gaps::comment_step, crate::proofs::Gaps::other_step))]
+#[tactic(auto, using(crate::proofs::Gaps::blank_step, crate::proofs::Gaps::comment_step, crate::proofs::Gaps::other_step, crate::proofs::Gaps::width_inside))]
 fn past_white(text: &[u8], at: usize) -> usize
     requires { at ≤ length text.now }
     ensures { result ≡ (step_at true text.now at).place }

@@ -1,13 +1,12 @@
 pub use Rattle.yaml_scan_model.specs.Tokens
 pub use Rattle.yaml_scan_model.specs.Faults
-pub use Rattle.yaml_scan_slot.specs.Slots
 pub use Rattle.yaml_scan_model.specs.Classes
 pub use Rattle.yaml_scan_model.specs.Marks
 pub mod Session
+pub mod Known
 pub mod SessionView
-pub use Rattle.yaml_scan_machine.specs.Found
-pub use Rattle.yaml_scan_machine.specs.Settled
-pub use Rattle.yaml_scan_machine.specs.Left
+pub use Rattle.yaml_scan_core.specs.Found
+pub use Rattle.yaml_scan_core.specs.Settled
 pub use Rattle.yaml_scan_history.specs.Scanned
 pub use Rattle.yaml_scan_history.specs.Remaining
 pub use Rattle.yaml_scan_decode.specs.Encodings
@@ -18,6 +17,6 @@ pub use Rattle.yaml_scan_decode.specs.Spelling
 pub use Rattle.yaml_scan_decode.specs.DecodedText
 -- its helpers, for crates of laws that name the member alone
 pub use Rattle.yaml_scan_model.specs as scan_model
-pub use Rattle.yaml_scan_machine.specs.scan_words as scan_words
+pub use Rattle.yaml_scan_history.specs.scan_words as scan_words
 pub use Rattle.yaml_scan_decode.specs as scan_decode
 pub use Rattle.yaml_scan_history.specs as scan_history

@@ -1,65 +1,96 @@
 -- What a clause sees of a session.
-use Rattle.std.specs.Prelude.{ℕ, ◌≡◌, ◌≤◌, List, length, Bool, true, false, ◌∷◌, Option, Some, None, option_map}
+use Rattle.std.specs.Prelude.{ℕ, ◌+◌, ◌-◌, ◌≡◌, ◌≤◌, Bool, false, List, [], All, Option, Some, None, option_map, Result, Ok, Err}
 use Rattle.yaml_scan_model.specs.declared.fault.yaml_fault_t.{yaml_fault_t}
-use Rattle.yaml_scan_model.specs.declared.token.yaml_token_t.{yaml_token_t}
-use Rattle.yaml_scan_machine.specs.declared.machine.Machine.{Machine}
-use Rattle.yaml_scan_model.specs.declared.keeping.Spares.{Spares}
-use Rattle.yaml_scan_model.specs.Rooms.{rooms_of}
-use Rattle.yaml_scan_model.specs.Tokens.{Token, token_of, no_token}
-use Rattle.yaml_scan_model.specs.Faults.{fault_of}
+use Rattle.yaml_scan_model.specs.declared.name.yaml_encoding_t.{yaml_encoding_t}
+use Rattle.yaml_scan_model.specs.Faults.{Fault, fault_of}
+use Rattle.yaml_scan_model.specs.Tokens.{no_token, token_of}
+use Rattle.yaml_scan_history.specs.History.{most_waiting}
 use Rattle.yaml_scan_history.specs.Remaining.{Remaining, nothing}
+use Rattle.yaml_scan_history.specs.Scanned.{scanned}
+use Rattle.yaml_scan_core.specs.Handed.{to_come}
+use Rattle.yaml_scan_core.specs.Scanning.{read_by}
+use Rattle.yaml_scan_core.specs.Waiting.{knows, taken_by}
+use Rattle.yaml_scan.specs.declared.known.Known.{Known}
+use Rattle.yaml_scan.specs.declared.known.Queue.{Queue}
+use Rattle.yaml_scan.specs.declared.known.Standing.{Standing}
+use Rattle.yaml_scan.specs.declared.reading.Reading.{Reading}
 use Rattle.yaml_scan.specs.declared.session.yaml_parser_t.TheInside.{Inside}
-use Rattle.yaml_scan_machine.specs.State.{IsShort, IsMachine}
-use Rattle.yaml_scan_machine.specs.Left.{left_in}
-use Rattle.yaml_scan.specs.Session.{View}
-use Rattle.yaml_scan_machine.specs.Found.{read_by}
+use Rattle.yaml_scan.specs.Known.{Begins, StandsFor, first_known, comes_behind, scanner_of, taken_behind}
+use Rattle.yaml_scan.specs.Session.{HasMore, IsTold, Lends, PlainIsTold, ReaderMayLack, View, is_settled}
 
--- the token that was put aside, and then the others
-abbrev pub with_shown : Bool → Token → Remaining → Remaining
-with_shown true t c = record { tokens = t ∷ c.tokens; fault = c.fault }
-with_shown false t c = c
+-- how many lexemes were read
+abbrev pub read_in : Option Standing → ℕ
+read_in None = 0
+read_in (Some z) = read_by (scanner_of z)
+
+-- what is to come after the tokens that are known
+abbrev pub left_in : yaml_encoding_t → List ℕ → Option Standing → Remaining
+left_in setting bytes None = scanned setting bytes
+left_in setting bytes (Some z) = to_come (scanner_of z)
 
 -- nothing comes after a fault that was answered
-abbrev pub remaining_by : Option yaml_fault_t → Bool → Token → Remaining → Remaining
-remaining_by (Some f) aside t c = nothing
-remaining_by None aside t c = with_shown aside t c
+abbrev pub unless_answered : Option yaml_fault_t → Remaining → Remaining
+unless_answered (Some f) c = nothing
+unless_answered None c = c
 
--- whether a token was put aside, and none was but a fault answered
-abbrev pub shown_by : Option yaml_fault_t → Bool → Bool
-shown_by (Some f) aside = false
-shown_by None aside = aside
-
--- a session's view, by its reader, the fault that was answered, the token that was put aside, whether one was, and the room of
--- each spare text
-abbrev pub view_by : Machine → Option yaml_fault_t → Token → Bool → List ℕ → View
-view_by m fault t aside rooms = record {
-  setting = m.setting;
-  bytes = m.input.now;
-  ahead = m.ahead;
-  read = read_by m;
-  remaining = remaining_by fault aside t (left_in m);
-  shown = shown_by fault aside;
+abbrev pub view_by : yaml_encoding_t → List ℕ → Option Standing → List Known → ℕ
+    → Option yaml_fault_t → View
+view_by setting bytes standing ks taken fault = record {
+  setting = setting;
+  bytes = bytes;
+  read = read_in standing;
+  remaining = unless_answered fault (comes_behind ks (left_in setting bytes standing));
   answered = option_map (λ f. fault_of f) fault;
-  waiting = length m.waiting.items;
-  slots = m.waiting.slots;
-  spares = rooms;
+  waiting = read_in standing - taken;
 }
 
-abbrev pub view_of : Machine → Option yaml_fault_t → yaml_token_t → Bool → Spares → View
-view_of m fault shown aside spares = view_by m fault (token_of shown) aside (rooms_of spares)
+abbrev pub view_of : Reading → View
+view_of r = view_by r.setting r.input.now r.standing r.queue.known.items r.queue.taken r.fault
 
-pub record IsWhole (m : Machine) (fault : Option yaml_fault_t) (shown : yaml_token_t)
-    (aside : Bool) (lendable : ℕ) : Type 0 where
-  pub machine : fault ≡ None → IsMachine m
-  pub free : aside ≡ false → fault ≡ None
-  pub over : (f : yaml_fault_t) → fault ≡ Some f → token_of shown ≡ no_token
-  pub idle : aside ≡ false → token_of shown ≡ no_token
-  pub short : IsShort m.ahead m.waiting
-  pub held : aside ≡ true → lendable ≡ 0
-  pub known : lendable ≤ m.settled
+-- Between two calls all tokens are known that the lexemes that were read settle, and none is where none was read.
+pub record HoldsKnown (setting : yaml_encoding_t) (bytes : List ℕ) (z : Standing) (ks : List Known)
+    (taken : ℕ) : Type 0 where
+  pub stands : StandsFor setting bytes z
+  pub idle : knows (scanner_of z) ≡ false
+  pub last : taken_behind ks taken ≡ taken_by (scanner_of z)
+  pub later : All (λ (k : Known). read_by (scanner_of z) ≤ k.taken + most_waiting) ks
+
+abbrev pub Holds : yaml_encoding_t → List ℕ → Option Standing → List Known → ℕ → Type 0
+Holds setting bytes None ks taken = (ks ≡ []) × (taken ≡ 0)
+Holds setting bytes (Some z) ks taken = HoldsKnown setting bytes z ks taken
+
+pub record IsReading (r : Reading) : Type 0 where
+  pub holds : r.fault ≡ None
+      → Holds r.setting r.input.now r.standing r.queue.known.items r.queue.taken
+  pub over : (f : yaml_fault_t) → r.fault ≡ Some f → r.queue.known.items ≡ []
+  pub few : read_in r.standing ≤ r.queue.taken + most_waiting
+  pub empty : token_of r.none ≡ no_token
+
+-- the scanner that stands, or a new one
+abbrev pub Stood : Option Standing → yaml_encoding_t → List ℕ → Result Standing yaml_fault_t → Type 0
+Stood (Some z) setting bytes r = r ≡ Ok z
+Stood None setting bytes r = Begins setting bytes r
+
+-- why the next token is refused
+pub record Denies (v : View) (f : Fault) : Type 0 where
+  pub sought : is_settled v ≡ false
+  pub more : HasMore v.remaining.tokens v.remaining.fault
+  pub told : IsTold v.remaining f
+  pub reader : ReaderMayLack v f
+  pub plain : PlainIsTold v f
+
+-- the next token is known, or none is to come; or it is refused
+abbrev pub ReadsOn : Reading → Reading → Result (Unit {0}) yaml_fault_t → Type 0
+ReadsOn old new (Ok done) = IsReading new
+    × Lends (view_of old) (first_known new.queue.known.items) (view_of new)
+ReadsOn old new (Err f) = Denies (view_of old) (fault_of f)
+
+-- the same except what stands and the queue
+abbrev pub Keeps : Reading → Reading → Type 0
+Keeps old new = new ≡ record old { standing = new.standing; queue = new.queue }
 
 abbrev pub session_view : Inside → View
-session_view s = view_of s.machine s.fault s.shown s.aside s.spares
+session_view s = view_of s.reading
 
 abbrev pub IsSession : Inside → Type 0
-IsSession s = IsWhole s.machine s.fault s.shown s.aside s.lendable
+IsSession s = IsReading s.reading

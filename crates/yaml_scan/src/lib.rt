@@ -1,13 +1,15 @@
 //! Decoding, tokens and their faults: libyaml's reader and scanner.
 #![tactic(auto)]
 
+mod known;
 mod laws;
+mod reading;
 mod session;
 
 pub use laws::settled_is_told;
 pub use session::{
-    yaml_parser_end, yaml_parser_fault, yaml_parser_has_token, yaml_parser_lend, yaml_parser_peek,
-    yaml_parser_scan, yaml_parser_scan_into, yaml_parser_skip, yaml_parser_t,
+    yaml_parser_end, yaml_parser_fault, yaml_parser_has_token, yaml_parser_peek, yaml_parser_scan,
+    yaml_parser_skip, yaml_parser_t,
 };
 pub use yaml_scan_classes::{
     AS_DIGIT, AS_HEX_AT, IS_ALPHA, IS_ASCII, IS_BLANK, IS_BLANKZ, IS_BOM, IS_BREAK, IS_BREAKZ,
@@ -21,4 +23,3 @@ pub use yaml_scan_model::{
     yaml_token_body_t, yaml_token_delete, yaml_token_t, yaml_token_type_t,
     yaml_version_directive_t,
 };
-pub use yaml_scan_slot::{Lent, TokenCheck, TokenSlot, TokenTaker};

@@ -39,7 +39,8 @@ first_by s k r f =
     let x = front_lexeme s in
     first_of s r (ready_of s k f) (λ front kind. subst (λ j. Carries (store_in s) (stream_of s) x j f.token.body) kind (f.own (front ∙ sym kind)))
 
-behind_is : (now after : Remaining) (it : Token) → GivesFirst now it after → after ≡ behind_first now
+behind_is : (now after : Remaining) (it : Token) → GivesFirst now it after
+    → after ≡ behind_first now
 behind_is now after it g =
     ap (λ (ts : List Token). record { tokens = ts; fault = after.fault }) (sym (ap rest_of g.0))
     ∙ ap (λ (f : Option PublicFault). record { tokens = rest_of now.tokens; fault = f }) (sym g.1)

@@ -218,7 +218,8 @@ abbrev pub behind_one : SpelledText → RowView → Remaining
 behind_one t r = remaining t (r.dropped + r.next) (given_in t.text r + 1)
 
 -- where a token that isn't a lexeme's own is taken
-pub lead_rest : (t : SpelledText) (r q : RowView) → TakesLead t.text r q → come_of t q ≡ behind_one t r
+pub lead_rest : (t : SpelledText) (r q : RowView) → TakesLead t.text r q
+    → come_of t q ≡ behind_one t r
 lead_rest t r q k = ap (λ p. remaining t p (given_in t.text q)) k.place ∙ ap (λ g. remaining t (r.dropped + r.next) g) k.given
 
 -- where the front shows what the history has there

@@ -167,8 +167,8 @@ lost_ends s n f =
     ]
 
 -- nothing of it is taken while a lexeme waits before it
-lost_new : (s : Scanner) (n : ℕ) → HasFailed s (history s.text.now n) → s.row.next + 1 < s.row.settled
-    → IsNew s.text.now (row_of s.row) (s.row.settled - 1)
+lost_new : (s : Scanner) (n : ℕ) → HasFailed s (history s.text.now n)
+    → s.row.next + 1 < s.row.settled → IsNew s.text.now (row_of s.row) (s.row.settled - 1)
 lost_new s n f lt =
     let is : ltb (s.row.next + 1) s.row.settled ≡ true = grind (arith, nat_tests) in
     record { front = f.lost.front; ends = f.lost.whole is ∙ lost_ends s n f }

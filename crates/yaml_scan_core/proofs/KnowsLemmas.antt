@@ -128,13 +128,13 @@ pub knows_settled : (s : Scanner) → s.row.next < s.row.settled → knows s ≡
 knows_settled s low = rw (is_less s.row.next s.row.settled low) refl
 
 -- one waits that isn't settled
-pub knows_open : (s : Scanner) → s.row.settled ≤ s.row.next → s.row.next < length s.row.lexemes.items
-    → knows s ≡ ltb 0 (lexeme_at (row_of s.row) s.row.next).ends
+pub knows_open : (s : Scanner) → s.row.settled ≤ s.row.next
+    → s.row.next < length s.row.lexemes.items → knows s ≡ ltb 0 (lexeme_at (row_of s.row) s.row.next).ends
 knows_open s high some = rw (isnt_less s.row.next s.row.settled high, is_less s.row.next (length s.row.lexemes.items) some) refl
 
 -- none waits
-pub knows_none : (s : Scanner) → s.row.settled ≤ s.row.next → length s.row.lexemes.items ≤ s.row.next
-    → knows s ≡ false
+pub knows_none : (s : Scanner) → s.row.settled ≤ s.row.next
+    → length s.row.lexemes.items ≤ s.row.next → knows s ≡ false
 knows_none s high gone = rw (isnt_less s.row.next s.row.settled high, isnt_less s.row.next (length s.row.lexemes.items) gone) refl
 
 -- that many are open, and that many to come; whether the next one is known

@@ -220,8 +220,8 @@ failed_taken s n row f ready fst taken = elim (cases_lt (s.row.next + 1) s.row.s
 ]
 
 -- in all three
-pub rests_taken : (s : Scanner) (row : Row) → Rests s → IsReady s → First (stream_of s) (row_of s.row)
-    → TakesFront (row_of s.row) (row_of row)
+pub rests_taken : (s : Scanner) (row : Row) → Rests s → IsReady s
+    → First (stream_of s) (row_of s.row) → TakesFront (row_of s.row) (row_of row)
     → ((t : SpelledText) (es : List Entry) → ShowsRow t (row_of s.row) es → ShowsRow t (row_of row) es)
     → (HasRoom s.row → HasRoom row) → Rests (record s { row = row })
 rests_taken s row (inl g) ready fst taken shows room = inl (going_taken s row g (stays (stream_of s) (row_of s.row) (row_of row) fst taken) shows room)

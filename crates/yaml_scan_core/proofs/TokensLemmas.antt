@@ -41,6 +41,7 @@ first_cases x e = elim (cases_Bool (ltb 0 x.ends)) [
   ]
 ]
 
+-- which token is next, by the front of its lexeme
 pub lead_kinds : (b : Bool) (x : Lexeme) → IsFront b x → LeadKind x
 lead_kinds b x (inl first) = first_cases x first
 lead_kinds b x (inr (was, none, inl start)) = behind_cases x start
@@ -65,15 +66,16 @@ pub record IsOwn (k : Kind) : Type 0 where
   pub sequence : k ≢ kinds.BlockSequenceStart
   pub mapping : k ≢ kinds.BlockMappingStart
 
-pub own_kind : (s : Store) (t : SpelledText) (x : Lexeme) (k : Kind) (b : TokenBody) → Carries s t x k b
-    → IsOwn k
+pub own_kind : (s : Store) (t : SpelledText) (x : Lexeme) (k : Kind) (b : TokenBody)
+    → Carries s t x k b → IsOwn k
 own_kind s t x k b h = record {
   ends = λ e. subst (λ j. Carries s t x j b) e h;
   sequence = λ e. subst (λ j. Carries s t x j b) e h;
   mapping = λ e. subst (λ j. Carries s t x j b) e h;
 }
 
-pub own_left : (k : Kind) (y : Lexeme) → IsOwn k → (k ≡ kinds.Key → keys_in y ≡ 0) → left_from k y ≡ 1
+pub own_left : (k : Kind) (y : Lexeme) → IsOwn k → (k ≡ kinds.Key → keys_in y ≡ 0)
+    → left_from k y ≡ 1
 own_left kinds.BlockEnd y o plain = absurd (o.ends refl)
 own_left kinds.BlockSequenceStart y o plain = absurd (o.sequence refl)
 own_left kinds.BlockMappingStart y o plain = absurd (o.mapping refl)
@@ -180,8 +182,8 @@ told_here : (text : List ℕ) (t : SpelledText) (r : RowView) (es : List Entry) 
     → (entry_at es (r.dropped + i)).ends ≡ ends_at text (r.dropped + i)
 told_here text t r es told h i lt = told (r.dropped + i) (omega (arith, h.count, lt))
 
-pub new_there : (t : SpelledText) (r : RowView) (es : List Entry) → EndsTold t.text es → ShowsRow t r es
-    → (i : ℕ) → r.next < i → i < length r.lexemes → IsNew t.text r i
+pub new_there : (t : SpelledText) (r : RowView) (es : List Entry) → EndsTold t.text es
+    → ShowsRow t r es → (i : ℕ) → r.next < i → i < length r.lexemes → IsNew t.text r i
 new_there t r es told h i gt lt =
     let w = h.others i gt lt in
     record {
@@ -189,8 +191,8 @@ new_there t r es told h i gt lt =
       ends = w.ends ∙ told_here t.text t r es told h i lt ∙ sym (known_shown (store_of t.text r) t (lexeme_at r i) (entry_at es (r.dropped + i)) (ends_at t.text (r.dropped + i)) w.shows);
     }
 
-pub next_shown : (t : SpelledText) (r : RowView) (es : List Entry) → EndsTold t.text es → ShowsRow t r es
-    → r.next < length r.lexemes → ShowsNext t r (entry_at es (r.dropped + r.next))
+pub next_shown : (t : SpelledText) (r : RowView) (es : List Entry) → EndsTold t.text es
+    → ShowsRow t r es → r.next < length r.lexemes → ShowsNext t r (entry_at es (r.dropped + r.next))
 next_shown t r es told h some = record {
   some = some;
   settled = ltb r.next r.settled;

@@ -101,8 +101,8 @@ front_lost r none = elim (cases_lt r.settled (length r.lexemes)) [
 ]
 
 -- no lexeme was read: where the next token wasn't known, the fault is next
-pub fails_one : (old mid : Scanner) (keys : Keys) (k : ℕ) (row : Row) → Falls old mid (history_of old)
-    → old.row.dropped + length old.row.lexemes.items ≡ length (history_of old)
+pub fails_one : (old mid : Scanner) (keys : Keys) (k : ℕ) (row : Row)
+    → Falls old mid (history_of old) → old.row.dropped + length old.row.lexemes.items ≡ length (history_of old)
     → mid.row.dropped + k ≡ first_open (history mid.text.now (read_by old)) (history mid.text.now (read_by old))
     → row_of row ≡ failed (record (row_of mid.row) { settled = k })
     → ReadsOne old (record (settled_with mid keys k) { ended = true; row = row })

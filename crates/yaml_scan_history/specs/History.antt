@@ -1,6 +1,6 @@
 -- Lexemes, and what earlier ones decide. A history has the newest lexeme first, so that to look back is to go
 -- down the list.
-use Rattle.std.specs.Prelude.{ℕ, zero, suc, ◌+◌, ◌-◌, ◌*◌, Bool, true, false, not, ◌&&◌, ◌||◌, ◌==◌, nat_lt, nat_le, if◌then◌else◌, List, [], ◌∷◌, ◌++◌, length, filter, Option, Some, None}
+use Rattle.std.specs.Prelude.{ℕ, zero, suc, ◌+◌, ◌-◌, Bool, true, false, not, ◌&&◌, ◌||◌, ◌==◌, nat_lt, nat_le, if◌then◌else◌, List, [], ◌∷◌, ◌++◌, length, filter, Option, Some, None}
 use Rattle.yaml_scan_model.specs.declared.record.yaml_mark_t.{yaml_mark_t}
 use Rattle.yaml_scan_model.specs.Tokens.{zero_mark}
 use Rattle.yaml_scan_history.specs.declared.kind.Kind.{Kind}
@@ -52,9 +52,6 @@ key_bytes = 1024
 abbrev pub most_waiting : ℕ
 most_waiting = key_bytes + 1
 
-abbrev pub most_slots : ℕ
-most_slots = 2 * key_bytes + 1
-
 -- the place is on its line and within `key_bytes` of the start
 abbrev pub is_fresh : yaml_mark_t → yaml_mark_t → Bool
 is_fresh start place = nat_le place.line start.line && nat_le place.index (start.index + key_bytes)
@@ -81,11 +78,6 @@ unfoldable pub first_open : List Lexeme → List Lexeme → ℕ
 first_open all [] = 0
 first_open all (l ∷ h) = first_or (first_open all h) (has_number (open_at l.depth all) (length h))
     (length h)
-
--- which lexemes are their depth's candidate after `all`, the first one first
-unfoldable pub opens_in : List Lexeme → List Lexeme → List Bool
-opens_in all [] = []
-opens_in all (l ∷ h) = opens_in all h ++ has_number (candidate l.depth all) (length h) ∷ []
 
 -- the candidate that a lexeme finds open at its depth
 abbrev pub found_by : Lexeme → List Lexeme → Option Candidate

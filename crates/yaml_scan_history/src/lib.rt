@@ -8,4 +8,4 @@ mod lexeme;
 
 pub use kind::Kind;
 pub use laws::{faults_are_told, kinds_have_roles, settled_stays};
-pub use lexeme::{Entry, Lexeme, Opens, is_fresh, moved_end};
+pub use lexeme::{Entry, Lexeme, Opens};

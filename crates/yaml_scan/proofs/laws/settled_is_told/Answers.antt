@@ -1,5 +1,0 @@
-use Rattle.yaml_scan_machine.proofs.ToldLemmas.{whatever_follows}
-use Rattle.yaml_scan.proofs.laws.settled_is_told.Goals as goal
-
-pub returns : goal.returns
-returns c = whatever_follows

@@ -6,6 +6,8 @@ use Rattle.yaml_parse_grammar.specs.Resolve.{Told}
 use Rattle.yaml_parse_laws_trees.specs.SoundLaws.{BeginsWithTree}
 use Rattle.yaml_parse_laws_trees.specs.CountsLaws.{AtMostFourSoFar}
 use Rattle.yaml_parse_laws_trees.specs.Given.{EventsOfTokens, GivesLeast}
+use Rattle.yaml_parse_laws_trees.specs.Places.{BeginsWithSentence}
+use Rattle.yaml_parse_laws_trees.specs.Sentences.{BeginsSentence}
 use Rattle.yaml_parse.specs.Fronts.{BeginsTree}
 
 -- As each event is given, no more have come than four for each token that was asked for by then.
@@ -23,3 +25,9 @@ EventsBeginTree = (ts : List Token) (own : Option Fault) (events : List Told)
 abbrev pub EventsAreLeast : Type 0
 EventsAreLeast = (ts : List Token) (own : Option Fault) (events : List Told)
     → EventsOfTokens ts own events → (BeginsWithTree ts → ⊥) → GivesLeast ts events
+
+-- Where the tokens don't begin with those of a sentence, the events begin those of a sentence, of a tree whose directives and tag
+-- handles are in order: one that goes on with the longest front of the tokens with which one does.
+abbrev pub EventsBeginSentence : Type 0
+EventsBeginSentence = (ts : List Token) (own : Option Fault) (events : List Told)
+    → EventsOfTokens ts own events → (BeginsWithSentence ts → ⊥) → BeginsSentence ts events

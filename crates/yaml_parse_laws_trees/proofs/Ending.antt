@@ -191,7 +191,7 @@ taken_reached : (x : State) (s s' : List State) (past : List Token) (ds : Direct
 taken_reached x s s' past ds t is a p us f = a.reached (t ∷ us) f ∙ ap (λ (o : Outcome). o.ending) (runs_fed (x ∷ s) t us f (go is s') p)
 
 -- no tree is done where a state is left
-run_some : (x : State) (s : List State) (g : Fault) → (run [] (x ∷ s) (Some g)).ending ≡ Some g
+pub run_some : (x : State) (s : List State) (g : Fault) → (run [] (x ∷ s) (Some g)).ending ≡ Some g
 unfolding run
 run_some x s g = refl
 
@@ -226,7 +226,7 @@ taken_at x s y s' past ds ds' t is a p h d i =
     }
 
 -- the last token of a stream
-finished_here : (x : State) (s : List State) (past : List Token) (ds : Directives) (t : Token)
+pub finished_here : (x : State) (s : List State) (past : List Token) (ds : Directives) (t : Token)
     (ts : List Token) (is : List RawEvent) (f : Option Fault) → At x s past ds
     → feed (x ∷ s) t ≡ go is []
     → handle_fault past t.body ≡ None → directive_fault past t.body t.start_mark ≡ None

@@ -45,6 +45,10 @@ pub mod NextLoads
 pub mod ByContent
 mod ToGive
 pub mod AllGiven
+mod Meant
+mod Calm
+mod Swapping
+pub mod Ordered
 -- what it stands on, for crates that name this one alone
 pub use Rattle.yaml_parse_grammar.proofs.Complete
 pub use Rattle.yaml_parse_grammar.proofs.CompleteStream

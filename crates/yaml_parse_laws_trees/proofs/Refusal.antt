@@ -73,7 +73,7 @@ bare_more : (left : ℕ) (is : List RawEvent) (more : List Given)
 bare_more left [] more = refl
 bare_more left (i ∷ is) more = ap (λ (z : List RawEvent). i ∷ z) (bare_more left is more)
 
-stopped_given : (s : List State) (t : Token) (ts : List Token) (f : Option Fault)
+pub stopped_given : (s : List State) (t : Token) (ts : List Token) (f : Option Fault)
     (is : List RawEvent) (g : Fault) → feed s t ≡ stop is g → given_from s (t ∷ ts) f ≡ is
 unfolding run
 stopped_given s t ts f is g p = ap (λ (d : Fed). bare (carry (length ts) d (λ s'. run ts s' f)).items) p ∙ bare_all (length ts) is
@@ -96,7 +96,7 @@ begins_behind s t ts us f is s' p b = record {
       ∙ ap (λ (z : List RawEvent). z ++ b.others) (sym (gone_given s t ts f is s' p));
 }
 
-begins_same : (is js : List RawEvent) (more : List Given) → is ≡ js → BeginsWithItems is more
+pub begins_same : (is js : List RawEvent) (more : List Given) → is ≡ js → BeginsWithItems is more
     → BeginsWithItems js more
 begins_same is js more p b = subst (λ (z : List RawEvent). BeginsWithItems z more) p b
 
@@ -175,7 +175,7 @@ end_gives : (s : List State) (e : Fault) (fed : Fed) → StopBegins zero_mark s 
 end_gives s e (stop is g) b q = begins_same is (bare (map (λ (i : RawEvent). (i, 0)) is)) (run (closers zero_mark s) s None).items (sym (bare_all 0 is)) b
 end_gives s e (go is s') b q = cc
 
-end_begins : (s : List State) (f : Option Fault) (e : Fault) → AllStood s
+pub end_begins : (s : List State) (f : Option Fault) (e : Fault) → AllStood s
     → (run [] s f).ending ≡ Some e
     → BeginsWithItems (given_from s [] f) (run (closers zero_mark s) s None).items
 unfolding run

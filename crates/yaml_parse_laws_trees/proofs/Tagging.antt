@@ -18,7 +18,7 @@ Step past ds t None fed = Stepped past ds t fed
 
 -- ---- no properties before the token
 
-no_ended : (past : List Token) (b : TokenBody) → (last_in past ≡ property → ⊥)
+pub no_ended : (past : List Token) (b : TokenBody) → (last_in past ≡ property → ⊥)
     → ended_tag past b ≡ None
 no_ended [] b h = refl
 no_ended (t ∷ past) b h = none t.body h
@@ -30,7 +30,7 @@ no_ended (t ∷ past) b h = none t.body h
     none (token.tag handle suffix) h = absurd (h refl)
     none _ h = refl
 
-no_handle : (past : List Token) (b : TokenBody) → ended_tag past b ≡ None
+pub no_handle : (past : List Token) (b : TokenBody) → ended_tag past b ≡ None
     → handle_fault past b ≡ None
 no_handle past b h = ap (λ (o : Option NodeTag). tag_fault o (document_directives past)) h
 

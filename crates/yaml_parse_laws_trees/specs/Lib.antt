@@ -8,6 +8,7 @@ pub mod FaultsRows
 pub mod Given
 pub mod GivenLaws
 pub mod GivenRows
+pub mod Sentences
 pub mod Aliases
 pub mod Faults
 pub mod AllLoads

@@ -3,6 +3,7 @@
 
 ghost use Rattle.yaml_parse_laws_trees.specs.GivenLaws.{EventsAreOne, EventsAreRun, ListHasFront, RunGivesEvents, RunGivesLeast};
 ghost use Rattle.yaml_parse_laws_trees.specs.GivenRows.{RowsHold};
+ghost use Rattle.yaml_parse_laws_trees.specs.Sentences.{RunBeginsSentence};
 
 /// The events of a list of tokens, said of trees, before a fault too.
 pub fn laws_of_events()
@@ -16,6 +17,9 @@ pub fn laws_of_events()
     ensures the_events_are_what_the_machine_gives { EventsAreRun }
     // Of each tree that goes on with the longest front the machine gives all that needs no token after it.
     ensures the_machine_gives_all_of_the_front { RunGivesLeast }
+    // Before a fault, of whatever kind, they begin those of a sentence: a tree whose directives and tag handles are in order, and
+    // which goes on with the longest front of the list with which one does.
+    ensures events_before_a_fault_begin_a_sentence { RunBeginsSentence }
     // Lists with their events before a fault: a node that has properties alone, the end of a single pair
     // and that of a document are given; a node that may be left out isn't, and nothing is told by a fault
     // of the source's own.

@@ -1,7 +1,9 @@
 use Rattle.std.proofs.Common.{length, subst, sym}
 use Rattle.yaml_parse_laws_trees.specs.CountsLaws.{AtMostFourSoFar}
 use Rattle.yaml_parse_laws_trees.specs.Given.{GivesLeast}
+use Rattle.yaml_parse_laws_trees.specs.Sentences.{BeginsSentence}
 use Rattle.yaml_parse_laws_trees.proofs.Giving.{events_are_run, run_gives_least}
+use Rattle.yaml_parse_laws_trees.proofs.Ordered.{begins_sentence}
 use Rattle.yaml_parse_laws_trees.proofs.SoFar.{few_so_far}
 use Rattle.yaml_parse_grammar.specs.Resolve.{no_directives}
 use Rattle.yaml_parse.proofs.Sentences.{begins_tree}
@@ -15,3 +17,6 @@ returns-clause-front c = λ ts own events h. begins_tree ts own events (events_a
 
 pub returns-clause-least : goal.returns-clause-least
 returns-clause-least c = λ ts own events h n. subst (GivesLeast ts) (sym (events_are_run ts own events h)) (run_gives_least ts own n)
+
+pub returns-clause-sentence : goal.returns-clause-sentence
+returns-clause-sentence c = λ ts own events h n. subst (BeginsSentence ts) (sym (events_are_run ts own events h)) (begins_sentence ts own n)

@@ -89,6 +89,8 @@ CASES = [
     Case("check quiet", ["check", "--quiet", "a", "b"], files={"a": b"a", "b": b"*a"}),
     Case("check a list", ["check", "--files0-from", "list"], files={"list": b"a\0b\0", "a": b"a", "b": b"*a"}),
     Case("check a folder", ["check", "."], files={"a.yaml": b"a", "b.yml": b"*a"}),
+    Case("check distinct keys", ["check", "--unique-keys", "in.yaml"], files={"in.yaml": MAPPING}),
+    Case("check a key twice", ["check", "--unique-keys", "a", "b"], files={"a": b"a: 1\na: 2\n", "b": b"? [a]\n: 1\n? [a]\n: 2\n"}),
     Case("check an empty list", ["check", "--files0-from", "-"]),
     Case("fmt --check", ["fmt", "--check", "a", "b"], files={"a": b"--- a", "b": b'---\n! "a"\n'}),
     Case("fmt --check pretty", ["fmt", "--check", "--pretty"], b"a: b\n"),

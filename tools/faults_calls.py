@@ -67,6 +67,7 @@ LAYERS = {
     "load_tokens": LOAD,
     "parse_calls": LOAD,
     "loads": LOAD,
+    "keys": LOAD,
     "same": PARSE,
     "diff": PARSE,
     "diff_documents": LOAD,

@@ -37,6 +37,8 @@ NOTES = [
     "out, and links to folders aren't followed. A GLOB with a / stands for paths below the folder that was named, another one for "
     "names. ? is any character except /, * any number of these, ** any number of any characters, **/ any folders or none, [a-z] one "
     "of these characters, [!a-z] another one, and \\ is followed by a character that stands for itself.",
+    "With check --unique-keys a mapping that has one key twice is refused. Keys are one where they agree in kind, tag, text and what "
+    "they hold; a scalar without a tag is a string, an alias stands for its node, whose place is shown, and a plain << may come again.",
     "Comments are dropped: a text that is written has none. norm --write refuses a file with one, unless --drop-comments is given.",
     "Where pretty form was asked for and wouldn't read back with the same content, canonical form is written, and a line on "
     "standard error says so.",

@@ -125,6 +125,52 @@ def findings():
     judge("a command's name, unescaped", back == name, told)
 
 
+# A file with a key twice, and what check --unique-keys reports of it, in each format.
+DUPLICATE = b"dup.yaml:2:1: duplicate key: a\na: 2\n^\ndup.yaml:1:1: the key stands here first\na: 1\n^\n"
+KEYS = {
+    "line": b"dup.yaml:2:1: error: duplicate key: a [duplicate key]\n",
+    "github": b"::error file=dup.yaml,line=2,col=1,title=yaml_cli (duplicate key)::duplicate key: a\n",
+    "json": b'{"file":"dup.yaml","line":2,"column":1,"kind":"duplicate key","problem":"duplicate key: a",'
+    b'"context":"the key stands here first","context_line":1,"context_column":1}\n',
+}
+# Texts whose mappings have distinct keys, and the keys that others have twice, by their places.
+UNIQUE = (b"<<: {}\n<<: {}\n", b"a: 1\n!t a: 2\n", b"? [a]\n: 1\n? [b]\n: 2\n? {a: b}\n: 3\n", b"a: {a: 1}\nb: {a: 1}\n", b"- a: 1\n- a: 1\n", b"")
+TWICE = (
+    (b'a: 1\n"a": 2\n!!str a: 3\n', [(2, 1, 1, 1, '"a"'), (3, 1, 1, 1, "!!str a")]),
+    (b"? {a: [b, c]}\n: 1\n? {a: [b, \"c\"]}\n: 2\n", [(3, 3, 1, 3, '{a: [b, "c"]}')]),
+    (b"- &x a\n- {a: 1, *x : 2}\n", [(1, 3, 2, 4, "&x a")]),
+    (b'<<: {}\n"<<": {}\n', [(2, 1, 1, 1, '"<<"')]),
+    (b"a: {b: 1, b: 2}\n?\n: 1\n?\n: 2\n--- {c: 1, c: 2}\n", [(4, 2, 2, 2, "(empty)"), (1, 11, 1, 5, "b"), (6, 12, 6, 6, "c")]),
+    ("é: 1\né: 2\n".encode("utf-16"), [(2, 1, 1, 1, "é")]),
+)
+
+
+def unique_keys():
+    """Keys that a mapping has twice."""
+    put("dup.yaml", b"a: 1\na: 2\n")
+    words = ["check", "--unique-keys"]
+    judge_run("a key twice", [*words, "dup.yaml"], 1, b"", DUPLICATE)
+    judge_run("a key twice, unasked", ["check", "dup.yaml"], 0)
+    judge_run("quiet", [*words, "-q", "dup.yaml"], 1)
+    for name, told in KEYS.items():
+        judge_run(f"a key twice, by {name}", [*words, "--format", name, "dup.yaml"], 1, told)
+    put("k/a.yaml", b"{a: 1}")
+    put("k/b.yml", b"{a: 1, b: 2, a: 3}")
+    told = b'k/b.yml:1:14: duplicate key: a\n{a: 1, b: 2, a: 3}\n             ^\nk/b.yml:1:2: the key stands here first\n{a: 1, b: 2, a: 3}\n ^\n'
+    judge_run("a folder", [*words, "-v", "k"], 1, b"", told + b"2 files, 1 refused\n")
+    put("k/b.yml", b"{a: 1, a: *b}")
+    told = b"k/b.yml:1:11: composer error: found undefined alias: *b\n{a: 1, a: *b}\n          ^\n"
+    judge_run("a fault comes first", [*words, "k"], 1, b"", told)
+    for text in UNIQUE:
+        put("u.yaml", text)
+        judge_run(f"distinct keys: {text}", [*words, "u.yaml"], 0)
+    for text, wanted in TWICE:
+        put("u.yaml", text)
+        found = [json.loads(it) for it in run(*words, "--format", "json", "u.yaml").stdout.splitlines()]
+        told = [(it["line"], it["column"], it["context_line"], it["context_column"], it["problem"][15:]) for it in found]
+        judge(f"keys of {text}", told == wanted, told)
+
+
 def places():
     """Files that are written in place, where all is well."""
     put("w/a.yaml", OLD)
@@ -207,6 +253,7 @@ def main():
         os.chdir(f"{folder}/work")
         folders()
         findings()
+        unique_keys()
         places()
         steps(folder)
         os.makedirs(f"{folder}/hooked")

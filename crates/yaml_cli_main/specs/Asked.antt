@@ -1,5 +1,5 @@
 -- What the program's engine answers, in the words of the program.
-use Rattle.std.specs.Prelude.{◌≡◌, ℕ, Bool, true, false, List, Option, None, Some, Result, Ok, Err}
+use Rattle.std.specs.Prelude.{◌≡◌, ℕ, Bool, true, false, List, map, Option, None, Some, Result, Ok, Err}
 use Rattle.yaml_round.specs.declared.yaml_encoding_t.{yaml_encoding_t}
 use Rattle.yaml_round.specs.declared.yaml_origin_t.{yaml_origin_t}
 use Rattle.yaml_round.specs.declared.yaml_fault_t.{yaml_fault_t}
@@ -13,6 +13,7 @@ use Rattle.yaml_cli_program.specs.declared.Side.TheVariants as side
 use Rattle.yaml_cli_program.specs.declared.Difference.{Difference}
 use Rattle.yaml_cli_program.specs.declared.Manner.{Manner}
 use Rattle.yaml_cli_program.specs.declared.Measure.{Measure}
+use Rattle.yaml_cli_program.specs.declared.RepeatedKey.{RepeatedKey}
 use Rattle.yaml_cli_program.specs.declared.Question.{Question}
 use Rattle.yaml_cli_program.specs.declared.Question.TheVariants as question
 use Rattle.yaml_round.specs.declared.yaml_side_t.{yaml_side_t}
@@ -22,6 +23,8 @@ use Rattle.yaml_round.specs.Answers.{IsSame, IsReformatted}
 use Rattle.yaml_round.specs.Differences.{IsDiff}
 use Rattle.yaml_round.specs.Loaded.{IsDocumentsDiff}
 use Rattle.yaml_round.specs.Checking.{IsChecked}
+use Rattle.yaml_round.specs.Keys.{IsKeyCheck}
+use Rattle.yaml_round.specs.declared.yaml_same_key_t.{yaml_same_key_t}
 use Rattle.yaml_round.specs.Readable.{IsReadableAnswer}
 use Rattle.yaml_round.specs.Commands.{IsRunAnswer, run_layers}
 use Rattle.yaml_round.specs.Layers.{reformat_layers}
@@ -76,6 +79,16 @@ IsDifference false from first second r = IsDiff from first from second r
 abbrev pub IsParted : Measure → List ℕ → List ℕ → Result (Option Difference) (Side × yaml_fault_t)
     → Type 0
 IsParted by first second r = IsPartedBy (IsDifference by.documents by.from first second) r
+
+-- the keys as they are reported
+abbrev pub shown_key : yaml_same_key_t → RepeatedKey
+shown_key k = record { mark = k.mark; end_mark = k.end_mark; first_mark = k.first_mark }
+
+-- an input's keys that stand in a mapping more than once, or its fault
+abbrev pub IsRepeatedAnswer : yaml_encoding_t → List ℕ → Result (List RepeatedKey) Fault → Type 0
+IsRepeatedAnswer from input (Ok keys) = (told : List yaml_same_key_t)
+    × IsKeyCheck from input (Ok told) × (keys ≡ map shown_key told)
+IsRepeatedAnswer from input (Err f) = IsKeyCheck from input (Err f)
 
 -- the answer to whether that is so
 abbrev pub Tells : Bool → Type 0 → Type 0

@@ -1,22 +1,23 @@
 //! The engine that the program runs.
 
-ghost use Rattle.std.specs.Prelude.{◌≡◌};
-ghost use Rattle.yaml_round.specs.emit.emit_layout.scan_model.Faults.{Answers};
+ghost use Rattle.std.specs.Prelude.{◌≡◌, IfOk, map};
+ghost use Rattle.yaml_round.specs.emit.emit_layout.scan_model.Faults.{Answers, load_layers};
 ghost use Rattle.yaml_round.specs.Answers.{bytes_of};
 ghost use Rattle.yaml_round.specs.Layers.{reformat_layers};
 ghost use Rattle.yaml_round.specs.Readable.{IsReadableAnswer};
-ghost use Rattle.yaml_cli_main.specs.Asked.{IsRun, IsSameAnswer, IsDifference, IsParted, IsJudgedBy, judge_layers, side_told, TellsDifference};
+ghost use Rattle.yaml_cli_main.specs.Asked.{IsRun, IsSameAnswer, IsDifference, IsParted, IsJudgedBy, IsRepeatedAnswer, judge_layers, shown_key, side_told, TellsDifference};
 
 use crate::comment::first_comment;
 use std::alloc::{AllocError, Global};
 use std::io::{Read, Write};
 use yaml_cli_program::{
     Compared, Difference, Ended, Engine, INPUT_LIMIT, Judging, Manner, Measure, Met, Parted,
-    Question, Side, Step, Task, push_step,
+    Question, RepeatedKey, Side, Step, Task, push_step,
 };
 use yaml_round::{
-    yaml_check, yaml_diff, yaml_diff_documents, yaml_difference_t, yaml_encoding_t, yaml_fault_t,
-    yaml_mark_t, yaml_normalize, yaml_reformat, yaml_run, yaml_run_fault_t, yaml_same, yaml_side_t,
+    yaml_check, yaml_check_keys, yaml_diff, yaml_diff_documents, yaml_difference_t,
+    yaml_encoding_t, yaml_fault_t, yaml_mark_t, yaml_memory_fault, yaml_normalize, yaml_origin_t,
+    yaml_reformat, yaml_run, yaml_run_fault_t, yaml_same, yaml_same_key_t, yaml_side_t,
     yaml_std_input_t, yaml_std_output_t, yaml_step_t,
 };
 
@@ -82,6 +83,23 @@ fn found_by(
     }
 }
 
+// The keys as they are reported.
+#[tactic(auto, using(crate::proofs::Shown::none_shown, crate::proofs::Shown::all_shown))]
+fn shown_keys(alloc: Global, keys: &[yaml_same_key_t]) -> Result<Vec<RepeatedKey>, AllocError>
+    ensures { IfOk result (λ shown. shown.items ≡ map shown_key keys.now) }
+{
+    let mut shown = Vec::new(alloc);
+    for place in 0..keys.len() {
+        let key = keys[place];
+        shown.push(RepeatedKey {
+            mark: key.mark,
+            end_mark: key.end_mark,
+            first_mark: key.first_mark,
+        })?;
+    }
+    Ok(shown)
+}
+
 impl Engine for Rounds {
     fn run<R: Read, W: Write>(
         &self,
@@ -134,6 +152,23 @@ impl Engine for Rounds {
             Question::IsNormal => match yaml_normalize(alloc, input, from, &settings) {
                 Ok(text) => Ok(text.as_slice() == input),
                 Err(fault) => Err(fault),
+            },
+        }
+    }
+
+    fn repeated_keys(
+        &self,
+        alloc: Global,
+        from: yaml_encoding_t,
+        input: &[u8],
+    ) -> Result<Vec<RepeatedKey>, yaml_fault_t>
+        ensures { Answers load_layers (λ keys. keys.items) (IsRepeatedAnswer from input.now) result }
+    {
+        match yaml_check_keys(alloc, input, from) {
+            Err(fault) => Err(fault),
+            Ok(keys) => match shown_keys(alloc, keys.as_slice()) {
+                Ok(shown) => Ok(shown),
+                Err(_) => Err(yaml_memory_fault(yaml_origin_t::Loader)),
             },
         }
     }

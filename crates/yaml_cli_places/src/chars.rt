@@ -85,6 +85,18 @@ fn detected(input: &[u8]) -> (&[u8], yaml_encoding_t) {
     (left, yaml_encoding_t::YAML_UTF8_ENCODING)
 }
 
+// Where the character begins that has the byte at a place.
+fn first_byte(text: &[u8], at: usize) -> usize {
+    let mut first = at;
+    for _ in 0..3 {
+        match text.get(first) {
+            Some(0x80..=0xBF) => first = first.saturating_sub(1),
+            _ => break,
+        }
+    }
+    first
+}
+
 impl<'a> Chars<'a> {
     /// All of them, after a byte order mark that tells their encoding.
     pub(crate) fn of(input: &'a [u8], from: yaml_encoding_t) -> Chars<'a> {
@@ -93,6 +105,19 @@ impl<'a> Chars<'a> {
             form => (input, form),
         };
         Chars { left, form }
+    }
+
+    /// What is left from that many characters before a byte of a text in UTF-8 on; nothing where it is in another encoding.
+    pub(crate) fn before(self, index: u64, characters: u64) -> Option<Chars<'a>> {
+        if self.form != yaml_encoding_t::YAML_UTF8_ENCODING {
+            return None;
+        }
+        let mut at = index as usize;
+        for _ in 0..characters {
+            at = first_byte(self.left, at.saturating_sub(1));
+        }
+        let left = self.left.get(at..)?;
+        Some(Chars { left, ..self })
     }
 
     /// The next character, whatever it is.

@@ -102,14 +102,23 @@ pub(crate) fn push_excerpt(
     place: yaml_mark_t,
 ) -> Result<(), AllocError> {
     let start = from_place(source, yaml_mark_t { column: 0, ..place });
+    push_around(text, start, place.column)
+}
+
+/// The same, where the line is handed in, or its end from that many characters before the place on.
+pub(crate) fn push_around(
+    text: &mut String,
+    start: Chars<'_>,
+    characters: u64,
+) -> Result<(), AllocError> {
     let is_whole = is_short(start);
     // The first column that is shown.
-    let column = if !is_whole && place.column > BEFORE + FEW {
-        place.column - BEFORE
+    let column = if !is_whole && characters > BEFORE + FEW {
+        characters - BEFORE
     } else {
         0
     };
-    let before = place.column.saturating_sub(column);
+    let before = characters.saturating_sub(column);
     let behind = if is_whole { 4 * WHOLE } else { BEHIND };
     let mut line = start;
     line.skip_columns(column);

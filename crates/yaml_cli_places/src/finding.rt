@@ -68,6 +68,28 @@ impl<'f> Finding<'f, 'static> {
 }
 
 impl<'f> Finding<'f, 'f> {
+    /// A key that stands in its mapping more than once, and where it stands first.
+    pub fn repeated(
+        source: Source<'f>,
+        problem: &'f str,
+        place: yaml_mark_t,
+        context: &'static str,
+        first: yaml_mark_t,
+    ) -> Finding<'f, 'f> {
+        let (line, column) = numbers(Some(place));
+        let (context_line, context_column) = numbers(Some(first));
+        Finding {
+            file: bare(source.name),
+            line,
+            column,
+            kind: "duplicate key",
+            problem,
+            context: Some(context),
+            context_line,
+            context_column,
+        }
+    }
+
     /// A file that wasn't read, for that reason.
     pub fn unread(name: &'f str, problem: &'f str) -> Finding<'f, 'f> {
         Finding {

@@ -13,8 +13,8 @@ use yaml_scan_types::{yaml_error_type_t, yaml_fault_t, yaml_mark_t};
 // How many characters of a wrong word are told.
 const MOST_OF_WORD: usize = 40;
 
-// Adds the file's name, the place, counted from 1, and what is told of it.
-fn push_place(
+/// Adds the file's name, the place, counted from 1, and what is told of it.
+pub(crate) fn push_place(
     text: &mut String,
     name: &str,
     place: yaml_mark_t,

@@ -3,6 +3,7 @@
 use crate::order::{Judging, Manner, Measure, Task};
 use std::alloc::Global;
 use std::io::{Read, Write};
+use yaml_cli_places::RepeatedKey;
 use yaml_round_device::{yaml_form_t, yaml_run_fault_t};
 use yaml_scan_types::{yaml_encoding_t, yaml_event_type_t, yaml_fault_t, yaml_mark_t};
 
@@ -59,6 +60,14 @@ pub trait Engine {
 
     /// Whether an input is as the question asks, or its fault.
     fn judge(&self, alloc: Global, judging: &Judging, input: &[u8]) -> Result<bool, yaml_fault_t>;
+
+    /// The keys that stand in a mapping of an input's documents more than once, in order, or its fault.
+    fn repeated_keys(
+        &self,
+        alloc: Global,
+        from: yaml_encoding_t,
+        input: &[u8],
+    ) -> Result<Vec<RepeatedKey>, yaml_fault_t>;
 
     /// The place of an input's first comment, where it has one, or its fault.
     fn comment(

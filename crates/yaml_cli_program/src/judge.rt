@@ -4,13 +4,26 @@
 use crate::engine::Engine;
 use crate::fault::{FAILED, Fault, UNJUDGED, told};
 use crate::file::{STANDARD, Streams, whole_of};
-use crate::order::Order;
-use crate::report::{name_file, refused, unread};
+use crate::order::{Judging, Order};
+use crate::report::{name_file, refused, repeated, unread};
 use crate::writing::write_normal;
 use std::io::{ErrorKind, Read, Write};
 use std::rt::Files;
 use yaml_cli_files::{Folder, Found, shown_bytes};
 use yaml_cli_places::Source;
+
+// Judges a file by its keys, too.
+fn judge_keys<G: Engine, R, W: Write, E: Write>(
+    engine: &G,
+    judging: &Judging,
+    source: Source<'_>,
+    streams: &mut Streams<R, W, E>,
+) -> u8 {
+    match engine.repeated_keys(streams.alloc, source.from, source.input) {
+        Ok(keys) => repeated(judging, source, keys.as_slice(), streams),
+        Err(fault) => refused(judging, source, &fault, streams),
+    }
+}
 
 fn judge_text<G: Engine, H: Files, R, W: Write, E: Write>(
     engine: &G,
@@ -22,6 +35,9 @@ fn judge_text<G: Engine, H: Files, R, W: Write, E: Write>(
     let judging = &order.judging;
     if !order.judges {
         return write_normal(engine, rt, order, source, streams);
+    }
+    if order.told.get_flag("unique-keys") {
+        return judge_keys(engine, judging, source, streams);
     }
     match engine.judge(streams.alloc, judging, source.input) {
         Ok(true) => 0,

@@ -22,4 +22,4 @@ pub use fault::INPUT_LIMIT;
 pub use order::{Judging, Manner, Measure, Question, Task, WRONG_WORDS};
 pub use program::main_by;
 pub use yaml_cli_files::{UNNAMED, shown_bytes};
-pub use yaml_cli_places::{Format, Source, Step, place_of_byte, push_step};
+pub use yaml_cli_places::{Format, RepeatedKey, Source, Step, place_of_byte, push_step};

@@ -4,7 +4,7 @@ use crate::fault::{FAILED, Fault, UNJUDGED, refusal_status, shown, told};
 use crate::file::{Streams, flushed};
 use crate::order::Judging;
 use std::io::Write;
-use yaml_cli_places::{Finding, Format, Shown, Source, push_finding};
+use yaml_cli_places::{Finding, Format, RepeatedKey, Shown, Source, push_finding, push_repeated};
 use yaml_scan_types::{yaml_error_type_t, yaml_fault_t};
 
 // Writes a finding's line; answers the status that is handed in, or that of an output that takes no more.
@@ -79,6 +79,42 @@ pub(crate) fn refused<R, W: Write, E: Write>(
             streams,
         ),
     }
+}
+
+// Reports a key that stands in its mapping more than once; answers the status.
+fn tell_repeated<R, W: Write, E: Write>(
+    format: Format,
+    source: Source<'_>,
+    key: RepeatedKey,
+    streams: &mut Streams<R, W, E>,
+) -> u8 {
+    let mut text = String::new(streams.alloc);
+    match push_repeated(streams.alloc, &mut text, format, source, key) {
+        Ok(()) if matches!(format, Format::Full) => {
+            let _ = write!(streams.errors, "{text}");
+            FAILED
+        }
+        Ok(()) => put_text(text.as_str(), FAILED, streams),
+        Err(_) => UNJUDGED,
+    }
+}
+
+/// Reports the keys of a file that stand in their mapping more than once, as is ordered; answers the status.
+pub(crate) fn repeated<R, W: Write, E: Write>(
+    judging: &Judging,
+    source: Source<'_>,
+    keys: &[RepeatedKey],
+    streams: &mut Streams<R, W, E>,
+) -> u8 {
+    let Judging { quiet, format, .. } = *judging;
+    let mut status = if keys.is_empty() { 0 } else { FAILED };
+    for key in keys {
+        if quiet || streams.stopped {
+            break;
+        }
+        status = tell_repeated(format, source, *key, streams).max(status);
+    }
+    status
 }
 
 /// Reports why a file wasn't read, as is ordered; answers the status.

@@ -168,18 +168,19 @@ Status:
 Examples:
   yaml_cli check config.yaml
   yaml_cli check --exclude vendor .
+  yaml_cli check --unique-keys --format line .
   find . -name '*.yaml' -print0 | yaml_cli check --files0-from -
 
 Status:
   0  All files load, or there is none
-  1  A file doesn't load
+  1  A file doesn't load, or with --unique-keys has a key twice
   2  The arguments are wrong, or a file can't be read",
         bit: CHECK,
     },
 ];
 
 /// The arguments, in the order in which a command lists those that it takes.
-pub(crate) const ROWS: [Row; 26] = [
+pub(crate) const ROWS: [Row; 27] = [
     Row(
         "files",
         Kind::Place("FILE"),
@@ -269,6 +270,12 @@ pub(crate) const ROWS: [Row; 26] = [
         Kind::Name("LIST"),
         CHECK,
         "Also load the files that LIST names, each ended by a zero byte; `-` is standard input",
+    ),
+    Row(
+        "unique-keys",
+        Kind::Flag(LONG),
+        CHECK,
+        "Also refuse a mapping that has one key twice",
     ),
     Row(
         "stdin-filename",

@@ -39,10 +39,11 @@ enum Call {
     Check,
 }
 
-const CALLS: [(&'static str, Call); 32] = [
+const CALLS: [(&'static str, Call); 33] = [
     ("decode", Call::Ask(Asked::Decode)),
     ("events", Call::Ask(Asked::Events)),
     ("loads", Call::Ask(Asked::Loads)),
+    ("keys", Call::Ask(Asked::Keys)),
     ("line", Call::Ask(Asked::FaultLine)),
     ("reformat", Call::Make(Made::Reformatted)),
     ("normalize", Call::Make(Made::Normalized)),

@@ -7,9 +7,9 @@ use crate::lines::{Part, Reply, own_fault};
 use crate::text::{put_answer, put_made, put_text};
 use serde_json::Value;
 use yaml_round::{
-    yaml_check, yaml_diff, yaml_diff_documents, yaml_difference_t, yaml_events, yaml_fault_line,
-    yaml_fault_t, yaml_normalize, yaml_reformat, yaml_reload, yaml_same, yaml_settings_t,
-    yaml_side_t,
+    yaml_check, yaml_check_keys, yaml_diff, yaml_diff_documents, yaml_difference_t, yaml_events,
+    yaml_fault_line, yaml_fault_t, yaml_normalize, yaml_reformat, yaml_reload, yaml_same,
+    yaml_same_key_t, yaml_settings_t, yaml_side_t,
 };
 use yaml_scan::yaml_decode;
 
@@ -22,6 +22,8 @@ pub enum Asked {
     Events,
     /// Whether it loads.
     Loads,
+    /// The keys that stand in a mapping more than once.
+    Keys,
     /// The line that tells its fault, null where there is none.
     FaultLine,
 }
@@ -32,6 +34,19 @@ pub fn field_line(reply: &mut Reply, name: &str, fault: &yaml_fault_t) {
         Ok(text) => reply.field_bytes(name, text.as_slice()),
         Err(fault) => reply.refused(fault),
     }
+}
+
+// The field `answer`: where each key begins and ends, and where the first one begins.
+fn put_keys(reply: &mut Reply, keys: &[yaml_same_key_t]) {
+    reply.field("answer", Part::List);
+    for key in keys {
+        reply.put(Part::Object);
+        reply.field("key", Part::Mark(key.mark));
+        reply.field("end", Part::Mark(key.end_mark));
+        reply.field("first", Part::Mark(key.first_mark));
+        reply.put(Part::EndObject);
+    }
+    reply.put(Part::EndList);
 }
 
 /// What the input answers, or its fault.
@@ -47,6 +62,10 @@ pub fn ask(reply: &mut Reply, line: &Value, asked: Asked, input: &Input<'_>) {
         }
         Asked::Loads => match yaml_check(reply.alloc, input.text, input.from) {
             Ok(()) => reply.field("answer", Part::Flag(true)),
+            Err(fault) => reply.refused(fault),
+        },
+        Asked::Keys => match yaml_check_keys(reply.alloc, input.text, input.from) {
+            Ok(keys) => put_keys(reply, keys.as_slice()),
             Err(fault) => reply.refused(fault),
         },
         Asked::FaultLine => {

@@ -1,5 +1,6 @@
 mod Running
 mod Diffing
+mod KeysTold
 pub use Rattle.yaml_round_compare.proofs.Walks as Pathing
 pub use Rattle.yaml_round_writing.proofs.Normal
 pub use Rattle.yaml_round_writing.proofs.Plain

@@ -1,4 +1,5 @@
 pub mod Commands
+pub mod Keys
 pub use Rattle.yaml_round_writing.specs.Layers
 pub use Rattle.yaml_round_writing.specs.Lines
 pub use Rattle.yaml_round_writing.specs.Flags

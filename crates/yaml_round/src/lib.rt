@@ -2,6 +2,7 @@
 #![tactic(auto)]
 
 mod check;
+mod check_keys;
 mod diff;
 mod engine;
 mod normalize;
@@ -10,6 +11,7 @@ mod run;
 mod same;
 
 pub use check::yaml_check;
+pub use check_keys::yaml_check_keys;
 pub use diff::{yaml_diff, yaml_diff_documents};
 pub use engine::{yaml_events, yaml_reformat};
 pub use normalize::yaml_normalize;
@@ -22,8 +24,9 @@ pub use yaml_round_device::{
     yaml_output_encoding_t, yaml_output_t, yaml_read_all, yaml_run_fault_t, yaml_settings_t,
     yaml_std_input_t, yaml_std_output_t, yaml_write_all,
 };
+pub use yaml_round_keys::yaml_same_key_t;
 pub use yaml_round_writing::{yaml_adapter_t, yaml_side_t};
 pub use yaml_scan_model::{
     DEFAULT_INDENT, DEFAULT_WIDTH, yaml_break_t, yaml_encoding_t, yaml_error_type_t,
-    yaml_event_type_t, yaml_fault_t, yaml_mark_t, yaml_origin_t,
+    yaml_event_type_t, yaml_fault_t, yaml_mark_t, yaml_memory_fault, yaml_origin_t,
 };

@@ -102,7 +102,7 @@ inserted_cases s x y n m h =
       | false ↦ λ e. inr (sym (inserted_at s x y n false e) ∙ h)
     ] refl
 
-inserted_keeps : (s : Shapes) (x : List ℕ) (n : ℕ) → map.get s x ≡ None → (y : List ℕ) (m : ℕ)
+pub inserted_keeps : (s : Shapes) (x : List ℕ) (n : ℕ) → map.get s x ≡ None → (y : List ℕ) (m : ℕ)
     → map.get s y ≡ Some m → map.get (map.insert s x n) y ≡ Some m
 inserted_keeps s x n none y m h =
     elim (eq_by_cmp (slice_cmp nat_cmp) y x) as (λ b. eq_by_cmp (slice_cmp nat_cmp) y x ≡ b
@@ -111,7 +111,7 @@ inserted_keeps s x n none y m h =
       | false ↦ λ e. inserted_at s x y n false e ∙ h
     ] refl
 
-inserted_has : (s : Shapes) (x : List ℕ) (n : ℕ) → map.get (map.insert s x n) x ≡ Some n
+pub inserted_has : (s : Shapes) (x : List ℕ) (n : ℕ) → map.get (map.insert s x n) x ≡ Some n
 inserted_has s x n = inserted_at s x x n true ((eq_by_cmp_equiv nat_list_cmp_total).refl x)
 
 -- ---- a node that gets the rank of its shape

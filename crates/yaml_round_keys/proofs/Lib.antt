@@ -1,4 +1,7 @@
+pub mod Texts
+pub mod Distinct
 pub mod Holding
 pub mod Labels
 pub mod Meeting
 pub mod Ranking
+pub mod Told

@@ -4,15 +4,16 @@ use Rattle.std.specs.Prelude.{◌==◌, slice_get}
 use Rattle.std.proofs.lemmas.Bool.{cases_eq}
 use Rattle.std.proofs.lemmas.Bool.Decides.{nat_tests}
 use Rattle.std.proofs.lemmas.List.{get_or-set_same, get_or-set_other, length-set, get_or-replicate, get_or_default, length-replicate}
+use Rattle.std.proofs.lemmas.List.Elements.{All-nil, All-push}
 use Rattle.yaml_parse_model.specs.declared.yaml_node_pair_t.{yaml_node_pair_t}
 use Rattle.yaml_parse_model.specs.Nodes.{Node}
-use Rattle.yaml_parse_document.specs.Documents.{IsId, ArePairs}
+use Rattle.yaml_parse_document.specs.Documents.{IsId, AreIds, ArePairs}
 use Rattle.yaml_emit_graph.specs.Graph.{body_at, body_of_id}
 use Rattle.yaml_round_keys.specs.declared.ranks.Ranks.{Ranks}
 use Rattle.yaml_round_keys.specs.declared.telling.yaml_same_key_t.{yaml_same_key_t}
 use Rattle.yaml_round_keys.specs.declared.telling.Slot.{Slot}
-use Rattle.yaml_round_keys.specs.Ranks.{IsWithin, Tells}
-use Rattle.yaml_round_keys.specs.Telling.{AreSameKeys, HasMet, HasRoom, IsFresh, TellsKey, TellsKeys, first_with, keys_of, label_by, met_by, met_in, met_with, pair_keys, told_behind, told_in, told_of}
+use Rattle.yaml_round_keys.specs.Ranks.{IsWithin}
+use Rattle.yaml_round_keys.specs.Telling.{AreKeyIds, HasMet, HasRoom, IsFresh, TellsKey, TellsKeys, TellsNodes, first_with, keys_of, label_by, met_by, met_in, met_with, pair_keys, told_behind, told_in, told_of}
 
 eq_yes : (n : ℕ) → (n == n) ≡ true
 eq_yes n = grind (arith, nat_tests)
@@ -133,13 +134,13 @@ so_far_none nodes label mapping ps start slots h = record {
   sized = refl;
 }
 
-keys_taken : (ps : List yaml_node_pair_t) (i : ℕ) (p : yaml_node_pair_t) → i < length ps
+pub keys_taken : (ps : List yaml_node_pair_t) (i : ℕ) (p : yaml_node_pair_t) → i < length ps
     → p ≡ get_or ps i p → pair_keys (take (suc i) ps) ≡ pair_keys (take i ps) ++ p.key ∷ []
 keys_taken [] i p w e = absurd (omega arith)
 keys_taken (q ∷ ps) zero p w e = ap (λ (z : yaml_node_pair_t). z.key ∷ []) (sym e)
 keys_taken (q ∷ ps) (suc i) p w e = ap (λ z. q.key ∷ z) (keys_taken ps i p (omega arith) e)
 
-keys_left : (ps : List yaml_node_pair_t) (i : ℕ) (p : yaml_node_pair_t) → i < length ps
+pub keys_left : (ps : List yaml_node_pair_t) (i : ℕ) (p : yaml_node_pair_t) → i < length ps
     → p ≡ get_or ps i p → pair_keys (drop i ps) ≡ p.key ∷ pair_keys (drop (suc i) ps)
 keys_left [] i p w e = absurd (omega arith)
 keys_left (q ∷ ps) zero p w e = ap (λ (z : yaml_node_pair_t). z.key ∷ pair_keys ps) (sym e)
@@ -185,23 +186,30 @@ pub so_far_next : (nodes : List Node) (label : ℤ → ℕ) (mapping : ℕ) (ps 
 so_far_next nodes label mapping ps start count i d slots new now more h w l t =
     rw add-one (so_far_suc nodes label mapping ps start count i (get_or ps i d) slots new now more h w (get_or_default ps i d (get_or ps i d) w) l t)
 
-keys_all : (ps : List yaml_node_pair_t) (n : ℕ) → length ps ≤ n → (pair_keys (drop n ps) ≡ []) ×
+pub keys_all : (ps : List yaml_node_pair_t) (n : ℕ) → length ps ≤ n → (pair_keys (drop n ps) ≡ []) ×
     (pair_keys (take n ps) ≡ pair_keys ps)
 keys_all [] zero h = (refl, refl)
 keys_all [] (suc n) h = (refl, refl)
 keys_all (p ∷ ps) zero h = absurd (omega arith)
 keys_all (p ∷ ps) (suc n) h = let r = keys_all ps n (omega arith) in (r.0, ap (λ z. p.key ∷ z) r.1)
 
+keys_ids : (count : ℕ) (ps : List yaml_node_pair_t) → ArePairs count ps
+    → AreIds count (pair_keys ps)
+keys_ids count [] h = tt
+keys_ids count (p ∷ ps) h = (h.0.0, keys_ids count ps h.1)
+
 pub so_far_all : (nodes : List Node) (label : ℤ → ℕ) (mapping : ℕ) (ps : List yaml_node_pair_t)
     (start : List yaml_same_key_t) (old slots : List Slot) (n : ℕ) (now : List yaml_same_key_t)
     → SoFar nodes label mapping ps start (length old) n slots now → length ps ≤ n
+    → ArePairs (length nodes) ps
     → TellsKeys nodes label mapping (pair_keys ps) old slots start now
-so_far_all nodes label mapping ps start old slots n now h w =
+so_far_all nodes label mapping ps start old slots n now h w a =
     let r = keys_all ps n w in
     record {
       told = sym (append-nil now) ∙ ap (λ z. now ++ told_behind label nodes (pair_keys (take n ps)) z) (sym r.0) ∙ h.told;
       fresh = h.met.fresh;
       sized = h.sized;
+      ids = keys_ids (length nodes) ps a;
     }
 
 pub pair_id : (count : ℕ) (ps : List yaml_node_pair_t) (i : ℕ) (d : yaml_node_pair_t)
@@ -223,16 +231,19 @@ no_keys nodes label mapping slots told h = record {
   told = sym (append-nil told);
   fresh = λ l m from w. h l m (omega arith) w;
   sized = refl;
+  ids = tt;
 }
 
 -- ---- node by node
 
-node_here : (nodes : List Node) (k : ℕ) → k < length nodes
+pub node_here : (nodes : List Node) (k : ℕ) → k < length nodes
     → (n : Node) × ((drop k nodes ≡ n ∷ drop (suc k) nodes) × (body_at
-    (slice_get nodes k) ≡ n.body))
+    (slice_get nodes k) ≡ n.body) × (take (suc k) nodes ≡ take k nodes ++ n ∷ []))
 node_here [] k w = absurd (omega arith)
-node_here (n ∷ ns) zero w = (n, (refl, refl))
-node_here (n ∷ ns) (suc k) w = node_here ns k (omega arith)
+node_here (n ∷ ns) zero w = (n, (refl, refl, refl))
+node_here (m ∷ ns) (suc k) w =
+    let r = node_here ns k (omega arith) in
+    (r.0, (r.1.0, r.1.1, ap (λ z. m ∷ z) r.1.2))
 
 pub record NodesSoFar (nodes : List Node) (label : ℤ → ℕ) (start : List yaml_same_key_t)
     (count i : ℕ) (slots : List Slot)
@@ -240,11 +251,12 @@ pub record NodesSoFar (nodes : List Node) (label : ℤ → ℕ) (start : List ya
   pub told : now ++ told_in label nodes (drop i nodes) ≡ start ++ told_in label nodes nodes
   pub fresh : IsFresh slots (suc i)
   pub sized : length slots ≡ count
+  pub ids : AreKeyIds (length nodes) (take i nodes)
 
 pub nodes_none : (nodes : List Node) (label : ℤ → ℕ) (start : List yaml_same_key_t)
     (slots : List Slot) → IsFresh slots 1
     → NodesSoFar nodes label start (length slots) 0 slots start
-nodes_none nodes label start slots h = record { told = refl; fresh = h; sized = refl }
+nodes_none nodes label start slots h = record { told = refl; fresh = h; sized = refl; ids = All-nil (λ (n : Node). AreIds (length nodes) (keys_of n.body)) }
 
 nodes_suc : (nodes : List Node) (label : ℤ → ℕ) (start : List yaml_same_key_t) (count i : ℕ)
     (slots new : List Slot)
@@ -263,6 +275,9 @@ nodes_suc nodes label start count i slots new now more h w t =
           ∙ h.told;
       fresh = t.fresh;
       sized = t.sized ∙ h.sized;
+      ids = subst (AreKeyIds (length nodes)) (sym n.1.2)
+          (All-push (λ (m : Node). AreIds (length nodes) (keys_of m.body)) (take i nodes) n.0 h.ids
+          (subst (λ b. AreIds (length nodes) (keys_of b)) n.1.1 t.ids));
     }
 
 pub nodes_next : (nodes : List Node) (label : ℤ → ℕ) (start : List yaml_same_key_t) (count i : ℕ)
@@ -274,18 +289,26 @@ pub nodes_next : (nodes : List Node) (label : ℤ → ℕ) (start : List yaml_sa
 nodes_next nodes label start count i slots new now more h w t =
     rw add-one (nodes_suc nodes label start count i slots new now more h w t)
 
-none_from : (nodes : List Node) (n : ℕ) → length nodes ≤ n → drop n nodes ≡ []
+pub none_from : (nodes : List Node) (n : ℕ) → length nodes ≤ n → drop n nodes ≡ []
 none_from [] zero h = refl
 none_from [] (suc n) h = refl
 none_from (x ∷ nodes) zero h = absurd (omega arith)
 none_from (x ∷ nodes) (suc n) h = none_from nodes n (omega arith)
 
+all_taken : (nodes : List Node) (n : ℕ) → length nodes ≤ n → take n nodes ≡ nodes
+all_taken [] zero h = refl
+all_taken [] (suc n) h = refl
+all_taken (x ∷ nodes) zero h = absurd (omega arith)
+all_taken (x ∷ nodes) (suc n) h = ap (λ z. x ∷ z) (all_taken nodes n (omega arith))
+
 pub nodes_all : (nodes : List Node) (label : ℤ → ℕ) (start : List yaml_same_key_t) (count n : ℕ)
     (slots : List Slot)
     (now : List yaml_same_key_t) → NodesSoFar nodes label start count n slots now → length nodes ≤ n
-    → now ≡ start ++ told_in label nodes nodes
-nodes_all nodes label start count n slots now h w =
-    sym (append-nil now) ∙ ap (λ z. now ++ told_in label nodes z) (sym (none_from nodes n w)) ∙ h.told
+    → TellsNodes nodes label start now
+nodes_all nodes label start count n slots now h w = record {
+  told = sym (append-nil now) ∙ ap (λ z. now ++ told_in label nodes z) (sym (none_from nodes n w)) ∙ h.told;
+  ids = subst (AreKeyIds (length nodes)) (all_taken nodes n w) h.ids;
+}
 
 pub fresh_start : (n : ℕ) (k : ℤ) → IsFresh (replicate n (slot 0 k)) 1
 fresh_start n k l m from w =
@@ -295,12 +318,3 @@ fresh_start n k l m from w =
 pub room_start : (nodes : List Node) (r : Ranks) (slots : List Slot) → IsWithin nodes r
     → length slots ≡ suc (r.given + length r.table.items) → HasRoom nodes r slots
 room_start nodes r slots h e a v = let w = h a v in omega arith
-
-pub all_told : (nodes : List Node) (r : Ranks) (told start : List yaml_same_key_t)
-    → Tells nodes r → start ≡ []
-    → told ≡ start ++ told_in (label_by r) nodes nodes → AreSameKeys nodes told
-all_told nodes r told start h s e = record {
-  label = label_by r;
-  tells = h;
-  are = e ∙ ap (λ z. z ++ told_in (label_by r) nodes nodes) s;
-}

@@ -3,3 +3,4 @@ pub mod Shapes
 pub mod ShapeView
 pub mod Ranks
 pub mod Telling
+pub mod Texts

@@ -1,5 +1,5 @@
 -- Which keys of a document's mappings are told.
-use Rattle.std.specs.Prelude.{◌≡◌, ◌↔◌, ◌<◌, ◌≤◌, ℕ, suc, ◌==◌, ℤ, pos, Bool, false, if◌then◌else◌, List, [], ◌∷◌, ◌++◌, length, get_or, set, Option, Some, None, codes, nat_eq}
+use Rattle.std.specs.Prelude.{◌≡◌, ◌⊎◌, ◌<◌, ◌≤◌, ℕ, suc, ◌==◌, ℤ, pos, Bool, true, false, if◌then◌else◌, List, [], ◌∷◌, ◌++◌, length, get_or, set, All, AllPairs, Option, Some, None, codes, nat_eq}
 use Rattle.std.specs.Cmp.Lexicographic.{pointwise}
 use Rattle.yaml_parse_model.specs.declared.yaml_mark_t.{yaml_mark_t}
 use Rattle.yaml_parse_model.specs.Tokens.{zero_mark}
@@ -7,7 +7,7 @@ use Rattle.yaml_parse_model.specs.declared.yaml_node_pair_t.{yaml_node_pair_t}
 use Rattle.yaml_parse_model.specs.declared.yaml_scalar_style_t.TheVariants.{YAML_PLAIN_SCALAR_STYLE}
 use Rattle.yaml_parse_model.specs.Nodes.{Node, NodeBody}
 use Rattle.yaml_parse_model.specs.Nodes as node
-use Rattle.yaml_parse_document.specs.Documents.{IsId, node_at}
+use Rattle.yaml_parse_document.specs.Documents.{IsId, AreIds, node_at}
 use Rattle.yaml_emit_graph.specs.Graph.{body_of_id}
 use Rattle.yaml_round_keys.specs.Same.{AreSame}
 use Rattle.yaml_round_keys.specs.Ranks.{label_of}
@@ -36,25 +36,72 @@ abbrev pub mark_at : Option Node → yaml_mark_t
 mark_at None = zero_mark
 mark_at (Some n) = n.start_mark
 
+-- where a node ends
+abbrev pub end_at : Option Node → yaml_mark_t
+end_at None = zero_mark
+end_at (Some n) = n.end_mark
+
 -- a key, and the first one of its mapping that is the same
 abbrev pub same_key : List Node → ℤ → ℤ → yaml_same_key_t
 same_key nodes key first = record {
   key = key;
   first = first;
   mark = mark_at (node_at nodes key);
+  end_mark = end_at (node_at nodes key);
   first_mark = mark_at (node_at nodes first);
 }
+
+-- a key is told where one before it is the same
+abbrev pub told_of : List Node → ℤ → Option ℤ → List yaml_same_key_t
+told_of nodes key None = []
+told_of nodes key (Some first) = if is_plain_merge (body_of_id nodes key) then []
+    else same_key nodes key first ∷ []
+
+-- the first of these keys that is the same as that one; none where none is
+abbrev pub IsFirstSame : List Node → ℤ → List ℤ → Option ℤ → Type 0
+IsFirstSame nodes key [] first = first ≡ None
+IsFirstSame nodes key (k ∷ keys) first = (AreSame nodes k key × (first ≡ Some k))
+    ⊎ ((AreSame nodes k key → ⊥) × IsFirstSame nodes key keys first)
+
+-- what is told of these keys, with those before them in their mapping
+abbrev pub AreToldBehind : List Node → List ℤ → List ℤ → List yaml_same_key_t → Type 0
+AreToldBehind nodes before [] told = told ≡ []
+AreToldBehind nodes before (key ∷ keys) told = (first : Option ℤ)
+    × (others : List yaml_same_key_t) × (told ≡ told_of nodes key first ++ others)
+    × IsFirstSame nodes key before first
+    × AreToldBehind nodes (before ++ key ∷ []) keys others
+
+-- mapping by mapping
+abbrev pub AreToldIn : List Node → List Node → List yaml_same_key_t → Type 0
+AreToldIn nodes [] told = told ≡ []
+AreToldIn nodes (n ∷ ns) told = (keys : List yaml_same_key_t) × (others : List yaml_same_key_t)
+    × (told ≡ keys ++ others) × AreToldBehind nodes [] (keys_of n.body) keys
+    × AreToldIn nodes ns others
+
+-- The keys, in order, to which an earlier key of their mapping is the same, each with the first
+-- such one.
+abbrev pub AreSameKeys : List Node → List yaml_same_key_t → Type 0
+AreSameKeys nodes told = AreToldIn nodes nodes told
+
+-- of two keys that are the same the later one is a plain `<<`
+abbrev pub IsOnce : List Node → ℤ → ℤ → Type 0
+IsOnce nodes first key = AreSame nodes first key → is_plain_merge (body_of_id nodes key) ≡ true
+
+-- of each mapping the keys are distinct, except that a plain `<<` may come again
+abbrev pub HaveDistinctKeys : List Node → Type 0
+HaveDistinctKeys nodes = All (λ (n : Node). AllPairs (IsOnce nodes) (keys_of n.body)) nodes
+
+-- a document's keys are told behind those that were told before
+abbrev pub TellsMore : List Node → List yaml_same_key_t → List yaml_same_key_t → Type 0
+TellsMore nodes old new = (keys : List yaml_same_key_t) × (new ≡ old ++ keys)
+    × AreSameKeys nodes keys
+
+-- ---- by labels: nodes have one label exactly where they are the same
 
 -- the first of these keys with that label
 abbrev pub first_with : (ℤ → ℕ) → ℕ → List ℤ → Option ℤ
 first_with label l [] = None
 first_with label l (key ∷ keys) = if label key == l then Some key else first_with label l keys
-
--- a key is told where one before it has its label
-abbrev pub told_of : List Node → ℤ → Option ℤ → List yaml_same_key_t
-told_of nodes key None = []
-told_of nodes key (Some first) = if is_plain_merge (body_of_id nodes key) then []
-    else same_key nodes key first ∷ []
 
 -- the keys that are told of these, with those before them in their mapping
 abbrev pub told_behind : (ℤ → ℕ) → List Node → List ℤ → List ℤ → List yaml_same_key_t
@@ -67,14 +114,6 @@ told_behind label nodes before (key ∷ keys) = told_of nodes key
 abbrev pub told_in : (ℤ → ℕ) → List Node → List Node → List yaml_same_key_t
 told_in label nodes [] = []
 told_in label nodes (n ∷ ns) = told_behind label nodes [] (keys_of n.body) ++ told_in label nodes ns
-
--- The keys, in order, to which an earlier key of their mapping is the same, each with the first
--- such one. Nodes have one label exactly where they are the same.
-pub record AreSameKeys (nodes : List Node) (told : List yaml_same_key_t) : Type 0 where
-  pub label : ℤ → ℕ
-  pub tells : (a b : ℤ) → IsId (length nodes) a → IsId (length nodes) b
-      → (label a ≡ label b) ↔ AreSame nodes a b
-  pub are : told ≡ told_in label nodes nodes
 
 -- ---- the keys that were met, by their labels
 
@@ -125,3 +164,14 @@ pub record TellsKeys (nodes : List Node) (label : ℤ → ℕ) (mapping : ℕ) (
   pub told : after ≡ before ++ told_behind label nodes [] keys
   pub fresh : IsFresh new (suc mapping)
   pub sized : length new ≡ length old
+  pub ids : AreIds (length nodes) keys
+
+-- the keys of these nodes name nodes
+abbrev pub AreKeyIds : ℕ → List Node → Type 0
+AreKeyIds count nodes = All (λ (n : Node). AreIds count (keys_of n.body)) nodes
+
+-- the keys of all mappings were met and told
+pub record TellsNodes (nodes : List Node) (label : ℤ → ℕ) (before after : List yaml_same_key_t) :
+    Type 0 where
+  pub told : after ≡ before ++ told_in label nodes nodes
+  pub ids : AreKeyIds (length nodes) nodes

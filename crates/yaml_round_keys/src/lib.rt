@@ -1,9 +1,10 @@
 //! Keys that stand in a mapping more than once.
 #![tactic(auto)]
 
+mod apart;
 mod ranks;
 mod shape;
 mod shapes;
 mod telling;
 
-pub use telling::{yaml_document_check_keys, yaml_same_key_t};
+pub use telling::{tell_document, yaml_document_check_keys, yaml_same_key_t};

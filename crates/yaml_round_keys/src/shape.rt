@@ -32,7 +32,8 @@ fn narrowed(number: usize) -> Result<u32, AllocError>
     }
 }
 
-fn put_widened(room: &mut Vec<u32>, text: &[u8]) -> Result<(), AllocError>
+/// Puts the bytes of a text behind what stands in a room.
+pub(crate) fn put_widened(room: &mut Vec<u32>, text: &[u8]) -> Result<(), AllocError>
     ensures { OnOk result (room.new.items ≡ room.old.items ++ text.now) }
 {
     for byte in text {
@@ -68,8 +69,8 @@ fn number_of_kind(body: &yaml_node_body_t) -> u32
     }
 }
 
-// The text of a scalar.
-fn scalar_text(body: &yaml_node_body_t) -> &[u8]
+/// The text of a scalar.
+pub(crate) fn scalar_text(body: &yaml_node_body_t) -> &[u8]
     ensures { result.now ≡ text_of (body_of body.now) }
 {
     match body {

@@ -1,14 +1,17 @@
 //! The keys that are told.
 
-ghost use Rattle.std.specs.Prelude.{◌≡◌, ◌<◌, ◌≤◌, ◌++◌, suc, pos, OnOk, IfOk, length};
+ghost use Rattle.std.specs.Prelude.{◌≡◌, ◌↔◌, ◌<◌, ◌≤◌, ◌++◌, [], suc, pos, OnOk, IfOk, length};
 ghost use Rattle.yaml_parse_document.specs.Documents.{ArePairs, IsId, node_at};
 ghost use Rattle.yaml_emit_graph.specs.Graph.{body_of_id};
-ghost use Rattle.yaml_round_keys.specs.Telling.{AreSameKeys, HasRoom, IsFresh, Meets, TellsKey, TellsKeys, is_plain_merge, keys_of, label_by, mark_at, pair_keys, told_in, told_of};
+ghost use Rattle.yaml_round_keys.specs.Telling.{AreSameKeys, HasRoom, HaveDistinctKeys, IsFresh, Meets, TellsKey, TellsKeys, TellsMore, TellsNodes, end_at, is_plain_merge, keys_of, label_by, mark_at, pair_keys, told_of};
 
+use crate::apart::all_apart;
 use crate::ranks::Ranks;
 use crate::shape::id_of;
 use std::alloc::{AllocError, Global};
-use yaml_parse_document::{MAX_ENTRIES, yaml_document_get_node, yaml_document_t};
+use yaml_parse_document::{
+    MAX_ENTRIES, yaml_document_delete, yaml_document_get_node, yaml_document_t,
+};
 use yaml_parse_model::{
     ZERO_MARK, yaml_mark_t, yaml_node_body_t, yaml_node_pair_t, yaml_scalar_style_t,
 };
@@ -22,6 +25,8 @@ pub struct yaml_same_key_t {
     pub first: i32,
     /// Where its node begins.
     pub mark: yaml_mark_t,
+    /// Where its node ends.
+    pub end_mark: yaml_mark_t,
     /// Where the first one's node begins.
     pub first_mark: yaml_mark_t,
 }
@@ -40,6 +45,16 @@ fn mark_at(document: &yaml_document_t, id: i32) -> yaml_mark_t
     match yaml_document_get_node(document, id) {
         None => ZERO_MARK,
         Some(node) => node.start_mark,
+    }
+}
+
+// Where a node ends.
+fn end_at(document: &yaml_document_t, id: i32) -> yaml_mark_t
+    ensures { result ≡ end_at (node_at document.now.nodes id) }
+{
+    match yaml_document_get_node(document, id) {
+        None => ZERO_MARK,
+        Some(node) => node.end_mark,
     }
 }
 
@@ -92,6 +107,7 @@ fn tell(
                 key,
                 first,
                 mark: mark_at(document, key),
+                end_mark: end_at(document, key),
                 first_mark: mark_at(document, first),
             })?;
             Ok(())
@@ -119,7 +135,7 @@ fn tell_key(
 }
 
 // The keys of a mapping.
-#[tactic(auto, using(crate::proofs::Meeting::so_far_none, crate::proofs::Meeting::so_far_all, crate::proofs::Meeting::room_along))]
+#[tactic(auto, using(crate::proofs::Meeting::so_far_none, crate::proofs::Meeting::room_along))]
 fn tell_pairs(
     told: &mut Vec<yaml_same_key_t>,
     document: &yaml_document_t,
@@ -171,7 +187,7 @@ fn tell_node(
 }
 
 // The keys of all mappings.
-#[tactic(auto, using(crate::proofs::Meeting::nodes_none, crate::proofs::Meeting::nodes_all, crate::proofs::Meeting::room_along))]
+#[tactic(auto, using(crate::proofs::Meeting::nodes_none, crate::proofs::Meeting::room_along))]
 fn tell_nodes(
     told: &mut Vec<yaml_same_key_t>,
     document: &yaml_document_t,
@@ -181,8 +197,8 @@ fn tell_nodes(
     requires small { length document.now.nodes ≤ 2147483647 }
     requires fresh { IsFresh slots.old 1 }
     requires room { HasRoom document.now.nodes ranks.now slots.old }
-    ensures { OnOk result (told.new.items ≡ told.old.items
-        ++ told_in (label_by ranks.now) document.now.nodes document.now.nodes) }
+    ensures { OnOk result (TellsNodes document.now.nodes (label_by ranks.now) told.old.items
+        told.new.items) }
 {
     for place in 0..document.node_count() {
         tell_node(told, document, ranks, slots, place)?;
@@ -190,23 +206,68 @@ fn tell_nodes(
     Ok(())
 }
 
-/// The keys of a document's mappings, in order, to which an earlier key of the same mapping is the
-/// same, each with the first such one. Keys are the same where they are one node, as where one is
-/// an alias of the other, or agree in kind, tag, text and what they hold, to the ground. A plain
-/// `<<` may come again. Mappings follow their nodes' numbers.
-#[tactic(auto, using(crate::proofs::Meeting::fresh_start, crate::proofs::Meeting::room_start, crate::proofs::Meeting::all_told))]
-pub fn yaml_document_check_keys(
+// The keys that are told, by ranks.
+#[tactic(auto, using(crate::proofs::Meeting::fresh_start, crate::proofs::Meeting::room_start, crate::proofs::Told::all_told))]
+fn tell_ranked(
     alloc: Global,
     document: &yaml_document_t,
 ) -> Result<Vec<yaml_same_key_t>, AllocError>
+    requires { length document.now.nodes ≤ 2147483647 }
     ensures { IfOk result (λ told. AreSameKeys document.now.nodes told.items) }
 {
-    if document.node_count() > MAX_ENTRIES {
-        return Err(AllocError);
-    }
     let ranks = Ranks::of(alloc, document)?;
     let mut slots = vec![in alloc; Slot { mapping: 0, key: 0 }; ranks.label_count()]?;
     let mut told = Vec::new(alloc);
     tell_nodes(&mut told, document, &ranks, &mut slots)?;
     Ok(told)
+}
+
+// The same; ranks are given only where keys of one mapping have one text.
+fn told_keys(alloc: Global, document: &yaml_document_t) -> Result<Vec<yaml_same_key_t>, AllocError>
+    ensures { IfOk result (λ told. AreSameKeys document.now.nodes told.items) }
+{
+    if document.node_count() > MAX_ENTRIES {
+        return Err(AllocError);
+    }
+    match all_apart(alloc, document) {
+        Err(refusal) => Err(refusal),
+        Ok(true) => Ok(Vec::new(alloc)),
+        Ok(false) => tell_ranked(alloc, document),
+    }
+}
+
+/// The keys of a document's mappings, in order, to which an earlier key of the same mapping is the
+/// same, each with the first such one. Keys are the same where they are one node, as where one is
+/// an alias of the other, or agree in kind, tag, text and what they hold, to the ground. A plain
+/// `<<` may come again. Mappings follow their nodes' numbers. None are told exactly where the keys of
+/// each mapping are distinct.
+#[tactic(auto, using(crate::proofs::Distinct::distinct))]
+pub fn yaml_document_check_keys(
+    alloc: Global,
+    document: &yaml_document_t,
+) -> Result<Vec<yaml_same_key_t>, AllocError>
+    ensures same { IfOk result (λ told. AreSameKeys document.now.nodes told.items) }
+    ensures distinct { IfOk result (λ told. (told.items ≡ [])
+        ↔ HaveDistinctKeys document.now.nodes) }
+{
+    match told_keys(alloc, document) {
+        Ok(told) => Ok(told),
+        Err(refusal) => Err(refusal),
+    }
+}
+
+/// Tells the keys of a document behind those that were told before, and spends it.
+pub fn tell_document(
+    alloc: Global,
+    told: &mut Vec<yaml_same_key_t>,
+    document: yaml_document_t,
+) -> Result<(), AllocError>
+    ensures { OnOk result (TellsMore document.nodes told.old.items told.new.items) }
+{
+    let keys = yaml_document_check_keys(alloc, &document);
+    yaml_document_delete(document);
+    match keys {
+        Ok(keys) => told.extend_from_slice(keys.as_slice()),
+        Err(refusal) => Err(refusal),
+    }
 }

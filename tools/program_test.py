@@ -199,6 +199,41 @@ def places():
         judge(f"no comment is in {text}", ran.returncode == 0, ran)
 
 
+# What diff shows of two texts: what is shown of each, where it is shown.
+DIFFERENCES = [
+    (b"a: {b: 2}", b"a: {b: 3}", "[0].a.b: value", "2 1:8", "3 1:8"),
+    (b"- 1", b"- '1'", "[0][0]: quotes", "1 1:3", "'1' 1:3"),
+    (b"!a b", b"!c b", "[0]: tag", "!a b 1:1", "!c b 1:1"),
+    (b"- &a []", b"- &b []", "[0][0]: anchor", "&a [ 1:3", "&b [ 1:3"),
+    (b"- *a", b"- *b", "[0][0]: anchor", "*a 1:3", "*b 1:3"),
+    (b"a: []", b"a: {}", "[0].a: kind", "a sequence 1:4", "a mapping 1:4"),
+    (b"[a, b]", b"[a]", "[0][1]: only in A", "b 1:5", None),
+    (b"[a]", b"[a, b]", "[0][1]: only in B", None, "b 1:5"),
+    (b"a", b"a\n--- b", "[1]: only in B", None, "a document 2:1"),
+    (b"%YAML 1.1\n--- a", b"--- a", "[0]: directives", "%YAML 1.1 1:1", "--- 1:1"),
+    (b"a:", b"a: b", "[0].a: value", "an empty scalar 1:3", "b 1:4"),
+    (b"- |\n  a\n  b\n", b"- |\n  a\n  c\n", "[0][0]: value", "b 3:3", "c 3:3"),
+    (b"- |\n  a\n", b"- |\n  a\n  c\n", "[0][0]: value", "the end of a scalar 3:1", "c 3:3"),
+    (b"x" * 70 + b"a", b"x" * 70 + b"b", "[0]: value", f"...{'x' * 20}a 1:1", f"...{'x' * 20}b 1:1"),
+    (b"a" + b"x" * 70, b"b" + b"x" * 70, "[0]: value", f"a{'x' * 59}... 1:1", f"b{'x' * 59}... 1:1"),
+]
+
+
+def differences():
+    """What diff shows, with each cause."""
+    for first, second, path, *shown in DIFFERENCES:
+        put("x.yaml", first)
+        put("y.yaml", second)
+        ran = run("diff", "x.yaml", "y.yaml")
+        path_line, *lines = ran.stdout.decode().splitlines()
+        sides = zip(("  - ", "  + "), ("x.yaml", "y.yaml"), shown)
+        wanted = [(sign + it.rsplit(" ", 1)[0], f"{name}:{it.rsplit(' ', 1)[1]}") for sign, name, it in sides if it]
+        found = [tuple(it.rsplit(" ", 1)) for it in lines]
+        is_well = [(it.rstrip(), place) for it, place in found] == wanted and len({len(it) for it, _ in found}) < 2
+        judge(f"diff of {first} and {second}", path_line == path and is_well and ran.returncode == 1, ran)
+        judge("the status alone", run("diff", "-q", "x.yaml", "y.yaml").returncode == 1)
+
+
 def steps(folder):
     """Files that are written in place, where each call fails in its turn, or the process ends before it."""
     put(f"{folder}/calls.c", CALLS.encode())
@@ -255,6 +290,7 @@ def main():
         findings()
         unique_keys()
         places()
+        differences()
         steps(folder)
         os.makedirs(f"{folder}/hooked")
         os.chdir(f"{folder}/hooked")

@@ -11,6 +11,8 @@ use Rattle.yaml_cli_program.specs.declared.Task.{Task}
 use Rattle.yaml_cli_program.specs.declared.Side.{Side}
 use Rattle.yaml_cli_program.specs.declared.Side.TheVariants as side
 use Rattle.yaml_cli_program.specs.declared.Difference.{Difference}
+use Rattle.yaml_cli_program.specs.declared.Cause.{Cause}
+use Rattle.yaml_cli_program.specs.declared.Cause.TheVariants as cause
 use Rattle.yaml_cli_program.specs.declared.Manner.{Manner}
 use Rattle.yaml_cli_program.specs.declared.Measure.{Measure}
 use Rattle.yaml_cli_program.specs.declared.RepeatedKey.{RepeatedKey}
@@ -19,6 +21,8 @@ use Rattle.yaml_cli_program.specs.declared.Question.TheVariants as question
 use Rattle.yaml_round.specs.declared.yaml_side_t.{yaml_side_t}
 use Rattle.yaml_round.specs.declared.yaml_side_t.TheVariants as told
 use Rattle.yaml_round.specs.declared.yaml_difference_t.{yaml_difference_t}
+use Rattle.yaml_round.specs.declared.yaml_cause_t.{yaml_cause_t}
+use Rattle.yaml_round.specs.declared.yaml_cause_t.TheVariants as reason
 use Rattle.yaml_round.specs.Answers.{IsSame, IsReformatted}
 use Rattle.yaml_round.specs.Differences.{IsDiff}
 use Rattle.yaml_round.specs.Loaded.{IsDocumentsDiff}
@@ -56,12 +60,25 @@ IsSameAnswer from first second (Err (s, Read)) = ⊥
 IsSameAnswer from first second (Err (s, TooLong)) = ⊥
 IsSameAnswer from first second (Err (s, Write written)) = ⊥
 
--- it has the places and the kinds of events of that difference
+abbrev pub cause_told : Cause → yaml_cause_t
+cause_told cause.OnlyFirst = reason.OnlyFirst
+cause_told cause.OnlySecond = reason.OnlySecond
+cause_told cause.Kind = reason.Kind
+cause_told cause.Directives = reason.Directives
+cause_told cause.Value = reason.Value
+cause_told cause.Tag = reason.Tag
+cause_told cause.Quotes = reason.Quotes
+cause_told cause.Anchor = reason.Anchor
+
+-- it has the places and the kinds of events of that difference, and its cause
 pub record TellsDifference (d : Difference) (x : yaml_difference_t) : Type 0 where
-  pub first_mark : d.first.mark ≡ x.first_mark
+  pub first_start : d.first.start ≡ x.first_mark
+  pub first_end : d.first.end ≡ x.first_end
   pub first_kind : d.first.kind ≡ x.first_type
-  pub second_mark : d.second.mark ≡ x.second_mark
+  pub second_start : d.second.start ≡ x.second_mark
+  pub second_end : d.second.end ≡ x.second_end
   pub second_kind : d.second.kind ≡ x.second_type
+  pub cause : cause_told d.cause ≡ x.cause
 
 abbrev pub IsPartedBy : (Result (Option yaml_difference_t) (yaml_side_t × yaml_fault_t) → Type 0)
     → Result (Option Difference) (Side × yaml_fault_t) → Type 0

@@ -5,17 +5,17 @@ ghost use Rattle.yaml_round.specs.emit.emit_layout.scan_model.Faults.{Answers, l
 ghost use Rattle.yaml_round.specs.Answers.{bytes_of};
 ghost use Rattle.yaml_round.specs.Layers.{reformat_layers};
 ghost use Rattle.yaml_round.specs.Readable.{IsReadableAnswer};
-ghost use Rattle.yaml_cli_main.specs.Asked.{IsRun, IsSameAnswer, IsDifference, IsParted, IsJudgedBy, IsRepeatedAnswer, judge_layers, shown_key, side_told, TellsDifference};
+ghost use Rattle.yaml_cli_main.specs.Asked.{IsRun, IsSameAnswer, IsDifference, IsParted, IsJudgedBy, IsRepeatedAnswer, cause_told, judge_layers, shown_key, side_told, TellsDifference};
 
 use crate::comment::first_comment;
 use std::alloc::{AllocError, Global};
 use std::io::{Read, Write};
 use yaml_cli_program::{
-    Compared, Difference, Ended, Engine, INPUT_LIMIT, Judging, Manner, Measure, Met, Parted,
+    Cause, Compared, Difference, Ended, Engine, INPUT_LIMIT, Judging, Manner, Measure, Met, Parted,
     Question, RepeatedKey, Side, Step, Task, push_step,
 };
 use yaml_round::{
-    yaml_check, yaml_check_keys, yaml_diff, yaml_diff_documents, yaml_difference_t,
+    yaml_cause_t, yaml_check, yaml_check_keys, yaml_diff, yaml_diff_documents, yaml_difference_t,
     yaml_encoding_t, yaml_fault_t, yaml_mark_t, yaml_memory_fault, yaml_normalize, yaml_origin_t,
     yaml_reformat, yaml_run, yaml_run_fault_t, yaml_same, yaml_same_key_t, yaml_side_t,
     yaml_std_input_t, yaml_std_output_t, yaml_step_t,
@@ -30,6 +30,21 @@ fn side_of(side: yaml_side_t) -> Side
     match side {
         yaml_side_t::First => Side::First,
         yaml_side_t::Second => Side::Second,
+    }
+}
+
+fn cause_of(cause: yaml_cause_t) -> Cause
+    ensures { cause_told result ≡ cause }
+{
+    match cause {
+        yaml_cause_t::OnlyFirst => Cause::OnlyFirst,
+        yaml_cause_t::OnlySecond => Cause::OnlySecond,
+        yaml_cause_t::Kind => Cause::Kind,
+        yaml_cause_t::Directives => Cause::Directives,
+        yaml_cause_t::Value => Cause::Value,
+        yaml_cause_t::Tag => Cause::Tag,
+        yaml_cause_t::Quotes => Cause::Quotes,
+        yaml_cause_t::Anchor => Cause::Anchor,
     }
 }
 
@@ -56,12 +71,15 @@ fn difference_of(alloc: Global, difference: &yaml_difference_t) -> Difference
 {
     Difference {
         path: path_of(alloc, difference).ok(),
+        cause: cause_of(difference.cause),
         first: Met {
-            mark: difference.first_mark,
+            start: difference.first_mark,
+            end: difference.first_end,
             kind: difference.first_type,
         },
         second: Met {
-            mark: difference.second_mark,
+            start: difference.second_mark,
+            end: difference.second_end,
             kind: difference.second_type,
         },
     }

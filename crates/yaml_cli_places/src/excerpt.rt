@@ -52,6 +52,15 @@ fn width_of(c: char, columns: u64) -> u64 {
     }
 }
 
+/// How many columns a text of one line takes.
+pub(crate) fn columns_in(text: &str) -> u64 {
+    let mut columns = 0u64;
+    for c in text.chars() {
+        columns = columns.saturating_add(width_of(c, columns));
+    }
+    columns
+}
+
 // Whether the line is shown whole.
 fn is_short(mut line: Chars<'_>) -> bool {
     let mut columns = 0u64;

@@ -16,10 +16,10 @@ mod telling;
 
 pub use chars::Source;
 pub use finding::{Finding, Format, push_finding};
-pub use parting::parted;
+pub use parting::{Line, Span, parted, push_line};
 pub use path::{Step, push_step};
 pub use place::place_of_byte;
 pub use repeated::{RepeatedKey, push_repeated};
 pub use rows::row_of;
 pub use shown::Shown;
-pub use telling::{push_fault, push_label};
+pub use telling::push_fault;

@@ -1,8 +1,41 @@
-//! Where two texts differ.
+//! What two texts have where they differ.
 
 use crate::chars::{Chars, Next, Source, ends_line};
+use crate::excerpt::{columns_in, push_shown};
 use crate::place::from_place;
+use crate::telling::push_at;
+use std::alloc::AllocError;
 use yaml_scan_types::yaml_mark_t;
+
+// How many characters of a value are shown.
+const MOST: u64 = 60;
+
+// One is shown from its beginning on where fewer are before the place of interest.
+const SHORT: u64 = 40;
+
+// Else it is shown from that many before it on.
+const BEFORE: u64 = 20;
+
+// Stands for what isn't shown of a value.
+const CUT: &'static str = "...";
+
+// How many columns are between the longer value and its place.
+const GAP: u64 = 8;
+
+/// A part of a text.
+#[derive(Clone, Copy)]
+pub struct Span<'a> {
+    pub source: Source<'a>,
+    pub start: yaml_mark_t,
+    pub end: yaml_mark_t,
+}
+
+/// What is shown of one text: a line of it, and where that begins.
+#[derive(Drop)]
+pub struct Line {
+    pub text: String,
+    pub place: yaml_mark_t,
+}
 
 // What is left of a text, and its place; `index` counts the characters.
 #[derive(Clone, Copy)]
@@ -39,30 +72,139 @@ impl Walk<'_> {
     }
 }
 
-/// Where two texts differ first, from these places on; spaces that lines begin with aside. The places' `index` grows with each
-/// character.
-pub fn parted(
-    first: Source<'_>,
-    from: yaml_mark_t,
-    second: Source<'_>,
-    other: yaml_mark_t,
-) -> (yaml_mark_t, yaml_mark_t) {
-    let mut one = Walk {
-        left: from_place(first, from),
-        place: from,
-    };
-    let mut two = Walk {
-        left: from_place(second, other),
-        place: other,
-    };
-    for _ in 0..first.input.len() {
+fn is_before(place: yaml_mark_t, other: yaml_mark_t) -> bool {
+    place.line < other.line || (place.line == other.line && place.column < other.column)
+}
+
+impl<'a> Span<'a> {
+    fn walk(&self) -> Walk<'a> {
+        Walk {
+            left: from_place(self.source, self.start),
+            place: self.start,
+        }
+    }
+
+    // The place, or the end of the part, where it is after that.
+    fn within(&self, place: yaml_mark_t) -> yaml_mark_t {
+        if is_before(self.end, place) {
+            self.end
+        } else {
+            place
+        }
+    }
+
+    // Where what is shown of the line of a place begins: with the part, or after the spaces that the line begins with.
+    fn line_start(&self, at: yaml_mark_t) -> yaml_mark_t {
+        if at.line == self.start.line {
+            return self.start;
+        }
+        let place = yaml_mark_t { column: 0, ..at };
+        let mut walk = Walk {
+            left: from_place(self.source, place),
+            place,
+        };
+        walk.skip_indent();
+        if is_before(at, walk.place) {
+            at
+        } else {
+            walk.place
+        }
+    }
+
+    // How many characters of a line from that place on are in the part.
+    fn columns_from(&self, place: yaml_mark_t) -> u64 {
+        if place.line == self.end.line {
+            self.end.column.saturating_sub(place.column)
+        } else {
+            u64::MAX
+        }
+    }
+
+    /// The line of the part that has a place, a long one cut round it.
+    pub fn line(&self, text: String, at: yaml_mark_t) -> Result<Line, AllocError> {
+        let place = self.line_start(at);
+        let mut line = Line { text, place };
+        let before = at.column.saturating_sub(place.column);
+        let skipped = if before < SHORT {
+            0
+        } else {
+            before.saturating_sub(BEFORE)
+        };
+        let mut chars = from_place(self.source, place);
+        chars.skip_columns(skipped);
+        let columns = self.columns_from(place).saturating_sub(skipped);
+        let begun = line.text.push_str(if skipped > 0 { CUT } else { "" });
+        match begun.and(push_front(&mut line.text, chars, columns)) {
+            Ok(()) => Ok(line),
+            Err(refusal) => Err(refusal),
+        }
+    }
+}
+
+// Adds that many characters of a line, or fewer, without blanks at their end.
+fn push_front(text: &mut String, chars: Chars<'_>, columns: u64) -> Result<(), AllocError> {
+    let mut line = chars;
+    // Blanks that were met since.
+    let mut blanks = 0u64;
+    for shown in 0..columns {
+        let Some(c) = line.next_in_line() else {
+            return Ok(());
+        };
+        if c == ' ' || c == '\t' {
+            blanks = blanks.saturating_add(1);
+            continue;
+        }
+        if shown >= MOST {
+            return text.push_str(CUT);
+        }
+        for _ in 0..blanks {
+            text.push(' ')?;
+        }
+        blanks = 0;
+        push_shown(text, c)?;
+    }
+    Ok(())
+}
+
+/// Where two parts differ first, spaces that lines begin with aside; where they begin, if they don't.
+pub fn parted(first: Span<'_>, second: Span<'_>) -> (yaml_mark_t, yaml_mark_t) {
+    let mut one = first.walk();
+    let mut two = second.walk();
+    for _ in 0..first.source.input.len() {
         one.skip_indent();
         two.skip_indent();
-        let places = (one.place, two.place);
+        if is_before(first.end, one.place) && is_before(second.end, two.place) {
+            break;
+        }
+        let places = (first.within(one.place), second.within(two.place));
         match (one.next(), two.next()) {
             (Next::Char(a), Next::Char(b)) if a == b => {}
             _ => return places,
         }
     }
-    (from, other)
+    (first.start, second.start)
+}
+
+impl Line {
+    /// How many columns are before a place behind it.
+    pub fn columns(&self) -> u64 {
+        columns_in(&self.text).saturating_add(GAP)
+    }
+}
+
+/// Adds a line, and its place after that many columns.
+pub fn push_line(
+    text: &mut String,
+    sign: &str,
+    name: &str,
+    line: &Line,
+    columns: u64,
+) -> Result<(), AllocError> {
+    text.push_str(sign)?;
+    text.push_str(&line.text)?;
+    for _ in columns_in(&line.text)..columns {
+        text.push(' ')?;
+    }
+    push_at(text, name, line.place)?;
+    text.push('\n')
 }

@@ -13,6 +13,14 @@ use yaml_scan_types::{yaml_error_type_t, yaml_fault_t, yaml_mark_t};
 // How many characters of a wrong word are told.
 const MOST_OF_WORD: usize = 40;
 
+/// Adds the file's name and the place, counted from 1.
+pub(crate) fn push_at(text: &mut String, name: &str, place: yaml_mark_t) -> Result<(), AllocError> {
+    let name = Shown(name);
+    let line = u128::from(place.line) + 1;
+    let column = u128::from(place.column) + 1;
+    write!(text, "{name}:{line}:{column}")
+}
+
 /// Adds the file's name, the place, counted from 1, and what is told of it.
 pub(crate) fn push_place(
     text: &mut String,
@@ -20,10 +28,8 @@ pub(crate) fn push_place(
     place: yaml_mark_t,
     what: &str,
 ) -> Result<(), AllocError> {
-    let name = Shown(name);
-    let line = u128::from(place.line) + 1;
-    let column = u128::from(place.column) + 1;
-    write!(text, "{name}:{line}:{column}: {what}")
+    push_at(text, name, place)?;
+    write!(text, ": {what}")
 }
 
 // Adds the character that comes next.
@@ -138,8 +144,8 @@ fn push_problem(
     placed.and(told).and(wrong).and(around).and(excerpt)
 }
 
-/// Adds a place, what stands there, and its source line.
-pub fn push_label(
+// Adds a place, what stands there, and its source line.
+fn push_label(
     text: &mut String,
     source: Source<'_>,
     place: yaml_mark_t,

@@ -111,7 +111,7 @@ fn tell_difference<R, W: Write, E: Write>(
     streams: &mut Streams<R, W, E>,
 ) -> u8 {
     let mut text = String::new(streams.alloc);
-    match push_difference(&mut text, difference, first, second) {
+    match push_difference(streams.alloc, &mut text, difference, first, second) {
         Ok(()) => {
             let written = streams.output.write_all(text.as_bytes());
             flushed(written, streams).max(FAILED)

@@ -1,14 +1,15 @@
 //! The lines that show where two texts differ.
 
-use crate::engine::{Difference, Met};
-use std::alloc::AllocError;
-use yaml_cli_places::{Source, parted, push_label};
-use yaml_scan_types::yaml_event_type_t;
+use crate::engine::{Cause, Difference, Met};
+use std::alloc::{AllocError, Global};
+use yaml_cli_places::{Line, Source, Span, parted, push_line};
+use yaml_scan_types::{yaml_event_type_t, yaml_mark_t};
 
-// How people call what begins with such an event.
-fn event_words(kind: yaml_event_type_t) -> &'static str {
+// How people call what begins or ends with such an event, or what is behind it.
+fn event_words(kind: yaml_event_type_t, is_behind: bool) -> &'static str {
     match kind {
-        yaml_event_type_t::YAML_SCALAR_EVENT => "a scalar",
+        yaml_event_type_t::YAML_SCALAR_EVENT if is_behind => "the end of a scalar",
+        yaml_event_type_t::YAML_SCALAR_EVENT => "an empty scalar",
         yaml_event_type_t::YAML_ALIAS_EVENT => "an alias",
         yaml_event_type_t::YAML_SEQUENCE_START_EVENT => "a sequence",
         yaml_event_type_t::YAML_SEQUENCE_END_EVENT => "the end of a sequence",
@@ -20,53 +21,109 @@ fn event_words(kind: yaml_event_type_t) -> &'static str {
     }
 }
 
-// Whether nothing begins with such an event: what the other text has there is in that one alone.
-fn is_end(kind: yaml_event_type_t) -> bool {
-    matches!(
-        kind,
-        yaml_event_type_t::YAML_SEQUENCE_END_EVENT
-            | yaml_event_type_t::YAML_MAPPING_END_EVENT
-            | yaml_event_type_t::YAML_DOCUMENT_END_EVENT
-            | yaml_event_type_t::YAML_STREAM_END_EVENT
-    )
-}
-
-// What differs, as far as the kinds of the two events tell it.
-fn cause_of(first: yaml_event_type_t, second: yaml_event_type_t) -> &'static str {
-    if is_end(first) != is_end(second) {
-        return if is_end(first) {
-            ": only in B"
-        } else {
-            ": only in A"
-        };
-    }
-    match first {
-        kind if kind != second => ": kind",
-        yaml_event_type_t::YAML_DOCUMENT_START_EVENT => ": directives",
-        yaml_event_type_t::YAML_ALIAS_EVENT => ": anchor",
-        _ => "",
+fn cause_words(cause: Cause) -> &'static str {
+    match cause {
+        Cause::OnlyFirst => "only in A",
+        Cause::OnlySecond => "only in B",
+        Cause::Kind => "kind",
+        Cause::Directives => "directives",
+        Cause::Value => "value",
+        Cause::Tag => "tag",
+        Cause::Quotes => "quotes",
+        Cause::Anchor => "anchor",
     }
 }
 
-// Where two scalars differ, and how that is called; of what isn't a scalar on both sides, where it begins.
-fn shown_at(first: Met, at: Source<'_>, second: Met, other: Source<'_>) -> (Met, Met, bool) {
-    let scalar = yaml_event_type_t::YAML_SCALAR_EVENT;
-    if first.kind != scalar || second.kind != scalar {
-        return (first, second, false);
+// Whether an event is shown as it is spelled: a node's tag and anchor stand before it.
+fn is_spelled(kind: yaml_event_type_t, cause: Cause) -> bool {
+    match kind {
+        yaml_event_type_t::YAML_SCALAR_EVENT | yaml_event_type_t::YAML_ALIAS_EVENT => true,
+        yaml_event_type_t::YAML_DOCUMENT_START_EVENT => matches!(cause, Cause::Directives),
+        yaml_event_type_t::YAML_SEQUENCE_START_EVENT
+        | yaml_event_type_t::YAML_MAPPING_START_EVENT => {
+            matches!(cause, Cause::Tag | Cause::Anchor)
+        }
+        _ => false,
     }
-    let (mark, there) = parted(at, first.mark, other, second.mark);
-    let is_within = mark.index > first.mark.index;
-    let first = Met { mark, ..first };
-    let second = Met {
-        mark: there,
-        ..second
-    };
-    (first, second, is_within)
 }
 
-/// Adds the lines that show where two texts differ: the path, with the cause where it is known, and both places as those of a fault
-/// are shown, with what is there. Of two scalars that begin alike the places are those of the first characters that differ.
+fn span_of<'a>(source: Source<'a>, met: Met) -> Span<'a> {
+    Span {
+        source,
+        start: met.start,
+        end: met.end,
+    }
+}
+
+// The line of an event that has a place, where the event is shown as it is spelled.
+fn spelled_line(
+    source: Source<'_>,
+    met: Met,
+    cause: Cause,
+    text: String,
+    at: yaml_mark_t,
+) -> Result<Line, AllocError> {
+    if is_spelled(met.kind, cause) {
+        span_of(source, met).line(text, at)
+    } else {
+        Ok(Line {
+            text,
+            place: met.start,
+        })
+    }
+}
+
+// Whether what is spelled shows nothing: no characters, or a collection's bracket alone.
+fn is_bare(kind: yaml_event_type_t, text: &str) -> bool {
+    match kind {
+        yaml_event_type_t::YAML_SEQUENCE_START_EVENT
+        | yaml_event_type_t::YAML_MAPPING_START_EVENT => {
+            !matches!(text.as_bytes().first(), Some(b'&' | b'!'))
+        }
+        _ => text.is_empty(),
+    }
+}
+
+// What is shown of an event: its line with that place, or how it is called, where that shows nothing.
+fn line_of(
+    alloc: Global,
+    source: Source<'_>,
+    met: Met,
+    cause: Cause,
+    at: yaml_mark_t,
+) -> Result<Line, AllocError> {
+    let mut line = spelled_line(source, met, cause, String::new(alloc), at)?;
+    if is_bare(met.kind, &line.text) {
+        line.text.clear();
+        let is_behind = at.line > met.start.line || at.column > met.start.column;
+        line.text.push_str(event_words(met.kind, is_behind))?;
+    }
+    Ok(line)
+}
+
+// Adds what both texts have, or one has, at a difference.
+fn push_both(
+    text: &mut String,
+    cause: Cause,
+    names: (&str, &str),
+    line: &Line,
+    other: &Line,
+) -> Result<(), AllocError> {
+    let columns = line.columns().max(other.columns());
+    match cause {
+        Cause::OnlyFirst => push_line(text, "  - ", names.0, line, line.columns()),
+        Cause::OnlySecond => push_line(text, "  + ", names.1, other, other.columns()),
+        _ => {
+            push_line(text, "  - ", names.0, line, columns)?;
+            push_line(text, "  + ", names.1, other, columns)
+        }
+    }
+}
+
+/// Adds the lines that show where two texts differ: the path with the cause, and what each text has there, with its place. A value of
+/// several lines is shown by the first one that differs.
 pub(crate) fn push_difference(
+    alloc: Global,
     text: &mut String,
     difference: &Difference,
     first: Source<'_>,
@@ -75,15 +132,12 @@ pub(crate) fn push_difference(
     let Some(path) = &difference.path else {
         return Err(AllocError);
     };
-    let cause = cause_of(difference.first.kind, difference.second.kind);
-    let path = writeln!(text, "{path}{cause}");
-    let (one, two, is_within) = shown_at(difference.first, first, difference.second, second);
-    let (words, others) = if is_within {
-        ("within a scalar", "within a scalar")
-    } else {
-        (event_words(one.kind), event_words(two.kind))
-    };
-    let met = push_label(text, first, one.mark, words);
-    path.and(met)
-        .and(push_label(text, second, two.mark, others))
+    let cause = difference.cause;
+    let words = cause_words(cause);
+    writeln!(text, "{path}: {words}")?;
+    let (one, two) = (difference.first, difference.second);
+    let (at, there) = parted(span_of(first, one), span_of(second, two));
+    let line = line_of(alloc, first, one, cause, at)?;
+    let other = line_of(alloc, second, two, cause, there)?;
+    push_both(text, cause, (first.name, second.name), &line, &other)
 }

@@ -20,11 +20,25 @@ pub type Ended = Result<Option<yaml_form_t>, yaml_run_fault_t>;
 /// Whether two inputs have the same content, or the fault of one of them.
 pub type Compared = Result<bool, (Side, yaml_run_fault_t)>;
 
-/// An event of an input: where it starts, and of which kind it is.
+/// An event of an input: where it begins and ends, and of which kind it is.
 #[derive(Clone, Copy)]
 pub struct Met {
-    pub mark: yaml_mark_t,
+    pub start: yaml_mark_t,
+    pub end: yaml_mark_t,
     pub kind: yaml_event_type_t,
+}
+
+/// In what two events differ.
+#[derive(Clone, Copy)]
+pub enum Cause {
+    OnlyFirst,
+    OnlySecond,
+    Kind,
+    Directives,
+    Value,
+    Tag,
+    Quotes,
+    Anchor,
 }
 
 /// The first place at which two inputs part.
@@ -32,6 +46,7 @@ pub struct Met {
 pub struct Difference {
     /// The path to it, as people are shown it, where there is room for it.
     pub path: Option<String>,
+    pub cause: Cause,
     pub first: Met,
     pub second: Met,
 }

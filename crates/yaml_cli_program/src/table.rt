@@ -157,7 +157,7 @@ Examples:
 
 Status:
   0  The files have the same content, or the same documents
-  1  They haven't: the path to the first difference was written, and its place in both
+  1  They haven't: the path to the first difference was written, its cause, and what both have there
   2  The arguments are wrong, or a file is refused or can't be read",
         bit: DIFF,
     },

@@ -12,6 +12,7 @@ pub use Rattle.yaml_round_writing.specs.EventLine
 pub use Rattle.yaml_round_writing.specs.Reading
 pub use Rattle.yaml_round_compare.specs.Compare
 pub use Rattle.yaml_round_compare.specs.Places
+pub use Rattle.yaml_round_compare.specs.Causes
 pub use Rattle.yaml_round_compare.specs.Differences
 pub use Rattle.yaml_round_compare.specs.Walking
 pub use Rattle.yaml_round_compare.specs.Loaded

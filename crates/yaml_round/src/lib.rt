@@ -18,7 +18,7 @@ pub use normalize::yaml_normalize;
 pub use reload::yaml_reload;
 pub use run::yaml_run;
 pub use same::yaml_same;
-pub use yaml_round_compare::{yaml_difference_t, yaml_step_t};
+pub use yaml_round_compare::{yaml_cause_t, yaml_difference_t, yaml_step_t};
 pub use yaml_round_device::{
     DEFAULT_LIMIT, yaml_command_t, yaml_device_fault_t, yaml_fault_line, yaml_form_t, yaml_input_t,
     yaml_output_encoding_t, yaml_output_t, yaml_read_all, yaml_run_fault_t, yaml_settings_t,

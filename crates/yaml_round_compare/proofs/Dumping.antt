@@ -13,10 +13,13 @@ use Rattle.yaml_round_content.specs.Said as content
 use Rattle.yaml_round_content.specs.Said.{Node, Nodes, Pairs, node_says, items_say, pairs_say, documents_say}
 use Rattle.yaml_round_content.specs.Trees.{tree_of, trees_of, pair_trees_of, document_tree}
 use Rattle.yaml_round_compare.specs.declared.front.Front.{Front}
+use Rattle.yaml_round_compare.specs.declared.cause.yaml_cause_t.{yaml_cause_t}
+use Rattle.yaml_round_compare.specs.declared.cause.yaml_cause_t.TheVariants.{OnlyFirst, OnlySecond}
+use Rattle.yaml_round_compare.specs.Causes.{cause_of}
 use Rattle.yaml_round_compare.specs.Places.{Path, path_of}
 use Rattle.yaml_round_compare.specs.Walking.{past, past_event}
 use Rattle.yaml_round_compare.specs.Loaded.{next_of}
-use Rattle.yaml_round_compare.specs.Dumps.{said, document_says, documents_left, PassesEvent, GoesPast, PartsBehind}
+use Rattle.yaml_round_compare.specs.Dumps.{said, document_says, documents_left, IsCauseOf, PassesEvent, PartsFront, EndsFront, GoesPast, PartsBehind}
 use Rattle.yaml_round_content.proofs.Trees.{scalar_core}
 
 -- ---- what a dump says
@@ -186,9 +189,6 @@ content_past event.sequence_end p = refl
 content_past (event.mapping_start anchor tag implicit style) p = refl
 content_past event.mapping_end p = refl
 
-goes_nowhere : (a b : List EventBody) (f : Front) → GoesPast a b a b f f
-goes_nowhere a b f = record { before = []; first_events = refl; second_events = refl; path = refl; events = omega arith }
-
 pub goes_on : (a b l r m s : List EventBody) (old mid new : Front) → GoesPast a b l r old mid
     → GoesPast l r m s mid new → GoesPast a b m s old new
 goes_on a b l r m s old mid new g h = record {
@@ -254,10 +254,50 @@ still_differ d e before (x ∷ xs) (y ∷ ys) l r p q differ = differ
 
 parts_behind : (a b l r : List EventBody) (old mid new : Front) → GoesPast a b l r old mid
     → PartsBehind l r mid new → PartsBehind a b old new
-parts_behind a b l r old mid new g h = record { left = h.left; other_left = h.other_left; past = goes_on a b l r h.left h.other_left old mid new g h.past; differ = h.differ }
+parts_behind a b l r old mid new g h = record { left = h.left; other_left = h.other_left; past = goes_on a b l r h.left h.other_left old mid new g h.past; differ = h.differ; cause = h.cause }
 
-parts_here : (l r : List EventBody) (f : Front) → (next_of l ≡ next_of r → ⊥) → PartsBehind l r f f
-parts_here l r f h = record { left = l; other_left = r; past = goes_nowhere l r f; differ = h }
+-- ---- the first events that differ
+
+pub parts_here : (a b l r : List EventBody) (x y : EventBody) (old mid new : Front)
+    → GoesPast a b l r old mid → (next_of l ≡ next_of r → ⊥) → IsCauseOf (cause_of x y) (next_of l) (next_of r)
+    → PartsFront x y mid new → PartsBehind a b old new
+parts_here a b l r x y old mid new g h k p = record {
+  left = l;
+  other_left = r;
+  past = record { before = g.before; first_events = g.first_events; second_events = g.second_events; path = p.path ∙ g.path; events = p.events ∙ g.events };
+  differ = h;
+  cause = subst (λ (c : yaml_cause_t). IsCauseOf c (next_of l) (next_of r)) (sym p.cause) k;
+}
+
+parts_end : (l r : List EventBody) (c : yaml_cause_t) (mid new : Front)
+    → (next_of l ≡ next_of r → ⊥) → IsCauseOf c (next_of l) (next_of r) → EndsFront c mid new
+    → PartsBehind l r mid new
+parts_end l r c mid new h k p = record {
+  left = l;
+  other_left = r;
+  past = record { before = []; first_events = refl; second_events = refl; path = p.path; events = let e = p.events in omega (arith, e) };
+  differ = h;
+  cause = subst (λ (d : yaml_cause_t). IsCauseOf d (next_of l) (next_of r)) (sym p.cause) k;
+}
+
+ends_first : (e : Document) (es : List Document)
+    → IsCauseOf OnlySecond (next_of (documents_left [])) (next_of (documents_left (e ∷ es)))
+unfolding documents_say
+ends_first e es = refl
+
+ends_second : (d : Document) (ds : List Document)
+    → IsCauseOf OnlyFirst (next_of (documents_left (d ∷ ds))) (next_of (documents_left []))
+unfolding documents_say
+ends_second d ds = refl
+
+still_cause : (d e : Document) (before left other_left l r : List EventBody) (c : yaml_cause_t)
+    → document_says d ≡ before ++ left → document_says e ≡ before ++ other_left
+    → (next_of left ≡ next_of other_left → ⊥) → IsCauseOf c (next_of left) (next_of other_left)
+    → IsCauseOf c (next_of (left ++ l)) (next_of (other_left ++ r))
+still_cause d e before [] [] l r c p q differ k = absurd (differ refl)
+still_cause d e before [] (x ∷ xs) l r c p q differ k = absurd (no_front d e x xs (q ∙ ap (λ (es : List EventBody). es ++ x ∷ xs) (sym (append-nil before) ∙ sym p)))
+still_cause d e before (x ∷ xs) [] l r c p q differ k = absurd (no_front e d x xs (p ∙ ap (λ (es : List EventBody). es ++ x ∷ xs) (sym (append-nil before) ∙ sym q)))
+still_cause d e before (x ∷ xs) (y ∷ ys) l r c p q differ k = k
 
 part_documents : (d e : Document) (ds es : List Document) (old new : Front)
     → PartsBehind (document_says d) (document_says e) old new
@@ -267,6 +307,7 @@ part_documents d e ds es old new h = record {
   other_left = h.other_left ++ documents_left es;
   past = goes_as _ _ _ _ _ _ old new (documents_more d ds) (documents_more e es) (goes_wider (document_says d) (document_says e) h.left h.other_left (documents_left ds) (documents_left es) old new h.past);
   differ = still_differ d e h.past.before h.left h.other_left (documents_left ds) (documents_left es) h.past.first_events h.past.second_events h.differ;
+  cause = still_cause d e h.past.before h.left h.other_left (documents_left ds) (documents_left es) new.trail.place.cause h.past.first_events h.past.second_events h.differ h.cause;
 }
 
 -- what was passed, and then what is left
@@ -295,13 +336,15 @@ none_left [] rest e h = refl
 none_left (d ∷ ds) rest e h = absurd (let k = ap length (e ∙ h) in omega (arith, k))
 
 pub first_ends : (a b : List EventBody) (xs ys more : List Document) (e : Document)
-    (es : List Document) (old mid : Front)
+    (es : List Document) (old mid new : Front)
     → GoesPast a b (documents_left xs) (documents_left ys) old mid → xs ≡ more → more ≡ drop 1 xs
-    → ys ≡ e ∷ es → PartsBehind a b old mid
-first_ends a b xs ys more e es old mid g p n q = parts_on a b xs ys [] (e ∷ es) old mid mid g (none_left xs more p n) q (parts_here (documents_left []) (documents_left (e ∷ es)) mid (document_more es e))
+    → ys ≡ e ∷ es → EndsFront OnlySecond mid new → PartsBehind a b old new
+first_ends a b xs ys more e es old mid new g p n q h =
+    parts_on a b xs ys [] (e ∷ es) old mid new g (none_left xs more p n) q (parts_end (documents_left []) (documents_left (e ∷ es)) OnlySecond mid new (document_more es e) (ends_first e es) h)
 
 pub second_ends : (a b : List EventBody) (xs ys more : List Document) (d : Document)
-    (ds : List Document) (old mid : Front)
+    (ds : List Document) (old mid new : Front)
     → GoesPast a b (documents_left xs) (documents_left ys) old mid → xs ≡ d ∷ ds → ys ≡ more
-    → more ≡ drop 1 ys → PartsBehind a b old mid
-second_ends a b xs ys more d ds old mid g p q n = parts_on a b xs ys (d ∷ ds) [] old mid mid g p (none_left ys more q n) (parts_here (documents_left (d ∷ ds)) (documents_left []) mid (λ h. document_more ds d (sym h)))
+    → more ≡ drop 1 ys → EndsFront OnlyFirst mid new → PartsBehind a b old new
+second_ends a b xs ys more d ds old mid new g p q n h =
+    parts_on a b xs ys (d ∷ ds) [] old mid new g p (none_left ys more q n) (parts_end (documents_left (d ∷ ds)) (documents_left []) OnlyFirst mid new (λ h. document_more ds d (sym h)) (ends_second d ds) h)

@@ -102,7 +102,8 @@ parted_at a_from a b_from b place before other_before (x ∷ xs) (y ∷ ys) p q 
       of_second = has_events b_from b (other_before ++ y ∷ ys) q (sym f);
       alike = alike;
       differ = apart.0;
-      tells = apart.1;
+      tells = apart.1.tells;
+      cause = apart.1.cause;
       place = there.0;
       in_front = there.1;
       path = path ∙ ap (λ (es : List EventBody). past es start) there.1 ∙ position_walked there.0;

@@ -14,10 +14,11 @@ use Rattle.yaml_round_compare.specs.declared.compare.Next.{Next}
 use Rattle.yaml_round_compare.specs.declared.compare.Next.TheVariants.{Same, End, Different, Refused}
 use Rattle.yaml_round_compare.specs.declared.difference.yaml_difference_t.{yaml_difference_t}
 use Rattle.yaml_round_compare.specs.declared.trail.Trail.{Trail}
+use Rattle.yaml_round_compare.specs.Causes.{cause_of}
 use Rattle.yaml_round_compare.specs.Places.{Path, path_of}
 use Rattle.yaml_round_compare.specs.Walking.{past, past_event}
-use Rattle.yaml_round_compare.specs.Differences.{saying, TellsOf}
-use Rattle.yaml_round_compare.specs.Compare.{normalized, JudgesEvents, AreApart, Parted, BothGoOn, StepsBeside, StepsOn}
+use Rattle.yaml_round_compare.specs.Differences.{saying, TellsOf, TellsParting}
+use Rattle.yaml_round_compare.specs.Compare.{normalized, TellsShown, JudgesEvents, AreApart, Parted, BothGoOn, StepsBeside, StepsOn}
 use Rattle.yaml_round_compare.proofs.Parting.{first_same}
 use Rattle.yaml_round_compare.proofs.Placing.{heads}
 use Rattle.yaml_round_content.proofs.Injective.{rest_same}
@@ -45,13 +46,23 @@ same_type (event.mapping_start anchor tag implicit style) = refl
 same_type event.mapping_end = refl
 
 -- what says of normalized events says of the events
-pub tells_of : (e f shown other : Event) (d : yaml_difference_t) → shown ≡ normalized e
+told_of : (e f shown other : Event) (d : yaml_difference_t) → shown ≡ normalized e
     → other ≡ normalized f → TellsOf shown other d → TellsOf e f d
-tells_of e f shown other d p q t = record {
+told_of e f shown other d p q t = record {
   first_mark = t.first_mark ∙ ap (λ (x : Event). x.start_mark) p;
+  first_end = t.first_end ∙ ap (λ (x : Event). x.end_mark) p;
   first_type = t.first_type ∙ ap (λ (x : Event). type_of x.body) p ∙ same_type e.body;
   second_mark = t.second_mark ∙ ap (λ (x : Event). x.start_mark) q;
+  second_end = t.second_end ∙ ap (λ (x : Event). x.end_mark) q;
   second_type = t.second_type ∙ ap (λ (x : Event). type_of x.body) q ∙ same_type f.body;
+}
+
+pub tells_of : (e f shown other : Event) (d : yaml_difference_t) → shown ≡ normalized e
+    → other ≡ normalized f → TellsShown shown other d
+    → TellsParting e f (saying e.body) (saying f.body) d
+tells_of e f shown other d p q t = record {
+  tells = told_of e f shown other d p q t.tells;
+  cause = t.cause ∙ ap (λ (x : Event). cause_of (content_of x.body) (content_of other.body)) p ∙ ap (λ (x : Event). cause_of (saying e.body) (content_of x.body)) q;
 }
 
 scalar_past : (lone : Bool) (anchor tag : Option (List ℕ)) (text : List ℕ) (plain quoted : Bool)
@@ -128,7 +139,7 @@ beside first first_new second second_new e (Refused Second) g b = (b, (g.ending,
 -- the second's event says something else
 pub apart_from : (e f shown other : Event) (xs ys second : List Told) (n m : ℕ)
     (d : yaml_difference_t) → shown ≡ normalized e → other ≡ normalized f
-    → second ≡ (f, m) ∷ ys → (saying e.body ≡ saying f.body → ⊥) → TellsOf shown other d
+    → second ≡ (f, m) ∷ ys → (saying e.body ≡ saying f.body → ⊥) → TellsShown shown other d
     → AreApart ((e, n) ∷ xs) second d
 apart_from e f shown other xs ys second n m d p q s differ t =
     subst (λ (zs : List Told). AreApart ((e, n) ∷ xs) zs d) (sym s) (differ, tells_of e f shown other d p q t)

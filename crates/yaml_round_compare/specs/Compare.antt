@@ -12,15 +12,21 @@ use Rattle.yaml_round_compare.specs.declared.compare.Next.{Next}
 use Rattle.yaml_round_compare.specs.declared.compare.Next.TheVariants.{Same, End, Different, Refused}
 use Rattle.yaml_round_compare.specs.declared.difference.yaml_difference_t.{yaml_difference_t}
 use Rattle.yaml_round_compare.specs.declared.trail.Trail.{Trail}
+use Rattle.yaml_round_content.specs.Content.{content_of}
 use Rattle.yaml_round_content.specs.Normalize.{normalize_body}
 use Rattle.yaml_round_reading.specs.Reading.{contents, AreReal, IsFaultOf}
 use Rattle.yaml_round_compare.specs.Places.{path_of}
 use Rattle.yaml_round_compare.specs.Walking.{past}
-use Rattle.yaml_round_compare.specs.Differences.{saying, TellsOf}
+use Rattle.yaml_round_compare.specs.Differences.{saying, TellsParting}
 
 -- the event as it is compared
 abbrev pub normalized : Event → Event
 normalized e = record e { body = normalize_body true e.body }
+
+-- it says of two normalized events, and in what they differ
+abbrev pub TellsShown : Event → Event → yaml_difference_t → Type 0
+TellsShown shown other d = TellsParting shown other (content_of shown.body) (content_of other.body)
+    d
 
 abbrev pub JudgesEvents : EventBody → EventBody → Next → Type 0
 JudgesEvents e f Same = saying e ≡ saying f
@@ -39,7 +45,8 @@ abbrev pub AreApart : List Told → List Told → yaml_difference_t → Type 0
 AreApart [] [] d = ⊥
 AreApart [] (f ∷ fs) d = Unit {0}
 AreApart (e ∷ es) [] d = Unit {0}
-AreApart (e ∷ es) (f ∷ fs) d = (saying e.0.body ≡ saying f.0.body → ⊥) × TellsOf e.0 f.0 d
+AreApart (e ∷ es) (f ∷ fs) d = (saying e.0.body ≡ saying f.0.body → ⊥)
+    × TellsParting e.0 f.0 (saying e.0.body) (saying f.0.body) d
 
 -- After fronts that say the same the events are apart. Where it is kept, the path is that after these fronts.
 pub record Parted (kept : Bool) (first second : List Told) (old new : Trail) : Type 0 where
@@ -90,7 +97,7 @@ pub record DifferNext (first second : ParserRemaining) (first_new second_new : R
   where
     pub contents : Differ first second first_new.parser second_new.parser
     pub apart : (d : yaml_difference_t)
-        → TellsOf (event_of first_new.event) (event_of second_new.event) d
+        → TellsShown (event_of first_new.event) (event_of second_new.event) d
         → AreApart first.events second.events d
 
 -- the fault of a side; where the second is refused, the first's is still to come
@@ -117,7 +124,7 @@ pub record DiffersBeside (e : Event) (second : ParserRemaining) (shown : Event)
   pub ending : second_new.parser.ending ≡ second.ending
   pub differ : (rest : List EventBody) → contents second.events ≡ saying e.body ∷ rest → ⊥
   pub apart : (unasked : ℕ) (rest : List Told) (d : yaml_difference_t)
-      → TellsOf shown (event_of second_new.event) d
+      → TellsShown shown (event_of second_new.event) d
       → AreApart ((e, unasked) ∷ rest) second.events d
 
 -- the second has events to come

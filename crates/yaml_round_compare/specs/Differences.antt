@@ -12,21 +12,30 @@ use Rattle.yaml_round_reading.specs.declared.side.yaml_side_t.{yaml_side_t}
 use Rattle.yaml_round_reading.specs.Reading.{contents}
 use Rattle.yaml_round_reading.specs.Answers.{SameContent, IsSideStarved, IsSideFaulty}
 use Rattle.yaml_round_compare.specs.declared.difference.yaml_difference_t.{yaml_difference_t}
+use Rattle.yaml_round_compare.specs.Causes.{cause_of}
 use Rattle.yaml_round_compare.specs.Places.{StreamPosition, position_says, path_to, path_of}
 
 -- what an event says, normalized
 abbrev pub saying : EventBody → EventBody
 saying e = content_of (normalize_body true e)
 
--- it says where the events begin and what they are
+-- it says where the events begin and end, and what they are
 pub record TellsOf (first second : Event) (d : yaml_difference_t) : Type 0 where
   pub first_mark : d.first_mark ≡ first.start_mark
+  pub first_end : d.first_end ≡ first.end_mark
   pub first_type : d.first_type ≡ type_of first.body
   pub second_mark : d.second_mark ≡ second.start_mark
+  pub second_end : d.second_end ≡ second.end_mark
   pub second_type : d.second_type ≡ type_of second.body
 
+-- and in what they differ, by what they say
+pub record TellsParting (first second : Event) (said other_said : EventBody)
+    (d : yaml_difference_t) : Type 0 where
+  pub tells : TellsOf first second d
+  pub cause : d.cause ≡ cause_of said other_said
+
 -- Both inputs are accepted. The events in front say the same, and are what stands before a place; the next ones
--- don't. It says where these begin, what they are, and the path to that place.
+-- don't. It says where these begin and end, what they are, in what they differ, and the path to that place.
 pub record IsParting (a_from : yaml_encoding_t) (a : List ℕ) (b_from : yaml_encoding_t)
     (b : List ℕ) (d : yaml_difference_t) : Type 0 where
   pub before : List Told
@@ -40,6 +49,7 @@ pub record IsParting (a_from : yaml_encoding_t) (a : List ℕ) (b_from : yaml_en
   pub alike : contents before ≡ contents other_before
   pub differ : saying next.0.body ≡ saying other_next.0.body → ⊥
   pub tells : TellsOf next.0 other_next.0 d
+  pub cause : d.cause ≡ cause_of (saying next.0.body) (saying other_next.0.body)
   pub place : StreamPosition
   pub in_front : contents before ≡ position_says place []
   pub path : path_of d ≡ path_to place

@@ -2,15 +2,13 @@
 use Rattle.std.specs.Prelude.{◌≡◌, ◌<◌, ℕ, suc, ◌+◌, Bool, true, false, List, [], ◌∷◌, ◌++◌, length, map, Option, Some, None, Result, Ok, Err}
 use Rattle.std.specs.declared.alloc.AllocError.{AllocError}
 use Rattle.yaml_parse.specs.declared.yaml_encoding_t.{yaml_encoding_t}
-use Rattle.yaml_parse.specs.declared.yaml_mark_t.{yaml_mark_t}
 use Rattle.yaml_parse.specs.declared.yaml_fault_t.{yaml_fault_t}
 use Rattle.yaml_parse.specs.Faults.{Fault}
 use Rattle.yaml_round_content.specs.scan_model.declared.yaml_encoding_t.TheVariants.{YAML_ANY_ENCODING}
 use Rattle.yaml_round_content.specs.scan_model.declared.yaml_scalar_style_t.TheVariants.{YAML_ANY_SCALAR_STYLE}
 use Rattle.yaml_round_content.specs.scan_model.declared.yaml_sequence_style_t.TheVariants.{YAML_ANY_SEQUENCE_STYLE}
 use Rattle.yaml_round_content.specs.scan_model.declared.yaml_mapping_style_t.TheVariants.{YAML_ANY_MAPPING_STYLE}
-use Rattle.yaml_parse.specs.declared.yaml_event_type_t.{yaml_event_type_t}
-use Rattle.yaml_parse.specs.Events.{EventBody, event_of, type_of}
+use Rattle.yaml_parse.specs.Events.{Event, EventBody, event_of, type_of}
 use Rattle.yaml_parse.specs.Events as event
 use Rattle.yaml_parse.specs.Documents.{Document}
 use Rattle.yaml_parse.specs.Resolve.{Told}
@@ -30,6 +28,9 @@ use Rattle.yaml_round_compare.specs.declared.documents.Turn.{Turn}
 use Rattle.yaml_round_compare.specs.declared.documents.Turn.TheVariants.{Same, End, Different}
 use Rattle.yaml_round_compare.specs.declared.dump.Dump.{Dump}
 use Rattle.yaml_round_compare.specs.declared.front.Front.{Front}
+use Rattle.yaml_round_compare.specs.declared.cause.yaml_cause_t.{yaml_cause_t}
+use Rattle.yaml_round_compare.specs.declared.seen.Seen.{Seen}
+use Rattle.yaml_round_compare.specs.Causes.{cause_of}
 use Rattle.yaml_round_compare.specs.Places.{path_of}
 use Rattle.yaml_round_compare.specs.Walking.{past, past_event, start}
 use Rattle.yaml_round_compare.specs.Differences.{TellsOf}
@@ -101,11 +102,23 @@ pub record GivesBeside (first second second_new : Dump) : Type 0 where
   pub events : dump_left second ≡ in_slot first ∷ dump_left second_new
   pub dump : IsDump second_new
 
+-- it is that of the next events, where there are both
+abbrev pub IsCauseOf : yaml_cause_t → Option EventBody → Option EventBody → Type 0
+IsCauseOf c (Some a) (Some b) = c ≡ cause_of a b
+IsCauseOf c None _ = Unit {0}
+IsCauseOf c _ None = Unit {0}
+
+-- they don't give the same next event; where both give one, these stand in the slots
+pub record DiffersInSlots (first second : Option EventBody) (first_new second_new : Dump) : Type 0
+  where
+    pub differ : first ≡ second → ⊥
+    pub cause : IsCauseOf (cause_of (in_slot first_new) (in_slot second_new)) first second
+
 abbrev pub TurnsBeside : Dump → Dump → Result Turn AllocError → Dump → Type 0
 TurnsBeside first second (Ok Same) second_new = GivesBeside first second second_new
 TurnsBeside first second (Ok End) second_new = ⊥
-TurnsBeside first second (Ok Different) second_new = Some (in_slot first)
-    ≡ next_of (dump_left second) → ⊥
+TurnsBeside first second (Ok Different) second_new = DiffersInSlots (Some (in_slot first))
+    (next_of (dump_left second)) first second_new
 TurnsBeside first second (Err e) second_new = Unit {0}
 
 abbrev pub TurnsAlone : Dump → Result Turn AllocError → Type 0
@@ -118,8 +131,8 @@ abbrev pub TurnsOn : Dump → Dump → Result Turn AllocError → Dump → Dump 
 TurnsOn first second (Ok Same) first_new second_new = BothGive first second first_new second_new
 TurnsOn first second (Ok End) first_new second_new = (dump_left first ≡ [])
     × (dump_left second ≡ [])
-TurnsOn first second (Ok Different) first_new second_new = next_of (dump_left first)
-    ≡ next_of (dump_left second) → ⊥
+TurnsOn first second (Ok Different) first_new second_new = DiffersInSlots
+    (next_of (dump_left first)) (next_of (dump_left second)) first_new second_new
 TurnsOn first second (Err e) first_new second_new = Unit {0}
 
 -- ---- what stands in front
@@ -134,6 +147,18 @@ pub record PassesEvent (e : EventBody) (old new : Front) : Type 0 where
   pub path : path_of new.trail.place ≡ past_event e (path_of old.trail.place)
   pub events : new.events ≡ suc old.events
 
+-- nothing was passed, and it is told in what two events differ
+pub record PartsFront (a b : EventBody) (old new : Front) : Type 0 where
+  pub path : path_of new.trail.place ≡ path_of old.trail.place
+  pub events : new.events ≡ old.events
+  pub cause : new.trail.place.cause ≡ cause_of a b
+
+-- nothing was passed, and that is told
+pub record EndsFront (c : yaml_cause_t) (old new : Front) : Type 0 where
+  pub path : path_of new.trail.place ≡ path_of old.trail.place
+  pub events : new.events ≡ old.events
+  pub cause : new.trail.place.cause ≡ c
+
 -- both begin with the same events, which were passed, and that is left
 pub record GoesPast (first second first_left second_left : List EventBody) (old new : Front)
     : Type 0 where
@@ -143,12 +168,13 @@ pub record GoesPast (first second first_left second_left : List EventBody) (old 
   pub path : path_of new.trail.place ≡ past before (path_of old.trail.place)
   pub events : new.events ≡ old.events + length before
 
--- and then not
+-- and then not; it is told in what these differ
 pub record PartsBehind (first second : List EventBody) (old new : Front) : Type 0 where
   pub left : List EventBody
   pub other_left : List EventBody
   pub past : GoesPast first second left other_left old new
   pub differ : next_of left ≡ next_of other_left → ⊥
+  pub cause : IsCauseOf new.trail.place.cause (next_of left) (next_of other_left)
 
 abbrev pub Compares : List EventBody → List EventBody → Front → Result Bool AllocError → Front
     → Type 0
@@ -164,18 +190,27 @@ ComparesAll first second old (Err e) new = Unit {0}
 
 -- ---- the inputs' events
 
--- where the event of that number begins, and what it is; or the fault of the reading
-abbrev pub FindsEvent : ℕ → List Told → Option Fault
-    → Result (yaml_mark_t × yaml_event_type_t) yaml_fault_t → Type 0
-FindsEvent n events ending (Ok found) = (found.0 ≡ (event_at events n).start_mark)
-    × (found.1 ≡ type_of (event_at events n).body)
+-- where the event of that number begins and ends, and what it is; or the fault of the reading
+pub record IsSeen (found : Seen) (e : Event) : Type 0 where
+  pub start : found.start ≡ e.start_mark
+  pub end : found.end ≡ e.end_mark
+  pub kind : found.kind ≡ type_of e.body
+
+abbrev pub FindsEvent : ℕ → List Told → Option Fault → Result Seen yaml_fault_t → Type 0
+FindsEvent n events ending (Ok found) = IsSeen found (event_at events n)
 FindsEvent n events ending (Err f) = IsFaultOf ending f
 
--- it says of both inputs' events after the front, and the path after it; or the fault of a reading
+-- it says of both inputs' events after the front, in what the dumps differ, and the path after the front
+pub record TellsBehind (first second : Event) (front : Front) (d : yaml_difference_t) : Type 0 where
+  pub tells : TellsOf first second d
+  pub path : path_of d ≡ path_of front.trail.place
+  pub cause : d.cause ≡ front.trail.place.cause
+
+-- the same of the inputs' events; or the fault of a reading
 abbrev pub TellsOfInputs : yaml_encoding_t → List ℕ → yaml_encoding_t → List ℕ → Front
     → Result yaml_difference_t (yaml_side_t × yaml_fault_t) → Type 0
-TellsOfInputs a_from a b_from b front (Ok d) = TellsOf (event_at (events_of a_from a) front.events)
-    (event_at (events_of b_from b) front.events) d
-    × (path_of d ≡ path_of front.trail.place)
+TellsOfInputs a_from a b_from b front (Ok d) = TellsBehind
+    (event_at (events_of a_from a) front.events) (event_at (events_of b_from b) front.events)
+    front d
 TellsOfInputs a_from a b_from b front (Err (First, f)) = IsFaultOf (ending_of a_from a) f
 TellsOfInputs a_from a b_from b front (Err (Second, f)) = IsFaultOf (ending_of b_from b) f

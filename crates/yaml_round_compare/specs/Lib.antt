@@ -1,4 +1,5 @@
 pub mod Places
+pub mod Causes
 pub mod Differences
 pub mod Walking
 pub mod Compare

@@ -16,6 +16,7 @@ use Rattle.yaml_round_content.specs.PlainLoading.{PlainLoading}
 use Rattle.yaml_round_reading.specs.declared.side.yaml_side_t.{yaml_side_t}
 use Rattle.yaml_round_reading.specs.declared.side.yaml_side_t.TheVariants.{First, Second}
 use Rattle.yaml_round_compare.specs.declared.difference.yaml_difference_t.{yaml_difference_t}
+use Rattle.yaml_round_compare.specs.Causes.{next_cause}
 use Rattle.yaml_round_compare.specs.Places.{StreamPosition, position_says, path_to, path_of}
 use Rattle.yaml_round_compare.specs.Differences.{TellsOf}
 
@@ -48,7 +49,8 @@ pub record SameDocuments (a_from : yaml_encoding_t) (a : List ℕ) (b_from : yam
   pub agree : AreAgreeing first second
 
 -- Both inputs load, and their documents don't agree. What stands before a place is the same in their dumps, and what is
--- next isn't. It says of the inputs' events after as many, where these begin and what they are, and the path to that place.
+-- next isn't. It tells in what that differs, of the inputs' events after as many where these begin and end and what they are,
+-- and the path to that place.
 pub record IsDocumentsParting (a_from : yaml_encoding_t) (a : List ℕ) (b_from : yaml_encoding_t)
     (b : List ℕ) (d : yaml_difference_t) : Type 0 where
   pub first : List Document
@@ -62,6 +64,7 @@ pub record IsDocumentsParting (a_from : yaml_encoding_t) (a : List ℕ) (b_from 
   pub first_says : dumps_say first ≡ before ++ left
   pub second_says : dumps_say second ≡ before ++ other_left
   pub differ : next_of left ≡ next_of other_left → ⊥
+  pub cause : d.cause ≡ next_cause (next_of left) (next_of other_left)
   pub tells : TellsOf (event_at (events_of a_from a) (length before))
       (event_at (events_of b_from b) (length before)) d
   pub place : StreamPosition

@@ -1,7 +1,11 @@
 //! Whether events say the same.
 
-ghost use Rattle.std.specs.Prelude.{◌≡◌, ◌↔◌, IsTrue, map};
-ghost use Rattle.yaml_parse.specs.Events.{event_of, text_of, directive_of};
+ghost use Rattle.std.specs.Prelude.{◌≡◌, ◌↔◌, IsTrue, true, false, map};
+ghost use Rattle.yaml_parse.specs.Events.{body_of, event_of, text_of, directive_of};
+ghost use Rattle.yaml_parse.specs.Events as event;
+ghost use Rattle.yaml_round_content.specs.scan_model.declared.yaml_scalar_style_t.TheVariants.{YAML_ANY_SCALAR_STYLE};
+ghost use Rattle.yaml_round_content.specs.scan_model.declared.yaml_sequence_style_t.TheVariants.{YAML_ANY_SEQUENCE_STYLE};
+ghost use Rattle.yaml_round_content.specs.scan_model.declared.yaml_mapping_style_t.TheVariants.{YAML_ANY_MAPPING_STYLE};
 ghost use Rattle.yaml_round_content.specs.Content.{content_of, counts_as_plain};
 
 use yaml_parse::{yaml_event_body_t, yaml_event_t, yaml_tag_directive_t, yaml_version_directive_t};
@@ -55,8 +59,104 @@ fn same_flag(tag: &Option<Vec<u8>>, a: bool, b: bool) -> bool
     }
 }
 
-/// Whether two normalized events say the same: styles and document marks aside, and of a tagged scalar the flags. It is long
-/// because it has an arm for each kind of event.
+// Whether that starts a document with the same directives.
+// In line, as the loop that compares.
+#[inline(always)]
+fn is_document_start(
+    body: &yaml_event_body_t,
+    version: &Option<yaml_version_directive_t>,
+    directives: &[yaml_tag_directive_t],
+) -> bool
+    ensures { IsTrue result ↔ (event.document_start version.now (map directive_of directives.now)
+        true ≡ content_of (body_of body.now)) }
+{
+    match body {
+        yaml_event_body_t::DocumentStart {
+            version_directive,
+            tag_directives,
+            ..
+        } => same_version(version, version_directive)
+            && same_directives(directives, tag_directives),
+        _ => false,
+    }
+}
+
+// Whether that is an alias of the same name.
+// In line, as the loop.
+#[inline(always)]
+fn is_alias(body: &yaml_event_body_t, name: &[u8]) -> bool
+    ensures { IsTrue result ↔ (event.alias name.now ≡ content_of (body_of body.now)) }
+{
+    match body {
+        yaml_event_body_t::Alias { anchor } => name == anchor.as_slice(),
+        _ => false,
+    }
+}
+
+// Whether that is a scalar with the same anchor, tag, text and flag.
+// In line, as the loop.
+#[inline(always)]
+fn is_scalar(
+    body: &yaml_event_body_t,
+    anchor: &Option<Vec<u8>>,
+    tag: &Option<Vec<u8>>,
+    value: &[u8],
+    plain: bool,
+) -> bool
+    ensures { IsTrue result ↔ (event.scalar (text_of anchor.now) (text_of tag.now) value.now
+        (counts_as_plain (text_of tag.now) plain) false YAML_ANY_SCALAR_STYLE
+        ≡ content_of (body_of body.now)) }
+{
+    match body {
+        yaml_event_body_t::Scalar {
+            anchor: y,
+            tag: u,
+            value: w,
+            plain_implicit: q,
+            ..
+        } => same_text(anchor, y)
+            && same_text(tag, u)
+            && value == w.as_slice()
+            && same_flag(tag, plain, *q),
+        _ => false,
+    }
+}
+
+// Whether that starts a sequence with the same anchor and tag.
+// In line, as the loop.
+#[inline(always)]
+fn is_sequence(body: &yaml_event_body_t, anchor: &Option<Vec<u8>>, tag: &Option<Vec<u8>>) -> bool
+    ensures { IsTrue result ↔ (event.sequence_start (text_of anchor.now) (text_of tag.now) true
+        YAML_ANY_SEQUENCE_STYLE ≡ content_of (body_of body.now)) }
+{
+    match body {
+        yaml_event_body_t::SequenceStart {
+            anchor: y,
+            tag: u,
+            ..
+        } => same_text(anchor, y) && same_text(tag, u),
+        _ => false,
+    }
+}
+
+// Whether that starts a mapping with the same anchor and tag.
+// In line, as the loop.
+#[inline(always)]
+fn is_mapping(body: &yaml_event_body_t, anchor: &Option<Vec<u8>>, tag: &Option<Vec<u8>>) -> bool
+    ensures { IsTrue result ↔ (event.mapping_start (text_of anchor.now) (text_of tag.now) true
+        YAML_ANY_MAPPING_STYLE ≡ content_of (body_of body.now)) }
+{
+    match body {
+        yaml_event_body_t::MappingStart {
+            anchor: y,
+            tag: u,
+            ..
+        } => same_text(anchor, y) && same_text(tag, u),
+        _ => false,
+    }
+}
+
+/// Whether two normalized events say the same: styles and document marks aside, and of a tagged scalar the flags.
 // In line, as the loop that compares.
 #[inline(always)]
 pub(crate) fn agree(a: &yaml_event_t, b: &yaml_event_t) -> bool
@@ -72,53 +172,29 @@ pub(crate) fn agree(a: &yaml_event_t, b: &yaml_event_t) -> bool
         | (yaml_event_body_t::MappingEnd, yaml_event_body_t::MappingEnd) => true,
         (
             yaml_event_body_t::DocumentStart {
-                version_directive: v,
-                tag_directives: d,
+                version_directive: version,
+                tag_directives,
                 ..
             },
-            yaml_event_body_t::DocumentStart {
-                version_directive: w,
-                tag_directives: e,
-                ..
-            },
-        ) => same_version(v, w) && same_directives(d, e),
-        (yaml_event_body_t::Alias { anchor: x }, yaml_event_body_t::Alias { anchor: y }) =>
-            x.as_slice() == y.as_slice(),
+            body,
+        ) => is_document_start(body, version, tag_directives),
+        (yaml_event_body_t::Alias { anchor }, body) => is_alias(body, anchor),
         (
             yaml_event_body_t::Scalar {
                 anchor,
                 tag,
                 value,
-                plain_implicit: p,
+                plain_implicit,
                 ..
             },
-            yaml_event_body_t::Scalar {
-                anchor: y,
-                tag: u,
-                value: w,
-                plain_implicit: q,
-                ..
-            },
-        ) => same_text(anchor, y)
-            && same_text(tag, u)
-            && value.as_slice() == w.as_slice()
-            && same_flag(tag, *p, *q),
-        (
-            yaml_event_body_t::SequenceStart { anchor, tag, .. },
-            yaml_event_body_t::SequenceStart {
-                anchor: y,
-                tag: u,
-                ..
-            },
-        )
-        | (
-            yaml_event_body_t::MappingStart { anchor, tag, .. },
-            yaml_event_body_t::MappingStart {
-                anchor: y,
-                tag: u,
-                ..
-            },
-        ) => same_text(anchor, y) && same_text(tag, u),
+            body,
+        ) => is_scalar(body, anchor, tag, value, *plain_implicit),
+        (yaml_event_body_t::SequenceStart { anchor, tag, .. }, body) => {
+            is_sequence(body, anchor, tag)
+        }
+        (yaml_event_body_t::MappingStart { anchor, tag, .. }, body) => {
+            is_mapping(body, anchor, tag)
+        }
         _ => false,
     }
 }

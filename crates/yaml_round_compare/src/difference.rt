@@ -1,5 +1,6 @@
 //! Where the contents of two inputs part.
 
+use crate::cause::yaml_cause_t;
 use yaml_parse::{yaml_event_type_t, yaml_mark_t};
 
 /// A step of a path, into a collection that is open at the place.
@@ -22,10 +23,16 @@ pub struct yaml_difference_t {
     pub path: Vec<yaml_step_t>,
     /// Where the first input's event begins.
     pub first_mark: yaml_mark_t,
+    /// Where it ends.
+    pub first_end: yaml_mark_t,
     /// Where the second input's event begins.
     pub second_mark: yaml_mark_t,
+    /// Where it ends.
+    pub second_end: yaml_mark_t,
     /// What the first input's event is.
     pub first_type: yaml_event_type_t,
     /// What the second input's event is.
     pub second_type: yaml_event_type_t,
+    /// In what they differ.
+    pub cause: yaml_cause_t,
 }

@@ -2,6 +2,7 @@
 
 ghost use Rattle.yaml_round_compare.specs.Dumps.{IsDump, AreDumps, TurnsBeside, TurnsAlone, TurnsOn, Compares, ComparesAll, document_says, dump_left, documents_left};
 
+use crate::cause::yaml_cause_t;
 use crate::content::agree;
 use crate::dump::Dump;
 use crate::front::Front;
@@ -70,7 +71,10 @@ fn same_dumps(first: &mut Dump, second: &mut Dump, front: &mut Front) -> Result<
         match turned(first, second) {
             Err(refusal) => return Err(refusal),
             Ok(Turn::End) => return Ok(true),
-            Ok(Turn::Different) => return Ok(false),
+            Ok(Turn::Different) => {
+                front.part_at(&first.event, &second.event);
+                return Ok(false);
+            }
             Ok(Turn::Same) => match front.pass(&mut first.event) {
                 Ok(()) => {}
                 Err(refusal) => return Err(refusal),
@@ -125,10 +129,16 @@ pub fn same_documents(
         match first.pop_front() {
             None => match second.pop_front() {
                 None => return Ok(true),
-                Some(_) => return Ok(false),
+                Some(_) => {
+                    front.end_at(yaml_cause_t::OnlySecond);
+                    return Ok(false);
+                }
             },
             Some(document) => match second.pop_front() {
-                None => return Ok(false),
+                None => {
+                    front.end_at(yaml_cause_t::OnlyFirst);
+                    return Ok(false);
+                }
                 Some(other) => match same_document(alloc, document, other, front) {
                     Ok(true) => {}
                     Ok(false) => return Ok(false),

@@ -2,8 +2,10 @@
 
 ghost use Rattle.std.specs.Prelude.{◌≡◌, OnOk};
 ghost use Rattle.yaml_parse.specs.Events.{event_of};
-ghost use Rattle.yaml_round_compare.specs.Dumps.{IsStarted, PassesEvent};
+ghost use Rattle.yaml_round_content.specs.Content.{content_of};
+ghost use Rattle.yaml_round_compare.specs.Dumps.{EndsFront, IsStarted, PartsFront, PassesEvent};
 
+use crate::cause::yaml_cause_t;
 use crate::trail::{Trail, one_more};
 use std::alloc::{AllocError, Global};
 use yaml_parse::yaml_event_t;
@@ -37,5 +39,20 @@ impl Front {
                 self.trail.go_past(event, true)
             }
         }
+    }
+
+    // The dumps differ there by these events.
+    pub(crate) fn part_at(&mut self, first: &yaml_event_t, second: &yaml_event_t)
+        ensures { PartsFront (content_of (event_of first.now).body)
+            (content_of (event_of second.now).body) self.old self.new }
+    {
+        self.trail.part_at(first, second);
+    }
+
+    // One of both is at its end there.
+    pub(crate) fn end_at(&mut self, cause: yaml_cause_t)
+        ensures { EndsFront cause self.old self.new }
+    {
+        self.trail.place.cause = cause;
     }
 }

@@ -1,6 +1,7 @@
 //! The comparison of two inputs' contents.
 #![tactic(auto)]
 
+mod cause;
 mod compare;
 mod content;
 mod difference;
@@ -10,6 +11,7 @@ mod front;
 mod seen;
 mod trail;
 
+pub use cause::yaml_cause_t;
 pub use compare::same_as;
 pub use difference::{yaml_difference_t, yaml_step_t};
 pub use documents::same_documents;

@@ -13,11 +13,16 @@ use yaml_round_reading::{
     ReadText, Reading, let_go, let_text_go, read_text, reading_of, yaml_side_t,
 };
 
-// Where the event of that number begins, from 0, and what it is; no event at no place after the last.
-fn found_at(
-    reading: &mut Reading<'_>,
-    number: u64,
-) -> Result<(yaml_mark_t, yaml_event_type_t), yaml_fault_t>
+/// Where an event begins and ends, and what it is.
+#[derive(Clone, Copy)]
+pub(crate) struct Seen {
+    start: yaml_mark_t,
+    end: yaml_mark_t,
+    kind: yaml_event_type_t,
+}
+
+// The event of that number, from 0; no event at no place after the last.
+fn found_at(reading: &mut Reading<'_>, number: u64) -> Result<Seen, yaml_fault_t>
     requires { AreReal reading.old.parser.events }
     ensures { FindsEvent number reading.old.parser.events reading.old.parser.ending result }
 {
@@ -31,11 +36,19 @@ fn found_at(
                     line: 0,
                     column: 0,
                 };
-                return Ok((zero, yaml_event_type_t::YAML_NO_EVENT));
+                return Ok(Seen {
+                    start: zero,
+                    end: zero,
+                    kind: yaml_event_type_t::YAML_NO_EVENT,
+                });
             }
             yaml_found_t::Event => {
                 if left == 0 {
-                    return Ok((reading.event.start_mark, reading.event.type_()));
+                    return Ok(Seen {
+                        start: reading.event.start_mark,
+                        end: reading.event.end_mark,
+                        kind: reading.event.type_(),
+                    });
                 }
                 left -= 1;
             }
@@ -44,11 +57,7 @@ fn found_at(
 }
 
 // The same of an input's text.
-fn seen_in(
-    alloc: Global,
-    text: &ReadText<'_>,
-    number: u64,
-) -> Result<(yaml_mark_t, yaml_event_type_t), yaml_fault_t>
+fn seen_in(alloc: Global, text: &ReadText<'_>, number: u64) -> Result<Seen, yaml_fault_t>
     ensures { FindsEvent number (events_of text.now.from text.now.bytes)
         (ending_of text.now.from text.now.bytes) result }
 {
@@ -68,7 +77,7 @@ fn seen_at(
     input: &[u8],
     from: yaml_encoding_t,
     number: u64,
-) -> Result<(yaml_mark_t, yaml_event_type_t), yaml_fault_t>
+) -> Result<Seen, yaml_fault_t>
     ensures { FindsEvent number (events_of from input.now) (ending_of from input.now) result }
 {
     let text = read_text(alloc, input, from);
@@ -78,23 +87,23 @@ fn seen_at(
 }
 
 // The place, told of these two events.
-fn placed(
-    place: yaml_difference_t,
-    first: (yaml_mark_t, yaml_event_type_t),
-    second: (yaml_mark_t, yaml_event_type_t),
-) -> yaml_difference_t
+fn placed(place: yaml_difference_t, first: Seen, second: Seen) -> yaml_difference_t
     ensures { result ≡ record place {
-      first_mark = first.0;
-      first_type = first.1;
-      second_mark = second.0;
-      second_type = second.1;
+      first_mark = first.start;
+      first_end = first.end;
+      first_type = first.kind;
+      second_mark = second.start;
+      second_end = second.end;
+      second_type = second.kind;
     } }
 {
     yaml_difference_t {
-        first_mark: first.0,
-        first_type: first.1,
-        second_mark: second.0,
-        second_type: second.1,
+        first_mark: first.start,
+        first_end: first.end,
+        first_type: first.kind,
+        second_mark: second.start,
+        second_end: second.end,
+        second_type: second.kind,
         ..place
     }
 }

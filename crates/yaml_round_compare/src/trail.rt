@@ -2,10 +2,12 @@
 
 ghost use Rattle.std.specs.Prelude.{◌≡◌, ◌∷◌, true, suc, OnOk, IfOk};
 ghost use Rattle.yaml_parse.specs.Events.{event_of, text_of};
-ghost use Rattle.yaml_round_compare.specs.Differences.{TellsOf};
+ghost use Rattle.yaml_round_content.specs.Content.{content_of};
+ghost use Rattle.yaml_round_compare.specs.Differences.{TellsParting};
 ghost use Rattle.yaml_round_compare.specs.Places.{path_of, step_of, steps_of};
 ghost use Rattle.yaml_round_compare.specs.Walking.{past_end, past_event, past_node, start, step_behind};
 
+use crate::cause::{cause_of, yaml_cause_t};
 use crate::difference::{yaml_difference_t, yaml_step_t};
 use std::alloc::{AllocError, Global};
 use std::mem;
@@ -131,9 +133,12 @@ impl Trail {
                 document: 0,
                 path: Vec::new(alloc),
                 first_mark: zero,
+                first_end: zero,
                 second_mark: zero,
+                second_end: zero,
                 first_type: yaml_event_type_t::YAML_NO_EVENT,
                 second_type: yaml_event_type_t::YAML_NO_EVENT,
+                cause: yaml_cause_t::Kind,
             },
             alloc,
         }
@@ -153,14 +158,19 @@ impl Trail {
         }
     }
 
-    // These events differ.
+    // These events, which are normalized, differ.
     pub(crate) fn part_at(&mut self, first: &yaml_event_t, second: &yaml_event_t)
-        ensures tells { TellsOf (event_of first.now) (event_of second.now) self.new.place }
+        ensures tells { TellsParting (event_of first.now) (event_of second.now)
+            (content_of (event_of first.now).body) (content_of (event_of second.now).body)
+            self.new.place }
         ensures path { path_of self.new.place ≡ path_of self.old.place }
     {
         self.place.first_mark = first.start_mark;
+        self.place.first_end = first.end_mark;
         self.place.first_type = first.type_();
         self.place.second_mark = second.start_mark;
+        self.place.second_end = second.end_mark;
         self.place.second_type = second.type_();
+        self.place.cause = cause_of(first, second);
     }
 }

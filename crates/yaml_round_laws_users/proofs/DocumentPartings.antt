@@ -6,8 +6,10 @@ use Rattle.yaml_round.specs.round_laws_documents.round_content.parse_model.Event
 use Rattle.yaml_round.specs.round_laws_documents.round_content.parse_laws_trees.parse_document.Documents.{Document}
 use Rattle.yaml_round.specs.round_laws_documents.round_content.Agree.{AreAgreeing}
 use Rattle.yaml_round_content.specs.Input.{events_of}
+use Rattle.yaml_round.specs.Causes.{next_cause}
 use Rattle.yaml_round.specs.Loaded.{dumps_say, next_of, event_at, SameDocuments, IsDocumentsParting}
-use Rattle.yaml_round_laws_users.specs.Partings.{TellTheSame, DocumentDiffsAgree, turned}
+use Rattle.yaml_round_laws_users.specs.Partings.{TellTheSame, DocumentDiffsAgree, turned, turned_cause}
+use Rattle.yaml_round_laws_users.proofs.Turning.{next_turned}
 use Rattle.yaml_round_laws_users.proofs.Limits.{same_loading}
 use Rattle.yaml_round_laws_users.proofs.Partings.{one_path}
 use Rattle.yaml_round_content.proofs.Injective.{rest_same}
@@ -36,6 +38,22 @@ same_front a_from b_from a b d e h k =
     (sym h.second_says ∙ sym (ap dumps_say (same_loading b_from b h.second k.second h.second_loads k.second_loads)) ∙ k.second_says)
     h.differ k.differ
 
+behind_same : (xs ys zs : List EventBody) → xs ++ ys ≡ xs ++ zs → ys ≡ zs
+behind_same [] ys zs e = e
+behind_same (x ∷ xs) ys zs e = behind_same xs ys zs (rest_same x x (xs ++ ys) (xs ++ zs) e)
+
+-- and what goes on is the same
+same_lefts : (a_from b_from : yaml_encoding_t) (a b : List ℕ) (d e : yaml_difference_t)
+    → (h : IsDocumentsParting a_from a b_from b d) → (k : IsDocumentsParting a_from a b_from b e)
+    → (h.left ≡ k.left) × (h.other_left ≡ k.other_left)
+same_lefts a_from b_from a b d e h k =
+    let f = same_front a_from b_from a b d e h k in (
+      behind_same h.before h.left k.left
+          (sym h.first_says ∙ sym (ap dumps_say (same_loading a_from a h.first k.first h.first_loads k.first_loads)) ∙ k.first_says ∙ ap (λ (x : List EventBody). x ++ k.left) (sym f)),
+      behind_same h.before h.other_left k.other_left
+          (sym h.second_says ∙ sym (ap dumps_say (same_loading b_from b h.second k.second h.second_loads k.second_loads)) ∙ k.second_says ∙ ap (λ (x : List EventBody). x ++ k.other_left) (sym f)),
+    )
+
 once : (a_from b_from : yaml_encoding_t) (a b : List ℕ) (d e : yaml_difference_t)
     → IsDocumentsParting a_from a b_from b d → IsDocumentsParting a_from a b_from b e
     → TellTheSame d e
@@ -43,12 +61,16 @@ once a_from b_from a b d e h k =
     let f = same_front a_from b_from a b d e h k in
     let first = events_of a_from a in
     let second = events_of b_from b in
+    let lefts = same_lefts a_from b_from a b d e h k in
     record {
       path = h.path ∙ one_path h.place k.place (sym h.in_front ∙ f ∙ k.in_front) ∙ sym k.path;
       first_mark = h.tells.first_mark ∙ ap (λ (es : List EventBody). (event_at first (length es)).start_mark) f ∙ sym k.tells.first_mark;
+      first_end = h.tells.first_end ∙ ap (λ (es : List EventBody). (event_at first (length es)).end_mark) f ∙ sym k.tells.first_end;
       first_type = h.tells.first_type ∙ ap (λ (es : List EventBody). type_of (event_at first (length es)).body) f ∙ sym k.tells.first_type;
       second_mark = h.tells.second_mark ∙ ap (λ (es : List EventBody). (event_at second (length es)).start_mark) f ∙ sym k.tells.second_mark;
+      second_end = h.tells.second_end ∙ ap (λ (es : List EventBody). (event_at second (length es)).end_mark) f ∙ sym k.tells.second_end;
       second_type = h.tells.second_type ∙ ap (λ (es : List EventBody). type_of (event_at second (length es)).body) f ∙ sym k.tells.second_type;
+      cause = h.cause ∙ ap (λ (es : List EventBody). next_cause (next_of es) (next_of h.other_left)) lefts.0 ∙ ap (λ (es : List EventBody). next_cause (next_of k.left) (next_of es)) lefts.1 ∙ sym k.cause;
     }
 
 other_way : (a_from b_from : yaml_encoding_t) (a b : List ℕ) (d : yaml_difference_t)
@@ -65,7 +87,15 @@ other_way a_from b_from a b d h = record {
   first_says = h.second_says;
   second_says = h.first_says;
   differ = λ e. h.differ (sym e);
-  tells = record { first_mark = h.tells.second_mark; first_type = h.tells.second_type; second_mark = h.tells.first_mark; second_type = h.tells.first_type };
+  cause = ap turned_cause h.cause ∙ sym (next_turned (next_of h.left) (next_of h.other_left));
+  tells = record {
+    first_mark = h.tells.second_mark;
+    first_end = h.tells.second_end;
+    first_type = h.tells.second_type;
+    second_mark = h.tells.first_mark;
+    second_end = h.tells.first_end;
+    second_type = h.tells.first_type;
+  };
   place = h.place;
   in_front = h.in_front;
   path = h.path;

@@ -4,6 +4,7 @@ mod Comparing
 mod Beginning
 mod Loads
 mod Limits
+mod Turning
 mod Partings
 mod DocumentPartings
 mod Fitting

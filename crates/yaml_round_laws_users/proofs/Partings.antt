@@ -9,11 +9,13 @@ use Rattle.yaml_round.specs.Reading.{contents}
 use Rattle.yaml_round.specs.Answers.{SameContent}
 use Rattle.yaml_round.specs.Places.{StreamPosition, position_says, path_to}
 use Rattle.yaml_round.specs.Walking.{past, start}
+use Rattle.yaml_round.specs.Causes.{cause_of}
 use Rattle.yaml_round.specs.Differences.{saying, IsParting}
 use Rattle.yaml_round.proofs.Pathing.{position_walked}
 use Rattle.yaml_round.proofs.Plain.{content_same, events_are}
-use Rattle.yaml_round_laws_users.specs.Partings.{TellTheSame, DiffsAgree, turned}
+use Rattle.yaml_round_laws_users.specs.Partings.{TellTheSame, DiffsAgree, turned, turned_cause}
 use Rattle.yaml_round_laws_users.proofs.Comparing as comparing
+use Rattle.yaml_round_laws_users.proofs.Turning.{cause_turned}
 
 -- ---- lists
 
@@ -94,9 +96,12 @@ once a_from b_from a b d e h k =
     record {
       path = h.path ∙ one_path h.place k.place (sym h.in_front ∙ r.0 ∙ k.in_front) ∙ sym k.path;
       first_mark = h.tells.first_mark ∙ ap (λ (t : Told). t.0.start_mark) r.1 ∙ sym k.tells.first_mark;
+      first_end = h.tells.first_end ∙ ap (λ (t : Told). t.0.end_mark) r.1 ∙ sym k.tells.first_end;
       first_type = h.tells.first_type ∙ ap (λ (t : Told). type_of t.0.body) r.1 ∙ sym k.tells.first_type;
       second_mark = h.tells.second_mark ∙ ap (λ (t : Told). t.0.start_mark) r.2 ∙ sym k.tells.second_mark;
+      second_end = h.tells.second_end ∙ ap (λ (t : Told). t.0.end_mark) r.2 ∙ sym k.tells.second_end;
       second_type = h.tells.second_type ∙ ap (λ (t : Told). type_of t.0.body) r.2 ∙ sym k.tells.second_type;
+      cause = h.cause ∙ ap (λ (t : Told). cause_of (say t) (say h.other_next)) r.1 ∙ ap (λ (t : Told). cause_of (say k.next) (say t)) r.2 ∙ sym k.cause;
     }
 
 other_way : (a_from b_from : yaml_encoding_t) (a b : List ℕ) (d : yaml_difference_t)
@@ -112,7 +117,15 @@ other_way a_from b_from a b d h = record {
   of_second = h.of_first;
   alike = sym h.alike;
   differ = λ e. h.differ (sym e);
-  tells = record { first_mark = h.tells.second_mark; first_type = h.tells.second_type; second_mark = h.tells.first_mark; second_type = h.tells.first_type };
+  cause = ap turned_cause h.cause ∙ sym (cause_turned (say h.next) (say h.other_next));
+  tells = record {
+    first_mark = h.tells.second_mark;
+    first_end = h.tells.second_end;
+    first_type = h.tells.second_type;
+    second_mark = h.tells.first_mark;
+    second_end = h.tells.first_end;
+    second_type = h.tells.first_type;
+  };
   place = h.place;
   in_front = sym h.alike ∙ h.in_front;
   path = h.path;

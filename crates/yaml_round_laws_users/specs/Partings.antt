@@ -2,26 +2,44 @@
 use Rattle.std.specs.Prelude.{◌≡◌, ℕ, Bool, true, false, List, Some, None, Ok}
 use Rattle.yaml_round.specs.declared.yaml_encoding_t.{yaml_encoding_t}
 use Rattle.yaml_round.specs.declared.yaml_difference_t.{yaml_difference_t}
+use Rattle.yaml_round.specs.declared.yaml_cause_t.{yaml_cause_t}
+use Rattle.yaml_round.specs.declared.yaml_cause_t.TheVariants.{OnlyFirst, OnlySecond, Kind, Directives, Value, Tag, Quotes, Anchor}
 use Rattle.yaml_round.specs.Answers.{IsCompared}
 use Rattle.yaml_round.specs.Places.{path_of}
 use Rattle.yaml_round.specs.Differences.{IsDiff, IsParting}
 use Rattle.yaml_round.specs.Loaded.{IsDocumentsDiff, IsDocumentsParting}
 
--- with the path, the marks and the kinds of the other
+-- with the path, the marks, the kinds and the cause of the other
 pub record TellTheSame (d e : yaml_difference_t) : Type 0 where
   pub path : path_of d ≡ path_of e
   pub first_mark : d.first_mark ≡ e.first_mark
+  pub first_end : d.first_end ≡ e.first_end
   pub first_type : d.first_type ≡ e.first_type
   pub second_mark : d.second_mark ≡ e.second_mark
+  pub second_end : d.second_end ≡ e.second_end
   pub second_type : d.second_type ≡ e.second_type
+  pub cause : d.cause ≡ e.cause
+
+abbrev pub turned_cause : yaml_cause_t → yaml_cause_t
+turned_cause OnlyFirst = OnlySecond
+turned_cause OnlySecond = OnlyFirst
+turned_cause Kind = Kind
+turned_cause Directives = Directives
+turned_cause Value = Value
+turned_cause Tag = Tag
+turned_cause Quotes = Quotes
+turned_cause Anchor = Anchor
 
 -- the same with the sides turned
 abbrev pub turned : yaml_difference_t → yaml_difference_t
 turned d = record d {
   first_mark = d.second_mark;
+  first_end = d.second_end;
   first_type = d.second_type;
   second_mark = d.first_mark;
+  second_end = d.first_end;
   second_type = d.first_type;
+  cause = turned_cause d.cause;
 }
 
 -- `yaml_diff` answers nothing exactly where `yaml_same` answers true. It has one answer, whichever input comes first.

@@ -1,6 +1,6 @@
 -- One event more was passed.
 use Rattle.yaml_parse.specs.Events.{event_of}
-use Rattle.yaml_round_compare.proofs.Dumping.{goes_on, goes_one}
+use Rattle.yaml_round_compare.proofs.Dumping.{goes_on, goes_one, parts_here}
 use Rattle.yaml_round_compare.proofs.documents.same_dumps.Goals as goal
 
 pub events-preserved : goal.events-preserved
@@ -11,3 +11,8 @@ events-preserved c =
       past = goes_on _ _ _ _ _ _ c.args.front.now c.events.front c.pass.new.self c.events.invariant.past
           (goes_one _ _ _ _ (event_of c.turned.new.first.event).body c.events.front c.pass.new.self b.first_events b.second_events c.in-Ok.ensures);
     }
+
+pub returns-in-Ok-Different : goal.returns-in-Ok-Different
+returns-in-Ok-Different c =
+    let d = rw c.in-Ok-Different.field-0-is at c.in-Ok-Different.ensures in
+    parts_here _ _ _ _ _ _ c.args.front.now c.events.front c.part_at.new.self c.events.invariant.past d.differ d.cause c.part_at.ensures

@@ -3,4 +3,4 @@ use Rattle.yaml_round_compare.proofs.Telling.{placed_tells}
 use Rattle.yaml_round_compare.proofs.seen.place_behind.Goals as goal
 
 pub returns-in-Ok-seen_at : goal.returns-in-Ok-seen_at
-returns-in-Ok-seen_at c = placed_tells c.args.front.trail.place c.placed.result c.in-Ok.first c.in-Ok-seen_at.second _ _ c.placed.ensures c.in-Ok.ensures c.in-Ok-seen_at.ensures
+returns-in-Ok-seen_at c = placed_tells c.args.front c.placed.result c.in-Ok.first c.in-Ok-seen_at.second _ _ c.placed.ensures c.in-Ok.ensures c.in-Ok-seen_at.ensures

@@ -55,7 +55,7 @@ impl<'a> yaml_token_source_t for yaml_adapter_t<'a> {
     fn next_token(&mut self) -> Result<yaml_token_t, yaml_fault_t> {
         let token = match yaml_parser_scan(&mut self.session) {
             Ok(token) => token,
-            Err(fault) => return Err(fault),
+            Err(refused) => return Err(refused),
         };
         if yaml_token_spells_text(&token) {
             return Ok(token);

@@ -1,12 +1,10 @@
 -- Before the first token: the input is decoded, or why it can't be.
-use Rattle.std.proofs.Common.{◌≡◌, ◌≢◌, ◌⊎◌, ℕ, ◌+◌, ◌<◌, ◌≤◌, Bool, false, ltb, List, [], length, Option, Some, None, Result, Ok, Err, refl, sym, ap, subst, ◌∙◌, inl, inr, arith}
+use Rattle.std.proofs.Common.{◌≡◌, ◌⊎◌, ℕ, false, ltb, List, length, Option, Some, None, Result, Ok, Err, refl, sym, ap, subst, ◌∙◌, inl, inr, arith}
 use Rattle.std.specs.Prelude.{option_map}
 use Rattle.std.specs.Result.{result_err}
-use Rattle.yaml_scan_model.specs.declared.fault.yaml_origin_t.{yaml_origin_t}
 use Rattle.yaml_scan_model.specs.declared.fault.yaml_origin_t.TheVariants.{Reader, Scanner as OfScanner}
 use Rattle.yaml_scan_model.specs.declared.name.yaml_encoding_t.{yaml_encoding_t}
 use Rattle.yaml_scan_model.specs.declared.name.yaml_encoding_t.TheVariants.{YAML_UTF8_ENCODING}
-use Rattle.yaml_scan_model.specs.declared.name.yaml_error_type_t.{yaml_error_type_t}
 use Rattle.yaml_scan_model.specs.declared.name.yaml_error_type_t.TheVariants.{YAML_MEMORY_ERROR, YAML_READER_ERROR}
 use Rattle.yaml_scan_model.specs.Faults.{Fault, memory_fault}
 use Rattle.yaml_scan_decode.specs.declared.offence.Offence.{Offence}
@@ -15,7 +13,7 @@ use Rattle.yaml_scan_decode.specs.DecodedText.{decoding_fault, text_bytes}
 use Rattle.yaml_scan_decode.specs.Encodings.{encoding_of}
 use Rattle.yaml_scan_decode.specs.Offences.{reader_fault}
 use Rattle.yaml_scan_history.specs.Remaining.{SpelledText, offline}
-use Rattle.yaml_scan_history.specs.Scanned.{scanned, scanned_in}
+use Rattle.yaml_scan_history.specs.Scanned.{scanned_in}
 use Rattle.yaml_scan_core.specs.declared.scanner.Scanner.{Scanner}
 use Rattle.yaml_scan_core.specs.Asked as asked
 use Rattle.yaml_scan_core.specs.Found.{IsTold}
@@ -25,10 +23,10 @@ use Rattle.yaml_scan_core.specs.Settled.{open_of}
 use Rattle.yaml_scan_core.specs.Told.{Locates}
 use Rattle.yaml_scan_core.specs.Waiting.{IsShort}
 use Rattle.yaml_scan_core.proofs.MoreLemmas.{none_settled}
-use Rattle.yaml_scan.specs.declared.known.Standing.{Standing}
-use Rattle.yaml_scan.specs.Known.{IsReady, IsRefusedText, StandsFor, Starts, over, scanner_of}
+use Rattle.yaml_scan.specs.declared.known.ScannedText.{ScannedText}
+use Rattle.yaml_scan.specs.Known.{IsReady, IsRefusedText, StandsFirst, scanner_of}
 use Rattle.yaml_scan.proofs.PlacedLemmas.{placed}
-use Rattle.yaml_scan.proofs.StandingLemmas.{is_over, ready_placed}
+use Rattle.yaml_scan.proofs.RestingLemmas.{is_over, ready_placed}
 
 -- ---- why an input can't be decoded
 
@@ -100,11 +98,11 @@ ready_first e text s h = record {
   long = h.going.shows.holds.long;
 }
 
-pub starts_there : (setting : yaml_encoding_t) (bytes : List ℕ) (z : Standing) (s : Scanner)
+pub starts_there : (setting : yaml_encoding_t) (bytes : List ℕ) (z : ScannedText) (s : Scanner)
     (e : yaml_encoding_t) → asked.Starts e (text_bytes z.text) 1 s
     → decoded_text setting bytes ≡ Ok (text_bytes z.text) → e ≡ encoding_of setting bytes
     → z.scanner ≡ record s { text = z.scanner.text } → Locates (text_bytes z.text) z.locator
-    → Starts setting bytes z
+    → StandsFirst setting bytes z
 starts_there setting bytes z s e h decoded encoding same locates =
     let t = text_bytes z.text in
     let text : s.text.now ≡ t = ap (λ (x : SpelledText). x.text) h.stream in

@@ -1,5 +1,5 @@
 -- Tokens that are taken from a scanner, one after another.
-use Rattle.std.proofs.Common.{◌≡◌, ℕ, ◌+◌, ◌<◌, ◌≤◌, ◌^◌, Bool, true, false, not, ltb, List, [], ◌∷◌, ◌++◌, length, map, Option, Some, None, Result, Ok, Err, refl, sym, ap, subst, ◌∙◌, inl, inr, arith, append_assoc}
+use Rattle.std.proofs.Common.{◌≡◌, ℕ, ◌+◌, ◌<◌, ◌≤◌, ◌^◌, Bool, true, false, not, List, [], ◌∷◌, ◌++◌, length, Option, Some, None, Result, Ok, Err, refl, sym, ap, subst, ◌∙◌, inl, inr, arith}
 use Rattle.std.proofs.lemmas.Bool.{cases_lt, true≢false, ltb-true}
 use Rattle.std.specs.Prelude.{All, IfErr, OnOk}
 use Rattle.std.proofs.lemmas.List.Elements.{All-append, All-cons, All-nil}
@@ -10,20 +10,19 @@ use Rattle.yaml_scan_model.specs.Coming.{MayAnswer, front_of, rest_of}
 use Rattle.yaml_scan_model.specs.Faults.{Fault, fault_of, memory_fault}
 use Rattle.yaml_scan_model.specs.Tokens.{Token, token_of}
 use Rattle.yaml_scan_history.specs.History.{most_waiting}
-use Rattle.yaml_scan_history.specs.Remaining.{Remaining, SpelledText, nothing}
+use Rattle.yaml_scan_history.specs.Remaining.{Remaining, SpelledText}
 use Rattle.yaml_scan_core.specs.declared.scanner.Scanner.{Scanner}
 use Rattle.yaml_scan_core.specs.Asked.{Waits, behind_first}
 use Rattle.yaml_scan_core.specs.Found.{HasMore}
 use Rattle.yaml_scan_core.specs.Handed.{to_come}
 use Rattle.yaml_scan_core.specs.Owned.{IsRefused, OwnedNeeded, TellsOwned}
-use Rattle.yaml_scan_core.specs.Scanning.{Fixed, IsGoing, IsOver, fixed_of, read_by, stream_of}
-use Rattle.yaml_scan_core.specs.Settled.{settles_in}
+use Rattle.yaml_scan_core.specs.Scanning.{Fixed, read_by, stream_of}
 use Rattle.yaml_scan_core.specs.Waiting.{IsRead, IsShort, ReadsNeeded, knows, taken_by}
 use Rattle.yaml_scan_core.proofs.KnowsLemmas.{knows_is, tells}
-use Rattle.yaml_scan_core.proofs.MoreLemmas.{going_has_more, knows_more, over_nothing}
+use Rattle.yaml_scan_core.proofs.MoreLemmas.{going_has_more, over_nothing}
 use Rattle.yaml_scan.specs.declared.known.Known.{Known}
 unfoldable use Rattle.yaml_scan.specs.Known.{taken_behind}
-use Rattle.yaml_scan.specs.Known.{Fails, Fills, Gives, GivesAll, GivesOne, IsReady, TakesOne, comes_behind, tokens_of}
+use Rattle.yaml_scan.specs.Known.{Fails, Gives, GivesAll, GivesOne, IsReady, TakesOne, comes_behind, tokens_of}
 
 -- ---- one token
 
@@ -148,10 +147,10 @@ gives_more old s new ks k g known one =
     }
 
 -- or it is refused: memory ran out
-only_memory : (r : Remaining) (f : Fault) → HasMore r.tokens r.fault → (r.tokens ≡ [] → ⊥) → IsRefused r f
+only_memory : (r : Remaining) (f : Fault) → (r.tokens ≡ [] → ⊥) → IsRefused r f
     → f ≡ memory_fault OfScanner
-only_memory r f more some (inl is) = is
-only_memory r f more some (inr (none, fault)) = absurd (some none)
+only_memory r f some (inl is) = is
+only_memory r f some (inr (none, fault)) = absurd (some none)
 
 tokens_left : (n : ℕ) (ts : List Token) → n < length ts → ts ≡ [] → ⊥
 tokens_left n [] low e = omega (arith, low)
@@ -169,7 +168,7 @@ pub fails_more : (old s : Scanner) (ks : List Known) (f : Fault) → Gives old s
     → Fails s f → Fails old f
 fails_more old s ks f g known x = record {
   more = subst (λ (r : Remaining). HasMore r.tokens r.fault) (sym g.come) (more_before ks (to_come s) x.more);
-  told = inl (only_memory (to_come s) f x.more (some_left s g.ready.read known) x.told);
+  told = inl (only_memory (to_come s) f (some_left s g.ready.read known) x.told);
 }
 
 -- ---- the loop
@@ -200,7 +199,8 @@ gives_none s r none over = record {
 }
 
 -- where more may be read, more is to come
-pub more_there : (s : Scanner) → IsReady s → s.ended ≡ false → HasMore (to_come s).tokens (to_come s).fault
+pub more_there : (s : Scanner) → IsReady s → s.ended ≡ false
+    → HasMore (to_come s).tokens (to_come s).fault
 more_there s r going = elim r.read [ inl g ↦ going_has_more s g | inr o ↦ absurd (true≢false (sym o.over ∙ going)) ]
 
 -- what `may_read_on` tells

@@ -1,6 +1,6 @@
 pub mod Spelling
 pub mod KnownLemmas
 pub mod PlacedLemmas
-pub mod StandingLemmas
+pub mod RestingLemmas
 pub mod BeginLemmas
 pub mod ReadingLemmas

@@ -1,6 +1,5 @@
 -- A scanner stays what it is where its text lies elsewhere.
-use Rattle.std.proofs.Common.{◌≡◌, ℕ, List, inl, inr, refl, sym, ap, subst, ◌∙◌}
-use denote.Bor.{Bor}
+use Rattle.std.proofs.Common.{ℕ, List, inl, inr}
 use Rattle.yaml_scan_history.specs.declared.lexeme.Lexeme.{Lexeme as Read}
 use Rattle.yaml_scan_core.specs.declared.scanner.Scanner.{Scanner}
 use Rattle.yaml_scan_core.specs.Asked.{Waits}

@@ -1,11 +1,12 @@
 -- What a session becomes by a call.
-use Rattle.std.proofs.Common.{◌≡◌, ◌⊎◌, ℕ, zero, suc, ◌+◌, ◌-◌, ◌<◌, ◌≤◌, Bool, true, false, ltb, List, [], ◌∷◌, ◌++◌, length, length-append, map, Option, Some, None, Result, Ok, Err, refl, sym, ap, subst, ◌∙◌, inl, inr, arith}
+use Rattle.std.proofs.Common.{◌≡◌, ◌⊎◌, ℕ, ◌+◌, ◌-◌, ◌<◌, ◌≤◌, true, false, ltb, List, [], ◌∷◌, ◌++◌, length, length-append, Option, Some, None, Result, Ok, Err, refl, sym, ap, subst, ◌∙◌, inl, inr, arith}
 use Rattle.std.proofs.lemmas.Bool.{cases_lt, lt-ltb, true≢false}
 use Rattle.std.proofs.lemmas.Bool.Decides.{nat_tests}
 use Rattle.std.proofs.lemmas.List.Elements.{All-head, All-tail}
-use Rattle.std.specs.Prelude.{All, is_some, not, option_map}
+use Rattle.std.specs.Prelude.{is_some, not, option_copied, option_map}
+use denote.Bor.{Bor}
 use Rattle.yaml_scan_model.specs.declared.fault.yaml_fault_t.{yaml_fault_t}
-use Rattle.yaml_scan_model.specs.declared.fault.yaml_origin_t.TheVariants.{Reader, Scanner as OfScanner}
+use Rattle.yaml_scan_model.specs.declared.fault.yaml_origin_t.TheVariants.{Reader}
 use Rattle.yaml_scan_model.specs.declared.name.yaml_encoding_t.{yaml_encoding_t}
 use Rattle.yaml_scan_model.specs.declared.name.yaml_error_type_t.TheVariants.{YAML_MEMORY_ERROR, YAML_SCANNER_ERROR}
 use Rattle.yaml_scan_model.specs.Faults.{Fault, fault_of, memory_fault}
@@ -31,18 +32,18 @@ use Rattle.yaml_scan_core.proofs.KnowsLemmas.{knows_is, tells}
 use Rattle.yaml_scan_core.proofs.MoreLemmas.{scanned_more}
 use Rattle.yaml_scan.specs.declared.known.Known.{Known}
 use Rattle.yaml_scan.specs.declared.known.Queue.{Queue}
-use Rattle.yaml_scan.specs.declared.known.Standing.{Standing}
+use Rattle.yaml_scan.specs.declared.known.ScannedText.{ScannedText}
 use Rattle.yaml_scan.specs.declared.reading.Reading.{Reading}
 unfoldable use Rattle.yaml_scan.specs.Known.{taken_behind}
-use Rattle.yaml_scan.specs.Known.{Fails, FillsStanding, GivesAll, IsRefusedText, PopsFirst, StandsFor, Starts, comes_behind, first_known, is_none, scanner_of, tokens_of}
-use Rattle.yaml_scan.specs.Session.{EndsAnswered, HasFirst, HoldsLittle, IsKnown, Lends, MayAnswer, PlainIsTold, ReaderMayLack, ReadsNeeded, Refuses, Takes, View, behind_first, begun, ended, first_of, is_settled}
+use Rattle.yaml_scan.specs.Known.{Fails, FillsText, GivesAll, IsRefusedText, PopsFirst, StandsFor, StandsFirst, comes_behind, first_known, is_none, scanner_of, tokens_of}
+use Rattle.yaml_scan.specs.Session.{HasFirst, HoldsLittle, IsKnown, Lends, MayAnswer, ReadsNeeded, Refuses, Takes, View, behind_first, begun, ended, first_of, is_settled}
 use Rattle.yaml_scan.specs.SessionView.{Denies, Holds, HoldsKnown, IsReading, Keeps, ReadsOn, Stood, left_in, read_in, unless_answered, view_by, view_of}
 use Rattle.yaml_scan.proofs.BeginLemmas.{none_wrong, not_reader, unsettled_first}
 
 -- ---- which token is settled
 
 -- what settles a token of the input is what does of the decoded text
-settles_is : (setting : yaml_encoding_t) (bytes : List ℕ) (z : Standing)
+settles_is : (setting : yaml_encoding_t) (bytes : List ℕ) (z : ScannedText)
     → StandsFor setting bytes z → (ts : List Token) (n : ℕ)
     → settles setting bytes ts n ≡ settles_in (stream_of (scanner_of z)) ts n
 settles_is setting bytes z h ts n =
@@ -54,7 +55,7 @@ unsettled_start : (setting : yaml_encoding_t) (bytes : List ℕ)
 unsettled_start setting bytes = unsettled_first (encoding_of setting bytes) (decoded_text setting bytes)
 
 -- where none is known, none is settled
-unsettled_idle : (setting : yaml_encoding_t) (bytes : List ℕ) (z : Standing)
+unsettled_idle : (setting : yaml_encoding_t) (bytes : List ℕ) (z : ScannedText)
     → StandsFor setting bytes z → knows (scanner_of z) ≡ false
     → settles setting bytes (to_come (scanner_of z)).tokens (read_by (scanner_of z)) ≡ false
 unsettled_idle setting bytes z h idle = settles_is setting bytes z h (to_come (scanner_of z)).tokens (read_by (scanner_of z)) ∙ sym (knows_is (scanner_of z) h.ready.read) ∙ idle
@@ -66,7 +67,7 @@ longer u t ks ts few =
     lt-ltb u (length (t ∷ ks ++ ts)) low
 
 -- one that is known is settled
-settled_known : (setting : yaml_encoding_t) (bytes : List ℕ) (z : Standing) (k : Known)
+settled_known : (setting : yaml_encoding_t) (bytes : List ℕ) (z : ScannedText) (k : Known)
     (ks : List Known) → StandsFor setting bytes z
     → settles setting bytes (comes_behind (k ∷ ks) (to_come (scanner_of z))).tokens (read_by (scanner_of z)) ≡ true
 settled_known setting bytes z k ks h =
@@ -76,8 +77,8 @@ settled_known setting bytes z k ks h =
 
 -- ---- before reading on: what stands is ahead of the session
 
-pub record Ahead (setting : yaml_encoding_t) (bytes : List ℕ) (o : Option Standing) (taken : ℕ)
-    (z : Standing) : Type 0 where
+pub record Ahead (setting : yaml_encoding_t) (bytes : List ℕ) (o : Option ScannedText) (taken : ℕ)
+    (z : ScannedText) : Type 0 where
   pub stands : StandsFor setting bytes z
   pub left : to_come (scanner_of z) ≡ left_in setting bytes o
   pub count : taken ≡ taken_by (scanner_of z)
@@ -87,8 +88,8 @@ pub record Ahead (setting : yaml_encoding_t) (bytes : List ℕ) (o : Option Stan
   pub sought : settles setting bytes (left_in setting bytes o).tokens (read_in o) ≡ false
   pub idle : z.scanner.ended ≡ true → knows (scanner_of z) ≡ false
 
-ahead_new : (setting : yaml_encoding_t) (bytes : List ℕ) (taken : ℕ) (z : Standing) → taken ≡ 0
-    → Starts setting bytes z → Ahead setting bytes None taken z
+ahead_new : (setting : yaml_encoding_t) (bytes : List ℕ) (taken : ℕ) (z : ScannedText) → taken ≡ 0
+    → StandsFirst setting bytes z → Ahead setting bytes None taken z
 ahead_new setting bytes taken z none h = record {
   stands = h.stands;
   left = h.come;
@@ -99,7 +100,7 @@ ahead_new setting bytes taken z none h = record {
   idle = λ over. absurd (true≢false (sym over ∙ h.going));
 }
 
-ahead_on : (setting : yaml_encoding_t) (bytes : List ℕ) (taken : ℕ) (z : Standing)
+ahead_on : (setting : yaml_encoding_t) (bytes : List ℕ) (taken : ℕ) (z : ScannedText)
     → HoldsKnown setting bytes z [] taken → Ahead setting bytes (Some z) taken z
 unfolding taken_behind
 ahead_on setting bytes taken z h = record {
@@ -112,18 +113,18 @@ ahead_on setting bytes taken z h = record {
   idle = λ over. h.idle;
 }
 
-ok_same : (z y : Standing) (r : Result Standing yaml_fault_t) → r ≡ Ok z → r ≡ Ok y → z ≡ y
+ok_same : (z y : ScannedText) (r : Result ScannedText yaml_fault_t) → r ≡ Ok z → r ≡ Ok y → z ≡ y
 ok_same z y (Ok x) e f = let a : x ≡ z = cc in let b : x ≡ y = cc in sym a ∙ b
 ok_same z y (Err x) e f = cc
 
-pub ahead : (setting : yaml_encoding_t) (bytes : List ℕ) (o : Option Standing) (ks : List Known)
-    (taken : ℕ) (z : Standing) (r : Result Standing yaml_fault_t) → Holds setting bytes o ks taken
+pub ahead : (setting : yaml_encoding_t) (bytes : List ℕ) (o : Option ScannedText) (ks : List Known)
+    (taken : ℕ) (z : ScannedText) (r : Result ScannedText yaml_fault_t) → Holds setting bytes o ks taken
     → ks ≡ [] → Stood o setting bytes r → r ≡ Ok z → Ahead setting bytes o taken z
 ahead setting bytes None ks taken z r (none, zero_taken) empty s is = ahead_new setting bytes taken z zero_taken (subst (λ x. Stood None setting bytes x) is s)
 ahead setting bytes (Some y) ks taken z r h empty s is =
     let same : y ≡ z = ok_same y z r s is in
     let there : HoldsKnown setting bytes y [] taken = subst (λ (xs : List Known). HoldsKnown setting bytes y xs taken) empty h in
-    subst (λ (x : Standing). Ahead setting bytes (Some y) taken x) same (ahead_on setting bytes taken y there)
+    subst (λ (x : ScannedText). Ahead setting bytes (Some y) taken x) same (ahead_on setting bytes taken y there)
 
 -- ---- a refusal
 
@@ -149,8 +150,8 @@ told_there r f (inl memory) = inl (inl memory)
 told_there r f (inr fault) = inr fault
 
 -- no token is given, by what stands
-pub denies : (setting : yaml_encoding_t) (bytes : List ℕ) (o : Option Standing) (taken : ℕ)
-    (z : Standing) (f : Fault) → Ahead setting bytes o taken z → Fails (scanner_of z) f
+pub denies : (setting : yaml_encoding_t) (bytes : List ℕ) (o : Option ScannedText) (taken : ℕ)
+    (z : ScannedText) (f : Fault) → Ahead setting bytes o taken z → Fails (scanner_of z) f
     → Denies (view_by setting bytes o [] taken None) f
 denies setting bytes o taken z f a x = record {
   sought = a.sought;
@@ -161,8 +162,8 @@ denies setting bytes o taken z f a x = record {
 }
 
 -- or the input can't be decoded
-pub denies_text : (setting : yaml_encoding_t) (bytes : List ℕ) (o : Option Standing)
-    (ks : List Known) (taken : ℕ) (r : Result Standing yaml_fault_t) (f : yaml_fault_t) → ks ≡ []
+pub denies_text : (setting : yaml_encoding_t) (bytes : List ℕ) (o : Option ScannedText)
+    (ks : List Known) (taken : ℕ) (r : Result ScannedText yaml_fault_t) (f : yaml_fault_t) → ks ≡ []
     → Stood o setting bytes r → r ≡ Err f → Denies (view_by setting bytes o ks taken None) (fault_of f)
 denies_text setting bytes None ks taken r f empty s is =
     let told : IsRefusedText setting bytes (fault_of f) = subst (λ x. Stood None setting bytes x) is s in
@@ -187,15 +188,15 @@ may_answer : (ks : List Known) (r : Remaining) → (ks ≡ [] → r ≡ nothing)
 may_answer [] r none = subst (λ (x : Remaining). MayAnswer x.tokens x.fault) (sym (none refl)) refl
 may_answer (k ∷ ks) r none = tt
 
-known_behind : (setting : yaml_encoding_t) (bytes : List ℕ) (z : Standing) (ks : List Known)
+known_behind : (setting : yaml_encoding_t) (bytes : List ℕ) (z : ScannedText) (ks : List Known)
     (taken : ℕ) → StandsFor setting bytes z → (ks ≡ [] → to_come (scanner_of z) ≡ nothing)
     → IsKnown (view_by setting bytes (Some z) ks taken None)
 known_behind setting bytes z [] taken h none = inr (none refl)
 known_behind setting bytes z (k ∷ ks) taken h none = inl (settled_known setting bytes z k ks h)
 
 -- what is read further is needed
-reads_ahead : (setting : yaml_encoding_t) (bytes : List ℕ) (o : Option Standing) (ks : List Known)
-    (taken n : ℕ) (z y : Standing) → Ahead setting bytes o taken z
+reads_ahead : (setting : yaml_encoding_t) (bytes : List ℕ) (o : Option ScannedText) (ks : List Known)
+    (taken n : ℕ) (z y : ScannedText) → Ahead setting bytes o taken z
     → GivesAll (scanner_of z) (scanner_of y) ks
     → ReadsNeeded (view_by setting bytes o [] taken None) (view_by setting bytes (Some y) ks n None)
 reads_ahead setting bytes o ks taken n z y a g =
@@ -211,8 +212,8 @@ reads_ahead setting bytes o ks taken n z y a g =
     }
 
 -- the next token is passed by reference, or none is to come
-pub lends : (setting : yaml_encoding_t) (bytes : List ℕ) (o : Option Standing) (ks : List Known)
-    (taken n : ℕ) (z y : Standing) → Ahead setting bytes o taken z
+pub lends : (setting : yaml_encoding_t) (bytes : List ℕ) (o : Option ScannedText) (ks : List Known)
+    (taken n : ℕ) (z y : ScannedText) → Ahead setting bytes o taken z
     → GivesAll (scanner_of z) (scanner_of y) ks → StandsFor setting bytes y
     → Lends (view_by setting bytes o [] taken None) (first_known ks) (view_by setting bytes (Some y) ks n None)
 lends setting bytes o ks taken n z y a g h =
@@ -229,7 +230,7 @@ lends setting bytes o ks taken n z y a g h =
       still = λ f bad. cc;
     }
 
-stands_behind : (setting : yaml_encoding_t) (bytes : List ℕ) (z y : Standing) (ks : List Known)
+stands_behind : (setting : yaml_encoding_t) (bytes : List ℕ) (z y : ScannedText) (ks : List Known)
     → StandsFor setting bytes z → GivesAll (scanner_of z) (scanner_of y) ks
     → text_bytes y.text ≡ text_bytes z.text → Locates (text_bytes y.text) y.locator
     → StandsFor setting bytes y
@@ -245,13 +246,13 @@ no_fault None f e bad = cc
 no_fault (Some g) f e bad = cc
 
 -- the view where no token is known, and no fault was answered
-idle_view : (setting : yaml_encoding_t) (bytes : List ℕ) (o : Option Standing) (ks : List Known)
+idle_view : (setting : yaml_encoding_t) (bytes : List ℕ) (o : Option ScannedText) (ks : List Known)
     (n : ℕ) (fault : Option yaml_fault_t) → ks ≡ [] → fault ≡ None
     → view_by setting bytes o [] n None ≡ view_by setting bytes o ks n fault
 idle_view setting bytes o ks n fault none free = ap (λ xs. view_by setting bytes o xs n None) (sym none) ∙ ap (λ f. view_by setting bytes o ks n f) (sym free)
 
-holds_behind : (setting : yaml_encoding_t) (bytes : List ℕ) (o : Option Standing) (taken n : ℕ)
-    (z y : Standing) (ks : List Known) → Ahead setting bytes o taken z
+holds_behind : (setting : yaml_encoding_t) (bytes : List ℕ) (o : Option ScannedText) (taken n : ℕ)
+    (z y : ScannedText) (ks : List Known) → Ahead setting bytes o taken z
     → GivesAll (scanner_of z) (scanner_of y) ks → StandsFor setting bytes y → n ≡ taken
     → HoldsKnown setting bytes y ks n
 holds_behind setting bytes o taken n z y ks a g h same = record {
@@ -262,10 +263,10 @@ holds_behind setting bytes o taken n z y ks a g h same = record {
 }
 
 -- the next token is looked for, where none is known
-pub reads_on : (r q : Reading) (z y : Standing) (answer : Result (Unit {0}) yaml_fault_t)
+pub reads_on : (r q : Reading) (z y : ScannedText) (answer : Result (Unit {0}) yaml_fault_t)
     → Ahead r.setting r.input.now r.standing r.queue.taken z → IsReading r → r.fault ≡ None
     → r.queue.known.items ≡ [] → Keeps r q → q.standing ≡ Some y
-    → FillsStanding z y r.queue q.queue answer → ReadsOn r q answer
+    → FillsText z y r.queue q.queue answer → ReadsOn r q answer
 reads_on r q z y (Ok done) a i free none keeps stood f =
     let setting = r.setting in
     let bytes = r.input.now in
@@ -290,7 +291,7 @@ reads_on r q z y (Err f) a i free none keeps stood x =
     subst (λ v. Denies v (fault_of f)) was (denies r.setting r.input.now r.standing r.queue.taken z (fault_of f) a x.fills)
 
 -- it isn't, where the input can't be decoded
-pub reads_none : (r : Reading) (result : Result Standing yaml_fault_t) (f : yaml_fault_t)
+pub reads_none : (r : Reading) (result : Result ScannedText yaml_fault_t) (f : yaml_fault_t)
     → r.fault ≡ None → r.queue.known.items ≡ []
     → Stood r.standing r.setting r.input.now result → result ≡ Err f
     → Denies (view_of r) (fault_of f)
@@ -300,10 +301,10 @@ reads_none r result f free none stood is =
 -- ---- where the next token needn't be looked for
 
 -- nothing more is read
-same_reads : (v : View) → ReadsNeeded v v
+pub same_reads : (v : View) → ReadsNeeded v v
 same_reads v = record { setting = refl; bytes = refl; further = omega arith; needed = λ n low high. absurd (omega (arith, low, high)) }
 
-over_by : (setting : yaml_encoding_t) (bytes : List ℕ) (o : Option Standing) (ks : List Known)
+over_by : (setting : yaml_encoding_t) (bytes : List ℕ) (o : Option ScannedText) (ks : List Known)
     (n : ℕ) (f : yaml_fault_t) → ks ≡ []
     → Lends (view_by setting bytes o ks n (Some f)) (first_known ks) (view_by setting bytes o ks n (Some f))
 over_by setting bytes o ks n f none = record {
@@ -334,7 +335,7 @@ lends_over r i e =
     subst (λ o. Lends (view_by r.setting r.input.now r.standing ks r.queue.taken o) (first_known ks) (view_by r.setting r.input.now r.standing ks r.queue.taken o)) (sym is)
     (over_by r.setting r.input.now r.standing ks r.queue.taken f (i.over f is))
 
-held_by : (setting : yaml_encoding_t) (bytes : List ℕ) (o : Option Standing) (ks : List Known)
+held_by : (setting : yaml_encoding_t) (bytes : List ℕ) (o : Option ScannedText) (ks : List Known)
     (n : ℕ) → Holds setting bytes o ks n → is_none ks ≡ false
     → Lends (view_by setting bytes o ks n None) (first_known ks) (view_by setting bytes o ks n None)
 held_by setting bytes o [] n h some = cc
@@ -407,7 +408,7 @@ refuses r p q f d free same =
 -- ---- a token that is taken
 
 -- the first one that is known is taken, or there was none
-holds_popped : (setting : yaml_encoding_t) (bytes : List ℕ) (o : Option Standing)
+holds_popped : (setting : yaml_encoding_t) (bytes : List ℕ) (o : Option ScannedText)
     (ks js : List Known) (n m : ℕ) → Holds setting bytes o ks n → PopsFirst ks n js m
     → Holds setting bytes o js m
 unfolding taken_behind
@@ -420,7 +421,7 @@ holds_popped setting bytes (Some z) (k ∷ ks) js n m h (rest, taken) = rw (rest
   later = All-tail (λ (x : Known). read_by (scanner_of z) ≤ x.taken + most_waiting) k ks h.later;
 })
 
-few_popped : (setting : yaml_encoding_t) (bytes : List ℕ) (o : Option Standing) (ks js : List Known)
+few_popped : (setting : yaml_encoding_t) (bytes : List ℕ) (o : Option ScannedText) (ks js : List Known)
     (n m : ℕ) → Holds setting bytes o ks n → read_in o ≤ n + most_waiting → PopsFirst ks n js m
     → read_in o ≤ m + most_waiting
 few_popped setting bytes o [] js n m h few (none, same) = omega (arith, few, same)
@@ -457,12 +458,12 @@ none_behind : (c : Remaining) → c ≡ nothing → c ≡ behind_first c
 none_behind c e = e ∙ sym (ap (λ (x : Remaining). behind_first x) e)
 
 -- where none is known, none is settled
-never_settled : (setting : yaml_encoding_t) (bytes : List ℕ) (o : Option Standing) (n : ℕ)
+never_settled : (setting : yaml_encoding_t) (bytes : List ℕ) (o : Option ScannedText) (n : ℕ)
     → Holds setting bytes o [] n → is_settled (view_by setting bytes o [] n None) ≡ false
 never_settled setting bytes None n h = unsettled_start setting bytes
 never_settled setting bytes (Some z) n h = unsettled_idle setting bytes z h.stands h.idle
 
-rest_by : (setting : yaml_encoding_t) (bytes : List ℕ) (o : Option Standing) (ks js : List Known)
+rest_by : (setting : yaml_encoding_t) (bytes : List ℕ) (o : Option ScannedText) (ks js : List Known)
     (n m : ℕ) (fault : Option yaml_fault_t) → (fault ≡ None → Holds setting bytes o ks n)
     → IsKnown (view_by setting bytes o ks n fault) → PopsFirst ks n js m
     → (view_by setting bytes o js m fault).remaining ≡ behind_first (view_by setting bytes o ks n fault).remaining
@@ -515,7 +516,7 @@ few_wait r i = omega (arith, i.few)
 none_below : (n : ℕ) → ltb n 0 ≡ false
 none_below n = grind (arith, nat_tests)
 
-settled_by : (setting : yaml_encoding_t) (bytes : List ℕ) (o : Option Standing) (ks : List Known)
+settled_by : (setting : yaml_encoding_t) (bytes : List ℕ) (o : Option ScannedText) (ks : List Known)
     (n : ℕ) (fault : Option yaml_fault_t) → (fault ≡ None → Holds setting bytes o ks n)
     → ((f : yaml_fault_t) → fault ≡ Some f → ks ≡ [])
     → not (is_none ks) ≡ is_settled (view_by setting bytes o ks n fault)
@@ -547,3 +548,11 @@ pub begins : (r : Reading) (setting : yaml_encoding_t) (bytes : List ℕ) → r.
     → r.input.now ≡ bytes → r.standing ≡ None → r.queue.known.items ≡ [] → r.queue.taken ≡ 0
     → r.fault ≡ None → view_of r ≡ begun setting bytes
 begins r setting bytes s b o ks n f = rw (s, b, o, ks, n, f) refl
+
+-- ---- the fault that was answered
+
+-- a fault that is passed by reference is the one that is kept
+pub lent_fault : (r : Option (Bor yaml_fault_t)) (o : Option yaml_fault_t) → option_copied r ≡ o
+    → option_map (λ (f : Bor yaml_fault_t). fault_of f.now) r ≡ option_map (λ (f : yaml_fault_t). fault_of f) o
+lent_fault None o e = ap (option_map (λ (f : yaml_fault_t). fault_of f)) e
+lent_fault (Some f) o e = ap (option_map (λ (f : yaml_fault_t). fault_of f)) e

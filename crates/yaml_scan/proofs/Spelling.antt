@@ -1,5 +1,5 @@
 -- The text that an input spells is as a scanner takes it.
-use Rattle.std.proofs.Common.{◌≡◌, ℕ, List, Result, Ok, Err, IsUtf8, ap}
+use Rattle.std.proofs.Common.{ℕ, List, IsUtf8}
 use Rattle.yaml_scan_model.specs.declared.name.yaml_encoding_t.{yaml_encoding_t}
 use Rattle.yaml_scan_decode.specs.Spelling.{Spells as IsSpelledBy}
 use Rattle.yaml_scan_history.specs.Remaining.{SpelledText}

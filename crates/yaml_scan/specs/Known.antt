@@ -1,6 +1,5 @@
 -- The tokens that are known, and the scanner that told them.
-use Rattle.std.specs.Prelude.{ℕ, ◌+◌, ◌^◌, ◌<◌, length, ◌≡◌, ◌≢◌, ◌≤◌, ◌⊎◌, Bool, true, false, List, [], ◌∷◌, ◌++◌, map, All, Option, Some, None, Result, Ok, Err, IfOk}
-use denote.Bor.{Bor}
+use Rattle.std.specs.Prelude.{ℕ, ◌+◌, ◌^◌, ◌<◌, length, ◌≡◌, ◌≢◌, ◌≤◌, Bool, true, false, List, [], ◌∷◌, ◌++◌, map, All, Some, Result, Ok, Err, IfOk}
 use Rattle.yaml_scan_model.specs.declared.fault.yaml_fault_t.{yaml_fault_t}
 use Rattle.yaml_scan_model.specs.declared.fault.yaml_origin_t.TheVariants.{Reader}
 use Rattle.yaml_scan_model.specs.declared.name.yaml_encoding_t.{yaml_encoding_t}
@@ -23,7 +22,7 @@ use Rattle.yaml_scan_core.specs.Told.{Locates}
 use Rattle.yaml_scan_core.specs.Waiting.{IsRead, IsShort, ReadsNeeded, knows, taken_by}
 use Rattle.yaml_scan.specs.declared.known.Known.{Known}
 use Rattle.yaml_scan.specs.declared.known.Queue.{Queue}
-use Rattle.yaml_scan.specs.declared.known.Standing.{Standing}
+use Rattle.yaml_scan.specs.declared.known.ScannedText.{ScannedText}
 
 -- ---- the queue
 
@@ -110,18 +109,18 @@ Fills old new ks (Err f) = Fails old (fault_of f)
 abbrev pub over : List ℕ → Scanner → Scanner
 over text s = record s { text = record { ref_ptr = (0, 0); now = text } }
 
-abbrev pub scanner_of : Standing → Scanner
+abbrev pub scanner_of : ScannedText → Scanner
 scanner_of z = over (text_bytes z.text) z.scanner
 
 -- it is that of an input
-pub record StandsFor (setting : yaml_encoding_t) (bytes : List ℕ) (z : Standing) : Type 0 where
+pub record StandsFor (setting : yaml_encoding_t) (bytes : List ℕ) (z : ScannedText) : Type 0 where
   pub decoded : decoded_text setting bytes ≡ Ok (text_bytes z.text)
   pub encoding : z.scanner.encoding ≡ encoding_of setting bytes
   pub ready : IsReady (scanner_of z)
   pub locates : Locates (text_bytes z.text) z.locator
 
 -- before its first token
-pub record Starts (setting : yaml_encoding_t) (bytes : List ℕ) (z : Standing) : Type 0 where
+pub record StandsFirst (setting : yaml_encoding_t) (bytes : List ℕ) (z : ScannedText) : Type 0 where
   pub stands : StandsFor setting bytes z
   pub going : z.scanner.ended ≡ false
   pub come : to_come (scanner_of z) ≡ scanned setting bytes
@@ -135,12 +134,12 @@ pub record IsRefusedText (setting : yaml_encoding_t) (bytes : List ℕ) (f : Fau
   pub plain : (g : Fault) → encoding_of setting bytes ≡ YAML_UTF8_ENCODING
       → decoding_fault setting bytes ≡ Some g → f ≡ g
 
-abbrev pub Begins : yaml_encoding_t → List ℕ → Result Standing yaml_fault_t → Type 0
-Begins setting bytes (Ok z) = Starts setting bytes z
+abbrev pub Begins : yaml_encoding_t → List ℕ → Result ScannedText yaml_fault_t → Type 0
+Begins setting bytes (Ok z) = StandsFirst setting bytes z
 Begins setting bytes (Err f) = IsRefusedText setting bytes (fault_of f)
 
 -- its text stays, and its next tokens are taken
-pub record FillsStanding (old new : Standing) (was is : Queue) (r : Result (Unit {0}) yaml_fault_t)
+pub record FillsText (old new : ScannedText) (was is : Queue) (r : Result (Unit {0}) yaml_fault_t)
     : Type 0 where
   pub text : text_bytes new.text ≡ text_bytes old.text
   pub locates : IfOk r (λ done. Locates (text_bytes new.text) new.locator)

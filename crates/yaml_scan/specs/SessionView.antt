@@ -1,5 +1,5 @@
 -- What a clause sees of a session.
-use Rattle.std.specs.Prelude.{ℕ, ◌+◌, ◌-◌, ◌≡◌, ◌≤◌, Bool, false, List, [], All, Option, Some, None, option_map, Result, Ok, Err}
+use Rattle.std.specs.Prelude.{ℕ, ◌+◌, ◌-◌, ◌≡◌, ◌≤◌, false, List, [], All, Option, Some, None, option_map, Result, Ok, Err}
 use Rattle.yaml_scan_model.specs.declared.fault.yaml_fault_t.{yaml_fault_t}
 use Rattle.yaml_scan_model.specs.declared.name.yaml_encoding_t.{yaml_encoding_t}
 use Rattle.yaml_scan_model.specs.Faults.{Fault, fault_of}
@@ -11,20 +11,19 @@ use Rattle.yaml_scan_core.specs.Handed.{to_come}
 use Rattle.yaml_scan_core.specs.Scanning.{read_by}
 use Rattle.yaml_scan_core.specs.Waiting.{knows, taken_by}
 use Rattle.yaml_scan.specs.declared.known.Known.{Known}
-use Rattle.yaml_scan.specs.declared.known.Queue.{Queue}
-use Rattle.yaml_scan.specs.declared.known.Standing.{Standing}
+use Rattle.yaml_scan.specs.declared.known.ScannedText.{ScannedText}
 use Rattle.yaml_scan.specs.declared.reading.Reading.{Reading}
 use Rattle.yaml_scan.specs.declared.session.yaml_parser_t.TheInside.{Inside}
 use Rattle.yaml_scan.specs.Known.{Begins, StandsFor, first_known, comes_behind, scanner_of, taken_behind}
 use Rattle.yaml_scan.specs.Session.{HasMore, IsTold, Lends, PlainIsTold, ReaderMayLack, View, is_settled}
 
 -- how many lexemes were read
-abbrev pub read_in : Option Standing → ℕ
+abbrev pub read_in : Option ScannedText → ℕ
 read_in None = 0
 read_in (Some z) = read_by (scanner_of z)
 
 -- what is to come after the tokens that are known
-abbrev pub left_in : yaml_encoding_t → List ℕ → Option Standing → Remaining
+abbrev pub left_in : yaml_encoding_t → List ℕ → Option ScannedText → Remaining
 left_in setting bytes None = scanned setting bytes
 left_in setting bytes (Some z) = to_come (scanner_of z)
 
@@ -33,7 +32,7 @@ abbrev pub unless_answered : Option yaml_fault_t → Remaining → Remaining
 unless_answered (Some f) c = nothing
 unless_answered None c = c
 
-abbrev pub view_by : yaml_encoding_t → List ℕ → Option Standing → List Known → ℕ
+abbrev pub view_by : yaml_encoding_t → List ℕ → Option ScannedText → List Known → ℕ
     → Option yaml_fault_t → View
 view_by setting bytes standing ks taken fault = record {
   setting = setting;
@@ -48,14 +47,14 @@ abbrev pub view_of : Reading → View
 view_of r = view_by r.setting r.input.now r.standing r.queue.known.items r.queue.taken r.fault
 
 -- Between two calls all tokens are known that the lexemes that were read settle, and none is where none was read.
-pub record HoldsKnown (setting : yaml_encoding_t) (bytes : List ℕ) (z : Standing) (ks : List Known)
+pub record HoldsKnown (setting : yaml_encoding_t) (bytes : List ℕ) (z : ScannedText) (ks : List Known)
     (taken : ℕ) : Type 0 where
   pub stands : StandsFor setting bytes z
   pub idle : knows (scanner_of z) ≡ false
   pub last : taken_behind ks taken ≡ taken_by (scanner_of z)
   pub later : All (λ (k : Known). read_by (scanner_of z) ≤ k.taken + most_waiting) ks
 
-abbrev pub Holds : yaml_encoding_t → List ℕ → Option Standing → List Known → ℕ → Type 0
+abbrev pub Holds : yaml_encoding_t → List ℕ → Option ScannedText → List Known → ℕ → Type 0
 Holds setting bytes None ks taken = (ks ≡ []) × (taken ≡ 0)
 Holds setting bytes (Some z) ks taken = HoldsKnown setting bytes z ks taken
 
@@ -67,7 +66,8 @@ pub record IsReading (r : Reading) : Type 0 where
   pub empty : token_of r.none ≡ no_token
 
 -- the scanner that stands, or a new one
-abbrev pub Stood : Option Standing → yaml_encoding_t → List ℕ → Result Standing yaml_fault_t → Type 0
+abbrev pub Stood : Option ScannedText → yaml_encoding_t → List ℕ
+    → Result ScannedText yaml_fault_t → Type 0
 Stood (Some z) setting bytes r = r ≡ Ok z
 Stood None setting bytes r = Begins setting bytes r
 

@@ -9,7 +9,7 @@ ghost use Rattle.yaml_scan_core.specs.Found.{HasMore};
 ghost use Rattle.yaml_scan_core.specs.Handed.{to_come};
 ghost use Rattle.yaml_scan_core.specs.Told.{Locates};
 ghost use Rattle.yaml_scan_core.specs.Waiting.{knows};
-ghost use Rattle.yaml_scan.specs.Known.{Begins, Fills, FillsStanding, IsReady, PopsFirst, TakesOne, first_known, is_none, scanner_of};
+ghost use Rattle.yaml_scan.specs.Known.{Begins, Fills, FillsText, IsReady, PopsFirst, TakesOne, first_known, is_none, scanner_of};
 
 use std::alloc::Global;
 use std::collections::VecDeque;
@@ -59,7 +59,8 @@ impl Queue {
     /// Takes the first, if there is one: or the empty token.
     pub(crate) fn pop(&mut self) -> yaml_token_t
         ensures first { token_of result ≡ first_known self.old.known.items }
-        ensures rest { PopsFirst self.old.known.items self.old.taken self.new.known.items self.new.taken }
+        ensures rest { PopsFirst self.old.known.items self.old.taken self.new.known.items
+            self.new.taken }
     {
         match self.known.pop_front() {
             Some(known) => {
@@ -117,19 +118,19 @@ fn take_known(
 
 /// A decoded text, and a scanner of it, which holds no text while it stands.
 #[derive(Drop)]
-pub(crate) struct Standing<'a> {
+pub(crate) struct ScannedText<'a> {
     pub text: yaml_text_t<'a>,
     pub scanner: Scanner<'static>,
     pub locator: Locator,
 }
 
-impl<'a> Standing<'a> {
+impl<'a> ScannedText<'a> {
     /// Decodes an input: nothing of its text is taken. The error is the fault of its decoding, or out of memory.
     pub(crate) fn new(
         alloc: Global,
         input: &'a [u8],
         setting: yaml_encoding_t,
-    ) -> Result<Standing<'a>, yaml_fault_t>
+    ) -> Result<ScannedText<'a>, yaml_fault_t>
         ensures { Begins setting input.now result }
     {
         let text = yaml_decode(alloc, input, setting)?;
@@ -138,7 +139,7 @@ impl<'a> Standing<'a> {
             Ok(scanner) => {
                 let scanner = scanner.at_rest();
                 let locator = Locator::new();
-                Ok(Standing {
+                Ok(ScannedText {
                     text,
                     scanner,
                     locator,
@@ -154,14 +155,14 @@ impl<'a> Standing<'a> {
         self,
         alloc: Global,
         queue: &mut Queue,
-    ) -> (Standing<'a>, Result<(), yaml_fault_t>)
+    ) -> (ScannedText<'a>, Result<(), yaml_fault_t>)
         requires ready { IsReady (scanner_of self) }
         requires idle { self.scanner.ended ≡ true → knows (scanner_of self) ≡ false }
         requires locates { Locates (text_bytes self.text) self.locator }
         requires none { queue.old.known.items ≡ [] }
-        ensures { FillsStanding self.entry result.0 queue.old queue.new result.1 }
+        ensures { FillsText self.entry result.0 queue.old queue.new result.1 }
     {
-        let Standing {
+        let ScannedText {
             text,
             scanner,
             mut locator,
@@ -169,7 +170,7 @@ impl<'a> Standing<'a> {
         let mut scanner = scanner.on(text.as_slice());
         let answer = take_known(alloc, &mut scanner, &mut locator, queue);
         let scanner = scanner.at_rest();
-        let standing = Standing {
+        let standing = ScannedText {
             text,
             scanner,
             locator,

@@ -6,12 +6,12 @@ ghost use Rattle.yaml_scan_model.specs.Faults.{fault_of};
 ghost use Rattle.yaml_scan_decode.specs.DecodedText.{text_bytes};
 ghost use Rattle.yaml_scan_core.specs.Told.{Locates};
 ghost use Rattle.yaml_scan_core.specs.Waiting.{knows};
-ghost use Rattle.yaml_scan.specs.declared.known.Standing.{Standing};
-ghost use Rattle.yaml_scan.specs.Known.{FillsStanding, IsReady, first_known, scanner_of};
+ghost use Rattle.yaml_scan.specs.declared.known.ScannedText.{ScannedText};
+ghost use Rattle.yaml_scan.specs.Known.{FillsText, IsReady, first_known, scanner_of};
 ghost use Rattle.yaml_scan.specs.Session.{Looks};
 ghost use Rattle.yaml_scan.specs.SessionView.{IsReading, Keeps, ReadsOn, Stood, view_of};
 
-use crate::known::{Queue, Standing};
+use crate::known::{Queue, ScannedText};
 use std::alloc::Global;
 use yaml_scan_model::{yaml_encoding_t, yaml_fault_t, yaml_token_t};
 
@@ -22,7 +22,7 @@ pub(crate) struct Reading<'a> {
     pub input: &'a [u8],
     pub setting: yaml_encoding_t,
     /// The decoded text and its scanner: none before the first call.
-    pub standing: Option<Standing<'a>>,
+    pub standing: Option<ScannedText<'a>>,
     pub queue: Queue,
     /// The fault that was answered: nothing comes after it.
     pub fault: Option<yaml_fault_t>,
@@ -69,26 +69,26 @@ impl<'a> Reading<'a> {
     }
 
     /// Takes the scanner out. Before the first call the input is decoded.
-    fn stand(&mut self) -> Result<Standing<'a>, yaml_fault_t>
+    fn stand(&mut self) -> Result<ScannedText<'a>, yaml_fault_t>
         ensures same { self.new ≡ record self.old { standing = None } }
         ensures stood { Stood self.old.standing self.old.setting self.old.input.now result }
     {
         match self.standing.take() {
             Some(standing) => Ok(standing),
-            None => Standing::new(self.alloc, self.input, self.setting),
+            None => ScannedText::new(self.alloc, self.input, self.setting),
         }
     }
 
     /// Takes all tokens that are known next of a scanner, and puts it back.
-    fn fill_from(&mut self, standing: Standing<'a>) -> Result<(), yaml_fault_t>
+    fn fill_from(&mut self, standing: ScannedText<'a>) -> Result<(), yaml_fault_t>
         requires ready { IsReady (scanner_of standing) }
         requires idle { standing.scanner.ended ≡ true
             → knows (scanner_of standing) ≡ false }
         requires locates { Locates (text_bytes standing.text) standing.locator }
         requires none { self.old.queue.known.items ≡ [] }
         ensures keeps { Keeps self.old self.new }
-        ensures fills { (z : Standing) × (self.new.standing ≡ Some z)
-            × FillsStanding standing.entry z self.old.queue self.new.queue result }
+        ensures fills { (z : ScannedText) × (self.new.standing ≡ Some z)
+            × FillsText standing.entry z self.old.queue self.new.queue result }
     {
         let (standing, answer) = standing.fill(self.alloc, &mut self.queue);
         self.standing = Some(standing);

@@ -1,6 +1,6 @@
 //! Tokens, one after another.
 
-ghost use Rattle.std.specs.Prelude.{◌≡◌, ⊤, option_map, true};
+ghost use Rattle.std.specs.Prelude.{◌≡◌, ⊤, [], option_map, true};
 ghost use Rattle.std.specs.Borrow.{sem, follows_so};
 ghost use mir.Syntax.{named};
 ghost use mathlib.Core.Option.{none};
@@ -71,8 +71,10 @@ pub fn yaml_parser_scan(parser: &mut yaml_parser_t) -> Result<yaml_token_t, yaml
     ensures scans { Scans parser.old parser.new result }
     ensures few { HoldsLittle parser.new }
 {
-    parser.reading.fill()?;
-    Ok(parser.reading.queue.pop())
+    match parser.reading.fill() {
+        Ok(()) => Ok(parser.reading.queue.pop()),
+        Err(fault) => Err(fault),
+    }
 }
 
 /// Lends the token that the next scan gives, and takes nothing. Refused as a scan is.

@@ -1,7 +1,5 @@
-use Rattle.std.proofs.Common.{rules, ◌≡◌, [], false, true, sym, ◌∙◌, subst}
-use Rattle.yaml_scan_core.specs.Waiting.{knows}
+use Rattle.std.proofs.Common.{rules, sym, ◌∙◌, subst}
 use Rattle.yaml_scan_core.proofs.MoreLemmas.{knows_more, token_known}
-use Rattle.yaml_scan.specs.declared.known.Known.{Known}
 use Rattle.yaml_scan.specs.Known.{Fails, GivesAll}
 use Rattle.yaml_scan_model.specs.Faults.{fault_of}
 use Rattle.yaml_scan.proofs.KnownLemmas.{fails_more, fewer_left, gives_none, goes_no_more, goes_on, goes_with, more_there, some_with, starts_with}

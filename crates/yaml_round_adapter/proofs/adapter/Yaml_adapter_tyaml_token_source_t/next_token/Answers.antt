@@ -13,7 +13,7 @@ invariant_of-self c = record {
 }
 
 pub returns-in-Err-clause-err : goal.returns-in-Err-clause-err
-returns-in-Err-clause-err c = rw (← c.self.view_is) (gives_fault c.self.inside.session c.yaml_parser_scan.new.parser (fault_of c.in-Err.fault) (inl c.in-Err.ensures.scans))
+returns-in-Err-clause-err c = rw (← c.self.view_is) (gives_fault c.self.inside.session c.yaml_parser_scan.new.parser (fault_of c.in-Err.refused) (inl c.in-Err.ensures.scans))
 
 pub returns-in-Err-clause-own : goal.returns-in-Err-clause-own
 returns-in-Err-clause-own c = rw (← c.self.view_is) (inl c.in-Err.ensures.scans, c.yaml_parser_scan.ensures.few)

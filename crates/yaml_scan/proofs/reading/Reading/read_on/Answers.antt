@@ -1,7 +1,6 @@
-use Rattle.std.proofs.Common.{◌≡◌, ◌∙◌, [], ap, subst, sym}
-use Rattle.yaml_scan.specs.declared.known.Known.{Known}
+use Rattle.std.proofs.Common.{◌∙◌, ap, subst}
 use Rattle.yaml_scan.specs.declared.reading.Reading.{Reading}
-use Rattle.yaml_scan.specs.Known.{FillsStanding}
+use Rattle.yaml_scan.specs.Known.{FillsText}
 use Rattle.yaml_scan.specs.SessionView.{Keeps}
 use Rattle.yaml_scan.proofs.ReadingLemmas.{ahead, reads_none, reads_on}
 use Rattle.yaml_scan.proofs.reading.Reading.read_on.Goals as goal
@@ -25,7 +24,7 @@ returns-in-Ok c =
     let a = ahead r.setting r.input.now r.standing r.queue.known.items r.queue.taken z c.stand.result (c.requires.reading.holds c.requires.free) c.requires.none c.stand.ensures.stood c.in-Ok.is in
     let keeps : Keeps r q = c.fill_from.ensures.keeps ∙ ap (λ (x : Reading). record x { standing = q.standing; queue = q.queue }) c.stand.ensures.same in
     let (y, stood, fills) = c.fill_from.ensures.fills in
-    let filled : FillsStanding z y r.queue q.queue c.fill_from.result = subst (λ (x : Reading). FillsStanding z y x.queue q.queue c.fill_from.result) c.stand.ensures.same fills in
+    let filled : FillsText z y r.queue q.queue c.fill_from.result = subst (λ (x : Reading). FillsText z y x.queue q.queue c.fill_from.result) c.stand.ensures.same fills in
     record {
       keeps = keeps;
       reads = reads_on r q z y c.fill_from.result a c.requires.reading c.requires.free c.requires.none keeps stood filled;

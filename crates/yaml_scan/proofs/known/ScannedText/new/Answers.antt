@@ -1,10 +1,10 @@
-use Rattle.std.proofs.Common.{◌∙◌, subst, sym}
+use Rattle.std.proofs.Common.{subst, sym}
 use Rattle.yaml_scan_decode.specs.DecodedText.{text_bytes}
 use Rattle.yaml_scan_core.specs.Asked as asked
 use Rattle.yaml_scan_core.specs.Scanning.{IsDecoded}
-use Rattle.yaml_scan.proofs.BeginLemmas.{refused_decoding, refused_memory, starts_there}
+use Rattle.yaml_scan.proofs.BeginLemmas.{refused_memory, starts_there}
 use Rattle.yaml_scan.proofs.Spelling.{decoded_is}
-use Rattle.yaml_scan.proofs.known.Standing.new.Goals as goal
+use Rattle.yaml_scan.proofs.known.ScannedText.new.Goals as goal
 
 pub new-requires-clause-decoded : goal.new-requires-clause-decoded
 new-requires-clause-decoded c = subst IsDecoded (sym c.as_slice.ensures) (decoded_is c.args.setting c.args.input.now (text_bytes c.in_ok-text.text) c.in_ok-text.ensures.spelled)

@@ -1,8 +1,8 @@
 use Rattle.std.proofs.Common.{refl, sym, subst, ◌∙◌}
 use Rattle.yaml_scan_core.specs.Told.{Locates}
 use Rattle.yaml_scan_decode.specs.DecodedText.{text_bytes}
-use Rattle.yaml_scan.proofs.StandingLemmas.{fills_over, idle_on, locates_over, ready_on}
-use Rattle.yaml_scan.proofs.known.Standing.fill.Goals as goal
+use Rattle.yaml_scan.proofs.RestingLemmas.{fills_over, idle_on, locates_over, ready_on}
+use Rattle.yaml_scan.proofs.known.ScannedText.fill.Goals as goal
 
 pub take_known-answer-requires : goal.take_known-answer-requires
 take_known-answer-requires c =

@@ -1,24 +1,19 @@
 //! The events of an input, as records.
 
-ghost use Rattle.std.specs.Prelude.{◌≡◌, ◌⊎◌, pos, IfOk, IfErr};
-ghost use Rattle.yaml_parse.specs.Faults.{fault_of, IsMemoryFault, parse_layers};
-ghost use Rattle.yaml_round.specs.Input.{ReadsInput};
+ghost use Rattle.std.specs.Prelude.{◌≡◌, ◌⊎◌, pos};
 ghost use Rattle.yaml_round_records.specs.Numbers.{encoding_meant};
 ghost use Rattle.yaml_round_answers.specs.Told.{AnswersMeant, TellsMemory};
 ghost use Rattle.yaml_round_answers.specs.Parses.{HasNothing, HandsOut, HandsOutUnless, Parses, IsCollected, EndsFront, Fronts, NothingUnmeant};
 ghost use Rattle.yaml_round_answers.specs.Spelled.{spelled_text};
-ghost use Rattle.yaml_round_records.specs.Listing.{StartsEmpty};
+ghost use Rattle.yaml_round_records.specs.Listing.{Collects, StartsEmpty};
 
 use crate::answer::{handed_out, misused, refused_in, said, yaml_c_answer};
 use crate::spelled::{is_starved, spelled_text};
 use std::alloc::Global;
-use yaml_parse::{
-    yaml_memory_fault, yaml_origin_t, yaml_parser_delete, yaml_parser_initialize, yaml_parser_t,
-};
-use yaml_round::{yaml_adapter_t, yaml_encoding_t, yaml_fault_t};
-use yaml_round_records::{
-    Listing, collect, count_events, encoding_of, yaml_c_directive, yaml_c_event,
-};
+use yaml_parse::{yaml_found_t, yaml_memory_fault, yaml_origin_t};
+use yaml_round::{yaml_encoding_t, yaml_fault_t};
+use yaml_round_reading::{ReadText, Reading, let_go, let_text_go, read_text, reading_of};
+use yaml_round_records::{Listing, count_events, encoding_of, yaml_c_directive, yaml_c_event};
 
 /// The events of an input, and the bytes and directives that they speak of. All three are the caller's to free, where they
 /// have any item.
@@ -32,22 +27,40 @@ pub struct yaml_c_parsed {
 
 const _: () = prove!(size_of::<yaml_c_parsed>() == 48);
 
-// A parser of the input that has given nothing yet.
-fn parser_of<'a>(
-    alloc: Global,
-    input: &'a [u8],
-    from: yaml_encoding_t,
-) -> Result<yaml_parser_t<yaml_adapter_t<'a>>, yaml_fault_t>
-    ensures reads { IfOk result (ReadsInput from input.now) }
-    ensures memory { IfErr result (λ f. IsMemoryFault parse_layers (fault_of f)) }
+// Records of the events to their end, in a listing of nothing. The fault that ends them is the answer.
+fn collect(reading: &mut Reading<'_>, listing: &mut Listing) -> Result<(), yaml_fault_t>
+    requires { StartsEmpty listing.old }
+    ensures { Collects reading.old.parser result listing.new }
 {
-    match yaml_parser_initialize(alloc, yaml_adapter_t::reading_ahead(alloc, input, from)) {
-        Ok(reading) => Ok(reading),
-        Err(fault) => Err(fault),
+    'events: loop {
+        match reading.find() {
+            yaml_found_t::Refused => return Err(reading.fault),
+            yaml_found_t::End => return Ok(()),
+            yaml_found_t::Event => {
+                if listing.push(&reading.event).is_err() {
+                    return Err(yaml_memory_fault(yaml_origin_t::Parser));
+                }
+            }
+        }
     }
 }
 
-// One function owns the parser of both calls.
+// Records of the events of the input whose text it is.
+fn listed_in(alloc: Global, text: &ReadText<'_>, listing: &mut Listing) -> Result<(), yaml_fault_t>
+    requires { StartsEmpty listing.old }
+    ensures { EndsFront text.now.from text.now.bytes result listing.new }
+{
+    match reading_of(alloc, text) {
+        Err(fault) => Err(fault),
+        Ok(mut reading) => {
+            let end = collect(&mut reading, listing);
+            let_go(reading);
+            end
+        }
+    }
+}
+
+// One function owns the text of both calls.
 fn fronted(
     alloc: Global,
     input: &[u8],
@@ -57,14 +70,10 @@ fn fronted(
     requires { StartsEmpty listing.old }
     ensures { EndsFront from input.now result listing.new }
 {
-    match parser_of(alloc, input, from) {
-        Err(fault) => Err(fault),
-        Ok(mut reading) => {
-            let end = collect(&mut reading, listing);
-            yaml_parser_delete(reading);
-            end
-        }
-    }
+    let text = read_text(alloc, input, from);
+    let end = listed_in(alloc, &text, listing);
+    let_text_go(text);
+    end
 }
 
 fn collected(alloc: Global, input: &[u8], from: yaml_encoding_t) -> Result<Listing, yaml_fault_t>

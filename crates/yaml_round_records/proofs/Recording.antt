@@ -2,12 +2,14 @@
 use Rattle.std.proofs.Common.{◌≡◌, ◌∙◌, ap, sym, subst, refl, ℕ, ℤ, pos, List, [], ◌++◌, Bool, true, false, Option, Some}
 use Rattle.std.specs.Option.{is_some}
 use Rattle.yaml_parse.specs.declared.yaml_encoding_t.{yaml_encoding_t}
+use Rattle.yaml_parse.specs.declared.yaml_event_body_t.{yaml_event_body_t}
+use Rattle.yaml_parse.specs.declared.yaml_event_body_t.TheVariants as body
 use Rattle.yaml_parse.specs.declared.yaml_event_type_t.TheVariants as kind
 use Rattle.yaml_parse.specs.declared.yaml_scalar_style_t.{yaml_scalar_style_t}
 use Rattle.yaml_parse.specs.declared.yaml_sequence_style_t.{yaml_sequence_style_t}
 use Rattle.yaml_parse.specs.declared.yaml_mapping_style_t.{yaml_mapping_style_t}
 use Rattle.yaml_parse.specs.declared.yaml_version_directive_t.{yaml_version_directive_t}
-use Rattle.yaml_parse.specs.Events.{Event, EventBody, TagDirective}
+use Rattle.yaml_parse.specs.Events.{Event, EventBody, TagDirective, body_of}
 use Rattle.yaml_parse.specs.Events as event
 use Rattle.yaml_round_records.specs.declared.record.yaml_c_mark.{yaml_c_mark}
 use Rattle.yaml_round_records.specs.declared.record.yaml_c_span.{yaml_c_span}
@@ -17,7 +19,7 @@ use Rattle.yaml_round_records.specs.declared.listing.Listing.{Listing}
 use Rattle.yaml_round_records.specs.Numbers.{is_set, flag_told, kind_meant, encoding_meant, scalar_style_meant, sequence_style_meant, mapping_style_meant}
 use Rattle.yaml_round_records.specs.Records.{mark_told, part_at, optional_at, directives_at, version_by, document_by, body_by, span_told, number_told, bare, node_told, plain, body_meant}
 use Rattle.yaml_round_records.specs.Blocks.{body_texts, body_directives}
-use Rattle.yaml_round_records.specs.Listing.{IsBase, PutsAnchor, PutsScalar, PutsProperties, PutsDocument, AppendsDirectives, Records}
+use Rattle.yaml_round_records.specs.Listing.{IsBase, HasNumbers, PutsAnchor, PutsScalar, PutsProperties, PutsDocument, AppendsDirectives, Records}
 use Rattle.yaml_round_records.proofs.Placing.{grows_itself}
 use Rattle.yaml_round_records.proofs.Directing.{none_appended}
 use Rattle.std.proofs.lemmas.List.{append-nil}
@@ -101,7 +103,7 @@ only_plain r n s t p =
 bare_at : (r : yaml_c_event) (b d : EventBody) → d ≡ b → r ≡ bare b r → r ≡ bare d r
 bare_at r b d e h = h ∙ ap (λ z. bare z r) (sym e)
 
-pub recorded_alone : (l : Listing) (e : Event) (n : ℤ) (r : yaml_c_event) (b : EventBody)
+recorded_alone : (l : Listing) (e : Event) (n : ℤ) (r : yaml_c_event) (b : EventBody)
     → IsBase n e r → e.body ≡ b → [] ≡ body_texts b
     → [] ≡ body_directives b → r ≡ bare b r
     → ((bytes : List ℕ) (list : List yaml_c_directive) → body_meant bytes list r ≡ Some b)
@@ -109,7 +111,7 @@ pub recorded_alone : (l : Listing) (e : Event) (n : ℤ) (r : yaml_c_event) (b :
 recorded_alone l e n r b base is mute none only means =
     alone l e n r base (mute ∙ ap body_texts (sym is)) (none ∙ ap body_directives (sym is)) (bare_at r b e.body is only) (λ bytes list. means bytes list ∙ ap Some (sym is))
 
-pub plain_recorded : (l : Listing) (e : Event) (n : ℤ) (r : yaml_c_event) (b : EventBody)
+plain_recorded : (l : Listing) (e : Event) (n : ℤ) (r : yaml_c_event) (b : EventBody)
     → r ≡ plain n (mark_told e.start_mark) (mark_told e.end_mark) → e.body ≡ b → [] ≡ body_texts b
     → [] ≡ body_directives b
     → plain n r.start r.end ≡ bare b r
@@ -118,34 +120,39 @@ pub plain_recorded : (l : Listing) (e : Event) (n : ℤ) (r : yaml_c_event) (b :
 plain_recorded l e n r b p is mute none only means =
     recorded_alone l e n r b (plain_base e n r p) is mute none (only_plain r n _ _ p ∙ only) (λ bytes list. means bytes list r (ap (λ (z : yaml_c_event). z.kind) p))
 
-pub means_nothing : (bytes : List ℕ) (list : List yaml_c_directive) (r : yaml_c_event)
+-- what a record has of an event, by its body
+pub numbers_of : (e : Event) (r : yaml_c_event) (b : EventBody) → b ≡ e.body
+    → HasNumbers e.body e r → HasNumbers b e r
+numbers_of e r b is h = subst (λ z. HasNumbers z e r) (sym is) h
+
+means_nothing : (bytes : List ℕ) (list : List yaml_c_directive) (r : yaml_c_event)
     → r.kind ≡ pos 0 → body_meant bytes list r ≡ Some event.no
 unfolding body_meant kind_meant
 means_nothing bytes list r k = rw k refl
 
-pub means_stream_start : (bytes : List ℕ) (list : List yaml_c_directive) (r : yaml_c_event)
+means_stream_start : (bytes : List ℕ) (list : List yaml_c_directive) (r : yaml_c_event)
     (x : yaml_encoding_t) → r.kind ≡ pos 1
     → encoding_meant r.encoding ≡ Some x → body_meant bytes list r ≡ Some (event.stream_start x)
 unfolding body_meant kind_meant
 means_stream_start bytes list r x k e = rw (k, e) refl
 
-pub means_stream_end : (bytes : List ℕ) (list : List yaml_c_directive) (r : yaml_c_event)
+means_stream_end : (bytes : List ℕ) (list : List yaml_c_directive) (r : yaml_c_event)
     → r.kind ≡ pos 2 → body_meant bytes list r ≡ Some event.stream_end
 unfolding body_meant kind_meant
 means_stream_end bytes list r k = rw k refl
 
-pub means_document_end : (bytes : List ℕ) (list : List yaml_c_directive) (r : yaml_c_event)
+means_document_end : (bytes : List ℕ) (list : List yaml_c_directive) (r : yaml_c_event)
     (i : Bool) → r.kind ≡ pos 4 → is_set r.implicit ≡ i
     → body_meant bytes list r ≡ Some (event.document_end i)
 unfolding body_meant kind_meant
 means_document_end bytes list r i k e = rw (k, e) refl
 
-pub means_sequence_end : (bytes : List ℕ) (list : List yaml_c_directive) (r : yaml_c_event)
+means_sequence_end : (bytes : List ℕ) (list : List yaml_c_directive) (r : yaml_c_event)
     → r.kind ≡ pos 8 → body_meant bytes list r ≡ Some event.sequence_end
 unfolding body_meant kind_meant
 means_sequence_end bytes list r k = rw k refl
 
-pub means_mapping_end : (bytes : List ℕ) (list : List yaml_c_directive) (r : yaml_c_event)
+means_mapping_end : (bytes : List ℕ) (list : List yaml_c_directive) (r : yaml_c_event)
     → r.kind ≡ pos 10 → body_meant bytes list r ≡ Some event.mapping_end
 unfolding body_meant kind_meant
 means_mapping_end bytes list r k = rw k refl
@@ -181,6 +188,34 @@ means_mapping : (bytes : List ℕ) (list : List yaml_c_directive) (r : yaml_c_ev
     → is_set r.implicit ≡ i → body_meant bytes list r ≡ Some (event.mapping_start a t i s)
 unfolding body_meant kind_meant
 means_mapping bytes list r a t i s k ha ht hs hi = rw (k, ha, ht, hs, hi) refl
+
+-- a record without texts and directives is that of the event
+pub mute_recorded : (l : Listing) (e : Event) (r : yaml_c_event) (b : yaml_event_body_t)
+    → body_of b ≡ e.body → HasNumbers e.body e r
+    → ((v : _) (ds : _) (i : _) → b ≡ body.DocumentStart v ds i → ⊥)
+    → ((a : _) → b ≡ body.Alias a → ⊥)
+    → ((a : _) (t : _) (v : _) (p : _) (q : _) (s : _) → b ≡ body.Scalar a t v p q s → ⊥)
+    → ((a : _) (t : _) (i : _) (s : _) → b ≡ body.SequenceStart a t i s → ⊥)
+    → ((a : _) (t : _) (i : _) (s : _) → b ≡ body.MappingStart a t i s → ⊥) → Records l e l r
+mute_recorded l e r body.No is h d a s q m =
+    plain_recorded l e (pos 0) r event.no (numbers_of e r event.no is h) (sym is) refl refl refl means_nothing
+mute_recorded l e r (body.StreamStart x) is h d a s q m =
+    let n = numbers_of e r (event.stream_start x) is h in
+    recorded_alone l e (pos 1) r (event.stream_start x) n.0 (sym is) refl refl n.2 (λ bytes list. means_stream_start bytes list r x n.0.kind n.1)
+mute_recorded l e r body.StreamEnd is h d a s q m =
+    plain_recorded l e (pos 2) r event.stream_end (numbers_of e r event.stream_end is h) (sym is) refl refl refl means_stream_end
+mute_recorded l e r (body.DocumentStart v ds i) is h d a s q m = absurd (d v ds i refl)
+mute_recorded l e r (body.DocumentEnd i) is h d a s q m =
+    let n = numbers_of e r (event.document_end i) is h in
+    recorded_alone l e (pos 4) r (event.document_end i) n.0 (sym is) refl refl n.2 (λ bytes list. means_document_end bytes list r i n.0.kind n.1)
+mute_recorded l e r (body.Alias x) is h d a s q m = absurd (a x refl)
+mute_recorded l e r (body.Scalar x t v i o y) is h d a s q m = absurd (s x t v i o y refl)
+mute_recorded l e r (body.SequenceStart x t i y) is h d a s q m = absurd (q x t i y refl)
+mute_recorded l e r body.SequenceEnd is h d a s q m =
+    plain_recorded l e (pos 8) r event.sequence_end (numbers_of e r event.sequence_end is h) (sym is) refl refl refl means_sequence_end
+mute_recorded l e r (body.MappingStart x t i y) is h d a s q m = absurd (m x t i y refl)
+mute_recorded l e r body.MappingEnd is h d a s q m =
+    plain_recorded l e (pos 10) r event.mapping_end (numbers_of e r event.mapping_end is h) (sym is) refl refl refl means_mapping_end
 
 document_means : (o : Option (List TagDirective)) (r : yaml_c_event)
     (v : Option yaml_version_directive_t) (ts : List TagDirective) (i : Bool)

@@ -1,8 +1,9 @@
 -- Events that are put into records, one after another: what a record says stays as the block and the list grow.
-use Rattle.std.specs.Prelude.{◌≡◌, ◌⊎◌, ℕ, ℤ, List, [], ◌∷◌, ◌++◌, length, map, Option, None, Some, Result, Ok, Err}
+use Rattle.std.specs.Prelude.{◌≡◌, ◌⊎◌, ℕ, ℤ, pos, List, [], ◌∷◌, ◌++◌, length, map, Option, None, Some, Result, Ok, Err}
 use Rattle.std.specs.Option.{is_some}
 use Rattle.yaml_parse.specs.declared.yaml_fault_t.{yaml_fault_t}
 use Rattle.yaml_parse.specs.Events.{Event, EventBody, TagDirective}
+use Rattle.yaml_parse.specs.Events as event
 use Rattle.yaml_parse.specs.Faults.{fault_of, IsMemoryFault, parse_layers}
 use Rattle.yaml_parse.specs.Resolve.{Told}
 use Rattle.yaml_parse.specs.Remaining.{ParserRemaining}
@@ -10,8 +11,8 @@ use Rattle.yaml_round_records.specs.declared.record.yaml_c_span.{yaml_c_span}
 use Rattle.yaml_round_records.specs.declared.record.yaml_c_directive.{yaml_c_directive}
 use Rattle.yaml_round_records.specs.declared.record.yaml_c_event.{yaml_c_event}
 use Rattle.yaml_round_records.specs.declared.listing.Listing.{Listing}
-use Rattle.yaml_round_records.specs.Numbers.{flag_told}
-use Rattle.yaml_round_records.specs.Records.{mark_told, part_at, optional_at, all_directives, directives_at, span_told, bare, body_meant, AllSay}
+use Rattle.yaml_round_records.specs.Numbers.{is_set, flag_told, encoding_meant, scalar_style_meant, sequence_style_meant, mapping_style_meant}
+use Rattle.yaml_round_records.specs.Records.{mark_told, part_at, optional_at, all_directives, directives_at, version_by, number_told, span_told, plain, bare, body_meant, AllSay}
 use Rattle.yaml_round_records.specs.Blocks.{optional_text, directive_texts, body_texts, body_directives, all_texts, listed_directives}
 
 -- ---- what grows
@@ -96,6 +97,41 @@ pub record IsBase (number : ℤ) (e : Event) (r : yaml_c_event) : Type 0 where
   pub kind : r.kind ≡ number
   pub start : r.start ≡ mark_told e.start_mark
   pub end : r.end ≡ mark_told e.end_mark
+
+-- what a record has of an event before its texts and directives are put: kind, marks, flags and numbers
+abbrev pub HasNumbers : EventBody → Event → yaml_c_event → Type 0
+HasNumbers event.no e r = r ≡ plain (pos 0) (mark_told e.start_mark) (mark_told e.end_mark)
+HasNumbers (event.stream_start x) e r = IsBase (pos 1) e r × (encoding_meant r.encoding ≡ Some x)
+    × (r ≡ record (plain (pos 1) r.start r.end) { encoding = r.encoding })
+HasNumbers event.stream_end e r = r ≡ plain (pos 2) (mark_told e.start_mark) (mark_told e.end_mark)
+HasNumbers (event.document_start v ds i) e r = IsBase (pos 3) e r
+    × (version_by (is_set r.has_version) r ≡ v) × (is_set r.implicit ≡ i)
+    × (r ≡ record (plain (pos 3) r.start r.end) {
+      implicit = flag_told i;
+      has_version = flag_told (is_some v);
+      major = number_told v r.major;
+      minor = number_told v r.minor;
+    })
+HasNumbers (event.document_end i) e r = IsBase (pos 4) e r × (is_set r.implicit ≡ i)
+    × (r ≡ record (plain (pos 4) r.start r.end) { implicit = flag_told i })
+HasNumbers (event.alias a) e r = r ≡ plain (pos 5) (mark_told e.start_mark) (mark_told e.end_mark)
+HasNumbers (event.scalar a t v p q s) e r = IsBase (pos 6) e r × (is_set r.implicit ≡ p)
+    × (is_set r.quoted_implicit ≡ q) × (scalar_style_meant r.style ≡ Some s)
+    × (r ≡ record (plain (pos 6) r.start r.end) {
+      implicit = flag_told p;
+      quoted_implicit = flag_told q;
+      style = r.style;
+    })
+HasNumbers (event.sequence_start a t i s) e r = IsBase (pos 7) e r × (is_set r.implicit ≡ i)
+    × (sequence_style_meant r.style ≡ Some s)
+    × (r ≡ record (plain (pos 7) r.start r.end) { implicit = flag_told i; style = r.style })
+HasNumbers event.sequence_end e r = r
+    ≡ plain (pos 8) (mark_told e.start_mark) (mark_told e.end_mark)
+HasNumbers (event.mapping_start a t i s) e r = IsBase (pos 9) e r × (is_set r.implicit ≡ i)
+    × (mapping_style_meant r.style ≡ Some s)
+    × (r ≡ record (plain (pos 9) r.start r.end) { implicit = flag_told i; style = r.style })
+HasNumbers event.mapping_end e r = r
+    ≡ plain (pos 10) (mark_told e.start_mark) (mark_told e.end_mark)
 
 -- a directive's texts stand there
 pub record PutsDirective (old : List ℕ) (t : TagDirective) (new : List ℕ)

@@ -2,7 +2,6 @@
 //! records over one block of bytes.
 #![tactic(auto)]
 
-mod collecting;
 mod counted;
 mod counting;
 mod emitter;
@@ -18,7 +17,6 @@ mod token_counted;
 mod token_listing;
 mod token_record;
 
-pub use collecting::collect;
 pub use counted::count_events;
 pub use counting::characters_before;
 pub use emitter::{Asked, asked_of, emitted};

@@ -5,7 +5,7 @@ ghost use Rattle.yaml_parse.specs.Events.{event_of, directive_of, text_of};
 ghost use Rattle.std.specs.Option.{is_some};
 ghost use Rattle.yaml_round_records.specs.Numbers.{is_set, flag_told, encoding_meant, scalar_style_meant, sequence_style_meant, mapping_style_meant};
 ghost use Rattle.yaml_round_records.specs.Records.{mark_told, plain, version_by, number_told};
-ghost use Rattle.yaml_round_records.specs.Listing.{PutsText, PutsOptional, PutsProperties, PutsAnchor, PutsScalar, PutsDirective, PutsDirectives, PutsDocument, IsBase, Records, AddsRecord};
+ghost use Rattle.yaml_round_records.specs.Listing.{PutsText, PutsOptional, PutsProperties, PutsAnchor, PutsScalar, PutsDirective, PutsDirectives, PutsDocument, IsBase, HasNumbers, Records, AddsRecord};
 
 use crate::number::{
     encoding_number, flag, mapping_style_number, scalar_style_number, sequence_style_number,
@@ -303,63 +303,74 @@ fn mapping_base(event: &yaml_event_t, implicit: bool, style: yaml_mapping_style_
     record
 }
 
-// The record of an event, whose texts and directives are put after the others. It is long because it has an arm for each
-// kind of event.
+// What a record has of an event before its texts and directives are put.
+fn base_of(event: &yaml_event_t) -> yaml_c_event
+    ensures { HasNumbers (event_of event.now).body (event_of event.now) result }
+{
+    match &event.body {
+        yaml_event_body_t::No => plain(0, event),
+        yaml_event_body_t::StreamStart { encoding } => stream_start_base(event, *encoding),
+        yaml_event_body_t::StreamEnd => plain(2, event),
+        yaml_event_body_t::DocumentStart {
+            version_directive,
+            implicit,
+            ..
+        } => document_start_base(event, *version_directive, *implicit),
+        yaml_event_body_t::DocumentEnd { implicit } => document_end_base(event, *implicit),
+        yaml_event_body_t::Alias { .. } => plain(5, event),
+        yaml_event_body_t::Scalar {
+            plain_implicit,
+            quoted_implicit,
+            style,
+            ..
+        } => scalar_base(event, *plain_implicit, *quoted_implicit, *style),
+        yaml_event_body_t::SequenceStart {
+            implicit,
+            style,
+            ..
+        } => sequence_base(event, *implicit, *style),
+        yaml_event_body_t::SequenceEnd => plain(8, event),
+        yaml_event_body_t::MappingStart {
+            implicit,
+            style,
+            ..
+        } => mapping_base(event, *implicit, *style),
+        yaml_event_body_t::MappingEnd => plain(10, event),
+    }
+}
+
+// The record of an event, whose texts and directives are put after the others.
 fn record_of(listing: &mut Listing, event: &yaml_event_t) -> Result<yaml_c_event, AllocError>
     ensures { IfOk result (Records listing.old (event_of event.now) listing.new) }
 {
+    let base = base_of(event);
     match &event.body {
-        yaml_event_body_t::No => Ok(plain(0, event)),
-        yaml_event_body_t::StreamStart { encoding } => Ok(stream_start_base(event, *encoding)),
-        yaml_event_body_t::StreamEnd => Ok(plain(2, event)),
-        yaml_event_body_t::DocumentStart {
-            version_directive,
-            tag_directives,
-            implicit,
-        } => {
-            let base = document_start_base(event, *version_directive, *implicit);
+        yaml_event_body_t::DocumentStart { tag_directives, .. } => {
             let record = document_record(listing, base, tag_directives)?;
             Ok(record)
         }
-        yaml_event_body_t::DocumentEnd { implicit } => Ok(document_end_base(event, *implicit)),
         yaml_event_body_t::Alias { anchor } => {
-            let record = alias_record(&mut listing.bytes, plain(5, event), anchor)?;
+            let record = alias_record(&mut listing.bytes, base, anchor)?;
             Ok(record)
         }
         yaml_event_body_t::Scalar {
             anchor,
             tag,
             value,
-            plain_implicit,
-            quoted_implicit,
-            style,
+            ..
         } => {
-            let base = scalar_base(event, *plain_implicit, *quoted_implicit, *style);
             let record = scalar_record(&mut listing.bytes, base, anchor, tag, value)?;
             Ok(record)
         }
-        yaml_event_body_t::SequenceStart {
-            anchor,
-            tag,
-            implicit,
-            style,
-        } => {
-            let base = sequence_base(event, *implicit, *style);
+        yaml_event_body_t::SequenceStart { anchor, tag, .. } => {
             let record = with_properties(&mut listing.bytes, base, anchor, tag)?;
             Ok(record)
         }
-        yaml_event_body_t::SequenceEnd => Ok(plain(8, event)),
-        yaml_event_body_t::MappingStart {
-            anchor,
-            tag,
-            implicit,
-            style,
-        } => {
-            let base = mapping_base(event, *implicit, *style);
+        yaml_event_body_t::MappingStart { anchor, tag, .. } => {
             let record = with_properties(&mut listing.bytes, base, anchor, tag)?;
             Ok(record)
         }
-        yaml_event_body_t::MappingEnd => Ok(plain(10, event)),
+        _ => Ok(base),
     }
 }
 

@@ -3,10 +3,11 @@
 ghost use Rattle.std.specs.Prelude.{◌≡◌, [], ◌++◌, length, pos, IfOk};
 ghost use Rattle.yaml_scan.specs.Tokens.{token_of};
 ghost use Rattle.yaml_scan.specs.Session.{HasFirst};
-ghost use Rattle.yaml_round_records.specs.TokensListed.{ListsTokens, EndsListed, ListsNext, MakesRecord, Adds, with_value, with_both};
+ghost use Rattle.yaml_round_records.specs.Records.{mark_told};
+ghost use Rattle.yaml_round_records.specs.TokensListed.{ListsTokens, EndsListed, ListsNext, MakesRecord, Adds, plain, record_at, with_value, with_both};
 
 use crate::listing::push_text;
-use crate::record::{mark_told, yaml_c_mark};
+use crate::record::mark_told;
 use crate::token_record::{encoding_number, plain, style_number, yaml_c_token};
 use std::alloc::{AllocError, Global};
 use yaml_scan::{
@@ -61,61 +62,84 @@ fn named_twice(
     Ok(record)
 }
 
-// The record of a token, whose texts are put after the others. It is long because it has an arm for each kind of token.
+// A token's kind as a number.
+fn kind_number(token: &yaml_token_t) -> i32
+    ensures { result ≡ (record_at 0 (token_of token.now)).kind }
+{
+    match &token.body {
+        yaml_token_body_t::No => 0,
+        yaml_token_body_t::StreamStart { .. } => 1,
+        yaml_token_body_t::StreamEnd => 2,
+        yaml_token_body_t::VersionDirective { .. } => 3,
+        yaml_token_body_t::TagDirective { .. } => 4,
+        yaml_token_body_t::DocumentStart => 5,
+        yaml_token_body_t::DocumentEnd => 6,
+        yaml_token_body_t::BlockSequenceStart => 7,
+        yaml_token_body_t::BlockMappingStart => 8,
+        yaml_token_body_t::BlockEnd => 9,
+        yaml_token_body_t::FlowSequenceStart => 10,
+        yaml_token_body_t::FlowSequenceEnd => 11,
+        yaml_token_body_t::FlowMappingStart => 12,
+        yaml_token_body_t::FlowMappingEnd => 13,
+        yaml_token_body_t::BlockEntry => 14,
+        yaml_token_body_t::FlowEntry => 15,
+        yaml_token_body_t::Key => 16,
+        yaml_token_body_t::Value => 17,
+        yaml_token_body_t::Alias { .. } => 18,
+        yaml_token_body_t::Anchor { .. } => 19,
+        yaml_token_body_t::Tag { .. } => 20,
+        yaml_token_body_t::Scalar { .. } => 21,
+    }
+}
+
+// A record of a token's kind and marks, with nothing else.
+fn base_of(token: &yaml_token_t) -> yaml_c_token
+    ensures { result ≡ plain (record_at 0 (token_of token.now)).kind
+        (mark_told (token_of token.now).start_mark) (mark_told (token_of token.now).end_mark) }
+{
+    plain(
+        kind_number(token),
+        mark_told(token.start_mark),
+        mark_told(token.end_mark),
+    )
+}
+
+// The record of a token, whose texts are put after the others.
 fn record_of(bytes: &mut Vec<u8>, token: &yaml_token_t) -> Result<yaml_c_token, AllocError>
     ensures { IfOk result (MakesRecord bytes.old.items (token_of token.now) bytes.new.items) }
 {
-    let start = mark_told(token.start_mark);
-    let end = mark_told(token.end_mark);
+    let mut base = base_of(token);
     match &token.body {
-        yaml_token_body_t::No => Ok(plain(0, start, end)),
         yaml_token_body_t::StreamStart { encoding } => {
-            let mut record = plain(1, start, end);
-            record.encoding = encoding_number(*encoding);
-            Ok(record)
+            base.encoding = encoding_number(*encoding);
+            Ok(base)
         }
-        yaml_token_body_t::StreamEnd => Ok(plain(2, start, end)),
         yaml_token_body_t::VersionDirective { major, minor } => {
-            let mut record = plain(3, start, end);
-            record.major = *major;
-            record.minor = *minor;
+            base.major = *major;
+            base.minor = *minor;
+            Ok(base)
+        }
+        yaml_token_body_t::Alias { value } | yaml_token_body_t::Anchor { value } => {
+            let record = named(bytes, base, value)?;
             Ok(record)
         }
-        yaml_token_body_t::TagDirective { handle, prefix } => {
-            let record = named_twice(bytes, plain(4, start, end), handle, prefix)?;
-            Ok(record)
+        yaml_token_body_t::TagDirective {
+            handle,
+            prefix: text,
         }
-        yaml_token_body_t::DocumentStart => Ok(plain(5, start, end)),
-        yaml_token_body_t::DocumentEnd => Ok(plain(6, start, end)),
-        yaml_token_body_t::BlockSequenceStart => Ok(plain(7, start, end)),
-        yaml_token_body_t::BlockMappingStart => Ok(plain(8, start, end)),
-        yaml_token_body_t::BlockEnd => Ok(plain(9, start, end)),
-        yaml_token_body_t::FlowSequenceStart => Ok(plain(10, start, end)),
-        yaml_token_body_t::FlowSequenceEnd => Ok(plain(11, start, end)),
-        yaml_token_body_t::FlowMappingStart => Ok(plain(12, start, end)),
-        yaml_token_body_t::FlowMappingEnd => Ok(plain(13, start, end)),
-        yaml_token_body_t::BlockEntry => Ok(plain(14, start, end)),
-        yaml_token_body_t::FlowEntry => Ok(plain(15, start, end)),
-        yaml_token_body_t::Key => Ok(plain(16, start, end)),
-        yaml_token_body_t::Value => Ok(plain(17, start, end)),
-        yaml_token_body_t::Alias { value } => {
-            let record = named(bytes, plain(18, start, end), value)?;
-            Ok(record)
-        }
-        yaml_token_body_t::Anchor { value } => {
-            let record = named(bytes, plain(19, start, end), value)?;
-            Ok(record)
-        }
-        yaml_token_body_t::Tag { handle, suffix } => {
-            let record = named_twice(bytes, plain(20, start, end), handle, suffix)?;
+        | yaml_token_body_t::Tag {
+            handle,
+            suffix: text,
+        } => {
+            let record = named_twice(bytes, base, handle, text)?;
             Ok(record)
         }
         yaml_token_body_t::Scalar { value, style } => {
-            let mut base = plain(21, start, end);
             base.style = style_number(*style);
             let record = named(bytes, base, value)?;
             Ok(record)
         }
+        _ => Ok(base),
     }
 }
 

@@ -1,13 +1,13 @@
 -- One more event is said.
 use Rattle.std.proofs.Common.{◌∙◌, refl}
 use Rattle.yaml_round_records.proofs.Saying.{none_collected, one_collected, it_holds}
-use Rattle.yaml_round_records.proofs.collecting.collect_by.Goals as goal
+use Rattle.yaml_round_answers.proofs.parsing.collect.Goals as goal
 
 pub events-init : goal.events-init
-events-init g c = record { ending = refl; collected = none_collected _ _ c.requires }
+events-init c = record { ending = refl; collected = none_collected _ _ c.requires }
 
 pub events-preserved : goal.events-preserved
-events-preserved g c = record {
+events-preserved c = record {
   ending = c.in-Event.ensures.finds.ending ∙ c.events.invariant.ending;
   collected = one_collected _ _ _ _ _ _ c.events.invariant.collected c.in-Event.ensures.finds.events (it_holds _ c.push.result c.push.ensures c.if-is_err.ensures.value);
 }

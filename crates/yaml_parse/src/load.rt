@@ -1,9 +1,9 @@
 //! Documents of a parser's events.
 
-ghost use Rattle.std.specs.Prelude.{◌≡◌, ◌≤◌, true, IfOk, IfErr};
-ghost use Rattle.yaml_scan_model.specs.Faults.{fault_of};
+ghost use Rattle.std.specs.Prelude.{◌≡◌, ◌≤◌, ◌⊎◌, true, Some, IfOk, IfErr};
+ghost use Rattle.yaml_scan_model.specs.Faults.{fault_of, IsMemoryFault, load_layers};
 ghost use Rattle.yaml_parse_document.specs.Sizes.{IsSized};
-ghost use Rattle.yaml_parse_laws_trees.specs.NextLoad.{AreLoadsByContent, FrontsLoadByContent, LoadIsNext, RefusalIsNext};
+ghost use Rattle.yaml_parse_laws_trees.specs.NextLoad.{AreLoadsByContent, FrontsLoadByContent, LoadIsNext, RefusalIsNext, loads_fault};
 
 use crate::found::yaml_found_t;
 use crate::parser::{yaml_parser_parse_into, yaml_parser_t};
@@ -33,6 +33,12 @@ pub fn yaml_parser_load<S: yaml_token_source_t>(
     // the fault after the events.
     ensures next { IfOk result (λ d. LoadIsNext parser.old d parser.new) }
     ensures refused { IfErr result (λ f. RefusalIsNext parser.old (fault_of f) parser.new) }
+    // The fault that loads come to, which of a new parser's is the one of loading its tokens (`FaultOfLoading`), is what is told, and
+    // stays as a document is loaded.
+    ensures told { (h : AreLoadsByContent parser.old) → IfErr result (λ f. IsMemoryFault
+        load_layers (fault_of f) ⊎ (loads_fault h ≡ Some (fault_of f))) }
+    ensures stays { (h : AreLoadsByContent parser.old) → IfOk result (λ d.
+        (k : AreLoadsByContent parser.new) → loads_fault k ≡ loads_fault h) }
     ensures between { parser.new.between ≡ true }
     // No list of a document (its nodes, the items of a sequence, the pairs of a mapping) has more than 2,147,483,647 entries.
     ensures sized { IfOk result (λ d. IsSized d) }

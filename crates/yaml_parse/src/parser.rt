@@ -14,7 +14,8 @@ ghost use Rattle.yaml_parse_grammar.specs.Remaining.{EventOf, FaultOf, IsFinishe
 ghost use Rattle.yaml_parse_grammar.specs.Stacks.{parts_documents_behind};
 ghost use Rattle.yaml_parse_laws_trees.specs.Places.{FaultOfTokens, IsToldWith};
 ghost use Rattle.yaml_parse_laws_trees.specs.Given.{EventsOfTokens};
-ghost use Rattle.yaml_parse_laws_trees.specs.NextLoad.{AreLoadsByContent};
+ghost use Rattle.yaml_parse_laws_trees.specs.NextLoad.{AreLoadsByContent, loads_fault};
+ghost use Rattle.yaml_parse_laws_trees.specs.Faults.{FaultOfLoading};
 ghost use Rattle.yaml_parse_laws_trees.specs.Falling.{AreFalling};
 ghost use Rattle.yaml_parse_source.specs.Members.{members_of};
 ghost use Rattle.yaml_parse_states.specs.Turned.{Means};
@@ -105,6 +106,10 @@ pub fn yaml_parser_initialize<S: yaml_token_source_t>(
     // It is told as its place is reached, with no token asked for after that.
     ensures told { (e : Fault) → IfOk result (λ p. p.ending ≡ Some e
         → IsToldWith (S.to_come source) (S.fault_to_come source) e p.ending_unasked) }
+    // Load after load, as content says (`yaml_parser_load`), they come to the fault of loading the tokens: the one of the least
+    // place, of an alias without an anchor too.
+    ensures loading { IfOk result (λ p. (h : AreLoadsByContent p) → FaultOfLoading
+        (S.to_come source) (S.fault_to_come source) (loads_fault h)) }
     // No token was asked for yet.
     ensures unasked { IfOk result (λ p. (p.unasked ≡ length (S.to_come source)) × (p.held ≡ 0)) }
     ensures quiet { IfOk result (λ p. (p.answered ≡ no_fault) × (p.between ≡ true)) }

@@ -43,6 +43,7 @@ pub mod Falling
 pub mod ByStep
 pub mod NextLoads
 pub mod ByContent
+pub mod LoadsCome
 mod ToGive
 pub mod AllGiven
 mod Meant

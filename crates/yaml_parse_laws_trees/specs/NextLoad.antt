@@ -188,6 +188,13 @@ pub data LoadsByContent (own : Option Fault) (behind : ℕ) : List Told → Type
       → IsLoadOf gs own behind (next_fault f unasked) → LoadsByContent own behind gs
   ended : (gs : List Told) → IsLoadOf gs own behind next_none → LoadsByContent own behind gs
 
+-- the fault that they come to, where there is one
+abbrev pub loads_fault : {own : Option Fault} {behind : ℕ} {gs : List Told}
+    → LoadsByContent own behind gs → Option Fault
+loads_fault (one_more gs left e unasked h more) = loads_fault more
+loads_fault (refused gs f unasked h) = Some f
+loads_fault (ended gs h) = None
+
 -- Of what is to come of a parser each load is such a one.
 abbrev pub AreLoadsByContent : ParserRemaining → Type 0
 AreLoadsByContent c = LoadsByContent c.ending c.ending_unasked c.events

@@ -1,7 +1,7 @@
 //! Laws of the fault that loading ends in: said of the tokens, aliases without an anchor among what is wrong, it is what the loads
 //! of the parser's events end in. Each function's contract is a law.
 
-ghost use Rattle.yaml_parse_laws_trees.specs.Laws.{FaultEndsLoads, LoadFaultIsOne, LoadsEndInFault};
+ghost use Rattle.yaml_parse_laws_trees.specs.Laws.{FaultEndsLoads, LoadFaultIsOne, LoadsComeToFault, LoadsEndInFault};
 ghost use Rattle.yaml_parse_laws_trees.specs.Rows.{RowsHold};
 
 /// The fault that loading ends in, said of tokens.
@@ -14,6 +14,8 @@ pub fn laws_of_loading()
     ensures loads_end_in_the_fault { LoadsEndInFault }
     // And whichever fault of loading a list has, loads end in it.
     ensures the_fault_is_what_loads_end_in { FaultEndsLoads }
+    // So do loads of the list's events that are said by content.
+    ensures loads_by_content_come_to_the_fault { LoadsComeToFault }
     // Lists with their faults of loading: aliases before anchors, of another document, before and at what
     // the parser finds wrong.
     ensures rows_of_faults_of_loading_hold { RowsHold }

@@ -17,6 +17,7 @@ use Rattle.yaml_round_content.specs.TreeContent.{tree_content}
 use Rattle.yaml_round_content.proofs.Injective.{says_injective}
 use Rattle.yaml_round_content.proofs.Walks.{agreeing_said}
 use Rattle.yaml_round_content.proofs.Loaded.{faultless_load}
+use Rattle.yaml_round_content.proofs.OfText.{plain_reading}
 use Rattle.yaml_round_reading.specs.Answers.{IsRight}
 use Rattle.yaml_round_reading.specs.Reading.{IsFaultOf}
 use Rattle.yaml_round_reading.proofs.Plain.{right_ending}
@@ -48,7 +49,7 @@ reads : (from : yaml_encoding_t) (input : List ℕ) → HasLoaded from input
 unfolding IsRight
 reads from input h =
     let l = faultless_load from input h in
-    right_ending from input (tree_content l.sentence.tree, record { sentence = l.sentence; content = refl })
+    right_ending from input (tree_content l.of_tokens.sentence.tree, plain_reading from input (Ok (tree_content l.of_tokens.sentence.tree)) (record { sentence = l.of_tokens.sentence; content = refl }))
 
 not_none : (o : Option Fault) (f : Fault) → o ≡ None → o ≡ Some f → ⊥
 not_none o f e h = cc

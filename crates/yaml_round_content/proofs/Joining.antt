@@ -8,6 +8,7 @@ use Rattle.yaml_round_content.proofs.Turns.{items_given}
 use Rattle.yaml_round_content.proofs.Injective.{says_injective}
 use Rattle.yaml_round_content.proofs.Spelling.{spelled_before}
 use Rattle.yaml_round_content.proofs.Placed.{tree_says}
+use Rattle.yaml_round_content.proofs.OfText.{plain_reading}
 
 -- ---- tokens
 
@@ -56,27 +57,30 @@ says_of from input b = ap (λ (r : Reading). contents r.events) (read_is from in
 
 pub inputs_read : InputsRead
 inputs_read from input =
+    let h : (r : Result (List Document) Fault) × TokensRead (tokens_of from input).tokens (tokens_of from input).fault r =
     has_reading (tokens_of from input).tokens (tokens_of from input).fault (reads (tokens_of from input).tokens (tokens_of from input).fault).ending
-    (ends_in_fault (tokens_of from input).tokens (tokens_of from input).fault)
+    (ends_in_fault (tokens_of from input).tokens (tokens_of from input).fault) in
+    (h.0, plain_reading from input h.0 h.1)
 
 pub refused_read : RefusedIsRead
 refused_read from input e p =
-    subst (λ (o : Option Fault). FaultOfTokens (tokens_of from input).tokens (tokens_of from input).fault o) (ap (λ (r : Reading). r.ending) (sym (read_is from input)) ∙ p)
-    (ends_in_fault (tokens_of from input).tokens (tokens_of from input).fault)
+    plain_reading from input (Err e)
+    (subst (λ (o : Option Fault). FaultOfTokens (tokens_of from input).tokens (tokens_of from input).fault o) (ap (λ (r : Reading). r.ending) (sym (read_is from input)) ∙ p)
+    (ends_in_fault (tokens_of from input).tokens (tokens_of from input).fault))
 
 pub read_refused : ReadIsRefused
 read_refused from input e h =
-    ap (λ (r : Reading). r.ending) (read_is from input) ∙ fault_ends (tokens_of from input).tokens (tokens_of from input).fault (Some e) h
+    ap (λ (r : Reading). r.ending) (read_is from input) ∙ fault_ends (tokens_of from input).tokens (tokens_of from input).fault (Some e) h.of_tokens
 
 pub said_read : SaidIsRead
 said_read from input c h =
     let b : BeginsWithSentence (tokens_of from input).tokens = sentence_of from input h.right in
-    record { sentence = b; content = says_injective c (tree_content b.tree) (sym h.says ∙ says_of from input b) }
+    plain_reading from input (Ok c) (record { sentence = b; content = says_injective c (tree_content b.tree) (sym h.says ∙ says_of from input b) })
 
 pub read_said : ReadIsSaid
 read_said from input c h = record {
-  right = ap (λ (r : Reading). r.ending) (read_is from input) ∙ fault_ends (tokens_of from input).tokens (tokens_of from input).fault None h.sentence;
-  says = says_of from input h.sentence ∙ ap stream_says (sym h.content);
+  right = ap (λ (r : Reading). r.ending) (read_is from input) ∙ fault_ends (tokens_of from input).tokens (tokens_of from input).fault None h.of_tokens.sentence;
+  says = says_of from input h.of_tokens.sentence ∙ ap stream_says (sym h.of_tokens.content);
 }
 
 pub events_of_tree : EventsAreOfTree
@@ -89,6 +93,6 @@ one_reading from input (Ok c) (Ok d) p q =
     let b : HasContent from input c = read_said from input c p in
     let a : HasContent from input d = read_said from input d q in
     ap (λ (z : List Document). Ok z) (says_injective c d (sym b.says ∙ a.says))
-one_reading from input (Ok c) (Err e) p q = absurd (q.unfinished p.sentence)
-one_reading from input (Err e) (Ok c) p q = absurd (p.unfinished q.sentence)
+one_reading from input (Ok c) (Err e) p q = absurd (q.of_tokens.unfinished p.of_tokens.sentence)
+one_reading from input (Err e) (Ok c) p q = absurd (p.of_tokens.unfinished q.of_tokens.sentence)
 one_reading from input (Err e) (Err f) p q = ap (λ (z : Fault). Err z) (same_error (ending_of from input) e f (read_refused from input e p) (read_refused from input f q))

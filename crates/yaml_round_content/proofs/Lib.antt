@@ -15,9 +15,10 @@ pub mod Bare
 pub mod Layouts
 pub mod Saying
 mod Documents
+pub mod OfText
 pub mod Joining
 mod Rows
-mod Told
+pub mod Told
 mod Placing
 mod Placed
 mod Numbered

@@ -1,13 +1,14 @@
 -- What an input loads is its plain loading.
-use Rattle.std.proofs.Common.{◌≡◌, List, Option, Some, None, Ok, Err, ap, sym, subst, ◌∙◌}
+use Rattle.std.proofs.Common.{◌≡◌, ℕ, List, Option, Some, None, Ok, Err, ap, sym, subst, ◌∙◌}
 use Rattle.std.proofs.lemmas.Option.{same_Some}
-use Rattle.yaml_round_content.proofs.Words.{Token, Fault, Reading, BeginsWithSentence, nothing_loaded, tokens_of, Loads, load_all, loads_of, tree_documents, numbered, read_of}
+use Rattle.yaml_round_content.proofs.Words.{yaml_encoding_t, Token, Fault, Reading, BeginsWithSentence, nothing_loaded, tokens_of, Loads, load_all, loads_of, tree_documents, numbered, read_of}
 use Rattle.yaml_round_content.specs.parse_laws_trees.parse_document.Documents.{Document}
 use Rattle.yaml_round_content.specs.parse_laws_trees.Faults.{FaultOfLoading}
 use Rattle.yaml_round_content.proofs.Unique.{one_load_fault}
 use Rattle.yaml_round_content.proofs.Ending.{loads_end_in_fault}
-use Rattle.yaml_round_content.specs.PlainLoading.{HaveDocuments, TokensLoad, unless_faulty, result_of, SourcesLoad, SourceLoadingIsOne, InputsLoad, LoadingIsOne, LoadingIsLoads, FaultlessLoad, FaultyLoad}
+use Rattle.yaml_round_content.specs.PlainLoading.{HaveDocuments, TokensLoad, PlainLoading, unless_faulty, result_of, SourcesLoad, SourceLoadingIsOne, InputsLoad, LoadingIsOne, LoadingIsLoads, FaultlessLoad, FaultyLoad}
 use Rattle.yaml_round_content.proofs.Joining.{read_is}
+use Rattle.yaml_round_content.proofs.OfText.{plain_loading}
 use Rattle.yaml_round_content.proofs.Numbered.{loads_numbered}
 use Rattle.yaml_parse_loader.proofs.Loads.{loads_document}
 
@@ -47,13 +48,17 @@ one_of_tokens ts own (Err e) (Err f) p q = ap (λ (z : Fault). Err z) (same_Some
 
 -- ---- inputs
 
-pub inputs_load : InputsLoad
-inputs_load from input =
+tokens_of_load : (from : yaml_encoding_t) (input : List ℕ)
+    → TokensLoad (tokens_of from input).tokens (tokens_of from input).fault (result_of (loads_of from input))
+tokens_of_load from input =
     subst (λ (l : Loads). TokensLoad (tokens_of from input).tokens (tokens_of from input).fault (result_of l)) (sym (ap (λ (r : Reading). loads_in r) (read_is from input)))
     (tokens_load (tokens_of from input).tokens (tokens_of from input).fault)
 
+pub inputs_load : InputsLoad
+inputs_load from input = plain_loading from input (result_of (loads_of from input)) (tokens_of_load from input)
+
 pub one_loading : LoadingIsOne
-one_loading from input r q a b = one_of_tokens (tokens_of from input).tokens (tokens_of from input).fault r q a b
+one_loading from input r q a b = one_of_tokens (tokens_of from input).tokens (tokens_of from input).fault r q a.of_tokens b.of_tokens
 
 pub loading_loads : LoadingIsLoads
 loading_loads from input r h = one_loading from input (result_of (loads_of from input)) r (inputs_load from input) h
@@ -62,8 +67,8 @@ loading_loads from input r h = one_loading from input (result_of (loads_of from 
 
 pub faultless_load : FaultlessLoad
 faultless_load from input h =
-    subst (λ (o : Option Fault). TokensLoad (tokens_of from input).tokens (tokens_of from input).fault (unless_faulty (loads_of from input).documents o)) h (inputs_load from input)
+    subst (λ (o : Option Fault). PlainLoading from input (unless_faulty (loads_of from input).documents o)) h (inputs_load from input)
 
 pub faulty_load : FaultyLoad
 faulty_load from input e h =
-    subst (λ (o : Option Fault). TokensLoad (tokens_of from input).tokens (tokens_of from input).fault (unless_faulty (loads_of from input).documents o)) h (inputs_load from input)
+    subst (λ (o : Option Fault). PlainLoading from input (unless_faulty (loads_of from input).documents o)) h (inputs_load from input)

@@ -1,6 +1,6 @@
 -- The events that are read of a tree are those that it tells.
 use Rattle.std.proofs.Common.{◌≡◌, ℕ, true, false, List, [], ◌∷◌, ◌++◌, length, map, zip, Option, Some, None, refl, ap, sym, subst, ◌∙◌, arith}
-use Rattle.yaml_round_content.proofs.Words.{flat_map-append, append_assoc, yaml_mark_t, yaml_version_directive_t, Token, Fault, Event, EventBody, TagDirective, Wants, Side, Site, Root, RawEvent, RawEventBody, Properties, Shape, item_at, Span, Given, Directive, Documents, First, Stream, event_at, items_directives, Directives, no_directives, Settled, refused, gave, noted, settle, settle_body, behind_event, with_resolved, resolved, node_event, Told, Reading, read_on, reading, tokens_of, in_full, tags_in, version_in, start_of, placed}
+use Rattle.yaml_round_content.proofs.Words.{flat_map-append, append_assoc, yaml_encoding_t, BeginsWithSentence, yaml_mark_t, yaml_version_directive_t, Token, Fault, Event, EventBody, TagDirective, Wants, Side, Site, Root, RawEvent, RawEventBody, Properties, Shape, item_at, Span, Given, Directive, Documents, First, Stream, event_at, items_directives, Directives, no_directives, Settled, refused, gave, noted, settle, settle_body, behind_event, with_resolved, resolved, node_event, Told, Reading, read_on, reading, tokens_of, in_full, tags_in, version_in, start_of, placed}
 use Rattle.yaml_round_content.specs.parse_model.Events as event
 use Rattle.yaml_round_content.specs.parse_grammar.declared.Brackets.{Brackets}
 use Rattle.yaml_round_content.specs.parse_grammar.declared.Brackets.TheVariants as brackets
@@ -8,10 +8,12 @@ use Rattle.yaml_round_content.specs.parse_grammar.Items as item
 use Rattle.yaml_round_content.specs.parse_grammar.Trees as tree
 use Rattle.yaml_round_content.specs.parse_grammar.TreeEvents.{node_events, content_events, maybe_events, colon_events, items_events, more_events, entries_events, others_events, pairs_events, pair_opens, pair_closes, lone_value, directives_events, ends_events, documents_events, first_events, tree_events, tree_turns, unasked, given_of, ends_start, documents_start, node_start}
 use Rattle.yaml_round_content.proofs.Turns.{turns_fit, items_given}
-use Rattle.yaml_round_content.specs.TreeTold.{said_under, told_under, documents_told, stream_told, events_in, EventsAreTold}
+use Rattle.yaml_round_content.specs.TreeTold.{said_under, told_under, documents_told, stream_told, events_in}
 use Rattle.yaml_round_content.proofs.Saying.{full_is, not_none}
 use Rattle.yaml_round_content.proofs.Documents.{directives, directives_read}
+use Rattle.yaml_round_content.specs.Reading.{HasEvents, EventsAreTold}
 use Rattle.yaml_round_content.proofs.Joining.{tree_read}
+use Rattle.yaml_round_content.proofs.OfText.{tokens_are}
 use Rattle.yaml_round_content.proofs.TreesEnding.{fault_ends}
 
 -- ---- readings without numbers
@@ -287,12 +289,32 @@ first_zip [] ns h = refl
 first_zip (i ∷ is) [] h = absurd (omega (arith, h))
 first_zip (i ∷ is) (n ∷ ns) h = ap (λ (js : List RawEvent). i ∷ js) (first_zip is ns (omega (arith, h)))
 
-pub told : EventsAreTold
-told from input es h =
-    let t : Stream = h.sentence.tree in
-    let n : ℕ = length h.sentence.rest in
+pub told : (from : yaml_encoding_t) (input : List ℕ) (es : List Told)
+    (h : BeginsWithSentence (tokens_of from input).tokens)
+    → es ≡ (reading (given_of h.tree (length h.rest)) None no_directives).events
+    → events_in es ≡ stream_told h.tree
+told from input es h e =
+    let t : Stream = h.tree in
+    let n : ℕ = length h.rest in
     let ts : List Token = (tokens_of from input).tokens in
     let own : Option Fault = (tokens_of from input).fault in
-    let raw : raw_of (given_of t n) ≡ tree_events t = first_zip (tree_events t) (unasked (tree_turns t) n) (turns_fit t h.sentence.rest).events in
+    let raw : raw_of (given_of t n) ≡ tree_events t = first_zip (tree_events t) (unasked (tree_turns t) n) (turns_fit t h.rest).events in
     let b : IsBare (reading (given_of t n) None no_directives) (bare (tree_events t) no_directives) = subst (λ (js : List RawEvent). IsBare (reading (given_of t n) None no_directives) (bare js no_directives)) raw (is_bare (given_of t n) no_directives) in
-    ap (λ (xs : List Told). events_in xs) h.are ∙ b.0 ∙ stream_passes t (sym b.1 ∙ ap (λ (gs : List Given). (reading gs None no_directives).ending) (sym (items_given t h.sentence.rest)) ∙ ap (λ (r : Reading). r.ending) (sym (tree_read ts own h.sentence)) ∙ fault_ends ts own None h.sentence)
+    ap (λ (xs : List Told). events_in xs) e ∙ b.0 ∙ stream_passes t (sym b.1 ∙ ap (λ (gs : List Given). (reading gs None no_directives).ending) (sym (items_given t h.rest)) ∙ ap (λ (r : Reading). r.ending) (sym (tree_read ts own h)) ∙ fault_ends ts own None h)
+
+-- ---- the events of an input
+
+-- by the tree of its tokens
+pub tree_events_of : (from : yaml_encoding_t) (input : List ℕ) (es : List Told)
+    (b : BeginsWithSentence (tokens_of from input).tokens)
+    → es ≡ (reading (given_of b.tree (length b.rest)) None no_directives).events
+    → HasEvents from input es
+tree_events_of from input es b e = record {
+  sentence = b;
+  told = told from input es b e;
+  of_text = λ text s. tokens_are from input text s;
+  are = e;
+}
+
+pub are_told : EventsAreTold
+are_told from input es h = h.told

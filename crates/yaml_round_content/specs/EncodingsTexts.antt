@@ -3,17 +3,11 @@ use Rattle.std.specs.Prelude.{◌≡◌, ◌↔◌, ◌<◌, ℕ, List, [], Some
 use Rattle.yaml_round_laws_adapted.specs.scan_laws_texts.scan_history.scan_model.declared.yaml_encoding_t.{yaml_encoding_t}
 use Rattle.yaml_round_laws_adapted.specs.scan_laws_texts.scan_history.scan_model.declared.yaml_error_type_t.TheVariants.{YAML_READER_ERROR}
 use Rattle.yaml_round_laws_adapted.specs.scan_laws_texts.scan_history.scan_model.Faults.{Fault}
-use Rattle.yaml_round_laws_adapted.specs.scan_laws_texts.scan_history.scan_decode.Encodings.{encoding_of}
 use Rattle.yaml_round_laws_adapted.specs.scan_laws_texts.scan_history.scan_decode.Spelling.{Spells, SpellsNothing}
-use Rattle.yaml_round_laws_adapted.specs.scan_laws_texts.scan_history.Remaining.{SpelledText, offline}
+use Rattle.yaml_round_laws_adapted.specs.scan_laws_texts.scan_history.Remaining.{offline}
 use Rattle.yaml_round_laws_adapted.specs.scan_laws_texts.scan_history.Scanned.{scanned}
-use Rattle.yaml_round_laws_adapted.specs.Adapted.{adapted}
 use Rattle.yaml_round_content.specs.Said.{Document}
-use Rattle.yaml_round_content.specs.Reading.{TokensRead, PlainReading}
-
--- the text that bytes spell, with the encoding in which they spell it
-abbrev pub spelled_in : yaml_encoding_t → List ℕ → List ℕ → SpelledText
-spelled_in from input text = record { encoding = encoding_of from input; text = text }
+use Rattle.yaml_round_content.specs.Reading.{spelled_in, TextReads, PlainReading}
 
 -- The tokens of bytes are those of the text that they spell.
 abbrev pub TokensAreOfText : Type 0
@@ -25,10 +19,6 @@ abbrev pub NoTextHasNoToken : Type 0
 NoTextHasNoToken = (from : yaml_encoding_t) (input : List ℕ) → All (λ b. b < 256) input
     → SpellsNothing from input → (fault : Fault) × (fault.kind ≡ YAML_READER_ERROR)
     × (scanned from input ≡ record { tokens = []; fault = Some fault })
-
--- The reading of tokens, up to the first tag that isn't UTF-8.
-abbrev pub TextReads : SpelledText → Result (List Document) Fault → Type 0
-TextReads s r = TokensRead (adapted (offline s)).tokens (adapted (offline s)).fault r
 
 -- The plain reading of an input is that of the text that its bytes spell.
 abbrev pub ReadingIsOfText : Type 0

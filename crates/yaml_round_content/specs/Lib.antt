@@ -11,8 +11,8 @@ pub mod Canon
 pub mod ContentLaws
 pub mod TreeContent
 pub mod TreeDocuments
-pub mod Reading
 pub mod TreeTold
+pub mod Reading
 pub mod Loading
 pub mod NextLoads
 pub mod PlainLoading

@@ -1,5 +1,5 @@
 -- The plain loading of an input: its tree's documents, numbered, or the fault of loading its tokens.
-use Rattle.std.specs.Prelude.{◌≡◌, ℕ, List, [], Option, Some, None, Result, Ok, Err}
+use Rattle.std.specs.Prelude.{◌≡◌, ◌<◌, ℕ, List, [], Option, Some, None, Result, Ok, Err, All}
 use Rattle.yaml_round_content.specs.scan_model.declared.yaml_encoding_t.{yaml_encoding_t}
 use Rattle.yaml_round_content.specs.scan_model.Tokens.{Token}
 use Rattle.yaml_round_content.specs.scan_model.Faults.{Fault}
@@ -7,7 +7,9 @@ use Rattle.yaml_round_content.specs.parse_grammar.Trees.{spell}
 use Rattle.yaml_round_content.specs.parse_laws_trees.Places.{BeginsWithSentence}
 use Rattle.yaml_round_content.specs.parse_laws_trees.parse_document.Documents.{Document}
 use Rattle.yaml_round_content.specs.parse_laws_trees.Faults.{IsLoadable, FaultOfLoading}
+use Rattle.yaml_round_content.specs.scan_history.scan_decode.Spelling.{Spells, SpellsNothing}
 use Rattle.yaml_round_content.specs.Input.{tokens_of}
+use Rattle.yaml_round_content.specs.Reading.{spelled_in, text_tokens, IsOffence}
 use Rattle.yaml_parse_loader.specs.Loading.{nothing_loaded}
 use Rattle.yaml_round_content.specs.Loads.{Loads, load_all, loads_of}
 use Rattle.yaml_round_content.specs.TreeDocuments.{tree_documents, numbered}
@@ -24,9 +26,16 @@ abbrev pub TokensLoad : List Token → Option Fault → Result (List Document) F
 TokensLoad ts own (Ok ds) = HaveDocuments ts ds
 TokensLoad ts own (Err e) = FaultOfLoading ts own (Some e)
 
--- The plain loading of an input, in an encoding or in the one that is detected.
-abbrev pub PlainLoading : yaml_encoding_t → List ℕ → Result (List Document) Fault → Type 0
-PlainLoading from input r = TokensLoad (tokens_of from input).tokens (tokens_of from input).fault r
+-- The plain loading of an input, in an encoding or in the one that is detected: that of the text that its bytes spell.
+pub record PlainLoading (from : yaml_encoding_t) (input : List ℕ)
+    (r : Result (List Document) Fault) : Type 0 where
+  pub of_text : (text : List ℕ) → Spells from input text
+      → TokensLoad (text_tokens (spelled_in from input text)).tokens
+      (text_tokens (spelled_in from input text)).fault r
+  -- bytes that spell none are refused
+  pub of_none : All (λ b. b < 256) input → SpellsNothing from input → IsOffence from input r
+  -- the same of the tokens that decoding computes, also of numbers that are no bytes
+  pub of_tokens : TokensLoad (tokens_of from input).tokens (tokens_of from input).fault r
 
 -- ---- laws
 

@@ -1,14 +1,22 @@
 -- The plain reading of an input: the content of the tree that its tokens are, or the fault of those.
-use Rattle.std.specs.Prelude.{◌≡◌, ℕ, List, length, Option, Some, None, Result, Ok, Err}
+use Rattle.std.specs.Prelude.{◌≡◌, ◌<◌, ℕ, List, length, Option, Some, None, Result, Ok, Err, All}
 use Rattle.yaml_round_content.specs.scan_model.declared.yaml_encoding_t.{yaml_encoding_t}
 use Rattle.yaml_round_content.specs.scan_model.Tokens.{Token}
+use Rattle.yaml_round_content.specs.scan_model.declared.yaml_error_type_t.TheVariants.{YAML_READER_ERROR}
 use Rattle.yaml_round_content.specs.scan_model.Faults.{Fault}
+use Rattle.yaml_round_content.specs.scan_history.scan_decode.DecodedText.{decoding_fault}
+use Rattle.yaml_round_content.specs.scan_history.scan_decode.Encodings.{encoding_of}
+use Rattle.yaml_round_content.specs.scan_history.scan_decode.Spelling.{Spells, SpellsNothing}
+use Rattle.yaml_round_content.specs.scan_history.Remaining.{Remaining, SpelledText}
+use Rattle.yaml_round_content.specs.scan_laws_texts.LookBack.{looked_back}
+use Rattle.yaml_round_content.specs.round_laws_adapted.Adapted.{adapted}
 use Rattle.yaml_round_content.specs.parse_grammar.TreeEvents.{given_of}
 use Rattle.yaml_round_content.specs.parse_grammar.Resolve.{Told, reading, no_directives}
 use Rattle.yaml_round_content.specs.parse_laws_trees.Places.{BeginsWithSentence, FaultOfTokens}
 use Rattle.yaml_round_content.specs.Input.{tokens_of, events_of, ending_of}
 use Rattle.yaml_round_content.specs.Said.{Document, HasContent}
 use Rattle.yaml_round_content.specs.TreeContent.{tree_content}
+use Rattle.yaml_round_content.specs.TreeTold.{stream_told, events_in}
 
 -- The tokens are a sentence, of a tree that has that content.
 pub record HaveContent (ts : List Token) (c : List Document) : Type 0 where
@@ -20,13 +28,40 @@ abbrev pub TokensRead : List Token → Option Fault → Result (List Document) F
 TokensRead ts own (Ok c) = HaveContent ts c
 TokensRead ts own (Err e) = FaultOfTokens ts own (Some e)
 
--- The plain reading of an input, in an encoding or in the one that is detected.
-abbrev pub PlainReading : yaml_encoding_t → List ℕ → Result (List Document) Fault → Type 0
-PlainReading from input r = TokensRead (tokens_of from input).tokens (tokens_of from input).fault r
+-- the text that bytes spell, with the encoding in which they spell it
+abbrev pub spelled_in : yaml_encoding_t → List ℕ → List ℕ → SpelledText
+spelled_in from input text = record { encoding = encoding_of from input; text = text }
 
--- The events of an input that is accepted: those of its tree, their tags resolved.
+-- a text's tokens by looking back from its lexemes, up to the first tag that isn't UTF-8
+abbrev pub text_tokens : SpelledText → Remaining
+text_tokens s = adapted (looked_back s)
+
+-- The reading of a text: that of its tokens.
+abbrev pub TextReads : SpelledText → Result (List Document) Fault → Type 0
+TextReads s r = TokensRead (text_tokens s).tokens (text_tokens s).fault r
+
+-- it is a fault of the reader, that of the first offence
+abbrev pub IsOffence : {A : Type 0} → yaml_encoding_t → List ℕ → Result A Fault → Type 0
+IsOffence from input (Ok x) = ⊥
+IsOffence from input (Err e) = (e.kind ≡ YAML_READER_ERROR) × (decoding_fault from input ≡ Some e)
+
+-- The plain reading of an input, in an encoding or in the one that is detected: that of the text that its bytes spell.
+pub record PlainReading (from : yaml_encoding_t) (input : List ℕ)
+    (r : Result (List Document) Fault) : Type 0 where
+  pub of_text : (text : List ℕ) → Spells from input text → TextReads (spelled_in from input text) r
+  -- bytes that spell none are refused
+  pub of_none : All (λ b. b < 256) input → SpellsNothing from input → IsOffence from input r
+  -- the same of the tokens that decoding computes, also of numbers that are no bytes
+  pub of_tokens : TokensRead (tokens_of from input).tokens (tokens_of from input).fault r
+
+-- The events of an input that is accepted: those of its tree, each tag in full by the directives of its own document.
 pub record HasEvents (from : yaml_encoding_t) (input : List ℕ) (es : List Told) : Type 0 where
   pub sentence : BeginsWithSentence (tokens_of from input).tokens
+  pub told : events_in es ≡ stream_told sentence.tree
+  -- the tokens are those of the text that its bytes spell
+  pub of_text : (text : List ℕ) → Spells from input text
+      → tokens_of from input ≡ text_tokens (spelled_in from input text)
+  -- the same with the number of tokens that aren't asked for as each is given
   pub are : es ≡ (reading (given_of sentence.tree (length sentence.rest)) None no_directives).events
 
 -- ---- laws
@@ -65,3 +100,8 @@ EventsAreOfTree = (from : yaml_encoding_t) (input : List ℕ)
     → (b : BeginsWithSentence (tokens_of from input).tokens)
     → events_of from input
     ≡ (reading (given_of b.tree (length b.rest)) None no_directives).events
+
+-- The events that an input has are those that its tree tells.
+abbrev pub EventsAreTold : Type 0
+EventsAreTold = (from : yaml_encoding_t) (input : List ℕ) (es : List Told)
+    → (h : HasEvents from input es) → events_in es ≡ stream_told h.sentence.tree

@@ -1,7 +1,6 @@
 -- The events of a tree, each tag in full by the directives of its own document.
-use Rattle.std.specs.Prelude.{◌≡◌, ℕ, false, List, [], ◌∷◌, ◌++◌, map, Option, None}
+use Rattle.std.specs.Prelude.{false, List, [], ◌∷◌, ◌++◌, map, Option, None}
 use Rattle.std.specs.List.{flat_map}
-use Rattle.yaml_round_content.specs.scan_model.declared.yaml_encoding_t.{yaml_encoding_t}
 use Rattle.yaml_round_content.specs.scan_model.declared.yaml_version_directive_t.{yaml_version_directive_t}
 use Rattle.yaml_round_content.specs.parse_model.Events.{Event, EventBody, TagDirective}
 use Rattle.yaml_round_content.specs.parse_model.Events as event
@@ -13,7 +12,6 @@ use Rattle.yaml_round_content.specs.parse_grammar.Trees as tree
 use Rattle.yaml_round_content.specs.parse_grammar.TreeEvents.{maybe_events, ends_events, first_events, ends_start, documents_start}
 use Rattle.yaml_round_content.specs.parse_grammar.Resolve.{Told, node_event, placed}
 use Rattle.yaml_round_content.specs.TreeContent.{full_tag, tags_in, version_in}
-use Rattle.yaml_round_content.specs.Reading.{HasEvents}
 
 -- what an item says under a document's version and directives; a directive is no event of its own
 abbrev pub said_under : Option yaml_version_directive_t → List TagDirective → RawEventBody
@@ -47,10 +45,3 @@ stream_told t = told_under None [] (event_at (event.stream_start t.encoding) t.s
 
 abbrev pub events_in : List Told → List Event
 events_in es = map (λ (t : Told). t.0) es
-
--- ---- law
-
--- The events that an input has are those that its tree tells.
-abbrev pub EventsAreTold : Type 0
-EventsAreTold = (from : yaml_encoding_t) (input : List ℕ) (es : List Told)
-    → (h : HasEvents from input es) → events_in es ≡ stream_told h.sentence.tree

@@ -5,8 +5,7 @@
 ghost use Rattle.yaml_round_content.specs.Loading.{EventsArePlaced, InputsAreNumbered, LoadsAreNumbered, LoadsAreOneByOne};
 ghost use Rattle.yaml_round_content.specs.NextLoads.{SourcesLoadByContent};
 ghost use Rattle.yaml_round_content.specs.PlainLoading.{FaultlessLoad, FaultyLoad, InputsLoad, LoadingIsLoads, LoadingIsOne, SourceLoadingIsOne, SourcesLoad};
-ghost use Rattle.yaml_round_content.specs.Reading.{EventsAreOfTree, InputsRead, ReadIsRefused, ReadIsSaid, ReadingIsOne, RefusedIsRead, SaidIsRead};
-ghost use Rattle.yaml_round_content.specs.TreeTold.{EventsAreTold};
+ghost use Rattle.yaml_round_content.specs.Reading.{EventsAreOfTree, EventsAreTold, InputsRead, ReadIsRefused, ReadIsSaid, ReadingIsOne, RefusedIsRead, SaidIsRead};
 ghost use Rattle.yaml_round_content.specs.Rows.{RowsHold};
 
 /// The plain reading of an input, said of trees and of the fault of their tokens.

@@ -7,6 +7,7 @@ use Rattle.yaml_round_content.specs.scan_history.Remaining.{Remaining}
 use Rattle.yaml_round_content.specs.scan_history.Scanned.{scanned, scanned_in}
 use Rattle.yaml_round_content.specs.Input.{events_of, read, parsed, tokens_of}
 use Rattle.yaml_round_content.proofs.Joining.{said_read, events_of_tree, one_reading}
+use Rattle.yaml_round_content.proofs.Told.{tree_events_of}
 use Rattle.yaml_round_laws_inputs.proofs.Strings.{text_spells}
 use Rattle.yaml_round_laws_inputs.proofs.Walk.{text_done}
 use Rattle.yaml_round_laws_inputs.proofs.Documents.{tokens_pass, tokens_parsed}
@@ -31,7 +32,7 @@ spelled_read from input text t spells is usual =
       reading = reading;
       shaped = record {
         events = events_of from input;
-        of_input = record { sentence = reading.sentence; are = events_of_tree from input reading.sentence };
+        of_input = tree_events_of from input (events_of from input) reading.of_tokens.sentence (events_of_tree from input reading.of_tokens.sentence);
         encoding = x;
         document = json_document v;
         shaped = document_shaped t.value is.value;

@@ -41,7 +41,7 @@ decoded_take x (Ok cs) n c few k d h =
     omega (arith, a, e, f, few, l, tokens_few s)
 
 pub depths_take : DepthsTakeBytes
-depths_take from input c k = decoded_take (encoding_of from input) (decoded_characters from input) (length input) c (few_decoded from input) k
+depths_take from input c k = decoded_take (encoding_of from input) (decoded_characters from input) (length input) c (few_decoded from input) k.of_tokens
 
 pub deep_long : DeepInputsAreLong
 deep_long from input c k indent h =
@@ -135,7 +135,7 @@ indent_two (negsuc n) = le_refl _
 
 pub contents_bounded : ContentsAreBounded
 contents_bounded from input c k w =
-    decoded_bounded (settled w YAML_ANY_ENCODING) (encoding_of from input) (decoded_characters from input) (text_times (encoding_of from input)) (length input) c (indent_two w.indent) (input_text from input) k
+    decoded_bounded (settled w YAML_ANY_ENCODING) (encoding_of from input) (decoded_characters from input) (text_times (encoding_of from input)) (length input) c (indent_two w.indent) (input_text from input) k.of_tokens
 
 pub texts_short : CanonicalTextsAreShort
 texts_short from input c k w canonical = omega (arith, bounded w canonical c, contents_bounded from input c k w)
@@ -145,6 +145,6 @@ layouts_short from input c k w ends x whole h =
     let s = settled w h.encoding in
     let a : length (encode s.encoding (written (stream_layout s h.documents))) ≤ most_bytes s h.documents = by_content s h.documents in
     let b = tallies_agree s ends h.encoding h.documents (events_of from input) c h.same (read_said from input c k).says in
-    let d = decoded_bounded s (encoding_of from input) (decoded_characters from input) (text_times (encoding_of from input)) (length input) c (indent_two w.indent) (input_text from input) k in
+    let d = decoded_bounded s (encoding_of from input) (decoded_characters from input) (text_times (encoding_of from input)) (length input) c (indent_two w.indent) (input_text from input) k.of_tokens in
     let e : length (encode s.encoding (written (stream_layout s h.documents))) ≤ most_of_read s.encoding s.indent (text_times (encoding_of from input) * length input) = omega (arith, a, b, d) in
     rw h.coded (rw h.is e)

@@ -12,6 +12,8 @@ use Rattle.yaml_round_content.specs.TreeContent.{tree_content}
 use Rattle.yaml_round_content.specs.Reading.{PlainReading, HasEvents}
 use Rattle.yaml_round_content.proofs.Joining.{refused_read, read_refused, said_read, read_said, events_of_tree}
 use Rattle.yaml_round_content.proofs.ContentInputs.{have_content}
+use Rattle.yaml_round_content.proofs.OfText.{plain_reading}
+use Rattle.yaml_round_content.proofs.Told.{tree_events_of}
 use Rattle.yaml_round_reading.specs.Answers.{IsRight, IsFaulty, SameContent}
 
 -- ---- one input
@@ -54,7 +56,7 @@ pub has_events : (from : yaml_encoding_t) (input : List ℕ) (es : List Told)
 has_events from input es e p =
     let h = have_content from input e in
     let r : PlainReading from input (Ok h.0) = said_read from input h.0 h.1 in
-    record { sentence = r.sentence; are = p ∙ events_of_tree from input r.sentence }
+    tree_events_of from input es r.of_tokens.sentence (p ∙ events_of_tree from input r.of_tokens.sentence)
 
 -- Events of an input are the ones that the definitions compute.
 pub events_are : (from : yaml_encoding_t) (input : List ℕ) (es : List Told)
@@ -65,7 +67,10 @@ events_are from input es h = h.are ∙ sym (events_of_tree from input h.sentence
 pub events_right : (from : yaml_encoding_t) (input : List ℕ) (es : List Told)
     → HasEvents from input es → IsRight from input
 unfolding IsRight
-events_right from input es h = (tree_content h.sentence.tree, record { sentence = h.sentence; content = refl })
+events_right from input es h = (
+  tree_content h.sentence.tree,
+  plain_reading from input (Ok (tree_content h.sentence.tree)) (record { sentence = h.sentence; content = refl }),
+)
 
 -- ---- two inputs
 

@@ -3,6 +3,7 @@ use Rattle.yaml_scan_model.specs.Faults.{fault_of}
 use Rattle.yaml_parse_model.specs.Events.{event_of}
 use Rattle.yaml_parse.proofs.Loading.{keeps_on, loads_document, loads_nothing, load_faulty, load_refused, load_more, load_asked, fed_more, fed_asked}
 use Rattle.yaml_parse_laws_trees.proofs.NextLoads.{load_is_next, refusal_is_next}
+use Rattle.yaml_parse_laws_trees.proofs.LoadsCome.{load_stays, load_tells}
 use Rattle.yaml_parse.proofs.load.yaml_parser_load.Goals as goal
 
 pub returns-in-Ok-Some-clause-next : goal.returns-in-Ok-Some-clause-next
@@ -47,3 +48,26 @@ returns-in-Refused-clause-refused g c =
     (load_faulty c.args.parser.now c.events.parser c.yaml_parser_parse_into.new.parser c.events.loader (fault_of c.yaml_parser_parse_into.new.fault) c.events.invariant c.in-Refused.ensures.finds)
     (load_more c.args.parser.now c.events.parser c.events.loader c.events.invariant c.in-Refused.ensures.finds.more)
     (load_asked c.args.parser.now c.events.parser c.yaml_parser_parse_into.new.parser c.events.loader (fault_of c.yaml_parser_parse_into.new.fault) c.events.invariant c.in-Refused.ensures.finds)
+
+-- ---- the fault that loads come to
+
+pub returns-in-Ok-Some-clause-stays : goal.returns-in-Ok-Some-clause-stays
+returns-in-Ok-Some-clause-stays g c = λ h k. load_stays c.args.parser.now c.yaml_parser_parse_into.new.parser c.in-Ok-Some.document h (returns-in-Ok-Some-clause-next g c) k
+
+pub returns-in-End-clause-stays : goal.returns-in-End-clause-stays
+returns-in-End-clause-stays g c = λ h.
+    search (
+      rules,
+      load_stays c.args.parser.now c.yaml_parser_parse_into.new.parser c.no_document.result h
+          (load_is_next c.args.parser.now c.yaml_parser_parse_into.new.parser c.no_document.result
+          (loads_nothing c.args.parser.now c.events.parser c.yaml_parser_parse_into.new.parser c.events.loader c.no_document.result c.events.invariant c.in-End.ensures.finds c.no_document.ensures)),
+    )
+
+pub returns-in-End-clause-told : goal.returns-in-End-clause-told
+returns-in-End-clause-told g c = search rules
+
+pub returns-in-Err-clause-told : goal.returns-in-Err-clause-told
+returns-in-Err-clause-told g c = λ h. load_tells c.args.parser.now c.refuse.new.self (fault_of c.in-Err.refused) h (returns-in-Err-clause-refused g c)
+
+pub returns-in-Refused-clause-told : goal.returns-in-Refused-clause-told
+returns-in-Refused-clause-told g c = λ h. load_tells c.args.parser.now c.yaml_parser_parse_into.new.parser (fault_of c.yaml_parser_parse_into.new.fault) h (returns-in-Refused-clause-refused g c)

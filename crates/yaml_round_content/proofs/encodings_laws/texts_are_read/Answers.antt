@@ -1,4 +1,5 @@
-use Rattle.yaml_round_content.proofs.EncodingsTexts.{of_text, none, reading}
+use Rattle.yaml_round_content.proofs.OfText.{of_text}
+use Rattle.yaml_round_content.proofs.EncodingsTexts.{none, reading}
 use Rattle.yaml_round_content.proofs.encodings_laws.texts_are_read.Goals as goal
 
 pub returns : goal.returns

@@ -1,5 +1,5 @@
 use Rattle.yaml_round_content.proofs.Joining.{inputs_read, one_reading, refused_read, read_refused, said_read, read_said, events_of_tree}
-use Rattle.yaml_round_content.proofs.Told.{told}
+use Rattle.yaml_round_content.proofs.Told.{are_told}
 use Rattle.yaml_round_content.proofs.Rows.{rows_hold}
 use Rattle.yaml_round_content.proofs.Numbered.{events_placed, loads_numbered, inputs_numbered, one_by_one}
 use Rattle.yaml_parse_loader.proofs.Loads.{loads_document}
@@ -29,7 +29,7 @@ pub returns-clause-events_are_of_the_tree : goal.returns-clause-events_are_of_th
 returns-clause-events_are_of_the_tree c = events_of_tree
 
 pub returns-clause-events_are_told : goal.returns-clause-events_are_told
-returns-clause-events_are_told c = told
+returns-clause-events_are_told c = are_told
 
 pub returns-clause-rows_of_contents_hold : goal.returns-clause-rows_of_contents_hold
 returns-clause-rows_of_contents_hold c = rows_hold

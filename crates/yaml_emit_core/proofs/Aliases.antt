@@ -13,9 +13,8 @@ use Rattle.yaml_emit_layout.specs.declared.level.Expected.TheVariants as at
 use Rattle.yaml_emit_layout.specs.Content as said
 use Rattle.yaml_emit_layout.specs.Nodes.{alias_layout, is_simple_alias}
 use Rattle.yaml_emit_layout.specs.State.{top_of, position_of, before_node, text_at, depth_at, is_simple_event, piece, next, next_at, among, levels_behind, phase_behind}
-use Rattle.yaml_emit_output.specs.Draft.{Page as Paper}
+use Rattle.yaml_emit_output.specs.Draft.{Page as Paper, Lays}
 use Rattle.yaml_emit_output.specs.Placed.{sign_bytes, mark_bytes}
-use Rattle.yaml_emit_scalars.specs.Lays.{Lays}
 use Rattle.yaml_emit_scalars.proofs.LaysLemmas.{lays_is}
 use Rattle.yaml_emit_scalars.proofs.Words.{behind_gap}
 use Rattle.yaml_emit_core.specs.declared.level.State.{State}

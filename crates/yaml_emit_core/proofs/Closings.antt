@@ -12,8 +12,7 @@ use Rattle.yaml_emit_layout.specs.declared.level.Level.{Level as Open}
 use Rattle.yaml_emit_layout.specs.declared.level.Expected.{Expected}
 use Rattle.yaml_emit_layout.specs.Nodes.{closer, context_of}
 use Rattle.yaml_emit_layout.specs.State.{top_of, outer_of, place_at, text_at, depth_at, piece, next, next_at}
-use Rattle.yaml_emit_output.specs.Draft.{Page as Paper, line_mark}
-use Rattle.yaml_emit_scalars.specs.Lays.{Lays}
+use Rattle.yaml_emit_output.specs.Draft.{Page as Paper, line_mark, Lays}
 use Rattle.yaml_emit_scalars.proofs.LaysLemmas.{lays_is, lays_same}
 use Rattle.yaml_emit_core.specs.declared.level.State.{State}
 use Rattle.yaml_emit_core.specs.declared.level.State.TheVariants as state

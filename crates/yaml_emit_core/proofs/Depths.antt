@@ -5,8 +5,7 @@ use Rattle.std.proofs.lemmas.Bool.Decides.{nat_tests}
 use Rattle.yaml_emit_layout.specs.Layout.{stay, too_deep}
 use Rattle.yaml_emit_layout.specs.Sink.{Puts}
 use Rattle.yaml_emit_layout.specs.Nodes.{MOST, checked, deep_if}
-use Rattle.yaml_emit_output.specs.Draft.{Page as Paper}
-use Rattle.yaml_emit_scalars.specs.Lays.{Lays}
+use Rattle.yaml_emit_output.specs.Draft.{Page as Paper, Lays}
 use Rattle.yaml_emit_scalars.proofs.LaysLemmas.{lays_is}
 
 deep_test : (n : ℕ) → MOST < n → nat_lt MOST n ≡ true

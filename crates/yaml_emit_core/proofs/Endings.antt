@@ -8,8 +8,7 @@ use Rattle.yaml_parse_model.specs.Events.{TagDirective}
 use Rattle.yaml_emit_layout.specs.Content as said
 use Rattle.yaml_emit_layout.specs.Nodes.{dots, line_at, end_layout}
 use Rattle.yaml_emit_layout.specs.State.{text_at, depth_at, piece, next, next_at}
-use Rattle.yaml_emit_output.specs.Draft.{Page as Paper, line_mark}
-use Rattle.yaml_emit_scalars.specs.Lays.{Lays}
+use Rattle.yaml_emit_output.specs.Draft.{Page as Paper, line_mark, Lays}
 use Rattle.yaml_emit_scalars.proofs.LaysLemmas.{lays_both}
 use Rattle.yaml_emit_core.specs.declared.level.State.TheVariants as state
 use Rattle.yaml_emit_core.specs.Levels.{Stack, state_at}

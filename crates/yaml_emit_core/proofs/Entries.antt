@@ -8,28 +8,15 @@ use Rattle.yaml_emit_layout.specs.declared.settings.Settings.{Settings}
 use Rattle.yaml_emit_layout.specs.Text.{Item, letter}
 use Rattle.yaml_emit_layout.specs.Layout.{Layout, Rest, ◌▹◌, stay, when, char, letters, line, is_past}
 use Rattle.yaml_emit_layout.specs.LineStarts.{mark_word}
-use Rattle.yaml_emit_layout.proofs.Sinks.{puts_as, puts_nothing, cond_true, cond_false}
+use Rattle.yaml_emit_layout.proofs.Sinks.{cond_true, cond_false}
 use Rattle.yaml_emit_layout.specs.Nodes.{turned, line_at, wrap_at, before_item, before_key, before_value}
 use Rattle.yaml_emit_layout.specs.State.{before_node}
-use Rattle.yaml_emit_output.specs.Draft.{Page, Writes, line_mark}
+use Rattle.yaml_emit_output.specs.Draft.{Page, Lays, line_mark}
+use Rattle.yaml_emit_scalars.proofs.LaysLemmas.{lays_is, lays_same}
 use Rattle.yaml_emit_core.specs.Pages.{behind_comma, entry, mark_of}
 use Rattle.yaml_emit_core.specs.declared.level.State.{State}
 use Rattle.yaml_emit_core.specs.declared.level.State.TheVariants as state
 use Rattle.yaml_emit_core.specs.Levels.{phase_of, level_by, is_further, is_entry, is_behind_simple}
-
--- the same in other words at the cursor, and of no less room
-pub writes_as : (a b : Page) (x y : Layout) (n m : ℕ) → n ≤ m
-    → ((rest : Rest) → y a.output.cursor rest ≡ x a.output.cursor rest) → Writes a b x n
-    → Writes a b y m
-writes_as a b x y n m l e w = record {
-  puts = puts_as a.output b.output x y e w.puts;
-  room = omega (arith, w.room, l);
-  line_break = w.line_break;
-  width = w.width;
-}
-
-pub writes_nothing : (a : Page) (n : ℕ) → Writes a a stay n
-writes_nothing a n = record { puts = puts_nothing a.output; room = omega arith; line_break = refl; width = refl }
 
 -- past the width
 pub past_is : (comma : Bool) (width left : ℕ) (c : Cursor) → comma ≡ true → left ≡ width - c.column
@@ -66,11 +53,11 @@ turned_wrap s n c rest e = ap (λ (t : Layout). t c rest) (cond_false s.canonica
 -- in canonical form
 pub entry_canonical : (s : Settings) (a b : Page) (comma : Bool) (n m : ℕ) → s.canonical ≡ true
     → a.line_break ≡ s.line_break
-    → Writes a b (when comma (char 44) ▹ (line a.line_break n ▹ line_mark m false)) (n + 4) → Writes a b (entry s comma n m) (n + 4)
+    → Lays a b (when comma (char 44) ▹ (line a.line_break n ▹ line_mark m false)) stay → Lays a b (entry s comma n m) stay
 entry_canonical s a b comma n m e k w =
     let c = a.output.cursor in
-    let P : LineBreak → Type 0 = λ z. Writes a b (when comma (char 44) ▹ (line z n ▹ line_mark m false)) (n + 4) in
-    writes_as a b (when comma (char 44) ▹ (line s.line_break n ▹ line_mark m false)) (entry s comma n m) (n + 4) (n + 4) (omega arith)
+    let P : LineBreak → Type 0 = λ z. Lays a b (when comma (char 44) ▹ (line z n ▹ line_mark m false)) stay in
+    lays_is a b (when comma (char 44) ▹ (line s.line_break n ▹ line_mark m false)) (entry s comma n m)
     (λ rest. behind comma (turned s n ▹ mark_word m) (line s.line_break n ▹ line_mark m false) c rest
     (turned_line s n (behind_comma comma c) (λ d. mark_word m d rest) e ∙ marks_same n m (behind_comma comma c) rest s.line_break))
     (subst P k w)
@@ -79,12 +66,12 @@ entry_canonical s a b comma n m e k w =
 pub entry_past : (s : Settings) (a b : Page) (comma : Bool) (n m : ℕ) → s.canonical ≡ false
     → a.line_break ≡ s.line_break
     → is_past s.width (behind_comma comma a.output.cursor) ≡ true
-    → Writes a b (when comma (char 44) ▹ (line a.line_break n ▹ line_mark m false)) (n + 4) → Writes a b (entry s comma n m) (n + 4)
+    → Lays a b (when comma (char 44) ▹ (line a.line_break n ▹ line_mark m false)) stay → Lays a b (entry s comma n m) stay
 entry_past s a b comma n m e k p w =
     let c = a.output.cursor in
     let d = behind_comma comma c in
-    let P : LineBreak → Type 0 = λ z. Writes a b (when comma (char 44) ▹ (line z n ▹ line_mark m false)) (n + 4) in
-    writes_as a b (when comma (char 44) ▹ (line s.line_break n ▹ line_mark m false)) (entry s comma n m) (n + 4) (n + 4) (omega arith)
+    let P : LineBreak → Type 0 = λ z. Lays a b (when comma (char 44) ▹ (line z n ▹ line_mark m false)) stay in
+    lays_is a b (when comma (char 44) ▹ (line s.line_break n ▹ line_mark m false)) (entry s comma n m)
     (λ rest. behind comma (turned s n ▹ mark_word m) (line s.line_break n ▹ line_mark m false) c rest
     (turned_wrap s n d (λ f. mark_word m f rest) e ∙ cond_true (is_past s.width d) (line s.line_break n d (λ f. mark_word m f rest)) (mark_word m d rest) p ∙ marks_same n m d rest s.line_break))
     (subst P k w)
@@ -92,11 +79,11 @@ entry_past s a b comma n m e k p w =
 -- in the same line
 pub entry_inline : (s : Settings) (a b : Page) (comma : Bool) (n m : ℕ) → s.canonical ≡ false
     → is_past s.width (behind_comma comma a.output.cursor) ≡ false
-    → Writes a b (when comma (char 44) ▹ mark_word m) 3 → Writes a b (entry s comma n m) (n + 4)
+    → Lays a b (when comma (char 44) ▹ mark_word m) stay → Lays a b (entry s comma n m) stay
 entry_inline s a b comma n m e p w =
     let c = a.output.cursor in
     let d = behind_comma comma c in
-    writes_as a b (when comma (char 44) ▹ mark_word m) (entry s comma n m) 3 (n + 4) (omega arith)
+    lays_is a b (when comma (char 44) ▹ mark_word m) (entry s comma n m)
     (λ rest. behind comma (turned s n ▹ mark_word m) (mark_word m) c rest
     (turned_wrap s n d (λ f. mark_word m f rest) e ∙ cond_false (is_past s.width d) (line s.line_break n d (λ f. mark_word m f rest)) (mark_word m d rest) p))
     w
@@ -143,26 +130,26 @@ block_entry s state.End n simple c rest i = absurd (cc)
 
 pub before_flow : (s : Settings) (at : State) (flow : Bool) (n : ℕ) (simple : Bool) (a b : Page)
     → is_entry at ≡ true → flow ≡ true
-    → Writes a b (entry s (is_further at) n (mark_of at flow simple)) (n + 4) → Writes a b (before_node s (level_by (phase_of at) flow n) simple) (n + 4)
+    → Lays a b (entry s (is_further at) n (mark_of at flow simple)) stay → Lays a b (before_node s (level_by (phase_of at) flow n) simple) stay
 before_flow s at false n simple a b i f w = absurd (cc)
-before_flow s at true n simple a b i f w = writes_as a b (entry s (is_further at) n (mark_of at true simple)) (before_node s (level_by (phase_of at) true n) simple) (n + 4) (n + 4) (omega arith) (λ rest. flow_entry s at n simple a.output.cursor rest i) w
+before_flow s at true n simple a b i f w = lays_is a b (entry s (is_further at) n (mark_of at true simple)) (before_node s (level_by (phase_of at) true n) simple) (λ rest. flow_entry s at n simple a.output.cursor rest i) w
 
 pub before_block : (s : Settings) (at : State) (flow : Bool) (n : ℕ) (simple : Bool) (a b : Page)
     → is_entry at ≡ true → flow ≡ false → a.line_break ≡ s.line_break
-    → Writes a b (when false (char 44) ▹ (line a.line_break n ▹ line_mark (mark_of at flow simple) true)) (n + 4)
-    → Writes a b (before_node s (level_by (phase_of at) flow n) simple) (n + 4)
+    → Lays a b (when false (char 44) ▹ (line a.line_break n ▹ line_mark (mark_of at flow simple) true)) stay
+    → Lays a b (before_node s (level_by (phase_of at) flow n) simple) stay
 before_block s at true n simple a b i f k w = absurd (cc)
 before_block s at false n simple a b i f k w =
-    let P : LineBreak → Type 0 = λ z. Writes a b (line z n ▹ line_mark (mark_of at false simple) true) (n + 4) in
-    writes_as a b (line s.line_break n ▹ line_mark (mark_of at false simple) true) (before_node s (level_by (phase_of at) false n) simple) (n + 4) (n + 4) (omega arith)
+    let P : LineBreak → Type 0 = λ z. Lays a b (line z n ▹ line_mark (mark_of at false simple) true) stay in
+    lays_is a b (line s.line_break n ▹ line_mark (mark_of at false simple) true) (before_node s (level_by (phase_of at) false n) simple)
     (λ rest. block_entry s at n simple a.output.cursor rest i) (subst P k w)
 
 -- after a simple key
 pub before_simple : (s : Settings) (at : State) (flow : Bool) (n : ℕ) (simple : Bool) (a b : Page)
-    → is_behind_simple at ≡ true → Writes a b (letters (58 ∷ [])) 1
-    → Writes a b (before_node s (level_by (phase_of at) flow n) simple) (n + 4)
+    → is_behind_simple at ≡ true → Lays a b (letters (58 ∷ [])) stay
+    → Lays a b (before_node s (level_by (phase_of at) flow n) simple) stay
 unfolding before_value letters
-before_simple s state.SimpleValue flow n simple a b e w = writes_as a b (letters (58 ∷ [])) (before_node s (level_by (phase_of state.SimpleValue) flow n) simple) 1 (n + 4) (omega arith) (λ rest. refl) w
+before_simple s state.SimpleValue flow n simple a b e w = lays_is a b (letters (58 ∷ [])) (before_node s (level_by (phase_of state.SimpleValue) flow n) simple) (λ rest. refl) w
 before_simple s state.StreamStart flow n simple a b e w = absurd (cc)
 before_simple s state.FirstDocumentStart flow n simple a b e w = absurd (cc)
 before_simple s state.DocumentStart flow n simple a b e w = absurd (cc)
@@ -178,16 +165,16 @@ before_simple s state.End flow n simple a b e w = absurd (cc)
 -- outside of collections
 pub before_none : (s : Settings) (at : State) (flow : Bool) (n : ℕ) (simple : Bool) (a : Page)
     → is_entry at ≡ false → is_behind_simple at ≡ false
-    → Writes a a (before_node s (level_by (phase_of at) flow n) simple) (n + 4)
-before_none s state.StreamStart flow n simple a e f = writes_nothing a (n + 4)
-before_none s state.FirstDocumentStart flow n simple a e f = writes_nothing a (n + 4)
-before_none s state.DocumentStart flow n simple a e f = writes_nothing a (n + 4)
-before_none s state.DocumentContent flow n simple a e f = writes_nothing a (n + 4)
+    → Lays a a (before_node s (level_by (phase_of at) flow n) simple) stay
+before_none s state.StreamStart flow n simple a e f = lays_same a stay
+before_none s state.FirstDocumentStart flow n simple a e f = lays_same a stay
+before_none s state.DocumentStart flow n simple a e f = lays_same a stay
+before_none s state.DocumentContent flow n simple a e f = lays_same a stay
 before_none s state.FirstItem flow n simple a e f = absurd (cc)
 before_none s state.Item flow n simple a e f = absurd (cc)
 before_none s state.FirstKey flow n simple a e f = absurd (cc)
 before_none s state.Key flow n simple a e f = absurd (cc)
 before_none s state.SimpleValue flow n simple a e f = absurd (cc)
 before_none s state.Value flow n simple a e f = absurd (cc)
-before_none s state.DocumentEnd flow n simple a e f = writes_nothing a (n + 4)
-before_none s state.End flow n simple a e f = writes_nothing a (n + 4)
+before_none s state.DocumentEnd flow n simple a e f = lays_same a stay
+before_none s state.End flow n simple a e f = lays_same a stay

@@ -15,13 +15,12 @@ use Rattle.yaml_emit_layout.specs.declared.problem.Problem.TheVariants as proble
 use Rattle.yaml_emit_layout.specs.Content as said
 use Rattle.yaml_emit_layout.specs.Grammar.{or_else, name_problem, anchor_problem, tag_problem, start_tag, scalar_tag, has, opening_problem}
 use Rattle.yaml_emit_layout.specs.State.{top_of, problem_at}
-use Rattle.yaml_scan_types.specs.declared.yaml_encoding_t.{yaml_encoding_t}
 use Rattle.yaml_emit_core.specs.declared.level.State.{State}
 use Rattle.yaml_emit_core.specs.declared.level.State.TheVariants as state
 use Rattle.yaml_emit_core.specs.Levels.{phase_of, level_by, is_between, awaits_node, may_end, opening, ending, Stack, Stands, state_at}
 use Rattle.yaml_emit_core.specs.Names.{IsName}
 use Rattle.yaml_emit_core.specs.Judged.{misplaced, node_place, is_start, is_over}
-use Rattle.yaml_emit_core.proofs.Problems.{alias_judged, start_judged, scalar_judged, end_judged, begin_judged, over_judged, stop_judged, open_judged}
+use Rattle.yaml_emit_core.proofs.Problems.{alias_judged, start_judged, scalar_judged, end_judged, open_judged}
 
 or_first : (x y : Option Problem) → or_else x y ≡ None → x ≡ None
 or_first None y e = refl
@@ -31,7 +30,7 @@ or_second : (x y : Option Problem) → or_else x y ≡ None → y ≡ None
 or_second None y e = e
 or_second (Some p) y e = absurd (cc e)
 
-fits : (test : Bool) (p : Problem) → (if test then None else Some p) ≡ None → test ≡ true
+pub fits : (test : Bool) (p : Problem) → (if test then None else Some p) ≡ None → test ≡ true
 fits true p e = refl
 fits false p e = absurd (cc e)
 
@@ -94,10 +93,10 @@ top_none : (ls : List Open) → None ≡ top_of ls → ls ≡ []
 top_none [] e = refl
 top_none (l ∷ ls) e = absurd (cc e)
 
-outside_by : (s : Stack) → Stands s → phase_of s.state ≡ None → s.levels ≡ []
+pub outside_by : (s : Stack) → Stands s → phase_of s.state ≡ None → s.levels ≡ []
 outside_by s h p = top_none s.levels (ap (λ z. level_by z h.0 h.1) (sym p) ∙ h.2)
 
-between_outside : (st : State) → is_between st ≡ true → phase_of st ≡ None
+pub between_outside : (st : State) → is_between st ≡ true → phase_of st ≡ None
 between_outside state.StreamStart h = refl
 between_outside state.FirstDocumentStart h = refl
 between_outside state.DocumentStart h = refl
@@ -111,7 +110,7 @@ between_outside state.Value h = absurd (cc h)
 between_outside state.DocumentEnd h = refl
 between_outside state.End h = refl
 
-start_outside : (st : State) → is_start st ≡ true → phase_of st ≡ None
+pub start_outside : (st : State) → is_start st ≡ true → phase_of st ≡ None
 start_outside state.StreamStart h = refl
 start_outside state.FirstDocumentStart h = refl
 start_outside state.DocumentStart h = refl
@@ -125,7 +124,7 @@ start_outside state.Value h = absurd (cc h)
 start_outside state.DocumentEnd h = refl
 start_outside state.End h = refl
 
-over_outside : (st : State) → is_over st ≡ true → phase_of st ≡ None
+pub over_outside : (st : State) → is_over st ≡ true → phase_of st ≡ None
 over_outside state.StreamStart h = refl
 over_outside state.FirstDocumentStart h = refl
 over_outside state.DocumentStart h = refl
@@ -138,24 +137,6 @@ over_outside state.SimpleValue h = absurd (cc h)
 over_outside state.Value h = absurd (cc h)
 over_outside state.DocumentEnd h = refl
 over_outside state.End h = refl
-
-pub begin_fits : (t : Stack) (u : Bool) (s : Settings) (ds : List TagDirective)
-    (x : yaml_encoding_t) → Stands t → problem_at s (state_at t u ds) (said.stream_start x) ≡ None
-    → t.levels ≡ []
-begin_fits t u s ds x h e =
-    outside_by t h (start_outside t.state (fits (is_start t.state) (misplaced t.state) (begin_judged t.state u h.0 h.1 t.levels s ds x h.2 ∙ e)))
-
-pub over_fits : (t : Stack) (u : Bool) (s : Settings) (ds : List TagDirective) (x : Bool)
-    → Stands t → problem_at s (state_at t u ds) (said.document_end x) ≡ None → t.levels ≡ []
-over_fits t u s ds x h e =
-    outside_by t h (over_outside t.state (fits (is_over t.state) (misplaced t.state) (over_judged t.state u h.0 h.1 t.levels s ds x h.2 ∙ e)))
-
-pub stop_fits : (t : Stack) (u : Bool) (s : Settings) (ds : List TagDirective) → Stands t
-    → problem_at s (state_at t u ds) said.stream_end ≡ None
-    → (t.levels ≡ []) × (is_between t.state ≡ true)
-stop_fits t u s ds h e =
-    let b = fits (is_between t.state) (misplaced t.state) (stop_judged t.state u h.0 h.1 t.levels s ds h.2 ∙ e) in
-    (outside_by t h (between_outside t.state b), b)
 
 pub open_fits : (t : Stack) (u : Bool) (s : Settings) (ds : List TagDirective) (o : said.Opening)
     → Stands t → problem_at s (state_at t u ds) (said.document_start o) ≡ None

@@ -11,8 +11,7 @@ use Rattle.yaml_scan_types.specs.declared.yaml_encoding_t.{yaml_encoding_t}
 use Rattle.yaml_emit_layout.specs.Content as said
 use Rattle.yaml_emit_layout.specs.Nodes.{dots, dashes, is_kept, is_directed, version_text, directive_text, directives_text, start_layout, stop_layout}
 use Rattle.yaml_emit_layout.specs.State.{start_at, stop_at, text_at, depth_at, piece, next, next_at}
-use Rattle.yaml_emit_output.specs.Draft.{Page as Paper}
-use Rattle.yaml_emit_scalars.specs.Lays.{Lays}
+use Rattle.yaml_emit_output.specs.Draft.{Page as Paper, Lays}
 use Rattle.yaml_emit_scalars.proofs.LaysLemmas.{lays_is, lays_more, lays_both}
 use Rattle.yaml_emit_core.specs.declared.level.State.{State}
 use Rattle.yaml_emit_core.specs.declared.level.State.TheVariants as state

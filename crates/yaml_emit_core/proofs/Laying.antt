@@ -9,7 +9,7 @@ use Rattle.yaml_emit_layout.specs.declared.settings.Encoding.{Encoding}
 use Rattle.yaml_emit_layout.specs.declared.settings.Settings.{Settings}
 use Rattle.yaml_emit_layout.specs.Layout.{Layout, stay}
 use Rattle.yaml_emit_layout.specs.Sink.{Output, Puts}
-use Rattle.yaml_emit_layout.proofs.Sinks.{puts_nothing}
+use Rattle.yaml_emit_layout.proofs.Sinks.{puts_nothing, puts_starved}
 use Rattle.yaml_emit_layout.specs.declared.level.Expected.{Expected}
 use Rattle.yaml_emit_layout.specs.declared.level.Expected.TheVariants as at
 use Rattle.yaml_emit_layout.specs.declared.problem.Problem.{Problem}
@@ -18,11 +18,10 @@ use Rattle.yaml_emit_layout.specs.Content.{Event, Start}
 use Rattle.yaml_emit_layout.specs.declared.level.Level.{Level as Open}
 use Rattle.yaml_emit_layout.specs.Grammar.{or_else, event_problem, place_problem, last_problem, problem_by}
 use Rattle.yaml_emit_layout.specs.State.{State, top_of, problem_at, piece, next}
-use Rattle.yaml_emit_output.specs.Draft.{Page as Paper}
+use Rattle.yaml_emit_output.specs.Draft.{Page as Paper, Lays}
 use Rattle.yaml_emit_output.specs.Sheet.{Sheet, Settles, Keeps, Holds, IsText, output_of}
 use Rattle.yaml_emit_output.proofs.Settling.{holds_on}
 use Rattle.yaml_emit_output.proofs.Written.{going_both, puts_settled, written_settled}
-use Rattle.yaml_emit_scalars.specs.Lays.{Lays}
 use Rattle.yaml_emit_core.specs.declared.level.State.{State as Stage}
 use Rattle.yaml_emit_core.specs.declared.level.State.TheVariants as stage
 use Rattle.yaml_emit_core.specs.declared.emitter.Core.TheInside.{Inside}
@@ -250,6 +249,15 @@ late_again c e empty f g h =
     (ap (λ (z : Expected). record { settings = c.settings; sink = (core_of c).sink; place = z; levels = c.levels.levels; directives = c.directives; starved = c.starved }) place)
 
 -- ---- memory was refused outside the output
+
+-- memory was refused: the draft stops
+pub stop_puts : (c : Inside) (mid : Paper) → (core_of c).sink.status ≡ Going
+    → mid.output.bytes ≡ c.draft.output.bytes → mid.output.limit ≡ c.draft.output.limit
+    → mid.output.encoding ≡ c.draft.output.encoding → mid.output.status ≡ Starved → (x : Layout) → Puts c.draft.output mid.output x
+stop_puts c mid g b l e s x = puts_starved c.draft.output mid.output x b s (going_both c.output c.draft.output g).1 e l
+
+pub not_going : (s : Status) → s ≡ Starved → s ≢ Going
+not_going s e g = absurd (cc (sym e ∙ g))
 
 pub starved : (c : Inside) (mid d : Paper) (o : Sheet) → IsCore c → (core_of c).sink.status ≡ Going
     → ((x : Layout) → Puts c.draft.output mid.output x) → mid.output.status ≢ Going

@@ -1,21 +1,12 @@
 -- What the borrowed parts of an event say.
 use Rattle.std.proofs.Common.{◌≡◌, ℕ, List, Bool, true, false, refl, subst, ◌∙◌}
-use Rattle.std.specs.Prelude.{Option, Some, None, option_map, ◌||◌, Vec}
+use Rattle.std.specs.Prelude.{Option, Some, None, option_map, ◌||◌}
 use Rattle.std.specs.Option.{is_some}
-use Rattle.std.specs.Global.{Global}
-use Rattle.std.proofs.lemmas.Bool.{false≢true}
-use Rattle.yaml_scan_types.specs.declared.yaml_encoding_t.{yaml_encoding_t}
-use Rattle.yaml_scan_model.specs.declared.yaml_tag_directive_t.{yaml_tag_directive_t}
-use Rattle.yaml_scan_model.specs.declared.yaml_version_directive_t.{yaml_version_directive_t}
-use Rattle.yaml_parse_model.specs.declared.event.yaml_event_body_t.{yaml_event_body_t}
-use Rattle.yaml_parse_model.specs.declared.event.yaml_event_body_t.TheVariants as body
-use Rattle.yaml_parse_model.specs.Events.{body_of}
 use Rattle.yaml_scan_types.specs.declared.yaml_scalar_style_t.{yaml_scalar_style_t}
 use Rattle.yaml_emit_layout.specs.Content as said
-use Rattle.yaml_emit_layout.specs.Content.{emitter_event}
 use Rattle.yaml_emit_layout.specs.Grammar.{has}
 use Rattle.yaml_emit_core.specs.Levels.{opening}
-use Rattle.yaml_emit_core.specs.Steps.{Core, LaysOut, is_outer}
+use Rattle.yaml_emit_core.specs.Steps.{Core, LaysOut}
 
 has_is : {X : Type 0} (f : X → List ℕ) (t : Option X) → is_some t ≡ has (option_map f t)
 has_is f None = refl
@@ -42,20 +33,3 @@ pub start_same : (sequence : Bool) (old new : Core) (empty : Bool) (a b t u : Op
 start_same sequence old new empty a b t u m x y e f g h =
     let P : said.Start → Type 0 = λ z. LaysOut old new (opening sequence z) empty in
     subst P (λ i. record { anchor = e i; tag = f i; implicit = m; flow = g i }) h
-
--- what begins or ends neither the stream nor a document is none
-pub outer_none : (e : yaml_event_body_t) → is_outer (emitter_event (body_of e)) ≡ true
-    → ((x : yaml_encoding_t) → e ≡ body.StreamStart x → ⊥) → (e ≡ body.StreamEnd → ⊥)
-    → ((v : Option yaml_version_directive_t) (ds : Vec yaml_tag_directive_t Global) (x : Bool) → e ≡ body.DocumentStart v ds x → ⊥) → ((x : Bool) → e ≡ body.DocumentEnd x → ⊥)
-    → emitter_event (body_of e) ≡ said.no_event
-outer_none body.No h a b c d = refl
-outer_none (body.StreamStart x) h a b c d = absurd (a x refl)
-outer_none body.StreamEnd h a b c d = absurd (b refl)
-outer_none (body.DocumentStart v ds x) h a b c d = absurd (c v ds x refl)
-outer_none (body.DocumentEnd x) h a b c d = absurd (d x refl)
-outer_none (body.Alias n) h a b c d = absurd (false≢true h)
-outer_none (body.Scalar n t v p q y) h a b c d = absurd (false≢true h)
-outer_none (body.SequenceStart n t m y) h a b c d = absurd (false≢true h)
-outer_none body.SequenceEnd h a b c d = absurd (false≢true h)
-outer_none (body.MappingStart n t m y) h a b c d = absurd (false≢true h)
-outer_none body.MappingEnd h a b c d = absurd (false≢true h)

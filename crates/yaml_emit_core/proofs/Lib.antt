@@ -25,3 +25,4 @@ pub mod Known
 pub mod Narrowing
 pub mod Numbering
 pub mod Sorting
+pub mod Outer

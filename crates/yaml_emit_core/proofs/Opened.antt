@@ -15,8 +15,7 @@ use Rattle.yaml_emit_layout.specs.Content.{Start}
 use Rattle.yaml_emit_layout.specs.Grammar.{start_tag}
 use Rattle.yaml_emit_layout.specs.Nodes.{Context, context_of, is_flow, indent_of, indented, checked, anchor_text, tag_text, properties_text, text_size, written_size, properties_size, is_simple_start}
 use Rattle.yaml_emit_layout.specs.State.{top_of, position_of, before_node, text_at, depth_at, is_simple_event, piece, next, next_at, levels_behind, State as Standing}
-use Rattle.yaml_emit_output.specs.Draft.{Page as Paper}
-use Rattle.yaml_emit_scalars.specs.Lays.{Lays}
+use Rattle.yaml_emit_output.specs.Draft.{Page as Paper, Lays}
 use Rattle.yaml_emit_scalars.proofs.LaysLemmas.{lays_is, lays_both}
 use Rattle.yaml_emit_core.specs.declared.level.State.{State}
 use Rattle.yaml_emit_core.specs.declared.level.State.TheVariants as state

@@ -1,17 +1,15 @@
 -- How names and tags are spelled.
-use Rattle.std.proofs.Common.{◌≡◌, ℕ, ◌+◌, ◌<◌, ◌≤◌, List, [], ◌∷◌, ◌++◌, length, drop, get_or, Bool, true, false, sym, subst, ◌∙◌, ap, arith, append-nil}
+use Rattle.std.proofs.Common.{◌≡◌, ℕ, ◌+◌, ◌<◌, ◌≤◌, List, [], ◌∷◌, ◌++◌, length, drop, get_or, Bool, true, false, refl, sym, subst, ◌∙◌, ap, arith, append-nil}
 use Rattle.std.proofs.lemmas.Bool.Decides.{nat_tests}
 use Rattle.std.proofs.lemmas.List.{drop_more, drop_all}
 use Rattle.yaml_emit_layout.specs.declared.cursor.Cursor.{Cursor}
-use Rattle.yaml_emit_layout.specs.Layout.{Layout, Rest, ◌▹◌, stay, letters, gap, word, after_text}
+use Rattle.yaml_emit_layout.specs.Layout.{Layout, Rest, ◌▹◌, stay, char, letters, gap, word, after_text}
 use Rattle.yaml_emit_layout.proofs.Sinks.{letters_append}
 use Rattle.yaml_emit_layout.specs.Tags.{suffix_keeps, keeps_byte, uri_byte, uri_text, spelled}
-use Rattle.yaml_emit_output.specs.Draft.{Page as Paper}
-use Rattle.yaml_emit_scalars.specs.Lays.{Lays}
-use Rattle.yaml_emit_scalars.proofs.LaysLemmas.{lays_is, lays_more, lays_both}
+use Rattle.yaml_emit_output.specs.Draft.{Page as Paper, Lays}
+use Rattle.yaml_emit_scalars.proofs.LaysLemmas.{lays_is, lays_as, lays_more, lays_both}
 use Rattle.yaml_emit_scalars.proofs.Words.{behind_gap}
 use Rattle.yaml_emit_core.proofs.Aliases.{ended}
-use Rattle.yaml_emit_core.specs.Names.{split_by}
 
 pub low : (flow : Bool) (b : ℕ) → keeps_byte flow b ≡ true → b < 128
 unfolding suffix_keeps
@@ -70,26 +68,20 @@ unfolding uri_text letters
 uri_all flow a b xs i h p = let P : List ℕ → Type 0 = λ t. Lays a b (letters (uri_text flow xs)) (letters (uri_text flow t)) in subst P (drop_all _ _ h) p
 
 -- a byte more as it is
-pub letters_next : (a b c : Paper) (xs : List ℕ) (i : ℕ) → i < length xs
-    → Lays a b (letters xs) (letters (drop i xs))
-    → Lays b c (letters (get_or xs i 0 ∷ [])) stay → Lays a c (letters xs) (letters (drop (i + 1) xs))
-letters_next a b c xs i h p q =
-    let P : Layout → Type 0 = λ t. Lays a b (letters xs) t in
-    let e = ap letters (drop_more xs i 0 h) ∙ letters_append (get_or xs i 0 ∷ []) (drop (i + 1) xs) in
-    lays_more a b c (letters xs) (letters (get_or xs i 0 ∷ [])) (letters (drop (i + 1) xs)) (subst P e p) q
-
-pub letters_all : (a b : Paper) (xs : List ℕ) (i : ℕ) → length xs ≤ i
-    → Lays a b (letters xs) (letters (drop i xs)) → Lays a b (letters xs) stay
+pub letters_next : (a b c : Paper) (x : Layout) (xs : List ℕ) (i : ℕ) → i < length xs
+    → Lays a b x (letters (drop i xs))
+    → Lays b c (char (get_or xs i 0)) stay → Lays a c x (letters (drop (i + 1) xs))
 unfolding letters
-letters_all a b xs i h p = let P : List ℕ → Type 0 = λ t. Lays a b (letters xs) (letters t) in subst P (drop_all _ _ h) p
+letters_next a b c x xs i h p q =
+    let P : Layout → Type 0 = λ t. Lays a b x t in
+    let e = ap letters (drop_more xs i 0 h) ∙ letters_append (get_or xs i 0 ∷ []) (drop (i + 1) xs) in
+    lays_more a b c x (letters (get_or xs i 0 ∷ [])) (letters (drop (i + 1) xs)) (subst P e p) q
 
--- whole, or cut
-pub whole_lays : (whole : Bool) (handle rest : List ℕ) (a b : Paper) → whole ≡ true
-    → Lays a b (word (spelled (split_by true handle rest))) stay
-    → Lays a b (word (spelled (split_by whole handle rest))) stay
-whole_lays whole handle rest a b e p = let P : Bool → Type 0 = λ z. Lays a b (word (spelled (split_by z handle rest))) stay in subst P (sym e) p
+pub letters_all : (a b : Paper) (x : Layout) (xs : List ℕ) (i : ℕ) → length xs ≤ i
+    → Lays a b x (letters (drop i xs)) → Lays a b x stay
+unfolding letters
+letters_all a b x xs i h p = let P : List ℕ → Type 0 = λ t. Lays a b x (letters t) in subst P (drop_all _ _ h) p
 
-pub cut_lays : (whole : Bool) (handle rest : List ℕ) (a b : Paper) → whole ≡ false
-    → Lays a b (word (spelled (split_by false handle rest))) stay
-    → Lays a b (word (spelled (split_by whole handle rest))) stay
-cut_lays whole handle rest a b e p = let P : Bool → Type 0 = λ z. Lays a b (word (spelled (split_by z handle rest))) stay in subst P (sym e) p
+-- a word whose letters are still to come
+pub begun : (a b : Paper) (xs : List ℕ) → Lays a b gap stay → Lays a b (word xs) (letters xs)
+begun a b xs p = lays_as a b (word xs) gap (letters xs) (λ rest. refl) p

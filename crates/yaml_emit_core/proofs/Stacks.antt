@@ -1,6 +1,6 @@
 -- The open collections.
 use Rattle.std.proofs.Common.{◌≡◌, ◌≢◌, ◌<◌, ◌^◌, ℕ, List, [], ◌∷◌, ◌++◌, reverse, Bool, true, false, refl, sym, subst, ◌∙◌, ap}
-use Rattle.std.specs.Prelude.{Option, Some, None}
+use Rattle.std.specs.Prelude.{Option, Some, None, ◌||◌}
 use Rattle.std.proofs.lemmas.List.{reverse-append}
 use Rattle.yaml_emit_layout.specs.declared.level.Level.{Level as Open}
 use Rattle.yaml_emit_layout.specs.declared.level.Phase.{Phase}
@@ -9,7 +9,7 @@ use Rattle.yaml_emit_layout.specs.State.{phase_behind, levels_behind, outer_of, 
 use Rattle.yaml_emit_core.specs.declared.level.State.{State}
 use Rattle.yaml_emit_core.specs.declared.level.State.TheVariants as state
 use Rattle.yaml_emit_core.specs.declared.level.Level.{Level}
-use Rattle.yaml_emit_core.specs.Levels.{phase_of, place_of, level_by, level_of, state_in, state_behind, stack, upon, AreNarrow, Stack, stepped, opened}
+use Rattle.yaml_emit_core.specs.Levels.{phase_of, place_of, level_by, level_of, state_in, state_behind, stack, upon, AreNarrow, Stack, stepped, opened, is_open, is_entry, is_behind_simple}
 
 -- after a node the innermost collection is in the phase after it
 pub stack_behind : (s : State) (flow : Bool) (n : ℕ) (simple : Bool) (ls : List Open)
@@ -54,7 +54,7 @@ pub step_is : (s b : State) (flow : Bool) (n : ℕ) (simple : Bool) (ls : List O
     → record { state = b; levels = stack (level_by (phase_of b) flow n) ls } ≡ stepped (record { state = s; levels = stack (level_by (phase_of s) flow n) ls }) simple
 step_is s b flow n simple ls e = rw e (λ i. record { state = state_behind s simple; levels = stack_behind s flow n simple ls i })
 
-narrow_none : AreNarrow (reverse [])
+pub narrow_none : AreNarrow (reverse [])
 unfolding AreNarrow
 narrow_none = tt
 
@@ -219,3 +219,18 @@ resumed_narrow o ls n = narrow_less (reverse ls) o n
 pub resumed_some : (o : Open) (ls : List Open)
     → stack (level_by (phase_of (state_in o.phase)) o.flow o.indent) ls ≡ stack (Some o) ls
 resumed_some o ls = ap (λ z. stack z ls) (in_is o)
+
+-- inside a collection an entry comes, or the value of a simple key
+pub inside_is : (s : State) → (is_entry s || is_behind_simple s) ≡ is_open (phase_of s)
+inside_is state.StreamStart = refl
+inside_is state.FirstDocumentStart = refl
+inside_is state.DocumentStart = refl
+inside_is state.DocumentContent = refl
+inside_is state.FirstItem = refl
+inside_is state.Item = refl
+inside_is state.FirstKey = refl
+inside_is state.Key = refl
+inside_is state.SimpleValue = refl
+inside_is state.Value = refl
+inside_is state.DocumentEnd = refl
+inside_is state.End = refl

@@ -21,8 +21,7 @@ use Rattle.yaml_emit_layout.specs.Content as said
 use Rattle.yaml_emit_layout.specs.Grammar.{has, scalar_tag}
 use Rattle.yaml_emit_layout.specs.Nodes.{context_of, MOST, checked, deep_if, deeper, is_simple_part, is_plain, style_of, scalar_layout, properties_size, is_simple_scalar}
 use Rattle.yaml_emit_layout.specs.State.{top_of, position_of, before_node, text_at, depth_at, is_simple_event, piece, next, next_at}
-use Rattle.yaml_emit_output.specs.Draft.{Page as Paper}
-use Rattle.yaml_emit_scalars.specs.Lays.{Lays}
+use Rattle.yaml_emit_output.specs.Draft.{Page as Paper, Lays}
 use Rattle.yaml_emit_scalars.proofs.LaysLemmas.{lays_both}
 use Rattle.yaml_emit_core.specs.declared.level.State.{State}
 use Rattle.yaml_emit_core.specs.declared.level.State.TheVariants as state

@@ -4,7 +4,8 @@ use Rattle.yaml_emit_layout.specs.declared.problem.Problem.{Problem}
 use Rattle.yaml_emit_layout.specs.declared.problem.Problem.TheVariants as problem
 use Rattle.yaml_emit_core.specs.declared.level.State.{State}
 use Rattle.yaml_emit_core.specs.declared.level.State.TheVariants as state
-use Rattle.yaml_emit_core.specs.Levels.{awaits_node, may_end}
+use Rattle.yaml_emit_layout.specs.Content.{Event, stream_start, stream_end, document_end}
+use Rattle.yaml_emit_core.specs.Levels.{awaits_node, may_end, is_between}
 
 abbrev pub misplaced : State → Problem
 misplaced state.StreamStart = problem.ExpectedStreamStart
@@ -57,3 +58,10 @@ is_over state.SimpleValue = false
 is_over state.Value = false
 is_over state.DocumentEnd = true
 is_over state.End = false
+
+-- an event of the stream, or a document's end, has its place
+abbrev pub fits_at : Event → State → Bool
+fits_at (stream_start x) st = is_start st
+fits_at stream_end st = is_between st
+fits_at (document_end implicit) st = is_over st
+fits_at e st = false

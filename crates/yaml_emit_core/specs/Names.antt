@@ -2,19 +2,10 @@
 use Rattle.std.specs.Prelude.{◌≡◌, ℕ, ◌+◌, Bool, true, false, List, Option, Some, None, option_map, ⊤}
 use Rattle.std.specs.Str.{IsAscii}
 use Rattle.yaml_emit_layout.specs.Layout.{Layout, ◌▹◌, stay, word}
-use Rattle.yaml_emit_layout.specs.Tags.{Split, shorthand, verbatim, spelled, split_tag, split_size}
+use Rattle.yaml_emit_layout.specs.Tags.{Split, spelled, split_of, split_tag, split_size}
 use Rattle.yaml_parse_model.specs.Events.{TagDirective}
 use Rattle.yaml_emit_layout.specs.Nodes.{anchor_text, text_size}
-use Rattle.yaml_emit_core.specs.declared.names.Spelling.{Spelling}
 use Rattle.yaml_emit_core.specs.declared.names.Properties.{Properties}
-
--- a tag as it is cut: whole, or a handle and what follows it
-abbrev pub split_by : Bool → List ℕ → List ℕ → Split
-split_by true handle rest = verbatim rest
-split_by false handle rest = shorthand handle rest
-
-abbrev pub split_in : Spelling → Split
-split_in s = split_by s.whole s.handle.now s.rest.now
 
 abbrev pub split_text : Option Split → Layout
 split_text None = stay
@@ -28,7 +19,7 @@ abbrev pub name_in : Properties → Option (List ℕ)
 name_in p = option_map (λ n. n.now) p.anchor
 
 abbrev pub tag_in : Properties → Option Split
-tag_in p = option_map split_in p.tag
+tag_in p = option_map split_of p.tag
 
 abbrev pub is_cut : Option Split → Bool
 is_cut None = false

@@ -1,13 +1,13 @@
 //! What comes before nodes in their collections.
 
 ghost use Rattle.std.specs.Prelude.{◌≡◌, ◌<◌, ◌≤◌, ◌+◌, ◌^◌, true};
-ghost use Rattle.yaml_emit_layout.specs.Layout.{is_past};
+ghost use Rattle.yaml_emit_layout.specs.Layout.{stay, is_past};
 ghost use Rattle.yaml_emit_layout.specs.State.{before_node};
-ghost use Rattle.yaml_emit_output.specs.Draft.{Writes};
-ghost use Rattle.yaml_emit_core.specs.Levels.{phase_of, level_by, is_entry};
+ghost use Rattle.yaml_emit_output.specs.Draft.{Lays};
+ghost use Rattle.yaml_emit_core.specs.Levels.{level_of, is_entry};
 ghost use Rattle.yaml_emit_core.specs.Pages.{IsOf, entry, behind_comma, mark_of};
 
-use crate::level::State;
+use crate::level::{Level, State};
 use yaml_emit_layout::Settings;
 use yaml_emit_output::Draft;
 
@@ -26,10 +26,9 @@ fn is_past(draft: &Draft, comma: bool) -> bool
 // none.
 fn put_entry(draft: &mut Draft, settings: &Settings, comma: bool, indent: u64, mark: u8)
     requires on { IsOf settings.now draft.old }
-    requires room { indent + 24 ≤ draft.old.room }
     requires indent { indent < 2 ^ 32 }
     requires mark { mark < 0x80 }
-    ensures { Writes draft.old draft.new (entry settings.now comma indent mark) (indent + 4) }
+    ensures { Lays draft.old draft.new (entry settings.now comma indent mark) stay }
 {
     if settings.canonical {
         draft.put_line(comma, indent as usize, mark, false);
@@ -54,47 +53,37 @@ fn mark_of(state: State, flow: bool, simple: bool) -> u8
 }
 
 // The same for an entry of any collection.
-fn put_lead(
-    draft: &mut Draft,
-    settings: &Settings,
-    state: State,
-    flow: bool,
-    indent: u64,
-    simple: bool,
-)
+fn put_lead(draft: &mut Draft, settings: &Settings, level: Level, simple: bool)
     requires on { IsOf settings.now draft.old }
-    requires room { indent + 25 ≤ draft.old.room }
-    requires indent { indent < 2 ^ 32 }
-    requires entry { is_entry state ≡ true }
-    ensures { Writes draft.old draft.new
-        (before_node settings.now (level_by (phase_of state) flow indent) simple) (indent + 4) }
+    requires narrow { level.indent < 2 ^ 31 }
+    requires entry { is_entry level.state ≡ true }
+    ensures { Lays draft.old draft.new (before_node settings.now (level_of level) simple) stay }
 {
-    let mark = mark_of(state, flow, simple);
-    if flow {
-        put_entry(draft, settings, state.is_further(), indent, mark);
+    let mark = mark_of(level.state, level.flow, simple);
+    if level.flow {
+        put_entry(
+            draft,
+            settings,
+            level.state.is_further(),
+            level.indent,
+            mark,
+        );
     } else {
-        draft.put_line(false, indent as usize, mark, true);
+        draft.put_line(false, level.indent as usize, mark, true);
     }
 }
 
-/// What comes before a node in its collection, by the parts of its level, and by whether the node is a simple key.
-pub fn put_before(
-    draft: &mut Draft,
-    settings: &Settings,
-    state: State,
-    flow: bool,
-    indent: u64,
-    simple: bool,
-)
+/// What comes before a node in its collection, by whether the node is a simple key.
+// Inlined: the node's level stays in registers.
+#[inline(always)]
+pub fn put_before(draft: &mut Draft, settings: &Settings, level: Level, simple: bool)
     requires on { IsOf settings.now draft.old }
-    requires room { indent + 25 ≤ draft.old.room }
-    requires indent { indent < 2 ^ 32 }
-    ensures { Writes draft.old draft.new
-        (before_node settings.now (level_by (phase_of state) flow indent) simple) (indent + 4) }
+    requires narrow { level.indent < 2 ^ 31 }
+    ensures { Lays draft.old draft.new (before_node settings.now (level_of level) simple) stay }
 {
-    if state.is_entry() {
-        put_lead(draft, settings, state, flow, indent, simple);
-    } else if state.is_behind_simple() {
+    if level.state.is_entry() {
+        put_lead(draft, settings, level, simple);
+    } else if level.state.is_behind_simple() {
         draft.put_text(b":");
     }
 }

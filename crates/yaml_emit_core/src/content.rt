@@ -12,21 +12,22 @@ ghost use Rattle.yaml_emit_layout.specs.Nodes.{MOST, checked, deeper, is_plain, 
 ghost use Rattle.yaml_parse_model.specs.Events.{TagDirective};
 ghost use Rattle.yaml_emit_layout.specs.State.{next, piece, position_of};
 ghost use Rattle.yaml_emit_scalars.specs.Classes.{Covers};
-ghost use Rattle.yaml_emit_scalars.specs.Lays.{Lays, IsOn};
+ghost use Rattle.yaml_emit_output.specs.Draft.{Lays};
+ghost use Rattle.yaml_emit_scalars.specs.On.{IsOn};
 ghost use Rattle.yaml_emit_core.specs.Levels.{level_of, is_key, awaits_node, state_at};
 ghost use Rattle.yaml_emit_core.specs.Names.{names_size, name_in, IsName};
 ghost use Rattle.yaml_emit_core.specs.Pages.{IsOf};
 ghost use Rattle.yaml_emit_core.specs.Says.{Says, style_by, is_marked, page_by};
 
+use crate::before::put_before;
 use crate::depth::DEEPEST;
 use crate::indent::{deeper, is_in_flow};
 use crate::level::{Level, Levels, State};
 use crate::names::{Properties, are_short, put_properties};
-use crate::nodes::put_before_node;
-use crate::scalars::{Manner, put_sign_if, put_value};
+use crate::scalars::{put_sign_if, put_value};
 use yaml_emit_layout::{Page, Settings, Style};
 use yaml_emit_output::Draft;
-use yaml_emit_scalars::{BREAK, allowed_by, taken};
+use yaml_emit_scalars::{BREAK, Manner, allowed_by, taken};
 use yaml_scan_classes::has_break;
 use yaml_scan_types::yaml_scalar_style_t;
 
@@ -101,16 +102,7 @@ fn is_marked(scalar: &Scalar, style: Style) -> bool
     scalar.properties.tag.is_none() & (!scalar.quoted & !is_plain(style))
 }
 
-// One that is too deep: this is marked, and nothing more is put.
-fn put_deep(draft: &mut Draft, marked: bool)
-    ensures { (indent : ℕ) (more : Layout) → MOST < indent → Lays draft.old draft.new
-        (when marked (word (ascii.exclamation ∷ [])) ▹ (checked indent ▹ more)) stay }
-{
-    put_sign_if(draft, marked);
-    draft.stop_deep();
-}
-
-// What follows anchor and tag, in lines of that indentation.
+// What follows anchor and tag, in lines of that indentation. One that is too deep is marked, and nothing more is put.
 fn put_inside(draft: &mut Draft, page: Page, manner: Manner, scalar: &Scalar)
     requires on { IsOn page draft.old }
     requires marked { manner.marked ≡ true → manner.style ≢ Style.Plain }
@@ -121,7 +113,8 @@ fn put_inside(draft: &mut Draft, page: Page, manner: Manner, scalar: &Scalar)
         (chars scalar.now.value.now))) stay }
 {
     if DEEPEST < page.indentation {
-        put_deep(draft, manner.marked);
+        put_sign_if(draft, manner.marked);
+        draft.stop_deep();
     } else {
         put_value(draft, page, manner, scalar.value, scalar.classes);
     }
@@ -168,7 +161,7 @@ pub fn lay_scalar(draft: &mut Draft, settings: &Settings, levels: &mut Levels, s
         marked: is_marked(scalar, style),
     };
     let page = page_of(settings, deeper(settings, level), simple);
-    put_before_node(draft, settings, level, simple);
+    put_before(draft, settings, level, simple);
     put_properties(draft, &scalar.properties);
     put_inside(draft, page, manner, scalar);
     levels.step(simple);

@@ -3,7 +3,7 @@
 ghost use Rattle.std.specs.Prelude.{◌≡◌, ◌≢◌, ◌<◌, None, OnOk};
 ghost use Rattle.yaml_emit_layout.specs.Layout.{stay, opener, when};
 ghost use Rattle.yaml_emit_layout.specs.Nodes.{checked};
-ghost use Rattle.yaml_emit_scalars.specs.Lays.{Lays};
+ghost use Rattle.yaml_emit_output.specs.Draft.{Lays};
 ghost use Rattle.yaml_emit_core.specs.Levels.{phase_of, stepped, opened};
 
 use crate::level::{Level, Levels};
@@ -20,15 +20,6 @@ pub fn put_opener(draft: &mut Draft, flow: bool, bracket: u8)
     ensures { Lays draft.old draft.new (when flow (opener bracket)) stay }
 {
     if flow {
-        put_some_opener(draft, bracket);
-    }
-}
-
-fn put_some_opener(draft: &mut Draft, bracket: u8)
-    requires { bracket < 0x80 }
-    ensures { Lays draft.old draft.new (opener bracket) stay }
-{
-    if draft.has_room(0) {
         draft.put_opener(bracket);
     }
 }

@@ -4,10 +4,8 @@ ghost use Rattle.std.specs.Prelude.{◌≡◌, option_map, IsUtf8};
 ghost use Rattle.yaml_emit_layout.specs.Content.{is_flow_sequence, is_flow_mapping};
 ghost use Rattle.yaml_emit_layout.specs.Grammar.{kept_tag};
 ghost use Rattle.yaml_parse_model.specs.Events.{text_of};
-ghost use Rattle.yaml_emit_layout.specs.Tags.{split_tag};
-ghost use Rattle.yaml_emit_core.specs.Names.{split_in};
+ghost use Rattle.yaml_emit_layout.specs.Tags.{split_tag, split_of};
 
-use crate::names::Spelling;
 use crate::table::DirectiveTable;
 use crate::tag::split_tag;
 use yaml_emit_layout::SplitTag;
@@ -48,44 +46,14 @@ pub fn kept_tag<'a>(canonical: bool, left_out: bool, tag: Option<&'a [u8]>) -> O
     if canonical | !left_out { tag } else { None }
 }
 
-/// A tag as a document's directives cut it.
-// Out of line: most nodes have no tag.
-#[inline(never)]
-pub fn cut_tag<'a>(directives: &'a DirectiveTable, tag: &'a [u8]) -> Spelling<'a>
-    ensures { split_in result ≡ split_tag directives.now tag.now }
-{
-    match split_tag(directives, tag) {
-        SplitTag::Primary(rest) => Spelling {
-            whole: false,
-            handle: b"!",
-            rest,
-        },
-        SplitTag::Secondary(rest) => Spelling {
-            whole: false,
-            handle: b"!!",
-            rest,
-        },
-        SplitTag::Shorthand(handle, rest) => Spelling {
-            whole: false,
-            handle,
-            rest,
-        },
-        SplitTag::Verbatim(tag) => Spelling {
-            whole: true,
-            handle: b"",
-            rest: tag,
-        },
-    }
-}
-
-/// The same where there is one.
-pub fn cut_tag_if<'a>(directives: &'a DirectiveTable, tag: Option<&'a [u8]>) -> Option<Spelling<'a>>
-    ensures { option_map split_in result
+/// A tag as a document's directives cut it, where there is one.
+pub fn cut_tag_if<'a>(directives: &'a DirectiveTable, tag: Option<&'a [u8]>) -> Option<SplitTag<'a>>
+    ensures { option_map split_of result
         ≡ option_map (split_tag directives.now) (option_map (λ t. t.now) tag.entry) }
 {
     match tag {
         None => None,
-        Some(tag) => Some(cut_tag(directives, tag)),
+        Some(tag) => Some(split_tag(directives, tag)),
     }
 }
 

@@ -1,14 +1,14 @@
 //! What is wrong with an event of a node.
 
-ghost use Rattle.std.specs.Prelude.{◌≡◌, ◌||◌, Bool, List, Some, None, option_map, if◌then◌else◌};
+ghost use Rattle.std.specs.Prelude.{◌≡◌, ◌||◌, Bool, List, Some, None, true, false, option_map, if◌then◌else◌};
 ghost use Rattle.yaml_emit_layout.specs.declared.Settings.{Settings};
 ghost use Rattle.yaml_emit_layout.specs.Content as said;
 ghost use Rattle.yaml_parse_model.specs.Events.{body_of, text_of, TagDirective};
 ghost use Rattle.yaml_emit_layout.specs.Content.{emitter_event};
 ghost use Rattle.yaml_emit_layout.specs.Grammar.{event_problem, kept_tag, or_else, name_problem, anchor_problem, tag_problem, start_tag, scalar_tag, has};
-ghost use Rattle.yaml_scan_types.specs.declared.yaml_encoding_t.{yaml_encoding_t};
 ghost use Rattle.yaml_emit_layout.specs.State.{problem_at};
-ghost use Rattle.yaml_emit_core.specs.Judged.{misplaced, is_start, is_over};
+ghost use Rattle.yaml_emit_core.specs.Judged.{misplaced, is_start, is_over, fits_at};
+ghost use Rattle.yaml_emit_core.specs.Steps.{is_outer, is_document_start};
 ghost use Rattle.yaml_emit_core.specs.Levels.{awaits_node, may_end, opening, ending, state_at, Stands};
 
 use crate::alphas::are_alphas;
@@ -179,45 +179,29 @@ fn is_over(state: State) -> bool
     matches!(state, State::DocumentEnd)
 }
 
-/// What is wrong with the start of a stream.
-pub fn stream_start_problem(levels: &Levels) -> Option<Problem>
+// Whether an event of the stream or a document's end has its place.
+fn fits(event: &yaml_event_body_t, state: State) -> bool
+    ensures { result ≡ fits_at (emitter_event (body_of event.now)) state }
+{
+    match event {
+        yaml_event_body_t::StreamStart { .. } => is_start(state),
+        yaml_event_body_t::StreamEnd => state.is_between(),
+        yaml_event_body_t::DocumentEnd { .. } => is_over(state),
+        _ => false,
+    }
+}
+
+/// What is wrong with an event of the stream, the end of a document, or an event that is none.
+pub fn outer_problem(levels: &Levels, event: &yaml_event_body_t) -> Option<Problem>
+    requires outer { is_outer (emitter_event (body_of event.now)) ≡ true }
+    requires other { is_document_start (emitter_event (body_of event.now)) ≡ false }
     ensures stands { Stands levels.now }
     ensures problem { (s : Settings) (unended : Bool) (directives : List TagDirective)
-        (encoding : yaml_encoding_t)
         → result ≡ problem_at s (state_at levels.now unended directives)
-        (said.stream_start encoding) }
+        (emitter_event (body_of event.now)) }
 {
     let state = levels.top().state;
-    place_if(is_start(state), state)
-}
-
-/// What is wrong with the end of a stream.
-pub fn stream_end_problem(levels: &Levels) -> Option<Problem>
-    ensures stands { Stands levels.now }
-    ensures problem { (s : Settings) (unended : Bool) (directives : List TagDirective)
-        → result ≡ problem_at s (state_at levels.now unended directives) said.stream_end }
-{
-    let state = levels.top().state;
-    place_if(state.is_between(), state)
-}
-
-/// What is wrong with the end of a document.
-pub fn document_end_problem(levels: &Levels) -> Option<Problem>
-    ensures stands { Stands levels.now }
-    ensures problem { (s : Settings) (unended implicit : Bool) (directives : List TagDirective)
-        → result ≡ problem_at s (state_at levels.now unended directives)
-        (said.document_end implicit) }
-{
-    let state = levels.top().state;
-    place_if(is_over(state), state)
-}
-
-/// What is wrong with an event that is none.
-pub fn nothing_problem(levels: &Levels) -> Problem
-    ensures { (s : Settings) (unended : Bool) (directives : List TagDirective)
-        → Some result ≡ problem_at s (state_at levels.now unended directives) said.no_event }
-{
-    misplaced(levels.top().state)
+    place_if(fits(event, state), state)
 }
 
 fn names_problem(

@@ -84,11 +84,7 @@ impl State {
     pub fn is_inside(self) -> bool
         ensures { result ≡ is_open (phase_of self) }
     {
-        match self {
-            State::FirstItem | State::Item | State::FirstKey => true,
-            State::Key | State::SimpleValue | State::Value => true,
-            _ => false,
-        }
+        self.is_entry() | self.is_behind_simple()
     }
 
     /// The phase of an open collection.
@@ -159,14 +155,7 @@ impl Levels {
     pub fn new(alloc: Global) -> Levels
         ensures { result ≡ record { state = State.StreamStart; levels = [] } }
     {
-        Levels {
-            top: Level {
-                state: State::StreamStart,
-                flow: false,
-                indent: 0,
-            },
-            outer: Vec::new(alloc),
-        }
+        Levels::resumed(State::StreamStart, None, Vec::new(alloc))
     }
 
     /// That collection is the innermost one, and those are open round it, the outermost first; or none is, and something else comes.
@@ -188,11 +177,7 @@ impl Levels {
             None => {
                 outer.clear();
                 Levels {
-                    top: Level {
-                        state,
-                        flow: false,
-                        indent: 0,
-                    },
+                    top: outside(state),
                     outer,
                 }
             }
@@ -273,13 +258,7 @@ impl Levels {
     {
         match self.outer.pop() {
             Some(open) => self.top = level_in(open),
-            None => {
-                self.top = Level {
-                    state: State::DocumentEnd,
-                    flow: false,
-                    indent: 0,
-                };
-            }
+            None => self.top = outside(State::DocumentEnd),
         }
     }
 
@@ -288,6 +267,17 @@ impl Levels {
         ensures { stack (top_of self.now.levels) result.now ≡ self.now.levels }
     {
         &self.outer
+    }
+}
+
+// The stream's level.
+fn outside(state: State) -> Level
+    ensures { result ≡ record { state = state; flow = false; indent = 0 } }
+{
+    Level {
+        state,
+        flow: false,
+        indent: 0,
     }
 }
 

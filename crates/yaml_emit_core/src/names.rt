@@ -3,40 +3,24 @@
 ghost use Rattle.std.specs.Prelude.{◌≡◌, ◌<◌, ◌+◌, ◌∷◌, [], length, nat_le};
 ghost use Rattle.std.specs.Str.{IsAscii};
 ghost use Rattle.yaml_scan_types.specs.Ascii as ascii;
-ghost use Rattle.yaml_emit_layout.specs.Hex.{hex_digit};
 ghost use Rattle.yaml_emit_layout.specs.Layout.{stay, letters, word, gap};
-ghost use Rattle.yaml_emit_layout.specs.Tags.{suffix_keeps, keeps_byte, uri_byte, uri_text, shorthand, verbatim, spelled, split_size};
+ghost use Rattle.yaml_emit_layout.specs.Tags.{suffix_keeps, keeps_byte, uri_byte, uri_text, shorthand, verbatim, spelled, split_of, split_size};
 ghost use Rattle.yaml_emit_layout.specs.Nodes.{anchor_text, text_size, simple_key_bytes};
-ghost use Rattle.yaml_emit_scalars.specs.Lays.{Lays};
-ghost use Rattle.yaml_emit_core.specs.Names.{split_by, split_in, split_text, cut_size, name_in, tag_in, names_text, names_size, IsName};
+ghost use Rattle.yaml_emit_output.specs.Draft.{Lays};
+ghost use Rattle.yaml_emit_core.specs.Names.{split_text, cut_size, name_in, tag_in, names_text, names_size, IsName};
 
+use yaml_emit_layout::SplitTag;
 use yaml_emit_output::Draft;
+use yaml_emit_scalars::hex;
 
 /// How many bytes of anchor, tag and value a simple key may have.
 pub const SIMPLE_KEY_BYTES: usize = 128;
-
-/// A tag as it is cut by a document's directives: a handle and what follows it, or whole.
-#[derive(Clone, Copy)]
-pub struct Spelling<'a> {
-    pub whole: bool,
-    pub handle: &'a [u8],
-    pub rest: &'a [u8],
-}
 
 /// What a node has besides its content: its anchor, and its tag where it is written.
 #[derive(Clone, Copy)]
 pub struct Properties<'a> {
     pub anchor: Option<&'a [u8]>,
-    pub tag: Option<Spelling<'a>>,
-}
-
-#[tactic(auto, unfolding(yaml_emit_layout::specs::Hex::hex_digit))]
-fn hex(d: u8) -> u8
-    requires { d < 16 }
-    ensures digit { result ≡ hex_digit d }
-    ensures ascii { result < 0x80 }
-{
-    if d < 10 { b'0' + d } else { b'A' - 10 + d }
+    pub tag: Option<SplitTag<'a>>,
 }
 
 // 0-9 A-Z a-z _ - ; / ? : @ & = + $ . ~ * ' ( )
@@ -62,25 +46,14 @@ fn keeps_byte(flow: bool, byte: u8) -> bool
     }
 }
 
-/// A text in ASCII, as it is.
-pub fn put_text(draft: &mut Draft, text: &[u8])
-    requires some { 0 < length text.now }
-    requires ascii { IsAscii text.now }
-    ensures { Lays draft.old draft.new (letters text.now) stay }
-{
-    if draft.has_room(text.len()) {
-        draft.put_text(text);
-    }
-}
-
 // A byte as it is, or `%` and its number.
 fn put_uri_byte(draft: &mut Draft, flow: bool, byte: u8)
     ensures { Lays draft.old draft.new (letters (uri_byte flow byte)) stay }
 {
     if keeps_byte(flow, byte) {
-        put_text(draft, &[byte]);
+        draft.put_text(&[byte]);
     } else {
-        put_text(draft, &[b'%', hex(byte / 16), hex(byte % 16)]);
+        draft.put_text(&[b'%', hex(byte as u32 / 16), hex(byte as u32 % 16)]);
     }
 }
 
@@ -99,44 +72,18 @@ pub fn put_front(draft: &mut Draft, front: &[u8])
     requires ascii { IsAscii front.now }
     ensures { Lays draft.old draft.new (word front.now) stay }
 {
-    if draft.has_room(front.len()) {
-        draft.put_word(false, 0, front, 0);
-    }
+    draft.put_word(false, 0, front, 0);
 }
 
-/// A space that parts, where one is due.
-pub fn put_space(draft: &mut Draft)
-    ensures { Lays draft.old draft.new gap stay }
-{
-    if draft.has_room(0) {
-        draft.put_gap();
-    }
-}
-
-fn put_byte(draft: &mut Draft, byte: u8)
-    ensures { Lays draft.old draft.new (letters (byte ∷ [])) stay }
-{
-    if draft.has_room(0) {
-        draft.put_char(byte as char);
-    }
-}
-
-// Each byte as a character.
-fn put_bytes(draft: &mut Draft, text: &[u8])
-    ensures { Lays draft.old draft.new (letters text.now) stay }
-{
-    for byte in text {
-        put_byte(draft, *byte);
-    }
-}
-
-// A handle that no document could have had.
+// A handle that no document could have had: each byte as a character.
 #[cold]
 fn put_odd_handle(draft: &mut Draft, handle: &[u8])
     ensures { Lays draft.old draft.new (word handle.now) stay }
 {
-    put_space(draft);
-    put_bytes(draft, handle);
+    draft.put_gap();
+    for byte in handle {
+        draft.put_char(*byte as char);
+    }
 }
 
 /// The handle of a directive. Those that an emitter goes on with weren't judged: they may have any bytes.
@@ -162,19 +109,19 @@ fn put_verbatim(draft: &mut Draft, tag: &[u8])
 {
     put_front(draft, b"!<");
     put_uri(draft, true, tag);
-    put_text(draft, b">");
+    draft.put_text(b">");
 }
 
-// Whole, or a handle and the rest.
 // Out of line: most nodes have no tag.
 #[inline(never)]
-fn put_tag(draft: &mut Draft, whole: bool, handle: &[u8], rest: &[u8])
-    ensures { Lays draft.old draft.new (word (spelled (split_by whole handle.now rest.now))) stay }
+fn put_tag(draft: &mut Draft, tag: SplitTag)
+    ensures { Lays draft.old draft.new (word (spelled (split_of tag.entry))) stay }
 {
-    if whole {
-        put_verbatim(draft, rest);
-    } else {
-        put_shorthand(draft, handle, rest);
+    match tag {
+        SplitTag::Primary(rest) => put_shorthand(draft, b"!", rest),
+        SplitTag::Secondary(rest) => put_shorthand(draft, b"!!", rest),
+        SplitTag::Shorthand(handle, rest) => put_shorthand(draft, handle, rest),
+        SplitTag::Verbatim(tag) => put_verbatim(draft, tag),
     }
 }
 
@@ -184,9 +131,7 @@ fn put_anchor(draft: &mut Draft, name: &[u8])
     requires { IsAscii name.now }
     ensures { Lays draft.old draft.new (word (ascii.ampersand ∷ name.now)) stay }
 {
-    if draft.has_room(name.len()) {
-        draft.put_word(false, b'&', name, 0);
-    }
+    draft.put_word(false, b'&', name, 0);
 }
 
 fn put_anchor_if(draft: &mut Draft, properties: &Properties)
@@ -201,8 +146,8 @@ fn put_anchor_if(draft: &mut Draft, properties: &Properties)
 fn put_tag_if(draft: &mut Draft, properties: &Properties)
     ensures { Lays draft.old draft.new (split_text (tag_in properties.now)) stay }
 {
-    if let Some(tag) = &properties.tag {
-        put_tag(draft, tag.whole, tag.handle, tag.rest);
+    if let Some(tag) = properties.tag {
+        put_tag(draft, tag);
     }
 }
 
@@ -224,20 +169,21 @@ fn anchor_size(properties: &Properties) -> usize
     }
 }
 
-fn cut_size(tag: &Spelling) -> usize
-    ensures { result ≡ split_size (split_in tag.now) }
+fn cut_size(tag: SplitTag) -> usize
+    ensures { result ≡ split_size (split_of tag.entry) }
 {
-    if tag.whole {
-        tag.rest.len()
-    } else {
-        tag.handle.len() + tag.rest.len()
+    match tag {
+        SplitTag::Primary(rest) => 1 + rest.len(),
+        SplitTag::Secondary(rest) => 2 + rest.len(),
+        SplitTag::Shorthand(handle, rest) => handle.len() + rest.len(),
+        SplitTag::Verbatim(tag) => tag.len(),
     }
 }
 
 fn tag_size(properties: &Properties) -> usize
     ensures { result ≡ cut_size (tag_in properties.now) }
 {
-    match &properties.tag {
+    match properties.tag {
         None => 0,
         Some(tag) => cut_size(tag),
     }

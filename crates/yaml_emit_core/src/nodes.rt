@@ -9,35 +9,15 @@ ghost use Rattle.yaml_emit_layout.specs.Content as said;
 ghost use Rattle.yaml_emit_layout.specs.Nodes.{simple_key_bytes};
 ghost use Rattle.yaml_parse_model.specs.Events.{TagDirective};
 ghost use Rattle.yaml_emit_layout.specs.State.{before_node, next, piece};
-ghost use Rattle.yaml_emit_scalars.specs.Lays.{Lays};
+ghost use Rattle.yaml_emit_output.specs.Draft.{Lays};
 ghost use Rattle.yaml_emit_core.specs.Levels.{level_of, awaits_node, may_end, ending, bracket_of, is_further, state_at};
 ghost use Rattle.yaml_emit_core.specs.Pages.{IsOf, closer_by};
 
 use crate::before::put_before;
 use crate::level::{Level, Levels};
-use crate::names::{SIMPLE_KEY_BYTES, put_text};
+use crate::names::SIMPLE_KEY_BYTES;
 use yaml_emit_layout::Settings;
 use yaml_emit_output::Draft;
-
-/// What comes before a node, where there is room.
-// Inlined: the node's level stays in registers.
-#[inline(always)]
-pub fn put_before_node(draft: &mut Draft, settings: &Settings, level: Level, simple: bool)
-    requires on { IsOf settings.now draft.old }
-    requires narrow { level.indent < 2 ^ 31 }
-    ensures { Lays draft.old draft.new (before_node settings.now (level_of level) simple) stay }
-{
-    if draft.has_room(level.indent as usize) {
-        put_before(
-            draft,
-            settings,
-            level.state,
-            level.flow,
-            level.indent,
-            simple,
-        );
-    }
-}
 
 // The space after an alias that is a simple key, or 0.
 fn space_behind(simple: bool) -> u8
@@ -47,45 +27,8 @@ fn space_behind(simple: bool) -> u8
     if simple { b' ' } else { 0 }
 }
 
-// An alias, where there is room.
-fn put_alias(draft: &mut Draft, name: &[u8], simple: bool)
-    requires { IsAscii name.now }
-    ensures { Lays draft.old draft.new (word (ascii.asterisk ∷ name.now)
-        ▹ when simple (char ascii.space)) stay }
-{
-    if draft.has_room(name.len()) {
-        draft.put_word(false, b'*', name, space_behind(simple));
-    }
-}
-
-// The last line of a flow collection in canonical form: a comma in the line before, and the bracket at the indentation round it.
-fn put_last_line(draft: &mut Draft, indent: u64, bracket: u8)
-    requires narrow { indent < 2 ^ 31 }
-    requires bracket { (0 < bracket) × (bracket < 0x80) }
-    ensures { Lays draft.old draft.new ((char ascii.comma ▹ line draft.old.line_break indent)
-        ▹ char bracket) stay }
-{
-    if draft.has_room(indent as usize) {
-        draft.put_line(true, indent as usize, bracket, false);
-    }
-}
-
-// What ends a flow collection.
-fn put_closer(draft: &mut Draft, settings: &Settings, level: Level, bracket: u8)
-    requires on { IsOf settings.now draft.old }
-    requires narrow { level.indent < 2 ^ 31 }
-    requires bracket { (0 < bracket) × (bracket < 0x80) }
-    ensures { Lays draft.old draft.new (closer_by settings.now level.indent
-        (is_further level.state) bracket) stay }
-{
-    if settings.canonical & level.state.is_further() {
-        put_last_line(draft, level.indent.saturating_sub(settings.indent), bracket);
-    } else {
-        put_text(draft, &[bracket]);
-    }
-}
-
-// What ends a collection.
+// What ends a collection: of a flow collection in canonical form a comma in the line before, and the bracket at the indentation round
+// it.
 fn put_end(draft: &mut Draft, settings: &Settings, level: Level, bracket: u8)
     requires on { IsOf settings.now draft.old }
     requires narrow { level.indent < 2 ^ 31 }
@@ -94,7 +37,12 @@ fn put_end(draft: &mut Draft, settings: &Settings, level: Level, bracket: u8)
         (is_further level.state) bracket)) stay }
 {
     if level.flow {
-        put_closer(draft, settings, level, bracket);
+        if settings.canonical & level.state.is_further() {
+            let indent = level.indent.saturating_sub(settings.indent);
+            draft.put_line(true, indent as usize, bracket, false);
+        } else {
+            draft.put_text(&[bracket]);
+        }
     }
 }
 
@@ -139,7 +87,7 @@ pub fn lay_alias(draft: &mut Draft, settings: &Settings, levels: &mut Levels, na
     let level = levels.top();
     let simple = level.state.awaits_key()
         & (!settings.canonical & (name.len() <= SIMPLE_KEY_BYTES));
-    put_before_node(draft, settings, level, simple);
-    put_alias(draft, name, simple);
+    put_before(draft, settings, level, simple);
+    draft.put_word(false, b'*', name, space_behind(simple));
     levels.step(simple);
 }

@@ -1,23 +1,25 @@
-//! What opens documents, and what ends the stream.
+//! What opens documents, and what ends them and the stream.
 
 ghost use Rattle.std.specs.Prelude.{◌≡◌, [], Bool, List, map, true, false, Some};
-ghost use Rattle.yaml_scan_types.specs.declared.yaml_encoding_t.{yaml_encoding_t};
-ghost use Rattle.yaml_parse_model.specs.Events.{directive_of, TagDirective};
+ghost use Rattle.yaml_parse_model.specs.Events.{body_of, directive_of, TagDirective};
 ghost use Rattle.yaml_emit_layout.specs.declared.Cursor.{Cursor};
 ghost use Rattle.yaml_emit_layout.specs.Layout.{stay, when, word, choose, order_mark};
 ghost use Rattle.yaml_emit_layout.specs.Content as said;
+ghost use Rattle.yaml_emit_layout.specs.Content.{emitter_event};
 ghost use Rattle.yaml_emit_layout.specs.Nodes.{dots, dashes, line_at, is_kept, is_directed, version_word, version_text, directive_text, directives_text};
 ghost use Rattle.yaml_emit_layout.specs.State.{next, piece};
-ghost use Rattle.yaml_emit_scalars.specs.Lays.{Lays};
+ghost use Rattle.yaml_emit_output.specs.Draft.{Lays};
 ghost use Rattle.yaml_emit_core.specs.Directives.{opening_of};
+ghost use Rattle.yaml_emit_core.specs.Judged.{fits_at};
 ghost use Rattle.yaml_emit_core.specs.Levels.{is_between, state_at};
 ghost use Rattle.yaml_emit_core.specs.Pages.{IsOf};
 
 use crate::documents::{put_dots, put_dots_if, put_line};
 use crate::level::{Levels, State};
-use crate::names::{put_front, put_handle, put_space, put_uri};
-use yaml_emit_layout::{Encoding, Settings};
+use crate::names::{put_front, put_handle, put_uri};
+use yaml_emit_layout::Settings;
 use yaml_emit_output::Draft;
+use yaml_parse_model::yaml_event_body_t;
 use yaml_scan_model::{yaml_tag_directive_t, yaml_version_directive_t};
 
 /// What opens a document.
@@ -38,21 +40,14 @@ fn put_version_word(draft: &mut Draft, version: yaml_version_directive_t)
     }
 }
 
-fn put_version(draft: &mut Draft, settings: &Settings, version: yaml_version_directive_t)
-    requires { IsOf settings.now draft.old }
-    ensures { Lays draft.old draft.new (version_text settings.now (Some version)) stay }
-{
-    put_front(draft, b"%YAML");
-    put_version_word(draft, version);
-    put_line(draft, settings);
-}
-
-fn put_version_if(draft: &mut Draft, settings: &Settings, version: Option<yaml_version_directive_t>)
+fn put_version(draft: &mut Draft, settings: &Settings, version: Option<yaml_version_directive_t>)
     requires { IsOf settings.now draft.old }
     ensures { Lays draft.old draft.new (version_text settings.now version) stay }
 {
     if let Some(version) = version {
-        put_version(draft, settings, version);
+        put_front(draft, b"%YAML");
+        put_version_word(draft, version);
+        put_line(draft, settings);
     }
 }
 
@@ -63,7 +58,7 @@ fn put_directive(draft: &mut Draft, settings: &Settings, directive: &yaml_tag_di
 {
     put_front(draft, b"%TAG");
     put_handle(draft, &directive.handle);
-    put_space(draft);
+    draft.put_gap();
     put_uri(draft, true, &directive.prefix);
     put_line(draft, settings);
 }
@@ -78,30 +73,16 @@ fn put_directives(draft: &mut Draft, settings: &Settings, directives: &[yaml_tag
     }
 }
 
-fn put_line_if(draft: &mut Draft, settings: &Settings, due: bool)
-    requires { IsOf settings.now draft.old }
-    ensures { Lays draft.old draft.new (when due (line_at settings.now 0)) stay }
-{
-    if due {
-        put_line(draft, settings);
-    }
-}
-
-fn put_dashes(draft: &mut Draft, settings: &Settings)
-    requires { IsOf settings.now draft.old }
-    ensures { Lays draft.old draft.new (dashes settings.now) stay }
-{
-    put_line(draft, settings);
-    put_front(draft, b"---");
-    put_line_if(draft, settings, settings.canonical);
-}
-
-fn put_dashes_if(draft: &mut Draft, settings: &Settings, due: bool)
+fn put_dashes(draft: &mut Draft, settings: &Settings, due: bool)
     requires { IsOf settings.now draft.old }
     ensures { Lays draft.old draft.new (when due (dashes settings.now)) stay }
 {
     if due {
-        put_dashes(draft, settings);
+        put_line(draft, settings);
+        put_front(draft, b"---");
+        if settings.canonical {
+            put_line(draft, settings);
+        }
     }
 }
 
@@ -135,71 +116,62 @@ pub fn lay_document_start(
     let directed = is_directed(opening);
     put_dots_if(draft, settings, unended & directed);
     draft.set_kept(false);
-    put_version_if(draft, settings, opening.version);
+    put_version(draft, settings, opening.version);
     put_directives(draft, settings, opening.directives);
-    put_dashes_if(
-        draft,
-        settings,
-        settings.canonical | !(first & (opening.implicit & !directed)),
-    );
+    let due = settings.canonical | !(first & (opening.implicit & !directed));
+    put_dashes(draft, settings, due);
     levels.turn(State::DocumentContent);
 }
 
-fn put_kept_dots(draft: &mut Draft, settings: &Settings)
-    requires { IsOf settings.now draft.old }
-    ensures { Lays draft.old draft.new (choose is_kept (dots settings.now) stay) stay }
-{
-    if draft.is_kept() {
-        put_dots(draft, settings);
-    }
-}
-
-fn put_kept_dots_if(draft: &mut Draft, settings: &Settings, due: bool)
+fn put_kept_dots(draft: &mut Draft, settings: &Settings, due: bool)
     requires { IsOf settings.now draft.old }
     ensures { Lays draft.old draft.new (when due (choose is_kept (dots settings.now) stay)) stay }
 {
     if due {
-        put_kept_dots(draft, settings);
+        if draft.is_kept() {
+            put_dots(draft, settings);
+        }
     }
 }
 
-/// The stream's end, where it may come, by whether the last document ended implicitly: `...` ends it where its last block scalar keeps
-/// its breaks.
-pub fn lay_stream_end(draft: &mut Draft, settings: &Settings, levels: &mut Levels, unended: bool)
+/// An event of the stream or a document's end, where it has its place; answers whether the last document ended implicitly. The stream
+/// begins with the byte order mark in UTF-16, and `...` ends it where its last block scalar keeps its breaks; `...` ends a document
+/// unless it ends implicitly.
+pub fn lay_placed(
+    draft: &mut Draft,
+    settings: &Settings,
+    levels: &mut Levels,
+    unended: bool,
+    event: &yaml_event_body_t,
+) -> bool
     requires on { IsOf settings.now draft.old }
     requires outside { levels.old.levels ≡ [] }
-    requires due { is_between levels.old.state ≡ true }
+    requires due { fits_at (emitter_event (body_of event.now)) levels.old.state ≡ true }
     ensures text { (empty : Bool) (directives : List TagDirective) → Lays draft.old draft.new
-        (piece settings.now (state_at levels.old unended directives) said.stream_end empty) stay }
-    ensures state { (after empty : Bool) (directives : List TagDirective) (behind : Cursor)
-        → state_at levels.new after []
-        ≡ next settings.now (state_at levels.old unended directives) said.stream_end empty behind }
-{
-    put_kept_dots_if(draft, settings, unended);
-    levels.turn(State::End);
-}
-
-fn put_order_mark(draft: &mut Draft, encoding: Encoding)
-    ensures { Lays draft.old draft.new (order_mark encoding) stay }
-{
-    if draft.has_room(0) {
-        draft.put_order_mark(encoding);
-    }
-}
-
-/// The stream's start: the byte order mark in UTF-16.
-pub fn lay_stream_start(draft: &mut Draft, settings: &Settings, levels: &mut Levels)
-    requires outside { levels.old.levels ≡ [] }
-    ensures text { (unended empty : Bool) (encoding : yaml_encoding_t)
-        (directives : List TagDirective) → Lays draft.old draft.new
         (piece settings.now (state_at levels.old unended directives)
-        (said.stream_start encoding) empty) stay }
-    ensures state { (unended empty : Bool) (encoding : yaml_encoding_t)
-        (directives : List TagDirective) (behind : Cursor)
-        → state_at levels.new false []
+        (emitter_event (body_of event.now)) empty) stay }
+    ensures state { (empty : Bool) (directives : List TagDirective) (behind : Cursor)
+        → state_at levels.new result []
         ≡ next settings.now (state_at levels.old unended directives)
-        (said.stream_start encoding) empty behind }
+        (emitter_event (body_of event.now)) empty behind }
 {
-    put_order_mark(draft, settings.encoding);
-    levels.turn(State::FirstDocumentStart);
+    match event {
+        yaml_event_body_t::StreamStart { .. } => {
+            draft.put_order_mark(settings.encoding);
+            levels.turn(State::FirstDocumentStart);
+            false
+        }
+        yaml_event_body_t::StreamEnd => {
+            put_kept_dots(draft, settings, unended);
+            levels.turn(State::End);
+            unended
+        }
+        yaml_event_body_t::DocumentEnd { implicit } => {
+            put_line(draft, settings);
+            put_dots_if(draft, settings, !*implicit);
+            levels.turn(State::DocumentStart);
+            *implicit
+        }
+        _ => unended,
+    }
 }

@@ -6,17 +6,17 @@ ghost use Rattle.yaml_emit_layout.specs.Content.{Start};
 ghost use Rattle.yaml_emit_layout.specs.Nodes.{simple_key_bytes};
 ghost use Rattle.yaml_parse_model.specs.Events.{TagDirective};
 ghost use Rattle.yaml_emit_layout.specs.State.{next, piece};
-ghost use Rattle.yaml_emit_scalars.specs.Lays.{Lays};
+ghost use Rattle.yaml_emit_output.specs.Draft.{Lays};
 ghost use Rattle.yaml_emit_core.specs.Levels.{is_key, awaits_node, opening, opener_of, first_of, state_at};
 ghost use Rattle.yaml_emit_core.specs.Names.{names_size, name_in, IsName};
 ghost use Rattle.yaml_emit_core.specs.Pages.{IsOf};
 ghost use Rattle.yaml_emit_core.specs.Opens.{Opens};
 
+use crate::before::put_before;
 use crate::depth::{open, put_opener};
 use crate::indent::{indent_of, is_in_flow};
 use crate::level::{Level, Levels, State};
 use crate::names::{Properties, are_short, put_properties};
-use crate::nodes::put_before_node;
 use std::alloc::AllocError;
 use yaml_emit_layout::{Settings, Status};
 use yaml_emit_output::Draft;
@@ -80,7 +80,7 @@ pub fn lay_start(
     let level = levels.top();
     let simple = is_simple(settings, level.state, start);
     let flow = settings.canonical | (is_in_flow(level) | (start.flow | start.empty));
-    put_before_node(draft, settings, level, simple);
+    put_before(draft, settings, level, simple);
     put_properties(draft, &start.properties);
     put_opener(draft, flow, bracket_of(start.sequence));
     let indent = indent_of(draft, settings, level, start.sequence, flow);

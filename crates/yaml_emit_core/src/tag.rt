@@ -27,8 +27,6 @@ fn suffix_behind<'a>(prefix: &[u8], tag: &'a [u8]) -> &'a [u8]
 }
 
 // By the two handles that need no directive, where none defines them.
-// Inlined: where a tag is written, how it is cut is known.
-#[inline(always)]
 fn split_by_default<'a>(directives: &DirectiveTable, tag: &'a [u8]) -> SplitTag<'a>
     ensures { split_of result ≡ split_by (directive_for (defaults directives.now) tag.now) tag.now }
 {
@@ -42,8 +40,8 @@ fn split_by_default<'a>(directives: &DirectiveTable, tag: &'a [u8]) -> SplitTag<
 }
 
 /// A tag as it is cut by a document's directives, in order, and then by the two handles that need none.
-// Inlined: where a tag is written, how it is cut is known.
-#[inline(always)]
+// Out of line: most nodes have no tag.
+#[inline(never)]
 pub fn split_tag<'a>(directives: &'a DirectiveTable, tag: &'a [u8]) -> SplitTag<'a>
     ensures { split_of result ≡ split_tag directives.now tag.now }
 {

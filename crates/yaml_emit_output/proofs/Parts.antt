@@ -1,18 +1,21 @@
 -- Texts in UTF-8 that are put as they are: each character takes a column.
 use Rattle.std.proofs.Common.{◌≡◌, ℕ, suc, ◌+◌, ◌-◌, ◌*◌, ◌/◌, ◌%◌, ◌<◌, ◌≤◌, List, [], ◌∷◌, ◌++◌, length, Bool, true, false, cond, IsUtf8, refl, sym, subst, ◌∙◌, ap, arith, length-append}
-use Rattle.std.specs.Prelude.{nat_lt, nat_le, ◌&&◌}
+use Rattle.std.specs.Prelude.{nat_lt, nat_le, ◌==◌, ◌&&◌}
 use Rattle.std.specs.List.{count_by, slice_range}
 use Rattle.std.specs.Str.{chars, IsAscii}
-use Rattle.std.proofs.lemmas.Bool.{cond_both, ltb-true, ltb-false}
+use Rattle.std.proofs.lemmas.Bool.{cond_both, eqb-true, ltb-true, ltb-false}
 use Rattle.std.proofs.lemmas.Bool.Decides.{nat_tests}
-use Rattle.std.proofs.lemmas.List.{take_rest}
+use Rattle.std.proofs.lemmas.List.{take_rest, append-nil, nil_from_length}
 use Rattle.std.proofs.lemmas.List.Sums.{sum_by-append}
-use Rattle.std.proofs.lemmas.Str.{encodes-chars, chars-IsAscii}
+use Rattle.std.proofs.lemmas.Str.{encodes-chars, chars-IsAscii, chars-nil, chars_past_char}
 use lib.Utf8.{encode as encoded, encodes}
 use Rattle.yaml_scan_runs.specs.Runs.{is_continuing}
 use Rattle.yaml_emit_layout.specs.declared.cursor.Cursor.{Cursor}
 use Rattle.yaml_emit_layout.specs.Appends.{lettered}
-use Rattle.yaml_emit_layout.specs.Layout.{char, letters}
+use Rattle.yaml_emit_layout.specs.Layout.{stay, char, letters}
+use Rattle.yaml_emit_layout.proofs.Sinks.{owes_same}
+use Rattle.yaml_emit_output.specs.Draft.{Page, Lays}
+use Rattle.yaml_emit_output.proofs.Puts.{few_bytes}
 use Rattle.yaml_emit_output.proofs.Goes.{Goes, at, behind, behind_some, goes_none, goes_then, goes_to, goes_wide}
 
 low_leads : (b : ℕ) → b < 128 → is_continuing b ≡ false
@@ -83,3 +86,24 @@ has_letters (c ∷ cs) bs n some e size = omega (arith, size)
 pub some_leads : (bs : List ℕ) (n : ℕ) → 0 < length bs → IsUtf8 bs
     → length bs ≡ length (chars bs) + n → n < length bs
 some_leads bs n some u size = has_letters (chars bs) bs n some (encodes-chars bs u) size
+
+-- the bytes of one character
+pub one_letter : (x : ℕ) (bs : List ℕ) → IsUtf8 bs → bs ≡ encoded x → chars bs ≡ x ∷ []
+one_letter x bs u e = chars_past_char bs [] x u (e ∙ sym (append-nil (encoded x))) ∙ ap (λ (t : List ℕ). x ∷ t) chars-nil
+
+pub one_size : (x : ℕ) (bs : List ℕ) → IsUtf8 bs → bs ≡ encoded x
+    → length bs ≡ length (chars bs) + (length bs - 1)
+one_size x bs u e =
+    let few = (few_bytes x).0 in
+    let size = ap length e in
+    let one = ap length (one_letter x bs u e) in
+    omega (arith, few, size, one)
+
+-- of no text nothing is put
+pub lays_none : (a : Page) (bs : List ℕ) → (length bs == 0) ≡ true
+    → Lays a a (letters (chars bs)) stay
+unfolding letters
+lays_none a bs h =
+    let e : chars bs ≡ [] = ap chars (nil_from_length bs (eqb-true (length bs) 0 h)) ∙ chars-nil in
+    let P : List ℕ → Type 0 = λ t. Lays a a (letters t) stay in
+    subst P (sym e) (record { owes = owes_same a.output stay; line_break = refl; width = refl })

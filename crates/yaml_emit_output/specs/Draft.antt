@@ -3,7 +3,7 @@ use Rattle.std.specs.Prelude.{◌≡◌, ◌≢◌, ℕ, zero, suc, ◌+◌, ◌
 use Rattle.yaml_emit_layout.specs.declared.cursor.Status.TheVariants.{Going, Full}
 use Rattle.yaml_emit_layout.specs.declared.settings.LineBreak.{LineBreak}
 use Rattle.yaml_emit_layout.specs.declared.settings.Encoding.TheVariants.{Utf8}
-use Rattle.yaml_emit_layout.specs.Sink.{Output, Puts}
+use Rattle.yaml_emit_layout.specs.Sink.{Output, Owes}
 use Rattle.yaml_emit_layout.specs.Layout.{Layout, stay, word, indicator}
 use Rattle.yaml_emit_output.specs.declared.draft.Draft.TheInside.{Inside}
 
@@ -46,10 +46,9 @@ pub record IsDraft (s : Inside) : Type 0 where
   pub unlimited : s.status ≢ Full
   pub stopped : s.status ≢ Going → length s.text.items ≡ s.len
 
--- a layout was written, and took so much of the room at most
-pub record Writes (old new : Page) (a : Layout) (count : ℕ) : Type 0 where
-  pub puts : Puts old.output new.output a
-  pub room : old.room ≤ new.room + count
+-- The draft owed one layout and owes another: its break and its width stay.
+pub record Lays (old new : Page) (before after : Layout) : Type 0 where
+  pub owes : Owes old.output new.output before after
   pub line_break : new.line_break ≡ old.line_break
   pub width : new.width ≡ old.width
 

@@ -1,6 +1,6 @@
 //! A text in UTF-8 with no limit, and where its next character stands.
 
-ghost use Rattle.std.specs.Prelude.{◌≡◌, ◌≢◌, ◌<◌, ◌≤◌, ◌+◌, ◌-◌, ◌^◌, ◌∷◌, ◌||◌, ◌++◌, [], length, take, vec_len, vec_capacity, true, false};
+ghost use Rattle.std.specs.Prelude.{◌≡◌, ◌≢◌, ◌<◌, ◌≤◌, ◌+◌, ◌-◌, ◌^◌, ◌∷◌, ◌||◌, ◌++◌, [], length, take, IsUtf8, vec_len, vec_capacity, true, false};
 ghost use Rattle.std.specs.Str.{chars, IsAscii};
 ghost use Rattle.yaml_scan_types.specs.Ascii as ascii;
 ghost use Rattle.yaml_scan_types.specs.Points as points;
@@ -47,7 +47,7 @@ impl Model for Draft {
 }
 
 impl Draft {
-    ghost use Rattle.yaml_emit_output.specs.Draft.{Page, Writes, line_mark, unlimited};
+    ghost use Rattle.yaml_emit_output.specs.Draft.{Page, Lays, line_mark, unlimited};
     ghost use Rattle.yaml_emit_layout.specs.LineStarts.{mark_word};
     ghost use Rattle.yaml_emit_layout.specs.Sink.{Puts};
     ghost use Rattle.yaml_emit_layout.specs.Text.{letter};
@@ -172,9 +172,11 @@ impl Draft {
         self.width.saturating_sub(self.column())
     }
 
-    /// Nothing more is put.
+    /// Memory was refused, or a limit is passed: nothing more is put.
+    #[cold]
     pub fn stop(&mut self)
         ensures text { self.new.output.bytes ≡ self.old.output.bytes }
+        ensures limit { self.new.output.limit ≡ self.old.output.limit }
         ensures encoding { self.new.output.encoding ≡ self.old.output.encoding }
         ensures stopped { self.new.output.status ≡ Status.Starved }
         ensures cursor { self.new.output.cursor ≡ self.old.output.cursor }
@@ -183,20 +185,6 @@ impl Draft {
     {
         self.status = Status::Starved;
         self.text.truncate(self.len);
-    }
-
-    /// A growth outside the text was refused, as of a list of open collections: nothing more is put.
-    #[cold]
-    pub fn starve(&mut self)
-        ensures puts { (x : Layout) → Puts self.old.output self.new.output x }
-        ensures stopped { self.new.output.status ≢ Status.Going }
-        ensures set { (self.new.line_break ≡ self.old.line_break)
-            × (self.new.width ≡ self.old.width) }
-    {
-        if self.status.is_going() {
-            self.status = Status::Starved;
-            self.text.truncate(self.len);
-        }
     }
 
     /// An indentation is too deep: this is marked, and nothing more is put.
@@ -228,163 +216,164 @@ impl Draft {
     /// A line that begins so: a comma in the line before where one is due; a break, unless the line is bare up to the indentation;
     /// the indentation; and a character in ASCII, of which 0 is none. After a block indicator the line is still bare.
     pub fn put_line(&mut self, comma: bool, indent: usize, mark: u8, block: bool)
-        requires room { indent + 24 ≤ self.old.room }
         requires indent { indent < 2 ^ 32 }
         requires mark { mark < 0x80 }
-        ensures { Writes self.old self.new
+        ensures { Lays self.old self.new
             (when comma (char ascii.comma) ▹ (line self.old.line_break indent
-            ▹ line_mark mark block)) (indent + 4) }
+            ▹ line_mark mark block)) stay }
     {
-        let breaks = self.breaks(comma, indent);
-        let count = blanks_due(breaks, indent, self.column());
-        let buf = self.text.as_mut_slice();
-        let at = place_if(buf, self.len, comma, b',');
-        let at = place_broken(buf, at, breaks, self.line_break);
-        let at = place_blanks(buf, at, count);
-        self.len = place_mark(buf, at, mark);
-        self.before = indent;
-        self.origin = at;
-        self.white = mark == 0;
-        self.bare = (mark == 0) | block;
+        if self.has_room(indent) {
+            let breaks = self.breaks(comma, indent);
+            let count = blanks_due(breaks, indent, self.column());
+            let buf = self.text.as_mut_slice();
+            let at = place_if(buf, self.len, comma, b',');
+            let at = place_broken(buf, at, breaks, self.line_break);
+            let at = place_blanks(buf, at, count);
+            self.len = place_mark(buf, at, mark);
+            self.before = indent;
+            self.origin = at;
+            self.white = mark == 0;
+            self.bare = (mark == 0) | block;
+        }
     }
 
     /// A comma where one is due, and a character in ASCII in the same line, of which 0 is none, with a space in front.
     pub fn put_inline(&mut self, comma: bool, mark: u8)
-        requires room { 24 ≤ self.old.room }
         requires mark { mark < 0x80 }
-        ensures { Writes self.old self.new (when comma (char ascii.comma) ▹ mark_word mark) 3 }
+        ensures { Lays self.old self.new (when comma (char ascii.comma) ▹ mark_word mark) stay }
     {
-        let white = !comma & self.white;
-        let none = mark == 0;
-        let buf = self.text.as_mut_slice();
-        let at = place_if(buf, self.len, comma, b',');
-        let at = place_if(buf, at, !(none | white), b' ');
-        self.len = place_mark(buf, at, mark);
-        self.white = none & white;
-        self.bare = none & (!comma & self.bare);
+        if self.has_room(0) {
+            let white = !comma & self.white;
+            let none = mark == 0;
+            let buf = self.text.as_mut_slice();
+            let at = place_if(buf, self.len, comma, b',');
+            let at = place_if(buf, at, !(none | white), b' ');
+            self.len = place_mark(buf, at, mark);
+            self.white = none & white;
+            self.bare = none & (!comma & self.bare);
+        }
     }
 
     /// A word in ASCII, with a space in front where one is due: `!` and a space where it is marked, a character, a text, and another
     /// character. 0 is none.
     pub fn put_word(&mut self, marked: bool, first: u8, text: &[u8], last: u8)
-        requires room { length text.now + 24 ≤ self.old.room }
         requires ascii { IsAscii text.now }
         requires first { first < 0x80 }
         requires last { last < 0x80 }
-        ensures { Writes self.old self.new
+        ensures { Lays self.old self.new
             (gap ▹ (letters (((sign_bytes marked ++ mark_bytes first) ++ text.now)
-            ++ mark_bytes last) ▹ after_text)) (length text.now + 5) }
+            ++ mark_bytes last) ▹ after_text)) stay }
     {
-        let buf = self.text.as_mut_slice();
-        let at = place_if(buf, self.len, !self.white, b' ');
-        let at = place_sign(buf, at, marked);
-        let at = place_mark(buf, at, first);
-        let at = place_text(buf, at, text);
-        self.len = place_mark(buf, at, last);
-        self.white = false;
-        self.bare = false;
+        if self.has_room(text.len()) {
+            let buf = self.text.as_mut_slice();
+            let at = place_if(buf, self.len, !self.white, b' ');
+            let at = place_sign(buf, at, marked);
+            let at = place_mark(buf, at, first);
+            let at = place_text(buf, at, text);
+            self.len = place_mark(buf, at, last);
+            self.white = false;
+            self.bare = false;
+        }
     }
 
     /// A space that parts, unless white space was last.
     pub fn put_gap(&mut self)
-        requires room { 24 ≤ self.old.room }
-        ensures { Writes self.old self.new gap 1 }
+        ensures { Lays self.old self.new gap stay }
     {
-        self.len = place_if(self.text.as_mut_slice(), self.len, !self.white, b' ');
-        self.white = true;
+        if self.has_room(0) {
+            self.len = place_if(self.text.as_mut_slice(), self.len, !self.white, b' ');
+            self.white = true;
+        }
     }
 
     /// What opens a flow collection needs no space after it.
     pub fn put_opener(&mut self, bracket: u8)
-        requires room { 24 ≤ self.old.room }
         requires bracket { bracket < 0x80 }
-        ensures { Writes self.old self.new (opener bracket) 2 }
+        ensures { Lays self.old self.new (opener bracket) stay }
     {
-        let buf = self.text.as_mut_slice();
-        let at = place_if(buf, self.len, !self.white, b' ');
-        self.len = place_byte(buf, at, bracket);
-        self.white = true;
-        self.bare = false;
+        if self.has_room(0) {
+            let buf = self.text.as_mut_slice();
+            let at = place_if(buf, self.len, !self.white, b' ');
+            self.len = place_byte(buf, at, bracket);
+            self.white = true;
+            self.bare = false;
+        }
+    }
+
+    // Characters, of whose bytes that many continue one.
+    fn put_letters(&mut self, text: &[u8], continued: usize)
+        requires some { 0 < length text.now }
+        requires utf8 { IsUtf8 text.now }
+        requires size { length text.now ≡ length (chars text.now) + continued }
+        ensures { Lays self.old self.new (letters (chars text.now)) stay }
+    {
+        if self.has_room(text.len()) {
+            self.len = place_text(self.text.as_mut_slice(), self.len, text);
+            self.origin += continued;
+            self.white = false;
+            self.bare = false;
+        }
     }
 
     /// A text in ASCII, as it is.
     pub fn put_text(&mut self, text: &[u8])
         requires some { 0 < length text.now }
-        requires room { length text.now + 24 ≤ self.old.room }
         requires ascii { IsAscii text.now }
-        ensures { Writes self.old self.new (letters text.now) (length text.now) }
+        ensures { Lays self.old self.new (letters text.now) stay }
     {
-        self.len = place_text(self.text.as_mut_slice(), self.len, text);
-        self.white = false;
-        self.bare = false;
+        self.put_letters(text, 0);
     }
 
     /// A text, as it is, of which some may be beyond ASCII where it is wide: a character takes a column.
     pub fn put_part(&mut self, text: &str, wide: bool)
-        requires some { 0 < length text.now }
-        requires room { length text.now + 24 ≤ self.old.room }
         requires narrow { wide ≡ false → IsAscii text.now }
-        ensures { Writes self.old self.new (letters (chars text.now)) (length text.now) }
+        ensures { Lays self.old self.new (letters (chars text.now)) stay }
     {
-        let bytes = text.as_bytes();
-        self.len = place_text(self.text.as_mut_slice(), self.len, bytes);
-        self.origin += continued(text, wide);
-        self.white = false;
-        self.bare = false;
+        if !text.is_empty() {
+            self.put_letters(text.as_bytes(), continued(text, wide));
+        }
     }
 
     /// A character, as it is.
     pub fn put_char(&mut self, c: char)
-        requires room { 24 ≤ self.old.room }
-        ensures { Writes self.old self.new (char c) 4 }
+        ensures { Lays self.old self.new (char c) stay }
     {
         let mut buffer = [0; 4];
         let bytes = c.encode_utf8(&mut buffer).as_bytes();
-        self.len = place_text(self.text.as_mut_slice(), self.len, bytes);
-        self.origin += bytes.len() - 1;
-        self.white = false;
-        self.bare = false;
+        self.put_letters(bytes, bytes.len() - 1);
     }
 
     /// A character that ends a line.
     pub fn put_break(&mut self, c: char)
-        requires room { 24 ≤ self.old.room }
-        ensures { Writes self.old self.new (break c) 4 }
+        ensures { Lays self.old self.new (break c) stay }
     {
-        let mut buffer = [0; 4];
-        let ending = c.encode_utf8(&mut buffer).as_bytes();
-        self.len = place_text(self.text.as_mut_slice(), self.len, ending);
-        self.origin = self.len;
-        self.before = 0;
-        self.white = true;
-        self.bare = true;
+        if self.has_room(0) {
+            let mut buffer = [0; 4];
+            let ending = c.encode_utf8(&mut buffer).as_bytes();
+            self.len = place_text(self.text.as_mut_slice(), self.len, ending);
+            self.origin = self.len;
+            self.before = 0;
+            self.white = true;
+            self.bare = true;
+        }
     }
 
     /// The break that is set.
     pub fn put_new_line(&mut self)
-        requires room { 24 ≤ self.old.room }
-        ensures { Writes self.old self.new (new_line self.old.line_break) 2 }
+        ensures { Lays self.old self.new (new_line self.old.line_break) stay }
     {
-        self.len = place_break(self.text.as_mut_slice(), self.len, self.line_break);
-        self.origin = self.len;
-        self.before = 0;
-        self.white = true;
-        self.bare = true;
+        if self.has_room(0) {
+            self.len = place_break(self.text.as_mut_slice(), self.len, self.line_break);
+            self.origin = self.len;
+            self.before = 0;
+            self.white = true;
+            self.bare = true;
+        }
     }
 
-    // The byte order mark; it takes no column.
-    fn put_mark(&mut self)
-        requires room { 24 ≤ self.old.room }
-        ensures { Writes self.old self.new (λ c rest. letter points.byte_order_mark ∷ rest c) 3 }
-    {
-        self.len = place_text(self.text.as_mut_slice(), self.len, b"\xEF\xBB\xBF");
-        self.origin += 3;
-    }
-
-    /// The byte order mark, where the text is to be encoded in UTF-16.
+    /// The byte order mark, where the text is to be encoded in UTF-16; it takes no column.
     pub fn put_order_mark(&mut self, encoding: Encoding)
-        requires room { 24 ≤ self.old.room }
-        ensures { Writes self.old self.new (order_mark encoding) 3 }
+        ensures { Lays self.old self.new (order_mark encoding) stay }
     {
         match encoding {
             Encoding::Utf8 => (),
@@ -392,9 +381,18 @@ impl Draft {
         }
     }
 
+    fn put_mark(&mut self)
+        ensures { Lays self.old self.new (λ c rest. letter points.byte_order_mark ∷ rest c) stay }
+    {
+        if self.has_room(0) {
+            self.len = place_text(self.text.as_mut_slice(), self.len, b"\xEF\xBB\xBF");
+            self.origin += 3;
+        }
+    }
+
     /// After a scalar in one line or in quotes neither white space was last nor is the line bare.
     pub fn set_after_text(&mut self)
-        ensures { Writes self.old self.new after_text 0 }
+        ensures { Lays self.old self.new after_text stay }
     {
         self.white = false;
         self.bare = false;
@@ -402,20 +400,20 @@ impl Draft {
 
     /// After a block scalar white space was last.
     pub fn set_after_block(&mut self)
-        ensures { Writes self.old self.new after_block 0 }
+        ensures { Lays self.old self.new after_block stay }
     {
         self.white = true;
     }
 
     /// Whether the document's last block scalar keeps its breaks.
     pub fn set_kept(&mut self, kept: bool)
-        ensures { Writes self.old self.new (keep kept) 0 }
+        ensures { Lays self.old self.new (keep kept) stay }
     {
         self.kept = kept;
     }
 
-    /// Whether there is room for a text of that many bytes, and what stands around it: else the draft has stopped.
-    pub fn has_room(&mut self, count: usize) -> bool
+    // Whether there is room for a text of that many bytes, and what stands around it: else the draft has stopped.
+    fn has_room(&mut self, count: usize) -> bool
         requires few { count < 2 ^ 63 }
         ensures puts { Puts self.old.output self.new.output stay }
         ensures set { (self.new.line_break ≡ self.old.line_break)
@@ -447,7 +445,7 @@ impl Draft {
                 true
             }
             Err(_) => {
-                self.starve();
+                self.stop();
                 false
             }
         }

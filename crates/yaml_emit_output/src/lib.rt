@@ -8,3 +8,4 @@ mod utf16;
 
 pub use draft::Draft;
 pub use output::Output;
+pub use utf16::split_first;

@@ -37,8 +37,8 @@ fn utf16_of(encoding: Encoding, c: char) -> ([u8; 4], usize)
     }
 }
 
-// The first character and what follows it.
-fn split_first(text: &str) -> Option<(char, &str)>
+/// The first character of a text and what follows it.
+pub fn split_first(text: &str) -> Option<(char, &str)>
     ensures letters { MatchOption result (chars text.now ≡ [])
         (λ p. chars text.now ≡ p.0 ∷ chars p.1.now) }
     ensures utf8 { IfSome result (λ p. IsUtf8 p.1.now) }

@@ -12,9 +12,9 @@ use Rattle.yaml_emit_layout.proofs.Lines.{line_lands}
 use Rattle.yaml_emit_layout.specs.declared.page.Page.{Page}
 use Rattle.yaml_emit_layout.specs.Quoted.{first, fold}
 use Rattle.yaml_emit_layout.specs.Scalars.{value_break}
-use Rattle.yaml_emit_output.specs.Draft.{line_mark, Page as Paper}
-use Rattle.yaml_emit_scalars.specs.Lays.{Lays}
-use Rattle.yaml_emit_scalars.proofs.LaysLemmas.{lays_both, lays_is, lays_same, lays_break}
+use Rattle.yaml_emit_output.specs.Draft.{line_mark, Page as Paper, Lays}
+use Rattle.yaml_emit_scalars.proofs.LaysLemmas.{lays_both, lays_is, lays_same}
+use Rattle.yaml_emit_output.proofs.Pages.{lays_break}
 
 -- one text after another
 pub lays_letters : (a b c : Paper) (xs ys : List ℕ) → Lays a b (letters xs) stay

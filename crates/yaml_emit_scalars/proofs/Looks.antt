@@ -26,10 +26,6 @@ unfolding last_or
 last_behind a y [] = refl
 last_behind a y (x ∷ xs) = last_behind x y xs
 
-pub ends_by : (text front : List ℕ) (y : ℕ) → text ≡ front ++ y ∷ []
-    → is_break y ≡ ends_in_break text
-ends_by text front y e = sym (ap (λ t. is_break (last_or 10 t)) e ∙ ap is_break (last_behind 10 y front))
-
 joined_assoc : (a b c : Seen) → joined a (joined b c) ≡ joined (joined a b) c
 joined_assoc a b c = rw (or_assoc a.special b.special c.special, or_assoc a.broken b.broken c.broken, or_assoc a.not_plain b.not_plain c.not_plain, or_assoc a.not_flow b.not_flow c.not_flow) refl
 

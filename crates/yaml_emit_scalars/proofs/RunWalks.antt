@@ -12,8 +12,7 @@ use Rattle.yaml_emit_layout.specs.Style.{last_or}
 use Rattle.yaml_emit_layout.specs.Runs.{all_pass}
 use Rattle.yaml_emit_layout.proofs.Bools.{bool_cases}
 use Rattle.yaml_emit_layout.proofs.Escapes.{char_is}
-use Rattle.yaml_emit_output.specs.Draft.{Page as Paper}
-use Rattle.yaml_emit_scalars.specs.Lays.{Lays}
+use Rattle.yaml_emit_output.specs.Draft.{Page as Paper, Lays}
 use Rattle.yaml_emit_scalars.specs.Runs.{stands, goes_on, quoted_in, flow_in, KeepsRuns}
 use Rattle.yaml_emit_scalars.specs.declared.run.Body.{Body}
 use Rattle.yaml_emit_scalars.specs.declared.run.Body.TheVariants.{Open}

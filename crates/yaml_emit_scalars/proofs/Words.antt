@@ -17,11 +17,10 @@ use Rattle.yaml_emit_layout.specs.declared.page.Style.{Style}
 use Rattle.yaml_emit_layout.specs.declared.page.Style.TheVariants as style
 use Rattle.yaml_emit_layout.proofs.Bools.{bool_cases}
 use Rattle.yaml_emit_layout.specs.Style.{last_or}
-use Rattle.yaml_emit_output.specs.Draft.{Page as Paper}
+use Rattle.yaml_emit_output.specs.Draft.{Page as Paper, Lays}
 use Rattle.yaml_emit_output.specs.Placed.{sign_bytes, mark_bytes}
 use Rattle.yaml_emit_scalars.specs.Classes.{Covers}
-use Rattle.yaml_emit_scalars.specs.Lays.{Lays}
-use Rattle.yaml_emit_scalars.specs.Runs.{IsRun, stands, stops, goes_on, quoted_in, flow_in}
+use Rattle.yaml_emit_scalars.specs.Runs.{IsRun, stands, stops, goes_on, quoted_in, flow_in, quote_of}
 use Rattle.yaml_emit_scalars.specs.declared.run.Body.{Body}
 use Rattle.yaml_emit_scalars.specs.declared.run.Body.TheVariants.{Open}
 use Rattle.yaml_emit_scalars.proofs.ClassLemmas.{covers_none}
@@ -236,12 +235,17 @@ as_single page digit flow s marked a b v e w run p =
     let P : Style → Type 0 = λ z. Lays a b (when marked (word (33 ∷ [])) ▹ scalar_text page digit flow z (chars v)) stay in
     subst P (sym e) (single_lays page marked a b v (run_width (flow_in true) (flow_in true) page.cuts a.width page.width a.output.cursor.column v refl w run) p)
 
+double_quote : (unicode : Bool) → quote_of (quoted_in unicode) ≡ 34
+double_quote true = refl
+double_quote false = refl
+
 pub as_double : (page : Page) (digit : ℕ) (flow : Bool) (s : Style) (marked : Bool) (a b : Paper)
     (body : Body) (v : List ℕ) → s ≡ style.Double
     → body ≡ quoted_in page.unicode → a.width ≡ page.width → IsRun body page.cuts a.width a.output.cursor.column v
-    → Lays a b (when marked (word (33 ∷ [])) ▹ (gap ▹ (char 34 ▹ (letters v ▹ char 34)))) stay
+    → Lays a b (when marked (word (33 ∷ [])) ▹ (gap ▹ (char (quote_of body) ▹ (letters v ▹ char (quote_of body))))) stay
     → Lays a b (when marked (word (33 ∷ [])) ▹ scalar_text page digit flow s (chars v)) stay
 unfolding scalar_text
 as_double page digit flow s marked a b body v e q w run p =
     let P : Style → Type 0 = λ z. Lays a b (when marked (word (33 ∷ [])) ▹ scalar_text page digit flow z (chars v)) stay in
-    subst P (sym e) (double_lays page marked a b v (run_width body (quoted_in page.unicode) page.cuts a.width page.width a.output.cursor.column v q w run) p)
+    let Q : ℕ → Type 0 = λ z. Lays a b (when marked (word (33 ∷ [])) ▹ (gap ▹ (char z ▹ (letters v ▹ char z)))) stay in
+    subst P (sym e) (double_lays page marked a b v (run_width body (quoted_in page.unicode) page.cuts a.width page.width a.output.cursor.column v q w run) (subst Q (ap quote_of q ∙ double_quote page.unicode) p))

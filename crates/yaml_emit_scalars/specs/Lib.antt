@@ -1,4 +1,4 @@
-pub mod Lays
+pub mod On
 pub mod Classes
 pub mod Runs
 pub mod Calm

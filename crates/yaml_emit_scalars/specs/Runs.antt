@@ -72,3 +72,10 @@ abbrev pub KeepsRuns : (ℕ → ℕ → Bool) → (ℕ → List ℕ → Layout) 
 KeepsRuns test walk before = (bs xs : List ℕ) (c : Cursor) (rest : Rest)
     → all_pass test c.column bs ≡ true
     → walk before (bs ++ xs) c rest ≡ (letters bs ▹ walk (last_or before bs) xs) c rest
+
+-- the quote that stands on both sides of a value
+abbrev pub quote_of : Body → ℕ
+quote_of Open = ascii.quote
+quote_of Single = ascii.apostrophe
+quote_of Double = ascii.quote
+quote_of Ascii = ascii.quote

@@ -6,16 +6,16 @@ ghost use Rattle.std.specs.Str.{chars};
 ghost use Rattle.yaml_emit_layout.specs.Text.{is_break};
 ghost use Rattle.yaml_emit_layout.specs.Layout.{◌▹◌, stay, when, char, break, line, keep};
 ghost use Rattle.yaml_emit_layout.specs.Quoted.{first};
-ghost use Rattle.yaml_emit_scalars.specs.Lays.{Lays, IsOn};
+ghost use Rattle.yaml_emit_output.specs.Draft.{Lays};
+ghost use Rattle.yaml_emit_scalars.specs.On.{IsOn};
 ghost use Rattle.yaml_emit_layout.specs.Style.{is_blank};
 ghost use Rattle.yaml_emit_layout.specs.Scalars.{behind_breaks, line_blank, block_char, block_body, ends_in_break, chomp, chomp_mark, digit_char, block_header, block};
 
-use crate::asked::{put_char, put_gap, put_new_line, set_after_block, set_kept};
 use crate::flow::{put_breaks, put_char_if, put_cut, put_line_if};
-use crate::letters::{first, is_break, split_first, split_last};
-use crate::run::{Body, put_run_or};
+use crate::letters::{first, is_break, split_last};
+use crate::run::{Body, last_of, put_run_or};
 use yaml_emit_layout::{Chomp, Page};
-use yaml_emit_output::Draft;
+use yaml_emit_output::{Draft, split_first};
 
 pub(crate) fn is_blank(c: char) -> bool
     ensures { result ≡ is_blank c }
@@ -71,7 +71,7 @@ fn put_block_char(draft: &mut Draft, page: Page, folded: bool, behind: Behind, c
         if folded && c == ' ' && !blank && !is_break(before) && first(rest) != ' ' {
             put_cut(draft, page, c);
         } else {
-            put_char(draft, c);
+            draft.put_char(c);
         }
     }
 }
@@ -101,10 +101,7 @@ fn put_block_body(draft: &mut Draft, page: Page, folded: bool, value: &str)
 fn ends_in_break(text: &str) -> bool
     ensures { result ≡ ends_in_break (chars text.now) }
 {
-    match split_last(text) {
-        None => true,
-        Some((_, c)) => is_break(c),
-    }
+    is_break(last_of('\n', text))
 }
 
 // By how a value ends.
@@ -130,7 +127,7 @@ fn put_chomp(draft: &mut Draft, chomp: Chomp)
 {
     match chomp {
         Chomp::Strip => put_chomp_indicator(draft, '-', false),
-        Chomp::Clip => set_kept(draft, false),
+        Chomp::Clip => draft.set_kept(false),
         Chomp::Keep => put_chomp_indicator(draft, '+', true),
     }
 }
@@ -138,8 +135,8 @@ fn put_chomp(draft: &mut Draft, chomp: Chomp)
 fn put_chomp_indicator(draft: &mut Draft, indicator: char, kept: bool)
     ensures { Lays draft.old draft.new (char indicator ▹ keep kept) stay }
 {
-    put_char(draft, indicator);
-    set_kept(draft, kept);
+    draft.put_char(indicator);
+    draft.set_kept(kept);
 }
 
 // An indent of more than one digit means 2.
@@ -162,8 +159,8 @@ fn opening(folded: bool) -> char
 fn put_header(draft: &mut Draft, digit: u64, folded: bool, value: &str)
     ensures { Lays draft.old draft.new (block_header digit folded (chars value.now)) stay }
 {
-    put_gap(draft);
-    put_char(draft, opening(folded));
+    draft.put_gap();
+    draft.put_char(opening(folded));
     let c = first(value);
     put_char_if(draft, (c == ' ') | is_break(c), digit_char(digit));
     put_chomp(draft, chomp(value));
@@ -178,7 +175,7 @@ pub fn put_block(draft: &mut Draft, page: Page, digit: u64, folded: bool, value:
     ensures { Lays draft.old draft.new (block page digit folded (chars value.now)) stay }
 {
     put_header(draft, digit, folded, value);
-    put_new_line(draft);
+    draft.put_new_line();
     put_block_body(draft, page, folded, value);
-    set_after_block(draft);
+    draft.set_after_block();
 }

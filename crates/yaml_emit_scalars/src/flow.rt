@@ -7,22 +7,20 @@ ghost use Rattle.yaml_emit_layout.specs.Text.{is_break};
 ghost use Rattle.yaml_emit_layout.specs.Layout.{◌▹◌, stay, when, char, break, new_line, gap, line, is_past};
 ghost use Rattle.yaml_emit_layout.specs.Quoted.{first, is_empty};
 ghost use Rattle.yaml_emit_layout.specs.Scalars.{value_break, cut, quote_char, flow_char, flow_body, plain, single_quoted};
-ghost use Rattle.yaml_emit_scalars.specs.Lays.{Lays, IsOn};
+ghost use Rattle.yaml_emit_output.specs.Draft.{Lays};
+ghost use Rattle.yaml_emit_scalars.specs.On.{IsOn};
 
-use crate::asked::{
-    put_break, put_char, put_gap, put_line, put_new_line, put_text, set_after_text,
-};
-use crate::letters::{first, is_break, is_empty, split_first};
+use crate::letters::{first, is_break, is_empty};
 use crate::run::{flow_in, put_run, put_run_or};
 use yaml_emit_layout::Page;
-use yaml_emit_output::Draft;
+use yaml_emit_output::{Draft, split_first};
 
 pub(crate) fn put_line_if(draft: &mut Draft, due: bool, page: Page)
     requires { IsOn page draft.old }
     ensures { Lays draft.old draft.new (when due (line page.line_break page.indentation)) stay }
 {
     if due {
-        put_line(draft, page.indentation, 0);
+        draft.put_line(false, page.indentation as usize, 0, false);
     }
 }
 
@@ -30,7 +28,7 @@ fn put_new_line_if(draft: &mut Draft, due: bool)
     ensures { Lays draft.old draft.new (when due (new_line draft.old.line_break)) stay }
 {
     if due {
-        put_new_line(draft);
+        draft.put_new_line();
     }
 }
 
@@ -40,9 +38,9 @@ pub(crate) fn put_cut(draft: &mut Draft, page: Page, c: char)
     ensures { Lays draft.old draft.new (cut page c) stay }
 {
     if draft.is_past() {
-        put_line(draft, page.indentation, 0);
+        draft.put_line(false, page.indentation as usize, 0, false);
     } else {
-        put_char(draft, c);
+        draft.put_char(c);
     }
 }
 
@@ -51,9 +49,9 @@ fn put_value_break(draft: &mut Draft, c: char)
     ensures { Lays draft.old draft.new (value_break draft.old.line_break c) stay }
 {
     if c == '\n' {
-        put_new_line(draft);
+        draft.put_new_line();
     } else {
-        put_break(draft, c);
+        draft.put_break(c);
     }
 }
 
@@ -71,7 +69,7 @@ pub(crate) fn put_char_if(draft: &mut Draft, due: bool, c: char)
     ensures { Lays draft.old draft.new (when due (char c)) stay }
 {
     if due {
-        put_char(draft, c);
+        draft.put_char(c);
     }
 }
 
@@ -80,7 +78,7 @@ fn put_quote_char(draft: &mut Draft, quote: bool, c: char)
     ensures { Lays draft.old draft.new (quote_char quote c) stay }
 {
     put_char_if(draft, quote & (c == '\''), '\'');
-    put_char(draft, c);
+    draft.put_char(c);
 }
 
 #[tactic(auto, unfolding(yaml_emit_layout::specs::Scalars::flow_char))]
@@ -119,7 +117,7 @@ fn put_gap_if(draft: &mut Draft, due: bool)
     ensures { Lays draft.old draft.new (when due gap) stay }
 {
     if due {
-        put_gap(draft);
+        draft.put_gap();
     }
 }
 
@@ -132,7 +130,7 @@ pub fn put_plain(draft: &mut Draft, page: Page, flow: bool, value: &str)
 {
     put_gap_if(draft, flow | !is_empty(value));
     put_flow_body(draft, page, false, value);
-    set_after_text(draft);
+    draft.set_after_text();
 }
 
 /// A single quoted scalar, with a space in front where one is due. `'` is doubled, spaces are cut as in plain scalars, and a
@@ -141,8 +139,8 @@ pub fn put_single_quoted(draft: &mut Draft, page: Page, value: &str)
     requires { IsOn page draft.old }
     ensures { Lays draft.old draft.new (single_quoted page (chars value.now)) stay }
 {
-    put_gap(draft);
-    put_char(draft, '\'');
+    draft.put_gap();
+    draft.put_char('\'');
     put_flow_body(draft, page, true, value);
-    put_char(draft, '\'');
+    draft.put_char('\'');
 }

@@ -1,23 +1,11 @@
 //! The characters of a text, from the front.
 
-ghost use Rattle.std.specs.Prelude.{◌≡◌, ◌<◌, ◌∷◌, ◌++◌, [], length, IsUtf8, MatchOption, IfSome};
+ghost use Rattle.std.specs.Prelude.{◌≡◌, ◌∷◌, ◌++◌, [], IsUtf8, MatchOption, IfSome};
 ghost use Rattle.std.specs.Str.{chars};
 ghost use Rattle.yaml_emit_layout.specs.Text.{is_break};
 ghost use Rattle.yaml_emit_layout.specs.Quoted.{first, is_empty};
 
-/// The first character and what follows it.
-pub(crate) fn split_first(text: &str) -> Option<(char, &str)>
-    ensures letters { MatchOption result (chars text.now ≡ [])
-        (λ p. chars text.now ≡ p.0 ∷ chars p.1.now) }
-    ensures utf8 { IfSome result (λ p. IsUtf8 p.1.now) }
-    ensures shorter { IfSome result (λ p. length p.1.now < length text.now) }
-{
-    let mut letters = text.chars();
-    match letters.next() {
-        None => None,
-        Some(c) => Some((c, letters.as_str())),
-    }
-}
+use yaml_emit_output::split_first;
 
 /// The last character, after what goes before it.
 pub(crate) fn split_last(text: &str) -> Option<(&str, char)>

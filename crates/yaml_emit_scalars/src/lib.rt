@@ -1,7 +1,6 @@
 //! Scalars on a draft: their styles, and their texts in runs.
 #![tactic(auto)]
 
-mod asked;
 mod block;
 mod class;
 mod flow;
@@ -13,6 +12,7 @@ mod style;
 mod word;
 
 pub use class::{BREAK, classes_of};
-pub use scalar::put_scalar;
+pub use quoted::hex;
+pub use scalar::{Manner, put_scalar};
 pub use style::{allowed_by, taken};
 pub use word::put_word;

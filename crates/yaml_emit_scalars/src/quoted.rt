@@ -7,17 +7,17 @@ ghost use Rattle.yaml_emit_layout.specs.Hex.{hex_digit, hex_2};
 ghost use Rattle.yaml_emit_layout.specs.Text.{is_break};
 ghost use Rattle.yaml_emit_layout.specs.Layout.{◌▹◌, stay, choose, when, char, letters, gap, is_past};
 ghost use Rattle.yaml_emit_layout.specs.Quoted.{is_printable, needs_escape, escape_letter, hex_4, hex_8, escape_text, fold, escaped, quoted_char, quoted_body, double_quoted};
-ghost use Rattle.yaml_emit_scalars.specs.Lays.{Lays, IsOn};
+ghost use Rattle.yaml_emit_output.specs.Draft.{Lays};
+ghost use Rattle.yaml_emit_scalars.specs.On.{IsOn};
 
-use crate::asked::{put_char, put_gap, put_line, put_new_line, put_text};
-use crate::letters::{first, is_break, is_empty, split_first};
+use crate::letters::{first, is_break, is_empty};
 use crate::run::{put_run, quoted_in};
 use yaml_emit_layout::Page;
-use yaml_emit_output::Draft;
+use yaml_emit_output::{Draft, split_first};
 
-// 0-9 A-F
+/// A digit of `0-9 A-F`.
 #[tactic(auto, unfolding(yaml_emit_layout::specs::Hex::hex_digit))]
-fn hex(d: u32) -> u8
+pub fn hex(d: u32) -> u8
     requires { d < 16 }
     ensures digit { result ≡ hex_digit d }
     ensures ascii { result < 0x80 }
@@ -29,7 +29,7 @@ fn put_hex_2(draft: &mut Draft, n: u32)
     requires { n < 0x100 }
     ensures { Lays draft.old draft.new (letters (hex_2 n)) stay }
 {
-    put_text(draft, &[hex(n / 16), hex(n % 16)]);
+    draft.put_text(&[hex(n / 16), hex(n % 16)]);
 }
 
 fn put_hex_4(draft: &mut Draft, n: u32)
@@ -100,15 +100,15 @@ fn put_escape(draft: &mut Draft, c: char)
     let letter = letter_of(c);
     let n = c as u32;
     if letter != 0 {
-        put_text(draft, &[b'\\', letter]);
+        draft.put_text(&[b'\\', letter]);
     } else if n < 0x100 {
-        put_text(draft, b"\\x");
+        draft.put_text(b"\\x");
         put_hex_2(draft, n);
     } else if n < 0x1_0000 {
-        put_text(draft, b"\\u");
+        draft.put_text(b"\\u");
         put_hex_4(draft, n);
     } else {
-        put_text(draft, b"\\U");
+        draft.put_text(b"\\U");
         put_hex_8(draft, n);
     }
 }
@@ -119,7 +119,7 @@ fn put_escaped(draft: &mut Draft, unicode: bool, c: char)
     if needs_escape(unicode, c) {
         put_escape(draft, c);
     } else {
-        put_char(draft, c);
+        draft.put_char(c);
     }
 }
 
@@ -137,8 +137,8 @@ fn put_fold(draft: &mut Draft, page: Page, rest: &str)
     ensures { Lays draft.old draft.new (fold page (chars rest.now)) stay }
 {
     let mark = fold_mark(first(rest) == ' ');
-    put_new_line(draft);
-    put_line(draft, page.indentation, mark);
+    draft.put_new_line();
+    draft.put_line(false, page.indentation as usize, mark, false);
 }
 
 fn put_fold_or(draft: &mut Draft, page: Page, c: char, rest: &str)
@@ -149,7 +149,7 @@ fn put_fold_or(draft: &mut Draft, page: Page, c: char, rest: &str)
     if draft.is_past() {
         put_fold(draft, page, rest);
     } else {
-        put_char(draft, c);
+        draft.put_char(c);
     }
 }
 
@@ -187,8 +187,8 @@ pub fn put_double_quoted(draft: &mut Draft, page: Page, value: &str)
     requires { IsOn page draft.old }
     ensures { Lays draft.old draft.new (double_quoted page (chars value.now)) stay }
 {
-    put_gap(draft);
-    put_text(draft, b"\"");
+    draft.put_gap();
+    draft.put_text(b"\"");
     put_quoted_body(draft, page, value);
-    put_text(draft, b"\"");
+    draft.put_text(b"\"");
 }

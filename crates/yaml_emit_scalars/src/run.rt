@@ -7,10 +7,9 @@ ghost use Rattle.yaml_emit_layout.specs.Layout.{Layout};
 ghost use Rattle.yaml_emit_layout.specs.Text.{is_break};
 ghost use Rattle.yaml_emit_layout.specs.Style.{last_or};
 ghost use Rattle.yaml_emit_scalars.specs.Classes.{is_of};
-ghost use Rattle.yaml_emit_scalars.specs.Lays.{Lays};
+ghost use Rattle.yaml_emit_output.specs.Draft.{Lays};
 ghost use Rattle.yaml_emit_scalars.specs.Runs.{Begins, KeepsRuns, ends, ends_word, goes_on, quoted_in, flow_in, stops};
 
-use crate::asked::put_part;
 use crate::class::{BREAK, ESCAPED, QUOTE, SPACE, SPECIAL, WIDE, first_of};
 use crate::letters::{is_break, split_last};
 use yaml_emit_output::Draft;
@@ -109,7 +108,8 @@ fn free_of(draft: &Draft, cuts: bool, count: usize) -> usize
 
 // The run at the start of a text: at columns that aren't past the width there may be spaces in it.
 fn run_of(draft: &Draft, body: Body, cuts: bool, text: &str) -> Run
-    ensures { Begins body cuts draft.now.width draft.now.output.cursor.column text.now result.end result.wide }
+    ensures { Begins body cuts draft.now.width draft.now.output.cursor.column text.now
+        result.end result.wide }
 {
     let bytes = text.as_bytes();
     let free = free_of(draft, cuts, bytes.len());
@@ -161,13 +161,14 @@ pub(crate) fn put_run<'a>(
 ) -> (char, &'a str)
     ensures text { (walk : ℕ → List ℕ → Layout) → KeepsRuns
         (goes_on body cuts draft.old.width) walk before
-        → Lays draft.old draft.new (walk before (chars left.now)) (walk result.0 (chars result.1.now)) }
+        → Lays draft.old draft.new (walk before (chars left.now))
+        (walk result.0 (chars result.1.now)) }
     ensures utf8 { IsUtf8 result.1.now }
     ensures shorter { length result.1.now ≤ length left.now }
 {
     let run = run_of(draft, body, cuts, left);
     let (text, rest) = cut(left, run.end);
-    put_part(draft, text, run.wide);
+    draft.put_part(text, run.wide);
     (last_of(before, text), rest)
 }
 
@@ -181,7 +182,8 @@ pub(crate) fn put_run_or<'a>(
 ) -> (char, &'a str)
     ensures text { (walk : ℕ → List ℕ → Layout) →
         (is_break before ≡ false → KeepsRuns (goes_on body cuts draft.old.width) walk before)
-        → Lays draft.old draft.new (walk before (chars left.now)) (walk result.0 (chars result.1.now)) }
+        → Lays draft.old draft.new (walk before (chars left.now))
+        (walk result.0 (chars result.1.now)) }
     ensures utf8 { IsUtf8 result.1.now }
     ensures shorter { length result.1.now ≤ length left.now }
 {

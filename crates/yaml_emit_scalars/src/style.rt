@@ -13,10 +13,11 @@ ghost use Rattle.yaml_emit_scalars.specs.Calm.{IsCalm, tells};
 
 use crate::block::is_blank;
 use crate::class::{BREAK, FLOW, LEAD, MARK, SPECIAL, WIDE, is_of};
-use crate::letters::{first, is_break, is_empty, split_first};
+use crate::letters::{first, is_break, is_empty};
 use crate::quoted::is_printable;
 use crate::run::{cut, last_of, run_by};
 use yaml_emit_layout::{Allowed, Seen, Style};
+use yaml_emit_output::split_first;
 use yaml_scan_runs as runs;
 use yaml_scan_runs::run_end;
 use yaml_scan_types::yaml_scalar_style_t;

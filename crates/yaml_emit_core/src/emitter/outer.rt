@@ -1,35 +1,28 @@
 //! Events of the stream and of its documents: judged, laid out, settled.
 
-ghost use Rattle.std.specs.Prelude.{◌≡◌, Bool, true, map, IfSome};
+ghost use Rattle.std.specs.Prelude.{◌≡◌, Bool, true, false, map, IfOk};
 ghost use Rattle.yaml_parse_model.specs.Events.{body_of, directive_of};
-ghost use Rattle.yaml_scan_types.specs.declared.yaml_encoding_t.{yaml_encoding_t};
 ghost use Rattle.yaml_emit_layout.specs.Content as said;
 ghost use Rattle.yaml_emit_layout.specs.Content.{emitter_event};
 ghost use Rattle.yaml_emit_core.specs.Directives.{opening_of};
-ghost use Rattle.yaml_emit_core.specs.Steps.{LaysOut, goes_on, is_outer};
+ghost use Rattle.yaml_emit_core.specs.Steps.{LaysOut, goes_on, is_outer, is_document_start};
 
 use super::Core;
 use crate::directives::document_start_problem;
-use crate::documents::lay_document_end;
-use crate::judge::{
-    document_end_problem, nothing_problem, stream_end_problem, stream_start_problem,
-};
-use crate::openings::{Opening, lay_document_start, lay_stream_end, lay_stream_start};
+use crate::judge::outer_problem;
+use crate::openings::{Opening, lay_document_start, lay_placed};
 use crate::table::DirectiveTable;
-use std::alloc::Global;
+use std::alloc::{AllocError, Global};
 use yaml_parse_model::{copy_directives, yaml_event_body_t};
 use yaml_scan_model::yaml_tag_directive_t;
 
-// A table of copies of the directives; none when out of memory.
-fn table_of(alloc: Global, directives: &[yaml_tag_directive_t]) -> Option<DirectiveTable>
-    ensures { IfSome result (λ t. t ≡ map directive_of directives.now) }
+// A table of copies of the directives; refused only when out of memory.
+fn copied(alloc: Global, directives: &[yaml_tag_directive_t]) -> Result<DirectiveTable, AllocError>
+    ensures { IfOk result (λ t. t ≡ map directive_of directives.now) }
 {
     match copy_directives(alloc, directives) {
-        Ok(copies) => match DirectiveTable::of(copies) {
-            Ok(table) => Some(table),
-            Err(_) => None,
-        },
-        Err(_) => None,
+        Ok(copies) => DirectiveTable::of(copies),
+        Err(_) => Err(AllocError),
     }
 }
 
@@ -48,8 +41,6 @@ impl Core {
             (body_of event.now)) empty }
     {
         match event {
-            yaml_event_body_t::StreamStart { .. } => self.lay_stream_start(),
-            yaml_event_body_t::StreamEnd => self.lay_stream_end(),
             yaml_event_body_t::DocumentStart {
                 version_directive,
                 tag_directives,
@@ -59,39 +50,27 @@ impl Core {
                 directives: tag_directives,
                 implicit: *implicit,
             }),
-            yaml_event_body_t::DocumentEnd { implicit } => self.lay_document_end(*implicit),
-            _ => self.refused = Some(nothing_problem(&self.levels)),
+            _ => self.lay_bare(event),
         }
     }
 
-    fn lay_stream_start(&mut self)
-        requires { goes_on self.old.sink.status self.old.place ≡ true }
-        ensures { (encoding : yaml_encoding_t) (empty : Bool)
-            → LaysOut self.old self.new (said.stream_start encoding) empty }
+    // Of the stream, the end of a document, or none.
+    fn lay_bare(&mut self, event: &yaml_event_body_t)
+        requires outer { is_outer (emitter_event (body_of event.now)) ≡ true }
+        requires other { is_document_start (emitter_event (body_of event.now)) ≡ false }
+        requires going { goes_on self.old.sink.status self.old.place ≡ true }
+        ensures { (empty : Bool) → LaysOut self.old self.new (emitter_event
+            (body_of event.now)) empty }
     {
-        match stream_start_problem(&self.levels) {
+        match outer_problem(&self.levels, event) {
             Some(problem) => self.refused = Some(problem),
             None => {
-                lay_stream_start(&mut self.draft, &self.settings, &mut self.levels);
-                self.output.settle(&mut self.draft);
-                self.unended = false;
-                self.directives.clear();
-            }
-        }
-    }
-
-    fn lay_stream_end(&mut self)
-        requires { goes_on self.old.sink.status self.old.place ≡ true }
-        ensures { (empty : Bool) → LaysOut self.old self.new said.stream_end empty }
-    {
-        match stream_end_problem(&self.levels) {
-            Some(problem) => self.refused = Some(problem),
-            None => {
-                lay_stream_end(
+                self.unended = lay_placed(
                     &mut self.draft,
                     &self.settings,
                     &mut self.levels,
                     self.unended,
+                    event,
                 );
                 self.output.settle(&mut self.draft);
                 self.directives.clear();
@@ -108,9 +87,9 @@ impl Core {
         match document_start_problem(self.directives.allocator(), &self.levels, opening) {
             Err(_) => self.starve(),
             Ok(Some(problem)) => self.refused = Some(problem),
-            Ok(None) => match table_of(self.directives.allocator(), opening.directives) {
-                None => self.starve(),
-                Some(directives) => {
+            Ok(None) => match copied(self.directives.allocator(), opening.directives) {
+                Err(_) => self.starve(),
+                Ok(directives) => {
                     lay_document_start(
                         &mut self.draft,
                         &self.settings,
@@ -122,21 +101,6 @@ impl Core {
                     put_table(&mut self.directives, directives);
                 }
             },
-        }
-    }
-
-    fn lay_document_end(&mut self, implicit: bool)
-        requires { goes_on self.old.sink.status self.old.place ≡ true }
-        ensures { (empty : Bool) → LaysOut self.old self.new (said.document_end implicit) empty }
-    {
-        match document_end_problem(&self.levels) {
-            Some(problem) => self.refused = Some(problem),
-            None => {
-                lay_document_end(&mut self.draft, &self.settings, &mut self.levels, implicit);
-                self.output.settle(&mut self.draft);
-                self.unended = implicit;
-                self.directives.clear();
-            }
         }
     }
 }

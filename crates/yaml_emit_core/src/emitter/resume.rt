@@ -82,21 +82,13 @@ impl Core {
             (map directive_of directives.items) core) }
     {
         let directives = DirectiveTable::of(directives)?;
+        let width = settings.width as usize;
         Ok(Core {
             settings: Settings {
                 encoding: stand.encoding,
-                canonical: settings.canonical,
-                indent: settings.indent,
-                width: settings.width,
-                unicode: settings.unicode,
-                line_break: settings.line_break,
+                ..settings
             },
-            draft: Draft::resumed(
-                alloc,
-                settings.line_break,
-                settings.width as usize,
-                stand.cursor,
-            ),
+            draft: Draft::resumed(alloc, settings.line_break, width, stand.cursor),
             output: Output::new(alloc, stand.encoding, limit),
             levels: Levels::resumed(stage_in(stand.place), stand.innermost, outer),
             unended: unended_in(stand.place),

@@ -7,7 +7,6 @@ ghost use Rattle.yaml_emit_core.specs.Steps.{LaysOut, Starves, goes_on};
 
 use super::Core;
 use crate::judge::event_problem;
-use yaml_emit_layout::Status;
 use yaml_parse_model::yaml_event_body_t;
 
 impl Core {
@@ -27,12 +26,13 @@ impl Core {
     {
         if self.output.status(&self.draft).is_going() {
             self.starved = true;
-            self.draft.starve();
+            self.draft.stop();
             self.output.settle(&mut self.draft);
         }
     }
 
-    // Once the output has stopped nothing is laid out.
+    // Once the output has stopped nothing is laid out. Once an event was refused, another is for the same reason, unless something is
+    // wrong with its names.
     #[cold]
     pub(super) fn lay_late(&mut self, event: &yaml_event_body_t)
         requires { goes_on self.old.sink.status self.old.place ≡ false }
@@ -40,20 +40,10 @@ impl Core {
             (body_of event.now)) empty }
     {
         if self.output.status(&self.draft).is_going() {
-            self.refuse_again(event);
-        }
-    }
-
-    // Once an event was refused, another is for the same reason, unless something is wrong with its names.
-    fn refuse_again(&mut self, event: &yaml_event_body_t)
-        requires late { goes_on self.old.sink.status self.old.place ≡ false }
-        requires going { self.old.sink.status ≡ Status.Going }
-        ensures { (empty : Bool) → LaysOut self.old self.new (emitter_event
-            (body_of event.now)) empty }
-    {
-        match event_problem(self.settings.canonical, event) {
-            Some(problem) => self.refused = Some(problem),
-            None => (),
+            match event_problem(self.settings.canonical, event) {
+                Some(problem) => self.refused = Some(problem),
+                None => (),
+            }
         }
     }
 }

@@ -2,7 +2,7 @@ use Rattle.std.proofs.Common.{◌≡◌, ◌∙◌, ap, sym, subst}
 use Rattle.yaml_emit_layout.specs.Content as said
 use Rattle.yaml_emit_layout.specs.State.{piece, next}
 use Rattle.yaml_emit_layout.specs.Layout.{stay}
-use Rattle.yaml_emit_scalars.specs.Lays.{Lays}
+use Rattle.yaml_emit_output.specs.Draft.{Lays}
 use Rattle.yaml_emit_core.specs.declared.level.State.{State}
 use Rattle.yaml_emit_core.specs.Levels.{awaits_node, stepped, state_at}
 use Rattle.yaml_emit_core.proofs.Texts.{scalar_piece, scalar_next}
@@ -17,7 +17,7 @@ returns-clause-text c = λ unended empty directives q h.
     let P : State → Type 0 = λ z. Lays c.args.draft.now c.put_inside.new.draft (piece s (state_at (record { state = z; levels = ls }) unended directives) (said.scalar q) empty) stay in
     subst P c.top-level.ensures.state (scalar_piece top.state unended ls top.flow top.indent _ s directives c.args.scalar.now q empty simple _ _ _ _ _ _ _ h c.top-level.ensures.level c.is_simple-simple.ensures
     (c.is_in_flow-flow.ensures simple) (c.deeper.ensures.value simple) c.style_of-style.ensures c.is_marked.ensures.value
-    c.put_before_node.ensures c.put_properties.ensures (rw c.page_of-page.ensures at c.put_inside.ensures))
+    c.put_before.ensures c.put_properties.ensures (rw c.page_of-page.ensures at c.put_inside.ensures))
 
 pub returns-clause-state : goal.returns-clause-state
 returns-clause-state c = λ unended empty directives q behind h.

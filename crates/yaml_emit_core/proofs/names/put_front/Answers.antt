@@ -1,9 +1,5 @@
-use Rattle.yaml_emit_scalars.proofs.LaysLemmas.{lays_asked, lays_refused}
 use Rattle.yaml_emit_core.proofs.Spellings.{front_lays}
 use Rattle.yaml_emit_core.proofs.names.put_front.Goals as goal
 
-pub returns-then-has_room : goal.returns-then-has_room
-returns-then-has_room c = front_lays c.args.front.now _ _ c.requires.some (lays_asked _ _ _ _ _ c.has_room.ensures.puts c.has_room.ensures.set c.put_word.ensures)
-
-pub returns-else-has_room : goal.returns-else-has_room
-returns-else-has_room c = lays_refused _ _ _ c.has_room.ensures.puts c.has_room.ensures.set (c.has_room.ensures.stopped c.if-has_room.false)
+pub returns : goal.returns
+returns c = front_lays c.args.front.now _ _ c.requires.some c.put_word.ensures

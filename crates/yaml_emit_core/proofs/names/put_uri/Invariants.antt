@@ -1,5 +1,5 @@
 use Rattle.std.proofs.Common.{drop}
-use Rattle.yaml_emit_scalars.specs.Lays.{Lays}
+use Rattle.yaml_emit_output.specs.Draft.{Lays}
 use Rattle.yaml_emit_layout.specs.Layout.{letters}
 use Rattle.yaml_emit_layout.specs.Tags.{uri_text}
 use Rattle.yaml_emit_core.proofs.names.put_uri.Given as goal

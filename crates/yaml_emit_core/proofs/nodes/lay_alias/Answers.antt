@@ -3,11 +3,11 @@ use Rattle.std.specs.Prelude.{◌&&◌, not, nat_le}
 use Rattle.yaml_emit_layout.specs.Content as said
 use Rattle.yaml_emit_layout.specs.State.{piece, next}
 use Rattle.yaml_emit_layout.specs.Layout.{stay}
-use Rattle.yaml_emit_scalars.specs.Lays.{Lays}
+use Rattle.yaml_emit_output.specs.Draft.{Lays}
 use Rattle.yaml_emit_scalars.proofs.LaysLemmas.{lays_both}
 use Rattle.yaml_emit_core.specs.declared.level.State.{State}
 use Rattle.yaml_emit_core.specs.Levels.{awaits_node, state_at, stepped}
-use Rattle.yaml_emit_core.proofs.Aliases.{alias_piece, alias_next}
+use Rattle.yaml_emit_core.proofs.Aliases.{alias_lays, alias_piece, alias_next}
 use Rattle.yaml_emit_core.proofs.nodes.lay_alias.Goals as goal
 
 pub returns-clause-text : goal.returns-clause-text
@@ -17,9 +17,9 @@ returns-clause-text c = λ unended empty directives.
     let ls = c.args.levels.now.levels in
     let top = c.top-level.result in
     let simple = ap (λ z. z && (not s.canonical && nat_le (length name) 128)) c.awaits_key.ensures in
-    let P : State → Type 0 = λ z. Lays c.args.draft.now c.put_alias.new.draft (piece s (state_at (record { state = z; levels = ls }) unended directives) (said.alias name) empty) stay in
+    let P : State → Type 0 = λ z. Lays c.args.draft.now c.put_word.new.self (piece s (state_at (record { state = z; levels = ls }) unended directives) (said.alias name) empty) stay in
     subst P c.top-level.ensures.state (alias_piece top.state unended ls top.flow top.indent s directives name empty _ _ _ (ap awaits_node c.top-level.ensures.state ∙ c.requires.due) c.top-level.ensures.level simple
-    (lays_both _ _ _ _ _ c.put_before_node.ensures c.put_alias.ensures))
+    (lays_both _ _ _ _ _ c.put_before.ensures (alias_lays _ _ name _ _ c.space_behind.ensures.mark c.put_word.ensures)))
 
 pub returns-clause-state : goal.returns-clause-state
 returns-clause-state c = λ unended empty directives behind.

@@ -1,7 +1,7 @@
 use Rattle.std.proofs.Common.{◌∙◌, ap, subst}
 use Rattle.yaml_emit_layout.specs.State.{piece}
 use Rattle.yaml_emit_layout.specs.Layout.{stay}
-use Rattle.yaml_emit_scalars.specs.Lays.{Lays}
+use Rattle.yaml_emit_output.specs.Draft.{Lays}
 use Rattle.yaml_emit_core.specs.declared.level.State.{State}
 use Rattle.yaml_emit_core.specs.Levels.{may_end, ending, state_at}
 use Rattle.yaml_emit_core.proofs.Closings.{end_piece, end_next}

@@ -1,6 +1,6 @@
 use Rattle.std.proofs.Common.{drop, map}
 use Rattle.yaml_parse_model.specs.Events.{directive_of}
-use Rattle.yaml_emit_scalars.specs.Lays.{Lays}
+use Rattle.yaml_emit_output.specs.Draft.{Lays}
 use Rattle.yaml_emit_layout.specs.Nodes.{directives_text}
 use Rattle.yaml_emit_core.proofs.openings.put_directives.Given as goal
 

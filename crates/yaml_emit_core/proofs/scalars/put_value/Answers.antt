@@ -1,13 +1,14 @@
-use Rattle.std.proofs.Common.{◌∙◌}
-use Rattle.yaml_emit_scalars.proofs.LaysLemmas.{lays_refused}
-use Rattle.yaml_emit_core.proofs.Values.{roomed_lays}
+use Rattle.std.proofs.Common.{subst, sym}
+use Rattle.yaml_emit_output.specs.Draft.{Page as Paper}
+use Rattle.yaml_emit_scalars.specs.On.{IsOn}
+use Rattle.yaml_emit_core.proofs.Values.{unmoved_lays}
 use Rattle.yaml_emit_core.proofs.scalars.put_value.Goals as goal
 
-pub put_short-requires-clause-on : goal.put_short-requires-clause-on
-put_short-requires-clause-on c = record { line_break = c.has_room.ensures.set.0 ∙ c.requires.on.line_break; width = c.has_room.ensures.set.1 ∙ c.requires.on.width; narrow = c.requires.on.narrow }
+pub put_long-requires : goal.put_long-requires
+put_long-requires c = let P : Paper → Type 0 = λ z. IsOn c.args.page z in subst P (sym (c.put_word.ensures.none c.if-not-put_word.true)) c.requires.on
 
-pub returns-then-has_room : goal.returns-then-has_room
-returns-then-has_room c = roomed_lays _ _ _ _ c.has_room.ensures.puts c.has_room.ensures.set c.put_short.ensures
+pub returns-then-not-put_word : goal.returns-then-not-put_word
+returns-then-not-put_word c = unmoved_lays _ _ _ _ (c.put_word.ensures.none c.if-not-put_word.true) c.put_long.ensures
 
-pub returns-else-has_room : goal.returns-else-has_room
-returns-else-has_room c = lays_refused _ _ _ c.has_room.ensures.puts c.has_room.ensures.set (c.has_room.ensures.stopped c.if-has_room.false)
+pub returns-else-not-put_word : goal.returns-else-not-put_word
+returns-else-not-put_word c = c.put_word.ensures.whole c.if-not-put_word.false

@@ -3,7 +3,7 @@ use Rattle.std.proofs.lemmas.Result.{on_ok_weaker}
 use Rattle.std.specs.Prelude.{◌||◌}
 use Rattle.yaml_emit_layout.specs.State.{piece, next, position_of}
 use Rattle.yaml_emit_layout.specs.Layout.{stay}
-use Rattle.yaml_emit_scalars.specs.Lays.{Lays}
+use Rattle.yaml_emit_output.specs.Draft.{Lays}
 use Rattle.yaml_emit_core.specs.declared.level.State.{State}
 use Rattle.yaml_emit_core.specs.Levels.{level_of, awaits_node, opening, opened, stepped, state_at}
 use Rattle.yaml_emit_core.proofs.Opened.{flow_same, start_piece, start_next}
@@ -19,7 +19,7 @@ returns-clause-text c = λ unended directives q h.
     let P : State → Type 0 = λ z. Lays c.args.draft.now c.open.new.draft (piece s (state_at (record { state = z; levels = ls }) unended directives) (opening o.sequence q) o.empty) stay in
     subst P c.top-level.ensures.state (start_piece top.state unended ls top.flow top.indent _ _ s directives o q simple _ _ _ _ _ _ h c.top-level.ensures.level c.is_simple-simple.ensures
     (flow_same s (position_of (level_of top) simple) directives o q _ h (c.is_in_flow.ensures simple)) c.bracket_of.ensures.bracket (c.indent_of-indent.ensures.value simple)
-    c.put_before_node.ensures c.put_properties.ensures c.put_opener.ensures c.open.ensures.text)
+    c.put_before.ensures c.put_properties.ensures c.put_opener.ensures c.open.ensures.text)
 
 pub returns-clause-state : goal.returns-clause-state
 returns-clause-state c = on_ok_weaker c.open.result (λ opens unended directives q h going.

@@ -1,5 +1,6 @@
 use Rattle.std.proofs.Common.{◌∙◌}
-use Rattle.yaml_emit_scalars.proofs.LaysLemmas.{lays_both, lays_break, on_still}
+use Rattle.yaml_emit_scalars.proofs.LaysLemmas.{lays_both, on_still}
+use Rattle.yaml_emit_output.proofs.Pages.{lays_break}
 use Rattle.yaml_emit_scalars.proofs.block.put_block.Goals as goal
 
 pub put_block_body-requires : goal.put_block_body-requires

@@ -2,7 +2,7 @@ use Rattle.std.proofs.Common.{length, true}
 use Rattle.std.specs.Str.{chars}
 use Rattle.std.specs.Prelude.{IsUtf8}
 use Rattle.yaml_emit_layout.specs.Scalars.{block_body}
-use Rattle.yaml_emit_scalars.specs.Lays.{Lays}
+use Rattle.yaml_emit_output.specs.Draft.{Lays}
 use Rattle.yaml_emit_scalars.proofs.block.put_block_body.Given as goal
 
 abbrev pub invariant-loop-c : goal.invariant-loop-c

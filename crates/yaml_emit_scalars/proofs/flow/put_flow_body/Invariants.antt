@@ -2,7 +2,7 @@ use Rattle.std.proofs.Common.{length}
 use Rattle.std.specs.Str.{chars}
 use Rattle.std.specs.Prelude.{IsUtf8}
 use Rattle.yaml_emit_layout.specs.Scalars.{flow_body}
-use Rattle.yaml_emit_scalars.specs.Lays.{Lays}
+use Rattle.yaml_emit_output.specs.Draft.{Lays}
 use Rattle.yaml_emit_scalars.proofs.flow.put_flow_body.Given as goal
 
 abbrev pub invariant-loop-c : goal.invariant-loop-c

@@ -5,7 +5,7 @@ pub cut-requires : goal.cut-requires
 cut-requires c = c.run_of-run.ensures.whole
 
 pub put_part-requires : goal.put_part-requires
-put_part-requires c = rw (← c.cut.ensures.run) at c.run_of-run.ensures.narrow
+put_part-requires c = record { narrow = rw (← c.cut.ensures.run) at c.run_of-run.ensures.narrow }
 
 pub returns-clause-text : goal.returns-clause-text
 returns-clause-text c = λ walk keeps.

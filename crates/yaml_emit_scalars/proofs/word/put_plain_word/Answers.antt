@@ -1,6 +1,5 @@
 use Rattle.std.proofs.Common.{refl}
 use Rattle.yaml_emit_scalars.specs.declared.run.Body.TheVariants.{Open}
-use Rattle.yaml_emit_scalars.proofs.LaysLemmas.{lays_written}
 use Rattle.yaml_emit_scalars.proofs.Words.{run_width, due_letters, plain_lays, nothing_lays}
 use Rattle.yaml_emit_scalars.proofs.word.put_plain_word.Goals as goal
 
@@ -11,7 +10,7 @@ pub returns-then-flow-is_empty-clause-whole : goal.returns-then-flow-is_empty-cl
 returns-then-flow-is_empty-clause-whole c = λ _.
     let run = rw c.as_bytes-text.ensures.value at (c.is_run.ensures c.if-not-is_run.false) in
     plain_lays c.args.page c.args.flow _ _ _ (due_letters c.args.flow _ run.ascii (rw (c.is_empty.ensures, c.as_bytes-text.ensures.value) at c.if-flow-is_empty.true))
-    (run_width Open Open c.args.page.cuts _ _ _ _ refl c.requires.on.width run) (lays_written _ _ _ _ (rw c.as_bytes-text.ensures.value at c.put_word.ensures))
+    (run_width Open Open c.args.page.cuts _ _ _ _ refl c.requires.on.width run) (rw c.as_bytes-text.ensures.value at c.put_word.ensures)
 
 pub returns-else-flow-is_empty-clause-whole : goal.returns-else-flow-is_empty-clause-whole
-returns-else-flow-is_empty-clause-whole c = λ _. nothing_lays c.args.page c.args.flow _ _ _ (rw (c.is_empty.ensures, c.as_bytes-text.ensures.value) at c.if-flow-is_empty.false) (lays_written _ _ _ _ c.set_after_text.ensures)
+returns-else-flow-is_empty-clause-whole c = λ _. nothing_lays c.args.page c.args.flow _ _ _ (rw (c.is_empty.ensures, c.as_bytes-text.ensures.value) at c.if-flow-is_empty.false) c.set_after_text.ensures

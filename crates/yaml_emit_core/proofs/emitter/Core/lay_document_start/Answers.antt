@@ -30,8 +30,8 @@ lay_document_start-requires-clause-due c =
 pub settle-requires : goal.settle-requires
 settle-requires c = let s = c.self.inside in λ f. holds_laid s _ _ c.self.invariant (c.lay_document_start.ensures.text false s.directives) f
 
-pub invariant_of-self-in-Some : goal.invariant_of-self-in-Some
-invariant_of-self-in-Some c =
+pub invariant_of-self-in-Ok : goal.invariant_of-self-in-Ok
+invariant_of-self-in-Ok c =
     let s = c.self.inside in
     let g = rw (← c.self.view_is) at c.requires in
     core_laid s _ _ _ _ _ _ _ _ _ c.self.invariant (goes s g).0 (c.lay_document_start.ensures.text false s.directives) c.settle.ensures.settles c.settle.ensures.keeps c.settle.ensures.utf8
@@ -52,15 +52,15 @@ returns-in-Ok-Some c = λ empty.
     let found : problem_at s.settings (state_at s.levels s.unended s.directives) (said.document_start o) ≡ Some c.in-Ok-Some.problem = cc told in
     rw (← c.self.view_is) (wrong s (said.document_start o) empty c.in-Ok-Some.problem c.self.invariant g found)
 
-pub returns-in-None : goal.returns-in-None
-returns-in-None c = λ empty.
+pub returns-in-Err-copied : goal.returns-in-Err-copied
+returns-in-Err-copied c = λ empty.
     let s = c.self.inside in
     let g = rw (← c.self.view_is) at c.requires in
     let P : Core → Type 0 = λ z. z.sink.status ≡ Going in
-    none_lays _ _ _ empty refl refl (subst P c.self.view_is (goes s g).0) c.starve-in-None.ensures
+    none_lays _ _ _ empty refl refl (subst P c.self.view_is (goes s g).0) c.starve-in-Err-copied.ensures
 
-pub returns-in-Some : goal.returns-in-Some
-returns-in-Some c = λ empty.
+pub returns-in-Ok : goal.returns-in-Ok
+returns-in-Ok c = λ empty.
     let s = c.self.inside in
     let o = opening_of c.args.opening.now in
     let g = rw (← c.self.view_is) at c.requires in
@@ -68,4 +68,4 @@ returns-in-Some c = λ empty.
     let right : problem_at s.settings (state_at s.levels s.unended s.directives) (said.document_start o) ≡ None = cc told in
     rw (← c.self.view_is) (laid s _ _ _ _ s.unended _ (said.document_start o) empty c.self.invariant g right
     (c.lay_document_start.ensures.text empty s.directives) c.settle.ensures.settles c.settle.ensures.keeps
-    (λ _. ap (state_at c.lay_document_start.new.levels s.unended) (c.put_table.ensures ∙ c.in-Some.ensures) ∙ c.lay_document_start.ensures.state s.unended empty s.directives _))
+    (λ _. ap (state_at c.lay_document_start.new.levels s.unended) (c.put_table.ensures ∙ c.in-Ok.ensures) ∙ c.lay_document_start.ensures.state s.unended empty s.directives _))

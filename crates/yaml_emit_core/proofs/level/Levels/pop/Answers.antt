@@ -16,7 +16,8 @@ pub invariant_of-self-in-None : goal.invariant_of-self-in-None
 invariant_of-self-in-None c =
     let old : c.self.inside.outer.items ≡ [] = nil_from_length _ (sym c.self.inside.outer.ok.0 ∙ c.in-None.ensures.cases.0) in
     let new : c.pop.new.self.items ≡ [] = sym (append-nil _) ∙ (sym c.in-None.ensures.items ∙ old) in
-    record { outside = λ _. new; narrow = omega arith; narrow_outer = none_narrow _ new }
+    let P : Level → Type 0 = λ z. z.indent < 2 ^ 31 in
+    record { outside = λ _. new; narrow = subst P (sym c.outside-self-inside.ensures) (omega arith); narrow_outer = none_narrow _ new }
 
 pub returns-in-Some-clause-levels : goal.returns-in-Some-clause-levels
 returns-in-Some-clause-levels c =
@@ -29,7 +30,11 @@ returns-in-Some-clause-place c = λ unended.
     subst P (sym c.level_in-self-inside.ensures) (close_place c.in-Some.open _ unended)
 
 pub returns-in-None-clause-levels : goal.returns-in-None-clause-levels
-returns-in-None-clause-levels c = rw (← c.self.view_is) (last_levels c.self.inside.top _ (nil_from_length _ (sym c.self.inside.outer.ok.0 ∙ c.in-None.ensures.cases.0)))
+returns-in-None-clause-levels c =
+    rw (← c.self.view_is) (ap (λ (z : Level). stack (level_of z) c.pop.new.self.items) c.outside-self-inside.ensures
+    ∙ last_levels c.self.inside.top _ (nil_from_length _ (sym c.self.inside.outer.ok.0 ∙ c.in-None.ensures.cases.0)))
 
 pub returns-in-None-clause-place : goal.returns-in-None-clause-place
-returns-in-None-clause-place c = λ unended. refl
+returns-in-None-clause-place c = λ unended.
+    let P : Level → Type 0 = λ z. place_of z.state unended ≡ place_at (top_of (stack (level_of z) c.pop.new.self.items)) in
+    subst P (sym c.outside-self-inside.ensures) refl

@@ -1,4 +1,4 @@
-use Rattle.std.proofs.Common.{refl, arith}
+use Rattle.std.proofs.Common.{refl}
 use Rattle.yaml_emit_layout.specs.declared.cursor.Cursor.{Cursor}
 use Rattle.yaml_emit_layout.specs.Sink.{Output}
 use Rattle.yaml_emit_layout.proofs.Sinks.{puts_moved}
@@ -11,4 +11,4 @@ returns c =
     let a : Output = (page_of s).output in
     let f : Cursor → Cursor = λ k. record { column = k.column; white = k.white; bare = k.bare; kept = c.args.kept } in
     let b : Output = record { bytes = a.bytes; limit = a.limit; encoding = a.encoding; status = a.status; cursor = f a.cursor } in
-    rw (← c.self.view_is) (record { puts = puts_moved a b f refl refl refl refl refl; room = omega arith; line_break = refl; width = refl })
+    rw (← c.self.view_is) (record { owes = puts_moved a b f refl refl refl refl refl; line_break = refl; width = refl })

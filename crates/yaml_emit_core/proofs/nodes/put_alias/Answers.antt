@@ -1,9 +1,0 @@
-use Rattle.yaml_emit_scalars.proofs.LaysLemmas.{lays_asked, lays_refused}
-use Rattle.yaml_emit_core.proofs.Aliases.{alias_lays}
-use Rattle.yaml_emit_core.proofs.nodes.put_alias.Goals as goal
-
-pub returns-then-has_room : goal.returns-then-has_room
-returns-then-has_room c = alias_lays c.args.simple _ c.args.name.now _ _ c.space_behind.ensures.mark (lays_asked _ _ _ _ _ c.has_room.ensures.puts c.has_room.ensures.set c.put_word.ensures)
-
-pub returns-else-has_room : goal.returns-else-has_room
-returns-else-has_room c = lays_refused _ _ _ c.has_room.ensures.puts c.has_room.ensures.set (c.has_room.ensures.stopped c.if-has_room.false)

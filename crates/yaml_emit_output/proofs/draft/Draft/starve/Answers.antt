@@ -1,9 +1,0 @@
-use Rattle.yaml_emit_layout.proofs.Sinks.{puts_stopped}
-use Rattle.yaml_emit_output.proofs.Pages.{starved_puts}
-use Rattle.yaml_emit_output.proofs.draft.Draft.starve.Goals as goal
-
-pub returns-then-is_going-clause-puts : goal.returns-then-is_going-clause-puts
-returns-then-is_going-clause-puts c = let s = c.self.inside in rw (← c.self.view_is) (λ x. starved_puts s c.truncate.new.self.items x (c.is_going.ensures.going c.if-is_going.true) c.truncate.ensures.items)
-
-pub returns-else-is_going-clause-puts : goal.returns-else-is_going-clause-puts
-returns-else-is_going-clause-puts c = rw (← c.self.view_is) (λ x. puts_stopped _ x (c.is_going.ensures.stopped c.if-is_going.false))

@@ -195,8 +195,8 @@ known_behind setting bytes z [] taken h none = inr (none refl)
 known_behind setting bytes z (k ∷ ks) taken h none = inl (settled_known setting bytes z k ks h)
 
 -- what is read further is needed
-reads_ahead : (setting : yaml_encoding_t) (bytes : List ℕ) (o : Option ScannedText) (ks : List Known)
-    (taken n : ℕ) (z y : ScannedText) → Ahead setting bytes o taken z
+reads_ahead : (setting : yaml_encoding_t) (bytes : List ℕ) (o : Option ScannedText)
+    (ks : List Known) (taken n : ℕ) (z y : ScannedText) → Ahead setting bytes o taken z
     → GivesAll (scanner_of z) (scanner_of y) ks
     → ReadsNeeded (view_by setting bytes o [] taken None) (view_by setting bytes (Some y) ks n None)
 reads_ahead setting bytes o ks taken n z y a g =
@@ -421,8 +421,8 @@ holds_popped setting bytes (Some z) (k ∷ ks) js n m h (rest, taken) = rw (rest
   later = All-tail (λ (x : Known). read_by (scanner_of z) ≤ x.taken + most_waiting) k ks h.later;
 })
 
-few_popped : (setting : yaml_encoding_t) (bytes : List ℕ) (o : Option ScannedText) (ks js : List Known)
-    (n m : ℕ) → Holds setting bytes o ks n → read_in o ≤ n + most_waiting → PopsFirst ks n js m
+few_popped : (setting : yaml_encoding_t) (bytes : List ℕ) (o : Option ScannedText)
+    (ks js : List Known) (n m : ℕ) → Holds setting bytes o ks n → read_in o ≤ n + most_waiting → PopsFirst ks n js m
     → read_in o ≤ m + most_waiting
 few_popped setting bytes o [] js n m h few (none, same) = omega (arith, few, same)
 few_popped setting bytes None (k ∷ ks) js n m h few p = omega arith

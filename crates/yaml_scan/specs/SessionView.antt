@@ -47,8 +47,8 @@ abbrev pub view_of : Reading → View
 view_of r = view_by r.setting r.input.now r.standing r.queue.known.items r.queue.taken r.fault
 
 -- Between two calls all tokens are known that the lexemes that were read settle, and none is where none was read.
-pub record HoldsKnown (setting : yaml_encoding_t) (bytes : List ℕ) (z : ScannedText) (ks : List Known)
-    (taken : ℕ) : Type 0 where
+pub record HoldsKnown (setting : yaml_encoding_t) (bytes : List ℕ) (z : ScannedText)
+    (ks : List Known) (taken : ℕ) : Type 0 where
   pub stands : StandsFor setting bytes z
   pub idle : knows (scanner_of z) ≡ false
   pub last : taken_behind ks taken ≡ taken_by (scanner_of z)

@@ -19,9 +19,7 @@ use yaml_round_reading::{ReadText, Reading, let_go, let_text_go, read_text, read
 
 /// The next document, whose end is made implicit; nothing after the last.
 #[tactic(auto, using(crate::proofs::Reloading::loaded_document, crate::proofs::Reloading::loaded_last, crate::proofs::Reloading::load_refused))]
-pub fn next_document(
-    reading: &mut Reading<'_>,
-) -> Result<Option<yaml_document_t>, yaml_fault_t>
+pub fn next_document(reading: &mut Reading<'_>) -> Result<Option<yaml_document_t>, yaml_fault_t>
     requires { reading.old.parser.between ≡ true }
     ensures next { LoadsNext reading.old.parser result reading.new.parser }
     ensures between { reading.new.parser.between ≡ true }

@@ -1,11 +1,14 @@
 -- The token that an adapter gives, and the texts of what is left.
-use Rattle.std.proofs.Common.{◌≡◌, ◌⊎◌, ◌≤◌, ℕ, true, false, true≢false, List, [], ◌∷◌, Option, Some, None, Result, Ok, Err, refl, sym, subst, inl, inr, All, ap, ◌∙◌, arith}
+use Rattle.std.proofs.Common.{◌≡◌, ◌≤◌, ◌<◌, ℕ, true, false, true≢false, List, [], ◌∷◌, Option, Some, None, Result, Ok, Err, refl, sym, subst, inl, inr, IfOk, IfErr, All, ap, ◌∙◌, arith}
+use Rattle.std.proofs.lemmas.Bool.{cases_lt}
 use Rattle.std.proofs.lemmas.List.Elements.{All-nil, All-head, All-tail}
 use Rattle.yaml_scan.specs.declared.yaml_encoding_t.{yaml_encoding_t}
-use Rattle.yaml_scan.specs.Tokens.{Token, TokenBody, no_token}
-use Rattle.yaml_scan.specs.Tokens as token
-use Rattle.yaml_parse_model.specs.Source.{front_of, rest_of, MayAnswer, HasMore, GivesToken, GivesFault}
-use Rattle.yaml_scan.specs.Faults.{Fault}
+use Rattle.yaml_scan.specs.Tokens.{Token, no_token, token_of}
+use Rattle.yaml_scan.specs.declared.yaml_mark_t.{yaml_mark_t}
+use Rattle.yaml_scan.specs.declared.yaml_token_t.{yaml_token_t}
+use Rattle.yaml_scan.specs.declared.yaml_fault_t.{yaml_fault_t}
+use Rattle.yaml_parse_model.specs.Source.{front_of, rest_of, MayAnswer, HasMore, GivesToken, GivesFault, answer_of}
+use Rattle.yaml_scan.specs.Faults.{Fault, fault_of}
 use Rattle.yaml_scan.specs.scan_decode.declared.offence.Offence.{Offence}
 use Rattle.yaml_scan.specs.scan_decode.Encodings.{encoding_of}
 use Rattle.yaml_scan.specs.scan_decode.Decoding.{decoded_text}
@@ -16,10 +19,11 @@ use Rattle.yaml_round_laws_adapted.proofs.Decoded.{spelled_utf8}
 use Rattle.yaml_round_laws_adapted.proofs.TokensUtf8.{remaining_sound}
 use Rattle.yaml_scan.specs.scan_history.Remaining.{Remaining, nothing}
 use Rattle.yaml_scan.specs.Scanned.{scanned_in, scanned}
+use Rattle.yaml_scan.specs.Settled.{settles}
 use Rattle.yaml_scan.specs.Session as session
-use Rattle.yaml_scan.specs.Session.{View, Takes, HoldsLittle, EndsAnswered, begun, ended, first_of, others_of, behind_first}
+use Rattle.yaml_scan.specs.Session.{View, Takes, Lends, Refuses, Scans, HoldsLittle, IsKnown, EndsAnswered, ReadsNeeded, begun, ended, first_of, others_of, behind_first}
 use Rattle.yaml_round_adapter.specs.Adapted.{adapted, spells_text, tag_fault}
-use Rattle.yaml_round_adapter.specs.Adapter.{IsStep, TakesText, Stops}
+use Rattle.yaml_round_adapter.specs.Adapter.{IsStep, IsTag, Looked, TakesText, Stops}
 use Rattle.yaml_round_laws_adapted.proofs.AdaptedLemmas.{taken, refused, failed}
 
 abbrev pub HaveTexts : Remaining → Type 0
@@ -91,14 +95,57 @@ unanswered old t (Some f) e over first bytes =
     let empty : t ≡ no_token = first ∙ ap (λ (c : Remaining). first_of c.tokens) (over f e) in
     absurd (true≢false (sym (ap (λ (x : Token). spells_text x.body) empty) ∙ bytes))
 
+-- A token that was looked at is taken: both calls are one step.
+needed_both : (old mid new : View) → ReadsNeeded old mid → ReadsNeeded mid new
+    → mid.remaining ≡ old.remaining → (n : ℕ) → old.read ≤ n → n < new.read
+    → settles old.setting old.bytes old.remaining.tokens n ≡ false
+needed_both old mid new first second all n low high = elim (cases_lt n mid.read) [
+  | inl before ↦ first.needed n low before
+  | inr further ↦ let tokens : mid.remaining.tokens ≡ old.remaining.tokens = ap (λ (c : Remaining). c.tokens) all in rw (← first.setting, ← first.bytes, ← tokens) (second.needed n further high)
+]
+
+reads_both : (old mid new : View) → ReadsNeeded old mid → ReadsNeeded mid new
+    → mid.remaining ≡ old.remaining → ReadsNeeded old new
+reads_both old mid new first second all = record {
+  setting = second.setting ∙ first.setting;
+  bytes = second.bytes ∙ first.bytes;
+  further = omega (arith, first.further, second.further);
+  needed = needed_both old mid new first second all;
+}
+
+takes_looked : (old mid new : View) (t u : Token) → Lends old t mid → Takes mid u new
+    → Takes old u new
+takes_looked old mid new t u looked takes = record {
+  token = takes.token ∙ ap (λ (c : Remaining). first_of c.tokens) looked.all;
+  rest = takes.rest ∙ ap (λ (c : Remaining). behind_first c) looked.all;
+  may = looked.may;
+  same = takes.same ∙ looked.same;
+  reads = reads_both old mid new looked.reads takes.reads looked.all;
+  over = looked.over;
+  still = λ f h. takes.still f (looked.same ∙ h) ∙ looked.still f h;
+}
+
+-- it is the one that was looked at
+token_looked : (old mid new : View) (t u : Token) → Lends old t mid → Takes mid u new → u ≡ t
+token_looked old mid new t u looked takes = takes.token ∙ ap (λ (c : Remaining). first_of c.tokens) looked.all ∙ sym looked.token
+
+-- and isn't refused
+looked_stays : (old mid new : View) (t : Token) (f : Fault) → Lends old t mid
+    → Refuses mid f new → ⊥
+looked_stays old mid new t f looked r = pick looked.known
+  where
+    pick : IsKnown mid → ⊥
+    pick (inl settled) = true≢false (sym settled ∙ r.sought)
+    pick (inr none) = subst (λ (c : Remaining). session.HasMore c.tokens c.fault) none r.more
+
 -- a token whose tag isn't UTF-8, and the session that its fault ended
-pub other_bytes : (old behind new : View) (t : Token) (f : Fault) → Takes old t behind
-    → (spells_text t.body ≡ false) × (f ≡ tag_fault t.start_mark) → new ≡ ended behind f
+pub other_bytes : (old looked new : View) (t : Token) (f : Fault) → Lends old t looked
+    → (spells_text t.body ≡ false) × (f ≡ tag_fault t.start_mark) → new ≡ ended looked f
     → Stops old f new
-other_bytes old behind new t f g (bytes, told) ends = inr record {
+other_bytes old looked new t f g (bytes, told) ends = inr record {
   token = t;
-  behind = behind;
-  takes = g;
+  looked = looked;
+  lends = g;
   bytes = bytes;
   told = told;
   once = unanswered old t old.answered refl g.over g.token bytes;
@@ -118,9 +165,37 @@ no_texts c e = subst HaveTexts (sym e) (All-nil (λ t. HasTexts t.body))
 gives_stop : (old new : View) (f : Fault) → Stops old f new
     → GivesFault (adapted old.remaining).tokens (adapted old.remaining).fault f [] None
 gives_stop old new f (inl r) = failed old.remaining f (same_more old.remaining.tokens old.remaining.fault r.more) r.told
-gives_stop old new f (inr b) = rw b.told (refused old.remaining b.token (b.takes.token ∙ first_front old.remaining.tokens) b.bytes)
+gives_stop old new f (inr b) = rw b.told (refused old.remaining b.token (b.lends.token ∙ first_front old.remaining.tokens) b.bytes)
 
 pub gives_fault : (old new : View) (f : Fault) → Stops old f new
     → GivesFault (adapted old.remaining).tokens (adapted old.remaining).fault f
     (adapted new.remaining).tokens (adapted new.remaining).fault
 gives_fault old new f s = subst (λ (c : Remaining). GivesFault (adapted old.remaining).tokens (adapted old.remaining).fault f (adapted c).tokens (adapted c).fault) (sym (stopped old new f s)) (gives_stop old new f s)
+
+-- ---- a scan after a look
+
+pub record ScansLooked (old : View) (x : Result yaml_token_t yaml_fault_t) (new : View) : Type 0
+  where
+    pub texts : HaveTexts new.remaining
+    pub ok : IfOk x (λ u. GivesToken (adapted old.remaining).tokens (adapted old.remaining).fault
+        (token_of u) (adapted new.remaining).tokens (adapted new.remaining).fault)
+    pub err : IfErr x (λ f. GivesFault (adapted old.remaining).tokens (adapted old.remaining).fault
+        (fault_of f) (adapted new.remaining).tokens (adapted new.remaining).fault)
+    pub own : IsStep old (answer_of x) new
+
+pub scans_looked : (old mid new : View) (found : Option yaml_mark_t)
+    (x : Result yaml_token_t yaml_fault_t) → found ≡ None → HaveTexts old.remaining
+    → Looked old found mid → Scans mid new x → HoldsLittle new
+    → ScansLooked old x new
+scans_looked old mid new found (Ok u) none texts looked takes little =
+    let both : Takes old (token_of u) new = takes_looked old mid new looked.token (token_of u) looked.lends takes in
+    let same : token_of u ≡ looked.token = token_looked old mid new looked.token (token_of u) looked.lends takes in
+    let text : TakesText old (token_of u) new = record { takes = both; text = ap (λ (t : Token). spells_text t.body) same ∙ subst (λ (o : Option yaml_mark_t). IsTag o looked.token) none looked.tag } in
+    record {
+      texts = texts_left old.remaining new.remaining both.rest texts;
+      ok = gives_text old new (token_of u) texts text;
+      err = tt;
+      own = (text, little);
+    }
+scans_looked old mid new found (Err f) none texts looked refuses little =
+    absurd (looked_stays old mid new looked.token (fault_of f) looked.lends refuses)

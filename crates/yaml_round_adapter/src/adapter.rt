@@ -4,14 +4,15 @@ ghost use Rattle.std.specs.Prelude.{◌≡◌};
 ghost use Rattle.yaml_scan.specs.Session.{begun};
 ghost use Rattle.yaml_scan.specs.Scanned.{scanned};
 ghost use Rattle.yaml_round_adapter.specs.Adapted.{adapted};
-ghost use Rattle.yaml_round_adapter.specs.Adapter.{IsStep, remaining_of};
+ghost use Rattle.yaml_round_adapter.specs.Adapter.{IsStep, LooksAtTag, remaining_of};
 
 use crate::refusal::{yaml_tag_fault, yaml_token_spells_text};
 use std::alloc::Global;
 use std::marker::Model;
 use yaml_parse_model::yaml_token_source_t;
 use yaml_scan::{
-    yaml_encoding_t, yaml_fault_t, yaml_parser_end, yaml_parser_scan, yaml_parser_t, yaml_token_t,
+    yaml_encoding_t, yaml_fault_t, yaml_mark_t, yaml_parser_end, yaml_parser_peek,
+    yaml_parser_scan, yaml_parser_t, yaml_token_t,
 };
 
 /// An input's tokens as a parser takes them: those of its session, up to the first tag that isn't UTF-8.
@@ -53,15 +54,29 @@ impl<'a> yaml_token_source_t for yaml_adapter_t<'a> {
     ghost own_step = { IsStep };
 
     fn next_token(&mut self) -> Result<yaml_token_t, yaml_fault_t> {
-        let token = match yaml_parser_scan(&mut self.session) {
-            Ok(token) => token,
-            Err(refused) => return Err(refused),
-        };
-        if yaml_token_spells_text(&token) {
-            return Ok(token);
+        match wrong_tag(&mut self.session) {
+            Ok(None) => yaml_parser_scan(&mut self.session),
+            Ok(Some(mark)) => {
+                let fault = yaml_tag_fault(mark);
+                yaml_parser_end(&mut self.session, &fault);
+                Err(fault)
+            }
+            Err(refused) => Err(refused),
         }
-        let fault = yaml_tag_fault(token.start_mark);
-        yaml_parser_end(&mut self.session, &fault);
-        Err(fault)
+    }
+}
+
+// Where the next token stands, if its tag isn't UTF-8. Nothing is taken.
+fn wrong_tag(session: &mut yaml_parser_t) -> Result<Option<yaml_mark_t>, yaml_fault_t>
+    ensures { LooksAtTag session.old result session.new }
+{
+    match yaml_parser_peek(session) {
+        Ok(token) => {
+            if yaml_token_spells_text(token) {
+                return Ok(None);
+            }
+            Ok(Some(token.start_mark))
+        }
+        Err(refused) => Err(refused),
     }
 }

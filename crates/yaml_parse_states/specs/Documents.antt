@@ -25,10 +25,10 @@ with_directive handle prefix ds = record {
 
 -- what a directive comes to, told as a fault or as memory ran out
 pub record IsWrong {T P : Type 0} (g : Ghosts T P) (s : Settled) (old new : Parser T P) : Type 0
-    where
-  pub fault : Fault
-  pub reason : (s ≡ refused fault) ⊎ (fault ≡ memory_fault ParserLayer)
-  pub refuses : Refuses g fault old new
+  where
+    pub fault : Fault
+    pub reason : (s ≡ refused fault) ⊎ (fault ≡ memory_fault ParserLayer)
+    pub refuses : Refuses g fault old new
 
 -- a directive comes to that: it is noted, or refused
 abbrev pub Settles : {T P : Type 0} → Ghosts T P → Settled → Parser T P → Turn → Parser T P → Type 0
@@ -53,8 +53,12 @@ Notes g old r new = (from : yaml_mark_t)
 -- the document's start that is next is taken, after directives of which the first starts there
 pub record TakesStart {T P : Type 0} (g : Ghosts T P) (from : yaml_mark_t) (old new : Parser T P)
     : Type 0 where
-  pub same : new ≡ record old { tokens = new.tokens; state = state.DocumentContent; event
-      = new.event }
+  pub same : new ≡ record old {
+    tokens = new.tokens;
+    state = state.DocumentContent;
+    event
+        = new.event;
+  }
   pub token : IsTaken g old.tokens new.tokens
   pub event : event_in g new ≡ record {
     body = event.document_start (directives_of old.directives).version

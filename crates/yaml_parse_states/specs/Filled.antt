@@ -13,10 +13,10 @@ use Rattle.yaml_parse_states.specs.Utf8.{IsUtf8Held, IsUtf8Told}
 
 -- the event was the next one, and the rest is left
 pub record GaveFront {T P : Type 0} (g : Ghosts T P) (e : Event) (old new : Parser T P) : Type 0
-    where
-  pub unasked : ℕ
-  pub left : g.unasked new.tokens ≡ unasked
-  pub next : coming_of g old ≡ ahead e unasked (coming_of g new)
+  where
+    pub unasked : ℕ
+    pub left : g.unasked new.tokens ≡ unasked
+    pub next : coming_of g old ≡ ahead e unasked (coming_of g new)
 
 -- nothing is to come
 pub record GaveNone {T P : Type 0} (g : Ghosts T P) (old new : Parser T P) : Type 0 where

@@ -82,11 +82,11 @@ IsTag g (Some t) p = (p.event.has_tag ≡ true) × IsResolved g t p.undefined p
 
 -- its properties are those
 pub record AreProperties {T P : Type 0} (g : Ghosts T P) (q : Properties) (p : Parser T P) : Type 0
-    where
-  pub from : g.mark_of p.tokens p.event.start ≡ q.from
-  pub to : g.mark_of p.tokens p.event.end ≡ q.to
-  pub anchor : q.anchor ≡ anchor_of p
-  pub tag : IsTag g q.tag p
+  where
+    pub from : g.mark_of p.tokens p.event.start ≡ q.from
+    pub to : g.mark_of p.tokens p.event.end ≡ q.to
+    pub anchor : q.anchor ≡ anchor_of p
+    pub tag : IsTag g q.tag p
 
 pub record IsBare {T P : Type 0} (g : Ghosts T P) (p : Parser T P) : Type 0 where
   pub start : g.mark_of p.tokens p.event.start ≡ (front_of (g.to_come p.tokens)).start_mark
@@ -130,7 +130,7 @@ PutsTag (Some full) at old new = (new.tag.items ≡ full) × (new.undefined ≡ 
 abbrev pub TakesTag : {T P : Type 0} → Ghosts T P → Parser T P → Parser T P → Type 0
 TakesTag g old new = old.undefined ≡ None → IsResolved g
     (tag_at (handle_in (front_of (g.to_come old.tokens)).body)
-        (suffix_in (front_of (g.to_come old.tokens)).body)
+    (suffix_in (front_of (g.to_come old.tokens)).body)
     (front_of (g.to_come old.tokens)).start_mark) new.undefined new
 
 -- the properties with the one that the token is
@@ -150,18 +150,18 @@ with_property k t q = record {
 
 -- it is taken
 pub record TakesProperty {T P : Type 0} (g : Ghosts T P) (k : Kind) (old new : Parser T P) : Type 0
-    where
-  pub same : new ≡ record old {
-    tokens = new.tokens;
-    event = new.event;
-    anchor = new.anchor;
-    tag = new.tag;
-    undefined = new.undefined;
-  }
-  pub less : joins_in k new.event ≡ false
-  pub others : (l : Kind) → joins_in l old.event ≡ false → joins_in l new.event ≡ false
-  pub properties : (q : Properties) → AreProperties g q old
-      → AreProperties g (with_property k (front_of (g.to_come old.tokens)) q) new
+  where
+    pub same : new ≡ record old {
+      tokens = new.tokens;
+      event = new.event;
+      anchor = new.anchor;
+      tag = new.tag;
+      undefined = new.undefined;
+    }
+    pub less : joins_in k new.event ≡ false
+    pub others : (l : Kind) → joins_in l old.event ≡ false → joins_in l new.event ≡ false
+    pub properties : (q : Properties) → AreProperties g q old
+        → AreProperties g (with_property k (front_of (g.to_come old.tokens)) q) new
 
 -- ---- contents
 

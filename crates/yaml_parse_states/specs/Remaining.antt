@@ -41,12 +41,12 @@ Told g f old new = (held : _ → ℕ) (n : ℕ) (a : Fault) → ToldNext g held 
 
 -- it was told by that refusal
 pub record ToldBy {T P : Type 0} (g : Ghosts T P) (r : Refusal) (old new : Parser T P) : Type 0
-    where
-  pub fault : Fault
-  pub means : Means g new.tokens r fault
-  pub stands : Stands new
-  pub utf8 : IsUtf8Held g new
-  pub told : Told g fault old new
+  where
+    pub fault : Fault
+    pub means : Means g new.tokens r fault
+    pub stands : Stands new
+    pub utf8 : IsUtf8Held g new
+    pub told : Told g fault old new
 
 -- the tokens of a parser
 abbrev pub tokens_of : {T P : Type 0} → Parser T P → T

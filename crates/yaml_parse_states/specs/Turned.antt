@@ -120,20 +120,20 @@ pub record IsLost (ts : List Token) (f : Option Fault) : Type 0 where
 
 -- an event was given, which was the next one, and the rest is left
 pub record GaveEvent {T P : Type 0} (g : Ghosts T P) (was : Coming) (new : Parser T P) : Type 0
-    where
-  pub unasked : ℕ
-  pub left : g.unasked new.tokens ≡ unasked
-  pub next : was ≡ ahead (event_in g new) unasked (coming_of g new)
+  where
+    pub unasked : ℕ
+    pub left : g.unasked new.tokens ≡ unasked
+    pub next : was ≡ ahead (event_in g new) unasked (coming_of g new)
 
 -- a fault was told, the next one or that of the memory of a layer that scans, and nothing is left
 pub record IsRefused {T P : Type 0} (g : Ghosts T P) (was : Coming) (new : Parser T P) : Type 0
-    where
-  pub fault : Fault
-  pub told : Keeps g fault new
-  pub over : new.state ≡ state.End
-  pub unasked : ℕ
-  pub left : g.unasked new.tokens ≡ unasked
-  pub reason : IsMemoryFault scan_layers fault ⊎ (was ≡ stopped fault unasked)
+  where
+    pub fault : Fault
+    pub told : Keeps g fault new
+    pub over : new.state ≡ state.End
+    pub unasked : ℕ
+    pub left : g.unasked new.tokens ≡ unasked
+    pub reason : IsMemoryFault scan_layers fault ⊎ (was ≡ stopped fault unasked)
 
 -- The fault of the tokens is told, or that of the token which is next, where it is what comes.
 abbrev pub RefusesNext : {T P : Type 0} → Ghosts T P → ParseProblem → Parser T P → Parser T P
@@ -177,7 +177,7 @@ Ends g token k old r new = (x : grammar.State) (b : EventBody)
     → choice_at x (type_by token) ≡ Take
     → taken_at x (token_by token (front_of (g.to_come old.tokens)))
     ≡ taken (Some (event_at b (front_of (g.to_come old.tokens)).start_mark
-        (front_of (g.to_come old.tokens)).end_mark)) []
+    (front_of (g.to_come old.tokens)).end_mark)) []
     → body_in (bare k old.event) old.anchor.items old.tag.items (g.texts new.tokens)
     (directives_of old.directives) ≡ b
     → behind_event b (directives_of old.directives) ≡ directives_of old.directives

@@ -5,6 +5,7 @@ pub use Rattle.yaml_scan_model.specs.Marks
 pub mod Session
 pub mod Known
 pub mod SessionView
+pub mod Looking
 pub use Rattle.yaml_scan_core.specs.Found
 pub use Rattle.yaml_scan_core.specs.Settled
 pub use Rattle.yaml_scan_history.specs.Scanned

@@ -6,7 +6,7 @@ mod laws;
 mod reading;
 mod session;
 
-pub use laws::settled_is_told;
+pub use laws::{settled_is_told, tokens_look_back};
 pub use session::{
     yaml_parser_end, yaml_parser_fault, yaml_parser_has_token, yaml_parser_peek, yaml_parser_scan,
     yaml_parser_skip, yaml_parser_t,

@@ -1,6 +1,5 @@
 -- Keys as they are reported, one after another.
 use Rattle.std.proofs.Common.{◌≡◌, ◌∙◌, ℕ, zero, suc, ◌+◌, ◌<◌, ◌≤◌, List, [], ◌∷◌, ◌++◌, length, get_or, take, map, refl, sym, ap, arith, add-one}
-use Rattle.std.proofs.lemmas.List.{take_more}
 use Rattle.yaml_round.specs.declared.yaml_same_key_t.{yaml_same_key_t}
 use Rattle.yaml_cli_program.specs.declared.RepeatedKey.{RepeatedKey}
 use Rattle.yaml_cli_main.specs.Asked.{shown_key}

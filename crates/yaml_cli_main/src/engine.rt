@@ -102,7 +102,7 @@ fn found_by(
 }
 
 // The keys as they are reported.
-#[tactic(auto, using(crate::proofs::Shown::none_shown, crate::proofs::Shown::all_shown))]
+#[tactic(auto, using(crate::proofs::Shown::none_shown))]
 fn shown_keys(alloc: Global, keys: &[yaml_same_key_t]) -> Result<Vec<RepeatedKey>, AllocError>
     ensures { IfOk result (λ shown. shown.items ≡ map shown_key keys.now) }
 {

@@ -4,7 +4,7 @@ ghost use Rattle.std.specs.Prelude.{◌≡◌, ◌<◌, ◌≤◌, ◌+◌, ◌^
 ghost use Rattle.yaml_emit_layout.specs.Layout.{stay, is_past};
 ghost use Rattle.yaml_emit_layout.specs.State.{before_node};
 ghost use Rattle.yaml_emit_output.specs.Draft.{Lays};
-ghost use Rattle.yaml_emit_core.specs.Levels.{phase_of, level_by, level_of, is_entry};
+ghost use Rattle.yaml_emit_core.specs.Levels.{level_of, is_entry};
 ghost use Rattle.yaml_emit_core.specs.Pages.{IsOf, entry, behind_comma, mark_of};
 
 use crate::level::{Level, State};
@@ -53,25 +53,23 @@ fn mark_of(state: State, flow: bool, simple: bool) -> u8
 }
 
 // The same for an entry of any collection.
-fn put_lead(
-    draft: &mut Draft,
-    settings: &Settings,
-    state: State,
-    flow: bool,
-    indent: u64,
-    simple: bool,
-)
+fn put_lead(draft: &mut Draft, settings: &Settings, level: Level, simple: bool)
     requires on { IsOf settings.now draft.old }
-    requires indent { indent < 2 ^ 32 }
-    requires entry { is_entry state ≡ true }
-    ensures { Lays draft.old draft.new
-        (before_node settings.now (level_by (phase_of state) flow indent) simple) stay }
+    requires narrow { level.indent < 2 ^ 31 }
+    requires entry { is_entry level.state ≡ true }
+    ensures { Lays draft.old draft.new (before_node settings.now (level_of level) simple) stay }
 {
-    let mark = mark_of(state, flow, simple);
-    if flow {
-        put_entry(draft, settings, state.is_further(), indent, mark);
+    let mark = mark_of(level.state, level.flow, simple);
+    if level.flow {
+        put_entry(
+            draft,
+            settings,
+            level.state.is_further(),
+            level.indent,
+            mark,
+        );
     } else {
-        draft.put_line(false, indent as usize, mark, true);
+        draft.put_line(false, level.indent as usize, mark, true);
     }
 }
 
@@ -84,14 +82,7 @@ pub fn put_before(draft: &mut Draft, settings: &Settings, level: Level, simple: 
     ensures { Lays draft.old draft.new (before_node settings.now (level_of level) simple) stay }
 {
     if level.state.is_entry() {
-        put_lead(
-            draft,
-            settings,
-            level.state,
-            level.flow,
-            level.indent,
-            simple,
-        );
+        put_lead(draft, settings, level, simple);
     } else if level.state.is_behind_simple() {
         draft.put_text(b":");
     }

@@ -13,7 +13,7 @@ use Rattle.yaml_emit_layout.specs.declared.settings.LineBreak.{LineBreak}
 use Rattle.yaml_emit_layout.specs.Text.{letter}
 use Rattle.yaml_emit_layout.specs.Layout.{opener, new_line, break, Layout, ◌▹◌, stay, when, char, letters, gap, line, must_break, after_text}
 use Rattle.yaml_emit_layout.specs.Appends.{lettered}
-use Rattle.yaml_scan_runs.specs.Placed.{Placed, due_byte}
+use Rattle.yaml_scan_runs.specs.Placed.{due_byte}
 use Rattle.yaml_emit_output.specs.Placed.{break_bytes, broken_bytes, due_blanks, mark_bytes, sign_bytes}
 use Rattle.yaml_emit_output.specs.Draft.{line_mark}
 use Rattle.yaml_emit_output.proofs.Goes.{Goes, at, home, goes_wide, goes_then, goes_to, goes_due, goes_broken, goes_joined, goes_mark, goes_gap, goes_text, goes_letters, behind_some, goes_stroke, goes_new_line, goes_none, goes_as, goes_char, lettered_if, is_none, none_is}
@@ -273,15 +273,3 @@ mark_placed column c e = rw e (goes_wide 0xFEFF (λ k. k) c)
 pub utf8_order_mark : IsUtf8 (0xEF ∷ 0xBB ∷ 0xBF ∷ [])
 unfolding encoded
 utf8_order_mark = IsUtf8-encode 0xFEFF refl
-
--- `!` and a space, each where a word is marked
-sign_is : (marked : Bool) → due_byte marked 33 ++ due_byte marked 32 ≡ sign_bytes marked
-sign_is true = refl
-sign_is false = refl
-
-pub sign_placed : (old buf d : List ℕ) (at end : ℕ) (marked : Bool)
-    → Placed old buf at ((d ++ due_byte marked 33) ++ due_byte marked 32) end
-    → Placed old buf at (d ++ sign_bytes marked) end
-sign_placed old buf d at end marked p =
-    let P : List ℕ → Type 0 = λ t. Placed old buf at t end in
-    subst P (append_assoc d (due_byte marked 33) (due_byte marked 32) ∙ ap (λ (t : List ℕ). d ++ t) (sign_is marked)) p

@@ -6,7 +6,7 @@ ghost use Rattle.yaml_scan_types.specs.Ascii as ascii;
 ghost use Rattle.yaml_scan_types.specs.Points as points;
 ghost use Rattle.yaml_emit_output.specs.Placed.{due_blanks, mark_bytes, sign_bytes};
 
-use crate::place::{place_break, place_broken, place_byte, place_mark};
+use crate::place::{place_break, place_broken, place_byte, place_mark, place_sign};
 use std::alloc::Global;
 use std::marker::Model;
 use yaml_emit_layout::{Cursor, Encoding, LineBreak, Status};
@@ -215,8 +215,6 @@ impl Draft {
 
     /// A line that begins so: a comma in the line before where one is due; a break, unless the line is bare up to the indentation;
     /// the indentation; and a character in ASCII, of which 0 is none. After a block indicator the line is still bare.
-    // Inlined: where it is called most of what is put is known.
-    #[inline(always)]
     pub fn put_line(&mut self, comma: bool, indent: usize, mark: u8, block: bool)
         requires indent { indent < 2 ^ 32 }
         requires mark { mark < 0x80 }
@@ -258,8 +256,6 @@ impl Draft {
 
     /// A word in ASCII, with a space in front where one is due: `!` and a space where it is marked, a character, a text, and another
     /// character. 0 is none.
-    // Inlined: where it is called most of what stands around the text is known.
-    #[inline(always)]
     pub fn put_word(&mut self, marked: bool, first: u8, text: &[u8], last: u8)
         requires ascii { IsAscii text.now }
         requires first { first < 0x80 }
@@ -271,8 +267,7 @@ impl Draft {
         if self.has_room(text.len()) {
             let buf = self.text.as_mut_slice();
             let at = place_if(buf, self.len, !self.white, b' ');
-            let at = place_if(buf, at, marked, b'!');
-            let at = place_if(buf, at, marked, b' ');
+            let at = place_sign(buf, at, marked);
             let at = place_mark(buf, at, first);
             let at = place_text(buf, at, text);
             self.len = place_mark(buf, at, last);

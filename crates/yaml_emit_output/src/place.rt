@@ -2,7 +2,7 @@
 
 ghost use Rattle.std.specs.Prelude.{◌≡◌, ◌+◌, ◌<◌, ◌≤◌, [], ◌∷◌, length};
 ghost use Rattle.yaml_scan_runs.specs.Placed.{Placed};
-ghost use Rattle.yaml_emit_output.specs.Placed.{break_bytes, broken_bytes, mark_bytes};
+ghost use Rattle.yaml_emit_output.specs.Placed.{break_bytes, broken_bytes, mark_bytes, sign_bytes};
 
 use yaml_emit_layout::LineBreak;
 
@@ -51,5 +51,18 @@ pub fn place_mark(buf: &mut [u8], at: usize, mark: u8) -> usize
         at
     } else {
         place_byte(buf, at, mark)
+    }
+}
+
+/// `!` and a space, where a word is marked.
+pub fn place_sign(buf: &mut [u8], at: usize, marked: bool) -> usize
+    requires { at + 2 ≤ length buf.old }
+    ensures { Placed buf.old buf.new at (sign_bytes marked) result }
+{
+    if marked {
+        let next = place_byte(buf, at, b'!');
+        place_byte(buf, next, b' ')
+    } else {
+        at
     }
 }

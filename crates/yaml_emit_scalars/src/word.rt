@@ -68,22 +68,22 @@ fn quote_of(body: Body) -> u8
 // A text between quotes, after `!` where it is marked.
 fn put_quoted(
     draft: &mut Draft,
+    page: Page,
     body: Body,
-    cuts: bool,
     marked: bool,
     value: &str,
     classes: u16,
 ) -> bool
     requires { Covers classes value.now 0 (length value.now) }
     ensures run { result ≡ true
-        → IsRun body cuts draft.old.width draft.old.output.cursor.column value.now }
+        → IsRun body page.cuts draft.old.width draft.old.output.cursor.column value.now }
     ensures whole { result ≡ true → Lays draft.old draft.new
         (when marked (word (ascii.exclamation ∷ []))
         ▹ (gap ▹ (char (quote_of body) ▹ (letters value.now ▹ char (quote_of body))))) stay }
     ensures none { result ≡ false → draft.new ≡ draft.old }
 {
     let text = value.as_bytes();
-    if !is_run(draft, body, cuts, text, classes) {
+    if !is_run(draft, body, page.cuts, text, classes) {
         return false;
     }
     let quote = quote_of(body);
@@ -102,13 +102,12 @@ pub fn put_word(draft: &mut Draft, page: Page, manner: Manner, value: &str, clas
         ▹ scalar_text page manner.digit manner.flow manner.style (chars value.now)) stay }
     ensures none { result ≡ false → draft.new ≡ draft.old }
 {
-    let cuts = page.cuts;
     match manner.style {
         Style::Plain => put_plain_word(draft, page, manner.flow, value, classes),
-        Style::Single => put_quoted(draft, Body::Single, cuts, manner.marked, value, classes),
+        Style::Single => put_quoted(draft, page, Body::Single, manner.marked, value, classes),
         Style::Double => {
             let body = quoted_in(page.unicode);
-            put_quoted(draft, body, cuts, manner.marked, value, classes)
+            put_quoted(draft, page, body, manner.marked, value, classes)
         }
         Style::Literal | Style::Folded => false,
     }

@@ -3,7 +3,7 @@ use Rattle.yaml_emit_layout.specs.Layout.{◌▹◌, letters, gap, after_text}
 use Rattle.yaml_scan_runs.specs.Placed.{due_byte}
 use Rattle.yaml_emit_output.specs.Placed.{mark_bytes, sign_bytes}
 use Rattle.yaml_scan_runs.proofs.Places.{Placed-then}
-use Rattle.yaml_emit_output.proofs.Puts.{utf8_word, word_placed, word_length, sign_placed}
+use Rattle.yaml_emit_output.proofs.Puts.{utf8_word, word_placed, word_length}
 use Rattle.yaml_emit_output.proofs.Pages.{writes_placed, lays_asked, lays_refused, draft_placed}
 use Rattle.yaml_emit_output.proofs.draft.Draft.put_word.Goals as goal
 
@@ -16,8 +16,7 @@ returns-then-has_room c =
     let text = c.args.text.now in
     let end = c.place_mark-self-inside.result in
     let buf = c.place_mark-self-inside.new.buf in
-    let signed = sign_placed _ _ (due_byte (not s.white) 32) _ _ c.args.marked (Placed-then (Placed-then c.place_if-at.ensures c.place_if-at-then-has_room.ensures) c.place_if-at-then-has_room-2.ensures) in
-    let placed = Placed-then (Placed-then (Placed-then signed c.place_mark-at.ensures) c.place_text-at.ensures) c.place_mark-self-inside.ensures in
+    let placed = Placed-then (Placed-then (Placed-then (Placed-then c.place_if-at.ensures c.place_sign-at.ensures) c.place_mark-at.ensures) c.place_text-at.ensures) c.place_mark-self-inside.ensures in
     let value = c.as_mut_slice-buf.ensures.value in
     let few = word_length (not s.white) c.args.marked first last text in
     let column : s.before + (end - s.origin) ≡ s.before + (s.len - s.origin) + (end - s.len) = omega (arith, c.self.invariant.origin, placed.moved) in
@@ -34,8 +33,7 @@ invariant_of-self c =
     let text = c.args.text.now in
     let end = c.place_mark-self-inside.result in
     let buf = c.place_mark-self-inside.new.buf in
-    let signed = sign_placed _ _ (due_byte (not s.white) 32) _ _ c.args.marked (Placed-then (Placed-then c.place_if-at.ensures c.place_if-at-then-has_room.ensures) c.place_if-at-then-has_room-2.ensures) in
-    let placed = Placed-then (Placed-then (Placed-then signed c.place_mark-at.ensures) c.place_text-at.ensures) c.place_mark-self-inside.ensures in
+    let placed = Placed-then (Placed-then (Placed-then (Placed-then c.place_if-at.ensures c.place_sign-at.ensures) c.place_mark-at.ensures) c.place_text-at.ensures) c.place_mark-self-inside.ensures in
     let value = c.as_mut_slice-buf.ensures.value in
     let few = word_length (not s.white) c.args.marked first last text in
     let column : s.before + (end - s.origin) ≡ s.before + (s.len - s.origin) + (end - s.len) = omega (arith, c.self.invariant.origin, placed.moved) in

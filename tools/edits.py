@@ -26,13 +26,11 @@ import repository as repo
 
 PAGE = "docs/EDITS.md"
 LINES = "crates/yaml_cli_vectors/stdin"
-# The crate that the exports of the library for C hand on.
-CALLS = "yaml_round_calls"
 HEAD = """# Must-fail edits
 
 Written by `tools/edits.py`; not by hand.
 
-Each line is a change of the code that the prover must refuse (`crates/CRATE/must-fail/EDIT.edit`, or `FUNCTION.EDIT.edit` where a function has several), and the meaning that it turns: were it still proved, the contract would not say that meaning. A call is public where a member hands it out, or an export for C, with its clauses. 'Helper' marks functions that only a helper crate hands out, and 'private' the rest: their edits stand where no public call turns the same meaning.
+Each line is a change of the code that the prover must refuse (`crates/CRATE/must-fail/EDIT.edit`, or `FUNCTION.EDIT.edit` where a function has several), and the meaning that it turns: were it still proved, the contract would not say that meaning. A call is public where a member hands it out, or it is an export for C. 'Helper' marks functions that only a helper crate hands out, and 'private' the rest: their edits stand where no public call turns the same meaning.
 
 """
 LINES_HEAD = f"""
@@ -58,7 +56,7 @@ FIRST = [
     ("bytes of a tag that aren't UTF-8 left out or replaced", "yaml_round_adapter/tag_bytes_replaced"),
     ("tokens of a step that fails handed out", "yaml_scan/failed_steps_token_handed_out", "yaml_scan/tokens_behind_a_fault", "scan: scans: a key without its colon"),
     ("overlong UTF-8 accepted", "yaml_scan_characters/overlong_accepted"),
-    ("surrogates accepted", "yaml_scan_characters/surrogate_accepted", "yaml_round_calls/offence_hidden", "decode: decoding: faults of UTF-8 10", "yaml_scan_classes/printable_surrogate"),
+    ("surrogates accepted", "yaml_scan_characters/surrogate_accepted", "yaml_round_c/offence_hidden", "decode: decoding: faults of UTF-8 10", "yaml_scan_classes/printable_surrogate"),
     ("lexemes read ahead of need", "yaml_scan/reads_ahead_of_need"),
     ("a token known where a later text may change it", "yaml_scan/has_token_where_none_is"),
     ("a token that is settled refused, or told as not known", "yaml_scan/settled_token_refused", "yaml_scan/last_one_unknown"),
@@ -71,7 +69,7 @@ FIRST = [
     ("directives carried to the next document, by reader and emitter alike", "yaml_parse_states/tags_carried_to_the_next_document", "yaml_emit_core/tags_carried_to_the_next_document", "yaml_parse/version_carried_to_the_next_document", "reformat: fault of the input 6"),
     ("aliases looked up once the document has ended", "yaml_parse/alias_looked_up_late", "load: loads: an alias before its anchor"),
     ("the document without root, which ends the loads, never comes", "yaml_parse/ending_document_never_comes"),
-    ("names of anchors kept in a dump", "yaml_round_calls/reloaded_as_a_rewriting", "reload: documents 1"),
+    ("names of anchors kept in a dump", "yaml_round_c/reloaded_as_a_rewriting", "reload: documents 1"),
     ("a shared node written twice", "yaml_emit_graph/shared_node_written_twice"),
     ("the text thrown away behind a wrong event that is given where it stands", "yaml_emit/refusal_left_out"),
     ("the text lost where an indentation is too deep or memory ran out", "yaml_emit/goes_on_after_a_fault"),
@@ -83,7 +81,7 @@ FIRST = [
     ("the input's `...` kept in canonical form", "yaml_round_reading/explicit_end_kept"),
     ("a size refused one byte early, or one late", "yaml_round_device/size_refused_one_byte_early", "yaml_round/normal_form_refused_one_byte_early", "yaml_round/size_refused_one_byte_late"),
     ("a flush left out, an empty `put` that fails, reading on behind the limit", "yaml_round_device/finish_not_called", "yaml_round_device/empty_put_told_as_failed", "yaml_round_device/byte_past_the_limit"),
-    ("for C: a place told of what isn't there, a fault without its line, two fields exchanged", "yaml_round_calls/absent_anchor_has_a_place", "yaml_round_calls/line_never_told", "yaml_round_calls/indent_and_width_exchanged"),
+    ("for C: a place told of what isn't there, a fault without its line, two fields exchanged", "yaml_round_c/absent_anchor_has_a_place", "yaml_round_c/line_never_told", "yaml_round_c/indent_and_width_exchanged"),
     ("every fault told as out of memory by a caller", "yaml_cli_lookup/every_fault_told_as_want_of_memory"),
 ]
 IMPLIED_HEAD = """
@@ -96,14 +94,14 @@ No edit turns these meanings at their own call. As the clauses stand, no body th
 """
 # The call, the meaning, the edits that imply it, and why they do.
 IMPLIED = [
-    ("yaml_decode", "in UTF-16LE the low byte of a unit comes first; no byte order mark is removed where an encoding is set", ["yaml_round_calls/decoded_as_utf8", "yaml_round_calls/mark_removed_with_set_encoding"], "the call for C names the definition that this call's clause names, `decoded_text`, and has the text from it alone: where this call let another text through, so would that one"),
-    ("yaml_decode", "an offence's byte is counted with the removed mark", ["yaml_round_calls/offence_hidden"], "the same of the first offence, `decoding_fault`, whose fault is told in each field"),
+    ("yaml_decode", "in UTF-16LE the low byte of a unit comes first; no byte order mark is removed where an encoding is set", ["yaml_round_c/decoded_as_utf8", "yaml_round_c/mark_removed_with_set_encoding"], "the call for C names the definition that this call's clause names, `decoded_text`, and has the text from it alone: where this call let another text through, so would that one"),
+    ("yaml_decode", "an offence's byte is counted with the removed mark", ["yaml_round_c/offence_hidden"], "the same of the first offence, `decoding_fault`, whose fault is told in each field"),
     ("yaml_parser_scan", "an alias is told as one", ["yaml_scan/value_ended_by_two_quotes"], "`Takes` says by one equation which token is given: its kind and its texts"),
     ("yaml_adapter_t::next_token", "out of memory is reported of a layer that scans", ["yaml_round_adapter/tags_fault_told_as_memory"], "the clause of all sources lets an out-of-memory error of such a layer through, so what refuses it is `Stops`: the fault is as a whole the session's own, or its tag's"),
     ("yaml_diff", "a fault of two inputs that are compared names the input that has it", ["yaml_round/sides_turned"], "`IsDiff` says of a fault what `IsSame` says"),
-    ("yaml_diff", "nothing is answered only where the contents are the same", ["yaml_round_calls/first_input_compared_with_itself"], "`IsDiff` says of nothing what `IsSame` says of true: `SameContent`"),
-    ("yaml_same", "inputs of another content are told apart", ["yaml_round_calls/first_input_compared_with_itself"], "the call for C knows of its answer what `IsSame`, the clause of this call, says of both inputs, and nothing else"),
-    ("yaml_check", "an input is read in the encoding that is given", ["yaml_round_calls/checked_as_utf8"], "the call for C knows of its answer what `IsChecked`, the clause of this call, says of the encoding, and nothing else"),
+    ("yaml_diff", "nothing is answered only where the contents are the same", ["yaml_round_c/first_input_compared_with_itself"], "`IsDiff` says of nothing what `IsSame` says of true: `SameContent`"),
+    ("yaml_same", "inputs of another content are told apart", ["yaml_round_c/first_input_compared_with_itself"], "the call for C knows of its answer what `IsSame`, the clause of this call, says of both inputs, and nothing else"),
+    ("yaml_check", "an input is read in the encoding that is given", ["yaml_round_c/checked_as_utf8"], "the call for C knows of its answer what `IsChecked`, the clause of this call, says of the encoding, and nothing else"),
     ("yaml_check", "an input that is refused does not load", ["yaml_round/events_alone_checked"], "it accepts some of these"),
     ("yaml_normalize", "the input is not repeated", ["yaml_round/own_styles_kept"], "the pretty text of an input, given in, has the same content and so the same normal form"),
     ("yaml_reformat", "what is answered unasked as canonical form is canonical", ["yaml_round/canonical_unasked"], "no text is, where the input doesn't begin with nothing"),
@@ -127,15 +125,15 @@ IMPLIED = [
     ("yaml_normalize", "a root that would be nothing where the text begins is quoted", ["yaml_round/own_styles_kept"], "the text is `readable_text` of the content, which decides the style of each root"),
     ("yaml_parser_initialize", "a fault's text is the definition's, also where code and machine agree on another", ["yaml_parse/tokens_fault_told_elsewhere"], "the fault to come is said by `FaultOfTokens`, whose texts a law, `rows_of_faults_hold`, has in its own words; a parse that answers another fault than the one to come is refused"),
     ("yaml_parser_initialize", "what is whole when a token comes that is wrong is given before the fault", ["yaml_parse/deep_input_refused"], "the events to come are said by `EventsOfTokens`, whose worked lists a law, `rows_of_events_hold`, has in its own words; a parse that answers a fault where one of them is to come is refused"),
-    ("yaml_c_events", "every fault except out of memory comes with its line", ["yaml_round_calls/line_never_told"], "`TellsFault`, which says each field of the record, is one definition for all calls"),
-    ("yaml_c_emit", "the fault of a refused event is told", ["yaml_round_calls/undefined_alias_hidden"], "the same: it says the kind, of the fault that the definition names"),
-    ("yaml_c_parse", "every event of the input has its record, the first one too", ["yaml_round/events_left_out", "yaml_round_calls/last_event_of_a_starved_front_left_out"], "`HasEvents` says of both calls which events an input has, and `SayEvents` of a parse and of a front that each of its events has its record"),
-    ("yaml_c_front", "the events before a fault are handed out with it, the last one too", ["yaml_round_calls/last_event_of_a_starved_front_left_out"], "`SayFront` lets through with an out-of-memory error all that it lets through with another fault, and beside it only that nothing is handed out"),
-    ("yaml_c_scan", "each token before the end or the fault has its record, the last one too", ["yaml_round_calls/last_token_of_a_starved_scan_left_out"], "the same of `Scans`"),
-    ("yaml_c_front", "the characters before a mark are counted, and not bytes, without the one that begins there; a tag that stands behind a node's end is none of it", ["yaml_round_calls/absent_anchor_has_a_place"], "`SayEvents` says each record whole, as what `event_counted` makes of one, and the records have these numbers from `characters_before` and `has_tag` of `yaml_round_records` alone: where one of these let another number through, so would that one"),
-    ("yaml_c_parse", "the characters before a fault's marks are counted so", ["yaml_round_calls/line_never_told"], "`TellsFaultBy`, which says each field of a fault's record, is one record for all calls; here it has the marks by `mark_counted`, and the code has the numbers from `characters_before` of `yaml_round_records` alone"),
-    ("yaml_emitter_outer", "the collections round the innermost one are told", ["yaml_round_calls/stand_without_its_collections"], "`yaml_c_emit_on` has the collections round the innermost one from this call alone, and `TellsStand` says the stand whole"),
-    ("yaml_emitter_directives", "the directives of the document are told", ["yaml_round_calls/stand_without_its_collections"], "`yaml_c_emit_on` has the directives in force from this call alone, and `TellsStand` says the stand whole"),
+    ("yaml_c_events", "every fault except out of memory comes with its line", ["yaml_round_c/line_never_told"], "`TellsFault`, which says each field of the record, is one definition for all calls"),
+    ("yaml_c_emit", "the fault of a refused event is told", ["yaml_round_c/undefined_alias_hidden"], "the same: it says the kind, of the fault that the definition names"),
+    ("yaml_c_parse", "every event of the input has its record, the first one too", ["yaml_round/events_left_out", "yaml_round_c/last_event_of_a_starved_front_left_out"], "`HasEvents` says of both calls which events an input has, and `SayEvents` of a parse and of a front that each of its events has its record"),
+    ("yaml_c_front", "the events before a fault are handed out with it, the last one too", ["yaml_round_c/last_event_of_a_starved_front_left_out"], "`SayFront` lets through with an out-of-memory error all that it lets through with another fault, and beside it only that nothing is handed out"),
+    ("yaml_c_scan", "each token before the end or the fault has its record, the last one too", ["yaml_round_c/last_token_of_a_starved_scan_left_out"], "the same of `Scans`"),
+    ("yaml_c_front", "the characters before a mark are counted, and not bytes, without the one that begins there; a tag that stands behind a node's end is none of it", ["yaml_round_c/absent_anchor_has_a_place"], "`SayEvents` says each record whole, as what `event_counted` makes of one, and the records have these numbers from `characters_before` and `has_tag` of `yaml_round_records` alone: where one of these let another number through, so would that one"),
+    ("yaml_c_parse", "the characters before a fault's marks are counted so", ["yaml_round_c/line_never_told"], "`TellsFaultBy`, which says each field of a fault's record, is one record for all calls; here it has the marks by `mark_counted`, and the code has the numbers from `characters_before` of `yaml_round_records` alone"),
+    ("yaml_emitter_outer", "the collections round the innermost one are told", ["yaml_round_c/stand_without_its_collections"], "`yaml_c_emit_on` has the collections round the innermost one from this call alone, and `TellsStand` says the stand whole"),
+    ("yaml_emitter_directives", "the directives of the document are told", ["yaml_round_c/stand_without_its_collections"], "`yaml_c_emit_on` has the directives in force from this call alone, and `TellsStand` says the stand whole"),
     ("yaml_event_t::unplaced", "an event that a caller makes has zero marks", ["yaml_parse_model/delete_leaves_an_event"], "`yaml_event_delete` leaves what this call answers, and its clause says by one equation which event that is, marks and all"),
     ("yaml_node_text_t::as_slice", "a short text has all its bytes", ["yaml_round/first_document_left_out"], "`yaml_reload` writes each document by a dump, which has it from this call alone, and `IsReloaded` says which text that is"),
     ("yaml_node_text_t::taken", "a text that is taken into a node has its bytes", ["yaml_parse/first_node_kept"], "the loader has each value from this call alone, and `LoadIsNext` says which document is loaded by its whole content"),
@@ -196,33 +194,11 @@ def function_with(path, text):
     return round_it[-1] if round_it else None
 
 
-def clauses(it):
-    return [" ".join(clause.split()) for clause in it.contract()]
-
-
-@functools.lru_cache(maxsize=None)
-def exported():
-    """The calls of the library for C: each export, by its name, with the call that is its whole body, where that has its clauses,
-    word for word, or None."""
-    below, found = {it.name: it for it in repo.all_functions() if it.crate == CALLS and it.is_pub}, {}
-    for it in repo.all_functions():
-        if it.head.startswith("pub extern"):
-            only = re.fullmatch(r"\{\s*(\w+)\([^()]*\);?\s*\}?", repo.read(it.path)[it.body : it.end])
-            call = below.get(only[1]) if only else None
-            found[it.name] = call if call and clauses(call) == clauses(it) else None
-    return found
-
-
-def is_exported(it):
-    """Whether an export hands the function on, with its clauses."""
-    return it.crate == CALLS and any(call and call.name == it.name for call in exported().values())
-
-
 def rank(it):
     """How far a function is seen."""
     if it is None:
         return "private"
-    if repo.is_public(it) or is_exported(it):
+    if repo.is_public(it) or it.head.startswith("pub extern"):
         return "public"
     handed = repo.handed_out(it.crate)
     seen = it.owner.type in handed and (it.is_pub or it.owner.is_of_trait) if it.owner else it.is_pub and it.name in handed
@@ -243,8 +219,6 @@ def why_none(it):
         return "a method of a trait: those who implement it have the edits"
     if repo.is_law(it):
         return "a law: its body is empty, and its clause speaks of definitions alone"
-    if exported().get(it.name):
-        return f"an export: it hands on `{exported()[it.name].name}` of `{CALLS}`, whose clauses are its own, word for word, and which has the edits"
     if it.name == "into_inner":
         return "its type leaves no other value to hand back"
     if it.name == "yaml_parser_prefix":

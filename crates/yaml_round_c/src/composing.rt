@@ -1,11 +1,11 @@
 //! Which node of a document each of its events is of, where these are given as records.
 
 ghost use Rattle.std.specs.Prelude.{◌≡◌};
-ghost use Rattle.yaml_round_calls.specs.Told.{AnswersMeant, IsExact};
-ghost use Rattle.yaml_round_calls.specs.Composes.{steps_meant, Composes, NoSpotUnmeant};
+ghost use Rattle.yaml_round_answers.specs.Told.{AnswersMeant, IsExact};
+ghost use Rattle.yaml_round_answers.specs.Composes.{steps_meant, Composes, NoSpotUnmeant};
 
 use std::alloc::Global;
-use yaml_round_calls::{compose, yaml_c_answer, yaml_c_spots, yaml_c_step};
+use yaml_round_answers::{composed_by, yaml_c_answer, yaml_c_spots, yaml_c_step};
 
 /// For each event between a document's start and its end the node that it begins, stands for or ends, and the collection that takes
 /// it: what the loader does with all events that the records show. An alias that no node before it has the name of is refused, with the
@@ -24,5 +24,6 @@ pub extern "C" fn yaml_c_compose(
     ensures exact { IsExact (steps_meant bytes.now steps.now) result }
     ensures kind { result ≡ answer.new.kind }
 {
-    compose(alloc, steps, bytes, spots, answer)
+    *answer = composed_by(alloc, steps, bytes, spots);
+    answer.kind
 }

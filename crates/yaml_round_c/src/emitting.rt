@@ -1,11 +1,13 @@
 //! The text of events that are given as records.
 
 ghost use Rattle.std.specs.Prelude.{◌≡◌};
-ghost use Rattle.yaml_round_calls.specs.Told.{AnswersMeant, IsExact};
-ghost use Rattle.yaml_round_calls.specs.Emitting.{emit_meant, Emits};
+ghost use Rattle.yaml_round_answers.specs.Told.{AnswersMeant, IsExact};
+ghost use Rattle.yaml_round_answers.specs.Emitting.{emit_meant, Emits};
 
 use std::alloc::Global;
-use yaml_round_calls::{emit, yaml_c_answer, yaml_c_directive, yaml_c_event, yaml_c_settings};
+use yaml_round_answers::{
+    answered_by, yaml_c_answer, yaml_c_directive, yaml_c_event, yaml_c_settings,
+};
 
 /// The text of the events that the records mean, one after another: what an emitter writes for them, or its fault without any
 /// text. All records are looked at before an event is given, so that -1 comes exactly where a number means nothing, a span
@@ -24,5 +26,6 @@ pub extern "C" fn yaml_c_emit(
     ensures exact { IsExact (emit_meant bytes.now directives.now events.now settings.now) result }
     ensures kind { result ≡ answer.new.kind }
 {
-    emit(alloc, events, directives, bytes, settings, answer)
+    *answer = answered_by(alloc, events, directives, bytes, settings);
+    answer.kind
 }

@@ -1,11 +1,13 @@
 //! The engine's calls.
 
 ghost use Rattle.std.specs.Prelude.{◌≡◌};
-ghost use Rattle.yaml_round_calls.specs.Numbers.{encoding_meant};
-ghost use Rattle.yaml_round_calls.specs.Told.{AnswersMeant, IsExact, both, call_meant, Reformats, Reloads, Compares, Lists};
+ghost use Rattle.yaml_round_answers.specs.Numbers.{encoding_meant};
+ghost use Rattle.yaml_round_answers.specs.Told.{AnswersMeant, IsExact, both, call_meant, Reformats, Reloads, Compares, Lists};
 
 use std::alloc::Global;
-use yaml_round_calls::{events, reformat, reload, same, yaml_c_answer, yaml_c_settings};
+use yaml_round_answers::{
+    compared_by, listed_by, reformatted_by, reloaded_by, yaml_c_answer, yaml_c_settings,
+};
 
 /// The text again, in canonical or pretty form: what `yaml_reformat` answers.
 #[unsafe(no_mangle)]
@@ -20,7 +22,8 @@ pub extern "C" fn yaml_c_reformat(
     ensures exact { IsExact (call_meant from settings.now) result }
     ensures kind { result ≡ answer.new.kind }
 {
-    reformat(alloc, input, from, settings, answer)
+    *answer = reformatted_by(alloc, input, from, settings);
+    answer.kind
 }
 
 /// The loaded documents, in canonical form: what `yaml_reload` answers.
@@ -36,7 +39,8 @@ pub extern "C" fn yaml_c_reload(
     ensures exact { IsExact (call_meant from settings.now) result }
     ensures kind { result ≡ answer.new.kind }
 {
-    reload(alloc, input, from, settings, answer)
+    *answer = reloaded_by(alloc, input, from, settings);
+    answer.kind
 }
 
 /// Whether two texts have the same content: what `yaml_same` answers.
@@ -54,7 +58,8 @@ pub extern "C" fn yaml_c_same(
     ensures exact { IsExact (both (encoding_meant first_from) (encoding_meant second_from)) result }
     ensures kind { result ≡ answer.new.kind }
 {
-    same(alloc, first, first_from, second, second_from, answer)
+    *answer = compared_by(alloc, first, first_from, second, second_from);
+    answer.kind
 }
 
 /// A line for each event: what `yaml_events` answers.
@@ -69,5 +74,6 @@ pub extern "C" fn yaml_c_events(
     ensures exact { IsExact (encoding_meant from) result }
     ensures kind { result ≡ answer.new.kind }
 {
-    events(alloc, input, from, answer)
+    *answer = listed_by(alloc, input, from);
+    answer.kind
 }

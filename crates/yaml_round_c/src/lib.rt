@@ -23,7 +23,7 @@ pub use parting::{yaml_c_diff, yaml_c_diff_documents};
 pub use scanning::{yaml_c_decode, yaml_c_scan};
 pub use serializing::yaml_c_serialize;
 pub use settings::yaml_c_defaults;
-pub use yaml_round_calls::{
+pub use yaml_round_answers::{
     yaml_c_answer, yaml_c_directive, yaml_c_event, yaml_c_graph, yaml_c_level, yaml_c_mark,
     yaml_c_node, yaml_c_parsed, yaml_c_parting, yaml_c_place, yaml_c_scanned, yaml_c_settings,
     yaml_c_span, yaml_c_spot, yaml_c_spots, yaml_c_stand, yaml_c_step, yaml_c_token, yaml_c_turn,

@@ -1,12 +1,12 @@
 //! The normal form that people read, and whether an input loads.
 
 ghost use Rattle.std.specs.Prelude.{◌≡◌};
-ghost use Rattle.yaml_round_calls.specs.Numbers.{encoding_meant};
-ghost use Rattle.yaml_round_calls.specs.Told.{AnswersMeant, IsExact, call_meant};
-ghost use Rattle.yaml_round_calls.specs.Normalizes.{Normalizes, Checks};
+ghost use Rattle.yaml_round_answers.specs.Numbers.{encoding_meant};
+ghost use Rattle.yaml_round_answers.specs.Told.{AnswersMeant, IsExact, call_meant};
+ghost use Rattle.yaml_round_answers.specs.Normalizes.{Normalizes, Checks};
 
 use std::alloc::Global;
-use yaml_round_calls::{check, normalize, yaml_c_answer, yaml_c_settings};
+use yaml_round_answers::{checked_by, normalized_by, yaml_c_answer, yaml_c_settings};
 
 /// The text in the normal form that people read: what `yaml_normalize` answers. `canonical` isn't looked at.
 #[unsafe(no_mangle)]
@@ -21,7 +21,8 @@ pub extern "C" fn yaml_c_normalize(
     ensures exact { IsExact (call_meant from settings.now) result }
     ensures kind { result ≡ answer.new.kind }
 {
-    normalize(alloc, input, from, settings, answer)
+    *answer = normalized_by(alloc, input, from, settings);
+    answer.kind
 }
 
 /// Whether the documents load: what `yaml_check` answers. No text is made.
@@ -36,5 +37,6 @@ pub extern "C" fn yaml_c_check(
     ensures exact { IsExact (encoding_meant from) result }
     ensures kind { result ≡ answer.new.kind }
 {
-    check(alloc, input, from, answer)
+    *answer = checked_by(alloc, input, from);
+    answer.kind
 }

@@ -1,11 +1,11 @@
 //! The text of events that are given as records, piece by piece.
 
 ghost use Rattle.std.specs.Prelude.{◌≡◌, ◌⊎◌, pos};
-ghost use Rattle.yaml_round_calls.specs.Told.{AnswersMeant, IsExact};
-ghost use Rattle.yaml_round_calls.specs.Onward.{onward_meant, EmitsOn};
+ghost use Rattle.yaml_round_answers.specs.Told.{AnswersMeant, IsExact};
+ghost use Rattle.yaml_round_answers.specs.Onward.{onward_meant, EmitsOn};
 
 use std::alloc::Global;
-use yaml_round_calls::{emit_on, yaml_c_answer, yaml_c_parsed, yaml_c_settings, yaml_c_stand};
+use yaml_round_answers::{onward_by, yaml_c_answer, yaml_c_parsed, yaml_c_settings, yaml_c_stand};
 
 /// The text that the events add from a stand on: what an emitter writes for them that stands there, or its fault without any text. The
 /// events that wait at the stand are to be given again before the new ones. After the call `behind` is where the emitter stands
@@ -26,5 +26,6 @@ pub extern "C" fn yaml_c_emit_on(
     ensures exact { IsExact (onward_meant given.now settings.now stand.now) result }
     ensures kind { result ≡ answer.new.kind }
 {
-    emit_on(alloc, given, settings, stand, behind, answer)
+    *answer = onward_by(alloc, given, settings, stand, behind);
+    answer.kind
 }

@@ -1,12 +1,12 @@
 //! The events of an input, as records.
 
 ghost use Rattle.std.specs.Prelude.{◌≡◌, ◌⊎◌, pos};
-ghost use Rattle.yaml_round_calls.specs.Numbers.{encoding_meant};
-ghost use Rattle.yaml_round_calls.specs.Told.{AnswersMeant, IsExact};
-ghost use Rattle.yaml_round_calls.specs.Parses.{HasNothing, Parses, Fronts, NothingUnmeant};
+ghost use Rattle.yaml_round_answers.specs.Numbers.{encoding_meant};
+ghost use Rattle.yaml_round_answers.specs.Told.{AnswersMeant, IsExact};
+ghost use Rattle.yaml_round_answers.specs.Parses.{HasNothing, Parses, Fronts, NothingUnmeant};
 
 use std::alloc::Global;
-use yaml_round_calls::{front_events, parse, yaml_c_answer, yaml_c_parsed};
+use yaml_round_answers::{front_by, parsed_by, yaml_c_answer, yaml_c_parsed};
 
 /// The events of the input, as records over one block of bytes. Where it is refused there are none.
 #[unsafe(no_mangle)]
@@ -22,7 +22,8 @@ pub extern "C" fn yaml_c_parse(
     ensures exact { IsExact (encoding_meant from) result }
     ensures kind { result ≡ answer.new.kind }
 {
-    parse(alloc, input, from, blocks, answer)
+    *answer = parsed_by(alloc, input, from, blocks);
+    answer.kind
 }
 
 /// The events of the input before its end or its fault, as records over one block of bytes.
@@ -39,5 +40,6 @@ pub extern "C" fn yaml_c_front(
     ensures exact { IsExact (encoding_meant from) result }
     ensures kind { result ≡ answer.new.kind }
 {
-    front_events(alloc, input, from, blocks, answer)
+    *answer = front_by(alloc, input, from, blocks);
+    answer.kind
 }

@@ -1,12 +1,12 @@
 //! Where two inputs part.
 
 ghost use Rattle.std.specs.Prelude.{◌≡◌};
-ghost use Rattle.yaml_round_calls.specs.Numbers.{encoding_meant};
-ghost use Rattle.yaml_round_calls.specs.Told.{IsExact, both};
-ghost use Rattle.yaml_round_calls.specs.Parting.{PartingMeant, Parts, PartsDocuments};
+ghost use Rattle.yaml_round_answers.specs.Numbers.{encoding_meant};
+ghost use Rattle.yaml_round_answers.specs.Told.{IsExact, both};
+ghost use Rattle.yaml_round_answers.specs.Parting.{PartingMeant, Parts, PartsDocuments};
 
 use std::alloc::Global;
-use yaml_round_calls::{diff, diff_documents, yaml_c_parting};
+use yaml_round_answers::{documents_parted_by, parted_by, yaml_c_parting};
 
 /// Where the contents of two texts part: what `yaml_diff` answers.
 #[unsafe(no_mangle)]
@@ -23,7 +23,8 @@ pub extern "C" fn yaml_c_diff(
     ensures exact { IsExact (both (encoding_meant first_from) (encoding_meant second_from)) result }
     ensures kind { result ≡ parting.new.answer.kind }
 {
-    diff(alloc, first, first_from, second, second_from, parting)
+    *parting = parted_by(alloc, first, first_from, second, second_from);
+    parting.answer.kind
 }
 
 /// Where the loaded documents of two texts part: what `yaml_diff_documents` answers.
@@ -41,5 +42,6 @@ pub extern "C" fn yaml_c_diff_documents(
     ensures exact { IsExact (both (encoding_meant first_from) (encoding_meant second_from)) result }
     ensures kind { result ≡ parting.new.answer.kind }
 {
-    diff_documents(alloc, first, first_from, second, second_from, parting)
+    *parting = documents_parted_by(alloc, first, first_from, second, second_from);
+    parting.answer.kind
 }

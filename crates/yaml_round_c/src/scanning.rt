@@ -1,13 +1,13 @@
 //! The text of an input, and its tokens as records.
 
 ghost use Rattle.std.specs.Prelude.{◌≡◌};
-ghost use Rattle.yaml_round_calls.specs.Numbers.{encoding_meant};
-ghost use Rattle.yaml_round_calls.specs.Told.{AnswersMeant, IsExact};
-ghost use Rattle.yaml_round_calls.specs.Decodes.{Decodes};
-ghost use Rattle.yaml_round_calls.specs.Scans.{Scans, NoTokenUnmeant};
+ghost use Rattle.yaml_round_answers.specs.Numbers.{encoding_meant};
+ghost use Rattle.yaml_round_answers.specs.Told.{AnswersMeant, IsExact};
+ghost use Rattle.yaml_round_answers.specs.Decodes.{Decodes};
+ghost use Rattle.yaml_round_answers.specs.Scans.{Scans, NoTokenUnmeant};
 
 use std::alloc::Global;
-use yaml_round_calls::{decode, scan, yaml_c_answer, yaml_c_scanned};
+use yaml_round_answers::{decoded_by, scanned_by, yaml_c_answer, yaml_c_scanned};
 
 /// The text that the input's bytes spell, in UTF-8, without a byte order mark that told the encoding.
 #[unsafe(no_mangle)]
@@ -21,7 +21,8 @@ pub extern "C" fn yaml_c_decode(
     ensures exact { IsExact (encoding_meant from) result }
     ensures kind { result ≡ answer.new.kind }
 {
-    decode(alloc, input, from, answer)
+    *answer = decoded_by(alloc, input, from);
+    answer.kind
 }
 
 /// The tokens of the input before its end or its fault, as records over one block of bytes.
@@ -38,5 +39,6 @@ pub extern "C" fn yaml_c_scan(
     ensures exact { IsExact (encoding_meant from) result }
     ensures kind { result ≡ answer.new.kind }
 {
-    scan(alloc, input, from, blocks, answer)
+    *answer = scanned_by(alloc, input, from, blocks);
+    answer.kind
 }

@@ -1,11 +1,11 @@
 //! The turns of a dump whose document is given as records.
 
 ghost use Rattle.std.specs.Prelude.{◌≡◌, ◌⊎◌, [], pos};
-ghost use Rattle.yaml_round_calls.specs.Told.{AnswersMeant, IsExact};
-ghost use Rattle.yaml_round_calls.specs.Serializes.{graph_meant, Serializes};
+ghost use Rattle.yaml_round_answers.specs.Told.{AnswersMeant, IsExact};
+ghost use Rattle.yaml_round_answers.specs.Serializes.{graph_meant, Serializes};
 
 use std::alloc::Global;
-use yaml_round_calls::{serialize, yaml_c_answer, yaml_c_graph, yaml_c_turns};
+use yaml_round_answers::{serialized_by, yaml_c_answer, yaml_c_graph, yaml_c_turns};
 
 /// The turns of a dump: for each event between the document's start and its end what it is, of which node it is, and the number of that
 /// node's anchor. Of each document that the records show they are those of its dump. All records are looked at first, so that -1 comes
@@ -23,5 +23,6 @@ pub extern "C" fn yaml_c_serialize(
     ensures exact { IsExact (graph_meant graph.now) result }
     ensures kind { result ≡ answer.new.kind }
 {
-    serialize(alloc, graph, turns, answer)
+    *answer = serialized_by(alloc, graph, turns);
+    answer.kind
 }

@@ -1,21 +1,21 @@
 -- What the call answers is what C is told.
 use mir.Syntax.{w32}
 use mir.Val.{SFits}
-use Rattle.std.proofs.Common.{◌∙◌, refl, rules}
+use Rattle.std.proofs.Common.{refl, rules}
 use Rattle.std.proofs.lemmas.Int.{to_z-of_z}
-use Rattle.yaml_round_calls.proofs.Exact.{compared_told, compared_exact}
+use Rattle.yaml_round_answers.proofs.Exact.{compared_told, compared_exact}
 use Rattle.yaml_round_c.proofs.engine.yaml_c_same.Goals as goal
 
 pub returns-clause-told : goal.returns-clause-told
 returns-clause-told c =
     let first : SFits w32 c.args.first_from = search rules in
     let second : SFits w32 c.args.second_from = search rules in
-    compared_told _ _ _ _ _ _ _ (to_z-of_z w32 c.args.first_from first) (to_z-of_z w32 c.args.second_from second) c.same.ensures.told
+    compared_told _ _ _ _ _ _ _ (to_z-of_z w32 c.args.first_from first) (to_z-of_z w32 c.args.second_from second) c.compared_by.ensures
 
 pub returns-clause-kind : goal.returns-clause-kind
 returns-clause-kind c =
-    let kind : SFits w32 c.same.result = search rules in
-    to_z-of_z w32 c.same.result kind ∙ c.same.ensures.kind
+    let kind : SFits w32 c.compared_by.result.kind = search rules in
+    to_z-of_z w32 c.compared_by.result.kind kind
 
 pub returns-clause-exact : goal.returns-clause-exact
 returns-clause-exact c = compared_exact _ _ _ _ _ _ _ _ refl refl (returns-clause-kind c) (returns-clause-told c)

@@ -1,20 +1,20 @@
 -- What the call answers is what C is told.
 use mir.Syntax.{w32}
 use mir.Val.{SFits}
-use Rattle.std.proofs.Common.{◌∙◌, refl, rules}
+use Rattle.std.proofs.Common.{refl, rules}
 use Rattle.std.proofs.lemmas.Int.{to_z-of_z}
-use Rattle.yaml_round_calls.proofs.NormalExact.{checked_told, checked_exact}
+use Rattle.yaml_round_answers.proofs.NormalExact.{checked_told, checked_exact}
 use Rattle.yaml_round_c.proofs.normalizing.yaml_c_check.Goals as goal
 
 pub returns-clause-told : goal.returns-clause-told
 returns-clause-told c =
     let fits : SFits w32 c.args.from = search rules in
-    checked_told _ _ _ _ (to_z-of_z w32 c.args.from fits) c.check.ensures.told
+    checked_told _ _ _ _ (to_z-of_z w32 c.args.from fits) c.checked_by.ensures
 
 pub returns-clause-kind : goal.returns-clause-kind
 returns-clause-kind c =
-    let kind : SFits w32 c.check.result = search rules in
-    to_z-of_z w32 c.check.result kind ∙ c.check.ensures.kind
+    let kind : SFits w32 c.checked_by.result.kind = search rules in
+    to_z-of_z w32 c.checked_by.result.kind kind
 
 pub returns-clause-exact : goal.returns-clause-exact
 returns-clause-exact c = checked_exact _ _ _ _ _ refl (returns-clause-kind c) (returns-clause-told c)

@@ -1,25 +1,25 @@
 -- What the call answers is what C is told.
 use mir.Syntax.{w32}
 use mir.Val.{SFits}
-use Rattle.std.proofs.Common.{◌∙◌, refl, rules}
+use Rattle.std.proofs.Common.{refl, rules}
 use Rattle.std.proofs.lemmas.Int.{to_z-of_z}
-use Rattle.yaml_round_calls.proofs.Exact.{front_told, front_exact, front_none}
+use Rattle.yaml_round_answers.proofs.Exact.{front_told, front_exact, front_none}
 use Rattle.yaml_round_c.proofs.parsing.yaml_c_front.Goals as goal
 
 pub returns-clause-told : goal.returns-clause-told
 returns-clause-told c =
     let fits : SFits w32 c.args.from = search rules in
-    front_told _ _ _ _ _ (to_z-of_z w32 c.args.from fits) c.front_events.ensures.told
+    front_told _ _ _ _ _ (to_z-of_z w32 c.args.from fits) c.front_by.ensures.told
 
 pub returns-clause-none : goal.returns-clause-none
 returns-clause-none c =
     let fits : SFits w32 c.args.from = search rules in
-    front_none _ _ _ (to_z-of_z w32 c.args.from fits) c.front_events.ensures.none
+    front_none _ _ _ (to_z-of_z w32 c.args.from fits) c.front_by.ensures.none
 
 pub returns-clause-kind : goal.returns-clause-kind
 returns-clause-kind c =
-    let kind : SFits w32 c.front_events.result = search rules in
-    to_z-of_z w32 c.front_events.result kind ∙ c.front_events.ensures.kind
+    let kind : SFits w32 c.front_by.result.kind = search rules in
+    to_z-of_z w32 c.front_by.result.kind kind
 
 pub returns-clause-exact : goal.returns-clause-exact
 returns-clause-exact c = front_exact _ _ _ _ _ _ refl (returns-clause-kind c) (returns-clause-told c)

@@ -1,25 +1,25 @@
 -- What the call answers is what C is told.
 use mir.Syntax.{w32}
 use mir.Val.{SFits}
-use Rattle.std.proofs.Common.{◌∙◌, refl, rules}
+use Rattle.std.proofs.Common.{refl, rules}
 use Rattle.std.proofs.lemmas.Int.{to_z-of_z}
-use Rattle.yaml_round_calls.proofs.Exact.{scanned_told, scanned_exact, scanned_none}
+use Rattle.yaml_round_answers.proofs.Exact.{scanned_told, scanned_exact, scanned_none}
 use Rattle.yaml_round_c.proofs.scanning.yaml_c_scan.Goals as goal
 
 pub returns-clause-told : goal.returns-clause-told
 returns-clause-told c =
     let fits : SFits w32 c.args.from = search rules in
-    scanned_told _ _ _ _ _ (to_z-of_z w32 c.args.from fits) c.scan.ensures.told
+    scanned_told _ _ _ _ _ (to_z-of_z w32 c.args.from fits) c.scanned_by.ensures.told
 
 pub returns-clause-none : goal.returns-clause-none
 returns-clause-none c =
     let fits : SFits w32 c.args.from = search rules in
-    scanned_none _ _ _ (to_z-of_z w32 c.args.from fits) c.scan.ensures.none
+    scanned_none _ _ _ (to_z-of_z w32 c.args.from fits) c.scanned_by.ensures.none
 
 pub returns-clause-kind : goal.returns-clause-kind
 returns-clause-kind c =
-    let kind : SFits w32 c.scan.result = search rules in
-    to_z-of_z w32 c.scan.result kind ∙ c.scan.ensures.kind
+    let kind : SFits w32 c.scanned_by.result.kind = search rules in
+    to_z-of_z w32 c.scanned_by.result.kind kind
 
 pub returns-clause-exact : goal.returns-clause-exact
 returns-clause-exact c = scanned_exact _ _ _ _ _ _ refl (returns-clause-kind c) (returns-clause-told c)

@@ -20,7 +20,7 @@ WORDS = {
     "README.md": 1500, "CONTRIBUTING.md": 1900, "SECURITY.md": 500, "CHANGELOG.md": 1600,
     "docs/ARCHITECTURE.md": 3500, "docs/BENCHMARK.md": 1100, "docs/CALLING.md": 2500, "docs/DECISIONS.md": 5900,
     "docs/DIFFERENCES.md": 2800, "docs/GLOSSARY.md": 1900, "docs/LIBYAML.md": 1500, "docs/MEASURED.md": 1800,
-    "docs/PROFILE.md": 5700, "docs/PROVING.md": 4000, "docs/TOUR.md": 1400, "docs/WHAT-IS-PROVED.md": 1800,
+    "docs/PROFILE.md": 6000, "docs/PROVING.md": 4000, "docs/TOUR.md": 1400, "docs/WHAT-IS-PROVED.md": 1800,
 }
 OF_A_CRATE = 120
 # A crate of laws names each.

@@ -1,5 +1,5 @@
 -- Events, without where their texts lie in memory.
-use Rattle.std.specs.Prelude.{ℕ, Bool, List, map, Option, Some, None, Vec}
+use Rattle.std.specs.Prelude.{ℕ, Bool, List, map, Option, Some, None, option_map, Vec}
 use Rattle.std.specs.Global.{Global}
 use Rattle.yaml_scan_model.specs.declared.yaml_encoding_t.{yaml_encoding_t}
 use Rattle.yaml_scan_model.specs.declared.yaml_mark_t.{yaml_mark_t}
@@ -14,6 +14,8 @@ use Rattle.yaml_scan_model.specs.Tokens.{zero_mark}
 use Rattle.yaml_parse_model.specs.declared.event.yaml_event_body_t.{yaml_event_body_t}
 use Rattle.yaml_parse_model.specs.declared.event.yaml_event_body_t.TheVariants as body
 use Rattle.yaml_parse_model.specs.declared.event.yaml_event_t.{yaml_event_t}
+use Rattle.yaml_parse_model.specs.declared.event_ref.EventRef.{EventRef}
+use Rattle.yaml_parse_model.specs.declared.event_ref.EventRef.TheVariants as borrowed
 
 -- a `%TAG` directive
 pub record TagDirective : Type 0 where
@@ -67,6 +69,31 @@ body_of body.SequenceEnd = sequence_end
 body_of (body.MappingStart anchor tag implicit style) = mapping_start (text_of anchor) (text_of tag)
     implicit style
 body_of body.MappingEnd = mapping_end
+
+-- the same of a body whose texts are borrowed
+abbrev pub borrowed_body : EventRef → EventBody
+borrowed_body borrowed.No = no
+borrowed_body (borrowed.StreamStart encoding) = stream_start encoding
+borrowed_body borrowed.StreamEnd = stream_end
+borrowed_body (borrowed.DocumentStart version directives implicit) = document_start version
+    (map directive_of directives.now) implicit
+borrowed_body (borrowed.DocumentEnd implicit) = document_end implicit
+borrowed_body (borrowed.Alias anchor) = alias anchor.now
+borrowed_body (borrowed.Scalar anchor tag value plain quoted style) = scalar
+    (option_map (λ t. t.now) anchor) (option_map (λ t. t.now) tag) value.now plain quoted style
+borrowed_body (borrowed.SequenceStart anchor tag implicit style) = sequence_start
+    (option_map (λ t. t.now) anchor) (option_map (λ t. t.now) tag) implicit style
+borrowed_body borrowed.SequenceEnd = sequence_end
+borrowed_body (borrowed.MappingStart anchor tag implicit style) = mapping_start
+    (option_map (λ t. t.now) anchor) (option_map (λ t. t.now) tag) implicit style
+borrowed_body borrowed.MappingEnd = mapping_end
+
+-- a scalar, or a collection's start; in place of any other event the empty one
+abbrev pub node_or_no : EventBody → EventBody
+node_or_no (scalar anchor tag value plain quoted style) = scalar anchor tag value plain quoted style
+node_or_no (sequence_start anchor tag implicit style) = sequence_start anchor tag implicit style
+node_or_no (mapping_start anchor tag implicit style) = mapping_start anchor tag implicit style
+node_or_no _ = no
 
 abbrev pub event_of : yaml_event_t → Event
 event_of e = record { body = body_of e.body; start_mark = e.start_mark; end_mark = e.end_mark }

@@ -3,6 +3,7 @@
 
 mod constructor;
 mod event;
+mod event_ref;
 mod node;
 mod node_text;
 mod prefix;
@@ -18,6 +19,7 @@ pub use constructor::{
     yaml_stream_end_event_initialize, yaml_stream_start_event_initialize,
 };
 pub use event::{ZERO_MARK, yaml_event_body_t, yaml_event_delete, yaml_event_t};
+pub use event_ref::EventRef;
 pub use node::{
     yaml_alias_data_t, yaml_node_body_t, yaml_node_item_t, yaml_node_pair_t, yaml_node_t,
     yaml_node_tag_t,

@@ -175,6 +175,19 @@ told_made_by g r old mid made new h stays same over_ is = record {
 
 -- ---- into a slot
 
+-- Of a parser that was left as it is.
+pub stays_self : {T P : Type 0} (g : Ghosts T P) (p : Parser T P) → Stays g p p
+stays_self g p = record {
+  same = refl;
+  to_come = refl;
+  fault = refl;
+  texts = refl;
+  places = refl;
+  told = λ h. h;
+  unasked = refl;
+  held = refl;
+}
+
 -- the rest is as it was
 stays_coming : {T P : Type 0} (g : Ghosts T P) (mid new : Parser T P) → Stays g mid new
     → coming_of g new ≡ coming_of g mid

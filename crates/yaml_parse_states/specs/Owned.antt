@@ -1,4 +1,4 @@
--- What the making of an owned event leaves as it is.
+-- What the making of marks leaves as it is.
 use Rattle.std.specs.Prelude.{◌≡◌, false}
 use Rattle.yaml_scan_tokens.specs.declared.tokens.Tokens.{Ghosts}
 use Rattle.yaml_parse_states.specs.declared.parser.Parser.{Parser}
@@ -12,3 +12,4 @@ pub record Stays {T P : Type 0} (g : Ghosts T P) (old new : Parser T P) : Type 0
   pub places : g.mark_of new.tokens ≡ g.mark_of old.tokens
   pub told : g.tells new.tokens false → g.tells old.tokens false
   pub unasked : g.unasked new.tokens ≡ g.unasked old.tokens
+  pub held : g.held new.tokens ≡ g.held old.tokens

@@ -1,10 +1,10 @@
-//! Events, borrowed: their texts stay up to the next one.
+//! What a parser keeps of the event that it gave last.
 
 use yaml_scan_model::yaml_scalar_style_t;
 
 /// What an event is.
 #[derive(Clone, Copy, PartialEq, Eq)]
-pub enum EventKind {
+pub(crate) enum EventKind {
     StreamStart,
     StreamEnd,
     DocumentStart,
@@ -32,20 +32,4 @@ pub(crate) struct Slot<P> {
     pub has_value: bool,
     pub start: P,
     pub end: P,
-}
-
-/// An event, whose texts are passed by reference. An empty anchor or tag is none: no node has such a one.
-#[derive(Clone, Copy)]
-pub struct Event<'e> {
-    pub kind: EventKind,
-    pub anchor: &'e [u8],
-    /// In full.
-    pub tag: &'e [u8],
-    /// A scalar's value, or an alias's name.
-    pub value: &'e [u8],
-    pub style: yaml_scalar_style_t,
-    /// A collection is in brackets.
-    pub flow: bool,
-    pub implicit: bool,
-    pub quoted_implicit: bool,
 }

@@ -1,4 +1,4 @@
-//! The parser: tokens to lent events, in libyaml's way, one function a state.
+//! The parser: tokens to borrowed events, in libyaml's way, one function a state.
 #![tactic(auto)]
 
 mod block;
@@ -11,5 +11,4 @@ mod node;
 mod owned;
 mod parser;
 
-pub use event::{Event, EventKind};
 pub use parser::{Parser, Refusal, Step};

@@ -9,12 +9,13 @@ ghost use Rattle.yaml_parse_grammar.specs.declared.name.Choice.TheVariants.{Leav
 ghost use Rattle.yaml_scan_tokens.specs.Kinds.{type_by};
 ghost use Rattle.yaml_scan_tokens.specs.Shows.{IsNext};
 ghost use Rattle.yaml_scan_tokens.specs.declared.kind.Kind.{Kind};
-ghost use Rattle.std.specs.Prelude.{OnOk, Some};
+ghost use Rattle.std.specs.Prelude.{OnOk, Some, option_map};
+ghost use Rattle.yaml_parse_model.specs.Events.{borrowed_body};
 ghost use Rattle.yaml_parse_model.specs.Faults.{memory_fault};
 ghost use Rattle.yaml_parse_model.specs.declared.yaml_origin_t.TheVariants.{Parser as ParserLayer};
 ghost use Rattle.yaml_parse_grammar.specs.Problems.{parser_fault};
 ghost use Rattle.yaml_parse_states.specs.declared.parser.State.TheVariants as state;
-ghost use Rattle.yaml_parse_states.specs.Views.{behind, opener, bare, bare_event, below, below_of, coming_in, coming_of, coming_with, event_in, stack, value_if};
+ghost use Rattle.yaml_parse_states.specs.Views.{behind, opener, bare, bare_event, below, below_of, body_in, coming_in, coming_of, coming_with, directives_of, event_in, mapping_style, sequence_style, stack, text_if, value_if};
 ghost use Rattle.yaml_parse_grammar.specs.Machine.{initial};
 ghost use Rattle.yaml_parse_grammar.specs.Resolve.{no_directives};
 ghost use Rattle.yaml_parse_states.specs.Coming.{read};
@@ -30,10 +31,13 @@ ghost use Rattle.yaml_parse_states.specs.Owned.{Stays};
 ghost use Rattle.yaml_parse_grammar.specs.Remaining.{is_between};
 
 use crate::directives::Directives;
-use crate::event::{Event, EventKind, Slot};
+use crate::event::{EventKind, Slot};
 use std::alloc::{AllocError, Global};
 use yaml_parse_grammar::{ParseFault, ParseProblem};
-use yaml_scan_model::{yaml_mark_t, yaml_scalar_style_t};
+use yaml_parse_model::EventRef;
+use yaml_scan_model::{
+    yaml_mapping_style_t, yaml_mark_t, yaml_scalar_style_t, yaml_sequence_style_t,
+};
 use yaml_scan_tokens::{Kind, Tokens};
 
 /// What may come next.
@@ -197,45 +201,79 @@ impl<T: Tokens> Parser<T> {
     }
 
     /// The event that was given last.
-    pub fn event(&self) -> Event<'_>
-        ensures kind { result.kind ≡ self.now.event.kind }
-        ensures anchor { result.anchor.now
-            ≡ value_if self.now.event.has_anchor self.now.anchor.items }
-        ensures tag { result.tag.now ≡ value_if self.now.event.has_tag self.now.tag.items }
-        ensures value { result.value.now
-            ≡ value_if self.now.event.has_value (T.texts self.now.tokens).value }
-        ensures style { result.style ≡ self.now.event.style }
-        ensures flow { result.flow ≡ self.now.event.flow }
-        ensures implicit { result.implicit ≡ self.now.event.implicit }
-        ensures quoted { result.quoted_implicit ≡ self.now.event.quoted_implicit }
+    pub fn event(&self) -> EventRef<'_>
+        ensures { borrowed_body result ≡ body_in self.now.event self.now.anchor.items
+            self.now.tag.items (T.texts self.now.tokens) (directives_of self.now.directives) }
     {
-        let slot = &self.event;
-        Event {
-            kind: slot.kind,
-            anchor: text_if(slot.has_anchor, &self.anchor),
-            tag: text_if(slot.has_tag, &self.tag),
-            value: if slot.has_value {
-                self.tokens.value()
-            } else {
-                &[]
+        let implicit = self.event.implicit;
+        let anchor = text_if(self.event.has_anchor, &self.anchor);
+        let tag = text_if(self.event.has_tag, &self.tag);
+        match self.event.kind {
+            EventKind::StreamStart => EventRef::StreamStart {
+                encoding: self.tokens.encoding(),
             },
-            style: slot.style,
-            flow: slot.flow,
-            implicit: slot.implicit,
-            quoted_implicit: slot.quoted_implicit,
+            EventKind::StreamEnd => EventRef::StreamEnd,
+            EventKind::DocumentStart => EventRef::DocumentStart {
+                version_directive: self.directives.version,
+                tag_directives: self.directives.tags.as_slice(),
+                implicit,
+            },
+            EventKind::DocumentEnd => EventRef::DocumentEnd { implicit },
+            EventKind::Alias => EventRef::Alias {
+                anchor: self.value(),
+            },
+            EventKind::Scalar => EventRef::Scalar {
+                anchor,
+                tag,
+                value: self.value(),
+                plain_implicit: implicit,
+                quoted_implicit: self.event.quoted_implicit,
+                style: self.event.style,
+            },
+            EventKind::SequenceStart => EventRef::SequenceStart {
+                anchor,
+                tag,
+                implicit,
+                style: sequence_style(self.event.flow),
+            },
+            EventKind::SequenceEnd => EventRef::SequenceEnd,
+            EventKind::MappingStart => EventRef::MappingStart {
+                anchor,
+                tag,
+                implicit,
+                style: mapping_style(self.event.flow),
+            },
+            EventKind::MappingEnd => EventRef::MappingEnd,
         }
     }
 
-    /// Where the event that was given last starts and ends.
+    /// The value of a scalar that isn't left out, or an alias's name.
+    fn value(&self) -> &[u8]
+        ensures { result.now ≡ value_if self.now.event.has_value (T.texts self.now.tokens).value }
+    {
+        if self.event.has_value {
+            self.tokens.value()
+        } else {
+            &[]
+        }
+    }
+
+    /// Where the event that was given last starts.
+    pub fn start_mark(&mut self) -> yaml_mark_t
+        ensures start { result ≡ T.mark_of self.old.tokens self.old.event.start }
+        ensures stays { Stays T.Tokens self.old self.new }
+    {
+        self.tokens.mark(self.event.start)
+    }
+
+    /// Where it starts and ends.
     pub fn marks(&mut self) -> (yaml_mark_t, yaml_mark_t)
         ensures start { result.0 ≡ T.mark_of self.old.tokens self.old.event.start }
         ensures end { result.1 ≡ T.mark_of self.old.tokens self.old.event.end }
         ensures stays { Stays T.Tokens self.old self.new }
     {
-        (
-            self.tokens.mark(self.event.start),
-            self.tokens.mark(self.event.end),
-        )
+        let start = self.start_mark();
+        (start, self.tokens.mark(self.event.end))
     }
 
     /// Why nothing more is given, where that was told.
@@ -480,8 +518,34 @@ impl<T: Tokens> Parser<T> {
 }
 
 /// A text, where it is there.
-fn text_if(is_there: bool, text: &Vec<u8>) -> &[u8]
-    ensures { result.now ≡ value_if is_there text.now.items }
+fn text_if(is_there: bool, text: &Vec<u8>) -> Option<&[u8]>
+    ensures { option_map (λ t. t.now) result ≡ text_if is_there text.now.items }
 {
-    if is_there { text.as_slice() } else { &[] }
+    if is_there {
+        Some(text.as_slice())
+    } else {
+        None
+    }
+}
+
+/// The style of a sequence, in brackets or not.
+fn sequence_style(flow: bool) -> yaml_sequence_style_t
+    ensures { result ≡ sequence_style flow }
+{
+    if flow {
+        yaml_sequence_style_t::YAML_FLOW_SEQUENCE_STYLE
+    } else {
+        yaml_sequence_style_t::YAML_BLOCK_SEQUENCE_STYLE
+    }
+}
+
+/// The style of a mapping, in braces or not.
+fn mapping_style(flow: bool) -> yaml_mapping_style_t
+    ensures { result ≡ mapping_style flow }
+{
+    if flow {
+        yaml_mapping_style_t::YAML_FLOW_MAPPING_STYLE
+    } else {
+        yaml_mapping_style_t::YAML_BLOCK_MAPPING_STYLE
+    }
 }

@@ -119,6 +119,7 @@ pub trait Tokens: Drop {
         ensures tells { (b : Bool) → tells self.old b → tells self.new b }
         ensures told { tells self.new false → tells self.old false }
         ensures unasked { unasked self.new ≡ unasked self.old }
+        ensures held { held self.new ≡ held self.old }
         ensures places { mark_of self.new ≡ mark_of self.old };
 
     /// The place of a text's start.

@@ -1,14 +1,17 @@
 -- What a call gives, in the words of what is still to come.
-use Rattle.std.proofs.Common.{◌≡◌, ◌≤◌, ◌∙◌, true, List, ◌∷◌, Option, reverse, refl, sym, ap, subst}
+use Rattle.std.proofs.Common.{◌≡◌, ◌⊎◌, ◌≤◌, ◌∙◌, ℕ, true, List, ◌∷◌, Option, Some, reverse, refl, sym, ap, subst}
 use Rattle.yaml_scan_model.specs.declared.yaml_mark_t.{yaml_mark_t}
 use Rattle.yaml_scan_model.specs.Tokens.{Token}
-use Rattle.yaml_scan_model.specs.Faults.{Fault}
+use Rattle.yaml_scan_model.specs.Faults.{Fault, fault_of}
+use Rattle.yaml_scan_model.specs.declared.yaml_fault_t.{yaml_fault_t}
 use Rattle.yaml_parse_model.specs.Events.{Event}
 use Rattle.yaml_parse_grammar.specs.Remaining.{FaultOf, IsFinished, ParserRemaining, is_between}
 use Rattle.yaml_parse_grammar.specs.Resolve.{Directives}
-use Rattle.yaml_parse_grammar.specs.Stacks.{IsStack}
+use Rattle.yaml_parse_grammar.specs.Stacks.{IsStack, parts_documents_behind}
 use Rattle.yaml_parse_grammar.specs.States.{State}
 use Rattle.yaml_parse.specs.Finds.{GivesEnd, GivesNext, IsHeldBy}
+use Rattle.yaml_parse.specs.View.{ParserView, view_of}
+use Rattle.yaml_scan_tokens.specs.Texts.{Texts}
 use Rattle.yaml_scan_tokens.specs.declared.tokens.Tokens.{Ghosts}
 use Rattle.yaml_parse_source.specs.declared.source.SourceTokens.{SourceTokens}
 use Rattle.yaml_parse_source.specs.Counts.{held_of}
@@ -16,19 +19,21 @@ use Rattle.yaml_parse_source.proofs.Held.{held_at_most}
 use Rattle.yaml_parse_states.specs.declared.parser.Parser.{Parser}
 use Rattle.yaml_parse_states.specs.declared.parser.Refusal.{Refusal}
 use Rattle.yaml_parse_states.specs.declared.parser.State.TheVariants as state
+use Rattle.yaml_parse_states.specs.declared.parser.Step.TheVariants as step
 use Rattle.yaml_parse_states.specs.Coming.{Coming, read}
 use Rattle.yaml_parse_states.specs.Filled.{GaveFront, GaveNone}
-use Rattle.yaml_parse_states.specs.Standing.{Stands, StandsIn}
-use Rattle.yaml_parse_states.specs.Turned.{Means}
-use Rattle.yaml_parse_states.specs.Views.{coming_of, stack}
+use Rattle.yaml_parse_states.specs.Owned.{Stays}
+use Rattle.yaml_parse_states.specs.Standing.{Stands, StandsIn, Stood}
+use Rattle.yaml_parse_states.specs.Turned.{GaveEvent, IsRefused, LacksMemory, Means}
+use Rattle.yaml_parse_states.specs.Views.{body_in, coming_of, directives_of, event_in, stack}
 use Rattle.yaml_parse_states.specs.Utf8.{IsUtf8Held, IsUtf8In, IsUtf8Kept}
-use Rattle.yaml_parse_states.proofs.Remaining.{over_coming}
-use Rattle.yaml_parse_states.proofs.StandingLaws.{stack_stands}
+use Rattle.yaml_parse_states.proofs.Remaining.{gave_front, gave_none, over_coming, stays_self, told_by}
+use Rattle.yaml_parse_states.proofs.StandingLaws.{stack_stands, told_stands}
 use Rattle.yaml_parse_laws_trees.specs.Falling.{AreFalling}
 use Rattle.yaml_parse_laws_trees.specs.NextLoad.{AreLoadsByContent, LoadsByContent}
 use Rattle.yaml_parse_laws_trees.proofs.AllGiven.{run_loads}
 use Rattle.yaml_parse_laws_trees.proofs.Falling.{run_falls}
-use Rattle.yaml_parse_states.specs.Remaining.{ToldBy, ToldNext, remaining_of, tokens_of}
+use Rattle.yaml_parse_states.specs.Remaining.{ToldBy, ToldNext, remaining, remaining_of, tokens_of}
 
 -- what is still to come of a parser, after that fault
 abbrev pub remains : {T P : Type 0} → Ghosts T P → Parser T P → Fault → ParserRemaining
@@ -59,6 +64,62 @@ gives_end g a old new h =
       ending = over.ending;
       nothing = record { given = refl; finished = over; unasked = refl; held = refl; answered = refl };
     })
+
+-- what a step gives
+pub step_gives : {T P : Type 0} (g : Ghosts T P) (a : Fault) (old new : Parser T P)
+    → GaveEvent g (coming_of g old) new
+    → GivesNext (event_in g new) (remains g old a) (remains g new a)
+step_gives g a old new h =
+    gives_next g a (event_in g new) old new
+    (gave_front g (event_in g new) old new new h (stays_self g new) refl)
+
+pub step_between : {T P : Type 0} (g : Ghosts T P) (a : Fault) (p : Parser T P) → Stood p
+    → (remains g p a).between ≡ parts_documents_behind (event_in g p).body
+step_between g a p h = (told_stands g (event_in g p) p p h (stays_self g p) refl).between
+
+pub step_ends : {T P : Type 0} (g : Ghosts T P) (a : Fault) (old new : Parser T P)
+    → (new ≡ old) × (old.state ≡ state.End) → GivesEnd (remains g old a) (remains g new a)
+step_ends g a old new h = gives_end g a old new (gave_none g old new h.0 h.1)
+
+refused_ends : step.Refused ≡ step.End → ⊥
+refused_ends e = cc
+
+pub step_told : {T P : Type 0} (g : Ghosts T P) (r : Refusal) (old new : Parser T P)
+    → (old.state ≡ state.End → step.Refused ≡ step.End)
+    → ((s : Refusal) → new.refusal ≡ Some s → r ≡ s)
+    → IsRefused g (coming_of g old) new ⊎ LacksMemory g (coming_of g old) new
+    → ToldBy g r old new
+step_told g r old new open_ is h = told_by g r old new (λ e. refused_ends (open_ e)) is h
+
+-- ---- marks
+
+seen : {T P : Type 0} → List Token → Option Fault → (P → yaml_mark_t) → Texts → ℕ → ℕ
+    → Parser T P → Fault → ParserView
+seen ts f at u h n p a = record {
+  remaining = remaining (read ts f (stack at p.state (reverse p.levels.items)) (directives_of p.directives))
+      n h (is_between (stack at p.state (reverse p.levels.items))) a;
+  given = record {
+    body = body_in p.event p.anchor.items p.tag.items u (directives_of p.directives);
+    start_mark = at p.event.start;
+    end_mark = at p.event.end;
+  };
+}
+
+-- the making of marks leaves a parser as it is
+pub stays_seen : {T P : Type 0} (g : Ghosts T P) (f : yaml_fault_t) (old new : Parser T P)
+    → Stays g old new → view_of g new f ≡ view_of g old f
+unfolding seen
+stays_seen g f old new s =
+    let t = tokens_of new in
+    let o = tokens_of old in
+    let a : Fault = fault_of f in
+    ap (λ (p : Parser _ _). view_of g p f) s.same
+    ∙ ap (λ ts. seen ts (g.fault_to_come t) (g.mark_of t) (g.texts t) (g.held t) (g.unasked t) old a) s.to_come
+    ∙ ap (λ e. seen (g.to_come o) e (g.mark_of t) (g.texts t) (g.held t) (g.unasked t) old a) s.fault
+    ∙ ap (λ at. seen (g.to_come o) (g.fault_to_come o) at (g.texts t) (g.held t) (g.unasked t) old a) s.places
+    ∙ ap (λ u. seen (g.to_come o) (g.fault_to_come o) (g.mark_of o) u (g.held t) (g.unasked t) old a) s.texts
+    ∙ ap (λ h. seen (g.to_come o) (g.fault_to_come o) (g.mark_of o) (g.texts o) h (g.unasked t) old a) s.held
+    ∙ ap (λ n. seen (g.to_come o) (g.fault_to_come o) (g.mark_of o) (g.texts o) (g.held o) n old a) s.unasked
 
 pub told_fault : {T P : Type 0} (g : Ghosts T P) (a b f : Fault)
     (r : Refusal) (old new : Parser T P)

@@ -24,7 +24,7 @@ pub use yaml_parse_document::{
 };
 pub use yaml_parse_loader::undefined_alias_fault;
 pub use yaml_parse_model::{
-    yaml_alias_data_t, yaml_alias_event_initialize, yaml_document_end_event_initialize,
+    EventRef, yaml_alias_data_t, yaml_alias_event_initialize, yaml_document_end_event_initialize,
     yaml_document_start_event_initialize, yaml_event_body_t, yaml_event_delete, yaml_event_t,
     yaml_event_utf8, yaml_mapping_end_event_initialize, yaml_mapping_start_event_initialize,
     yaml_node_body_t, yaml_node_item_t, yaml_node_pair_t, yaml_node_t, yaml_node_tag_t,

@@ -5,8 +5,8 @@
 ghost use Rattle.std.specs.Prelude.{◌≡◌, true, IfOk, IfErr};
 ghost use Rattle.yaml_scan_model.specs.Faults.{Fault, fault_of};
 ghost use Rattle.yaml_scan_tokens.specs.Utf8.{IsUtf8Next};
-ghost use Rattle.yaml_parse_model.specs.Events.{event_of};
-ghost use Rattle.yaml_parse_model.specs.Prefix.{prefix_of, no_fault};
+ghost use Rattle.yaml_parse_model.specs.Events.{borrowed_body, event_of};
+ghost use Rattle.yaml_parse_model.specs.Prefix.{no_fault};
 ghost use Rattle.yaml_parse_grammar.specs.Machine.{initial, run};
 ghost use Rattle.yaml_parse_grammar.specs.Resolve.{no_directives};
 ghost use Rattle.yaml_parse_grammar.specs.Remaining.{IsFinished, reading_of, unasked_of};
@@ -22,9 +22,11 @@ use std::alloc::Global;
 use std::marker::Model;
 use yaml_parse_document::{no_document, yaml_document_t};
 use yaml_parse_loader::Loader;
-use yaml_parse_model::{yaml_event_body_t, yaml_event_t, yaml_parser_t_prefix};
-use yaml_parse_states::{Parser, Refusal};
-use yaml_scan_model::{yaml_fault_t, yaml_memory_fault, yaml_origin_t};
+use yaml_parse_model::{EventRef, ZERO_MARK, yaml_event_body_t, yaml_event_t};
+use yaml_parse_states::{Parser, Refusal, Step};
+use yaml_scan_model::{
+    yaml_error_type_t, yaml_fault_t, yaml_mark_t, yaml_memory_fault, yaml_origin_t,
+};
 use yaml_scan_tokens::Tokens;
 
 /// A parser of tokens.
@@ -33,18 +35,15 @@ pub struct TokenParser<T: Tokens> {
     alloc: Global,
     parser: Parser<T>,
     // The fault that was answered.
-    prefix: yaml_parser_t_prefix,
+    fault: yaml_fault_t,
 }
 
 impl<T: Tokens> Model for TokenParser<T> {
-    ghost use Rattle.yaml_parse_model.specs.Prefix.{prefix_of};
-    ghost use Rattle.yaml_parse_grammar.specs.Remaining.{ParserRemaining};
-    ghost use Rattle.yaml_parse_states.specs.Remaining.{remaining_of, tokens_of};
+    ghost use Rattle.yaml_parse.specs.View.{ParserView, view_of};
 
-    ghost Value = { ParserRemaining };
+    ghost Value = { ParserView };
 
-    ghost view = { λ p. remaining_of T.Tokens T.held p.parser
-        (T.unasked (tokens_of p.parser)) (prefix_of p.prefix) };
+    ghost view = { λ p. view_of T.Tokens p.parser p.fault };
 
     ghost use Rattle.yaml_parse_states.specs.Standing.{Stands};
     ghost use Rattle.yaml_parse_states.specs.Utf8.{IsUtf8Held};
@@ -58,40 +57,85 @@ impl<T: Tokens> TokenParser<T> {
         requires { IsUtf8Next T.Tokens tokens }
         // To come is what the grammar's machine makes of the tokens, resolved by each document's
         // directives, and the fault that ends it.
-        ensures events { result.events ≡ (reading_of (run (T.to_come tokens) initial
+        ensures events { result.remaining.events ≡ (reading_of (run (T.to_come tokens) initial
             (T.fault_to_come tokens)) no_directives).events }
-        ensures ending { result.ending ≡ (reading_of (run (T.to_come tokens) initial
+        ensures ending { result.remaining.ending ≡ (reading_of (run (T.to_come tokens) initial
             (T.fault_to_come tokens)) no_directives).ending }
         // The fault is reported with no token asked for after its place.
-        ensures told { result.ending_unasked ≡ unasked_of (T.to_come tokens)
+        ensures told { result.remaining.ending_unasked ≡ unasked_of (T.to_come tokens)
             (T.fault_to_come tokens) initial no_directives }
         // No token was asked for or taken here.
-        ensures unasked { result.unasked ≡ T.unasked tokens }
-        ensures held { result.held ≡ T.held tokens }
-        ensures answered { result.answered ≡ no_fault }
-        ensures between { result.between ≡ true }
+        ensures unasked { result.remaining.unasked ≡ T.unasked tokens }
+        ensures held { result.remaining.held ≡ T.held tokens }
+        ensures answered { result.remaining.answered ≡ no_fault }
+        ensures between { result.remaining.between ≡ true }
     {
         TokenParser {
             alloc,
             parser: Parser::new(alloc, tokens),
-            prefix: yaml_parser_t_prefix::quiet(),
+            fault: no_fault(),
         }
+    }
+
+    /// The next event, which `event` lends until the next call; or its fault, which `fault` answers; or neither after the last
+    /// event and after a fault.
+    pub fn next(&mut self) -> yaml_found_t
+        ensures finds { Finds self.old.remaining result self.new.given self.new.remaining.answered
+            self.new.remaining }
+        ensures utf8 { IsUtf8Found result self.new.given }
+        ensures between { IsStackFound result self.new.given self.new.remaining.between }
+        ensures held { IsHeldBy T.held self.new.remaining.held }
+    {
+        match self.parser.next() {
+            Step::Event => yaml_found_t::Event,
+            Step::End => yaml_found_t::End,
+            Step::Refused => {
+                let refusal = self.parser.refusal();
+                self.fault = told_fault(self.parser.tokens(), refusal);
+                yaml_found_t::Refused
+            }
+        }
+    }
+
+    /// The event that was given last.
+    pub fn event(&self) -> EventRef<'_>
+        ensures { borrowed_body result ≡ self.now.given.body }
+    {
+        self.parser.event()
+    }
+
+    /// Where it starts.
+    pub fn start_mark(&mut self) -> yaml_mark_t
+        ensures start { result ≡ self.old.given.start_mark }
+        ensures same { self.new ≡ self.old }
+    {
+        self.parser.start_mark()
+    }
+
+    /// Where it starts and ends.
+    pub fn marks(&mut self) -> (yaml_mark_t, yaml_mark_t)
+        ensures start { result.0 ≡ self.old.given.start_mark }
+        ensures end { result.1 ≡ self.old.given.end_mark }
+        ensures same { self.new ≡ self.old }
+    {
+        self.parser.marks()
     }
 
     /// The next event in a slot that is passed by reference, or a fault in another, or neither after the last
     /// event and after a fault. A slot that isn't filled may hold anything afterwards.
     pub fn parse_into(&mut self, event: &mut yaml_event_t, fault: &mut yaml_fault_t) -> yaml_found_t
-        ensures finds { Finds self.old result (event_of event.new) (fault_of fault.new) self.new }
+        ensures finds { Finds self.old.remaining result (event_of event.new) (fault_of fault.new)
+            self.new.remaining }
         ensures utf8 { IsUtf8Found result (event_of event.new) }
-        ensures between { IsStackFound result (event_of event.new) self.new.between }
-        ensures held { IsHeldBy T.held self.new.held }
+        ensures between { IsStackFound result (event_of event.new) self.new.remaining.between }
+        ensures held { IsHeldBy T.held self.new.remaining.held }
     {
         match self.parser.parse_into(self.alloc, event) {
             Ok(true) => yaml_found_t::Event,
             Ok(false) => yaml_found_t::End,
             Err(refusal) => {
                 *fault = told_fault(self.parser.tokens(), refusal);
-                self.prefix = yaml_parser_t_prefix::of(fault);
+                self.fault = *fault;
                 yaml_found_t::Refused
             }
         }
@@ -102,13 +146,14 @@ impl<T: Tokens> TokenParser<T> {
     /// its document has the anchor. After a refusal nothing is to come. No document may be half
     /// taken, which `between` tells; none is afterwards.
     pub fn load(&mut self) -> Result<yaml_document_t, yaml_fault_t>
-        requires { self.old.between ≡ true }
-        ensures by_content { AreLoadsByContent self.old }
-        ensures next { IfOk result (λ d. LoadIsNext self.old d self.new) }
-        ensures refused { IfErr result (λ f. RefusalIsNext self.old (fault_of f) self.new) }
-        ensures between { self.new.between ≡ true }
+        requires { self.old.remaining.between ≡ true }
+        ensures by_content { AreLoadsByContent self.old.remaining }
+        ensures next { IfOk result (λ d. LoadIsNext self.old.remaining d self.new.remaining) }
+        ensures refused { IfErr result (λ f. RefusalIsNext self.old.remaining (fault_of f)
+            self.new.remaining) }
+        ensures between { self.new.remaining.between ≡ true }
         ensures sized { IfOk result (λ d. IsSized d) }
-        ensures held { IsHeldBy T.held self.new.held }
+        ensures held { IsHeldBy T.held self.new.remaining.held }
     {
         let alloc = self.allocator();
         let mut loader = Loader::new(alloc);
@@ -142,37 +187,53 @@ impl<T: Tokens> TokenParser<T> {
 
     /// No document is half taken.
     pub fn between(&self) -> bool
-        ensures { result ≡ self.now.between }
+        ensures { result ≡ self.now.remaining.between }
     {
         self.parser.is_between()
     }
 
     /// The fault that was answered; before one its kind is `YAML_NO_ERROR`.
-    pub fn prefix(&self) -> &yaml_parser_t_prefix
-        ensures { prefix_of result.now ≡ self.now.answered }
+    pub fn fault(&self) -> yaml_fault_t
+        ensures { fault_of result ≡ self.now.remaining.answered }
     {
-        &self.prefix
+        self.fault
     }
 
     /// The allocator that the parser keeps.
     pub(crate) fn allocator(&self) -> Global
         // Between documents, whole ones are to come, and a front of one.
-        ensures loads { self.now.between ≡ true → AreLoadsByContent self.now }
+        ensures loads { self.now.remaining.between ≡ true → AreLoadsByContent self.now.remaining }
         // As an event is given, no fewer tokens are left unasked for than as the next one is.
-        ensures falls { AreFalling self.now.events self.now.ending_unasked }
+        ensures falls { AreFalling self.now.remaining.events self.now.remaining.ending_unasked }
     {
         self.alloc
     }
 
     /// Nothing more is to come, and that fault was answered.
     pub(crate) fn refuse(&mut self, fault: &yaml_fault_t)
-        ensures finished { IsFinished self.new }
-        ensures answered { self.new.answered ≡ fault_of fault.now }
-        ensures unasked { self.new.unasked ≡ self.old.unasked }
-        ensures held { IsHeldBy T.held self.new.held }
+        ensures finished { IsFinished self.new.remaining }
+        ensures answered { self.new.remaining.answered ≡ fault_of fault.now }
+        ensures unasked { self.new.remaining.unasked ≡ self.old.remaining.unasked }
+        ensures held { IsHeldBy T.held self.new.remaining.held }
     {
         self.parser.stop();
-        self.prefix = yaml_parser_t_prefix::of(fault);
+        self.fault = *fault;
+    }
+}
+
+// What is told before any fault.
+fn no_fault() -> yaml_fault_t
+    ensures { fault_of result ≡ no_fault }
+{
+    yaml_fault_t {
+        kind: yaml_error_type_t::YAML_NO_ERROR,
+        problem: "",
+        offset: 0,
+        value: 0,
+        problem_mark: ZERO_MARK,
+        context: None,
+        context_mark: ZERO_MARK,
+        origin: yaml_origin_t::Parser,
     }
 }
 

@@ -9,15 +9,15 @@ pub returns-in-Ok-Some-clause-next : goal.returns-in-Ok-Some-clause-next
 returns-in-Ok-Some-clause-next g c =
     let next = rw c.in-Event.is at c.parse_into.ensures.finds in
     let fed = rw c.in-Ok-Some.field-0-is at c.in-Ok-Some.ensures.feeds in
-    load_is_next c.args.self.now c.parse_into.new.self c.in-Ok-Some.document
-    (loads_document c.args.self.now c.events.self c.parse_into.new.self c.events.loader (event_of c.parse_into.new.event) c.in-Ok-Some.document c.events.invariant
+    load_is_next c.args.self.now.remaining c.parse_into.new.self.remaining c.in-Ok-Some.document
+    (loads_document c.args.self.now.remaining c.events.self.remaining c.parse_into.new.self.remaining c.events.loader (event_of c.parse_into.new.event) c.in-Ok-Some.document c.events.invariant
     next fed.0)
 
 pub events-preserved : goal.events-preserved
 events-preserved g c =
     let next = rw c.in-Event.is at c.parse_into.ensures.finds in
     let fed = rw c.in-Ok-None.field-0-is at c.in-Ok-None.ensures.feeds in
-    keeps_on c.args.self.now c.events.self c.parse_into.new.self c.events.loader c.feed.new.self (event_of c.parse_into.new.event) c.events.invariant
+    keeps_on c.args.self.now.remaining c.events.self.remaining c.parse_into.new.self.remaining c.events.loader c.feed.new.self (event_of c.parse_into.new.event) c.events.invariant
     next fed
 
 -- Where a wrong body answers another variant, the search looks for what is owed then, without suggestions.
@@ -25,8 +25,8 @@ pub returns-in-End-clause-next : goal.returns-in-End-clause-next
 returns-in-End-clause-next g c =
     search (
       rules,
-      load_is_next c.args.self.now c.parse_into.new.self c.no_document.result
-          (loads_nothing c.args.self.now c.events.self c.parse_into.new.self c.events.loader c.no_document.result c.events.invariant c.in-End.ensures.finds c.no_document.ensures),
+      load_is_next c.args.self.now.remaining c.parse_into.new.self.remaining c.no_document.result
+          (loads_nothing c.args.self.now.remaining c.events.self.remaining c.parse_into.new.self.remaining c.events.loader c.no_document.result c.events.invariant c.in-End.ensures.finds c.no_document.ensures),
     )
 
 pub returns-in-End-clause-refused : goal.returns-in-End-clause-refused
@@ -35,15 +35,15 @@ returns-in-End-clause-refused g c = search rules
 pub returns-in-Err-clause-refused : goal.returns-in-Err-clause-refused
 returns-in-Err-clause-refused g c =
     let next = rw c.in-Event.is at c.parse_into.ensures.finds in
-    refusal_is_next c.args.self.now c.refuse.new.self (fault_of c.in-Err.refused)
-    (load_refused c.args.self.now c.events.self c.parse_into.new.self c.refuse.new.self c.events.loader (event_of c.parse_into.new.event) (fault_of c.in-Err.refused)
+    refusal_is_next c.args.self.now.remaining c.refuse.new.self.remaining (fault_of c.in-Err.refused)
+    (load_refused c.args.self.now.remaining c.events.self.remaining c.parse_into.new.self.remaining c.refuse.new.self.remaining c.events.loader (event_of c.parse_into.new.event) (fault_of c.in-Err.refused)
     c.events.invariant next c.in-Err.ensures.feeds.0 c.refuse.ensures.finished c.refuse.ensures.answered c.refuse.ensures.unasked)
-    (fed_more c.args.self.now c.events.self c.parse_into.new.self c.events.loader (event_of c.parse_into.new.event) c.events.invariant next)
-    (fed_asked c.args.self.now c.events.self c.parse_into.new.self c.refuse.new.self c.events.loader (event_of c.parse_into.new.event) (fault_of c.in-Err.refused) c.events.invariant next c.refuse.ensures.unasked)
+    (fed_more c.args.self.now.remaining c.events.self.remaining c.parse_into.new.self.remaining c.events.loader (event_of c.parse_into.new.event) c.events.invariant next)
+    (fed_asked c.args.self.now.remaining c.events.self.remaining c.parse_into.new.self.remaining c.refuse.new.self.remaining c.events.loader (event_of c.parse_into.new.event) (fault_of c.in-Err.refused) c.events.invariant next c.refuse.ensures.unasked)
 
 pub returns-in-Refused-clause-refused : goal.returns-in-Refused-clause-refused
 returns-in-Refused-clause-refused g c =
-    refusal_is_next c.args.self.now c.parse_into.new.self (fault_of c.parse_into.new.fault)
-    (load_faulty c.args.self.now c.events.self c.parse_into.new.self c.events.loader (fault_of c.parse_into.new.fault) c.events.invariant c.in-Refused.ensures.finds)
-    (load_more c.args.self.now c.events.self c.events.loader c.events.invariant c.in-Refused.ensures.finds.more)
-    (load_asked c.args.self.now c.events.self c.parse_into.new.self c.events.loader (fault_of c.parse_into.new.fault) c.events.invariant c.in-Refused.ensures.finds)
+    refusal_is_next c.args.self.now.remaining c.parse_into.new.self.remaining (fault_of c.parse_into.new.fault)
+    (load_faulty c.args.self.now.remaining c.events.self.remaining c.parse_into.new.self.remaining c.events.loader (fault_of c.parse_into.new.fault) c.events.invariant c.in-Refused.ensures.finds)
+    (load_more c.args.self.now.remaining c.events.self.remaining c.events.loader c.events.invariant c.in-Refused.ensures.finds.more)
+    (load_asked c.args.self.now.remaining c.events.self.remaining c.parse_into.new.self.remaining c.events.loader (fault_of c.parse_into.new.fault) c.events.invariant c.in-Refused.ensures.finds)

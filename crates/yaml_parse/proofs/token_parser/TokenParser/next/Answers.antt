@@ -1,0 +1,42 @@
+-- What a step gives, in the words of what is still to come.
+use Rattle.std.proofs.Common.{◌∙◌, refl, sym, subst}
+use Rattle.yaml_scan_model.specs.Faults.{Fault, fault_of}
+use Rattle.yaml_parse_grammar.specs.Remaining.{FaultOf, ParserRemaining}
+use Rattle.yaml_parse_states.specs.Turned.{Means}
+use Rattle.yaml_parse_states.specs.Views.{event_in}
+use Rattle.yaml_parse.proofs.Gives.{remains, step_between, step_ends, step_gives, step_told, told_fault}
+use Rattle.yaml_parse.specs.Finds.{GivesEnd, GivesNext}
+use Rattle.yaml_parse.specs.View.{ParserView}
+use Rattle.yaml_parse.proofs.token_parser.TokenParser.next.Goals as goal
+
+pub returns-in-Event-clause-finds : goal.returns-in-Event-clause-finds
+returns-in-Event-clause-finds g c =
+    let t = g.T.Tokens in
+    let a : Fault = fault_of c.self.inside.fault in
+    subst (λ (z : ParserView). GivesNext (event_in t c.next.new.self) z.remaining (remains t c.next.new.self a)) c.self.view_is
+    (step_gives t a c.self.inside.parser c.next.new.self c.in-Event.ensures.steps)
+
+pub returns-in-Event-clause-between : goal.returns-in-Event-clause-between
+returns-in-Event-clause-between g c =
+    step_between g.T.Tokens (fault_of c.self.inside.fault) c.next.new.self (c.in-Event.ensures.stands c.self.invariant.0)
+
+pub returns-in-Event-clause-utf8 : goal.returns-in-Event-clause-utf8
+returns-in-Event-clause-utf8 g c = (c.in-Event.ensures.utf8 c.self.invariant.1).event
+
+pub returns-in-End-clause-finds : goal.returns-in-End-clause-finds
+returns-in-End-clause-finds g c =
+    let t = g.T.Tokens in
+    let a : Fault = fault_of c.self.inside.fault in
+    subst (λ (z : ParserView). GivesEnd z.remaining (remains t c.next.new.self a)) c.self.view_is
+    (step_ends t a c.self.inside.parser c.next.new.self c.in-End.ensures.steps)
+
+pub returns-in-Refused-clause-finds : goal.returns-in-Refused-clause-finds
+returns-in-Refused-clause-finds g c =
+    let t = g.T.Tokens in
+    let f : Fault = fault_of c.told_fault-self-inside.result in
+    let new : ParserRemaining = remains t c.next.new.self f in
+    subst (λ (z : ParserView). FaultOf z.remaining f new) c.self.view_is
+    (told_fault t (fault_of c.self.inside.fault) f f c.refusal-refusal.result c.self.inside.parser c.next.new.self
+    (step_told t c.refusal-refusal.result c.self.inside.parser c.next.new.self (λ e. sym c.in-Refused.is ∙ c.next.ensures.over e) c.refusal-refusal.ensures c.in-Refused.ensures.steps)
+    (λ e m. c.told_fault-self-inside.ensures e (subst (λ ts. Means t ts c.refusal-refusal.result e) (sym c.tokens.ensures) m))
+    refl)

@@ -46,8 +46,6 @@ impl AnchorTable {
     }
 
     /// From now on the anchor names the node of this number, whichever it named before.
-    // Out of line: most nodes have no anchor.
-    #[inline(never)]
     pub fn insert(&mut self, name: Vec<u8>, number: i32) -> Result<(), AllocError>
         ensures ok { OnOk result (self.new ≡ map.insert self.old name.items number) }
         ensures err { OnErr result (self.new ≡ self.old) }

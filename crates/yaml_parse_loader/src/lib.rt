@@ -2,7 +2,6 @@
 #![tactic(auto)]
 
 mod anchors;
-mod gathering;
 mod loader;
 mod making;
 

@@ -1,12 +1,12 @@
 //! The loader: a machine that is fed a parser's events, one at a time, and gives a document at its last.
 
 ghost use Rattle.std.specs.Prelude.{◌≡◌, List, IfOk, IfSome};
-ghost use Rattle.yaml_parse_model.specs.Events.{Event, event_of};
+ghost use Rattle.yaml_parse_model.specs.Events.{Event, borrowed_body};
 ghost use Rattle.yaml_parse_model.specs.Faults.{fault_of};
 ghost use Rattle.yaml_parse_loader.specs.Numbering.{DocumentContent, document_events, document_of, undefined_alias};
 ghost use Rattle.yaml_parse_model.specs.Constructors.{HasUtf8};
 ghost use Rattle.yaml_parse_document.specs.Sizes.{IsSized};
-ghost use Rattle.yaml_parse_loader.specs.Loading.{Loading, load, document, behind, nothing_loaded, step, Feeds};
+ghost use Rattle.yaml_parse_loader.specs.Loading.{Loading, load, document, behind, nothing_loaded, step_body, Feeds};
 ghost use Rattle.yaml_parse_loader.specs.Order.{IsInPreorder};
 
 use crate::making::{Fed, Making};
@@ -14,14 +14,12 @@ use std::alloc::Global;
 use std::marker::Model;
 use yaml_parse_document::yaml_document_t;
 use yaml_parse_model::{
-    ZERO_MARK, yaml_error_type_t, yaml_event_t, yaml_fault_t, yaml_mark_t, yaml_memory_fault,
+    EventRef, ZERO_MARK, yaml_error_type_t, yaml_fault_t, yaml_mark_t, yaml_memory_fault,
     yaml_origin_t,
 };
 
-// The fault of an alias that no node before it anchors.
-// Out of line: it is rare, and has much room of its own.
-#[inline(never)]
-fn alias_fault(at: yaml_mark_t) -> yaml_fault_t
+/// The fault of an alias that no node before it anchors: kind 5, at the alias, without context.
+pub fn undefined_alias_fault(at: yaml_mark_t) -> yaml_fault_t
     ensures { fault_of result ≡ undefined_alias at }
 {
     yaml_fault_t {
@@ -36,17 +34,8 @@ fn alias_fault(at: yaml_mark_t) -> yaml_fault_t
     }
 }
 
-/// The fault of an alias that no node before it anchors: kind 5, at the alias, without context.
-// Inlined: its room is made where it is met, and not for each event.
-#[inline(always)]
-pub fn undefined_alias_fault(at: yaml_mark_t) -> yaml_fault_t
-    ensures { fault_of result ≡ undefined_alias at }
-{
-    alias_fault(at)
-}
-
-/// A document in the making. Events are moved in, and their texts become the document's. Nothing recurses: open
-/// collections stand on a stack of the loader's own, and each gets what it holds once, at its end.
+/// A document in the making. Nothing recurses: open collections are on a stack of the loader's own, and each gets what it holds
+/// once, at its end.
 #[derive(Drop)]
 pub struct Loader {
     making: Making,
@@ -80,32 +69,32 @@ impl Loader {
     }
 
     /// Lets go what was loaded. A call of this crate, so that callers need not prove how each part is freed.
-    // Inlined: it lies where it was made.
-    #[inline(always)]
     pub fn let_go(self) {
         drop(self);
     }
 
-    /// Takes an event: at a DOCUMENT-END it gives the document, at every other one nothing. Nodes count from 1 in
-    /// preorder. An alias stands for the last node before it that has its anchor, and is refused where there is none
-    /// (`found undefined alias`). Where a list would get more than 2,147,483,647 entries, out of memory is answered.
+    /// Takes an event, whose texts are copied, and its marks: at a DOCUMENT-END it gives the document, at every other one
+    /// nothing. Nodes count from 1 in preorder. An alias stands for the last node before it that has its anchor, and is refused
+    /// where there is none (`found undefined alias`). Where a list would get more than 2,147,483,647 entries, out of memory is answered.
     /// After a document and after a refusal it starts anew.
     #[tactic(auto, using(crate::proofs::Keeps::nothing_sound, crate::proofs::Sizing::nothing_sized, crate::proofs::Keeps::step_sound, crate::proofs::Sizing::step_sized))]
     pub fn feed(
         &mut self,
-        event: &mut yaml_event_t,
+        event: EventRef<'_>,
+        marks: (yaml_mark_t, yaml_mark_t),
     ) -> Result<Option<yaml_document_t>, yaml_fault_t>
-        requires { HasUtf8 (event_of event.old).body }
-        ensures feeds { Feeds (step (event_of event.old) self.old) result self.new }
+        requires { HasUtf8 (borrowed_body event) }
+        ensures feeds { Feeds (step_body (borrowed_body event.entry) marks.0 marks.1 self.old) result
+            self.new }
         // No list of a document has more than 2,147,483,647 entries.
         ensures sized { IfOk result (λ o. IfSome o (λ d. IsSized d)) }
     {
-        match self.making.apply(event) {
+        match self.making.apply(event, marks) {
             Fed::Taken => Ok(None),
             Fed::Whole => Ok(Some(self.making.take_document())),
             Fed::Undefined => {
                 self.making.begin_anew();
-                Err(undefined_alias_fault(event.start_mark))
+                Err(undefined_alias_fault(marks.0))
             }
             Fed::Starved => {
                 self.making.begin_anew();

@@ -1,2 +1,1 @@
-mod Cutting
 pub mod KeptLemmas

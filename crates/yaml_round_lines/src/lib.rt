@@ -5,4 +5,4 @@ mod event_line;
 mod parts;
 mod runs;
 
-pub use event_line::yaml_push_event_line;
+pub use event_line::{yaml_push_event_line, yaml_push_event_line_ref};

@@ -65,17 +65,6 @@ impl ByteTest for Kept {
     }
 }
 
-/// Whether all bytes of a text are kept whose front and end, of that many bytes each, are all of it.
-// Inlined: some vector instructions, where their number is known.
-#[inline(always)]
-pub(crate) fn are_kept_ends(text: &[u8], size: usize) -> bool
-    requires least { size ≤ length text.now }
-    requires most { length text.now ≤ size + size }
-    ensures { result ≡ true → escaped text.now ≡ text.now }
-{
-    are_ends(&Kept, text, size)
-}
-
 // Puts the chunks in front that have kept bytes alone; the answer is the rest.
 // Inlined: the line is the caller's own, so that a chunk is a load, some vector instructions and its stores.
 #[inline(always)]
@@ -147,19 +136,69 @@ fn put_run<'a>(line: &mut Vec<u8>, left: &'a [u8]) -> &'a [u8]
     put_bytes(line, half)
 }
 
-/// Puts the text of a tag or a value, by runs of kept bytes: each byte takes two at most.
-// Out of line: most texts are short, and have no byte that is escaped.
+// The line with the text of a tag or a value after it, put by runs of kept bytes.
+// Out of line: few are put so. The line goes by value, so that LLVM sees that nobody keeps the caller's.
 #[inline(never)]
-pub(crate) fn put_runs(line: &mut Vec<u8>, text: &[u8])
+fn with_runs(line: Vec<u8>, text: &[u8]) -> Vec<u8>
+    requires { vec_len line + 2 * length text.now ≤ vec_capacity line }
+    ensures items { result.items ≡ line.items ++ escaped text.now }
+    ensures len { vec_len result ≤ vec_len line + 2 * length text.now }
+    ensures room { vec_capacity line ≤ vec_capacity result }
+{
+    let mut own = line;
+    let mut left = text;
+    'runs: while !left.is_empty() {
+        left = put_run(&mut own, left);
+    }
+    own
+}
+
+// Whether all bytes of a text are kept whose front and end, of that many bytes each, are all of it.
+// Inlined: some vector instructions, where their number is known.
+#[inline(always)]
+fn are_kept_ends(text: &[u8], size: usize) -> bool
+    requires least { size ≤ length text.now }
+    requires most { length text.now ≤ size + size }
+    ensures { result ≡ true → escaped text.now ≡ text.now }
+{
+    are_ends(&Kept, text, size)
+}
+
+// Whether a text is short, and none of its bytes is escaped. Shorter ones are asked for first: they are more.
+fn is_plain(text: &[u8]) -> bool
+    ensures { result ≡ true → IsPlain text.now }
+{
+    let count = text.len();
+    if count < 4 {
+        if count > 1 {
+            are_kept_ends(text, 2)
+        } else if count == 1 {
+            are_kept_ends(text, 1)
+        } else {
+            true
+        }
+    } else if count < 8 {
+        are_kept_ends(text, 4)
+    } else if count < 16 {
+        are_kept_ends(text, 8)
+    } else if count <= SHORT {
+        are_kept_ends(text, 16)
+    } else {
+        false
+    }
+}
+
+/// Puts the text of a tag or a value: each byte takes two at most. Most are short, and have no byte that is escaped.
+pub(crate) fn put_text(line: &mut Vec<u8>, text: &[u8])
     requires { vec_len line.old + 2 * length text.now ≤ vec_capacity line.old }
     ensures items { line.new.items ≡ line.old.items ++ escaped text.now }
     ensures len { vec_len line.new ≤ vec_len line.old + 2 * length text.now }
     ensures room { vec_capacity line.old ≤ vec_capacity line.new }
 {
-    let mut own = moved(line);
-    let mut left = text;
-    'runs: while !left.is_empty() {
-        left = put_run(&mut own, left);
+    if is_plain(text) {
+        put_short(line, text);
+    } else {
+        let own = with_runs(moved(line), text);
+        put_back(line, own);
     }
-    put_back(line, own);
 }

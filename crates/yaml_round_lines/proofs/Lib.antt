@@ -1,1 +1,1 @@
-pub mod KeptLemmas
+mod EscapesLemmas

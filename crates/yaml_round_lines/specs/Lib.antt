@@ -1,2 +1,1 @@
 pub mod EventLine
-pub mod Runs

@@ -1,14 +1,14 @@
 //! The line that tells an event.
 
-ghost use Rattle.std.specs.Prelude.{◌≡◌, ◌<◌, ◌++◌, [], ◌∷◌, codes, length, option_map, OnOk};
+ghost use Rattle.std.specs.Prelude.{◌≡◌, ◌++◌, [], ◌∷◌, codes, option_map, OnOk};
 ghost use Rattle.yaml_scan_model.specs.Ascii as ascii;
 ghost use Rattle.yaml_parse_model.specs.Events.{borrowed_body, event_of};
-ghost use Rattle.yaml_round_lines.specs.EventLine.{escaped, anchor_part, tag_part, indicator_of, mark_part, event_line};
+ghost use Rattle.yaml_round_lines.specs.EventLine.{escaped, anchor_part, tag_part, indicator_of, mark_part, event_line, event_text};
 
-use crate::parts::{put_name, put_node, put_part, reserve_line};
+use crate::escapes::push_escaped;
 use std::alloc::AllocError;
 use yaml_parse_model::{EventRef, yaml_event_t};
-use yaml_scan_model::{moved, put_back, put_each, yaml_scalar_style_t};
+use yaml_scan_model::yaml_scalar_style_t;
 
 // The indicator of each style.
 const INDICATORS: [u8; 6] = *b"::'\"|>";
@@ -19,7 +19,53 @@ fn style_indicator(style: yaml_scalar_style_t) -> u8
     INDICATORS[style as usize]
 }
 
-// Pushes the line of a scalar.
+// Pushes an anchor, if there is one.
+fn push_anchor(line: &mut Vec<u8>, anchor: Option<&[u8]>) -> Result<(), AllocError>
+    ensures { OnOk result (line.new.items ≡ line.old.items
+        ++ anchor_part (option_map (λ t. t.now) anchor.entry)) }
+{
+    match anchor {
+        None => Ok(()),
+        Some(anchor) => {
+            line.extend_from_slice(b" &")?;
+            line.extend_from_slice(anchor)
+        }
+    }
+}
+
+// Pushes a tag, if there is one.
+fn push_tag(line: &mut Vec<u8>, tag: Option<&[u8]>) -> Result<(), AllocError>
+    ensures { OnOk result (line.new.items ≡ line.old.items
+        ++ tag_part (option_map (λ t. t.now) tag.entry)) }
+{
+    match tag {
+        None => Ok(()),
+        Some(tag) => {
+            line.extend_from_slice(b" <")?;
+            push_escaped(line, tag)?;
+            line.push(b'>')?;
+            Ok(())
+        }
+    }
+}
+
+// Pushes a node's word, its anchor and its tag.
+fn push_node(
+    line: &mut Vec<u8>,
+    word: &[u8],
+    anchor: Option<&[u8]>,
+    tag: Option<&[u8]>,
+) -> Result<(), AllocError>
+    ensures { OnOk result (line.new.items ≡ line.old.items ++ (word.now
+        ++ (anchor_part (option_map (λ t. t.now) anchor.entry)
+        ++ tag_part (option_map (λ t. t.now) tag.entry)))) }
+{
+    line.extend_from_slice(word)?;
+    push_anchor(line, anchor)?;
+    push_tag(line, tag)
+}
+
+// Pushes a scalar.
 fn push_scalar(
     line: &mut Vec<u8>,
     anchor: Option<&[u8]>,
@@ -30,91 +76,49 @@ fn push_scalar(
     ensures { OnOk result (line.new.items ≡ line.old.items ++ (codes "=VAL"
         ++ (anchor_part (option_map (λ t. t.now) anchor.entry)
         ++ tag_part (option_map (λ t. t.now) tag.entry))
-        ++ ascii.space ∷ indicator_of style ∷ (escaped value.now ++ ascii.line_feed ∷ []))) }
+        ++ (ascii.space ∷ indicator_of style ∷ []) ++ escaped value.now)) }
 {
-    reserve_line(line, anchor, tag, value)?;
-    let mut own = moved(line);
-    put_node(&mut own, b"=VAL", anchor, tag);
-    put_part(&mut own, style_indicator(style), value, b'\n');
-    put_back(line, own);
-    Ok(())
+    push_node(line, b"=VAL", anchor, tag)?;
+    line.push(b' ')?;
+    line.push(style_indicator(style))?;
+    push_escaped(line, value)
 }
 
-// Pushes the line of a collection's start.
-fn push_start(
-    line: &mut Vec<u8>,
-    word: &[u8; 4],
-    anchor: Option<&[u8]>,
-    tag: Option<&[u8]>,
-) -> Result<(), AllocError>
-    ensures { OnOk result (line.new.items ≡ line.old.items ++ (word.now
-        ++ (anchor_part (option_map (λ t. t.now) anchor.entry)
-        ++ tag_part (option_map (λ t. t.now) tag.entry)) ++ ascii.line_feed ∷ [])) }
-{
-    reserve_line(line, anchor, tag, b"")?;
-    let mut own = moved(line);
-    put_node(&mut own, word, anchor, tag);
-    own.push_reserved(b'\n');
-    put_back(line, own);
-    Ok(())
-}
-
-// Pushes the line of an alias.
+// Pushes an alias.
 fn push_alias(line: &mut Vec<u8>, name: &[u8]) -> Result<(), AllocError>
-    ensures { OnOk result (line.new.items ≡ line.old.items
-        ++ (codes "=ALI *" ++ name.now ++ ascii.line_feed ∷ [])) }
+    ensures { OnOk result (line.new.items ≡ line.old.items ++ (codes "=ALI *" ++ name.now)) }
 {
-    line.reserve(name.len() + 7)?;
-    let mut own = moved(line);
-    put_each(&mut own, b"=ALI *");
-    put_name(&mut own, name);
-    own.push_reserved(b'\n');
-    put_back(line, own);
-    Ok(())
+    line.extend_from_slice(b"=ALI *")?;
+    line.extend_from_slice(name)
 }
 
-// Pushes the line of a document's start or end: a word, and a mark where it isn't left out.
+// Pushes a document's start or end: a word, and a mark where it isn't left out.
 fn push_document(
     line: &mut Vec<u8>,
-    word: &[u8; 4],
+    word: &[u8],
     implicit: bool,
-    mark: &[u8; 4],
+    mark: &[u8],
 ) -> Result<(), AllocError>
     ensures { OnOk result (line.new.items ≡ line.old.items
-        ++ (word.now ++ mark_part implicit mark.now ++ ascii.line_feed ∷ [])) }
+        ++ (word.now ++ mark_part implicit mark.now)) }
 {
-    line.reserve(9)?;
-    put_each(line, word);
-    if !implicit {
-        put_each(line, mark);
+    line.extend_from_slice(word)?;
+    if implicit {
+        Ok(())
+    } else {
+        line.extend_from_slice(mark)
     }
-    line.push_reserved(b'\n');
-    Ok(())
 }
 
-// Pushes the line of an event that its word alone tells.
-fn push_word(line: &mut Vec<u8>, word: &[u8]) -> Result<(), AllocError>
-    requires { length word.now < 16 }
-    ensures { OnOk result (line.new.items ≡ line.old.items ++ (word.now ++ ascii.line_feed ∷ [])) }
-{
-    line.reserve(word.len() + 1)?;
-    put_each(line, word);
-    line.push_reserved(b'\n');
-    Ok(())
-}
-
-/// Pushes the line that tells an event, with a line feed at its end: `+STR`, `-STR`, `+DOC` (` ---` where it is explicit),
-/// `-DOC` (` ...` where it is explicit), `=ALI *name`, `+SEQ`, `-SEQ`, `+MAP`, `-MAP`, `=VAL`; after a node's word its
-/// ` &anchor` and ` <tag>`, after `=VAL` a space, the style's indicator (`: ' " | >`) and the value. In tags and values a
-/// backslash, 00, 08, 09, 0A and 0D are escaped. After an error what stands in the line counts for nothing.
-pub fn yaml_push_event_line_ref(line: &mut Vec<u8>, event: EventRef<'_>) -> Result<(), AllocError>
+// Pushes what tells an event, without the line's end.
+fn push_event(line: &mut Vec<u8>, event: EventRef<'_>) -> Result<(), AllocError>
     ensures { OnOk result (line.new.items ≡ line.old.items
-        ++ event_line (borrowed_body event.entry)) }
+        ++ event_text (borrowed_body event.entry)) }
 {
     match event {
-        EventRef::No => push_word(line, b""),
-        EventRef::StreamStart { .. } => push_word(line, b"+STR"),
-        EventRef::StreamEnd => push_word(line, b"-STR"),
+        EventRef::No => Ok(()),
+        EventRef::StreamStart { .. } => line.extend_from_slice(b"+STR"),
+        EventRef::StreamEnd => line.extend_from_slice(b"-STR"),
         EventRef::DocumentStart { implicit, .. } => push_document(line, b"+DOC", implicit, b" ---"),
         EventRef::DocumentEnd { implicit } => push_document(line, b"-DOC", implicit, b" ..."),
         EventRef::Alias { anchor } => push_alias(line, anchor),
@@ -125,11 +129,24 @@ pub fn yaml_push_event_line_ref(line: &mut Vec<u8>, event: EventRef<'_>) -> Resu
             style,
             ..
         } => push_scalar(line, anchor, tag, value, style),
-        EventRef::SequenceStart { anchor, tag, .. } => push_start(line, b"+SEQ", anchor, tag),
-        EventRef::SequenceEnd => push_word(line, b"-SEQ"),
-        EventRef::MappingStart { anchor, tag, .. } => push_start(line, b"+MAP", anchor, tag),
-        EventRef::MappingEnd => push_word(line, b"-MAP"),
+        EventRef::SequenceStart { anchor, tag, .. } => push_node(line, b"+SEQ", anchor, tag),
+        EventRef::SequenceEnd => line.extend_from_slice(b"-SEQ"),
+        EventRef::MappingStart { anchor, tag, .. } => push_node(line, b"+MAP", anchor, tag),
+        EventRef::MappingEnd => line.extend_from_slice(b"-MAP"),
     }
+}
+
+/// Pushes the line that tells an event, with a line feed at its end: `+STR`, `-STR`, `+DOC` (` ---` where it is explicit),
+/// `-DOC` (` ...` where it is explicit), `=ALI *name`, `+SEQ`, `-SEQ`, `+MAP`, `-MAP`, `=VAL`; after a node's word its
+/// ` &anchor` and ` <tag>`, after `=VAL` a space, the style's indicator (`: ' " | >`) and the value. In tags and values a
+/// backslash, 00, 08, 09, 0A and 0D are escaped. After an error what stands in the line counts for nothing.
+pub fn yaml_push_event_line_ref(line: &mut Vec<u8>, event: EventRef<'_>) -> Result<(), AllocError>
+    ensures { OnOk result (line.new.items ≡ line.old.items
+        ++ event_line (borrowed_body event.entry)) }
+{
+    push_event(line, event)?;
+    line.push(b'\n')?;
+    Ok(())
 }
 
 /// The same of an event with texts of its own.

@@ -1,8 +1,7 @@
 //! The lines that tell events.
 #![tactic(auto)]
 
+mod escapes;
 mod event_line;
-mod parts;
-mod runs;
 
 pub use event_line::{yaml_push_event_line, yaml_push_event_line_ref};

@@ -1,20 +1,19 @@
 -- Runs of bytes that are pushed as they are.
-use Rattle.std.proofs.Common.{◌≡◌, ℕ, ◌-◌, ◌<◌, ◌≤◌, false, List, [], ◌∷◌, ◌++◌, take, drop, length, slice_index, refl, sym, ap, ◌∙◌, subst, arith, append_assoc, suc, length-drop}
+use Rattle.std.proofs.Common.{◌≡◌, ℕ, ◌-◌, ◌<◌, false, List, [], ◌∷◌, ◌++◌, take, drop, length, slice_index, refl, sym, ap, ◌∙◌, subst, arith, append_assoc, suc, length-drop}
 use Rattle.std.proofs.lemmas.Bool.Decides.{nat_tests}
 use Rattle.std.proofs.lemmas.List.{take-append-drop, take_all}
 use Rattle.std.proofs.lemmas.Grind.{flat_map-append}
-use Rattle.yaml_scan_runs.specs.Runs.{is_stop}
-use Rattle.yaml_scan_model.specs.Ascii as ascii
+use Rattle.yaml_round_lines.specs.Escapes.{may_escape, IsPlainTo}
 use Rattle.yaml_round_lines.specs.EventLine.{escaped_byte, escaped}
 
--- what doesn't stop a run isn't escaped
-plain_byte : (b : ℕ) → is_stop (ascii.backslash ∷ []) b ≡ false → escaped_byte b ≡ b ∷ []
-unfolding escaped_byte
+-- a byte that is none of these isn't escaped
+plain_byte : (b : ℕ) → may_escape b ≡ false → escaped_byte b ≡ b ∷ []
+unfolding may_escape escaped_byte
 plain_byte b h = grind (arith, nat_tests)
 
 -- nor is a run
 plain_run : (end : ℕ) (text : List ℕ)
-    → ((k : ℕ) → k < end → is_stop (ascii.backslash ∷ []) (slice_index text k) ≡ false)
+    → ((k : ℕ) → k < end → may_escape (slice_index text k) ≡ false)
     → escaped (take end text) ≡ take end text
 plain_run Prim.Native.Nat.zero text h = refl
 plain_run (suc end) [] h = refl
@@ -22,15 +21,13 @@ plain_run (suc end) (b ∷ bs) h =
     rw (plain_byte b (h 0 (omega arith)), plain_run end bs (λ k i. h (suc k) (omega (arith, i)))) refl
 
 -- a run is pushed, and the rest is left
-pub run_pushed : (end : ℕ) (line new text : List ℕ) → end ≤ length text
-    → ((k : ℕ) → 0 ≤ k → k < end → is_stop (ascii.backslash ∷ []) (slice_index text k) ≡ false)
-    → new ≡ line ++ take end text
+pub run_pushed : (end : ℕ) (line new text : List ℕ) → IsPlainTo text end → new ≡ line ++ take end text
     → new ++ escaped (take (length text - end) (drop end text)) ≡ line ++ escaped text
-run_pushed end line new text inside h g =
+run_pushed end line new text h g =
     let size = length-drop end text in
     let front : escaped text ≡ take end text ++ escaped (drop end text) =
-    ap escaped (sym (take-append-drop end text)) ∙ flat_map-append escaped_byte (take end text) (drop end text) ∙ ap (λ (xs : List ℕ). xs ++ escaped (drop end text)) (plain_run end text (λ k i. h k (omega arith) i)) in
-    rw (g, front, take_all (length text - end) (drop end text) (omega (arith, size)))
+    ap escaped (sym (take-append-drop end text)) ∙ flat_map-append escaped_byte (take end text) (drop end text) ∙ ap (λ (xs : List ℕ). xs ++ escaped (drop end text)) (plain_run end text h.plain) in
+    rw (g, front, take_all (length text - end) (drop end text) (omega (arith, size, h.within)))
     (append_assoc line (take end text) (escaped (drop end text)))
 
 -- the byte after it is pushed

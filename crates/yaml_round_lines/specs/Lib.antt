@@ -1,1 +1,2 @@
 pub mod EventLine
+pub mod Escapes

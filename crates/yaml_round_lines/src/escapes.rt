@@ -3,9 +3,9 @@
 ghost use Rattle.std.specs.Prelude.{◌≡◌, ◌++◌, ◌∷◌, [], OnOk};
 ghost use Rattle.yaml_scan_model.specs.Ascii as ascii;
 ghost use Rattle.yaml_round_lines.specs.EventLine.{escaped_byte, escaped};
+ghost use Rattle.yaml_round_lines.specs.Escapes.{may_escape, IsPlainTo};
 
 use std::alloc::AllocError;
-use yaml_scan_runs::{ESCAPES, run_end};
 
 // Pushes a backslash and a letter.
 fn push_escape(line: &mut Vec<u8>, letter: u8) -> Result<(), AllocError>
@@ -35,13 +35,32 @@ fn push_byte(line: &mut Vec<u8>, byte: u8) -> Result<(), AllocError>
     }
 }
 
+// Whether a byte may be escaped.
+#[tactic(auto, unfolding(crate::specs::Escapes::may_escape))]
+fn may_escape(byte: u8) -> bool
+    ensures { result ≡ may_escape byte }
+{
+    byte <= b'\r' || byte == b'\\'
+}
+
+// How many bytes at the front are pushed as they are.
+fn plain_end(text: &[u8]) -> usize
+    ensures { IsPlainTo text.now result }
+{
+    let mut end = 0;
+    'bytes: while end < text.len() && !may_escape(text[end]) {
+        end += 1;
+    }
+    end
+}
+
 /// Pushes a tag or a value.
 pub(crate) fn push_escaped(line: &mut Vec<u8>, text: &[u8]) -> Result<(), AllocError>
     ensures { OnOk result (line.new.items ≡ line.old.items ++ escaped text.now) }
 {
     let mut left = text;
     'runs: while !left.is_empty() {
-        let end = run_end(left, 0, left.len(), &ESCAPES);
+        let end = plain_end(left);
         line.extend_from_slice(&left[..end])?;
         left = &left[end..];
         if let Some((byte, rest)) = left.split_first() {

@@ -55,6 +55,8 @@ fn plain_end(text: &[u8]) -> usize
 }
 
 /// Pushes a tag or a value.
+// Inlined: 5 in 100 of `events` on short words.
+#[inline(always)]
 pub(crate) fn push_escaped(line: &mut Vec<u8>, text: &[u8]) -> Result<(), AllocError>
     ensures { OnOk result (line.new.items ≡ line.old.items ++ escaped text.now) }
 {

@@ -50,6 +50,8 @@ fn push_tag(line: &mut Vec<u8>, tag: Option<&[u8]>) -> Result<(), AllocError>
 }
 
 // Pushes a node's word, its anchor and its tag.
+// Inlined: 5 in 100 of `events` on short words.
+#[inline(always)]
 fn push_node(
     line: &mut Vec<u8>,
     word: &[u8],

@@ -1,10 +1,10 @@
 -- What is known where a lexeme with a text stands.
 use Rattle.std.proofs.Common.{◌≡◌, ℕ, ◌+◌, ◌<◌, ◌≤◌, Bool, true, false, cond, ltb, leb, eqb, ◌&&◌, ◌||◌, not, inl, inr, List, [], ◌∷◌, length, Option, Some, None, Result, Ok, Err, refl, sym, ap, subst, ◌∙◌, arith}
 use Rattle.yaml_scan_core.proofs.Words.{cases_Bool, nat_tests, byte, mark_at, starts, splits_break, column_at, is_blank_or_end, indent, Kind, Lexeme, depth, levels, kind_at, indicator_of, inner, stack_of, Wrong, WordText, word_at}
-use Rattle.yaml_scan_model.specs.Marks.{break_width, is_blank}
+use Rattle.yaml_scan_model.specs.Marks.{break_of, break_width, is_blank}
 use Rattle.yaml_scan_model.proofs.MarksLemmas.{within}
 use Rattle.yaml_scan_model.specs.Wrong.{scan_fault}
-use Rattle.yaml_scan_words.specs.Plain.{plain_at, starts_plain}
+use Rattle.yaml_scan_words.specs.Plain.{is_bracket, is_indicator_byte, plain_at, starts_plain}
 use Rattle.yaml_scan_words.specs.Indicators.{is_document_start, is_document_end}
 use Rattle.yaml_scan_history.specs.History.{keeps}
 use Rattle.yaml_scan_history.specs.Next.{gap_behind}
@@ -33,7 +33,7 @@ use Rattle.yaml_scan_core.specs.declared.word.Spot.{Spot}
 use Rattle.yaml_scan_core.specs.declared.word.Word.{Word}
 use Rattle.yaml_scan_core.specs.Margins.{left_of}
 use Rattle.yaml_scan_core.specs.Rows.{HasRoom, row_of}
-use Rattle.yaml_scan_core.specs.Scanning.{SpelledOut, Spells, StandsAs, fault_in, left_behind, read_by, stream_of}
+use Rattle.yaml_scan_core.specs.Scanning.{SpelledOut, Spells, StandsAs, fault_in, is_letter, left_behind, read_by, stream_of}
 use Rattle.yaml_scan_core.specs.Texts.{HasWord, StoresMore, TellsWrong, is_scalar, word_in}
 use Rattle.yaml_scan_core.specs.WordsRead.{GivesWord, IsMarkedBy, StandsThere, scalar_body, told_by}
 use Rattle.yaml_scan_core.proofs.CandidatesLemmas.{inner_is}
@@ -94,6 +94,24 @@ kind_says flow text p =
 pub kind_said : (flow : Bool) (text : List ℕ) (p : ℕ) (k : Kind) → kind_at flow text p ≡ Some k
     → Says flow text p k
 kind_said flow text p k e = subst (λ (o : Option Kind). OfAny (Says flow text p) o) e (kind_says flow text p)
+
+-- no letter is an indicator, a blank or the first byte of a break
+letter_none : (flow alone : Bool) (b : ℕ) → is_letter b ≡ true → indicator_of flow alone b ≡ None
+unfolding is_letter indicator_of
+letter_none flow alone b h = grind (arith, nat_tests, h)
+
+letter_starts : (flow : Bool) (text : List ℕ) (p : ℕ) → is_letter (byte text p) ≡ true
+    → starts_plain flow text p ≡ true
+unfolding is_letter starts_plain is_indicator_byte is_bracket break_of
+letter_starts flow text p h = grind (arith, nat_tests, h)
+
+pub letter_kind : (flow : Bool) (text : List ℕ) (p : ℕ) → is_letter (byte text p) ≡ true
+    → kind_at flow text p ≡ Some reads.Plain
+unfolding is_letter kind_at is_document_start is_document_end
+letter_kind flow text p h =
+    let none = letter_none flow (is_blank_or_end text (p + 1)) (byte text p) h in
+    let starts = letter_starts flow text p h in
+    rw (none, starts) (grind (arith, nat_tests, h))
 
 -- where a plain scalar stands a character does
 not_ended : (blank : Bool) (b w : ℕ) (rest : Bool)

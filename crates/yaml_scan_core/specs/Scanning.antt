@@ -1,5 +1,5 @@
 -- What the fields of a scanner say of the lexemes that were read.
-use Rattle.std.specs.Prelude.{ℕ, ◌+◌, ◌-◌, ◌^◌, ◌≡◌, ◌≢◌, ◌≤◌, ◌<◌, ◌⊎◌, Bool, true, false, not, ◌==◌, ◌&&◌, ◌||◌, nat_lt, List, ◌∷◌, length, take, Option, Some, None, Result, Ok, Err}
+use Rattle.std.specs.Prelude.{ℕ, ◌+◌, ◌-◌, ◌^◌, ◌≡◌, ◌≢◌, ◌≤◌, ◌<◌, ◌⊎◌, Bool, true, false, not, ◌==◌, ◌&&◌, ◌||◌, nat_le, nat_lt, List, ◌∷◌, length, take, Option, Some, None, Result, Ok, Err}
 use Rattle.yaml_scan_model.specs.declared.name.yaml_encoding_t.{yaml_encoding_t}
 use Rattle.yaml_scan_model.specs.declared.problem.ScanFault.{ScanFault}
 use Rattle.yaml_scan_model.specs.declared.problem.Problem.{Problem}
@@ -83,6 +83,12 @@ pub record IsCalm (b : ℕ) : Type 0 where
   pub return : b ≢ ascii.carriage_return
   pub next : b ≢ 0xC2
   pub wide : b ≢ 0xE2
+
+-- one of `0-9 A-Z a-z`
+unfoldable pub is_letter : ℕ → Bool
+is_letter b = (nat_le ascii.small_a b && nat_le b ascii.small_z)
+    || ((nat_le ascii.capital_a b && nat_le b ascii.capital_z)
+    || (nat_le ascii.digit_zero b && nat_le b ascii.digit_nine))
 
 -- ---- faults
 

@@ -2,7 +2,7 @@
 
 ghost use Rattle.std.specs.Prelude.{IfOk, ℕ, ◌≡◌, ◌+◌, ◌-◌, ◌<◌, ◌≤◌, ◌^◌, ◌&&◌, ◌||◌, ◌==◌, not, true, false, length, nat_lt, Some, None, List};
 ghost use Rattle.yaml_scan_model.specs.Ascii as ascii;
-ghost use Rattle.yaml_scan_model.specs.Marks.{byte, column_at};
+ghost use Rattle.yaml_scan_model.specs.Marks.{byte, column_at, is_blank_or_end};
 ghost use Rattle.yaml_scan_words.specs.Plain.{is_indicator_byte, starts_plain};
 ghost use Rattle.yaml_scan_model.specs.Classes.{is_bom};
 ghost use Rattle.yaml_scan_history.specs.History.{keeps};
@@ -12,7 +12,7 @@ ghost use Rattle.yaml_scan_core.specs.Asked.{Starts};
 ghost use Rattle.yaml_scan_core.specs.Candidates.{inner, stack_of};
 ghost use Rattle.yaml_scan_core.specs.Handed.{HandsOn};
 ghost use Rattle.yaml_scan_core.specs.Rows.{HasRoom, IsThere, failed, row_of};
-ghost use Rattle.yaml_scan_core.specs.Scanning.{Finds, IsCalm, IsDecoded, IsGoing, IsPlace, MayBreak, Passes, PassesOne, Reads, Rests, Shows, StandsAs, StandsAt, StaysAt, Steps, gap_there, history_of, read_by};
+ghost use Rattle.yaml_scan_core.specs.Scanning.{Finds, IsCalm, IsDecoded, IsGoing, IsPlace, MayBreak, Passes, PassesOne, Reads, Rests, Shows, StandsAs, StandsAt, StaysAt, Steps, gap_there, history_of, is_letter, read_by};
 ghost use Rattle.yaml_scan_core.specs.Waiting.{Needs, ReadsOne};
 
 use crate::fault::{Fault, Refused};
@@ -275,18 +275,18 @@ impl<'a> Scanner<'a> {
             LexemeKind::Directive | LexemeKind::Literal | LexemeKind::Folded => {
                 self.line_word(kind)
             }
-            LexemeKind::Alias
-            | LexemeKind::Anchor
-            | LexemeKind::Tag
-            | LexemeKind::SingleQuoted
-            | LexemeKind::DoubleQuoted
-            | LexemeKind::Plain => self.key_word(kind),
+            LexemeKind::Plain => self.key_word(LexemeKind::Plain),
+            LexemeKind::SingleQuoted => self.key_word(LexemeKind::SingleQuoted),
+            LexemeKind::DoubleQuoted => self.key_word(LexemeKind::DoubleQuoted),
+            LexemeKind::Alias => self.key_word(LexemeKind::Alias),
+            LexemeKind::Anchor => self.key_word(LexemeKind::Anchor),
+            LexemeKind::Tag => self.key_word(LexemeKind::Tag),
             LexemeKind::StreamStart => Err(Refused),
         }
     }
 
     /// The kind of what stands here.
-    #[tactic(auto, unfolding(yaml_scan_history::specs::Words::kind_at, yaml_scan_words::specs::Indicators::is_document_start, yaml_scan_words::specs::Indicators::is_document_end))]
+    #[tactic(auto, using(crate::proofs::SpotLemmas::letter_kind), unfolding(yaml_scan_history::specs::Words::kind_at, yaml_scan_words::specs::Indicators::is_document_start, yaml_scan_words::specs::Indicators::is_document_end))]
     fn kind_here(&self) -> Option<LexemeKind>
         requires some { 0 < length self.now.keys.levels.items }
         requires long { length self.now.text.now < 2 ^ 63 }
@@ -295,6 +295,10 @@ impl<'a> Scanner<'a> {
             self.now.at }
     {
         let byte = byte(self.text, self.at);
+        // Most lexemes begin so, and no indicator is one.
+        if is_letter(byte) {
+            return Some(LexemeKind::Plain);
+        }
         if byte == 0 {
             return Some(LexemeKind::StreamEnd);
         }
@@ -307,11 +311,7 @@ impl<'a> Scanner<'a> {
         if byte == b'.' && self.is_mark(b'.') {
             return Some(LexemeKind::DocumentEnd);
         }
-        let kind = indicator(
-            byte,
-            self.in_flow(),
-            is_blank_or_end(self.text, self.at + 1),
-        );
+        let kind = indicator(byte, self.in_flow(), self.text, self.at + 1);
         if kind.is_some() {
             return kind;
         }
@@ -501,10 +501,20 @@ impl<'a> Scanner<'a> {
     }
 }
 
-/// The kind that the byte shows, in brackets or not; `alone` where a blank, a break or the end stands after it.
+/// One of `0-9 A-Z a-z`.
+#[tactic(auto, unfolding(crate::specs::Scanning::is_letter))]
+fn is_letter(byte: u8) -> bool
+    ensures { result ≡ is_letter byte }
+{
+    (byte >= b'a' && byte <= b'z')
+        || (byte >= b'A' && byte <= b'Z')
+        || (byte >= b'0' && byte <= b'9')
+}
+
+/// The kind that the byte shows, in brackets or not, before what stands there.
 #[tactic(auto, unfolding(yaml_scan_history::specs::Words::indicator_of))]
-fn indicator(byte: u8, flow: bool, alone: bool) -> Option<LexemeKind>
-    ensures { result ≡ indicator_of flow alone byte }
+fn indicator(byte: u8, flow: bool, text: &[u8], next: usize) -> Option<LexemeKind>
+    ensures { result ≡ indicator_of flow (is_blank_or_end text.now next) byte }
 {
     match byte {
         b'[' => Some(LexemeKind::FlowSequenceStart),
@@ -512,9 +522,9 @@ fn indicator(byte: u8, flow: bool, alone: bool) -> Option<LexemeKind>
         b']' => Some(LexemeKind::FlowSequenceEnd),
         b'}' => Some(LexemeKind::FlowMappingEnd),
         b',' => Some(LexemeKind::FlowEntry),
-        b'-' if alone => Some(LexemeKind::BlockEntry),
-        b'?' if flow || alone => Some(LexemeKind::KeyMark),
-        b':' if flow || alone => Some(LexemeKind::ValueMark),
+        b'-' if is_blank_or_end(text, next) => Some(LexemeKind::BlockEntry),
+        b'?' if flow || is_blank_or_end(text, next) => Some(LexemeKind::KeyMark),
+        b':' if flow || is_blank_or_end(text, next) => Some(LexemeKind::ValueMark),
         b'*' => Some(LexemeKind::Alias),
         b'&' => Some(LexemeKind::Anchor),
         b'!' => Some(LexemeKind::Tag),

@@ -4,7 +4,6 @@ use Rattle.std.proofs.lemmas.List.{drop_all, drop_more}
 use Rattle.yaml_parse_document.specs.Documents.{Document}
 use Rattle.yaml_emit_layout.specs.Content.{Event, document_start, document_end}
 use Rattle.yaml_emit_graph.specs.declared.graph.Events.{Events}
-use Rattle.yaml_emit_graph.specs.declared.rooms.Rooms.{Rooms}
 use Rattle.yaml_emit_graph.specs.declared.graph.DumpPhase.TheVariants as at
 use Rattle.yaml_emit_graph.specs.declared.walk.Turn.{Turn}
 use Rattle.yaml_emit_graph.specs.Graph.{graph_opening, turns, numbers, turn_event, dumped}
@@ -12,13 +11,13 @@ use Rattle.yaml_emit_graph.specs.Events.{remaining_events, IsEvents}
 use Rattle.yaml_emit_graph.proofs.Contents.{dumped_turns}
 use Rattle.yaml_emit_graph.proofs.Joining.{turns_joined}
 
-pub turn_comes : (d : Document) (old : Events) (rooms : Rooms) (t : Turn) (e : Event)
+pub turn_comes : (d : Document) (old : Events) (t : Turn) (e : Event)
     → old.place ≡ at.Nodes → old.given < length old.turns.items
     → t ≡ get_or old.turns.items old.given t → e ≡ turn_event old.numbers.items d.nodes t
     → remaining_events d old
-    ≡ e ∷ remaining_events d (record old { given = old.given + 1; rooms = rooms })
+    ≡ e ∷ remaining_events d (record old { given = old.given + 1 })
 unfolding remaining_events
-turn_comes d old rooms t e p h i s = grind (arith, drop_more)
+turn_comes d old t e p h i s = grind (arith, drop_more)
 
 pub end_comes : (d : Document) (old : Events) (b : Bool) → old.place ≡ at.Nodes
     → length old.turns.items ≤ old.given → b ≡ d.end_implicit

@@ -1,7 +1,8 @@
 -- The events of a document that are still to come.
-use Rattle.std.specs.Prelude.{◌≡◌, ◌≤◌, Bool, true, false, List, [], ◌∷◌, ◌++◌, map, length, drop, Result, Ok, Err, OnOk}
+use Rattle.std.specs.Prelude.{◌≡◌, ◌≤◌, Bool, true, false, List, [], ◌∷◌, ◌++◌, map, length, drop, Result, Ok, Err, IfOk}
 use Rattle.std.specs.declared.alloc.AllocError.{AllocError}
-use Rattle.yaml_parse_model.specs.Events.{EventBody}
+use Rattle.yaml_parse_model.specs.Events.{EventBody, body_of}
+use Rattle.yaml_parse_model.specs.declared.yaml_event_body_t.{yaml_event_body_t}
 use Rattle.yaml_parse_model.specs.Constructors.{HasUtf8}
 use Rattle.yaml_parse_document.specs.Documents.{Document}
 use Rattle.yaml_emit_layout.specs.Content.{Event, document_start, document_end, emitter_event}
@@ -10,9 +11,9 @@ use Rattle.yaml_emit_graph.specs.declared.graph.DumpPhase.{DumpPhase}
 use Rattle.yaml_emit_graph.specs.declared.graph.DumpPhase.TheVariants as at
 use Rattle.yaml_emit_graph.specs.Graph.{graph_opening, turn_event}
 
--- a call put that event, with texts that are UTF-8, into a slot
-abbrev pub Says : Event → Result Unit AllocError → EventBody → Type 0
-Says e result put = OnOk result ((emitter_event put ≡ e) × HasUtf8 put)
+-- it is that event, with texts that are UTF-8, or memory ran out
+abbrev pub Says : Event → Result yaml_event_body_t AllocError → Type 0
+Says e result = IfOk result (λ b. (emitter_event (body_of b) ≡ e) × HasUtf8 (body_of b))
 
 -- what is left of the nodes, and the document's end
 abbrev pub nodes_left : Document → Events → List Event

@@ -10,14 +10,12 @@ ghost use Rattle.yaml_emit_graph.specs.Graph.{lead, name_of, anchor_of, graph_sc
 ghost use Rattle.yaml_emit_graph.specs.Events.{remaining_events, IsEvents, Says, GivesGraphEvent};
 
 use crate::numbers::{Walked, number_of, walk_nodes};
-use crate::rooms::{Rooms, put_aside};
 use crate::walk::Turn;
 use std::alloc::{AllocError, Global};
 use yaml_parse_document::{yaml_document_get_node, yaml_document_t};
 use yaml_parse_model::{copy_directives, yaml_event_body_t, yaml_node_body_t, yaml_node_tag_t};
 use yaml_scan_model::{
-    refilled, room_of, yaml_mapping_style_t, yaml_scalar_style_t, yaml_sequence_style_t,
-    yaml_tag_directive_t,
+    yaml_mapping_style_t, yaml_scalar_style_t, yaml_sequence_style_t, yaml_tag_directive_t,
 };
 
 /// The events of a document, one after another.
@@ -29,7 +27,6 @@ pub struct Events {
     turns: Vec<Turn>,
     given: usize,
     place: DumpPhase,
-    rooms: Rooms,
 }
 
 /// What comes next.
@@ -62,8 +59,7 @@ fn name_of(alloc: Global, number: u64) -> Result<Vec<u8>, AllocError>
     Ok(name)
 }
 
-// Inlined: mostly there is none.
-#[inline(always)]
+// The anchor of a node with a number; none without one.
 fn anchor_of(alloc: Global, number: u64) -> Result<Option<Vec<u8>>, AllocError>
     ensures is { IfOk result (λ anchor. text_of anchor ≡ anchor_of number) }
     ensures utf8 { IfOk result (λ anchor. IsUtf8Option (text_of anchor)) }
@@ -88,8 +84,6 @@ fn copies(
 }
 
 // Whether a tag is that of its kind by default.
-// Inlined: mostly a look at the kind.
-#[inline(always)]
 fn is_default(tag: &yaml_node_tag_t, default: &yaml_node_tag_t) -> bool
     ensures { result ≡ is_text (tag_of tag.now) (tag_of default.now) }
 {
@@ -101,167 +95,96 @@ fn is_default(tag: &yaml_node_tag_t, default: &yaml_node_tag_t) -> bool
     }
 }
 
-// Puts a body in place of another one, which is let go.
-// Inlined: some stores. A call of its own for the proofs: there letting go takes a step for each kind.
-#[inline(always)]
-fn put_in(event: &mut yaml_event_body_t, body: yaml_event_body_t)
-    ensures { event.new ≡ body }
-{
-    *event = body;
-}
-
-// A scalar, in rooms that are put aside.
-// Out of line: mostly the event before it is one too.
-#[inline(never)]
-fn put_other_scalar(
-    rooms: &mut Rooms,
+// A scalar whose tag may be left out where it is that of a text.
+fn scalar_event(
+    alloc: Global,
     number: u64,
     tag: &yaml_node_tag_t,
     value: &[u8],
     style: yaml_scalar_style_t,
-    event: &mut yaml_event_body_t,
-) -> Result<(), AllocError>
+) -> Result<yaml_event_body_t, AllocError>
     requires { IsUtf8 (tag_of tag.now) × IsUtf8 value.now }
     ensures { Says (scalar (graph_scalar (anchor_of number) (tag_of tag.now) value.now style))
-        result (body_of event.new) }
+        result }
 {
-    put_aside(rooms, event);
     let plain = is_default(tag, &yaml_node_tag_t::Str);
-    let anchor = anchor_of(rooms.alloc, number)?;
-    let name = refilled(&mut rooms.tag, tag.as_slice(), 0)?;
-    let text = refilled(&mut rooms.value, value, 0)?;
-    let body = yaml_event_body_t::Scalar {
+    let anchor = anchor_of(alloc, number)?;
+    let name = Vec::from_slice(alloc, tag.as_slice())?;
+    let value = Vec::from_slice(alloc, value)?;
+    Ok(yaml_event_body_t::Scalar {
         anchor,
         tag: Some(name),
-        value: text,
+        value,
         plain_implicit: plain,
         quoted_implicit: plain,
         style,
-    };
-    put_in(event, body);
-    Ok(())
+    })
 }
 
-// A scalar whose tag may be left out where it is that of a text: in the rooms of the one before it, where the slot holds one.
-// Inlined into its one caller.
-#[inline(always)]
-fn put_scalar_event(
-    rooms: &mut Rooms,
-    number: u64,
-    tag: &yaml_node_tag_t,
-    value: &[u8],
-    style: yaml_scalar_style_t,
-    event: &mut yaml_event_body_t,
-) -> Result<(), AllocError>
-    requires { IsUtf8 (tag_of tag.now) × IsUtf8 value.now }
-    ensures { Says (scalar (graph_scalar (anchor_of number) (tag_of tag.now) value.now style))
-        result (body_of event.new) }
-{
-    match event {
-        yaml_event_body_t::Scalar {
-            anchor: name,
-            tag: held_tag,
-            value: held_value,
-            plain_implicit,
-            quoted_implicit,
-            style: how,
-        } => {
-            let anchor = anchor_of(rooms.alloc, number)?;
-            *name = anchor;
-            let mut room = room_of(held_tag, &mut rooms.tag);
-            let text = refilled(&mut room, tag.as_slice(), 0)?;
-            *held_tag = Some(text);
-            let text = refilled(held_value, value, 0)?;
-            *held_value = text;
-            let plain = is_default(tag, &yaml_node_tag_t::Str);
-            *plain_implicit = plain;
-            *quoted_implicit = plain;
-            *how = style;
-            Ok(())
-        }
-        _ => put_other_scalar(rooms, number, tag, value, style, event),
-    }
-}
-
-// Out of line: it has much room of its own.
-#[inline(never)]
-fn put_sequence(
-    rooms: &mut Rooms,
+fn sequence_event(
+    alloc: Global,
     number: u64,
     tag: &yaml_node_tag_t,
     style: yaml_sequence_style_t,
-    event: &mut yaml_event_body_t,
-) -> Result<(), AllocError>
+) -> Result<yaml_event_body_t, AllocError>
     requires { IsUtf8 (tag_of tag.now) }
     ensures { Says (sequence_start (graph_start (anchor_of number) (tag_of tag.now) seq_tag
-        (is_flow_sequence style))) result (body_of event.new) }
+        (is_flow_sequence style))) result }
 {
-    put_aside(rooms, event);
     let implicit = is_default(tag, &yaml_node_tag_t::Seq);
-    let anchor = anchor_of(rooms.alloc, number)?;
-    let name = refilled(&mut rooms.tag, tag.as_slice(), 0)?;
-    let body = yaml_event_body_t::SequenceStart {
+    let anchor = anchor_of(alloc, number)?;
+    let name = Vec::from_slice(alloc, tag.as_slice())?;
+    Ok(yaml_event_body_t::SequenceStart {
         anchor,
         tag: Some(name),
         implicit,
         style,
-    };
-    put_in(event, body);
-    Ok(())
+    })
 }
 
-// Out of line: it has much room of its own.
-#[inline(never)]
-fn put_mapping(
-    rooms: &mut Rooms,
+fn mapping_event(
+    alloc: Global,
     number: u64,
     tag: &yaml_node_tag_t,
     style: yaml_mapping_style_t,
-    event: &mut yaml_event_body_t,
-) -> Result<(), AllocError>
+) -> Result<yaml_event_body_t, AllocError>
     requires { IsUtf8 (tag_of tag.now) }
     ensures { Says (mapping_start (graph_start (anchor_of number) (tag_of tag.now) map_tag
-        (is_flow_mapping style))) result (body_of event.new) }
+        (is_flow_mapping style))) result }
 {
-    put_aside(rooms, event);
     let implicit = is_default(tag, &yaml_node_tag_t::Map);
-    let anchor = anchor_of(rooms.alloc, number)?;
-    let name = refilled(&mut rooms.tag, tag.as_slice(), 0)?;
-    let body = yaml_event_body_t::MappingStart {
+    let anchor = anchor_of(alloc, number)?;
+    let name = Vec::from_slice(alloc, tag.as_slice())?;
+    Ok(yaml_event_body_t::MappingStart {
         anchor,
         tag: Some(name),
         implicit,
         style,
-    };
-    put_in(event, body);
-    Ok(())
+    })
 }
 
 // The event of the node under a number, which is written for the first time.
-// Inlined into its one caller.
-#[inline(always)]
-fn put_node_start(
-    rooms: &mut Rooms,
+fn opening_event(
+    alloc: Global,
     document: &yaml_document_t,
     number: u64,
     id: i32,
-    event: &mut yaml_event_body_t,
-) -> Result<(), AllocError>
+) -> Result<yaml_event_body_t, AllocError>
     ensures { Says (opening_event (anchor_of number) (tag_of_id document.now.nodes id)
-        (body_of_id document.now.nodes id)) result (body_of event.new) }
+        (body_of_id document.now.nodes id)) result }
 {
     let unstyled = yaml_scalar_style_t::YAML_ANY_SCALAR_STYLE;
     let Some(node) = yaml_document_get_node(document, id) else {
-        return put_other_scalar(rooms, number, &yaml_node_tag_t::Str, b"", unstyled, event);
+        return scalar_event(alloc, number, &yaml_node_tag_t::Str, b"", unstyled);
     };
     let tag = &node.tag;
     match &node.body {
-        yaml_node_body_t::No => put_other_scalar(rooms, number, tag, b"", unstyled, event),
+        yaml_node_body_t::No => scalar_event(alloc, number, tag, b"", unstyled),
         yaml_node_body_t::Scalar { value, style } => {
-            put_scalar_event(rooms, number, tag, value.as_slice(), *style, event)
+            scalar_event(alloc, number, tag, value.as_slice(), *style)
         }
-        yaml_node_body_t::Sequence { style, .. } => put_sequence(rooms, number, tag, *style, event),
-        yaml_node_body_t::Mapping { style, .. } => put_mapping(rooms, number, tag, *style, event),
+        yaml_node_body_t::Sequence { style, .. } => sequence_event(alloc, number, tag, *style),
+        yaml_node_body_t::Mapping { style, .. } => mapping_event(alloc, number, tag, *style),
     }
 }
 
@@ -278,41 +201,34 @@ fn closing_event(document: &yaml_document_t, id: i32) -> yaml_event_body_t
     }
 }
 
-// Out of line: it has much room of its own.
-#[inline(never)]
-fn put_alias_event(
-    alloc: Global,
-    number: u64,
-    event: &mut yaml_event_body_t,
-) -> Result<(), AllocError>
-    ensures { Says (alias (name_of number)) result (body_of event.new) }
+fn alias_event(alloc: Global, number: u64) -> Result<yaml_event_body_t, AllocError>
+    ensures { Says (alias (name_of number)) result }
 {
     let anchor = name_of(alloc, number)?;
-    put_in(event, yaml_event_body_t::Alias { anchor });
-    Ok(())
+    Ok(yaml_event_body_t::Alias { anchor })
 }
 
 // The event of a turn of the walk.
-// Inlined into its one caller.
-#[inline(always)]
-fn put_turn_event(
+fn turn_event(
+    alloc: Global,
     numbers: &[u64],
-    rooms: &mut Rooms,
     document: &yaml_document_t,
     turn: Turn,
-    event: &mut yaml_event_body_t,
-) -> Result<(), AllocError>
-    ensures { Says (turn_event numbers.now document.now.nodes turn) result (body_of event.new) }
+) -> Result<yaml_event_body_t, AllocError>
+    ensures { Says (turn_event numbers.now document.now.nodes turn) result }
 {
     match turn {
-        Turn::First(id) => put_node_start(rooms, document, number_of(numbers, id), id, event),
-        Turn::Again(id) => put_alias_event(rooms.alloc, number_of(numbers, id), event),
-        Turn::Leave(id) => {
-            put_aside(rooms, event);
-            *event = closing_event(document, id);
-            Ok(())
-        }
+        Turn::First(id) => opening_event(alloc, document, number_of(numbers, id), id),
+        Turn::Again(id) => alias_event(alloc, number_of(numbers, id)),
+        Turn::Leave(id) => Ok(closing_event(document, id)),
     }
+}
+
+// Puts a body in place of another one, which is let go. A call of its own for the proofs: there letting go takes a step for each kind.
+fn put_in(event: &mut yaml_event_body_t, body: yaml_event_body_t)
+    ensures { event.new ≡ body }
+{
+    *event = body;
 }
 
 impl Events {
@@ -329,11 +245,6 @@ impl Events {
             turns,
             given: 0,
             place: DumpPhase::Start,
-            rooms: Rooms {
-                alloc,
-                tag: Vec::new(alloc),
-                value: Vec::new(alloc),
-            },
         })
     }
 
@@ -360,7 +271,8 @@ impl Events {
             DumpPhase::Nodes if self.given < self.turns.len() => {
                 let turn = self.turns[self.given];
                 self.given += 1;
-                put_turn_event(&self.numbers, &mut self.rooms, document, turn, event)?;
+                let body = turn_event(self.alloc, &self.numbers, document, turn)?;
+                put_in(event, body);
                 Ok(true)
             }
             DumpPhase::Nodes => {

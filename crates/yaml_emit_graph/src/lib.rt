@@ -4,11 +4,9 @@
 mod graph;
 mod held;
 mod numbers;
-mod rooms;
 mod walk;
 
 pub use graph::Events;
 pub use held::next_held;
 pub use numbers::{Walked, number_of, walk_nodes};
-pub use rooms::{Rooms, put_aside};
 pub use walk::{Open, Turn, Walkable, place_of};

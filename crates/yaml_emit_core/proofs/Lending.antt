@@ -18,14 +18,6 @@ pub flagged : {X : Type 0} (f : X → List ℕ) (t : Option X) (b flags : Bool) 
 flagged f t b flags e = λ i. (e ∙ has_is f t) i || flags
 
 -- an event in other words
-pub scalar_same : (old new : Core) (empty : Bool) (a b t u : Option (List ℕ)) (v w : List ℕ)
-    (p q : Bool) (y : yaml_scalar_style_t) → a ≡ b → t ≡ u → v ≡ w
-    → LaysOut old new (said.scalar (record { anchor = a; tag = t; value = v; plain = p; quoted = q; style = y })) empty
-    → LaysOut old new (said.scalar (record { anchor = b; tag = u; value = w; plain = p; quoted = q; style = y })) empty
-scalar_same old new empty a b t u v w p q y e f g h =
-    let P : said.Scalar → Type 0 = λ z. LaysOut old new (said.scalar z) empty in
-    subst P (λ i. record { anchor = e i; tag = f i; value = g i; plain = p; quoted = q; style = y }) h
-
 pub start_same : (sequence : Bool) (old new : Core) (empty : Bool) (a b t u : Option (List ℕ))
     (m x y : Bool) → a ≡ b → t ≡ u → x ≡ y
     → LaysOut old new (opening sequence (record { anchor = a; tag = t; implicit = m; flow = x })) empty

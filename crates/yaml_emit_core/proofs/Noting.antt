@@ -120,7 +120,8 @@ all_there b c text whole g p none h =
 
 -- ---- of an event's layout
 
-nothing_blank : (x : Encoding) → Blank x []
+-- nothing at all is one
+pub nothing_blank : (x : Encoding) → Blank x []
 unfolding encode shallow
 nothing_blank x = record { is = refl; front = refl }
 
@@ -135,7 +136,8 @@ stopped_notes Full b e n = absurd (cc e)
 stopped_notes Deep b e n = absurd (cc e)
 stopped_notes Starved b e n = absurd (cc e)
 
-noted : (takes : Bool) (old new : Core) → takes ≡ true → old.sink.status ≡ Going
+-- What stops an output that went on, and may take memory outside it, may note this.
+pub noted : (takes : Bool) (old new : Core) → takes ≡ true → old.sink.status ≡ Going
     → new.sink.status ≢ Going → Notes takes old new
 noted true old new t g n h = absurd (false≢true (sym h ∙ stopped_notes old.sink.status new.sink.status g n))
 noted false old new t g n h = absurd (cc t)

@@ -1,14 +1,12 @@
 -- Events of the stream and of documents' ends.
 use Rattle.std.proofs.Common.{◌≡◌, ℕ, List, [], Bool, true, false, refl, sym, ◌∙◌}
-use Rattle.std.specs.Prelude.{if◌then◌else◌, Option, Some, None, Vec}
-use Rattle.std.specs.Global.{Global}
+use Rattle.std.specs.Prelude.{if◌then◌else◌, Option, Some, None}
 use Rattle.std.proofs.lemmas.Bool.{false≢true}
 use Rattle.yaml_scan_types.specs.declared.yaml_encoding_t.{yaml_encoding_t}
-use Rattle.yaml_scan_model.specs.declared.yaml_tag_directive_t.{yaml_tag_directive_t}
 use Rattle.yaml_scan_model.specs.declared.yaml_version_directive_t.{yaml_version_directive_t}
-use Rattle.yaml_parse_model.specs.Events.{TagDirective, body_of}
-use Rattle.yaml_parse_model.specs.declared.event.yaml_event_body_t.{yaml_event_body_t}
-use Rattle.yaml_parse_model.specs.declared.event.yaml_event_body_t.TheVariants as body
+use Rattle.yaml_parse_model.specs.Events.{TagDirective, borrowed_body}
+use Rattle.yaml_parse_model.specs.declared.event_ref.EventRef.{EventRef}
+use Rattle.yaml_parse_model.specs.declared.event_ref.EventRef.TheVariants as body
 use Rattle.yaml_emit_layout.specs.declared.settings.Settings.{Settings}
 use Rattle.yaml_emit_layout.specs.declared.level.Level.{Level as Open}
 use Rattle.yaml_emit_layout.specs.Content as said
@@ -59,9 +57,9 @@ outer_fits t u s ds e i k h p =
     (outside_by t h (fits_outside e t.state b), b)
 
 -- no other event has its place there
-pub unfit : (e : yaml_event_body_t) (st : State)
+pub unfit : (e : EventRef) (st : State)
     → ((x : yaml_encoding_t) → e ≡ body.StreamStart x → ⊥) → (e ≡ body.StreamEnd → ⊥)
-    → ((x : Bool) → e ≡ body.DocumentEnd x → ⊥) → false ≡ fits_at (emitter_event (body_of e)) st
+    → ((x : Bool) → e ≡ body.DocumentEnd x → ⊥) → false ≡ fits_at (emitter_event (borrowed_body e)) st
 unfit body.No st a b d = refl
 unfit (body.StreamStart x) st a b d = absurd (a x refl)
 unfit body.StreamEnd st a b d = absurd (b refl)
@@ -75,9 +73,9 @@ unfit (body.MappingStart n t m y) st a b d = refl
 unfit body.MappingEnd st a b d = refl
 
 -- one that doesn't open a document
-pub no_opening : (e : yaml_event_body_t)
-    → ((v : Option yaml_version_directive_t) (ds : Vec yaml_tag_directive_t Global) (x : Bool) → e ≡ body.DocumentStart v ds x → ⊥)
-    → is_document_start (emitter_event (body_of e)) ≡ false
+pub no_opening : (e : EventRef)
+    → ((v : Option yaml_version_directive_t) (ds : _) (x : Bool) → e ≡ body.DocumentStart v ds x → ⊥)
+    → is_document_start (emitter_event (borrowed_body e)) ≡ false
 no_opening body.No c = refl
 no_opening (body.StreamStart x) c = refl
 no_opening body.StreamEnd c = refl

@@ -1,7 +1,7 @@
 //! An emitter: one event after another is laid out.
 
 ghost use Rattle.std.specs.Prelude.{◌≡◌, ◌<◌, ◌^◌, Bool, true, false};
-ghost use Rattle.yaml_parse_model.specs.Events.{body_of};
+ghost use Rattle.yaml_parse_model.specs.Events.{borrowed_body};
 ghost use Rattle.yaml_parse_model.specs.Constructors.{HasUtf8};
 ghost use Rattle.yaml_emit_layout.specs.Content.{emitter_event};
 
@@ -17,7 +17,7 @@ use std::alloc::Global;
 use std::marker::Model;
 use yaml_emit_layout::{Expected, Problem, Settings, Status};
 use yaml_emit_output::{Draft, Output};
-use yaml_parse_model::yaml_event_body_t;
+use yaml_parse_model::EventRef;
 
 /// An emitter: the settings in force, the text that is laid out, what the output has of it, what comes next, and the directives of the
 /// document.
@@ -109,9 +109,9 @@ impl Core {
 
     /// Lays out an event, by whether it opens a collection that the next event closes; or refuses it. For out of memory the output
     /// stops.
-    pub fn lay_out(&mut self, event: &yaml_event_body_t, empty: bool)
-        requires { HasUtf8 (body_of event.now) }
-        ensures { LaysOut self.old self.new (emitter_event (body_of event.now)) empty }
+    pub fn lay_out(&mut self, event: &EventRef, empty: bool)
+        requires { HasUtf8 (borrowed_body event.now) }
+        ensures { LaysOut self.old self.new (emitter_event (borrowed_body event.now)) empty }
     {
         if self.is_going() {
             self.lay_next(event, empty);

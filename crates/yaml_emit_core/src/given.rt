@@ -3,7 +3,6 @@
 ghost use Rattle.std.specs.Prelude.{◌≡◌, option_map, IsUtf8};
 ghost use Rattle.yaml_emit_layout.specs.Content.{is_flow_sequence, is_flow_mapping};
 ghost use Rattle.yaml_emit_layout.specs.Grammar.{kept_tag};
-ghost use Rattle.yaml_parse_model.specs.Events.{text_of};
 ghost use Rattle.yaml_emit_layout.specs.Tags.{split_tag, split_of};
 
 use crate::table::DirectiveTable;
@@ -25,17 +24,6 @@ pub struct Value<'a> {
     pub plain: bool,
     pub quoted: bool,
     pub style: yaml_scalar_style_t,
-}
-
-/// An anchor and a tag, borrowed.
-pub fn names_of<'a>(anchor: &'a Option<Vec<u8>>, tag: &'a Option<Vec<u8>>) -> Named<'a>
-    ensures anchor { option_map (λ t. t.now) result.anchor ≡ text_of anchor.now }
-    ensures tag { option_map (λ t. t.now) result.tag ≡ text_of tag.now }
-{
-    Named {
-        anchor: anchor.as_deref(),
-        tag: tag.as_deref(),
-    }
 }
 
 /// A tag where it is written: in pretty form one that may be left out isn't.

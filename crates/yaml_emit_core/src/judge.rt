@@ -3,7 +3,7 @@
 ghost use Rattle.std.specs.Prelude.{◌≡◌, ◌||◌, Bool, List, Some, None, true, false, option_map, if◌then◌else◌};
 ghost use Rattle.yaml_emit_layout.specs.declared.Settings.{Settings};
 ghost use Rattle.yaml_emit_layout.specs.Content as said;
-ghost use Rattle.yaml_parse_model.specs.Events.{body_of, text_of, TagDirective};
+ghost use Rattle.yaml_parse_model.specs.Events.{borrowed_body, TagDirective};
 ghost use Rattle.yaml_emit_layout.specs.Content.{emitter_event};
 ghost use Rattle.yaml_emit_layout.specs.Grammar.{event_problem, kept_tag, or_else, name_problem, anchor_problem, tag_problem, start_tag, scalar_tag, has};
 ghost use Rattle.yaml_emit_layout.specs.State.{problem_at};
@@ -12,10 +12,10 @@ ghost use Rattle.yaml_emit_core.specs.Steps.{is_outer, is_document_start};
 ghost use Rattle.yaml_emit_core.specs.Levels.{awaits_node, may_end, opening, ending, state_at, Stands};
 
 use crate::alphas::are_alphas;
-use crate::given::{kept_tag, names_of};
+use crate::given::kept_tag;
 use crate::level::{Levels, State};
 use yaml_emit_layout::Problem;
-use yaml_parse_model::yaml_event_body_t;
+use yaml_parse_model::EventRef;
 
 fn or_else(first: Option<Problem>, second: Option<Problem>) -> Option<Problem>
     ensures { result ≡ or_else first second }
@@ -180,25 +180,25 @@ fn is_over(state: State) -> bool
 }
 
 // Whether an event of the stream or a document's end has its place.
-fn fits(event: &yaml_event_body_t, state: State) -> bool
-    ensures { result ≡ fits_at (emitter_event (body_of event.now)) state }
+fn fits(event: &EventRef, state: State) -> bool
+    ensures { result ≡ fits_at (emitter_event (borrowed_body event.now)) state }
 {
     match event {
-        yaml_event_body_t::StreamStart { .. } => is_start(state),
-        yaml_event_body_t::StreamEnd => state.is_between(),
-        yaml_event_body_t::DocumentEnd { .. } => is_over(state),
+        EventRef::StreamStart { .. } => is_start(state),
+        EventRef::StreamEnd => state.is_between(),
+        EventRef::DocumentEnd { .. } => is_over(state),
         _ => false,
     }
 }
 
 /// What is wrong with an event of the stream, the end of a document, or an event that is none.
-pub fn outer_problem(levels: &Levels, event: &yaml_event_body_t) -> Option<Problem>
-    requires outer { is_outer (emitter_event (body_of event.now)) ≡ true }
-    requires other { is_document_start (emitter_event (body_of event.now)) ≡ false }
+pub fn outer_problem(levels: &Levels, event: &EventRef) -> Option<Problem>
+    requires outer { is_outer (emitter_event (borrowed_body event.now)) ≡ true }
+    requires other { is_document_start (emitter_event (borrowed_body event.now)) ≡ false }
     ensures stands { Stands levels.now }
     ensures problem { (s : Settings) (unended : Bool) (directives : List TagDirective)
         → result ≡ problem_at s (state_at levels.now unended directives)
-        (emitter_event (body_of event.now)) }
+        (emitter_event (borrowed_body event.now)) }
 {
     let state = levels.top().state;
     place_if(fits(event, state), state)
@@ -207,49 +207,48 @@ pub fn outer_problem(levels: &Levels, event: &yaml_event_body_t) -> Option<Probl
 fn names_problem(
     canonical: bool,
     left_out: bool,
-    anchor: &Option<Vec<u8>>,
-    tag: &Option<Vec<u8>>,
+    anchor: Option<&[u8]>,
+    tag: Option<&[u8]>,
 ) -> Option<Problem>
-    ensures { result ≡ or_else (anchor_problem (text_of anchor.now))
-        (tag_problem (kept_tag canonical left_out (text_of tag.now))) }
+    ensures { result ≡ or_else (anchor_problem (option_map (λ n. n.now) anchor.entry))
+        (tag_problem (kept_tag canonical left_out (option_map (λ t. t.now) tag.entry))) }
 {
-    let named = names_of(anchor, tag);
     or_else(
-        anchor_problem(named.anchor),
-        tag_problem(kept_tag(canonical, left_out, named.tag)),
+        anchor_problem(anchor),
+        tag_problem(kept_tag(canonical, left_out, tag)),
     )
 }
 
 /// What is wrong with the names in an event, in canonical form or not, wherever it stands.
 #[tactic(auto, unfolding(yaml_emit_layout::specs::Grammar::event_problem))]
-pub fn event_problem(canonical: bool, event: &yaml_event_body_t) -> Option<Problem>
-    ensures { result ≡ event_problem canonical (emitter_event (body_of event.now)) }
+pub fn event_problem(canonical: bool, event: &EventRef) -> Option<Problem>
+    ensures { result ≡ event_problem canonical (emitter_event (borrowed_body event.now)) }
 {
     match event {
-        yaml_event_body_t::Alias { anchor } => name_problem(
+        EventRef::Alias { anchor } => name_problem(
             Problem::AliasEmpty,
             Problem::AliasCharacters,
-            anchor,
+            *anchor,
         ),
-        yaml_event_body_t::Scalar {
+        EventRef::Scalar {
             anchor,
             tag,
             plain_implicit,
             quoted_implicit,
             ..
-        } => names_problem(canonical, *plain_implicit | *quoted_implicit, anchor, tag),
-        yaml_event_body_t::SequenceStart {
+        } => names_problem(canonical, *plain_implicit | *quoted_implicit, *anchor, *tag),
+        EventRef::SequenceStart {
             anchor,
             tag,
             implicit,
             ..
         }
-        | yaml_event_body_t::MappingStart {
+        | EventRef::MappingStart {
             anchor,
             tag,
             implicit,
             ..
-        } => names_problem(canonical, *implicit, anchor, tag),
+        } => names_problem(canonical, *implicit, *anchor, *tag),
         _ => None,
     }
 }

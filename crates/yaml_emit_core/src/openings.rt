@@ -1,7 +1,7 @@
 //! What opens documents, and what ends them and the stream.
 
 ghost use Rattle.std.specs.Prelude.{◌≡◌, [], Bool, List, map, true, false, Some};
-ghost use Rattle.yaml_parse_model.specs.Events.{body_of, directive_of, TagDirective};
+ghost use Rattle.yaml_parse_model.specs.Events.{borrowed_body, directive_of, TagDirective};
 ghost use Rattle.yaml_emit_layout.specs.declared.Cursor.{Cursor};
 ghost use Rattle.yaml_emit_layout.specs.Layout.{stay, when, word, choose, order_mark};
 ghost use Rattle.yaml_emit_layout.specs.Content as said;
@@ -19,7 +19,7 @@ use crate::level::{Levels, State};
 use crate::names::{put_front, put_handle, put_uri};
 use yaml_emit_layout::Settings;
 use yaml_emit_output::Draft;
-use yaml_parse_model::yaml_event_body_t;
+use yaml_parse_model::EventRef;
 use yaml_scan_model::{yaml_tag_directive_t, yaml_version_directive_t};
 
 /// What opens a document.
@@ -142,31 +142,31 @@ pub fn lay_placed(
     settings: &Settings,
     levels: &mut Levels,
     unended: bool,
-    event: &yaml_event_body_t,
+    event: &EventRef,
 ) -> bool
     requires on { IsOf settings.now draft.old }
     requires outside { levels.old.levels ≡ [] }
-    requires due { fits_at (emitter_event (body_of event.now)) levels.old.state ≡ true }
+    requires due { fits_at (emitter_event (borrowed_body event.now)) levels.old.state ≡ true }
     ensures text { (empty : Bool) (directives : List TagDirective) → Lays draft.old draft.new
         (piece settings.now (state_at levels.old unended directives)
-        (emitter_event (body_of event.now)) empty) stay }
+        (emitter_event (borrowed_body event.now)) empty) stay }
     ensures state { (empty : Bool) (directives : List TagDirective) (behind : Cursor)
         → state_at levels.new result []
         ≡ next settings.now (state_at levels.old unended directives)
-        (emitter_event (body_of event.now)) empty behind }
+        (emitter_event (borrowed_body event.now)) empty behind }
 {
     match event {
-        yaml_event_body_t::StreamStart { .. } => {
+        EventRef::StreamStart { .. } => {
             draft.put_order_mark(settings.encoding);
             levels.turn(State::FirstDocumentStart);
             false
         }
-        yaml_event_body_t::StreamEnd => {
+        EventRef::StreamEnd => {
             put_kept_dots(draft, settings, unended);
             levels.turn(State::End);
             unended
         }
-        yaml_event_body_t::DocumentEnd { implicit } => {
+        EventRef::DocumentEnd { implicit } => {
             put_line(draft, settings);
             put_dots_if(draft, settings, !*implicit);
             levels.turn(State::DocumentStart);

@@ -1,7 +1,7 @@
 //! Events of nodes: judged, laid out, settled.
 
 ghost use Rattle.std.specs.Prelude.{◌≡◌, Bool, true, IsUtf8};
-ghost use Rattle.yaml_parse_model.specs.Events.{body_of};
+ghost use Rattle.yaml_parse_model.specs.Events.{borrowed_body};
 ghost use Rattle.yaml_parse_model.specs.Constructors.{HasUtf8};
 ghost use Rattle.yaml_emit_layout.specs.Content as said;
 ghost use Rattle.yaml_emit_layout.specs.Content.{emitter_event};
@@ -12,24 +12,24 @@ ghost use Rattle.yaml_emit_core.specs.Steps.{LaysOut, goes_on, opens};
 use super::Core;
 use crate::content::{Scalar, lay_scalar};
 use crate::given::{
-    Named, Value, cut_tag_if, is_flow_mapping, is_flow_sequence, kept_tag, names_of, text_in,
+    Named, Value, cut_tag_if, is_flow_mapping, is_flow_sequence, kept_tag, text_in,
 };
 use crate::judge::{alias_problem, end_problem, scalar_problem, start_problem};
 use crate::names::Properties;
 use crate::nodes::{lay_alias, lay_end};
 use crate::starts::{Opener, lay_start};
 use yaml_emit_scalars::classes_of;
-use yaml_parse_model::yaml_event_body_t;
+use yaml_parse_model::EventRef;
 
 impl Core {
     // An event is laid out, or refused.
-    pub(super) fn lay_next(&mut self, event: &yaml_event_body_t, empty: bool)
-        requires utf8 { HasUtf8 (body_of event.now) }
+    pub(super) fn lay_next(&mut self, event: &EventRef, empty: bool)
+        requires utf8 { HasUtf8 (borrowed_body event.now) }
         requires going { goes_on self.old.sink.status self.old.place ≡ true }
-        ensures { LaysOut self.old self.new (emitter_event (body_of event.now)) empty }
+        ensures { LaysOut self.old self.new (emitter_event (borrowed_body event.now)) empty }
     {
         match event {
-            yaml_event_body_t::Scalar {
+            EventRef::Scalar {
                 anchor,
                 tag,
                 value,
@@ -37,50 +37,60 @@ impl Core {
                 quoted_implicit,
                 style,
             } => {
+                let named = Named {
+                    anchor: *anchor,
+                    tag: *tag,
+                };
                 let value = Value {
-                    value,
+                    value: *value,
                     plain: *plain_implicit,
                     quoted: *quoted_implicit,
                     style: *style,
                 };
-                self.lay_scalar(&names_of(anchor, tag), &value);
+                self.lay_scalar(&named, &value);
             }
-            yaml_event_body_t::SequenceStart { .. } | yaml_event_body_t::MappingStart { .. } => {
+            EventRef::SequenceStart { .. } | EventRef::MappingStart { .. } => {
                 self.lay_opening(event, empty)
             }
-            yaml_event_body_t::SequenceEnd => self.lay_end(true),
-            yaml_event_body_t::MappingEnd => self.lay_end(false),
-            yaml_event_body_t::Alias { anchor } => self.lay_alias(anchor),
+            EventRef::SequenceEnd => self.lay_end(true),
+            EventRef::MappingEnd => self.lay_end(false),
+            EventRef::Alias { anchor } => self.lay_alias(*anchor),
             _ => self.lay_outer(event),
         }
     }
 
     // What opens a collection.
-    fn lay_opening(&mut self, event: &yaml_event_body_t, empty: bool)
-        requires opens { opens (emitter_event (body_of event.now)) ≡ true }
+    fn lay_opening(&mut self, event: &EventRef, empty: bool)
+        requires opens { opens (emitter_event (borrowed_body event.now)) ≡ true }
         requires going { goes_on self.old.sink.status self.old.place ≡ true }
-        ensures { LaysOut self.old self.new (emitter_event (body_of event.now)) empty }
+        ensures { LaysOut self.old self.new (emitter_event (borrowed_body event.now)) empty }
     {
         match event {
-            yaml_event_body_t::SequenceStart {
+            EventRef::SequenceStart {
                 anchor,
                 tag,
                 implicit,
                 style,
             } => self.lay_start(
-                &names_of(anchor, tag),
+                &Named {
+                    anchor: *anchor,
+                    tag: *tag,
+                },
                 *implicit,
                 true,
                 is_flow_sequence(*style),
                 empty,
             ),
-            yaml_event_body_t::MappingStart {
+            EventRef::MappingStart {
                 anchor,
                 tag,
                 implicit,
                 style,
             } => self.lay_start(
-                &names_of(anchor, tag),
+                &Named {
+                    anchor: *anchor,
+                    tag: *tag,
+                },
                 *implicit,
                 false,
                 is_flow_mapping(*style),

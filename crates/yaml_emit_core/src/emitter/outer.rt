@@ -1,7 +1,7 @@
 //! Events of the stream and of its documents: judged, laid out, settled.
 
 ghost use Rattle.std.specs.Prelude.{◌≡◌, Bool, true, false, map, IfOk};
-ghost use Rattle.yaml_parse_model.specs.Events.{body_of, directive_of};
+ghost use Rattle.yaml_parse_model.specs.Events.{borrowed_body, directive_of};
 ghost use Rattle.yaml_emit_layout.specs.Content as said;
 ghost use Rattle.yaml_emit_layout.specs.Content.{emitter_event};
 ghost use Rattle.yaml_emit_core.specs.Directives.{opening_of};
@@ -13,7 +13,7 @@ use crate::judge::outer_problem;
 use crate::openings::{Opening, lay_document_start, lay_placed};
 use crate::table::DirectiveTable;
 use std::alloc::{AllocError, Global};
-use yaml_parse_model::{copy_directives, yaml_event_body_t};
+use yaml_parse_model::{EventRef, copy_directives};
 use yaml_scan_model::yaml_tag_directive_t;
 
 // A table of copies of the directives; refused only when out of memory.
@@ -34,20 +34,20 @@ fn put_table(slot: &mut DirectiveTable, table: DirectiveTable)
 
 impl Core {
     #[cold]
-    pub(super) fn lay_outer(&mut self, event: &yaml_event_body_t)
-        requires outer { is_outer (emitter_event (body_of event.now)) ≡ true }
+    pub(super) fn lay_outer(&mut self, event: &EventRef)
+        requires outer { is_outer (emitter_event (borrowed_body event.now)) ≡ true }
         requires going { goes_on self.old.sink.status self.old.place ≡ true }
         ensures { (empty : Bool) → LaysOut self.old self.new (emitter_event
-            (body_of event.now)) empty }
+            (borrowed_body event.now)) empty }
     {
         match event {
-            yaml_event_body_t::DocumentStart {
+            EventRef::DocumentStart {
                 version_directive,
                 tag_directives,
                 implicit,
             } => self.lay_document_start(&Opening {
                 version: *version_directive,
-                directives: tag_directives,
+                directives: *tag_directives,
                 implicit: *implicit,
             }),
             _ => self.lay_bare(event),
@@ -55,12 +55,12 @@ impl Core {
     }
 
     // Of the stream, the end of a document, or none.
-    fn lay_bare(&mut self, event: &yaml_event_body_t)
-        requires outer { is_outer (emitter_event (body_of event.now)) ≡ true }
-        requires other { is_document_start (emitter_event (body_of event.now)) ≡ false }
+    fn lay_bare(&mut self, event: &EventRef)
+        requires outer { is_outer (emitter_event (borrowed_body event.now)) ≡ true }
+        requires other { is_document_start (emitter_event (borrowed_body event.now)) ≡ false }
         requires going { goes_on self.old.sink.status self.old.place ≡ true }
         ensures { (empty : Bool) → LaysOut self.old self.new (emitter_event
-            (body_of event.now)) empty }
+            (borrowed_body event.now)) empty }
     {
         match outer_problem(&self.levels, event) {
             Some(problem) => self.refused = Some(problem),

@@ -1,6 +1,6 @@
 use Rattle.std.proofs.Common.{◌≡◌, ◌∙◌, ap, subst}
 use Rattle.std.specs.Prelude.{if◌then◌else◌, Some, None}
-use Rattle.yaml_parse_model.specs.Events.{body_of}
+use Rattle.yaml_parse_model.specs.Events.{borrowed_body}
 use Rattle.yaml_emit_layout.specs.Content.{emitter_event}
 use Rattle.yaml_emit_layout.specs.State.{problem_at}
 use Rattle.yaml_emit_core.specs.declared.level.State.{State}
@@ -14,7 +14,7 @@ pub returns-clause-problem : goal.returns-clause-problem
 returns-clause-problem c = λ s unended directives.
     let top = c.top-state.result in
     let ls = c.args.levels.now.levels in
-    let e = emitter_event (body_of c.args.event.now) in
+    let e = emitter_event (borrowed_body c.args.event.now) in
     let P : State → Type 0 = λ z. c.place_if.result ≡ problem_at s (state_at (record { state = z; levels = ls }) unended directives) e in
     subst P c.top-state.ensures.state (c.place_if.ensures ∙ (ap (λ z. if z then None else Some (misplaced top.state)) c.fits.ensures ∙ outer_judged e top.state unended top.flow top.indent ls s directives c.requires.outer c.requires.other c.top-state.ensures.level))
 

@@ -1,5 +1,5 @@
 use Rattle.std.proofs.Common.{◌∙◌, ap, sym, false}
-use Rattle.yaml_parse_model.specs.Events.{body_of}
+use Rattle.yaml_parse_model.specs.Events.{borrowed_body}
 use Rattle.yaml_emit_layout.specs.Content.{emitter_event}
 use Rattle.yaml_emit_core.specs.Levels.{state_at}
 use Rattle.yaml_emit_core.proofs.Outer.{outer_fits}
@@ -15,12 +15,12 @@ lay_placed-self-inside-requires-clause-on c = c.self.invariant.on
 pub lay_placed-self-inside-requires-clause-outside : goal.lay_placed-self-inside-requires-clause-outside
 lay_placed-self-inside-requires-clause-outside c =
     let s = c.self.inside in
-    (outer_fits s.levels s.unended s.settings s.directives (emitter_event (body_of c.args.event.now)) c.requires.outer c.requires.other c.outer_problem.ensures.stands (sym (c.outer_problem.ensures.problem s.settings s.unended s.directives) ∙ c.in-None.is)).0
+    (outer_fits s.levels s.unended s.settings s.directives (emitter_event (borrowed_body c.args.event.now)) c.requires.outer c.requires.other c.outer_problem.ensures.stands (sym (c.outer_problem.ensures.problem s.settings s.unended s.directives) ∙ c.in-None.is)).0
 
 pub lay_placed-self-inside-requires-clause-due : goal.lay_placed-self-inside-requires-clause-due
 lay_placed-self-inside-requires-clause-due c =
     let s = c.self.inside in
-    (outer_fits s.levels s.unended s.settings s.directives (emitter_event (body_of c.args.event.now)) c.requires.outer c.requires.other c.outer_problem.ensures.stands (sym (c.outer_problem.ensures.problem s.settings s.unended s.directives) ∙ c.in-None.is)).1
+    (outer_fits s.levels s.unended s.settings s.directives (emitter_event (borrowed_body c.args.event.now)) c.requires.outer c.requires.other c.outer_problem.ensures.stands (sym (c.outer_problem.ensures.problem s.settings s.unended s.directives) ∙ c.in-None.is)).1
 
 pub settle-requires : goal.settle-requires
 settle-requires c = let s = c.self.inside in λ f. holds_laid s _ _ c.self.invariant (c.lay_placed-self-inside.ensures.text false s.directives) f
@@ -35,11 +35,11 @@ pub returns-in-Some : goal.returns-in-Some
 returns-in-Some c = λ empty.
     let s = c.self.inside in
     let g = rw (← c.self.view_is) at c.requires.going in
-    rw (← c.self.view_is) (wrong s (emitter_event (body_of c.args.event.now)) empty c.in-Some.problem c.self.invariant g (sym (c.outer_problem.ensures.problem s.settings s.unended s.directives) ∙ c.in-Some.is))
+    rw (← c.self.view_is) (wrong s (emitter_event (borrowed_body c.args.event.now)) empty c.in-Some.problem c.self.invariant g (sym (c.outer_problem.ensures.problem s.settings s.unended s.directives) ∙ c.in-Some.is))
 
 pub returns-in-None : goal.returns-in-None
 returns-in-None c = λ empty.
     let s = c.self.inside in
     let g = rw (← c.self.view_is) at c.requires.going in
-    rw (← c.self.view_is) (laid s _ _ _ _ c.lay_placed-self-inside.result _ (emitter_event (body_of c.args.event.now)) empty c.self.invariant g (sym (c.outer_problem.ensures.problem s.settings s.unended s.directives) ∙ c.in-None.is)
+    rw (← c.self.view_is) (laid s _ _ _ _ c.lay_placed-self-inside.result _ (emitter_event (borrowed_body c.args.event.now)) empty c.self.invariant g (sym (c.outer_problem.ensures.problem s.settings s.unended s.directives) ∙ c.in-None.is)
     (c.lay_placed-self-inside.ensures.text empty s.directives) c.settle.ensures.settles c.settle.ensures.keeps (λ _. ap (state_at c.lay_placed-self-inside.new.levels c.lay_placed-self-inside.result) c.clear.ensures ∙ c.lay_placed-self-inside.ensures.state empty s.directives _))

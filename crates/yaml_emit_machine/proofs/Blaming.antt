@@ -1,12 +1,12 @@
 -- What an event that was given does: the state after it is as it has to be, and where memory was refused outside the output it is
 -- known which events stand in it.
-use Rattle.std.proofs.Common.{◌≡◌, ◌⊎◌, inl, inr, ℕ, suc, drop, List, [], ◌∷◌, ◌++◌, Bool, true, false, Option, append_assoc, refl, sym, ◌∙◌, ap, None, option_map, rules}
+use Rattle.std.proofs.Common.{◌≡◌, ◌⊎◌, inl, inr, ℕ, suc, drop, List, [], ◌∷◌, ◌++◌, Bool, false, Option, append_assoc, refl, sym, ◌∙◌, None, option_map, rules}
 use Rattle.yaml_scan_model.specs.Faults.{Fault, fault_of}
 use Rattle.yaml_emit_layout.specs.Content.{Event}
 use Rattle.yaml_emit_core.specs.Steps.{Core}
 use Rattle.yaml_emit_machine.specs.Held.{held_events}
 use Rattle.yaml_emit_machine.specs.declared.held.Held.{Held}
-use Rattle.yaml_emit_machine.specs.Judged.{first_starts, RefusesHeld}
+use Rattle.yaml_emit_machine.specs.Judged.{WaitsFirst, RefusesHeld}
 use Rattle.yaml_emit_machine.specs.Laying.{HasLaid, LaysEvents, HoldsOrLays}
 use Rattle.yaml_emit_machine.specs.declared.emitter.yaml_emitter_t.TheInside.{Inside}
 use Rattle.yaml_emit_machine.specs.Emitter.{Emitter, refusal_by}
@@ -33,7 +33,7 @@ pub refuses_as : (es : List Event) (P Q : ℕ → Type 0) → ((k : ℕ) → P k
 refuses_as es P Q f r = record {
   front = r.front;
   takes = r.takes;
-  stands = stands_as r.front (first_starts (drop r.front es) ≡ true) P Q f r.stands;
+  stands = stands_as r.front (WaitsFirst (drop r.front es)) P Q f r.stands;
 }
 
 -- ---- an event was given

@@ -1,5 +1,5 @@
 -- The events of a dump, one after another.
-use Rattle.std.proofs.Common.{◌≡◌, List, [], ◌∷◌, ◌++◌, length, Bool, true, false, refl, ◌∙◌, ap, arith, ◌<◌, sym, subst, None}
+use Rattle.std.proofs.Common.{◌≡◌, List, [], ◌∷◌, length, Bool, true, false, refl, ◌∙◌, arith, ◌<◌, sym, subst}
 use Rattle.yaml_emit_layout.specs.Content.{Event}
 use Rattle.std.proofs.lemmas.Bool.{false≢true}
 use Rattle.yaml_parse_document.specs.Documents.{Document}

@@ -1,5 +1,5 @@
 -- Events that are laid out one after another.
-use Rattle.std.proofs.Common.{◌≡◌, ◌⊎◌, inl, inr, zero, suc, ◌+◌, List, [], ◌∷◌, ◌++◌, Bool, true, false, refl, sym, ◌∙◌, ap, arith, None}
+use Rattle.std.proofs.Common.{◌≡◌, ◌⊎◌, inl, inr, zero, suc, List, [], ◌∷◌, ◌++◌, Bool, true, false, refl, sym, ◌∙◌, ap, arith, None}
 use Rattle.std.proofs.lemmas.Bool.{false≢true, or_parts}
 use Rattle.yaml_emit_layout.specs.declared.Status.TheVariants.{Going}
 use Rattle.yaml_emit_layout.specs.declared.Cursor.{Cursor}
@@ -89,7 +89,7 @@ blamed a b c h y e empty p o g is takes (inr put) = record {
   front = p.laid;
   takes = ap first_takes p.rest ∙ takes;
   stands = inr (
-    ap first_starts p.rest ∙ put.0,
+    inl (ap first_starts p.rest ∙ put.0),
     λ es whole f.
         rw (← p.encoding) (put.1 whole (some_none (settings_of b) (state_of b) b.sink (e ∷ y ++ es) whole o (p.some g p.laid zero (omega arith) es whole f))),
   );

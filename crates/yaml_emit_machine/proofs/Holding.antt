@@ -1,6 +1,6 @@
 -- What is held, and when it is laid out: the last events that were given.
-use Rattle.std.proofs.Common.{◌≡◌, ◌+◌, List, [], ◌∷◌, ◌++◌, length, Bool, true, false, refl, sym, ◌∙◌, ap, arith, append_assoc}
-use Rattle.std.specs.Prelude.{◌||◌, ◌&&◌, ◌≤◌, map}
+use Rattle.std.proofs.Common.{◌≡◌, List, [], ◌∷◌, ◌++◌, length, true, false, refl, sym, ◌∙◌, ap, arith, append_assoc}
+use Rattle.std.specs.Prelude.{◌||◌, ◌≤◌, map}
 use Rattle.std.proofs.lemmas.Bool.{le-leb}
 use Rattle.yaml_emit_layout.specs.Content.{Event, no_event, sequence_start, mapping_start, emitter_event}
 use Rattle.yaml_emit_layout.specs.State.{opens_empty}
@@ -42,11 +42,6 @@ three_enough e es h = let few = few_needs e in enough e es (omega (arith, few, h
 pub none_needed : (e : Event) (es : List Event) → needs e ≡ 0 → is_ready (e ∷ es) ≡ true
 none_needed e es h = enough e es (omega (arith, h))
 
-pub both_false : (a b : Bool) → b ≡ true → (a && b) ≡ false → a ≡ false
-both_false false b g h = refl
-both_false true true g h = absurd (cc)
-both_false true false g h = absurd (cc)
-
 -- three wait at most
 pub few_short : (xs : List Event) → is_ready xs ≡ false → length xs ≤ 3
 few_short [] h = omega arith
@@ -65,15 +60,22 @@ pub some_released : (xs : List Event) (f : Event) → releases xs f ≡ true →
 some_released [] f h = absurd (cc)
 some_released (e ∷ es) f h = refl
 
--- an event that neither releases others nor passes is held after them
+-- an event that neither releases others nor passes has to be held after them
+pub waits_as : (xs : List Event) (f : Event) → releases xs f ≡ false → passes xs f ≡ false
+    → is_ready (xs ++ f ∷ []) ≡ false
+waits_as [] f r p = p
+waits_as (e ∷ es) f r p = r
+
 pub pushed_waits : (xs ys : List Event) (f : Event) → ys ≡ xs ++ f ∷ [] → releases xs f ≡ false
     → passes xs f ≡ false → is_ready ys ≡ false
-pushed_waits [] ys f same r p = ap is_ready same ∙ p
-pushed_waits (e ∷ es) ys f same r p = ap is_ready same ∙ r
+pushed_waits xs ys f same r p = ap is_ready same ∙ waits_as xs f r p
 
 none_waits : is_ready [] ≡ false
 unfolding is_ready
 none_waits = refl
+
+pub none_ready : (xs : List Event) → xs ≡ [] → is_ready xs ≡ false
+none_ready xs h = ap is_ready h ∙ none_waits
 
 -- one that passes leaves none
 pub passed_waits : (xs : List Event) (f : Event) → passes xs f ≡ true → is_ready xs ≡ false
@@ -119,3 +121,7 @@ last_passed all (f ∷ fs) e h = absurd (cc)
 pub last_pushed : (all held new : List Event) (e : Event) → AreLast all held → new ≡ held ++ e ∷ []
     → AreLast (all ++ e ∷ []) new
 last_pushed all held new e l h = (l.0, ap (λ z. z ++ e ∷ []) l.1 ∙ append_assoc l.0 held (e ∷ []) ∙ ap (λ z. l.0 ++ z) (sym h))
+
+-- none is held any longer
+pub last_none : (all new : List Event) → new ≡ [] → AreLast all new
+last_none all new h = (all, sym (append-nil all) ∙ ap (λ z. all ++ z) (sym h))

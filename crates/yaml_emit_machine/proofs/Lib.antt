@@ -9,6 +9,7 @@ pub mod Ending
 pub mod Emitting
 pub mod Taking
 pub mod Blaming
+pub mod Stopped
 pub mod Dumped
 pub mod Opened
 pub use Rattle.yaml_emit_core.proofs.Finishing

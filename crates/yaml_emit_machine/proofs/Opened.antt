@@ -1,5 +1,5 @@
 -- How a dump is taken, event by event, and how far it has opened the stream.
-use Rattle.std.proofs.Common.{◌≡◌, ◌≢◌, List, [], Bool, true, false, ◌∙◌, Option, ◌++◌, refl}
+use Rattle.std.proofs.Common.{◌≡◌, ◌≢◌, List, [], Bool, false, ◌∙◌, Option, ◌++◌, refl}
 use Rattle.yaml_scan_model.specs.Faults.{Fault}
 use Rattle.yaml_emit_layout.specs.declared.Status.{Status}
 use Rattle.yaml_emit_layout.specs.declared.Status.TheVariants.{Going}
@@ -29,7 +29,7 @@ at_stopped : (s : Status) (v : Settings) (st : State) (o : Output) (es : List Ev
 at_stopped Going v st o es whole n h = absurd (n refl)
 at_stopped s v st o es whole n h = h
 
-starved_finishes : (old new : Core) (xs ys : List Event) (whole : List Item) → Starves old new
+pub starved_finishes : (old new : Core) (xs ys : List Event) (whole : List Item) → Starves old new
     → Finishes (settings_of old) (state_of old) old.sink xs whole
     → Finishes (settings_of new) (state_of new) new.sink ys whole
 unfolding Finishes
@@ -37,7 +37,7 @@ starved_finishes old new xs ys whole s h =
     let e = finishes_ends old.sink.status (settings_of old) (state_of old) old.sink xs whole h in
     at_stopped new.sink.status (settings_of new) (state_of new) new.sink ys whole s.stopped ((s.text e.0).ends nothing_more whole e.1)
 
-starved_all : (old new : Core) (xs ys : List Event) (whole : List Item) → Starves old new
+pub starved_all : (old new : Core) (xs ys : List Event) (whole : List Item) → Starves old new
     → LaysAll (settings_of old) (state_of old) old.sink xs whole
     → LaysAll (settings_of new) (state_of new) new.sink ys whole
 unfolding LaysAll

@@ -183,13 +183,13 @@ inside_begins i core e s z inv fr a b f most =
 
 -- ---- after a fault
 
-refused_by : (s : Status) (b : Bool) (p : Option Problem) (f : Fault) → s ≡ Going
+pub refused_by : (s : Status) (b : Bool) (p : Option Problem) (f : Fault) → s ≡ Going
     → fault_by s b p ≡ Some f → (x : Problem) × (p ≡ Some x)
 refused_by Going b None f g h = absurd (cc)
 refused_by Going b (Some x) f g h = (x, refl)
 refused_by s b p f g h = absurd (cc)
 
-stuck_first : (core : Core) (f : Fault) (xs ys : List Event)
+pub stuck_first : (core : Core) (f : Fault) (xs ys : List Event)
     → refusal_by core.place core.sink.status core.starved ≡ Some f → core.sink.status ≡ Going
     → first_wrong (settings_of core) (state_of core) xs
     ≡ first_wrong (settings_of core) (state_of core) ys
@@ -198,7 +198,7 @@ stuck_first core f xs ys h g =
     let r = refused_by core.sink.status core.starved (refused_at core.place) f g h in
     or_some (refused_at core.place) _ r.0 r.1 ∙ sym (or_some (refused_at core.place) _ r.0 r.1)
 
-stuck_all : (core : Core) (f : Fault) (xs ys : List Event) (whole : List Item)
+pub stuck_all : (core : Core) (f : Fault) (xs ys : List Event) (whole : List Item)
     → refusal_by core.place core.sink.status core.starved ≡ Some f
     → LaysAll (settings_of core) (state_of core) core.sink xs whole
     → LaysAll (settings_of core) (state_of core) core.sink ys whole

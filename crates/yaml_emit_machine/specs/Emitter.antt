@@ -73,7 +73,8 @@ pub record Emitter : Type 0 where
   pub course : Course
   -- that the output goes on, or what has stopped it: the limit, an indentation that is too deep, or out of memory
   pub status : Status
-  -- it was stopped by memory that was refused for the open collections, the directives or a dump, and not for the text
+  -- it was stopped by memory that was refused for the open collections, the directives, the held events or a dump, and not for the
+  -- text
   pub starved : Bool
 
 -- the output as the definitions of a text see it

@@ -122,9 +122,13 @@ abbrev pub first_starts : List Event → Bool
 first_starts [] = false
 first_starts (e ∷ es) = is_document_start e
 
--- Memory was refused outside the output for one of these events: all before it are laid out, and it is too; or, where it begins
--- a document, whose directives are looked at first, nothing of it. `laid n` says that the first n are laid out, and nothing else.
+-- the first one begins a document, whose directives are looked at before it is laid out; or it still has to be held
+abbrev pub WaitsFirst : List Event → Type 0
+WaitsFirst es = (first_starts es ≡ true) ⊎ (is_ready es ≡ false)
+
+-- Memory was refused outside the output for one of these events, or for a copy of the last one that was to be held with it: all
+-- before it are laid out, and it is too, or nothing of it. `laid n` says that the first n are laid out, and nothing else.
 pub record RefusesHeld (es : List Event) (laid : ℕ → Type 0) : Type 0 where
   pub front : ℕ
   pub takes : first_takes (drop front es) ≡ true
-  pub stands : laid (suc front) ⊎ ((first_starts (drop front es) ≡ true) × laid front)
+  pub stands : laid (suc front) ⊎ (WaitsFirst (drop front es) × laid front)

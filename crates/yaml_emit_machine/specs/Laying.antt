@@ -55,7 +55,8 @@ pub record LaysEvents (old : Core) (before : List Event) (new : Core) (after : L
     pub blames : old.starved ≡ false → new.starved ≡ true
         → RefusesHeld before (HasLaid old before new.sink.bytes)
 
--- An event was given after those that are held, and what no longer has to be held was laid out, the event itself too.
+-- An event was given after those that are held, and what no longer has to be held was laid out, the event itself too; or nothing
+-- more is laid out, and none is held.
 pub record HoldsOrLays (old : Core) (held : Held) (e : Event) (new : Core) (left : Held) : Type 0
   where
     pub lays : LaysEvents old (held_events held ++ e ∷ []) new (held_events left)

@@ -54,7 +54,7 @@ HasFirst old es output n = (x : Encoding) (more : List Event) (whole : List Item
     → LaysFirst n old x (es ++ more) whole → encode x whole ≡ output
 
 -- Where it is noted, the text wanted no memory: the output ends where the text of an event does that opens a collection or a
--- document, or before a document's start.
+-- document, or before a document's start, or before the first event that is held.
 abbrev pub BlamesLevels : Event → Emitter → Emitter → Type 0
 BlamesLevels e old new = old.starved ≡ false → new.starved ≡ true
     → RefusesHeld (old.held ++ e ∷ []) (HasFirst old (e ∷ []) new.output)

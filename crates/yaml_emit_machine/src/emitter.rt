@@ -2,7 +2,7 @@
 
 ghost use Rattle.std.specs.Prelude.{◌≡◌, ◌≤◌, ◌∷◌, ◌++◌, [], length, Some, None, true, false, option_map, OnErr};
 ghost use Rattle.yaml_scan_model.specs.Faults.{Fault, fault_of};
-ghost use Rattle.yaml_parse_model.specs.Events.{body_of};
+ghost use Rattle.yaml_parse_model.specs.Events.{borrowed_body};
 ghost use Rattle.yaml_parse_model.specs.Constructors.{HasUtf8};
 ghost use Rattle.yaml_emit_layout.specs.Content.{emitter_event};
 ghost use Rattle.yaml_emit_machine.specs.Emitter.{stream_encoding, IsNew, IsLimited, ShowsFront, IsWhole, Answers, Stays};
@@ -23,7 +23,7 @@ use std::alloc::Global;
 use std::marker::Model;
 use yaml_emit_core::Core;
 use yaml_emit_layout::{RequestedSettings, settled};
-use yaml_parse_model::yaml_event_body_t;
+use yaml_parse_model::EventRef;
 use yaml_scan_model::{yaml_encoding_t, yaml_fault_t};
 
 /// An emitter: events to text.
@@ -55,11 +55,11 @@ impl Model for yaml_emitter_t {
 }
 
 // The encoding of a stream that starts with an event.
-fn stream_encoding(event: &yaml_event_body_t) -> yaml_encoding_t
-    ensures { result ≡ stream_encoding (emitter_event (body_of event.now)) }
+fn stream_encoding(event: &EventRef) -> yaml_encoding_t
+    ensures { result ≡ stream_encoding (emitter_event (borrowed_body event.now)) }
 {
     match event {
-        yaml_event_body_t::StreamStart { encoding } => *encoding,
+        EventRef::StreamStart { encoding } => *encoding,
         _ => yaml_encoding_t::YAML_ANY_ENCODING,
     }
 }
@@ -191,9 +191,10 @@ impl yaml_emitter_t {
     // Out of line: it runs once a stream.
     #[inline(never)]
     #[tactic(auto, using(yaml_emit_core::proofs::Fresh::settled_step))]
-    fn begin(&mut self, event: &yaml_event_body_t)
+    fn begin(&mut self, event: &EventRef)
         requires { self.old.fresh ≡ true }
-        ensures begins { ComesIntoForce self.old (emitter_event (body_of event.now)) self.new }
+        ensures begins { ComesIntoForce self.old (emitter_event (borrowed_body event.now))
+            self.new }
     {
         let settings = settled(self.requested_settings, stream_encoding(event));
         self.core = Core::new(self.alloc, settings, self.limit);
@@ -201,21 +202,21 @@ impl yaml_emitter_t {
     }
 
     // An event is given after those that are held.
-    fn lay(&mut self, event: &mut yaml_event_body_t)
-        requires utf8 { HasUtf8 (body_of event.old) }
+    fn lay(&mut self, event: &EventRef)
+        requires utf8 { HasUtf8 (borrowed_body event.now) }
         requires right { self.old.fault ≡ None }
         requires begun { self.old.fresh ≡ false }
-        ensures { TakesOne self.old (emitter_event (body_of event.old)) self.new }
+        ensures { TakesOne self.old (emitter_event (borrowed_body event.now)) self.new }
     {
-        hold_or_lay(&mut self.core, &mut self.held, event);
+        hold_or_lay(self.alloc, &mut self.core, &mut self.held, event);
         note(&self.core, &mut self.fault);
     }
 
     // An emitter without a fault takes an event.
-    fn begin_or_lay(&mut self, event: &mut yaml_event_body_t)
-        requires utf8 { HasUtf8 (body_of event.old) }
+    fn begin_or_lay(&mut self, event: &EventRef)
+        requires utf8 { HasUtf8 (borrowed_body event.now) }
         requires right { self.old.fault ≡ None }
-        ensures { TakesOne self.old (emitter_event (body_of event.old)) self.new }
+        ensures { TakesOne self.old (emitter_event (borrowed_body event.now)) self.new }
     {
         if self.fresh {
             self.begin(event);
@@ -244,42 +245,27 @@ pub fn answer(emitter: &yaml_emitter_t) -> Result<(), yaml_fault_t>
     }
 }
 
-/// Takes an event, unless a fault has come. What is left of the event counts for nothing.
+/// Takes an event, unless a fault has come.
 // Out of line: the whole work on an event stands once, not in each of its callers.
 #[inline(never)]
-pub fn take_event(emitter: &mut yaml_emitter_t, event: &mut yaml_event_body_t)
-    requires { HasUtf8 (body_of event.old) }
-    ensures takes { TakesEvents emitter.old (emitter_event (body_of event.old) ∷ []) emitter.new
-        [] }
-    ensures memory { NotesMemoryOf (emitter_event (body_of event.old)) emitter.old emitter.new }
-    ensures blames { BlamesLevels (emitter_event (body_of event.old)) emitter.old emitter.new }
+pub fn take_event(emitter: &mut yaml_emitter_t, event: &EventRef)
+    requires { HasUtf8 (borrowed_body event.now) }
+    ensures takes { TakesEvents emitter.old (emitter_event (borrowed_body event.now) ∷ [])
+        emitter.new [] }
+    ensures memory { NotesMemoryOf (emitter_event (borrowed_body event.now)) emitter.old
+        emitter.new }
+    ensures blames { BlamesLevels (emitter_event (borrowed_body event.now)) emitter.old
+        emitter.new }
     ensures stays { Stays emitter.old emitter.new }
     ensures few { length emitter.new.held ≤ 3 }
     ensures opened { (emitter.new.opened ≡ emitter.old.opened)
         × (emitter.new.closed ≡ emitter.old.closed) }
     ensures begun { emitter.new.fresh ≡ false }
     ensures last { emitter.old.fault ≡ None → AreLast (emitter.old.held
-        ++ emitter_event (body_of event.old) ∷ []) emitter.new.held }
+        ++ emitter_event (borrowed_body event.now) ∷ []) emitter.new.held }
 {
     match emitter.fault {
         Some(_) => (),
         None => emitter.begin_or_lay(event),
     }
-}
-
-/// The same of an event that is handed over.
-pub fn take_event_over(emitter: &mut yaml_emitter_t, event: yaml_event_body_t)
-    requires { HasUtf8 (body_of event) }
-    ensures takes { TakesEvents emitter.old (emitter_event (body_of event) ∷ []) emitter.new [] }
-    ensures memory { NotesMemoryOf (emitter_event (body_of event)) emitter.old emitter.new }
-    ensures blames { BlamesLevels (emitter_event (body_of event)) emitter.old emitter.new }
-    ensures stays { Stays emitter.old emitter.new }
-    ensures few { length emitter.new.held ≤ 3 }
-    ensures opened { (emitter.new.opened ≡ emitter.old.opened)
-        × (emitter.new.closed ≡ emitter.old.closed) }
-    ensures begun { emitter.new.fresh ≡ false }
-{
-    let mut event = event;
-    take_event(emitter, &mut event);
-    drop(event);
 }

@@ -50,7 +50,7 @@ impl yaml_emitter_t {
         match events.next(document, event) {
             Ok(false) => false,
             Ok(true) => {
-                take_event(self, event);
+                take_event(self, &event.borrowed());
                 self.is_right()
             }
             Err(_) => {

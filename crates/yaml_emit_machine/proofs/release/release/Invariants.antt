@@ -1,5 +1,5 @@
 use Rattle.std.proofs.Common.{◌≡◌, ◌≤◌, [], ◌∷◌, ◌++◌, false, length}
-use Rattle.yaml_parse_model.specs.Events.{body_of}
+use Rattle.yaml_parse_model.specs.Events.{borrowed_body}
 use Rattle.yaml_emit_layout.specs.Content.{emitter_event}
 use Rattle.yaml_emit_core.specs.Steps.{goes_on}
 use Rattle.yaml_emit_machine.specs.Held.{held_events, HeldUtf8, AreLast}
@@ -9,8 +9,8 @@ use Rattle.yaml_emit_machine.proofs.release.release.Given as goal
 abbrev pub invariant-loop-held : goal.invariant-loop-held
 invariant-loop-held l = record {
   lays : LaysEvents l.initial.core
-      (held_events l.initial.held ++ emitter_event (body_of l.event) ∷ []) l.core
-      (held_events l.held ++ emitter_event (body_of l.event) ∷ []);
+      (held_events l.initial.held ++ emitter_event (borrowed_body l.event) ∷ []) l.core
+      (held_events l.held ++ emitter_event (borrowed_body l.event) ∷ []);
   utf8 : HeldUtf8 l.held;
   last : AreLast (held_events l.initial.held) (held_events l.held);
   settings : l.core.settings ≡ l.initial.core.settings;

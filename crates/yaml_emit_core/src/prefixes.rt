@@ -7,19 +7,15 @@ ghost use Rattle.yaml_emit_core.specs.Prefixes.{key, at, entry_of, entry_cmp, sm
 ghost use Rattle.yaml_emit_layout.specs.Tags.{has_shorter_prefix};
 
 use std::alloc::{AllocError, Global};
-use yaml_scan_model::{SHORT, stands_in_front, yaml_tag_directive_t};
+use yaml_scan_model::yaml_tag_directive_t;
 
 /// Whether a tag begins with the prefix, and goes on after it.
-// Inlined: of a handle's own prefix the length is known, and it is a comparison or two.
-#[inline(always)]
 pub fn has_shorter_prefix(prefix: &[u8], tag: &[u8]) -> bool
     ensures inside { result ≡ true → length prefix.now < length tag.now }
     ensures value { result ≡ has_shorter_prefix prefix.now tag.now }
 {
     if tag.len() <= prefix.len() {
         false
-    } else if prefix.len() <= SHORT {
-        stands_in_front(tag, prefix)
     } else {
         &tag[..prefix.len()] == prefix
     }

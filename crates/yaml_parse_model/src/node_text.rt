@@ -7,7 +7,6 @@ use crate::prefix::yaml_text_fault_t;
 use crate::text::copy_text;
 use std::alloc::Global;
 use std::marker::Model;
-use yaml_scan_model::moved;
 
 // A text of at most that many bytes lies in its node: as many as a longer one's place takes there.
 const WITHIN: usize = 24;
@@ -129,20 +128,5 @@ impl yaml_node_text_t {
         Ok(yaml_node_text_t {
             kept: Kept::Long { text },
         })
-    }
-
-    /// The text. A long one is taken out; of one of up to 24 bytes the room is left.
-    // Inlined into the loader, of each scalar.
-    #[inline(always)]
-    pub fn taken(text: &mut Vec<u8>) -> yaml_node_text_t
-        ensures { result ≡ text.old.items }
-    {
-        if text.len() <= WITHIN {
-            return kept_short(text);
-        }
-        let text = moved(text);
-        yaml_node_text_t {
-            kept: Kept::Long { text },
-        }
     }
 }

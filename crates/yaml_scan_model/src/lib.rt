@@ -15,12 +15,8 @@ pub use name::{
     yaml_node_type_t, yaml_scalar_style_t, yaml_sequence_style_t, yaml_token_type_t,
 };
 pub use problem::{Context, Problem, ScanFault};
-pub use record::{
-    mark_again, yaml_mark_t, yaml_simple_key_t, yaml_tag_directive_t, yaml_version_directive_t,
-};
+pub use record::{yaml_mark_t, yaml_simple_key_t, yaml_tag_directive_t, yaml_version_directive_t};
 pub use token::{yaml_token_body_t, yaml_token_t};
 pub use yaml_scan_types::{
-    ByteTest, DEFAULT_INDENT, DEFAULT_WIDTH, SHORT, all_pass, are_ends, followed, is_run, is_short,
-    moved, put_back, put_between, put_each, put_near, put_short, refilled, room_of,
-    stands_in_front, yaml_memory_fault, yaml_parser_state_t, yaml_token_delete,
+    DEFAULT_INDENT, DEFAULT_WIDTH, yaml_memory_fault, yaml_parser_state_t, yaml_token_delete,
 };

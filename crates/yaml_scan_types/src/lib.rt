@@ -7,10 +7,8 @@ mod token;
 pub use memory::yaml_memory_fault;
 pub use token::{yaml_token_body_t, yaml_token_delete, yaml_token_t};
 pub use yaml_scan_types_plain::{
-    ByteTest, DEFAULT_INDENT, DEFAULT_WIDTH, SHORT, all_pass, are_ends, followed, is_run, is_short,
-    moved, put_back, put_between, put_each, put_near, put_short, refilled, room_of,
-    stands_in_front, yaml_break_t, yaml_encoding_t, yaml_error_type_t, yaml_event_type_t,
-    yaml_fault_t, yaml_mapping_style_t, yaml_mark_t, yaml_node_type_t, yaml_origin_t,
-    yaml_parser_state_t, yaml_scalar_style_t, yaml_sequence_style_t, yaml_simple_key_t,
-    yaml_tag_directive_t, yaml_token_type_t, yaml_version_directive_t,
+    DEFAULT_INDENT, DEFAULT_WIDTH, yaml_break_t, yaml_encoding_t, yaml_error_type_t,
+    yaml_event_type_t, yaml_fault_t, yaml_mapping_style_t, yaml_mark_t, yaml_node_type_t,
+    yaml_origin_t, yaml_parser_state_t, yaml_scalar_style_t, yaml_sequence_style_t,
+    yaml_simple_key_t, yaml_tag_directive_t, yaml_token_type_t, yaml_version_directive_t,
 };

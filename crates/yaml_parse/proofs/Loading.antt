@@ -1,14 +1,16 @@
 -- What feeding a loader with a parser's events comes to.
-use Rattle.std.proofs.Common.{◌≡◌, ◌⊎◌, ◌≤◌, ℕ, inl, inr, List, [], ◌∷◌, Option, Some, None, refl, sym, ap, subst, ◌∙◌, arith}
+use Rattle.std.proofs.Common.{◌≡◌, ◌⊎◌, ◌≤◌, ℕ, inl, inr, List, [], ◌∷◌, Option, Some, None, Result, refl, sym, ap, subst, ◌∙◌, arith}
 use Rattle.yaml_scan_model.specs.declared.yaml_origin_t.TheVariants.{Loader}
 use Rattle.yaml_scan_model.specs.Faults.{Fault, IsMemoryFault, memory_fault, scan_layers}
 use Rattle.yaml_parse_model.specs.Source.{HasMore}
-use Rattle.yaml_parse_model.specs.Events.{Event}
+use Rattle.yaml_parse_model.specs.Events.{Event, EventBody}
+use Rattle.yaml_parse_model.specs.declared.yaml_mark_t.{yaml_mark_t}
+use Rattle.yaml_parse_model.specs.declared.yaml_fault_t.{yaml_fault_t}
 use Rattle.yaml_parse_grammar.specs.Resolve.{Told}
 use Rattle.yaml_parse_laws_trees.specs.parse_document.Documents.{Document, no_document}
 use Rattle.yaml_parse_grammar.specs.Remaining.{FaultOf, IsFinished, ParserRemaining, next_unasked}
 use Rattle.yaml_parse.specs.Finds.{GivesEnd, GivesNext}
-use Rattle.yaml_parse_laws_trees.specs.parse_loader.Loading.{Loading, LoadStep, goes_on, loaded, refused, step}
+use Rattle.yaml_parse_laws_trees.specs.parse_loader.Loading.{Feeds, Loading, LoadStep, goes_on, loaded, refused, step, step_body}
 use Rattle.yaml_parse_laws_trees.specs.NextLoad.{left_behind}
 use Rattle.yaml_parse_laws_trees.proofs.ByStep.{Loads, load_on, behind_all, loads, loads_of, unasked_on, unasked_at_refusal, unasked_of, unasked_by, answer_unasked, LoadGives, LoadRefuses, KeepsLoading}
 use Rattle.yaml_parse_laws_trees.specs.Falling.{AreFalling}
@@ -26,6 +28,15 @@ fed i o n l e c k h s = (
   sym k.unasked ∙ ap (λ (gs : List Told). unasked_at_refusal gs o.ending_unasked l) h.events ∙ ap (λ (x : LoadStep). unasked_on x n.unasked (unasked_at_refusal n.events o.ending_unasked)) s,
   sym (ap (λ (gs : List Told). left_behind gs o.unasked) h.events) ∙ k.left,
 )
+
+-- What a loader makes of an event that it was given in parts.
+pub fed_in_parts : (b : EventBody) (from to : yaml_mark_t) (e : Event) (l m : Loading)
+    (r : Result (Option Document) yaml_fault_t) → b ≡ e.body → from ≡ e.start_mark
+    → to ≡ e.end_mark → Feeds (step_body b from to l) r m → Feeds (step e l) r m
+fed_in_parts b from to e l m r body start end h =
+    subst (λ (z : EventBody). Feeds (step_body z e.start_mark e.end_mark l) r m) body
+    (subst (λ (z : yaml_mark_t). Feeds (step_body b z e.end_mark l) r m) start
+    (subst (λ (z : yaml_mark_t). Feeds (step_body b from z l) r m) end h))
 
 -- A loader goes on after an event that its step takes.
 pub keeps_on : (i o n : ParserRemaining) (l m : Loading) (e : Event) → KeepsLoading i o l

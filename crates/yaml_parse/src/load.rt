@@ -13,7 +13,7 @@ use yaml_parse_model::{yaml_event_body_t, yaml_event_t, yaml_token_source_t};
 use yaml_scan_model::{yaml_fault_t, yaml_memory_fault, yaml_origin_t};
 
 // Both are let go. A call for each way out of a load: there each field that is freed by itself would be a step of its own.
-pub(crate) fn let_go(loader: Loader, event: yaml_event_t) {
+fn let_go(loader: Loader, event: yaml_event_t) {
     loader.let_go();
     drop(event);
 }
@@ -51,18 +51,21 @@ pub fn yaml_parser_load<S: yaml_token_source_t>(
     let mut fault = yaml_memory_fault(yaml_origin_t::Parser);
     'events: loop {
         match yaml_parser_parse_into(parser, &mut event, &mut fault) {
-            yaml_found_t::Event => match loader.feed(&mut event) {
-                Ok(None) => {}
-                Ok(Some(document)) => {
-                    let_go(loader, event);
-                    return Ok(document);
+            yaml_found_t::Event => {
+                let marks = (event.start_mark, event.end_mark);
+                match loader.feed(event.body.borrowed(), marks) {
+                    Ok(None) => {}
+                    Ok(Some(document)) => {
+                        let_go(loader, event);
+                        return Ok(document);
+                    }
+                    Err(refused) => {
+                        let_go(loader, event);
+                        parser.refuse(&refused);
+                        return Err(refused);
+                    }
                 }
-                Err(refused) => {
-                    let_go(loader, event);
-                    parser.refuse(&refused);
-                    return Err(refused);
-                }
-            },
+            }
             yaml_found_t::End => {
                 let_go(loader, event);
                 return Ok(no_document(alloc));

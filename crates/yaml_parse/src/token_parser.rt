@@ -17,12 +17,11 @@ ghost use Rattle.yaml_parse_states.specs.Turned.{Means};
 ghost use Rattle.yaml_parse.specs.Finds.{Finds, IsHeldBy, IsUtf8Found, IsStackFound};
 
 use crate::found::yaml_found_t;
-use crate::load::let_go;
 use std::alloc::Global;
 use std::marker::Model;
 use yaml_parse_document::{no_document, yaml_document_t};
 use yaml_parse_loader::Loader;
-use yaml_parse_model::{EventRef, ZERO_MARK, yaml_event_body_t, yaml_event_t};
+use yaml_parse_model::{EventRef, ZERO_MARK, yaml_event_t};
 use yaml_parse_states::{Parser, Refusal, Step};
 use yaml_scan_model::{
     yaml_error_type_t, yaml_fault_t, yaml_mark_t, yaml_memory_fault, yaml_origin_t,
@@ -157,29 +156,30 @@ impl<T: Tokens> TokenParser<T> {
     {
         let alloc = self.allocator();
         let mut loader = Loader::new(alloc);
-        let mut event = yaml_event_t::unplaced(yaml_event_body_t::No);
-        let mut fault = yaml_memory_fault(yaml_origin_t::Parser);
         'events: loop {
-            match self.parse_into(&mut event, &mut fault) {
-                yaml_found_t::Event => match loader.feed(&mut event) {
-                    Ok(None) => {}
-                    Ok(Some(document)) => {
-                        let_go(loader, event);
-                        return Ok(document);
+            match self.next() {
+                yaml_found_t::Event => {
+                    let marks = self.marks();
+                    match loader.feed(self.event(), marks) {
+                        Ok(None) => {}
+                        Ok(Some(document)) => {
+                            loader.let_go();
+                            return Ok(document);
+                        }
+                        Err(refused) => {
+                            loader.let_go();
+                            self.refuse(&refused);
+                            return Err(refused);
+                        }
                     }
-                    Err(refused) => {
-                        let_go(loader, event);
-                        self.refuse(&refused);
-                        return Err(refused);
-                    }
-                },
+                }
                 yaml_found_t::End => {
-                    let_go(loader, event);
+                    loader.let_go();
                     return Ok(no_document(alloc));
                 }
                 yaml_found_t::Refused => {
-                    let_go(loader, event);
-                    return Err(fault);
+                    loader.let_go();
+                    return Err(self.fault());
                 }
             }
         }

@@ -1,7 +1,7 @@
-use Rattle.std.proofs.Common.{rules}
+use Rattle.std.proofs.Common.{Ok, Err, refl, rules}
 use Rattle.yaml_scan_model.specs.Faults.{fault_of}
 use Rattle.yaml_parse_model.specs.Events.{event_of}
-use Rattle.yaml_parse.proofs.Loading.{keeps_on, loads_document, loads_nothing, load_faulty, load_refused, load_more, load_asked, fed_more, fed_asked}
+use Rattle.yaml_parse.proofs.Loading.{fed_in_parts, keeps_on, loads_document, loads_nothing, load_faulty, load_refused, load_more, load_asked, fed_more, fed_asked}
 use Rattle.yaml_parse_laws_trees.proofs.NextLoads.{load_is_next, refusal_is_next}
 use Rattle.yaml_parse_laws_trees.proofs.LoadsCome.{load_stays, load_tells}
 use Rattle.yaml_parse.proofs.load.yaml_parser_load.Goals as goal
@@ -9,7 +9,7 @@ use Rattle.yaml_parse.proofs.load.yaml_parser_load.Goals as goal
 pub returns-in-Ok-Some-clause-next : goal.returns-in-Ok-Some-clause-next
 returns-in-Ok-Some-clause-next g c =
     let next = rw c.in-Event.is at c.yaml_parser_parse_into.ensures.finds in
-    let fed = rw c.in-Ok-Some.field-0-is at c.in-Ok-Some.ensures.feeds in
+    let fed = rw c.in-Ok-Some.field-0-is at (fed_in_parts _ _ _ (event_of c.yaml_parser_parse_into.new.event) c.events.loader c.feed.new.self (Ok c.in-Ok-Some.field-0) c.borrowed.ensures refl refl c.in-Ok-Some.ensures.feeds) in
     load_is_next c.args.parser.now c.yaml_parser_parse_into.new.parser c.in-Ok-Some.document
     (loads_document c.args.parser.now c.events.parser c.yaml_parser_parse_into.new.parser c.events.loader (event_of c.yaml_parser_parse_into.new.event) c.in-Ok-Some.document c.events.invariant
     next fed.0)
@@ -17,7 +17,7 @@ returns-in-Ok-Some-clause-next g c =
 pub events-preserved : goal.events-preserved
 events-preserved g c =
     let next = rw c.in-Event.is at c.yaml_parser_parse_into.ensures.finds in
-    let fed = rw c.in-Ok-None.field-0-is at c.in-Ok-None.ensures.feeds in
+    let fed = rw c.in-Ok-None.field-0-is at (fed_in_parts _ _ _ (event_of c.yaml_parser_parse_into.new.event) c.events.loader c.feed.new.self (Ok c.in-Ok-None.field-0) c.borrowed.ensures refl refl c.in-Ok-None.ensures.feeds) in
     keeps_on c.args.parser.now c.events.parser c.yaml_parser_parse_into.new.parser c.events.loader c.feed.new.self (event_of c.yaml_parser_parse_into.new.event) c.events.invariant
     next fed
 
@@ -38,7 +38,7 @@ returns-in-Err-clause-refused g c =
     let next = rw c.in-Event.is at c.yaml_parser_parse_into.ensures.finds in
     refusal_is_next c.args.parser.now c.refuse.new.self (fault_of c.in-Err.refused)
     (load_refused c.args.parser.now c.events.parser c.yaml_parser_parse_into.new.parser c.refuse.new.self c.events.loader (event_of c.yaml_parser_parse_into.new.event) (fault_of c.in-Err.refused)
-    c.events.invariant next c.in-Err.ensures.feeds.0 c.refuse.ensures.finished c.refuse.ensures.answered c.refuse.ensures.unasked)
+    c.events.invariant next (fed_in_parts _ _ _ (event_of c.yaml_parser_parse_into.new.event) c.events.loader c.feed.new.self (Err c.in-Err.refused) c.borrowed.ensures refl refl c.in-Err.ensures.feeds).0 c.refuse.ensures.finished c.refuse.ensures.answered c.refuse.ensures.unasked)
     (fed_more c.args.parser.now c.events.parser c.yaml_parser_parse_into.new.parser c.events.loader (event_of c.yaml_parser_parse_into.new.event) c.events.invariant next)
     (fed_asked c.args.parser.now c.events.parser c.yaml_parser_parse_into.new.parser c.refuse.new.self c.events.loader (event_of c.yaml_parser_parse_into.new.event) (fault_of c.in-Err.refused) c.events.invariant next c.refuse.ensures.unasked)
 

@@ -176,7 +176,7 @@ def events(text: Text, *, encoding: Encoding | str = Encoding.ANY) -> bytes:
 
 def parse(text: Text, *, encoding: Encoding | str = Encoding.ANY) -> list[Event]:
     """All events of the text, with their places. Raises the text's fault."""
-    return unpacked(parsed(input_of(text, encoding)))
+    return unpacked(parsed(input_of(text, encoding)).once())
 
 
 def emit(events: Iterable[Event], settings: Settings = _USUAL) -> bytes:
@@ -194,4 +194,4 @@ def emit(events: Iterable[Event], settings: Settings = _USUAL) -> bytes:
             packed.add(event)
         except struct.error as error:
             raise ArgumentRefused(f"a number of an event: {error}") from None
-    return ask(_library.emit, (), *packed.lists(), record_of(settings))[0]
+    return packed.emitted(settings)

@@ -269,14 +269,14 @@ def _merged(value: Any) -> list[Any]:
 
 def _constructed(source: Source, records: Records, fault: YamlFault | None, unique_keys: bool, only: bool) -> Iterator[Any]:
     """The documents of the records, then the text's fault; with `only` the first one alone."""
-    found = _Construction(records, unique_keys)
+    found = _Construction(records.once(), unique_keys)
     try:
         for document in found.documents():
             if only:
                 past_the_only(source, records, fault, found.start, found.end)
             yield document
     except _Trouble:
-        error: Exception = explained(source, records, fault, found.start, unique_keys, only)
+        error: Exception = explained(source, found.start, unique_keys, only)
     except _Undefined as missing:
         error = undefined_alias(source, records, missing.args[0])
     else:

@@ -2,11 +2,13 @@
 
 from __future__ import annotations
 
+import ctypes
 import struct
 from collections.abc import Callable
 from typing import Any
 
 from . import _library
+from ._calls import Settings, judge_kind, record_of
 from ._events import (
     KINDS,
     SCALAR_STYLES,
@@ -177,9 +179,19 @@ class Packed:
         else:
             self.record(number, encoding=event.encoding if isinstance(event, StreamStart) else 0)
 
-    def lists(self) -> tuple[Any, ...]:
+    def _lists(self) -> tuple[Any, ...]:
         """The three lists as a call takes them, each with its number of items. Nothing is added while they are in use."""
         directives = bytearray().join(struct.pack(_library.DIRECTIVE, *it) for it in self.directives)
         count = len(self.records) // _RECORD.size
         lists = ((self.records, count), (directives, len(self.directives)), (self.bytes, len(self.bytes)))
         return tuple(it for data, size in lists for it in (_library.lent(data), size))
+
+    def emitted(self, settings: Settings) -> bytes:
+        """The text of the events, which are let go before it is copied. Raises what the emitter refuses."""
+        answer = _library.new_answer()
+        try:
+            judge_kind(_library.emit(*self._lists(), record_of(settings), ctypes.byref(answer)), answer, ())
+            self.records, self.directives, self.bytes = bytearray(), [], bytearray()
+            return answer.text.get()
+        finally:
+            _library.free(answer)

@@ -169,9 +169,10 @@ def _node(kind: int, tag: str, style: int, value: str, places: Any) -> Any:
     return node
 
 
-def _only(documents: list[Any], records: Records, source: Source) -> Any:
+def _only(documents: list[Any], source: Source) -> Any:
     """The only document, or None."""
     if len(documents) > 1:
+        records = loadable(source)
         starts = [number for number, kind in enumerate(records.kinds()) if kind == _DOCUMENT_START]
         place = source.mark(records.mark(starts[1], START))
         raise ManyDocuments("there is more than one document", problem_mark=place)
@@ -189,7 +190,7 @@ def load_all(text: Text, *, encoding: Encoding | str = Encoding.ANY) -> list[Loa
     [{'a': ['1', 'b'], 'c': ['1', 'b']}, 'd']
     """
     source = input_of(text, encoding)
-    return _loaded(loadable(source), source)
+    return _loaded(loadable(source).once(), source)
 
 
 def load(text: Text, *, encoding: Encoding | str = Encoding.ANY) -> Loaded | None:
@@ -198,14 +199,13 @@ def load(text: Text, *, encoding: Encoding | str = Encoding.ANY) -> Loaded | Non
     Raises as `load_all`, and a `ManyDocuments` where there are more.
     """
     source = input_of(text, encoding)
-    records = loadable(source)
-    return cast("Loaded | None", _only(_loaded(records, source), records, source))
+    return cast("Loaded | None", _only(_loaded(loadable(source).once(), source), source))
 
 
 def compose_all(text: Text, *, encoding: Encoding | str = Encoding.ANY) -> list[Node]:
     """The text's documents as nodes with tags, styles and places; an alias is the same node again. Raises the text's fault."""
     source = input_of(text, encoding)
-    return _composed(loadable(source), source)
+    return _composed(loadable(source).once(), source)
 
 
 def compose(text: Text, *, encoding: Encoding | str = Encoding.ANY) -> Node | None:
@@ -217,8 +217,7 @@ def compose(text: Text, *, encoding: Encoding | str = Encoding.ANY) -> Node | No
     <ScalarNode tag:yaml.org,2002:int at line 1, column 4>
     """
     source = input_of(text, encoding)
-    records = loadable(source)
-    return cast("Node | None", _only(_composed(records, source), records, source))
+    return cast("Node | None", _only(_composed(loadable(source).once(), source), source))
 
 
 def check(text: Text, *, encoding: Encoding | str = Encoding.ANY) -> None:

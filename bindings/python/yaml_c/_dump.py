@@ -8,8 +8,7 @@ from dataclasses import replace
 from itertools import chain
 from typing import Any, Protocol
 
-from . import _library
-from ._calls import Settings, ask, record_of
+from ._calls import Settings
 from ._convert import Packed
 from ._events import DocumentStart, Encoding, ScalarStyle, StreamEnd, StreamStart
 from ._faults import RepresenterError
@@ -99,7 +98,7 @@ class Writer:
     def text(self, settings: Settings) -> bytes:
         """The text of all documents."""
         self.packed.add(StreamEnd())
-        return ask(_library.emit, (), *self.packed.lists(), record_of(settings))[0]
+        return self.packed.emitted(settings)
 
 
 class _Texts(Writer):

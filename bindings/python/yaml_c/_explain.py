@@ -9,6 +9,7 @@ from collections import deque
 from collections.abc import Iterator
 from typing import Any
 
+from ._calls import front
 from ._faults import ComposerFault, ConstructorError, DuplicateKey, Kind, ManyDocuments, YamlFault
 from ._records import START, Records
 from ._source import Source
@@ -67,6 +68,8 @@ def past_the_only(
     """Raises what comes after the document that begins and ends at these records: another one, or a fault."""
     after = records.kind(end + 1)
     if after == _DOCUMENT_START:
+        # what was read of the first document may be given back
+        records, _ = front(source)
         raise ManyDocuments(
             "but found another document",
             problem_mark=source.mark(records.mark(end + 1, START)),
@@ -262,11 +265,10 @@ def _is_merge(key: _Node) -> bool:
     return key.tag == PREFIX + "merge"
 
 
-def explained(
-    source: Source, records: Records, fault: YamlFault | None, start: int, unique_keys: bool, only: bool
-) -> Exception:
-    """The error for which the document that begins at a record can't be constructed."""
+def explained(source: Source, start: int, unique_keys: bool, only: bool) -> Exception:
+    """The error for which the document that begins at a record can't be constructed. The text is read again for it."""
     try:
+        records, fault = front(source)
         found = _root(source, records, start)
         if found is None:
             return fault or AssertionError("the document doesn't end")

@@ -7,6 +7,7 @@ from __future__ import annotations
 
 import ctypes
 import os
+import sys
 from typing import Any
 
 _HERE = os.path.dirname(os.path.abspath(__file__))
@@ -203,3 +204,18 @@ emit = _call("yaml_c_emit", *_LIST, *_LIST, *_LIST, _POINTER, _POINTER)
 # The heap that the library takes its blocks from is the process's own.
 release = ctypes.CDLL(None).free
 release.argtypes, release.restype = [ctypes.c_void_p], None
+# Linux takes back pages whose bytes nobody reads again, by its MADV_DONTNEED; elsewhere they stay until their block is freed.
+_UNNEEDED, _TAKES_BACK = 4, sys.platform == "linux"
+_PAGE = os.sysconf("SC_PAGESIZE") if _TAKES_BACK else 1
+if _TAKES_BACK:
+    _advise = ctypes.CDLL(None).madvise
+    _advise.argtypes, _advise.restype = [ctypes.c_void_p, ctypes.c_size_t, ctypes.c_int], ctypes.c_int
+
+
+def give_back(at: int, end: int) -> int:
+    """Gives the whole pages between two addresses of a block back to the system: their bytes are 0 from now on. What is left
+    begins at the answer."""
+    first, last = -(-at // _PAGE) * _PAGE, end // _PAGE * _PAGE
+    if _TAKES_BACK and first < last:
+        _advise(first, last - first, _UNNEEDED)
+    return max(at, last)

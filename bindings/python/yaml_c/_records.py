@@ -14,8 +14,10 @@ from ._faults import Mark
 #: Where a record has the span of its anchor, behind it that of its tag, that of its value, and its two marks.
 ANCHOR, TAG, VALUE, START, END = 56, 72, 88, 104, 136
 _SIZE = struct.calcsize(_library.EVENT)
-# So many records are copied together, and so many values decoded.
-_RECORDS_AT_ONCE, _VALUES_AT_ONCE = 1024, 128
+# So many records are copied together, and so many values decoded; the second divides the first.
+_RECORDS_AT_ONCE, _VALUES_AT_ONCE = 256, 64
+# So many bytes of texts are given back together.
+_BYTES_AT_ONCE = 1 << 16
 
 
 class Records:
@@ -26,6 +28,12 @@ class Records:
         self._parsed = parsed
         self._events: int = parsed.events
         self._bytes: int = parsed.bytes.at
+        self._is_read_once = False
+
+    def once(self) -> Records:
+        """These records, read one after another and never again: what columns and values have passed is given back."""
+        self._is_read_once = True
+        return self
 
     def __del__(self) -> None:
         _library.free(self._parsed)
@@ -49,9 +57,11 @@ class Records:
     def _pieces(self) -> Iterator[bytes]:
         """The bytes of the records, some records at a time. They aren't unpacked from a view: CPython crashes where its
         collector clears one that an unpacking iterator looks at."""
-        count = self._parsed.events_len
+        count, left = self._parsed.events_len, self._events
         for number in range(0, count, _RECORDS_AT_ONCE):
             size = min(_RECORDS_AT_ONCE, count - number) * _SIZE
+            if self._is_read_once:
+                left = _library.give_back(left, self._events + number * _SIZE)
             yield _library.copied(self._events + number * _SIZE, size)
 
     def column(self, at: int, layout: str) -> Iterator[tuple[Any, ...]]:
@@ -73,9 +83,13 @@ class Records:
     def values(self) -> Iterator[str]:
         """The value of each record; empty where its kind has none."""
         spans = self.column(VALUE, "2Q")
+        left = read = self._bytes
         while block := list(islice(spans, _VALUES_AT_ONCE)):
+            if self._is_read_once and read - left >= _BYTES_AT_ONCE:
+                left = _library.give_back(left, read)
             low = min((at for at, length in block if length), default=0)
             high = max(at + length for at, length in block)
+            read = max(read, self._bytes + high)
             data = _library.viewed(self._bytes + low, high - low)
             text = str(data, "utf-8", "replace")
             if text.isascii():

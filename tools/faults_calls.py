@@ -190,8 +190,8 @@ def said(run):
 
 def answered(text, call):
     """The object that was answered, where another was wanted, or nothing."""
-    front, middle, got = (text or "").partition("` is another in ")
-    return json.loads(got) if middle and front.startswith("`") else None
+    name, middle, got = (text or "").partition(" is another in ")
+    return json.loads(got) if middle and name.isidentifier() else None
 
 
 def is_memory(fault, call):

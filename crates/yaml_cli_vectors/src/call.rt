@@ -1,97 +1,46 @@
 //! The calls that lines name.
 
-use crate::engine::{self, Asked, Compared, Made};
-use crate::input::Input;
+use crate::difference::compare;
 use crate::lines::{Reply, tokens};
-use crate::reading::{Turn, parse_input, parse_tokens, scan};
-use crate::writing::{Given, emit_line, emit_pieces};
-use crate::{checks, limits, lookup, program, read_all, run};
+use crate::reading::{next_tokens, parse_input, parse_tokens, scan};
+use crate::writing::{emit_again, emit_line};
+use crate::{checks, engine, program, run};
 use serde_json::Value;
+use yaml_scan::yaml_encoding_t;
 
-// What a line calls.
+/// An input, and how it is encoded.
 #[derive(Clone, Copy)]
-enum Call {
-    // Something that is asked of an input.
-    Ask(Asked),
-    // Something that is made of an input.
-    Make(Made),
-    // A comparison of two inputs.
-    Compare(Compared),
-    // A session over an input, or the source of a parser.
-    Scan(Turn),
-    // A parser of an input.
-    Parse(Turn),
-    // A parser of tokens.
-    ParseTokens(Turn),
-    // A parser of tokens, or of an input, by calls.
-    ParseCalls,
-    // An emitter of what the line lists.
-    Emit(Given),
-    // Emitters of the same events, under other limits or in pieces.
-    EmitAgain { by_limit: bool },
-    LeastLimit,
-    Lookup,
-    Run,
-    Main,
-    ReadAll,
-    Told,
-    Tokens,
-    Check,
+pub struct Input<'a> {
+    pub text: &'a [u8],
+    pub from: yaml_encoding_t,
 }
 
-const CALLS: [(&'static str, Call); 33] = [
-    ("decode", Call::Ask(Asked::Decode)),
-    ("events", Call::Ask(Asked::Events)),
-    ("loads", Call::Ask(Asked::Loads)),
-    ("keys", Call::Ask(Asked::Keys)),
-    ("line", Call::Ask(Asked::FaultLine)),
-    ("reformat", Call::Make(Made::Reformatted)),
-    ("normalize", Call::Make(Made::Normalized)),
-    ("reload", Call::Make(Made::Reloaded)),
-    ("same", Call::Compare(Compared::Same)),
-    ("diff", Call::Compare(Compared::Diff)),
-    ("diff_documents", Call::Compare(Compared::DiffDocuments)),
-    ("scan", Call::Scan(Turn::Tokens)),
-    ("scan_calls", Call::Scan(Turn::Listed)),
-    ("next_tokens", Call::Scan(Turn::Counted)),
-    ("parse", Call::Parse(Turn::Events)),
-    ("parse_tokens", Call::ParseTokens(Turn::Events)),
-    ("load", Call::Parse(Turn::Documents)),
-    ("load_tokens", Call::ParseTokens(Turn::Documents)),
-    ("parse_calls", Call::ParseCalls),
-    ("emit", Call::Parse(Turn::Kept)),
-    ("emit_events", Call::Emit(Given::Events)),
-    ("emit_calls", Call::Emit(Given::Calls)),
-    ("dump", Call::Emit(Given::Document)),
-    ("emit_limits", Call::EmitAgain { by_limit: true }),
-    ("emit_pieces", Call::EmitAgain { by_limit: false }),
-    ("least_limit", Call::LeastLimit),
-    ("lookup", Call::Lookup),
-    ("run", Call::Run),
-    ("main", Call::Main),
-    ("read_all", Call::ReadAll),
-    ("told", Call::Told),
-    ("tokens", Call::Tokens),
-    ("check", Call::Check),
-];
-
-// What a call answers on the line's input.
-fn answer_input(reply: &mut Reply, line: &Value, call: Call, input: &Input<'_>) {
+// What a call answers on the line's input. A line of `emit` wants no events, and if its input is refused it needn't have settings.
+fn answer_input(reply: &mut Reply, line: &Value, call: &str, input: &Input<'_>) {
     match call {
-        Call::Ask(asked) => engine::ask(reply, line, asked, input),
-        Call::Make(made) => engine::make(reply, line, made, input),
-        Call::Compare(compared) => engine::compare(reply, line, compared, input),
-        Call::Scan(asked) => scan(reply, line, asked, input),
-        Call::Parse(asked) => parse_input(reply, line, asked, input),
-        Call::LeastLimit => limits::least_limit(reply, line, input),
-        Call::Lookup => lookup::answer(reply, line, input),
-        Call::Run => run::run(reply, line, input),
-        _ => parse_input(reply, line, Turn::Listed, input),
+        "decode" => engine::decode(reply, line, input),
+        "events" | "normalize" | "reload" => engine::make(reply, line, call, input),
+        "reformat" => engine::reformat(reply, line, input),
+        "loads" => engine::loads(reply, input),
+        "keys" => engine::keys(reply, input),
+        "line" => engine::fault_line(reply, input),
+        "lookup" => engine::look_up(reply, line, input),
+        "least_limit" => engine::least_limit(reply, line, input),
+        "same" | "diff" | "diff_documents" => compare(reply, line, call, input),
+        "run" => run::run(reply, line, input),
+        "scan" | "scan_calls" => scan(reply, line, input),
+        "next_tokens" => next_tokens(reply, line, input),
+        "parse" | "load" | "parse_calls" => parse_input(reply, line, "answer", input),
+        "emit" => {
+            parse_input(reply, line, "events", input);
+            emit_line(reply, line, call);
+        }
+        _ => reply.miss("/call"),
     }
 }
 
 // One function owns the input of all calls that have one.
-fn ask_input(reply: &mut Reply, line: &Value, call: Call) {
+fn ask_input(reply: &mut Reply, line: &Value, call: &str) {
     let from = reply.encoding(line, "/from");
     let text = reply.input(line, "/input");
     let text = text.as_slice();
@@ -100,18 +49,23 @@ fn ask_input(reply: &mut Reply, line: &Value, call: Call) {
 
 /// What the call that the line names answers; the reply keeps the fault where it only refuses.
 pub fn answer(rt: &HostRuntime, reply: &mut Reply, line: &Value) {
-    match reply.choice(line, "/call", &CALLS, Call::Check) {
-        Call::ParseTokens(asked) => parse_tokens(reply, line, asked),
-        Call::ParseCalls if line.get("tokens").is_some() => {
-            parse_tokens(reply, line, Turn::Listed)
-        }
-        Call::Emit(given) => emit_line(reply, line, given, &mut []),
-        Call::EmitAgain { by_limit } => emit_pieces::answer(reply, line, by_limit),
-        Call::Main => program::run(rt, reply, line),
-        Call::ReadAll => read_all::answer(reply, line),
-        Call::Told => engine::told(reply, line),
-        Call::Tokens => tokens(reply, line),
-        Call::Check => checks::answer(reply, line),
-        call => ask_input(reply, line, call),
+    let call = reply.text(line, "/call");
+    reply.again = match call {
+        "scan" => Some("scan"),
+        "parse" | "parse_tokens" | "emit" => Some("parse"),
+        "load" | "load_tokens" => Some("load"),
+        _ => None,
+    };
+    match call {
+        "parse_tokens" | "load_tokens" => parse_tokens(reply, line),
+        "parse_calls" if line.get("tokens").is_some() => parse_tokens(reply, line),
+        "emit_events" | "emit_calls" | "dump" => emit_line(reply, line, call),
+        "emit_limits" | "emit_pieces" => emit_again(reply, line, call),
+        "main" => program::run(rt, reply, line),
+        "read_all" => run::read_all(reply, line),
+        "told" => engine::told(reply, line),
+        "tokens" => tokens(reply, line),
+        "check" => checks::answer(reply, line),
+        _ => ask_input(reply, line, call),
     }
 }

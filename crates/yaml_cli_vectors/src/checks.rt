@@ -8,36 +8,24 @@ use crate::lines::{Part, Reply};
 use serde_json::Value;
 use yaml_scan::yaml_error_type_t;
 
-// What is checked.
-#[derive(Clone, Copy)]
-enum Check {
-    OutputStops,
-    Constructors,
-    Documents,
-}
-
-const CHECKS: [(&'static str, Check); 3] = [
-    ("an output stops", Check::OutputStops),
-    ("constructors", Check::Constructors),
-    ("documents", Check::Documents),
-];
-
 /// Whether what the line names is right, thing by thing.
 pub fn answer(reply: &mut Reply, line: &Value) {
     reply.field("answer", Part::Object);
-    match reply.choice(line, "/of", &CHECKS, Check::OutputStops) {
-        Check::OutputStops => {
+    match reply.text(line, "/of") {
+        "an output stops" => {
             output::put_stop(reply, "full", 0, 5, yaml_error_type_t::YAML_WRITER_ERROR);
+            let most = i32::MAX as u64;
             output::put_stop(
                 reply,
                 "deep",
-                2147483647,
+                most,
                 2,
                 yaml_error_type_t::YAML_EMITTER_ERROR,
             );
         }
-        Check::Constructors => made::refuses_texts(reply, line),
-        Check::Documents => made::documents(reply, line),
+        "constructors" => made::refuses_texts(reply, line),
+        "documents" => made::documents(reply, line),
+        _ => reply.miss("/of"),
     }
     reply.put(Part::EndObject);
 }

@@ -1,8 +1,16 @@
-//! Where two inputs part, as a line has it.
+//! The calls that compare two inputs: same and both diffs.
 
-use crate::lines::{Part, Reply};
-use yaml_round::{yaml_cause_t, yaml_difference_t, yaml_step_t};
+use crate::call::Input;
+use crate::lines::{Part, Reply, word_at};
+use serde_json::Value;
+use yaml_round::{
+    yaml_diff, yaml_diff_documents, yaml_difference_t, yaml_fault_t, yaml_same, yaml_side_t,
+    yaml_step_t,
+};
 use yaml_scan::{yaml_event_type_t, yaml_mark_t};
+
+// The words of `yaml_cause_t`.
+const CAUSES: &'static str = "only_first only_second kind directives value tag quotes anchor";
 
 // A number of that name, and the text of a key where it is a value's that has one.
 fn put_step(reply: &mut Reply, step: &yaml_step_t) {
@@ -18,57 +26,58 @@ fn put_step(reply: &mut Reply, step: &yaml_step_t) {
     reply.put(Part::EndObject);
 }
 
-// The event of one input: where it begins and ends, and the number of its kind.
-fn put_event(
-    reply: &mut Reply,
-    name: &str,
-    mark: yaml_mark_t,
-    end: yaml_mark_t,
-    type_: yaml_event_type_t,
-) {
-    reply.field(name, Part::Object);
+// Where the event of one input begins and ends, and the number of its kind.
+fn put_event(reply: &mut Reply, mark: yaml_mark_t, end: yaml_mark_t, type_: yaml_event_type_t) {
+    reply.put(Part::Object);
     reply.field("mark", Part::Mark(mark));
     reply.field("end", Part::Mark(end));
     reply.field("type", Part::Count(type_ as u64));
     reply.put(Part::EndObject);
 }
 
-fn cause_word(cause: yaml_cause_t) -> &'static str {
-    match cause {
-        yaml_cause_t::OnlyFirst => "only_first",
-        yaml_cause_t::OnlySecond => "only_second",
-        yaml_cause_t::Kind => "kind",
-        yaml_cause_t::Directives => "directives",
-        yaml_cause_t::Value => "value",
-        yaml_cause_t::Tag => "tag",
-        yaml_cause_t::Quotes => "quotes",
-        yaml_cause_t::Anchor => "anchor",
-    }
-}
-
-/// The field `answer`: the place where they part.
-pub fn put_difference(reply: &mut Reply, difference: &yaml_difference_t) {
-    reply.field("answer", Part::Object);
-    reply.field("document", Part::Count(difference.document));
+// The place where two inputs part.
+fn put_difference(reply: &mut Reply, it: &yaml_difference_t) {
+    reply.put(Part::Object);
+    reply.field("document", Part::Count(it.document));
     reply.field("path", Part::List);
-    for step in difference.path.iter() {
+    for step in it.path.iter() {
         put_step(reply, step);
     }
     reply.put(Part::EndList);
-    put_event(
-        reply,
-        "first",
-        difference.first_mark,
-        difference.first_end,
-        difference.first_type,
-    );
-    put_event(
-        reply,
-        "second",
-        difference.second_mark,
-        difference.second_end,
-        difference.second_type,
-    );
-    reply.field_word("cause", cause_word(difference.cause));
+    reply.put_name("first");
+    put_event(reply, it.first_mark, it.first_end, it.first_type);
+    reply.put_name("second");
+    put_event(reply, it.second_mark, it.second_end, it.second_type);
+    reply.field("cause", Part::Word(word_at(CAUSES, it.cause as usize)));
     reply.put(Part::EndObject);
+}
+
+// The side that is refused, and its fault.
+fn put_side(reply: &mut Reply, (side, fault): (yaml_side_t, yaml_fault_t)) {
+    reply.field("side", Part::Word(word_at("First Second", side as usize)));
+    reply.fault = Some(fault);
+}
+
+/// What comparing the input with the line's second one answers: whether they have the same content, or where they, or their
+/// documents, part, null where they don't; or the side that is refused and its fault.
+pub fn compare(reply: &mut Reply, line: &Value, call: &str, input: &Input<'_>) {
+    let Input { text, from } = *input;
+    let from2 = reply.encoding(line, "/from2");
+    let text2 = reply.input(line, "/input2");
+    let parted = match call {
+        "same" => match yaml_same(reply.alloc, text, from, &text2, from2) {
+            Ok(same) => return reply.field("answer", Part::Flag(same)),
+            Err(refused) => Err(refused),
+        },
+        "diff" => yaml_diff(reply.alloc, text, from, &text2, from2),
+        _ => yaml_diff_documents(reply.alloc, text, from, &text2, from2),
+    };
+    match parted {
+        Ok(Some(difference)) => {
+            reply.put_name("answer");
+            put_difference(reply, &difference);
+        }
+        Ok(None) => reply.field("answer", Part::Null),
+        Err(refused) => put_side(reply, refused),
+    }
 }

@@ -6,17 +6,12 @@ mod call;
 mod checks;
 mod difference;
 mod engine;
-mod input;
-mod limits;
 mod lines;
-mod lookup;
 mod program;
-mod read_all;
 mod reading;
 mod replay;
 mod run;
 mod tally;
-mod text;
 mod writing;
 
 use std::io;
@@ -24,10 +19,7 @@ use tally::Tally;
 
 fn main(rt: HostRuntime) -> io::Result<()> {
     let lines = io::read_to_string(rt.alloc(), rt.reader())?;
-    let mut tally = Tally {
-        passed: 0,
-        failed: 0,
-    };
+    let mut tally = Tally::default();
     for line in lines.lines() {
         replay::replay(&rt, &mut tally, line);
     }

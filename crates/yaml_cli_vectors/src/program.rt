@@ -8,18 +8,17 @@ fn words_of<'a>(reply: &mut Reply, line: &'a Value) -> Vec<&'a str> {
     let mut words = Vec::new(reply.alloc);
     for listed in reply.list(line, "/words") {
         let word = reply.text(listed, "");
-        reply.push(&mut words, word);
+        reply.room(words.push(word));
     }
     words
 }
 
 // What stands there, or whether something does where the line wants that.
 fn put_text(reply: &mut Reply, line: &Value, name: &'static str, text: &[u8], is_utf8: bool) {
-    reply.put_name(name);
     match line.get(name) {
-        Some(Value::Bool(_)) => reply.put(Part::Flag(!text.is_empty())),
-        _ if is_utf8 => reply.put_utf8(text),
-        _ => reply.put_bytes(text),
+        Some(Value::Bool(_)) => reply.field(name, Part::Flag(!text.is_empty())),
+        _ if is_utf8 => reply.field_utf8(name, text),
+        _ => reply.field_bytes(name, text),
     }
 }
 
@@ -27,11 +26,10 @@ fn put_text(reply: &mut Reply, line: &Value, name: &'static str, text: &[u8], is
 /// asks all there is to ask after the run.
 pub fn run(rt: &HostRuntime, reply: &mut Reply, line: &Value) {
     let words = words_of(reply, line);
-    // Whether the output's writer fails to pass on what it took.
-    let unflushed = reply.flag(line, "/unflushed");
     let mut input = ScriptedReader::of(reply, line);
-    let mut output = ScriptedWriter::of(reply, line, "/writes", unflushed);
-    let mut errors = ScriptedWriter::of(reply, line, "/tells", false);
+    let mut output = ScriptedWriter::of(reply, line, "/writes");
+    output.flush_fails = reply.flag(line, "/unflushed");
+    let mut errors = ScriptedWriter::of(reply, line, "/tells");
     let status = yaml_main(rt, words.as_slice(), &mut input, &mut output, &mut errors);
     reply.field("status", Part::Count(u64::from(status)));
     put_text(reply, line, "output", output.received.as_slice(), false);

@@ -1,12 +1,33 @@
 //! What the calls that read answer on a line: scan, scan_calls, next_tokens, parse, parse_calls, load and emit, of an input or of
 //! listed tokens.
 
-mod found;
 mod parser;
-mod source;
 mod tokens;
-mod turn;
 
-pub use source::{parse_input, parse_tokens};
-pub use tokens::scan;
-pub use turn::Turn;
+use crate::lines::Reply;
+pub use parser::{parse_input, parse_tokens};
+use serde_json::Value;
+pub use tokens::{next_tokens, scan};
+use yaml_scan::yaml_fault_t;
+
+// The call of a session or a parser that comes after that many.
+fn call_at<'a>(reply: &mut Reply, line: &'a Value, number: u64) -> Option<&'a str> {
+    if reply.again.is_some() {
+        return reply.again;
+    }
+    match reply.list(line, "/calls").get(number as usize) {
+        Some(call) => Some(reply.text(call, "")),
+        None => None,
+    }
+}
+
+// Puts the fault; where one call is made again and again it stands after all that was answered, or alone where events are parsed.
+// Whether there may be more.
+fn put_refused(reply: &mut Reply, line: &Value, fault: yaml_fault_t) -> bool {
+    match reply.again {
+        None => reply.put_fault(line, &fault),
+        Some("parse") => reply.done(Some(fault)),
+        Some(_) => reply.fault = Some(fault),
+    }
+    reply.again.is_none()
+}

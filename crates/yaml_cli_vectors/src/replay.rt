@@ -22,9 +22,14 @@ fn judge_text(rt: &HostRuntime, tally: &mut Tally, line: &Value, text: &[u8]) {
     match Value::from_slice(rt.alloc(), text) {
         Ok(got) => match first_wrong(line, &got) {
             None => tally.passed = tally.passed.wrapping_add(1),
-            Some(wrong) => tally.tell(rt, wrong, str::from_utf8(text).unwrap_or("")),
+            Some(name) => tally.tell(
+                rt,
+                name,
+                " is another in ",
+                str::from_utf8(text).unwrap_or(""),
+            ),
         },
-        Err(error) => tally.tell(rt, json_error(&error), ""),
+        Err(error) => tally.tell(rt, json_error(&error), "", ""),
     }
 }
 
@@ -36,7 +41,8 @@ fn put_answer(rt: &HostRuntime, reply: &mut Reply, line: &Value) {
         if reply.is_refused {
             *reply = Reply::new(reply.alloc);
         }
-        reply.name_fault(line, &fault);
+        reply.put_name("fault");
+        reply.put_fault(line, &fault);
         if line.get("fault_line").is_some() {
             field_line(reply, "fault_line", &fault);
         }
@@ -48,7 +54,7 @@ fn replay_call(rt: &HostRuntime, tally: &mut Tally, line: &Value) {
     put_answer(rt, &mut reply, line);
     match reply.finish() {
         Ok(text) => judge_text(rt, tally, line, text.as_slice()),
-        Err((what, of)) => tally.tell(rt, what, of),
+        Err((what, of)) => tally.tell(rt, what, of, ""),
     }
 }
 
@@ -56,6 +62,6 @@ fn replay_call(rt: &HostRuntime, tally: &mut Tally, line: &Value) {
 pub fn replay(rt: &HostRuntime, tally: &mut Tally, line: &str) {
     match Value::from_str(rt.alloc(), line) {
         Ok(line) => replay_call(rt, tally, &line),
-        Err(error) => tally.tell(rt, json_error(&error), ""),
+        Err(error) => tally.tell(rt, json_error(&error), "", ""),
     }
 }

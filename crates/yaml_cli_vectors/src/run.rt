@@ -1,11 +1,12 @@
-//! The call `run`: a run of a command over memory.
+//! The calls `run`, a run of a command over memory, and `read_all`.
 
-use crate::input::{Input, settings};
-use crate::lines::{Part, Reply};
-use crate::text::put_answer;
+use crate::call::Input;
+use crate::engine::put_text;
+use crate::lines::{Part, Reply, ScriptedReader, engine_settings};
 use serde_json::Value;
 use yaml_round::{
-    yaml_command_t, yaml_form_t, yaml_run, yaml_run_fault_t, yaml_std_input_t, yaml_std_output_t,
+    yaml_command_t, yaml_form_t, yaml_read_all, yaml_run, yaml_run_fault_t, yaml_std_input_t,
+    yaml_std_output_t,
 };
 
 const COMMANDS: [(&'static str, yaml_command_t); 3] = [
@@ -14,14 +15,15 @@ const COMMANDS: [(&'static str, yaml_command_t); 3] = [
     ("Events", yaml_command_t::Events),
 ];
 
-/// Why a run was refused, where it wasn't by a fault of the input.
-pub fn refusal_word(fault: &yaml_run_fault_t) -> &'static str {
-    match fault {
+// Puts why a run was refused.
+fn put_refused(reply: &mut Reply, fault: yaml_run_fault_t) {
+    let word = match fault {
         yaml_run_fault_t::Read => "Read",
         yaml_run_fault_t::TooLong => "TooLong",
-        yaml_run_fault_t::Yaml(_) => "Yaml",
         yaml_run_fault_t::Write { .. } => "Write",
-    }
+        yaml_run_fault_t::Yaml(fault) => return reply.done(Some(fault)),
+    };
+    reply.field("refused", Part::Word(word));
 }
 
 // The text that the command makes of the input, after which stands its form.
@@ -29,15 +31,17 @@ fn run_over(
     text: &mut Vec<u8>,
     reply: &mut Reply,
     line: &Value,
-    command: yaml_command_t,
     input: &Input<'_>,
 ) -> Result<Option<yaml_form_t>, yaml_run_fault_t> {
+    let command = reply.choice(line, "/command", &COMMANDS);
     let limit = reply.count(line, "/input_limit");
-    let settings = settings(reply, line);
+    let settings = engine_settings(reply, line);
+    let mut source = yaml_std_input_t::new(input.text);
+    let mut output = yaml_std_output_t::new(text);
     yaml_run(
         reply.alloc,
-        &mut yaml_std_input_t::new(input.text),
-        &mut yaml_std_output_t::new(text),
+        &mut source,
+        &mut output,
         command,
         input.from,
         &settings,
@@ -48,11 +52,27 @@ fn run_over(
 /// The text that the line's command makes of its input, and the form that it has; `TooLong` where the input has more bytes
 /// than `input_limit`.
 pub fn run(reply: &mut Reply, line: &Value, input: &Input<'_>) {
-    let command = reply.choice(line, "/command", &COMMANDS, yaml_command_t::Fmt);
     let mut text = Vec::new(reply.alloc);
-    match run_over(&mut text, reply, line, command, input) {
-        Ok(form) => put_answer(reply, line, text.as_slice(), form),
-        Err(yaml_run_fault_t::Yaml(fault)) => reply.refused(fault),
-        Err(fault) => reply.field_word("refused", refusal_word(&fault)),
+    match run_over(&mut text, reply, line, input) {
+        Ok(form) => put_text(reply, line, text.as_slice(), form),
+        Err(fault) => put_refused(reply, fault),
+    }
+}
+
+/// What is read of the line's input, which comes as its steps say, under its limit; or why there are no bytes. And how many bytes the
+/// reader was asked for, where the line wants that.
+pub fn read_all(reply: &mut Reply, line: &Value) {
+    let limit = reply.count(line, "/input_limit");
+    let mut reader = ScriptedReader::of(reply, line);
+    match yaml_read_all(reply.alloc, &mut yaml_std_input_t::new(&mut reader), limit) {
+        Ok(text) => put_text(reply, line, text.as_slice(), None),
+        Err(fault) => put_refused(reply, fault),
+    }
+    if line.get("sizes").is_some() {
+        reply.field("sizes", Part::List);
+        for size in reader.sizes.as_slice() {
+            reply.put(Part::Count(*size as u64));
+        }
+        reply.put(Part::EndList);
     }
 }

@@ -46,30 +46,21 @@ fn is_new(document: &yaml_document_t) -> bool {
         & !document.end_implicit()
 }
 
-// Whether the document is made as it is written there, its end explicit, and implicit once that is set; none where a text of it is
-// refused.
-fn makes(reply: &mut Reply, line: &Value, path: &'static str) -> Option<bool> {
-    let fields = reply.value(line, path);
+/// A document that is made, with a version and a directive: it is as it is written there, its end explicit, and implicit once that is
+/// set. And one that is refused, a text of whose directive isn't UTF-8.
+pub fn documents(reply: &mut Reply, line: &Value) {
+    let fields = reply.value(line, "/made_of");
     match document_of(reply, fields) {
         Ok(mut document) => {
             let is_new = is_new(&document);
             yaml_document_set_end_implicit(&mut document, true);
             let is_set = document.end_implicit();
             yaml_document_delete(document);
-            Some(is_new && is_set)
+            reply.field("made", Part::Flag(is_new && is_set));
         }
-        Err(yaml_text_fault_t::NotUtf8) => None,
-        Err(fault) => {
-            reply.refuse_text(fault);
-            Some(false)
-        }
+        Err(fault) => reply.refuse_text(Some(fault)),
     }
-}
-
-/// A document that is made, with a version and a directive, and one that is refused, a text of whose directive isn't UTF-8.
-pub fn documents(reply: &mut Reply, line: &Value) {
-    let made = makes(reply, line, "/made_of");
-    let refused = makes(reply, line, "/refused_of");
-    reply.field("made", Part::Flag(made == Some(true)));
-    reply.field("refused", Part::Flag(refused.is_none()));
+    let fields = reply.value(line, "/refused_of");
+    let refused = document_of(reply, fields).err() == Some(yaml_text_fault_t::NotUtf8);
+    reply.field("refused", Part::Flag(refused));
 }

@@ -10,25 +10,16 @@ use yaml_emit::{
     yaml_emitter_t,
 };
 use yaml_parse::{yaml_event_body_t, yaml_event_t};
-use yaml_scan::{yaml_error_type_t, yaml_mark_t, yaml_sequence_style_t};
+use yaml_scan::{yaml_error_type_t, yaml_sequence_style_t};
 
 // Gives the start of a flow sequence, and tells the kind of the fault that is answered.
 fn give_start(emitter: &mut yaml_emitter_t) -> Option<yaml_error_type_t> {
-    let zero = yaml_mark_t {
-        index: 0,
-        line: 0,
-        column: 0,
-    };
-    let event = yaml_event_t {
-        body: yaml_event_body_t::SequenceStart {
-            anchor: None,
-            tag: None,
-            implicit: true,
-            style: yaml_sequence_style_t::YAML_FLOW_SEQUENCE_STYLE,
-        },
-        start_mark: zero,
-        end_mark: zero,
-    };
+    let event = yaml_event_t::unplaced(yaml_event_body_t::SequenceStart {
+        anchor: None,
+        tag: None,
+        implicit: true,
+        style: yaml_sequence_style_t::YAML_FLOW_SEQUENCE_STYLE,
+    });
     match yaml_emitter_emit(emitter, event) {
         Ok(()) => None,
         Err(fault) => Some(fault.kind),
@@ -62,28 +53,19 @@ fn stand_in(indent: u64) -> yaml_emitter_stand_t
 /// the next one stops the output with that kind of fault, as does each after it. What is put then isn't there.
 pub fn put_stop(reply: &mut Reply, name: &str, indent: u64, right: u64, wanted: yaml_error_type_t) {
     let alloc = reply.alloc;
-    let none = RequestedSettings::new();
-    match yaml_emitter_resume(
-        alloc,
-        none,
-        3,
-        stand_in(indent),
-        Vec::new(alloc),
-        Vec::new(alloc),
-    ) {
+    let asked = RequestedSettings::new();
+    let none = Vec::new(alloc);
+    match yaml_emitter_resume(alloc, asked, 3, stand_in(indent), none, Vec::new(alloc)) {
         Err(_) => reply.miss("stop"),
         Ok(mut emitter) => {
             let mut is_right = true;
-            for _ in 0..right {
-                is_right = is_right & (give_start(&mut emitter) == None);
+            for number in 0..right.saturating_add(2) {
+                let told = if number < right { None } else { Some(wanted) };
+                is_right = is_right & (give_start(&mut emitter) == told);
             }
-            let stopped = give_start(&mut emitter);
-            let again = give_start(&mut emitter);
-            let text = yaml_emitter_output(&emitter);
-            let told = (stopped == Some(wanted)) & (again == Some(wanted));
-            let front = b"[[[".starts_with(text);
+            let front = b"[[[".starts_with(yaml_emitter_output(&emitter));
             yaml_emitter_delete(emitter);
-            reply.field(name, Part::Flag(is_right & told & front));
+            reply.field(name, Part::Flag(is_right & front));
         }
     }
 }

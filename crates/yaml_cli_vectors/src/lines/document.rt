@@ -1,17 +1,17 @@
 //! Documents, as the lines write them.
 
 use crate::lines::event::{put_numbers, show_directives, show_version};
-use crate::lines::words::{MAPPINGS, NODES, SCALARS, SEQUENCES};
+use crate::lines::words::{MAPPINGS, SCALARS, SEQUENCES, word_at, word_of};
 use crate::lines::{Part, Reply};
 use yaml_parse::{yaml_document_get_node, yaml_document_t, yaml_node_body_t, yaml_node_t};
 
 // The value, the items or the pairs of the node, and its style.
 fn put_held(reply: &mut Reply, node: &yaml_node_t) {
-    match &node.body {
-        yaml_node_body_t::No => reply.put(Part::Null),
+    let style = match &node.body {
+        yaml_node_body_t::No => return reply.put(Part::Null),
         yaml_node_body_t::Scalar { value, style, .. } => {
             reply.put_bytes(value.as_slice());
-            reply.put_choice(&SCALARS, *style)
+            word_of(&SCALARS, *style)
         }
         yaml_node_body_t::Sequence { items, style, .. } => {
             reply.put(Part::List);
@@ -19,7 +19,7 @@ fn put_held(reply: &mut Reply, node: &yaml_node_t) {
                 reply.put(Part::Number(*item));
             }
             reply.put(Part::EndList);
-            reply.put_choice(&SEQUENCES, *style)
+            word_of(&SEQUENCES, *style)
         }
         yaml_node_body_t::Mapping { pairs, style, .. } => {
             reply.put(Part::List);
@@ -27,30 +27,19 @@ fn put_held(reply: &mut Reply, node: &yaml_node_t) {
                 put_numbers(reply, pair.key, pair.value);
             }
             reply.put(Part::EndList);
-            reply.put_choice(&MAPPINGS, *style)
+            word_of(&MAPPINGS, *style)
         }
-    }
+    };
+    reply.put(Part::Word(style));
 }
 
 // A node: kind, tag, value or items or pairs, style, start mark, end mark.
 fn put_node(reply: &mut Reply, node: &yaml_node_t) {
-    reply.put(Part::List);
-    reply.put_choice(&NODES, node.type_());
+    let kind = word_at("NO scalar sequence mapping", node.type_() as usize);
+    reply.put_all(&[Part::List, Part::Word(kind)]);
     reply.put_bytes(node.tag.as_slice());
     put_held(reply, node);
-    reply.put(Part::Mark(node.start_mark));
-    reply.put(Part::Mark(node.end_mark));
-    reply.put(Part::EndList);
-}
-
-fn put_nodes(reply: &mut Reply, document: &yaml_document_t) {
-    reply.put(Part::List);
-    for id in 1..i32::MAX {
-        match yaml_document_get_node(document, id) {
-            Some(node) => put_node(reply, node),
-            None => break,
-        }
-    }
+    reply.put_all(&[Part::Mark(node.start_mark), Part::Mark(node.end_mark)]);
     reply.put(Part::EndList);
 }
 
@@ -65,7 +54,12 @@ pub fn show_document(reply: &mut Reply, document: &yaml_document_t) {
     reply.field("end_implicit", Part::Flag(document.end_implicit()));
     reply.field("start_mark", Part::Mark(document.start_mark()));
     reply.field("end_mark", Part::Mark(document.end_mark()));
-    reply.put_name("nodes");
-    put_nodes(reply, document);
-    reply.put(Part::EndObject);
+    reply.field("nodes", Part::List);
+    for id in 1..i32::MAX {
+        match yaml_document_get_node(document, id) {
+            Some(node) => put_node(reply, node),
+            None => break,
+        }
+    }
+    reply.put_all(&[Part::EndList, Part::EndObject]);
 }

@@ -1,6 +1,6 @@
 //! Events, as the lines write them: the event's line, start mark, end mark, and what the event carries besides.
 
-use crate::lines::words::{ENCODINGS, MAPPINGS, SEQUENCES};
+use crate::lines::words::{ENCODINGS, MAPPINGS, SEQUENCES, word_of};
 use crate::lines::{Part, Reply};
 use yaml_parse::{yaml_event_body_t, yaml_event_t, yaml_tag_directive_t, yaml_version_directive_t};
 use yaml_round_lines::yaml_push_event_line;
@@ -16,10 +16,8 @@ fn put_event_line(reply: &mut Reply, event: &yaml_event_t) {
 
 /// Two numbers, as a list.
 pub fn put_numbers(reply: &mut Reply, first: i32, second: i32) {
-    reply.put(Part::List);
-    reply.put(Part::Number(first));
-    reply.put(Part::Number(second));
-    reply.put(Part::EndList);
+    reply.put_all(&[Part::List, Part::Number(first)]);
+    reply.put_all(&[Part::Number(second), Part::EndList]);
 }
 
 /// A version: major and minor, or null.
@@ -46,7 +44,9 @@ pub fn show_directives(reply: &mut Reply, directives: &[yaml_tag_directive_t]) {
 // every other.
 fn put_carried(reply: &mut Reply, body: &yaml_event_body_t) {
     match body {
-        yaml_event_body_t::StreamStart { encoding } => { reply.put_choice(&ENCODINGS, *encoding) }
+        yaml_event_body_t::StreamStart { encoding } => {
+            reply.put(Part::Word(word_of(&ENCODINGS, *encoding)));
+        }
         yaml_event_body_t::DocumentStart {
             version_directive,
             tag_directives,
@@ -56,29 +56,26 @@ fn put_carried(reply: &mut Reply, body: &yaml_event_body_t) {
             show_directives(reply, tag_directives.as_slice());
         }
         yaml_event_body_t::Scalar {
-            plain_implicit,
-            quoted_implicit,
+            plain_implicit: first,
+            quoted_implicit: second,
             ..
-        } => {
-            reply.put(Part::Flag(*plain_implicit));
-            reply.put(Part::Flag(*quoted_implicit))
-        },
+        } => reply.put_all(&[Part::Flag(*first), Part::Flag(*second)]),
         yaml_event_body_t::SequenceStart {
             implicit,
             style,
             ..
         } => {
-            reply.put(Part::Flag(*implicit));
-            reply.put_choice(&SEQUENCES, *style)
-        },
+            let style = word_of(&SEQUENCES, *style);
+            reply.put_all(&[Part::Flag(*implicit), Part::Word(style)]);
+        }
         yaml_event_body_t::MappingStart {
             implicit,
             style,
             ..
         } => {
-            reply.put(Part::Flag(*implicit));
-            reply.put_choice(&MAPPINGS, *style)
-        },
+            let style = word_of(&MAPPINGS, *style);
+            reply.put_all(&[Part::Flag(*implicit), Part::Word(style)]);
+        }
         _ => {}
     }
 }
@@ -87,8 +84,7 @@ fn put_carried(reply: &mut Reply, body: &yaml_event_body_t) {
 pub fn show_event(reply: &mut Reply, event: &yaml_event_t) {
     reply.put(Part::List);
     put_event_line(reply, event);
-    reply.put(Part::Mark(event.start_mark));
-    reply.put(Part::Mark(event.end_mark));
+    reply.put_all(&[Part::Mark(event.start_mark), Part::Mark(event.end_mark)]);
     put_carried(reply, &event.body);
     reply.put(Part::EndList);
 }

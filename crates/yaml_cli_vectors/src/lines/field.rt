@@ -20,33 +20,25 @@ impl Reply {
 
     /// A copy of those bytes.
     pub fn copy(&mut self, bytes: &[u8]) -> Vec<u8> {
-        match Vec::from_slice(self.alloc, bytes) {
-            Ok(copied) => copied,
-            Err(_) => {
-                self.memory();
-                Vec::new(self.alloc)
-            }
-        }
+        let mut copied = Vec::new(self.alloc);
+        self.room(copied.extend_from_slice(bytes));
+        copied
     }
 
     /// The bytes there, in hexadecimal digits.
     pub fn bytes(&mut self, of: &Value, path: &'static str) -> Vec<u8> {
         match hex::decode(self.alloc, self.text(of, path)) {
-            Ok(bytes) => bytes,
-            Err(error) => {
-                match error {
-                    hex::FromHexError::OutOfMemory => self.memory(),
-                    _ => self.miss(path),
-                }
-                Vec::new(self.alloc)
-            }
+            Ok(bytes) => return bytes,
+            Err(hex::FromHexError::OutOfMemory) => self.memory(),
+            Err(_) => self.miss(path),
         }
+        Vec::new(self.alloc)
     }
 
-    /// The bytes there, in hexadecimal digits, or null.
+    /// The bytes there, in hexadecimal digits; none where nothing is there, or null.
     pub fn optional_bytes(&mut self, of: &Value, path: &'static str) -> Option<Vec<u8>> {
         match of.pointer(path) {
-            Some(Value::Null) => None,
+            None | Some(Value::Null) => None,
             _ => Some(self.bytes(of, path)),
         }
     }
@@ -88,11 +80,8 @@ impl Reply {
 
     /// The number of 32 bits there.
     pub fn number(&mut self, of: &Value, path: &'static str) -> i32 {
-        let number = match self.value(of, path).as_i64() {
-            Some(number) => i32::try_from(number).ok(),
-            None => None,
-        };
-        self.take(number, path, 0)
+        let number = self.value(of, path).as_i64().unwrap_or(i64::MAX);
+        self.take(i32::try_from(number).ok(), path, 0)
     }
 
     /// The list there.
@@ -118,6 +107,6 @@ impl Reply {
 
     /// The encoding there.
     pub fn encoding(&mut self, of: &Value, path: &'static str) -> yaml_encoding_t {
-        self.choice(of, path, &ENCODINGS, yaml_encoding_t::YAML_ANY_ENCODING)
+        self.choice(of, path, &ENCODINGS)
     }
 }

@@ -12,9 +12,6 @@ use yaml_parse::{
     yaml_stream_end_event_initialize, yaml_stream_start_event_initialize, yaml_tag_directive_t,
     yaml_text_fault_t, yaml_version_directive_t,
 };
-use yaml_scan::{
-    yaml_event_type_t, yaml_mapping_style_t, yaml_scalar_style_t, yaml_sequence_style_t,
-};
 
 /// A version, or null.
 pub fn version(reply: &mut Reply, value: Option<&Value>) -> Option<yaml_version_directive_t> {
@@ -38,7 +35,7 @@ pub fn directives(reply: &mut Reply, listed: &[Value], is_hex: bool) -> Vec<yaml
             reply.copy(handle.as_bytes())
         };
         let prefix = reply.bytes(listed, "/1");
-        reply.push(&mut directives, yaml_tag_directive_t { handle, prefix });
+        reply.room(directives.push(yaml_tag_directive_t { handle, prefix }));
     }
     directives
 }
@@ -54,80 +51,47 @@ fn document_start(reply: &mut Reply, event: &Value) -> Made {
     yaml_document_start_event_initialize(reply.alloc, version, directives.as_slice(), implicit)
 }
 
-fn scalar(reply: &mut Reply, event: &Value) -> Made {
-    let anchor = reply.optional_bytes(event, "/5");
-    let tag = reply.optional_bytes(event, "/6");
-    let value = reply.bytes(event, "/7");
-    let plain_implicit = reply.flag(event, "/8");
-    let quoted_implicit = reply.flag(event, "/9");
-    let any = yaml_scalar_style_t::YAML_ANY_SCALAR_STYLE;
-    let style = reply.choice(event, "/10", &SCALARS, any);
-    yaml_scalar_event_initialize(
-        reply.alloc,
-        anchor.as_deref(),
-        tag.as_deref(),
-        value.as_slice(),
-        plain_implicit,
-        quoted_implicit,
-        style,
-    )
-}
-
-// The start of a sequence or a mapping.
-fn collection_start(reply: &mut Reply, event: &Value, is_sequence: bool) -> Made {
-    let implicit = reply.flag(event, "/4");
+// A scalar, or the start of a sequence or a mapping.
+fn node(reply: &mut Reply, event: &Value, kind: &str) -> Made {
+    let alloc = reply.alloc;
     let anchor = reply.optional_bytes(event, "/5");
     let tag = reply.optional_bytes(event, "/6");
     let (anchor, tag) = (anchor.as_deref(), tag.as_deref());
-    if is_sequence {
-        let any = yaml_sequence_style_t::YAML_ANY_SEQUENCE_STYLE;
-        let style = reply.choice(event, "/10", &SEQUENCES, any);
-        yaml_sequence_start_event_initialize(reply.alloc, anchor, tag, implicit, style)
+    if kind == "SCALAR" {
+        let value = reply.bytes(event, "/7");
+        let plain = reply.flag(event, "/8");
+        let quoted = reply.flag(event, "/9");
+        let style = reply.choice(event, "/10", &SCALARS);
+        return yaml_scalar_event_initialize(alloc, anchor, tag, &value, plain, quoted, style);
+    }
+    let implicit = reply.flag(event, "/4");
+    if kind == "SEQUENCE-START" {
+        let style = reply.choice(event, "/10", &SEQUENCES);
+        yaml_sequence_start_event_initialize(alloc, anchor, tag, implicit, style)
     } else {
-        let any = yaml_mapping_style_t::YAML_ANY_MAPPING_STYLE;
-        let style = reply.choice(event, "/10", &MAPPINGS, any);
-        yaml_mapping_start_event_initialize(reply.alloc, anchor, tag, implicit, style)
+        let style = reply.choice(event, "/10", &MAPPINGS);
+        yaml_mapping_start_event_initialize(alloc, anchor, tag, implicit, style)
     }
 }
 
-const KINDS: [(&'static str, yaml_event_type_t); 10] = [
-    ("STREAM-START", yaml_event_type_t::YAML_STREAM_START_EVENT),
-    ("STREAM-END", yaml_event_type_t::YAML_STREAM_END_EVENT),
-    (
-        "DOCUMENT-START",
-        yaml_event_type_t::YAML_DOCUMENT_START_EVENT,
-    ),
-    ("DOCUMENT-END", yaml_event_type_t::YAML_DOCUMENT_END_EVENT),
-    ("ALIAS", yaml_event_type_t::YAML_ALIAS_EVENT),
-    ("SCALAR", yaml_event_type_t::YAML_SCALAR_EVENT),
-    (
-        "SEQUENCE-START",
-        yaml_event_type_t::YAML_SEQUENCE_START_EVENT,
-    ),
-    ("SEQUENCE-END", yaml_event_type_t::YAML_SEQUENCE_END_EVENT),
-    ("MAPPING-START", yaml_event_type_t::YAML_MAPPING_START_EVENT),
-    ("MAPPING-END", yaml_event_type_t::YAML_MAPPING_END_EVENT),
-];
-
 /// The event that the line writes so.
 pub fn event_of(reply: &mut Reply, event: &Value) -> Made {
-    match reply.choice(event, "/0", &KINDS, yaml_event_type_t::YAML_NO_EVENT) {
-        yaml_event_type_t::YAML_DOCUMENT_START_EVENT => document_start(reply, event),
-        yaml_event_type_t::YAML_ALIAS_EVENT => {
+    let kind = reply.text(event, "/0");
+    match kind {
+        "STREAM-START" => Ok(yaml_stream_start_event_initialize(reply.encoding(event, "/1"))),
+        "DOCUMENT-START" => document_start(reply, event),
+        "DOCUMENT-END" => Ok(yaml_document_end_event_initialize(reply.flag(event, "/4"))),
+        "ALIAS" => {
             let anchor = reply.bytes(event, "/5");
             yaml_alias_event_initialize(reply.alloc, anchor.as_slice())
         }
-        yaml_event_type_t::YAML_SCALAR_EVENT => scalar(reply, event),
-        yaml_event_type_t::YAML_SEQUENCE_START_EVENT => collection_start(reply, event, true),
-        yaml_event_type_t::YAML_MAPPING_START_EVENT => collection_start(reply, event, false),
-        yaml_event_type_t::YAML_STREAM_START_EVENT => {
-            Ok(yaml_stream_start_event_initialize(reply.encoding(event, "/1")))
+        "SCALAR" | "SEQUENCE-START" | "MAPPING-START" => node(reply, event, kind),
+        "SEQUENCE-END" => Ok(yaml_sequence_end_event_initialize()),
+        "MAPPING-END" => Ok(yaml_mapping_end_event_initialize()),
+        "STREAM-END" => Ok(yaml_stream_end_event_initialize()),
+        _ => {
+            reply.miss("event");
+            Ok(yaml_stream_end_event_initialize())
         }
-        yaml_event_type_t::YAML_DOCUMENT_END_EVENT => {
-            Ok(yaml_document_end_event_initialize(reply.flag(event, "/4")))
-        }
-        yaml_event_type_t::YAML_SEQUENCE_END_EVENT => Ok(yaml_sequence_end_event_initialize()),
-        yaml_event_type_t::YAML_MAPPING_END_EVENT => Ok(yaml_mapping_end_event_initialize()),
-        _ => Ok(yaml_stream_end_event_initialize()),
     }
 }

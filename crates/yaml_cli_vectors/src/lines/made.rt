@@ -3,7 +3,7 @@
 ghost use Rattle.std.specs.Prelude.{IsTrue, IsSome};
 ghost use Rattle.yaml_parse.specs.Documents.{node_at, IsSequenceAt, IsMappingAt};
 
-use crate::lines::words::{MAPPINGS, NODES, SCALARS, SEQUENCES};
+use crate::lines::words::{MAPPINGS, SCALARS, SEQUENCES};
 use crate::lines::{Reply, given};
 use serde_json::Value;
 use yaml_parse::{
@@ -11,52 +11,28 @@ use yaml_parse::{
     yaml_document_append_mapping_pair, yaml_document_append_sequence_item, yaml_document_get_node,
     yaml_document_initialize, yaml_document_t, yaml_node_body_t, yaml_text_fault_t,
 };
-use yaml_scan::{
-    yaml_mapping_style_t, yaml_node_type_t, yaml_scalar_style_t, yaml_sequence_style_t,
-};
-
-// A document without nodes.
-fn empty_document(reply: &mut Reply, line: &Value) -> Result<yaml_document_t, yaml_text_fault_t> {
-    let version = given::version(reply, line.get("version"));
-    let start_implicit = reply.flag(line, "/start_implicit");
-    let end_implicit = reply.flag(line, "/end_implicit");
-    let listed = reply.list(line, "/directives");
-    let directives = given::directives(reply, listed, false);
-    yaml_document_initialize(
-        reply.alloc,
-        version,
-        directives.as_slice(),
-        start_implicit,
-        end_implicit,
-    )
-}
+use yaml_scan::yaml_scalar_style_t;
 
 // Adds a node, a collection without what it holds.
 fn add_node(document: &mut yaml_document_t, reply: &mut Reply, node: &Value) {
     let tag = reply.optional_bytes(node, "/1");
     let tag = tag.as_deref();
-    let added = match reply.choice(node, "/0", &NODES, yaml_node_type_t::YAML_NO_NODE) {
-        yaml_node_type_t::YAML_SEQUENCE_NODE => {
-            let any = yaml_sequence_style_t::YAML_ANY_SEQUENCE_STYLE;
-            let style = reply.choice(node, "/3", &SEQUENCES, any);
+    let added = match reply.text(node, "/0") {
+        "sequence" => {
+            let style = reply.choice(node, "/3", &SEQUENCES);
             yaml_document_add_sequence(document, tag, style)
         }
-        yaml_node_type_t::YAML_MAPPING_NODE => {
-            let any = yaml_mapping_style_t::YAML_ANY_MAPPING_STYLE;
-            let style = reply.choice(node, "/3", &MAPPINGS, any);
+        "mapping" => {
+            let style = reply.choice(node, "/3", &MAPPINGS);
             yaml_document_add_mapping(document, tag, style)
         }
         _ => {
-            let any = yaml_scalar_style_t::YAML_ANY_SCALAR_STYLE;
-            let style = reply.choice(node, "/3", &SCALARS, any);
+            let style = reply.choice(node, "/3", &SCALARS);
             let value = reply.bytes(node, "/2");
             yaml_document_add_scalar(document, tag, value.as_slice(), style)
         }
     };
-    match added {
-        Ok(_) => {}
-        Err(fault) => reply.refuse_text(fault),
-    }
+    reply.refuse_text(added.err());
 }
 
 fn is_sequence(document: &yaml_document_t, id: i32) -> bool
@@ -113,18 +89,6 @@ fn append(
     Ok(())
 }
 
-// Adds what the node of that number holds.
-fn fill(document: &mut yaml_document_t, reply: &mut Reply, id: i32, node: &Value) {
-    if reply.text(node, "/0") != "scalar" {
-        for held in reply.list(node, "/2") {
-            match append(document, reply, id, held) {
-                Ok(()) => {}
-                Err(fault) => reply.refuse_text(fault),
-            }
-        }
-    }
-}
-
 // Adds a scalar of bytes that are to be refused, by which no node is added.
 fn add_refused(document: &mut yaml_document_t, reply: &mut Reply, fields: &Value, id: i32) {
     let value = reply.bytes(fields, "/refused");
@@ -136,14 +100,19 @@ fn add_refused(document: &mut yaml_document_t, reply: &mut Reply, fields: &Value
 }
 
 // Adds all nodes, then what they hold, and then a scalar that is refused where the line has one.
-fn fill_all(document: &mut yaml_document_t, reply: &mut Reply, fields: &Value) {
+fn fill(document: &mut yaml_document_t, reply: &mut Reply, fields: &Value) {
     let nodes = reply.list(fields, "/nodes");
     for node in nodes {
         add_node(document, reply, node);
     }
     let mut id = 1i32;
     for node in nodes {
-        fill(document, reply, id, node);
+        if reply.text(node, "/0") != "scalar" {
+            for held in reply.list(node, "/2") {
+                let appended = append(document, reply, id, held);
+                reply.refuse_text(appended.err());
+            }
+        }
         id = id.saturating_add(1);
     }
     if fields.get("refused").is_some() {
@@ -151,16 +120,18 @@ fn fill_all(document: &mut yaml_document_t, reply: &mut Reply, fields: &Value) {
     }
 }
 
-/// The document that the fields describe, unless it is refused.
-pub fn document_of(
-    reply: &mut Reply,
-    fields: &Value,
-) -> Result<yaml_document_t, yaml_text_fault_t> {
-    match empty_document(reply, fields) {
-        Ok(mut document) => {
-            fill_all(&mut document, reply, fields);
-            Ok(document)
-        }
-        Err(fault) => Err(fault),
-    }
+/// A document, unless it is refused.
+pub type Made = Result<yaml_document_t, yaml_text_fault_t>;
+
+/// The document that the fields describe.
+pub fn document_of(reply: &mut Reply, fields: &Value) -> Made {
+    let version = given::version(reply, fields.get("version"));
+    let start = reply.flag(fields, "/start_implicit");
+    let end = reply.flag(fields, "/end_implicit");
+    let listed = reply.list(fields, "/directives");
+    let directives = given::directives(reply, listed, false);
+    let directives = directives.as_slice();
+    let mut document = yaml_document_initialize(reply.alloc, version, directives, start, end)?;
+    fill(&mut document, reply, fields);
+    Ok(document)
 }

@@ -6,7 +6,8 @@ use std::alloc::AllocError;
 use std::str;
 use yaml_scan::yaml_mark_t;
 
-/// A part of an answer that isn't a text: a value of a type with a lifetime is dear to prove, in each function that makes one.
+/// A part of an answer that isn't a text of the input: a value of a type with a lifetime is dear to prove, in each function that
+/// makes one.
 #[derive(Clone, Copy)]
 pub enum Part {
     /// A list begins.
@@ -22,6 +23,7 @@ pub enum Part {
     /// A number of 32 bits.
     Number(i32),
     Flag(bool),
+    Word(&'static str),
     Null,
     /// Index, line, column.
     Mark(yaml_mark_t),
@@ -48,10 +50,18 @@ impl Reply {
             Part::Count(number) => writer.u64(number),
             Part::Number(number) => writer.i64(i64::from(number)),
             Part::Flag(flag) => writer.boolean(flag),
+            Part::Word(word) => writer.string(word),
             Part::Null => writer.null(),
             Part::Mark(mark) => write_mark(writer, mark),
         };
         self.room(done);
+    }
+
+    /// Puts the parts, one after another.
+    pub fn put_all(&mut self, parts: &[Part]) {
+        for part in parts {
+            self.put(*part);
+        }
     }
 
     /// Puts the name of the field that comes next.
@@ -60,16 +70,13 @@ impl Reply {
         self.room(done);
     }
 
-    /// Puts a text.
-    pub fn put_word(&mut self, word: &str) {
-        let done = self.writer.string(word);
-        self.room(done);
-    }
-
     /// Puts a text that is UTF-8.
     pub fn put_utf8(&mut self, text: &[u8]) {
         match str::from_utf8(text) {
-            Ok(text) => self.put_word(text),
+            Ok(text) => {
+                let done = self.writer.string(text);
+                self.room(done);
+            }
             Err(_) => self.miss("text"),
         }
     }
@@ -89,19 +96,19 @@ impl Reply {
         self.put(value);
     }
 
-    /// Puts a field that is a text.
-    pub fn field_word(&mut self, name: &str, word: &str) {
-        self.put_name(name);
-        self.put_word(word);
-    }
-
     /// Puts a field that is bytes.
     pub fn field_bytes(&mut self, name: &str, bytes: &[u8]) {
         self.put_name(name);
         self.put_bytes(bytes);
     }
 
-    /// The same, or null.
+    /// Puts a field that is a text.
+    pub fn field_utf8(&mut self, name: &str, text: &[u8]) {
+        self.put_name(name);
+        self.put_utf8(text);
+    }
+
+    /// A field that is bytes, or null.
     pub fn field_optional(&mut self, name: &str, bytes: Option<&[u8]>) {
         match bytes {
             Some(bytes) => self.field_bytes(name, bytes),

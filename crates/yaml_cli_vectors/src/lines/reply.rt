@@ -2,8 +2,8 @@
 
 use crate::lines::Part;
 use json::Writer;
-use std::alloc::{AllocError, Global};
-use yaml_parse::yaml_text_fault_t;
+use std::alloc::Global;
+use yaml_parse::{yaml_event_t, yaml_text_fault_t};
 use yaml_scan::yaml_fault_t;
 
 /// Why a line has no answer: what is wrong, and of what.
@@ -29,6 +29,10 @@ pub struct Reply {
     pub fault: Option<yaml_fault_t>,
     /// The first error is that the call refuses.
     pub is_refused: bool,
+    /// The call of a session or a parser that is made again and again; none: those that the line lists.
+    pub again: Option<&'static str>,
+    /// The events that a parser gave.
+    pub kept: Vec<yaml_event_t>,
 }
 
 impl Reply {
@@ -40,76 +44,73 @@ impl Reply {
             wrong: None,
             fault: None,
             is_refused: false,
+            again: None,
+            kept: Vec::new(alloc),
         };
         reply.put(Part::Object);
         reply
     }
 
-    // Keeps the error, unless there is one.
-    fn refuse(&mut self, what: &'static str, of: &'static str) {
-        if self.wrong.is_none() {
-            self.wrong = Some((what, of));
-        }
-    }
-
     /// That field is missing, or not of its form.
     pub fn miss(&mut self, name: &'static str) {
-        self.refuse(NO_FIELD, name);
-    }
-
-    /// The call was made, and refuses.
-    pub fn refused(&mut self, fault: yaml_fault_t) {
-        if self.wrong.is_none() {
-            self.fault = Some(fault);
-            self.is_refused = true;
-        }
-        self.refuse("refused: ", fault.problem);
-    }
-
-    /// A step of the call's refuses where it answers a fault.
-    pub fn done(&mut self, fault: Option<yaml_fault_t>) {
-        match fault {
-            Some(fault) => self.refused(fault),
-            None => {}
-        }
-    }
-
-    /// An event or a document isn't made.
-    pub fn refuse_text(&mut self, fault: yaml_text_fault_t) {
-        match fault {
-            yaml_text_fault_t::Memory => self.memory(),
-            yaml_text_fault_t::NotUtf8 => self.miss("text"),
-        }
+        self.wrong = self.wrong.or(Some((NO_FIELD, name)));
     }
 
     /// There is no room.
     pub fn memory(&mut self) {
-        self.refuse(MEMORY, "");
+        self.wrong = self.wrong.or(Some((MEMORY, "")));
     }
 
     /// There was room for a part, or there wasn't.
-    pub fn room(&mut self, done: Result<(), AllocError>) {
+    pub fn room<E: Drop>(&mut self, done: Result<(), E>) {
         if done.is_err() {
             self.memory();
         }
     }
 
-    /// What was found, else `otherwise`.
-    pub fn take<T: Copy>(&mut self, found: Option<T>, name: &'static str, otherwise: T) -> T {
-        match found {
-            Some(value) => value,
-            None => {
-                self.miss(name);
-                otherwise
+    /// Keeps an event.
+    pub fn keep(&mut self, event: yaml_event_t) {
+        let kept = self.kept.push(event);
+        self.room(kept);
+    }
+
+    /// The call was made, and refuses where it answers a fault.
+    pub fn done(&mut self, fault: Option<yaml_fault_t>) {
+        if let Some(told) = fault
+            && self.wrong.is_none()
+        {
+            self.fault = fault;
+            self.is_refused = true;
+            self.wrong = Some(("refused: ", told.problem));
+        }
+    }
+
+    /// What the call gives, unless it refuses.
+    pub fn given<T: Drop>(&mut self, answer: Result<T, yaml_fault_t>) -> Option<T> {
+        match answer {
+            Ok(value) => Some(value),
+            Err(fault) => {
+                self.done(Some(fault));
+                None
             }
         }
     }
 
-    /// Adds an item after those of the list.
-    pub fn push<T: Drop>(&mut self, list: &mut Vec<T>, item: T) {
-        if list.push(item).is_err() {
-            self.memory();
+    /// An event or a document isn't made where its text is refused.
+    pub fn refuse_text(&mut self, fault: Option<yaml_text_fault_t>) {
+        match fault {
+            Some(yaml_text_fault_t::Memory) => self.memory(),
+            Some(yaml_text_fault_t::NotUtf8) => self.miss("text"),
+            None => {}
         }
+    }
+
+    /// What was found, else `otherwise`.
+    pub fn take<T: Copy>(&mut self, found: Option<T>, name: &'static str, otherwise: T) -> T {
+        if found.is_none() {
+            self.miss(name);
+        }
+        found.unwrap_or(otherwise)
     }
 
     /// The object that was written, unless there was an error.

@@ -5,96 +5,45 @@ use serde_json::Value;
 use std::io;
 use std::io::{Cursor, ErrorKind, Read, Write};
 
-// What a stream does at its next calls.
-#[derive(Clone, Copy)]
-enum Step {
-    // That many bytes are given, over several calls where they do not fit. A writer takes as many at most, in one call.
-    Bytes(usize),
-    // That many calls in a row are interrupted.
-    Interrupted(usize),
-    // A call gives or takes no byte.
-    Zero,
-    // A call fails.
-    Failure,
-}
+// What a stream does at a call: how many bytes it moves at most, or how it fails.
+type Step = Result<usize, ErrorKind>;
 
-const STEPS: [(&'static str, Step); 2] = [("zero", Step::Zero), ("failure", Step::Failure)];
-
-// A number of bytes, a word, or how often a call is interrupted.
-fn listed_step(reply: &mut Reply, listed: &Value) -> Step {
+// Adds the steps that are listed so: a number of bytes, a word, or how many calls in a row are interrupted.
+fn push_steps(reply: &mut Reply, steps: &mut Vec<Step>, listed: &Value) {
     match listed {
-        Value::Object(_) => Step::Interrupted(reply.count(listed, "/interrupted") as usize),
-        Value::String(_) => reply.choice(listed, "", &STEPS, Step::Zero),
-        _ => Step::Bytes(reply.count(listed, "") as usize),
-    }
-}
-
-// Where a stream stands in its steps.
-#[derive(Drop)]
-struct Script {
-    steps: Vec<Step>,
-    at: usize,
-    done: usize,
-}
-
-impl Script {
-    // Before the first of the steps that the line lists there.
-    fn of(reply: &mut Reply, line: &Value, path: &'static str) -> Script {
-        let mut steps = Vec::new(reply.alloc);
-        for listed in reply.list(line, path) {
-            let step = listed_step(reply, listed);
-            reply.push(&mut steps, step);
-        }
-        Script {
-            steps,
-            at: 0,
-            done: 0,
-        }
-    }
-
-    // The step that comes next, or the one that stands after the last.
-    fn next(&self, behind: Step) -> Step {
-        if self.at < self.steps.len() {
-            self.steps[self.at]
-        } else {
-            behind
-        }
-    }
-
-    fn go_on(&mut self, done: usize, all: usize) {
-        if done < all {
-            self.done = done;
-        } else {
-            self.done = 0;
-            self.at = self.at.saturating_add(1);
-        }
-    }
-
-    // Does the step, by which no byte is moved, and says whether the call fails.
-    fn fails(&mut self, step: Step) -> Option<ErrorKind> {
-        match step {
-            Step::Interrupted(times) => {
-                let done = self.done.saturating_add(1);
-                self.go_on(done, times);
-                Some(ErrorKind::Interrupted)
+        Value::Object(_) => {
+            for _ in 0..reply.count(listed, "/interrupted") {
+                reply.room(steps.push(Err(ErrorKind::Interrupted)));
             }
-            Step::Failure => {
-                self.go_on(0, 0);
-                Some(ErrorKind::BrokenPipe)
-            }
-            _ => {
-                self.go_on(0, 0);
-                None
-            }
+        }
+        Value::String(_) => {
+            let word = reply.choice(listed, "", &WORDS);
+            reply.room(steps.push(word));
+        }
+        _ => {
+            let bytes = reply.count(listed, "");
+            reply.room(steps.push(Ok(bytes as usize)));
         }
     }
 }
 
-/// Gives bytes, and is at its end after its steps.
+const WORDS: [(&'static str, Step); 2] = [("zero", Ok(0)), ("failure", Err(ErrorKind::BrokenPipe))];
+
+// The steps that the line lists there, the last one first.
+fn steps_of(reply: &mut Reply, line: &Value, path: &'static str) -> Vec<Step> {
+    let mut steps = Vec::new(reply.alloc);
+    for listed in reply.list(line, path) {
+        push_steps(reply, &mut steps, listed);
+    }
+    steps.reverse();
+    steps
+}
+
+/// Gives bytes, and is at its end after its steps. A step's bytes may take several calls.
 #[derive(Drop)]
 pub struct ScriptedReader {
     bytes: Cursor<Vec<u8>>,
-    script: Script,
+    steps: Vec<Step>,
     /// How many bytes it was asked for, call by call.
     pub sizes: Vec<usize>,
 }
@@ -102,11 +51,9 @@ pub struct ScriptedReader {
 impl ScriptedReader {
     /// A reader that gives the line's input as the line's `reads` say.
     pub fn of(reply: &mut Reply, line: &Value) -> ScriptedReader {
-        let bytes = reply.input(line, "/input");
-        let script = Script::of(reply, line, "/reads");
         ScriptedReader {
-            bytes: Cursor::new(bytes),
-            script,
+            bytes: Cursor::new(reply.input(line, "/input")),
+            steps: steps_of(reply, line, "/reads"),
             sizes: Vec::new(reply.alloc),
         }
     }
@@ -115,42 +62,32 @@ impl ScriptedReader {
 impl Read for ScriptedReader {
     fn read(&mut self, buf: &mut [u8]) -> io::Result<usize> {
         self.sizes.push(buf.len())?;
-        match self.script.next(Step::Zero) {
-            Step::Bytes(all) => {
-                let most = all.saturating_sub(self.script.done).min(buf.len());
-                let count = self.bytes.read(&mut buf[..most])?;
-                let done = self.script.done.saturating_add(count);
-                self.script.go_on(done, all);
-                Ok(count)
-            }
-            step => match self.script.fails(step) {
-                Some(kind) => Err(io::Error::from(kind)),
-                None => Ok(0),
-            },
+        let all = self.steps.pop().unwrap_or(Ok(0))?;
+        let most = all.min(buf.len());
+        let count = self.bytes.read(&mut buf[..most])?;
+        if count < all {
+            self.steps.push(Ok(all - count))?;
         }
+        Ok(count)
     }
 }
 
 /// Keeps what it is given. After its steps it takes all.
 #[derive(Drop)]
 pub struct ScriptedWriter {
-    script: Script,
-    flush_fails: bool,
+    steps: Vec<Step>,
+    /// Whether it fails to pass on what it took.
+    pub flush_fails: bool,
     /// The bytes that were taken.
     pub received: Vec<u8>,
 }
 
 impl ScriptedWriter {
-    /// A writer that does what the line's steps there say, and whose flushes fail or don't.
-    pub fn of(
-        reply: &mut Reply,
-        line: &Value,
-        path: &'static str,
-        flush_fails: bool,
-    ) -> ScriptedWriter {
+    /// A writer that does what the line's steps there say.
+    pub fn of(reply: &mut Reply, line: &Value, path: &'static str) -> ScriptedWriter {
         ScriptedWriter {
-            script: Script::of(reply, line, path),
-            flush_fails,
+            steps: steps_of(reply, line, path),
+            flush_fails: false,
             received: Vec::new(reply.alloc),
         }
     }
@@ -158,18 +95,10 @@ impl ScriptedWriter {
 
 impl Write for ScriptedWriter {
     fn write(&mut self, buf: &[u8]) -> io::Result<usize> {
-        match self.script.next(Step::Bytes(buf.len())) {
-            Step::Bytes(most) => {
-                let count = most.min(buf.len());
-                self.received.extend_from_slice(&buf[..count])?;
-                self.script.go_on(0, 0);
-                Ok(count)
-            }
-            step => match self.script.fails(step) {
-                Some(kind) => Err(io::Error::from(kind)),
-                None => Ok(0),
-            },
-        }
+        let most = self.steps.pop().unwrap_or(Ok(buf.len()))?;
+        let count = most.min(buf.len());
+        self.received.extend_from_slice(&buf[..count])?;
+        Ok(count)
     }
 
     fn flush(&mut self) -> io::Result<()> {

@@ -1,9 +1,9 @@
 //! Faults, as the lines write them.
 
-use crate::lines::words::ORIGINS;
+use crate::lines::words::{ORIGINS, word_of};
 use crate::lines::{Part, Reply};
 use serde_json::Value;
-use yaml_scan::{yaml_error_type_t, yaml_fault_t, yaml_origin_t};
+use yaml_scan::{yaml_error_type_t, yaml_fault_t};
 
 /// The problem of a fault that a line gives to its source. A fault's texts are the program's own, so this one stands for those
 /// of the line.
@@ -32,33 +32,28 @@ pub fn own_fault(reply: &mut Reply, fields: &Value) -> yaml_fault_t {
         problem_mark: reply.mark(fields, "/problem_mark"),
         context: None,
         context_mark: reply.mark(fields, "/context_mark"),
-        origin: reply.choice(fields, "/origin", &ORIGINS, yaml_origin_t::Reader),
+        origin: reply.choice(fields, "/origin", &ORIGINS),
     }
 }
 
 impl Reply {
-    // The text at that place of the line, or null.
-    fn put_own(&mut self, line: &Value, path: &str) {
-        match line.pointer(path) {
-            Some(Value::String(text)) => self.put_word(text.as_str()),
-            _ => self.put(Part::Null),
+    // A text of a fault, or the one that the line gives to its own fault.
+    fn field_text(&mut self, name: &str, text: Option<&'static str>, own: Option<&Value>) {
+        match (text, own) {
+            (Some(text), _) => self.field(name, Part::Word(text)),
+            (None, Some(Value::String(text))) => self.field_utf8(name, text.as_bytes()),
+            _ => self.field(name, Part::Null),
         }
     }
 
     // The problem, and what was being read.
     fn put_texts(&mut self, line: &Value, fault: &yaml_fault_t) {
-        let is_own = fault.problem == OWN;
-        self.put_name("problem");
-        if is_own {
-            self.put_own(line, "/own/problem");
+        if fault.problem == OWN {
+            self.field_text("problem", None, line.pointer("/own/problem"));
+            self.field_text("context", fault.context, line.pointer("/own/context"));
         } else {
-            self.put_word(fault.problem);
-        }
-        self.put_name("context");
-        match fault.context {
-            Some(context) => self.put_word(context),
-            None if is_own => self.put_own(line, "/own/context"),
-            None => self.put(Part::Null),
+            self.field_text("problem", Some(fault.problem), None);
+            self.field_text("context", fault.context, None);
         }
     }
 
@@ -71,25 +66,8 @@ impl Reply {
         self.field("value", Part::Number(fault.value));
         self.field("problem_mark", Part::Mark(fault.problem_mark));
         self.field("context_mark", Part::Mark(fault.context_mark));
-        self.put_name("origin");
-        self.put_choice(&ORIGINS, fault.origin);
+        self.field("origin", Part::Word(word_of(&ORIGINS, fault.origin)));
         self.put(Part::EndObject);
-    }
-
-    /// The field `fault`.
-    pub fn name_fault(&mut self, line: &Value, fault: &yaml_fault_t) {
-        self.put_name("fault");
-        self.put_fault(line, fault);
-    }
-
-    /// A fault that a call answers: in its place, or after all else where that was the last call. Whether there may be more.
-    pub fn put_refused(&mut self, line: &Value, is_last: bool, fault: &yaml_fault_t) -> bool {
-        if is_last {
-            self.fault = Some(*fault);
-        } else {
-            self.put_fault(line, fault);
-        }
-        !is_last
     }
 
     /// The fault, null where there is none.

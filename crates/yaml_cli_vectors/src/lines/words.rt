@@ -1,10 +1,12 @@
 //! The words of a line for the engine's names, as tables.
 
+ghost use Rattle.std.specs.Prelude.{◌<◌, length};
+
 use crate::lines::Reply;
 use serde_json::Value;
 use yaml_scan::{
-    yaml_break_t, yaml_encoding_t, yaml_error_type_t, yaml_mapping_style_t, yaml_node_type_t,
-    yaml_origin_t, yaml_scalar_style_t, yaml_sequence_style_t,
+    yaml_break_t, yaml_encoding_t, yaml_mapping_style_t, yaml_origin_t, yaml_scalar_style_t,
+    yaml_sequence_style_t,
 };
 
 /// Encodings.
@@ -21,13 +23,6 @@ pub const BREAKS: [(&'static str, yaml_break_t); 4] = [
     ("cr", yaml_break_t::YAML_CR_BREAK),
     ("lf", yaml_break_t::YAML_LN_BREAK),
     ("crlf", yaml_break_t::YAML_CRLN_BREAK),
-];
-
-/// Kinds of nodes.
-pub const NODES: [(&'static str, yaml_node_type_t); 3] = [
-    ("scalar", yaml_node_type_t::YAML_SCALAR_NODE),
-    ("sequence", yaml_node_type_t::YAML_SEQUENCE_NODE),
-    ("mapping", yaml_node_type_t::YAML_MAPPING_NODE),
 ];
 
 /// Styles of scalars.
@@ -71,26 +66,31 @@ pub const ORIGINS: [(&'static str, yaml_origin_t); 7] = [
     ("Writer", yaml_origin_t::Writer),
 ];
 
-impl Reply {
-    /// Puts the word that the rows have for the value; none where they haven't it.
-    pub fn put_choice<T: Copy + PartialEq>(&mut self, rows: &[(&'static str, T)], value: T) {
-        for row in rows {
-            if row.1 == value {
-                self.put_word(row.0);
-                return;
-            }
-        }
-        self.put_word("");
-    }
+/// The word of that number, counted from 0.
+pub fn word_at(words: &'static str, number: usize) -> &'static str {
+    words.split_whitespace().nth(number).unwrap_or("")
+}
 
-    /// What the rows have for the word there.
+/// The word that the rows have for the value; none where they haven't it.
+pub fn word_of<T: Copy + PartialEq>(rows: &[(&'static str, T)], value: T) -> &'static str {
+    for row in rows {
+        if row.1 == value {
+            return row.0;
+        }
+    }
+    ""
+}
+
+impl Reply {
+    /// What the rows have for the word there; the first row's where they haven't it, which is an error.
     pub fn choice<T: Copy>(
         &mut self,
         of: &Value,
         path: &'static str,
         rows: &[(&'static str, T)],
-        otherwise: T,
-    ) -> T {
+    ) -> T
+        requires { 0 < length rows.now }
+    {
         let word = self.text(of, path);
         for row in rows {
             if row.0 == word {
@@ -98,6 +98,6 @@ impl Reply {
             }
         }
         self.miss(path);
-        otherwise
+        rows[0].1
     }
 }

@@ -1,22 +1,29 @@
 //! What a session over the line's input answers, and a source of a parser's tokens.
 
-use super::found::put_token;
-use super::turn::{Turn, turn_at};
-use crate::input::Input;
+use super::{call_at, put_refused};
+use crate::call::Input;
 use crate::lines::{Part, Reply, show_token};
 use serde_json::Value;
-use yaml_parse::yaml_token_source_t;
+use yaml_parse::{yaml_fault_t, yaml_token_source_t};
 use yaml_round_adapter::yaml_adapter_t;
 use yaml_scan::{
     yaml_parser_fault, yaml_parser_has_token, yaml_parser_peek, yaml_parser_scan, yaml_parser_skip,
-    yaml_parser_t,
+    yaml_parser_t, yaml_token_t, yaml_token_type_t,
 };
 
-// Puts the token that is passed by reference, or the fault.
-fn put_lent(reply: &mut Reply, line: &Value, session: &mut yaml_parser_t<'_>) {
-    match yaml_parser_peek(session) {
-        Ok(token) => show_token(reply, token),
-        Err(fault) => reply.put_fault(line, &fault),
+// Puts the token, and lets it go, or the fault. Whether there may be more.
+fn put_token(reply: &mut Reply, line: &Value, found: Result<yaml_token_t, yaml_fault_t>) -> bool {
+    match found {
+        Ok(token) => {
+            let goes_on = reply.again.is_none()
+                || token.type_() != yaml_token_type_t::YAML_NO_TOKEN;
+            if goes_on {
+                show_token(reply, &token);
+            }
+            drop(token);
+            goes_on
+        }
+        Err(fault) => put_refused(reply, line, fault),
     }
 }
 
@@ -29,49 +36,44 @@ fn put_skipped(reply: &mut Reply, session: &mut yaml_parser_t<'_>) {
     reply.put(Part::Flag(known));
 }
 
-// Whether there may be more after the call.
-fn put_turn(reply: &mut Reply, line: &Value, turn: Turn, session: &mut yaml_parser_t<'_>) -> bool {
-    match turn {
-        Turn::Scan | Turn::Tokens => {
-            let is_all = matches!(turn, Turn::Tokens);
-            return put_token(reply, line, is_all, yaml_parser_scan(session));
-        }
-        Turn::Peek => put_lent(reply, line, session),
-        Turn::Skip => put_skipped(reply, session),
-        Turn::Has => reply.put(Part::Flag(yaml_parser_has_token(session))),
-        Turn::Fault => reply.put_told(line, yaml_parser_fault(session)),
-        Turn::End => return false,
-        _ => reply.miss("calls"),
+// What the call of that number answers: a token that is given, or that is passed by reference, which `skip` drops; whether one is
+// known; the fault that the session keeps. Whether there may be more.
+fn put_call(reply: &mut Reply, line: &Value, number: u64, session: &mut yaml_parser_t<'_>) -> bool {
+    match call_at(reply, line, number) {
+        Some("scan") => return put_token(reply, line, yaml_parser_scan(session)),
+        Some("peek") => match yaml_parser_peek(session) {
+            Ok(token) => show_token(reply, token),
+            Err(fault) => reply.put_fault(line, &fault),
+        },
+        Some("skip") => put_skipped(reply, session),
+        Some("has") => reply.put(Part::Flag(yaml_parser_has_token(session))),
+        Some("fault") => reply.put_told(line, yaml_parser_fault(session)),
+        Some(_) => reply.miss("calls"),
+        None => return false,
     }
     true
 }
 
-// What that many calls of the input's source answer, as a parser makes them: a token, the empty one after the end, or a fault.
-fn put_next(reply: &mut Reply, line: &Value, input: &Input<'_>) {
+/// What that many calls of the input's source answer, as a parser makes them: a token, the empty one after the end, or a fault.
+pub fn next_tokens(reply: &mut Reply, line: &Value, input: &Input<'_>) {
+    reply.field("answer", Part::List);
     let mut adapter = yaml_adapter_t::new(reply.alloc, input.text, input.from);
     for _ in 0..reply.count(line, "/calls") {
-        put_token(reply, line, false, adapter.next_token());
+        put_token(reply, line, adapter.next_token());
     }
     drop(adapter);
+    reply.put(Part::EndList);
 }
 
-fn put_turns(reply: &mut Reply, line: &Value, asked: Turn, input: &Input<'_>) {
+/// The tokens of the input, and the fault after them where there is one; or what the line's calls answer.
+pub fn scan(reply: &mut Reply, line: &Value, input: &Input<'_>) {
+    reply.field("answer", Part::List);
     let mut session = yaml_parser_t::new(reply.alloc, input.text, input.from);
     for number in 0..u64::MAX {
-        let turn = turn_at(reply, line, asked, number);
-        if !put_turn(reply, line, turn, &mut session) {
+        if !put_call(reply, line, number, &mut session) {
             break;
         }
     }
     drop(session);
-}
-
-/// The tokens of the input, and the fault after them where there is one; or what the line's calls answer.
-pub fn scan(reply: &mut Reply, line: &Value, asked: Turn, input: &Input<'_>) {
-    reply.field("answer", Part::List);
-    match asked {
-        Turn::Counted => put_next(reply, line, input),
-        asked => put_turns(reply, line, asked, input),
-    }
     reply.put(Part::EndList);
 }

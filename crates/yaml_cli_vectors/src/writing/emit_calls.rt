@@ -6,68 +6,41 @@ use serde_json::Value;
 use yaml_emit::{yaml_emitter_dump, yaml_emitter_opened, yaml_emitter_output, yaml_emitter_t};
 use yaml_scan::yaml_fault_t;
 
-// What is asked of an emitter.
-#[derive(Clone, Copy)]
-enum Step {
-    Opened,
-    Output,
-    Front,
-    Emit,
-    Dump,
-    Turn,
-    Flush,
-    Wrong,
-}
-
-const STEPS: [(&'static str, Step); 7] = [
-    ("opened", Step::Opened),
-    ("output", Step::Output),
-    ("front", Step::Front),
-    ("emit", Step::Emit),
-    ("dump", Step::Dump),
-    ("turn", Step::Turn),
-    ("flush", Step::Flush),
-];
-
 // Dumps the document that the fields describe, and tells the fault that is answered.
 fn dumped(reply: &mut Reply, fields: &Value, emitter: &mut yaml_emitter_t) -> Option<yaml_fault_t> {
     match document_of(reply, fields) {
         Ok(document) => yaml_emitter_dump(emitter, document).err(),
         Err(fault) => {
-            reply.refuse_text(fault);
+            reply.refuse_text(Some(fault));
             None
         }
     }
 }
 
 // Whether the output is a front of those bytes. How much of a text has been written at a refusal is open.
-fn put_front(reply: &mut Reply, call: &Value, text: &[u8]) {
-    let whole = reply.bytes(call, "/1");
+fn put_front(reply: &mut Reply, whole: &Value, text: &[u8]) {
+    let whole = reply.bytes(whole, "");
     reply.put(Part::Flag(whole.as_slice().starts_with(text)));
 }
 
+// What the call answers: whether the stream is opened; the output, or whether it is a front of a text; null or the fault where an
+// event or a document is given, the stream is turned (opened, or closed where it was opened) or flushed.
 fn put_call(reply: &mut Reply, line: &Value, call: &Value, emitter: &mut yaml_emitter_t) {
-    let fault = match reply.choice(call, "/0", &STEPS, Step::Wrong) {
-        Step::Opened => return reply.put(Part::Flag(yaml_emitter_opened(emitter))),
-        Step::Output => return reply.put_bytes(yaml_emitter_output(emitter)),
-        Step::Front => return put_front(reply, call, yaml_emitter_output(emitter)),
-        Step::Emit => {
-            let event = reply.value(call, "/1");
-            give_listed(reply, event, emitter)
-        }
-        Step::Dump => {
-            let fields = reply.value(call, "/1");
-            dumped(reply, fields, emitter)
-        }
-        Step::Turn => turn(emitter),
-        Step::Flush => flush(emitter),
-        Step::Wrong => None,
+    let given = call.get(1).unwrap_or(call);
+    let fault = match reply.text(call, "/0") {
+        "opened" => return reply.put(Part::Flag(yaml_emitter_opened(emitter))),
+        "output" => return reply.put_bytes(yaml_emitter_output(emitter)),
+        "front" => return put_front(reply, given, yaml_emitter_output(emitter)),
+        "emit" => give_listed(reply, given, emitter),
+        "dump" => dumped(reply, given, emitter),
+        "turn" => turn(emitter),
+        "flush" => flush(emitter),
+        _ => return reply.miss("calls"),
     };
     reply.put_told(line, fault.as_ref());
 }
 
-/// What the line's calls answer: null or the fault where an event or a document is given, the stream is turned (opened, or
-/// closed where it was opened) or flushed; whether it is opened; the output, or whether it is a front of a text.
+/// What the line's calls answer.
 pub fn put_calls(reply: &mut Reply, line: &Value, emitter: &mut yaml_emitter_t) {
     reply.field("answer", Part::List);
     for call in reply.list(line, "/calls") {

@@ -8,14 +8,14 @@ use yaml_emit::{yaml_emitter_output, yaml_emitter_t};
 use yaml_scan::{yaml_error_type_t, yaml_fault_t};
 
 // The calls so far.
-#[derive(Clone, Copy)]
+#[derive(Clone, Copy, Default)]
 struct Course {
     // The first fault.
     fault: Option<yaml_fault_t>,
     // How many calls there were before it.
     number: u64,
-    // Whether each call after it answered it again, and the text stayed.
-    kept: bool,
+    // Whether a call after it answered something else, or wrote.
+    lost: bool,
     // How many bytes the text had then.
     size: usize,
     // Whether the last event is the stream's end.
@@ -26,7 +26,7 @@ impl Course {
     // Takes what a call answered, and how many bytes the text has then.
     fn take(&mut self, answer: Option<yaml_fault_t>, size: usize) {
         if self.fault.is_some() {
-            self.kept = self.kept && answer == self.fault && size == self.size;
+            self.lost = self.lost || answer != self.fault || size != self.size;
             return;
         }
         self.fault = answer;
@@ -55,7 +55,7 @@ fn give_all(reply: &mut Reply, line: &Value, emitter: &mut yaml_emitter_t, cours
 // the number of the refused call where the event is refused, else the output. No line wants `kept`: a call after the fault answered
 // something else, or wrote.
 fn put_course(reply: &mut Reply, text: &[u8], course: &Course) {
-    if !course.kept {
+    if course.lost {
         reply.field("kept", Part::Flag(false));
     }
     reply.fault = course.fault;
@@ -75,13 +75,7 @@ fn put_course(reply: &mut Reply, text: &[u8], course: &Course) {
 /// refused call's number or the output; and what flushes in mid-stream show. A call after a fault is to answer it again
 /// and to write nothing.
 pub fn put_events(reply: &mut Reply, line: &Value, emitter: &mut yaml_emitter_t) {
-    let mut course = Course {
-        fault: None,
-        number: 0,
-        kept: true,
-        size: 0,
-        whole: false,
-    };
+    let mut course = Course::default();
     reply.field("flushed", Part::List);
     give_all(reply, line, emitter, &mut course);
     reply.put(Part::EndList);

@@ -1,8 +1,6 @@
 //! Emitters under a line's settings.
 
-ghost use Rattle.std.specs.Prelude.{◌≡◌, true};
-
-use crate::lines::{Reply, Settings, event_of};
+use crate::lines::{Reply, event_of};
 use serde_json::Value;
 use std::alloc::Global;
 use yaml_emit::{
@@ -14,25 +12,18 @@ use yaml_emit::{
 use yaml_parse::yaml_event_utf8;
 use yaml_scan::yaml_fault_t;
 
-fn set(emitter: &mut yaml_emitter_t, asked: &RequestedSettings)
-    requires { emitter.old.fresh ≡ true }
-{
-    yaml_emitter_set_encoding(emitter, asked.encoding);
-    yaml_emitter_set_canonical(emitter, asked.canonical);
-    yaml_emitter_set_indent(emitter, asked.indent);
-    yaml_emitter_set_width(emitter, asked.width);
-    yaml_emitter_set_unicode(emitter, asked.unicode);
-    yaml_emitter_set_break(emitter, asked.line_break);
-}
+/// An emitter, unless there is no room for it.
+pub type Made = Result<yaml_emitter_t, yaml_fault_t>;
 
-/// An emitter under these settings except for the limit, that was given nothing yet.
-pub fn emitter_under(
-    alloc: Global,
-    settings: &Settings,
-    limit: u64,
-) -> Result<yaml_emitter_t, yaml_fault_t> {
+/// An emitter under these settings, that was given nothing yet.
+pub fn emitter_under(alloc: Global, asked: &RequestedSettings, limit: u64) -> Made {
     let mut emitter = yaml_emitter_initialize(alloc, limit)?;
-    set(&mut emitter, &settings.asked);
+    yaml_emitter_set_encoding(&mut emitter, asked.encoding);
+    yaml_emitter_set_canonical(&mut emitter, asked.canonical);
+    yaml_emitter_set_indent(&mut emitter, asked.indent);
+    yaml_emitter_set_width(&mut emitter, asked.width);
+    yaml_emitter_set_unicode(&mut emitter, asked.unicode);
+    yaml_emitter_set_break(&mut emitter, asked.line_break);
     Ok(emitter)
 }
 
@@ -43,33 +34,28 @@ pub fn give_listed(
     emitter: &mut yaml_emitter_t,
 ) -> Option<yaml_fault_t> {
     match event_of(reply, listed) {
-        Ok(event) if yaml_event_utf8(&event) => yaml_emitter_emit(emitter, event).err(),
+        Ok(event) if yaml_event_utf8(&event) => return yaml_emitter_emit(emitter, event).err(),
         Ok(event) => {
             drop(event);
             reply.miss("events");
-            None
         }
-        Err(fault) => {
-            reply.refuse_text(fault);
-            None
-        }
+        Err(fault) => reply.refuse_text(Some(fault)),
     }
+    None
 }
 
 /// The fault that a flush answers; none where nothing was given yet.
 pub fn flush(emitter: &mut yaml_emitter_t) -> Option<yaml_fault_t> {
     if yaml_emitter_fresh(emitter) {
-        None
-    } else {
-        yaml_emitter_flush(emitter).err()
+        return None;
     }
+    yaml_emitter_flush(emitter).err()
 }
 
 /// Opens the stream, or closes it where it was opened, and tells the fault that is answered.
 pub fn turn(emitter: &mut yaml_emitter_t) -> Option<yaml_fault_t> {
     if yaml_emitter_opened(emitter) {
-        yaml_emitter_close(emitter).err()
-    } else {
-        yaml_emitter_open(emitter).err()
+        return yaml_emitter_close(emitter).err();
     }
+    yaml_emitter_open(emitter).err()
 }

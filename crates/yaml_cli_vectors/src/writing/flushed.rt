@@ -12,10 +12,7 @@ fn is_close(text: &[u8], front: &[u8]) -> bool {
         return false;
     };
     for byte in rest {
-        if !matches!(
-            *byte,
-            0 | b' ' | b'\r' | b'\n' | b',' | b':' | b'?' | b'-' | b'[' | b'{'
-        ) {
+        if !b"\0 \r\n,:?-[{".contains(byte) {
             return false;
         }
     }
@@ -35,37 +32,27 @@ fn is_wanted(reply: &mut Reply, line: &Value, wanted: &Value, text: &[u8]) -> bo
     }
 }
 
-// What the line wants of a flush.
-fn put_wanted(reply: &mut Reply, wanted: &Value) {
-    let text = reply.text(wanted, "/1");
-    reply.put_word(text);
-    if wanted.get(2).is_some() {
-        let least = reply.text(wanted, "/2");
-        reply.put_word(least);
-    }
-}
-
 // Flushes, and puts that as the line wants it, or as it is, after the number of events.
 fn put_flush(reply: &mut Reply, line: &Value, wanted: &Value, emitter: &mut yaml_emitter_t) {
     let fault = flush(emitter);
     let text = yaml_emitter_output(emitter);
-    let is_right = is_wanted(reply, line, wanted, text) && fault.is_none();
-    let count = reply.count(wanted, "/0");
-    reply.put(Part::List);
-    reply.put(Part::Count(count));
-    if is_right {
-        put_wanted(reply, wanted);
+    if is_wanted(reply, line, wanted, text) && fault.is_none() {
+        for told in reply.list(wanted, "").get(1..).unwrap_or(&[]) {
+            let told = reply.text(told, "");
+            reply.put_utf8(told.as_bytes());
+        }
     } else {
         reply.put_bytes(text);
     }
-    reply.put(Part::EndList);
 }
 
 /// Flushes after that many events where the line has a flush there.
 pub fn put_flushes(reply: &mut Reply, line: &Value, count: u64, emitter: &mut yaml_emitter_t) {
     for wanted in reply.list(line, "/flushed") {
         if reply.count(wanted, "/0") == count {
+            reply.put_all(&[Part::List, Part::Count(count)]);
             put_flush(reply, line, wanted, emitter);
+            reply.put(Part::EndList);
         }
     }
 }

@@ -3,9 +3,10 @@
 ghost use Rattle.std.specs.Prelude.{◌≡◌, ◌≤◌, ◌<◌, ◌^◌, None, IfSome};
 ghost use Rattle.yaml_emit.specs.Judged.{refused_at};
 
-use super::emitter::{emitter_under, flush, give_listed};
+use super::emitter::{Made, emitter_under, flush, give_listed};
 use crate::lines::{Reply, Settings};
 use serde_json::Value;
+use std::alloc::Global;
 use std::mem;
 use yaml_emit::{
     Expected, Level, yaml_emitter_directives, yaml_emitter_fresh, yaml_emitter_into_output,
@@ -18,9 +19,10 @@ use yaml_scan::{yaml_error_type_t, yaml_fault_t};
 // No emitter goes on with a larger limit, nor in a line of more columns.
 const MOST: u64 = 4_611_686_018_427_387_904;
 
-/// What was written in pieces, and where the last of their emitters stands.
+/// What was written in pieces under the settings, and where the last of their emitters stands.
 #[derive(Drop)]
 pub struct Pieces {
+    pub settings: Settings,
     pub text: Vec<u8>,
     /// The first fault.
     pub fault: Option<yaml_fault_t>,
@@ -62,20 +64,16 @@ fn rest_of(limit: u64, text: &[u8]) -> u64
 }
 
 // An emitter that goes on where the last one stood, or that begins.
-fn next_emitter(
-    reply: &Reply,
-    settings: &Settings,
-    pieces: &mut Pieces,
-) -> Result<yaml_emitter_t, yaml_fault_t> {
-    let alloc = reply.alloc;
-    let limit = rest_of(settings.limit, pieces.text.as_slice());
+fn next_emitter(alloc: Global, pieces: &mut Pieces) -> Made {
+    let Settings { asked, limit } = pieces.settings;
+    let limit = rest_of(limit, pieces.text.as_slice());
     match right_stand(pieces) {
         Some(stand) => {
             let around = mem::replace(&mut pieces.around, Vec::new(alloc));
             let directives = mem::replace(&mut pieces.directives, Vec::new(alloc));
-            yaml_emitter_resume(alloc, settings.asked, limit, stand, around, directives)
+            yaml_emitter_resume(alloc, asked, limit, stand, around, directives)
         }
-        None => emitter_under(alloc, settings, limit),
+        None => emitter_under(alloc, &asked, limit),
     }
 }
 
@@ -92,40 +90,36 @@ fn keep_stand(reply: &mut Reply, emitter: &yaml_emitter_t, upto: usize, pieces: 
     for directive in yaml_emitter_directives(emitter) {
         let handle = reply.copy(directive.handle.as_slice());
         let prefix = reply.copy(directive.prefix.as_slice());
-        let copied = yaml_tag_directive_t { handle, prefix };
-        reply.push(&mut pieces.directives, copied);
+        reply.room(
+            pieces
+                .directives
+                .push(yaml_tag_directive_t { handle, prefix }),
+        );
     }
 }
 
-// Gives the line's events up to there, from the first that wasn't taken, and keeps what became of them.
-fn give(
-    reply: &mut Reply,
-    events: &[Value],
-    upto: usize,
-    emitter: &mut yaml_emitter_t,
-    pieces: &mut Pieces,
-) {
-    for listed in events.get(pieces.taken..upto).unwrap_or(&[]) {
+// Gives the events, and flushes where they are the last, and keeps what became of them.
+fn give(reply: &mut Reply, events: &[Value], emitter: &mut yaml_emitter_t, pieces: &mut Pieces) {
+    for listed in events.get(pieces.taken..).unwrap_or(&[]) {
         let fault = give_listed(reply, listed, emitter);
         pieces.fault = pieces.fault.or(fault);
     }
-    if upto == events.len() {
-        pieces.fault = flush(emitter);
-    }
-    keep_stand(reply, emitter, upto, pieces);
 }
 
-// Has a further emitter write the piece up to that event.
-fn put_piece(
-    reply: &mut Reply,
-    events: &[Value],
-    settings: &Settings,
-    upto: usize,
-    pieces: &mut Pieces,
-) {
-    match next_emitter(reply, settings, pieces) {
+// Has a further emitter write the line's events up to there, from the first that wasn't taken.
+fn put_piece(reply: &mut Reply, events: &[Value], upto: usize, pieces: &mut Pieces) {
+    match next_emitter(reply.alloc, pieces) {
         Ok(mut emitter) => {
-            give(reply, events, upto, &mut emitter, pieces);
+            give(
+                reply,
+                events.get(..upto).unwrap_or(events),
+                &mut emitter,
+                pieces,
+            );
+            if upto == events.len() {
+                pieces.fault = flush(&mut emitter);
+            }
+            keep_stand(reply, &emitter, upto, pieces);
             let text = yaml_emitter_into_output(emitter);
             reply.room(pieces.text.extend_from_slice(text.as_slice()));
         }
@@ -134,8 +128,9 @@ fn put_piece(
 }
 
 /// What is written of the line's events in pieces of that many, up to the first fault.
-pub fn written(reply: &mut Reply, line: &Value, settings: &Settings, size: usize) -> Pieces {
+pub fn written(reply: &mut Reply, line: &Value, settings: Settings, size: usize) -> Pieces {
     let mut pieces = Pieces {
+        settings,
         text: Vec::new(reply.alloc),
         fault: None,
         taken: 0,
@@ -147,15 +142,17 @@ pub fn written(reply: &mut Reply, line: &Value, settings: &Settings, size: usize
     let mut upto = 0usize;
     for _ in events {
         upto = upto.saturating_add(size).min(events.len());
-        put_piece(reply, events, settings, upto, &mut pieces);
+        put_piece(reply, events, upto, &mut pieces);
         if upto == events.len() || pieces.fault.is_some() {
             break;
         }
     }
-    match pieces.fault {
-        // Out of memory is answered whichever pieces meet it.
-        Some(fault) if fault.kind == yaml_error_type_t::YAML_MEMORY_ERROR => reply.refused(fault),
-        _ => {}
+    // Out of memory is answered whichever pieces meet it.
+    if pieces
+        .fault
+        .is_some_and(|fault| fault.kind == yaml_error_type_t::YAML_MEMORY_ERROR)
+    {
+        reply.done(pieces.fault);
     }
     pieces
 }

@@ -180,7 +180,8 @@ impl Engine for Rounds {
         from: yaml_encoding_t,
         input: &[u8],
     ) -> Result<Vec<RepeatedKey>, yaml_fault_t>
-        ensures { Answers load_layers (λ keys. keys.items) (IsRepeatedAnswer from input.now) result }
+        ensures { Answers load_layers (λ keys. keys.items) (IsRepeatedAnswer from input.now)
+            result }
     {
         match yaml_check_keys(alloc, input, from) {
             Err(fault) => Err(fault),

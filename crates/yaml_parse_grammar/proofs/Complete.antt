@@ -23,6 +23,7 @@ giving g o = record { items = g o.items; ending = o.ending }
 abbrev pub one : RawEvent → ℕ → List Given → List Given
 one i left = λ more. (i, left) ∷ more
 
+-- An item of an outcome is carried in front, with how many tokens are left.
 pub carry_with_item : (left : ℕ) (i : RawEvent) (below : Fed) (k : List State → Outcome)
     → carry left (with_item i below) k ≡ giving (one i left) (carry left below k)
 carry_with_item left i below k = grind arith
@@ -177,6 +178,7 @@ node_starts {w = w} (tree.only_properties d) rest = properties_start w d rest
 node_starts {w = w} (tree.with_properties d c) rest = properties_start w d (spell_content c rest)
 node_starts (tree.bare c) rest = content_starts c rest
 
+-- A node that may be left out is taken where its token begins one.
 pub optional_takes : (place : Site) (before : yaml_mark_t) (k : yaml_token_type_t)
     → starts_node (wants_of place) k ≡ true → choice_at (state.optional place before) k ≡ Take
 optional_takes place before k h = grind arith

@@ -147,6 +147,7 @@ read_falls [] f m ds h = tt
 read_falls (g ∷ gs) f m ds h =
     falls_on (settle g.0 ds) g.0 g.1 (λ d. reading gs f d) (λ d. unasked_at_fault gs m d) (λ d. next_read gs f m g.1 d h.0 h.1.0) (λ d. read_falls gs f m d h.1.1)
 
+-- The events of a run ask for tokens in their order: fewer and fewer are left.
 pub run_falls : (ts : List Token) (f : Option Fault) (s : List State) (ds : Directives)
     → AreFalling (reading_of (run ts s f) ds).events
     (unasked_at_fault (run ts s f).items (unasked_at_stop ts s) ds)

@@ -46,7 +46,9 @@ comes_to own (g ∷ gs) l = comes_on own (step g.0 l) (loads gs own) (fault_of_l
 
 -- ---- a document that is numbered has a root
 
-ok_nodes : (q r : Numbered ℤ) → (let a : Result (Numbered ℤ) Fault = Ok q in let b : Result (Numbered ℤ) Fault = Ok r in a ≡ b) → q.nodes ≡ r.nodes
+ok_nodes : (q r : Numbered ℤ)
+    → (let a : Result (Numbered ℤ) Fault = Ok q in let b : Result (Numbered ℤ) Fault = Ok r in a ≡ b)
+    → q.nodes ≡ r.nodes
 ok_nodes q r e = let p : q ≡ r = cc in ap (λ (z : Numbered ℤ). z.nodes) p
 
 same_nodes : (ns ms : List Node) (f : Option Fault) → ns ≡ ms → unless_rootless ns f ≡ f
@@ -87,7 +89,8 @@ told_by : (own : Option Fault) (gs : List Told) (r : Loads) → loads gs own not
     → ComesTo own r (fault_of_loads gs own nothing_loaded)
 told_by own gs r h = subst (λ (z : Loads). ComesTo own z (fault_of_loads gs own nothing_loaded)) h (comes_to own gs nothing_loaded)
 
-pub loads_are : (own : Option Fault) (behind : ℕ) (gs : List Told) (h : LoadsByContent own behind gs)
+pub loads_are : (own : Option Fault) (behind : ℕ) (gs : List Told)
+    (h : LoadsByContent own behind gs)
     → loads_fault h ≡ fault_of_loads gs own nothing_loaded
 loads_are own behind gs (one_more hs left e unasked k more) =
     loads_are own behind left more
@@ -112,7 +115,8 @@ none_of : (f : Option Fault) → f ≡ None → fault_of_loads [] f nothing_load
 unfolding fault_of_loads
 none_of f h = h
 
-nothing_comes : (own : Option Fault) (behind : ℕ) (gs : List Told) (h : LoadsByContent own behind gs)
+nothing_comes : (own : Option Fault) (behind : ℕ) (gs : List Told)
+    (h : LoadsByContent own behind gs)
     → gs ≡ [] → own ≡ None → loads_fault h ≡ None
 nothing_comes own behind gs h p q = loads_are own behind gs h ∙ ap (λ (xs : List Told). fault_of_loads xs own nothing_loaded) p ∙ none_of own q
 

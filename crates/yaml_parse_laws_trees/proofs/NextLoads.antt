@@ -331,6 +331,7 @@ gives_of : (n : NextLoad) (r : Loads) (u : ℕ) (d : Document) (old new : Parser
 gives_of (next_fault f count) r u d old new p h = subst (λ (x : Loads). LoadGives x d old new) p.0 h
 gives_of _ r u d old new p h = subst (λ (x : Loads). LoadGives x d old new) p h
 
+-- A document that a load gives is the next one of the events to come.
 pub load_is_next : (old new : ParserRemaining) (d : Document) → LoadGives (loads_of old) d old new
     → LoadIsNext old d new
 load_is_next old new d h n k = gives_of n (loads_of old) (unasked_of old) d old new (next_is old n k) h
@@ -346,6 +347,7 @@ unasked_is : (n : NextLoad) (r : Loads) (u : ℕ) (old : ParserRemaining) → Is
 unasked_is (next_fault f count) r u old p = ap (λ (x : Loads). unasked_by x u (left_behind old.events old.unasked)) p.0 ∙ p.1
 unasked_is _ r u old p = ap (λ (x : Loads). unasked_by x u (left_behind old.events old.unasked)) p
 
+-- A fault that a load reports is that of the next document, unless memory ran out.
 pub refusal_is_next : (old new : ParserRemaining) (f : Fault) → LoadRefuses f old new
     → HasMore old.events old.ending
     → IsMemoryFault scan_layers f ⊎ (answer_unasked old ≤ new.unasked) → RefusalIsNext old f new

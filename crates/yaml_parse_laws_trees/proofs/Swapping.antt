@@ -178,7 +178,8 @@ goes_both state.lone (token.version_directive major minor) h = refl
 goes_both state.lone (token.tag_directive handle prefix) h = refl
 goes_both x _ h = absurd (false≢true h)
 
-first_taken : (i : Option RawEvent) (above : List State) (j : Option RawEvent) (other s : List State)
+first_taken : (i : Option RawEvent) (above : List State) (j : Option RawEvent)
+    (other s : List State)
     → MeansNone (given_by (record { item = i; above = above }) s)
     → FirstMeant (given_by (record { item = i; above = above }) s)
     (given_by (record { item = j; above = other }) s)

@@ -34,5 +34,6 @@ FaultEndsLoads = (ts : List Token) (own fault : Option Fault) → FaultOfLoading
 -- Of a list's events and its fault: load after load, as content says, they come to the fault of loading the list.
 abbrev pub LoadsComeToFault : Type 0
 LoadsComeToFault = (ts : List Token) (own : Option Fault) (events : List Told)
-    (ending : Option Fault) (behind : ℕ) → EventsOfTokens ts own events → FaultOfTokens ts own ending
+    (ending : Option Fault) (behind : ℕ) → EventsOfTokens ts own events
+    → FaultOfTokens ts own ending
     → (h : LoadsByContent ending behind events) → FaultOfLoading ts own (loads_fault h)

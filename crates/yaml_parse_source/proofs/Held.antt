@@ -10,5 +10,6 @@ held_at_most_if None true = omega (arith)
 held_at_most_if None false = omega (arith)
 held_at_most_if (Some f) b = omega (arith)
 
+-- At most one token of a source is held.
 pub held_at_most : {S : Type 0} (s : SourceTokens S) → held_of s ≤ 1
 held_at_most s = held_at_most_if s.fault s.is_next

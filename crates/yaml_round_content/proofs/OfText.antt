@@ -85,6 +85,7 @@ none_spelled from input are never text e = never text (decoded_spells from input
 
 -- ---- readings and loadings
 
+-- What the tokens of an input read as is the plain reading of its bytes.
 pub plain_reading : (from : yaml_encoding_t) (input : List ℕ) (r : Result (List Document) Fault)
     → TokensRead (tokens_of from input).tokens (tokens_of from input).fault r
     → PlainReading from input r

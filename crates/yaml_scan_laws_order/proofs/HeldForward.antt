@@ -36,6 +36,7 @@ outer_least h c e =
     let low = candidate_below 0 h c (fresh_is (candidate 0 h) (reached h) c e) in
     (first_open-least h 0 c.number (c, e, refl) low, low)
 
+-- An open candidate outside of brackets is the first open one.
 pub outer_is_first : (h : List Lexeme) (c : Candidate) → fresh (candidate 0 h) (reached h) ≡ Some c
     → first_open h h ≡ c.number
 outer_is_first h c e =

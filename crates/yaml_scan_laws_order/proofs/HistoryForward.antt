@@ -151,6 +151,7 @@ few_of : (text : List ℕ) (h : List Lexeme) → Stands text h → length h ≤ 
 few_of text [] s = omega arith
 few_of text (x ∷ h) s = let count = s.count in omega (arith, count)
 
+-- A text has at most two lexemes more than bytes.
 pub are_few : (text : List ℕ) (n : ℕ) → length (history text n) ≤ length text + 2
 are_few text n = few_of text (history text n) (history_stands text n)
 

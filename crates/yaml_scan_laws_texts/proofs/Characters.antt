@@ -30,6 +30,7 @@ gap_clear : (s : SpelledText) (h : List Lexeme) → IsUtf8 s.text → AllCarry s
 gap_clear s [] t c = gap_whole (length s.text) (in_flow []) (key_allowed []) s.text 0 t t
 gap_clear s (x ∷ h) t (c, cs) = gap_whole (length s.text) (in_flow (x ∷ h)) (key_allowed (x ∷ h)) s.text x.reached.index t c.place
 
+-- In a text that is UTF-8 a character begins where a lexeme may.
 pub characters_begin : (s : SpelledText) → IsUtf8 s.text → CharactersBegin s.text
 characters_begin s t = record {
   front = whole_starts s.text 0 t;

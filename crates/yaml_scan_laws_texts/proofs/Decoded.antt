@@ -15,6 +15,7 @@ are_scalars (c ∷ cs) h =
     let own : IsScalar c = allowed_scalar c (All-head (λ x. is_allowed x ≡ true) c cs h) in
     rw (own, are_scalars cs (All-tail (λ x. is_allowed x ≡ true) c cs h)) refl
 
+-- A text that bytes spell is UTF-8.
 pub spelled_utf8 : (setting : yaml_encoding_t) (bytes text : List ℕ) → Spells setting bytes text
     → IsUtf8 text
 spelled_utf8 setting bytes text s = (s.characters, (are_scalars s.characters s.allowed, sym s.is))
@@ -57,6 +58,7 @@ all_have_none (c ∷ cs) h =
     (has_none c (All-head (λ x. is_allowed x ≡ true) c cs h))
     (all_have_none cs (All-tail (λ x. is_allowed x ≡ true) c cs h))
 
+-- A text that bytes spell has no byte 0.
 pub spelled_has_none : (setting : yaml_encoding_t) (bytes text : List ℕ) → Spells setting bytes text
     → (p : ℕ) → p < length text → 0 < byte text p
 spelled_has_none setting bytes text s p inside =

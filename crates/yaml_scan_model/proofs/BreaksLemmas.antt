@@ -6,15 +6,18 @@ use Rattle.yaml_scan_model.specs.Marks.{byte, ends_of, break_width, ends_break, 
 use Rattle.yaml_scan_model.specs.Breaks.{break_value, feed_at}
 use Rattle.yaml_scan_model.proofs.MarksLemmas.{widths, one, two, three}
 
+-- A break of three bytes means itself.
 pub value_three : (text : List ℕ) (p : ℕ) → break_width text p ≡ 3
     → break_value text p ≡ 0xE2 ∷ 0x80 ∷ byte text (p + 2) ∷ []
 unfolding break_value
 value_three text p w = rw w refl
 
+-- A break that isn't of three bytes means a line feed.
 pub value_other : (text : List ℕ) (p : ℕ) → break_width text p ≢ 3 → break_value text p ≡ 10 ∷ []
 unfolding break_value
 value_other text p w = let f : (break_width text p == 3) ≡ false = grind (arith, nat_tests) in rw f refl
 
+-- Any other break reads as a line feed.
 pub feed_other : (text : List ℕ) (p : ℕ) → 0 < break_width text p → break_width text p ≢ 3
     → 10 ∷ [] ≡ feed_at text p
 feed_other text p w h = rw (value_other text p h, lt-ltb 0 (break_width text p) w) refl

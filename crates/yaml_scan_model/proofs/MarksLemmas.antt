@@ -26,6 +26,7 @@ pub line_more : (text : List ℕ) (p : ℕ) → ends_break text p ≡ false
 unfolding line_at
 line_more text p h = rw (add-one, h) (omega arith)
 
+-- The byte that ends a break is followed by a place in the next line.
 pub line_end : (text : List ℕ) (p : ℕ) → ends_break text p ≡ true
     → line_at text (p + 1) ≡ line_at text p + 1
 unfolding line_at
@@ -74,6 +75,7 @@ pub split_next : (text : List ℕ) (p : ℕ) → splits_break text p ≡ false �
     → splits_break text (p + 1) ≡ false
 split_next text p h k = search (rules, no_split)
 
+-- A break has one byte, two or three, where there is one.
 pub widths : (b c d : ℕ)
     → (break_of b c d ≡ 0) ⊎ ((break_of b c d ≡ 1) ⊎ ((break_of b c d ≡ 2) ⊎ (break_of b c d ≡ 3)))
 unfolding break_of
@@ -84,11 +86,13 @@ pub one : (x y b c d : ℕ) → break_of b c d ≡ 1
 unfolding break_of ends_of splits_of
 one x y b c d h = (grind (arith, nat_tests), grind (arith, nat_tests), grind (arith, nat_tests))
 
+-- Of a break of two bytes the second one ends it.
 pub two : (x y b c d e : ℕ) → break_of b c d ≡ 2
     → (ends_of x y b c ≡ false) × (ends_of y b c d ≡ true) × (splits_of b c d e ≡ false) × (0 < c)
 unfolding break_of ends_of splits_of
 two x y b c d e h = (grind (arith, nat_tests), grind (arith, nat_tests), grind (arith, nat_tests), grind (arith, nat_tests))
 
+-- Of a break of three bytes the last one ends it, and none before.
 pub three : (x y b c d e f : ℕ) → break_of b c d ≡ 3
     → (ends_of x y b c ≡ false) × (ends_of y b c d ≡ false) × (ends_of b c d e ≡ true)
     × (splits_of c d e f ≡ false) × (0 < d)
@@ -161,10 +165,12 @@ past_break text p h =
       | inr (inr (inr z)) ↦ rw z (past_three text p z)
     ]
 
+-- A text begins in line 0.
 pub start_line : (text : List ℕ) → 0 ≡ line_at text 0
 unfolding line_at
 start_line text = refl
 
+-- A text begins in column 0.
 pub start_column : (text : List ℕ) → 0 ≡ column_at text 0
 unfolding column_at
 start_column text = refl

@@ -24,6 +24,7 @@ more_columns : (n : ℕ) (text : List ℕ) (p : ℕ)
 unfolding columns_over
 more_columns n text p before ends = search (rules, cases_Bool, column_more, column_same, starts)
 
+-- After so many bytes of text the line is the same, and each byte is a column.
 pub behind : (n : ℕ) (text : List ℕ) (p : ℕ) → p ≤ length text → splits_break text p ≡ false
     → ((k : ℕ) → p ≤ k → k < p + n → is_text text k ≡ true) → IsBehind text p n
 behind zero text p room whole each =

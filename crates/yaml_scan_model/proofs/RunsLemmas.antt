@@ -23,6 +23,7 @@ pub record InRun (kind : List ℕ → ℕ → Bool) (text : List ℕ) (a p : ℕ
   pub after : a ≤ p
   pub rest : (n : ℕ) × (length text ≤ p + n) × (past kind (length text) text a ≡ past kind n text p)
 
+-- A run begins where it begins.
 pub run_start : (kind : List ℕ → ℕ → Bool) (text : List ℕ) (a : ℕ) → InRun kind text a a
 run_start kind text a = record { after = omega arith; rest = (length text, omega arith, refl) }
 
@@ -33,10 +34,12 @@ step : (kind : List ℕ → ℕ → Bool) (text : List ℕ) (a p n : ℕ) → le
 step kind text a p zero room same k some = let inside = within text p some in absurd (omega arith)
 step kind text a p (suc n) room same k some = (n, omega arith, same ∙ past_more kind n text p k)
 
+-- A run goes on over a byte that belongs.
 pub run_more : (kind : List ℕ → ℕ → Bool) (text : List ℕ) (a p : ℕ) → InRun kind text a p
     → kind text p ≡ true → 0 < byte text p → InRun kind text a (p + 1)
 run_more kind text a p h k some = search (rules, step)
 
+-- A run ends at the first byte that doesn't belong.
 pub run_done : (kind : List ℕ → ℕ → Bool) (text : List ℕ) (a p : ℕ) → InRun kind text a p
     → kind text p ≡ false → past kind (length text) text a ≡ p
 run_done kind text a p h k = let (n, room, same) = h.rest in same ∙ past_stop kind n text p k
@@ -82,6 +85,7 @@ text_parts text p h = parts _ _ h
 blank_bounds : (b : ℕ) → is_blank b ≡ true → (0 < b) × (b ≢ 13) × (b ≢ 10) × (b < 100)
 blank_bounds b h = (grind (arith, nat_tests), grind (arith, nat_tests), grind (arith, nat_tests), grind (arith, nat_tests))
 
+-- A blank is a byte, and begins no break.
 pub blank_parts : (b c d : ℕ) → is_blank b ≡ true → (0 < b) × (break_of b c d ≡ 0)
 blank_parts b c d h = search (rules, blank_bounds, no_break)
 
@@ -89,5 +93,6 @@ blank_parts b c d h = search (rules, blank_bounds, no_break)
 pub space_parts : (b c d : ℕ) → b ≡ 32 → (0 < b) × (break_of b c d ≡ 0) × ((b == 32) ≡ true)
 space_parts b c d h = (omega arith, no_break b c d (omega arith) (omega arith) (omega arith) (omega arith), rw h refl)
 
+-- A byte that isn't 32 isn't found as a space.
 pub no_space : (b : ℕ) → b ≢ 32 → (b == 32) ≡ false
 no_space b h = grind (arith, nat_tests)

@@ -126,6 +126,7 @@ gap_turn (suc n) flow allowed text p room =
           behind_same (λ key q. gap_within n flow key text q) (λ key q. gap_within (suc n) flow key text q) flow allowed step.standing step.place (λ key. gap_turn n flow key text step.place (omega arith))
     ]
 
+-- A gap is its first step, and the gap after that.
 pub gap_here : (flow allowed : Bool) (text : List ℕ) (p : ℕ)
     → gap_at flow allowed text p
     ≡ gap_behind (λ key q. gap_at flow key text q) flow allowed

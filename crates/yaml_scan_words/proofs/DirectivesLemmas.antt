@@ -7,6 +7,7 @@ use Rattle.yaml_scan_model.specs.declared.problem.Problem.TheVariants as problem
 use Rattle.yaml_scan_words.specs.declared.run.Run.TheVariants as runs
 use Rattle.yaml_scan_words.proofs.RunsLemmas.{each_more, run_is, run_stop, run_to, run_within-ge}
 
+-- Nine digits fit.
 pub power-room : (k : ℕ) → k ≤ 9 → 10 ^ k ≤ 1000000000
 power-room k h = pow-le-pow_right {n = 10} (omega arith) h
 
@@ -14,6 +15,7 @@ digit_small : (b : ℕ) → is_digit_byte b ≡ true → b - 48 ≤ 9
 unfolding is_digit_byte
 digit_small b h = grind (arith, nat_tests)
 
+-- A digit is worth at most 9.
 pub digit_here : (text : List ℕ) (p : ℕ) → belongs runs.Digits text p ≡ true → byte text p - 48 ≤ 9
 unfolding belongs
 digit_here text p h = digit_small (byte text p) h
@@ -36,6 +38,7 @@ number_long text p each here =
     let far = run_within-ge m runs.Digits text (p + 9 + 1) in
     rw (ne_eqb (run_end runs.Digits text p) p (omega arith), lt-ltb (p + 9) (run_end runs.Digits text p) (omega arith)) refl
 
+-- Without a digit there is no number.
 pub number_none : (text : List ℕ) (p : ℕ) → belongs runs.Digits text p ≡ false
     → number_at text p ≡ Err (record {
       problem = problems.NoVersionNumber;
@@ -45,6 +48,7 @@ pub number_none : (text : List ℕ) (p : ℕ) → belongs runs.Digits text p ≡
     })
 number_none text p stop = rw (run_stop (length text) runs.Digits text p stop, eq-eqb p p refl) refl
 
+-- A number is that of its digits, of which there are at most 9.
 pub number_done : (text : List ℕ) (p k : ℕ) → AreDigits text p (p + k)
     → belongs runs.Digits text (p + k) ≡ false → 0 < k → k ≤ 9
     → number_at text p ≡ Ok (decimal text p k, p + k)

@@ -3,6 +3,7 @@ use Rattle.std.proofs.Common.{◌≡◌, ℕ, zero, suc, ◌+◌, ◌-◌, ◌*�
 use Rattle.std.proofs.Math.Nat.{pow-le-pow_right, pow-suc}
 use Rattle.yaml_scan_words.proofs.ScalarWords.{byte, break_width, hex_digit, hex_value, hex_len, escape_at, coded}
 
+-- One hexadecimal digit more.
 pub hex_more : (text : List ℕ) (p k v d : ℕ) → hex_value text p k ≡ Some v
     → hex_digit (byte text (p + k)) ≡ Some d → hex_value text p (k + 1) ≡ Some (v * 16 + d)
 unfolding hex_value
@@ -24,6 +25,7 @@ hex_refused text p k n v h e l =
 pub power-more : (k : ℕ) → 16 ^ (k + 1) ≡ 16 ^ k * 16
 power-more k = rw add-one (pow-suc 16 k)
 
+-- Eight hexadecimal digits fit.
 pub power-room : (k : ℕ) → k < 8 → 16 ^ k * 16 ≤ 4294967296
 power-room k h = search (rules, pow-le-pow_right, pow-suc)
 

@@ -41,6 +41,7 @@ pub value-kept : (bs k : List ℕ) (ps : List Piece)
     → value (blanks_of bs ++ Kept k ∷ ps) ≡ bs ++ (k ++ value ps)
 value-kept bs k ps = rw (lines-blanks bs (Kept k ∷ ps)) (folded-kept bs k (lines ps).first (lines ps).others)
 
+-- Blanks before a break are no part of the value.
 pub value-break : (bs b : List ℕ) (ps : List Piece)
     → value (blanks_of bs ++ Break b ∷ ps) ≡ behind b ps
 value-break bs b ps = rw (lines-blanks bs (Break b ∷ ps), trim_end-blanks bs) refl
@@ -51,5 +52,6 @@ pub rest_of-blank : (b : ℕ) (l : Line) (ls : List (List ℕ × Line))
 rest_of-blank b l [] = refl
 rest_of-blank b l (next ∷ ls) = refl
 
+-- A break that isn't a line feed is kept.
 pub gap-other : (first others : List ℕ) → is_feed first ≡ false → gap first others ≡ first ++ others
 gap-other first others h = grind (arith, append-nil)

@@ -4,11 +4,13 @@ use Rattle.yaml_scan_words.proofs.ScalarWords.{cases_lt, cond_both, ltb-true, lt
 
 -- white before a place
 
+-- A blank goes on with a line's lead.
 pub leads-blank : (text : List ℕ) (p : ℕ) → is_blank (byte text p) ≡ true
     → leads text (p + 1) ≡ leads text p
 unfolding leads
 leads-blank text p h = rw (add-one, h) refl
 
+-- What is neither a blank nor the end of a break ends a line's lead.
 pub leads-text : (text : List ℕ) (p : ℕ) → is_blank (byte text p) ≡ false
     → ends_break text p ≡ false → leads text (p + 1) ≡ false
 unfolding leads
@@ -18,10 +20,12 @@ pub white-suc : (text : List ℕ) (p : ℕ)
     → after_white text (p + 1) ≡ (is_blank (byte text p) || ends_break text p)
 white-suc text p = let z : p + 1 - 1 ≡ p = omega arith in rw z refl
 
+-- No white stands before the place after another byte.
 pub white-text : (text : List ℕ) (p : ℕ) → is_blank (byte text p) ≡ false
     → ends_break text p ≡ false → after_white text (p + 1) ≡ false
 white-text text p h e = white-suc text p ∙ rw (h, e) refl
 
+-- White stands before the place after a blank.
 pub white-blank : (text : List ℕ) (p : ℕ) → is_blank (byte text p) ≡ true
     → after_white text (p + 1) ≡ true
 white-blank text p h = white-suc text p ∙ rw h refl
@@ -32,6 +36,7 @@ pub record InLead (text : List ℕ) (p q : ℕ) : Type 0 where
   pub further : p < q
   pub inside : p < length text
 
+-- After a break a line's lead begins.
 pub lead_break : (text : List ℕ) (p : ℕ) → 0 < break_width text p
     → InLead text p (p + break_width text p)
 lead_break text p h =
@@ -44,11 +49,13 @@ lead_break text p h =
 
 -- what stands at a place
 
+-- A break is taken as what it reads as.
 pub spot_break : (flow : Bool) (level : ℕ) (text : List ℕ) (p : ℕ) → 0 < break_width text p
     → spot_at flow level text p ≡ Takes (Break (feed_at text p)) (p + break_width text p)
 unfolding spot_at
 spot_break flow level text p h = rw (lt-ltb 0 _ h) refl
 
+-- A blank is taken as one, unless it is a tab in a line's lead.
 pub spot_blank : (flow : Bool) (level : ℕ) (text : List ℕ) (p : ℕ) → break_width text p ≡ 0
     → is_blank (byte text p) ≡ true
     → (byte text p == 9 && (leads text p && nat_lt (column_at text p) level)) ≡ false
@@ -56,12 +63,14 @@ pub spot_blank : (flow : Bool) (level : ℕ) (text : List ℕ) (p : ℕ) → bre
 unfolding spot_at
 spot_blank flow level text p z h t = rw (z, h, t) refl
 
+-- What ends a plain scalar isn't taken.
 pub spot_ends : (flow : Bool) (level : ℕ) (text : List ℕ) (p : ℕ) → break_width text p ≡ 0
     → is_blank (byte text p) ≡ false
     → ends_at flow level text p ≡ true → spot_at flow level text p ≡ Ends
 unfolding spot_at
 spot_ends flow level text p z h t = rw (z, h, t) refl
 
+-- Any other byte is kept as it is.
 pub spot_kept : (flow : Bool) (level : ℕ) (text : List ℕ) (p : ℕ) → break_width text p ≡ 0
     → is_blank (byte text p) ≡ false
     → ends_at flow level text p ≡ false
@@ -71,6 +80,7 @@ pub spot_kept : (flow : Bool) (level : ℕ) (text : List ℕ) (p : ℕ) → brea
 unfolding spot_at
 spot_kept flow level text p z h t k = rw (z, h, t, k) refl
 
+-- Where a plain scalar doesn't end, a byte stands.
 pub not_ended : (flow : Bool) (level : ℕ) (text : List ℕ) (p : ℕ)
     → ends_at flow level text p ≡ false → 0 < byte text p
 unfolding ends_at
@@ -119,12 +129,14 @@ words_enough (suc n) flow level text p room =
 abbrev pub words_on : Bool → ℕ → List ℕ → ℕ → Result Words Wrong
 words_on flow level text p = words (suc (length text)) flow level text p
 
+-- The words from a place on are what stands there, and those after it.
 pub words_here : (flow : Bool) (level : ℕ) (text : List ℕ) (p : ℕ)
     → words_on flow level text p
     ≡ follows (words_on flow level text) p (spot_at flow level text p)
 unfolding words
 words_here flow level text p = words_enough (length text) flow level text p (omega arith)
 
+-- A plain scalar is its first byte and what goes on after it.
 pub plain_whole : (flow : Bool) (level : ℕ) (text : List ℕ) (p : ℕ) → p < length text
     → plain_at flow level text p ≡ plain_with plain_text
     (words_from (Kept (byte text p ∷ [])) (p + 1) (words_on flow level text (p + 1)))

@@ -35,11 +35,13 @@ pieces_more (suc n) quote text p room =
 abbrev pub pieces_on : ℕ → List ℕ → ℕ → Result (List Piece × ℕ) Wrong
 pieces_on quote text p = pieces (suc (length text)) quote text p
 
+-- The pieces from a place on are what stands there, and those after it.
 pub pieces_here : (quote : ℕ) (text : List ℕ) (p : ℕ)
     → pieces_on quote text p ≡ followed (pieces_on quote text) p (standing_at quote text p)
 unfolding pieces
 pieces_here quote text p = pieces_more (length text) quote text p (omega arith)
 
+-- A quoted scalar is the value of the pieces after its first quote.
 pub quoted_whole : (quote : ℕ) (text : List ℕ) (p : ℕ) → p < length text
     → quoted_at quote text p ≡ valued value (pieces_on quote text (p + 1))
 quoted_whole quote text p h =
@@ -48,6 +50,7 @@ quoted_whole quote text p h =
 
 -- ---- turns
 
+-- Pieces in front of a reading change its value as they change every value.
 pub front : (old new : List Piece → List ℕ) (qs : List Piece) (r : Result (List Piece × ℕ) Wrong)
     → ((ps : List Piece) → new ps ≡ old (qs ++ ps)) → valued old (with_front qs r) ≡ valued new r
 front old new qs r h = grind arith

@@ -11,9 +11,11 @@ pub record IsCalm (b : ℕ) : Type 0 where
   pub no_line : b ≢ 0xA8
   pub no_paragraph : b ≢ 0xA9
 
+-- What is printed in ASCII is calm.
 pub calm_between : (b : ℕ) → 32 < b → b < 128 → IsCalm b
 calm_between b low high = record { high = low; no_c2 = omega arith; no_e2 = omega arith; no_next = omega arith; no_line = omega arith; no_paragraph = omega arith }
 
+-- A calm byte ends no break.
 pub calm_ends_none : (x y b c : ℕ) → IsCalm b → ends_of x y b c ≡ false
 unfolding ends_of
 calm_ends_none x y b c h = search rules
@@ -22,6 +24,7 @@ calm_ends_none x y b c h = search rules
 
 -- bytes of the text
 
+-- The bytes from a place on are a part of the text.
 pub slice_bytes : (text : List ℕ) (p d : ℕ) → p + d ≤ length text
     → take d (drop p text) ≡ bytes_at text p d
 unfolding bytes_at
@@ -30,15 +33,18 @@ slice_bytes text p (suc d) h =
     let l : p < length text = omega arith in
     rw (drop_more text p 0 l, slice_bytes text (p + 1) d (omega arith)) refl
 
+-- No byte.
 pub bytes_none : (text : List ℕ) (p : ℕ) → bytes_at text p 0 ≡ []
 unfolding bytes_at
 bytes_none text p = refl
 
+-- One byte more.
 pub bytes_more : (text : List ℕ) (p d : ℕ)
     → bytes_at text p (suc d) ≡ byte text p ∷ bytes_at text (p + 1) d
 unfolding bytes_at
 bytes_more text p d = refl
 
+-- So many bytes are so long.
 pub bytes_long : (text : List ℕ) (p d : ℕ) → length (bytes_at text p d) ≡ d
 unfolding bytes_at
 bytes_long text p zero = refl

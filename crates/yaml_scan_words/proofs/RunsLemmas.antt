@@ -7,6 +7,7 @@ digit_range : (b : ℕ) → is_digit_byte b ≡ true → (48 ≤ b) × (b ≤ 57
 unfolding is_digit_byte
 digit_range b h = (grind (arith, nat_tests), grind (arith, nat_tests))
 
+-- An alpha lies between `-` and `z`, and isn't `<`.
 pub alpha_range : (b : ℕ) → is_alpha_byte b ≡ true → (45 ≤ b) × (b ≤ 122) × (b ≢ 60)
 unfolding is_alpha_byte is_digit_byte
 alpha_range b h = (grind (arith, nat_tests), grind (arith, nat_tests), grind (arith, nat_tests))
@@ -77,6 +78,7 @@ run_is run text p q after each stops =
     let (m, left, same) = run_to (length text) run text p q after each (omega arith) in
     same ∙ run_stop m run text q stops
 
+-- Each byte of a run belongs to it.
 pub run_each : (n : ℕ) (run : Run) (text : List ℕ) (p k : ℕ) → p ≤ k → k < run_within n run text p
     → belongs run text k ≡ true
 unfolding run_within

@@ -15,7 +15,7 @@ pub enum Status {
 }
 
 /// Where the next character stands.
-#[derive(Clone, Copy)]
+#[derive(Clone, Copy, PartialEq, Eq, Debug)]
 pub struct Cursor {
     /// Characters since the last line break, from 0.
     pub column: u64,

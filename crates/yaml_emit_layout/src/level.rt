@@ -3,7 +3,7 @@
 use crate::problem::Problem;
 
 /// What comes next in an open collection.
-#[derive(Clone, Copy)]
+#[derive(Clone, Copy, PartialEq, Eq, Debug)]
 pub enum Phase {
     /// An item or the end; whether none has come.
     Items(bool),
@@ -14,7 +14,7 @@ pub enum Phase {
 }
 
 /// An open collection: what comes next in it, whether it is flow, and its indentation in columns.
-#[derive(Clone, Copy)]
+#[derive(Clone, Copy, PartialEq, Eq, Debug)]
 pub struct Level {
     pub phase: Phase,
     pub flow: bool,
@@ -22,7 +22,7 @@ pub struct Level {
 }
 
 /// What an emitter expects.
-#[derive(Clone, Copy)]
+#[derive(Clone, Copy, PartialEq, Eq, Debug)]
 pub enum Expected {
     StreamStart,
     /// A document or the stream's end; whether none went before, and whether the last ended implicitly.

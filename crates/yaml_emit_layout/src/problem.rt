@@ -4,7 +4,7 @@ ghost use Rattle.std.specs.Prelude.{◌≡◌};
 ghost use Rattle.yaml_emit_layout.specs.Grammar.{problem_bytes};
 
 /// What is wrong with an event.
-#[derive(Clone, Copy)]
+#[derive(Clone, Copy, PartialEq, Eq, Debug)]
 pub enum Problem {
     AnchorEmpty,
     AnchorCharacters,

@@ -8,7 +8,7 @@ ghost use Rattle.yaml_emit_layout.specs.Settings.{settled, settled_indent, settl
 use yaml_scan_types::{DEFAULT_INDENT, DEFAULT_WIDTH, yaml_break_t, yaml_encoding_t};
 
 /// How the characters are spelled in bytes.
-#[derive(Clone, Copy)]
+#[derive(Clone, Copy, PartialEq, Eq, Debug)]
 pub enum Encoding {
     Utf8,
     /// UTF-16, the low byte of a unit first; a byte order mark stands in front.
@@ -26,7 +26,7 @@ pub enum LineBreak {
 }
 
 /// What an emitter was told.
-#[derive(Clone, Copy)]
+#[derive(Clone, Copy, PartialEq, Eq, Debug)]
 pub struct RequestedSettings {
     pub encoding: yaml_encoding_t,
     pub canonical: bool,

@@ -2,7 +2,6 @@ pub use Rattle.yaml_scan_types.specs.Marks
 pub use Rattle.yaml_scan_types.specs.Classes
 pub use Rattle.yaml_scan_types.specs.Tokens
 pub use Rattle.yaml_scan_types.specs.Faults
-pub use Rattle.yaml_scan_types.specs.Ends
 pub use Rattle.yaml_scan_types.specs.Widths
 pub use Rattle.yaml_scan_types.specs.Ascii
 pub use Rattle.yaml_scan_types.specs.Points

@@ -1,4 +1,3 @@
-pub use Rattle.yaml_scan_types_plain.specs.Ends
 pub use Rattle.yaml_scan_types_plain.specs.Widths
 pub mod Marks
 pub mod Classes

@@ -1,1 +1,0 @@
-pub use Rattle.yaml_scan_types_plain.proofs.Ends

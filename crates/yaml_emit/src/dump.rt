@@ -8,9 +8,8 @@ ghost use Rattle.yaml_emit_machine.specs.Taking.{TakesEvents, Stuck, NotesMemory
 ghost use Rattle.yaml_emit_machine.specs.Dumping.{OpensStream, opening_event};
 
 use yaml_emit_machine::{
-    answer, dump_document, is_closed, is_opened, set_closed, set_opened, take_event_over,
-    yaml_document_delete, yaml_document_t, yaml_emitter_t, yaml_encoding_t, yaml_event_body_t,
-    yaml_fault_t,
+    EventRef, answer, dump_document, is_closed, is_opened, set_closed, set_opened, take_event,
+    yaml_document_delete, yaml_document_t, yaml_emitter_t, yaml_encoding_t, yaml_fault_t,
 };
 
 /// Starts the stream, which must not have been opened (`yaml_emitter_opened` tells). Refused as `yaml_emitter_emit` is.
@@ -28,9 +27,9 @@ pub fn yaml_emitter_open(emitter: &mut yaml_emitter_t) -> Result<(), yaml_fault_
     ensures stays { Stays emitter.old emitter.new }
     ensures stuck { OnErr result (Stuck emitter.new) }
 {
-    take_event_over(
+    take_event(
         emitter,
-        yaml_event_body_t::StreamStart {
+        &EventRef::StreamStart {
             encoding: yaml_encoding_t::YAML_ANY_ENCODING,
         },
     );
@@ -62,7 +61,7 @@ pub fn yaml_emitter_close(emitter: &mut yaml_emitter_t) -> Result<(), yaml_fault
     if is_closed(emitter) {
         answer(emitter)
     } else {
-        take_event_over(emitter, yaml_event_body_t::StreamEnd);
+        take_event(emitter, &EventRef::StreamEnd);
         answer(emitter)?;
         set_closed(emitter, true);
         Ok(())

@@ -3,7 +3,7 @@
 ghost use Rattle.std.specs.Prelude.{◌≡◌, ◌≤◌, ◌∷◌, ◌++◌, [], length, None, Some, true, false, option_map, IfOk, IfErr};
 ghost use Rattle.yaml_emit_machine.specs.scan_model.Faults.{Fault, fault_of, memory_fault};
 ghost use Rattle.yaml_emit_machine.specs.scan_model.declared.yaml_origin_t.TheVariants as from;
-ghost use Rattle.yaml_emit_machine.specs.parse_model.Events.{event_of};
+ghost use Rattle.yaml_emit_machine.specs.parse_model.Events.{borrowed_body, event_of};
 ghost use Rattle.yaml_emit_machine.specs.parse_model.Constructors.{HasUtf8};
 ghost use Rattle.yaml_emit_machine.specs.emit_layout.Content.{emitter_event};
 ghost use Rattle.yaml_emit_machine.specs.Emitter.{IsNew, IsLimited, ShowsFront, IsWhole, Answers, Stays};
@@ -14,8 +14,8 @@ ghost use Rattle.yaml_emit_machine.specs.Taking.{TakesEvents, NotesMemoryOf, Bla
 
 use std::alloc::Global;
 use yaml_emit_machine::{
-    RequestedSettings, answer, first_fault, into_output, is_fresh, is_opened, let_go, new_emitter,
-    output, requested_settings, set_requested_settings, take_event, take_event_over, yaml_break_t,
+    EventRef, RequestedSettings, answer, first_fault, into_output, is_fresh, is_opened, let_go,
+    new_emitter, output, requested_settings, set_requested_settings, take_event, yaml_break_t,
     yaml_emitter_t, yaml_encoding_t, yaml_event_t, yaml_fault_t,
 };
 
@@ -193,28 +193,29 @@ pub fn yaml_emitter_emit(
         × (emitter.new.closed ≡ emitter.old.closed) }
 {
     let yaml_event_t { body, .. } = event;
-    take_event_over(emitter, body);
+    take_event(emitter, &body.borrowed());
+    drop(body);
     outcome_of(first_fault(emitter))
 }
 
-/// `yaml_emitter_emit` of an event that stays where it stands; what is left of it counts for nothing. The fault, if there
+/// `yaml_emitter_emit` of an event whose texts are borrowed: they are copied only where it has to be held. The fault, if there
 /// is one, is the emitter's (`yaml_emitter_fault`). Without one, what is held are the last events that were given.
-pub fn yaml_emitter_emit_from(emitter: &mut yaml_emitter_t, event: &mut yaml_event_t)
-    requires { HasUtf8 (event_of event.old).body }
-    ensures takes { TakesEvents emitter.old (emitter_event (event_of event.old).body ∷ [])
+pub fn yaml_emitter_emit_ref(emitter: &mut yaml_emitter_t, event: EventRef<'_>)
+    requires { HasUtf8 (borrowed_body event) }
+    ensures takes { TakesEvents emitter.old (emitter_event (borrowed_body event.entry) ∷ [])
         emitter.new [] }
-    ensures memory { NotesMemoryOf (emitter_event (event_of event.old).body) emitter.old
+    ensures memory { NotesMemoryOf (emitter_event (borrowed_body event.entry)) emitter.old
         emitter.new }
-    ensures blames { BlamesLevels (emitter_event (event_of event.old).body) emitter.old
+    ensures blames { BlamesLevels (emitter_event (borrowed_body event.entry)) emitter.old
         emitter.new }
     ensures stays { Stays emitter.old emitter.new }
     ensures few { length emitter.new.held ≤ 3 }
     ensures opened { (emitter.new.opened ≡ emitter.old.opened)
         × (emitter.new.closed ≡ emitter.old.closed) }
     ensures last { emitter.old.fault ≡ None → AreLast (emitter.old.held
-        ++ emitter_event (event_of event.old).body ∷ []) emitter.new.held }
+        ++ emitter_event (borrowed_body event.entry) ∷ []) emitter.new.held }
 {
-    take_event(emitter, &mut event.body);
+    take_event(emitter, &event);
 }
 
 /// What was laid out is in the output. The first fault, if there is one, is answered. Asks that an event was given.

@@ -29,30 +29,30 @@ pub returns-in_ok-answer : goal.returns-in_ok-answer
 returns-in_ok-answer c = record {
   answer = search rules;
   again = λ on. absurd (false≢true (sym (sym c.is_closed.ensures ∙ c.if-is_closed.false) ∙ on));
-  takes = λ open_still. takes_marked _ c.take_event_over.new.emitter _ (stream_end ∷ []) [] c.take_event_over.new.emitter.opened true c.set_closed.ensures c.take_event_over.ensures.takes;
-  memory = λ open_still. notes_marked stream_end c.args.emitter.now c.take_event_over.new.emitter _ c.take_event_over.new.emitter.opened true c.set_closed.ensures c.take_event_over.ensures.memory;
-  blames = λ open_still. blames_marked stream_end c.args.emitter.now c.take_event_over.new.emitter _ c.take_event_over.new.emitter.opened true c.set_closed.ensures c.take_event_over.ensures.blames;
-  tells = tells_marked c.take_event_over.new.emitter _ c.take_event_over.new.emitter.opened true c.set_closed.ensures c.answer-else-is_closed.ensures.tells;
+  takes = λ open_still. takes_marked _ c.take_event.new.emitter _ (stream_end ∷ []) [] c.take_event.new.emitter.opened true c.set_closed.ensures c.take_event.ensures.takes;
+  memory = λ open_still. notes_marked stream_end c.args.emitter.now c.take_event.new.emitter _ c.take_event.new.emitter.opened true c.set_closed.ensures c.take_event.ensures.memory;
+  blames = λ open_still. blames_marked stream_end c.args.emitter.now c.take_event.new.emitter _ c.take_event.new.emitter.opened true c.set_closed.ensures c.take_event.ensures.blames;
+  tells = tells_marked c.take_event.new.emitter _ c.take_event.new.emitter.opened true c.set_closed.ensures c.answer-else-is_closed.ensures.tells;
   stays = search rules;
-  few = let P : Emitter → Type 0 = λ e. length e.held ≤ 3 in subst P (sym c.set_closed.ensures) c.take_event_over.ensures.few;
+  few = let P : Emitter → Type 0 = λ e. length e.held ≤ 3 in subst P (sym c.set_closed.ensures) c.take_event.ensures.few;
   closed = ap (λ (e : Emitter). e.closed) c.set_closed.ensures;
   refused = tt;
-  keeps = ap (λ (e : Emitter). e.opened) c.set_closed.ensures ∙ c.take_event_over.ensures.opened.0;
-  begun = ap (λ (e : Emitter). e.fresh) c.set_closed.ensures ∙ c.take_event_over.ensures.begun;
+  keeps = ap (λ (e : Emitter). e.opened) c.set_closed.ensures ∙ c.take_event.ensures.opened.0;
+  begun = ap (λ (e : Emitter). e.fresh) c.set_closed.ensures ∙ c.take_event.ensures.begun;
 }
 
 pub returns-in_err-answer : goal.returns-in_err-answer
 returns-in_err-answer c = record {
   answer = search rules;
   again = λ on. absurd (false≢true (sym (sym c.is_closed.ensures ∙ c.if-is_closed.false) ∙ on));
-  takes = λ open_still. c.take_event_over.ensures.takes;
-  memory = λ open_still. c.take_event_over.ensures.memory;
-  blames = λ open_still. c.take_event_over.ensures.blames;
+  takes = λ open_still. c.take_event.ensures.takes;
+  memory = λ open_still. c.take_event.ensures.memory;
+  blames = λ open_still. c.take_event.ensures.blames;
   tells = c.answer-else-is_closed.ensures.tells;
-  stays = c.take_event_over.ensures.stays;
-  few = c.take_event_over.ensures.few;
+  stays = c.take_event.ensures.stays;
+  few = c.take_event.ensures.few;
   closed = search rules;
   refused = search rules;
-  keeps = c.take_event_over.ensures.opened.0;
-  begun = c.take_event_over.ensures.begun;
+  keeps = c.take_event.ensures.opened.0;
+  begun = c.take_event.ensures.begun;
 }

@@ -5,12 +5,12 @@ use Rattle.yaml_emit.proofs.emitter.yaml_emitter_emit.Goals as goal
 
 pub returns : goal.returns
 returns c = record {
-  takes = c.take_event_over.ensures.takes;
-  memory = c.take_event_over.ensures.memory;
-  blames = c.take_event_over.ensures.blames;
+  takes = rw c.borrowed.ensures at c.take_event.ensures.takes;
+  memory = rw c.borrowed.ensures at c.take_event.ensures.memory;
+  blames = rw c.borrowed.ensures at c.take_event.ensures.blames;
   tells = c.first_fault.ensures.tells;
   answer = let P : Option Fault → Type 0 = λ z. Answers z c.outcome_of.result in subst P c.first_fault.ensures.is c.outcome_of.ensures;
-  stays = c.take_event_over.ensures.stays;
-  few = c.take_event_over.ensures.few;
-  opened = c.take_event_over.ensures.opened;
+  stays = c.take_event.ensures.stays;
+  few = c.take_event.ensures.few;
+  opened = c.take_event.ensures.opened;
 }

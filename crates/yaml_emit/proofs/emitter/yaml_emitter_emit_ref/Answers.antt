@@ -1,4 +1,4 @@
-use Rattle.yaml_emit.proofs.emitter.yaml_emitter_emit_from.Goals as goal
+use Rattle.yaml_emit.proofs.emitter.yaml_emitter_emit_ref.Goals as goal
 
 pub returns : goal.returns
 returns c = record {

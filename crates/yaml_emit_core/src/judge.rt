@@ -224,11 +224,11 @@ fn names_problem(
 pub fn event_problem(canonical: bool, event: &EventRef) -> Option<Problem>
     ensures { result ≡ event_problem canonical (emitter_event (borrowed_body event.now)) }
 {
-    match event {
+    match *event {
         EventRef::Alias { anchor } => name_problem(
             Problem::AliasEmpty,
             Problem::AliasCharacters,
-            *anchor,
+            anchor,
         ),
         EventRef::Scalar {
             anchor,
@@ -236,7 +236,7 @@ pub fn event_problem(canonical: bool, event: &EventRef) -> Option<Problem>
             plain_implicit,
             quoted_implicit,
             ..
-        } => names_problem(canonical, *plain_implicit | *quoted_implicit, *anchor, *tag),
+        } => names_problem(canonical, plain_implicit | quoted_implicit, anchor, tag),
         EventRef::SequenceStart {
             anchor,
             tag,
@@ -248,7 +248,7 @@ pub fn event_problem(canonical: bool, event: &EventRef) -> Option<Problem>
             tag,
             implicit,
             ..
-        } => names_problem(canonical, *implicit, *anchor, *tag),
+        } => names_problem(canonical, implicit, anchor, tag),
         _ => None,
     }
 }

@@ -28,33 +28,29 @@ impl Core {
         requires going { goes_on self.old.sink.status self.old.place ≡ true }
         ensures { LaysOut self.old self.new (emitter_event (borrowed_body event.now)) empty }
     {
-        match event {
+        match *event {
             EventRef::Scalar {
                 anchor,
                 tag,
                 value,
-                plain_implicit,
-                quoted_implicit,
+                plain_implicit: plain,
+                quoted_implicit: quoted,
                 style,
             } => {
-                let named = Named {
-                    anchor: *anchor,
-                    tag: *tag,
-                };
                 let value = Value {
-                    value: *value,
-                    plain: *plain_implicit,
-                    quoted: *quoted_implicit,
-                    style: *style,
+                    value,
+                    plain,
+                    quoted,
+                    style,
                 };
-                self.lay_scalar(&named, &value);
+                self.lay_scalar(&Named { anchor, tag }, &value);
             }
             EventRef::SequenceStart { .. } | EventRef::MappingStart { .. } => {
                 self.lay_opening(event, empty)
             }
             EventRef::SequenceEnd => self.lay_end(true),
             EventRef::MappingEnd => self.lay_end(false),
-            EventRef::Alias { anchor } => self.lay_alias(*anchor),
+            EventRef::Alias { anchor } => self.lay_alias(anchor),
             _ => self.lay_outer(event),
         }
     }
@@ -65,20 +61,17 @@ impl Core {
         requires going { goes_on self.old.sink.status self.old.place ≡ true }
         ensures { LaysOut self.old self.new (emitter_event (borrowed_body event.now)) empty }
     {
-        match event {
+        match *event {
             EventRef::SequenceStart {
                 anchor,
                 tag,
                 implicit,
                 style,
             } => self.lay_start(
-                &Named {
-                    anchor: *anchor,
-                    tag: *tag,
-                },
-                *implicit,
+                &Named { anchor, tag },
+                implicit,
                 true,
-                is_flow_sequence(*style),
+                is_flow_sequence(style),
                 empty,
             ),
             EventRef::MappingStart {
@@ -87,13 +80,10 @@ impl Core {
                 implicit,
                 style,
             } => self.lay_start(
-                &Named {
-                    anchor: *anchor,
-                    tag: *tag,
-                },
-                *implicit,
+                &Named { anchor, tag },
+                implicit,
                 false,
-                is_flow_mapping(*style),
+                is_flow_mapping(style),
                 empty,
             ),
             _ => (),

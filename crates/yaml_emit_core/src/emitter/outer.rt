@@ -40,15 +40,15 @@ impl Core {
         ensures { (empty : Bool) → LaysOut self.old self.new (emitter_event
             (borrowed_body event.now)) empty }
     {
-        match event {
+        match *event {
             EventRef::DocumentStart {
-                version_directive,
-                tag_directives,
+                version_directive: version,
+                tag_directives: directives,
                 implicit,
             } => self.lay_document_start(&Opening {
-                version: *version_directive,
-                directives: *tag_directives,
-                implicit: *implicit,
+                version,
+                directives,
+                implicit,
             }),
             _ => self.lay_bare(event),
         }

@@ -10,7 +10,7 @@ ghost use Rattle.yaml_round_records.specs.Listing.{Collects, StartsEmpty};
 use crate::answer::{handed_out, misused, refused_in, said, yaml_c_answer};
 use crate::spelled::{is_starved, spelled_text};
 use std::alloc::Global;
-use yaml_parse::{yaml_found_t, yaml_memory_fault, yaml_origin_t};
+use yaml_parse::{yaml_event_body_t, yaml_event_t, yaml_found_t, yaml_memory_fault, yaml_origin_t};
 use yaml_round::{yaml_encoding_t, yaml_fault_t};
 use yaml_round_reading::{ReadText, Reading, let_go, let_text_go, read_text, reading_of};
 use yaml_round_records::{Listing, count_events, encoding_of, yaml_c_directive, yaml_c_event};
@@ -28,16 +28,21 @@ pub struct yaml_c_parsed {
 const _: () = prove!(size_of::<yaml_c_parsed>() == 48);
 
 // Records of the events to their end, in a listing of nothing. The fault that ends them is the answer.
-fn collect(reading: &mut Reading<'_>, listing: &mut Listing) -> Result<(), yaml_fault_t>
+fn collect(
+    reading: &mut Reading<'_>,
+    event: &mut yaml_event_t,
+    listing: &mut Listing,
+) -> Result<(), yaml_fault_t>
     requires { StartsEmpty listing.old }
     ensures { Collects reading.old.parser result listing.new }
 {
+    let mut fault = yaml_memory_fault(yaml_origin_t::Parser);
     'events: loop {
-        match reading.find() {
-            yaml_found_t::Refused => return Err(reading.fault),
+        match reading.parse_into(event, &mut fault) {
+            yaml_found_t::Refused => return Err(fault),
             yaml_found_t::End => return Ok(()),
             yaml_found_t::Event => {
-                if listing.push(&reading.event).is_err() {
+                if listing.push(event).is_err() {
                     return Err(yaml_memory_fault(yaml_origin_t::Parser));
                 }
             }
@@ -53,7 +58,8 @@ fn listed_in(alloc: Global, text: &ReadText<'_>, listing: &mut Listing) -> Resul
     match reading_of(alloc, text) {
         Err(fault) => Err(fault),
         Ok(mut reading) => {
-            let end = collect(&mut reading, listing);
+            let mut event = yaml_event_t::unplaced(yaml_event_body_t::No);
+            let end = collect(&mut reading, &mut event, listing);
             let_go(reading);
             end
         }

@@ -1,15 +1,15 @@
 //! Whether an input begins with nothing: its first document has no `---`, and its root is an empty plain scalar without anchor and
 //! tag, for which pretty form writes nothing.
 
-ghost use Rattle.std.specs.Prelude.{◌≡◌, ◌||◌, ◌∷◌, [], List, not, map};
-ghost use Rattle.yaml_parse_model.specs.Events.{event_of, text_of, directive_of};
+ghost use Rattle.std.specs.Prelude.{◌≡◌, ◌||◌, ◌∷◌, [], List, not, map, option_map};
+ghost use Rattle.yaml_parse_model.specs.Events.{borrowed_body, directive_of};
 ghost use Rattle.yaml_emit_layout.specs.Content.{Event, emitter_event};
 ghost use Rattle.yaml_emit_layout.specs.Nodes.{has_version, has_directives};
 ghost use Rattle.yaml_round_laws_documents.specs.Bodies.{is_bare};
 ghost use Rattle.yaml_round_laws_documents.specs.Flags.{is_asked_plain};
 ghost use Rattle.yaml_round_beginning.specs.Beginning as spec;
 
-use yaml_parse_model::{yaml_event_body_t, yaml_event_t};
+use yaml_parse_model::EventRef;
 use yaml_scan_model::{yaml_scalar_style_t, yaml_tag_directive_t, yaml_version_directive_t};
 
 /// What the events so far tell of it.
@@ -28,10 +28,10 @@ pub enum Beginning {
 }
 
 pub(crate) fn has_none(
-    version: &Option<yaml_version_directive_t>,
+    version: Option<yaml_version_directive_t>,
     directives: &[yaml_tag_directive_t],
 ) -> bool
-    ensures { result ≡ not (has_version version.now || has_directives
+    ensures { result ≡ not (has_version version || has_directives
         (map directive_of directives.now)) }
 {
     match version {
@@ -40,8 +40,9 @@ pub(crate) fn has_none(
     }
 }
 
-fn is_bare(anchor: &Option<Vec<u8>>, tag: &Option<Vec<u8>>) -> bool
-    ensures { result ≡ is_bare (text_of anchor.now) (text_of tag.now) }
+fn is_bare(anchor: Option<&[u8]>, tag: Option<&[u8]>) -> bool
+    ensures { result ≡ is_bare (option_map (λ t. t.now) anchor.entry)
+        (option_map (λ t. t.now) tag.entry) }
 {
     match (anchor, tag) {
         (None, None) => true,
@@ -61,17 +62,17 @@ fn is_asked_plain(style: yaml_scalar_style_t) -> bool
 }
 
 // After the stream's start.
-fn behind_stream(event: &yaml_event_t) -> Beginning
+fn behind_stream(event: EventRef<'_>) -> Beginning
     ensures { (es : List Event) → spec.opens_with_nothing
-        (emitter_event (event_of event.now).body ∷ es) ≡ spec.nothing_comes result es }
+        (emitter_event (borrowed_body event.entry) ∷ es) ≡ spec.nothing_comes result es }
 {
-    match &event.body {
-        yaml_event_body_t::DocumentStart {
+    match event {
+        EventRef::DocumentStart {
             version_directive,
             tag_directives,
             implicit,
         } => {
-            if *implicit && has_none(version_directive, tag_directives) {
+            if implicit && has_none(version_directive, tag_directives) {
                 Beginning::Document
             } else {
                 Beginning::Something
@@ -82,12 +83,12 @@ fn behind_stream(event: &yaml_event_t) -> Beginning
 }
 
 // After the start of a document without `---`.
-fn behind_document(event: &yaml_event_t) -> Beginning
+fn behind_document(event: EventRef<'_>) -> Beginning
     ensures { (es : List Event) → spec.is_nothing_next
-        (emitter_event (event_of event.now).body ∷ es) ≡ spec.nothing_comes result es }
+        (emitter_event (borrowed_body event.entry) ∷ es) ≡ spec.nothing_comes result es }
 {
-    match &event.body {
-        yaml_event_body_t::Scalar {
+    match event {
+        EventRef::Scalar {
             anchor,
             tag,
             value,
@@ -95,7 +96,7 @@ fn behind_document(event: &yaml_event_t) -> Beginning
             style,
             ..
         } => {
-            let empty = value.is_empty() && (*plain_implicit && is_asked_plain(*style));
+            let empty = value.is_empty() && (plain_implicit && is_asked_plain(style));
             if is_bare(anchor, tag) && empty {
                 Beginning::Nothing
             } else {
@@ -109,13 +110,13 @@ fn behind_document(event: &yaml_event_t) -> Beginning
 /// What is known with one more event, normalized.
 // Out of line: three events of an input come here.
 #[inline(never)]
-pub fn behind(beginning: Beginning, event: &yaml_event_t) -> Beginning
+pub fn behind(beginning: Beginning, event: EventRef<'_>) -> Beginning
     ensures { (es : List Event) → spec.nothing_comes beginning
-        (emitter_event (event_of event.now).body ∷ es) ≡ spec.nothing_comes result es }
+        (emitter_event (borrowed_body event.entry) ∷ es) ≡ spec.nothing_comes result es }
 {
     match beginning {
-        Beginning::Start => match &event.body {
-            yaml_event_body_t::StreamStart { .. } => Beginning::Stream,
+        Beginning::Start => match event {
+            EventRef::StreamStart { .. } => Beginning::Stream,
             _ => Beginning::Something,
         },
         Beginning::Stream => behind_stream(event),

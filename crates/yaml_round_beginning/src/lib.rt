@@ -6,4 +6,4 @@ mod beginning;
 mod styles;
 
 pub use beginning::{Beginning, behind, is_nothing};
-pub use styles::{OpeningPosition, restyle};
+pub use styles::{OpeningPosition, position_after, restyle};

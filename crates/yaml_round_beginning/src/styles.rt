@@ -1,13 +1,14 @@
 //! The normal form that people read, event by event: each is given the style that its content alone decides.
 
-ghost use Rattle.std.specs.Prelude.{◌≡◌, map};
-ghost use Rattle.yaml_parse_model.specs.Constructors.{HasUtf8};
-ghost use Rattle.yaml_parse_model.specs.Events.{event_of, text_of, directive_of};
+ghost use Rattle.std.specs.Prelude.{◌≡◌, Bool, IsUtf8, map, option_map};
+ghost use Rattle.yaml_parse_model.specs.Constructors.{HasUtf8, IsUtf8Option};
+ghost use Rattle.yaml_parse_model.specs.Events.{borrowed_body, directive_of};
+ghost use Rattle.yaml_parse_model.specs.Events as event;
 ghost use Rattle.yaml_emit_layout.specs.Content.{emitter_event};
 ghost use Rattle.yaml_round_beginning.specs.Styles as spec;
 
 use crate::beginning::has_none;
-use yaml_parse_model::{yaml_event_body_t, yaml_event_t};
+use yaml_parse_model::EventRef;
 use yaml_scan_classes::has_break;
 use yaml_scan_model::{
     yaml_encoding_t, yaml_mapping_style_t, yaml_scalar_style_t, yaml_sequence_style_t,
@@ -47,8 +48,8 @@ fn quoted_style(value: &[u8], broken: bool) -> yaml_scalar_style_t
 }
 
 // The style of a value that counts as plain: it is plain, except for what would be nothing where the text begins.
-fn plain_style(at: OpeningPosition, anchor: &Option<Vec<u8>>, value: &[u8]) -> yaml_scalar_style_t
-    ensures { result ≡ spec.plain_style at (text_of anchor.now) value.now }
+fn plain_style(at: OpeningPosition, anchor: Option<&[u8]>, value: &[u8]) -> yaml_scalar_style_t
+    ensures { result ≡ spec.plain_style at (option_map (λ t. t.now) anchor.entry) value.now }
 {
     match (at, anchor) {
         (OpeningPosition::Starts, None) => {
@@ -65,12 +66,13 @@ fn plain_style(at: OpeningPosition, anchor: &Option<Vec<u8>>, value: &[u8]) -> y
 // The style of a scalar.
 fn style_of(
     at: OpeningPosition,
-    anchor: &Option<Vec<u8>>,
-    tag: &Option<Vec<u8>>,
+    anchor: Option<&[u8]>,
+    tag: Option<&[u8]>,
     value: &[u8],
     plain: bool,
 ) -> yaml_scalar_style_t
-    ensures { result ≡ spec.style_of at (text_of anchor.now) (text_of tag.now) value.now plain }
+    ensures { result ≡ spec.style_of at (option_map (λ t. t.now) anchor.entry)
+        (option_map (λ t. t.now) tag.entry) value.now plain }
 {
     match tag {
         None => {
@@ -90,13 +92,39 @@ fn style_of(
     }
 }
 
+// A scalar with the style of its place, whatever it was written in: its tag may be left out where it has none.
+fn restyled_scalar<'e>(
+    at: OpeningPosition,
+    anchor: Option<&'e [u8]>,
+    tag: Option<&'e [u8]>,
+    value: &'e [u8],
+    plain: bool,
+) -> EventRef<'e>
+    ensures styled { (quoted : Bool) (style : yaml_scalar_style_t)
+        → emitter_event (borrowed_body result) ≡ spec.styled (spec.position_of at)
+        (event.scalar (option_map (λ t. t.now) anchor.entry) (option_map (λ t. t.now) tag.entry)
+        value.now plain quoted style) }
+    ensures utf8 { IsUtf8Option (option_map (λ t. t.now) anchor.entry)
+        → IsUtf8Option (option_map (λ t. t.now) tag.entry) → IsUtf8 value.now
+        → HasUtf8 (borrowed_body result) }
+{
+    EventRef::Scalar {
+        anchor,
+        tag,
+        value,
+        plain_implicit: tag.is_none() && plain,
+        quoted_implicit: tag.is_none() && !plain,
+        style: style_of(at, anchor, tag, value, plain),
+    }
+}
+
 // Whether the document needs no `---`: it is the first, and has no directives.
 fn is_unmarked(
     at: OpeningPosition,
-    version: &Option<yaml_version_directive_t>,
+    version: Option<yaml_version_directive_t>,
     directives: &[yaml_tag_directive_t],
 ) -> bool
-    ensures { result ≡ spec.is_unmarked at version.now (map directive_of directives.now) }
+    ensures { result ≡ spec.is_unmarked at version (map directive_of directives.now) }
 {
     match at {
         OpeningPosition::Before => has_none(version, directives),
@@ -104,14 +132,14 @@ fn is_unmarked(
     }
 }
 
-// Where the next event stands.
-fn position_after(event: &yaml_event_t, at: OpeningPosition) -> OpeningPosition
+/// Where the next event stands.
+pub fn position_after(event: EventRef<'_>, at: OpeningPosition) -> OpeningPosition
     ensures { spec.position_of result
-        ≡ spec.behind (spec.position_of at) (event_of event.now).body }
+        ≡ spec.behind (spec.position_of at) (borrowed_body event.entry) }
 {
     match at {
-        OpeningPosition::Before => match &event.body {
-            yaml_event_body_t::DocumentStart {
+        OpeningPosition::Before => match event {
+            EventRef::DocumentStart {
                 version_directive,
                 tag_directives,
                 ..
@@ -128,71 +156,48 @@ fn position_after(event: &yaml_event_t, at: OpeningPosition) -> OpeningPosition
     }
 }
 
-// Gives the event the style and the marks of its place. It is long by its patterns: an arm for each kind.
-fn put_style(event: &mut yaml_event_t, at: OpeningPosition)
-    ensures styled { emitter_event (event_of event.new).body
-        ≡ spec.styled (spec.position_of at) (event_of event.old).body }
-    ensures utf8 { HasUtf8 (event_of event.old).body → HasUtf8 (event_of event.new).body }
+/// A normalized event, which stands there, with the style and the marks that what it says decides. It is long by its patterns: an arm
+/// for each kind.
+// Out of line: canonical form and pretty form, whose events go by the same function, don't come here.
+#[inline(never)]
+pub fn restyle(event: EventRef<'_>, at: OpeningPosition) -> EventRef<'_>
+    ensures styled { emitter_event (borrowed_body result)
+        ≡ spec.styled (spec.position_of at) (borrowed_body event.entry) }
+    ensures utf8 { HasUtf8 (borrowed_body event.entry) → HasUtf8 (borrowed_body result) }
 {
-    match &mut event.body {
-        yaml_event_body_t::StreamStart { encoding } => {
-            *encoding = yaml_encoding_t::YAML_ANY_ENCODING;
-        }
-        yaml_event_body_t::DocumentStart {
+    match event {
+        EventRef::StreamStart { .. } => EventRef::StreamStart {
+            encoding: yaml_encoding_t::YAML_ANY_ENCODING,
+        },
+        EventRef::DocumentStart {
             version_directive,
             tag_directives,
-            implicit,
-        } => {
-            *implicit = is_unmarked(at, version_directive, tag_directives);
-        }
-        yaml_event_body_t::DocumentEnd { implicit } => {
-            *implicit = true;
-        }
-        yaml_event_body_t::Scalar {
+            ..
+        } => EventRef::DocumentStart {
+            version_directive,
+            tag_directives,
+            implicit: is_unmarked(at, version_directive, tag_directives),
+        },
+        EventRef::DocumentEnd { .. } => EventRef::DocumentEnd { implicit: true },
+        EventRef::Scalar {
             anchor,
             tag,
             value,
             plain_implicit,
-            quoted_implicit,
-            style,
-        } => {
-            *style = style_of(at, anchor, tag, value, *plain_implicit);
-            *quoted_implicit = tag.is_none() && !*plain_implicit;
-            *plain_implicit = tag.is_none() && *plain_implicit;
-        }
-        yaml_event_body_t::SequenceStart {
-            tag,
-            implicit,
-            style,
             ..
-        } => {
-            *implicit = tag.is_none();
-            *style = yaml_sequence_style_t::YAML_BLOCK_SEQUENCE_STYLE;
-        }
-        yaml_event_body_t::MappingStart {
+        } => restyled_scalar(at, anchor, tag, value, plain_implicit),
+        EventRef::SequenceStart { anchor, tag, .. } => EventRef::SequenceStart {
+            anchor,
             tag,
-            implicit,
-            style,
-            ..
-        } => {
-            *implicit = tag.is_none();
-            *style = yaml_mapping_style_t::YAML_BLOCK_MAPPING_STYLE;
-        }
-        _ => {}
+            implicit: tag.is_none(),
+            style: yaml_sequence_style_t::YAML_BLOCK_SEQUENCE_STYLE,
+        },
+        EventRef::MappingStart { anchor, tag, .. } => EventRef::MappingStart {
+            anchor,
+            tag,
+            implicit: tag.is_none(),
+            style: yaml_mapping_style_t::YAML_BLOCK_MAPPING_STYLE,
+        },
+        _ => event,
     }
-}
-
-/// Gives a normalized event, which stands there, the style and the marks that what it says decides. Where the next one stands.
-// Out of line: canonical form and pretty form, whose events go by the same function, don't come here.
-#[inline(never)]
-pub fn restyle(event: &mut yaml_event_t, at: OpeningPosition) -> OpeningPosition
-    ensures styled { emitter_event (event_of event.new).body
-        ≡ spec.styled (spec.position_of at) (event_of event.old).body }
-    ensures behind { spec.position_of result
-        ≡ spec.behind (spec.position_of at) (event_of event.old).body }
-    ensures utf8 { HasUtf8 (event_of event.old).body → HasUtf8 (event_of event.new).body }
-{
-    let next = position_after(event, at);
-    put_style(event, at);
-    next
 }

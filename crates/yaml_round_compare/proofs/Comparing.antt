@@ -16,9 +16,9 @@ use Rattle.yaml_round_reading.proofs.Plain.{faulty, fault_met, right, same_conte
 side_fault : (a_from : yaml_encoding_t) (a : List ℕ) (b_from : yaml_encoding_t) (b : List ℕ)
     (p q : ParserRemaining) (side : yaml_side_t) (f : yaml_fault_t) → ReadsInput a_from a p
     → ReadsInput b_from b q
-    → IsSideFault p q side f
+    → IsSideFault p q side (fault_of f)
     → IsSideStarved a_from a side (fault_of f) ⊎ IsSideFaulty a_from a b_from b side (fault_of f)
-side_fault a_from a b_from b p q First f h k e = fault_met a_from a p f h e
+side_fault a_from a b_from b p q First f h k e = fault_met a_from a p (fault_of f) h e
 side_fault a_from a b_from b p q Second f h k e =
     let first = right a_from a (sym h.ending ∙ e.0) in
     elim e.1 [ inl m ↦ inl (first, m) | inr z ↦ inr (first, faulty b_from b (fault_of f) (sym k.ending ∙ z)) ]
@@ -42,5 +42,5 @@ pub not_begun : (a_from : yaml_encoding_t) (a : List ℕ) (b_from : yaml_encodin
     (p : ParserRemaining) (fault : yaml_fault_t) (r : yaml_side_t × yaml_fault_t) → ReadsInput a_from a p
     → fault_of fault ≡ memory_fault Parser → IsBehindFirst p.ending fault r
     → IsSideStarved a_from a r.0 (fault_of r.1) ⊎ IsSideFaulty a_from a b_from b r.0 (fault_of r.1)
-not_begun a_from a b_from b p fault (First, f) h m e = fault_met a_from a p f h e
+not_begun a_from a b_from b p fault (First, f) h m e = fault_met a_from a p (fault_of f) h e
 not_begun a_from a b_from b p fault (Second, f) h m e = inl (right a_from a (sym h.ending ∙ e.0), inl (ap fault_of e.1 ∙ m))

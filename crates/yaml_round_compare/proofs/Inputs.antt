@@ -56,7 +56,7 @@ not_none o f e h = cc
 
 -- so a fault that is met is out of memory
 pub short : (from : yaml_encoding_t) (input : List ℕ) (f : yaml_fault_t) → HasLoaded from input
-    → IsFaultOf (ending_of from input) f → IsMemoryFault load_layers (fault_of f)
+    → IsFaultOf (ending_of from input) (fault_of f) → IsMemoryFault load_layers (fault_of f)
 short from input f h e = elim e [ inl m ↦ inr m | inr k ↦ absurd (not_none (ending_of from input) (fault_of f) (reads from input h) k) ]
 
 -- ---- what documents say doesn't hang on how they end

@@ -1,80 +1,37 @@
 -- Two readings beside each other: what each step says of what there was before it.
 use Rattle.std.proofs.Common.{◌≡◌, ◌∙◌, ◌<◌, ℕ, List, [], ◌∷◌, ◌++◌, length, Bool, true, false, Option, refl, sym, ap, subst, arith}
-use Rattle.yaml_parse.specs.Events.{Event, EventBody, event_of, type_of}
+use Rattle.yaml_parse.specs.Events.{Event, EventBody}
 use Rattle.yaml_parse.specs.Events as event
 use Rattle.yaml_parse.specs.Resolve.{Told}
 use Rattle.yaml_parse.specs.Remaining.{ParserRemaining}
 use Rattle.yaml_parse.specs.declared.yaml_scalar_style_t.{yaml_scalar_style_t}
-use Rattle.yaml_round_content.specs.Normalize.{normalize_body, normalize_scalar, is_lone_mark}
+use Rattle.yaml_round_content.specs.Normalize.{normalize_scalar, is_lone_mark}
 use Rattle.yaml_round_content.specs.Content.{content_of}
 use Rattle.yaml_round_reading.specs.Reading.{contents, AreReal, GivesNextEvent}
 use Rattle.yaml_round_reading.specs.declared.side.yaml_side_t.TheVariants.{First, Second}
-use Rattle.yaml_round_reading.specs.declared.reading.Reading.{Reading}
+use Rattle.yaml_round_reading.specs.ReadingView.{ReadingView}
 use Rattle.yaml_round_compare.specs.declared.compare.Next.{Next}
 use Rattle.yaml_round_compare.specs.declared.compare.Next.TheVariants.{Same, End, Different, Refused}
-use Rattle.yaml_round_compare.specs.declared.difference.yaml_difference_t.{yaml_difference_t}
 use Rattle.yaml_round_compare.specs.declared.trail.Trail.{Trail}
-use Rattle.yaml_round_compare.specs.Causes.{cause_of}
 use Rattle.yaml_round_compare.specs.Places.{Path, path_of}
 use Rattle.yaml_round_compare.specs.Walking.{past, past_event}
-use Rattle.yaml_round_compare.specs.Differences.{saying, TellsOf, TellsParting}
-use Rattle.yaml_round_compare.specs.Compare.{normalized, TellsShown, JudgesEvents, AreApart, Parted, BothGoOn, StepsBeside, StepsOn}
+use Rattle.yaml_round_compare.specs.Differences.{saying}
+use Rattle.yaml_round_compare.specs.Compare.{JudgesEvents, AreApart, Parted, BothGoOn, StepsBeside, StepsOn}
 use Rattle.yaml_round_compare.proofs.Parting.{first_same}
 use Rattle.yaml_round_compare.proofs.Placing.{heads}
 use Rattle.yaml_round_content.proofs.Injective.{rest_same}
 
--- ---- normalized events
-
-scalar_type : (lone : Bool) (anchor tag : Option (List ℕ)) (text : List ℕ) (plain quoted : Bool)
-    (style : yaml_scalar_style_t)
-    → type_of (normalize_scalar lone anchor tag text plain quoted style)
-    ≡ type_of (event.scalar anchor tag text plain quoted style)
-scalar_type true anchor tag text plain quoted style = refl
-scalar_type false anchor tag text plain quoted style = refl
-
-same_type : (b : EventBody) → type_of (normalize_body true b) ≡ type_of b
-same_type (event.scalar anchor tag text plain quoted style) = scalar_type (is_lone_mark tag text) anchor tag text plain quoted style
-same_type (event.document_end implicit) = refl
-same_type event.no = refl
-same_type (event.stream_start encoding) = refl
-same_type event.stream_end = refl
-same_type (event.document_start version directives implicit) = refl
-same_type (event.alias name) = refl
-same_type (event.sequence_start anchor tag implicit style) = refl
-same_type event.sequence_end = refl
-same_type (event.mapping_start anchor tag implicit style) = refl
-same_type event.mapping_end = refl
-
--- what says of normalized events says of the events
-told_of : (e f shown other : Event) (d : yaml_difference_t) → shown ≡ normalized e
-    → other ≡ normalized f → TellsOf shown other d → TellsOf e f d
-told_of e f shown other d p q t = record {
-  first_mark = t.first_mark ∙ ap (λ (x : Event). x.start_mark) p;
-  first_end = t.first_end ∙ ap (λ (x : Event). x.end_mark) p;
-  first_type = t.first_type ∙ ap (λ (x : Event). type_of x.body) p ∙ same_type e.body;
-  second_mark = t.second_mark ∙ ap (λ (x : Event). x.start_mark) q;
-  second_end = t.second_end ∙ ap (λ (x : Event). x.end_mark) q;
-  second_type = t.second_type ∙ ap (λ (x : Event). type_of x.body) q ∙ same_type f.body;
-}
-
-pub tells_of : (e f shown other : Event) (d : yaml_difference_t) → shown ≡ normalized e
-    → other ≡ normalized f → TellsShown shown other d
-    → TellsParting e f (saying e.body) (saying f.body) d
-tells_of e f shown other d p q t = record {
-  tells = told_of e f shown other d p q t.tells;
-  cause = t.cause ∙ ap (λ (x : Event). cause_of (content_of x.body) (content_of other.body)) p ∙ ap (λ (x : Event). cause_of (saying e.body) (content_of x.body)) q;
-}
+-- ---- paths
 
 scalar_past : (lone : Bool) (anchor tag : Option (List ℕ)) (text : List ℕ) (plain quoted : Bool)
     (style : yaml_scalar_style_t) (p : Path)
-    → past_event (normalize_scalar lone anchor tag text plain quoted style) p
+    → past_event (event.scalar anchor tag text plain quoted style) p
     ≡ past_event (content_of (normalize_scalar lone anchor tag text plain quoted style)) p
 scalar_past true anchor tag text plain quoted style p = refl
 scalar_past false anchor tag text plain quoted style p = refl
 
--- styles and document marks make no difference to the path
-said_past : (b : EventBody) (p : Path)
-    → past_event (normalize_body true b) p ≡ past_event (saying b) p
+-- styles, document marks and what is normalized make no difference to the path
+said_past : (b : EventBody) (p : Path) → past_event b p ≡ past_event (saying b) p
 said_past (event.scalar anchor tag text plain quoted style) p = scalar_past (is_lone_mark tag text) anchor tag text plain quoted style p
 said_past (event.document_end implicit) p = refl
 said_past event.no p = refl
@@ -92,39 +49,39 @@ said_past event.mapping_end p = refl
 shorter : (xs ys : List Told) (x : Told) → xs ≡ x ∷ ys → length ys < length xs
 shorter xs ys x e = subst (λ (zs : List Told). length ys < length zs) (sym e) (omega arith)
 
-goes_on : (first second first_new second_new : ParserRemaining) (shown : Event) (x y : Told)
+goes_on : (first second first_new second_new : ParserRemaining) (e : Event) (x y : Told)
     → first.events ≡ x ∷ first_new.events → second.events ≡ y ∷ second_new.events
-    → saying x.0.body ≡ saying y.0.body → shown ≡ normalized x.0
+    → saying x.0.body ≡ saying y.0.body → e ≡ x.0
     → AreReal first_new.events → AreReal second_new.events → first_new.ending ≡ first.ending
     → second_new.ending ≡ second.ending
-    → BothGoOn first second first_new second_new shown
-goes_on first second first_new second_new shown x y p q says n real other_real ending other_ending = record {
+    → BothGoOn first second first_new second_new e
+goes_on first second first_new second_new e x y p q says n real other_real ending other_ending = record {
   front = x;
   other_front = y;
   first_events = p;
   second_events = q;
   says = says;
-  normal = n;
+  given = n;
   real = (real, other_real);
   less = shorter first.events first_new.events x p;
   first_ending = ending;
   second_ending = other_ending;
   alike = (
-    λ e. rest_same (saying x.0.body) (saying y.0.body) (contents first_new.events) (contents second_new.events) (sym (ap contents p) ∙ e ∙ ap contents q),
-    λ e. ap contents p ∙ heads (saying x.0.body) (saying y.0.body) (contents first_new.events) (contents second_new.events) says e ∙ sym (ap contents q),
+    λ z. rest_same (saying x.0.body) (saying y.0.body) (contents first_new.events) (contents second_new.events) (sym (ap contents p) ∙ z ∙ ap contents q),
+    λ z. ap contents p ∙ heads (saying x.0.body) (saying y.0.body) (contents first_new.events) (contents second_new.events) says z ∙ sym (ap contents q),
   );
 }
 
 -- the first gave that event, and the second stands beside it
-pub beside : (first first_new second second_new : Reading) (e : Event) (r : Next)
-    → GivesNextEvent e first.parser first_new.parser
-    → StepsBeside e second.parser r (event_of first_new.event) second_new
+pub beside : (first first_new second second_new : ReadingView) (r : Next)
+    → GivesNextEvent first_new.given first.parser first_new.parser
+    → StepsBeside first_new.given second.parser r second_new
     → StepsOn first second r first_new second_new
-beside first first_new second second_new e Same g b =
-    goes_on first.parser second.parser first_new.parser second_new.parser (event_of first_new.event) (e, first_new.parser.unasked) b.front
-    g.events b.events b.says b.normal g.real b.real g.ending b.ending
-beside first first_new second second_new e End g b = absurd b
-beside first first_new second second_new e Different g b = record {
+beside first first_new second second_new Same g b =
+    goes_on first.parser second.parser first_new.parser second_new.parser first_new.given (first_new.given, first_new.parser.unasked) b.front
+    g.events b.events b.says refl g.real b.real g.ending b.ending
+beside first first_new second second_new End g b = absurd b
+beside first first_new second second_new Different g b = record {
   contents = record {
     real = (g.real, b.real);
     differ = λ same. b.differ (contents first_new.parser.events) (sym same ∙ ap contents g.events);
@@ -133,32 +90,23 @@ beside first first_new second second_new e Different g b = record {
   };
   apart = λ d t. subst (λ (xs : List Told). AreApart xs second.parser.events d) (sym g.events) (b.apart first_new.parser.unasked first_new.parser.events d t);
 }
-beside first first_new second second_new e (Refused First) g b = absurd b
-beside first first_new second second_new e (Refused Second) g b = (b, (g.ending, g.real))
-
--- the second's event says something else
-pub apart_from : (e f shown other : Event) (xs ys second : List Told) (n m : ℕ)
-    (d : yaml_difference_t) → shown ≡ normalized e → other ≡ normalized f
-    → second ≡ (f, m) ∷ ys → (saying e.body ≡ saying f.body → ⊥) → TellsShown shown other d
-    → AreApart ((e, n) ∷ xs) second d
-apart_from e f shown other xs ys second n m d p q s differ t =
-    subst (λ (zs : List Told). AreApart ((e, n) ∷ xs) zs d) (sym s) (differ, tells_of e f shown other d p q t)
+beside first first_new second second_new (Refused First) g b = absurd b
+beside first first_new second second_new (Refused Second) g b = (b, (g.ending, g.real))
 
 -- the second gave that event, and both are judged
-pub judged_beside : (e f shown : Event) (second : ParserRemaining) (r : Next) (second_new : Reading)
-    → GivesNextEvent f second second_new.parser
-    → JudgesEvents e.body f.body r → shown ≡ normalized e → event_of second_new.event ≡ normalized f
-    → StepsBeside e second r shown second_new
-judged_beside e f shown second Same second_new g j p q =
-    record { front = (f, second_new.parser.unasked); events = g.events; says = j; normal = p; real = g.real; ending = g.ending }
-judged_beside e f shown second End second_new g j p q = absurd j
-judged_beside e f shown second Different second_new g j p q = record {
+pub judged_beside : (e : Event) (second : ParserRemaining) (r : Next) (second_new : ReadingView)
+    → GivesNextEvent second_new.given second second_new.parser
+    → JudgesEvents e.body second_new.given.body r → StepsBeside e second r second_new
+judged_beside e second Same second_new g j =
+    record { front = (second_new.given, second_new.parser.unasked); events = g.events; says = j; real = g.real; ending = g.ending }
+judged_beside e second End second_new g j = absurd j
+judged_beside e second Different second_new g j = record {
   real = g.real;
   ending = g.ending;
-  differ = λ rest s. j (first_same (saying e.body) (saying f.body) rest (contents second_new.parser.events) (sym s ∙ ap contents g.events));
-  apart = λ n xs d t. apart_from e f shown (event_of second_new.event) xs second_new.parser.events second.events n second_new.parser.unasked d p q g.events j t;
+  differ = λ rest s. j (first_same (saying e.body) (saying second_new.given.body) rest (contents second_new.parser.events) (sym s ∙ ap contents g.events));
+  apart = λ n xs d t. subst (λ (zs : List Told). AreApart ((e, n) ∷ xs) zs d) (sym g.events) (j, t);
 }
-judged_beside e f shown second (Refused side) second_new g j p q = absurd j
+judged_beside e second (Refused side) second_new g j = absurd j
 
 -- ---- where they part
 
@@ -181,12 +129,11 @@ longer : (xs ys zs ws : List Told) (x : Told) → xs ≡ x ∷ ys → ys ≡ zs 
 longer xs ys zs ws x e f = e ∙ ap (λ (vs : List Told). x ∷ vs) f
 
 pub parted_behind : (kept : Bool) (first second : List Told) (rest other_rest : List Told)
-    (x y : Told) (shown : Event) (old middle new : Trail)
+    (x y : Told) (b : EventBody) (old middle new : Trail)
     → first ≡ x ∷ rest → second ≡ y ∷ other_rest → saying x.0.body ≡ saying y.0.body
-    → shown ≡ normalized x.0
-    → (kept ≡ true → path_of middle.place ≡ past_event shown.body (path_of old.place))
+    → b ≡ x.0.body → (kept ≡ true → path_of middle.place ≡ past_event b (path_of old.place))
     → Parted kept rest other_rest middle new → Parted kept first second old new
-parted_behind kept first second rest other_rest x y shown old middle new p q says n step h = record {
+parted_behind kept first second rest other_rest x y b old middle new p q says n step h = record {
   before = x ∷ h.before;
   other_before = y ∷ h.other_before;
   left = h.left;
@@ -196,6 +143,6 @@ parted_behind kept first second rest other_rest x y shown old middle new p q say
   alike = heads (saying x.0.body) (saying y.0.body) (contents h.before) (contents h.other_before) says h.alike;
   apart = h.apart;
   path = λ k.
-      let walked = step k ∙ ap (λ (e : Event). past_event e.body (path_of old.place)) n ∙ said_past x.0.body (path_of old.place) in
+      let walked = step k ∙ ap (λ (e : EventBody). past_event e (path_of old.place)) n ∙ said_past x.0.body (path_of old.place) in
       h.path k ∙ ap (λ (w : Path). past (contents h.before) w) walked;
 }

@@ -34,6 +34,10 @@ pub record TellsParting (first second : Event) (said other_said : EventBody)
   pub tells : TellsOf first second d
   pub cause : d.cause ≡ cause_of said other_said
 
+-- it says of two events, and in what they differ, normalized
+abbrev pub TellsGiven : Event → Event → yaml_difference_t → Type 0
+TellsGiven first second d = TellsParting first second (saying first.body) (saying second.body) d
+
 -- Both inputs are accepted. The events in front say the same, and are what stands before a place; the next ones
 -- don't. It says where these begin and end, what they are, in what they differ, and the path to that place.
 pub record IsParting (a_from : yaml_encoding_t) (a : List ℕ) (b_from : yaml_encoding_t)

@@ -3,7 +3,7 @@ use Rattle.std.specs.Prelude.{◌≡◌, ◌<◌, ℕ, suc, ◌+◌, Bool, true,
 use Rattle.std.specs.declared.alloc.AllocError.{AllocError}
 use Rattle.yaml_parse.specs.declared.yaml_encoding_t.{yaml_encoding_t}
 use Rattle.yaml_parse.specs.declared.yaml_fault_t.{yaml_fault_t}
-use Rattle.yaml_parse.specs.Faults.{Fault}
+use Rattle.yaml_parse.specs.Faults.{Fault, fault_of}
 use Rattle.yaml_round_content.specs.scan_model.declared.yaml_encoding_t.TheVariants.{YAML_ANY_ENCODING}
 use Rattle.yaml_round_content.specs.scan_model.declared.yaml_scalar_style_t.TheVariants.{YAML_ANY_SCALAR_STYLE}
 use Rattle.yaml_round_content.specs.scan_model.declared.yaml_sequence_style_t.TheVariants.{YAML_ANY_SEQUENCE_STYLE}
@@ -198,7 +198,7 @@ pub record IsSeen (found : Seen) (e : Event) : Type 0 where
 
 abbrev pub FindsEvent : ℕ → List Told → Option Fault → Result Seen yaml_fault_t → Type 0
 FindsEvent n events ending (Ok found) = IsSeen found (event_at events n)
-FindsEvent n events ending (Err f) = IsFaultOf ending f
+FindsEvent n events ending (Err f) = IsFaultOf ending (fault_of f)
 
 -- it says of both inputs' events after the front, in what the dumps differ, and the path after the front
 pub record TellsBehind (first second : Event) (front : Front) (d : yaml_difference_t) : Type 0 where
@@ -212,5 +212,7 @@ abbrev pub TellsOfInputs : yaml_encoding_t → List ℕ → yaml_encoding_t → 
 TellsOfInputs a_from a b_from b front (Ok d) = TellsBehind
     (event_at (events_of a_from a) front.events) (event_at (events_of b_from b) front.events)
     front d
-TellsOfInputs a_from a b_from b front (Err (First, f)) = IsFaultOf (ending_of a_from a) f
-TellsOfInputs a_from a b_from b front (Err (Second, f)) = IsFaultOf (ending_of b_from b) f
+TellsOfInputs a_from a b_from b front (Err (First, f)) = IsFaultOf (ending_of a_from a)
+    (fault_of f)
+TellsOfInputs a_from a b_from b front (Err (Second, f)) = IsFaultOf (ending_of b_from b)
+    (fault_of f)

@@ -2,10 +2,10 @@
 
 ghost use Rattle.std.specs.Prelude.{◌≡◌, ℕ, List};
 ghost use Rattle.yaml_round_content.specs.Input.{ReadsInput};
-ghost use Rattle.yaml_round_compare.specs.Compare.{BothReal, JudgesEvents, normalized, StepsBeside, StepsAlone, StepsOn, Sided, Parted, WhereDifferent, ReadsOutBoth, IsBehindFirst, ComparesReadings};
+ghost use Rattle.yaml_round_compare.specs.Compare.{BothReal, JudgesEvents, StepsBeside, StepsAlone, StepsOn, Sided, Parted, WhereDifferent, ReadsOutBoth, IsBehindFirst, ComparesReadings};
 ghost use Rattle.yaml_round_compare.specs.Differences.{IsParting};
 ghost use Rattle.yaml_round_compare.specs.Walking.{IsFreshTrail};
-ghost use Rattle.yaml_parse.specs.Events.{event_of};
+ghost use Rattle.yaml_parse.specs.Events.{borrowed_body};
 ghost use Rattle.yaml_round_reading.specs.Reading.{AreReal};
 ghost use Rattle.yaml_round_reading.specs.Answers.{IsSame};
 
@@ -13,10 +13,10 @@ use crate::content::agree;
 use crate::trail::Trail;
 use std::alloc::Global;
 use yaml_parse::{
-    yaml_encoding_t, yaml_event_t, yaml_fault_t, yaml_found_t, yaml_memory_fault, yaml_origin_t,
+    EventRef, yaml_encoding_t, yaml_fault_t, yaml_found_t, yaml_memory_fault, yaml_origin_t,
 };
 use yaml_round_reading::{
-    ReadText, Reading, let_go, let_text_go, normalize_event, read_out, read_text, reading_of,
+    ReadText, Reading, let_go, let_text_go, normalized, read_out, read_text, reading_of,
     yaml_side_t,
 };
 
@@ -28,42 +28,37 @@ pub(crate) enum Next {
     // Both streams are at their end.
     End,
     Different,
-    // That input's fault stands in the slot.
+    // That input's fault was answered.
     Refused(yaml_side_t),
 }
 
 // A fault, and which input it is said of.
 type SideFault = (yaml_side_t, yaml_fault_t);
 
-// Two events, normalized in their slots, say the same.
+// Two events, normalized, say the same.
 // In line, as all that the loop below does at each event.
 #[inline(always)]
-fn judged(event: &mut yaml_event_t, other: &mut yaml_event_t) -> Next
-    ensures judges { JudgesEvents (event_of event.old).body (event_of other.old).body result }
-    ensures event { event_of event.new ≡ normalized (event_of event.old) }
-    ensures other { event_of other.new ≡ normalized (event_of other.old) }
+fn judged(event: EventRef<'_>, other: EventRef<'_>) -> Next
+    ensures { JudgesEvents (borrowed_body event.entry) (borrowed_body other.entry) result }
 {
-    normalize_event(event, true);
-    normalize_event(other, true);
-    if agree(event, other) {
+    if agree(normalized(event, true), normalized(other, true)) {
         Next::Same
     } else {
         Next::Different
     }
 }
 
-// The second input's next event beside the first's, which stands in its slot.
+// The second input's next event beside the one that the first gave.
 // In line, as the loop.
 #[inline(always)]
-fn compared_event(event: &mut yaml_event_t, second: &mut Reading<'_>) -> Next
+fn compared_event(first: &Reading<'_>, second: &mut Reading<'_>) -> Next
     requires { AreReal second.old.parser.events }
-    ensures { StepsBeside (event_of event.old) second.old.parser result (event_of event.new)
-        second.new }
+    ensures { StepsBeside first.now.given second.old.parser result second.new }
 {
     match second.next() {
         yaml_found_t::Refused => Next::Refused(yaml_side_t::Second),
         yaml_found_t::End => Next::Different,
-        yaml_found_t::Event => judged(event, &mut second.event),
+        yaml_found_t::Event => judged(first.event(), second.event()),
     }
 }
 
@@ -72,7 +67,7 @@ fn compared_event(event: &mut yaml_event_t, second: &mut Reading<'_>) -> Next
 #[inline(always)]
 fn compared_end(second: &mut Reading<'_>) -> Next
     requires { AreReal second.old.parser.events }
-    ensures { StepsAlone second.old.parser result second.new.fault second.new.parser }
+    ensures { StepsAlone second.old.parser result second.new.parser }
 {
     match second.next() {
         yaml_found_t::Refused => Next::Refused(yaml_side_t::Second),
@@ -91,7 +86,7 @@ fn compared_next(first: &mut Reading<'_>, second: &mut Reading<'_>) -> Next
     match first.next() {
         yaml_found_t::Refused => Next::Refused(yaml_side_t::First),
         yaml_found_t::End => compared_end(second),
-        yaml_found_t::Event => compared_event(&mut first.event, second),
+        yaml_found_t::Event => compared_event(first, second),
     }
 }
 
@@ -112,14 +107,16 @@ fn same_events(
 {
     'events: loop {
         match compared_next(first, second) {
-            Next::Refused(yaml_side_t::First) => return Err((yaml_side_t::First, first.fault)),
-            Next::Refused(yaml_side_t::Second) => return Err((yaml_side_t::Second, second.fault)),
+            Next::Refused(yaml_side_t::First) => return Err((yaml_side_t::First, first.fault())),
+            Next::Refused(yaml_side_t::Second) => {
+                return Err((yaml_side_t::Second, second.fault()))
+            }
             Next::End => return Ok(true),
             Next::Different => {
-                trail.part_at(&first.event, &second.event);
+                trail.part_at(first, second);
                 return Ok(false);
             }
-            Next::Same => match trail.go_past(&mut first.event, kept) {
+            Next::Same => match trail.go_past(first.event(), kept) {
                 Ok(()) => {}
                 Err(_) => {
                     return Err((yaml_side_t::First, yaml_memory_fault(yaml_origin_t::Parser)))

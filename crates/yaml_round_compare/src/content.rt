@@ -1,28 +1,28 @@
 //! Whether events say the same.
 
-ghost use Rattle.std.specs.Prelude.{◌≡◌, ◌↔◌, IsTrue, true, false, map};
-ghost use Rattle.yaml_parse.specs.Events.{body_of, event_of, text_of, directive_of};
+ghost use Rattle.std.specs.Prelude.{◌≡◌, ◌↔◌, IsTrue, true, false, map, option_map};
+ghost use Rattle.yaml_parse.specs.Events.{borrowed_body, directive_of};
 ghost use Rattle.yaml_parse.specs.Events as event;
 ghost use Rattle.yaml_round_content.specs.scan_model.declared.yaml_scalar_style_t.TheVariants.{YAML_ANY_SCALAR_STYLE};
 ghost use Rattle.yaml_round_content.specs.scan_model.declared.yaml_sequence_style_t.TheVariants.{YAML_ANY_SEQUENCE_STYLE};
 ghost use Rattle.yaml_round_content.specs.scan_model.declared.yaml_mapping_style_t.TheVariants.{YAML_ANY_MAPPING_STYLE};
 ghost use Rattle.yaml_round_content.specs.Content.{content_of, counts_as_plain};
 
-use yaml_parse::{yaml_event_body_t, yaml_event_t, yaml_tag_directive_t, yaml_version_directive_t};
+use yaml_parse::{EventRef, yaml_tag_directive_t, yaml_version_directive_t};
 
 // Whether both texts are there and equal, or neither is there.
-fn same_text(a: &Option<Vec<u8>>, b: &Option<Vec<u8>>) -> bool
-    ensures { IsTrue result ↔ (text_of a.now ≡ text_of b.now) }
+fn same_text(a: Option<&[u8]>, b: Option<&[u8]>) -> bool
+    ensures { IsTrue result ↔ (option_map (λ t. t.now) a.entry ≡ option_map (λ t. t.now) b.entry) }
 {
     match (a, b) {
         (None, None) => true,
-        (Some(a), Some(b)) => a.as_slice() == b.as_slice(),
+        (Some(a), Some(b)) => a == b,
         _ => false,
     }
 }
 
-fn same_version(a: &Option<yaml_version_directive_t>, b: &Option<yaml_version_directive_t>) -> bool
-    ensures { IsTrue result ↔ (a.now ≡ b.now) }
+fn same_version(a: Option<yaml_version_directive_t>, b: Option<yaml_version_directive_t>) -> bool
+    ensures { IsTrue result ↔ (a ≡ b) }
 {
     a == b
 }
@@ -49,9 +49,9 @@ fn same_directives(a: &[yaml_tag_directive_t], b: &[yaml_tag_directive_t]) -> bo
 }
 
 // Whether two scalars without tag count as plain alike; tagged ones do.
-fn same_flag(tag: &Option<Vec<u8>>, a: bool, b: bool) -> bool
-    ensures { IsTrue result ↔ (counts_as_plain (text_of tag.now) a ≡ counts_as_plain
-        (text_of tag.now) b) }
+fn same_flag(tag: Option<&[u8]>, a: bool, b: bool) -> bool
+    ensures { IsTrue result ↔ (counts_as_plain (option_map (λ t. t.now) tag.entry) a
+        ≡ counts_as_plain (option_map (λ t. t.now) tag.entry) b) }
 {
     match tag {
         None => a == b,
@@ -63,15 +63,15 @@ fn same_flag(tag: &Option<Vec<u8>>, a: bool, b: bool) -> bool
 // In line, as the loop that compares.
 #[inline(always)]
 fn is_document_start(
-    body: &yaml_event_body_t,
-    version: &Option<yaml_version_directive_t>,
+    body: EventRef<'_>,
+    version: Option<yaml_version_directive_t>,
     directives: &[yaml_tag_directive_t],
 ) -> bool
-    ensures { IsTrue result ↔ (event.document_start version.now (map directive_of directives.now)
-        true ≡ content_of (body_of body.now)) }
+    ensures { IsTrue result ↔ (event.document_start version (map directive_of directives.now)
+        true ≡ content_of (borrowed_body body.entry)) }
 {
     match body {
-        yaml_event_body_t::DocumentStart {
+        EventRef::DocumentStart {
             version_directive,
             tag_directives,
             ..
@@ -84,11 +84,11 @@ fn is_document_start(
 // Whether that is an alias of the same name.
 // In line, as the loop.
 #[inline(always)]
-fn is_alias(body: &yaml_event_body_t, name: &[u8]) -> bool
-    ensures { IsTrue result ↔ (event.alias name.now ≡ content_of (body_of body.now)) }
+fn is_alias(body: EventRef<'_>, name: &[u8]) -> bool
+    ensures { IsTrue result ↔ (event.alias name.now ≡ content_of (borrowed_body body.entry)) }
 {
     match body {
-        yaml_event_body_t::Alias { anchor } => name == anchor.as_slice(),
+        EventRef::Alias { anchor } => name == anchor,
         _ => false,
     }
 }
@@ -97,27 +97,25 @@ fn is_alias(body: &yaml_event_body_t, name: &[u8]) -> bool
 // In line, as the loop.
 #[inline(always)]
 fn is_scalar(
-    body: &yaml_event_body_t,
-    anchor: &Option<Vec<u8>>,
-    tag: &Option<Vec<u8>>,
+    body: EventRef<'_>,
+    anchor: Option<&[u8]>,
+    tag: Option<&[u8]>,
     value: &[u8],
     plain: bool,
 ) -> bool
-    ensures { IsTrue result ↔ (event.scalar (text_of anchor.now) (text_of tag.now) value.now
-        (counts_as_plain (text_of tag.now) plain) false YAML_ANY_SCALAR_STYLE
-        ≡ content_of (body_of body.now)) }
+    ensures { IsTrue result ↔ (event.scalar (option_map (λ t. t.now) anchor.entry)
+        (option_map (λ t. t.now) tag.entry) value.now
+        (counts_as_plain (option_map (λ t. t.now) tag.entry) plain) false YAML_ANY_SCALAR_STYLE
+        ≡ content_of (borrowed_body body.entry)) }
 {
     match body {
-        yaml_event_body_t::Scalar {
+        EventRef::Scalar {
             anchor: y,
             tag: u,
             value: w,
             plain_implicit: q,
             ..
-        } => same_text(anchor, y)
-            && same_text(tag, u)
-            && value == w.as_slice()
-            && same_flag(tag, plain, *q),
+        } => same_text(anchor, y) && same_text(tag, u) && value == w && same_flag(tag, plain, q),
         _ => false,
     }
 }
@@ -125,12 +123,13 @@ fn is_scalar(
 // Whether that starts a sequence with the same anchor and tag.
 // In line, as the loop.
 #[inline(always)]
-fn is_sequence(body: &yaml_event_body_t, anchor: &Option<Vec<u8>>, tag: &Option<Vec<u8>>) -> bool
-    ensures { IsTrue result ↔ (event.sequence_start (text_of anchor.now) (text_of tag.now) true
-        YAML_ANY_SEQUENCE_STYLE ≡ content_of (body_of body.now)) }
+fn is_sequence(body: EventRef<'_>, anchor: Option<&[u8]>, tag: Option<&[u8]>) -> bool
+    ensures { IsTrue result ↔ (event.sequence_start (option_map (λ t. t.now) anchor.entry)
+        (option_map (λ t. t.now) tag.entry) true YAML_ANY_SEQUENCE_STYLE
+        ≡ content_of (borrowed_body body.entry)) }
 {
     match body {
-        yaml_event_body_t::SequenceStart {
+        EventRef::SequenceStart {
             anchor: y,
             tag: u,
             ..
@@ -142,12 +141,13 @@ fn is_sequence(body: &yaml_event_body_t, anchor: &Option<Vec<u8>>, tag: &Option<
 // Whether that starts a mapping with the same anchor and tag.
 // In line, as the loop.
 #[inline(always)]
-fn is_mapping(body: &yaml_event_body_t, anchor: &Option<Vec<u8>>, tag: &Option<Vec<u8>>) -> bool
-    ensures { IsTrue result ↔ (event.mapping_start (text_of anchor.now) (text_of tag.now) true
-        YAML_ANY_MAPPING_STYLE ≡ content_of (body_of body.now)) }
+fn is_mapping(body: EventRef<'_>, anchor: Option<&[u8]>, tag: Option<&[u8]>) -> bool
+    ensures { IsTrue result ↔ (event.mapping_start (option_map (λ t. t.now) anchor.entry)
+        (option_map (λ t. t.now) tag.entry) true YAML_ANY_MAPPING_STYLE
+        ≡ content_of (borrowed_body body.entry)) }
 {
     match body {
-        yaml_event_body_t::MappingStart {
+        EventRef::MappingStart {
             anchor: y,
             tag: u,
             ..
@@ -159,28 +159,28 @@ fn is_mapping(body: &yaml_event_body_t, anchor: &Option<Vec<u8>>, tag: &Option<V
 /// Whether two normalized events say the same: styles and document marks aside, and of a tagged scalar the flags.
 // In line, as the loop that compares.
 #[inline(always)]
-pub(crate) fn agree(a: &yaml_event_t, b: &yaml_event_t) -> bool
-    ensures { IsTrue result ↔ (content_of (event_of a.now).body ≡ content_of
-        (event_of b.now).body) }
+pub(crate) fn agree(a: EventRef<'_>, b: EventRef<'_>) -> bool
+    ensures { IsTrue result ↔ (content_of (borrowed_body a.entry) ≡ content_of
+        (borrowed_body b.entry)) }
 {
-    match (&a.body, &b.body) {
-        (yaml_event_body_t::No, yaml_event_body_t::No)
-        | (yaml_event_body_t::StreamStart { .. }, yaml_event_body_t::StreamStart { .. })
-        | (yaml_event_body_t::StreamEnd, yaml_event_body_t::StreamEnd)
-        | (yaml_event_body_t::DocumentEnd { .. }, yaml_event_body_t::DocumentEnd { .. })
-        | (yaml_event_body_t::SequenceEnd, yaml_event_body_t::SequenceEnd)
-        | (yaml_event_body_t::MappingEnd, yaml_event_body_t::MappingEnd) => true,
+    match (a, b) {
+        (EventRef::No, EventRef::No)
+        | (EventRef::StreamStart { .. }, EventRef::StreamStart { .. })
+        | (EventRef::StreamEnd, EventRef::StreamEnd)
+        | (EventRef::DocumentEnd { .. }, EventRef::DocumentEnd { .. })
+        | (EventRef::SequenceEnd, EventRef::SequenceEnd)
+        | (EventRef::MappingEnd, EventRef::MappingEnd) => true,
         (
-            yaml_event_body_t::DocumentStart {
+            EventRef::DocumentStart {
                 version_directive: version,
                 tag_directives,
                 ..
             },
             body,
         ) => is_document_start(body, version, tag_directives),
-        (yaml_event_body_t::Alias { anchor }, body) => is_alias(body, anchor),
+        (EventRef::Alias { anchor }, body) => is_alias(body, anchor),
         (
-            yaml_event_body_t::Scalar {
+            EventRef::Scalar {
                 anchor,
                 tag,
                 value,
@@ -188,13 +188,9 @@ pub(crate) fn agree(a: &yaml_event_t, b: &yaml_event_t) -> bool
                 ..
             },
             body,
-        ) => is_scalar(body, anchor, tag, value, *plain_implicit),
-        (yaml_event_body_t::SequenceStart { anchor, tag, .. }, body) => {
-            is_sequence(body, anchor, tag)
-        }
-        (yaml_event_body_t::MappingStart { anchor, tag, .. }, body) => {
-            is_mapping(body, anchor, tag)
-        }
+        ) => is_scalar(body, anchor, tag, value, plain_implicit),
+        (EventRef::SequenceStart { anchor, tag, .. }, body) => { is_sequence(body, anchor, tag) }
+        (EventRef::MappingStart { anchor, tag, .. }, body) => { is_mapping(body, anchor, tag) }
         _ => false,
     }
 }

@@ -29,7 +29,7 @@ fn turned_beside(first: &Dump, second: &mut Dump) -> Result<Turn, AllocError>
         Err(refusal) => Err(refusal),
         Ok(false) => Ok(Turn::Different),
         Ok(true) => {
-            if agree(&first.event, &second.event) {
+            if agree(first.event(), second.event()) {
                 Ok(Turn::Same)
             } else {
                 Ok(Turn::Different)
@@ -72,10 +72,10 @@ fn same_dumps(first: &mut Dump, second: &mut Dump, front: &mut Front) -> Result<
             Err(refusal) => return Err(refusal),
             Ok(Turn::End) => return Ok(true),
             Ok(Turn::Different) => {
-                front.part_at(&first.event, &second.event);
+                front.part_at(first.event(), second.event());
                 return Ok(false);
             }
-            Ok(Turn::Same) => match front.pass(&mut first.event) {
+            Ok(Turn::Same) => match front.pass(first.event()) {
                 Ok(()) => {}
                 Err(refusal) => return Err(refusal),
             },

@@ -1,11 +1,12 @@
 //! The dump of a document, event by event.
 
 ghost use Rattle.std.specs.Prelude.{◌≡◌, IfOk};
+ghost use Rattle.yaml_parse.specs.Events.{borrowed_body, event_of};
 ghost use Rattle.yaml_round_compare.specs.Dumps.{IsDump, document_says, dump_left, GivesDumped};
 
 use std::alloc::{AllocError, Global};
 use yaml_emit_graph::Events;
-use yaml_parse::{yaml_document_t, yaml_event_body_t, yaml_event_t};
+use yaml_parse::{EventRef, yaml_document_t, yaml_event_body_t, yaml_event_t};
 
 /// A document, what of its dump is to come, and a slot in which the next event stands.
 #[derive(Drop)]
@@ -34,5 +35,11 @@ impl Dump {
         ensures { GivesDumped self.old result self.new }
     {
         self.events.next(&self.document, &mut self.event.body)
+    }
+    /// The event in the slot.
+    pub fn event(&self) -> EventRef<'_>
+        ensures { borrowed_body result ≡ (event_of self.now.event).body }
+    {
+        self.event.body.borrowed()
     }
 }

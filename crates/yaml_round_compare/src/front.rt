@@ -1,14 +1,14 @@
 //! What stands before a place in two streams, as far as it was passed.
 
 ghost use Rattle.std.specs.Prelude.{◌≡◌, OnOk};
-ghost use Rattle.yaml_parse.specs.Events.{event_of};
+ghost use Rattle.yaml_parse.specs.Events.{borrowed_body};
 ghost use Rattle.yaml_round_content.specs.Content.{content_of};
 ghost use Rattle.yaml_round_compare.specs.Dumps.{EndsFront, IsStarted, PartsFront, PassesEvent};
 
-use crate::cause::yaml_cause_t;
+use crate::cause::{cause_of, yaml_cause_t};
 use crate::trail::{Trail, one_more};
 use std::alloc::{AllocError, Global};
-use yaml_parse::yaml_event_t;
+use yaml_parse::EventRef;
 
 /// Where the comparison of two dumps stands: the path, and how many events are in front.
 #[derive(Drop)]
@@ -29,8 +29,8 @@ impl Front {
     }
 
     // The event stands before both dumps' next ones.
-    pub(crate) fn pass(&mut self, event: &mut yaml_event_t) -> Result<(), AllocError>
-        ensures { OnOk result (PassesEvent (event_of event.old).body self.old self.new) }
+    pub(crate) fn pass(&mut self, event: EventRef<'_>) -> Result<(), AllocError>
+        ensures { OnOk result (PassesEvent (borrowed_body event.entry) self.old self.new) }
     {
         match one_more(self.events) {
             Err(refusal) => Err(refusal),
@@ -42,11 +42,11 @@ impl Front {
     }
 
     // The dumps differ there by these events.
-    pub(crate) fn part_at(&mut self, first: &yaml_event_t, second: &yaml_event_t)
-        ensures { PartsFront (content_of (event_of first.now).body)
-            (content_of (event_of second.now).body) self.old self.new }
+    pub(crate) fn part_at(&mut self, first: EventRef<'_>, second: EventRef<'_>)
+        ensures { PartsFront (content_of (borrowed_body first.entry))
+            (content_of (borrowed_body second.entry)) self.old self.new }
     {
-        self.trail.part_at(first, second);
+        self.trail.place.cause = cause_of(first, second);
     }
 
     // One of both is at its end there.

@@ -5,6 +5,7 @@ ghost use Rattle.yaml_round_content.specs.Input.{events_of, ending_of};
 ghost use Rattle.yaml_round_reading.specs.Reading.{AreReal};
 ghost use Rattle.yaml_round_compare.specs.Dumps.{FindsEvent, TellsOfInputs};
 
+use crate::cause::type_of;
 use crate::difference::yaml_difference_t;
 use crate::front::Front;
 use std::alloc::Global;
@@ -29,7 +30,7 @@ fn found_at(reading: &mut Reading<'_>, number: u64) -> Result<Seen, yaml_fault_t
     let mut left = number;
     'events: loop {
         match reading.next() {
-            yaml_found_t::Refused => return Err(reading.fault),
+            yaml_found_t::Refused => return Err(reading.fault()),
             yaml_found_t::End => {
                 let zero = yaml_mark_t {
                     index: 0,
@@ -44,11 +45,9 @@ fn found_at(reading: &mut Reading<'_>, number: u64) -> Result<Seen, yaml_fault_t
             }
             yaml_found_t::Event => {
                 if left == 0 {
-                    return Ok(Seen {
-                        start: reading.event.start_mark,
-                        end: reading.event.end_mark,
-                        kind: reading.event.type_(),
-                    });
+                    let kind = type_of(reading.event());
+                    let (start, end) = reading.marks();
+                    return Ok(Seen { start, end, kind });
                 }
                 left -= 1;
             }

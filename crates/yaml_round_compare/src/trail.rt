@@ -1,17 +1,16 @@
 //! Where a comparison stands.
 
-ghost use Rattle.std.specs.Prelude.{◌≡◌, ◌∷◌, true, suc, OnOk, IfOk};
-ghost use Rattle.yaml_parse.specs.Events.{event_of, text_of};
-ghost use Rattle.yaml_round_content.specs.Content.{content_of};
-ghost use Rattle.yaml_round_compare.specs.Differences.{TellsParting};
+ghost use Rattle.std.specs.Prelude.{◌≡◌, ◌∷◌, true, suc, option_map, OnOk, IfOk};
+ghost use Rattle.yaml_parse.specs.Events.{borrowed_body, text_of};
+ghost use Rattle.yaml_round_compare.specs.Differences.{TellsGiven};
 ghost use Rattle.yaml_round_compare.specs.Places.{path_of, step_of, steps_of};
 ghost use Rattle.yaml_round_compare.specs.Walking.{past_end, past_event, past_node, start, step_behind};
 
-use crate::cause::{cause_of, yaml_cause_t};
+use crate::cause::{cause_of, type_of, yaml_cause_t};
 use crate::difference::{yaml_difference_t, yaml_step_t};
 use std::alloc::{AllocError, Global};
-use std::mem;
-use yaml_parse::{yaml_event_body_t, yaml_event_t, yaml_event_type_t, yaml_mark_t};
+use yaml_parse::{EventRef, yaml_event_type_t, yaml_mark_t};
+use yaml_round_reading::{Reading, normalized};
 
 /// Where a comparison stands, or where it found that the contents part. The path is kept only where it is asked for.
 #[derive(Drop)]
@@ -31,16 +30,38 @@ pub(crate) fn one_more(number: u64) -> Result<u64, AllocError>
     }
 }
 
-// The step to what stands after a node in the same collection; `text` is that of the node, where it is a scalar.
-fn step_behind(step: yaml_step_t, text: Option<Vec<u8>>) -> Result<yaml_step_t, AllocError>
-    ensures { IfOk result (λ next. step_of next ≡ step_behind (step_of step) (text_of text)) }
+// A copy of a text, where there is one.
+fn copy_if(alloc: Global, text: Option<&[u8]>) -> Result<Option<Vec<u8>>, AllocError>
+    ensures { IfOk result (λ copy. text_of copy ≡ option_map (λ t. t.now) text.entry) }
+{
+    match text {
+        None => Ok(None),
+        Some(text) => match Vec::from_slice(alloc, text) {
+            Ok(copy) => Ok(Some(copy)),
+            Err(refusal) => Err(refusal),
+        },
+    }
+}
+
+// The step to what stands after a node in the same collection; `text` is that of the node, where it is a scalar, and is kept where
+// it is a key.
+fn step_behind(
+    alloc: Global,
+    step: yaml_step_t,
+    text: Option<&[u8]>,
+) -> Result<yaml_step_t, AllocError>
+    ensures { IfOk result (λ next. step_of next
+        ≡ step_behind (step_of step) (option_map (λ t. t.now) text.entry)) }
 {
     match step {
         yaml_step_t::Item(number) => match one_more(number) {
             Ok(next) => Ok(yaml_step_t::Item(next)),
             Err(refusal) => Err(refusal),
         },
-        yaml_step_t::Key(pair) => Ok(yaml_step_t::Value { pair, key: text }),
+        yaml_step_t::Key(pair) => match copy_if(alloc, text) {
+            Ok(key) => Ok(yaml_step_t::Value { pair, key }),
+            Err(refusal) => Err(refusal),
+        },
         yaml_step_t::Value { pair, .. } => match one_more(pair) {
             Ok(next) => Ok(yaml_step_t::Key(next)),
             Err(refusal) => Err(refusal),
@@ -59,25 +80,29 @@ fn push_step(path: &mut Vec<yaml_step_t>, step: yaml_step_t) -> Result<(), Alloc
 }
 
 // A whole node stands in front.
-fn pass_node(path: &mut Vec<yaml_step_t>, text: Option<Vec<u8>>) -> Result<(), AllocError>
-    ensures { OnOk result
-        (steps_of path.new.items ≡ past_node (text_of text) (steps_of path.old.items)) }
+fn pass_node(
+    alloc: Global,
+    path: &mut Vec<yaml_step_t>,
+    text: Option<&[u8]>,
+) -> Result<(), AllocError>
+    ensures { OnOk result (steps_of path.new.items
+        ≡ past_node (option_map (λ t. t.now) text.entry) (steps_of path.old.items)) }
 {
     let Some(step) = path.pop() else {
         return Ok(());
     };
-    match step_behind(step, text) {
+    match step_behind(alloc, step, text) {
         Ok(next) => push_step(path, next),
         Err(refusal) => Err(refusal),
     }
 }
 
 // A collection has ended.
-fn pass_end(path: &mut Vec<yaml_step_t>) -> Result<(), AllocError>
+fn pass_end(alloc: Global, path: &mut Vec<yaml_step_t>) -> Result<(), AllocError>
     ensures { OnOk result (steps_of path.new.items ≡ past_end (steps_of path.old.items)) }
 {
     path.pop();
-    pass_node(path, None)
+    pass_node(alloc, path, None)
 }
 
 // A document has ended.
@@ -93,27 +118,20 @@ fn pass_document(document: &mut u64) -> Result<(), AllocError>
     }
 }
 
-// The event stands in front. A scalar's text is taken out of it.
+// The event stands in front.
 // Out of line, so that the loop that compares stays short.
 #[inline(never)]
-fn pass(
-    alloc: Global,
-    place: &mut yaml_difference_t,
-    event: &mut yaml_event_t,
-) -> Result<(), AllocError>
-    ensures { OnOk result (path_of place.new ≡ past_event (event_of event.old).body
+fn pass(alloc: Global, place: &mut yaml_difference_t, event: EventRef<'_>) -> Result<(), AllocError>
+    ensures { OnOk result (path_of place.new ≡ past_event (borrowed_body event.entry)
         (path_of place.old)) }
 {
-    match &mut event.body {
-        yaml_event_body_t::Scalar { value, .. } => {
-            let text = mem::replace(value, Vec::new(alloc));
-            pass_node(&mut place.path, Some(text))
-        }
-        yaml_event_body_t::Alias { .. } => pass_node(&mut place.path, None),
-        yaml_event_body_t::SequenceStart { .. } => push_step(&mut place.path, yaml_step_t::Item(0)),
-        yaml_event_body_t::MappingStart { .. } => push_step(&mut place.path, yaml_step_t::Key(0)),
-        yaml_event_body_t::SequenceEnd | yaml_event_body_t::MappingEnd => pass_end(&mut place.path),
-        yaml_event_body_t::DocumentEnd { .. } => pass_document(&mut place.document),
+    match event {
+        EventRef::Scalar { value, .. } => pass_node(alloc, &mut place.path, Some(value)),
+        EventRef::Alias { .. } => pass_node(alloc, &mut place.path, None),
+        EventRef::SequenceStart { .. } => push_step(&mut place.path, yaml_step_t::Item(0)),
+        EventRef::MappingStart { .. } => push_step(&mut place.path, yaml_step_t::Key(0)),
+        EventRef::SequenceEnd | EventRef::MappingEnd => pass_end(alloc, &mut place.path),
+        EventRef::DocumentEnd { .. } => pass_document(&mut place.document),
         _ => Ok(()),
     }
 }
@@ -147,9 +165,9 @@ impl Trail {
     // The event stands before both inputs' next ones.
     // In line: where no path is kept nothing is done.
     #[inline(always)]
-    pub(crate) fn go_past(&mut self, event: &mut yaml_event_t, kept: bool) -> Result<(), AllocError>
+    pub(crate) fn go_past(&mut self, event: EventRef<'_>, kept: bool) -> Result<(), AllocError>
         ensures { kept ≡ true → OnOk result (path_of self.new.place
-            ≡ past_event (event_of event.old).body (path_of self.old.place)) }
+            ≡ past_event (borrowed_body event.entry) (path_of self.old.place)) }
     {
         if kept {
             pass(self.alloc, &mut self.place, event)
@@ -158,19 +176,20 @@ impl Trail {
         }
     }
 
-    // These events, which are normalized, differ.
-    pub(crate) fn part_at(&mut self, first: &yaml_event_t, second: &yaml_event_t)
-        ensures tells { TellsParting (event_of first.now) (event_of second.now)
-            (content_of (event_of first.now).body) (content_of (event_of second.now).body)
-            self.new.place }
+    // The events that these readings gave last differ.
+    pub(crate) fn part_at(&mut self, first: &mut Reading<'_>, second: &mut Reading<'_>)
+        ensures tells { TellsGiven first.old.given second.old.given self.new.place }
         ensures path { path_of self.new.place ≡ path_of self.old.place }
+        ensures first { first.new ≡ first.old }
+        ensures second { second.new ≡ second.old }
     {
-        self.place.first_mark = first.start_mark;
-        self.place.first_end = first.end_mark;
-        self.place.first_type = first.type_();
-        self.place.second_mark = second.start_mark;
-        self.place.second_end = second.end_mark;
-        self.place.second_type = second.type_();
-        self.place.cause = cause_of(first, second);
+        self.place.cause = cause_of(
+            normalized(first.event(), true),
+            normalized(second.event(), true),
+        );
+        self.place.first_type = type_of(first.event());
+        self.place.second_type = type_of(second.event());
+        (self.place.first_mark, self.place.first_end) = first.marks();
+        (self.place.second_mark, self.place.second_end) = second.marks();
     }
 }

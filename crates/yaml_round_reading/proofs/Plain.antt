@@ -1,8 +1,7 @@
 -- What the machine reads of an input is its plain reading.
 use Rattle.std.proofs.Common.{◌≡◌, ◌⊎◌, ◌∙◌, inl, inr, sym, refl, ℕ, List, Some, None, Ok}
 use Rattle.yaml_parse.specs.declared.yaml_encoding_t.{yaml_encoding_t}
-use Rattle.yaml_parse.specs.declared.yaml_fault_t.{yaml_fault_t}
-use Rattle.yaml_parse.specs.Faults.{Fault, fault_of, IsMemoryFault, parse_layers}
+use Rattle.yaml_parse.specs.Faults.{Fault, IsMemoryFault, parse_layers}
 use Rattle.yaml_parse.specs.Remaining.{ParserRemaining}
 use Rattle.yaml_parse.specs.Resolve.{Told}
 use Rattle.yaml_round_reading.specs.Reading.{contents, IsFaultOf}
@@ -43,10 +42,10 @@ unfolding IsRight
 right_ending from input h = (read_said from input h.0 h.1).right
 
 -- the fault that a reading has met
-pub fault_met : (from : yaml_encoding_t) (input : List ℕ) (r : ParserRemaining) (f : yaml_fault_t)
+pub fault_met : (from : yaml_encoding_t) (input : List ℕ) (r : ParserRemaining) (f : Fault)
     → ReadsInput from input r → IsFaultOf r.ending f
-    → IsMemoryFault parse_layers (fault_of f) ⊎ IsFaulty from input (fault_of f)
-fault_met from input r f h e = elim e [ inl m ↦ inl m | inr k ↦ inr (faulty from input (fault_of f) (sym h.ending ∙ k)) ]
+    → IsMemoryFault parse_layers f ⊎ IsFaulty from input f
+fault_met from input r f h e = elim e [ inl m ↦ inl m | inr k ↦ inr (faulty from input f (sym h.ending ∙ k)) ]
 
 -- ---- its events
 

@@ -38,12 +38,12 @@ pub record HasNothingToCome (c : ParserRemaining) : Type 0 where
   pub ending : c.ending ≡ None
 
 -- the fault is the one that ends the reading, or out of memory
-abbrev pub IsFaultOf : Option Fault → yaml_fault_t → Type 0
-IsFaultOf ending f = IsMemoryFault parse_layers (fault_of f) ⊎ (ending ≡ Some (fault_of f))
+abbrev pub IsFaultOf : Option Fault → Fault → Type 0
+IsFaultOf ending f = IsMemoryFault parse_layers f ⊎ (ending ≡ Some f)
 
--- the next event or the fault, which stands in its slot, or the end
-abbrev pub FindsNextEvent : ParserRemaining → yaml_found_t → Event → yaml_fault_t
-    → ParserRemaining → Type 0
+-- the next event, the fault, or the end
+abbrev pub FindsNextEvent : ParserRemaining → yaml_found_t → Event → Fault → ParserRemaining
+    → Type 0
 FindsNextEvent old found.Event e f new = GivesNextEvent e old new
 FindsNextEvent old found.Refused e f new = IsFaultOf old.ending f
 FindsNextEvent old found.End e f new = HasNothingToCome old × HasNothingToCome new
@@ -51,4 +51,4 @@ FindsNextEvent old found.End e f new = HasNothingToCome old × HasNothingToCome 
 -- the whole reading has no fault, or the answer is its fault
 abbrev pub EndsWith : Option Fault → Result (Unit {0}) yaml_fault_t → Type 0
 EndsWith ending (Ok done) = ending ≡ None
-EndsWith ending (Err f) = IsFaultOf ending f
+EndsWith ending (Err f) = IsFaultOf ending (fault_of f)

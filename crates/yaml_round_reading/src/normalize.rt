@@ -1,15 +1,15 @@
 //! Events normalized for writing: what the reading leaves to chance is made the same.
 
-ghost use Rattle.std.specs.Prelude.{◌≡◌};
-ghost use Rattle.yaml_parse.specs.Events.{event_of, text_of};
+ghost use Rattle.std.specs.Prelude.{◌≡◌, option_map};
+ghost use Rattle.yaml_parse.specs.Events.{borrowed_body};
 ghost use Rattle.yaml_parse.specs.Constructors.{HasUtf8};
 ghost use Rattle.yaml_round_content.specs.Normalize.{normalize_body, is_lone_mark};
 
-use yaml_parse::{yaml_event_body_t, yaml_event_t};
+use yaml_parse::EventRef;
 
 // Whether a scalar is empty and has the tag `!`.
-fn is_lone(tag: &Option<Vec<u8>>, value: &[u8]) -> bool
-    ensures { result ≡ is_lone_mark (text_of tag.now) value.now }
+fn is_lone(tag: Option<&[u8]>, value: &[u8]) -> bool
+    ensures { result ≡ is_lone_mark (option_map (λ t. t.now) tag.entry) value.now }
 {
     match tag {
         Some(tag) => value.is_empty() && tag.len() == 1 && tag[0] == b'!',
@@ -17,32 +17,30 @@ fn is_lone(tag: &Option<Vec<u8>>, value: &[u8]) -> bool
     }
 }
 
-/// Normalizes the event: an empty scalar with the tag `!` is untagged and plain-implicit; where `ends` is set every
+/// The event normalized: an empty scalar with the tag `!` is untagged and plain-implicit; where `ends` is set every
 /// document's end is implicit.
-pub fn normalize_event(event: &mut yaml_event_t, ends: bool)
-    ensures normalized { event_of event.new ≡ record (event_of event.old) {
-      body = normalize_body
-          ends (event_of event.old).body;
-    } }
-    ensures utf8 { HasUtf8 (event_of event.old).body → HasUtf8 (event_of event.new).body }
+pub fn normalized(event: EventRef<'_>, ends: bool) -> EventRef<'_>
+    ensures normalized { borrowed_body result ≡ normalize_body ends (borrowed_body event.entry) }
+    ensures utf8 { HasUtf8 (borrowed_body event.entry) → HasUtf8 (borrowed_body result) }
 {
-    match &mut event.body {
-        yaml_event_body_t::DocumentEnd { implicit } => {
-            *implicit = *implicit || ends;
-        }
-        yaml_event_body_t::Scalar {
+    match event {
+        EventRef::DocumentEnd { implicit } => EventRef::DocumentEnd {
+            implicit: implicit || ends,
+        },
+        EventRef::Scalar {
+            anchor,
             tag,
             value,
-            plain_implicit,
-            quoted_implicit,
+            style,
             ..
-        } => {
-            if is_lone(tag, value) {
-                *tag = None;
-                *plain_implicit = true;
-                *quoted_implicit = false;
-            }
-        }
-        _ => {}
+        } if is_lone(tag, value) => EventRef::Scalar {
+            anchor,
+            tag: None,
+            value,
+            plain_implicit: true,
+            quoted_implicit: false,
+            style,
+        },
+        _ => event,
     }
 }

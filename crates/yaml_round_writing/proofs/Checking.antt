@@ -5,14 +5,14 @@ use Rattle.yaml_parse.specs.declared.yaml_encoding_t.{yaml_encoding_t}
 use Rattle.yaml_parse.specs.declared.yaml_fault_t.{yaml_fault_t}
 use Rattle.yaml_parse.specs.declared.yaml_mark_t.{yaml_mark_t}
 use Rattle.yaml_parse.specs.Faults.{Fault, fault_of, IsMemoryFault, load_layers, parse_layers}
-use Rattle.yaml_parse.specs.Events.{Event}
+use Rattle.yaml_parse.specs.Events.{Event, EventBody}
 use Rattle.yaml_parse.specs.Nodes.{Node}
 use Rattle.yaml_parse.specs.Documents.{Document}
 use Rattle.yaml_parse.specs.Resolve.{Told}
 use Rattle.yaml_parse.specs.Remaining.{ParserRemaining}
 use Rattle.yaml_parse.specs.Finds.{GivesNext}
 use Rattle.yaml_parse.specs.Numbering.{undefined_alias}
-use Rattle.yaml_parse.specs.Loading.{Loading, LoadStep, goes_on, loaded, refused, nothing_loaded, step}
+use Rattle.yaml_parse.specs.Loading.{Loading, LoadStep, goes_on, loaded, refused, nothing_loaded, step, step_body}
 use Rattle.yaml_round_laws_documents.specs.round_content.Input.{ReadsInput}
 use Rattle.yaml_round_laws_documents.specs.round_content.Loads.{Loads, in_front, load_on, load_all, loads_of}
 use Rattle.yaml_round_laws_documents.proofs.Loaded.{faultless_load, faulty_load}
@@ -58,6 +58,12 @@ stops passed.Over (refused f) at k rest h = absurd h
 stops passed.Undefined (goes_on l) at k rest h = absurd h
 stops passed.Undefined (loaded d) at k rest h = absurd h
 stops passed.Undefined (refused f) at k rest h = rw h refl
+
+-- what an event of that body comes to, wherever it stands, is what this one does
+pub passed_event : (e : Event) (b : EventBody) (k after : Known) (r : Passed) → b ≡ e.body
+    → ((l : Loading) (from to : yaml_mark_t) → IsKnown k l → Follows (step_body b from to l) from r after)
+    → (l : Loading) → IsKnown k l → Follows (step e l) e.start_mark r after
+passed_event e b k after r is f = subst (λ (z : EventBody). (l : Loading) → IsKnown k l → Follows (step_body z e.start_mark e.end_mark l) e.start_mark r after) is (λ l h. f l e.start_mark e.end_mark h)
 
 -- ---- all events
 
@@ -136,7 +142,8 @@ pub all_seen : (from : yaml_encoding_t) (input : List ℕ) (c : ParserRemaining)
 all_seen from input c k h e is = accepted from input (sym (no_event c k None (loads_of from input).fault h e is))
 
 pub fault_seen : (from : yaml_encoding_t) (input : List ℕ) (c : ParserRemaining) (k : Known)
-    (f : yaml_fault_t) → LoadsOn k c (loads_of from input).fault
-    → IsMemoryFault parse_layers (fault_of f) ⊎ ((c.events ≡ []) × (c.ending ≡ Some (fault_of f)))
+    (f : yaml_fault_t) (answered : Fault) → LoadsOn k c (loads_of from input).fault
+    → fault_of f ≡ answered
+    → IsMemoryFault parse_layers answered ⊎ ((c.events ≡ []) × (c.ending ≡ Some answered))
     → IsMemoryFault load_layers (fault_of f) ⊎ IsChecked from input (Err (fault_of f))
-fault_seen from input c k f h m = elim m [ inl m ↦ inl (inr m) | inr e ↦ faulty from input f (sym (no_event c k (Some (fault_of f)) (loads_of from input).fault h e.0 e.1)) ]
+fault_seen from input c k f answered h is m = elim (rw (← is) m) [ inl m ↦ inl (inr m) | inr e ↦ faulty from input f (sym (no_event c k (Some (fault_of f)) (loads_of from input).fault h e.0 e.1)) ]

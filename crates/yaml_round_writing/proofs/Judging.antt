@@ -23,7 +23,7 @@ pub judged : (from : yaml_encoding_t) (input : List ℕ) (r : ParserRemaining)
     (result : Result (Unit {0}) yaml_fault_t) → ReadsInput from input r → EndsWith r.ending result
     → Answers parse_layers (λ (done : Unit {0}). done) (IsJudged from input) result
 judged from input r (Ok done) h e = right from input (sym h.ending ∙ e)
-judged from input r (Err f) h e = fault_met from input r f h e
+judged from input r (Err f) h e = fault_met from input r (fault_of f) h e
 
 pub listed : (from : yaml_encoding_t) (input : List ℕ) (r : ParserRemaining) (lines : List ℕ)
     (old : List ℕ) → ReadsInput from input r → old ≡ [] → r.ending ≡ None
@@ -63,11 +63,11 @@ then_rest a b c r r' e e' e'' (Err f) h l w = elim w [ inl m ↦ inl m | inr k �
 pub met_again : (from : yaml_encoding_t) (input : List ℕ) (ending : Option Fault) (f : yaml_fault_t)
     → ending ≡ ending_of from input
     → IsMemoryFault parse_layers (fault_of f) ⊎ IsFaulty from input (fault_of f)
-    → IsFaultOf ending f
+    → IsFaultOf ending (fault_of f)
 met_again from input ending f e h = elim h [ inl m ↦ inl m | inr k ↦ inr (e ∙ faulty_ending from input (fault_of f) k) ]
 
 pub not_written : (w : Form) (from : yaml_encoding_t) (settings : yaml_settings_t) (input : List ℕ)
-    (r : ParserRemaining) (f : yaml_fault_t) → ReadsInput from input r → IsFaultOf r.ending f
+    (r : ParserRemaining) (f : yaml_fault_t) → ReadsInput from input r → IsFaultOf r.ending (fault_of f)
     → IsMemoryFault reformat_layers (fault_of f)
     ⊎ (IsFaulty from input (fault_of f) ⊎ IsWrittenPast w from settings input (fault_of f))
-not_written w from settings input r f h e = elim (fault_met from input r f h e) [ inl m ↦ inl (inr (inr m)) | inr q ↦ inr (inl q) ]
+not_written w from settings input r f h e = elim (fault_met from input r (fault_of f) h e) [ inl m ↦ inl (inr (inr m)) | inr q ↦ inr (inl q) ]

@@ -106,13 +106,13 @@ abbrev pub WritesReading : Form → ParserRemaining → Emitter → Result Bool 
 WritesReading w r e (Ok true) w' r' e' = (r.ending ≡ None) × LeadsOn w e r.events w' e' []
 WritesReading w r e (Ok false) w' r' e' = (r'.ending ≡ r.ending)
     × (AreReal r'.events × LeadsOn w e r.events w' e' r'.events)
-WritesReading w r e (Err f) w' r' e' = IsFaultOf r.ending f
+WritesReading w r e (Err f) w' r' e' = IsFaultOf r.ending (fault_of f)
 
 -- all of the reading's events were given to the emitter
 abbrev pub WritesAll : Form → ParserRemaining → Emitter → Result (Unit {0}) yaml_fault_t → Form
     → Emitter → Type 0
 WritesAll w r e (Ok done) w' e' = (r.ending ≡ None) × LeadsOn w e r.events w' e' []
-WritesAll w r e (Err f) w' e' = IsFaultOf r.ending f
+WritesAll w r e (Err f) w' e' = IsFaultOf r.ending (fault_of f)
 
 -- the text is that layout, and passes no limit
 pub record IsText (limit : ℕ) (x : Encoding) (whole : List Item) (text : List ℕ) : Type 0 where

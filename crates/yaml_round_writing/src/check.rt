@@ -14,20 +14,24 @@ use yaml_parse::{
 };
 use yaml_round_reading::{ReadText, Reading, let_go, let_text_go, read_text, reading_of};
 
-// ReadsInput to the end, or to what loading refuses or ends at.
-fn look_through(reading: &mut Reading<'_>, known: &mut Known) -> Result<(), yaml_fault_t>
+// Reads to the end, or to what loading refuses or ends at.
+fn look_through(
+    alloc: Global,
+    reading: &mut Reading<'_>,
+    known: &mut Known,
+) -> Result<(), yaml_fault_t>
     requires { IsUnknown known.old }
     ensures { (from : yaml_encoding_t) (input : List ℕ) → ReadsInput from input reading.old.parser
         → Answers load_layers (λ done. done) (IsChecked from input) result }
 {
     'events: loop {
         match reading.find() {
-            yaml_found_t::Refused => return Err(reading.fault),
+            yaml_found_t::Refused => return Err(reading.fault()),
             yaml_found_t::End => return Ok(()),
-            yaml_found_t::Event => match known.pass(&reading.event) {
+            yaml_found_t::Event => match known.pass(alloc, reading.event()) {
                 Passed::On => {}
                 Passed::Over => return Ok(()),
-                Passed::Undefined => return Err(undefined_alias_fault(reading.event.start_mark)),
+                Passed::Undefined => return Err(undefined_alias_fault(reading.start_mark())),
                 Passed::Starved => return Err(yaml_memory_fault(yaml_origin_t::Loader)),
             },
         }
@@ -42,7 +46,7 @@ fn load_text(alloc: Global, text: &ReadText<'_>) -> Result<(), yaml_fault_t>
         Err(fault) => Err(fault),
         Ok(mut reading) => {
             let mut known = Known::new(alloc);
-            let answer = look_through(&mut reading, &mut known);
+            let answer = look_through(alloc, &mut reading, &mut known);
             let_go(reading);
             drop(known);
             answer

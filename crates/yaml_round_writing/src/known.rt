@@ -1,29 +1,19 @@
 //! What of a document in the making decides whether its loading goes on: whether it has a node, and the names of its anchors.
 
-ghost use Rattle.std.specs.Prelude.{◌≡◌, true, Some};
-ghost use Rattle.std.specs.List.{list_any};
-ghost use Rattle.yaml_parse.specs.Events.{event_of, text_of};
-ghost use Rattle.yaml_parse.specs.Loading.{Loading, step};
-ghost use Rattle.yaml_round_writing.specs.Knowing.{name_at, stands_at, has_name, IsKnown, Follows, Notes, IsUnknown, Ends, Asks, Settles};
+ghost use Rattle.std.specs.Prelude.{◌≡◌, true, Some, option_map};
+ghost use Rattle.yaml_parse.specs.declared.yaml_mark_t.{yaml_mark_t};
+ghost use Rattle.yaml_parse.specs.Events.{borrowed_body};
+ghost use Rattle.yaml_parse.specs.Loading.{Loading, step_body};
+ghost use Rattle.yaml_round_writing.specs.Knowing.{has_name, IsKnown, Follows, Notes, IsUnknown, Ends, Asks};
 
 use std::alloc::Global;
 use std::collections::BTreeSet;
-use yaml_parse::{yaml_event_body_t, yaml_event_t};
+use yaml_parse::EventRef;
 
-/// Where a name stands in the text of names: its first byte, and the one after its last.
-#[derive(Clone, Copy)]
-pub struct Span {
-    pub from: usize,
-    pub to: usize,
-}
-
-/// Whether the document has a node, and the names of its anchors: those that were met last stand in one text, in their order, and
-/// the others in a set, into which all go as one is asked for that isn't among the last eight.
+/// Whether the document has a node, and the names of its anchors.
 #[derive(Drop)]
 pub struct Known {
     pub rooted: bool,
-    pub text: Vec<u8>,
-    pub spans: Vec<Span>,
     pub names: BTreeSet<Vec<u8>>,
 }
 
@@ -40,32 +30,6 @@ pub enum Passed {
     Starved,
 }
 
-// The bytes of the text from the first to the last; none where not all of them are there.
-fn name_at<'a>(text: &'a [u8], span: &Span) -> &'a [u8]
-    ensures { result.now ≡ name_at text.now span.now }
-{
-    if span.from <= span.to && span.to <= text.len() {
-        &text[span.from..span.to]
-    } else {
-        b""
-    }
-}
-
-// Whether one of the last eight is this name: most aliases are of such, and a search in the set takes a hundred times as long.
-fn is_recent(text: &[u8], spans: &[Span], name: &[u8]) -> bool
-    ensures { result ≡ true → list_any (stands_at name.now text.now) spans.now ≡ true }
-{
-    'names: for back in 1..9 {
-        if back > spans.len() {
-            return false;
-        }
-        if name == name_at(text, &spans[spans.len() - back]) {
-            return true;
-        }
-    }
-    false
-}
-
 impl Known {
     /// Nothing is loaded yet.
     pub fn new(alloc: Global) -> Known
@@ -73,8 +37,6 @@ impl Known {
     {
         Known {
             rooted: false,
-            text: Vec::new(alloc),
-            spans: Vec::new(alloc),
             names: BTreeSet::new(alloc),
         }
     }
@@ -84,8 +46,6 @@ impl Known {
         ensures { IsUnknown self.new }
     {
         self.rooted = false;
-        self.text.clear();
-        self.spans.clear();
         self.names.clear();
     }
 
@@ -102,63 +62,34 @@ impl Known {
     }
 
     // The document has an anchor of this name.
-    fn name(&mut self, name: &[u8]) -> Passed
+    fn name(&mut self, alloc: Global, name: &[u8]) -> Passed
         requires { self.old.rooted ≡ true }
         ensures { Notes (Some name.now) self.old result self.new }
     {
-        let from = self.text.len();
-        match self.text.extend_from_slice(name) {
+        match Vec::from_slice(alloc, name) {
             Err(_) => Passed::Starved,
-            Ok(()) => {
-                let to = self.text.len();
-                match self.spans.push(Span { from, to }) {
-                    Ok(_) => Passed::On,
-                    Err(_) => Passed::Starved,
-                }
-            }
+            Ok(copy) => match self.names.insert(copy) {
+                Ok(_) => Passed::On,
+                Err(_) => Passed::Starved,
+            },
         }
     }
 
     // One node more, which has the anchor.
-    fn note(&mut self, anchor: &Option<Vec<u8>>) -> Passed
-        ensures { Notes (text_of anchor.now) self.old result self.new }
+    fn note(&mut self, alloc: Global, anchor: Option<&[u8]>) -> Passed
+        ensures { Notes (option_map (λ t. t.now) anchor.entry) self.old result self.new }
     {
         self.rooted = true;
         match anchor {
             None => Passed::On,
-            Some(name) => self.name(name),
+            Some(name) => self.name(alloc, name),
         }
     }
 
-    // All names go into the set. False where memory ran out.
-    fn settle(&mut self) -> bool
-        ensures { result ≡ true → Settles self.old self.new }
+    // An alias goes on where its name is known.
+    fn alias(&self, name: &[u8]) -> Passed
+        ensures { Asks (has_name name.now self.now) result }
     {
-        'names: loop {
-            let Some(span) = self.spans.pop() else {
-                self.text.clear();
-                return true;
-            };
-            let mut name = Vec::new(*self.text.allocator());
-            match name.extend_from_slice(name_at(&self.text, &span)) {
-                Err(_) => return false,
-                Ok(()) => match self.names.insert(name) {
-                    Err(_) => return false,
-                    Ok(_) => {}
-                },
-            }
-        }
-    }
-
-    // An alias whose anchor is none of the last.
-    // Out of line: it is rare.
-    #[inline(never)]
-    fn look_up(&mut self, name: &[u8]) -> Passed
-        ensures { Asks (has_name name.now self.old) self.old result self.new }
-    {
-        if !self.settle() {
-            return Passed::Starved;
-        }
         if self.names.contains(name) {
             Passed::On
         } else {
@@ -166,32 +97,21 @@ impl Known {
         }
     }
 
-    // An alias goes on where its name is known.
-    fn alias(&mut self, name: &[u8]) -> Passed
-        ensures { Asks (has_name name.now self.old) self.old result self.new }
+    /// What the event comes to, as the loader has it, wherever it stands.
+    pub fn pass(&mut self, alloc: Global, event: EventRef<'_>) -> Passed
+        ensures { (l : Loading) (from to : yaml_mark_t) → IsKnown self.old l → Follows
+            (step_body (borrowed_body event.entry) from to l) from result self.new }
     {
-        if is_recent(&self.text, &self.spans, name) {
-            Passed::On
-        } else {
-            self.look_up(name)
-        }
-    }
-
-    /// What the event comes to, as the loader has it.
-    pub fn pass(&mut self, event: &yaml_event_t) -> Passed
-        ensures { (l : Loading) → IsKnown self.old l → Follows
-            (step (event_of event.now) l) (event_of event.now).start_mark result self.new }
-    {
-        match &event.body {
-            yaml_event_body_t::Alias { anchor } => self.alias(anchor),
-            yaml_event_body_t::DocumentStart { .. } => {
+        match event {
+            EventRef::Alias { anchor } => self.alias(anchor),
+            EventRef::DocumentStart { .. } => {
                 self.forget();
                 Passed::On
             }
-            yaml_event_body_t::DocumentEnd { .. } => self.end(),
-            yaml_event_body_t::Scalar { anchor, .. } => self.note(anchor),
-            yaml_event_body_t::SequenceStart { anchor, .. } => self.note(anchor),
-            yaml_event_body_t::MappingStart { anchor, .. } => self.note(anchor),
+            EventRef::DocumentEnd { .. } => self.end(),
+            EventRef::Scalar { anchor, .. } => self.note(alloc, anchor),
+            EventRef::SequenceStart { anchor, .. } => self.note(alloc, anchor),
+            EventRef::MappingStart { anchor, .. } => self.note(alloc, anchor),
             _ => Passed::On,
         }
     }

@@ -10,7 +10,7 @@ ghost use Rattle.yaml_round_writing.specs.Answers.{IsListed, bytes_of};
 
 use std::alloc::Global;
 use yaml_parse::{yaml_encoding_t, yaml_fault_t, yaml_found_t, yaml_memory_fault, yaml_origin_t};
-use yaml_round_lines::yaml_push_event_line;
+use yaml_round_lines::yaml_push_event_line_ref;
 use yaml_round_reading::Reading;
 
 // Adds the lines of the events to their end.
@@ -20,10 +20,10 @@ fn push_lines(reading: &mut Reading<'_>, lines: &mut Vec<u8>) -> Result<(), yaml
 {
     'events: loop {
         match reading.next() {
-            yaml_found_t::Refused => return Err(reading.fault),
+            yaml_found_t::Refused => return Err(reading.fault()),
             yaml_found_t::End => return Ok(()),
             yaml_found_t::Event => {
-                if yaml_push_event_line(lines, &reading.event).is_err() {
+                if yaml_push_event_line_ref(lines, reading.event()).is_err() {
                     return Err(yaml_memory_fault(yaml_origin_t::Emitter));
                 }
             }

@@ -2,7 +2,7 @@
 
 ghost use Rattle.std.specs.Prelude.{◌≡◌, ℕ, Some, List, [], ◌∷◌, IfOk, IfErr, option_map};
 ghost use Rattle.yaml_parse.specs.Faults.{Fault, fault_of, memory_fault};
-ghost use Rattle.yaml_parse.specs.Events.{event_of};
+ghost use Rattle.yaml_parse.specs.Events.{Event, borrowed_body};
 ghost use Rattle.yaml_parse.specs.Resolve.{Told};
 ghost use Rattle.yaml_parse.specs.Constructors.{HasUtf8};
 ghost use Rattle.yaml_emit.specs.Content.{emitter_event};
@@ -13,17 +13,19 @@ ghost use Rattle.yaml_round_writing.specs.Writing.{IsUnder, Gives, given_in, is_
 
 use std::alloc::Global;
 use yaml_emit::{
-    yaml_emitter_emit_from, yaml_emitter_fault, yaml_emitter_initialize, yaml_emitter_into_output,
+    yaml_emitter_emit_ref, yaml_emitter_fault, yaml_emitter_initialize, yaml_emitter_into_output,
     yaml_emitter_output, yaml_emitter_set_break, yaml_emitter_set_canonical,
     yaml_emitter_set_encoding, yaml_emitter_set_indent, yaml_emitter_set_unicode,
     yaml_emitter_set_width, yaml_emitter_t,
 };
 use yaml_parse::{
-    yaml_encoding_t, yaml_event_t, yaml_fault_t, yaml_found_t, yaml_memory_fault, yaml_origin_t,
+    EventRef, yaml_encoding_t, yaml_fault_t, yaml_found_t, yaml_memory_fault, yaml_origin_t,
 };
-use yaml_round_beginning::{Beginning, OpeningPosition, behind, is_nothing, restyle};
+use yaml_round_beginning::{
+    Beginning, OpeningPosition, behind, is_nothing, position_after, restyle,
+};
 use yaml_round_device::{yaml_output_encoding_t, yaml_settings_t};
-use yaml_round_reading::{Reading, normalize_event};
+use yaml_round_reading::{Reading, normalized};
 
 /// The form in which events are given to the emitter, and what it has to know of those that were.
 #[derive(Clone, Copy)]
@@ -98,9 +100,9 @@ pub(crate) fn emitter_under(
 // What is known of the beginning with the event.
 // Inlined: a test an event; only the first three are looked at.
 #[inline(always)]
-fn see(beginning: &mut Beginning, event: &yaml_event_t)
+fn see(beginning: &mut Beginning, event: EventRef<'_>)
     ensures { (es : List _) → nothing_comes beginning.old
-        (emitter_event (event_of event.now).body ∷ es) ≡ nothing_comes beginning.new es }
+        (emitter_event (borrowed_body event.entry) ∷ es) ≡ nothing_comes beginning.new es }
 {
     match *beginning {
         Beginning::Nothing | Beginning::Something => {}
@@ -110,36 +112,41 @@ fn see(beginning: &mut Beginning, event: &yaml_event_t)
     }
 }
 
-// Makes of the event in the slot what its form has it as.
+// The event as its form has it.
 // Inlined: some tests.
 #[inline(always)]
-fn prepare(form: &mut Form, event: &mut yaml_event_t)
-    requires { HasUtf8 (event_of event.old).body }
-    ensures utf8 { HasUtf8 (event_of event.new).body }
-    ensures given { (unasked : ℕ) (es : List Told)
-        → given_in form.old ((event_of event.old, unasked) ∷ es)
-        ≡ emitter_event (event_of event.new).body ∷ given_in form.new es }
-    ensures beginning { (unasked : ℕ) (es : List Told)
-        → comes_to_nothing form.old ((event_of event.old, unasked) ∷ es)
-        ≡ comes_to_nothing form.new es }
+fn formed<'e>(form: &mut Form, event: EventRef<'e>) -> EventRef<'e>
+    requires { HasUtf8 (borrowed_body event) }
+    ensures utf8 { HasUtf8 (borrowed_body result) }
+    ensures given { (e : Event) (unasked : ℕ) (es : List Told) → e.body ≡ borrowed_body event.entry
+        → given_in form.old ((e, unasked) ∷ es)
+        ≡ emitter_event (borrowed_body result) ∷ given_in form.new es }
+    ensures beginning { (e : Event) (unasked : ℕ) (es : List Told)
+        → e.body ≡ borrowed_body event.entry
+        → comes_to_nothing form.old ((e, unasked) ∷ es) ≡ comes_to_nothing form.new es }
 {
-    normalize_event(event, !is_pretty(*form));
+    let normal = normalized(event, !is_pretty(*form));
     match form {
-        Form::Canonical => {}
-        Form::Pretty(beginning) => see(beginning, event),
+        Form::Canonical => normal,
+        Form::Pretty(beginning) => {
+            see(beginning, normal);
+            normal
+        }
         Form::Readable(place) => {
-            *place = restyle(event, *place);
+            let at = *place;
+            *place = position_after(normal, at);
+            restyle(normal, at)
         }
     }
 }
 
-// Gives the event in the slot, as its form has it; what is left there counts for nothing. The emitter keeps its first fault.
-fn emit_formed(emitter: &mut yaml_emitter_t, form: &mut Form, event: &mut yaml_event_t)
-    requires { HasUtf8 (event_of event.old).body }
-    ensures { Gives form.old emitter.old (event_of event.old) form.new emitter.new }
+// Gives the event, as its form has it. The emitter keeps its first fault.
+fn emit_formed(emitter: &mut yaml_emitter_t, form: &mut Form, event: EventRef<'_>)
+    requires { HasUtf8 (borrowed_body event) }
+    ensures { (e : Event) → e.body ≡ borrowed_body event.entry
+        → Gives form.old emitter.old e form.new emitter.new }
 {
-    prepare(form, event);
-    yaml_emitter_emit_from(emitter, event);
+    yaml_emitter_emit_ref(emitter, formed(form, event));
 }
 
 // The loop over events that writes.
@@ -161,9 +168,9 @@ pub(crate) fn write_up_to(
             return Ok(false);
         }
         match reading.next() {
-            yaml_found_t::Refused => return Err(reading.fault),
+            yaml_found_t::Refused => return Err(reading.fault()),
             yaml_found_t::End => return Ok(true),
-            yaml_found_t::Event => emit_formed(emitter, form, &mut reading.event),
+            yaml_found_t::Event => emit_formed(emitter, form, reading.event()),
         }
     }
 }
@@ -179,9 +186,9 @@ pub(crate) fn write_rest(
 {
     'events: loop {
         match reading.next() {
-            yaml_found_t::Refused => return Err(reading.fault),
+            yaml_found_t::Refused => return Err(reading.fault()),
             yaml_found_t::End => return Ok(()),
-            yaml_found_t::Event => emit_formed(emitter, form, &mut reading.event),
+            yaml_found_t::Event => emit_formed(emitter, form, reading.event()),
         }
     }
 }

@@ -1,6 +1,6 @@
 -- The place where the events differ.
-use Rattle.std.proofs.Common.{◌∙◌}
-use Rattle.yaml_parse.specs.Events.{event_of}
+use Rattle.std.proofs.Common.{◌∙◌, ap}
+use Rattle.yaml_parse.specs.Events.{Event, borrowed_body}
 use Rattle.yaml_round_compare.proofs.Stepping.{parted_here, parted_behind}
 use Rattle.yaml_round_compare.proofs.compare.same_events.Goals as goal
 
@@ -22,6 +22,6 @@ events-preserved c =
       alike = (λ e. b.alike.0 (before.alike.0 e), λ e. before.alike.1 (b.alike.1 e));
       parted = λ t h. before.parted t
           (parted_behind c.args.kept c.events.first.parser.events c.events.second.parser.events c.compared_next.new.first.parser.events c.compared_next.new.second.parser.events
-          b.front b.other_front (event_of c.compared_next.new.first.event) c.events.trail c.go_past.new.self t
-          b.first_events b.second_events b.says b.normal c.in-Ok.ensures h);
+          b.front b.other_front (borrowed_body c.event.result) c.events.trail c.go_past.new.self t
+          b.first_events b.second_events b.says (c.event.ensures ∙ ap (λ (e : Event). e.body) b.given) c.in-Ok.ensures h);
     }

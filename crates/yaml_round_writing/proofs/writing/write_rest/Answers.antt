@@ -1,6 +1,5 @@
 -- The front is given, and the rest is left.
-use Rattle.std.proofs.Common.{◌∙◌}
-use Rattle.yaml_parse.specs.Events.{event_of}
+use Rattle.std.proofs.Common.{◌∙◌, sym}
 use Rattle.yaml_round_writing.proofs.Giving.{gives}
 use Rattle.yaml_round_writing.proofs.writing.write_rest.Goals as goal
 
@@ -11,5 +10,5 @@ events-preserved c =
       ending = front.ending ∙ c.events.invariant.ending;
       real = front.real;
       leads = gives c.args.form.now c.args.emitter.now c.events.emitter c.emit_formed.new.emitter c.args.reading.now.parser.events c.events.reading.parser c.next.new.self.parser
-          (event_of c.next.new.self.event) c.events.form c.emit_formed.new.form c.events.invariant.leads front c.emit_formed.ensures;
+          c.next.new.self.given c.events.form c.emit_formed.new.form c.events.invariant.leads front (c.emit_formed.ensures c.next.new.self.given (sym c.event.ensures));
     }

@@ -4,4 +4,5 @@ pub mod Holding
 pub mod Labels
 pub mod Meeting
 pub mod Ranking
+pub mod Settling
 pub mod Told

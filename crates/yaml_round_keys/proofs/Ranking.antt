@@ -41,36 +41,37 @@ kind_from_type (node.mapping v s) (node.mapping w t) e = refl
 kind_from_type _ _ e = absurd (cc)
 
 -- what a shape says
-record Parts (f : ℤ → ℕ) (b c : NodeBody) (t u : List ℕ) : Type 0 where
+record Parts (f g : ℤ → ℕ) (b c : NodeBody) (t u : List ℕ) : Type 0 where
   kind : kind_of b ≡ kind_of c
   text : text_of b ≡ text_of c
   tag : t ≡ u
-  held : map f (child_ids b) ≡ map f (child_ids c)
+  held : map f (child_ids b) ≡ map g (child_ids c)
 
-parts : (f : ℤ → ℕ) (b c : NodeBody) (t u : List ℕ)
-    → look b t ++ map f (child_ids b) ≡ look c u ++ map f (child_ids c) → Parts f b c t u
-parts f b c t u e =
+parts : (f g : ℤ → ℕ) (b c : NodeBody) (t u : List ℕ)
+    → look b t ++ map f (child_ids b) ≡ look c u ++ map g (child_ids c) → Parts f g b c t u
+parts f g b c t u e =
     let k : kind_of b ≡ kind_of c = cc in
     let n : length (text_of b) ≡ length (text_of c) = cc in
     let m : length t ≡ length u = cc in
-    let whole : text_of b ++ t ++ map f (child_ids b) ≡ text_of c ++ u ++ map f (child_ids c) = cc in
+    let whole : text_of b ++ t ++ map f (child_ids b) ≡ text_of c ++ u ++ map g (child_ids c) = cc in
     let l : length (text_of b ++ t) ≡ length (text_of c ++ u) = simp length-append (omega arith) in
-    let one = split_at (text_of b ++ t) (map f (child_ids b)) (text_of c ++ u) (map f (child_ids c)) l whole in
+    let one = split_at (text_of b ++ t) (map f (child_ids b)) (text_of c ++ u) (map g (child_ids c)) l whole in
     let two = split_at (text_of b) t (text_of c) u n one.0 in
     record { kind = k; text = two.0; tag = two.1; held = one.1 }
 
-alike : (ranks : List ℕ) (nodes : List Node) (a b : ℤ) → IsId (length nodes) a
-    → IsId (length nodes) b → shape_of ranks nodes a ≡ shape_of ranks nodes b
-    → LookAlike nodes a b × (map (number_at ranks) (child_ids (body_of_id nodes a)) ≡ map (number_at ranks) (child_ids (body_of_id nodes b)))
-alike ranks nodes a b v w e =
-    let p = parts (number_at ranks) (body_of_id nodes a) (body_of_id nodes b) (tag_of_id nodes a) (tag_of_id nodes b) e in
+alike : (ranks more : List ℕ) (nodes others : List Node) (a b : ℤ) → IsId (length nodes) a
+    → IsId (length others) b → shape_of ranks nodes a ≡ shape_of more others b
+    → LookAlike nodes others a b × (map (number_at ranks) (child_ids (body_of_id nodes a)) ≡ map (number_at more) (child_ids (body_of_id others b)))
+alike ranks more nodes others a b v w e =
+    let p = parts (number_at ranks) (number_at more) (body_of_id nodes a) (body_of_id others b) (tag_of_id nodes a) (tag_of_id others b) e in
     (record { first = v; second = w; kind = type_from_kind _ _ p.kind; tag = p.tag; text = p.text }, p.held)
 
-same_shape : (ranks : List ℕ) (nodes : List Node) (a b : ℤ) → LookAlike nodes a b
-    → map (number_at ranks) (child_ids (body_of_id nodes a)) ≡ map (number_at ranks) (child_ids (body_of_id nodes b))
-    → shape_of ranks nodes a ≡ shape_of ranks nodes b
-same_shape ranks nodes a b h e =
-    let k : kind_of (body_of_id nodes a) ≡ kind_of (body_of_id nodes b) = kind_from_type _ _ h.kind in
+same_shape : (ranks more : List ℕ) (nodes others : List Node) (a b : ℤ)
+    → LookAlike nodes others a b
+    → map (number_at ranks) (child_ids (body_of_id nodes a)) ≡ map (number_at more) (child_ids (body_of_id others b))
+    → shape_of ranks nodes a ≡ shape_of more others b
+same_shape ranks more nodes others a b h e =
+    let k : kind_of (body_of_id nodes a) ≡ kind_of (body_of_id others b) = kind_from_type _ _ h.kind in
     λ i. k i ∷ length (h.text i) ∷ length (h.tag i) ∷ (h.text i ++ h.tag i ++ e i)
 
 -- ---- lists of numbers
@@ -101,15 +102,15 @@ more_ranked ranks a xs h t = rw (is_positive _ h, t) refl
 none_left : (ranks : List ℕ) → all_ranked ranks [] ≡ true
 none_left ranks = refl
 
-ranked_along : (ranks : List ℕ) (xs bs : List ℤ)
-    → map (number_at ranks) xs ≡ map (number_at ranks) bs → all_ranked ranks xs ≡ all_ranked ranks bs
-ranked_along ranks [] [] e = refl
-ranked_along ranks [] (b ∷ bs) e = absurd (cc)
-ranked_along ranks (a ∷ xs) [] e = absurd (cc)
-ranked_along ranks (a ∷ xs) (b ∷ bs) e =
-    let h : number_at ranks a ≡ number_at ranks b = cc in
-    let t : map (number_at ranks) xs ≡ map (number_at ranks) bs = cc in
-    λ i. not (h i == 0) && ranked_along ranks xs bs t i
+ranked_along : (ranks more : List ℕ) (xs bs : List ℤ)
+    → map (number_at ranks) xs ≡ map (number_at more) bs → all_ranked ranks xs ≡ all_ranked more bs
+ranked_along ranks more [] [] e = refl
+ranked_along ranks more [] (b ∷ bs) e = absurd (cc)
+ranked_along ranks more (a ∷ xs) [] e = absurd (cc)
+ranked_along ranks more (a ∷ xs) (b ∷ bs) e =
+    let h : number_at ranks a ≡ number_at more b = cc in
+    let t : map (number_at ranks) xs ≡ map (number_at more) bs = cc in
+    λ i. not (h i == 0) && ranked_along ranks more xs bs t i
 
 -- ---- one rank, one tree
 
@@ -125,58 +126,58 @@ node_by_rank t count (pos (suc k)) e p = let h = within_table t k p in omega ari
 node_by_rank t count (pos zero) e p = absurd (omega arith)
 node_by_rank t count (negsuc k) e p = absurd (omega arith)
 
-agree_along : (ranks : List ℕ) (P : ℤ → ℤ → Type 0)
-    → ((a b : ℤ) → P a a → 0 < number_at ranks a → number_at ranks a ≡ number_at ranks b → P a b)
-    → (xs bs : List ℤ) → OneByOne P xs xs → all_ranked ranks xs ≡ true
-    → map (number_at ranks) xs ≡ map (number_at ranks) bs → OneByOne P xs bs
-agree_along ranks P go [] [] h k e = tt
-agree_along ranks P go [] (b ∷ bs) h k e = absurd (cc)
-agree_along ranks P go (a ∷ xs) [] h k e = absurd (cc)
-agree_along ranks P go (a ∷ xs) (b ∷ bs) h k e =
-    let n : number_at ranks a ≡ number_at ranks b = cc in
-    let t : map (number_at ranks) xs ≡ map (number_at ranks) bs = cc in
-    (go a b h.0 (head_ranked ranks a xs k) n, agree_along ranks P go xs bs h.1 (tail_ranked ranks a xs k) t)
+agree_along : (ranks more : List ℕ) (own P : ℤ → ℤ → Type 0)
+    → ((a b : ℤ) → own a a → 0 < number_at ranks a → number_at ranks a ≡ number_at more b → P a b)
+    → (xs bs : List ℤ) → OneByOne own xs xs → all_ranked ranks xs ≡ true
+    → map (number_at ranks) xs ≡ map (number_at more) bs → OneByOne P xs bs
+agree_along ranks more own P go [] [] h k e = tt
+agree_along ranks more own P go [] (b ∷ bs) h k e = absurd (cc)
+agree_along ranks more own P go (a ∷ xs) [] h k e = absurd (cc)
+agree_along ranks more own P go (a ∷ xs) (b ∷ bs) h k e =
+    let n : number_at ranks a ≡ number_at more b = cc in
+    let t : map (number_at ranks) xs ≡ map (number_at more) bs = cc in
+    (go a b h.0 (head_ranked ranks a xs k) n, agree_along ranks more own P go xs bs h.1 (tail_ranked ranks a xs k) t)
 
--- nodes with one rank agree
-pub agree : (nodes : List Node) (table : List ℕ) (shapes : Shapes) (given : ℕ)
-    → AreRanks nodes table shapes given → (n : ℕ) (a b : ℤ) → AgreeWithin n nodes a a
-    → 0 < number_at table a → number_at table a ≡ number_at table b → AgreeWithin n nodes a b
-unfolding AgreeWithin
-agree nodes table shapes given r zero a b h p e = h
-agree nodes table shapes given r (suc n) a b h p e =
-    let q : 0 < number_at table b = subst (λ z. 0 < z) e p in
-    let s : shape_of table nodes a ≡ shape_of table nodes b = r.told _ _ (number_at table a) (r.found a p) (r.found b q ∙ ap Some (sym e)) in
-    let l = alike table nodes a b h.0.first (node_by_rank table (length nodes) b r.sized q) s in
-    (l.0, agree_along table (AgreeWithin n nodes) (λ x y. agree nodes table shapes given r n x y) (child_ids (body_of_id nodes a)) (child_ids (body_of_id nodes b)) h.1 (r.held a p) l.1)
-
--- ---- one tree, one rank
-
-ranks_along : (ranks : List ℕ) (P : ℤ → ℤ → Type 0)
-    → ((a b : ℤ) → P a b → (0 < number_at ranks a) × (number_at ranks a ≡ number_at ranks b))
+ranks_along : (ranks more : List ℕ) (P : ℤ → ℤ → Type 0)
+    → ((a b : ℤ) → P a b → (0 < number_at ranks a) × (number_at ranks a ≡ number_at more b))
     → (xs bs : List ℤ) → OneByOne P xs bs
-    → (all_ranked ranks xs ≡ true) × (map (number_at ranks) xs ≡ map (number_at ranks) bs)
-ranks_along ranks P go [] [] h = (none_left ranks, refl)
-ranks_along ranks P go [] (b ∷ bs) h = absurd h
-ranks_along ranks P go (a ∷ xs) [] h = absurd h
-ranks_along ranks P go (a ∷ xs) (b ∷ bs) h =
+    → (all_ranked ranks xs ≡ true) × (map (number_at ranks) xs ≡ map (number_at more) bs)
+ranks_along ranks more P go [] [] h = (none_left ranks, refl)
+ranks_along ranks more P go [] (b ∷ bs) h = absurd h
+ranks_along ranks more P go (a ∷ xs) [] h = absurd h
+ranks_along ranks more P go (a ∷ xs) (b ∷ bs) h =
     let x = go a b h.0 in
-    let y = ranks_along ranks P go xs bs h.1 in
+    let y = ranks_along ranks more P go xs bs h.1 in
     (more_ranked ranks a xs x.0 y.0, λ i. x.1 i ∷ y.1 i)
 
--- nodes that agree have one rank
-pub one_rank : (nodes : List Node) (table : List ℕ) (shapes : Shapes) (given : ℕ)
-    → AreRanks nodes table shapes given
-    → ((a : ℤ) → IsId (length nodes) a → IsJudged nodes table a) → (n : ℕ) (a b : ℤ)
-    → AgreeWithin n nodes a b → (0 < number_at table a) × (number_at table a ≡ number_at table b)
-unfolding AgreeWithin
-one_rank nodes table shapes given r judged zero a b h = absurd h
-one_rank nodes table shapes given r judged (suc n) a b h =
-    let l = ranks_along table (AgreeWithin n nodes) (λ x y. one_rank nodes table shapes given r judged n x y) (child_ids (body_of_id nodes a)) (child_ids (body_of_id nodes b)) h.1 in
-    let p : 0 < number_at table a = judged a h.0.first l.0 in
-    let q : 0 < number_at table b = judged b h.0.second (sym (ranked_along table _ _ l.1) ∙ l.0) in
-    let s : shape_of table nodes a ≡ shape_of table nodes b = same_shape table nodes a b h.0 l.1 in
-    let e : Some (number_at table a) ≡ Some (number_at table b) = sym (r.found a p) ∙ ap (map.get shapes) s ∙ r.found b q in
-    (p, cc)
+-- nodes of two lists, by ranks of shapes that they share
+module _ (nodes others : List Node) (table more : List ℕ) (shapes : Shapes) (given last : ℕ)
+    (r : AreRanks nodes table shapes given) (o : AreRanks others more shapes last) where
+  -- nodes with one rank agree
+  pub agree : (n : ℕ) (a b : ℤ) → AgreeWithin n nodes nodes a a → 0 < number_at table a
+      → number_at table a ≡ number_at more b → AgreeWithin n nodes others a b
+  unfolding AgreeWithin
+  agree zero a b h p e = h
+  agree (suc n) a b h p e =
+      let q : 0 < number_at more b = subst (λ z. 0 < z) e p in
+      let s : shape_of table nodes a ≡ shape_of more others b = r.told _ _ (number_at table a) (r.found a p) (o.found b q ∙ ap Some (sym e)) in
+      let l = alike table more nodes others a b h.0.first (node_by_rank more (length others) b o.sized q) s in
+      (l.0, agree_along table more (AgreeWithin n nodes nodes) (AgreeWithin n nodes others) (λ x y. agree n x y) (child_ids (body_of_id nodes a)) (child_ids (body_of_id others b)) h.1 (r.held a p) l.1)
+
+  -- nodes that agree have one rank
+  pub one_rank : ((a : ℤ) → IsId (length nodes) a → IsJudged nodes table a)
+      → ((b : ℤ) → IsId (length others) b → IsJudged others more b) → (n : ℕ) (a b : ℤ)
+      → AgreeWithin n nodes others a b
+      → (0 < number_at table a) × (number_at table a ≡ number_at more b)
+  unfolding AgreeWithin
+  one_rank judged known zero a b h = absurd h
+  one_rank judged known (suc n) a b h =
+      let l = ranks_along table more (AgreeWithin n nodes others) (λ x y. one_rank judged known n x y) (child_ids (body_of_id nodes a)) (child_ids (body_of_id others b)) h.1 in
+      let p : 0 < number_at table a = judged a h.0.first l.0 in
+      let q : 0 < number_at more b = known b h.0.second (sym (ranked_along table more _ _ l.1) ∙ l.0) in
+      let s : shape_of table nodes a ≡ shape_of more others b = same_shape table more nodes others a b h.0 l.1 in
+      let e : Some (number_at table a) ≡ Some (number_at more b) = sym (r.found a p) ∙ ap (map.get shapes) s ∙ o.found b q in
+      (p, cc)
 
 -- ---- one node more gets a rank
 
@@ -228,19 +229,19 @@ one_by_one P Q go [] (b ∷ bs) h = absurd h
 one_by_one P Q go (a ∷ xs) [] h = absurd h
 one_by_one P Q go (a ∷ xs) (b ∷ bs) h = (go a b h.0, one_by_one P Q go xs bs h.1)
 
-deeper : (nodes : List Node) (n : ℕ) (a b : ℤ) → AgreeWithin n nodes a b
-    → AgreeWithin (suc n) nodes a b
+deeper : (nodes : List Node) (n : ℕ) (a b : ℤ) → AgreeWithin n nodes nodes a b
+    → AgreeWithin (suc n) nodes nodes a b
 unfolding AgreeWithin
 deeper nodes zero a b h = absurd h
-deeper nodes (suc n) a b h = (h.0, one_by_one (AgreeWithin n nodes) (AgreeWithin (suc n) nodes) (deeper nodes n) _ _ h.1)
+deeper nodes (suc n) a b h = (h.0, one_by_one (AgreeWithin n nodes nodes) (AgreeWithin (suc n) nodes nodes) (deeper nodes n) _ _ h.1)
 
 all_ground : (nodes : List Node) (t : List ℕ) (n : ℕ)
-    → ((a : ℤ) → 0 < number_at t a → AgreeWithin n nodes a a) → (js : List ℤ)
-    → all_ranked t js ≡ true → OneByOne (AgreeWithin n nodes) js js
+    → ((a : ℤ) → 0 < number_at t a → AgreeWithin n nodes nodes a a) → (js : List ℤ)
+    → all_ranked t js ≡ true → OneByOne (AgreeWithin n nodes nodes) js js
 all_ground nodes t n go [] p = tt
 all_ground nodes t n go (j ∷ js) p = (go j (head_ranked t j js p), all_ground nodes t n go js (tail_ranked t j js p))
 
-alike_itself : (nodes : List Node) (a : ℤ) → IsId (length nodes) a → LookAlike nodes a a
+alike_itself : (nodes : List Node) (a : ℤ) → IsId (length nodes) a → LookAlike nodes nodes a a
 alike_itself nodes a v = record { first = v; second = v; kind = refl; tag = refl; text = refl }
 
 -- a node gets the rank of its shape
@@ -256,7 +257,7 @@ pub record Gets (nodes : List Node) (t : List ℕ) (old new : Shapes) (k n given
 -- its rank is that of a shape in which all have ranks, or it stays
 record OfNew (nodes : List Node) (t : List ℕ) (new : Shapes) (k n depth : ℕ) (a : ℤ) : Type 0 where
   held : all_ranked t (child_ids (body_of_id nodes a)) ≡ true
-  ground : AgreeWithin (suc depth) nodes a a
+  ground : AgreeWithin (suc depth) nodes nodes a a
   found : map.get new (shape_of t nodes a) ≡ Some (number_at (set t k n) a)
 
 of_new : (nodes : List Node) (t : List ℕ) (old new : Shapes) (k n given more : ℕ)

@@ -13,7 +13,7 @@ use Rattle.yaml_round_keys.proofs.Labels.{inserted_has, inserted_keeps}
 use Rattle.yaml_round_keys.proofs.Meeting.{keys_taken, keys_left, keys_all, node_here, none_from}
 
 -- keys that are the same have one text
-agree_text : (nodes : List Node) (n : ℕ) (a b : ℤ) → AgreeWithin n nodes a b
+agree_text : (nodes : List Node) (n : ℕ) (a b : ℤ) → AgreeWithin n nodes nodes a b
     → key_text nodes a ≡ key_text nodes b
 unfolding AgreeWithin
 agree_text nodes zero a b h = absurd h

@@ -18,7 +18,7 @@ TellsBy nodes label = (a b : ℤ) → IsId (length nodes) a → IsId (length nod
     → (label a ≡ label b) ↔ AreSame nodes a b
 
 agree_label : (nodes : List Node) (label : ℤ → ℕ) (a b : ℤ) (n : ℕ) → TellsBy nodes label
-    → AgreeWithin n nodes a b → label a ≡ label b
+    → AgreeWithin n nodes nodes a b → label a ≡ label b
 unfolding AgreeWithin
 agree_label nodes label a b zero h k = absurd k
 agree_label nodes label a b (suc n) h k = (h a b k.0.first k.0.second).1 (inr (suc n, k))

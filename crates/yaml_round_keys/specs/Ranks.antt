@@ -8,8 +8,9 @@ use Rattle.yaml_parse_document.specs.Documents.{IsId}
 use Rattle.yaml_emit_graph.specs.Graph.{child_ids, body_of_id, tag_of_id, number_at}
 use Rattle.yaml_emit_graph.specs.Numbers.{counted}
 use Rattle.yaml_round_keys.specs.Shapes.{Shapes}
-use Rattle.yaml_round_keys.specs.Same.{text_of, AgreeWithin, AreSame}
+use Rattle.yaml_round_keys.specs.Same.{text_of, AgreeWithin, Agree, AreSame}
 use Rattle.yaml_round_keys.specs.declared.ranks.Ranks.{Ranks}
+use Rattle.yaml_round_keys.specs.declared.ranks.BothLabels.{BothLabels}
 
 -- a kind as a number
 abbrev pub kind_of : NodeBody → ℕ
@@ -42,7 +43,7 @@ pub record AreRanks (nodes : List Node) (table : List ℕ) (shapes : Shapes)
     (given : ℕ) : Type 0 where
   pub depth : ℕ
   pub sized : length table ≡ length nodes
-  pub ground : (a : ℤ) → 0 < number_at table a → AgreeWithin depth nodes a a
+  pub ground : (a : ℤ) → 0 < number_at table a → AgreeWithin depth nodes nodes a a
   pub held : (a : ℤ) → 0 < number_at table a → holds_ranked table nodes a ≡ true
   pub found : (a : ℤ) → 0 < number_at table a
       → map.get shapes (shape_of table nodes a) ≡ Some (number_at table a)
@@ -52,6 +53,14 @@ pub record AreRanks (nodes : List Node) (table : List ℕ) (shapes : Shapes)
 
 abbrev pub IsRanking : List Node → Ranks → Type 0
 IsRanking nodes r = AreRanks nodes r.table.items r.shapes r.given
+
+-- shapes keep their ranks
+pub record KeepShapes (old new : Shapes) : Type 0 where
+  pub keep : (x : List ℕ) (n : ℕ) → map.get old x ≡ Some n → map.get new x ≡ Some n
+
+-- more may have ranks
+abbrev pub RanksOn : List Node → Ranks → Ranks → Type 0
+RanksOn nodes old new = IsRanking nodes new × KeepShapes old.shapes new.shapes
 
 -- it has a rank, or holds a node that has none
 abbrev pub IsJudged : List Node → List ℕ → ℤ → Type 0
@@ -65,9 +74,9 @@ AreJudgedFrom from nodes table = (k : ℕ) → from ≤ k → k < length nodes
 -- more nodes have ranks; or none got one, and that holds
 abbrev pub Ranked : (List ℕ → Type 0) → List Node → Ranks → Result Bool AllocError → Ranks → Type 0
 Ranked P nodes old (Ok true) new = IsRanking nodes new
-    × (counted old.table.items < counted new.table.items)
+    × (counted old.table.items < counted new.table.items) × KeepShapes old.shapes new.shapes
 Ranked P nodes old (Ok false) new = IsRanking nodes new × (new.table.items ≡ old.table.items)
-    × P new.table.items
+    × P new.table.items × KeepShapes old.shapes new.shapes
 Ranked P nodes old (Err e) new = Unit {0}
 
 -- the place of a node that is due to get a rank; none where it is judged
@@ -102,3 +111,39 @@ Tells nodes r = (a b : ℤ) → IsId (length nodes) a → IsId (length nodes) b
 abbrev pub IsWithin : List Node → Ranks → Type 0
 IsWithin nodes r = (a : ℤ) → IsId (length nodes) a
     → label_of r.table.items r.given a < suc (r.given + length r.table.items)
+
+-- ---- the nodes of two documents, by ranks of shapes that they share
+
+-- the nodes of both have ranks of shapes that they share, or hold one that has none
+pub record AreBothRanked (nodes others : List Node) (table : List ℕ) (r : Ranks) : Type 0 where
+  pub first : AreRanks nodes table r.shapes r.given
+  pub first_judged : AreJudgedFrom 0 nodes table
+  pub second : IsRanking others r
+  pub second_judged : AreJudgedFrom 0 others r.table.items
+
+-- what has a rank keeps it, and what has none has a number after a floor
+abbrev pub IsSettled : List ℕ → ℕ → List ℕ → Type 0
+IsSettled old floor new = (length new ≡ length old)
+    × ((a : ℤ) → IsId (length old) a → number_at new a ≡ label_of old floor a)
+
+-- labels by ranks: what has no rank in the second one has a number after all of the first
+pub record AreLabels (table more : List ℕ) (given : ℕ) (labels : BothLabels) : Type 0 where
+  pub first : (a : ℤ) → IsId (length table) a
+      → number_at labels.first.items a ≡ label_of table given a
+  pub second : (a : ℤ) → IsId (length more) a
+      → number_at labels.second.items a ≡ label_of more (given + suc (length table)) a
+
+-- Numbers of the nodes of two documents: nodes of one document have one number exactly where they
+-- are the same, and nodes of both exactly where they agree.
+pub record TellBoth (nodes others : List Node) (first second : ℤ → ℕ) : Type 0 where
+  pub own : (a b : ℤ) → IsId (length nodes) a → IsId (length nodes) b
+      → (first a ≡ first b) ↔ AreSame nodes a b
+  pub other : (a b : ℤ) → IsId (length others) a → IsId (length others) b
+      → (second a ≡ second b) ↔ AreSame others a b
+  pub across : (a b : ℤ) → IsId (length nodes) a → IsId (length others) b
+      → (first a ≡ second b) ↔ Agree nodes others a b
+
+-- the labels tell
+abbrev pub LabelsTell : List Node → List Node → BothLabels → Type 0
+LabelsTell nodes others labels = TellBoth nodes others (number_at labels.first.items)
+    (number_at labels.second.items)

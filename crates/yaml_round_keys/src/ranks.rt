@@ -1,11 +1,12 @@
 //! Ranks of nodes: one for all that agree to the ground.
 
-ghost use Rattle.std.specs.Prelude.{◌≡◌, ◌<◌, ◌≤◌, ◌+◌, ◌≤ℤ◌, ◌||◌, pos, suc, OnOk, IfOk, length};
-ghost use Rattle.yaml_round_keys.specs.Ranks.{label_of, AreJudgedFrom, GivesRank, IsDue, IsJudged, IsRanking, IsWithin, Ranked, Tells};
+ghost use Rattle.std.specs.Prelude.{◌≡◌, ◌<◌, ◌≤◌, ◌+◌, ◌≤ℤ◌, ◌||◌, pos, suc, OnOk, IfOk, length, replicate};
+ghost use Rattle.yaml_round_keys.specs.Ranks.{label_of, AreBothRanked, AreJudgedFrom, GivesRank, IsDue, IsJudged, IsRanking, IsWithin, KeepShapes, Ranked, RanksOn, AreLabels, IsSettled, LabelsTell, Tells};
 
-use crate::shape::{holds_ranked, id_of, put_shape, rank_of};
+use crate::shape::{holds_ranked, id_of, narrowed, put_shape, rank_of};
 use crate::shapes::ShapeTable;
 use std::alloc::{AllocError, Global};
+use std::mem;
 use yaml_emit_graph::{Turn, Walked, place_of, walk_nodes};
 use yaml_parse_document::yaml_document_t;
 
@@ -74,6 +75,7 @@ impl Ranks {
     }
 
     // The node at a place gets a rank, where it is due.
+    #[tactic(auto, using(crate::proofs::Labels::shapes_kept))]
     fn rank_node(
         &mut self,
         room: &mut Vec<u32>,
@@ -118,7 +120,7 @@ impl Ranks {
     }
 
     // The node of a number gets a rank, where it is due.
-    #[tactic(auto, using(crate::proofs::Labels::ranking_of))]
+    #[tactic(auto, using(crate::proofs::Labels::ranking_of, crate::proofs::Labels::shapes_of, crate::proofs::Labels::shapes_kept))]
     fn rank_id(
         &mut self,
         room: &mut Vec<u32>,
@@ -127,7 +129,7 @@ impl Ranks {
     ) -> Result<(), AllocError>
         requires ranking { IsRanking document.now.nodes self.old }
         requires small { length document.now.nodes ≤ 2147483647 }
-        ensures { OnOk result (IsRanking document.now.nodes self.new) }
+        ensures { OnOk result (RanksOn document.now.nodes self.old self.new) }
     {
         match place_of(id) {
             Some(at) if at < document.node_count() => {
@@ -140,6 +142,7 @@ impl Ranks {
     }
 
     // A node gets one as a walk meets or leaves it.
+    #[tactic(auto, using(crate::proofs::Labels::shapes_kept))]
     fn rank_turn(
         &mut self,
         room: &mut Vec<u32>,
@@ -148,7 +151,7 @@ impl Ranks {
     ) -> Result<(), AllocError>
         requires ranking { IsRanking document.now.nodes self.old }
         requires small { length document.now.nodes ≤ 2147483647 }
-        ensures { OnOk result (IsRanking document.now.nodes self.new) }
+        ensures { OnOk result (RanksOn document.now.nodes self.old self.new) }
     {
         match turn {
             Turn::First(id) => self.rank_id(room, document, id),
@@ -158,6 +161,7 @@ impl Ranks {
     }
 
     // The same along a walk, which leaves a node after what it holds.
+    #[tactic(auto, using(crate::proofs::Labels::shapes_kept, crate::proofs::Labels::shapes_along))]
     fn rank_walked(
         &mut self,
         room: &mut Vec<u32>,
@@ -165,7 +169,7 @@ impl Ranks {
     ) -> Result<(), AllocError>
         requires ranking { IsRanking document.now.nodes self.old }
         requires small { length document.now.nodes ≤ 2147483647 }
-        ensures { OnOk result (IsRanking document.now.nodes self.new) }
+        ensures { OnOk result (RanksOn document.now.nodes self.old self.new) }
     {
         let Walked { turns, numbers: _ } = walk_nodes(self.alloc, document)?;
         for turn in &turns {
@@ -174,13 +178,14 @@ impl Ranks {
         Ok(())
     }
 
-    #[tactic(auto, using(crate::proofs::Labels::counted_most))]
     // Each node gets a rank, or holds one that has none.
+    #[tactic(auto, using(crate::proofs::Labels::counted_most, crate::proofs::Labels::shapes_along, crate::proofs::Labels::shapes_of))]
     fn rank_all(&mut self, document: &yaml_document_t) -> Result<(), AllocError>
         requires ranking { IsRanking document.now.nodes self.old }
         requires small { length document.now.nodes ≤ 2147483647 }
         ensures { OnOk result (IsRanking document.now.nodes self.new
-            × AreJudgedFrom 0 document.now.nodes self.new.table.items) }
+            × AreJudgedFrom 0 document.now.nodes self.new.table.items
+            × KeepShapes self.old.shapes self.new.shapes) }
     {
         let mut room = Vec::new(self.alloc);
         self.rank_walked(&mut room, document)?;
@@ -224,5 +229,98 @@ impl Ranks {
         } else {
             rank as usize
         }
+    }
+
+    // Hands out the table, and takes an empty one for the nodes of a document. Shapes keep their ranks.
+    fn next_table(&mut self, document: &yaml_document_t) -> Result<Vec<u32>, AllocError>
+        ensures table { IfOk result (λ t. t.items ≡ self.old.table.items) }
+        ensures none { OnOk result (self.new.table.items
+            ≡ replicate (length document.now.nodes) 0) }
+        ensures shapes { self.new.shapes ≡ self.old.shapes }
+        ensures given { self.new.given ≡ self.old.given }
+    {
+        let none = vec![in self.alloc; 0; document.node_count()]?;
+        Ok(mem::replace(&mut self.table, none))
+    }
+
+    // Ranks the nodes of a document, and then those of another; the table is that of the first.
+    #[tactic(auto, using(crate::proofs::Labels::ranking_next, crate::proofs::Labels::both_after))]
+    fn rank_both(
+        &mut self,
+        first: &yaml_document_t,
+        second: &yaml_document_t,
+    ) -> Result<Vec<u32>, AllocError>
+        requires ranking { IsRanking first.now.nodes self.old }
+        requires first { length first.now.nodes ≤ 2147483647 }
+        requires second { length second.now.nodes ≤ 2147483647 }
+        ensures { IfOk result (λ t. AreBothRanked first.now.nodes second.now.nodes t.items
+            self.new) }
+    {
+        self.rank_all(first)?;
+        let table = self.next_table(second)?;
+        self.rank_all(second)?;
+        Ok(table)
+    }
+}
+
+/// A label for each node of two documents, by its place.
+#[derive(Drop)]
+pub struct BothLabels {
+    pub first: Vec<u32>,
+    pub second: Vec<u32>,
+}
+
+// Nodes without a rank get numbers of their own after a floor.
+#[tactic(auto, using(crate::proofs::Settling::none_settled, crate::proofs::Settling::all_settled))]
+fn settle(table: &mut [u32], floor: usize) -> Result<(), AllocError>
+    ensures { OnOk result (IsSettled table.old floor table.new) }
+{
+    let floor = narrowed(floor)? as usize;
+    for at in 0..table.len() {
+        if table[at] == 0 {
+            table[at] = narrowed(floor + at + 1)?;
+        }
+    }
+    Ok(())
+}
+
+// The labels by ranks.
+fn labels_of(first: Vec<u32>, ranks: Ranks) -> Result<BothLabels, AllocError>
+    ensures { IfOk result (λ l. AreLabels first.items ranks.table.items ranks.given l) }
+{
+    let Ranks {
+        table,
+        shapes,
+        given,
+        alloc: _,
+    } = ranks;
+    drop(shapes);
+    let mut labels = BothLabels {
+        first,
+        second: table,
+    };
+    let floor = given as usize;
+    settle(&mut labels.first, floor)?;
+    settle(&mut labels.second, floor + labels.first.len() + 1)?;
+    Ok(labels)
+}
+
+/// Labels of the nodes of two documents: two nodes have one exactly where they are the same.
+pub fn label_both(
+    alloc: Global,
+    first: &yaml_document_t,
+    second: &yaml_document_t,
+) -> Result<BothLabels, AllocError>
+    requires first { length first.now.nodes ≤ 2147483647 }
+    requires second { length second.now.nodes ≤ 2147483647 }
+    ensures { IfOk result (λ l. LabelsTell first.now.nodes second.now.nodes l) }
+{
+    let mut ranks = Ranks::none(alloc, first)?;
+    match ranks.rank_both(first, second) {
+        Ok(table) => {
+            let labels = labels_of(table, ranks)?;
+            Ok(labels)
+        }
+        Err(refusal) => Err(refusal),
     }
 }

@@ -11,8 +11,8 @@ use yaml_emit_graph::{Open, Walkable, place_of};
 use yaml_parse_document::{yaml_document_get_node, yaml_document_t};
 use yaml_parse_model::{YAML_STR_TAG, yaml_node_body_t};
 
-/// The rank of a node, or 0.
-pub(crate) fn rank_of(ranks: &[u32], id: i32) -> u32
+/// The number of a node by its place, or 0.
+pub fn rank_of(ranks: &[u32], id: i32) -> u32
     ensures { result ≡ number_at ranks.now id }
 {
     match place_of(id) {
@@ -21,8 +21,8 @@ pub(crate) fn rank_of(ranks: &[u32], id: i32) -> u32
     }
 }
 
-// A number as it stands in a shape. Larger ones are refused as memory is.
-fn narrowed(number: usize) -> Result<u32, AllocError>
+/// A number as it stands in a shape. Larger ones are refused as memory is.
+pub fn narrowed(number: usize) -> Result<u32, AllocError>
     ensures { IfOk result (λ n. n ≡ number) }
 {
     if number <= 0xffff_ffff {
@@ -57,8 +57,8 @@ fn put_parts(room: &mut Vec<u32>, kind: u32, text: &[u8], tag: &[u8]) -> Result<
     put_widened(room, tag)
 }
 
-// The number of a kind.
-fn number_of_kind(body: &yaml_node_body_t) -> u32
+/// The number of a kind.
+pub fn number_of_kind(body: &yaml_node_body_t) -> u32
     ensures { result ≡ kind_of (body_of body.now) }
 {
     match body {
@@ -70,7 +70,7 @@ fn number_of_kind(body: &yaml_node_body_t) -> u32
 }
 
 /// The text of a scalar.
-pub(crate) fn scalar_text(body: &yaml_node_body_t) -> &[u8]
+pub fn scalar_text(body: &yaml_node_body_t) -> &[u8]
     ensures { result.now ≡ text_of (body_of body.now) }
 {
     match body {

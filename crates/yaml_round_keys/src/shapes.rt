@@ -9,7 +9,7 @@ use std::marker::Model;
 
 /// Ranks by shapes.
 #[derive(Drop)]
-pub(crate) struct ShapeTable {
+pub struct ShapeTable {
     entries: BTreeMap<Vec<u32>, u32>,
 }
 

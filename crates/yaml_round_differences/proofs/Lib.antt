@@ -1,0 +1,9 @@
+pub mod Alone
+pub mod Comparing
+pub mod Equality
+pub mod Holding
+pub mod Matches
+pub mod Numbering
+pub mod Ordering
+pub mod Placing
+pub mod Walking

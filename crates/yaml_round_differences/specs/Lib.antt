@@ -1,0 +1,5 @@
+pub mod Matching
+pub mod Pairs
+pub mod Differences
+pub mod Equal
+pub mod Steps

@@ -6,4 +6,5 @@ pub mod Matches
 pub mod Numbering
 pub mod Ordering
 pub mod Placing
+pub mod Streaming
 pub mod Walking

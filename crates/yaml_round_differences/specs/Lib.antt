@@ -3,3 +3,4 @@ pub mod Pairs
 pub mod Differences
 pub mod Equal
 pub mod Steps
+pub mod Streams

@@ -4,7 +4,10 @@
 mod difference;
 mod held;
 mod matching;
+mod streams;
 mod telling;
 mod walk;
 
 pub use difference::{yaml_document_differences, yaml_node_cause_t, yaml_node_difference_t};
+pub use yaml_parse_document::yaml_document_t;
+pub use streams::{yaml_document_difference_t, yaml_stream_differences};

@@ -17,6 +17,6 @@ pub use resume::{
     yaml_emitter_directives, yaml_emitter_outer, yaml_emitter_resume, yaml_emitter_stand,
 };
 pub use yaml_emit_machine::{
-    Cursor, Encoding, EventRef, Expected, Level, Phase, RequestedSettings, Rooms, put_aside,
-    streams_pass, yaml_emitter_stand_t, yaml_emitter_state_t, yaml_emitter_t,
+    Cursor, Encoding, EventRef, Expected, Level, Phase, RequestedSettings, streams_pass,
+    yaml_emitter_stand_t, yaml_emitter_state_t, yaml_emitter_t,
 };

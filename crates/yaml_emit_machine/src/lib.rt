@@ -16,7 +16,6 @@ pub use emitter::{
 pub use law::{streams_are_laid, streams_pass};
 pub use name::yaml_emitter_state_t;
 pub use yaml_emit_core::yaml_emitter_stand_t;
-pub use yaml_emit_graph::{Rooms, put_aside};
 pub use yaml_emit_layout::{Cursor, Encoding, Expected, Level, Phase, RequestedSettings};
 // What its calls name, so that the member needs no other crate: each further one is read again by every check of the member.
 pub use yaml_parse_document::{yaml_document_delete, yaml_document_t};

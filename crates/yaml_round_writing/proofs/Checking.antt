@@ -146,4 +146,6 @@ pub fault_seen : (from : yaml_encoding_t) (input : List ℕ) (c : ParserRemainin
     → fault_of f ≡ answered
     → IsMemoryFault parse_layers answered ⊎ ((c.events ≡ []) × (c.ending ≡ Some answered))
     → IsMemoryFault load_layers (fault_of f) ⊎ IsChecked from input (Err (fault_of f))
-fault_seen from input c k f answered h is m = elim (rw (← is) m) [ inl m ↦ inl (inr m) | inr e ↦ faulty from input f (sym (no_event c k (Some (fault_of f)) (loads_of from input).fault h e.0 e.1)) ]
+fault_seen from input c k f answered h is m =
+    let met = subst (λ (z : Fault). IsMemoryFault parse_layers z ⊎ ((c.events ≡ []) × (c.ending ≡ Some z))) (sym is) m in
+    elim met [ inl m ↦ inl (inr m) | inr e ↦ faulty from input f (sym (no_event c k (Some (fault_of f)) (loads_of from input).fault h e.0 e.1)) ]

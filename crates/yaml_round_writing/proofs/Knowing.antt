@@ -18,7 +18,7 @@ use Rattle.yaml_parse.specs.Loading.{Loading, goes_on, loaded, nothing_loaded, a
 use Rattle.yaml_round_writing.specs.declared.known.Known.{Known}
 use Rattle.yaml_round_writing.specs.declared.known.Passed.{Passed}
 use Rattle.yaml_round_writing.specs.declared.known.Passed.TheVariants as passed
-use Rattle.yaml_round_writing.specs.Knowing.{has_nodes, is_called, has_name, IsKnown, Follows, is_name, Notes, IsUnknown, Ends, Asks}
+use Rattle.yaml_round_writing.specs.Knowing.{has_nodes, is_called, has_name, IsKnown, Follows, is_name, Names, Notes, IsUnknown, Ends, Asks}
 
 abbrev Text : Type 0
 Text = Vec ℕ Global
@@ -106,13 +106,11 @@ pub asked : (name : List ℕ) (k : Known) (r : Passed) (l : Loading) (at : yaml_
 asked name k r l at a h = answered (map.get l.anchors name) (has_name name k) k r l at (h.names name) a h
 
 -- a name more in the set
-pub put : (old new : Known) (anchor : List ℕ) (k : Text) (r : Passed) → r ≡ passed.On
-    → old.rooted ≡ true → new.rooted ≡ old.rooted → k.items ≡ anchor
-    → new.names.keys ≡ insert_key order old.names.keys k → Notes (Some anchor) old r new
-put old new anchor k r is rooted same items keys =
-    subst (λ (z : Passed). Notes (Some anchor) old z new) (sym is) (
-      same ∙ rooted,
-      λ name.
-          set_more name old.names.keys new.names.keys k keys
-          ∙ ap (λ (x : List ℕ). is_same name x || has_name name old) items,
-    )
+pub put : (old new : Known) (anchor : List ℕ) (k : Text) → new.rooted ≡ old.rooted
+    → k.items ≡ anchor → new.names.keys ≡ insert_key order old.names.keys k → Names anchor old new
+put old new anchor k same items keys = (
+  same,
+  λ name.
+      set_more name old.names.keys new.names.keys k keys
+      ∙ ap (λ (x : List ℕ). is_same name x || has_name name old) items,
+)

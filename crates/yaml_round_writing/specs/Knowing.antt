@@ -46,6 +46,11 @@ abbrev pub is_name : List ℕ → Option (List ℕ) → Bool
 is_name name None = false
 is_name name (Some anchor) = is_same name anchor
 
+-- one name more
+abbrev pub Names : List ℕ → Known → Known → Type 0
+Names anchor old new = (new.rooted ≡ old.rooted)
+    × ((name : List ℕ) → has_name name new ≡ (is_same name anchor || has_name name old))
+
 -- one node more, which has the anchor
 abbrev pub Notes : Option (List ℕ) → Known → Passed → Known → Type 0
 Notes anchor old passed.Starved new = Unit {0}

@@ -1,12 +1,12 @@
 //! What of a document in the making decides whether its loading goes on: whether it has a node, and the names of its anchors.
 
-ghost use Rattle.std.specs.Prelude.{◌≡◌, true, Some, option_map};
+ghost use Rattle.std.specs.Prelude.{◌≡◌, option_map, OnOk};
 ghost use Rattle.yaml_parse.specs.declared.yaml_mark_t.{yaml_mark_t};
 ghost use Rattle.yaml_parse.specs.Events.{borrowed_body};
 ghost use Rattle.yaml_parse.specs.Loading.{Loading, step_body};
-ghost use Rattle.yaml_round_writing.specs.Knowing.{has_name, IsKnown, Follows, Notes, IsUnknown, Ends, Asks};
+ghost use Rattle.yaml_round_writing.specs.Knowing.{has_name, IsKnown, Follows, Names, Notes, IsUnknown, Ends, Asks};
 
-use std::alloc::Global;
+use std::alloc::{AllocError, Global};
 use std::collections::BTreeSet;
 use yaml_parse::EventRef;
 
@@ -62,17 +62,12 @@ impl Known {
     }
 
     // The document has an anchor of this name.
-    fn name(&mut self, alloc: Global, name: &[u8]) -> Passed
-        requires { self.old.rooted ≡ true }
-        ensures { Notes (Some name.now) self.old result self.new }
+    fn name(&mut self, alloc: Global, name: &[u8]) -> Result<(), AllocError>
+        ensures { OnOk result (Names name.now self.old self.new) }
     {
-        match Vec::from_slice(alloc, name) {
-            Err(_) => Passed::Starved,
-            Ok(copy) => match self.names.insert(copy) {
-                Ok(_) => Passed::On,
-                Err(_) => Passed::Starved,
-            },
-        }
+        let copy = Vec::from_slice(alloc, name)?;
+        self.names.insert(copy)?;
+        Ok(())
     }
 
     // One node more, which has the anchor.
@@ -82,7 +77,10 @@ impl Known {
         self.rooted = true;
         match anchor {
             None => Passed::On,
-            Some(name) => self.name(alloc, name),
+            Some(name) => match self.name(alloc, name) {
+                Ok(()) => Passed::On,
+                Err(_) => Passed::Starved,
+            },
         }
     }
 

@@ -3,6 +3,5 @@ use Rattle.std.proofs.Common.{refl}
 use Rattle.yaml_round_writing.proofs.Knowing.{put}
 use Rattle.yaml_round_writing.proofs.known.Known.name.Goals as goal
 
-pub returns-in-Ok-insert : goal.returns-in-Ok-insert
-returns-in-Ok-insert c =
-    put c.args.self.now _ c.args.name.now c.in-Ok.copy _ refl c.requires refl c.in-Ok.ensures.items c.in-Ok-insert.ensures.keys
+pub returns : goal.returns
+returns c = put c.args.self.now _ c.args.name.now c.in_ok-copy.copy refl c.in_ok-copy.ensures.items c.in_ok-insert.ensures.keys

@@ -36,8 +36,6 @@ pub(crate) enum Next {
 type SideFault = (yaml_side_t, yaml_fault_t);
 
 // Two events, normalized, say the same.
-// In line, as all that the loop below does at each event.
-#[inline(always)]
 fn judged(event: EventRef<'_>, other: EventRef<'_>) -> Next
     ensures { JudgesEvents (borrowed_body event.entry) (borrowed_body other.entry) result }
 {
@@ -49,8 +47,6 @@ fn judged(event: EventRef<'_>, other: EventRef<'_>) -> Next
 }
 
 // The second input's next event beside the one that the first gave.
-// In line, as the loop.
-#[inline(always)]
 fn compared_event(first: &Reading<'_>, second: &mut Reading<'_>) -> Next
     requires { AreReal second.old.parser.events }
     ensures { StepsBeside first.now.given second.old.parser result second.new }
@@ -63,8 +59,6 @@ fn compared_event(first: &Reading<'_>, second: &mut Reading<'_>) -> Next
 }
 
 // What the second input has where the first is at its end.
-// In line, as the loop.
-#[inline(always)]
 fn compared_end(second: &mut Reading<'_>) -> Next
     requires { AreReal second.old.parser.events }
     ensures { StepsAlone second.old.parser result second.new.parser }
@@ -77,8 +71,6 @@ fn compared_end(second: &mut Reading<'_>) -> Next
 }
 
 // The next event of each input.
-// In line, as the loop.
-#[inline(always)]
 fn compared_next(first: &mut Reading<'_>, second: &mut Reading<'_>) -> Next
     requires { BothReal first.old.parser second.old.parser }
     ensures { StepsOn first.old second.old result first.new second.new }
@@ -91,8 +83,6 @@ fn compared_next(first: &mut Reading<'_>, second: &mut Reading<'_>) -> Next
 }
 
 // Whether the events are the same to their end. The first fault ends it.
-// In line, up to the public calls: each says whether a path is kept, so that comparing alone has no test for it.
-#[inline(always)]
 fn same_events(
     first: &mut Reading<'_>,
     second: &mut Reading<'_>,
@@ -152,8 +142,6 @@ fn behind_first(first: &mut Reading<'_>, fault: yaml_fault_t) -> SideFault
 }
 
 // Whether two readings have the same content. A fault of the first is answered first.
-// In line, as the loop.
-#[inline(always)]
 fn compared(
     first: &mut Reading<'_>,
     second: &mut Reading<'_>,
@@ -205,8 +193,6 @@ fn compared_with(
 
 /// Whether the second input has the content of the first one's reading. Where it hasn't, the trail says where they part, with
 /// the path where that is `kept`.
-// In line, as the loop.
-#[inline(always)]
 pub fn same_as(
     alloc: Global,
     first: &mut Reading<'_>,

@@ -60,8 +60,6 @@ fn same_flag(tag: Option<&[u8]>, a: bool, b: bool) -> bool
 }
 
 // Whether that starts a document with the same directives.
-// In line, as the loop that compares.
-#[inline(always)]
 fn is_document_start(
     body: EventRef<'_>,
     version: Option<yaml_version_directive_t>,
@@ -82,8 +80,6 @@ fn is_document_start(
 }
 
 // Whether that is an alias of the same name.
-// In line, as the loop.
-#[inline(always)]
 fn is_alias(body: EventRef<'_>, name: &[u8]) -> bool
     ensures { IsTrue result ↔ (event.alias name.now ≡ content_of (borrowed_body body.entry)) }
 {
@@ -94,8 +90,6 @@ fn is_alias(body: EventRef<'_>, name: &[u8]) -> bool
 }
 
 // Whether that is a scalar with the same anchor, tag, text and flag.
-// In line, as the loop.
-#[inline(always)]
 fn is_scalar(
     body: EventRef<'_>,
     anchor: Option<&[u8]>,
@@ -121,8 +115,6 @@ fn is_scalar(
 }
 
 // Whether that starts a sequence with the same anchor and tag.
-// In line, as the loop.
-#[inline(always)]
 fn is_sequence(body: EventRef<'_>, anchor: Option<&[u8]>, tag: Option<&[u8]>) -> bool
     ensures { IsTrue result ↔ (event.sequence_start (option_map (λ t. t.now) anchor.entry)
         (option_map (λ t. t.now) tag.entry) true YAML_ANY_SEQUENCE_STYLE
@@ -139,8 +131,6 @@ fn is_sequence(body: EventRef<'_>, anchor: Option<&[u8]>, tag: Option<&[u8]>) ->
 }
 
 // Whether that starts a mapping with the same anchor and tag.
-// In line, as the loop.
-#[inline(always)]
 fn is_mapping(body: EventRef<'_>, anchor: Option<&[u8]>, tag: Option<&[u8]>) -> bool
     ensures { IsTrue result ↔ (event.mapping_start (option_map (λ t. t.now) anchor.entry)
         (option_map (λ t. t.now) tag.entry) true YAML_ANY_MAPPING_STYLE
@@ -157,8 +147,6 @@ fn is_mapping(body: EventRef<'_>, anchor: Option<&[u8]>, tag: Option<&[u8]>) -> 
 }
 
 /// Whether two normalized events say the same: styles and document marks aside, and of a tagged scalar the flags.
-// In line, as the loop that compares.
-#[inline(always)]
 pub(crate) fn agree(a: EventRef<'_>, b: EventRef<'_>) -> bool
     ensures { IsTrue result ↔ (content_of (borrowed_body a.entry) ≡ content_of
         (borrowed_body b.entry)) }

@@ -163,8 +163,6 @@ impl Trail {
     }
 
     // The event stands before both inputs' next ones.
-    // In line: where no path is kept nothing is done.
-    #[inline(always)]
     pub(crate) fn go_past(&mut self, event: EventRef<'_>, kept: bool) -> Result<(), AllocError>
         ensures { kept ≡ true → OnOk result (path_of self.new.place
             ≡ past_event (borrowed_body event.entry) (path_of self.old.place)) }

@@ -96,9 +96,9 @@ told_push f g nodes others (q ∷ ps) p =
     ap (λ z. told_of f g nodes others q ++ z) (told_push f g nodes others ps p)
     ∙ sym (append_assoc (told_of f g nodes others q) (told_in f g nodes others ps) (told_of f g nodes others p))
 
-compared_suc : (nodes others : List Node) (f g : ℤ → ℕ) (done : ℕ) (p : Pair) (pairs new : List Pair)
-    (told after : List yaml_node_difference_t) → ComparesTo nodes others f g done pairs told
-    → slice_get pairs done ≡ Some p → after ≡ told ++ told_of f g nodes others p
+compared_suc : (nodes others : List Node) (f g : ℤ → ℕ) (done : ℕ) (p : Pair)
+    (pairs new : List Pair) (told after : List yaml_node_difference_t)
+    → ComparesTo nodes others f g done pairs told → slice_get pairs done ≡ Some p → after ≡ told ++ told_of f g nodes others p
     → Pushes f g (held_pairs f g (body_of_id nodes p.first) (body_of_id others p.second)) pairs new
     → ComparesTo nodes others f g (suc done) new after
 unfolding ComparedAt

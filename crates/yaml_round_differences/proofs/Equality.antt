@@ -190,7 +190,8 @@ agree_mapped f g P go (p ∷ ps) (q ∷ qs) h =
     let r = agree_mapped f g P go ps qs h.1 in
     λ j. i j ∷ r j
 
-places_same : (at : ℕ) (xs ys : List ℤ) → length xs ≡ length ys → places_from at xs ≡ places_from at ys
+places_same : (at : ℕ) (xs ys : List ℤ) → length xs ≡ length ys
+    → places_from at xs ≡ places_from at ys
 places_same at [] [] e = refl
 places_same at [] (y ∷ ys) e = absurd (omega arith)
 places_same at (x ∷ xs) [] e = absurd (omega arith)

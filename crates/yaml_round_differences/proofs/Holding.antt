@@ -44,7 +44,8 @@ all_mapped f xs at now h w = h ∙ ap (map f) (take_all at xs w)
 
 -- ---- what a node holds are nodes
 
-sound_at : (count : ℕ) (ns : List Node) (k : ℕ) → AreSound count ns → IsSoundAt count (slice_get ns k)
+sound_at : (count : ℕ) (ns : List Node) (k : ℕ) → AreSound count ns
+    → IsSoundAt count (slice_get ns k)
 sound_at count [] k h = tt
 sound_at count (n ∷ ns) zero h = h.0
 sound_at count (n ∷ ns) (suc k) h = sound_at count ns k h.1

@@ -90,8 +90,8 @@ first_left : (ds : List Document) (k : ℕ)
 first_left [] k = refl
 first_left (d ∷ ds) k = refl
 
-pub stream_told : (ds es : List Document) (k : ℕ) (start now mid new : List yaml_document_difference_t)
-    → TellsTo ds es k start now → start ≡ [] → (length ds ≤ k) ⊎ (length es ≤ k)
+pub stream_told : (ds es : List Document) (k : ℕ)
+    (start now mid new : List yaml_document_difference_t) → TellsTo ds es k start now → start ≡ [] → (length ds ≤ k) ⊎ (length es ≤ k)
     → mid ≡ now ++ told_alone_from OnlyFirst k (drop k ds)
     → new ≡ mid ++ told_alone_from OnlySecond k (drop k es) → AreStreamDifferences 0 ds es new
 stream_told ds es k start now mid new h s (inl w) m n =

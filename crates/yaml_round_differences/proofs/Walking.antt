@@ -241,8 +241,8 @@ pub record PushedTo (labels : BothLabels) (own others : List ℤ) (partners : Li
   pub is : front ++ pairs_by (drop at own) others (drop at partners) ≡ pairs_by own others partners
   pub pushes : PushesOn labels front old now
 
-pub pushed_none : (labels : BothLabels) (own others : List ℤ) (partners : List (Option ℕ)) (w : Walk)
-    → IsWalk w → PushedTo labels own others partners 0 w w
+pub pushed_none : (labels : BothLabels) (own others : List ℤ) (partners : List (Option ℕ))
+    (w : Walk) → IsWalk w → PushedTo labels own others partners 0 w w
 pushed_none labels own others partners w h = record { front = []; is = refl; pushes = pushes_none labels w h }
 
 -- the pair at a place is one of nodes

@@ -51,7 +51,6 @@ pub struct yaml_node_difference_t {
 // Compares what two nodes hold.
 #[tactic(auto, using(crate::proofs::Comparing::matched_many))]
 fn compare_held(
-    alloc: Global,
     labels: &BothLabels,
     walk: &mut Walk,
     told: &mut Vec<yaml_node_difference_t>,
@@ -69,16 +68,16 @@ fn compare_held(
         others.now.values.items (matched own.now.labels.items others.now.labels.items)) walk.old
         walk.new) }
 {
+    let alloc = walk.alloc;
     let partners = match_labels(alloc, &own.labels, &others.labels)?;
     let back = match_labels(alloc, &others.labels, &own.labels)?;
     tell_held(told, pair, &partners, &back)?;
-    walk.push_held(alloc, labels, &own.values, &others.values, &partners)
+    walk.push_held(labels, &own.values, &others.values, &partners)
 }
 
 // The same of two nodes of one kind.
 #[tactic(auto, using(crate::proofs::Holding::held_many, crate::proofs::Holding::held_numbers))]
 fn compare_alike(
-    alloc: Global,
     first: &yaml_document_t,
     second: &yaml_document_t,
     labels: &BothLabels,
@@ -99,15 +98,15 @@ fn compare_alike(
         (key_labels (second_of labels.now) (body_of_id second.now.nodes pair.second)))) walk.old
         walk.new) }
 {
+    let alloc = walk.alloc;
     let own = held_of(alloc, first, &labels.first, pair.first)?;
     let others = held_of(alloc, second, &labels.second, pair.second)?;
-    compare_held(alloc, labels, walk, told, pair, &own, &others)
+    compare_held(labels, walk, told, pair, &own, &others)
 }
 
 // Compares two nodes.
 #[tactic(auto, using(crate::proofs::Comparing::alike_compared, crate::proofs::Comparing::unlike_compared))]
 fn compare_pair(
-    alloc: Global,
     first: &yaml_document_t,
     second: &yaml_document_t,
     labels: &BothLabels,
@@ -123,7 +122,7 @@ fn compare_pair(
 {
     tell_cause(told, pair, own_cause(first, second, pair))?;
     if same_kind(first, second, pair) {
-        compare_alike(alloc, first, second, labels, walk, told, pair)
+        compare_alike(first, second, labels, walk, told, pair)
     } else {
         Ok(())
     }
@@ -132,7 +131,6 @@ fn compare_pair(
 // Compares pair after pair, until none is left.
 #[tactic(auto, using(crate::proofs::Comparing::compared_next, crate::proofs::Comparing::compared_all))]
 fn compare_all(
-    alloc: Global,
     first: &yaml_document_t,
     second: &yaml_document_t,
     labels: &BothLabels,
@@ -149,7 +147,7 @@ fn compare_all(
     for done in 0..usize::MAX {
         match walk.pair_at(done) {
             None => return Ok(()),
-            Some(pair) => compare_pair(alloc, first, second, labels, walk, told, pair)?,
+            Some(pair) => compare_pair(first, second, labels, walk, told, pair)?,
         }
     }
     Err(AllocError)
@@ -170,14 +168,11 @@ fn walk_from_roots(
 {
     let mut walk = Walk::new(alloc);
     let mut told = Vec::new(alloc);
-    walk.meet(
-        alloc,
-        Pair {
-            first: 1,
-            second: 1,
-        },
-    )?;
-    compare_all(alloc, first, second, labels, &mut walk, &mut told)?;
+    walk.meet(Pair {
+        first: 1,
+        second: 1,
+    })?;
+    compare_all(first, second, labels, &mut walk, &mut told)?;
     Ok(told)
 }
 
@@ -198,6 +193,7 @@ pub fn yaml_document_differences(
     ensures equal { IfOk result (λ told. (told.items ≡ []) ↔ AreEqual first.now.nodes
         second.now.nodes) }
 {
+    // laws: what the nodes hold are nodes
     document_is_sound(first);
     document_is_sound(second);
     if first.node_count() > MAX_ENTRIES {

@@ -83,7 +83,7 @@ fn held_pairs(alloc: Global, labels: &[u32], pairs: &[yaml_node_pair_t]) -> Resu
 }
 
 // Nothing is held.
-fn nothing(alloc: Global) -> Held
+fn none_held(alloc: Global) -> Held
     ensures labels { result.labels.items ≡ [] }
     ensures values { result.values.items ≡ [] }
 {
@@ -106,12 +106,12 @@ pub(crate) fn held_of(
         ≡ held_values (body_of_id document.now.nodes id)) }
 {
     match yaml_document_get_node(document, id) {
-        None => Ok(nothing(alloc)),
+        None => Ok(none_held(alloc)),
         Some(node) => match &node.body {
             yaml_node_body_t::Sequence { items, .. } => held_items(alloc, items),
             yaml_node_body_t::Mapping { pairs, .. } => held_pairs(alloc, labels, pairs),
-            yaml_node_body_t::No => Ok(nothing(alloc)),
-            yaml_node_body_t::Scalar { .. } => Ok(nothing(alloc)),
+            yaml_node_body_t::No => Ok(none_held(alloc)),
+            yaml_node_body_t::Scalar { .. } => Ok(none_held(alloc)),
         },
     }
 }

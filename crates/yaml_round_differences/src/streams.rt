@@ -5,6 +5,7 @@ ghost use Rattle.yaml_round_differences.specs.Streams.{AreEqualStreams, AreStrea
 
 use crate::difference::{yaml_document_differences, yaml_node_cause_t, yaml_node_difference_t};
 use std::alloc::{AllocError, Global};
+use std::collections::VecDeque;
 use yaml_parse_document::yaml_document_t;
 
 /// A difference of two documents.
@@ -36,7 +37,7 @@ fn put_differences(
 }
 
 // Compares two documents.
-fn tell_document(
+fn tell_differences(
     alloc: Global,
     told: &mut Vec<yaml_document_difference_t>,
     document: usize,
@@ -55,11 +56,11 @@ fn tell_document(
 fn tell_rest(
     told: &mut Vec<yaml_document_difference_t>,
     from: usize,
-    documents: &[yaml_document_t],
+    documents: &VecDeque<yaml_document_t>,
     cause: yaml_node_cause_t,
 ) -> Result<(), AllocError>
     ensures { OnOk result (told.new.items ≡ told.old.items
-        ++ told_alone_from cause from (drop from documents.now)) }
+        ++ told_alone_from cause from (drop from documents.now.items)) }
 {
     for at in from..documents.len() {
         told.push(yaml_document_difference_t {
@@ -80,16 +81,17 @@ fn tell_rest(
 fn tell_common(
     alloc: Global,
     told: &mut Vec<yaml_document_difference_t>,
-    first: &[yaml_document_t],
-    second: &[yaml_document_t],
+    first: &VecDeque<yaml_document_t>,
+    second: &VecDeque<yaml_document_t>,
     common: usize,
 ) -> Result<(), AllocError>
-    requires first { common ≤ length first.now }
-    requires second { common ≤ length second.now }
-    ensures { OnOk result (TellsTo first.now second.now common told.old.items told.new.items) }
+    requires first { common ≤ length first.now.items }
+    requires second { common ≤ length second.now.items }
+    ensures { OnOk result (TellsTo first.now.items second.now.items common told.old.items
+        told.new.items) }
 {
     for at in 0..common {
-        tell_document(alloc, told, at, &first[at], &second[at])?;
+        tell_differences(alloc, told, at, &first[at], &second[at])?;
     }
     Ok(())
 }
@@ -98,10 +100,11 @@ fn tell_common(
 #[tactic(auto, using(crate::proofs::Streaming::least, crate::proofs::Streaming::stream_told))]
 fn stream_differences(
     alloc: Global,
-    first: &[yaml_document_t],
-    second: &[yaml_document_t],
+    first: &VecDeque<yaml_document_t>,
+    second: &VecDeque<yaml_document_t>,
 ) -> Result<Vec<yaml_document_difference_t>, AllocError>
-    ensures { IfOk result (λ told. AreStreamDifferences 0 first.now second.now told.items) }
+    ensures { IfOk result (λ told. AreStreamDifferences 0 first.now.items second.now.items
+        told.items) }
 {
     let common = first.len().min(second.len());
     let mut told = Vec::new(alloc);
@@ -118,13 +121,13 @@ fn stream_differences(
 #[tactic(auto, using(crate::proofs::Streaming::stream_equal))]
 pub fn yaml_stream_differences(
     alloc: Global,
-    first: &[yaml_document_t],
-    second: &[yaml_document_t],
+    first: &VecDeque<yaml_document_t>,
+    second: &VecDeque<yaml_document_t>,
 ) -> Result<Vec<yaml_document_difference_t>, AllocError>
-    ensures differences { IfOk result (λ told. AreStreamDifferences 0 first.now second.now
-        told.items) }
-    ensures equal { IfOk result (λ told. (told.items ≡ []) ↔ AreEqualStreams first.now
-        second.now) }
+    ensures differences { IfOk result (λ told. AreStreamDifferences 0 first.now.items
+        second.now.items told.items) }
+    ensures equal { IfOk result (λ told. (told.items ≡ []) ↔ AreEqualStreams first.now.items
+        second.now.items) }
 {
     match stream_differences(alloc, first, second) {
         Ok(told) => Ok(told),

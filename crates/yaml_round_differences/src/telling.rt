@@ -17,7 +17,7 @@ use yaml_parse_model::YAML_STR_TAG;
 use yaml_round_keys::{number_of_kind, scalar_text};
 
 // The kind of a node as a number.
-fn kind_at(document: &yaml_document_t, id: i32) -> u32
+fn node_kind(document: &yaml_document_t, id: i32) -> u32
     ensures { result ≡ kind_of (body_of_id document.now.nodes id) }
 {
     match yaml_document_get_node(document, id) {
@@ -27,7 +27,7 @@ fn kind_at(document: &yaml_document_t, id: i32) -> u32
 }
 
 // The text of a scalar.
-fn text_at(document: &yaml_document_t, id: i32) -> &[u8]
+fn node_text(document: &yaml_document_t, id: i32) -> &[u8]
     ensures { result.now ≡ text_of (body_of_id document.now.nodes id) }
 {
     match yaml_document_get_node(document, id) {
@@ -37,7 +37,7 @@ fn text_at(document: &yaml_document_t, id: i32) -> &[u8]
 }
 
 // The tag of a node.
-fn tag_at(document: &yaml_document_t, id: i32) -> &[u8]
+fn node_tag(document: &yaml_document_t, id: i32) -> &[u8]
     ensures { result.now ≡ tag_of_id document.now.nodes id }
 {
     match yaml_document_get_node(document, id) {
@@ -51,7 +51,7 @@ pub(crate) fn same_kind(first: &yaml_document_t, second: &yaml_document_t, pair:
     ensures { result ≡ (kind_of (body_of_id first.now.nodes pair.first)
         == kind_of (body_of_id second.now.nodes pair.second)) }
 {
-    kind_at(first, pair.first) == kind_at(second, pair.second)
+    node_kind(first, pair.first) == node_kind(second, pair.second)
 }
 
 /// In what two nodes differ themselves.
@@ -64,13 +64,13 @@ pub(crate) fn own_cause(
         (body_of_id second.now.nodes pair.second) (tag_of_id first.now.nodes pair.first)
         (tag_of_id second.now.nodes pair.second) }
 {
-    if kind_at(first, pair.first) != kind_at(second, pair.second) {
+    if node_kind(first, pair.first) != node_kind(second, pair.second) {
         return Some(yaml_node_cause_t::Kind);
     }
-    if text_at(first, pair.first) != text_at(second, pair.second) {
+    if node_text(first, pair.first) != node_text(second, pair.second) {
         return Some(yaml_node_cause_t::Value);
     }
-    if tag_at(first, pair.first) != tag_at(second, pair.second) {
+    if node_tag(first, pair.first) != node_tag(second, pair.second) {
         return Some(yaml_node_cause_t::Tag);
     }
     None

@@ -19,6 +19,7 @@ pub struct Pair {
 pub struct Walk {
     pub pairs: Vec<Pair>,
     pub met: ShapeTable,
+    pub alloc: Global,
 }
 
 // A pair as a list.
@@ -65,18 +66,19 @@ impl Walk {
         Walk {
             pairs: Vec::new(alloc),
             met: ShapeTable::new(alloc),
+            alloc,
         }
     }
 
     /// A pair is met; the first time it is to be compared.
     #[tactic(auto, using(crate::proofs::Walking::met_again, crate::proofs::Walking::met_first))]
-    pub fn meet(&mut self, alloc: Global, pair: Pair) -> Result<(), AllocError>
+    pub fn meet(&mut self, pair: Pair) -> Result<(), AllocError>
         requires walk { IsWalk self.old }
         requires first { pos 1 ≤ℤ pair.first }
         requires second { pos 1 ≤ℤ pair.second }
         ensures { OnOk result (Meets pair self.old self.new) }
     {
-        let name = pair_name(alloc, pair)?;
+        let name = pair_name(self.alloc, pair)?;
         match self.met.get(&name) {
             Some(_) => Ok(()),
             None => {
@@ -89,7 +91,7 @@ impl Walk {
 
     // A pair that differs is to be compared.
     #[tactic(auto, using(crate::proofs::Walking::pushes_same, crate::proofs::Walking::pushes_met))]
-    fn push(&mut self, alloc: Global, labels: &BothLabels, pair: Pair) -> Result<(), AllocError>
+    fn push(&mut self, labels: &BothLabels, pair: Pair) -> Result<(), AllocError>
         requires walk { IsWalk self.old }
         requires first { pos 1 ≤ℤ pair.first }
         requires second { pos 1 ≤ℤ pair.second }
@@ -98,24 +100,19 @@ impl Walk {
         if rank_of(&labels.first, pair.first) == rank_of(&labels.second, pair.second) {
             return Ok(());
         }
-        self.meet(alloc, pair)
+        self.meet(pair)
     }
 
     // The same of one that may be none.
     #[tactic(auto, using(crate::proofs::Walking::pushes_none))]
-    fn push_some(
-        &mut self,
-        alloc: Global,
-        labels: &BothLabels,
-        pair: Option<Pair>,
-    ) -> Result<(), AllocError>
+    fn push_some(&mut self, labels: &BothLabels, pair: Option<Pair>) -> Result<(), AllocError>
         requires walk { IsWalk self.old }
         requires numbers { AreNumbered (listed pair) }
         ensures { OnOk result (PushesOn labels.now (listed pair) self.old self.new) }
     {
         match pair {
             None => Ok(()),
-            Some(pair) => self.push(alloc, labels, pair),
+            Some(pair) => self.push(labels, pair),
         }
     }
 
@@ -123,7 +120,6 @@ impl Walk {
     #[tactic(auto, using(crate::proofs::Walking::pushed_none, crate::proofs::Walking::pushed_all))]
     pub fn push_held(
         &mut self,
-        alloc: Global,
         labels: &BothLabels,
         own: &[i32],
         others: &[i32],
@@ -138,7 +134,7 @@ impl Walk {
     {
         for at in 0..own.len() {
             let pair = partner_of(own, at, others, partners[at]);
-            self.push_some(alloc, labels, pair)?;
+            self.push_some(labels, pair)?;
         }
         Ok(())
     }

@@ -83,16 +83,19 @@ module _ (nodes : List Node) (table : List ℕ) (shapes : Shapes) (given floor :
 
 -- ---- a shape more
 
+-- an order that is a tie
 pub tied : (o : Ordering) → is_eq o ≡ true → o ≡ Equal
 tied Less e = absurd (cc)
 tied Equal e = refl
 tied Greater e = absurd (cc)
 
+-- by the test of both
 pub inserted_at : (s : Shapes) (x y : List ℕ) (n : ℕ) (b : Bool)
     → eq_by_cmp (slice_cmp nat_cmp) y x ≡ b
     → map.get (map.insert s x n) y ≡ cond b (Some n) (map.get s y)
 inserted_at s x y n b e = get-insert nat_list_cmp_total s x n y ∙ ap (λ z. cond z (Some n) (map.get s y)) e
 
+-- what is found is what was put in, or was there
 pub inserted_cases : (s : Shapes) (x y : List ℕ) (n m : ℕ) → map.get (map.insert s x n) y ≡ Some m
     → ((y ≡ x) × (m ≡ n)) ⊎ (map.get s y ≡ Some m)
 inserted_cases s x y n m h =
@@ -103,6 +106,7 @@ inserted_cases s x y n m h =
       | false ↦ λ e. inr (sym (inserted_at s x y n false e) ∙ h)
     ] refl
 
+-- another one is found as before
 pub inserted_apart : (s : Shapes) (x y : List ℕ) (n : ℕ) → (y ≡ x → ⊥)
     → map.get (map.insert s x n) y ≡ map.get s y
 inserted_apart s x y n ne =
@@ -112,6 +116,7 @@ inserted_apart s x y n ne =
       | false ↦ λ e. inserted_at s x y n false e
     ] refl
 
+-- what was there is found, where nothing stood at the new one
 pub inserted_keeps : (s : Shapes) (x : List ℕ) (n : ℕ) → map.get s x ≡ None → (y : List ℕ) (m : ℕ)
     → map.get s y ≡ Some m → map.get (map.insert s x n) y ≡ Some m
 inserted_keeps s x n none y m h =
@@ -121,6 +126,7 @@ inserted_keeps s x n none y m h =
       | false ↦ λ e. inserted_at s x y n false e ∙ h
     ] refl
 
+-- what was put in is found
 pub inserted_has : (s : Shapes) (x : List ℕ) (n : ℕ) → map.get (map.insert s x n) x ≡ Some n
 inserted_has s x n = inserted_at s x x n true ((eq_by_cmp_equiv nat_list_cmp_total).refl x)
 

@@ -1,6 +1,7 @@
 mod Running
 mod Diffing
 mod KeysTold
+mod Differing
 pub use Rattle.yaml_round_compare.proofs.Walks as Pathing
 pub use Rattle.yaml_round_writing.proofs.Normal
 pub use Rattle.yaml_round_writing.proofs.Plain

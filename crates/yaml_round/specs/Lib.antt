@@ -1,3 +1,4 @@
+pub mod AllDifferences
 pub mod Commands
 pub mod Keys
 pub use Rattle.yaml_round_writing.specs.Layers

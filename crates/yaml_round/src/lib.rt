@@ -4,6 +4,7 @@
 mod check;
 mod check_keys;
 mod diff;
+mod differences;
 mod engine;
 mod normalize;
 mod reload;
@@ -13,6 +14,7 @@ mod same;
 pub use check::yaml_check;
 pub use check_keys::yaml_check_keys;
 pub use diff::{yaml_diff, yaml_diff_documents};
+pub use differences::{yaml_differences, yaml_differences_t};
 pub use engine::{yaml_events, yaml_reformat};
 pub use normalize::yaml_normalize;
 pub use reload::yaml_reload;
@@ -23,6 +25,9 @@ pub use yaml_round_device::{
     DEFAULT_LIMIT, yaml_command_t, yaml_device_fault_t, yaml_fault_line, yaml_form_t, yaml_input_t,
     yaml_output_encoding_t, yaml_output_t, yaml_read_all, yaml_run_fault_t, yaml_settings_t,
     yaml_std_input_t, yaml_std_output_t, yaml_write_all,
+};
+pub use yaml_round_differences::{
+    yaml_document_difference_t, yaml_node_cause_t, yaml_node_difference_t,
 };
 pub use yaml_round_keys::yaml_same_key_t;
 pub use yaml_round_writing::{yaml_adapter_t, yaml_side_t};

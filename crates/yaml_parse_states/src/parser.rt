@@ -15,7 +15,7 @@ ghost use Rattle.yaml_parse_model.specs.Faults.{memory_fault};
 ghost use Rattle.yaml_parse_model.specs.declared.yaml_origin_t.TheVariants.{Parser as ParserLayer};
 ghost use Rattle.yaml_parse_grammar.specs.Problems.{parser_fault};
 ghost use Rattle.yaml_parse_states.specs.declared.parser.State.TheVariants as state;
-ghost use Rattle.yaml_parse_states.specs.Views.{behind, opener, bare, bare_event, below, below_of, body_in, coming_in, coming_of, coming_with, directives_of, event_in, mapping_style, sequence_style, stack, text_if, value_if};
+ghost use Rattle.yaml_parse_states.specs.Views.{anchor_in, behind, opener, bare, bare_event, below, below_of, body_in, coming_in, coming_of, coming_with, directives_of, event_in, mapping_style, sequence_style, stack, tag_in, text_if, value_if};
 ghost use Rattle.yaml_parse_grammar.specs.Machine.{initial};
 ghost use Rattle.yaml_parse_grammar.specs.Resolve.{no_directives};
 ghost use Rattle.yaml_parse_states.specs.Coming.{read};
@@ -206,8 +206,6 @@ impl<T: Tokens> Parser<T> {
             self.now.tag.items (T.texts self.now.tokens) (directives_of self.now.directives) }
     {
         let implicit = self.event.implicit;
-        let anchor = text_if(self.event.has_anchor, &self.anchor);
-        let tag = text_if(self.event.has_tag, &self.tag);
         match self.event.kind {
             EventKind::StreamStart => EventRef::StreamStart {
                 encoding: self.tokens.encoding(),
@@ -223,28 +221,42 @@ impl<T: Tokens> Parser<T> {
                 anchor: self.value(),
             },
             EventKind::Scalar => EventRef::Scalar {
-                anchor,
-                tag,
+                anchor: self.anchor(),
+                tag: self.tag(),
                 value: self.value(),
                 plain_implicit: implicit,
                 quoted_implicit: self.event.quoted_implicit,
                 style: self.event.style,
             },
             EventKind::SequenceStart => EventRef::SequenceStart {
-                anchor,
-                tag,
+                anchor: self.anchor(),
+                tag: self.tag(),
                 implicit,
                 style: sequence_style(self.event.flow),
             },
             EventKind::SequenceEnd => EventRef::SequenceEnd,
             EventKind::MappingStart => EventRef::MappingStart {
-                anchor,
-                tag,
+                anchor: self.anchor(),
+                tag: self.tag(),
                 implicit,
                 style: mapping_style(self.event.flow),
             },
             EventKind::MappingEnd => EventRef::MappingEnd,
         }
+    }
+
+    /// The anchor of a node.
+    fn anchor(&self) -> Option<&[u8]>
+        ensures { option_map (λ t. t.now) result ≡ anchor_in self.now.event self.now.anchor.items }
+    {
+        text_if(self.event.has_anchor, &self.anchor)
+    }
+
+    /// The tag of a node, in full.
+    fn tag(&self) -> Option<&[u8]>
+        ensures { option_map (λ t. t.now) result ≡ tag_in self.now.event self.now.tag.items }
+    {
+        text_if(self.event.has_tag, &self.tag)
     }
 
     /// The value of a scalar that isn't left out, or an alias's name.

@@ -88,12 +88,12 @@ borrowed_body (borrowed.MappingStart anchor tag implicit style) = mapping_start
     (option_map (λ t. t.now) anchor) (option_map (λ t. t.now) tag) implicit style
 borrowed_body borrowed.MappingEnd = mapping_end
 
--- a scalar, or a collection's start; in place of any other event the empty one
-abbrev pub node_or_no : EventBody → EventBody
-node_or_no (scalar anchor tag value plain quoted style) = scalar anchor tag value plain quoted style
-node_or_no (sequence_start anchor tag implicit style) = sequence_start anchor tag implicit style
-node_or_no (mapping_start anchor tag implicit style) = mapping_start anchor tag implicit style
-node_or_no _ = no
+-- a document's or a collection's start; in place of any other event the empty one
+abbrev pub start_or_no : EventBody → EventBody
+start_or_no (document_start version directives implicit) = document_start version directives implicit
+start_or_no (sequence_start anchor tag implicit style) = sequence_start anchor tag implicit style
+start_or_no (mapping_start anchor tag implicit style) = mapping_start anchor tag implicit style
+start_or_no _ = no
 
 abbrev pub event_of : yaml_event_t → Event
 event_of e = record { body = body_of e.body; start_mark = e.start_mark; end_mark = e.end_mark }

@@ -1,7 +1,7 @@
 //! Events whose texts are borrowed.
 
 ghost use Rattle.std.specs.Prelude.{◌≡◌, IfOk, map, option_map};
-ghost use Rattle.yaml_parse_model.specs.Events.{body_of, borrowed_body, directive_of, node_or_no, text_of};
+ghost use Rattle.yaml_parse_model.specs.Events.{body_of, borrowed_body, directive_of, start_or_no, text_of};
 
 use crate::event::yaml_event_body_t;
 use crate::text::copy_directives;
@@ -65,34 +65,13 @@ impl yaml_event_body_t {
                 encoding: *encoding,
             },
             yaml_event_body_t::StreamEnd => EventRef::StreamEnd,
-            yaml_event_body_t::DocumentStart {
-                version_directive,
-                tag_directives,
-                implicit,
-            } => EventRef::DocumentStart {
-                version_directive: *version_directive,
-                tag_directives: tag_directives.as_slice(),
-                implicit: *implicit,
-            },
+            yaml_event_body_t::DocumentStart { .. } => self.borrowed_start(),
             yaml_event_body_t::DocumentEnd { implicit } => EventRef::DocumentEnd {
                 implicit: *implicit,
             },
             yaml_event_body_t::Alias { anchor } => EventRef::Alias {
                 anchor: anchor.as_slice(),
             },
-            yaml_event_body_t::Scalar { .. } => self.borrowed_node(),
-            yaml_event_body_t::SequenceStart { .. } => self.borrowed_node(),
-            yaml_event_body_t::SequenceEnd => EventRef::SequenceEnd,
-            yaml_event_body_t::MappingStart { .. } => self.borrowed_node(),
-            yaml_event_body_t::MappingEnd => EventRef::MappingEnd,
-        }
-    }
-
-    // A scalar's body or that of a collection's start, or else the empty event's.
-    fn borrowed_node(&self) -> EventRef<'_>
-        ensures { borrowed_body result ≡ node_or_no (body_of self.now) }
-    {
-        match self {
             yaml_event_body_t::Scalar {
                 anchor,
                 tag,
@@ -107,6 +86,27 @@ impl yaml_event_body_t {
                 plain_implicit: *plain_implicit,
                 quoted_implicit: *quoted_implicit,
                 style: *style,
+            },
+            yaml_event_body_t::SequenceStart { .. } => self.borrowed_start(),
+            yaml_event_body_t::SequenceEnd => EventRef::SequenceEnd,
+            yaml_event_body_t::MappingStart { .. } => self.borrowed_start(),
+            yaml_event_body_t::MappingEnd => EventRef::MappingEnd,
+        }
+    }
+
+    // The body of a document's or a collection's start, or else the empty event's.
+    fn borrowed_start(&self) -> EventRef<'_>
+        ensures { borrowed_body result ≡ start_or_no (body_of self.now) }
+    {
+        match self {
+            yaml_event_body_t::DocumentStart {
+                version_directive,
+                tag_directives,
+                implicit,
+            } => EventRef::DocumentStart {
+                version_directive: *version_directive,
+                tag_directives: tag_directives.as_slice(),
+                implicit: *implicit,
             },
             yaml_event_body_t::SequenceStart {
                 anchor,
@@ -153,7 +153,8 @@ fn directives_copied(
     alloc: Global,
     directives: &[yaml_tag_directive_t],
 ) -> Result<Vec<yaml_tag_directive_t>, AllocError>
-    ensures { IfOk result (λ copies. map directive_of copies.items ≡ map directive_of directives.now) }
+    ensures { IfOk result (λ copies. map directive_of copies.items
+        ≡ map directive_of directives.now) }
 {
     match copy_directives(alloc, directives) {
         Ok(copies) => Ok(copies),
@@ -170,32 +171,11 @@ impl<'e> EventRef<'e> {
             EventRef::No => Ok(yaml_event_body_t::No),
             EventRef::StreamStart { encoding } => Ok(yaml_event_body_t::StreamStart { encoding }),
             EventRef::StreamEnd => Ok(yaml_event_body_t::StreamEnd),
-            EventRef::DocumentStart {
-                version_directive,
-                tag_directives,
-                implicit,
-            } => Ok(yaml_event_body_t::DocumentStart {
-                version_directive,
-                tag_directives: directives_copied(alloc, tag_directives)?,
-                implicit,
-            }),
+            EventRef::DocumentStart { .. } => self.copied_start(alloc),
             EventRef::DocumentEnd { implicit } => Ok(yaml_event_body_t::DocumentEnd { implicit }),
             EventRef::Alias { anchor } => Ok(yaml_event_body_t::Alias {
                 anchor: Vec::from_slice(alloc, anchor)?,
             }),
-            EventRef::Scalar { .. } => self.copied_node(alloc),
-            EventRef::SequenceStart { .. } => self.copied_node(alloc),
-            EventRef::SequenceEnd => Ok(yaml_event_body_t::SequenceEnd),
-            EventRef::MappingStart { .. } => self.copied_node(alloc),
-            EventRef::MappingEnd => Ok(yaml_event_body_t::MappingEnd),
-        }
-    }
-
-    // A copy of a scalar or of a collection's start, or else the empty event.
-    fn copied_node(self, alloc: Global) -> Result<yaml_event_body_t, AllocError>
-        ensures { IfOk result (λ b. body_of b ≡ node_or_no (borrowed_body self.entry)) }
-    {
-        match self {
             EventRef::Scalar {
                 anchor,
                 tag,
@@ -210,6 +190,27 @@ impl<'e> EventRef<'e> {
                 plain_implicit,
                 quoted_implicit,
                 style,
+            }),
+            EventRef::SequenceStart { .. } => self.copied_start(alloc),
+            EventRef::SequenceEnd => Ok(yaml_event_body_t::SequenceEnd),
+            EventRef::MappingStart { .. } => self.copied_start(alloc),
+            EventRef::MappingEnd => Ok(yaml_event_body_t::MappingEnd),
+        }
+    }
+
+    // A copy of a document's or a collection's start, or else the empty event.
+    fn copied_start(self, alloc: Global) -> Result<yaml_event_body_t, AllocError>
+        ensures { IfOk result (λ b. body_of b ≡ start_or_no (borrowed_body self.entry)) }
+    {
+        match self {
+            EventRef::DocumentStart {
+                version_directive,
+                tag_directives,
+                implicit,
+            } => Ok(yaml_event_body_t::DocumentStart {
+                version_directive,
+                tag_directives: directives_copied(alloc, tag_directives)?,
+                implicit,
             }),
             EventRef::SequenceStart {
                 anchor,

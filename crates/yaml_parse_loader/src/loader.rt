@@ -84,8 +84,8 @@ impl Loader {
         marks: (yaml_mark_t, yaml_mark_t),
     ) -> Result<Option<yaml_document_t>, yaml_fault_t>
         requires { HasUtf8 (borrowed_body event) }
-        ensures feeds { Feeds (step_body (borrowed_body event.entry) marks.0 marks.1 self.old) result
-            self.new }
+        ensures feeds { Feeds (step_body (borrowed_body event.entry) marks.0 marks.1 self.old)
+            result self.new }
         // No list of a document has more than 2,147,483,647 entries.
         ensures sized { IfOk result (λ o. IfSome o (λ d. IsSized d)) }
     {

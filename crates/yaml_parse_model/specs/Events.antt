@@ -90,7 +90,7 @@ borrowed_body borrowed.MappingEnd = mapping_end
 
 -- a document's or a collection's start; in place of any other event the empty one
 abbrev pub start_or_no : EventBody → EventBody
-start_or_no (document_start version directives implicit) = document_start version directives implicit
+start_or_no (document_start version tags implicit) = document_start version tags implicit
 start_or_no (sequence_start anchor tag implicit style) = sequence_start anchor tag implicit style
 start_or_no (mapping_start anchor tag implicit style) = mapping_start anchor tag implicit style
 start_or_no _ = no

@@ -56,6 +56,8 @@ pub enum EventRef<'e> {
 
 impl yaml_event_body_t {
     /// The event's body, borrowed.
+    // Inlined: an emitter asks for the kind alone of most events that it holds, so none is built.
+    #[inline(always)]
     pub fn borrowed(&self) -> EventRef<'_>
         ensures { borrowed_body result ≡ body_of self.now }
     {
@@ -95,6 +97,8 @@ impl yaml_event_body_t {
     }
 
     // The body of a document's or a collection's start, or else the empty event's.
+    // Inlined: a part of `borrowed`.
+    #[inline(always)]
     fn borrowed_start(&self) -> EventRef<'_>
         ensures { borrowed_body result ≡ start_or_no (body_of self.now) }
     {

@@ -136,7 +136,6 @@ IMPLIED = [
     ("yaml_emitter_directives", "the directives of the document are told", ["yaml_round_c/stand_without_its_collections"], "`yaml_c_emit_on` has the directives in force from this call alone, and `TellsStand` says the stand whole"),
     ("yaml_event_t::unplaced", "an event that a caller makes has zero marks", ["yaml_parse_model/delete_leaves_an_event"], "`yaml_event_delete` leaves what this call answers, and its clause says by one equation which event that is, marks and all"),
     ("yaml_node_text_t::as_slice", "a short text has all its bytes", ["yaml_round/first_document_left_out"], "`yaml_reload` writes each document by a dump, which has it from this call alone, and `IsReloaded` says which text that is"),
-    ("yaml_node_text_t::taken", "a text that is taken into a node has its bytes", ["yaml_parse/first_node_kept"], "the loader has each value from this call alone, and `LoadIsNext` says which document is loaded by its whole content"),
 ]
 
 

@@ -1,10 +1,10 @@
 //! The calls that lines name.
 
 use crate::difference::compare;
-use crate::lines::{Reply, tokens};
+use crate::lines::{ENCODINGS, Reply, tokens};
 use crate::reading::{next_tokens, parse_input, parse_tokens, scan};
 use crate::writing::{emit_again, emit_line};
-use crate::{checks, engine, program, run};
+use crate::{checks, engine, making, program, run};
 use serde_json::Value;
 use yaml_scan::yaml_encoding_t;
 
@@ -18,8 +18,7 @@ pub struct Input<'a> {
 // What a call answers on the line's input. A line of `emit` wants no events, and if its input is refused it needn't have settings.
 fn answer_input(reply: &mut Reply, line: &Value, call: &str, input: &Input<'_>) {
     match call {
-        "decode" => engine::decode(reply, line, input),
-        "events" | "normalize" | "reload" => engine::make(reply, line, call, input),
+        "decode" | "events" | "normalize" | "reload" => engine::make(reply, line, call, input),
         "reformat" => engine::reformat(reply, line, input),
         "loads" => engine::loads(reply, input),
         "keys" => engine::keys(reply, input),
@@ -41,7 +40,7 @@ fn answer_input(reply: &mut Reply, line: &Value, call: &str, input: &Input<'_>) 
 
 // One function owns the input of all calls that have one.
 fn ask_input(reply: &mut Reply, line: &Value, call: &str) {
-    let from = reply.encoding(line, "/from");
+    let from = reply.choice(line, "/from", &ENCODINGS);
     let text = reply.input(line, "/input");
     let text = text.as_slice();
     answer_input(reply, line, call, &Input { text, from });
@@ -61,6 +60,8 @@ pub fn answer(rt: &HostRuntime, reply: &mut Reply, line: &Value) {
         "parse_calls" if line.get("tokens").is_some() => parse_tokens(reply, line),
         "emit_events" | "emit_calls" | "dump" => emit_line(reply, line, call),
         "emit_limits" | "emit_pieces" => emit_again(reply, line, call),
+        "make_document" => making::make_document(reply, line),
+        "make_events" => making::make_events(reply, line),
         "main" => program::run(rt, reply, line),
         "read_all" => run::read_all(reply, line),
         "told" => engine::told(reply, line),

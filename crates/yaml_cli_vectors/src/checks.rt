@@ -5,23 +5,16 @@ mod made;
 mod output;
 
 use crate::lines::{Part, Reply};
+use output::put_stop;
 use serde_json::Value;
-use yaml_scan::yaml_error_type_t;
 
 /// Whether what the line names is right, thing by thing.
 pub fn answer(reply: &mut Reply, line: &Value) {
     reply.field("answer", Part::Object);
     match reply.text(line, "/of") {
         "an output stops" => {
-            output::put_stop(reply, "full", 0, 5, yaml_error_type_t::YAML_WRITER_ERROR);
-            let most = i32::MAX as u64;
-            output::put_stop(
-                reply,
-                "deep",
-                most,
-                2,
-                yaml_error_type_t::YAML_EMITTER_ERROR,
-            );
+            put_stop(reply, "full", 0, 5, 6);
+            put_stop(reply, "deep", i32::MAX as u64, 2, 7);
         }
         "constructors" => made::refuses_texts(reply, line),
         "documents" => made::documents(reply, line),

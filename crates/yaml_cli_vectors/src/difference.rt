@@ -1,12 +1,9 @@
 //! The calls that compare two inputs: same and both diffs.
 
 use crate::call::Input;
-use crate::lines::{Part, Reply, word_at};
+use crate::lines::{ENCODINGS, Part, Reply, word_at};
 use serde_json::Value;
-use yaml_round::{
-    yaml_diff, yaml_diff_documents, yaml_difference_t, yaml_fault_t, yaml_same, yaml_side_t,
-    yaml_step_t,
-};
+use yaml_round::{yaml_diff, yaml_diff_documents, yaml_difference_t, yaml_same, yaml_step_t};
 use yaml_scan::{yaml_event_type_t, yaml_mark_t};
 
 // The words of `yaml_cause_t`.
@@ -52,17 +49,11 @@ fn put_difference(reply: &mut Reply, it: &yaml_difference_t) {
     reply.put(Part::EndObject);
 }
 
-// The side that is refused, and its fault.
-fn put_side(reply: &mut Reply, (side, fault): (yaml_side_t, yaml_fault_t)) {
-    reply.field("side", Part::Word(word_at("First Second", side as usize)));
-    reply.fault = Some(fault);
-}
-
 /// What comparing the input with the line's second one answers: whether they have the same content, or where they, or their
 /// documents, part, null where they don't; or the side that is refused and its fault.
 pub fn compare(reply: &mut Reply, line: &Value, call: &str, input: &Input<'_>) {
     let Input { text, from } = *input;
-    let from2 = reply.encoding(line, "/from2");
+    let from2 = reply.choice(line, "/from2", &ENCODINGS);
     let text2 = reply.input(line, "/input2");
     let parted = match call {
         "same" => match yaml_same(reply.alloc, text, from, &text2, from2) {
@@ -78,6 +69,9 @@ pub fn compare(reply: &mut Reply, line: &Value, call: &str, input: &Input<'_>) {
             put_difference(reply, &difference);
         }
         Ok(None) => reply.field("answer", Part::Null),
-        Err(refused) => put_side(reply, refused),
+        Err((side, fault)) => {
+            reply.field("side", Part::Word(word_at("First Second", side as usize)));
+            reply.fault = Some(fault);
+        }
     }
 }

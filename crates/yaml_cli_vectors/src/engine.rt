@@ -12,8 +12,9 @@ use yaml_scan::yaml_decode;
 
 /// A field: the line that tells the fault.
 pub fn field_line(reply: &mut Reply, name: &str, fault: &yaml_fault_t) {
-    if let Some(text) = reply.given(yaml_fault_line(reply.alloc, fault)) {
-        reply.field_bytes(name, text.as_slice());
+    match yaml_fault_line(reply.alloc, fault) {
+        Ok(text) => reply.field_bytes(name, text.as_slice()),
+        Err(fault) => reply.done(Some(fault)),
     }
 }
 
@@ -25,40 +26,36 @@ pub fn put_text(reply: &mut Reply, line: &Value, text: &[u8], form: Option<yaml_
         reply.field_bytes("answer", text);
     }
     if let Some(form) = form {
-        reply.field(
-            "form",
-            Part::Word(word_at("Canonical Pretty", form as usize)),
-        );
+        let word = word_at("Canonical Pretty", form as usize);
+        reply.field("form", Part::Word(word));
     }
 }
 
-/// The text of the input, decoded.
-pub fn decode(reply: &mut Reply, line: &Value, input: &Input<'_>) {
-    if let Some(text) = reply.given(yaml_decode(reply.alloc, input.text, input.from)) {
-        put_text(reply, line, text.as_slice(), None);
-    }
-}
-
-/// A text that is made of the input: its event lines, its normal form, or that of its documents.
+/// A text of the input: decoded, its event lines, its normal form, or that of its documents.
 pub fn make(reply: &mut Reply, line: &Value, call: &str, input: &Input<'_>) {
     let Input { text, from } = *input;
     let alloc = reply.alloc;
     let made = match call {
+        "decode" => match yaml_decode(alloc, text, from) {
+            Ok(decoded) => return put_text(reply, line, decoded.as_slice(), None),
+            Err(fault) => Err(fault),
+        },
         "events" => yaml_events(alloc, text, from),
         "normalize" => yaml_normalize(alloc, text, from, &engine_settings(reply, line)),
         _ => yaml_reload(alloc, text, from, &engine_settings(reply, line)),
     };
-    if let Some(made) = reply.given(made) {
-        put_text(reply, line, made.as_slice(), None);
+    match made {
+        Ok(made) => put_text(reply, line, made.as_slice(), None),
+        Err(fault) => reply.done(Some(fault)),
     }
 }
 
 /// The text of the input again, and the form that it has.
 pub fn reformat(reply: &mut Reply, line: &Value, input: &Input<'_>) {
     let settings = engine_settings(reply, line);
-    let made = yaml_reformat(reply.alloc, input.text, input.from, &settings);
-    if let Some((text, form)) = reply.given(made) {
-        put_text(reply, line, text.as_slice(), Some(form));
+    match yaml_reformat(reply.alloc, input.text, input.from, &settings) {
+        Ok((text, form)) => put_text(reply, line, text.as_slice(), Some(form)),
+        Err(fault) => reply.done(Some(fault)),
     }
 }
 
@@ -71,14 +68,17 @@ pub fn loads(reply: &mut Reply, input: &Input<'_>) {
 /// The keys that stand in a mapping more than once: where each begins and ends, and where the first one begins.
 pub fn keys(reply: &mut Reply, input: &Input<'_>) {
     reply.field("answer", Part::List);
-    if let Some(keys) = reply.given(yaml_check_keys(reply.alloc, input.text, input.from)) {
-        for key in keys.as_slice() {
-            reply.put(Part::Object);
-            reply.field("key", Part::Mark(key.mark));
-            reply.field("end", Part::Mark(key.end_mark));
-            reply.field("first", Part::Mark(key.first_mark));
-            reply.put(Part::EndObject);
+    match yaml_check_keys(reply.alloc, input.text, input.from) {
+        Ok(keys) => {
+            for key in keys.as_slice() {
+                reply.put(Part::Object);
+                reply.field("key", Part::Mark(key.mark));
+                reply.field("end", Part::Mark(key.end_mark));
+                reply.field("first", Part::Mark(key.first_mark));
+                reply.put(Part::EndObject);
+            }
         }
+        Err(fault) => reply.done(Some(fault)),
     }
     reply.put(Part::EndList);
 }
@@ -116,34 +116,29 @@ pub fn look_up(reply: &mut Reply, line: &Value, input: &Input<'_>) {
 }
 
 /// Whether the fault says that the text has more bytes than its limit.
-pub fn is_full(fault: &yaml_fault_t) -> bool {
-    fault.kind == yaml_error_type_t::YAML_WRITER_ERROR && fault.problem == "write error"
-}
-
-// The fault of the call that the line names in `of`.
-fn limited(
-    reply: &mut Reply,
-    line: &Value,
-    input: &Input<'_>,
-    settings: &yaml_settings_t,
-) -> Option<yaml_fault_t> {
-    let Input { text, from } = *input;
-    match reply.text(line, "/of") {
-        "reload" => yaml_reload(reply.alloc, text, from, settings).err(),
-        _ => yaml_reformat(reply.alloc, text, from, settings).err(),
+pub fn is_full(fault: Option<yaml_fault_t>) -> bool {
+    match fault {
+        Some(fault) => fault.kind == yaml_error_type_t::YAML_WRITER_ERROR
+            && fault.problem == "write error",
+        None => false,
     }
 }
 
-/// The least limit, below that of the settings, under which that call answers a text. Every smaller one is too small.
+/// The least limit, below that of the settings, under which the call that the line names in `of` answers a text. Every smaller one is
+/// too small.
 pub fn least_limit(reply: &mut Reply, line: &Value, input: &Input<'_>) {
+    let Input { text, from } = *input;
+    let of = reply.text(line, "/of");
     let settings = engine_settings(reply, line);
     for limit in 0..settings.limit {
-        match limited(reply, line, input, &yaml_settings_t { limit, ..settings }) {
-            Some(fault) if is_full(&fault) => {}
-            fault => {
-                reply.field("answer", Part::Count(limit));
-                return reply.done(fault);
-            }
+        let settings = yaml_settings_t { limit, ..settings };
+        let fault = match of {
+            "reload" => yaml_reload(reply.alloc, text, from, &settings).err(),
+            _ => yaml_reformat(reply.alloc, text, from, &settings).err(),
+        };
+        if !is_full(fault) {
+            reply.field("answer", Part::Count(limit));
+            return reply.done(fault);
         }
     }
     reply.miss("limit");

@@ -7,6 +7,7 @@ mod checks;
 mod difference;
 mod engine;
 mod lines;
+mod making;
 mod program;
 mod reading;
 mod replay;

@@ -1,17 +1,8 @@
 //! The call `main`: a run of the whole program, over streams that do what the line says.
 
-use crate::lines::{Part, Reply, ScriptedReader, ScriptedWriter};
+use crate::lines::{Part, Reply, Stream};
 use serde_json::Value;
 use yaml_cli_main::yaml_main;
-
-fn words_of<'a>(reply: &mut Reply, line: &'a Value) -> Vec<&'a str> {
-    let mut words = Vec::new(reply.alloc);
-    for listed in reply.list(line, "/words") {
-        let word = reply.text(listed, "");
-        reply.room(words.push(word));
-    }
-    words
-}
 
 // What stands there, or whether something does where the line wants that.
 fn put_text(reply: &mut Reply, line: &Value, name: &'static str, text: &[u8], is_utf8: bool) {
@@ -25,13 +16,18 @@ fn put_text(reply: &mut Reply, line: &Value, name: &'static str, text: &[u8], is
 /// The status that the program ends with on the line's words, what it writes, and what it tells. One function owns the streams, and
 /// asks all there is to ask after the run.
 pub fn run(rt: &HostRuntime, reply: &mut Reply, line: &Value) {
-    let words = words_of(reply, line);
-    let mut input = ScriptedReader::of(reply, line);
-    let mut output = ScriptedWriter::of(reply, line, "/writes");
+    let mut words = Vec::new(reply.alloc);
+    for listed in reply.list(line, "/words") {
+        let word = reply.text(listed, "");
+        reply.room(words.push(word));
+    }
+    let bytes = reply.input(line, "/input");
+    let mut input = Stream::of(reply, line, "/reads", bytes);
+    let mut output = Stream::of(reply, line, "/writes", Vec::new(reply.alloc));
     output.flush_fails = reply.flag(line, "/unflushed");
-    let mut errors = ScriptedWriter::of(reply, line, "/tells");
+    let mut errors = Stream::of(reply, line, "/tells", Vec::new(reply.alloc));
     let status = yaml_main(rt, words.as_slice(), &mut input, &mut output, &mut errors);
     reply.field("status", Part::Count(u64::from(status)));
-    put_text(reply, line, "output", output.received.as_slice(), false);
-    put_text(reply, line, "errors", errors.received.as_slice(), true);
+    put_text(reply, line, "output", output.bytes.get_ref(), false);
+    put_text(reply, line, "errors", errors.bytes.get_ref(), true);
 }

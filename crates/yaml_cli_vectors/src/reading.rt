@@ -10,15 +10,16 @@ use serde_json::Value;
 pub use tokens::{next_tokens, scan};
 use yaml_scan::yaml_fault_t;
 
+// What is found, or the fault.
+type Found<T> = Result<T, yaml_fault_t>;
+
 // The call of a session or a parser that comes after that many.
 fn call_at<'a>(reply: &mut Reply, line: &'a Value, number: u64) -> Option<&'a str> {
     if reply.again.is_some() {
         return reply.again;
     }
-    match reply.list(line, "/calls").get(number as usize) {
-        Some(call) => Some(reply.text(call, "")),
-        None => None,
-    }
+    let call = reply.list(line, "/calls").get(number as usize)?;
+    Some(reply.text(call, ""))
 }
 
 // Puts the fault; where one call is made again and again it stands after all that was answered, or alone where events are parsed.

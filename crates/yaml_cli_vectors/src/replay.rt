@@ -9,11 +9,7 @@ use std::str;
 
 // Why a text isn't JSON.
 fn json_error(error: &Error) -> &'static str {
-    if error.is_memory() {
-        MEMORY
-    } else {
-        "not a line of JSON"
-    }
+    if error.is_memory() { MEMORY } else { "no JSON" }
 }
 
 // Counts the line by what its call answered, an object of JSON. Of a field that is another all that was answered is told; what
@@ -22,12 +18,10 @@ fn judge_text(rt: &HostRuntime, tally: &mut Tally, line: &Value, text: &[u8]) {
     match Value::from_slice(rt.alloc(), text) {
         Ok(got) => match first_wrong(line, &got) {
             None => tally.passed = tally.passed.wrapping_add(1),
-            Some(name) => tally.tell(
-                rt,
-                name,
-                " is another in ",
-                str::from_utf8(text).unwrap_or(""),
-            ),
+            Some(name) => {
+                let answered = str::from_utf8(text).unwrap_or("");
+                tally.tell(rt, name, " is another in ", answered);
+            }
         },
         Err(error) => tally.tell(rt, json_error(&error), "", ""),
     }
@@ -49,19 +43,17 @@ fn put_answer(rt: &HostRuntime, reply: &mut Reply, line: &Value) {
     }
 }
 
-fn replay_call(rt: &HostRuntime, tally: &mut Tally, line: &Value) {
-    let mut reply = Reply::new(rt.alloc());
-    put_answer(rt, &mut reply, line);
-    match reply.finish() {
-        Ok(text) => judge_text(rt, tally, line, text.as_slice()),
-        Err((what, of)) => tally.tell(rt, what, of, ""),
-    }
-}
-
 /// Makes the call that the line names, and compares.
 pub fn replay(rt: &HostRuntime, tally: &mut Tally, line: &str) {
     match Value::from_str(rt.alloc(), line) {
-        Ok(line) => replay_call(rt, tally, &line),
+        Ok(line) => {
+            let mut reply = Reply::new(rt.alloc());
+            put_answer(rt, &mut reply, &line);
+            match reply.finish() {
+                Ok(text) => judge_text(rt, tally, &line, text.as_slice()),
+                Err((what, of)) => tally.tell(rt, what, of, ""),
+            }
+        }
         Err(error) => tally.tell(rt, json_error(&error), "", ""),
     }
 }

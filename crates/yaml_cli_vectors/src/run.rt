@@ -2,14 +2,14 @@
 
 use crate::call::Input;
 use crate::engine::put_text;
-use crate::lines::{Part, Reply, ScriptedReader, engine_settings};
+use crate::lines::{Part, Reply, Row, Stream, engine_settings};
 use serde_json::Value;
 use yaml_round::{
     yaml_command_t, yaml_form_t, yaml_read_all, yaml_run, yaml_run_fault_t, yaml_std_input_t,
     yaml_std_output_t,
 };
 
-const COMMANDS: [(&'static str, yaml_command_t); 3] = [
+const COMMANDS: [Row<yaml_command_t>; 3] = [
     ("Fmt", yaml_command_t::Fmt),
     ("Docs", yaml_command_t::Docs),
     ("Events", yaml_command_t::Events),
@@ -26,34 +26,18 @@ fn put_refused(reply: &mut Reply, fault: yaml_run_fault_t) {
     reply.field("refused", Part::Word(word));
 }
 
-// The text that the command makes of the input, after which stands its form.
-fn run_over(
-    text: &mut Vec<u8>,
-    reply: &mut Reply,
-    line: &Value,
-    input: &Input<'_>,
-) -> Result<Option<yaml_form_t>, yaml_run_fault_t> {
-    let command = reply.choice(line, "/command", &COMMANDS);
-    let limit = reply.count(line, "/input_limit");
-    let settings = engine_settings(reply, line);
-    let mut source = yaml_std_input_t::new(input.text);
-    let mut output = yaml_std_output_t::new(text);
-    yaml_run(
-        reply.alloc,
-        &mut source,
-        &mut output,
-        command,
-        input.from,
-        &settings,
-        limit,
-    )
-}
-
 /// The text that the line's command makes of its input, and the form that it has; `TooLong` where the input has more bytes
 /// than `input_limit`.
 pub fn run(reply: &mut Reply, line: &Value, input: &Input<'_>) {
+    let command = reply.choice(line, "/command", &COMMANDS);
+    let limit = reply.count(line, "/input_limit");
+    let settings = engine_settings(reply, line);
     let mut text = Vec::new(reply.alloc);
-    match run_over(&mut text, reply, line, input) {
+    let source = &mut yaml_std_input_t::new(input.text);
+    let output = &mut yaml_std_output_t::new(&mut text);
+    let (from, alloc) = (input.from, reply.alloc);
+    let ran = yaml_run(alloc, source, output, command, from, &settings, limit);
+    match ran {
         Ok(form) => put_text(reply, line, text.as_slice(), form),
         Err(fault) => put_refused(reply, fault),
     }
@@ -63,7 +47,8 @@ pub fn run(reply: &mut Reply, line: &Value, input: &Input<'_>) {
 /// reader was asked for, where the line wants that.
 pub fn read_all(reply: &mut Reply, line: &Value) {
     let limit = reply.count(line, "/input_limit");
-    let mut reader = ScriptedReader::of(reply, line);
+    let bytes = reply.input(line, "/input");
+    let mut reader = Stream::of(reply, line, "/reads", bytes);
     match yaml_read_all(reply.alloc, &mut yaml_std_input_t::new(&mut reader), limit) {
         Ok(text) => put_text(reply, line, text.as_slice(), None),
         Err(fault) => put_refused(reply, fault),

@@ -5,9 +5,8 @@ use crate::lines::{Part, Reply, document_of, event_of};
 use serde_json::Value;
 use yaml_parse::{
     yaml_document_delete, yaml_document_get_node, yaml_document_get_root_node,
-    yaml_document_set_end_implicit, yaml_document_t, yaml_text_fault_t, yaml_version_directive_t,
+    yaml_document_set_end_implicit, yaml_document_t, yaml_text_fault_t,
 };
-use yaml_scan::yaml_mark_t;
 
 /// Texts that aren't UTF-8, in events of each kind: the line lists names and events.
 pub fn refuses_texts(reply: &mut Reply, line: &Value) {
@@ -19,29 +18,16 @@ pub fn refuses_texts(reply: &mut Reply, line: &Value) {
     }
 }
 
-const ZERO: yaml_mark_t = yaml_mark_t {
-    index: 0,
-    line: 0,
-    column: 0,
-};
-
-const VERSION: Option<yaml_version_directive_t> = Some(yaml_version_directive_t {
-    major: 1,
-    minor: 2,
-});
-
-fn has_no_node(document: &yaml_document_t) -> bool {
-    yaml_document_get_root_node(document).is_none()
+fn is_new(document: &yaml_document_t) -> bool {
+    let version = document.version_directive();
+    let mark = document.start_mark();
+    version.is_some_and(|version| version.major == 1 && version.minor == 2)
+        & (document.tag_directives().len() == 1)
+        & ((mark.index | mark.line | mark.column) == 0)
+        & (document.end_mark() == mark)
+        & yaml_document_get_root_node(document).is_none()
         & yaml_document_get_node(document, 0).is_none()
         & yaml_document_get_node(document, -1).is_none()
-}
-
-fn is_new(document: &yaml_document_t) -> bool {
-    (document.version_directive() == VERSION)
-        & (document.tag_directives().len() == 1)
-        & (document.start_mark() == ZERO)
-        & (document.end_mark() == ZERO)
-        & has_no_node(document)
         & document.start_implicit()
         & !document.end_implicit()
 }

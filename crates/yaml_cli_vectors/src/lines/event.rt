@@ -2,7 +2,9 @@
 
 use crate::lines::words::{ENCODINGS, MAPPINGS, SEQUENCES, word_of};
 use crate::lines::{Part, Reply};
-use yaml_parse::{yaml_event_body_t, yaml_event_t, yaml_tag_directive_t, yaml_version_directive_t};
+use yaml_parse::{
+    yaml_event_body_t as Body, yaml_event_t, yaml_tag_directive_t, yaml_version_directive_t,
+};
 use yaml_round_lines::yaml_push_event_line;
 
 // The line that tells the event, without its end.
@@ -40,14 +42,16 @@ pub fn show_directives(reply: &mut Reply, directives: &[yaml_tag_directive_t]) {
     reply.put(Part::EndList);
 }
 
+fn put_start(reply: &mut Reply, implicit: bool, style: &'static str) {
+    reply.put_all(&[Part::Flag(implicit), Part::Word(style)]);
+}
+
 // What the event carries that its line doesn't tell: of a scalar whether its tag may be left out in plain style, and in
 // every other.
-fn put_carried(reply: &mut Reply, body: &yaml_event_body_t) {
+fn put_carried(reply: &mut Reply, body: &Body) {
     match body {
-        yaml_event_body_t::StreamStart { encoding } => {
-            reply.put(Part::Word(word_of(&ENCODINGS, *encoding)));
-        }
-        yaml_event_body_t::DocumentStart {
+        Body::StreamStart { encoding } => reply.put(Part::Word(word_of(&ENCODINGS, *encoding))),
+        Body::DocumentStart {
             version_directive,
             tag_directives,
             ..
@@ -55,27 +59,21 @@ fn put_carried(reply: &mut Reply, body: &yaml_event_body_t) {
             show_version(reply, *version_directive);
             show_directives(reply, tag_directives.as_slice());
         }
-        yaml_event_body_t::Scalar {
+        Body::Scalar {
             plain_implicit: first,
             quoted_implicit: second,
             ..
         } => reply.put_all(&[Part::Flag(*first), Part::Flag(*second)]),
-        yaml_event_body_t::SequenceStart {
+        Body::SequenceStart {
             implicit,
             style,
             ..
-        } => {
-            let style = word_of(&SEQUENCES, *style);
-            reply.put_all(&[Part::Flag(*implicit), Part::Word(style)]);
-        }
-        yaml_event_body_t::MappingStart {
+        } => put_start(reply, *implicit, word_of(&SEQUENCES, *style)),
+        Body::MappingStart {
             implicit,
             style,
             ..
-        } => {
-            let style = word_of(&MAPPINGS, *style);
-            reply.put_all(&[Part::Flag(*implicit), Part::Word(style)]);
-        }
+        } => put_start(reply, *implicit, word_of(&MAPPINGS, *style)),
         _ => {}
     }
 }

@@ -1,9 +1,8 @@
 //! What a line says: the fields of an object and the items of a list, read by their paths.
 
 use crate::lines::Reply;
-use crate::lines::words::ENCODINGS;
 use serde_json::Value;
-use yaml_scan::{yaml_encoding_t, yaml_mark_t};
+use yaml_scan::yaml_mark_t;
 
 // A path is a pointer of JSON: `/settings/limit`, `/0`. An error says it.
 impl Reply {
@@ -43,17 +42,6 @@ impl Reply {
         }
     }
 
-    // Adds a piece of an input: its bytes, and how often they stand there.
-    fn push_piece(&mut self, piece: &Value, bytes: &mut Vec<u8>) {
-        let repeated = self.bytes(piece, "/0");
-        for _ in 0..self.count(piece, "/1") {
-            if bytes.extend_from_slice(repeated.as_slice()).is_err() {
-                self.memory();
-                break;
-            }
-        }
-    }
-
     /// The input there: bytes in hexadecimal digits, or a list of pieces, each with how often it is repeated.
     pub fn input(&mut self, of: &Value, path: &'static str) -> Vec<u8> {
         if !self.value(of, path).is_array() {
@@ -61,7 +49,10 @@ impl Reply {
         }
         let mut bytes = Vec::new(self.alloc);
         for piece in self.list(of, path) {
-            self.push_piece(piece, &mut bytes);
+            let repeated = self.bytes(piece, "/0");
+            for _ in 0..self.count(piece, "/1") {
+                self.room(bytes.extend_from_slice(repeated.as_slice()));
+            }
         }
         bytes
     }
@@ -86,13 +77,8 @@ impl Reply {
 
     /// The list there.
     pub fn list<'a>(&mut self, of: &'a Value, path: &'static str) -> &'a [Value] {
-        match self.value(of, path).as_array() {
-            Some(list) => list.as_slice(),
-            None => {
-                self.miss(path);
-                &[]
-            }
-        }
+        let list = self.value(of, path).as_array().map(|list| list.as_slice());
+        self.take(list, path, &[])
     }
 
     /// The mark there: index, line, column.
@@ -103,10 +89,5 @@ impl Reply {
             line: self.count(mark, "/1"),
             column: self.count(mark, "/2"),
         }
-    }
-
-    /// The encoding there.
-    pub fn encoding(&mut self, of: &Value, path: &'static str) -> yaml_encoding_t {
-        self.choice(of, path, &ENCODINGS)
     }
 }

@@ -2,7 +2,6 @@
 
 use crate::lines::Reply;
 use json::Writer;
-use std::alloc::AllocError;
 use std::str;
 use yaml_scan::yaml_mark_t;
 
@@ -29,15 +28,6 @@ pub enum Part {
     Mark(yaml_mark_t),
 }
 
-fn write_mark(writer: &mut Writer, mark: yaml_mark_t) -> Result<(), AllocError> {
-    let begun = writer.begin_array();
-    let index = writer.u64(mark.index);
-    let line = writer.u64(mark.line);
-    let column = writer.u64(mark.column);
-    let ended = writer.end_array();
-    begun.and(index).and(line).and(column).and(ended)
-}
-
 impl Reply {
     /// Puts the part.
     pub fn put(&mut self, part: Part) {
@@ -52,7 +42,12 @@ impl Reply {
             Part::Flag(flag) => writer.boolean(flag),
             Part::Word(word) => writer.string(word),
             Part::Null => writer.null(),
-            Part::Mark(mark) => write_mark(writer, mark),
+            Part::Mark(mark) => writer
+                .begin_array()
+                .and(writer.u64(mark.index))
+                .and(writer.u64(mark.line))
+                .and(writer.u64(mark.column))
+                .and(writer.end_array()),
         };
         self.room(done);
     }
@@ -72,22 +67,17 @@ impl Reply {
 
     /// Puts a text that is UTF-8.
     pub fn put_utf8(&mut self, text: &[u8]) {
-        match str::from_utf8(text) {
-            Ok(text) => {
-                let done = self.writer.string(text);
-                self.room(done);
-            }
-            Err(_) => self.miss("text"),
-        }
+        let text = self.take(str::from_utf8(text).ok(), "text", "");
+        let done = self.writer.string(text);
+        self.room(done);
     }
 
     /// Puts bytes, in hexadecimal digits.
     pub fn put_bytes(&mut self, bytes: &[u8]) {
-        let done = match hex::encode(self.alloc, bytes) {
-            Ok(digits) => self.writer.string(&digits),
-            Err(error) => Err(error),
-        };
-        self.room(done);
+        match hex::encode(self.alloc, bytes) {
+            Ok(digits) => self.put_utf8(digits.as_bytes()),
+            Err(_) => self.memory(),
+        }
     }
 
     /// Puts a field of an object; an object or a list begins there where the part says so.

@@ -76,23 +76,10 @@ impl Reply {
 
     /// The call was made, and refuses where it answers a fault.
     pub fn done(&mut self, fault: Option<yaml_fault_t>) {
-        if let Some(told) = fault
-            && self.wrong.is_none()
-        {
+        if let (Some(told), None) = (fault, self.wrong) {
             self.fault = fault;
             self.is_refused = true;
             self.wrong = Some(("refused: ", told.problem));
-        }
-    }
-
-    /// What the call gives, unless it refuses.
-    pub fn given<T: Drop>(&mut self, answer: Result<T, yaml_fault_t>) -> Option<T> {
-        match answer {
-            Ok(value) => Some(value),
-            Err(fault) => {
-                self.done(Some(fault));
-                None
-            }
         }
     }
 

@@ -1,7 +1,7 @@
 //! The settings that a line says.
 
 use crate::lines::Reply;
-use crate::lines::words::BREAKS;
+use crate::lines::words::{BREAKS, ENCODINGS, Row};
 use serde_json::Value;
 use yaml_emit::RequestedSettings;
 use yaml_round::{yaml_output_encoding_t, yaml_settings_t};
@@ -18,7 +18,7 @@ pub fn settings_of(reply: &mut Reply, line: &Value) -> Settings {
     let line = reply.value(line, "/settings");
     Settings {
         asked: RequestedSettings {
-            encoding: reply.encoding(line, "/encoding"),
+            encoding: reply.choice(line, "/encoding", &ENCODINGS),
             canonical: reply.flag(line, "/canonical"),
             indent: reply.number(line, "/indent"),
             width: reply.number(line, "/width"),
@@ -29,7 +29,7 @@ pub fn settings_of(reply: &mut Reply, line: &Value) -> Settings {
     }
 }
 
-const OUTPUTS: [(&'static str, yaml_output_encoding_t); 3] = [
+const OUTPUTS: [Row<yaml_output_encoding_t>; 3] = [
     ("utf8", yaml_output_encoding_t::Utf8),
     ("utf16le", yaml_output_encoding_t::Utf16Le),
     ("utf16be", yaml_output_encoding_t::Utf16Be),

@@ -37,30 +37,22 @@ pub fn own_fault(reply: &mut Reply, fields: &Value) -> yaml_fault_t {
 }
 
 impl Reply {
-    // A text of a fault, or the one that the line gives to its own fault.
+    // A text of a fault; where it has none, the one that the line gives to its own fault.
     fn field_text(&mut self, name: &str, text: Option<&'static str>, own: Option<&Value>) {
-        match (text, own) {
+        match (text, own.and_then(|own| own.get(name))) {
             (Some(text), _) => self.field(name, Part::Word(text)),
             (None, Some(Value::String(text))) => self.field_utf8(name, text.as_bytes()),
             _ => self.field(name, Part::Null),
         }
     }
 
-    // The problem, and what was being read.
-    fn put_texts(&mut self, line: &Value, fault: &yaml_fault_t) {
-        if fault.problem == OWN {
-            self.field_text("problem", None, line.pointer("/own/problem"));
-            self.field_text("context", fault.context, line.pointer("/own/context"));
-        } else {
-            self.field_text("problem", Some(fault.problem), None);
-            self.field_text("context", fault.context, None);
-        }
-    }
-
     /// A fault, with all its fields; the source's own one has the texts that the line gives it.
     pub fn put_fault(&mut self, line: &Value, fault: &yaml_fault_t) {
         self.put(Part::Object);
-        self.put_texts(line, fault);
+        let is_own = fault.problem == OWN;
+        let own = line.get("own").filter(|_| is_own);
+        self.field_text("problem", Some(fault.problem).filter(|_| !is_own), own);
+        self.field_text("context", fault.context, own);
         self.field("kind", Part::Count(fault.kind as u64));
         self.field("offset", Part::Count(fault.offset));
         self.field("value", Part::Number(fault.value));

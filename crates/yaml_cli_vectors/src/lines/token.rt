@@ -3,7 +3,7 @@
 use crate::lines::words::{ENCODINGS, SCALARS, word_at, word_of};
 use crate::lines::{Part, Reply};
 use serde_json::Value;
-use yaml_scan::{yaml_token_body_t, yaml_token_t};
+use yaml_scan::{yaml_token_body_t as Body, yaml_token_t};
 
 // The words of `yaml_token_type_t`.
 const KINDS: &'static str =
@@ -11,30 +11,22 @@ const KINDS: &'static str =
     BLOCK-SEQUENCE-START BLOCK-MAPPING-START BLOCK-END FLOW-SEQUENCE-START FLOW-SEQUENCE-END FLOW-MAPPING-START \
     FLOW-MAPPING-END BLOCK-ENTRY FLOW-ENTRY KEY VALUE ALIAS ANCHOR TAG SCALAR";
 
+fn put_two(reply: &mut Reply, first: &Vec<u8>, second: &Vec<u8>) {
+    reply.put_bytes(first.as_slice());
+    reply.put_bytes(second.as_slice());
+}
+
 // What the token carries.
-fn put_carried(reply: &mut Reply, body: &yaml_token_body_t) {
+fn put_carried(reply: &mut Reply, body: &Body) {
     match body {
-        yaml_token_body_t::StreamStart { encoding } => {
-            reply.put(Part::Word(word_of(&ENCODINGS, *encoding)));
-        }
-        yaml_token_body_t::VersionDirective { major, minor } => {
+        Body::StreamStart { encoding } => reply.put(Part::Word(word_of(&ENCODINGS, *encoding))),
+        Body::VersionDirective { major, minor } => {
             reply.put_all(&[Part::Number(*major), Part::Number(*minor)]);
         }
-        yaml_token_body_t::TagDirective {
-            handle: first,
-            prefix: second,
-        }
-        | yaml_token_body_t::Tag {
-            handle: first,
-            suffix: second,
-        } => {
-            reply.put_bytes(first.as_slice());
-            reply.put_bytes(second.as_slice());
-        }
-        yaml_token_body_t::Alias { value } | yaml_token_body_t::Anchor { value } => {
-            reply.put_bytes(value.as_slice());
-        }
-        yaml_token_body_t::Scalar { value, style } => {
+        Body::TagDirective { handle, prefix } => put_two(reply, handle, prefix),
+        Body::Tag { handle, suffix } => put_two(reply, handle, suffix),
+        Body::Alias { value } | Body::Anchor { value } => reply.put_bytes(value.as_slice()),
+        Body::Scalar { value, style } => {
             reply.put_bytes(value.as_slice());
             reply.put(Part::Word(word_of(&SCALARS, *style)));
         }
@@ -52,53 +44,53 @@ pub fn show_token(reply: &mut Reply, token: &yaml_token_t) {
 }
 
 // The body of a token that carries nothing.
-fn plain_body(reply: &mut Reply, kind: &str) -> yaml_token_body_t {
+fn plain_body(reply: &mut Reply, kind: &str) -> Body {
     match kind {
-        "STREAM-END" => yaml_token_body_t::StreamEnd,
-        "DOCUMENT-START" => yaml_token_body_t::DocumentStart,
-        "DOCUMENT-END" => yaml_token_body_t::DocumentEnd,
-        "BLOCK-SEQUENCE-START" => yaml_token_body_t::BlockSequenceStart,
-        "BLOCK-MAPPING-START" => yaml_token_body_t::BlockMappingStart,
-        "BLOCK-END" => yaml_token_body_t::BlockEnd,
-        "FLOW-SEQUENCE-START" => yaml_token_body_t::FlowSequenceStart,
-        "FLOW-SEQUENCE-END" => yaml_token_body_t::FlowSequenceEnd,
-        "FLOW-MAPPING-START" => yaml_token_body_t::FlowMappingStart,
-        "FLOW-MAPPING-END" => yaml_token_body_t::FlowMappingEnd,
-        "BLOCK-ENTRY" => yaml_token_body_t::BlockEntry,
-        "FLOW-ENTRY" => yaml_token_body_t::FlowEntry,
-        "KEY" => yaml_token_body_t::Key,
-        "VALUE" => yaml_token_body_t::Value,
+        "STREAM-END" => Body::StreamEnd,
+        "DOCUMENT-START" => Body::DocumentStart,
+        "DOCUMENT-END" => Body::DocumentEnd,
+        "BLOCK-SEQUENCE-START" => Body::BlockSequenceStart,
+        "BLOCK-MAPPING-START" => Body::BlockMappingStart,
+        "BLOCK-END" => Body::BlockEnd,
+        "FLOW-SEQUENCE-START" => Body::FlowSequenceStart,
+        "FLOW-SEQUENCE-END" => Body::FlowSequenceEnd,
+        "FLOW-MAPPING-START" => Body::FlowMappingStart,
+        "FLOW-MAPPING-END" => Body::FlowMappingEnd,
+        "BLOCK-ENTRY" => Body::BlockEntry,
+        "FLOW-ENTRY" => Body::FlowEntry,
+        "KEY" => Body::Key,
+        "VALUE" => Body::Value,
         _ => {
             reply.miss("token");
-            yaml_token_body_t::No
+            Body::No
         }
     }
 }
 
-fn body(reply: &mut Reply, token: &Value) -> yaml_token_body_t {
+fn body(reply: &mut Reply, token: &Value) -> Body {
     match reply.text(token, "/0") {
-        "STREAM-START" => yaml_token_body_t::StreamStart {
-            encoding: reply.encoding(token, "/3"),
+        "STREAM-START" => Body::StreamStart {
+            encoding: reply.choice(token, "/3", &ENCODINGS),
         },
-        "VERSION-DIRECTIVE" => yaml_token_body_t::VersionDirective {
+        "VERSION-DIRECTIVE" => Body::VersionDirective {
             major: reply.number(token, "/3"),
             minor: reply.number(token, "/4"),
         },
-        "TAG-DIRECTIVE" => yaml_token_body_t::TagDirective {
+        "TAG-DIRECTIVE" => Body::TagDirective {
             handle: reply.bytes(token, "/3"),
             prefix: reply.bytes(token, "/4"),
         },
-        "ALIAS" => yaml_token_body_t::Alias {
+        "ALIAS" => Body::Alias {
             value: reply.bytes(token, "/3"),
         },
-        "ANCHOR" => yaml_token_body_t::Anchor {
+        "ANCHOR" => Body::Anchor {
             value: reply.bytes(token, "/3"),
         },
-        "TAG" => yaml_token_body_t::Tag {
+        "TAG" => Body::Tag {
             handle: reply.bytes(token, "/3"),
             suffix: reply.bytes(token, "/4"),
         },
-        "SCALAR" => yaml_token_body_t::Scalar {
+        "SCALAR" => Body::Scalar {
             value: reply.bytes(token, "/3"),
             style: reply.choice(token, "/4", &SCALARS),
         },

@@ -10,10 +10,7 @@ const ANSWERS: &'static str =
 /// The first field that one of them lacks, or of which they have different values: the line wants its own fields and no others of
 /// what its call answered.
 pub fn first_wrong(line: &Value, got: &Value) -> Option<&'static str> {
-    for name in ANSWERS.split_whitespace() {
-        if line.get(name) != got.get(name) {
-            return Some(name);
-        }
-    }
-    None
+    ANSWERS
+        .split_whitespace()
+        .find(|name| line.get(*name) != got.get(*name))
 }

@@ -1,6 +1,6 @@
 //! What parsers of an input, or of listed tokens, answer.
 
-use super::{call_at, put_refused};
+use super::{Found, call_at, put_refused};
 use crate::call::Input;
 use crate::lines::{Part, Reply, own_fault, read_token, show_document, show_event};
 use serde_json::Value;
@@ -16,42 +16,37 @@ use yaml_round_adapter::yaml_adapter_t;
 
 // Puts the event, unless all are asked for and it is the empty one after the last, or the fault. The event is kept anyway: to let go
 // each by itself is dearer to prove. Whether there may be more.
-fn put_event(reply: &mut Reply, line: &Value, found: Result<yaml_event_t, yaml_fault_t>) -> bool {
+fn put_event(reply: &mut Reply, line: &Value, found: Found<yaml_event_t>) -> bool {
     match found {
         Ok(event) => {
-            let goes_on = reply.again.is_none()
-                || event.type_() != yaml_event_type_t::YAML_NO_EVENT;
-            if goes_on {
+            let more = reply.again.is_none() || event.type_() != yaml_event_type_t::YAML_NO_EVENT;
+            if more {
                 show_event(reply, &event);
             }
             reply.keep(event);
-            goes_on
+            more
         }
         Err(fault) => put_refused(reply, line, fault),
     }
 }
 
 // Puts the document, unless all are asked for and it is the one without a root after the last, or the fault. Whether there may be more.
-fn put_document(
-    reply: &mut Reply,
-    line: &Value,
-    found: Result<yaml_document_t, yaml_fault_t>,
-) -> bool {
+fn put_document(reply: &mut Reply, line: &Value, found: Found<yaml_document_t>) -> bool {
     match found {
         Ok(document) => {
-            let goes_on = reply.again.is_none() || yaml_document_get_root_node(&document).is_some();
-            if goes_on {
+            let more = reply.again.is_none() || yaml_document_get_root_node(&document).is_some();
+            if more {
                 show_document(reply, &document);
             }
             yaml_document_delete(document);
-            goes_on
+            more
         }
         Err(fault) => put_refused(reply, line, fault),
     }
 }
 
 // Puts the next event, which is parsed into slots, or the fault.
-fn put_into<S: yaml_token_source_t>(
+fn put_slot<S: yaml_token_source_t>(
     reply: &mut Reply,
     line: &Value,
     parser: &mut yaml_parser_t<S>,
@@ -94,7 +89,7 @@ fn put_call<S: yaml_token_source_t>(
         Some("parse") => return put_event(reply, line, yaml_parser_parse(parser)),
         Some("load") if is_between => return put_document(reply, line, yaml_parser_load(parser)),
         Some("load") => reply.put(Part::Word("not between")),
-        Some("into") => put_into(reply, line, parser),
+        Some("into") => put_slot(reply, line, parser),
         Some("between") => reply.put(Part::Flag(is_between)),
         Some("prefix") => put_prefix(reply, line, yaml_parser_prefix(parser)),
         Some(_) => reply.miss("calls"),

@@ -1,10 +1,10 @@
 //! What a session over the line's input answers, and a source of a parser's tokens.
 
-use super::{call_at, put_refused};
+use super::{Found, call_at, put_refused};
 use crate::call::Input;
 use crate::lines::{Part, Reply, show_token};
 use serde_json::Value;
-use yaml_parse::{yaml_fault_t, yaml_token_source_t};
+use yaml_parse::yaml_token_source_t;
 use yaml_round_adapter::yaml_adapter_t;
 use yaml_scan::{
     yaml_parser_fault, yaml_parser_has_token, yaml_parser_peek, yaml_parser_scan, yaml_parser_skip,
@@ -12,16 +12,15 @@ use yaml_scan::{
 };
 
 // Puts the token, and lets it go, or the fault. Whether there may be more.
-fn put_token(reply: &mut Reply, line: &Value, found: Result<yaml_token_t, yaml_fault_t>) -> bool {
+fn put_token(reply: &mut Reply, line: &Value, found: Found<yaml_token_t>) -> bool {
     match found {
         Ok(token) => {
-            let goes_on = reply.again.is_none()
-                || token.type_() != yaml_token_type_t::YAML_NO_TOKEN;
-            if goes_on {
+            let more = reply.again.is_none() || token.type_() != yaml_token_type_t::YAML_NO_TOKEN;
+            if more {
                 show_token(reply, &token);
             }
             drop(token);
-            goes_on
+            more
         }
         Err(fault) => put_refused(reply, line, fault),
     }

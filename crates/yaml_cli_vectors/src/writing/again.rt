@@ -11,23 +11,20 @@ fn is_same(got: &Pieces, whole: &Pieces) -> bool {
 
 // Whether that is the front of the whole text that fits the limit, with the fault of a full output where that isn't all.
 fn is_front(got: &Pieces, whole: &Pieces, limit: usize) -> bool {
-    match whole.text.get(..limit) {
-        Some(front) if limit < whole.text.len() => {
-            got.text.as_slice() == front && got.fault.is_some_and(|fault| is_full(&fault))
-        }
-        _ => is_same(got, whole),
+    let text = whole.text.as_slice();
+    if limit < text.len() {
+        return got.text.as_slice() == &text[..limit] && is_full(got.fault);
     }
+    is_same(got, whole)
 }
 
 // The first limit, up to two after the text's end, that isn't right; none where the events are refused.
 fn wrong_limit(reply: &mut Reply, line: &Value, whole: &Pieces) -> Option<u64> {
     let Settings { asked, limit } = whole.settings;
-    let last = if whole.fault.is_some() {
-        0
-    } else {
-        whole.text.len().saturating_add(2)
-    };
-    for number in 0..last {
+    if whole.fault.is_some() {
+        return None;
+    }
+    for number in 0..whole.text.len().saturating_add(2) {
         let limit = limit.min(number as u64);
         let got = written(reply, line, Settings { asked, limit }, usize::MAX);
         if !is_front(&got, whole, number) {

@@ -1,6 +1,6 @@
 //! The calls `emit_calls`, calls of an emitter one after another, and `dump`.
 
-use super::emitter::{flush, give_listed, turn};
+use super::emitter::{flush, give, turn};
 use crate::lines::{Part, Reply, document_of};
 use serde_json::Value;
 use yaml_emit::{yaml_emitter_dump, yaml_emitter_opened, yaml_emitter_output, yaml_emitter_t};
@@ -31,7 +31,7 @@ fn put_call(reply: &mut Reply, line: &Value, call: &Value, emitter: &mut yaml_em
         "opened" => return reply.put(Part::Flag(yaml_emitter_opened(emitter))),
         "output" => return reply.put_bytes(yaml_emitter_output(emitter)),
         "front" => return put_front(reply, given, yaml_emitter_output(emitter)),
-        "emit" => give_listed(reply, given, emitter),
+        "emit" => give(reply, given, emitter),
         "dump" => dumped(reply, given, emitter),
         "turn" => turn(emitter),
         "flush" => flush(emitter),

@@ -1,6 +1,6 @@
 //! The call `emit_events`.
 
-use super::emitter::{flush, give_listed};
+use super::emitter::{flush, give};
 use super::flushed::put_flushes;
 use crate::lines::{Part, Reply};
 use serde_json::Value;
@@ -31,9 +31,7 @@ impl Course {
         }
         self.fault = answer;
         self.size = size;
-        if answer.is_none() {
-            self.number = self.number.wrapping_add(1);
-        }
+        self.number = self.number.wrapping_add(u64::from(answer.is_none()));
     }
 }
 
@@ -41,7 +39,7 @@ impl Course {
 fn give_all(reply: &mut Reply, line: &Value, emitter: &mut yaml_emitter_t, course: &mut Course) {
     for listed in reply.list(line, "/events") {
         course.whole = reply.text(listed, "/0") == "STREAM-END";
-        let fault = give_listed(reply, listed, emitter);
+        let fault = give(reply, listed, emitter);
         course.take(fault, yaml_emitter_output(emitter).len());
         if course.fault.is_none() {
             put_flushes(reply, line, course.number, emitter);

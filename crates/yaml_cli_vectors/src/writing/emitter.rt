@@ -28,12 +28,8 @@ pub fn emitter_under(alloc: Global, asked: &RequestedSettings, limit: u64) -> Ma
 }
 
 /// Gives the event that the line writes so, whose texts are to be UTF-8, and tells the fault that is answered.
-pub fn give_listed(
-    reply: &mut Reply,
-    listed: &Value,
-    emitter: &mut yaml_emitter_t,
-) -> Option<yaml_fault_t> {
-    match event_of(reply, listed) {
+pub fn give(reply: &mut Reply, it: &Value, emitter: &mut yaml_emitter_t) -> Option<yaml_fault_t> {
+    match event_of(reply, it) {
         Ok(event) if yaml_event_utf8(&event) => return yaml_emitter_emit(emitter, event).err(),
         Ok(event) => {
             drop(event);

@@ -8,15 +8,8 @@ use yaml_emit::{yaml_emitter_output, yaml_emitter_t};
 // Whether the text is the front and, after it, only what stands between nodes: blanks, breaks, and the indicators that part
 // nodes or open a collection; in UTF-16 their other byte.
 fn is_close(text: &[u8], front: &[u8]) -> bool {
-    let Some(rest) = text.strip_prefix(front) else {
-        return false;
-    };
-    for byte in rest {
-        if !b"\0 \r\n,:?-[{".contains(byte) {
-            return false;
-        }
-    }
-    true
+    let rest = text.strip_prefix(front);
+    rest.is_some_and(|rest| rest.iter().all(|byte| b"\0 \r\n,:?-[{".contains(byte)))
 }
 
 // Whether the text is what the line wants of a flush: those bytes at least and a front of the line's answer, where it says so,
@@ -32,26 +25,26 @@ fn is_wanted(reply: &mut Reply, line: &Value, wanted: &Value, text: &[u8]) -> bo
     }
 }
 
-// Flushes, and puts that as the line wants it, or as it is, after the number of events.
-fn put_flush(reply: &mut Reply, line: &Value, wanted: &Value, emitter: &mut yaml_emitter_t) {
-    let fault = flush(emitter);
-    let text = yaml_emitter_output(emitter);
-    if is_wanted(reply, line, wanted, text) && fault.is_none() {
-        for told in reply.list(wanted, "").get(1..).unwrap_or(&[]) {
-            let told = reply.text(told, "");
-            reply.put_utf8(told.as_bytes());
-        }
-    } else {
-        reply.put_bytes(text);
+fn put_wanted(reply: &mut Reply, wanted: &Value) {
+    for told in reply.list(wanted, "").get(1..).unwrap_or(&[]) {
+        let told = reply.text(told, "");
+        reply.put_utf8(told.as_bytes());
     }
 }
 
-/// Flushes after that many events where the line has a flush there.
+/// Flushes after that many events where the line has a flush there, and puts the number of events and that as the line wants it, or as
+/// it is.
 pub fn put_flushes(reply: &mut Reply, line: &Value, count: u64, emitter: &mut yaml_emitter_t) {
     for wanted in reply.list(line, "/flushed") {
         if reply.count(wanted, "/0") == count {
+            let fault = flush(emitter);
+            let text = yaml_emitter_output(emitter);
             reply.put_all(&[Part::List, Part::Count(count)]);
-            put_flush(reply, line, wanted, emitter);
+            if is_wanted(reply, line, wanted, text) && fault.is_none() {
+                put_wanted(reply, wanted);
+            } else {
+                reply.put_bytes(text);
+            }
             reply.put(Part::EndList);
         }
     }

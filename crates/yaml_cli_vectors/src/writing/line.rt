@@ -27,7 +27,8 @@ fn put_kept(reply: &mut Reply, emitter: &mut yaml_emitter_t) {
     reply.field_bytes("answer", yaml_emitter_output(emitter));
 }
 
-/// What an emitter under the line's settings answers on what it is given: the line's document, events or calls; or the events that a parser gave.
+/// What an emitter under the line's settings answers on what it is given: the line's document, events or calls; or the events that
+/// a parser gave.
 pub fn emit_line(reply: &mut Reply, line: &Value, call: &str) {
     let settings = settings_of(reply, line);
     match emitter_under(reply.alloc, &settings.asked, settings.limit) {

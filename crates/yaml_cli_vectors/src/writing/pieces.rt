@@ -3,15 +3,14 @@
 ghost use Rattle.std.specs.Prelude.{◌≡◌, ◌≤◌, ◌<◌, ◌^◌, None, IfSome};
 ghost use Rattle.yaml_emit.specs.Judged.{refused_at};
 
-use super::emitter::{Made, emitter_under, flush, give_listed};
+use super::emitter::{Made, emitter_under, flush, give};
 use crate::lines::{Reply, Settings};
 use serde_json::Value;
 use std::alloc::Global;
 use std::mem;
 use yaml_emit::{
-    Expected, Level, yaml_emitter_directives, yaml_emitter_fresh, yaml_emitter_into_output,
-    yaml_emitter_outer, yaml_emitter_resume, yaml_emitter_stand, yaml_emitter_stand_t,
-    yaml_emitter_t,
+    Expected, Level, yaml_emitter_directives, yaml_emitter_into_output, yaml_emitter_outer,
+    yaml_emitter_resume, yaml_emitter_stand, yaml_emitter_stand_t, yaml_emitter_t,
 };
 use yaml_parse::yaml_tag_directive_t;
 use yaml_scan::{yaml_error_type_t, yaml_fault_t};
@@ -39,19 +38,13 @@ fn right_stand(pieces: &Pieces) -> Option<yaml_emitter_stand_t>
     ensures right { IfSome result (λ s. refused_at s.place ≡ None) }
     ensures column { IfSome result (λ s. s.cursor.column < 2 ^ 62) }
 {
-    let Some(stand) = pieces.stand else {
-        return None;
-    };
+    let stand = pieces.stand?;
     if stand.cursor.column >= MOST {
         return None;
     }
     match stand.place {
         Expected::Refused(_) => None,
-        Expected::StreamStart => Some(stand),
-        Expected::Documents(_, _) => Some(stand),
-        Expected::Node => Some(stand),
-        Expected::DocumentEnd => Some(stand),
-        Expected::End => Some(stand),
+        _ => Some(stand),
     }
 }
 
@@ -59,8 +52,7 @@ fn right_stand(pieces: &Pieces) -> Option<yaml_emitter_stand_t>
 fn rest_of(limit: u64, text: &[u8]) -> u64
     ensures { result ≤ 2 ^ 62 }
 {
-    let rest = limit.saturating_sub(text.len() as u64);
-    if rest <= MOST { rest } else { MOST }
+    limit.saturating_sub(text.len() as u64).min(MOST)
 }
 
 // An emitter that goes on where the last one stood, or that begins.
@@ -80,9 +72,6 @@ fn next_emitter(alloc: Global, pieces: &mut Pieces) -> Made {
 // Keeps where an emitter stands that was given the line's events up to there, with copies of the open collections and the
 // directives.
 fn keep_stand(reply: &mut Reply, emitter: &yaml_emitter_t, upto: usize, pieces: &mut Pieces) {
-    if yaml_emitter_fresh(emitter) {
-        return;
-    }
     let stand = yaml_emitter_stand(emitter);
     pieces.taken = upto.saturating_sub(stand.waiting as usize);
     pieces.stand = Some(stand);
@@ -90,18 +79,15 @@ fn keep_stand(reply: &mut Reply, emitter: &yaml_emitter_t, upto: usize, pieces: 
     for directive in yaml_emitter_directives(emitter) {
         let handle = reply.copy(directive.handle.as_slice());
         let prefix = reply.copy(directive.prefix.as_slice());
-        reply.room(
-            pieces
-                .directives
-                .push(yaml_tag_directive_t { handle, prefix }),
-        );
+        let copied = yaml_tag_directive_t { handle, prefix };
+        reply.room(pieces.directives.push(copied));
     }
 }
 
-// Gives the events, and flushes where they are the last, and keeps what became of them.
-fn give(reply: &mut Reply, events: &[Value], emitter: &mut yaml_emitter_t, pieces: &mut Pieces) {
+// Gives the events from the first that wasn't taken, and keeps the first fault.
+fn feed(reply: &mut Reply, events: &[Value], emitter: &mut yaml_emitter_t, pieces: &mut Pieces) {
     for listed in events.get(pieces.taken..).unwrap_or(&[]) {
-        let fault = give_listed(reply, listed, emitter);
+        let fault = give(reply, listed, emitter);
         pieces.fault = pieces.fault.or(fault);
     }
 }
@@ -110,12 +96,8 @@ fn give(reply: &mut Reply, events: &[Value], emitter: &mut yaml_emitter_t, piece
 fn put_piece(reply: &mut Reply, events: &[Value], upto: usize, pieces: &mut Pieces) {
     match next_emitter(reply.alloc, pieces) {
         Ok(mut emitter) => {
-            give(
-                reply,
-                events.get(..upto).unwrap_or(events),
-                &mut emitter,
-                pieces,
-            );
+            let given = events.get(..upto).unwrap_or(events);
+            feed(reply, given, &mut emitter, pieces);
             if upto == events.len() {
                 pieces.fault = flush(&mut emitter);
             }
@@ -147,12 +129,12 @@ pub fn written(reply: &mut Reply, line: &Value, settings: Settings, size: usize)
             break;
         }
     }
-    // Out of memory is answered whichever pieces meet it.
-    if pieces
-        .fault
-        .is_some_and(|fault| fault.kind == yaml_error_type_t::YAML_MEMORY_ERROR)
-    {
-        reply.done(pieces.fault);
+    match pieces.fault {
+        // Out of memory is answered whichever pieces meet it.
+        Some(fault) if fault.kind == yaml_error_type_t::YAML_MEMORY_ERROR => reply.done(Some(
+            fault,
+        )),
+        _ => {}
     }
     pieces
 }

@@ -5,7 +5,7 @@
 
 It takes the program that replays the vectors where `tools/program.py yaml_cli_vectors` has built it and no source is newer, or
 the one that VECTORS names. Else it says so and runs nothing, unless --near is given: then it builds one without proofs
-(tools/near.py). JOBS: runs at a time (1). SECONDS: how long new lines are begun (120); every call has its first line before
+(tools/near.py). JOBS: runs at a time (1). SECONDS: how long new lines are begun (600); every call has its first line before
 one has its second. It needs what tools/faults.py needs.
 
 Of crates/yaml_cli_vectors/stdin it chooses, for each call, few lines of at most MOST bytes (without their answers) that
@@ -21,13 +21,15 @@ What is promised, and judged for each run:
                     front of what the line has, and behind it a session and a source answer the empty token, a parser the
                     empty event, the end or the document without a root, and both the fault that they keep; an emitter the
                     fault again at each call, and its text stays
+    a call's        out of memory of a call that makes an event or adds to a document: the others answer what they answer in a
+                    line without that call, among it the whole document, shown
     the line's      `out of memory`: of the line's JSON, of what it writes, of the document or event that it makes for a call
     the program's   status 1 and the error, before there is a line
     not told apart  the answers that a call of the line's own makes of any refusal: see UNTOLD
 
-`main` isn't among the calls: tools/faults.py runs the program itself. Whatever else happens is printed, and the script fails;
-so it does where a call that has layers was never seen to tell one, and where a member hands out a call that may lack memory and
-that no line calls: see THROUGH.
+`main` isn't among the calls: tools/faults.py runs the program itself, and bindings/c/check.c makes each call for C. Whatever
+else happens is printed, and the script fails; so it does where a call that has layers was never seen to tell one, where a member
+hands out a call that may lack memory and that no row of TELLS has, and, where all lines were run, where none told of a row.
 """
 import collections
 import glob
@@ -95,12 +97,64 @@ UNTOLD = {
     "read_all": lambda line, got: {**got, "sizes": 0} == {"refused": "Read", "sizes": 0} or got.get("refused") == "Yaml",
 }
 # These tell no layer: `lookup` answers the fault of the load as out of memory of the line.
-OTHERS = {"tokens", "lookup", *UNTOLD} - {*LAYERS}
+OTHERS = {"tokens", "lookup", "make_document", "make_events", *UNTOLD} - {*LAYERS}
 # These make a call again for each limit, or for each size of pieces, so that the shortest line is enough.
 AGAIN = {"least_limit", "emit_limits", "emit_pieces"}
-# The members' calls that may lack memory and that the program doesn't name, each by the call of a line that comes to it.
-THROUGH = {
-    "yaml_write_all": "run",
+# The members' calls that may lack memory: which call of a line tells it, and of a line of calls one after another which word.
+TELLS = {
+    "yaml_decode": "decode",
+    "yaml_parser_scan": "scan_calls scan",
+    "yaml_parser_peek": "scan_calls peek",
+    "yaml_token_source_t::next_token": "next_tokens scan",
+    "yaml_adapter_t::next_token": "next_tokens scan",
+    "yaml_alias_event_initialize": "make_events ALIAS",
+    "yaml_scalar_event_initialize": "make_events SCALAR",
+    "yaml_sequence_start_event_initialize": "make_events SEQUENCE-START",
+    "yaml_mapping_start_event_initialize": "make_events MAPPING-START",
+    "yaml_document_start_event_initialize": "make_events DOCUMENT-START",
+    "yaml_document_initialize": "make_document",
+    "yaml_document_add_scalar": "make_document scalar",
+    "yaml_node_text_t::copied": "make_document scalar",
+    "yaml_document_add_sequence": "make_document sequence",
+    "yaml_document_add_mapping": "make_document mapping",
+    "yaml_document_append_sequence_item": "make_document item",
+    "yaml_document_append_mapping_pair": "make_document pair",
+    "yaml_parser_parse": "parse_calls parse",
+    "yaml_parser_parse_into": "parse_calls into",
+    "yaml_parser_load": "parse_calls load",
+    "TokenParser::parse_into": "events",
+    "TokenParser::load": "loads",
+    "yaml_emitter_open": "emit_calls open",
+    "yaml_emitter_close": "emit_calls close",
+    "yaml_emitter_emit": "emit_calls emit",
+    "yaml_emitter_emit_from": "emit",
+    "yaml_emitter_flush": "emit",
+    "yaml_emitter_dump": "emit_calls dump",
+    "yaml_emitter_resume": "emit_pieces",
+    "yaml_fault_line": "told",
+    "yaml_read_all": "read_all",
+    "yaml_run": "run",
+    "yaml_events": "events",
+    "yaml_check": "loads",
+    "yaml_check_keys": "keys",
+    "yaml_same": "same",
+    "yaml_diff": "diff",
+    "yaml_diff_documents": "diff_documents",
+    "yaml_reformat": "reformat",
+    "yaml_normalize": "normalize",
+    "yaml_reload": "reload",
+}
+# These answer a Result and ask for no memory: what begins with nothing held, and devices with what writes to one.
+ASKS_NONE = {
+    "yaml_parser_initialize",
+    "yaml_emitter_initialize",
+    "yaml_write_all",
+    "yaml_input_t::get",
+    "yaml_output_t::put",
+    "yaml_output_t::finish",
+    "yaml_std_input_t::get",
+    "yaml_std_output_t::put",
+    "yaml_std_output_t::finish",
 }
 # What an input has where one of these stands in it.
 MARKS = "&*!%|>\"'[{#"
@@ -111,6 +165,8 @@ BEHIND = {
     "parse_calls": ["prefix", "parse", "into", "between", "load", "prefix"],
     "emit_calls": [["flush"], ["opened"], ["turn"], ["output"], ["flush"], ["output"]],
 }
+# What a line makes whose calls or events are each refused by that word, and the field that lists them.
+MADE, MEMORY = {"make_document": "calls", "make_events": "events"}, "memory"
 ZERO = [0, 0, 0]
 NO_TOKEN, NO_EVENT = ["NO", ZERO, ZERO], ["", ZERO, ZERO]
 NO_DOCUMENT = {"version": None, "directives": [], "start_implicit": False, "end_implicit": False, "start_mark": ZERO}
@@ -174,7 +230,7 @@ def chosen(lines):
     rows = []
     for call, vectors in by_call.items():
         short = [it for it in vectors if size_of(it) <= MOST] or [min(vectors, key=size_of)]
-        rows.append(short if call in BEHIND else [min(short, key=size_of)] if call in AGAIN else list(covering(short)))
+        rows.append(short if call in {*BEHIND, *MADE} else [min(short, key=size_of)] if call in AGAIN else list(covering(short)))
     return [row[at] for at in range(max(map(len, rows))) for row in rows if at < len(row)]
 
 
@@ -191,7 +247,7 @@ def said(run):
 def answered(text, call):
     """The object that was answered, where another was wanted, or nothing."""
     name, middle, got = (text or "").partition(" is another in ")
-    return json.loads(got) if middle and name.isidentifier() else None
+    return json.loads(got) if middle and name.strip("`").isidentifier() else None
 
 
 def is_memory(fault, call):
@@ -238,9 +294,26 @@ def judge_calls(vector, got):
     whole, words, got = vector.line["answer"], words_of(vector.line), got["answer"]
     at = next((at for at, it in enumerate(got) if is_memory(it, vector.call)), len(got))
     if len(got) != len(whole) or at == len(got) or got[:at] != whole[:at]:
-        return None
+        return None, ""
     behind = slice(at + 1, None)
-    return got[at] if is_left(vector.call, words[behind], got[at], got[behind], whole[behind]) else None
+    is_right = is_left(vector.call, words[behind], got[at], got[behind], whole[behind])
+    return got[at] if is_right else None, f"{vector.call} {word_at(words, at)}"
+
+
+def word_at(words, at):
+    """The word of a call; a turn opens the stream, and the next one closes it."""
+    return ["open", "close"][words[:at].count("turn") % 2] if words[at] == "turn" else words[at]
+
+
+def judge_made(vector, got, without):
+    """Of a line that makes a document or events: which call is refused, where all others answer what they do without it."""
+    got = got["answer"]
+    at = got.index(MEMORY) if MEMORY in got else len(got)
+    if vector.call == "make_document" and got == [MEMORY]:
+        return vector.call
+    if at == len(got) or got[:at] != vector.line["answer"][:at] or got[at + 1 :] != without(vector, at)[at:]:
+        return ""
+    return f"{vector.call} {vector.line[MADE[vector.call]][at][0]}"
 
 
 def judge_events(vector, got):
@@ -251,7 +324,7 @@ def judge_events(vector, got):
     is_last = not flushed or flushed[-1] in line["flushed"] or len(flushed[-1]) == 2
     is_shown = is_last and is_front(flushed[:-1], line["flushed"])
     is_told = set(got) == {"flushed", "fault", "output"} and (text is None or is_front(got["output"], text))
-    return fault if is_shown and is_told else None
+    return fault if is_shown and is_told else None, vector.call
 
 
 def judge_fault(vector, got):
@@ -261,31 +334,38 @@ def judge_fault(vector, got):
     # the second input's comes only where the first is accepted
     sides = [None] if vector.call not in ("same", "diff", "diff_documents") else ["First"] if line.get("side") == "First" else ["First", "Second"]
     is_listed = front is None or vector.call in ("scan", "load", "load_tokens") and is_front(front, line["answer"])
-    return fault if not rest and is_listed and told in (None, LINE) and side in sides else None
+    return fault if not rest and is_listed and told in (None, LINE) and side in sides else None, vector.call
 
 
-def judge(vector, run):
-    """What a run with a request refused came to; None where it isn't as promised."""
+def judge_answer(vector, got, without):
+    """What was answered in a line's place, and the call that told it; None where it isn't as promised."""
+    call = vector.call
+    if call in UNTOLD and UNTOLD[call](vector.line, got):
+        return "not told apart", call
+    if call in MADE:
+        word = judge_made(vector, got, without)
+        return "a call's" if word else None, word
+    judges = {"emit_events": judge_events, "next_tokens": judge_calls, **dict.fromkeys(BEHIND, judge_calls)}
+    fault, word = judges.get(call, judge_fault)(vector, got) if call in LAYERS else (None, "")
+    return f"a layer's, {fault['origin']}" if fault and is_memory(fault, call) else None, word
+
+
+def judge(vector, run, without):
+    """What a run with a request refused came to, None where it isn't as promised; and the call that told it, where one did."""
     text, call = said(run), vector.call
     if run.status == 1 and not run.output and run.errors == b"Error: Kind(OutOfMemory)\n":
-        return "the program's"
+        return "the program's", ""
     if run.hits != 1 or text is None or run.errors:
-        return None
+        return None, ""
     if text == "":
-        return "an answer"
+        return "an answer", ""
     if text == "out of memory":
-        return "the line's"
+        return "the line's", ""
     # the line of a fault that was answered
     if text == "refused: out of memory" and "fault_line" in vector.line:
-        return "a layer's, Writer"
+        return "a layer's, Writer", "told"
     got = answered(text, call)
-    if got is None:
-        return None
-    if call in UNTOLD and UNTOLD[call](vector.line, got):
-        return "not told apart"
-    judges = {"emit_events": judge_events, "next_tokens": judge_calls, **dict.fromkeys(BEHIND, judge_calls)}
-    fault = judges.get(call, judge_fault)(vector, got) if call in LAYERS else None
-    return f"a layer's, {fault['origin']}" if fault and is_memory(fault, call) else None
+    return (None, "") if got is None else judge_answer(vector, got, without)
 
 
 class Replay:
@@ -293,6 +373,7 @@ class Replay:
 
     def __init__(self, folder, program):
         self.bench = faults.Bench(folder, program)
+        self.shorter = {}
 
     def run(self, vector, at=0):
         """A run of a line with the request of that number refused; of 0, with none."""
@@ -315,6 +396,15 @@ class Replay:
             raise SystemExit(f"faults: {call}, {vector.name}: with more calls behind its own: {got}")
         return vector._replace(line={**line, **got})
 
+    def without(self, vector, at):
+        """What the line answers without the call of that number, with nothing refused."""
+        number, name = f"{vector.number}-{at}", MADE[vector.call]
+        if number not in self.shorter:
+            calls = vector.line[name]
+            line = {**vector.line, name: calls[:at] + calls[at + 1 :], "answer": None}
+            self.shorter[number] = answered(said(self.run(vector._replace(number=number, line=line))), vector.call)["answer"]
+        return self.shorter[number]
+
     def usual(self, vector):
         """How many requests a line makes, which passes with none refused."""
         run, again = self.run(vector), self.run(vector)
@@ -327,18 +417,18 @@ class Replay:
         try:
             run = self.run(vector, at)
         except subprocess.TimeoutExpired:
-            return None, f"{vector.call}, {vector.name}, request {at}: no end within {faults.SECONDS} seconds"
-        found = judge(vector, run)
+            return None, "", f"{vector.call}, {vector.name}, request {at}: no end within {faults.SECONDS} seconds"
+        found, word = judge(vector, run, self.without)
         told = f"status {run.status}, output {faults.shown(run.output)}, errors {faults.shown(run.errors)}"
-        return found, "" if found else f"{vector.call}, {vector.name}, request {at}: {told}"
+        return found, word, "" if found else f"{vector.call}, {vector.name}, request {at}: {told}"
 
 
-def without_line():
-    """The calls of members that may be refused, by what they answer, lend or note, and that no line comes to."""
-    texts = [repo.read(path) for path in glob.glob("crates/yaml_cli_vector*/src/**/*.rt", root_dir=TOP, recursive=True)]
-    named = {word for text in texts for word in re.findall(r"\w+", text)} | {*THROUGH}
-    refusing = [it for it in repo.all_functions() if repo.is_public(it) and re.search(r"-> Result<|fault: &mut|NotesMemory", it.head)]
-    return sorted({it.label for it in refusing if it.name not in named})
+def without_row():
+    """The calls of members that may be refused, by what they answer, pass by reference or note, and that no row has; and the rows
+    whose call is gone."""
+    public = [it for it in repo.all_functions() if repo.is_public(it)]
+    refusing = {it.label for it in public if re.search(r"-> Result<|fault: &mut|NotesMemory", it.head)}
+    return sorted(refusing - {*TELLS, *ASKS_NONE}) + sorted({*TELLS, *ASKS_NONE} - {it.label for it in public})
 
 
 def program(is_near):
@@ -358,16 +448,17 @@ def program(is_near):
     return near
 
 
-def replayed(replay, pool, vectors, total):
+def replayed(replay, pool, vectors, total, told):
     """Runs the lines until time is up: how many were run, and what isn't as promised."""
-    until, wrong = time.monotonic() + float(os.environ.get("SECONDS", "120")), []
+    until, wrong = time.monotonic() + float(os.environ.get("SECONDS", "600")), []
     for number, vector in enumerate(vectors, 1):
         if time.monotonic() > until:
             return number - 1, wrong
         vector = replay.extended(vector)
         found = collections.Counter()
-        for end, text in pool.map(lambda at: replay.judged(vector, at), range(1, replay.usual(vector) + 1)):
+        for end, word, text in pool.map(lambda at: replay.judged(vector, at), range(1, replay.usual(vector) + 1)):
             found[end or "NOT AS PROMISED"] += 1
+            told.add(word)
             if text:
                 wrong.append(text)
                 print(text, flush=True)
@@ -387,23 +478,26 @@ def main():
     unknown = {it.call for it in vectors} - {*LAYERS, *OTHERS}
     if unknown:
         raise SystemExit(f"faults: which layers may report out of memory isn't said in LAYERS: {', '.join(sorted(unknown))}")
-    if without_line():
-        raise SystemExit(f"faults: no line calls these: {', '.join(without_line())}")
+    if without_row():
+        raise SystemExit(f"faults: of TELLS, which says which line tells of a call, these lack, or are gone: {', '.join(without_row())}")
     vectors = [it for it in vectors if not words or any(word in f"{it.call}, {it.name}" for word in words)]
-    total = collections.defaultdict(collections.Counter)
+    total, told = collections.defaultdict(collections.Counter), set()
     calls = {it.call for it in vectors}
     with tempfile.TemporaryDirectory(prefix="faults-") as folder, ThreadPoolExecutor(int(os.environ.get("JOBS", "1"))) as pool:
-        count, wrong = replayed(Replay(folder, path), pool, vectors, total)
+        count, wrong = replayed(Replay(folder, path), pool, vectors, total, told)
     for end, number in sorted(sum(total.values(), collections.Counter()).items()):
         print(f"{number:8} {end}")
     silent = sorted(it for it in calls & {*LAYERS} if not any("layer" in end for end in total.get(it, ())))
     if silent:
         print(f"faults: no layer was seen to report out of memory: {', '.join(silent)}")
+    unseen = [] if words or count < len(vectors) else sorted(it for it, line in TELLS.items() if line not in told)
+    if unseen:
+        print(f"faults: no run saw these report out of memory: {', '.join(unseen)}")
     if count < len(vectors):
         print(f"faults: {len(vectors) - count} lines weren't run, since SECONDS were over")
     runs = sum(map(sum, (it.values() for it in total.values())))
     print(f"faults: call by call: {len(total)} calls, {count} lines, {runs} runs, {len(wrong)} not as promised")
-    return bool(wrong or silent)
+    return bool(wrong or silent or unseen)
 
 
 if __name__ == "__main__":

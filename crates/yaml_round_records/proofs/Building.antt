@@ -1,18 +1,24 @@
 -- Events that are built of records.
-use Rattle.std.proofs.Common.{◌≡◌, ℕ, ◌+◌, ◌<◌, ◌≤◌, length, get_or, drop, Bool, true, false, ◌&&◌, List, [], ◌∷◌, ◌++◌, refl, sym, ap, ◌∙◌, subst, Option, None, Some, is_some, map, append-nil, Result, Ok, Err}
-use Rattle.std.specs.Prelude.{IsUtf8, OnOk}
+use Rattle.std.proofs.Common.{◌≡◌, ℕ, ◌+◌, ◌<◌, ◌≤◌, length, get_or, drop, Bool, true, false, ◌&&◌, List, [], ◌∷◌, ◌++◌, refl, sym, ap, ◌∙◌, subst, Option, None, Some, is_some, map, append-nil, option_map}
+use Rattle.std.specs.Prelude.{IsUtf8, IfSome, Vec}
+use Rattle.std.specs.Global.{Global}
 use Rattle.std.specs.Str.{is_utf8}
 use Rattle.std.proofs.lemmas.Str.{IsUtf8-from_is_utf8}
 use Rattle.yaml_parse.specs.Constructors.{HasUtf8, AreUtf8, IsUtf8Option}
 use Rattle.yaml_parse.specs.declared.yaml_tag_directive_t.{yaml_tag_directive_t}
 use Rattle.yaml_parse.specs.Events.{EventBody, TagDirective, directive_of}
 use Rattle.yaml_parse.specs.Events as event
-use Rattle.yaml_round_records.proofs.Checked.{left_cons}
+use Rattle.yaml_parse.specs.declared.yaml_event_type_t.{yaml_event_type_t}
+use Rattle.yaml_parse.specs.declared.yaml_event_type_t.TheVariants as kind
+use Rattle.yaml_round_records.specs.declared.event_ref.EventRef.{EventRef}
+use Rattle.yaml_round_records.specs.Borrowed.{borrowed_body}
+use Rattle.yaml_round_records.specs.Numbers.{kind_meant}
+use Rattle.yaml_round_records.proofs.Checked.{left_cons, other_kind}
 use Rattle.std.proofs.lemmas.List.{drop_all}
 use Rattle.std.proofs.lemmas.Bool.{and_parts}
 use Rattle.yaml_round_records.specs.declared.record.yaml_c_directive.{yaml_c_directive}
 use Rattle.yaml_round_records.specs.declared.record.yaml_c_event.{yaml_c_event}
-use Rattle.yaml_round_records.specs.Records.{directive_at, in_front, all_directives, body_meant}
+use Rattle.yaml_round_records.specs.Records.{part_at, directive_at, in_front, all_directives, directives_in, directives_at, body_with, body_meant}
 use Rattle.yaml_round_records.specs.Meaning.{is_utf8_option, are_utf8, may_give, given_if, given, event_meant}
 
 -- ---- an event that can be given has its texts in UTF-8
@@ -106,19 +112,37 @@ pub put_all : (bytes : List ℕ) (list : List yaml_c_directive) (i : ℕ) (front
     → all_directives bytes list ≡ Some front
 put_all bytes list i front h inv = inv [] (ap (all_directives bytes) (drop_all i list h) ∙ none_directives bytes) ∙ ap (λ (ds : List TagDirective). Some ds) (append-nil front)
 
--- ---- the same of an event that was put, or refused when out of memory
+-- ---- an event that a record means
 
-abbrev Put : {X E : Type 0} → Result X E → Option EventBody → EventBody → Type 0
-Put r o b = OnOk r (o ≡ Some b)
+-- what a record means, by the event that it means with its directives
+pub made_of : (bytes : List ℕ) (list : List yaml_c_directive) (r : yaml_c_event)
+    (xs ys : List yaml_tag_directive_t) (o : Option EventRef) (x : EventRef)
+    → body_with (Some (map directive_of ys)) (kind_meant r.kind) bytes r ≡ body_meant bytes list r
+    → xs ≡ ys
+    → option_map borrowed_body o ≡ body_with (Some (map directive_of xs)) (kind_meant r.kind) bytes r
+    → o ≡ Some x → is_some (event_meant bytes list r) ≡ true
+    → (event_meant bytes list r ≡ Some (borrowed_body x)) × HasUtf8 (borrowed_body x)
+made_of bytes list r xs ys o x d same e is h =
+    let there : body_meant bytes list r ≡ option_map borrowed_body o = sym (e ∙ ap (λ z. body_with (Some (map directive_of z)) (kind_meant r.kind) bytes r) same ∙ d) in
+    meant_body bytes list r (borrowed_body x) (there ∙ ap (option_map borrowed_body) is) h
 
-pub put_meant : {X E : Type 0} (bytes : List ℕ) (list : List yaml_c_directive) (c : yaml_c_event)
-    (b : EventBody) (r : Result X E) → Put r (body_meant bytes list c) b
-    → is_some (event_meant bytes list c) ≡ true → Put r (event_meant bytes list c) b
-put_meant bytes list c b (Ok u) is h = (meant_body bytes list c b is h).0
-put_meant bytes list c b (Err e) is h = tt
+-- a document's start with its directives
+pub with_directives : (bytes : List ℕ) (list : List yaml_c_directive) (r : yaml_c_event)
+    (ds : List yaml_c_directive) (o : Option (Vec yaml_tag_directive_t Global))
+    → Some ds ≡ part_at list r.directives
+    → IfSome o (λ v. all_directives bytes ds ≡ Some (map directive_of v.items))
+    → IfSome o (λ v. body_with (Some (map directive_of v.items)) (kind_meant r.kind) bytes r
+    ≡ body_meant bytes list r)
+unfolding body_meant
+with_directives bytes list r ds None p d = tt
+with_directives bytes list r ds (Some v) p d = ap (λ z. body_with z (kind_meant r.kind) bytes r) (sym d ∙ ap (directives_in bytes) p)
 
-pub put_utf8 : {X E : Type 0} (bytes : List ℕ) (list : List yaml_c_directive) (c : yaml_c_event)
-    (b : EventBody) (r : Result X E) → Put r (body_meant bytes list c) b
-    → is_some (event_meant bytes list c) ≡ true → OnOk r (HasUtf8 b)
-put_utf8 bytes list c b (Ok u) is h = (meant_body bytes list c b is h).1
-put_utf8 bytes list c b (Err e) is h = tt
+pub without_directives : (bytes : List ℕ) (list : List yaml_c_directive) (r : yaml_c_event)
+    (k : yaml_event_type_t) (ds : Option (List TagDirective)) → Some k ≡ kind_meant r.kind
+    → (k ≡ kind.YAML_DOCUMENT_START_EVENT → ⊥)
+    → body_with ds (kind_meant r.kind) bytes r ≡ body_meant bytes list r
+unfolding body_meant
+without_directives bytes list r k ds is h =
+    ap (λ z. body_with ds z bytes r) (sym is)
+    ∙ other_kind ds (directives_at bytes list r.directives) k bytes r h
+    ∙ ap (λ z. body_with (directives_at bytes list r.directives) z bytes r) is

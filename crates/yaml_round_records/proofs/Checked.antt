@@ -1,22 +1,31 @@
 -- Tests of what records name, and what the records mean.
-use Rattle.std.proofs.Common.{◌≡◌, ℕ, ◌+◌, ◌<◌, ◌≤◌, length, get_or, drop, add-one, Bool, true, false, ◌&&◌, List, [], ◌∷◌, refl, sym, ap, ◌∙◌, Option, None, Some, is_some, IsTrue, ◌↔◌}
+use Rattle.std.proofs.Common.{◌≡◌, ℕ, ◌+◌, ◌<◌, ◌≤◌, length, get_or, drop, add-one, Bool, true, false, ◌&&◌, List, [], ◌∷◌, refl, sym, ap, ◌∙◌, Option, None, Some, is_some, option_map, Bor, IsTrue, ◌↔◌}
 use Rattle.std.specs.Prelude.{IsUtf8}
-use Rattle.std.specs.Bool.{MatchBool}
-use Rattle.std.specs.Str.{IsAscii, IsNotAscii, is_utf8}
+use Rattle.std.specs.Str.{is_utf8}
 use Rattle.std.proofs.Math.Seq.{drop-cons}
 use Rattle.std.proofs.lemmas.List.{drop_all}
 use Rattle.std.proofs.lemmas.Bool.{false≢true}
-use Rattle.std.proofs.lemmas.Str.{IsUtf8-from_ascii, IsUtf8-from_is_utf8, is_utf8-from_IsUtf8}
+use Rattle.std.proofs.lemmas.Str.{IsUtf8-from_is_utf8, is_utf8-from_IsUtf8}
 use Rattle.std.proofs.Math.Bool.{and-false}
 use Rattle.yaml_parse.specs.Events.{EventBody, TagDirective}
+use Rattle.yaml_parse.specs.Events as event
+use Rattle.yaml_parse.specs.declared.yaml_encoding_t.{yaml_encoding_t}
+use Rattle.yaml_parse.specs.declared.yaml_event_type_t.{yaml_event_type_t}
+use Rattle.yaml_parse.specs.declared.yaml_event_type_t.TheVariants as kind
 use Rattle.yaml_parse.specs.declared.yaml_scalar_style_t.{yaml_scalar_style_t}
 use Rattle.yaml_parse.specs.declared.yaml_sequence_style_t.{yaml_sequence_style_t}
 use Rattle.yaml_parse.specs.declared.yaml_mapping_style_t.{yaml_mapping_style_t}
+use Rattle.yaml_parse.specs.declared.yaml_tag_directive_t.{yaml_tag_directive_t}
+use Rattle.yaml_parse.specs.declared.yaml_version_directive_t.{yaml_version_directive_t}
+use Rattle.yaml_round_records.specs.declared.event_ref.EventRef.{EventRef}
+use Rattle.yaml_round_records.specs.declared.event_ref.EventRef.TheVariants as borrowed
+use Rattle.yaml_round_records.specs.Borrowed.{borrowed_body}
 use Rattle.yaml_round_records.specs.declared.record.yaml_c_directive.{yaml_c_directive}
 use Rattle.yaml_round_records.specs.declared.record.yaml_c_event.{yaml_c_event}
-use Rattle.yaml_round_records.specs.Records.{directive_at, in_front, all_directives, scalar_by, sequence_by, mapping_by, body_meant, body_in_front}
-use Rattle.yaml_round_records.specs.Meaning.{is_utf8_option, may_give, given_if, given, event_meant, events_meant}
-use Rattle.yaml_round_records.specs.Checking.{is_text, is_optional, is_directive, are_directives, is_event}
+use Rattle.yaml_round_records.specs.Numbers.{kind_meant, encoding_meant, scalar_style_meant, sequence_style_meant, mapping_style_meant}
+use Rattle.yaml_round_records.specs.Records.{part_at, optional_at, directive_at, in_front, all_directives, directives_at, document_by, scalar_by, sequence_by, mapping_by, body_with, body_meant, body_in_front}
+use Rattle.yaml_round_records.specs.Meaning.{may_give, given_if, given, event_meant, events_meant}
+use Rattle.yaml_round_records.specs.Checking.{is_directive, are_directives, may_give_beside, is_event}
 
 unreadable : (b : Bool) (t : List ℕ) → b ≡ is_utf8 t → ¬ IsUtf8 t → false ≡ b
 unreadable true t is h = absurd (h (IsUtf8-from_is_utf8 t (sym is)))
@@ -26,12 +35,6 @@ unreadable false t is h = refl
 pub readable : (b : Bool) (t : List ℕ) → (IsTrue b ↔ IsUtf8 t) → b ≡ is_utf8 t
 readable true t h = sym (is_utf8-from_IsUtf8 t (h.0 refl))
 readable false t h = unreadable (is_utf8 t) t refl (λ u. false≢true (h.1 u))
-
--- a test that tells ASCII
-pub plain : (b : Bool) (t : List ℕ) → MatchBool b (IsAscii t) (IsNotAscii t) → b ≡ true
-    → is_utf8 t ≡ true
-plain true t h is = is_utf8-from_IsUtf8 t (IsUtf8-from_ascii t h)
-plain false t h is = absurd (false≢true is)
 
 -- ---- directives
 
@@ -49,55 +52,128 @@ more_directives bytes d ds = front_directives (directive_at bytes d) (all_direct
 
 -- ---- events
 
-scalar_styled : (a t v : Bool) (s : Option yaml_scalar_style_t)
-    → (a && (t && v)) ≡ ((a && t) && (v && true))
-scalar_styled true true true s = refl
-scalar_styled true true false s = refl
-scalar_styled true false v s = refl
-scalar_styled false t v s = refl
+-- no start of a document
+abbrev pub NoDocument : EventBody → Type 0
+NoDocument (event.document_start v ds i) = ⊥
+NoDocument _ = Unit {0}
 
-unstyled : (a t v : Bool) → false ≡ ((a && t) && (v && false))
-unstyled true true true = refl
-unstyled true true false = refl
-unstyled true false v = refl
-unstyled false t v = refl
+pub no_document : (x : EventRef) → ((v : _) (ds : _) (i : _) → x ≡ borrowed.DocumentStart v ds i → ⊥)
+    → NoDocument (borrowed_body x)
+no_document (borrowed.DocumentStart v ds i) h = h v ds i refl
+no_document _ h = tt
 
-unvalued : (a t : Bool) → false ≡ ((a && t) && false)
-unvalued a t = sym (and-false (a && t))
+-- directives count for a document's start alone
+pub other_kind : (ds es : Option (List TagDirective)) (k : yaml_event_type_t) (bytes : List ℕ)
+    (r : yaml_c_event) → (k ≡ kind.YAML_DOCUMENT_START_EVENT → ⊥)
+    → body_with ds (Some k) bytes r ≡ body_with es (Some k) bytes r
+other_kind ds es kind.YAML_DOCUMENT_START_EVENT bytes r h = absurd (h refl)
+other_kind ds es _ bytes r h = refl
 
-untagged : (a b : Bool) → false ≡ ((a && false) && b)
-untagged true b = refl
-untagged false b = refl
+abbrev is_start : Option EventBody → Bool
+is_start (Some (event.document_start v ds i)) = true
+is_start _ = false
 
-pub scalar_is : (a t : Option (Option (List ℕ))) (v : Option (List ℕ))
-    (s : Option yaml_scalar_style_t) (r : yaml_c_event)
-    → is_event (scalar_by a t v s r) ≡
-    ((is_optional a && is_optional t) && (is_text v && is_some s))
-scalar_is None t v s r = refl
-scalar_is (Some a) None v s r = untagged (is_utf8_option a) (is_text v && is_some s)
-scalar_is (Some a) (Some t) None s r = unvalued (is_utf8_option a) (is_utf8_option t)
-scalar_is (Some a) (Some t) (Some v) None r = unstyled (is_utf8_option a) (is_utf8_option t) (is_utf8 v)
-scalar_is (Some a) (Some t) (Some v) (Some s) r = scalar_styled (is_utf8_option a) (is_utf8_option t) (is_utf8 v) (Some s)
+no_stream : (o : Option yaml_encoding_t) → is_start (option_map event.stream_start o) ≡ false
+no_stream None = refl
+no_stream (Some x) = refl
 
-and_true : (b : Bool) → b ≡ (b && true)
-and_true true = refl
-and_true false = refl
+no_alias : (o : Option (List ℕ)) → is_start (option_map event.alias o) ≡ false
+no_alias None = refl
+no_alias (Some x) = refl
 
-pub sequence_is : (a t : Option (Option (List ℕ))) (s : Option yaml_sequence_style_t)
-    (r : yaml_c_event)
-    → is_event (sequence_by a t s r) ≡ ((is_optional a && is_optional t) && is_some s)
-sequence_is None t s r = refl
-sequence_is (Some a) None s r = untagged (is_utf8_option a) (is_some s)
-sequence_is (Some a) (Some t) None r = unvalued (is_utf8_option a) (is_utf8_option t)
-sequence_is (Some a) (Some t) (Some s) r = and_true (is_utf8_option a && is_utf8_option t)
+no_scalar : (a t : Option (Option (List ℕ))) (v : Option (List ℕ))
+    (s : Option yaml_scalar_style_t) (r : yaml_c_event) → is_start (scalar_by a t v s r) ≡ false
+no_scalar None t v s r = refl
+no_scalar (Some a) None v s r = refl
+no_scalar (Some a) (Some t) None s r = refl
+no_scalar (Some a) (Some t) (Some v) None r = refl
+no_scalar (Some a) (Some t) (Some v) (Some s) r = refl
 
-pub mapping_is : (a t : Option (Option (List ℕ))) (s : Option yaml_mapping_style_t)
-    (r : yaml_c_event)
-    → is_event (mapping_by a t s r) ≡ ((is_optional a && is_optional t) && is_some s)
-mapping_is None t s r = refl
-mapping_is (Some a) None s r = untagged (is_utf8_option a) (is_some s)
-mapping_is (Some a) (Some t) None r = unvalued (is_utf8_option a) (is_utf8_option t)
-mapping_is (Some a) (Some t) (Some s) r = and_true (is_utf8_option a && is_utf8_option t)
+no_sequence : (a t : Option (Option (List ℕ))) (s : Option yaml_sequence_style_t)
+    (r : yaml_c_event) → is_start (sequence_by a t s r) ≡ false
+no_sequence None t s r = refl
+no_sequence (Some a) None s r = refl
+no_sequence (Some a) (Some t) None r = refl
+no_sequence (Some a) (Some t) (Some s) r = refl
+
+no_mapping : (a t : Option (Option (List ℕ))) (s : Option yaml_mapping_style_t)
+    (r : yaml_c_event) → is_start (mapping_by a t s r) ≡ false
+no_mapping None t s r = refl
+no_mapping (Some a) None s r = refl
+no_mapping (Some a) (Some t) None r = refl
+no_mapping (Some a) (Some t) (Some s) r = refl
+
+-- what is a start is of that kind
+start_kind : (k : Option yaml_event_type_t) (ds : Option (List TagDirective)) (bytes : List ℕ)
+    (r : yaml_c_event) → is_start (body_with ds k bytes r) ≡ true
+    → k ≡ Some kind.YAML_DOCUMENT_START_EVENT
+start_kind None ds bytes r h = absurd (false≢true h)
+start_kind (Some kind.YAML_NO_EVENT) ds bytes r h = absurd (false≢true h)
+start_kind (Some kind.YAML_STREAM_START_EVENT) ds bytes r h = absurd (false≢true (sym (no_stream (encoding_meant r.encoding)) ∙ h))
+start_kind (Some kind.YAML_STREAM_END_EVENT) ds bytes r h = absurd (false≢true h)
+start_kind (Some kind.YAML_DOCUMENT_START_EVENT) ds bytes r h = refl
+start_kind (Some kind.YAML_DOCUMENT_END_EVENT) ds bytes r h = absurd (false≢true h)
+start_kind (Some kind.YAML_ALIAS_EVENT) ds bytes r h = absurd (false≢true (sym (no_alias (part_at bytes r.anchor)) ∙ h))
+start_kind (Some kind.YAML_SCALAR_EVENT) ds bytes r h =
+    absurd (false≢true (sym (no_scalar (optional_at bytes r.has_anchor r.anchor) (optional_at bytes r.has_tag r.tag) (part_at bytes r.value) (scalar_style_meant r.style) r) ∙ h))
+start_kind (Some kind.YAML_SEQUENCE_START_EVENT) ds bytes r h =
+    absurd (false≢true (sym (no_sequence (optional_at bytes r.has_anchor r.anchor) (optional_at bytes r.has_tag r.tag) (sequence_style_meant r.style) r) ∙ h))
+start_kind (Some kind.YAML_SEQUENCE_END_EVENT) ds bytes r h = absurd (false≢true h)
+start_kind (Some kind.YAML_MAPPING_START_EVENT) ds bytes r h =
+    absurd (false≢true (sym (no_mapping (optional_at bytes r.has_anchor r.anchor) (optional_at bytes r.has_tag r.tag) (mapping_style_meant r.style) r) ∙ h))
+start_kind (Some kind.YAML_MAPPING_END_EVENT) ds bytes r h = absurd (false≢true h)
+
+start_told : (ds : Option (List TagDirective)) (r : yaml_c_event)
+    → is_event (document_by ds r) ≡ are_directives ds
+start_told None r = refl
+start_told (Some ds) r = refl
+
+-- what a record means, by the event that it means without directives
+abbrev Without : List ℕ → yaml_c_event → Option EventRef → Type 0
+Without bytes r o = option_map borrowed_body o ≡ body_with (Some []) (kind_meant r.kind) bytes r
+
+pub start_meant : (bytes : List ℕ) (list : List yaml_c_directive) (r : yaml_c_event)
+    (o : Option EventRef) (v : Option yaml_version_directive_t)
+    (ds : Bor (List yaml_tag_directive_t)) (i : Bool)
+    → o ≡ Some (borrowed.DocumentStart v ds i) → Without bytes r o
+    → is_event (body_meant bytes list r) ≡ are_directives (directives_at bytes list r.directives)
+unfolding body_meant
+start_meant bytes list r o v ds i is w =
+    let start : is_start (body_with (Some []) (kind_meant r.kind) bytes r) ≡ true = ap is_start (sym w) ∙ ap (λ z. is_start (option_map borrowed_body z)) is in
+    ap (λ z. is_event (body_with (directives_at bytes list r.directives) z bytes r)) (start_kind (kind_meant r.kind) (Some []) bytes r start)
+    ∙ start_told (directives_at bytes list r.directives) r
+
+alike : (ds : Option (List TagDirective)) (k : Option yaml_event_type_t) (bytes : List ℕ)
+    (r : yaml_c_event) → is_start (body_with (Some []) k bytes r) ≡ false
+    → body_with ds k bytes r ≡ body_with (Some []) k bytes r
+alike ds (Some kind.YAML_DOCUMENT_START_EVENT) bytes r h = absurd (false≢true (sym h))
+alike ds _ bytes r h = refl
+
+other_start : (x : EventRef) → NoDocument (borrowed_body x) → is_start (Some (borrowed_body x)) ≡ false
+other_start (borrowed.DocumentStart v ds i) h = absurd h
+other_start _ h = refl
+
+beside : (x : EventRef) → NoDocument (borrowed_body x)
+    → may_give_beside (borrowed_body x) ≡ may_give (borrowed_body x)
+beside (borrowed.DocumentStart v ds i) h = absurd h
+beside _ h = refl
+
+pub other_meant : (bytes : List ℕ) (list : List yaml_c_directive) (r : yaml_c_event)
+    (o : Option EventRef) (x : EventRef) → o ≡ Some x → NoDocument (borrowed_body x)
+    → Without bytes r o
+    → may_give_beside (borrowed_body x) ≡ is_event (body_meant bytes list r)
+unfolding body_meant
+other_meant bytes list r o x is h w =
+    let same : body_with (Some []) (kind_meant r.kind) bytes r ≡ Some (borrowed_body x) = sym w ∙ ap (option_map borrowed_body) is in
+    beside x h ∙ ap is_event (sym (alike (directives_at bytes list r.directives) (kind_meant r.kind) bytes r (ap is_start same ∙ other_start x h) ∙ same))
+
+pub none_meant : (bytes : List ℕ) (list : List yaml_c_directive) (r : yaml_c_event)
+    (o : Option EventRef) → ((x : _) → o ≡ Some x → ⊥) → Without bytes r o
+    → false ≡ is_event (body_meant bytes list r)
+unfolding body_meant
+none_meant bytes list r None h w =
+    ap is_event (w ∙ sym (alike (directives_at bytes list r.directives) (kind_meant r.kind) bytes r (ap is_start (sym w))))
+none_meant bytes list r (Some x) h w = absurd (h x refl)
 
 -- ---- lists of events
 

@@ -1,15 +1,11 @@
 -- A text that was put stays where it is, whatever follows.
-use mir.Syntax.{w32}
-use mir.Val.{to_z, of_z}
-use Rattle.std.proofs.Common.{◌≡◌, ◌∙◌, ◌+◌, pos, None, ap, sym, subst, refl, ℕ, ℤ, List, [], ◌++◌, length, Bool, true, false, Option, Some, append_assoc, arith}
+use Rattle.std.proofs.Common.{◌≡◌, ◌∙◌, ◌+◌, ap, sym, subst, refl, ℕ, List, [], ◌++◌, length, true, Some, append_assoc, arith}
 use Rattle.std.specs.Prelude.{slice_range, nat_le}
 use Rattle.std.proofs.lemmas.Grind.{common_steps}
 use Rattle.std.proofs.lemmas.List.{append-nil}
 use Rattle.yaml_round_records.specs.declared.record.yaml_c_span.{yaml_c_span}
-use Rattle.yaml_round_records.specs.Records.{part_at, optional_at, no_span}
-use Rattle.yaml_round_records.specs.declared.record.yaml_c_event.{yaml_c_event}
-use Rattle.yaml_round_records.specs.Numbers.{is_set, is_there, flag_told}
-use Rattle.yaml_round_records.specs.Listing.{Grows, PutsText, PutsOptional, PutsProperties, HoldsText, HoldsOptional}
+use Rattle.yaml_round_records.specs.Records.{part_at}
+use Rattle.yaml_round_records.specs.Listing.{Grows, PutsText, HoldsText}
 
 -- a text after another
 pub put_on : (old mid new a b : List ℕ) → mid ≡ old ++ a → new ≡ mid ++ b → new ≡ old ++ (a ++ b)
@@ -55,48 +51,3 @@ regrouped old new more g = ap (λ z. z ++ more) g.is ∙ append_assoc old g.more
 pub holds_on : (old new : List ℕ) (s : yaml_c_span) (text : List ℕ) → Grows old new
     → HoldsText old s text → HoldsText new s text
 holds_on old new s text g h more = subst (λ z. part_at z s ≡ Some text) (sym (regrouped old new more g)) (h (g.more ++ more))
-
-pub holds_optional_on : (old new : List ℕ) (has : ℤ) (s : yaml_c_span) (text : Option (List ℕ))
-    → Grows old new
-    → HoldsOptional old has s text → HoldsOptional new has s text
-holds_optional_on old new has s text g h more =
-    subst (λ z. optional_at z has s ≡ Some text) (sym (regrouped old new more g)) (h (g.more ++ more))
-
-there : (bytes : List ℕ) (s : yaml_c_span) (text : List ℕ) → HoldsText bytes s text
-    → HoldsOptional bytes (pos 1) s (Some text)
-unfolding is_set is_there
-there bytes s text h more = rw (h more) refl
-
-absent : (bytes : List ℕ) (s : yaml_c_span) → HoldsOptional bytes (pos 0) s None
-unfolding is_set is_there
-absent bytes s more = refl
-
-pub put_some : (old text new : List ℕ) (s : yaml_c_span) → PutsText old text new s
-    → PutsOptional old (Some text) new (pos 1) s
-put_some old text new s p = record { grows = puts_grows old text new s p; put = p.bytes; flag = refl; span = refl; holds = there new s text (puts_holds old text new s p) }
-
-pub put_none : (old : List ℕ) → PutsOptional old None old (pos 0) no_span
-put_none old = record { grows = grows_itself old; put = sym (append-nil old); flag = refl; span = refl; holds = absent old no_span }
-
--- a flag as the machine keeps it
-pub told_back : (b : Bool) (z : ℤ) → z ≡ flag_told b → to_z w32 (of_z w32 z) ≡ z
-told_back true z e = rw e refl
-told_back false z e = rw e refl
-
--- an anchor and a tag after it
-pub put_properties : (old mid new : List ℕ) (base : yaml_c_event) (a t : Option (List ℕ))
-    (m n x y : ℤ) (s u : yaml_c_span) → x ≡ m → y ≡ n
-    → PutsOptional old a mid m s → PutsOptional mid t new n u
-    → PutsProperties old base a t new
-    (record base { has_anchor = x; anchor = s; has_tag = y; tag = u })
-put_properties old mid new base a t m n x y s u e f p q = record {
-  grows = grows_on old mid new p.grows q.grows;
-  put = put_on old mid new _ _ p.put q.put;
-  anchor = subst (λ z. HoldsOptional new z s a) (sym e) (holds_optional_on mid new m s a q.grows p.holds);
-  tag = subst (λ z. HoldsOptional new z u t) (sym f) q.holds;
-  has_anchor = e ∙ p.flag;
-  has_tag = f ∙ q.flag;
-  anchor_span = p.span;
-  tag_span = q.span;
-  same = refl;
-}

@@ -1,167 +1,99 @@
 -- A record means the event that it was made of.
-use Rattle.std.proofs.Common.{◌≡◌, ◌∙◌, ap, sym, subst, refl, ℕ, ℤ, pos, List, [], ◌++◌, Bool, true, false, Option, Some}
+use mir.Syntax.{w32}
+use mir.Val.{to_z, of_z}
+use Rattle.std.proofs.Common.{◌≡◌, ◌∙◌, ap, sym, subst, refl, ℕ, ◌+◌, ℤ, pos, List, [], ◌++◌, length, Bool, true, false, Option, None, Some, Bor, Result, Ok, Err, map, option_map, append_assoc}
+use Rattle.std.specs.Prelude.{IfOk}
 use Rattle.std.specs.Option.{is_some}
+use Rattle.std.proofs.lemmas.List.{append-nil, length-append}
 use Rattle.yaml_parse.specs.declared.yaml_encoding_t.{yaml_encoding_t}
-use Rattle.yaml_parse.specs.declared.yaml_event_body_t.{yaml_event_body_t}
-use Rattle.yaml_parse.specs.declared.yaml_event_body_t.TheVariants as body
-use Rattle.yaml_parse.specs.declared.yaml_event_type_t.TheVariants as kind
+use Rattle.yaml_parse.specs.declared.yaml_encoding_t.TheVariants as encoding
+use Rattle.yaml_parse.specs.declared.yaml_mark_t.{yaml_mark_t}
 use Rattle.yaml_parse.specs.declared.yaml_scalar_style_t.{yaml_scalar_style_t}
+use Rattle.yaml_parse.specs.declared.yaml_scalar_style_t.TheVariants as scalar
 use Rattle.yaml_parse.specs.declared.yaml_sequence_style_t.{yaml_sequence_style_t}
+use Rattle.yaml_parse.specs.declared.yaml_sequence_style_t.TheVariants as sequence
 use Rattle.yaml_parse.specs.declared.yaml_mapping_style_t.{yaml_mapping_style_t}
+use Rattle.yaml_parse.specs.declared.yaml_mapping_style_t.TheVariants as mapping
 use Rattle.yaml_parse.specs.declared.yaml_version_directive_t.{yaml_version_directive_t}
-use Rattle.yaml_parse.specs.Events.{Event, EventBody, TagDirective, body_of}
+use Rattle.yaml_parse.specs.declared.yaml_tag_directive_t.{yaml_tag_directive_t}
+use Rattle.yaml_parse.specs.Events.{EventBody, TagDirective, directive_of}
 use Rattle.yaml_parse.specs.Events as event
+use Rattle.yaml_round_records.specs.declared.event_ref.EventRef.{EventRef}
+use Rattle.yaml_round_records.specs.declared.event_ref.EventRef.TheVariants as borrowed
+use Rattle.yaml_round_records.specs.Borrowed.{borrowed_body}
 use Rattle.yaml_round_records.specs.declared.record.yaml_c_mark.{yaml_c_mark}
 use Rattle.yaml_round_records.specs.declared.record.yaml_c_span.{yaml_c_span}
 use Rattle.yaml_round_records.specs.declared.record.yaml_c_directive.{yaml_c_directive}
 use Rattle.yaml_round_records.specs.declared.record.yaml_c_event.{yaml_c_event}
 use Rattle.yaml_round_records.specs.declared.listing.Listing.{Listing}
-use Rattle.yaml_round_records.specs.Numbers.{is_set, flag_told, kind_meant, encoding_meant, scalar_style_meant, sequence_style_meant, mapping_style_meant}
-use Rattle.yaml_round_records.specs.Records.{mark_told, part_at, optional_at, directives_at, version_by, document_by, body_by, span_told, number_told, bare, node_told, plain, body_meant}
-use Rattle.yaml_round_records.specs.Blocks.{body_texts, body_directives}
-use Rattle.yaml_round_records.specs.Listing.{IsBase, HasNumbers, PutsAnchor, PutsScalar, PutsProperties, PutsDocument, AppendsDirectives, Records}
-use Rattle.yaml_round_records.proofs.Placing.{grows_itself}
+use Rattle.yaml_round_records.specs.Numbers.{is_set, is_there, flag_told, kind_meant, encoding_meant, scalar_style_meant, sequence_style_meant, mapping_style_meant, encoding_number, scalar_style_number, sequence_style_number, mapping_style_number}
+use Rattle.yaml_round_records.specs.Records.{mark_told, part_at, optional_at, directives_at, bare, plain, body_meant}
+use Rattle.yaml_round_records.specs.Blocks.{optional_text, node_texts, body_texts, body_directives}
+use Rattle.yaml_round_records.specs.Listing.{Grows, span_at, optional_span, with_properties, with_texts, base_record, placed, PutsText, PutsTexts, PutsDirectives, AppendsDirectives, Records}
+use Rattle.yaml_round_records.proofs.Checked.{NoDocument, no_document}
+use Rattle.yaml_round_records.proofs.Placing.{grows_itself, part_stands, put_on}
 use Rattle.yaml_round_records.proofs.Directing.{none_appended}
-use Rattle.std.proofs.lemmas.List.{append-nil}
-
--- two records that differ in one place by equal values, and so on
-two : (f : yaml_c_mark → yaml_c_mark → yaml_c_event) (s t u v : yaml_c_mark) → s ≡ t → u ≡ v
-    → f s u ≡ f t v
-two f s t u v p q = rw (p, q) refl
 
 pub marked : (m n : ℤ) (s t u v : yaml_c_mark) → m ≡ n → s ≡ t → u ≡ v → plain m s u ≡ plain n t v
-marked m n s t u v k p q = ap (λ z. plain z s u) k ∙ two (plain n) s t u v p q
+marked m n s t u v k p q = rw (k, p, q) refl
 
-four : (f : ℤ → ℤ → yaml_c_mark → yaml_c_mark → yaml_c_event) (a b c d : ℤ) (s t u v : yaml_c_mark)
-    → a ≡ b → c ≡ d → s ≡ t → u ≡ v
-    → f a c s u ≡ f b d t v
-four f a b c d s t u v p q m n = rw (p, q, m, n) refl
+-- ---- numbers
 
-five : (f : ℤ → ℤ → ℤ → yaml_c_mark → yaml_c_mark → yaml_c_event) (a b c d g h : ℤ)
-    (s t u v : yaml_c_mark) → a ≡ b → c ≡ d → g ≡ h → s ≡ t
-    → u ≡ v → f a c g s u ≡ f b d h t v
-five f a b c d g h s t u v p q o m n = rw (p, q, o, m, n) refl
+set_back : (b : Bool) → is_set (flag_told b) ≡ b
+unfolding is_set
+set_back true = refl
+set_back false = refl
 
--- the same of the spans of an anchor and a tag
-spanned : (f : yaml_c_span → yaml_c_span → yaml_c_event) (s t u v : yaml_c_span) → s ≡ t → u ≡ v
-    → f s u ≡ f t v
-spanned f s t u v p q = ap (λ z. f z u) p ∙ ap (λ z. f t z) q
+encoding_back : (x : yaml_encoding_t) → encoding_meant (encoding_number x) ≡ Some x
+unfolding encoding_meant
+encoding_back encoding.YAML_ANY_ENCODING = refl
+encoding_back encoding.YAML_UTF8_ENCODING = refl
+encoding_back encoding.YAML_UTF16LE_ENCODING = refl
+encoding_back encoding.YAML_UTF16BE_ENCODING = refl
 
--- the body's texts and directives stand after the old ones
-put_as : (old new : List ℕ) (b d : EventBody) → d ≡ b → new ≡ old ++ body_texts b
-    → new ≡ old ++ body_texts d
-put_as old new b d e h = h ∙ ap (λ z. old ++ body_texts z) (sym e)
+scalar_back : (y : yaml_scalar_style_t) → scalar_style_meant (scalar_style_number y) ≡ Some y
+unfolding scalar_style_meant
+scalar_back scalar.YAML_ANY_SCALAR_STYLE = refl
+scalar_back scalar.YAML_PLAIN_SCALAR_STYLE = refl
+scalar_back scalar.YAML_SINGLE_QUOTED_SCALAR_STYLE = refl
+scalar_back scalar.YAML_DOUBLE_QUOTED_SCALAR_STYLE = refl
+scalar_back scalar.YAML_LITERAL_SCALAR_STYLE = refl
+scalar_back scalar.YAML_FOLDED_SCALAR_STYLE = refl
 
-list_as : (bytes : List ℕ) (old new : List yaml_c_directive) (b d : EventBody) → d ≡ b
-    → AppendsDirectives bytes old (body_directives b) new
-    → AppendsDirectives bytes old (body_directives d) new
-list_as bytes old new b d e h = subst (λ z. AppendsDirectives bytes old (body_directives z) new) (sym e) h
+sequence_back : (y : yaml_sequence_style_t) → sequence_style_meant (sequence_style_number y) ≡ Some y
+unfolding sequence_style_meant
+sequence_back sequence.YAML_ANY_SEQUENCE_STYLE = refl
+sequence_back sequence.YAML_BLOCK_SEQUENCE_STYLE = refl
+sequence_back sequence.YAML_FLOW_SEQUENCE_STYLE = refl
 
--- none do
-unlisted : (bytes : List ℕ) (old new : List yaml_c_directive) (b d : EventBody) → d ≡ b
-    → [] ≡ body_directives b → new ≡ old
-    → AppendsDirectives bytes old (body_directives d) new
-unlisted bytes old new b d e none same =
-    list_as bytes old new b d e (subst (λ z. AppendsDirectives bytes old (body_directives b) z) (sym same)
-    (subst (λ z. AppendsDirectives bytes old z old) none (none_appended bytes old)))
+mapping_back : (y : yaml_mapping_style_t) → mapping_style_meant (mapping_style_number y) ≡ Some y
+unfolding mapping_style_meant
+mapping_back mapping.YAML_ANY_MAPPING_STYLE = refl
+mapping_back mapping.YAML_BLOCK_MAPPING_STYLE = refl
+mapping_back mapping.YAML_FLOW_MAPPING_STYLE = refl
 
-untold : (old : List ℕ) (b : EventBody) → [] ≡ body_texts b → old ≡ old ++ body_texts b
-untold old b none = sym (append-nil old) ∙ ap (λ z. old ++ z) none
+-- ---- texts that stand somewhere
 
--- what needs no text
-pub alone : (l : Listing) (e : Event) (n : ℤ) (r : yaml_c_event) → IsBase n e r
-    → [] ≡ body_texts e.body → [] ≡ body_directives e.body
-    → r ≡ bare e.body r
-    → ((bytes : List ℕ) (list : List yaml_c_directive) → body_meant bytes list r ≡ Some e.body)
-    → Records l e l r
-alone l e n r b mute none only means = record {
-  bytes = grows_itself l.bytes.items;
-  directives = grows_itself l.directives.items;
-  put = untold l.bytes.items e.body mute;
-  list = unlisted l.bytes.items l.directives.items l.directives.items e.body e.body refl none refl;
-  events = refl;
-  body = λ more others. means (l.bytes.items ++ more) (l.directives.items ++ others);
-  start = b.start;
-  end = b.end;
-  alone = only;
-}
+text_stands : (bytes before after : List ℕ) (n : ℕ) (t : List ℕ)
+    → bytes ≡ (before ++ t) ++ after → n ≡ length before → part_at bytes (span_at n t) ≡ Some t
+text_stands bytes before after n t e h =
+    ap (λ z. part_at z (span_at n t)) e ∙ part_stands before t after (span_at n t) h refl
 
--- the same, of a record that has nothing but its kind and marks
-pub plain_base : (e : Event) (n : ℤ) (r : yaml_c_event)
-    → r ≡ plain n (mark_told e.start_mark) (mark_told e.end_mark) → IsBase n e r
-plain_base e n r p = record {
-  kind = ap (λ (z : yaml_c_event). z.kind) p;
-  start = ap (λ (z : yaml_c_event). z.start) p;
-  end = ap (λ (z : yaml_c_event). z.end) p;
-}
+option_stands : (bytes before after : List ℕ) (n : ℕ) (t : Option (List ℕ))
+    → bytes ≡ (before ++ optional_text t) ++ after → n ≡ length before
+    → optional_at bytes (flag_told (is_some t)) (optional_span n t) ≡ Some t
+unfolding is_set is_there
+option_stands bytes before after n None e h = refl
+option_stands bytes before after n (Some t) e h = rw (text_stands bytes before after n t e h) refl
 
-only_plain : (r : yaml_c_event) (n : ℤ) (s t : yaml_c_mark) → r ≡ plain n s t
-    → r ≡ plain n r.start r.end
-only_plain r n s t p =
-    p ∙ two (plain n) s r.start t r.end (sym (ap (λ (z : yaml_c_event). z.start) p)) (sym (ap (λ (z : yaml_c_event). z.end) p))
+-- of two texts the first one, and the second one
+first : (o a b m : List ℕ) → (o ++ (a ++ b)) ++ m ≡ (o ++ a) ++ (b ++ m)
+first o a b m = ap (λ z. z ++ m) (sym (append_assoc o a b)) ∙ append_assoc (o ++ a) b m
 
-bare_at : (r : yaml_c_event) (b d : EventBody) → d ≡ b → r ≡ bare b r → r ≡ bare d r
-bare_at r b d e h = h ∙ ap (λ z. bare z r) (sym e)
+second : (o a b m : List ℕ) → (o ++ (a ++ b)) ++ m ≡ ((o ++ a) ++ b) ++ m
+second o a b m = ap (λ z. z ++ m) (sym (append_assoc o a b))
 
-recorded_alone : (l : Listing) (e : Event) (n : ℤ) (r : yaml_c_event) (b : EventBody)
-    → IsBase n e r → e.body ≡ b → [] ≡ body_texts b
-    → [] ≡ body_directives b → r ≡ bare b r
-    → ((bytes : List ℕ) (list : List yaml_c_directive) → body_meant bytes list r ≡ Some b)
-    → Records l e l r
-recorded_alone l e n r b base is mute none only means =
-    alone l e n r base (mute ∙ ap body_texts (sym is)) (none ∙ ap body_directives (sym is)) (bare_at r b e.body is only) (λ bytes list. means bytes list ∙ ap Some (sym is))
-
-plain_recorded : (l : Listing) (e : Event) (n : ℤ) (r : yaml_c_event) (b : EventBody)
-    → r ≡ plain n (mark_told e.start_mark) (mark_told e.end_mark) → e.body ≡ b → [] ≡ body_texts b
-    → [] ≡ body_directives b
-    → plain n r.start r.end ≡ bare b r
-    → ((bytes : List ℕ) (list : List yaml_c_directive) (x : yaml_c_event) → x.kind ≡ n
-    → body_meant bytes list x ≡ Some b) → Records l e l r
-plain_recorded l e n r b p is mute none only means =
-    recorded_alone l e n r b (plain_base e n r p) is mute none (only_plain r n _ _ p ∙ only) (λ bytes list. means bytes list r (ap (λ (z : yaml_c_event). z.kind) p))
-
--- what a record has of an event, by its body
-pub numbers_of : (e : Event) (r : yaml_c_event) (b : EventBody) → b ≡ e.body
-    → HasNumbers e.body e r → HasNumbers b e r
-numbers_of e r b is h = subst (λ z. HasNumbers z e r) (sym is) h
-
-means_nothing : (bytes : List ℕ) (list : List yaml_c_directive) (r : yaml_c_event)
-    → r.kind ≡ pos 0 → body_meant bytes list r ≡ Some event.no
-unfolding body_meant kind_meant
-means_nothing bytes list r k = rw k refl
-
-means_stream_start : (bytes : List ℕ) (list : List yaml_c_directive) (r : yaml_c_event)
-    (x : yaml_encoding_t) → r.kind ≡ pos 1
-    → encoding_meant r.encoding ≡ Some x → body_meant bytes list r ≡ Some (event.stream_start x)
-unfolding body_meant kind_meant
-means_stream_start bytes list r x k e = rw (k, e) refl
-
-means_stream_end : (bytes : List ℕ) (list : List yaml_c_directive) (r : yaml_c_event)
-    → r.kind ≡ pos 2 → body_meant bytes list r ≡ Some event.stream_end
-unfolding body_meant kind_meant
-means_stream_end bytes list r k = rw k refl
-
-means_document_end : (bytes : List ℕ) (list : List yaml_c_directive) (r : yaml_c_event)
-    (i : Bool) → r.kind ≡ pos 4 → is_set r.implicit ≡ i
-    → body_meant bytes list r ≡ Some (event.document_end i)
-unfolding body_meant kind_meant
-means_document_end bytes list r i k e = rw (k, e) refl
-
-means_sequence_end : (bytes : List ℕ) (list : List yaml_c_directive) (r : yaml_c_event)
-    → r.kind ≡ pos 8 → body_meant bytes list r ≡ Some event.sequence_end
-unfolding body_meant kind_meant
-means_sequence_end bytes list r k = rw k refl
-
-means_mapping_end : (bytes : List ℕ) (list : List yaml_c_directive) (r : yaml_c_event)
-    → r.kind ≡ pos 10 → body_meant bytes list r ≡ Some event.mapping_end
-unfolding body_meant kind_meant
-means_mapping_end bytes list r k = rw k refl
-
-means_alias : (bytes : List ℕ) (list : List yaml_c_directive) (r : yaml_c_event) (a : List ℕ)
-    → r.kind ≡ pos 5
-    → part_at bytes r.anchor ≡ Some a → body_meant bytes list r ≡ Some (event.alias a)
-unfolding body_meant kind_meant
-means_alias bytes list r a k h = rw (k, h) refl
+-- ---- what a record means
 
 means_scalar : (bytes : List ℕ) (list : List yaml_c_directive) (r : yaml_c_event)
     (a t : Option (List ℕ)) (v : List ℕ) (p q : Bool)
@@ -189,289 +121,245 @@ means_mapping : (bytes : List ℕ) (list : List yaml_c_directive) (r : yaml_c_ev
 unfolding body_meant kind_meant
 means_mapping bytes list r a t i s k ha ht hs hi = rw (k, ha, ht, hs, hi) refl
 
--- a record without texts and directives is that of the event
-pub mute_recorded : (l : Listing) (e : Event) (r : yaml_c_event) (b : yaml_event_body_t)
-    → body_of b ≡ e.body → HasNumbers e.body e r
-    → ((v : _) (ds : _) (i : _) → b ≡ body.DocumentStart v ds i → ⊥)
-    → ((a : _) → b ≡ body.Alias a → ⊥)
-    → ((a : _) (t : _) (v : _) (p : _) (q : _) (s : _) → b ≡ body.Scalar a t v p q s → ⊥)
-    → ((a : _) (t : _) (i : _) (s : _) → b ≡ body.SequenceStart a t i s → ⊥)
-    → ((a : _) (t : _) (i : _) (s : _) → b ≡ body.MappingStart a t i s → ⊥) → Records l e l r
-mute_recorded l e r body.No is h d a s q m =
-    plain_recorded l e (pos 0) r event.no (numbers_of e r event.no is h) (sym is) refl refl refl means_nothing
-mute_recorded l e r (body.StreamStart x) is h d a s q m =
-    let n = numbers_of e r (event.stream_start x) is h in
-    recorded_alone l e (pos 1) r (event.stream_start x) n.0 (sym is) refl refl n.2 (λ bytes list. means_stream_start bytes list r x n.0.kind n.1)
-mute_recorded l e r body.StreamEnd is h d a s q m =
-    plain_recorded l e (pos 2) r event.stream_end (numbers_of e r event.stream_end is h) (sym is) refl refl refl means_stream_end
-mute_recorded l e r (body.DocumentStart v ds i) is h d a s q m = absurd (d v ds i refl)
-mute_recorded l e r (body.DocumentEnd i) is h d a s q m =
-    let n = numbers_of e r (event.document_end i) is h in
-    recorded_alone l e (pos 4) r (event.document_end i) n.0 (sym is) refl refl n.2 (λ bytes list. means_document_end bytes list r i n.0.kind n.1)
-mute_recorded l e r (body.Alias x) is h d a s q m = absurd (a x refl)
-mute_recorded l e r (body.Scalar x t v i o y) is h d a s q m = absurd (s x t v i o y refl)
-mute_recorded l e r (body.SequenceStart x t i y) is h d a s q m = absurd (q x t i y refl)
-mute_recorded l e r body.SequenceEnd is h d a s q m =
-    plain_recorded l e (pos 8) r event.sequence_end (numbers_of e r event.sequence_end is h) (sym is) refl refl refl means_sequence_end
-mute_recorded l e r (body.MappingStart x t i y) is h d a s q m = absurd (m x t i y refl)
-mute_recorded l e r body.MappingEnd is h d a s q m =
-    plain_recorded l e (pos 10) r event.mapping_end (numbers_of e r event.mapping_end is h) (sym is) refl refl refl means_mapping_end
+-- the record of an event other than a document's start, whose texts stand after these bytes
+abbrev record_at : List ℕ → EventBody → yaml_c_mark → yaml_c_mark → yaml_c_event
+record_at o b s e = with_texts (length o) b (base_record b s e)
 
-document_means : (o : Option (List TagDirective)) (r : yaml_c_event)
-    (v : Option yaml_version_directive_t) (ts : List TagDirective) (i : Bool)
-    → o ≡ Some ts → version_by (is_set r.has_version) r ≡ v → is_set r.implicit ≡ i
-    → document_by o r ≡ Some (event.document_start v ts i)
-document_means o r v ts i ho hv hi = rw (ho, hv, hi) refl
+means : (o m : List ℕ) (list : List yaml_c_directive) (b : EventBody) (s e : yaml_c_mark)
+    → NoDocument b
+    → body_meant ((o ++ node_texts b) ++ m) list (record_at o b s e) ≡ Some b
+unfolding body_meant kind_meant is_set
+means o m list event.no s e h = refl
+means o m list (event.stream_start x) s e h = ap (option_map event.stream_start) (encoding_back x)
+means o m list event.stream_end s e h = refl
+means o m list (event.document_start v ds i) s e h = absurd h
+means o m list (event.document_end true) s e h = refl
+means o m list (event.document_end false) s e h = refl
+means o m list (event.alias a) s e h = ap (option_map event.alias) (text_stands ((o ++ a) ++ m) o m (length o) a refl refl)
+means o m list (event.scalar a t v p q y) s e h =
+    let A : List ℕ = optional_text a in
+    let T : List ℕ = optional_text t in
+    let bytes : List ℕ = (o ++ ((A ++ T) ++ v)) ++ m in
+    means_scalar bytes list (record_at o (event.scalar a t v p q y) s e) a t v p q y refl
+    (option_stands bytes o (T ++ (v ++ m)) (length o) a (first o (A ++ T) v m ∙ first o A T (v ++ m)) refl)
+    (option_stands bytes (o ++ A) (v ++ m) (length o + length A) t (first o (A ++ T) v m ∙ second o A T (v ++ m)) (sym (length-append o A)))
+    (text_stands bytes (o ++ (A ++ T)) m (length o + length (A ++ T)) v (second o (A ++ T) v m) (sym (length-append o (A ++ T))))
+    (scalar_back y) (set_back p) (set_back q)
+means o m list (event.sequence_start a t i y) s e h =
+    let A : List ℕ = optional_text a in
+    let T : List ℕ = optional_text t in
+    let bytes : List ℕ = (o ++ (A ++ T)) ++ m in
+    means_sequence bytes list (record_at o (event.sequence_start a t i y) s e) a t i y refl
+    (option_stands bytes o (T ++ m) (length o) a (first o A T m) refl)
+    (option_stands bytes (o ++ A) m (length o + length A) t (second o A T m) (sym (length-append o A)))
+    (sequence_back y) (set_back i)
+means o m list event.sequence_end s e h = refl
+means o m list (event.mapping_start a t i y) s e h =
+    let A : List ℕ = optional_text a in
+    let T : List ℕ = optional_text t in
+    let bytes : List ℕ = (o ++ (A ++ T)) ++ m in
+    means_mapping bytes list (record_at o (event.mapping_start a t i y) s e) a t i y refl
+    (option_stands bytes o (T ++ m) (length o) a (first o A T m) refl)
+    (option_stands bytes (o ++ A) m (length o + length A) t (second o A T m) (sym (length-append o A)))
+    (mapping_back y) (set_back i)
+means o m list event.mapping_end s e h = refl
 
-kind_is : (r : yaml_c_event) → r.kind ≡ pos 3
-    → kind_meant r.kind ≡ Some kind.YAML_DOCUMENT_START_EVENT
-unfolding kind_meant
-kind_is r k = rw k refl
+-- ---- what it has beside
 
-means_document : (bytes : List ℕ) (list : List yaml_c_directive) (r : yaml_c_event)
-    (v : Option yaml_version_directive_t)
-    (ts : List TagDirective) (i : Bool) → r.kind ≡ pos 3
-    → directives_at bytes list r.directives ≡ Some ts
-    → version_by (is_set r.has_version) r ≡ v → is_set r.implicit ≡ i
-    → body_meant bytes list r ≡ Some (event.document_start v ts i)
-unfolding body_meant
-means_document bytes list r v ts i k hd hv hi =
-    ap (λ z. body_by z bytes list r) (kind_is r k) ∙ document_means (directives_at bytes list r.directives) r v ts i hd hv hi
+texts_same : (b : EventBody) → NoDocument b → node_texts b ≡ body_texts b
+texts_same (event.document_start v ds i) h = absurd h
+texts_same _ h = refl
 
-same_version : (b : Bool) (r s : yaml_c_event) → r.major ≡ s.major → r.minor ≡ s.minor
-    → version_by b r ≡ version_by b s
-same_version false r s e f = refl
-same_version true r s e f = rw (e, f) refl
+none_listed : (b : EventBody) → NoDocument b → [] ≡ body_directives b
+none_listed (event.document_start v ds i) h = absurd h
+none_listed _ h = refl
 
--- ---- records of texts that were put
+starts : (o : List ℕ) (b : EventBody) (s e : yaml_c_mark) → NoDocument b
+    → (record_at o b s e).start ≡ s
+starts o (event.document_start v ds i) s e h = absurd h
+starts o _ s e h = refl
 
-only_alias : (base r : yaml_c_event) (a : List ℕ) (s t : yaml_c_mark)
-    → r ≡ record base { anchor = r.anchor } → base ≡ plain (pos 5) s t
-    → r ≡ bare (event.alias a) r
-only_alias base r a s t w b =
-    let e : r ≡ record (plain (pos 5) s t) { anchor = r.anchor } = w ∙ ap (λ (z : yaml_c_event). record z { anchor = r.anchor }) b in
-    e ∙ two (λ m n. record (plain (pos 5) m n) { anchor = r.anchor }) s r.start t r.end (sym (ap (λ (z : yaml_c_event). z.start) e))
-    (sym (ap (λ (z : yaml_c_event). z.end) e))
+ends : (o : List ℕ) (b : EventBody) (s e : yaml_c_mark) → NoDocument b
+    → (record_at o b s e).end ≡ e
+ends o (event.document_start v ds i) s e h = absurd h
+ends o _ s e h = refl
 
-only_node : (k : ℤ) (base r : yaml_c_event) (a t : Option (List ℕ)) (i : Bool)
-    → r ≡ record base {
-      has_anchor = r.has_anchor;
-      anchor = r.anchor;
-      has_tag = r.has_tag;
-      tag =
-          r.tag;
-    }
-    → base ≡ record (plain k base.start base.end) { implicit = flag_told i; style = base.style }
-    → r.has_anchor ≡ flag_told (is_some a) → r.has_tag ≡ flag_told (is_some t)
-    → r.anchor ≡ span_told a r.anchor → r.tag ≡ span_told t r.tag
-    → r ≡ node_told k a t i r
-only_node k base r a t i w b ha ht sa st =
-    let e : r ≡ record (plain k base.start base.end) {
-      implicit = flag_told i;
-      style = base.style;
-      has_anchor = r.has_anchor;
-      anchor = r.anchor;
-      has_tag = r.has_tag;
-      tag = r.tag;
-    } = w ∙ ap (λ (z : yaml_c_event). record z { has_anchor = r.has_anchor; anchor = r.anchor; has_tag = r.has_tag; tag = r.tag }) b in
-    e ∙ five (λ x y z m n. record (plain k m n) { implicit = flag_told i; style = x; has_anchor = y; anchor = r.anchor; has_tag = z; tag = r.tag })
-    base.style r.style r.has_anchor (flag_told (is_some a)) r.has_tag (flag_told (is_some t)) base.start r.start base.end r.end
-    (sym (ap (λ (z : yaml_c_event). z.style) w)) ha ht (sym (ap (λ (z : yaml_c_event). z.start) w)) (sym (ap (λ (z : yaml_c_event). z.end) w))
-    ∙ spanned (λ x y. record (plain k r.start r.end) {
-      implicit = flag_told i;
-      style = r.style;
-      has_anchor = flag_told (is_some a);
-      anchor = x;
-      has_tag = flag_told (is_some t);
-      tag = y;
-    })
-    r.anchor (span_told a r.anchor) r.tag (span_told t r.tag) sa st
+only : (o : List ℕ) (b : EventBody) (s e : yaml_c_mark) → NoDocument b
+    → record_at o b s e ≡ bare b (record_at o b s e)
+only o (event.document_start v ds i) s e h = absurd h
+only o (event.scalar None None v p q y) s e h = refl
+only o (event.scalar None (Some t) v p q y) s e h = refl
+only o (event.scalar (Some a) None v p q y) s e h = refl
+only o (event.scalar (Some a) (Some t) v p q y) s e h = refl
+only o (event.sequence_start None None i y) s e h = refl
+only o (event.sequence_start None (Some t) i y) s e h = refl
+only o (event.sequence_start (Some a) None i y) s e h = refl
+only o (event.sequence_start (Some a) (Some t) i y) s e h = refl
+only o (event.mapping_start None None i y) s e h = refl
+only o (event.mapping_start None (Some t) i y) s e h = refl
+only o (event.mapping_start (Some a) None i y) s e h = refl
+only o (event.mapping_start (Some a) (Some t) i y) s e h = refl
+only o _ s e h = refl
 
-only_scalar : (base r : yaml_c_event) (a t : Option (List ℕ)) (v : List ℕ) (p q : Bool)
-    (s : yaml_scalar_style_t)
-    → r ≡ record base {
-      has_anchor = r.has_anchor;
-      anchor = r.anchor;
-      has_tag = r.has_tag;
-      tag =
-          r.tag;
-      value = r.value;
-    }
-    → base ≡ record (plain (pos 6) base.start base.end)
-    { implicit = flag_told p; quoted_implicit = flag_told q; style = base.style }
-    → r.has_anchor ≡ flag_told (is_some a) → r.has_tag ≡ flag_told (is_some t)
-    → r.anchor ≡ span_told a r.anchor → r.tag ≡ span_told t r.tag
-    → r ≡ bare (event.scalar a t v p q s) r
-only_scalar base r a t v p q s w b ha ht sa st =
-    let e : r ≡ record (plain (pos 6) base.start base.end) {
-      implicit = flag_told p;
-      quoted_implicit = flag_told q;
-      style = base.style;
-      has_anchor = r.has_anchor;
-      anchor = r.anchor;
-      has_tag = r.has_tag;
-      tag = r.tag;
-      value = r.value;
-    } = w ∙ ap (λ (z : yaml_c_event). record z { has_anchor = r.has_anchor; anchor = r.anchor; has_tag = r.has_tag; tag = r.tag; value = r.value }) b in
-    e ∙ five (λ x y z m n. record (plain (pos 6) m n) {
-      implicit = flag_told p;
-      quoted_implicit = flag_told q;
-      style = x;
-      has_anchor = y;
-      anchor = r.anchor;
-      has_tag = z;
-      tag = r.tag;
-      value = r.value;
-    })
-    base.style r.style r.has_anchor (flag_told (is_some a)) r.has_tag (flag_told (is_some t)) base.start r.start base.end r.end
-    (sym (ap (λ (z : yaml_c_event). z.style) w)) ha ht (sym (ap (λ (z : yaml_c_event). z.start) w)) (sym (ap (λ (z : yaml_c_event). z.end) w))
-    ∙ spanned (λ x y. record (plain (pos 6) r.start r.end) {
-      implicit = flag_told p;
-      quoted_implicit = flag_told q;
-      style = r.style;
-      has_anchor = flag_told (is_some a);
-      anchor = x;
-      has_tag = flag_told (is_some t);
-      tag = y;
-      value = r.value;
-    })
-    r.anchor (span_told a r.anchor) r.tag (span_told t r.tag) sa st
+-- an event without texts
+pub no_texts : (x : EventRef) (old : List ℕ) (r : yaml_c_event)
+    → ((a : _) → x ≡ borrowed.Alias a → ⊥)
+    → ((a : _) (t : _) (v : _) (p : _) (q : _) (y : _) → x ≡ borrowed.Scalar a t v p q y → ⊥)
+    → ((a : _) (t : _) (i : _) (y : _) → x ≡ borrowed.SequenceStart a t i y → ⊥)
+    → ((a : _) (t : _) (i : _) (y : _) → x ≡ borrowed.MappingStart a t i y → ⊥)
+    → PutsTexts old (borrowed_body x) r old r
+no_texts (borrowed.Alias a) old r ha hs hq hm = absurd (ha a refl)
+no_texts (borrowed.Scalar a t v p q y) old r ha hs hq hm = absurd (hs a t v p q y refl)
+no_texts (borrowed.SequenceStart a t i y) old r ha hs hq hm = absurd (hq a t i y refl)
+no_texts (borrowed.MappingStart a t i y) old r ha hs hq hm = absurd (hm a t i y refl)
+no_texts _ old r ha hs hq hm = record { put = sym (append-nil old); is = refl }
 
-only_document : (base r : yaml_c_event) (v : Option yaml_version_directive_t)
-    (ts : List TagDirective) (i : Bool)
-    → r ≡ record base { directives = r.directives }
-    → base ≡ record (plain (pos 3) base.start base.end) {
-      implicit = flag_told i;
-      has_version = flag_told (is_some v);
-      major = number_told v base.major;
-      minor = number_told v base.minor;
-    }
-    → r ≡ bare (event.document_start v ts i) r
-only_document base r v ts i w b =
-    let e : r ≡ record (plain (pos 3) base.start base.end) {
-      implicit = flag_told i;
-      has_version = flag_told (is_some v);
-      major = number_told v base.major;
-      minor = number_told v base.minor;
-      directives = r.directives;
-    } = w ∙ ap (λ (z : yaml_c_event). record z { directives = r.directives }) b in
-    e ∙ four (λ x y m n. record (plain (pos 3) m n) { implicit = flag_told i; has_version = flag_told (is_some v); major = number_told v x; minor = number_told v y; directives = r.directives })
-    base.major r.major base.minor r.minor base.start r.start base.end r.end (sym (ap (λ (z : yaml_c_event). z.major) w))
-    (sym (ap (λ (z : yaml_c_event). z.minor) w)) (sym (ap (λ (z : yaml_c_event). z.start) w)) (sym (ap (λ (z : yaml_c_event). z.end) w))
+-- a flag as the machine keeps it
+told_back : (b : Bool) (z : ℤ) → z ≡ flag_told b → to_z w32 (of_z w32 z) ≡ flag_told b
+told_back true z e = rw e refl
+told_back false z e = rw e refl
 
-pub alias_recorded : (old new : Listing) (e : Event) (base r : yaml_c_event) (a : List ℕ)
-    → e.body ≡ event.alias a → base ≡ plain (pos 5) (mark_told e.start_mark) (mark_told e.end_mark)
-    → PutsAnchor old.bytes.items base a new.bytes.items r
-    → new.directives.items ≡ old.directives.items → new.events.items ≡ old.events.items
-    → Records old e new r
-alias_recorded old new e base r a is q p ds es =
-    let b : IsBase (pos 5) e base = plain_base e (pos 5) base q in record {
-      bytes = p.grows;
-      directives = rw ds (grows_itself old.directives.items);
-      put = put_as _ _ (event.alias a) e.body is p.put;
-      list = unlisted _ _ _ (event.alias a) e.body is refl ds;
-      events = es;
-      body = λ more others. rw is (means_alias (new.bytes.items ++ more) (new.directives.items ++ others) r a
-          (ap (λ (z : yaml_c_event). z.kind) p.same ∙ b.kind) (p.anchor more));
-      start = ap (λ (z : yaml_c_event). z.start) p.same ∙ b.start;
-      end = ap (λ (z : yaml_c_event). z.end) p.same ∙ b.end;
-      alone = bare_at r _ e.body is (only_alias base r a _ _ p.same q);
+pub mapped_some : (o : Option (Bor (List ℕ))) → is_some (option_map (λ t. t.now) o) ≡ is_some o
+mapped_some None = refl
+mapped_some (Some t) = refl
+
+four : (f : ℤ → yaml_c_span → ℤ → yaml_c_span → yaml_c_event) (m n x y : ℤ) (s t u v : yaml_c_span)
+    → m ≡ n → s ≡ t → x ≡ y → u ≡ v → f m s x u ≡ f n t y v
+four f m n x y s t u v k p l q = rw (k, p, l, q) refl
+
+-- a node's properties, one after the other
+pub properties_told : (old mid : List ℕ) (base : yaml_c_event) (a t : Option (List ℕ)) (x y : ℤ)
+    (s u : yaml_c_span) → x ≡ flag_told (is_some a) → y ≡ flag_told (is_some t)
+    → s ≡ optional_span (length old) a → mid ≡ old ++ optional_text a
+    → u ≡ optional_span (length mid) t
+    → record base {
+      has_anchor = to_z w32 (of_z w32 x);
+      anchor = s;
+      has_tag = to_z w32 (of_z w32 y);
+      tag = u;
+    } ≡ with_properties (length old) a t base
+properties_told old mid base a t x y s u hx hy hs put hu =
+    four (λ k p l q. record base { has_anchor = k; anchor = p; has_tag = l; tag = q }) _ _ _ _ _ _ _ _ (told_back (is_some a) x hx) hs (told_back (is_some t) y hy)
+    (hu ∙ ap (λ n. optional_span n t) (ap length put ∙ length-append old (optional_text a)))
+
+-- a scalar's value after its properties
+put_value : (old mid new : List ℕ) (base r : yaml_c_event) (a t : Option (List ℕ))
+    (v : List ℕ) (p q : Bool) (y : yaml_scalar_style_t) (d : yaml_c_span)
+    → mid ≡ old ++ (optional_text a ++ optional_text t)
+    → r ≡ with_properties (length old) a t base → PutsText mid v new d
+    → PutsTexts old (event.scalar a t v p q y) base new (record r { value = d })
+put_value old mid new base r a t v p q y d put is text =
+    let n : length mid ≡ length old + length (optional_text a ++ optional_text t) = ap length put ∙ length-append old (optional_text a ++ optional_text t) in
+    record {
+      put = put_on old mid new (optional_text a ++ optional_text t) v put text.bytes;
+      is = ap (λ (z : yaml_c_event). record z { value = d }) is
+          ∙ ap (λ (z : yaml_c_span). record (with_properties (length old) a t base) { value = z }) (text.span ∙ ap (λ k. span_at k v) n);
     }
 
-pub scalar_recorded : (old new : Listing) (e : Event) (base r : yaml_c_event)
-    (a t : Option (List ℕ)) (v : List ℕ) (p q : Bool) (s : yaml_scalar_style_t)
-    → e.body ≡ event.scalar a t v p q s → IsBase (pos 6) e base → is_set base.implicit ≡ p
-    → is_set base.quoted_implicit ≡ q
-    → scalar_style_meant base.style ≡ Some s
-    → base ≡ record (plain (pos 6) base.start base.end)
-    { implicit = flag_told p; quoted_implicit = flag_told q; style = base.style }
-    → PutsScalar old.bytes.items base a t v new.bytes.items r
-    → new.directives.items ≡ old.directives.items → new.events.items ≡ old.events.items
-    → Records old e new r
-scalar_recorded old new e base r a t v p q s is b hp hq hs only w ds es = record {
-  bytes = w.grows;
-  directives = rw ds (grows_itself old.directives.items);
-  put = put_as _ _ (event.scalar a t v p q s) e.body is w.put;
-  list = unlisted _ _ _ (event.scalar a t v p q s) e.body is refl ds;
+pub scalar_put : (old mid new : List ℕ) (base r : yaml_c_event) (x : EventRef)
+    (a t : Option (Bor (List ℕ))) (v : Bor (List ℕ)) (p q : Bool) (y : yaml_scalar_style_t)
+    (d : yaml_c_span) → x ≡ borrowed.Scalar a t v p q y
+    → mid ≡ old ++ (optional_text (option_map (λ t. t.now) a) ++ optional_text (option_map (λ t. t.now) t))
+    → r ≡ with_properties (length old) (option_map (λ t. t.now) a) (option_map (λ t. t.now) t) base
+    → PutsText mid v.now new d → PutsTexts old (borrowed_body x) base new (record r { value = d })
+scalar_put old mid new base r x a t v p q y d e put is text =
+    subst (λ z. PutsTexts old (borrowed_body z) base new (record r { value = d })) (sym e)
+    (put_value old mid new base r (option_map (λ t. t.now) a) (option_map (λ t. t.now) t) v.now p q y d put is text)
+
+-- ---- records
+
+texts_recorded : (l m : Listing) (b : EventBody) (s e : yaml_mark_t) (r : yaml_c_event)
+    → PutsTexts l.bytes.items b (base_record b (mark_told s) (mark_told e)) m.bytes.items r
+    → NoDocument b → m.directives.items ≡ l.directives.items → m.events.items ≡ l.events.items
+    → Records l (placed b s e) m r
+texts_recorded l m b s e r p h ds es = record {
+  bytes = record { more = node_texts b; is = p.put };
+  directives = subst (λ z. Grows l.directives.items z) (sym ds) (grows_itself l.directives.items);
+  put = p.put ∙ ap (λ z. l.bytes.items ++ z) (texts_same b h);
+  list = subst (λ z. AppendsDirectives m.bytes.items l.directives.items z m.directives.items) (none_listed b h)
+      (subst (λ z. AppendsDirectives m.bytes.items l.directives.items [] z) (sym ds) (none_appended m.bytes.items l.directives.items));
   events = es;
-  body = λ more others. rw is (means_scalar (new.bytes.items ++ more) (new.directives.items ++ others) r a t v p q s
-      (ap (λ (z : yaml_c_event). z.kind) w.same ∙ b.kind) (w.anchor more) (w.tag more) (w.value more)
-      (ap (λ (z : yaml_c_event). scalar_style_meant z.style) w.same ∙ hs) (ap (λ (z : yaml_c_event). is_set z.implicit) w.same ∙ hp)
-      (ap (λ (z : yaml_c_event). is_set z.quoted_implicit) w.same ∙ hq));
-  start = ap (λ (z : yaml_c_event). z.start) w.same ∙ b.start;
-  end = ap (λ (z : yaml_c_event). z.end) w.same ∙ b.end;
-  alone = bare_at r _ e.body is (only_scalar base r a t v p q s w.same only w.has_anchor w.has_tag w.anchor_span w.tag_span);
+  body = λ more others. subst (λ z. body_meant (z ++ more) (m.directives.items ++ others) r ≡ Some b) (sym p.put)
+      (subst (λ z. body_meant ((l.bytes.items ++ node_texts b) ++ more) (m.directives.items ++ others) z ≡ Some b) (sym p.is)
+      (means l.bytes.items more (m.directives.items ++ others) b (mark_told s) (mark_told e) h));
+  start = ap (λ (z : yaml_c_event). z.start) p.is ∙ starts l.bytes.items b (mark_told s) (mark_told e) h;
+  end = ap (λ (z : yaml_c_event). z.end) p.is ∙ ends l.bytes.items b (mark_told s) (mark_told e) h;
+  alone = p.is ∙ only l.bytes.items b (mark_told s) (mark_told e) h ∙ ap (bare b) (sym p.is);
 }
 
-pub sequence_recorded : (old new : Listing) (e : Event) (base r : yaml_c_event)
-    (a t : Option (List ℕ)) (i : Bool) (s : yaml_sequence_style_t)
-    → e.body ≡ event.sequence_start a t i s → IsBase (pos 7) e base → is_set base.implicit ≡ i
-    → sequence_style_meant base.style ≡ Some s
-    → base ≡ record (plain (pos 7) base.start base.end)
-    { implicit = flag_told i; style = base.style }
-    → PutsProperties old.bytes.items base a t new.bytes.items r
-    → new.directives.items ≡ old.directives.items → new.events.items ≡ old.events.items
-    → Records old e new r
-sequence_recorded old new e base r a t i s is b hi hs only w ds es = record {
-  bytes = w.grows;
-  directives = rw ds (grows_itself old.directives.items);
-  put = put_as _ _ (event.sequence_start a t i s) e.body is w.put;
-  list = unlisted _ _ _ (event.sequence_start a t i s) e.body is refl ds;
-  events = es;
-  body = λ more others. rw is (means_sequence (new.bytes.items ++ more) (new.directives.items ++ others) r a t i s
-      (ap (λ (z : yaml_c_event). z.kind) w.same ∙ b.kind) (w.anchor more) (w.tag more)
-      (ap (λ (z : yaml_c_event). sequence_style_meant z.style) w.same ∙ hs) (ap (λ (z : yaml_c_event). is_set z.implicit) w.same ∙ hi));
-  start = ap (λ (z : yaml_c_event). z.start) w.same ∙ b.start;
-  end = ap (λ (z : yaml_c_event). z.end) w.same ∙ b.end;
-  alone = bare_at r _ e.body is (only_node (pos 7) base r a t i w.same only w.has_anchor w.has_tag w.anchor_span w.tag_span);
-}
+-- that of an event other than a document's start
+event_recorded : (l m : Listing) (x : EventRef) (s e : yaml_mark_t) (base r : yaml_c_event)
+    → ((v : _) (ds : _) (i : _) → x ≡ borrowed.DocumentStart v ds i → ⊥)
+    → base ≡ base_record (borrowed_body x) (mark_told s) (mark_told e)
+    → PutsTexts l.bytes.items (borrowed_body x) base m.bytes.items r
+    → m.directives.items ≡ l.directives.items → m.events.items ≡ l.events.items
+    → Records l (placed (borrowed_body x) s e) m r
+event_recorded l m x s e base r h is p ds es =
+    texts_recorded l m (borrowed_body x) s e r (subst (λ z. PutsTexts l.bytes.items (borrowed_body x) z m.bytes.items r) is p) (no_document x h) ds es
 
-pub mapping_recorded : (old new : Listing) (e : Event) (base r : yaml_c_event)
-    (a t : Option (List ℕ)) (i : Bool) (s : yaml_mapping_style_t)
-    → e.body ≡ event.mapping_start a t i s → IsBase (pos 9) e base → is_set base.implicit ≡ i
-    → mapping_style_meant base.style ≡ Some s
-    → base ≡ record (plain (pos 9) base.start base.end)
-    { implicit = flag_told i; style = base.style }
-    → PutsProperties old.bytes.items base a t new.bytes.items r
-    → new.directives.items ≡ old.directives.items → new.events.items ≡ old.events.items
-    → Records old e new r
-mapping_recorded old new e base r a t i s is b hi hs only w ds es = record {
-  bytes = w.grows;
-  directives = rw ds (grows_itself old.directives.items);
-  put = put_as _ _ (event.mapping_start a t i s) e.body is w.put;
-  list = unlisted _ _ _ (event.mapping_start a t i s) e.body is refl ds;
-  events = es;
-  body = λ more others. rw is (means_mapping (new.bytes.items ++ more) (new.directives.items ++ others) r a t i s
-      (ap (λ (z : yaml_c_event). z.kind) w.same ∙ b.kind) (w.anchor more) (w.tag more)
-      (ap (λ (z : yaml_c_event). mapping_style_meant z.style) w.same ∙ hs) (ap (λ (z : yaml_c_event). is_set z.implicit) w.same ∙ hi));
-  start = ap (λ (z : yaml_c_event). z.start) w.same ∙ b.start;
-  end = ap (λ (z : yaml_c_event). z.end) w.same ∙ b.end;
-  alone = bare_at r _ e.body is (only_node (pos 9) base r a t i w.same only w.has_anchor w.has_tag w.anchor_span w.tag_span);
-}
+pub events_recorded : {E : Type 0} (l m : Listing) (x : EventRef) (s e : yaml_mark_t)
+    (base : yaml_c_event) (r : Result yaml_c_event E)
+    → ((v : _) (ds : _) (i : _) → x ≡ borrowed.DocumentStart v ds i → ⊥)
+    → base ≡ base_record (borrowed_body x) (mark_told s) (mark_told e)
+    → IfOk r (PutsTexts l.bytes.items (borrowed_body x) base m.bytes.items)
+    → m.directives.items ≡ l.directives.items → m.events.items ≡ l.events.items
+    → IfOk r (Records l (placed (borrowed_body x) s e) m)
+events_recorded l m x s e base (Ok r) h is p ds es = event_recorded l m x s e base r h is p ds es
+events_recorded l m x s e base (Err f) h is p ds es = tt
 
-pub document_recorded : (old new : Listing) (e : Event) (base r : yaml_c_event)
-    (v : Option yaml_version_directive_t) (ts : List TagDirective) (i : Bool)
-    → e.body ≡ event.document_start v ts i → IsBase (pos 3) e base
-    → version_by (is_set base.has_version) base ≡ v → is_set base.implicit ≡ i
-    → base ≡ record (plain (pos 3) base.start base.end) {
-      implicit = flag_told i;
-      has_version = flag_told (is_some v);
-      major = number_told v base.major;
-      minor = number_told v base.minor;
-    }
-    → PutsDocument old base ts new r → Records old e new r
-document_recorded old new e base r v ts i is b hv hi only w = record {
-  bytes = w.bytes;
-  directives = w.directives;
-  put = put_as _ _ (event.document_start v ts i) e.body is w.put;
-  list = list_as _ _ _ (event.document_start v ts i) e.body is w.list;
-  events = w.events;
-  body = λ more others. rw is (means_document (new.bytes.items ++ more) (new.directives.items ++ others) r v ts i
-      (ap (λ (z : yaml_c_event). z.kind) w.same ∙ b.kind) (w.holds more others)
-      (ap (λ (z : yaml_c_event). version_by (is_set z.has_version) r) w.same
-      ∙ same_version (is_set base.has_version) r base (ap (λ (z : yaml_c_event). z.major) w.same) (ap (λ (z : yaml_c_event). z.minor) w.same) ∙ hv)
-      (ap (λ (z : yaml_c_event). is_set z.implicit) w.same ∙ hi));
-  start = ap (λ (z : yaml_c_event). z.start) w.same ∙ b.start;
-  end = ap (λ (z : yaml_c_event). z.end) w.same ∙ b.end;
-  alone = bare_at r _ e.body is (only_document base r v ts i w.same only);
-}
+-- ---- a document's start
+
+abbrev document_at : Option yaml_version_directive_t → List TagDirective → Bool → yaml_c_mark
+    → yaml_c_mark → yaml_c_span → yaml_c_event
+document_at v ts i s e d = record (base_record (event.document_start v ts i) s e) { directives = d }
+
+means_document : (bytes : List ℕ) (list : List yaml_c_directive)
+    (v : Option yaml_version_directive_t) (ts : List TagDirective) (i : Bool) (s e : yaml_c_mark)
+    (d : yaml_c_span) → directives_at bytes list d ≡ Some ts
+    → body_meant bytes list (document_at v ts i s e d) ≡ Some (event.document_start v ts i)
+unfolding body_meant kind_meant is_set
+means_document bytes list None ts true s e d h = rw h refl
+means_document bytes list None ts false s e d h = rw h refl
+means_document bytes list (Some v) ts true s e d h = rw h refl
+means_document bytes list (Some v) ts false s e d h = rw h refl
+
+document_starts : (v : Option yaml_version_directive_t) (ts : List TagDirective) (i : Bool)
+    (s e : yaml_c_mark) (d : yaml_c_span)
+    → ((document_at v ts i s e d).start ≡ s) × ((document_at v ts i s e d).end ≡ e)
+document_starts None ts i s e d = (refl, refl)
+document_starts (Some v) ts i s e d = (refl, refl)
+
+only_document : (v : Option yaml_version_directive_t) (ts : List TagDirective) (i : Bool)
+    (s e : yaml_c_mark) (d : yaml_c_span)
+    → document_at v ts i s e d ≡ bare (event.document_start v ts i) (document_at v ts i s e d)
+only_document None ts i s e d = refl
+only_document (Some v) ts i s e d = refl
+
+started : (l m : Listing) (v : Option yaml_version_directive_t)
+    (ts : List TagDirective) (i : Bool) (s e : yaml_mark_t) (base : yaml_c_event) (d : yaml_c_span)
+    → base ≡ base_record (event.document_start v ts i) (mark_told s) (mark_told e)
+    → PutsDirectives l ts m d
+    → Records l (placed (event.document_start v ts i) s e) m (record base { directives = d })
+started l m v ts i s e base d is p =
+    subst (λ (z : yaml_c_event). Records l (placed (event.document_start v ts i) s e) m (record z { directives = d })) (sym is) (record {
+      bytes = p.bytes;
+      directives = p.directives;
+      put = p.put;
+      list = p.list;
+      events = p.events;
+      body = λ more others. means_document (m.bytes.items ++ more) (m.directives.items ++ others) v ts i (mark_told s) (mark_told e) d (p.holds more others);
+      start = (document_starts v ts i (mark_told s) (mark_told e) d).0;
+      end = (document_starts v ts i (mark_told s) (mark_told e) d).1;
+      alone = only_document v ts i (mark_told s) (mark_told e) d;
+    })
+
+pub document_recorded : (l m : Listing) (x : EventRef) (v : Option yaml_version_directive_t)
+    (ds : Bor (List yaml_tag_directive_t)) (i : Bool) (s e : yaml_mark_t) (base : yaml_c_event)
+    (d : yaml_c_span) → x ≡ borrowed.DocumentStart v ds i
+    → base ≡ base_record (borrowed_body x) (mark_told s) (mark_told e)
+    → PutsDirectives l (map directive_of ds.now) m d
+    → Records l (placed (borrowed_body x) s e) m (record base { directives = d })
+document_recorded l m x v ds i s e base d is b p =
+    let P : EventRef → Type 0 = λ z. base ≡ base_record (borrowed_body z) (mark_told s) (mark_told e)
+    → Records l (placed (borrowed_body z) s e) m (record base { directives = d }) in
+    subst P (sym is) (λ k. started l m v (map directive_of ds.now) i s e base d k p) b

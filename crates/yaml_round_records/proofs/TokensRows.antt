@@ -7,8 +7,8 @@ use Rattle.yaml_scan.specs.declared.yaml_scalar_style_t.TheVariants as style
 use Rattle.yaml_scan.specs.Tokens.{Token, TokenBody, type_of}
 use Rattle.yaml_scan.specs.Tokens as token
 use Rattle.yaml_round_records.specs.declared.record.yaml_c_mark.{yaml_c_mark}
-use Rattle.yaml_round_records.specs.Numbers.{numbered, encodings, scalar_styles}
-use Rattle.yaml_round_records.specs.TokensListed.{encoding_number, style_number, body_record, record_at}
+use Rattle.yaml_round_records.specs.Numbers.{encoding_number, scalar_style_number, numbered, encodings, scalar_styles}
+use Rattle.yaml_round_records.specs.TokensListed.{body_record, record_at}
 use Rattle.yaml_round_records.specs.TokensRows.{token_kinds}
 
 pub encoding_is : (e : yaml_encoding_t) → numbered encodings (encoding_number e) ≡ Some e
@@ -17,7 +17,7 @@ encoding_is encoding.YAML_UTF8_ENCODING = refl
 encoding_is encoding.YAML_UTF16LE_ENCODING = refl
 encoding_is encoding.YAML_UTF16BE_ENCODING = refl
 
-pub style_is : (s : yaml_scalar_style_t) → numbered scalar_styles (style_number s) ≡ Some s
+pub style_is : (s : yaml_scalar_style_t) → numbered scalar_styles (scalar_style_number s) ≡ Some s
 style_is style.YAML_ANY_SCALAR_STYLE = refl
 style_is style.YAML_PLAIN_SCALAR_STYLE = refl
 style_is style.YAML_SINGLE_QUOTED_SCALAR_STYLE = refl

@@ -12,14 +12,18 @@ unfoldable pub directive_texts : List TagDirective → List ℕ
 directive_texts [] = []
 directive_texts (d ∷ ds) = (d.handle ++ d.prefix) ++ directive_texts ds
 
--- the texts that an event names, in their order
+-- the texts that an alias or a node names, in their order
+abbrev pub node_texts : EventBody → List ℕ
+node_texts (event.alias a) = a
+node_texts (event.scalar a t v p q s) = (optional_text a ++ optional_text t) ++ v
+node_texts (event.sequence_start a t i s) = optional_text a ++ optional_text t
+node_texts (event.mapping_start a t i s) = optional_text a ++ optional_text t
+node_texts _ = []
+
+-- those that an event names
 abbrev pub body_texts : EventBody → List ℕ
 body_texts (event.document_start v ds i) = directive_texts ds
-body_texts (event.alias a) = a
-body_texts (event.scalar a t v p q s) = (optional_text a ++ optional_text t) ++ v
-body_texts (event.sequence_start a t i s) = optional_text a ++ optional_text t
-body_texts (event.mapping_start a t i s) = optional_text a ++ optional_text t
-body_texts _ = []
+body_texts b = node_texts b
 
 abbrev pub body_directives : EventBody → List TagDirective
 body_directives (event.document_start v ds i) = ds

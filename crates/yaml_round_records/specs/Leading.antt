@@ -20,14 +20,7 @@ abbrev pub bytes_of : {A : Type 0} → Vec ℕ A → List ℕ
 bytes_of text = text.items
 
 abbrev pub requested : Asked → RequestedSettings
-requested a = record {
-  encoding = a.encoding;
-  canonical = a.canonical;
-  indent = a.indent;
-  width = a.width;
-  unicode = a.unicode;
-  line_break = a.line_break;
-}
+requested a = a.settings
 
 abbrev pub asked_for : Asked → RequestedSettings × ℕ
 asked_for a = (requested a, a.limit)

@@ -1,4 +1,5 @@
 pub mod Numbers
+pub mod Borrowed
 pub mod Records
 pub mod Offsets
 pub mod Blocks

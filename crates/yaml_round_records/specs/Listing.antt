@@ -1,19 +1,22 @@
 -- Events that are put into records, one after another: what a record says stays as the block and the list grow.
-use Rattle.std.specs.Prelude.{◌≡◌, ◌⊎◌, ℕ, ℤ, pos, List, [], ◌∷◌, ◌++◌, length, map, Option, None, Some, Result, Ok, Err}
+use Rattle.std.specs.Prelude.{◌≡◌, ◌⊎◌, ◌+◌, ℕ, pos, List, [], ◌∷◌, ◌++◌, length, map, Option, None, Some, Result, Ok, Err}
 use Rattle.std.specs.Option.{is_some}
 use Rattle.yaml_parse.specs.declared.yaml_fault_t.{yaml_fault_t}
+use Rattle.yaml_parse.specs.declared.yaml_mark_t.{yaml_mark_t}
+use Rattle.yaml_parse.specs.declared.yaml_version_directive_t.{yaml_version_directive_t}
 use Rattle.yaml_parse.specs.Events.{Event, EventBody, TagDirective}
 use Rattle.yaml_parse.specs.Events as event
 use Rattle.yaml_parse.specs.Faults.{fault_of, IsMemoryFault, parse_layers}
 use Rattle.yaml_parse.specs.Resolve.{Told}
 use Rattle.yaml_parse.specs.Remaining.{ParserRemaining}
+use Rattle.yaml_round_records.specs.declared.record.yaml_c_mark.{yaml_c_mark}
 use Rattle.yaml_round_records.specs.declared.record.yaml_c_span.{yaml_c_span}
 use Rattle.yaml_round_records.specs.declared.record.yaml_c_directive.{yaml_c_directive}
 use Rattle.yaml_round_records.specs.declared.record.yaml_c_event.{yaml_c_event}
 use Rattle.yaml_round_records.specs.declared.listing.Listing.{Listing}
-use Rattle.yaml_round_records.specs.Numbers.{is_set, flag_told, encoding_meant, scalar_style_meant, sequence_style_meant, mapping_style_meant}
-use Rattle.yaml_round_records.specs.Records.{mark_told, part_at, optional_at, all_directives, directives_at, version_by, number_told, span_told, plain, bare, body_meant, AllSay}
-use Rattle.yaml_round_records.specs.Blocks.{optional_text, directive_texts, body_texts, body_directives, all_texts, listed_directives}
+use Rattle.yaml_round_records.specs.Numbers.{flag_told, encoding_number, scalar_style_number, sequence_style_number, mapping_style_number}
+use Rattle.yaml_round_records.specs.Records.{mark_told, part_at, all_directives, directives_at, no_span, plain, bare, body_meant, AllSay}
+use Rattle.yaml_round_records.specs.Blocks.{optional_text, directive_texts, node_texts, body_texts, body_directives, all_texts, listed_directives}
 
 -- ---- what grows
 
@@ -34,104 +37,74 @@ pub record PutsText (old text new : List ℕ) (s : yaml_c_span) : Type 0 where
 abbrev pub HoldsText : List ℕ → yaml_c_span → List ℕ → Type 0
 HoldsText bytes s text = (more : List ℕ) → part_at (bytes ++ more) s ≡ Some text
 
-abbrev pub HoldsOptional : List ℕ → ℤ → yaml_c_span → Option (List ℕ) → Type 0
-HoldsOptional bytes has s text = (more : List ℕ) → optional_at (bytes ++ more) has s ≡ Some text
+-- ---- the record of an event
 
--- a text that may be left out stands there, with its flag
-pub record PutsOptional (old : List ℕ) (text : Option (List ℕ)) (new : List ℕ) (has : ℤ)
-    (s : yaml_c_span) : Type 0 where
-  pub grows : Grows old new
-  pub put : new ≡ old ++ optional_text text
-  pub flag : has ≡ flag_told (is_some text)
-  pub span : s ≡ span_told text s
-  pub holds : HoldsOptional new has s text
+-- the span of a text that stands there, where it isn't left out
+abbrev pub optional_span : ℕ → Option (List ℕ) → yaml_c_span
+optional_span n None = no_span
+optional_span n (Some t) = span_at n t
 
--- a node's properties stand there
-pub record PutsProperties (old : List ℕ) (base : yaml_c_event) (a t : Option (List ℕ))
-    (new : List ℕ) (r : yaml_c_event) : Type 0 where
-  pub grows : Grows old new
-  pub put : new ≡ old ++ (optional_text a ++ optional_text t)
-  pub anchor : HoldsOptional new r.has_anchor r.anchor a
-  pub tag : HoldsOptional new r.has_tag r.tag t
-  pub has_anchor : r.has_anchor ≡ flag_told (is_some a)
-  pub has_tag : r.has_tag ≡ flag_told (is_some t)
-  pub anchor_span : r.anchor ≡ span_told a r.anchor
-  pub tag_span : r.tag ≡ span_told t r.tag
-  pub same : r ≡ record base {
-    has_anchor = r.has_anchor;
-    anchor = r.anchor;
-    has_tag = r.has_tag;
-    tag = r.tag;
-  }
+-- a record with a node's properties, which stand there one after another
+abbrev pub with_properties : ℕ → Option (List ℕ) → Option (List ℕ) → yaml_c_event → yaml_c_event
+with_properties n a t r = record r {
+  has_anchor = flag_told (is_some a);
+  anchor = optional_span n a;
+  has_tag = flag_told (is_some t);
+  tag = optional_span (n + length (optional_text a)) t;
+}
 
--- an alias's name stands there
-pub record PutsAnchor (old : List ℕ) (base : yaml_c_event) (a new : List ℕ)
-    (r : yaml_c_event) : Type 0 where
-  pub grows : Grows old new
-  pub put : new ≡ old ++ a
-  pub anchor : HoldsText new r.anchor a
-  pub same : r ≡ record base { anchor = r.anchor }
+-- a record with the texts of an event, which stand there one after another
+abbrev pub with_texts : ℕ → EventBody → yaml_c_event → yaml_c_event
+with_texts n (event.alias a) r = record r { anchor = span_at n a }
+with_texts n (event.scalar a t v p q s) r = record (with_properties n a t r) {
+  value = span_at (n + length (optional_text a ++ optional_text t)) v;
+}
+with_texts n (event.sequence_start a t i s) r = with_properties n a t r
+with_texts n (event.mapping_start a t i s) r = with_properties n a t r
+with_texts n _ r = r
 
--- a scalar's properties and value stand there
-pub record PutsScalar (old : List ℕ) (base : yaml_c_event) (a t : Option (List ℕ))
-    (v new : List ℕ) (r : yaml_c_event) : Type 0 where
-  pub grows : Grows old new
-  pub put : new ≡ old ++ ((optional_text a ++ optional_text t) ++ v)
-  pub anchor : HoldsOptional new r.has_anchor r.anchor a
-  pub tag : HoldsOptional new r.has_tag r.tag t
-  pub has_anchor : r.has_anchor ≡ flag_told (is_some a)
-  pub has_tag : r.has_tag ≡ flag_told (is_some t)
-  pub anchor_span : r.anchor ≡ span_told a r.anchor
-  pub tag_span : r.tag ≡ span_told t r.tag
-  pub value : HoldsText new r.value v
-  pub same : r ≡ record base {
-    has_anchor = r.has_anchor;
-    anchor = r.anchor;
-    has_tag = r.has_tag;
-    tag = r.tag;
-    value = r.value;
-  }
-
--- a record of that kind with the event's marks
-pub record IsBase (number : ℤ) (e : Event) (r : yaml_c_event) : Type 0 where
-  pub kind : r.kind ≡ number
-  pub start : r.start ≡ mark_told e.start_mark
-  pub end : r.end ≡ mark_told e.end_mark
+-- a record with a version, where there is one
+abbrev pub with_version : Option yaml_version_directive_t → yaml_c_event → yaml_c_event
+with_version None r = r
+with_version (Some v) r = record r { has_version = pos 1; major = v.major; minor = v.minor }
 
 -- what a record has of an event before its texts and directives are put: kind, marks, flags and numbers
-abbrev pub HasNumbers : EventBody → Event → yaml_c_event → Type 0
-HasNumbers event.no e r = r ≡ plain (pos 0) (mark_told e.start_mark) (mark_told e.end_mark)
-HasNumbers (event.stream_start x) e r = IsBase (pos 1) e r × (encoding_meant r.encoding ≡ Some x)
-    × (r ≡ record (plain (pos 1) r.start r.end) { encoding = r.encoding })
-HasNumbers event.stream_end e r = r ≡ plain (pos 2) (mark_told e.start_mark) (mark_told e.end_mark)
-HasNumbers (event.document_start v ds i) e r = IsBase (pos 3) e r
-    × (version_by (is_set r.has_version) r ≡ v) × (is_set r.implicit ≡ i)
-    × (r ≡ record (plain (pos 3) r.start r.end) {
-      implicit = flag_told i;
-      has_version = flag_told (is_some v);
-      major = number_told v r.major;
-      minor = number_told v r.minor;
-    })
-HasNumbers (event.document_end i) e r = IsBase (pos 4) e r × (is_set r.implicit ≡ i)
-    × (r ≡ record (plain (pos 4) r.start r.end) { implicit = flag_told i })
-HasNumbers (event.alias a) e r = r ≡ plain (pos 5) (mark_told e.start_mark) (mark_told e.end_mark)
-HasNumbers (event.scalar a t v p q s) e r = IsBase (pos 6) e r × (is_set r.implicit ≡ p)
-    × (is_set r.quoted_implicit ≡ q) × (scalar_style_meant r.style ≡ Some s)
-    × (r ≡ record (plain (pos 6) r.start r.end) {
-      implicit = flag_told p;
-      quoted_implicit = flag_told q;
-      style = r.style;
-    })
-HasNumbers (event.sequence_start a t i s) e r = IsBase (pos 7) e r × (is_set r.implicit ≡ i)
-    × (sequence_style_meant r.style ≡ Some s)
-    × (r ≡ record (plain (pos 7) r.start r.end) { implicit = flag_told i; style = r.style })
-HasNumbers event.sequence_end e r = r
-    ≡ plain (pos 8) (mark_told e.start_mark) (mark_told e.end_mark)
-HasNumbers (event.mapping_start a t i s) e r = IsBase (pos 9) e r × (is_set r.implicit ≡ i)
-    × (mapping_style_meant r.style ≡ Some s)
-    × (r ≡ record (plain (pos 9) r.start r.end) { implicit = flag_told i; style = r.style })
-HasNumbers event.mapping_end e r = r
-    ≡ plain (pos 10) (mark_told e.start_mark) (mark_told e.end_mark)
+abbrev pub base_record : EventBody → yaml_c_mark → yaml_c_mark → yaml_c_event
+base_record event.no s e = plain (pos 0) s e
+base_record (event.stream_start x) s e =
+    record (plain (pos 1) s e) { encoding = encoding_number x }
+base_record event.stream_end s e = plain (pos 2) s e
+base_record (event.document_start v ds i) s e =
+    with_version v (record (plain (pos 3) s e) { implicit = flag_told i })
+base_record (event.document_end i) s e = record (plain (pos 4) s e) { implicit = flag_told i }
+base_record (event.alias a) s e = plain (pos 5) s e
+base_record (event.scalar a t v p q y) s e = record (plain (pos 6) s e) {
+  style = scalar_style_number y;
+  implicit = flag_told p;
+  quoted_implicit = flag_told q;
+}
+base_record (event.sequence_start a t i y) s e = record (plain (pos 7) s e) {
+  style = sequence_style_number y;
+  implicit = flag_told i;
+}
+base_record event.sequence_end s e = plain (pos 8) s e
+base_record (event.mapping_start a t i y) s e = record (plain (pos 9) s e) {
+  style = mapping_style_number y;
+  implicit = flag_told i;
+}
+base_record event.mapping_end s e = plain (pos 10) s e
+
+-- an event's texts were put after the others, and its record has them
+pub record PutsTexts (old : List ℕ) (b : EventBody) (base : yaml_c_event) (new : List ℕ)
+    (r : yaml_c_event) : Type 0 where
+  pub put : new ≡ old ++ node_texts b
+  pub is : r ≡ with_texts (length old) b base
+
+-- an event of that body between these marks
+abbrev pub placed : EventBody → yaml_mark_t → yaml_mark_t → Event
+placed b s e = record { body = b; start_mark = s; end_mark = e }
+
+-- ---- directives
 
 -- a directive's texts stand there
 pub record PutsDirective (old : List ℕ) (t : TagDirective) (new : List ℕ)
@@ -173,17 +146,6 @@ pub record PutsDirectives (old : Listing) (ts : List TagDirective) (new : Listin
   pub list : AppendsDirectives new.bytes.items old.directives.items ts new.directives.items
   pub events : new.events.items ≡ old.events.items
   pub holds : HoldsList new.bytes.items new.directives.items s ts
-
--- a document's directives stand there
-pub record PutsDocument (old : Listing) (base : yaml_c_event) (ts : List TagDirective)
-    (new : Listing) (r : yaml_c_event) : Type 0 where
-  pub bytes : Grows old.bytes.items new.bytes.items
-  pub directives : Grows old.directives.items new.directives.items
-  pub put : new.bytes.items ≡ old.bytes.items ++ directive_texts ts
-  pub list : AppendsDirectives new.bytes.items old.directives.items ts new.directives.items
-  pub events : new.events.items ≡ old.events.items
-  pub holds : HoldsList new.bytes.items new.directives.items r.directives ts
-  pub same : r ≡ record base { directives = r.directives }
 
 -- Whatever follows, the record means the body.
 abbrev pub HoldsBody : List ℕ → List yaml_c_directive → yaml_c_event → EventBody → Type 0

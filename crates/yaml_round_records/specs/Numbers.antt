@@ -85,7 +85,33 @@ mapping_style_meant n =
     else if int_eq n (pos 2) then Some mapping.YAML_FLOW_MAPPING_STYLE
     else None
 
--- the number of a fault's kind
+-- ---- the numbers of what is handed out
+
+abbrev pub encoding_number : yaml_encoding_t → ℤ
+encoding_number encoding.YAML_ANY_ENCODING = pos 0
+encoding_number encoding.YAML_UTF8_ENCODING = pos 1
+encoding_number encoding.YAML_UTF16LE_ENCODING = pos 2
+encoding_number encoding.YAML_UTF16BE_ENCODING = pos 3
+
+abbrev pub scalar_style_number : yaml_scalar_style_t → ℤ
+scalar_style_number scalar.YAML_ANY_SCALAR_STYLE = pos 0
+scalar_style_number scalar.YAML_PLAIN_SCALAR_STYLE = pos 1
+scalar_style_number scalar.YAML_SINGLE_QUOTED_SCALAR_STYLE = pos 2
+scalar_style_number scalar.YAML_DOUBLE_QUOTED_SCALAR_STYLE = pos 3
+scalar_style_number scalar.YAML_LITERAL_SCALAR_STYLE = pos 4
+scalar_style_number scalar.YAML_FOLDED_SCALAR_STYLE = pos 5
+
+abbrev pub sequence_style_number : yaml_sequence_style_t → ℤ
+sequence_style_number sequence.YAML_ANY_SEQUENCE_STYLE = pos 0
+sequence_style_number sequence.YAML_BLOCK_SEQUENCE_STYLE = pos 1
+sequence_style_number sequence.YAML_FLOW_SEQUENCE_STYLE = pos 2
+
+abbrev pub mapping_style_number : yaml_mapping_style_t → ℤ
+mapping_style_number mapping.YAML_ANY_MAPPING_STYLE = pos 0
+mapping_style_number mapping.YAML_BLOCK_MAPPING_STYLE = pos 1
+mapping_style_number mapping.YAML_FLOW_MAPPING_STYLE = pos 2
+
+-- that of a fault's kind
 abbrev pub error_number : yaml_error_type_t → ℤ
 error_number error.YAML_NO_ERROR = pos 0
 error_number error.YAML_MEMORY_ERROR = pos 1

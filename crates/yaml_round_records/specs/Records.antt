@@ -95,33 +95,34 @@ mapping_by (Some a) None s r = None
 mapping_by (Some a) (Some t) None r = None
 mapping_by (Some a) (Some t) (Some s) r = Some (event.mapping_start a t (is_set r.implicit) s)
 
-abbrev pub body_by : Option yaml_event_type_t → List ℕ → List yaml_c_directive → yaml_c_event
-    → Option EventBody
-body_by None bytes list r = None
-body_by (Some kind.YAML_NO_EVENT) bytes list r = Some event.no
-body_by (Some kind.YAML_STREAM_START_EVENT) bytes list r = option_map event.stream_start
+-- what a record of a kind means that has these directives
+abbrev pub body_with : Option (List TagDirective) → Option yaml_event_type_t → List ℕ
+    → yaml_c_event → Option EventBody
+body_with ds None bytes r = None
+body_with ds (Some kind.YAML_NO_EVENT) bytes r = Some event.no
+body_with ds (Some kind.YAML_STREAM_START_EVENT) bytes r = option_map event.stream_start
     (encoding_meant r.encoding)
-body_by (Some kind.YAML_STREAM_END_EVENT) bytes list r = Some event.stream_end
-body_by (Some kind.YAML_DOCUMENT_START_EVENT) bytes list r = document_by
-    (directives_at bytes list r.directives) r
-body_by (Some kind.YAML_DOCUMENT_END_EVENT) bytes list r = Some
+body_with ds (Some kind.YAML_STREAM_END_EVENT) bytes r = Some event.stream_end
+body_with ds (Some kind.YAML_DOCUMENT_START_EVENT) bytes r = document_by ds r
+body_with ds (Some kind.YAML_DOCUMENT_END_EVENT) bytes r = Some
     (event.document_end (is_set r.implicit))
-body_by (Some kind.YAML_ALIAS_EVENT) bytes list r = option_map event.alias (part_at bytes r.anchor)
-body_by (Some kind.YAML_SCALAR_EVENT) bytes list r = scalar_by
+body_with ds (Some kind.YAML_ALIAS_EVENT) bytes r = option_map event.alias (part_at bytes r.anchor)
+body_with ds (Some kind.YAML_SCALAR_EVENT) bytes r = scalar_by
     (optional_at bytes r.has_anchor r.anchor) (optional_at bytes r.has_tag r.tag)
     (part_at bytes r.value) (scalar_style_meant r.style) r
-body_by (Some kind.YAML_SEQUENCE_START_EVENT) bytes list r = sequence_by
+body_with ds (Some kind.YAML_SEQUENCE_START_EVENT) bytes r = sequence_by
     (optional_at bytes r.has_anchor r.anchor) (optional_at bytes r.has_tag r.tag)
     (sequence_style_meant r.style) r
-body_by (Some kind.YAML_SEQUENCE_END_EVENT) bytes list r = Some event.sequence_end
-body_by (Some kind.YAML_MAPPING_START_EVENT) bytes list r = mapping_by
+body_with ds (Some kind.YAML_SEQUENCE_END_EVENT) bytes r = Some event.sequence_end
+body_with ds (Some kind.YAML_MAPPING_START_EVENT) bytes r = mapping_by
     (optional_at bytes r.has_anchor r.anchor) (optional_at bytes r.has_tag r.tag)
     (mapping_style_meant r.style) r
-body_by (Some kind.YAML_MAPPING_END_EVENT) bytes list r = Some event.mapping_end
+body_with ds (Some kind.YAML_MAPPING_END_EVENT) bytes r = Some event.mapping_end
 
 -- What a record means. None where one of its numbers means nothing.
 unfoldable pub body_meant : List ℕ → List yaml_c_directive → yaml_c_event → Option EventBody
-body_meant bytes list r = body_by (kind_meant r.kind) bytes list r
+body_meant bytes list r = body_with (directives_at bytes list r.directives) (kind_meant r.kind)
+    bytes r
 
 -- what records mean, where each means something
 abbrev pub body_in_front : Option EventBody → Option (List EventBody) → Option (List EventBody)

@@ -1,9 +1,5 @@
 -- Tokens as records: what each record has, and where its texts stand in the block of bytes.
 use Rattle.std.specs.Prelude.{◌≡◌, ◌⊎◌, ◌+◌, ℕ, ℤ, pos, List, [], ◌∷◌, ◌++◌, length, None, Some, Result, Ok, Err}
-use Rattle.yaml_scan.specs.declared.yaml_encoding_t.{yaml_encoding_t}
-use Rattle.yaml_scan.specs.declared.yaml_encoding_t.TheVariants as encoding
-use Rattle.yaml_scan.specs.declared.yaml_scalar_style_t.{yaml_scalar_style_t}
-use Rattle.yaml_scan.specs.declared.yaml_scalar_style_t.TheVariants as style
 use Rattle.yaml_scan.specs.declared.yaml_fault_t.{yaml_fault_t}
 use Rattle.yaml_scan.specs.Tokens.{Token, TokenBody}
 use Rattle.yaml_scan.specs.Tokens as token
@@ -13,26 +9,11 @@ use Rattle.yaml_scan.specs.Session.{first_of, behind_first}
 use Rattle.yaml_scan.specs.Found.{IsTold}
 use Rattle.yaml_round_records.specs.declared.record.yaml_c_mark.{yaml_c_mark}
 use Rattle.yaml_round_records.specs.declared.record.yaml_c_span.{yaml_c_span}
+use Rattle.yaml_round_records.specs.Numbers.{encoding_number, scalar_style_number}
 use Rattle.yaml_round_records.specs.Records.{mark_told}
 use Rattle.yaml_round_records.specs.Listing.{span_at}
 use Rattle.yaml_round_records.specs.declared.token_record.yaml_c_token.{yaml_c_token}
 use Rattle.yaml_round_records.specs.declared.token_listing.TokenListing.{TokenListing}
-
--- ---- numbers, which are libyaml's
-
-abbrev pub encoding_number : yaml_encoding_t → ℤ
-encoding_number encoding.YAML_ANY_ENCODING = pos 0
-encoding_number encoding.YAML_UTF8_ENCODING = pos 1
-encoding_number encoding.YAML_UTF16LE_ENCODING = pos 2
-encoding_number encoding.YAML_UTF16BE_ENCODING = pos 3
-
-abbrev pub style_number : yaml_scalar_style_t → ℤ
-style_number style.YAML_ANY_SCALAR_STYLE = pos 0
-style_number style.YAML_PLAIN_SCALAR_STYLE = pos 1
-style_number style.YAML_SINGLE_QUOTED_SCALAR_STYLE = pos 2
-style_number style.YAML_DOUBLE_QUOTED_SCALAR_STYLE = pos 3
-style_number style.YAML_LITERAL_SCALAR_STYLE = pos 4
-style_number style.YAML_FOLDED_SCALAR_STYLE = pos 5
 
 -- ---- records
 
@@ -90,7 +71,7 @@ body_record n (token.alias name) s e = with_value n name (plain (pos 18) s e)
 body_record n (token.anchor name) s e = with_value n name (plain (pos 19) s e)
 body_record n (token.tag handle suffix) s e = with_both n handle suffix (plain (pos 20) s e)
 body_record n (token.scalar text how) s e =
-    with_value n text (record (plain (pos 21) s e) { style = style_number how })
+    with_value n text (record (plain (pos 21) s e) { style = scalar_style_number how })
 
 -- the texts that a token names, in their order
 abbrev pub body_texts : TokenBody → List ℕ

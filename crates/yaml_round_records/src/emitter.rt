@@ -1,37 +1,35 @@
 //! What an emitter makes of records.
 
-ghost use Rattle.std.specs.Prelude.{◌≡◌, None, Some, IsSome, IfOk, IfErr, OnOk, option_map};
+ghost use Rattle.std.specs.Prelude.{◌≡◌, ◌≤◌, [], ◌∷◌, ◌++◌, length, None, Some, IsSome, IfOk, IfErr, OnOk, option_map};
 ghost use Rattle.yaml_parse.specs.Faults.{Fault, fault_of, IsMemoryFault, emit_layers, Answers};
-ghost use Rattle.yaml_emit.specs.Emitter.{IsLimited};
+ghost use Rattle.yaml_parse.specs.Constructors.{HasUtf8};
+ghost use Rattle.yaml_emit.specs.Content.{emitter_event};
+ghost use Rattle.yaml_emit.specs.Emitter.{IsLimited, Stays};
+ghost use Rattle.yaml_emit.specs.Held.{AreLast};
+ghost use Rattle.yaml_emit.specs.Taking.{TakesEvents};
 ghost use Rattle.yaml_emit.specs.Verdict.{TellsOutcome};
+ghost use Rattle.yaml_round_records.specs.Borrowed.{borrowed_body};
 ghost use Rattle.yaml_round_records.specs.Meaning.{events_meant, asked_meant};
 ghost use Rattle.yaml_round_records.specs.Written.{IsEmitted};
 ghost use Rattle.yaml_round_records.specs.Leading.{bytes_of, requested, asked_for, all_events, StartsUnder, TakesAllEvents, FinishesEmitter};
 
-use crate::event::put_event;
+use crate::event::{directives_of, event_of};
+use crate::event_ref::EventRef;
 use crate::number::{break_of, encoding_of, is_set};
 use crate::record::{yaml_c_directive, yaml_c_event, yaml_c_settings};
-use std::alloc::Global;
+use std::alloc::{AllocError, Global};
 use yaml_emit::{
-    RequestedSettings, Rooms, yaml_emitter_delete, yaml_emitter_emit_from, yaml_emitter_fault,
+    RequestedSettings, yaml_emitter_delete, yaml_emitter_emit_from, yaml_emitter_fault,
     yaml_emitter_initialize, yaml_emitter_into_output, yaml_emitter_set_break,
     yaml_emitter_set_canonical, yaml_emitter_set_encoding, yaml_emitter_set_indent,
     yaml_emitter_set_unicode, yaml_emitter_set_width, yaml_emitter_t,
 };
-use yaml_parse::{
-    yaml_break_t, yaml_encoding_t, yaml_event_body_t, yaml_event_t, yaml_fault_t,
-    yaml_memory_fault, yaml_origin_t,
-};
+use yaml_parse::{yaml_event_t, yaml_fault_t, yaml_memory_fault, yaml_origin_t};
 
 /// What is asked of an emitter.
-#[derive(Clone, Copy, Drop)]
+#[derive(Clone, Copy)]
 pub struct Asked {
-    pub encoding: yaml_encoding_t,
-    pub canonical: bool,
-    pub indent: i32,
-    pub width: i32,
-    pub unicode: bool,
-    pub line_break: yaml_break_t,
+    pub settings: RequestedSettings,
     pub limit: u64,
 }
 
@@ -39,35 +37,26 @@ pub struct Asked {
 pub fn asked_of(given: &yaml_c_settings) -> Option<Asked>
     ensures { option_map asked_for result ≡ asked_meant given.now }
 {
-    let Some(encoding) = encoding_of(given.encoding) else {
-        return None;
-    };
-    let Some(line_break) = break_of(given.line_break) else {
-        return None;
-    };
+    let encoding = encoding_of(given.encoding)?;
+    let line_break = break_of(given.line_break)?;
     Some(Asked {
-        encoding,
-        canonical: is_set(given.canonical),
-        indent: given.indent,
-        width: given.width,
-        unicode: is_set(given.unicode),
-        line_break,
+        settings: RequestedSettings {
+            encoding,
+            canonical: is_set(given.canonical),
+            indent: given.indent,
+            width: given.width,
+            unicode: is_set(given.unicode),
+            line_break,
+        },
         limit: given.limit,
     })
 }
 
-// The settings that are asked for.
-pub(crate) fn requested_of(asked: &Asked) -> RequestedSettings
-    ensures { result ≡ requested asked.now }
+/// Out of memory, as an emitter's fault.
+pub(crate) fn no_memory() -> yaml_fault_t
+    ensures { IsMemoryFault emit_layers (fault_of result) }
 {
-    RequestedSettings {
-        encoding: asked.encoding,
-        canonical: asked.canonical,
-        indent: asked.indent,
-        width: asked.width,
-        unicode: asked.unicode,
-        line_break: asked.line_break,
-    }
+    yaml_memory_fault(yaml_origin_t::Emitter)
 }
 
 // An emitter that is asked for this, and was given nothing yet.
@@ -80,44 +69,40 @@ pub(crate) fn emitter_under(
     ensures memory { IfErr result (λ f. IsMemoryFault emit_layers (fault_of f)) }
 {
     let Ok(mut emitter) = yaml_emitter_initialize(alloc, limit) else {
-        return Err(yaml_memory_fault(yaml_origin_t::Emitter));
+        return Err(no_memory());
     };
-    yaml_emitter_set_encoding(&mut emitter, asked.encoding);
-    yaml_emitter_set_canonical(&mut emitter, asked.canonical);
-    yaml_emitter_set_indent(&mut emitter, asked.indent);
-    yaml_emitter_set_width(&mut emitter, asked.width);
-    yaml_emitter_set_unicode(&mut emitter, asked.unicode);
-    yaml_emitter_set_break(&mut emitter, asked.line_break);
+    let settings = asked.settings;
+    yaml_emitter_set_encoding(&mut emitter, settings.encoding);
+    yaml_emitter_set_canonical(&mut emitter, settings.canonical);
+    yaml_emitter_set_indent(&mut emitter, settings.indent);
+    yaml_emitter_set_width(&mut emitter, settings.width);
+    yaml_emitter_set_unicode(&mut emitter, settings.unicode);
+    yaml_emitter_set_break(&mut emitter, settings.line_break);
     Ok(emitter)
 }
 
-// Gives the events of records, one after another, each in place of the one before it. Refused when out of memory alone.
-fn give_from(
-    rooms: &mut Rooms,
-    bytes: &[u8],
-    list: &[yaml_c_directive],
-    records: &[yaml_c_event],
-    event: &mut yaml_event_t,
+// Gives a copy of an event. Refused when out of memory.
+fn emit_copy(
+    alloc: Global,
     emitter: &mut yaml_emitter_t,
-) -> Result<(), yaml_fault_t>
-    requires { IsSome (events_meant bytes.now list.now records.now) }
-    ensures given { OnOk result (TakesAllEvents emitter.old
-        (all_events (events_meant bytes.now list.now records.now)) emitter.new) }
-    ensures memory { IfErr result (λ f. IsMemoryFault emit_layers (fault_of f)) }
+    event: EventRef<'_>,
+) -> Result<(), AllocError>
+    requires { HasUtf8 (borrowed_body event) }
+    ensures takes { OnOk result (TakesEvents emitter.old
+        (emitter_event (borrowed_body event.entry) ∷ []) emitter.new []) }
+    ensures stays { OnOk result (Stays emitter.old emitter.new) }
+    ensures few { OnOk result (length emitter.new.held ≤ 3) }
+    ensures last { OnOk result (emitter.old.fault ≡ None → AreLast (emitter.old.held
+        ++ emitter_event (borrowed_body event.entry) ∷ []) emitter.new.held) }
 {
-    if records.is_empty() {
-        return Ok(());
-    }
-    for record in records {
-        let Ok(()) = put_event(rooms, bytes, list, record, &mut event.body) else {
-            return Err(yaml_memory_fault(yaml_origin_t::Emitter));
-        };
-        yaml_emitter_emit_from(emitter, event);
-    }
+    let body = event.copied(alloc)?;
+    let mut event = yaml_event_t::unplaced(body);
+    yaml_emitter_emit_from(emitter, &mut event);
+    drop(event);
     Ok(())
 }
 
-// The same, with rooms of its own.
+// Gives the events of records, one after another. Refused when out of memory alone.
 pub(crate) fn give_all(
     alloc: Global,
     bytes: &[u8],
@@ -130,16 +115,21 @@ pub(crate) fn give_all(
         (all_events (events_meant bytes.now list.now records.now)) emitter.new) }
     ensures memory { IfErr result (λ f. IsMemoryFault emit_layers (fault_of f)) }
 {
-    let mut rooms = Rooms {
-        alloc,
-        tag: Vec::new(alloc),
-        value: Vec::new(alloc),
-    };
-    let mut event = yaml_event_t::unplaced(yaml_event_body_t::No);
-    let given = give_from(&mut rooms, bytes, list, records, &mut event, emitter);
-    drop(event);
-    drop(rooms);
-    given
+    if records.is_empty() {
+        return Ok(());
+    }
+    for record in records {
+        let Some(directives) = directives_of(alloc, bytes, list, record) else {
+            return Err(no_memory());
+        };
+        let Some(event) = event_of(bytes, &directives, record) else {
+            return Err(no_memory());
+        };
+        let Ok(()) = emit_copy(alloc, emitter, event) else {
+            return Err(no_memory());
+        };
+    }
+    Ok(())
 }
 
 pub(crate) fn fault_in(emitter: &yaml_emitter_t) -> Option<yaml_fault_t>

@@ -6,6 +6,7 @@ mod counted;
 mod counting;
 mod emitter;
 mod event;
+mod event_ref;
 mod listing;
 mod meaning;
 mod number;
@@ -20,12 +21,13 @@ mod token_record;
 pub use counted::count_events;
 pub use counting::characters_before;
 pub use emitter::{Asked, asked_of, emitted};
+pub use event_ref::{EventRef, borrowed};
 pub use listing::Listing;
 pub use meaning::are_meant;
 pub use number::{break_of, encoding_of, error_number, is_set};
 pub use onward::{Onward, StandRecords, emitted_on};
 pub use record::{
-    mark_told, yaml_c_directive, yaml_c_event, yaml_c_mark, yaml_c_settings, yaml_c_span,
+    mark_told, part_at, yaml_c_directive, yaml_c_event, yaml_c_mark, yaml_c_settings, yaml_c_span,
 };
 pub use standing::{is_stand, yaml_c_level, yaml_c_place, yaml_c_stand};
 pub use token_counted::count_tokens;

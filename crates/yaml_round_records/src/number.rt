@@ -1,7 +1,7 @@
 //! The numbers of C, and what they mean.
 
-ghost use Rattle.std.specs.Prelude.{◌≡◌, Some};
-ghost use Rattle.yaml_round_records.specs.Numbers.{is_set, is_there, flag_told, encoding_meant, break_meant, kind_meant, scalar_style_meant, sequence_style_meant, mapping_style_meant, error_number};
+ghost use Rattle.std.specs.Prelude.{◌≡◌};
+ghost use Rattle.yaml_round_records.specs.Numbers.{is_set, is_there, flag_told, encoding_meant, break_meant, kind_meant, scalar_style_meant, sequence_style_meant, mapping_style_meant, encoding_number, scalar_style_number, sequence_style_number, mapping_style_number, error_number};
 
 use yaml_parse::{
     yaml_break_t, yaml_encoding_t, yaml_error_type_t, yaml_event_type_t, yaml_mapping_style_t,
@@ -30,7 +30,7 @@ pub(crate) fn flag(is: bool) -> i32
     ensures meant { is_set result ≡ is }
     ensures told { result ≡ flag_told is }
 {
-    if is { 1 } else { 0 }
+    is as i32
 }
 
 /// The encoding that a number means.
@@ -48,16 +48,10 @@ pub fn encoding_of(number: i32) -> Option<yaml_encoding_t>
 }
 
 /// The number of an encoding.
-#[tactic(auto, unfolding(crate::specs::Numbers::encoding_meant))]
 pub(crate) fn encoding_number(encoding: yaml_encoding_t) -> i32
-    ensures { encoding_meant result ≡ Some encoding }
+    ensures { result ≡ encoding_number encoding }
 {
-    match encoding {
-        yaml_encoding_t::YAML_ANY_ENCODING => 0,
-        yaml_encoding_t::YAML_UTF8_ENCODING => 1,
-        yaml_encoding_t::YAML_UTF16LE_ENCODING => 2,
-        yaml_encoding_t::YAML_UTF16BE_ENCODING => 3,
-    }
+    encoding as i32
 }
 
 /// The break that a number means.
@@ -112,18 +106,10 @@ pub(crate) fn scalar_style_of(number: i32) -> Option<yaml_scalar_style_t>
 }
 
 /// The number of a scalar's style.
-#[tactic(auto, unfolding(crate::specs::Numbers::scalar_style_meant))]
 pub(crate) fn scalar_style_number(style: yaml_scalar_style_t) -> i32
-    ensures { scalar_style_meant result ≡ Some style }
+    ensures { result ≡ scalar_style_number style }
 {
-    match style {
-        yaml_scalar_style_t::YAML_ANY_SCALAR_STYLE => 0,
-        yaml_scalar_style_t::YAML_PLAIN_SCALAR_STYLE => 1,
-        yaml_scalar_style_t::YAML_SINGLE_QUOTED_SCALAR_STYLE => 2,
-        yaml_scalar_style_t::YAML_DOUBLE_QUOTED_SCALAR_STYLE => 3,
-        yaml_scalar_style_t::YAML_LITERAL_SCALAR_STYLE => 4,
-        yaml_scalar_style_t::YAML_FOLDED_SCALAR_STYLE => 5,
-    }
+    style as i32
 }
 
 /// The style of a sequence that a number means.
@@ -140,15 +126,10 @@ pub(crate) fn sequence_style_of(number: i32) -> Option<yaml_sequence_style_t>
 }
 
 /// The number of a sequence's style.
-#[tactic(auto, unfolding(crate::specs::Numbers::sequence_style_meant))]
 pub(crate) fn sequence_style_number(style: yaml_sequence_style_t) -> i32
-    ensures { sequence_style_meant result ≡ Some style }
+    ensures { result ≡ sequence_style_number style }
 {
-    match style {
-        yaml_sequence_style_t::YAML_ANY_SEQUENCE_STYLE => 0,
-        yaml_sequence_style_t::YAML_BLOCK_SEQUENCE_STYLE => 1,
-        yaml_sequence_style_t::YAML_FLOW_SEQUENCE_STYLE => 2,
-    }
+    style as i32
 }
 
 /// The style of a mapping that a number means.
@@ -165,29 +146,15 @@ pub(crate) fn mapping_style_of(number: i32) -> Option<yaml_mapping_style_t>
 }
 
 /// The number of a mapping's style.
-#[tactic(auto, unfolding(crate::specs::Numbers::mapping_style_meant))]
 pub(crate) fn mapping_style_number(style: yaml_mapping_style_t) -> i32
-    ensures { mapping_style_meant result ≡ Some style }
+    ensures { result ≡ mapping_style_number style }
 {
-    match style {
-        yaml_mapping_style_t::YAML_ANY_MAPPING_STYLE => 0,
-        yaml_mapping_style_t::YAML_BLOCK_MAPPING_STYLE => 1,
-        yaml_mapping_style_t::YAML_FLOW_MAPPING_STYLE => 2,
-    }
+    style as i32
 }
 
 /// The number of a fault's kind.
 pub fn error_number(kind: yaml_error_type_t) -> i32
     ensures { result ≡ error_number kind }
 {
-    match kind {
-        yaml_error_type_t::YAML_NO_ERROR => 0,
-        yaml_error_type_t::YAML_MEMORY_ERROR => 1,
-        yaml_error_type_t::YAML_READER_ERROR => 2,
-        yaml_error_type_t::YAML_SCANNER_ERROR => 3,
-        yaml_error_type_t::YAML_PARSER_ERROR => 4,
-        yaml_error_type_t::YAML_COMPOSER_ERROR => 5,
-        yaml_error_type_t::YAML_WRITER_ERROR => 6,
-        yaml_error_type_t::YAML_EMITTER_ERROR => 7,
-    }
+    kind as i32
 }

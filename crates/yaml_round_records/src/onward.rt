@@ -7,7 +7,7 @@ ghost use Rattle.yaml_round_records.specs.Leading.{requested, all_events};
 ghost use Rattle.yaml_round_records.specs.Standing.{stand_meant, at_meant};
 ghost use Rattle.yaml_round_records.specs.Onward.{most_on, StartsAt, IsStandBy, TellsStandPlace, TellsStand, TellsAt, Means, GoneTold, GoneOn, IsOnwardAt, onward_of};
 
-use crate::emitter::{Asked, emitter_under, fault_in, give_all, requested_of};
+use crate::emitter::{Asked, emitter_under, fault_in, give_all, no_memory};
 use crate::event::all_directives;
 use crate::listing::{Listing, push_directives};
 use crate::number::{flag, is_set};
@@ -22,7 +22,7 @@ use yaml_emit::{
     yaml_emitter_into_output, yaml_emitter_outer, yaml_emitter_resume, yaml_emitter_stand,
     yaml_emitter_stand_t, yaml_emitter_t,
 };
-use yaml_parse::{yaml_fault_t, yaml_memory_fault, yaml_origin_t};
+use yaml_parse::yaml_fault_t;
 
 /// Where an emitter stands, in records, with lists of its own.
 #[derive(Drop)]
@@ -71,12 +71,6 @@ fn stand_by(given: &yaml_c_place) -> Option<yaml_emitter_stand_t>
     })
 }
 
-fn no_memory() -> yaml_fault_t
-    ensures { IsMemoryFault emit_layers (fault_of result) }
-{
-    yaml_memory_fault(yaml_origin_t::Emitter)
-}
-
 // An emitter that goes on from a stand at which events were given.
 fn resumed(
     alloc: Global,
@@ -100,7 +94,7 @@ fn resumed(
     let Some(directives) = all_directives(alloc, given.bytes, given.directives) else {
         return Err(no_memory());
     };
-    yaml_emitter_resume(alloc, requested_of(asked), limit, stand, levels, directives)
+    yaml_emitter_resume(alloc, asked.settings, limit, stand, levels, directives)
 }
 
 // An emitter that goes on from a stand.

@@ -1,7 +1,7 @@
 //! Events as records over one block of bytes, and how a text is written.
 
-ghost use Rattle.std.specs.Prelude.{◌≡◌};
-ghost use Rattle.yaml_round_records.specs.Records.{mark_told};
+ghost use Rattle.std.specs.Prelude.{◌≡◌, option_map};
+ghost use Rattle.yaml_round_records.specs.Records.{mark_told, part_at};
 
 use yaml_parse::yaml_mark_t;
 
@@ -83,6 +83,14 @@ const _: () = prove!(size_of::<yaml_c_span>() == 16);
 const _: () = prove!(size_of::<yaml_c_directive>() == 32);
 
 const _: () = prove!(size_of::<yaml_c_event>() == 168);
+
+/// The part of a list that a span names, where it lies within it.
+#[tactic(auto, unfolding(crate::specs::Records::part_at))]
+pub fn part_at<X>(list: &[X], span: yaml_c_span) -> Option<&[X]>
+    ensures { option_map (λ t. t.now) result ≡ part_at list.now span }
+{
+    list.get(span.at as usize..)?.get(..span.len as usize)
+}
 
 /// A mark as C reads it, before which no character is counted yet.
 pub fn mark_told(mark: yaml_mark_t) -> yaml_c_mark

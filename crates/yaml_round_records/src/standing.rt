@@ -7,9 +7,8 @@ ghost use Rattle.yaml_round_records.specs.Numbers.{is_set, flag_told};
 ghost use Rattle.yaml_round_records.specs.Records.{part_at, directive_at, all_directives};
 ghost use Rattle.yaml_round_records.specs.Standing.{place_meant, spelling_meant, phase_meant, level_meant, innermost_meant, levels_meant, stand_meant, at_meant, ends_implicitly, place_number, spelling_number, phase_number, innermost_told, outer_if, IsFew};
 
-use crate::meaning::text_within;
 use crate::number::{flag, is_set};
-use crate::record::{yaml_c_directive, yaml_c_span};
+use crate::record::{part_at, yaml_c_directive, yaml_c_span};
 use std::alloc::{AllocError, Global};
 use yaml_emit::{Encoding, Expected, Level, Phase};
 
@@ -287,7 +286,7 @@ fn are_levels(levels: &[yaml_c_level]) -> bool
 fn is_within(bytes: &[u8], span: yaml_c_span) -> bool
     ensures { result ≡ is_some (part_at bytes.now span) }
 {
-    text_within(bytes, span).is_some()
+    part_at(bytes, span).is_some()
 }
 
 // Whether a directive's spans lie within the bytes.

@@ -7,8 +7,9 @@ ghost use Rattle.yaml_round_records.specs.Records.{mark_told};
 ghost use Rattle.yaml_round_records.specs.TokensListed.{ListsTokens, EndsListed, ListsNext, MakesRecord, Adds, plain, record_at, with_value, with_both};
 
 use crate::listing::push_text;
+use crate::number::{encoding_number, scalar_style_number};
 use crate::record::mark_told;
-use crate::token_record::{encoding_number, plain, style_number, yaml_c_token};
+use crate::token_record::{plain, yaml_c_token};
 use std::alloc::{AllocError, Global};
 use yaml_scan::{
     yaml_fault_t, yaml_memory_fault, yaml_origin_t, yaml_parser_has_token, yaml_parser_peek,
@@ -40,9 +41,10 @@ fn named(bytes: &mut Vec<u8>, base: yaml_c_token, text: &[u8]) -> Result<yaml_c_
     ensures put { IfOk result (λ _. bytes.new.items ≡ bytes.old.items ++ text.now) }
     ensures is { IfOk result (λ r. r ≡ with_value (length bytes.old.items) text.now base) }
 {
-    let mut record = base;
-    record.value = push_text(bytes, text)?;
-    Ok(record)
+    Ok(yaml_c_token {
+        value: push_text(bytes, text)?,
+        ..base
+    })
 }
 
 // A record with two texts.
@@ -56,40 +58,11 @@ fn named_twice(
     ensures is { IfOk result (λ r. r ≡ with_both (length bytes.old.items) handle.now text.now
         base) }
 {
-    let mut record = base;
-    record.handle = push_text(bytes, handle)?;
-    record.value = push_text(bytes, text)?;
-    Ok(record)
-}
-
-// A token's kind as a number.
-fn kind_number(token: &yaml_token_t) -> i32
-    ensures { result ≡ (record_at 0 (token_of token.now)).kind }
-{
-    match &token.body {
-        yaml_token_body_t::No => 0,
-        yaml_token_body_t::StreamStart { .. } => 1,
-        yaml_token_body_t::StreamEnd => 2,
-        yaml_token_body_t::VersionDirective { .. } => 3,
-        yaml_token_body_t::TagDirective { .. } => 4,
-        yaml_token_body_t::DocumentStart => 5,
-        yaml_token_body_t::DocumentEnd => 6,
-        yaml_token_body_t::BlockSequenceStart => 7,
-        yaml_token_body_t::BlockMappingStart => 8,
-        yaml_token_body_t::BlockEnd => 9,
-        yaml_token_body_t::FlowSequenceStart => 10,
-        yaml_token_body_t::FlowSequenceEnd => 11,
-        yaml_token_body_t::FlowMappingStart => 12,
-        yaml_token_body_t::FlowMappingEnd => 13,
-        yaml_token_body_t::BlockEntry => 14,
-        yaml_token_body_t::FlowEntry => 15,
-        yaml_token_body_t::Key => 16,
-        yaml_token_body_t::Value => 17,
-        yaml_token_body_t::Alias { .. } => 18,
-        yaml_token_body_t::Anchor { .. } => 19,
-        yaml_token_body_t::Tag { .. } => 20,
-        yaml_token_body_t::Scalar { .. } => 21,
-    }
+    Ok(yaml_c_token {
+        handle: push_text(bytes, handle)?,
+        value: push_text(bytes, text)?,
+        ..base
+    })
 }
 
 // A record of a token's kind and marks, with nothing else.
@@ -98,7 +71,7 @@ fn base_of(token: &yaml_token_t) -> yaml_c_token
         (mark_told (token_of token.now).start_mark) (mark_told (token_of token.now).end_mark) }
 {
     plain(
-        kind_number(token),
+        token.type_() as i32,
         mark_told(token.start_mark),
         mark_told(token.end_mark),
     )
@@ -108,20 +81,19 @@ fn base_of(token: &yaml_token_t) -> yaml_c_token
 fn record_of(bytes: &mut Vec<u8>, token: &yaml_token_t) -> Result<yaml_c_token, AllocError>
     ensures { IfOk result (MakesRecord bytes.old.items (token_of token.now) bytes.new.items) }
 {
-    let mut base = base_of(token);
+    let base = base_of(token);
     match &token.body {
-        yaml_token_body_t::StreamStart { encoding } => {
-            base.encoding = encoding_number(*encoding);
-            Ok(base)
-        }
-        yaml_token_body_t::VersionDirective { major, minor } => {
-            base.major = *major;
-            base.minor = *minor;
-            Ok(base)
-        }
+        yaml_token_body_t::StreamStart { encoding } => Ok(yaml_c_token {
+            encoding: encoding_number(*encoding),
+            ..base
+        }),
+        yaml_token_body_t::VersionDirective { major, minor } => Ok(yaml_c_token {
+            major: *major,
+            minor: *minor,
+            ..base
+        }),
         yaml_token_body_t::Alias { value } | yaml_token_body_t::Anchor { value } => {
-            let record = named(bytes, base, value)?;
-            Ok(record)
+            named(bytes, base, value)
         }
         yaml_token_body_t::TagDirective {
             handle,
@@ -130,14 +102,10 @@ fn record_of(bytes: &mut Vec<u8>, token: &yaml_token_t) -> Result<yaml_c_token, 
         | yaml_token_body_t::Tag {
             handle,
             suffix: text,
-        } => {
-            let record = named_twice(bytes, base, handle, text)?;
-            Ok(record)
-        }
+        } => named_twice(bytes, base, handle, text),
         yaml_token_body_t::Scalar { value, style } => {
-            base.style = style_number(*style);
-            let record = named(bytes, base, value)?;
-            Ok(record)
+            let style = scalar_style_number(*style);
+            named(bytes, yaml_c_token { style, ..base }, value)
         }
         _ => Ok(base),
     }

@@ -1,10 +1,9 @@
-//! Tokens as records, with the numbers of libyaml's enums.
+//! Tokens as records.
 
 ghost use Rattle.std.specs.Prelude.{◌≡◌};
-ghost use Rattle.yaml_round_records.specs.TokensListed.{plain, encoding_number, style_number};
+ghost use Rattle.yaml_round_records.specs.TokensListed.{plain};
 
 use crate::record::{yaml_c_mark, yaml_c_span};
-use yaml_scan::{yaml_encoding_t, yaml_scalar_style_t};
 
 /// A token. What its kind doesn't have is 0.
 #[repr(C)]
@@ -45,31 +44,5 @@ pub(crate) fn plain(kind: i32, start: yaml_c_mark, end: yaml_c_mark) -> yaml_c_t
         value: NOTHING,
         start,
         end,
-    }
-}
-
-/// The number of an encoding.
-pub(crate) fn encoding_number(encoding: yaml_encoding_t) -> i32
-    ensures { result ≡ encoding_number encoding }
-{
-    match encoding {
-        yaml_encoding_t::YAML_ANY_ENCODING => 0,
-        yaml_encoding_t::YAML_UTF8_ENCODING => 1,
-        yaml_encoding_t::YAML_UTF16LE_ENCODING => 2,
-        yaml_encoding_t::YAML_UTF16BE_ENCODING => 3,
-    }
-}
-
-/// The number of a scalar's style.
-pub(crate) fn style_number(style: yaml_scalar_style_t) -> i32
-    ensures { result ≡ style_number style }
-{
-    match style {
-        yaml_scalar_style_t::YAML_ANY_SCALAR_STYLE => 0,
-        yaml_scalar_style_t::YAML_PLAIN_SCALAR_STYLE => 1,
-        yaml_scalar_style_t::YAML_SINGLE_QUOTED_SCALAR_STYLE => 2,
-        yaml_scalar_style_t::YAML_DOUBLE_QUOTED_SCALAR_STYLE => 3,
-        yaml_scalar_style_t::YAML_LITERAL_SCALAR_STYLE => 4,
-        yaml_scalar_style_t::YAML_FOLDED_SCALAR_STYLE => 5,
     }
 }

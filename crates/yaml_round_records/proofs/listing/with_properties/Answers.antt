@@ -1,9 +1,12 @@
 -- The flags are kept as they are told.
-use Rattle.yaml_round_records.proofs.Placing.{told_back, put_properties}
+use Rattle.std.proofs.Common.{◌∙◌, ap, sym}
+use Rattle.yaml_round_records.specs.Numbers.{flag_told}
+use Rattle.yaml_round_records.proofs.Recording.{mapped_some, properties_told}
 use Rattle.yaml_round_records.proofs.listing.with_properties.Goals as goal
 
-pub returns : goal.returns
-returns c =
-    let a = c.in_ok-first.ensures in
-    let t = c.in_ok-second.ensures in
-    put_properties _ _ _ c.args.base _ _ c.in_ok-first.first.0 c.in_ok-second.second.0 _ _ _ _ (told_back _ _ a.flag) (told_back _ _ t.flag) a t
+pub returns-clause-is : goal.returns-clause-is
+returns-clause-is c =
+    let a = c.in_ok-record.ensures in
+    let t = c.in_ok-record-2.ensures in
+    properties_told _ _ c.args.base _ _ c.flag.result c.flag-2.result _ _ (c.flag.ensures.told ∙ ap flag_told (c.is_some.ensures ∙ sym (mapped_some c.args.anchor)))
+    (c.flag-2.ensures.told ∙ ap flag_told (c.is_some-2.ensures ∙ sym (mapped_some c.args.tag))) a.is a.put t.is

@@ -1,3 +1,4 @@
+use Rattle.std.proofs.Common.{refl}
 use Rattle.yaml_round_records.proofs.Places.{goes_ok, stand_few, only_memory}
 use Rattle.yaml_round_records.proofs.onward.resumed.Goals as goal
 
@@ -6,7 +7,7 @@ yaml_emitter_resume-requires-clause-column c = stand_few _ c.in-Some.stand c.in-
 
 pub returns-clause-starts : goal.returns-clause-starts
 returns-clause-starts c =
-    goes_ok _ c.requested_of.result _ _ _ _ _ _ c.in-Some.stand _ _ c.requested_of.ensures c.yaml_emitter_resume.ensures.is c.in-Some.ensures c.in-Some-levels_of.ensures
+    goes_ok _ c.args.asked.now.settings _ _ _ _ _ _ c.in-Some.stand _ _ refl c.yaml_emitter_resume.ensures.is c.in-Some.ensures c.in-Some-levels_of.ensures
     c.in-Some-all_directives.ensures c.requires.few
 
 pub returns-clause-memory : goal.returns-clause-memory

@@ -3,7 +3,7 @@ use Rattle.std.specs.Prelude.{IsSome}
 use Rattle.yaml_round_records.specs.Meaning.{events_meant}
 use Rattle.yaml_round_records.specs.Leading.{all_events, LeadsOnward}
 use Rattle.yaml_round_records.proofs.Giving.{LastGiven}
-use Rattle.yaml_round_records.proofs.emitter.give_from.Given as goal
+use Rattle.yaml_round_records.proofs.emitter.give_all.Given as goal
 
 -- the events of the records that are left are to come
 abbrev pub invariant-loop-record : goal.invariant-loop-record

@@ -1,0 +1,33 @@
+use Rattle.yaml_round_records.proofs.Building.{made_of}
+use Rattle.yaml_round_records.proofs.Leading.{first_meant, rest_meant, leads_same, leads_record}
+use Rattle.yaml_round_records.proofs.Giving.{last_nothing, last_record, gives_none, gives_end}
+use Rattle.yaml_round_records.proofs.emitter.give_all.Goals as goal
+
+pub emit_copy-requires : goal.emit_copy-requires
+emit_copy-requires c = (made_of _ _ _ c.deref.result.now c.in-Some.directives.items c.event_of.result c.in-Some-event_of.event c.in-Some.ensures c.deref.ensures.value c.event_of.ensures c.in-Some-event_of.is
+    (first_meant _ _ _ _ _ c.loop-record-test.true c.loop-record.invariant.meant)).1
+
+pub loop-record-init : goal.loop-record-init
+loop-record-init c = record {
+  meant = c.requires;
+  leads = leads_same _ _;
+  last = λ none. last_nothing _ _;
+  few = λ few. few;
+}
+
+pub loop-record-preserved : goal.loop-record-preserved
+loop-record-preserved c =
+    let is = (made_of _ _ _ c.deref.result.now c.in-Some.directives.items c.event_of.result c.in-Some-event_of.event c.in-Some.ensures c.deref.ensures.value c.event_of.ensures c.in-Some-event_of.is
+    (first_meant _ _ _ _ _ c.loop-record-test.true c.loop-record.invariant.meant)).0 in
+    record {
+      meant = rest_meant _ _ _ _ _ _ c.loop-record-test.true c.loop-record.invariant.meant is;
+      leads = leads_record _ _ _ _ _ _ _ _ _ _ c.loop-record-test.true c.loop-record.invariant.meant is c.loop-record.invariant.leads c.in-Ok.ensures.takes;
+      last = last_record _ _ _ _ _ _ _ _ _ _ c.loop-record-test.true c.loop-record.invariant.meant is c.loop-record.invariant.last c.in-Ok.ensures.stays c.in-Ok.ensures.last;
+      few = λ few. c.in-Ok.ensures.few;
+    }
+
+pub returns-then-is_empty-clause-given : goal.returns-then-is_empty-clause-given
+returns-then-is_empty-clause-given c = gives_none _ _ _ _ _ c.is_empty.ensures c.if-is_empty.true
+
+pub returns-clause-given : goal.returns-clause-given
+returns-clause-given c = gives_end _ _ _ _ _ _ _ c.is_empty.ensures c.if-is_empty.false c.requires c.loop-record-test.false c.loop-record.invariant.leads c.loop-record.invariant.last c.loop-record.invariant.few

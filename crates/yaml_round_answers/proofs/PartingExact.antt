@@ -1,5 +1,5 @@
 -- The kind of a parting's answer is -1 only where a number means nothing.
-use Rattle.std.proofs.Common.{◌≡◌, inl, inr, sym, subst, ℕ, ℤ, pos, negsuc, List, [], Option, None, Some, Result, Ok, Err}
+use Rattle.std.proofs.Common.{◌≡◌, ◌∙◌, inl, inr, sym, subst, ℕ, ℤ, pos, negsuc, List, [], Option, None, Some, Result, Ok, Err}
 use Rattle.yaml_parse.specs.declared.yaml_encoding_t.{yaml_encoding_t}
 use Rattle.yaml_parse.specs.declared.yaml_fault_t.{yaml_fault_t}
 use Rattle.yaml_parse.specs.declared.yaml_origin_t.TheVariants.{Parser}
@@ -9,9 +9,9 @@ use Rattle.yaml_round.specs.declared.yaml_difference_t.{yaml_difference_t}
 use Rattle.yaml_round_records.specs.Numbers.{encoding_meant}
 use Rattle.yaml_round_answers.specs.declared.answer.yaml_c_answer.{yaml_c_answer}
 use Rattle.yaml_round_answers.specs.declared.parting.yaml_c_parting.{yaml_c_parting}
-use Rattle.yaml_round_answers.specs.Told.{IsExact, Refuses, both, side_number}
+use Rattle.yaml_round_answers.specs.Told.{IsExact, Refuses, TellsMisuse, both, side_number}
 use Rattle.yaml_round_answers.specs.Path.{path_spelled}
-use Rattle.yaml_round_answers.specs.Parting.{TellsParting, PartingMeant, Parts, PartsDocuments}
+use Rattle.yaml_round_answers.specs.Parting.{NoPlaceBeside, TellsParting, PartingMeant, Parts, PartsDocuments}
 use Rattle.yaml_round_answers.proofs.Exact.{text_kind, fault_kind}
 
 refusal_kind : (f : Fault) (whose : ℤ) (a : yaml_c_answer) → Refuses f whose a
@@ -53,6 +53,15 @@ exact_as : (m n first_from second_from k : ℤ)
 exact_as m n first_from second_from k Is p t e f g h =
     subst (λ z. IsExact (both (encoding_meant first_from) (encoding_meant second_from)) z) (sym g)
     (exact (both (encoding_meant first_from) (encoding_meant second_from)) Is p t (told_as m n first_from second_from Is p e f h))
+
+-- where the numbers mean that, and where they mean nothing
+pub parts_so : {M : Type 0} (Is : M → yaml_c_parting → Type 0) (o p : Option M) (m : M)
+    (x : yaml_c_parting) → o ≡ p → o ≡ Some m → Is m x → PartingMeant p Is x
+parts_so Is o p m x e f h = subst (λ z. PartingMeant z Is x) (sym f ∙ e) h
+
+pub parts_unmeant : {M : Type 0} (Is : M → yaml_c_parting → Type 0) (o p : Option M)
+    (x : yaml_c_parting) → o ≡ p → o ≡ None → NoPlaceBeside TellsMisuse x → PartingMeant p Is x
+parts_unmeant Is o p x e f h = subst (λ z. PartingMeant z Is x) (sym f ∙ e) h
 
 -- ---- contents
 

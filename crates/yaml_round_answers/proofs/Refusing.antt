@@ -1,18 +1,25 @@
 -- A fault is reported, or that memory for its line was refused.
-use Rattle.std.proofs.Common.{◌≡◌, ◌∙◌, ◌⊎◌, inl, inr, ap, sym, subst, refl, ℕ, ℤ, pos, List, Result, Err}
+use mir.Syntax.{w32}
+use mir.Val.{SFits, to_z, of_z}
+use Rattle.std.proofs.Common.{◌≡◌, ◌∙◌, ◌⊎◌, inl, inr, ap, sym, subst, refl, ℕ, ℤ, pos, Bool, List, Option, None, Some, Result, Ok, Err, Vec}
+use Rattle.std.proofs.lemmas.Int.{to_z-of_z}
+use Rattle.std.specs.Global.{Global}
+use Rattle.yaml_round_records.specs.Numbers.{encoding_meant}
 use Rattle.yaml_parse.specs.declared.yaml_origin_t.{yaml_origin_t}
 use Rattle.yaml_parse.specs.declared.yaml_origin_t.TheVariants.{Writer, Parser}
 use Rattle.yaml_parse.specs.declared.yaml_fault_t.{yaml_fault_t}
 use Rattle.yaml_parse.specs.declared.yaml_encoding_t.{yaml_encoding_t}
-use Rattle.yaml_parse.specs.Faults.{Fault, fault_of, memory_fault, IsMemoryFault, parse_layers}
-use Rattle.yaml_round.specs.Answers.{IsRight, IsSideStarved, IsSideFaulty, IsSame}
+use Rattle.yaml_parse.specs.Faults.{Fault, fault_of, memory_fault, IsMemoryFault, Answers, parse_layers}
+use Rattle.yaml_round.specs.Answers.{IsRight, IsSideStarved, IsSideFaulty, IsSame, text_and_form}
+use Rattle.yaml_round.specs.declared.yaml_form_t.{yaml_form_t}
+use Rattle.yaml_round_records.specs.Leading.{bytes_of}
 use Rattle.yaml_round.specs.declared.yaml_side_t.{yaml_side_t}
 use Rattle.yaml_round.specs.declared.yaml_side_t.TheVariants.{First, Second}
 use Rattle.yaml_round_answers.specs.declared.answer.yaml_c_answer.{yaml_c_answer}
 use Rattle.yaml_round_records.specs.Characters.{characters_before}
 use Rattle.yaml_round_records.specs.declared.yaml_c_mark.{yaml_c_mark}
 use Rattle.yaml_round_records.specs.Counted.{mark_counted}
-use Rattle.yaml_round_answers.specs.Told.{TellsFault, TellsFaultIn, TellsMemory, TellsStarved, Refuses, RefusesIn, OrMemory, IsAnswered, side_number, Compares}
+use Rattle.yaml_round_answers.specs.Told.{TellsFault, TellsFaultIn, TellsMemory, TellsMisuse, TellsStarved, TellsResult, TellsForm, TellsAnswer, TellsForms, TellsSides, Refuses, RefusesIn, OrMemory, IsAnswered, AnswersMeant, both, side_number, Compares}
 
 -- C isn't told of the layer
 layered : (layer : yaml_origin_t) (whose : ℤ) (a : yaml_c_answer)
@@ -158,3 +165,44 @@ refused_side a_from a b_from b side f x is (inr s) =
       is = inl (starved_side a_from a b_from b side (fault_of f) (fault_of (record s.refusal { origin = Parser })) (inl it) is);
       told = subst (λ (g : Fault). TellsFault g (side_number side) x) (sym it) (s.told Parser);
     }
+
+-- ---- what a call gives
+
+-- a text
+pub text_answered : (layers : List yaml_origin_t) (layer : yaml_origin_t)
+    (Is : Result (List ℕ) Fault → Type 0) (r : Result (Vec ℕ Global) yaml_fault_t)
+    (a : yaml_c_answer) → IsMemoryFault layers (memory_fault layer) → Answers layers bytes_of Is r
+    → TellsAnswer r a → IsAnswered (OrMemory layers Is) TellsResult a
+text_answered layers layer Is (Ok text) a may is told = record { result = Ok text.items; is = is; told = told }
+text_answered layers layer Is (Err f) a may is told = refused_answer layers layer Is TellsResult (fault_of f) a may (λ g t. t) is told
+
+-- a text and its form
+pub form_answered : (layers : List yaml_origin_t) (layer : yaml_origin_t)
+    (Is : Result (List ℕ × yaml_form_t) Fault → Type 0)
+    (r : Result (Vec ℕ Global × yaml_form_t) yaml_fault_t) (a : yaml_c_answer)
+    → IsMemoryFault layers (memory_fault layer) → Answers layers text_and_form Is r
+    → TellsForms r a → IsAnswered (OrMemory layers Is) TellsForm a
+form_answered layers layer Is (Ok (text, form)) a may is told = record { result = Ok (text.items, form); is = is; told = told }
+form_answered layers layer Is (Err f) a may is told = refused_answer layers layer Is TellsForm (fault_of f) a may (λ g t. t) is told
+
+-- whether two inputs are the same
+pub sides_answered : (a_from : yaml_encoding_t) (a : List ℕ) (b_from : yaml_encoding_t)
+    (b : List ℕ) (r : Result Bool (yaml_side_t × yaml_fault_t)) (x : yaml_c_answer)
+    → IsSame a_from a b_from b r → TellsSides r x → Compares a b (a_from, b_from) x
+sides_answered a_from a b_from b (Ok same) x is told = record { result = Ok same; is = is; told = told }
+sides_answered a_from a b_from b (Err (side, f)) x is told = refused_side a_from a b_from b side f x is told
+
+-- two numbers as the machine keeps them
+pub both_told : (m n : ℤ) → SFits w32 m → SFits w32 n
+    → both (encoding_meant (to_z w32 (of_z w32 m))) (encoding_meant (to_z w32 (of_z w32 n)))
+    ≡ both (encoding_meant m) (encoding_meant n)
+both_told m n f g = rw (to_z-of_z w32 m f, to_z-of_z w32 n g) refl
+
+-- where the numbers mean that, and where they mean nothing
+pub meant_so : {M : Type 0} (Is : M → yaml_c_answer → Type 0) (o p : Option M) (m : M)
+    (a : yaml_c_answer) → o ≡ p → o ≡ Some m → Is m a → AnswersMeant p Is a
+meant_so Is o p m a e f h = subst (λ z. AnswersMeant z Is a) (sym f ∙ e) h
+
+pub unmeant : {M : Type 0} (Is : M → yaml_c_answer → Type 0) (o p : Option M)
+    (a : yaml_c_answer) → o ≡ p → o ≡ None → TellsMisuse a → AnswersMeant p Is a
+unmeant Is o p a e f h = subst (λ z. AnswersMeant z Is a) (sym f ∙ e) h

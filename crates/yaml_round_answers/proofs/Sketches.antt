@@ -1,5 +1,5 @@
 -- What is known of a document in the making is what the loader knows.
-use Rattle.std.proofs.Common.{◌≡◌, ℕ, ◌+◌, length, Bool, List, [], ◌∷◌, ◌++◌, refl, sym, subst, ap, ◌∙◌, Option, None, Some}
+use Rattle.std.proofs.Common.{◌≡◌, ℕ, length, Bool, List, [], ◌∷◌, ◌++◌, refl, sym, subst, ap, ◌∙◌, Option, None, Some}
 use Rattle.std.specs.Prelude.{suc, ℤ, pos}
 use Rattle.std.specs.FinMap as finite
 use Rattle.yaml_parse_model.specs.Events.{Event, EventBody}

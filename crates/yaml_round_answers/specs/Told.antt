@@ -1,5 +1,6 @@
 -- What C is told of a call.
-use Rattle.std.specs.Prelude.{◌≡◌, ◌⊎◌, ℕ, ℤ, pos, negsuc, List, [], Bool, true, false, Option, None, Some, Result, Ok, Err, codes, unwrap_or}
+use Rattle.std.specs.Prelude.{◌≡◌, ◌⊎◌, ℕ, ℤ, pos, negsuc, List, [], Bool, true, false, Option, None, Some, Result, Ok, Err, Vec, codes, unwrap_or}
+use Rattle.std.specs.Global.{Global}
 use Rattle.yaml_parse.specs.declared.yaml_encoding_t.{yaml_encoding_t}
 use Rattle.yaml_parse.specs.declared.yaml_origin_t.{yaml_origin_t}
 use Rattle.yaml_parse.specs.declared.yaml_origin_t.TheVariants.{Writer}
@@ -116,6 +117,11 @@ abbrev pub TellsResult : Result (List ℕ) Fault → yaml_c_answer → Type 0
 TellsResult (Ok text) a = TellsText text (pos 0) a
 TellsResult (Err fault) a = TellsFault fault (pos 0) a
 
+-- what a call gives is told, or its fault
+abbrev pub TellsAnswer : Result (Vec ℕ Global) yaml_fault_t → yaml_c_answer → Type 0
+TellsAnswer (Ok text) a = TellsText text.items (pos 0) a
+TellsAnswer (Err fault) a = Refuses (fault_of fault) (pos 0) a
+
 abbrev pub form_number : yaml_form_t → ℤ
 form_number Canonical = pos 0
 form_number Pretty = pos 1
@@ -135,6 +141,16 @@ side_number Second = pos 1
 abbrev pub TellsSame : Result Bool (yaml_side_t × yaml_fault_t) → yaml_c_answer → Type 0
 TellsSame (Ok same) a = TellsText [] (same_number same) a
 TellsSame (Err (side, fault)) a = TellsFault (fault_of fault) (side_number side) a
+
+-- what a rewriting gives is told, or its fault
+abbrev pub TellsForms : Result (Vec ℕ Global × yaml_form_t) yaml_fault_t → yaml_c_answer → Type 0
+TellsForms (Ok (text, form)) a = TellsText text.items (form_number form) a
+TellsForms (Err fault) a = Refuses (fault_of fault) (pos 0) a
+
+-- the same of a comparison, whose fault is told with its side
+abbrev pub TellsSides : Result Bool (yaml_side_t × yaml_fault_t) → yaml_c_answer → Type 0
+TellsSides (Ok same) a = TellsText [] (same_number same) a
+TellsSides (Err (side, fault)) a = Refuses (fault_of fault) (side_number side) a
 
 -- what the relation allows, or out of memory in one of these layers
 abbrev pub OrMemory : List yaml_origin_t → {Y : Type 0} → (Result Y Fault → Type 0)

@@ -2,7 +2,7 @@
 
 ghost use Rattle.std.specs.Prelude.{◌≡◌, [], pos, unwrap_or, option_map};
 ghost use Rattle.yaml_parse.specs.Faults.{fault_of};
-ghost use Rattle.yaml_round_answers.specs.Told.{TellsText, TellsFault, TellsMisuse, LineTold, Refuses, RefusesIn};
+ghost use Rattle.yaml_round_answers.specs.Told.{TellsText, TellsFault, TellsMisuse, LineTold, Refuses, RefusesIn, TellsAnswer};
 
 use std::alloc::Global;
 use yaml_round::{yaml_fault_line, yaml_fault_t};
@@ -40,14 +40,14 @@ const ZERO: yaml_c_mark = yaml_c_mark {
     character: 0,
 };
 
-/// A block that lives on for C. With no byte there is no block.
-pub(crate) fn handed_out(text: Vec<u8>) -> &'static [u8]
-    ensures { result.now ≡ text.items }
+/// A list that lives on for C. With no item there is no block.
+pub(crate) fn handed_out<'a, X: 'a + Drop>(list: Vec<X>) -> &'a [X]
+    ensures { result.now ≡ list.items }
 {
-    if text.is_empty() {
-        return b"";
+    if list.is_empty() {
+        return &[];
     }
-    text.leak()
+    list.leak()
 }
 
 fn text_told(text: &'static [u8], is: i32) -> yaml_c_answer
@@ -118,6 +118,16 @@ pub(crate) fn refused(alloc: Global, fault: &yaml_fault_t, second: i32) -> yaml_
     match yaml_fault_line(alloc, fault) {
         Ok(line) => fault_told(fault, second, handed_out(line)),
         Err(refusal) => fault_told(&refusal, second, b""),
+    }
+}
+
+/// The answer of a call that gives a text.
+pub(crate) fn answer_told(alloc: Global, answer: Result<Vec<u8>, yaml_fault_t>) -> yaml_c_answer
+    ensures { TellsAnswer answer result }
+{
+    match answer {
+        Ok(text) => text_answer(text, 0),
+        Err(fault) => refused(alloc, &fault, 0),
     }
 }
 

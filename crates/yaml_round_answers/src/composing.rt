@@ -4,7 +4,7 @@ ghost use Rattle.std.specs.Prelude.{◌≡◌, ◌⊎◌, [], pos};
 ghost use Rattle.yaml_round_answers.specs.Told.{AnswersMeant};
 ghost use Rattle.yaml_round_answers.specs.Composes.{steps_meant, Composes, NoSpotUnmeant};
 
-use crate::answer::{misused, refused, said, yaml_c_answer};
+use crate::answer::{handed_out, misused, refused, said, yaml_c_answer};
 use crate::record::{yaml_c_spot, yaml_c_step};
 use crate::steps::{Composed, are_steps, compose_steps};
 use std::alloc::Global;
@@ -25,24 +25,6 @@ const NOWHERE: yaml_mark_t = yaml_mark_t {
     column: 0,
 };
 
-fn nothing() -> yaml_c_spots
-    ensures { result.spots.now ≡ [] }
-{
-    yaml_c_spots { spots: &[] }
-}
-
-// A list that lives on for C.
-fn spots_out(spots: Vec<yaml_c_spot>) -> yaml_c_spots
-    ensures { result.spots.now ≡ spots.items }
-{
-    if spots.is_empty() {
-        return nothing();
-    }
-    yaml_c_spots {
-        spots: spots.leak(),
-    }
-}
-
 fn composed(
     alloc: Global,
     steps: &[yaml_c_step],
@@ -57,7 +39,7 @@ fn composed(
                 spots: found,
                 whole,
             } = told;
-            *spots = spots_out(found);
+            spots.spots = handed_out(found);
             if whole {
                 said(0)
             } else {
@@ -65,7 +47,7 @@ fn composed(
             }
         }
         Err(_) => {
-            *spots = nothing();
+            spots.spots = &[];
             refused(alloc, &yaml_memory_fault(yaml_origin_t::Loader), 0)
         }
     }
@@ -85,7 +67,7 @@ pub fn composed_by(
     if are_steps(bytes, steps) {
         composed(alloc, steps, bytes, spots)
     } else {
-        *spots = nothing();
+        spots.spots = &[];
         misused()
     }
 }

@@ -7,7 +7,7 @@ ghost use Rattle.yaml_round_records.specs.Numbers.{encoding_meant};
 ghost use Rattle.yaml_round_answers.specs.Told.{AnswersMeant};
 ghost use Rattle.yaml_round_answers.specs.Decodes.{decode_layers, IsDecoded, Decodes};
 
-use crate::answer::{misused, refused, text_answer, yaml_c_answer};
+use crate::answer::{answer_told, misused, yaml_c_answer};
 use std::alloc::Global;
 use yaml_round::{yaml_encoding_t, yaml_fault_t};
 use yaml_round_records::encoding_of;
@@ -26,21 +26,12 @@ fn text_of(alloc: Global, input: &[u8], from: yaml_encoding_t) -> Result<Vec<u8>
     }
 }
 
-fn decoded(alloc: Global, input: &[u8], from: yaml_encoding_t) -> yaml_c_answer
-    ensures { Decodes input.now from result }
-{
-    match text_of(alloc, input, from) {
-        Ok(text) => text_answer(text, 0),
-        Err(fault) => refused(alloc, &fault, 0),
-    }
-}
-
 /// What a decoding answers, where its number means something.
 pub fn decoded_by(alloc: Global, input: &[u8], from: i32) -> yaml_c_answer
     ensures { AnswersMeant (encoding_meant from) (Decodes input.now) result }
 {
     match encoding_of(from) {
-        Some(from) => decoded(alloc, input, from),
+        Some(from) => answer_told(alloc, text_of(alloc, input, from)),
         None => misused(),
     }
 }

@@ -6,7 +6,7 @@ ghost use Rattle.yaml_round_records.specs.Meaning.{events_meant};
 ghost use Rattle.yaml_round_records.specs.Leading.{asked_for};
 ghost use Rattle.yaml_round_answers.specs.Emitting.{emit_meant, Emits, EmitsAll};
 
-use crate::answer::{misused, refused, text_answer, yaml_c_answer};
+use crate::answer::{answer_told, misused, yaml_c_answer};
 use std::alloc::Global;
 use yaml_round_records::{
     Asked, are_meant, asked_of, emitted, yaml_c_directive, yaml_c_event, yaml_c_settings,
@@ -23,10 +23,7 @@ fn answered(
     ensures { EmitsAll (events_meant bytes.now directives.now events.now) (asked_for asked.now)
         result }
 {
-    match emitted(alloc, bytes, directives, events, asked) {
-        Ok(text) => text_answer(text, 0),
-        Err(fault) => refused(alloc, &fault, 0),
-    }
+    answer_told(alloc, emitted(alloc, bytes, directives, events, asked))
 }
 
 /// What an emitter under the settings makes of the events, where all that is given means something.

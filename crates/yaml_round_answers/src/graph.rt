@@ -7,20 +7,12 @@ ghost use Rattle.yaml_round_answers.specs.Graphs.{part, held_by, holds, is_node,
 use crate::record::{yaml_c_graph, yaml_c_node};
 use yaml_emit_graph::place_of;
 
-// The numbers that a record names, where they lie within the list.
+/// That many items of a list from a place on, where they lie within it.
 #[tactic(auto, unfolding(crate::specs::Graphs::part))]
-fn part_of(list: &[i32], node: yaml_c_node) -> Option<&[i32]>
-    ensures { option_map (λ t. t.now) result ≡ part list.now node.first node.count }
+pub(crate) fn part_of<X>(list: &[X], first: u64, count: u64) -> Option<&[X]>
+    ensures { option_map (λ t. t.now) result ≡ part list.now first count }
 {
-    let first = node.first as usize;
-    let count = node.count as usize;
-    if list.len() < first {
-        return None;
-    }
-    if list.len() - first < count {
-        return None;
-    }
-    Some(&list[first..first + count])
+    list.get(first as usize..)?.get(..count as usize)
 }
 
 /// Whether a record is that of a collection.
@@ -39,7 +31,7 @@ pub(crate) fn held_by(list: &[i32], node: yaml_c_node) -> &[i32]
     if !holds_nodes(node) {
         return &[];
     }
-    match part_of(list, node) {
+    match part_of(list, node.first, node.count) {
         Some(held) => held,
         None => &[],
     }
@@ -51,10 +43,8 @@ fn is_node(list: &[i32], node: yaml_c_node) -> bool
     ensures { result ≡ is_node list.now node }
 {
     match node.kind {
-        0 => true,
-        1 => true,
-        2 => part_of(list, node).is_some(),
-        3 => part_of(list, node).is_some(),
+        0 | 1 => true,
+        2 | 3 => part_of(list, node.first, node.count).is_some(),
         _ => false,
     }
 }

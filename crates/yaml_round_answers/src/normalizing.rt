@@ -4,25 +4,11 @@ ghost use Rattle.yaml_round_records.specs.Numbers.{encoding_meant};
 ghost use Rattle.yaml_round_answers.specs.Told.{AnswersMeant, call_meant};
 ghost use Rattle.yaml_round_answers.specs.Normalizes.{Normalizes, Checks};
 
-use crate::answer::{misused, refused, said, text_answer, yaml_c_answer};
-use crate::settings::settings_of;
+use crate::answer::{answer_told, misused, refused, said, yaml_c_answer};
+use crate::settings::call_of;
 use std::alloc::Global;
-use yaml_round::{yaml_check, yaml_encoding_t, yaml_normalize, yaml_settings_t};
+use yaml_round::{yaml_check, yaml_encoding_t, yaml_normalize};
 use yaml_round_records::{encoding_of, yaml_c_settings};
-
-fn normalized(
-    alloc: Global,
-    input: &[u8],
-    from: yaml_encoding_t,
-    settings: &yaml_settings_t,
-) -> yaml_c_answer
-    ensures { Normalizes input.now (from, settings.now) result }
-{
-    match yaml_normalize(alloc, input, from, settings) {
-        Ok(text) => text_answer(text, 0),
-        Err(fault) => refused(alloc, &fault, 0),
-    }
-}
 
 /// What normalizing answers, where its numbers mean something.
 pub fn normalized_by(
@@ -33,13 +19,10 @@ pub fn normalized_by(
 ) -> yaml_c_answer
     ensures { AnswersMeant (call_meant from settings.now) (Normalizes input.now) result }
 {
-    let Some(from) = encoding_of(from) else {
-        return misused();
-    };
-    let Some(settings) = settings_of(settings) else {
-        return misused();
-    };
-    normalized(alloc, input, from, &settings)
+    match call_of(from, settings) {
+        Some((from, settings)) => answer_told(alloc, yaml_normalize(alloc, input, from, &settings)),
+        None => misused(),
+    }
 }
 
 fn check_answer(alloc: Global, input: &[u8], from: yaml_encoding_t) -> yaml_c_answer

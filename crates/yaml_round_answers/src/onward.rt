@@ -7,21 +7,11 @@ ghost use Rattle.yaml_round_answers.specs.Told.{AnswersMeant};
 ghost use Rattle.yaml_round_answers.specs.Onward.{at_meant_by, onward_meant, HandsStand, EmitsOn, EmitsAllOn};
 
 use crate::answer::{handed_out, misused, refused, text_answer, yaml_c_answer};
-use crate::parsing::{directives_out, yaml_c_parsed};
+use crate::parsing::yaml_c_parsed;
 use std::alloc::Global;
 use yaml_round_records::{
-    Asked, StandRecords, are_meant, asked_of, emitted_on, is_stand, yaml_c_level, yaml_c_settings,
-    yaml_c_stand,
+    Asked, StandRecords, are_meant, asked_of, emitted_on, is_stand, yaml_c_settings, yaml_c_stand,
 };
-
-fn levels_out(levels: Vec<yaml_c_level>) -> &'static [yaml_c_level]
-    ensures { result.now ≡ levels.items }
-{
-    if levels.is_empty() {
-        return &[];
-    }
-    levels.leak()
-}
 
 // Lists that live on for C.
 fn stand_out(stand: StandRecords) -> yaml_c_stand
@@ -35,8 +25,8 @@ fn stand_out(stand: StandRecords) -> yaml_c_stand
     } = stand;
     yaml_c_stand {
         place,
-        levels: levels_out(levels),
-        directives: directives_out(directives),
+        levels: handed_out(levels),
+        directives: handed_out(directives),
         bytes: handed_out(bytes),
     }
 }

@@ -10,10 +10,12 @@ ghost use Rattle.yaml_round_records.specs.Listing.{Collects, StartsEmpty};
 use crate::answer::{handed_out, misused, refused_in, said, yaml_c_answer};
 use crate::spelled::{is_starved, spelled_text};
 use std::alloc::Global;
-use yaml_parse::{yaml_event_body_t, yaml_event_t, yaml_found_t, yaml_memory_fault, yaml_origin_t};
+use yaml_parse::{yaml_found_t, yaml_memory_fault, yaml_origin_t};
 use yaml_round::{yaml_encoding_t, yaml_fault_t};
 use yaml_round_reading::{ReadText, Reading, let_go, let_text_go, read_text, reading_of};
-use yaml_round_records::{Listing, count_events, encoding_of, yaml_c_directive, yaml_c_event};
+use yaml_round_records::{
+    Listing, count_events, encoding_of, yaml_c_directive, yaml_c_event,
+};
 
 /// The events of an input, and the bytes and directives that they speak of. All three are the caller's to free, where they
 /// have any item.
@@ -28,21 +30,17 @@ pub struct yaml_c_parsed {
 const _: () = prove!(size_of::<yaml_c_parsed>() == 48);
 
 // Records of the events to their end, in a listing of nothing. The fault that ends them is the answer.
-fn collect(
-    reading: &mut Reading<'_>,
-    event: &mut yaml_event_t,
-    listing: &mut Listing,
-) -> Result<(), yaml_fault_t>
+fn collect(reading: &mut Reading<'_>, listing: &mut Listing) -> Result<(), yaml_fault_t>
     requires { StartsEmpty listing.old }
     ensures { Collects reading.old.parser result listing.new }
 {
-    let mut fault = yaml_memory_fault(yaml_origin_t::Parser);
     'events: loop {
-        match reading.parse_into(event, &mut fault) {
-            yaml_found_t::Refused => return Err(fault),
+        match reading.find() {
+            yaml_found_t::Refused => return Err(reading.fault()),
             yaml_found_t::End => return Ok(()),
             yaml_found_t::Event => {
-                if listing.push(event).is_err() {
+                let (start, end) = reading.marks();
+                if listing.push(reading.event(), start, end).is_err() {
                     return Err(yaml_memory_fault(yaml_origin_t::Parser));
                 }
             }
@@ -58,8 +56,7 @@ fn listed_in(alloc: Global, text: &ReadText<'_>, listing: &mut Listing) -> Resul
     match reading_of(alloc, text) {
         Err(fault) => Err(fault),
         Ok(mut reading) => {
-            let mut event = yaml_event_t::unplaced(yaml_event_body_t::No);
-            let end = collect(&mut reading, &mut event, listing);
+            let end = collect(&mut reading, listing);
             let_go(reading);
             end
         }
@@ -102,24 +99,6 @@ fn nothing() -> yaml_c_parsed
     }
 }
 
-fn events_out(events: Vec<yaml_c_event>) -> &'static [yaml_c_event]
-    ensures { result.now ≡ events.items }
-{
-    if events.is_empty() {
-        return &[];
-    }
-    events.leak()
-}
-
-pub(crate) fn directives_out(directives: Vec<yaml_c_directive>) -> &'static [yaml_c_directive]
-    ensures { result.now ≡ directives.items }
-{
-    if directives.is_empty() {
-        return &[];
-    }
-    directives.leak()
-}
-
 // Blocks that live on for C, of a listing whose events have their places in that text.
 fn blocks_of(text: &[u8], listing: Listing) -> yaml_c_parsed
     ensures { HandsOut text.now listing result }
@@ -131,8 +110,8 @@ fn blocks_of(text: &[u8], listing: Listing) -> yaml_c_parsed
     } = listing;
     count_events(text, &mut events);
     yaml_c_parsed {
-        events: events_out(events),
-        directives: directives_out(directives),
+        events: handed_out(events),
+        directives: handed_out(directives),
         bytes: handed_out(bytes),
     }
 }

@@ -3,17 +3,15 @@
 ghost use Rattle.std.specs.Prelude.{◌≡◌};
 ghost use Rattle.yaml_round_records.specs.Numbers.{encoding_meant};
 ghost use Rattle.yaml_round_answers.specs.Told.{both};
-ghost use Rattle.yaml_round_answers.specs.Parting.{kind_number, TellsNoPlace, TellsPartingPlace, TellsParting, PartingMeant, Parts, PartsDocuments};
+ghost use Rattle.yaml_round_answers.specs.Parting.{TellsNoPlace, TellsPartingPlace, TellsParting, PartingMeant, Parts, PartsDocuments};
 
 use crate::answer::{misused, refused, said, text_answer, yaml_c_answer};
 use crate::path::path_text;
+use crate::settings::both_of;
 use std::alloc::Global;
 use yaml_parse::{yaml_memory_fault, yaml_origin_t};
-use yaml_round::{
-    yaml_diff, yaml_diff_documents, yaml_difference_t, yaml_encoding_t, yaml_event_type_t,
-    yaml_fault_t, yaml_side_t,
-};
-use yaml_round_records::{encoding_of, mark_told, yaml_c_mark};
+use yaml_round::{yaml_diff, yaml_diff_documents, yaml_difference_t, yaml_fault_t, yaml_side_t};
+use yaml_round_records::{mark_told, yaml_c_mark};
 
 /// What a search for a difference answers: `is` of the answer is 1 where there is none, else 0, and then its text is the path,
 /// spelled. The other fields are 0 but where there is a difference.
@@ -38,25 +36,6 @@ const ZERO: yaml_c_mark = yaml_c_mark {
     character: 0,
 };
 
-// The number of an event's kind.
-fn kind_number(kind: yaml_event_type_t) -> i32
-    ensures { result ≡ kind_number kind }
-{
-    match kind {
-        yaml_event_type_t::YAML_NO_EVENT => 0,
-        yaml_event_type_t::YAML_STREAM_START_EVENT => 1,
-        yaml_event_type_t::YAML_STREAM_END_EVENT => 2,
-        yaml_event_type_t::YAML_DOCUMENT_START_EVENT => 3,
-        yaml_event_type_t::YAML_DOCUMENT_END_EVENT => 4,
-        yaml_event_type_t::YAML_ALIAS_EVENT => 5,
-        yaml_event_type_t::YAML_SCALAR_EVENT => 6,
-        yaml_event_type_t::YAML_SEQUENCE_START_EVENT => 7,
-        yaml_event_type_t::YAML_SEQUENCE_END_EVENT => 8,
-        yaml_event_type_t::YAML_MAPPING_START_EVENT => 9,
-        yaml_event_type_t::YAML_MAPPING_END_EVENT => 10,
-    }
-}
-
 // An answer without a place beside it.
 fn without_place(answer: yaml_c_answer) -> yaml_c_parting
     ensures answer { result.answer ≡ answer }
@@ -79,8 +58,8 @@ fn with_place(path: Vec<u8>, difference: &yaml_difference_t) -> yaml_c_parting
     yaml_c_parting {
         answer: text_answer(path, 0),
         document: difference.document,
-        first_kind: kind_number(difference.first_type),
-        second_kind: kind_number(difference.second_type),
+        first_kind: difference.first_type as i32,
+        second_kind: difference.second_type as i32,
         first_mark: mark_told(difference.first_mark),
         second_mark: mark_told(difference.second_mark),
     }
@@ -104,21 +83,6 @@ fn parting_told(
     }
 }
 
-fn parted(
-    alloc: Global,
-    first: &[u8],
-    first_from: yaml_encoding_t,
-    second: &[u8],
-    second_from: yaml_encoding_t,
-) -> yaml_c_parting
-    ensures { Parts first.now second.now (first_from, second_from) result }
-{
-    parting_told(
-        alloc,
-        &yaml_diff(alloc, first, first_from, second, second_from),
-    )
-}
-
 /// What a search for a difference of two contents answers, where its numbers mean something.
 pub fn parted_by(
     alloc: Global,
@@ -130,28 +94,10 @@ pub fn parted_by(
     ensures { PartingMeant (both (encoding_meant first_from) (encoding_meant second_from))
         (Parts first.now second.now) result }
 {
-    let Some(first_from) = encoding_of(first_from) else {
-        return without_place(misused());
-    };
-    let Some(second_from) = encoding_of(second_from) else {
-        return without_place(misused());
-    };
-    parted(alloc, first, first_from, second, second_from)
-}
-
-fn documents_parted(
-    alloc: Global,
-    first: &[u8],
-    first_from: yaml_encoding_t,
-    second: &[u8],
-    second_from: yaml_encoding_t,
-) -> yaml_c_parting
-    ensures { PartsDocuments first.now second.now (first_from, second_from) result }
-{
-    parting_told(
-        alloc,
-        &yaml_diff_documents(alloc, first, first_from, second, second_from),
-    )
+    match both_of(first_from, second_from) {
+        Some((a, b)) => parting_told(alloc, &yaml_diff(alloc, first, a, second, b)),
+        None => without_place(misused()),
+    }
 }
 
 /// The same of the loaded documents of two inputs.
@@ -165,11 +111,8 @@ pub fn documents_parted_by(
     ensures { PartingMeant (both (encoding_meant first_from) (encoding_meant second_from))
         (PartsDocuments first.now second.now) result }
 {
-    let Some(first_from) = encoding_of(first_from) else {
-        return without_place(misused());
-    };
-    let Some(second_from) = encoding_of(second_from) else {
-        return without_place(misused());
-    };
-    documents_parted(alloc, first, first_from, second, second_from)
+    match both_of(first_from, second_from) {
+        Some((a, b)) => parting_told(alloc, &yaml_diff_documents(alloc, first, a, second, b)),
+        None => without_place(misused()),
+    }
 }

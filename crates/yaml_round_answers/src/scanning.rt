@@ -34,15 +34,6 @@ fn nothing() -> yaml_c_scanned
     }
 }
 
-fn tokens_out(tokens: Vec<yaml_c_token>) -> &'static [yaml_c_token]
-    ensures { result.now ≡ tokens.items }
-{
-    if tokens.is_empty() {
-        return &[];
-    }
-    tokens.leak()
-}
-
 // Blocks that live on for C, of a listing whose tokens have their places in that text.
 fn blocks_of(text: &[u8], listing: TokenListing) -> yaml_c_scanned
     ensures { HandsOutTokens text.now listing result }
@@ -50,7 +41,7 @@ fn blocks_of(text: &[u8], listing: TokenListing) -> yaml_c_scanned
     let TokenListing { mut tokens, bytes } = listing;
     count_tokens(text, &mut tokens);
     yaml_c_scanned {
-        tokens: tokens_out(tokens),
+        tokens: handed_out(tokens),
         bytes: handed_out(bytes),
     }
 }
@@ -81,10 +72,7 @@ fn list_input(
     let mut session = yaml_parser_t::new(alloc, input, from);
     let end = list_tokens(&mut session, listing);
     drop(session);
-    match end {
-        Ok(()) => Ok(()),
-        Err(fault) => Err(fault),
-    }
+    end
 }
 
 fn scanned_in(

@@ -4,7 +4,7 @@ ghost use Rattle.std.specs.Prelude.{◌≡◌, ◌⊎◌, [], pos};
 ghost use Rattle.yaml_round_answers.specs.Told.{AnswersMeant};
 ghost use Rattle.yaml_round_answers.specs.Serializes.{graph_meant, Serializes};
 
-use crate::answer::{misused, refused, said, yaml_c_answer};
+use crate::answer::{handed_out, misused, refused, said, yaml_c_answer};
 use crate::graph::is_graph;
 use crate::record::{yaml_c_graph, yaml_c_turn};
 use crate::turns::turns_of;
@@ -20,35 +20,17 @@ pub struct yaml_c_turns {
 
 const _: () = prove!(size_of::<yaml_c_turns>() == 16);
 
-fn nothing() -> yaml_c_turns
-    ensures { result.turns.now ≡ [] }
-{
-    yaml_c_turns { turns: &[] }
-}
-
-// A list that lives on for C.
-fn turns_out(turns: Vec<yaml_c_turn>) -> yaml_c_turns
-    ensures { result.turns.now ≡ turns.items }
-{
-    if turns.is_empty() {
-        return nothing();
-    }
-    yaml_c_turns {
-        turns: turns.leak(),
-    }
-}
-
 fn serialized(alloc: Global, graph: &yaml_c_graph, turns: &mut yaml_c_turns) -> yaml_c_answer
     ensures told { Serializes turns.new.turns.now graph.now result }
     ensures none { (result.kind ≡ pos 0) ⊎ (turns.new.turns.now ≡ []) }
 {
     match turns_of(alloc, graph) {
         Ok(told) => {
-            *turns = turns_out(told);
+            turns.turns = handed_out(told);
             said(0)
         }
         Err(_) => {
-            *turns = nothing();
+            turns.turns = &[];
             refused(alloc, &yaml_memory_fault(yaml_origin_t::Emitter), 0)
         }
     }
@@ -62,7 +44,7 @@ pub fn serialized_by(alloc: Global, graph: &yaml_c_graph, turns: &mut yaml_c_tur
     if is_graph(graph) {
         serialized(alloc, graph, turns)
     } else {
-        *turns = nothing();
+        turns.turns = &[];
         misused()
     }
 }

@@ -1,10 +1,12 @@
-//! The settings that a record of C means.
+//! The encodings and the settings that numbers and records of C mean.
 
 ghost use Rattle.std.specs.Prelude.{◌≡◌};
+ghost use Rattle.yaml_round_records.specs.Numbers.{encoding_meant};
 ghost use Rattle.yaml_round_answers.specs.Settings.{output_meant, settings_meant};
+ghost use Rattle.yaml_round_answers.specs.Told.{both, call_meant};
 
-use yaml_round::{yaml_output_encoding_t, yaml_settings_t};
-use yaml_round_records::{break_of, is_set, yaml_c_settings};
+use yaml_round::{yaml_encoding_t, yaml_output_encoding_t, yaml_settings_t};
+use yaml_round_records::{break_of, encoding_of, is_set, yaml_c_settings};
 
 // The encoding of an answer that a number means.
 #[tactic(auto, unfolding(crate::specs::Settings::output_meant))]
@@ -12,24 +14,19 @@ fn output_of(number: i32) -> Option<yaml_output_encoding_t>
     ensures { result ≡ output_meant number }
 {
     match number {
-        0 => Some(yaml_output_encoding_t::Utf8),
-        1 => Some(yaml_output_encoding_t::Utf8),
+        0 | 1 => Some(yaml_output_encoding_t::Utf8),
         2 => Some(yaml_output_encoding_t::Utf16Le),
         3 => Some(yaml_output_encoding_t::Utf16Be),
         _ => None,
     }
 }
 
-/// The settings that C's record means.
-pub(crate) fn settings_of(given: &yaml_c_settings) -> Option<yaml_settings_t>
+// The settings that C's record means.
+fn settings_of(given: &yaml_c_settings) -> Option<yaml_settings_t>
     ensures { result ≡ settings_meant given.now }
 {
-    let Some(encoding) = output_of(given.encoding) else {
-        return None;
-    };
-    let Some(line_break) = break_of(given.line_break) else {
-        return None;
-    };
+    let encoding = output_of(given.encoding)?;
+    let line_break = break_of(given.line_break)?;
     Some(yaml_settings_t {
         encoding,
         canonical: is_set(given.canonical),
@@ -39,4 +36,21 @@ pub(crate) fn settings_of(given: &yaml_c_settings) -> Option<yaml_settings_t>
         line_break,
         limit: given.limit,
     })
+}
+
+/// The encoding and the settings of a call.
+pub(crate) fn call_of(
+    from: i32,
+    settings: &yaml_c_settings,
+) -> Option<(yaml_encoding_t, yaml_settings_t)>
+    ensures { result ≡ call_meant from settings.now }
+{
+    Some((encoding_of(from)?, settings_of(settings)?))
+}
+
+/// The encodings of two inputs.
+pub(crate) fn both_of(first: i32, second: i32) -> Option<(yaml_encoding_t, yaml_encoding_t)>
+    ensures { result ≡ both (encoding_meant first) (encoding_meant second) }
+{
+    Some((encoding_of(first)?, encoding_of(second)?))
 }

@@ -6,6 +6,7 @@ ghost use Rattle.yaml_round_answers.specs.Names.{names_of};
 ghost use Rattle.yaml_round_answers.specs.Composing.{is_named, name_at, is_step, are_steps, sketch_of, fresh_sketch, innermost, begun, opened, ended, meant_by, stood, drawn, Draws, all_drawn};
 ghost use Rattle.yaml_parse_loader.specs.Loading.{named};
 
+use crate::graph::part_of;
 use crate::names::{Names, meant, note};
 use crate::record::{yaml_c_spot, yaml_c_step};
 use std::alloc::{AllocError, Global};
@@ -29,19 +30,10 @@ pub struct Composed {
 }
 
 // The bytes that a record names, where they lie within the block.
-#[tactic(auto, unfolding(crate::specs::Graphs::part))]
 fn bytes_of(bytes: &[u8], step: yaml_c_step) -> Option<&[u8]>
     ensures { option_map (λ t. t.now) result ≡ part bytes.now step.first step.count }
 {
-    let first = step.first as usize;
-    let count = step.count as usize;
-    if bytes.len() < first {
-        return None;
-    }
-    if bytes.len() - first < count {
-        return None;
-    }
-    Some(&bytes[first..first + count])
+    part_of(bytes, step.first, step.count)
 }
 
 #[tactic(auto, unfolding(crate::specs::Composing::is_named))]
@@ -151,10 +143,7 @@ impl Sketching {
     fn meant(&self, bytes: &[u8], step: yaml_c_step) -> Option<i32>
         ensures { result ≡ meant_by (name_at bytes.now step) (sketch_of self.now).names }
     {
-        match spot_name(bytes, step) {
-            None => None,
-            Some(name) => meant(&self.names, name),
-        }
+        meant(&self.names, spot_name(bytes, step)?)
     }
 
     // An alias stands for the node that its name means.
@@ -162,13 +151,11 @@ impl Sketching {
         ensures { option_map (λ x. (x, sketch_of self.now)) result ≡ stood (name_at bytes.now step)
             (sketch_of self.now) }
     {
-        match self.meant(bytes, step) {
-            None => None,
-            Some(node) => Some(yaml_c_spot {
-                node,
-                into: self.innermost(),
-            }),
-        }
+        let node = self.meant(bytes, step)?;
+        Some(yaml_c_spot {
+            node,
+            into: self.innermost(),
+        })
     }
 
     // What an event comes to; nothing for an alias that no node before it has the name of.
@@ -183,16 +170,11 @@ impl Sketching {
                 let spot = self.begin(bytes, step)?;
                 Ok(Some(spot))
             }
-            7 => {
+            7 | 9 => {
                 let spot = self.open_node(bytes, step)?;
                 Ok(Some(spot))
             }
-            9 => {
-                let spot = self.open_node(bytes, step)?;
-                Ok(Some(spot))
-            }
-            8 => Ok(Some(self.end())),
-            10 => Ok(Some(self.end())),
+            8 | 10 => Ok(Some(self.end())),
             _ => Ok(Some(yaml_c_spot { node: 0, into: 0 })),
         }
     }

@@ -57,7 +57,8 @@ abbrev pub NoDocument : EventBody → Type 0
 NoDocument (event.document_start v ds i) = ⊥
 NoDocument _ = Unit {0}
 
-pub no_document : (x : EventRef) → ((v : _) (ds : _) (i : _) → x ≡ borrowed.DocumentStart v ds i → ⊥)
+pub no_document : (x : EventRef)
+    → ((v : _) (ds : _) (i : _) → x ≡ borrowed.DocumentStart v ds i → ⊥)
     → NoDocument (borrowed_body x)
 no_document (borrowed.DocumentStart v ds i) h = h v ds i refl
 no_document _ h = tt
@@ -149,7 +150,8 @@ alike : (ds : Option (List TagDirective)) (k : Option yaml_event_type_t) (bytes 
 alike ds (Some kind.YAML_DOCUMENT_START_EVENT) bytes r h = absurd (false≢true (sym h))
 alike ds _ bytes r h = refl
 
-other_start : (x : EventRef) → NoDocument (borrowed_body x) → is_start (Some (borrowed_body x)) ≡ false
+other_start : (x : EventRef) → NoDocument (borrowed_body x)
+    → is_start (Some (borrowed_body x)) ≡ false
 other_start (borrowed.DocumentStart v ds i) h = absurd h
 other_start _ h = refl
 

@@ -60,7 +60,8 @@ scalar_back scalar.YAML_DOUBLE_QUOTED_SCALAR_STYLE = refl
 scalar_back scalar.YAML_LITERAL_SCALAR_STYLE = refl
 scalar_back scalar.YAML_FOLDED_SCALAR_STYLE = refl
 
-sequence_back : (y : yaml_sequence_style_t) → sequence_style_meant (sequence_style_number y) ≡ Some y
+sequence_back : (y : yaml_sequence_style_t)
+    → sequence_style_meant (sequence_style_number y) ≡ Some y
 unfolding sequence_style_meant
 sequence_back sequence.YAML_ANY_SEQUENCE_STYLE = refl
 sequence_back sequence.YAML_BLOCK_SEQUENCE_STYLE = refl

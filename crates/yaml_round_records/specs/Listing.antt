@@ -68,9 +68,25 @@ abbrev pub with_version : Option yaml_version_directive_t → yaml_c_event → y
 with_version None r = r
 with_version (Some v) r = record r { has_version = pos 1; major = v.major; minor = v.minor }
 
--- what a record has of an event before its texts and directives are put: kind, marks, flags and numbers
+-- kind, marks, flags and numbers of a scalar or a collection's start; of another event its marks
+abbrev pub node_record : EventBody → yaml_c_mark → yaml_c_mark → yaml_c_event
+node_record (event.scalar a t v p q y) s e = record (plain (pos 6) s e) {
+  style = scalar_style_number y;
+  implicit = flag_told p;
+  quoted_implicit = flag_told q;
+}
+node_record (event.sequence_start a t i y) s e = record (plain (pos 7) s e) {
+  style = sequence_style_number y;
+  implicit = flag_told i;
+}
+node_record (event.mapping_start a t i y) s e = record (plain (pos 9) s e) {
+  style = mapping_style_number y;
+  implicit = flag_told i;
+}
+node_record _ s e = plain (pos 0) s e
+
+-- what a record has of an event before its texts and directives are put
 abbrev pub base_record : EventBody → yaml_c_mark → yaml_c_mark → yaml_c_event
-base_record event.no s e = plain (pos 0) s e
 base_record (event.stream_start x) s e =
     record (plain (pos 1) s e) { encoding = encoding_number x }
 base_record event.stream_end s e = plain (pos 2) s e
@@ -78,21 +94,9 @@ base_record (event.document_start v ds i) s e =
     with_version v (record (plain (pos 3) s e) { implicit = flag_told i })
 base_record (event.document_end i) s e = record (plain (pos 4) s e) { implicit = flag_told i }
 base_record (event.alias a) s e = plain (pos 5) s e
-base_record (event.scalar a t v p q y) s e = record (plain (pos 6) s e) {
-  style = scalar_style_number y;
-  implicit = flag_told p;
-  quoted_implicit = flag_told q;
-}
-base_record (event.sequence_start a t i y) s e = record (plain (pos 7) s e) {
-  style = sequence_style_number y;
-  implicit = flag_told i;
-}
 base_record event.sequence_end s e = plain (pos 8) s e
-base_record (event.mapping_start a t i y) s e = record (plain (pos 9) s e) {
-  style = mapping_style_number y;
-  implicit = flag_told i;
-}
 base_record event.mapping_end s e = plain (pos 10) s e
+base_record b s e = node_record b s e
 
 -- an event's texts were put after the others, and its record has them
 pub record PutsTexts (old : List ℕ) (b : EventBody) (base : yaml_c_event) (new : List ℕ)

@@ -5,7 +5,7 @@ ghost use Rattle.yaml_parse.specs.Events.{directive_of};
 ghost use Rattle.yaml_round_records.specs.Borrowed.{borrowed_body};
 ghost use Rattle.yaml_round_records.specs.Records.{mark_told, plain};
 ghost use Rattle.yaml_round_records.specs.Blocks.{optional_text};
-ghost use Rattle.yaml_round_records.specs.Listing.{optional_span, with_properties, with_version, base_record, placed, PutsText, PutsTexts, PutsDirective, PutsDirectives, Records, AddsRecord};
+ghost use Rattle.yaml_round_records.specs.Listing.{optional_span, with_properties, with_version, node_record, base_record, placed, PutsText, PutsTexts, PutsDirective, PutsDirectives, Records, AddsRecord};
 
 use crate::event_ref::EventRef;
 use crate::number::{
@@ -171,12 +171,49 @@ pub(crate) fn push_directives(
     })
 }
 
+// The same of a scalar or a collection's start; of another event its marks alone.
+fn node_base(event: EventRef<'_>, start: yaml_mark_t, end: yaml_mark_t) -> yaml_c_event
+    ensures { result ≡ node_record (borrowed_body event.entry) (mark_told start) (mark_told end) }
+{
+    match event {
+        EventRef::Scalar {
+            plain_implicit,
+            quoted_implicit,
+            style,
+            ..
+        } => yaml_c_event {
+            style: scalar_style_number(style),
+            implicit: flag(plain_implicit),
+            quoted_implicit: flag(quoted_implicit),
+            ..plain(6, start, end)
+        },
+        EventRef::SequenceStart {
+            implicit,
+            style,
+            ..
+        } => yaml_c_event {
+            style: sequence_style_number(style),
+            implicit: flag(implicit),
+            ..plain(7, start, end)
+        },
+        EventRef::MappingStart {
+            implicit,
+            style,
+            ..
+        } => yaml_c_event {
+            style: mapping_style_number(style),
+            implicit: flag(implicit),
+            ..plain(9, start, end)
+        },
+        _ => plain(0, start, end),
+    }
+}
+
 // What a record has of an event before its texts and directives are put.
 fn base_of(event: EventRef<'_>, start: yaml_mark_t, end: yaml_mark_t) -> yaml_c_event
     ensures { result ≡ base_record (borrowed_body event.entry) (mark_told start) (mark_told end) }
 {
     match event {
-        EventRef::No => plain(0, start, end),
         EventRef::StreamStart { encoding } => yaml_c_event {
             encoding: encoding_number(encoding),
             ..plain(1, start, end)
@@ -198,37 +235,12 @@ fn base_of(event: EventRef<'_>, start: yaml_mark_t, end: yaml_mark_t) -> yaml_c_
             ..plain(4, start, end)
         },
         EventRef::Alias { .. } => plain(5, start, end),
-        EventRef::Scalar {
-            plain_implicit,
-            quoted_implicit,
-            style,
-            ..
-        } => yaml_c_event {
-            style: scalar_style_number(style),
-            implicit: flag(plain_implicit),
-            quoted_implicit: flag(quoted_implicit),
-            ..plain(6, start, end)
-        },
-        EventRef::SequenceStart {
-            implicit,
-            style,
-            ..
-        } => yaml_c_event {
-            style: sequence_style_number(style),
-            implicit: flag(implicit),
-            ..plain(7, start, end)
-        },
         EventRef::SequenceEnd => plain(8, start, end),
-        EventRef::MappingStart {
-            implicit,
-            style,
-            ..
-        } => yaml_c_event {
-            style: mapping_style_number(style),
-            implicit: flag(implicit),
-            ..plain(9, start, end)
-        },
         EventRef::MappingEnd => plain(10, start, end),
+        EventRef::No
+        | EventRef::Scalar { .. }
+        | EventRef::SequenceStart { .. }
+        | EventRef::MappingStart { .. } => node_base(event, start, end),
     }
 }
 

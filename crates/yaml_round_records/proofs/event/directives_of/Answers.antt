@@ -7,7 +7,8 @@ use Rattle.yaml_round_records.specs.Numbers.{kind_meant}
 use Rattle.yaml_round_records.proofs.Building.{with_directives, without_directives}
 use Rattle.yaml_round_records.proofs.event.directives_of.Goals as goal
 
-pub returns-in_ok-part_at-in-YAML_DOCUMENT_START_EVENT : goal.returns-in_ok-part_at-in-YAML_DOCUMENT_START_EVENT
+pub returns-in_ok-part_at-in-YAML_DOCUMENT_START_EVENT :
+    goal.returns-in_ok-part_at-in-YAML_DOCUMENT_START_EVENT
 returns-in_ok-part_at-in-YAML_DOCUMENT_START_EVENT c =
     with_directives _ _ c.args.given.now _ c.all_directives.result c.in_ok-part_at-in-YAML_DOCUMENT_START_EVENT.ensures c.all_directives.ensures
 

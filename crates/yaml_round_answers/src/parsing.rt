@@ -13,9 +13,7 @@ use std::alloc::Global;
 use yaml_parse::{yaml_found_t, yaml_memory_fault, yaml_origin_t};
 use yaml_round::{yaml_encoding_t, yaml_fault_t};
 use yaml_round_reading::{ReadText, Reading, let_go, let_text_go, read_text, reading_of};
-use yaml_round_records::{
-    Listing, count_events, encoding_of, yaml_c_directive, yaml_c_event,
-};
+use yaml_round_records::{Listing, count_events, encoding_of, yaml_c_directive, yaml_c_event};
 
 /// The events of an input, and the bytes and directives that they speak of. All three are the caller's to free, where they
 /// have any item.

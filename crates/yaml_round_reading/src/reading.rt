@@ -2,7 +2,7 @@
 
 ghost use Rattle.std.specs.Prelude.{◌≡◌, true, IfOk, IfErr};
 ghost use Rattle.yaml_parse.specs.Faults.{fault_of, memory_fault};
-ghost use Rattle.yaml_parse.specs.Events.{borrowed_body, event_of};
+ghost use Rattle.yaml_parse.specs.Events.{borrowed_body};
 ghost use Rattle.yaml_parse.specs.Finds.{Finds};
 ghost use Rattle.yaml_parse.specs.NextLoad.{AreLoadsByContent, LoadIsNext, RefusalIsNext};
 ghost use Rattle.yaml_round_content.specs.Input.{ReadsInput};
@@ -11,7 +11,7 @@ ghost use Rattle.yaml_round_reading.specs.Reading.{AreReal, FindsNextEvent, Ends
 use std::alloc::Global;
 use std::marker::Model;
 use yaml_parse::{
-    EventRef, TokenParser, yaml_document_t, yaml_event_t, yaml_fault_t, yaml_found_t, yaml_mark_t,
+    EventRef, TokenParser, yaml_document_t, yaml_fault_t, yaml_found_t, yaml_mark_t,
     yaml_memory_fault, yaml_origin_t,
 };
 use yaml_round_adapter::{ReadText, ScannedTokens};
@@ -97,14 +97,6 @@ impl Reading<'_> {
         ensures { fault_of result ≡ self.now.parser.answered }
     {
         self.parser.fault()
-    }
-
-    /// The next event in a slot, or the fault in another, or neither at the end.
-    pub fn parse_into(&mut self, event: &mut yaml_event_t, fault: &mut yaml_fault_t) -> yaml_found_t
-        ensures finds { Finds self.old.parser result (event_of event.new) (fault_of fault.new)
-            self.new.parser }
-    {
-        self.parser.parse_into(event, fault)
     }
 
     /// The next document; after the last one a document without root.

@@ -10,8 +10,8 @@ use Rattle.yaml_parse.specs.Events.{EventBody, TagDirective, directive_of}
 use Rattle.yaml_parse.specs.Events as event
 use Rattle.yaml_parse.specs.declared.yaml_event_type_t.{yaml_event_type_t}
 use Rattle.yaml_parse.specs.declared.yaml_event_type_t.TheVariants as kind
-use Rattle.yaml_round_records.specs.declared.event_ref.EventRef.{EventRef}
-use Rattle.yaml_round_records.specs.Borrowed.{borrowed_body}
+use Rattle.yaml_parse.specs.declared.EventRef.{EventRef}
+use Rattle.yaml_parse.specs.Events.{borrowed_body}
 use Rattle.yaml_round_records.specs.Numbers.{kind_meant}
 use Rattle.yaml_round_records.proofs.Checked.{left_cons, other_kind}
 use Rattle.std.proofs.lemmas.List.{drop_all}

@@ -17,9 +17,9 @@ use Rattle.yaml_parse.specs.declared.yaml_sequence_style_t.{yaml_sequence_style_
 use Rattle.yaml_parse.specs.declared.yaml_mapping_style_t.{yaml_mapping_style_t}
 use Rattle.yaml_parse.specs.declared.yaml_tag_directive_t.{yaml_tag_directive_t}
 use Rattle.yaml_parse.specs.declared.yaml_version_directive_t.{yaml_version_directive_t}
-use Rattle.yaml_round_records.specs.declared.event_ref.EventRef.{EventRef}
-use Rattle.yaml_round_records.specs.declared.event_ref.EventRef.TheVariants as borrowed
-use Rattle.yaml_round_records.specs.Borrowed.{borrowed_body}
+use Rattle.yaml_parse.specs.declared.EventRef.{EventRef}
+use Rattle.yaml_parse.specs.declared.EventRef.TheVariants as borrowed
+use Rattle.yaml_parse.specs.Events.{borrowed_body}
 use Rattle.yaml_round_records.specs.declared.record.yaml_c_directive.{yaml_c_directive}
 use Rattle.yaml_round_records.specs.declared.record.yaml_c_event.{yaml_c_event}
 use Rattle.yaml_round_records.specs.Numbers.{kind_meant, encoding_meant, scalar_style_meant, sequence_style_meant, mapping_style_meant}

@@ -18,9 +18,9 @@ use Rattle.yaml_parse.specs.declared.yaml_version_directive_t.{yaml_version_dire
 use Rattle.yaml_parse.specs.declared.yaml_tag_directive_t.{yaml_tag_directive_t}
 use Rattle.yaml_parse.specs.Events.{EventBody, TagDirective, directive_of}
 use Rattle.yaml_parse.specs.Events as event
-use Rattle.yaml_round_records.specs.declared.event_ref.EventRef.{EventRef}
-use Rattle.yaml_round_records.specs.declared.event_ref.EventRef.TheVariants as borrowed
-use Rattle.yaml_round_records.specs.Borrowed.{borrowed_body}
+use Rattle.yaml_parse.specs.declared.EventRef.{EventRef}
+use Rattle.yaml_parse.specs.declared.EventRef.TheVariants as borrowed
+use Rattle.yaml_parse.specs.Events.{borrowed_body}
 use Rattle.yaml_round_records.specs.declared.record.yaml_c_mark.{yaml_c_mark}
 use Rattle.yaml_round_records.specs.declared.record.yaml_c_span.{yaml_c_span}
 use Rattle.yaml_round_records.specs.declared.record.yaml_c_directive.{yaml_c_directive}

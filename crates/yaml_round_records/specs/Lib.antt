@@ -1,5 +1,4 @@
 pub mod Numbers
-pub mod Borrowed
 pub mod Records
 pub mod Offsets
 pub mod Blocks

@@ -1,30 +1,24 @@
 //! What an emitter makes of records.
 
-ghost use Rattle.std.specs.Prelude.{◌≡◌, ◌≤◌, [], ◌∷◌, ◌++◌, length, None, Some, IsSome, IfOk, IfErr, OnOk, option_map};
+ghost use Rattle.std.specs.Prelude.{◌≡◌, None, Some, IsSome, IfOk, IfErr, OnOk, option_map};
 ghost use Rattle.yaml_parse.specs.Faults.{Fault, fault_of, IsMemoryFault, emit_layers, Answers};
-ghost use Rattle.yaml_parse.specs.Constructors.{HasUtf8};
-ghost use Rattle.yaml_emit.specs.Content.{emitter_event};
-ghost use Rattle.yaml_emit.specs.Emitter.{IsLimited, Stays};
-ghost use Rattle.yaml_emit.specs.Held.{AreLast};
-ghost use Rattle.yaml_emit.specs.Taking.{TakesEvents};
+ghost use Rattle.yaml_emit.specs.Emitter.{IsLimited};
 ghost use Rattle.yaml_emit.specs.Verdict.{TellsOutcome};
-ghost use Rattle.yaml_round_records.specs.Borrowed.{borrowed_body};
 ghost use Rattle.yaml_round_records.specs.Meaning.{events_meant, asked_meant};
 ghost use Rattle.yaml_round_records.specs.Written.{IsEmitted};
 ghost use Rattle.yaml_round_records.specs.Leading.{bytes_of, requested, asked_for, all_events, StartsUnder, TakesAllEvents, FinishesEmitter};
 
 use crate::event::{directives_of, event_of};
-use crate::event_ref::EventRef;
 use crate::number::{break_of, encoding_of, is_set};
 use crate::record::{yaml_c_directive, yaml_c_event, yaml_c_settings};
-use std::alloc::{AllocError, Global};
+use std::alloc::Global;
 use yaml_emit::{
-    RequestedSettings, yaml_emitter_delete, yaml_emitter_emit_from, yaml_emitter_fault,
+    RequestedSettings, yaml_emitter_delete, yaml_emitter_emit_ref, yaml_emitter_fault,
     yaml_emitter_initialize, yaml_emitter_into_output, yaml_emitter_set_break,
     yaml_emitter_set_canonical, yaml_emitter_set_encoding, yaml_emitter_set_indent,
     yaml_emitter_set_unicode, yaml_emitter_set_width, yaml_emitter_t,
 };
-use yaml_parse::{yaml_event_t, yaml_fault_t, yaml_memory_fault, yaml_origin_t};
+use yaml_parse::{yaml_fault_t, yaml_memory_fault, yaml_origin_t};
 
 /// What is asked of an emitter.
 #[derive(Clone, Copy)]
@@ -81,27 +75,6 @@ pub(crate) fn emitter_under(
     Ok(emitter)
 }
 
-// Gives a copy of an event. Refused when out of memory.
-fn emit_copy(
-    alloc: Global,
-    emitter: &mut yaml_emitter_t,
-    event: EventRef<'_>,
-) -> Result<(), AllocError>
-    requires { HasUtf8 (borrowed_body event) }
-    ensures takes { OnOk result (TakesEvents emitter.old
-        (emitter_event (borrowed_body event.entry) ∷ []) emitter.new []) }
-    ensures stays { OnOk result (Stays emitter.old emitter.new) }
-    ensures few { OnOk result (length emitter.new.held ≤ 3) }
-    ensures last { OnOk result (emitter.old.fault ≡ None → AreLast (emitter.old.held
-        ++ emitter_event (borrowed_body event.entry) ∷ []) emitter.new.held) }
-{
-    let body = event.copied(alloc)?;
-    let mut event = yaml_event_t::unplaced(body);
-    yaml_emitter_emit_from(emitter, &mut event);
-    drop(event);
-    Ok(())
-}
-
 // Gives the events of records, one after another. Refused when out of memory alone.
 pub(crate) fn give_all(
     alloc: Global,
@@ -125,9 +98,7 @@ pub(crate) fn give_all(
         let Some(event) = event_of(bytes, &directives, record) else {
             return Err(no_memory());
         };
-        let Ok(()) = emit_copy(alloc, emitter, event) else {
-            return Err(no_memory());
-        };
+        yaml_emitter_emit_ref(emitter, event);
     }
     Ok(())
 }

@@ -2,17 +2,16 @@
 
 ghost use Rattle.std.specs.Prelude.{◌≡◌, Some, map, option_map, IfSome};
 ghost use Rattle.yaml_parse.specs.Events.{directive_of};
-ghost use Rattle.yaml_round_records.specs.Borrowed.{borrowed_body};
+ghost use Rattle.yaml_parse.specs.Events.{borrowed_body};
 ghost use Rattle.yaml_round_records.specs.Numbers.{is_set, kind_meant, scalar_style_meant, sequence_style_meant, mapping_style_meant};
 ghost use Rattle.yaml_round_records.specs.Records.{part_at, optional_at, directive_at, all_directives, version_by, scalar_by, sequence_by, mapping_by, body_with, body_meant};
 
-use crate::event_ref::EventRef;
 use crate::number::{
     encoding_of, is_set, is_there, kind_of, mapping_style_of, scalar_style_of, sequence_style_of,
 };
 use crate::record::{part_at, yaml_c_directive, yaml_c_event, yaml_c_span};
 use std::alloc::Global;
-use yaml_parse::{yaml_event_type_t, yaml_tag_directive_t, yaml_version_directive_t};
+use yaml_parse::{EventRef, yaml_event_type_t, yaml_tag_directive_t, yaml_version_directive_t};
 
 // A copy of a text that a span names. None where it lies outside, or when out of memory.
 fn copy_at(alloc: Global, bytes: &[u8], span: yaml_c_span) -> Option<Vec<u8>>

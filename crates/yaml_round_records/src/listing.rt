@@ -2,18 +2,17 @@
 
 ghost use Rattle.std.specs.Prelude.{◌≡◌, ◌++◌, [], length, IfOk, map, option_map};
 ghost use Rattle.yaml_parse.specs.Events.{directive_of};
-ghost use Rattle.yaml_round_records.specs.Borrowed.{borrowed_body};
+ghost use Rattle.yaml_parse.specs.Events.{borrowed_body};
 ghost use Rattle.yaml_round_records.specs.Records.{mark_told, plain};
 ghost use Rattle.yaml_round_records.specs.Blocks.{optional_text};
 ghost use Rattle.yaml_round_records.specs.Listing.{optional_span, with_properties, with_version, node_record, base_record, placed, PutsText, PutsTexts, PutsDirective, PutsDirectives, Records, AddsRecord};
 
-use crate::event_ref::EventRef;
 use crate::number::{
     encoding_number, flag, mapping_style_number, scalar_style_number, sequence_style_number,
 };
 use crate::record::{mark_told, yaml_c_directive, yaml_c_event, yaml_c_span};
 use std::alloc::{AllocError, Global};
-use yaml_parse::{yaml_mark_t, yaml_tag_directive_t, yaml_version_directive_t};
+use yaml_parse::{EventRef, yaml_mark_t, yaml_tag_directive_t, yaml_version_directive_t};
 
 /// Records, the directives that they name, and the bytes of their texts.
 #[derive(Drop)]

@@ -2,15 +2,15 @@
 
 ghost use Rattle.std.specs.Prelude.{◌≡◌, is_some, option_map};
 ghost use Rattle.std.specs.Str.{is_utf8};
-ghost use Rattle.yaml_round_records.specs.Borrowed.{borrowed_body};
+ghost use Rattle.yaml_parse.specs.Events.{borrowed_body};
 ghost use Rattle.yaml_round_records.specs.Records.{part_at, directive_at, all_directives, directives_at, body_meant};
 ghost use Rattle.yaml_round_records.specs.Meaning.{is_utf8_option, events_meant};
 ghost use Rattle.yaml_round_records.specs.Checking.{is_text, is_directive, are_directives, may_give_beside, is_event};
 
 use crate::event::event_of;
-use crate::event_ref::EventRef;
 use crate::record::{part_at, yaml_c_directive, yaml_c_event, yaml_c_span};
 use simdutf8::is_utf8;
+use yaml_parse::EventRef;
 
 // Whether a text is UTF-8.
 #[tactic(auto, using(crate::proofs::Checked::readable))]

@@ -3,8 +3,8 @@ use Rattle.yaml_round_records.proofs.Leading.{first_meant, rest_meant, leads_sam
 use Rattle.yaml_round_records.proofs.Giving.{last_nothing, last_record, gives_none, gives_end}
 use Rattle.yaml_round_records.proofs.emitter.give_all.Goals as goal
 
-pub emit_copy-requires : goal.emit_copy-requires
-emit_copy-requires c = (made_of _ _ _ c.deref.result.now c.in-Some.directives.items c.event_of.result c.in-Some-event_of.event c.in-Some.ensures c.deref.ensures.value c.event_of.ensures c.in-Some-event_of.is
+pub yaml_emitter_emit_ref-requires : goal.yaml_emitter_emit_ref-requires
+yaml_emitter_emit_ref-requires c = (made_of _ _ _ c.deref.result.now c.in-Some.directives.items c.event_of.result c.in-Some-event_of.event c.in-Some.ensures c.deref.ensures.value c.event_of.ensures c.in-Some-event_of.is
     (first_meant _ _ _ _ _ c.loop-record-test.true c.loop-record.invariant.meant)).1
 
 pub loop-record-init : goal.loop-record-init
@@ -21,9 +21,9 @@ loop-record-preserved c =
     (first_meant _ _ _ _ _ c.loop-record-test.true c.loop-record.invariant.meant)).0 in
     record {
       meant = rest_meant _ _ _ _ _ _ c.loop-record-test.true c.loop-record.invariant.meant is;
-      leads = leads_record _ _ _ _ _ _ _ _ _ _ c.loop-record-test.true c.loop-record.invariant.meant is c.loop-record.invariant.leads c.in-Ok.ensures.takes;
-      last = last_record _ _ _ _ _ _ _ _ _ _ c.loop-record-test.true c.loop-record.invariant.meant is c.loop-record.invariant.last c.in-Ok.ensures.stays c.in-Ok.ensures.last;
-      few = λ few. c.in-Ok.ensures.few;
+      leads = leads_record _ _ _ _ _ _ _ _ _ _ c.loop-record-test.true c.loop-record.invariant.meant is c.loop-record.invariant.leads c.yaml_emitter_emit_ref.ensures.takes;
+      last = last_record _ _ _ _ _ _ _ _ _ _ c.loop-record-test.true c.loop-record.invariant.meant is c.loop-record.invariant.last c.yaml_emitter_emit_ref.ensures.stays c.yaml_emitter_emit_ref.ensures.last;
+      few = λ few. c.yaml_emitter_emit_ref.ensures.few;
     }
 
 pub returns-then-is_empty-clause-given : goal.returns-then-is_empty-clause-given

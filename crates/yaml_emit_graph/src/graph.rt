@@ -1,22 +1,20 @@
 //! The events of a document's nodes.
 
-ghost use Rattle.std.specs.Prelude.{◌≡◌, IfOk, IfSome, None, Some, IsUtf8, length, map};
+ghost use Rattle.std.specs.Prelude.{◌≡◌, ◌≢◌, ◌≤◌, ◌∷◌, OnOk, IfOk, Some, None, IsUtf8, length, option_map};
 ghost use Rattle.yaml_parse_model.specs.Constructors.{HasUtf8, IsUtf8Option};
-ghost use Rattle.yaml_parse_document.specs.Documents.{seq_tag, map_tag, node_at, IsSoundAt};
-ghost use Rattle.yaml_parse_model.specs.Events.{body_of, text_of, directive_of};
+ghost use Rattle.yaml_parse_document.specs.Documents.{Document};
+ghost use Rattle.yaml_parse_model.specs.Events.{borrowed_body};
 ghost use Rattle.yaml_parse_model.specs.Nodes.{tag_of};
-ghost use Rattle.yaml_emit_layout.specs.Content.{emitter_event, scalar, alias, sequence_start, mapping_start, is_flow_sequence, is_flow_mapping};
-ghost use Rattle.yaml_emit_graph.specs.Graph.{lead, name_of, anchor_of, graph_scalar, graph_start, opening_event, closing_event, body_of_id, tag_of_id, turn_event, is_text, dumped};
-ghost use Rattle.yaml_emit_graph.specs.Events.{remaining_events, IsEvents, Says, GivesGraphEvent};
+ghost use Rattle.yaml_emit_layout.specs.Content.{emitter_event, scalar};
+ghost use Rattle.yaml_emit_graph.specs.Graph.{lead, name_of, anchor_of, graph_scalar, opening_event, closing_event, body_of_id, tag_of_id, turn_event, is_text, dumped};
+ghost use Rattle.yaml_emit_graph.specs.Events.{remaining_events, IsEvents, IsNameOf, IsNamed, given_event, nodes_left, GivesGraphEvent};
 
 use crate::numbers::{Walked, number_of, walk_nodes};
 use crate::walk::Turn;
 use std::alloc::{AllocError, Global};
 use yaml_parse_document::{yaml_document_get_node, yaml_document_t};
-use yaml_parse_model::{copy_directives, yaml_event_body_t, yaml_node_body_t, yaml_node_tag_t};
-use yaml_scan_model::{
-    yaml_mapping_style_t, yaml_scalar_style_t, yaml_sequence_style_t, yaml_tag_directive_t,
-};
+use yaml_parse_model::{EventRef, YAML_STR_TAG, yaml_node_body_t, yaml_node_tag_t};
+use yaml_scan_model::yaml_scalar_style_t;
 
 /// The events of a document, one after another.
 #[derive(Drop)]
@@ -26,14 +24,17 @@ pub struct Events {
     // The turns of the walk, and how many were given.
     turns: Vec<Turn>,
     given: usize,
-    place: DumpPhase,
+    at: DumpEvent,
+    /// The name in the event that was given last, where it has one.
+    name: Vec<u8>,
 }
 
-/// What comes next.
+/// The event that was given last.
 #[derive(Clone, Copy)]
-pub enum DumpPhase {
+pub enum DumpEvent {
+    None,
     Start,
-    Nodes,
+    Turn(Turn),
     End,
 }
 
@@ -59,28 +60,41 @@ fn name_of(alloc: Global, number: u64) -> Result<Vec<u8>, AllocError>
     Ok(name)
 }
 
-// The anchor of a node with a number; none without one.
-fn anchor_of(alloc: Global, number: u64) -> Result<Option<Vec<u8>>, AllocError>
-    ensures is { IfOk result (λ anchor. text_of anchor ≡ anchor_of number) }
-    ensures utf8 { IfOk result (λ anchor. IsUtf8Option (text_of anchor)) }
+// Puts the name of a number in place of another name.
+fn put_name(alloc: Global, number: u64, name: &mut Vec<u8>) -> Result<(), AllocError>
+    ensures { OnOk result (IsNameOf number name.new.items) }
 {
-    if number == 0 {
-        return Ok(None);
-    }
-    Ok(Some(name_of(alloc, number)?))
+    let text = name_of(alloc, number)?;
+    *name = text;
+    Ok(())
 }
 
-fn copies(
+// The same for the event of a turn, where it has a name: an alias, or a node that has a number.
+fn name_turn(
     alloc: Global,
-    directives: &[yaml_tag_directive_t],
-) -> Result<Vec<yaml_tag_directive_t>, AllocError>
-    ensures { IfOk result (λ copies. map directive_of copies.items ≡ map directive_of
-        directives.now) }
+    numbers: &[u64],
+    turn: Turn,
+    name: &mut Vec<u8>,
+) -> Result<(), AllocError>
+    ensures { OnOk result (IsNamed numbers.now turn name.new.items) }
 {
-    match copy_directives(alloc, directives) {
-        Ok(copies) => Ok(copies),
-        Err(_) => Err(AllocError),
+    match turn {
+        Turn::First(id) => match number_of(numbers, id) {
+            0 => Ok(()),
+            number => put_name(alloc, number, name),
+        },
+        Turn::Again(id) => put_name(alloc, number_of(numbers, id), name),
+        Turn::Leave(_) => Ok(()),
     }
+}
+
+// The anchor of a node that has a number.
+fn anchor_if(number: u64, name: &[u8]) -> Option<&[u8]>
+    requires { number ≢ 0 → IsNameOf number name.now }
+    ensures is { option_map (λ t. t.now) result ≡ anchor_of number }
+    ensures utf8 { IsUtf8Option (option_map (λ t. t.now) result) }
+{
+    if number == 0 { None } else { Some(name) }
 }
 
 // Whether a tag is that of its kind by default.
@@ -95,147 +109,111 @@ fn is_default(tag: &yaml_node_tag_t, default: &yaml_node_tag_t) -> bool
     }
 }
 
-// A scalar whose tag may be left out where it is that of a text.
-fn scalar_event(
-    alloc: Global,
-    number: u64,
-    tag: &yaml_node_tag_t,
-    value: &[u8],
+// A scalar, whose tag may be left out where it is that of a text.
+fn scalar_event<'d>(
+    anchor: Option<&'d [u8]>,
+    tag: &'d yaml_node_tag_t,
+    value: &'d [u8],
     style: yaml_scalar_style_t,
-) -> Result<yaml_event_body_t, AllocError>
-    requires { IsUtf8 (tag_of tag.now) × IsUtf8 value.now }
-    ensures { Says (scalar (graph_scalar (anchor_of number) (tag_of tag.now) value.now style))
-        result }
+) -> EventRef<'d>
+    requires { IsUtf8Option (option_map (λ t. t.now) anchor) × IsUtf8 (tag_of tag.now)
+        × IsUtf8 value.now }
+    ensures is { emitter_event (borrowed_body result) ≡ scalar (graph_scalar
+        (option_map (λ t. t.now) anchor.entry) (tag_of tag.now) value.now style) }
+    ensures utf8 { HasUtf8 (borrowed_body result) }
 {
     let plain = is_default(tag, &yaml_node_tag_t::Str);
-    let anchor = anchor_of(alloc, number)?;
-    let name = Vec::from_slice(alloc, tag.as_slice())?;
-    let value = Vec::from_slice(alloc, value)?;
-    Ok(yaml_event_body_t::Scalar {
+    EventRef::Scalar {
         anchor,
-        tag: Some(name),
+        tag: Some(tag.as_slice()),
         value,
         plain_implicit: plain,
         quoted_implicit: plain,
         style,
-    })
-}
-
-fn sequence_event(
-    alloc: Global,
-    number: u64,
-    tag: &yaml_node_tag_t,
-    style: yaml_sequence_style_t,
-) -> Result<yaml_event_body_t, AllocError>
-    requires { IsUtf8 (tag_of tag.now) }
-    ensures { Says (sequence_start (graph_start (anchor_of number) (tag_of tag.now) seq_tag
-        (is_flow_sequence style))) result }
-{
-    let implicit = is_default(tag, &yaml_node_tag_t::Seq);
-    let anchor = anchor_of(alloc, number)?;
-    let name = Vec::from_slice(alloc, tag.as_slice())?;
-    Ok(yaml_event_body_t::SequenceStart {
-        anchor,
-        tag: Some(name),
-        implicit,
-        style,
-    })
-}
-
-fn mapping_event(
-    alloc: Global,
-    number: u64,
-    tag: &yaml_node_tag_t,
-    style: yaml_mapping_style_t,
-) -> Result<yaml_event_body_t, AllocError>
-    requires { IsUtf8 (tag_of tag.now) }
-    ensures { Says (mapping_start (graph_start (anchor_of number) (tag_of tag.now) map_tag
-        (is_flow_mapping style))) result }
-{
-    let implicit = is_default(tag, &yaml_node_tag_t::Map);
-    let anchor = anchor_of(alloc, number)?;
-    let name = Vec::from_slice(alloc, tag.as_slice())?;
-    Ok(yaml_event_body_t::MappingStart {
-        anchor,
-        tag: Some(name),
-        implicit,
-        style,
-    })
+    }
 }
 
 // The event of the node under a number, which is written for the first time.
-fn opening_event(
-    alloc: Global,
-    document: &yaml_document_t,
-    number: u64,
+fn opening_event<'d>(
+    document: &'d yaml_document_t,
     id: i32,
-) -> Result<yaml_event_body_t, AllocError>
-    ensures { Says (opening_event (anchor_of number) (tag_of_id document.now.nodes id)
-        (body_of_id document.now.nodes id)) result }
+    anchor: Option<&'d [u8]>,
+) -> EventRef<'d>
+    requires { IsUtf8Option (option_map (λ t. t.now) anchor) }
+    ensures is { emitter_event (borrowed_body result) ≡ opening_event
+        (option_map (λ t. t.now) anchor.entry) (tag_of_id document.now.nodes id)
+        (body_of_id document.now.nodes id) }
+    ensures utf8 { HasUtf8 (borrowed_body result) }
 {
     let unstyled = yaml_scalar_style_t::YAML_ANY_SCALAR_STYLE;
     let Some(node) = yaml_document_get_node(document, id) else {
-        return scalar_event(alloc, number, &yaml_node_tag_t::Str, b"", unstyled);
+        return EventRef::Scalar {
+            anchor,
+            tag: Some(YAML_STR_TAG),
+            value: b"",
+            plain_implicit: true,
+            quoted_implicit: true,
+            style: unstyled,
+        };
     };
-    let tag = &node.tag;
     match &node.body {
-        yaml_node_body_t::No => scalar_event(alloc, number, tag, b"", unstyled),
+        yaml_node_body_t::No => scalar_event(anchor, &node.tag, b"", unstyled),
         yaml_node_body_t::Scalar { value, style } => {
-            scalar_event(alloc, number, tag, value.as_slice(), *style)
+            scalar_event(anchor, &node.tag, value.as_slice(), *style)
         }
-        yaml_node_body_t::Sequence { style, .. } => sequence_event(alloc, number, tag, *style),
-        yaml_node_body_t::Mapping { style, .. } => mapping_event(alloc, number, tag, *style),
+        yaml_node_body_t::Sequence { style, .. } => EventRef::SequenceStart {
+            anchor,
+            tag: Some(node.tag.as_slice()),
+            implicit: is_default(&node.tag, &yaml_node_tag_t::Seq),
+            style: *style,
+        },
+        yaml_node_body_t::Mapping { style, .. } => EventRef::MappingStart {
+            anchor,
+            tag: Some(node.tag.as_slice()),
+            implicit: is_default(&node.tag, &yaml_node_tag_t::Map),
+            style: *style,
+        },
     }
 }
 
 // What ends the collection under a number.
-fn closing_event(document: &yaml_document_t, id: i32) -> yaml_event_body_t
-    ensures is { emitter_event (body_of result) ≡ closing_event (body_of_id document.now.nodes id) }
-    ensures utf8 { HasUtf8 (body_of result) }
+fn closing_event(document: &yaml_document_t, id: i32) -> EventRef<'static>
+    ensures is { emitter_event (borrowed_body result) ≡ closing_event
+        (body_of_id document.now.nodes id) }
+    ensures utf8 { HasUtf8 (borrowed_body result) }
 {
     match yaml_document_get_node(document, id) {
         Some(node) if matches!(node.body, yaml_node_body_t::Sequence { .. }) => {
-            yaml_event_body_t::SequenceEnd
+            EventRef::SequenceEnd
         }
-        _ => yaml_event_body_t::MappingEnd,
+        _ => EventRef::MappingEnd,
     }
 }
 
-fn alias_event(alloc: Global, number: u64) -> Result<yaml_event_body_t, AllocError>
-    ensures { Says (alias (name_of number)) result }
-{
-    let anchor = name_of(alloc, number)?;
-    Ok(yaml_event_body_t::Alias { anchor })
-}
-
-// The event of a turn of the walk.
-fn turn_event(
-    alloc: Global,
+// The event of a turn of the walk, with the name that it may have.
+fn turn_event<'d>(
     numbers: &[u64],
-    document: &yaml_document_t,
+    name: &'d [u8],
+    document: &'d yaml_document_t,
     turn: Turn,
-) -> Result<yaml_event_body_t, AllocError>
-    ensures { Says (turn_event numbers.now document.now.nodes turn) result }
+) -> EventRef<'d>
+    requires { IsNamed numbers.now turn name.now }
+    ensures is { emitter_event (borrowed_body result) ≡ turn_event numbers.now document.now.nodes
+        turn }
+    ensures utf8 { HasUtf8 (borrowed_body result) }
 {
     match turn {
-        Turn::First(id) => opening_event(alloc, document, number_of(numbers, id), id),
-        Turn::Again(id) => alias_event(alloc, number_of(numbers, id)),
-        Turn::Leave(id) => Ok(closing_event(document, id)),
+        Turn::First(id) => opening_event(document, id, anchor_if(number_of(numbers, id), name)),
+        Turn::Again(_) => EventRef::Alias { anchor: name },
+        Turn::Leave(id) => closing_event(document, id),
     }
-}
-
-// Puts a body in place of another one, which is let go. A call of its own for the proofs: there letting go takes a step for each kind.
-fn put_in(event: &mut yaml_event_body_t, body: yaml_event_body_t)
-    ensures { event.new ≡ body }
-{
-    *event = body;
 }
 
 impl Events {
     /// Before the document's start.
     #[tactic(auto, using(crate::proofs::Leaving::begin_comes))]
     pub fn of(alloc: Global, document: &yaml_document_t) -> Result<Events, AllocError>
-        ensures { IfOk result (λ e. IsEvents document.now e
+        ensures { IfOk result (λ e. IsEvents e
             × (remaining_events document.now e ≡ dumped document.now)) }
     {
         let Walked { turns, numbers } = walk_nodes(alloc, document)?;
@@ -244,45 +222,66 @@ impl Events {
             numbers,
             turns,
             given: 0,
-            place: DumpPhase::Start,
+            at: DumpEvent::None,
+            name: Vec::new(alloc),
         })
     }
 
-    /// The next event, in a slot that is passed by reference; none after the document's end.
-    #[tactic(auto, using(crate::proofs::Leaving::start_comes, crate::proofs::Leaving::turn_comes, crate::proofs::Leaving::end_comes, crate::proofs::Leaving::none_comes))]
-    pub fn next(
-        &mut self,
-        document: &yaml_document_t,
-        event: &mut yaml_event_body_t,
-    ) -> Result<bool, AllocError>
-        requires { IsEvents document.now self.old }
-        ensures { GivesGraphEvent document.now self.old result (body_of event.new) self.new }
+    // Goes on to the next node's event, or to the document's end.
+    #[tactic(auto, using(crate::proofs::Leaving::turn_comes, crate::proofs::Leaving::end_comes))]
+    fn next_turn(&mut self) -> Result<(), AllocError>
+        requires { self.old.given ≤ length self.old.turns.items }
+        ensures comes { OnOk result ((d : Document) → nodes_left d self.old
+            ≡ given_event d self.new ∷ remaining_events d self.new) }
+        ensures events { OnOk result (IsEvents self.new) }
     {
-        match self.place {
-            DumpPhase::Start => {
-                *event = yaml_event_body_t::DocumentStart {
-                    version_directive: document.version_directive(),
-                    tag_directives: copies(self.alloc, document.tag_directives())?,
-                    implicit: document.start_implicit(),
-                };
-                self.place = DumpPhase::Nodes;
+        if self.given < self.turns.len() {
+            let turn = self.turns[self.given];
+            name_turn(self.alloc, &self.numbers, turn, &mut self.name)?;
+            self.given += 1;
+            self.at = DumpEvent::Turn(turn);
+            return Ok(());
+        }
+        self.at = DumpEvent::End;
+        Ok(())
+    }
+
+    /// Goes on to the next event; there is none after the document's end.
+    #[tactic(auto, unfolding(crate::specs::Events::remaining_events))]
+    pub fn next(&mut self) -> Result<bool, AllocError>
+        requires { IsEvents self.old }
+        ensures { GivesGraphEvent self.old result self.new }
+    {
+        match self.at {
+            DumpEvent::None => {
+                self.at = DumpEvent::Start;
                 Ok(true)
             }
-            DumpPhase::Nodes if self.given < self.turns.len() => {
-                let turn = self.turns[self.given];
-                self.given += 1;
-                let body = turn_event(self.alloc, &self.numbers, document, turn)?;
-                put_in(event, body);
+            DumpEvent::Start | DumpEvent::Turn(_) => {
+                self.next_turn()?;
                 Ok(true)
             }
-            DumpPhase::Nodes => {
-                self.place = DumpPhase::End;
-                *event = yaml_event_body_t::DocumentEnd {
-                    implicit: document.end_implicit(),
-                };
-                Ok(true)
-            }
-            DumpPhase::End => Ok(false),
+            DumpEvent::End => Ok(false),
+        }
+    }
+
+    /// The event that was given last, borrowed from the document; before the first one the empty event.
+    pub fn event<'d>(&'d self, document: &'d yaml_document_t) -> EventRef<'d>
+        requires { IsEvents self.now }
+        ensures is { emitter_event (borrowed_body result) ≡ given_event document.now self.now }
+        ensures utf8 { HasUtf8 (borrowed_body result) }
+    {
+        match self.at {
+            DumpEvent::None => EventRef::No,
+            DumpEvent::Start => EventRef::DocumentStart {
+                version_directive: document.version_directive(),
+                tag_directives: document.tag_directives(),
+                implicit: document.start_implicit(),
+            },
+            DumpEvent::Turn(turn) => turn_event(&self.numbers, &self.name, document, turn),
+            DumpEvent::End => EventRef::DocumentEnd {
+                implicit: document.end_implicit(),
+            },
         }
     }
 }

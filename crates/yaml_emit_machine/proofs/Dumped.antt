@@ -39,7 +39,7 @@ takes_by false old new e es t stuck = takes_on old new new (e ∷ es) es [] t (s
 
 -- The first event of those that are left was taken; after a fault the others count for nothing.
 pub dumps_event : (d : Document) (old new : Emitter) (before after : Events) (b : Bool)
-    (e : Event) → remaining_events d before ≡ e ∷ remaining_events d after → IsEvents d after
+    (e : Event) → remaining_events d before ≡ e ∷ remaining_events d after → IsEvents after
     → TakesEvents old (e ∷ []) new [] → NotesMemoryOf e old new → Keeps old new
     → new.fresh ≡ false → (b ≡ false → Stuck new) → DumpsSome d old new before after b
 dumps_event d old new before after b e c walk takes memory keeps begun stuck =

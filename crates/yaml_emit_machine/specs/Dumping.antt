@@ -39,7 +39,7 @@ pub record Dumps (old : Emitter) (es : List Event) (new : Emitter) (left : List 
 
 -- A dump may take the events that a walk over a document has left.
 pub record MayDump (d : Document) (e : Emitter) (events : Events) : Type 0 where
-  pub walk : IsEvents d events
+  pub walk : IsEvents events
   pub begun : e.fresh ≡ false
 
 -- Some of them were taken: while no fault has come, fewer are still to come, which may be taken too, and else none is.

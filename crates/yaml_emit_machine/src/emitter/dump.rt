@@ -12,7 +12,6 @@ use super::{take_event, yaml_emitter_t};
 use crate::fault::note_refusal;
 use yaml_emit_graph::Events;
 use yaml_parse_document::yaml_document_t;
-use yaml_parse_model::yaml_event_body_t;
 
 impl yaml_emitter_t {
     // Memory was refused for the dump: what follows counts for nothing.
@@ -37,20 +36,15 @@ impl yaml_emitter_t {
         }
     }
 
-    // Whether an event was taken, by way of a slot that is passed by reference, and no fault has come. What is left of it counts for nothing.
-    fn dump_next(
-        &mut self,
-        events: &mut Events,
-        document: &yaml_document_t,
-        event: &mut yaml_event_body_t,
-    ) -> bool
+    // Whether an event was taken, and no fault has come.
+    fn dump_next(&mut self, events: &mut Events, document: &yaml_document_t) -> bool
         requires { MayDump document.now self.old events.old }
         ensures { DumpsSome document.now self.old self.new events.old events.new result }
     {
-        match events.next(document, event) {
+        match events.next() {
             Ok(false) => false,
             Ok(true) => {
-                take_event(self, &event.borrowed());
+                take_event(self, &events.event(document));
                 self.is_right()
             }
             Err(_) => {
@@ -62,13 +56,12 @@ impl yaml_emitter_t {
 
     // All events of a document.
     fn dump_events(&mut self, events: Events, document: &yaml_document_t)
-        requires walk { IsEvents document.now events }
+        requires walk { IsEvents events }
         requires begun { self.old.fresh ≡ false }
         ensures { Dumps self.old (remaining_events document.now events) self.new [] }
     {
         let mut events = events;
-        let mut event = yaml_event_body_t::No;
-        while self.dump_next(&mut events, document, &mut event) {}
+        while self.dump_next(&mut events, document) {}
     }
 }
 

@@ -5,7 +5,7 @@ pub returns-in-Ok-true : goal.returns-in-Ok-true
 returns-in-Ok-true c =
     let g = rw c.in-Ok-true.field-0-test at c.in-Ok-true.ensures in
     let taken = c.take_event.ensures in
-    dumps_event _ _ _ _ _ _ _ g.0 g.2 (rw c.borrowed.ensures at taken.takes) (rw c.borrowed.ensures at taken.memory) taken.opened taken.begun c.is_right.ensures.stuck
+    dumps_event c.args.document.now _ _ _ _ _ _ (g.0 c.args.document.now) g.1 (rw c.event.ensures.is at taken.takes) (rw c.event.ensures.is at taken.memory) taken.opened taken.begun c.is_right.ensures.stuck
 
 pub returns-in-Err : goal.returns-in-Err
 returns-in-Err c = dumps_starved _ _ _ _ _ c.starve.ensures

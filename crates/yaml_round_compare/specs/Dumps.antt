@@ -65,7 +65,7 @@ documents_left ds = documents_say (trees_of_dumps ds)
 -- ---- one dump
 
 abbrev pub IsDump : Dump → Type 0
-IsDump d = IsEvents d.document d.events
+IsDump d = IsEvents d.events
 
 abbrev pub AreDumps : Dump → Dump → Type 0
 AreDumps first second = IsDump first × IsDump second

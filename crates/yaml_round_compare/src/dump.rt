@@ -11,9 +11,17 @@ use yaml_parse::{EventRef, yaml_document_t, yaml_event_body_t, yaml_event_t};
 /// A document, what of its dump is to come, and a slot in which the next event stands.
 #[derive(Drop)]
 pub(crate) struct Dump {
+    pub alloc: Global,
     pub document: yaml_document_t,
     pub events: Events,
     pub event: yaml_event_t,
+}
+
+// Puts a body into a slot. A call of its own for the proofs.
+fn put(slot: &mut yaml_event_body_t, body: yaml_event_body_t)
+    ensures { slot.new ≡ body }
+{
+    *slot = body;
 }
 
 impl Dump {
@@ -23,6 +31,7 @@ impl Dump {
     {
         let events = Events::of(alloc, &document)?;
         Ok(Dump {
+            alloc,
             document,
             events,
             event: yaml_event_t::unplaced(yaml_event_body_t::No),
@@ -34,8 +43,14 @@ impl Dump {
         requires { IsDump self.old }
         ensures { GivesDumped self.old result self.new }
     {
-        self.events.next(&self.document, &mut self.event.body)
+        if !self.events.next()? {
+            return Ok(false);
+        }
+        let body = self.events.event(&self.document).copied(self.alloc)?;
+        put(&mut self.event.body, body);
+        Ok(true)
     }
+
     /// The event in the slot.
     pub fn event(&self) -> EventRef<'_>
         ensures { borrowed_body result ≡ (event_of self.now.event).body }

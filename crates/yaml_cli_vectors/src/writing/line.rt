@@ -7,7 +7,7 @@ use super::emitter::{emitter_under, flush};
 use crate::lines::{Reply, settings_of};
 use serde_json::Value;
 use std::mem;
-use yaml_emit::{yaml_emitter_delete, yaml_emitter_emit_from, yaml_emitter_output, yaml_emitter_t};
+use yaml_emit::{yaml_emitter_delete, yaml_emitter_emit_ref, yaml_emitter_output, yaml_emitter_t};
 use yaml_parse::{yaml_event_type_t, yaml_event_utf8};
 
 // What the emitter writes of the events that a parser gave, whose texts are UTF-8, each from where it stands, up to the empty one.
@@ -20,7 +20,7 @@ fn put_kept(reply: &mut Reply, emitter: &mut yaml_emitter_t) {
             break;
         }
         if event.type_() != yaml_event_type_t::YAML_NO_EVENT {
-            yaml_emitter_emit_from(emitter, event);
+            yaml_emitter_emit_ref(emitter, event.body.borrowed());
         }
     }
     reply.done(flush(emitter));

@@ -85,6 +85,7 @@ LAYERS = {
     "emit_limits": EMIT,
     "emit_pieces": EMIT,
     "dump": EMIT,
+    "read_all": {"Reader"},
     "told": {"Writer"},
     "line": {"Writer"},
 }
@@ -94,7 +95,7 @@ UNTOLD = {
     "check": lambda line, got: set(got["answer"]) == set(line["answer"]) and False in got["answer"].values(),
     "line": lambda line, got: got == {"answer": LINE},
     "run": lambda line, got: got == {"refused": "Write"},
-    "read_all": lambda line, got: {**got, "sizes": 0} == {"refused": "Read", "sizes": 0} or got.get("refused") == "Yaml",
+    "read_all": lambda line, got: {**got, "sizes": 0} == {"refused": "Read", "sizes": 0},
 }
 # These tell no layer: `lookup` answers the fault of the load as out of memory of the line.
 OTHERS = {"tokens", "lookup", "make_document", "make_events", *UNTOLD} - {*LAYERS}

@@ -2,7 +2,7 @@
 use Rattle.std.proofs.Common.{◌≡◌, Bool, true, false, List, [], ◌∷◌, ◌++◌, Option, Some, None, refl, sym, ap, ◌∙◌, subst, append-nil}
 use Rattle.yaml_emit_graph.specs.emit_layout.scan_model.declared.yaml_encoding_t.{yaml_encoding_t}
 use Rattle.yaml_emit_graph.specs.emit_layout.scan_model.declared.yaml_encoding_t.TheVariants.{YAML_ANY_ENCODING}
-use Rattle.yaml_emit_laws_dumps.proofs.Words.{YAML_ANY_SCALAR_STYLE, Problem, Expected, Scalar, alias_node, scalar_node, sequence_node, mapping_node, Nodes, no_nodes, node, Pairs, no_pairs, pair, Event, stream_start, stream_end, document_start, document_end, alias, scalar, sequence_start, sequence_end, mapping_start, mapping_end, node_events, items_events, pairs_events, documents_events, stream_events, or_else, event_problem, last_problem, node_problem, place_problem, problem_by, own_problem, own_problems, Due, item_due, key_due, value_due, Progress, inside, behind_node, first_progress, progress_after, level_due, problem_in, first_refusal, progress_behind, RightStream, PassedAreStreams, PassedAreFronts, RightStreamsHaveTexts}
+use Rattle.yaml_emit_laws_dumps.proofs.Words.{YAML_ANY_SCALAR_STYLE, Problem, Expected, Scalar, alias_node, scalar_node, sequence_node, mapping_node, Nodes, no_nodes, node, Pairs, no_pairs, pair, Event, stream_start, stream_end, document_start, document_end, alias, scalar, sequence_start, sequence_end, mapping_start, mapping_end, node_events, items_events, pairs_events, documents_events, stream_events, or_else, event_problem, last_problem, node_problem, place_problem, problem_by, own_problem, own_problems, Due, item_due, key_due, value_due, Progress, inside, behind_node, first_progress, progress_after, level_due, problem_in, first_refusal, progress_behind, IsEmittable, PassedAreStreams, PassedAreFronts, RightStreamsHaveTexts}
 use Rattle.yaml_emit_graph.specs.emit_layout.Layout.{written}
 use Rattle.yaml_emit_graph.specs.emit_layout.Settings.{settled}
 use Rattle.yaml_emit_graph.specs.emit_layout.Nodes.{stream_layout}
@@ -253,7 +253,7 @@ own_append canonical [] more r q = q
 own_append canonical (e ∷ es) more r q = let a = or_both (own_problem canonical e) (own_problems canonical es) r in or_none _ _ a.0 (own_append canonical es more a.1 q)
 
 whole : (canonical : Bool) (es : List Event) → first_refusal canonical first_progress es ≡ None
-    → RightStream canonical (es ++ closing_behind first_progress es)
+    → IsEmittable canonical (es ++ closing_behind first_progress es)
 whole canonical es r =
     let k = goes_on canonical first_progress es r in
     record { encoding = k.encoding; documents = k.documents; same = k.same; right = own_append canonical es (closing_behind first_progress es) (own_right canonical first_progress es r) (closing_right canonical (progress_behind first_progress es).place (progress_behind first_progress es).due) }
@@ -265,7 +265,7 @@ pub streams : PassedAreStreams
 streams canonical es r end =
     let none : closing_behind first_progress es ≡ [] = ap (λ (p : Expected). closing p (progress_behind first_progress es).due) end in
     let same : es ++ closing_behind first_progress es ≡ es = ap (λ (t : List Event). es ++ t) none ∙ append-nil es in
-    subst (RightStream canonical) same (whole canonical es r)
+    subst (IsEmittable canonical) same (whole canonical es r)
 
 -- ---- texts
 

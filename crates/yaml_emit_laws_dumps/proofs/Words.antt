@@ -27,7 +27,7 @@ pub use Rattle.yaml_emit_graph.specs.emit_layout.scan_model.declared.yaml_scalar
 pub use Rattle.yaml_emit_laws_dumps.specs.Dumps.{AgainsAre, AreApart, AreAsMany, AreLoadedNodes, HasKind, IsLoadedDocument, IsLoadedNode, IsNumbered, MeetsAgain, NumbersBack, as_content, as_contents, as_document, as_pairs, core_body, core_document, core_node, head_of, met_so, nowhere}
 unfoldable pub use Rattle.yaml_emit_laws_dumps.specs.Dumps.{before_at}
 pub use Rattle.yaml_emit_laws_dumps.specs.DumpsLaws.{AgainsAreTurns, DocumentsAreLoaded, DumpsLoadBack, DumpsNumberBack, MetAgainAreNumbered, NamesAreApart, NamesAreFound, NumbersAreApart, NumbersAreFound, VisitsNumberBack}
-pub use Rattle.yaml_emit_laws_dumps.specs.StreamsLaws.{AreRight, AreRightTold, AreTagged, DumpedStreamsAreRight, DumpsAreRight, LoadsAreRight, MayTag, PassedAreFronts, PassedAreStreams, RightBody, RightDocument, RightFed, RightLoad, RightStream, RightStreamsHaveTexts, StepsKeepRight, TakenAreRight}
+pub use Rattle.yaml_emit_laws_dumps.specs.StreamsLaws.{AreRight, AreRightTold, AreTagged, DumpedStreamsAreRight, DumpsAreRight, LoadsAreRight, MayTag, PassedAreFronts, PassedAreStreams, RightBody, RightDocument, RightFed, RightLoad, IsEmittable, RightStreamsHaveTexts, StepsKeepRight, TakenAreRight}
 unfoldable pub use Rattle.yaml_emit_laws_dumps.specs.StreamsLaws.{progress_behind}
 pub use Rattle.yaml_parse_laws_trees.specs.parse_document.Documents.{Document, change_place, map_tag, no_document, seq_tag, str_tag, with_node}
 pub use Rattle.yaml_parse_loader.specs.Loading.{LoadStep, Loading, Open, aliased, behind, closed, filled, goes_on, load, loaded, nothing_loaded, refused, step, step_body}

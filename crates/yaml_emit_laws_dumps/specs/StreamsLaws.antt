@@ -24,7 +24,7 @@ progress_behind h [] = h
 progress_behind h (e ∷ es) = progress_behind (progress_after h e) es
 
 -- the events of a stream in which nothing is wrong
-pub record RightStream (canonical : Bool) (es : List Event) : Type 0 where
+pub record IsEmittable (canonical : Bool) (es : List Event) : Type 0 where
   pub encoding : yaml_encoding_t
   pub documents : List Document
   pub same : es ≡ stream_events encoding documents
@@ -33,14 +33,14 @@ pub record RightStream (canonical : Bool) (es : List Event) : Type 0 where
 -- a front of such a stream's events
 pub record RightFront (canonical : Bool) (es : List Event) : Type 0 where
   pub more : List Event
-  pub whole : RightStream canonical (es ++ more)
+  pub whole : IsEmittable canonical (es ++ more)
 
 -- ---- which lists pass
 
 -- A list of events of which none is refused, and which ends the stream, is a stream's in which nothing is wrong.
 abbrev pub PassedAreStreams : Type 0
 PassedAreStreams = (canonical : Bool) (es : List Event) → first_refusal canonical first_progress es
-    ≡ None → (progress_behind first_progress es).place ≡ at.End → RightStream canonical es
+    ≡ None → (progress_behind first_progress es).place ≡ at.End → IsEmittable canonical es
 
 -- A list of events of which none is refused, wherever it ends, is a front of such a stream.
 abbrev pub PassedAreFronts : Type 0
@@ -55,7 +55,7 @@ pub record HasText (w : RequestedSettings) (es : List Event) : Type 0 where
 
 -- Such a stream has a text, which is its layout.
 abbrev pub RightStreamsHaveTexts : Type 0
-RightStreamsHaveTexts = (w : RequestedSettings) (es : List Event) → RightStream w.canonical es
+RightStreamsHaveTexts = (w : RequestedSettings) (es : List Event) → IsEmittable w.canonical es
     → HasText w es
 
 -- ---- what a document says

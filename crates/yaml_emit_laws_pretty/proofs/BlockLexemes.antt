@@ -1,12 +1,12 @@
 -- A block scalar that stands after the gap is the next lexeme.
 use Rattle.std.proofs.Common.{◌≡◌, ℕ, ◌+◌, ◌<◌, Bool, true, false, not, ◌&&◌, ◌==◌, nat_lt, List, [], ◌∷◌, length, Option, Some, None, Ok, refl, ap, ◌∙◌, arith}
-use Rattle.yaml_emit_laws_pretty.proofs.ScalarWords.{and-false, mark_at, WordText, kind_at, word_at, cond_false, kind_of, read_style, BlockStands}
+use Rattle.yaml_emit_laws_pretty.proofs.ScalarWords.{and-false, mark_at, WordText, kind_at, lexeme_at, cond_false, kind_of, read_style, BlockStands}
 use Rattle.yaml_emit_laws_text.specs.scan_model.Tokens.{scalar}
 use Rattle.yaml_emit_laws_text.specs.scan_model.declared.problem.ScanFault.{ScanFault}
 use Rattle.yaml_emit_laws_text.specs.scan_history.declared.kind.Kind.{Kind}
 use Rattle.yaml_emit_laws_text.specs.scan_history.declared.lexeme.Lexeme.{Lexeme}
 use Rattle.yaml_emit_laws_text.specs.scan_history.Kinds.{is_end}
-use Rattle.yaml_emit_laws_text.specs.scan_history.History.{depth, in_flow, ended, candidate, levels, entries}
+use Rattle.yaml_emit_laws_text.specs.scan_history.History.{flow_depth, in_flow, ended, candidate, open_levels, finished_tokens}
 use Rattle.yaml_emit_laws_text.specs.scan_history.Next.{Next, Read, next, gap_behind, place_behind, kind_behind, allowed_behind, level_in, begun_behind, word_behind, with_end, lexeme_behind, misplaced, stale_before, indicator_misplaced, candidate_lost, text_wrong, stale_after, wrong_in, missed, colon_missing_of, first_fault_or, coming}
 use Rattle.yaml_emit_laws_text.specs.scan_history.Remaining.{body_of_word}
 use Rattle.yaml_emit_laws_pretty.specs.BlockLexemes.{BlockIsNext}
@@ -18,7 +18,7 @@ block_lexeme folded text h end k = record {
   start = place_behind text h;
   end = mark_at text end;
   reached = mark_at text (end + k);
-  depth = depth h;
+  depth = flow_depth h;
   level = level_in (kind_of folded) (place_behind text h).column h;
   saved = false;
   required = false;
@@ -34,11 +34,11 @@ begun_is : (folded : Bool) (text : List ℕ) (h : List Lexeme) (value : List ℕ
     ≡ block_lexeme folded text h end k
 begun_is true text h value end k =
     let m = place_behind text h in
-    ap (λ (b : Bool). let l : Lexeme = record { kind = kind_of true; start = m; end = mark_at text end; reached = mark_at text (end + k); depth = depth h; level = level_in (kind_of true) m.column h; saved = b; required = b && (depth h == 0 && level_in (kind_of true) m.column h == m.column + 1); broke = false } in l)
+    ap (λ (b : Bool). let l : Lexeme = record { kind = kind_of true; start = m; end = mark_at text end; reached = mark_at text (end + k); depth = flow_depth h; level = level_in (kind_of true) m.column h; saved = b; required = b && (flow_depth h == 0 && level_in (kind_of true) m.column h == m.column + 1); broke = false } in l)
     (and-false (allowed_behind h (gap_behind text h)))
 begun_is false text h value end k =
     let m = place_behind text h in
-    ap (λ (b : Bool). let l : Lexeme = record { kind = kind_of false; start = m; end = mark_at text end; reached = mark_at text (end + k); depth = depth h; level = level_in (kind_of false) m.column h; saved = b; required = b && (depth h == 0 && level_in (kind_of false) m.column h == m.column + 1); broke = false } in l)
+    ap (λ (b : Bool). let l : Lexeme = record { kind = kind_of false; start = m; end = mark_at text end; reached = mark_at text (end + k); depth = flow_depth h; level = level_in (kind_of false) m.column h; saved = b; required = b && (flow_depth h == 0 && level_in (kind_of false) m.column h == m.column + 1); broke = false } in l)
     (and-false (allowed_behind h (gap_behind text h)))
 
 level_is : (folded : Bool) (text : List ℕ) (h : List Lexeme)
@@ -48,20 +48,20 @@ level_is true text h = refl
 level_is false text h = refl
 
 word_is : (folded : Bool) (text : List ℕ) (h : List Lexeme) (value : List ℕ) (end k : ℕ)
-    → depth h ≡ 0
+    → flow_depth h ≡ 0
     → BlockStands folded (level_in (kind_of folded) (place_behind text h).column h) text
     (gap_behind text h).place value end k
     → word_behind (kind_of folded) text h ≡ Ok (block_word folded value end k)
 word_is folded text h value end k o s =
-    ap (λ (d : ℕ). word_at (kind_of folded) (nat_lt 0 d) (begun_behind (kind_of folded) text h).level text (gap_behind text h).place) o
-    ∙ ap (λ (n : ℕ). word_at (kind_of folded) false n text (gap_behind text h).place) (level_is folded text h) ∙ s.word
+    ap (λ (d : ℕ). lexeme_at (kind_of folded) (nat_lt 0 d) (begun_behind (kind_of folded) text h).level text (gap_behind text h).place) o
+    ∙ ap (λ (n : ℕ). lexeme_at (kind_of folded) false n text (gap_behind text h).place) (level_is folded text h) ∙ s.word
 
 not_misplaced : (folded : Bool) (text : List ℕ) (h : List Lexeme)
     → indicator_misplaced (kind_of folded) text h ≡ None
 not_misplaced true text h = cond_false (misplaced (kind_of true) (place_behind text h) (allowed_behind h (gap_behind text h)) h) _ None (and-false (not (in_flow h) && not (allowed_behind h (gap_behind text h))))
 not_misplaced false text h = cond_false (misplaced (kind_of false) (place_behind text h) (allowed_behind h (gap_behind text h)) h) _ None (and-false (not (in_flow h) && not (allowed_behind h (gap_behind text h))))
 
-block_clear : (folded : Bool) (text : List ℕ) (h : List Lexeme) (end k : ℕ) → depth h ≡ 0
+block_clear : (folded : Bool) (text : List ℕ) (h : List Lexeme) (end k : ℕ) → flow_depth h ≡ 0
     → candidate 0 (block_lexeme folded text h end k ∷ h) ≡ None
 unfolding candidate
 block_clear true text h end k o = rw o refl
@@ -83,7 +83,7 @@ next_is text [] some e = absurd (omega (arith, some))
 next_is text (l ∷ h) some e = cond_false (is_end l.kind) _ (coming (kind_behind text (l ∷ h)) text (l ∷ h)) e
 
 block_comes : (folded : Bool) (text : List ℕ) (h : List Lexeme) (value : List ℕ) (end k : ℕ)
-    → 0 < length h → ended h ≡ false → depth h ≡ 0 → stale_before text h ≡ None
+    → 0 < length h → ended h ≡ false → flow_depth h ≡ 0 → stale_before text h ≡ None
     → candidate_lost (kind_of folded) text h ≡ None
     → BlockStands folded (level_in (kind_of folded) (place_behind text h).column h) text
     (gap_behind text h).place value end k → next text h ≡ Read (block_lexeme folded text h end k)
@@ -99,17 +99,17 @@ block_comes folded text h value end k some e o stale lost s =
     ∙ ap (λ (l : Lexeme). Read l) same
 
 block_body_is : (folded : Bool) (text : List ℕ) (h : List Lexeme) (value : List ℕ) (end k : ℕ)
-    → depth h ≡ 0
+    → flow_depth h ≡ 0
     → (s : BlockStands folded (level_in (kind_of folded) (place_behind text h).column h) text
     (gap_behind text h).place value end k)
-    → body_of_word (word_at (kind_of folded) (nat_lt 0 (depth h))
+    → body_of_word (lexeme_at (kind_of folded) (nat_lt 0 (flow_depth h))
     (level_in (kind_of folded) (place_behind text h).column h) text (gap_behind text h).place)
     ≡ scalar value (read_style folded)
 block_body_is folded text h value end k o s =
-    ap (λ (d : ℕ). body_of_word (word_at (kind_of folded) (nat_lt 0 d) (level_in (kind_of folded) (place_behind text h).column h) text (gap_behind text h).place)) o ∙ ap (λ r. body_of_word r) s.word
+    ap (λ (d : ℕ). body_of_word (lexeme_at (kind_of folded) (nat_lt 0 d) (level_in (kind_of folded) (place_behind text h).column h) text (gap_behind text h).place)) o ∙ ap (λ r. body_of_word r) s.word
 
 pub block_is_next : BlockIsNext
-unfolding levels entries
+unfolding open_levels finished_tokens
 block_is_next true text h value end k some e o stale lost s = record {
   lexeme = block_lexeme true text h end k;
   comes = block_comes true text h value end k some e o stale lost s;

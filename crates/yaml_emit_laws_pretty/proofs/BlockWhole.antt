@@ -1,6 +1,6 @@
 -- A block scalar and the line after it, and both at a position of a layout.
 use Rattle.std.proofs.Common.{◌≡◌, ℕ, zero, suc, ◌+◌, ◌-◌, ◌<◌, ◌≤◌, Bool, true, false, not, ◌&&◌, ◌||◌, ◌==◌, List, ◌++◌, length, replicate, Option, Some, None, refl, sym, ap, subst, ◌∙◌, arith, append_assoc, encode_utf8_all, if◌then◌else◌, chars, length-append, ◌≢◌, Ok, add-zero, nat_lt, [], ◌∷◌, Result, encode_utf8}
-use Rattle.yaml_emit_laws_pretty.proofs.ScalarWords.{encodes-append, encode_ascii, encodes-chars, HasAt, has, has_front, has_rest, has_at, Has, Cursor, LineBreak, Style, Rest, line, when, char, new_line, after_block, allowed, plain_fits, single_or, block_or, plain_or, taken, somewhere, is_special, ends_in_space, last_or, chomp, ends_in_break, digit_char, chomp_mark, block_body, scalar_text, in_front, break_text, yaml_scalar_style_t, NodePosition, Scalar, is_some, scalar_tag, Context, is_simple_part, deeper, style_of, page_at, front_append, moved_by, closing, NoWhite, own, mark_bytes, BodyLine, bare, full, body_text, body_bytes, read_lines, AreInside, StandsLeft, is_keep, BlockStands, BlockReads, BlockIsReadBack, BlockBeforeLine, margin_round, block_style, BlockIsChosen, BlockAtPosition, from_indicator, kind_of, read_style, BlockIsLaidOut, after_blanks, special_left, at_line, nat_tests, byte, break_width, column_at, is_blank, is_space_there, InRun, run_start, run_more, run_done, no_space, text_parts, false≢true, true≢false, not-true, or_parts, eqb-false, Wrong, is_document_start, is_document_end, indicator_of, kind_at, blocked, word_at, starts_blank, block_value, stacked_with, chomp_at, Lines, lines_from, Chomp, letter, is_break, is_printable, first, cond_true}
+use Rattle.yaml_emit_laws_pretty.proofs.ScalarWords.{encodes-append, encode_ascii, encodes-chars, HasAt, has, has_front, has_rest, has_at, Has, Cursor, LineBreak, Style, Rest, line, when, char, new_line, after_block, allowed, plain_fits, single_or, block_or, plain_or, taken, somewhere, is_special, ends_in_space, last_or, chomp, ends_in_break, digit_char, chomp_mark, block_body, scalar_text, in_front, break_text, yaml_scalar_style_t, NodePosition, Scalar, is_some, scalar_tag, Context, is_simple_part, deeper, style_of, page_at, front_append, moved_by, closing, NoWhite, own, mark_bytes, BodyLine, bare, full, body_text, body_bytes, read_lines, AreInside, StandsLeft, is_keep, BlockStands, BlockReads, BlockIsReadBack, BlockBeforeLine, margin_round, block_style, BlockIsChosen, BlockAtPosition, from_indicator, kind_of, read_style, BlockIsLaidOut, after_blanks, special_left, at_line, nat_tests, byte, break_width, column_at, is_blank, is_space_there, InRun, run_start, run_more, run_done, no_space, text_parts, false≢true, true≢false, not-true, or_parts, eqb-false, Wrong, is_document_start, is_document_end, indicator_of, kind_at, blocked, lexeme_at, starts_blank, block_value, stacked_with, chomp_at, Lines, lines_from, Chomp, letter, is_break, is_printable, first, cond_true}
 use Rattle.yaml_emit_laws_text.specs.emit_layout.declared.page.Page.{Page}
 use Rattle.yaml_emit_laws_text.specs.emit_layout.declared.page.Allowed.{Allowed}
 use Rattle.yaml_emit_laws_text.specs.emit_layout.declared.Style.TheVariants as style
@@ -390,9 +390,9 @@ style_is true text p e = rw e refl
 style_is false text p e = rw e refl
 
 word_is : (folded : Bool) (level : ℕ) (text : List ℕ) (p : ℕ)
-    → word_at (kind_of folded) false level text p
+    → lexeme_at (kind_of folded) false level text p
     ≡ blocked (style_at text p) (block_at level text p)
-unfolding word_at
+unfolding lexeme_at
 word_is true level text p = refl
 word_is false level text p = refl
 

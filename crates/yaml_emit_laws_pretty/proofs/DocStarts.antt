@@ -1,6 +1,6 @@
 -- The start of a line outside of all levels, and what may stand there after a root.
 use Rattle.std.proofs.Common.{◌≡◌, ◌⊎◌, ℕ, ◌==◌, ◌&&◌, ◌||◌, Bool, true, false, List, [], ◌∷◌, ◌++◌, Some, None, refl, sym, ap, subst, ◌∙◌, inl, inr, arith, if◌then◌else◌, not, Option, ◌+◌, nat_lt}
-use Rattle.yaml_emit_laws_pretty.proofs.Words.{false≢true, eqb-true, and_parts, yaml_encoding_t, TokenBody, column_at, break_of, byte, is_blank_or_end, Cursor, LineBreak, Lf, Cr, CrLf, Rest, line, blanks, must_break, new_line, indent_to, when, nothing_more, word, break_text, Left, bytes, first, letter_low, WalkState, WalkReads, behind, begins_white, begins_mark, stops_plain_at, begins_blank, NodeStage, Lined, NoFeed, no_comment, Ending, NodeWalks, at_line, yaml_version_directive_t, TagDirective, Settings, encode, Opening, Document, Node, dots, dashes, context_of, root_position, node_layout, directives_text, start_layout, end_layout, stop_layout, documents_layout, IsWritable, IsWritableOpening, AreWritable, three, behind_three, Thrice, thrice_dash, thrice_dot, line_blank, pretty, Kind, allows_key, is_outside, is_end, WordText, kind_at, word_at, left_first, left_more, line_at-grows, Comes, words_leave, walk_outer}
+use Rattle.yaml_emit_laws_pretty.proofs.Words.{false≢true, eqb-true, and_parts, yaml_encoding_t, TokenBody, column_at, break_of, byte, is_blank_or_end, Cursor, LineBreak, Lf, Cr, CrLf, Rest, line, blanks, must_break, new_line, indent_to, when, nothing_more, word, break_text, Left, bytes, first, letter_low, WalkState, WalkReads, behind, begins_white, begins_mark, stops_plain_at, begins_blank, NodeStage, Lined, NoFeed, no_comment, Ending, NodeWalks, at_line, yaml_version_directive_t, TagDirective, Settings, encode, Opening, Document, Node, dots, dashes, context_of, root_position, node_layout, directives_text, start_layout, end_layout, stop_layout, documents_layout, IsWritable, IsWritableOpening, AreWritable, three, behind_three, Thrice, thrice_dash, thrice_dot, line_blank, pretty, Kind, allows_key, is_outside, is_end, WordText, kind_at, lexeme_at, left_first, left_more, line_at-grows, Comes, words_leave, walk_outer}
 use Rattle.yaml_emit_laws_pretty.proofs.Lining.{line_on, no_gap}
 use Rattle.yaml_emit_laws_text.specs.emit_layout.declared.level.Part.TheVariants as part
 use Rattle.yaml_emit_laws_text.specs.emit_layout.scan_model.Tokens as tokens
@@ -281,7 +281,7 @@ three_walks s k body t outer x text rest kept T alone h =
     let comes : Comes text p 0 0 k [] w (p + 3) = record {
       behind = no_gap text p (t.begins text p m.first);
       kind = ap (λ n. kind_at false text n) z ∙ t.kind text p m.first m.second m.third (alone (p + 3) m.left) h.column;
-      word = ap (λ n. word_at k false 0 text n) z ∙ t.said text p;
+      word = ap (λ n. lexeme_at k false 0 text n) z ∙ t.said text p;
       up = omega arith;
     } in
     let r = walk_outer x text o h.more T k [] w (p + 3) (allows_key k true false) true h.reads h.flat comes outer (words_leave.all text 0 (allows_key k true false) w refl) in

@@ -1,6 +1,6 @@
 -- Collections in brackets: items, pairs, and what opens and closes them.
 use Rattle.std.proofs.Common.{◌≡◌, ℕ, ◌+◌, ◌≤◌, not, nat_lt, Bool, true, false, List, [], ◌∷◌, refl, sym, ap, subst, ◌∙◌, inl, inr, arith, ◌<◌, ◌&&◌, ◌||◌, length, None, Some, IsUtf8, Option, true≢false}
-use Rattle.yaml_emit_laws_pretty.proofs.Words.{chars, cases_Bool, nat_tests, yaml_encoding_t, TokenBody, TagDirective, column_at, indent, Cursor, Settings, letter, Layout, Rest, ◌▹◌, when, char, letters, word, opener, wrap, Part, Node, Nodes, no_nodes, node, Pairs, no_pairs, pair, Scalar, Opening, alias_node, scalar_node, position, is_simple_part, is_simple, key_part, turned, before_item, before_key, before_value, closer, node_layout, items_layout, pairs_layout, Context, checked, MOST, is_plain, style_of, tag_text, anchor_text, properties_text, page_at, alias_layout, scalar_layout, Left, bytes, first, left_letter, deep_bytes, IsRight, WalkState, WalkReads, Outside, node_bodies, items_bodies, pairs_bodies, style_named, IsClear, GoesIn, WalksIn, FollowsIn, KeyWalksIn, lettered_on, AnchorReads, Style, double_quoted, plain, single_quoted, scalar_text, allowed, tag_spelling, split_tag, has, scalar_tag, anchor_bodies, tag_bodies, tag_body, mark_bodies, QuotedIsReadBack, SplitTagsAreRead, WrittenTagsAreReadable, ReadableTagsAreAscii, LoneMarkReads, IsWritableAnchor, IsWritableTag, IsWritableName, IsWritableOpening, PlainIsReadBack, may_be_plain, SingleLinesAreReadBack, PlainHasGap, ScalarsAreWords, StylesAreAllowed, ends_name}
+use Rattle.yaml_emit_laws_pretty.proofs.Words.{chars, cases_Bool, nat_tests, yaml_encoding_t, TokenBody, TagDirective, column_at, indent, Cursor, Settings, letter, Layout, Rest, ◌▹◌, when, char, letters, word, opener, wrap, Part, Node, Nodes, no_nodes, node, Pairs, no_pairs, pair, Scalar, Opening, alias_node, scalar_node, position, is_simple_part, is_simple, key_part, turned, before_item, before_key, before_value, closer, node_layout, items_layout, pairs_layout, Context, checked, MOST, is_plain, style_of, tag_text, anchor_text, properties_text, page_at, alias_layout, scalar_layout, Left, bytes, first, left_letter, deep_bytes, IsRight, WalkState, WalkReads, Outside, node_bodies, items_bodies, pairs_bodies, style_named, IsClear, GoesIn, WalksIn, FollowsIn, KeyWalksIn, lettered_on, AnchorReads, Style, quoted_text, plain, single_quoted, scalar_text, allowed, tag_spelling, split_tag, has, scalar_tag, anchor_bodies, tag_bodies, tag_body, mark_bodies, QuotedIsReadBack, SplitTagsAreRead, WrittenTagsAreReadable, ReadableTagsAreAscii, LoneMarkReads, IsWritableAnchor, IsWritableTag, IsWritableName, IsWritableOpening, PlainIsReadBack, may_be_plain, SingleLinesAreReadBack, PlainHasGap, ScalarsAreWords, StylesAreAllowed, ends_name}
 use Rattle.yaml_emit_laws_text.specs.emit_layout.scan_model.Tokens as tokens
 use Rattle.yaml_emit_laws_text.specs.emit_layout.declared.level.Part.TheVariants as part
 use Rattle.yaml_emit_laws_pretty.proofs.FlowSteps.{Space, space_on, clear_same, word_walks, both}
@@ -468,7 +468,7 @@ text_in laws p n q x u deep ls low rest follows style.Double same c =
     let page = page_at p.settings (position true n q) in
     let deeper : 0 < page.indentation = omega (arith, deep) in
     let says = double_says laws.quoted true (indent ls) page x.value u deeper c in
-    word_walks ls (double_quoted page (chars x.value)) c (double_word true (indent ls) (not c.white) page (behind_gap c.white c) x.value (laws.quoted page (behind_gap c.white c) x.value u (λ cuts. deeper))) says rest tt
+    word_walks ls (quoted_text page (chars x.value)) c (double_word true (indent ls) (not c.white) page (behind_gap c.white c) x.value (laws.quoted page (behind_gap c.white c) x.value u (λ cuts. deeper))) says rest tt
 text_in laws p n q x u deep ls low rest follows style.Literal same c = let no_flow = ((laws.styles p (position true n q) x).2 same).1 in absurd (true≢false no_flow)
 text_in laws p n q x u deep ls low rest follows style.Folded same c = let no_flow = ((laws.styles p (position true n q) x).3 same).1 in absurd (true≢false no_flow)
 

@@ -1,6 +1,6 @@
 -- White and words in brackets.
 use Rattle.std.proofs.Common.{◌≡◌, ℕ, ◌+◌, ◌≤◌, ◌==◌, ◌&&◌, ◌||◌, nat_lt, Bool, true, false, List, [], ◌∷◌, ◌++◌, length, Some, Ok, refl, sym, ap, subst, ◌∙◌, inl, inr, arith, append_assoc, if◌then◌else◌}
-use Rattle.yaml_emit_laws_pretty.proofs.Words.{false≢true, or_right, yaml_encoding_t, TokenBody, column_at, indent, depth_after, allows_key, cancels, is_value, may_be_key, WordText, kind_at, word_at, Kind, Cursor, Layout, Rest, ◌▹◌, Left, bytes, has_at, left_first, left_more, left_rest, stays_level, Comes, WordLeaves, WalkState, WalkReads, LeaveClear, Outside, behind, letter_columns, walk_white, walk_word, deeper_leaves, is_text, Fits, Spoken, SaysTokens, IsClear, WalksIn}
+use Rattle.yaml_emit_laws_pretty.proofs.Words.{false≢true, or_right, yaml_encoding_t, TokenBody, column_at, indent, depth_after, allows_key, cancels, is_value, may_be_key, WordText, kind_at, lexeme_at, Kind, Cursor, Layout, Rest, ◌▹◌, Left, bytes, has_at, left_first, left_more, left_rest, stays_level, Comes, WordLeaves, WalkState, WalkReads, LeaveClear, Outside, behind, letter_columns, walk_white, walk_word, deeper_leaves, is_text, Fits, Spoken, SaysTokens, IsClear, WalksIn}
 use Rattle.yaml_emit_laws_text.specs.scan_history.declared.kind.Kind.TheVariants as kinds
 use Rattle.yaml_emit_laws_pretty.proofs.Lining.{no_gap}
 use Rattle.yaml_scan_laws_texts.proofs.Whites.{or_none}
@@ -116,7 +116,7 @@ here_on x text bs o cs ls T w r deep clear l fits =
     let comes : Comes text p o.depth level k [] said e = record {
       behind = no_gap text p s.begins;
       kind = subst (λ (f : Bool). kind_at f text (p + 0) ≡ Some k) (sym deep) (ap (λ n. kind_at true text n) z ∙ s.kind);
-      word = subst (λ (f : Bool). word_at k f level text (p + 0) ≡ Ok said) (sym deep) (ap (λ n. word_at k true level text n) z ∙ s.word);
+      word = subst (λ (f : Bool). lexeme_at k f level text (p + 0) ≡ Ok said) (sym deep) (ap (λ n. lexeme_at k true level text n) z ∙ s.word);
       up = omega arith;
     } in
     let leaves : WordLeaves text (depth_after k o.depth) (allows_key k (o.depth == 0) false) said e false s.wide =

@@ -1,6 +1,6 @@
 -- Columns don't fall in a line, and rise after text.
 use Rattle.std.proofs.Common.{◌≡◌, ℕ, ◌+◌, ◌-◌, ◌<◌, ◌≤◌, Bool, true, false, List, [], ◌∷◌, length, zero, suc, refl, sym, ap, subst, ◌∙◌, inl, inr, arith, encode_utf8, encode_utf8_all, add-zero, if◌then◌else◌, ◌==◌, ◌&&◌, ◌||◌, not, nat_lt, ◌++◌, append_assoc, length-append}
-use Rattle.yaml_emit_laws_pretty.proofs.Words.{cases_Bool, cases_lt, false≢true, or_right, byte, column_at, line_at, starts, ends_break, ends_of, mark_at, Has, Left, AreCalm, calm_end, line_more, has_front, has_at, left_first, left_more, left_rest, line_at-grows, high_starts, low_starts, nat_tests, yaml_encoding_t, TokenBody, indent, is_fresh, margin_at, opened, start_of, depth_after, may_be_key, cancels, is_value, allows_key, WordText, kind_at, word_at, Kind, Opens, IsRight, stays_level, Comes, WordLeaves, SignComes, sign, start_bodies, WalkState, WalkReads, ReadsKey, ClosesAt, Outside, behind, signs_come, words_leave, walk_white, walk_key_starts, walk_key_goes, walk_key_stops, walk_says, deeper_leaves, begins_white, white_of, is_text, Fits, WordStands, Spoken, spoken_bytes, all_bytes, all_bodies, AllFit}
+use Rattle.yaml_emit_laws_pretty.proofs.Words.{cases_Bool, cases_lt, false≢true, or_right, byte, column_at, line_at, starts, ends_break, ends_of, mark_at, Has, Left, AreCalm, calm_end, line_more, has_front, has_at, left_first, left_more, left_rest, line_at-grows, high_starts, low_starts, nat_tests, yaml_encoding_t, TokenBody, indent, is_fresh, margin_at, opened, start_of, depth_after, may_be_key, cancels, is_value, allows_key, WordText, kind_at, lexeme_at, Kind, Opens, IsRight, stays_level, Comes, WordLeaves, SignComes, sign, start_bodies, WalkState, WalkReads, ReadsKey, ClosesAt, Outside, behind, signs_come, words_leave, walk_white, walk_key_starts, walk_key_goes, walk_key_stops, walk_says, deeper_leaves, begins_white, white_of, is_text, Fits, WordStands, Spoken, spoken_bytes, all_bytes, all_bodies, AllFit}
 use Rattle.yaml_emit_laws_text.proofs.Chars.{encode_1, encode_2, encode_3, encode_4}
 use Rattle.yaml_emit_laws_text.specs.emit_layout.scan_model.Tokens as tokens
 use Rattle.yaml_emit_laws_text.specs.scan_history.declared.kind.Kind.TheVariants as kinds
@@ -130,7 +130,7 @@ stands_comes d level k body text p e bs up s =
     record {
       behind = no_gap text p s.begins;
       kind = ap (λ q. kind_at (nat_lt 0 d) text q) z ∙ s.kind;
-      word = ap (λ q. word_at k (nat_lt 0 d) level text q) z ∙ s.word;
+      word = ap (λ q. lexeme_at k (nat_lt 0 d) level text q) z ∙ s.word;
       up = omega (arith, up);
     }
 

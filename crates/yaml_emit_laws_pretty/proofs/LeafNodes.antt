@@ -1,6 +1,6 @@
 -- A block scalar and the line after it.
 use Rattle.std.proofs.Common.{◌≡◌, ℕ, ◌+◌, ◌-◌, ◌<◌, ◌≤◌, ◌&&◌, ◌||◌, not, nat_lt, Bool, true, false, List, [], ◌∷◌, length, suc, Option, Some, None, Result, Ok, refl, sym, ap, subst, ◌∙◌, inl, inr, arith, if◌then◌else◌, IsUtf8, chars}
-use Rattle.yaml_emit_laws_pretty.proofs.Words.{cases_Bool, cases_lt, false≢true, or_left, yaml_encoding_t, TokenBody, byte, line_at, column_at, Wrong, indent, depth_after, allows_key, is_end, is_value, WordText, kind_at, word_at, Kind, Cursor, Page, Rest, ◌▹◌, gap, blank, line, Layout, when, word, char, chomp, scalar_text, Part, Scalar, Opening, alias_node, scalar_node, Context, style_of, deeper, page_at, context_of, MOST, checked, is_plain, is_simple_part, properties_text, anchor_text, tag_text, alias_layout, scalar_layout, node_layout, Left, bytes, first, has_at, left_first, left_more, left_letter, letter_low, deep_bytes, from_indicator, keeps_all, read_style, margin_round, block_style, behind_line, BlockPassed, line_at-grows, stays_level, Comes, WordLeaves, WalkState, WalkReads, LeaveClear, behind, printed_begins, letter_columns, words_leave, walk_white, walk_word, is_keep, style_at, takes_mark, scalar_bodies, scalar_kept, node_bodies, node_kept, NodeStage, LinedUp, PlainIsWalked, SingleIsWalked, Ending, block_position, column_round, NodeWalks, IsPretty, LeavesAreWalked, BlockScalarsAreWalked, is_block, low_starts, LineBreak, Settings, Style, double_quoted, has, scalar_tag, anchor_bodies, tag_bodies, mark_bodies, QuotedIsReadBack, between_quotes, between_single, IsWritable, anchor_is_read, begins_white, PlainHasGap, StylesAreAllowed, kept_writable}
+use Rattle.yaml_emit_laws_pretty.proofs.Words.{cases_Bool, cases_lt, false≢true, or_left, yaml_encoding_t, TokenBody, byte, line_at, column_at, Wrong, indent, depth_after, allows_key, is_end, is_value, WordText, kind_at, lexeme_at, Kind, Cursor, Page, Rest, ◌▹◌, gap, blank, line, Layout, when, word, char, chomp, scalar_text, Part, Scalar, Opening, alias_node, scalar_node, Context, style_of, deeper, page_at, context_of, MOST, checked, is_plain, is_simple_part, properties_text, anchor_text, tag_text, alias_layout, scalar_layout, node_layout, Left, bytes, first, has_at, left_first, left_more, left_letter, letter_low, deep_bytes, from_indicator, keeps_all, read_style, margin_round, block_style, behind_line, BlockPassed, line_at-grows, stays_level, Comes, WordLeaves, WalkState, WalkReads, LeaveClear, behind, printed_begins, letter_columns, words_leave, walk_white, walk_word, is_keep, style_at, takes_mark, scalar_bodies, scalar_kept, node_bodies, node_kept, NodeStage, LinedUp, PlainIsWalked, SingleIsWalked, Ending, block_position, column_round, NodeWalks, IsPretty, LeavesAreWalked, BlockScalarsAreWalked, is_block, low_starts, LineBreak, Settings, Style, quoted_text, has, scalar_tag, anchor_bodies, tag_bodies, mark_bodies, QuotedIsReadBack, between_quotes, between_single, IsWritable, anchor_is_read, begins_white, PlainHasGap, StylesAreAllowed, kept_writable}
 use Rattle.yaml_emit_laws_text.specs.emit_layout.scan_model.Tokens as tokens
 use Rattle.yaml_emit_laws_text.specs.scan_history.declared.kind.Kind.TheVariants as kinds
 use Rattle.yaml_emit_laws_text.specs.emit_layout.declared.Chomp.{Chomp}
@@ -87,7 +87,7 @@ word_on : (k : Kind) → IsBlock k
     (T : List TokenBody → List TokenBody) (b e : ℕ) (w : WordText) (m : ℕ) (rest : Rest)
     → NodeStage x text c o ls [] T → indent ls ≤ column_at text o.at
     → byte text o.at ≡ b → 32 < b → b < 127 → (b ≡ 35 → ⊥) → kind_at false text o.at ≡ Some k
-    → word_at k false (indent ls) text o.at ≡ Ok w → w.reached ≡ e → w.broke ≡ false → o.at < e
+    → lexeme_at k false (indent ls) text o.at ≡ Ok w → w.reached ≡ e → w.broke ≡ false → o.at < e
     → column_at text e ≡ m → m ≤ column_at text o.at
     → d.column ≡ m → d.bare ≡ true → d.white ≡ true → (kept : Bool) → d.kept ≡ kept
     → Left text e (bytes (rest d)) → LinedUp x text rest m kept ls (λ bs. T (w.body ∷ bs))
@@ -100,7 +100,7 @@ word_on k is x text c d o ls T b e w m rest s right here low high hash kind word
     let comes : Comes text p 0 (indent ls) k [] w e = record {
       behind = no_gap text p (printed_begins text p b here low high hash);
       kind = ap (λ n. kind_at false text n) z ∙ kind;
-      word = ap (λ n. word_at k false (indent ls) text n) z ∙ word;
+      word = ap (λ n. lexeme_at k false (indent ls) text n) z ∙ word;
       up = omega (arith, far);
     } in
     let leaves = words_leave.all text (depth_after k 0) (allows_key k true false) w broke in
@@ -153,7 +153,7 @@ inside text p b bs l = let e = l.ends in omega (arith, e)
 
 -- it is after its start
 lands : (k : Kind) (text : List ℕ) (p level : ℕ) (w : WordText) → is_end k ≡ false → Fits k text p
-    → word_at k false level text p ≡ Ok w → p < w.reached
+    → lexeme_at k false level text p ≡ Ok w → p < w.reached
 lands k text p level w no_end fits e =
     let h : IsWordFrom text p w = subst (λ (r : Result WordText Wrong). LandsWord text p r) e (word_lands k false level text p no_end fits) in
     let far = h.end in
@@ -313,7 +313,7 @@ double_lines law s o pretty around q v u ls c m after level up ending x text w T
     let (deep, far) = page_deep s pretty.least around in
     let says = double_says law false (indent ls) page v.value u deep c in
     line_ends s.line_break m x text c.kept ls (λ bs. T (scalar_bodies false style.Double v.value bs)) after ending.feed
-    (word_walks (double_quoted page (chars v.value)) c ls (double_word false (indent ls) (not c.white) page (behind_gap c.white c) v.value (law page (behind_gap c.white c) v.value u (λ cuts. deep))) says (λ e. line s.line_break m e after) tt x text w T st right l)
+    (word_walks (quoted_text page (chars v.value)) c ls (double_word false (indent ls) (not c.white) page (behind_gap c.white c) v.value (law page (behind_gap c.white c) v.value u (λ cuts. deep))) says (λ e. line s.line_break m e after) tt x text w T st right l)
 
 block_lines : (s : Settings) (o : Opening) → IsPretty s o
     → (around : Option ℕ) (q : Part) (v : Scalar) → IsUtf8 v.value → (st : Style)

@@ -55,7 +55,7 @@ pub use Rattle.yaml_emit_laws_text.specs.emit_layout.declared.Settings.{Settings
 pub use Rattle.yaml_emit_laws_text.specs.emit_layout.declared.Style.{Style}
 pub use Rattle.yaml_emit_laws_text.specs.emit_layout.declared.page.Chomp.{Chomp, Chomp as Chomping}
 pub use Rattle.yaml_emit_laws_text.specs.scan_history.Words.{WordText, blocked, plainly, valued}
-unfoldable pub use Rattle.yaml_emit_laws_text.specs.scan_history.Words.{indicator_of, kind_at, word_at}
+unfoldable pub use Rattle.yaml_emit_laws_text.specs.scan_history.Words.{indicator_of, kind_at, lexeme_at}
 pub use Rattle.yaml_emit_laws_text.specs.scan_history.scan_words.Pieces.{Blank, Break, Kept, Piece, value as value_of}
 pub use Rattle.yaml_emit_laws_text.specs.scan_history.scan_words.Plain.{Ends, PlainSpot, PlainText, Takes, after_white, follows, is_nothing, leads, plain_at, plain_text, plain_with, spot_at, with_piece, words_from}
 unfoldable pub use Rattle.yaml_emit_laws_text.specs.scan_history.scan_words.Plain.{ends_at, is_bracket, is_indicator_byte, starts_plain, words}

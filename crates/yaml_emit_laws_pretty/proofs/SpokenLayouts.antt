@@ -1,6 +1,6 @@
 -- What layouts of single words say: names, tags, and scalars in the three styles of a line.
 use Rattle.std.proofs.Common.{◌≡◌, ℕ, ◌+◌, ◌<◌, ◌≤◌, not, nat_lt, Bool, true, false, List, [], ◌∷◌, ◌++◌, length, Some, refl, sym, ap, subst, ◌∙◌, encode_utf8_all, if◌then◌else◌, IsUtf8, chars, append-nil}
-use Rattle.yaml_emit_laws_pretty.proofs.Words.{and_parts, AnchorReads, double_quoted_at, Cursor, Page, Item, letter, Layout, Rest, ◌▹◌, letters, word, gap, blank, after_text, double_quoted, flow_body, plain, single_quoted, allowed, in_front, tag_spelling, split_tag, Opening, ValueIsReadBack, between_quotes, between_single, QuotedIsReadBack, SplitTagsAreRead, WrittenTagsAreReadable, ReadableTagsAreAscii, are_ascii, LoneMarkReads, bytes, IsWritableName, IsWritableOpening, IsWritableTag, letter_low, front_encodes, lettered_on, PlainIsReadBack, may_be_plain, SingleLinesAreReadBack, PlainHasGap, ScalarsAreWords, Spoken, SaysTokens, letters_are, alphas_ascii}
+use Rattle.yaml_emit_laws_pretty.proofs.Words.{and_parts, AnchorReads, double_quoted_at, Cursor, Page, Item, letter, Layout, Rest, ◌▹◌, letters, word, gap, blank, after_text, quoted_text, flow_body, plain, single_quoted, allowed, in_front, tag_spelling, split_tag, Opening, ValueIsReadBack, between_quotes, between_single, QuotedIsReadBack, SplitTagsAreRead, WrittenTagsAreReadable, ReadableTagsAreAscii, are_ascii, LoneMarkReads, bytes, IsWritableName, IsWritableOpening, IsWritableTag, letter_low, front_encodes, lettered_on, PlainIsReadBack, may_be_plain, SingleLinesAreReadBack, PlainHasGap, ScalarsAreWords, Spoken, SaysTokens, letters_are, alphas_ascii}
 use Rattle.yaml_emit_laws_pretty.proofs.SpokenWords.{anchor_word, alias_word, tag_word, mark_word, double_word, single_word, plain_word}
 use Rattle.yaml_emit_laws_pretty.proofs.FlowSigns.{behind_gap}
 
@@ -131,7 +131,7 @@ double_wrote page c value r = record {
 
 pub double_says : (quoted : QuotedIsReadBack) (flow : Bool) (level : ℕ) (page : Page)
     (value : List ℕ) (u : IsUtf8 value) (deep : 0 < page.indentation) (c : Cursor)
-    → SaysTokens flow level (double_quoted page (chars value)) c
+    → SaysTokens flow level (quoted_text page (chars value)) c
     (double_word flow level (not c.white) page (behind_gap c.white c) value
     (quoted page (behind_gap c.white c) value u (λ cuts. deep)) ∷ [])
 double_says quoted flow level page value u deep c =

@@ -1,6 +1,6 @@
 -- Plain scalars as content, empty ones too.
 use Rattle.std.proofs.Common.{◌≡◌, ℕ, ◌+◌, ◌<◌, ◌≤◌, Bool, true, false, List, [], ◌∷◌, refl, ap, subst, ◌∙◌, arith, if◌then◌else◌, IsUtf8, ◌==◌, ◌&&◌, ◌||◌, not, nat_lt, length, zero, suc, sym, inl, inr, ◌++◌, Some, Result, Ok, encode_utf8, encode_utf8_all}
-use Rattle.yaml_emit_laws_pretty.proofs.Words.{chars, false≢true, cases_Bool, or_left, or_right, and_parts, or_cases, yaml_encoding_t, TokenBody, indent, Cursor, Page, Layout, Rest, ◌▹◌, blank, after_text, gap, Item, flow_body, plain, Left, bytes, first, letter_low, left_letter, Sign, sign_begins, sign_kind, walk_says, walk_white, walk_word, begins_white, white_of, is_gap_byte, PlainHasGap, PlainStands, ScalarsAreWords, SingleStands, may_be_plain, PlainIsBack, scalar_bodies, GoesBehindNode, Walks, Follows, PlainIsWalked, NodeStage, no_comment, SingleIsWalked, byte, column_at, is_blank, break_width, is_blank_or_end, depth_after, WordText, kind_at, word_at, indicator_of, valued, tagged, has_break, begins_lexeme, has_at, left_first, left_more, has_front, left_rest, nat_tests, ends_at, is_bom, line_at-grows, Comes, WordLeaves, WalkState, LeaveClear, behind, WalkReads, letter_columns, words_leave, stops_end, goes_on, single_kind, left_byte, encode_ascii, AnchorReads, double_quoted_at, Kind, ValueIsReadBack, between_quotes, between_single, Wrong, Split, spelled, split_tag, Opening, tag_body, SplitTagsAreRead, WrittenTagsAreReadable, IsReadable, ReadableTagsAreAscii, LoneMarkReads, IsWritableName, IsWritableOpening, IsWritableTag, named, quote_sign, quote_kind, quote_first, alias_kind, anchor_kind, SingleIsBack, Spoken, Behind, WordStands, Fits, is_text, ends_name, mark_kind, said_tag, text_is, allowed}
+use Rattle.yaml_emit_laws_pretty.proofs.Words.{chars, false≢true, cases_Bool, or_left, or_right, and_parts, or_cases, yaml_encoding_t, TokenBody, indent, Cursor, Page, Layout, Rest, ◌▹◌, blank, after_text, gap, Item, flow_body, plain, Left, bytes, first, letter_low, left_letter, Sign, sign_begins, sign_kind, walk_says, walk_white, walk_word, begins_white, white_of, is_gap_byte, PlainHasGap, PlainStands, ScalarsAreWords, SingleStands, may_be_plain, PlainIsBack, scalar_bodies, GoesBehindNode, Walks, Follows, PlainIsWalked, NodeStage, no_comment, SingleIsWalked, byte, column_at, is_blank, break_width, is_blank_or_end, depth_after, WordText, kind_at, lexeme_at, indicator_of, valued, tagged, has_break, begins_lexeme, has_at, left_first, left_more, has_front, left_rest, nat_tests, ends_at, is_bom, line_at-grows, Comes, WordLeaves, WalkState, LeaveClear, behind, WalkReads, letter_columns, words_leave, stops_end, goes_on, single_kind, left_byte, encode_ascii, AnchorReads, double_quoted_at, Kind, ValueIsReadBack, between_quotes, between_single, Wrong, Split, spelled, split_tag, Opening, tag_body, SplitTagsAreRead, WrittenTagsAreReadable, IsReadable, ReadableTagsAreAscii, LoneMarkReads, IsWritableName, IsWritableOpening, IsWritableTag, named, quote_sign, quote_kind, quote_first, alias_kind, anchor_kind, SingleIsBack, Spoken, Behind, WordStands, Fits, is_text, ends_name, mark_kind, said_tag, text_is, allowed}
 use Rattle.yaml_emit_laws_text.specs.emit_layout.declared.Style.TheVariants as style
 use Rattle.yaml_emit_laws_text.specs.emit_layout.scan_model.declared.yaml_scalar_style_t.TheVariants.{YAML_PLAIN_SCALAR_STYLE, YAML_SINGLE_QUOTED_SCALAR_STYLE, YAML_DOUBLE_QUOTED_SCALAR_STYLE}
 use Rattle.yaml_emit_laws_text.specs.emit_layout.scan_model.Tokens as tokens
@@ -175,7 +175,7 @@ body_walks stands are_words page ls value rest u some may deep far follows c x t
     let comes : Comes text p 0 level kinds.Plain [] w e = record {
       behind = no_gap text p at.says.begins;
       kind = ap (λ n. kind_at false text n) z ∙ at.says.kind;
-      word = ap (λ n. word_at kinds.Plain false level text n) z ∙ word;
+      word = ap (λ n. lexeme_at kinds.Plain false level text n) z ∙ word;
       up = omega arith;
     } in
     let (has, blank, ends) = stops_end false level text e left g.left (follows.stops level (omega arith) g.behind g.fine.bare) in
@@ -208,7 +208,7 @@ plain_on has_gap stands are_words page ls c value rest u some may deep far follo
 -- a word that takes no white
 in_line : (flow : Bool) (level : ℕ) (k : Kind) (body : TokenBody) (text : List ℕ) (p e : ℕ)
     (bs : List ℕ) → begins_lexeme text p ≡ true → kind_at flow text p ≡ Some k
-    → word_at k flow level text p ≡ Ok (record { body = body; end = e; reached = e; broke = false })
+    → lexeme_at k flow level text p ≡ Ok (record { body = body; end = e; reached = e; broke = false })
     → WordStands flow level k body text p e bs
 in_line flow level k body text p e bs begins kind word =
     let w : WordText = record { body = body; end = e; reached = e; broke = false } in
@@ -274,7 +274,7 @@ name_ends text p (b ∷ bs) l e = elim (or_cases (begins_white (b ∷ bs)) (b ==
 name_stands : AnchorReads → (flow : Bool) (level b : ℕ) → Sign b → (k : Kind) (x : Context)
     (f : List ℕ → TokenBody) → ((alone : Bool) → indicator_of flow alone b ≡ Some k)
     → (name : List ℕ) → IsWritableName name → (text : List ℕ) (p : ℕ) (bs : List ℕ)
-    → word_at k flow level text p ≡ valued f (anchor_at x text p) → Left text p (b ∷ name ++ bs)
+    → lexeme_at k flow level text p ≡ valued f (anchor_at x text p) → Left text p (b ∷ name ++ bs)
     → may_end_name text (p + 1 + length name) ≡ true
     → WordStands flow level k (f name) text p (p + length (b ∷ name)) bs
 name_stands names flow level b s k x f kind name (some, are) text p bs word l ends =
@@ -295,7 +295,7 @@ pub anchor_stands : AnchorReads → (flow : Bool) (level : ℕ) (name : List ℕ
     → (text : List ℕ) (p : ℕ) (bs : List ℕ) → Left text p (38 ∷ name ++ bs)
     → Fits Behind.white flow level bs
     → WordStands flow level kinds.Anchor (tokens.anchor name) text p (p + length (38 ∷ name)) bs
-unfolding word_at
+unfolding lexeme_at
 anchor_stands names flow level name good text p bs l fits = name_stands names flow level 38 anchor_sign kinds.Anchor contexts.Anchor tokens.anchor (λ a. anchor_kind flow a) name good text p bs refl l (white_ends text (p + 1 + length name) bs (name_left text p 38 name bs l) fits)
 
 abbrev pub anchor_word : AnchorReads → (flow : Bool) (level : ℕ) (spaced : Bool) (name : List ℕ)
@@ -306,7 +306,7 @@ pub alias_stands : AnchorReads → (flow : Bool) (level : ℕ) (name : List ℕ)
     → (text : List ℕ) (p : ℕ) (bs : List ℕ) → Left text p (42 ∷ name ++ bs)
     → Fits Behind.name_end flow level bs
     → WordStands flow level kinds.Alias (tokens.alias name) text p (p + length (42 ∷ name)) bs
-unfolding word_at
+unfolding lexeme_at
 alias_stands names flow level name good text p bs l fits = name_stands names flow level 42 alias_sign kinds.Alias contexts.Alias tokens.alias (λ a. alias_kind flow a) name good text p bs refl l (name_ends text (p + 1 + length name) bs (name_left text p 42 name bs l) fits)
 
 abbrev pub alias_word : AnchorReads → (flow : Bool) (level : ℕ) (spaced : Bool) (name : List ℕ)
@@ -316,8 +316,8 @@ alias_word names flow level spaced name good = spoken spaced (42 ∷ name) kinds
 -- ---- tags
 
 tag_at_word : (flow : Bool) (level : ℕ) (text : List ℕ) (p : ℕ)
-    → word_at kinds.Tag flow level text p ≡ tagged (tag_at flow text p)
-unfolding word_at
+    → lexeme_at kinds.Tag flow level text p ≡ tagged (tag_at flow text p)
+unfolding lexeme_at
 tag_at_word flow level text p = refl
 
 tag_ends : (flow : Bool) (text : List ℕ) (p : ℕ) (bs : List ℕ) → Left text p bs
@@ -369,7 +369,7 @@ pub double_stands : (flow : Bool) (level : ℕ) (page : Page) (c : Cursor) (valu
     → Fits Behind.anything flow level bs
     → WordStands flow level kinds.DoubleQuoted (tokens.scalar value YAML_DOUBLE_QUOTED_SCALAR_STYLE)
     text p (p + length (encode_utf8_all r.letters)) bs
-unfolding word_at
+unfolding lexeme_at
 double_stands flow level page c value r text p bs l fits =
     let own = encode_utf8_all r.letters in
     let begins : own ≡ 34 ∷ encode_utf8_all r.inside = ap (λ (ys : List ℕ). encode_utf8_all ys) r.begins ∙ quote_first r.inside in
@@ -476,7 +476,7 @@ quotes_walk stands words page ls value rest u may deep follows c x text o T s ri
     let comes : Comes text p 0 level kinds.SingleQuoted [] w e = record {
       behind = no_gap text p at.begins;
       kind = ap (λ n. kind_at false text n) z ∙ at.kind false;
-      word = ap (λ n. word_at kinds.SingleQuoted false level text n) z ∙ (words false level text p value).1 e at.read;
+      word = ap (λ n. lexeme_at kinds.SingleQuoted false level text n) z ∙ (words false level text p value).1 e at.read;
       up = omega arith;
     } in
     let u0 : WalkState = record { at = p; line = o.line; depth = 0; now = o.now; broken = o.broken } in

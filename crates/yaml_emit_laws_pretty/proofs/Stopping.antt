@@ -1,6 +1,6 @@
 -- Bytes that stop a plain scalar.
 use Rattle.std.proofs.Common.{◌≡◌, ℕ, zero, suc, ◌+◌, ◌<◌, Bool, true, false, not, ◌&&◌, ◌||◌, ◌==◌, nat_lt, List, [], ◌∷◌, ◌++◌, length, Option, Some, None, replicate, refl, sym, ap, subst, ◌∙◌, inl, inr, arith, encode_utf8_all, ◌≢◌, ◌/◌, ◌%◌, ◌≤◌, Result, append_assoc, chars}
-use Rattle.yaml_emit_laws_pretty.proofs.ScalarWords.{true≢false, eqb-true, or_cases, or_left, or_right, and_parts, not-true, or_parts, ne_eqb, cases_lt, get_or_past, byte, break_of, break_width, column_at, is_blank, is_blank_or_end, is_document_indicator, are_gap, is_bracket, after_white, leads, ends_at, PlainText, lead_break, past_break, ends_plain, LineBreak, Lf, Cr, CrLf, first, is_printable, break_text, behind, Left, bytes, left_first, left_more, left_rest, cond_true, cond_false, bool_cases, line_is, after_blanks, line_start, nat_tests, and-false, or-true, is_break, encode_1, encode_2, encode_3, encode_4, low_break, two_break, three_break, four_break, encode_ascii, encodes-chars, indicator_of, plainly, valued, word_at, Page, Layout, ◌▹◌, when, gap, after_text, line, flow_body, plain, Wrong, AreLow, low_encodes, spaces_low, spaced_by, Cursor, SingleSpellingReads, between_single, Sign, sign_begins, sign_kind, sign, front_encodes}
+use Rattle.yaml_emit_laws_pretty.proofs.ScalarWords.{true≢false, eqb-true, or_cases, or_left, or_right, and_parts, not-true, or_parts, ne_eqb, cases_lt, get_or_past, byte, break_of, break_width, column_at, is_blank, is_blank_or_end, is_document_indicator, are_gap, is_bracket, after_white, leads, ends_at, PlainText, lead_break, past_break, ends_plain, LineBreak, Lf, Cr, CrLf, first, is_printable, break_text, behind, Left, bytes, left_first, left_more, left_rest, cond_true, cond_false, bool_cases, line_is, after_blanks, line_start, nat_tests, and-false, or-true, is_break, encode_1, encode_2, encode_3, encode_4, low_break, two_break, three_break, four_break, encode_ascii, encodes-chars, indicator_of, plainly, valued, lexeme_at, Page, Layout, ◌▹◌, when, gap, after_text, line, flow_body, plain, Wrong, AreLow, low_encodes, spaces_low, spaced_by, Cursor, SingleSpellingReads, between_single, Sign, sign_begins, sign_kind, sign, front_encodes}
 use Rattle.yaml_emit_laws_text.specs.Walk.{Has}
 use Rattle.yaml_emit_laws_text.proofs.Places.{has_front, has_at}
 use Rattle.yaml_emit_laws_pretty.specs.Stops.{is_gap_byte, white_of, begins_white, begins_mark, stops_line, stops_here, one_more, column_behind, stops_plain_at, StopsEndPlain, PlainGoesOn, StopsBehindLines, begins_solid, WhatStopsPlain, CharactersAreSolid}
@@ -450,7 +450,7 @@ quoted_stands law page c value u deep may rest none text p l =
 -- ---- words
 
 pub are_words : ScalarsAreWords
-unfolding word_at
+unfolding lexeme_at
 are_words flow level text p value = (
   λ bytes gap r. refl ∙ ap (λ (x : Result PlainText Wrong). plainly x) r.read,
   λ end r. refl ∙ ap (λ (x : Result (List ℕ × ℕ) Wrong). valued (λ v. tokens.scalar v YAML_SINGLE_QUOTED_SCALAR_STYLE) x) r,

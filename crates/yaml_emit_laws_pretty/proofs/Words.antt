@@ -56,7 +56,7 @@ pub use Rattle.yaml_emit_laws_text.specs.emit_layout.Tags.{Split, keeps_byte, sh
 unfoldable pub use Rattle.yaml_emit_laws_text.specs.emit_layout.Tags.{spelled, uri_text}
 pub use Rattle.yaml_emit_laws_text.specs.emit_layout.Layout.{Layout, Rest, after_block, after_text, blank, char, gap, indent_to, indicator, is_past, keep, must_break, new_line, nothing_more, opener, stay, when, word, wrap, ◌▹◌}
 unfoldable pub use Rattle.yaml_emit_laws_text.specs.emit_layout.Layout.{blanks, letters, line}
-pub use Rattle.yaml_emit_laws_text.specs.emit_layout.Quoted.{double_quoted, quoted_body}
+pub use Rattle.yaml_emit_laws_text.specs.emit_layout.Quoted.{quoted_text, quoted_body}
 pub use Rattle.yaml_emit_laws_text.specs.emit_layout.Scalars.{block_body, chomp, chomp_mark, digit_mark, plain, single_quoted}
 unfoldable pub use Rattle.yaml_emit_laws_text.specs.emit_layout.Scalars.{flow_body, scalar_text}
 pub use Rattle.yaml_emit_laws_text.specs.emit_layout.Spelling.{break_text}
@@ -79,7 +79,7 @@ pub use Rattle.yaml_emit_laws_text.specs.scan_history.History.{is_fresh, level_o
 unfoldable pub use Rattle.yaml_emit_laws_text.specs.scan_history.History.{indent}
 pub use Rattle.yaml_emit_laws_text.specs.scan_history.Kinds.{allows_key, cancels, depth_after, is_end, is_outside, is_start, is_value, may_be_key}
 pub use Rattle.yaml_emit_laws_text.specs.scan_history.Words.{WordText, body_said, indicator_of, kind_at, tagged, valued}
-unfoldable pub use Rattle.yaml_emit_laws_text.specs.scan_history.Words.{word_at}
+unfoldable pub use Rattle.yaml_emit_laws_text.specs.scan_history.Words.{lexeme_at}
 pub use Rattle.yaml_emit_laws_text.specs.scan_history.declared.kind.Kind.{Kind}
 pub use Rattle.yaml_emit_laws_text.specs.scan_history.declared.lexeme.Opens.{Opens}
 pub use Rattle.yaml_emit_laws_text.specs.scan_history.scan_model.Classes.{is_bom, is_break}

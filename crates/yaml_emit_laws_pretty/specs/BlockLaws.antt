@@ -10,7 +10,7 @@ use Rattle.yaml_emit_laws_text.specs.scan_model.Tokens.{scalar}
 use Rattle.yaml_scan_words.specs.Block.{block_at}
 use Rattle.yaml_emit_laws_text.specs.scan_history.declared.kind.Kind.{Kind}
 use Rattle.yaml_emit_laws_text.specs.scan_history.declared.kind.Kind.TheVariants as kinds
-use Rattle.yaml_emit_laws_text.specs.scan_history.Words.{kind_at, word_at}
+use Rattle.yaml_emit_laws_text.specs.scan_history.Words.{kind_at, lexeme_at}
 use Rattle.yaml_emit_laws_text.specs.emit_layout.declared.Cursor.{Cursor}
 use Rattle.yaml_emit_laws_text.specs.emit_layout.declared.page.Page.{Page}
 use Rattle.yaml_emit_laws_text.specs.emit_layout.declared.Style.{Style}
@@ -51,7 +51,7 @@ pub record BlockStands (folded : Bool) (level : ℕ) (text : List ℕ) (p : ℕ)
     (end k : ℕ) : Type 0 where
   pub block : block_at level text p ≡ Ok record { value = value; end = end; place = end + k }
   pub kind : kind_at false text p ≡ Some (kind_of folded)
-  pub word : word_at (kind_of folded) false level text p ≡ Ok record {
+  pub word : lexeme_at (kind_of folded) false level text p ≡ Ok record {
     body = scalar value (read_style folded);
     end = end;
     reached = end + k;

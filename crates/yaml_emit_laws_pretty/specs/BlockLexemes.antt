@@ -5,7 +5,7 @@ use Rattle.yaml_emit_laws_text.specs.scan_model.Marks.{mark_at}
 use Rattle.yaml_emit_laws_text.specs.scan_model.Tokens.{scalar}
 use Rattle.yaml_emit_laws_text.specs.scan_history.declared.lexeme.Lexeme.{Lexeme}
 use Rattle.yaml_emit_laws_text.specs.scan_history.declared.lexeme.Opens.TheVariants as opening
-use Rattle.yaml_emit_laws_text.specs.scan_history.History.{depth, ended, candidate, levels, entries, entry_of, inside, key_allowed}
+use Rattle.yaml_emit_laws_text.specs.scan_history.History.{flow_depth, ended, candidate, open_levels, finished_tokens, entry_of, inside, key_allowed}
 use Rattle.yaml_emit_laws_text.specs.scan_history.Next.{Read, next, gap_behind, place_behind, level_in, stale_before, candidate_lost}
 use Rattle.yaml_emit_laws_text.specs.scan_history.Remaining.{body_in}
 use Rattle.yaml_emit_laws_pretty.specs.BlockLaws.{kind_of, read_style, BlockStands}
@@ -21,17 +21,17 @@ pub record BlockComes (folded : Bool) (text : List ℕ) (h : List Lexeme) (value
   pub kind : lexeme.kind ≡ kind_of folded
   pub start : lexeme.start ≡ place_behind text h
   pub reached : lexeme.reached ≡ mark_at text (end + k)
-  pub outside : depth (lexeme ∷ h) ≡ 0
-  pub levels_are : levels (lexeme ∷ h) ≡ inside lexeme h
+  pub outside : flow_depth (lexeme ∷ h) ≡ 0
+  pub levels_are : open_levels (lexeme ∷ h) ≡ inside lexeme h
   pub opens : (entry_of lexeme h).opens ≡ opening.Nothing
-  pub entries_are : entries (lexeme ∷ h) ≡ entries h ++ entry_of lexeme h ∷ []
+  pub entries_are : finished_tokens (lexeme ∷ h) ≡ finished_tokens h ++ entry_of lexeme h ∷ []
   pub clear : candidate 0 (lexeme ∷ h) ≡ None
   pub allowed : key_allowed (lexeme ∷ h) ≡ true
 
 -- After lexemes, outside of brackets, where no candidate is missed or lost, a block scalar that stands after the gap comes.
 abbrev pub BlockIsNext : Type 0
 BlockIsNext = (folded : Bool) (text : List ℕ) (h : List Lexeme) (value : List ℕ) (end k : ℕ)
-    → 0 < length h → ended h ≡ false → depth h ≡ 0 → stale_before text h ≡ None
+    → 0 < length h → ended h ≡ false → flow_depth h ≡ 0 → stale_before text h ≡ None
     → candidate_lost (kind_of folded) text h ≡ None
     → BlockStands folded (level_in (kind_of folded) (place_behind text h).column h) text
     (gap_behind text h).place value end k

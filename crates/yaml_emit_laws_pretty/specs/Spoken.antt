@@ -5,7 +5,7 @@ use Rattle.yaml_emit_laws_text.specs.emit_layout.scan_model.Tokens.{TokenBody}
 use Rattle.yaml_emit_laws_text.specs.scan_history.declared.kind.Kind.{Kind}
 use Rattle.yaml_emit_laws_text.specs.scan_history.declared.kind.Kind.TheVariants as kinds
 use Rattle.yaml_emit_laws_text.specs.scan_history.scan_words.Written.{begins_lexeme}
-use Rattle.yaml_emit_laws_text.specs.scan_history.Words.{kind_at, word_at}
+use Rattle.yaml_emit_laws_text.specs.scan_history.Words.{kind_at, lexeme_at}
 use Rattle.yaml_emit_laws_text.specs.emit_layout.declared.Cursor.{Cursor}
 use Rattle.yaml_emit_laws_text.specs.emit_layout.Layout.{Layout, Rest}
 use Rattle.yaml_emit_laws_text.specs.Walk.{Left, bytes, first}
@@ -60,7 +60,7 @@ pub record WordStands (flow : Bool) (level : ℕ) (k : Kind) (body : TokenBody) 
   pub end : ℕ
   pub reached : ℕ
   pub broke : Bool
-  pub word : word_at k flow level text p
+  pub word : lexeme_at k flow level text p
       ≡ Ok record { body = body; end = end; reached = reached; broke = broke }
   pub near : (k ≡ kinds.Plain → white_of bs ≡ []) → reached ≡ e
   pub wide : Bool

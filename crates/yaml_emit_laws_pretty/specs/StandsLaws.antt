@@ -5,7 +5,7 @@ use Rattle.yaml_emit_laws_text.specs.scan_model.Ascii as ascii
 use Rattle.yaml_emit_laws_text.specs.scan_history.scan_words.Written.{has_break, begins_lexeme}
 use Rattle.yaml_emit_laws_text.specs.scan_history.scan_words.Quoted.{single_quoted_at}
 use Rattle.yaml_emit_laws_text.specs.scan_history.declared.kind.Kind.TheVariants as kinds
-use Rattle.yaml_emit_laws_text.specs.scan_history.Words.{word_at, kind_at}
+use Rattle.yaml_emit_laws_text.specs.scan_history.Words.{lexeme_at, kind_at}
 use Rattle.yaml_emit_laws_text.specs.scan_model.declared.yaml_scalar_style_t.TheVariants.{YAML_PLAIN_SCALAR_STYLE, YAML_SINGLE_QUOTED_SCALAR_STYLE}
 use Rattle.yaml_emit_laws_text.specs.scan_model.Tokens as tokens
 use Rattle.yaml_emit_laws_text.specs.emit_layout.declared.LineBreak.{LineBreak}
@@ -81,7 +81,7 @@ SingleStands = (page : Page) (c : Cursor) (value : List ℕ) → IsUtf8 value �
 abbrev pub ScalarsAreWords : Type 0
 ScalarsAreWords = (flow : Bool) (level : ℕ) (text : List ℕ) (p : ℕ) (value : List ℕ) →
     ((bytes gap : List ℕ) → IsReadPlain flow level value bytes gap text p
-    → word_at kinds.Plain flow level text p
+    → lexeme_at kinds.Plain flow level text p
     ≡ Ok record {
       body = tokens.scalar value YAML_PLAIN_SCALAR_STYLE;
       end = p + length bytes;
@@ -89,7 +89,7 @@ ScalarsAreWords = (flow : Bool) (level : ℕ) (text : List ℕ) (p : ℕ) (value
       broke = has_break gap;
     })
     × ((end : ℕ) → single_quoted_at text p ≡ Ok (value, end)
-    → word_at kinds.SingleQuoted flow level text p
+    → lexeme_at kinds.SingleQuoted flow level text p
     ≡ Ok record {
       body = tokens.scalar value YAML_SINGLE_QUOTED_SCALAR_STYLE;
       end = end;

@@ -1,6 +1,6 @@
 -- What an emitter writes between double quotes is read back.
 use Rattle.std.proofs.Common.{◌≡◌, ℕ, suc, ◌+◌, ◌<◌, Bool, true, false, ◌&&◌, ◌==◌, not, List, [], ◌∷◌, ◌++◌, length, Result, Ok, refl, sym, ap, subst, ◌∙◌, inl, inr, arith, append_assoc, append-nil, encode_utf8, encode_utf8_all, IsUtf8, if◌then◌else◌}
-use Rattle.yaml_emit_laws_text.proofs.Shared.{cases_Bool, encode_ascii, encodes-append, encodes-chars, scalars-chars, all_scalars, chars, Wrong, double_quoted_at, Cursor, Utf8, Item, letter, char_bytes, encode, Layout, ◌▹◌, choose, char, nothing_more, is_past, Page, is_empty, may_fold, fold_layout, escaped, quoted_char, quoted_body, double_quoted, in_front, WritesSpelling, QuotedSpells, spelling, meaning, quoted, ValueIsReadBack, between_quotes, gap_width}
+use Rattle.yaml_emit_laws_text.proofs.Shared.{cases_Bool, encode_ascii, encodes-append, encodes-chars, scalars-chars, all_scalars, chars, Wrong, double_quoted_at, Cursor, Utf8, Item, letter, char_bytes, encode, Layout, ◌▹◌, choose, char, nothing_more, is_past, Page, is_empty, may_fold, fold_layout, escaped, quoted_char, quoted_body, quoted_text, in_front, WritesSpelling, QuotedSpells, spelling, meaning, quoted, ValueIsReadBack, between_quotes, gap_width}
 use lib.Utf8.{encode as encode_char}
 use Rattle.yaml_emit_layout.specs.Spelling as emitted
 use Rattle.yaml_emit_laws_text.specs.Stands.{HasAt}
@@ -137,9 +137,9 @@ read_spaced a c d value text p b h =
 
 pub quoted_text_back : QuotedSpells → (page : Page) (c : Cursor) (value text : List ℕ) (p : ℕ)
     → IsUtf8 value → (page.cuts ≡ true → 0 < page.indentation)
-    → HasAt text p (encode Utf8 (double_quoted page (chars value) c nothing_more))
+    → HasAt text p (encode Utf8 (quoted_text page (chars value) c nothing_more))
     → double_quoted_at text (p + gap_width c)
-    ≡ Ok (value, p + length (encode Utf8 (double_quoted page (chars value) c nothing_more)))
+    ≡ Ok (value, p + length (encode Utf8 (quoted_text page (chars value) c nothing_more)))
 quoted_text_back law page c value text p u deep =
     by_gap c.white (between_quotes page (chars value) c nothing_more) (letter 32 ∷ between_quotes page (chars value) (spaced_by c) nothing_more)
     (read_white (between_quotes page (chars value)) c value text p (quoted_back law page c value u deep))

@@ -1,6 +1,6 @@
 -- Layouts that mark no indentation as too deep, and those that do by one test.
 use Rattle.std.proofs.Common.{◌≡◌, ℕ, zero, suc, ◌+◌, ◌-◌, Bool, true, false, ◌||◌, ◌==◌, nat_lt, List, [], ◌∷◌, refl, ap, ◌∙◌, inl, inr}
-use Rattle.yaml_emit_laws_text.proofs.Shared.{cases_Bool, Cursor, Encoding, Utf8, LineBreak, Lf, Cr, CrLf, Item, letter, is_deep, Rest, Layout, ◌▹◌, stay, choose, when, char, letters, blank, blanks, break, new_line, is_white, gap, word, opener, must_break, indent_to, line, is_past, keep, order_mark, needs_escape, escape_text, may_fold, fold, escaped, quoted_char, quoted_body, double_quoted, MOST, deep_if, checked}
+use Rattle.yaml_emit_laws_text.proofs.Shared.{cases_Bool, Cursor, Encoding, Utf8, LineBreak, Lf, Cr, CrLf, Item, letter, is_deep, Rest, Layout, ◌▹◌, stay, choose, when, char, letters, blank, blanks, break, new_line, is_white, gap, word, opener, must_break, indent_to, line, is_past, keep, order_mark, needs_escape, escape_text, may_fold, fold, escaped, quoted_char, quoted_body, quoted_text, MOST, deep_if, checked}
 use Rattle.yaml_emit_layout.specs.declared.Page.{Page}
 use Rattle.yaml_emit_layout.specs.Quoted.{first}
 use Rattle.yaml_emit_layout.proofs.Bools.{or_assoc}
@@ -116,7 +116,7 @@ unfolding quoted_body
 quoted_body_calm page before [] = stay_calm
 quoted_body_calm page before (x ∷ xs) = calms (quoted_char page before x xs) (quoted_body page x xs) (quoted_char_calm page before x xs) (quoted_body_calm page x xs)
 
-pub quoted_calm : (page : Page) (value : List ℕ) → Calm (double_quoted page value)
+pub quoted_calm : (page : Page) (value : List ℕ) → Calm (quoted_text page value)
 quoted_calm page value =
     calms gap (char 34 ▹ (quoted_body page 32 value ▹ char 34)) gap_calm
     (calms (char 34) (quoted_body page 32 value ▹ char 34) (char_calm 34) (calms (quoted_body page 32 value) (char 34) (quoted_body_calm page 32 value) (char_calm 34)))

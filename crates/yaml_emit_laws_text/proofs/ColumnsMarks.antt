@@ -1,6 +1,6 @@
 -- Where canonical layout marks an indentation as too deep.
 use Rattle.std.proofs.Common.{◌≡◌, ℕ, ◌+◌, ◌-◌, Bool, true, false, not, ◌||◌, ◌&&◌, nat_lt, List, [], ◌∷◌, Option, Some, None, refl, ap, ◌∙◌, codes, chars}
-use Rattle.yaml_emit_laws_text.proofs.Shared.{or-false, yaml_version_directive_t, TagDirective, Settings, scalar_text, tag_spelling, uri_text, double_quoted, is_deep, Layout, ◌▹◌, stay, choose, when, char, word, opener, keep, order_mark, nothing_more, start, written, NodePosition, Scalar, Node, alias_node, scalar_node, sequence_node, mapping_node, Nodes, no_nodes, node, Pairs, no_pairs, pair, Opening, Document, has, scalar_tag, start_tag, Context, context_of, root_position, position, is_simple_part, MOST, deeper, checked, line_at, anchor_text, tag_text, properties_text, mark_text, style_of, page_at, scalar_layout, alias_layout, comma, turned, before_item, question, before_key, before_value, closer, key_part, is_simple, node_layout, items_layout, pairs_layout, dots, version_word, version_text, directive_text, directives_text, is_directed, dashes, is_marked, start_layout, end_layout, stop_layout, documents_layout, stream_layout}
+use Rattle.yaml_emit_laws_text.proofs.Shared.{or-false, yaml_version_directive_t, TagDirective, Settings, scalar_text, tag_spelling, uri_text, quoted_text, is_deep, Layout, ◌▹◌, stay, choose, when, char, word, opener, keep, order_mark, nothing_more, start, written, NodePosition, Scalar, Node, alias_node, scalar_node, sequence_node, mapping_node, Nodes, no_nodes, node, Pairs, no_pairs, pair, Opening, Document, has, scalar_tag, start_tag, Context, context_of, root_position, position, is_simple_part, MOST, deeper, checked, line_at, anchor_text, tag_text, properties_text, mark_text, style_of, page_at, scalar_layout, alias_layout, comma, turned, before_item, question, before_key, before_value, closer, key_part, is_simple, node_layout, items_layout, pairs_layout, dots, version_word, version_text, directive_text, directives_text, is_directed, dashes, is_marked, start_layout, end_layout, stop_layout, documents_layout, stream_layout}
 use Rattle.yaml_emit_layout.specs.declared.Style.TheVariants as style
 use Rattle.yaml_emit_layout.specs.declared.level.Part.TheVariants as part
 use Rattle.yaml_emit_layout.specs.Nodes.{is_kept}
@@ -60,7 +60,7 @@ unfolding scalar_layout style_of scalar_text
 scalar_marks s ds at x =
     let p = at_form s ds in
     let m = deeper (form s) at.around in
-    let text = double_quoted (page_at (form s) at) (chars x.value) in
+    let text = quoted_text (page_at (form s) at) (chars x.value) in
     let mark = mark_text p x style.Double in
     calm_then (nat_lt MOST m) (properties_text p x.anchor (scalar_tag true x)) (mark ▹ (checked m ▹ text)) (properties_calm p x.anchor (scalar_tag true x))
     (calm_then (nat_lt MOST m) mark (checked m ▹ text) (when_calm (not (has (scalar_tag true x)) && (not x.quoted && true)) (word (33 ∷ [])) (word_calm (33 ∷ [])))

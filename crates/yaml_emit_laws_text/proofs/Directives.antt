@@ -1,7 +1,7 @@
 -- The lines of directives are words.
 use Rattle.std.proofs.Common.{◌≡◌, ℕ, ◌+◌, ◌<◌, ◌||◌, nat_lt, Bool, true, false, List, [], ◌∷◌, ◌++◌, length, Option, Some, None, Result, Ok, refl, sym, ap, subst, ◌∙◌, inl, inr, arith, append_assoc, ℤ, pos, codes, if◌then◌else◌, int_eq}
 use Rattle.std.specs.Cmp.{signed_Decides}
-use Rattle.yaml_emit_laws_text.proofs.Shared.{cases_Bool, and_parts, byte, break_of, break_width, column_at, is_break, Wrong, Said, DirectiveText, directive_at, begins_lexeme, GapReads, Kind, WordText, kind_at, word_at, body_said, directed, yaml_version_directive_t, TagDirective, Cursor, Settings, LineBreak, encode, char_bytes, Layout, Rest, ◌▹◌, blank, letters, word, line, uri_text, Opening, is_version, version_problem, directives_problem, version_word, version_text, directive_text, directives_text, version_kinds, directives_kinds, version_bodies, directives_bodies, VersionReads, are_ascii, IsMarked, IsReadableDirective, AreReadable, WrittenDirectivesAreReadable, ReadableDirectivesAreAscii, DirectivesAreRead, IsWritableOpening, Has, Left, bytes, first}
+use Rattle.yaml_emit_laws_text.proofs.Shared.{cases_Bool, and_parts, byte, break_of, break_width, column_at, is_break, Wrong, Said, DirectiveText, directive_at, begins_lexeme, GapReads, Kind, WordText, kind_at, lexeme_at, body_said, directed, yaml_version_directive_t, TagDirective, Cursor, Settings, LineBreak, encode, char_bytes, Layout, Rest, ◌▹◌, blank, letters, word, line, uri_text, Opening, is_version, version_problem, directives_problem, version_word, version_text, directive_text, directives_text, version_kinds, directives_kinds, version_bodies, directives_bodies, VersionReads, are_ascii, IsMarked, IsReadableDirective, AreReadable, WrittenDirectivesAreReadable, ReadableDirectivesAreAscii, DirectivesAreRead, IsWritableOpening, Has, Left, bytes, first}
 use Rattle.yaml_scan_laws_texts.specs.scan_history.scan_words.Directives as directives
 use Rattle.yaml_emit_laws_text.specs.scan_history.declared.kind.Kind.TheVariants as kinds
 use Rattle.yaml_emit_laws_text.specs.scan_model.Tokens as tokens
@@ -30,8 +30,8 @@ percent_kind text p h z = rw (h, z) refl
 
 -- The word of a directive is what is read there.
 pub directive_word : (text : List ℕ) (p : ℕ)
-    → word_at kinds.Directive false 0 text p ≡ directed (directive_at text p)
-unfolding word_at
+    → lexeme_at kinds.Directive false 0 text p ≡ directed (directive_at text p)
+unfolding lexeme_at
 directive_word text p = refl
 
 -- What is read of a directive is its word.

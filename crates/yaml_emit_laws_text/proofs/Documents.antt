@@ -1,6 +1,6 @@
 -- The words of documents.
 use Rattle.std.proofs.Common.{◌≡◌, ℕ, ◌+◌, ◌<◌, ◌&&◌, not, nat_lt, Bool, true, false, List, [], ◌∷◌, ◌++◌, length, map, reverse, Some, Ok, refl, sym, ap, subst, ◌∙◌, arith, get_or, append_assoc, append-nil, if◌then◌else◌}
-use Rattle.yaml_emit_laws_text.proofs.Shared.{get_or_past, reverse-append, yaml_encoding_t, Token, TokenBody, byte, break_of, column_at, is_blank_or_end, Gap, is_document_start, is_document_end, begins_lexeme, GapReads, AnchorReads, Kind, depth_after, is_end, reached, depth, key_allowed, WordText, kind_at, word_at, SpelledText, Word, lexemes, WordsStand, word_kinds, token_of, first_token, Cursor, Settings, LineBreak, Lf, Cr, CrLf, letter, encode, char_bytes, Layout, Rest, ◌▹◌, keep, when, letters, word, line, blanks, new_line, must_break, indent_to, nothing_more, Opening, Document, Node, is_directed, dots, dashes, root_position, context_of, version_text, directives_text, start_layout, end_layout, stop_layout, documents_layout, node_layout, QuotedIsReadBack, put_if, node_kinds, version_kinds, directives_kinds, opening_kinds, documents_kinds, node_bodies, version_bodies, directives_bodies, end_bodies, opening_bodies, documents_bodies, Has, Left, WordStage, told, bytes, first, IsWritable, IsWritableOpening, AreWritable, text_of_documents, IsReadAs}
+use Rattle.yaml_emit_laws_text.proofs.Shared.{get_or_past, reverse-append, yaml_encoding_t, Token, TokenBody, byte, break_of, column_at, is_blank_or_end, Gap, is_document_start, is_document_end, begins_lexeme, GapReads, AnchorReads, Kind, depth_after, is_end, reached, flow_depth, key_allowed, WordText, kind_at, lexeme_at, SpelledText, Word, lexemes, WordsStand, word_kinds, token_of, first_token, Cursor, Settings, LineBreak, Lf, Cr, CrLf, letter, encode, char_bytes, Layout, Rest, ◌▹◌, keep, when, letters, word, line, blanks, new_line, must_break, indent_to, nothing_more, Opening, Document, Node, is_directed, dots, dashes, root_position, context_of, version_text, directives_text, start_layout, end_layout, stop_layout, documents_layout, node_layout, QuotedIsReadBack, put_if, node_kinds, version_kinds, directives_kinds, opening_kinds, documents_kinds, node_bodies, version_bodies, directives_bodies, end_bodies, opening_bodies, documents_bodies, Has, Left, WordStage, told, bytes, first, IsWritable, IsWritableOpening, AreWritable, text_of_documents, IsReadAs}
 use Rattle.yaml_emit_laws_text.specs.scan_model.Tokens as tokens
 use Rattle.yaml_emit_laws_text.specs.scan_history.declared.kind.Kind.TheVariants as kinds
 use Rattle.yaml_emit_laws_text.specs.CanonicalLaws.{CanonicalWordsAreRead}
@@ -87,7 +87,7 @@ pub record Thrice (x : ℕ) (k : Kind) (body : TokenBody) : Type 0 where
       → byte text (p + 2) ≡ x → is_blank_or_end text (p + 3) ≡ true → column_at text p ≡ 0
       → kind_at false text p ≡ Some k
   pub said : (text : List ℕ) (p : ℕ)
-      → word_at k false 0 text p ≡ Ok (record
+      → lexeme_at k false 0 text p ≡ Ok (record
       { body = body; end = p + 3; reached = p + 3; broke = false })
   pub more : is_end k ≡ false
   pub flat : depth_after k 0 ≡ 0
@@ -95,7 +95,7 @@ pub record Thrice (x : ℕ) (k : Kind) (body : TokenBody) : Type 0 where
 
 -- `---` at a line's start is DOCUMENT-START.
 pub thrice_dash : Thrice 45 kinds.DocumentStart tokens.document_start
-unfolding break_of word_at kind_at is_document_start
+unfolding break_of lexeme_at kind_at is_document_start
 thrice_dash = record {
   low = refl;
   begins = λ text p h. sign_starts text p 45 h refl refl refl refl (λ c d. refl);
@@ -108,7 +108,7 @@ thrice_dash = record {
 
 -- `...` at a line's start is DOCUMENT-END.
 pub thrice_dot : Thrice 46 kinds.DocumentEnd tokens.document_end
-unfolding break_of word_at kind_at is_document_start is_document_end
+unfolding break_of lexeme_at kind_at is_document_start is_document_end
 thrice_dot = record {
   low = refl;
   begins = λ text p h. sign_starts text p 46 h refl refl refl refl (λ c d. refl);
@@ -244,19 +244,19 @@ end_begins text p h = sign_starts text p 0 h refl refl refl refl (λ c d. refl)
 ended : GapReads → (text : List ℕ) (c : Cursor) (p : ℕ) (ws : List Word) → WordStage text c p ws 0
     → Left text p (bytes [])
     → Ended text (kinds.StreamEnd ∷ word_kinds ws) ws (tokens.stream_end ∷ [])
-unfolding WordsStand word_at
+unfolding WordsStand lexeme_at
 ended law text c p ws s l =
     let h = lexemes text ws in
     let zero_byte = end_zero text p l in
     let said : WordText = record { body = tokens.stream_end; end = p; reached = p; broke = false } in
-    let g = law (nat_lt 0 (depth h)) (key_allowed h) text (reached h).index s.gap (has_at text (reached h).index s.gap s.stands) s.blank (ap (λ q. begins_lexeme text q) s.from ∙ end_begins text p zero_byte) in
+    let g = law (nat_lt 0 (flow_depth h)) (key_allowed h) text (reached h).index s.gap (has_at text (reached h).index s.gap s.stands) s.blank (ap (λ q. begins_lexeme text q) s.from ∙ end_begins text p zero_byte) in
     record {
       words = word_of kinds.StreamEnd p said ∷ ws;
       stand = (
         record {
           place = ap (λ (x : Gap). x.place) g ∙ s.from;
           kind = ap (λ n. kind_at (nat_lt 0 n) text p) s.deep ∙ end_kind text p zero_byte;
-          said = ap (λ n. word_at kinds.StreamEnd (nat_lt 0 n) 0 text p) s.deep;
+          said = ap (λ n. lexeme_at kinds.StreamEnd (nat_lt 0 n) 0 text p) s.deep;
         },
         s.stand,
       );

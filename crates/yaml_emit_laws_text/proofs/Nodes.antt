@@ -1,6 +1,6 @@
 -- The words of a node, and of what it holds.
 use Rattle.std.proofs.Common.{◌≡◌, ℕ, suc, ◌+◌, ◌-◌, ◌<◌, ◌&&◌, not, nat_lt, Bool, true, false, List, [], ◌∷◌, Option, Some, None, refl, sym, ap, subst, ◌∙◌, arith, if◌then◌else◌, chars}
-use Rattle.yaml_emit_laws_text.proofs.Shared.{GapReads, AnchorReads, Kind, YAML_DOUBLE_QUOTED_SCALAR_STYLE, TokenBody, TagDirective, Cursor, Settings, LineBreak, Lf, Cr, CrLf, Layout, Rest, ◌▹◌, gap, blank, char, letters, word, when, stay, opener, line, new_line, must_break, indent_to, tag_spelling, double_quoted, scalar_text, NodePosition, Opening, Scalar, Start, Node, alias_node, scalar_node, sequence_node, mapping_node, Nodes, no_nodes, node, Pairs, no_pairs, pair, has, Context, context_of, is_simple_part, position, key_part, deeper, checked, MOST, anchor_text, tag_text, page_at, style_of, scalar_layout, alias_layout, is_simple, is_simple_scalar, is_simple_alias, is_simple_start, turned, before_item, before_key, before_value, closer, node_layout, items_layout, pairs_layout, put_if, properties_kinds, node_kinds, items_kinds, pairs_kinds, anchor_bodies, tag_bodies, mark_bodies, node_bodies, items_bodies, pairs_bodies, bytes, Walks, first, parts, Parts, IsWritableOpening, IsWritableAnchor, IsWritableTag, IsWritable, AreItemsWritable, ArePairsWritable, QuotedIsReadBack, NodesAreWords}
+use Rattle.yaml_emit_laws_text.proofs.Shared.{GapReads, AnchorReads, Kind, YAML_DOUBLE_QUOTED_SCALAR_STYLE, TokenBody, TagDirective, Cursor, Settings, LineBreak, Lf, Cr, CrLf, Layout, Rest, ◌▹◌, gap, blank, char, letters, word, when, stay, opener, line, new_line, must_break, indent_to, tag_spelling, quoted_text, scalar_text, NodePosition, Opening, Scalar, Start, Node, alias_node, scalar_node, sequence_node, mapping_node, Nodes, no_nodes, node, Pairs, no_pairs, pair, has, Context, context_of, is_simple_part, position, key_part, deeper, checked, MOST, anchor_text, tag_text, page_at, style_of, scalar_layout, alias_layout, is_simple, is_simple_scalar, is_simple_alias, is_simple_start, turned, before_item, before_key, before_value, closer, node_layout, items_layout, pairs_layout, put_if, properties_kinds, node_kinds, items_kinds, pairs_kinds, anchor_bodies, tag_bodies, mark_bodies, node_bodies, items_bodies, pairs_bodies, bytes, Walks, first, parts, Parts, IsWritableOpening, IsWritableAnchor, IsWritableTag, IsWritable, AreItemsWritable, ArePairsWritable, QuotedIsReadBack, NodesAreWords}
 use Rattle.yaml_emit_laws_text.specs.scan_history.declared.kind.Kind.TheVariants as kinds
 use Rattle.yaml_emit_laws_text.specs.scan_model.Tokens as tokens
 use Rattle.yaml_emit_layout.specs.declared.level.Part.TheVariants as part
@@ -95,11 +95,11 @@ scalar_walks law names quoted mark s ds tags some x (ga, gt, utf8) at d c rest =
     let p = canonically s ds in
     let page = page_at p.settings at in
     let deep = deep_page p.settings at.around some in
-    let inner = checked (deeper p.settings at.around) ▹ double_quoted page (chars x.value) in
+    let inner = checked (deeper p.settings at.around) ▹ quoted_text page (chars x.value) in
     let K : List Kind → List Kind = λ ks. kinds.DoubleQuoted ∷ ks in
     let B : List TokenBody → List TokenBody = λ bs. tokens.scalar x.value YAML_DOUBLE_QUOTED_SCALAR_STYLE ∷ bs in
-    let blank : BeginsBlank inner rest = checked_blank (deeper p.settings at.around) (double_quoted page (chars x.value)) rest (gap_blank _ rest) in
-    let walk : (k : Cursor) → Walks inner K B d d k rest = λ k. walks_checked (deeper p.settings at.around) (double_quoted page (chars x.value)) K B d d k rest (quoted_walks law quoted page x.value utf8 deep d k rest) in
+    let blank : BeginsBlank inner rest = checked_blank (deeper p.settings at.around) (quoted_text page (chars x.value)) rest (gap_blank _ rest) in
+    let walk : (k : Cursor) → Walks inner K B d d k rest = λ k. walks_checked (deeper p.settings at.around) (quoted_text page (chars x.value)) K B d d k rest (quoted_walks law quoted page x.value utf8 deep d k rest) in
     let whole = properties_if law names p tags x.anchor x.tag ga gt (when (is_marked x) (word (33 ∷ [])) ▹ inner) (λ ks. K (put_if (is_marked x) kinds.Tag ks)) (λ bs. mark_bodies (is_marked x) (B bs)) d d rest
     (mark_blank (is_marked x) inner rest blank) (λ k. mark_if mark (is_marked x) inner K B d d rest blank walk k) c in
     subst (λ (m : Bool). Walks (anchor_text x.anchor ▹ (tag_text p x.tag ▹ (when m (word (33 ∷ [])) ▹ inner))) (node_kinds (scalar_node x)) (node_bodies ds (scalar_node x)) d d c rest) (sym (marked_so (not (has x.tag)) (not x.quoted))) whole

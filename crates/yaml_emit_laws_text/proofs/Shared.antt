@@ -28,11 +28,11 @@ pub use Rattle.yaml_emit_laws_text.specs.emit_layout.declared.Cursor.{Cursor}
 pub use Rattle.yaml_emit_laws_text.specs.emit_layout.declared.LineBreak.{LineBreak}
 pub use Rattle.yaml_emit_laws_text.specs.emit_layout.declared.LineBreak.TheVariants.{Cr, CrLf, Lf}
 pub use Rattle.yaml_emit_laws_text.specs.emit_layout.declared.Settings.{Settings}
-pub use Rattle.yaml_emit_laws_text.specs.scan_history.History.{depth, key_allowed, reached}
+pub use Rattle.yaml_emit_laws_text.specs.scan_history.History.{flow_depth, key_allowed, reached}
 pub use Rattle.yaml_emit_laws_text.specs.scan_history.Kinds.{depth_after, is_end}
 pub use Rattle.yaml_emit_laws_text.specs.scan_history.Remaining.{SpelledText, offline}
 pub use Rattle.yaml_emit_laws_text.specs.scan_history.Words.{WordText, body_said, directed, tagged}
-unfoldable pub use Rattle.yaml_emit_laws_text.specs.scan_history.Words.{indicator_of, kind_at, word_at}
+unfoldable pub use Rattle.yaml_emit_laws_text.specs.scan_history.Words.{indicator_of, kind_at, lexeme_at}
 pub use Rattle.yaml_emit_laws_text.specs.scan_history.declared.kind.Kind.{Kind}
 pub use Rattle.yaml_emit_laws_text.specs.scan_history.scan_model.Marks.{break_width, byte, ends_break, is_blank, is_blank_or_end, starts}
 unfoldable pub use Rattle.yaml_emit_laws_text.specs.scan_history.scan_model.Marks.{break_of, column_at, ends_of}
@@ -65,7 +65,7 @@ pub use Rattle.yaml_emit_layout.specs.declared.Encoding.TheVariants.{Utf16Be, Ut
 pub use Rattle.yaml_emit_layout.specs.parse_model.Events.{TagDirective}
 pub use Rattle.yaml_emit_layout.specs.scan_model.declared.yaml_encoding_t.{yaml_encoding_t}
 pub use Rattle.yaml_emit_layout.specs.scan_model.declared.yaml_version_directive_t.{yaml_version_directive_t}
-pub use Rattle.yaml_emit_layout.specs.Quoted.{double_quoted, escaped, fold, fold as fold_layout, hex_4, hex_8, is_empty, is_printable, may_fold}
+pub use Rattle.yaml_emit_layout.specs.Quoted.{quoted_text, escaped, fold, fold as fold_layout, hex_4, hex_8, is_empty, is_printable, may_fold}
 unfoldable pub use Rattle.yaml_emit_layout.specs.Quoted.{escape_letter, escape_text, needs_escape, quoted_body, quoted_char}
 pub use Rattle.yaml_emit_layout.specs.Spelling.{QuotedSpells, WritesSpelling, break_text}
 unfoldable pub use Rattle.yaml_emit_layout.specs.Spelling.{in_front}

@@ -1,6 +1,6 @@
 -- Canonical text has no more bytes than its nodes, lines and texts tell; what of it pretty text has too.
 use Rattle.std.proofs.Common.{◌≡◌, ℕ, ◌+◌, ◌-◌, ◌*◌, ◌≤◌, Bool, true, false, not, ◌&&◌, ◌==◌, nat_lt, List, [], ◌∷◌, length, Option, Some, None, pos, refl, sym, subst, codes, arith, inl, inr, le_refl, mul-le-mul_left, sub-le, int_eq, chars}
-use Rattle.yaml_emit_laws_text.proofs.Shared.{cases_Bool, eqb-true, yaml_version_directive_t, TagDirective, Settings, scalar_text, tag_spelling, uri_text, needs_escape, escape_text, is_empty, may_fold, fold, escaped, quoted_char, quoted_body, double_quoted, char_bytes, letter, Layout, ◌▹◌, stay, choose, when, char, letters, blanks, new_line, gap, word, keep, is_past, indicator, line, NodePosition, Scalar, scalar_node, Opening, has, scalar_tag, Context, context_of, is_simple_part, deeper, checked, line_at, anchor_text, tag_text, properties_text, mark_text, style_of, page_at, scalar_layout, alias_layout, comma, turned, before_item, question, before_key, before_value, closer, dots, version_word, version_text, directive_text, directives_text, is_directed, dashes, is_marked, start_layout, end_layout, stop_layout, unit, ascii, text_bytes, anchor_bytes, tag_bytes, properties_bytes, most_of_quoted, most_of_char, most_of_value, most_of_line, most_of_node, directives_bytes, Encoding}
+use Rattle.yaml_emit_laws_text.proofs.Shared.{cases_Bool, eqb-true, yaml_version_directive_t, TagDirective, Settings, scalar_text, tag_spelling, uri_text, needs_escape, escape_text, is_empty, may_fold, fold, escaped, quoted_char, quoted_body, quoted_text, char_bytes, letter, Layout, ◌▹◌, stay, choose, when, char, letters, blanks, new_line, gap, word, keep, is_past, indicator, line, NodePosition, Scalar, scalar_node, Opening, has, scalar_tag, Context, context_of, is_simple_part, deeper, checked, line_at, anchor_text, tag_text, properties_text, mark_text, style_of, page_at, scalar_layout, alias_layout, comma, turned, before_item, question, before_key, before_value, closer, dots, version_word, version_text, directive_text, directives_text, is_directed, dashes, is_marked, start_layout, end_layout, stop_layout, unit, ascii, text_bytes, anchor_bytes, tag_bytes, properties_bytes, most_of_quoted, most_of_char, most_of_value, most_of_line, most_of_node, directives_bytes, Encoding}
 use Rattle.yaml_emit_layout.specs.declared.Style.TheVariants as style
 use Rattle.yaml_emit_layout.specs.Quoted.{first}
 use Rattle.yaml_emit_layout.specs.Nodes.{is_kept}
@@ -135,7 +135,7 @@ body_most s z at before (i ∷ is) f =
 pub quoted_most : (s z : Settings) (at : NodePosition) (value : List ℕ)
     → ((c : ℕ) → most_of_quoted s (deeper s at.around) c ≤ most_of_char z (deeper s at.around) c)
     → Takes s (ascii s 3 + most_of_value z (deeper s at.around) value)
-    (double_quoted (page_at s at) value)
+    (quoted_text (page_at s at) value)
 quoted_most s z at value f =
     let x = s.encoding in
     let u = unit x in
@@ -154,7 +154,7 @@ quoted_scalar_most s ds at x =
     let p = at_form s ds in
     let n = deeper s at.around in
     let k = most_of_value (set true s) n (chars x.value) in
-    let text = double_quoted (page_at (set true s) at) (chars x.value) in
+    let text = quoted_text (page_at (set true s) at) (chars x.value) in
     let mark = mark_text p x style.Double in
     let props = properties_bytes p x.anchor (scalar_tag true x) in
     joined s.encoding props (ascii s 5 + k) (props + ascii s 5 + k) (properties_text p x.anchor (scalar_tag true x)) (mark ▹ (checked n ▹ text)) (properties_most s ds x.anchor (scalar_tag true x))

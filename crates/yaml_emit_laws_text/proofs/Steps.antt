@@ -1,6 +1,6 @@
 -- Gaps, lines and words, one after another.
 use Rattle.std.proofs.Common.{◌≡◌, ◌≢◌, ℕ, zero, suc, ◌+◌, ◌-◌, ◌==◌, ◌&&◌, ◌||◌, nat_lt, Bool, true, false, List, [], ◌∷◌, ◌++◌, length, Some, Ok, refl, ap, subst, ◌∙◌, inl, inr, arith, add-zero, if◌then◌else◌}
-use Rattle.yaml_emit_laws_text.proofs.Shared.{cases_Bool, nat_tests, and-false, byte, break_of, ends_of, Gap, is_document_start, is_document_end, are_gap, begins_lexeme, GapReads, Kind, depth_after, is_end, reached, depth, key_allowed, WordText, indicator_of, kind_at, word_at, Word, lexemes, WordsStand, word_kinds, TokenBody, Cursor, LineBreak, Lf, Cr, CrLf, Item, letter, encode, char_bytes, Layout, Rest, ◌▹◌, gap, blank, line, blanks, new_line, indent_to, must_break, checked, deep_if, MOST, Left, Starts, WordStage, bytes, GoesBehindWords, Walks, column_end}
+use Rattle.yaml_emit_laws_text.proofs.Shared.{cases_Bool, nat_tests, and-false, byte, break_of, ends_of, Gap, is_document_start, is_document_end, are_gap, begins_lexeme, GapReads, Kind, depth_after, is_end, reached, flow_depth, key_allowed, WordText, indicator_of, kind_at, lexeme_at, Word, lexemes, WordsStand, word_kinds, TokenBody, Cursor, LineBreak, Lf, Cr, CrLf, Item, letter, encode, char_bytes, Layout, Rest, ◌▹◌, gap, blank, line, blanks, new_line, indent_to, must_break, checked, deep_if, MOST, Left, Starts, WordStage, bytes, GoesBehindWords, Walks, column_end}
 use Rattle.yaml_emit_laws_text.specs.scan_laws_texts.KeysLaws.{gap_in, end_in}
 use Rattle.yaml_emit_laws_text.proofs.Places.{has_at, left_first, left_more}
 use Rattle.yaml_scan_laws_texts.proofs.NamesWords.{has_both}
@@ -216,20 +216,20 @@ reached_index text k start end e = rw e refl
 pub push_to : GapReads
     → (text : List ℕ) (c e : Cursor) (p : ℕ) (ws : List Word) (d : ℕ) (k : Kind) (said : WordText)
     → WordStage text c p ws d → begins_lexeme text p ≡ true → kind_at (nat_lt 0 d) text p ≡ Some k
-    → word_at k (nat_lt 0 d) 0 text p ≡ Ok said → is_end k ≡ false
+    → lexeme_at k (nat_lt 0 d) 0 text p ≡ Ok said → is_end k ≡ false
     → (e.column ≡ 0 → Starts text said.reached) → e.kept ≡ c.kept
     → WordStage text e said.reached (word_of k p said ∷ ws) (depth_after k d)
 unfolding lexemes WordsStand
 push_to law text c e p ws d k said s begins kind reads more column same =
     let h = lexemes text ws in
-    let g = law (nat_lt 0 (depth h)) (key_allowed h) text (reached h).index s.gap (has_at text (reached h).index s.gap s.stands) s.blank (ap (λ q. begins_lexeme text q) s.from ∙ begins) in
+    let g = law (nat_lt 0 (flow_depth h)) (key_allowed h) text (reached h).index s.gap (has_at text (reached h).index s.gap s.stands) s.blank (ap (λ q. begins_lexeme text q) s.from ∙ begins) in
     let r = reached_index text k (gap_in text h).place said.reached more in
     record {
       stand = (
         record {
           place = ap (λ (x : Gap). x.place) g ∙ s.from;
           kind = ap (λ n. kind_at (nat_lt 0 n) text p) s.deep ∙ kind;
-          said = ap (λ n. word_at k (nat_lt 0 n) 0 text p) s.deep ∙ reads;
+          said = ap (λ n. lexeme_at k (nat_lt 0 n) 0 text p) s.deep ∙ reads;
         },
         s.stand,
       );
@@ -246,7 +246,7 @@ push_to law text c e p ws d k said s begins kind reads more column same =
 pub push : GapReads
     → (text : List ℕ) (c e : Cursor) (p : ℕ) (ws : List Word) (d : ℕ) (k : Kind) (said : WordText)
     → WordStage text c p ws d → begins_lexeme text p ≡ true → kind_at (nat_lt 0 d) text p ≡ Some k
-    → word_at k (nat_lt 0 d) 0 text p ≡ Ok said → is_end k ≡ false → (e.column ≡ 0 → ⊥)
+    → lexeme_at k (nat_lt 0 d) 0 text p ≡ Ok said → is_end k ≡ false → (e.column ≡ 0 → ⊥)
     → e.kept ≡ c.kept → WordStage text e said.reached (word_of k p said ∷ ws) (depth_after k d)
 push law text c e p ws d k said s begins kind reads more column same = push_to law text c e p ws d k said s begins kind reads more (λ z. absurd (column z)) same
 

@@ -1,6 +1,6 @@
 -- Tags as words.
 use Rattle.std.proofs.Common.{◌≡◌, ℕ, ◌+◌, Bool, false, List, [], ◌∷◌, length, Some, Result, Ok, refl, sym, ap, subst, ◌∙◌}
-use Rattle.yaml_emit_laws_text.proofs.Shared.{byte, Wrong, TagText, tag_at, GapReads, indicator_of, word_at, tagged, ◌▹◌, word, Split, shorthand, verbatim, spelled, split_tag, Opening, LoneMarkReads, SplitTagsAreRead, WrittenTagsAreReadable, ReadableTagsAreAscii, tag_body, IsWritableOpening, Has, Walks}
+use Rattle.yaml_emit_laws_text.proofs.Shared.{byte, Wrong, TagText, tag_at, GapReads, indicator_of, lexeme_at, tagged, ◌▹◌, word, Split, shorthand, verbatim, spelled, split_tag, Opening, LoneMarkReads, SplitTagsAreRead, WrittenTagsAreReadable, ReadableTagsAreAscii, tag_body, IsWritableOpening, Has, Walks}
 use Rattle.yaml_emit_laws_text.specs.scan_history.declared.kind.Kind.TheVariants as kinds
 use Rattle.yaml_emit_laws_text.specs.scan_model.Tokens as tokens
 use Rattle.yaml_emit_laws_text.specs.TagsLaws.{tag_text}
@@ -19,8 +19,8 @@ unfolding indicator_of
 mark_kind flow alone = refl
 
 tag_word : (flow : Bool) (text : List ℕ) (p : ℕ)
-    → word_at kinds.Tag flow 0 text p ≡ tagged (tag_at flow text p)
-unfolding word_at
+    → lexeme_at kinds.Tag flow 0 text p ≡ tagged (tag_at flow text p)
+unfolding lexeme_at
 tag_word flow text p = refl
 
 -- What is read of a tag is its word.
@@ -56,7 +56,7 @@ tag_walks law split readable ascii o (right, utf8) t (some, text_utf8) b K B d e
     (word_walks law 33 mark_sign kinds.Tag refl (λ d. refl) mark_kind x.more x.ascii (tag_body s)
     (λ flow text p has space.
     let y = 33 ∷ x.more in
-    let Q : List ℕ → Type 0 = λ (z : List ℕ). Has text p z → byte text (p + length z) ≡ 32 → word_at kinds.Tag flow 0 text p ≡ Ok (record { body = tag_body s; end = p + length z; reached = p + length z; broke = false }) in
+    let Q : List ℕ → Type 0 = λ (z : List ℕ). Has text p z → byte text (p + length z) ≡ 32 → lexeme_at kinds.Tag flow 0 text p ≡ Ok (record { body = tag_body s; end = p + length z; reached = p + length z; broke = false }) in
     let read : Q (spelled s) =
     λ has2 space2. tag_word flow text p
     ∙ ap (λ (r : Result TagText Wrong). tagged r) (split s may flow text p (has_at text p (spelled s) has2) (rw space2 refl)) ∙ text_is s (p + length (spelled s)) in

@@ -1,6 +1,6 @@
 -- The words of canonical layout.
 use Rattle.std.proofs.Common.{◌≡◌, ℕ, suc, ◌+◌, ◌-◌, ◌<◌, ◌==◌, nat_lt, Bool, true, false, List, [], ◌∷◌, ◌++◌, length, Some, Result, Ok, refl, sym, ap, subst, ◌∙◌, inl, inr, ◌⊎◌, arith, append_assoc, IsUtf8, encode_utf8, encode_utf8_all, chars}
-use Rattle.yaml_emit_laws_text.proofs.Shared.{cases_Bool, and_parts, nat_tests, encode_ascii, or-true, byte, break_of, Wrong, are_alphas, GapReads, AnchorReads, double_quoted_at, Kind, depth_after, is_end, WordText, indicator_of, word_at, YAML_DOUBLE_QUOTED_SCALAR_STYLE, TokenBody, Cursor, Item, letter, encode, char_bytes, Layout, Rest, ◌▹◌, char, letters, word, opener, double_quoted, in_front, are_ascii, between_quotes, QuotedIsReadBack, Has, Left, WordStage, bytes, Walks, first, parts, Parts}
+use Rattle.yaml_emit_laws_text.proofs.Shared.{cases_Bool, and_parts, nat_tests, encode_ascii, or-true, byte, break_of, Wrong, are_alphas, GapReads, AnchorReads, double_quoted_at, Kind, depth_after, is_end, WordText, indicator_of, lexeme_at, YAML_DOUBLE_QUOTED_SCALAR_STYLE, TokenBody, Cursor, Item, letter, encode, char_bytes, Layout, Rest, ◌▹◌, char, letters, word, opener, quoted_text, in_front, are_ascii, between_quotes, QuotedIsReadBack, Has, Left, WordStage, bytes, Walks, first, parts, Parts}
 use lib.Utf8.{encode as encode_char}
 use Rattle.yaml_emit_laws_text.specs.scan_history.scan_model.declared.problem.Context.TheVariants as contexts
 use Rattle.yaml_emit_laws_text.specs.scan_history.scan_words.Anchors.{anchor_at, may_end_name}
@@ -40,7 +40,7 @@ one_byte body p = record { body = body; end = p + 1; reached = p + 1; broke = fa
 -- a character that is a word
 pub letter_walks : GapReads → (b : ℕ) (k : Kind) (body : TokenBody) (d : ℕ) (e : Cursor → Cursor)
     → Sign b → ((alone : Bool) → indicator_of (nat_lt 0 d) alone b ≡ Some k)
-    → ((text : List ℕ) (p : ℕ) → word_at k (nat_lt 0 d) 0 text p ≡ Ok (one_byte body p))
+    → ((text : List ℕ) (p : ℕ) → lexeme_at k (nat_lt 0 d) 0 text p ≡ Ok (one_byte body p))
     → is_end k ≡ false → ((c : Cursor) → (e c).column ≡ 0 → ⊥) → ((c : Cursor) → (e c).bare ≡ false)
     → ((c : Cursor) → (e c).kept ≡ c.kept) → (c : Cursor) (rest : Rest)
     → Walks (λ c rest. letter b ∷ rest (e c)) (λ ks. k ∷ ks) (λ bs. body ∷ bs) d (depth_after k d) c
@@ -70,7 +70,7 @@ comma_sign = sign 44 refl refl refl refl refl refl refl refl refl refl
 
 pub comma_walks : GapReads → (d : ℕ) (c : Cursor) (rest : Rest)
     → Walks (char 44) (λ ks. kinds.FlowEntry ∷ ks) (λ bs. tokens.flow_entry ∷ bs) d d c rest
-unfolding indicator_of word_at
+unfolding indicator_of lexeme_at
 comma_walks law d c rest = letter_walks law 44 kinds.FlowEntry tokens.flow_entry d lettered_on comma_sign (λ a. refl) (λ t p. refl) refl (λ c z. more_than c.column z) (λ c. refl) (λ c. refl) c rest
 
 down : (d : ℕ) → suc d - 1 ≡ d
@@ -86,7 +86,7 @@ to_depth a K B d e f c rest same w = subst (λ (n : ℕ). Walks a K B d n c rest
 pub sequence_closes : GapReads → (d : ℕ) (c : Cursor) (rest : Rest)
     → Walks (char 93) (λ ks. kinds.FlowSequenceEnd ∷ ks) (λ bs. tokens.flow_sequence_end ∷ bs)
     (suc d) d c rest
-unfolding indicator_of word_at
+unfolding indicator_of lexeme_at
 sequence_closes law d c rest =
     to_depth (char 93) (λ ks. kinds.FlowSequenceEnd ∷ ks) (λ bs. tokens.flow_sequence_end ∷ bs) (suc d) (suc d - 1) d c rest (down d)
     (letter_walks law 93 kinds.FlowSequenceEnd tokens.flow_sequence_end (suc d) lettered_on (sign 93 refl refl refl refl refl refl refl refl refl refl) (λ a. refl) (λ t p. refl) refl (λ c z. more_than c.column z) (λ c. refl) (λ c. refl) c rest)
@@ -94,7 +94,7 @@ sequence_closes law d c rest =
 pub mapping_closes : GapReads → (d : ℕ) (c : Cursor) (rest : Rest)
     → Walks (char 125) (λ ks. kinds.FlowMappingEnd ∷ ks) (λ bs. tokens.flow_mapping_end ∷ bs)
     (suc d) d c rest
-unfolding indicator_of word_at
+unfolding indicator_of lexeme_at
 mapping_closes law d c rest =
     to_depth (char 125) (λ ks. kinds.FlowMappingEnd ∷ ks) (λ bs. tokens.flow_mapping_end ∷ bs) (suc d) (suc d - 1) d c rest (down d)
     (letter_walks law 125 kinds.FlowMappingEnd tokens.flow_mapping_end (suc d) lettered_on (sign 125 refl refl refl refl refl refl refl refl refl refl) (λ a. refl) (λ t p. refl) refl (λ c z. more_than c.column z) (λ c. refl) (λ c. refl) c rest)
@@ -102,7 +102,7 @@ mapping_closes law d c rest =
 pub sequence_opens : GapReads → (d : ℕ) (c : Cursor) (rest : Rest)
     → Walks (opener 91) (λ ks. kinds.FlowSequenceStart ∷ ks) (λ bs. tokens.flow_sequence_start ∷ bs)
     d (suc d) c rest
-unfolding indicator_of word_at
+unfolding indicator_of lexeme_at
 sequence_opens law d c rest =
     to_depth (opener 91) (λ ks. kinds.FlowSequenceStart ∷ ks) (λ bs. tokens.flow_sequence_start ∷ bs) d (d + 1) (suc d) c rest (up d)
     (walks_gap (λ c rest. letter 91 ∷ rest (opened c)) (λ ks. kinds.FlowSequenceStart ∷ ks) (λ bs. tokens.flow_sequence_start ∷ bs) d (d + 1) c rest
@@ -111,7 +111,7 @@ sequence_opens law d c rest =
 pub mapping_opens : GapReads → (d : ℕ) (c : Cursor) (rest : Rest)
     → Walks (opener 123) (λ ks. kinds.FlowMappingStart ∷ ks) (λ bs. tokens.flow_mapping_start ∷ bs)
     d (suc d) c rest
-unfolding indicator_of word_at
+unfolding indicator_of lexeme_at
 mapping_opens law d c rest =
     to_depth (opener 123) (λ ks. kinds.FlowMappingStart ∷ ks) (λ bs. tokens.flow_mapping_start ∷ bs) d (d + 1) (suc d) c rest (up d)
     (walks_gap (λ c rest. letter 123 ∷ rest (opened c)) (λ ks. kinds.FlowMappingStart ∷ ks) (λ bs. tokens.flow_mapping_start ∷ bs) d (d + 1) c rest
@@ -123,7 +123,7 @@ inside d = grind (arith, nat_tests)
 pub key_walks : GapReads → (d : ℕ) (c : Cursor) (rest : Rest)
     → Walks (word (63 ∷ [])) (λ ks. kinds.KeyMark ∷ ks) (λ bs. tokens.key ∷ bs) (suc d) (suc d) c
     rest
-unfolding word_at letters indicator_of
+unfolding lexeme_at letters indicator_of
 key_walks law d c rest =
     walks_gap (char 63) (λ ks. kinds.KeyMark ∷ ks) (λ bs. tokens.key ∷ bs) (suc d) (suc d) c rest
     (λ c. letter_walks law 63 kinds.KeyMark tokens.key (suc d) lettered_on (sign 63 refl refl refl refl refl refl refl refl refl refl) (λ a. (rw (inside d) refl)) (λ t p. refl) refl (λ c z. more_than c.column z) (λ c. refl) (λ c. refl) c rest)
@@ -131,7 +131,7 @@ key_walks law d c rest =
 pub value_walks : GapReads → (d : ℕ) (c : Cursor) (rest : Rest)
     → Walks (word (58 ∷ [])) (λ ks. kinds.ValueMark ∷ ks) (λ bs. tokens.value ∷ bs) (suc d) (suc d)
     c rest
-unfolding word_at letters indicator_of
+unfolding lexeme_at letters indicator_of
 value_walks law d c rest =
     walks_gap (char 58) (λ ks. kinds.ValueMark ∷ ks) (λ bs. tokens.value ∷ bs) (suc d) (suc d) c rest
     (λ c. letter_walks law 58 kinds.ValueMark tokens.value (suc d) lettered_on (sign 58 refl refl refl refl refl refl refl refl refl refl) (λ a. (rw (inside d) refl)) (λ t p. refl) refl (λ c z. more_than c.column z) (λ c. refl) (λ c. refl) c rest)
@@ -207,7 +207,7 @@ alias_kind flow alone = refl
 pub alias_walks : GapReads → AnchorReads → (name : List ℕ) → 0 < length name
     → are_alphas name ≡ true → (d : ℕ) (c : Cursor) (rest : Rest) → Parts rest
     → Walks (word (42 ∷ name)) (λ ks. kinds.Alias ∷ ks) (λ bs. tokens.alias name ∷ bs) d d c rest
-unfolding letters word_at
+unfolding letters lexeme_at
 alias_walks law names name some are d c rest ends =
     walks_gap (letters (42 ∷ name)) (λ ks. kinds.Alias ∷ ks) (λ bs. tokens.alias name ∷ bs) d d c rest
     (λ c text p ws stage l.
@@ -237,8 +237,8 @@ anchor_sign : Sign 38
 anchor_sign = sign 38 refl refl refl refl refl refl refl refl refl refl
 
 anchor_word : (flow : Bool) (text : List ℕ) (p : ℕ)
-    → word_at kinds.Anchor flow 0 text p ≡ valued tokens.anchor (anchor_at contexts.Anchor text p)
-unfolding word_at
+    → lexeme_at kinds.Anchor flow 0 text p ≡ valued tokens.anchor (anchor_at contexts.Anchor text p)
+unfolding lexeme_at
 anchor_word flow text p = refl
 
 -- A `&` begins an anchor.
@@ -257,7 +257,7 @@ pub word_walks : GapReads → (byte0 : ℕ) → Sign byte0 → (kind : Kind) →
     → (more : List ℕ) → are_ascii more ≡ true → (body : TokenBody)
     → ((flow : Bool) (text : List ℕ) (p : ℕ) → Has text p (byte0 ∷ more)
     → byte text (p + length (byte0 ∷ more)) ≡ 32
-    → word_at kind flow 0 text p
+    → lexeme_at kind flow 0 text p
     ≡ Ok (record {
       body = body;
       end = p + length (byte0 ∷ more);
@@ -302,7 +302,7 @@ anchor_walks law names name some are b K B d e rest spaced w c =
     let q = p + 1 + length name in
     let far : p + suc (length name) ≡ q = omega arith in
     let reads = names contexts.Anchor text p name (has_at text (p + 1) name inner) some are (space_ends text q (subst (λ (i : ℕ). byte text i ≡ 32) far space)) in
-    subst (λ (i : ℕ). word_at kinds.Anchor flow 0 text p ≡ Ok (record { body = tokens.anchor name; end = i; reached = i; broke = false })) (sym far)
+    subst (λ (i : ℕ). lexeme_at kinds.Anchor flow 0 text p ≡ Ok (record { body = tokens.anchor name; end = i; reached = i; broke = false })) (sym far)
     (anchor_word flow text p ∙ named tokens.anchor (anchor_at contexts.Anchor text p) name q reads)) b K B d e rest spaced w c
 
 -- ---- double quoted scalars
@@ -330,9 +330,9 @@ quote_first xs = let e : encode_utf8 34 ≡ 34 ∷ [] = encode_ascii 34 (omega a
 
 pub quoted_walks : GapReads → QuotedIsReadBack → (page : Page) (value : List ℕ) → IsUtf8 value
     → 0 < page.indentation → (d : ℕ) (c : Cursor) (rest : Rest)
-    → Walks (double_quoted page (chars value)) (λ ks. kinds.DoubleQuoted ∷ ks)
+    → Walks (quoted_text page (chars value)) (λ ks. kinds.DoubleQuoted ∷ ks)
     (λ bs. tokens.scalar value YAML_DOUBLE_QUOTED_SCALAR_STYLE ∷ bs) d d c rest
-unfolding word_at
+unfolding lexeme_at
 quoted_walks law quoted page value utf8 deep d c rest =
     walks_gap (between_quotes page (chars value)) (λ ks. kinds.DoubleQuoted ∷ ks) (λ bs. tokens.scalar value YAML_DOUBLE_QUOTED_SCALAR_STYLE ∷ bs) d d c rest
     (λ c text p ws stage l.

@@ -9,7 +9,7 @@ use Rattle.yaml_emit_layout.specs.declared.Encoding.TheVariants.{Utf8}
 use Rattle.yaml_emit_layout.specs.Text.{encode}
 use Rattle.yaml_emit_layout.specs.Layout.{nothing_more}
 use Rattle.yaml_emit_layout.specs.declared.page.Page.{Page}
-use Rattle.yaml_emit_layout.specs.Quoted.{double_quoted}
+use Rattle.yaml_emit_layout.specs.Quoted.{quoted_text}
 use Rattle.yaml_emit_layout.specs.Style.{allowed}
 use Rattle.yaml_emit_laws_text.specs.Stands.{HasAt}
 use Rattle.yaml_emit_laws_text.specs.Spelling.{QuotedPart, IsSpelling, meaning, quoted}
@@ -45,9 +45,9 @@ QuotedIsReadBack = (page : Page) (c : Cursor) (value : List ℕ) → IsUtf8 valu
 abbrev pub QuotedTextIsReadBack : Type 0
 QuotedTextIsReadBack = (page : Page) (c : Cursor) (value text : List ℕ) (p : ℕ) → IsUtf8 value
     → (page.cuts ≡ true → 0 < page.indentation)
-    → HasAt text p (encode Utf8 (double_quoted page (chars value) c nothing_more))
+    → HasAt text p (encode Utf8 (quoted_text page (chars value) c nothing_more))
     → double_quoted_at text (p + gap_width c)
-    ≡ Ok (value, p + length (encode Utf8 (double_quoted page (chars value) c nothing_more)))
+    ≡ Ok (value, p + length (encode Utf8 (quoted_text page (chars value) c nothing_more)))
 
 -- As a simple key, which may not be broken, it stays in its line, whatever the value.
 abbrev pub KeysStayInLine : Type 0

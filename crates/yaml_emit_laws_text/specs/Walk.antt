@@ -5,7 +5,7 @@ use Rattle.yaml_emit_laws_text.specs.scan_model.Tokens.{TokenBody}
 use Rattle.yaml_emit_laws_text.specs.scan_history.scan_model.Marks.{byte, column_at}
 use Rattle.yaml_emit_laws_text.specs.scan_history.scan_words.Written.{are_gap}
 use Rattle.yaml_emit_laws_text.specs.scan_history.declared.kind.Kind.{Kind}
-use Rattle.yaml_emit_laws_text.specs.scan_history.History.{reached, depth}
+use Rattle.yaml_emit_laws_text.specs.scan_history.History.{reached, flow_depth}
 use Rattle.yaml_emit_laws_text.specs.scan_laws_texts.KeysTexts.{Word, lexemes, WordsStand, word_kinds}
 use Rattle.yaml_emit_laws_text.specs.emit_layout.declared.Cursor.{Cursor}
 use Rattle.yaml_emit_laws_text.specs.emit_layout.declared.Encoding.TheVariants.{Utf8}
@@ -33,7 +33,7 @@ pub record WordStage (text : List ℕ) (c : Cursor) (p : ℕ) (ws : List Word) (
   pub from : (reached (lexemes text ws)).index + length gap ≡ p
   pub stands : Has text (reached (lexemes text ws)).index gap
   pub blank : are_gap gap ≡ true
-  pub deep : depth (lexemes text ws) ≡ d
+  pub deep : flow_depth (lexemes text ws) ≡ d
   pub column : c.column ≡ 0 → Starts text p
   -- no block scalar keeps its breaks, so that no `...` ends the stream
   pub plain : c.kept ≡ false

@@ -86,6 +86,6 @@ unfoldable pub quoted_body : Page → ℕ → List ℕ → Layout
 quoted_body page before [] = stay
 quoted_body page before (x ∷ xs) = quoted_char page before x xs ▹ quoted_body page x xs
 
-abbrev pub double_quoted : Page → List ℕ → Layout
-double_quoted page value = gap
+abbrev pub quoted_text : Page → List ℕ → Layout
+quoted_text page value = gap
     ▹ (char ascii.quote ▹ (quoted_body page ascii.space value ▹ char ascii.quote))

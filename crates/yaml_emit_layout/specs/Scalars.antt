@@ -9,7 +9,7 @@ use Rattle.yaml_emit_layout.specs.declared.page.Chomp.TheVariants as chomping
 use Rattle.yaml_emit_layout.specs.declared.settings.LineBreak.{LineBreak}
 use Rattle.yaml_emit_layout.specs.Text.{is_break}
 use Rattle.yaml_emit_layout.specs.Layout.{Layout, ◌▹◌, stay, choose, when, char, break, new_line, gap, line, is_past, keep, after_text, after_block}
-use Rattle.yaml_emit_layout.specs.Quoted.{double_quoted, first, is_empty}
+use Rattle.yaml_emit_layout.specs.Quoted.{quoted_text, first, is_empty}
 use Rattle.yaml_emit_layout.specs.Style.{is_blank, last_or}
 
 -- a break of a value: LF as the break that is set, the others as they are
@@ -136,6 +136,6 @@ block page digit folded value = block_header digit folded value
 unfoldable pub scalar_text : Page → ℕ → Bool → Style → List ℕ → Layout
 scalar_text page digit flow style.Plain value = plain page flow value
 scalar_text page digit flow style.Single value = single_quoted page value
-scalar_text page digit flow style.Double value = double_quoted page value
+scalar_text page digit flow style.Double value = quoted_text page value
 scalar_text page digit flow style.Literal value = block page digit false value
 scalar_text page digit flow style.Folded value = block page digit true value

@@ -10,7 +10,7 @@ use Rattle.yaml_emit_layout.specs.declared.cursor.Cursor.{Cursor}
 use Rattle.yaml_emit_layout.specs.Text.{Item, letter, is_break}
 use Rattle.yaml_emit_layout.specs.Layout.{Layout, Rest, ◌▹◌, stay, when, char, letters, gap, word, after_text, line}
 use Rattle.yaml_emit_layout.specs.declared.page.Page.{Page}
-use Rattle.yaml_emit_layout.specs.Quoted.{is_empty, quoted_body, double_quoted}
+use Rattle.yaml_emit_layout.specs.Quoted.{is_empty, quoted_body, quoted_text}
 use Rattle.yaml_emit_layout.specs.Runs.{all_pass}
 use Rattle.yaml_emit_layout.specs.Scalars.{flow_body, plain, single_quoted, scalar_text}
 use Rattle.yaml_emit_layout.specs.declared.page.Style.{Style}
@@ -187,9 +187,9 @@ single_lays page marked a b v run p =
 pub double_lays : (page : Page) (marked : Bool) (a b : Paper) (v : List ℕ)
     → IsRun (quoted_in page.unicode) page.cuts page.width a.output.cursor.column v
     → Lays a b (when marked (word (33 ∷ [])) ▹ (gap ▹ (char 34 ▹ (letters v ▹ char 34)))) stay
-    → Lays a b (when marked (word (33 ∷ [])) ▹ double_quoted page (chars v)) stay
+    → Lays a b (when marked (word (33 ∷ [])) ▹ quoted_text page (chars v)) stay
 double_lays page marked a b v run p =
-    lays_is a b (when marked (word (33 ∷ [])) ▹ (gap ▹ (char 34 ▹ (letters v ▹ char 34)))) (when marked (word (33 ∷ [])) ▹ double_quoted page (chars v))
+    lays_is a b (when marked (word (33 ∷ [])) ▹ (gap ▹ (char 34 ▹ (letters v ▹ char 34)))) (when marked (word (33 ∷ [])) ▹ quoted_text page (chars v))
     (λ rest. sym (within marked 34 (letters v) (quoted_body page 32 (chars v)) a.output.cursor rest (λ d r l. quoted_whole page v d r run.ascii (run.pass d.column l)))) p
 
 pub run_width : (body other : Body) (cuts : Bool) (w p column : ℕ) (v : List ℕ) → body ≡ other

@@ -6,7 +6,7 @@ ghost use Rattle.std.specs.Str.{chars};
 ghost use Rattle.yaml_emit_layout.specs.Hex.{hex_digit, hex_2};
 ghost use Rattle.yaml_emit_layout.specs.Text.{is_break};
 ghost use Rattle.yaml_emit_layout.specs.Layout.{◌▹◌, stay, choose, when, char, letters, gap, is_past};
-ghost use Rattle.yaml_emit_layout.specs.Quoted.{is_printable, needs_escape, escape_letter, hex_4, hex_8, escape_text, fold, escaped, quoted_char, quoted_body, double_quoted};
+ghost use Rattle.yaml_emit_layout.specs.Quoted.{is_printable, needs_escape, escape_letter, hex_4, hex_8, escape_text, fold, escaped, quoted_char, quoted_body, quoted_text};
 ghost use Rattle.yaml_emit_output.specs.Draft.{Lays};
 ghost use Rattle.yaml_emit_scalars.specs.On.{IsOn};
 
@@ -185,7 +185,7 @@ fn put_quoted_body(draft: &mut Draft, page: Page, value: &str)
 /// scalar is a simple key, a space goes before, or the space is first or last.
 pub fn put_double_quoted(draft: &mut Draft, page: Page, value: &str)
     requires { IsOn page draft.old }
-    ensures { Lays draft.old draft.new (double_quoted page (chars value.now)) stay }
+    ensures { Lays draft.old draft.new (quoted_text page (chars value.now)) stay }
 {
     draft.put_gap();
     draft.put_text(b"\"");

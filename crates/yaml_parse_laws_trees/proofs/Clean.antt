@@ -1,6 +1,6 @@
 -- Where no fault stands at the tokens that were read.
 use Rattle.std.proofs.Common.{◌≡◌, ◌⊎◌, inl, inr, ℕ, ◌<◌, ◌+◌, List, [], ◌∷◌, ◌++◌, length, Option, Some, None, refl, ap, sym, subst, ◌∙◌, arith}
-use Rattle.yaml_parse_laws_trees.proofs.Words.{cases_order, Token, Fault, Stream, spell, TreeGoesOn, followed_by, directive_fault, handle_fault, Rank, of_handle, of_token, ComesBefore, WrongToken, grammar, directive, FaultAt, StandsIn, IsOfLeastPlace, BeginsWithSentence, FaultPlace, RanksBefore, IsFree}
+use Rattle.yaml_parse_laws_trees.proofs.Words.{cases_order, Token, Fault, Stream, spell, GoesOn, followed_by, directive_fault, handle_fault, Rank, of_handle, of_token, ComesBefore, WrongToken, grammar, directive, FaultAt, StandsIn, IsOfLeastPlace, BeginsWithSentence, FaultPlace, RanksBefore, IsFree}
 use Rattle.yaml_parse_laws_trees.proofs.Cuts.{SameCut, same_cut, IsNoFront, Reaches, reaches, followed_length, head_same}
 
 abbrev pub NoFault : List Token → Token → Type 0
@@ -18,7 +18,7 @@ pub some_none : (o : Option Fault) (e : Fault) → o ≡ None → o ≡ Some e �
 some_none o e p q = cc
 
 pub no_fault : (past : List Token) (t : Token) → handle_fault past t.body ≡ None
-    → TreeGoesOn (followed_by past (t ∷ [])) → directive_fault past t.body t.start_mark ≡ None
+    → GoesOn (followed_by past (t ∷ [])) → directive_fault past t.body t.start_mark ≡ None
     → NoFault past t
 no_fault past t h g d of_handle e p = some_none (handle_fault past t.body) e h p
 no_fault past t h g d of_token e (grammar n p) = n g

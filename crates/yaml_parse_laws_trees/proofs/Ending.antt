@@ -1,6 +1,6 @@
 -- The machine ends in the fault of the list.
 use Rattle.std.proofs.Common.{◌≡◌, ◌-◌, ◌+◌, inl, inr, ℕ, suc, List, [], ◌∷◌, ◌++◌, length, Option, Some, None, refl, ap, sym, subst, ◌∙◌, arith}
-use Rattle.yaml_parse_laws_trees.proofs.Words.{Token, no_token, zero_mark, Fault, RawEvent, State, IsStack, Stream, spell, Fed, stop, go, feed, Outcome, finished, carry, run, initial, left_where_stopped, unasked_at_stop, Directives, no_directives, reading, unasked_at_fault, reading_of, TreeGoesOn, followed_by, opened, grammar_fault, directive_fault, handle_fault, of_handle, of_token, WrongToken, grammar, directive, StandsIn, BeginsWithSentence, with_end, FaultOfTokens, unasked_of, IsToldWith, EndsInFault, FaultEnds, FaultIsToldAtPlace}
+use Rattle.yaml_parse_laws_trees.proofs.Words.{Token, no_token, zero_mark, Fault, RawEvent, State, IsStack, Stream, spell, Fed, stop, go, feed, Outcome, finished, carry, run, initial, left_where_stopped, unasked_at_stop, Directives, no_directives, reading, unasked_at_fault, reading_of, GoesOn, followed_by, opened, grammar_fault, directive_fault, handle_fault, of_handle, of_token, WrongToken, grammar, directive, StandsIn, BeginsWithSentence, with_end, FaultOfTokens, unasked_of, IsToldWith, EndsInFault, FaultEnds, FaultIsToldAtPlace}
 use Rattle.yaml_parse_laws_trees.specs.parse_grammar.States as state
 use Rattle.yaml_parse_laws_trees.proofs.CompleteStream.{stream_runs, nothing_runs}
 use Rattle.yaml_parse_laws_trees.proofs.Left.{Over}
@@ -84,13 +84,13 @@ pub sentence_tree : (ts : List Token) → Over initial Empty ts
 sentence_tree ts h = (h.tree, h.same ∙ ap (spell h.tree) h.goes)
 
 goes_on : (past : List Token) (t : Token) (us : List Token)
-    → Over initial Empty (followed_by past (t ∷ us)) → TreeGoesOn (followed_by past (t ∷ []))
+    → Over initial Empty (followed_by past (t ∷ us)) → GoesOn (followed_by past (t ∷ []))
 goes_on past t us h = record { tree = h.tree; more = us; same = followed_on past (t ∷ []) us ∙ h.same ∙ ap (spell h.tree) h.goes }
 
 -- no tree goes on with a token that is refused
 refused_token : (x : State) (s : List State) (past : List Token) (ds : Directives) (t : Token)
     (is : List RawEvent) (e : Fault) → At x s past ds → feed (x ∷ s) t ≡ stop is e
-    → TreeGoesOn (followed_by past (t ∷ [])) → ⊥
+    → GoesOn (followed_by past (t ∷ [])) → ⊥
 refused_token x s past ds t is e a p g =
     let same : followed_by past (t ∷ g.more) ≡ spell g.tree [] = sym (followed_on past (t ∷ []) g.more) ∙ g.same in
     not_none e
@@ -181,7 +181,7 @@ taken_goes x s s' past ds t is a p us h = a.goes (t ∷ us) (subst (Takes Empty 
 
 pub taken_on : (x : State) (s s' : List State) (past : List Token) (ds : Directives) (t : Token)
     (is : List RawEvent) → At x s past ds → feed (x ∷ s) t ≡ go is s'
-    → TreeGoesOn (followed_by past (t ∷ []))
+    → GoesOn (followed_by past (t ∷ []))
 taken_on x s s' past ds t is a p = goes_on past t (closers zero_mark s') (taken_goes x s s' past ds t is a p (closers zero_mark s') (all_close zero_mark s'))
 
 taken_reached : (x : State) (s s' : List State) (past : List Token) (ds : Directives) (t : Token)

@@ -1,6 +1,6 @@
 -- The machine gives the events of a list, and a list has no others.
 use Rattle.std.proofs.Common.{◌≡◌, ◌⊎◌, inl, inr, ◌+◌, ◌-◌, ℕ, suc, Bool, true, false, ◌||◌, List, [], ◌∷◌, ◌++◌, length, Option, Some, None, refl, ap, sym, subst, ◌∙◌, arith, append_assoc, append-nil, le_refl}
-use Rattle.yaml_parse_laws_trees.proofs.Words.{true≢false, false≢true, or_cases, yaml_mark_t, Token, no_token, zero_mark, Fault, RawEvent, State, Stream, spell, Given, next, items, Fed, stop, go, feed, Outcome, run, initial, Told, reading, no_directives, reading_of, TreeGoesOn, bare, RefusedAt, RunsOut, first_items, but_last, EndsAt, last_leaves_open, BeginsWith, EventsOfTokens, events_run, given_of, BeginsWithTree, IsLongest, LongestFront, events_of, events_of_front, events_at_next, has_fault, gives_no_more, GivesAt, HasFront, ListHasFront, EventsAreOne, RunGivesEvents, EventsAreRun, RunGivesLeast}
+use Rattle.yaml_parse_laws_trees.proofs.Words.{true≢false, false≢true, or_cases, yaml_mark_t, Token, no_token, zero_mark, Fault, RawEvent, State, Stream, spell, Given, next, items, Fed, stop, go, feed, Outcome, run, initial, Told, reading, no_directives, reading_of, GoesOn, bare, RefusedAt, RunsOut, first_items, but_last, EndsAt, last_leaves_open, BeginsWith, EventsOfTokens, events_run, given_of, BeginsWithTree, IsLongest, LongestFront, events_of, events_of_front, events_at_next, has_fault, gives_no_more, GivesAt, HasFront, ListHasFront, EventsAreOne, RunGivesEvents, EventsAreRun, RunGivesLeast}
 use Rattle.yaml_parse_laws_trees.proofs.CompleteStream.{stream_runs, nothing_runs}
 use Rattle.yaml_parse_laws_trees.proofs.Left.{Over}
 use Rattle.yaml_parse_laws_trees.proofs.Closing.{closers, Empty, all_close, closers_end}
@@ -96,7 +96,7 @@ refused_token s t ts own (go is s') p h = absurd (h is s' p)
 
 -- no tree goes on with it
 goes_further : (front : List Token) (w : Here front) (t : Token) (is : List RawEvent)
-    (s' : List State) → feed (w.top ∷ w.below) t ≡ go is s' → TreeGoesOn (front ++ t ∷ [])
+    (s' : List State) → feed (w.top ∷ w.below) t ≡ go is s' → GoesOn (front ++ t ∷ [])
 goes_further front w t is s' p =
     let us : List Token = closers zero_mark s' in
     let h : Over initial Empty (front ++ t ∷ us) = w.goes (t ∷ us) (takes_step w.top w.below s' (last_behind nothing front) t is w.knows p us (all_close zero_mark s')) in

@@ -1,6 +1,6 @@
 -- Where a list of tokens is refused: at the first token that no tree goes on with.
 use Rattle.std.proofs.Common.{◌≡◌, ◌⊎◌, inl, inr, ℕ, List, [], ◌∷◌, ◌++◌, length, map, Option, Some, None, refl, ap, sym, subst, ◌∙◌}
-use Rattle.yaml_parse_laws_trees.proofs.Words.{append_assoc, yaml_mark_t, Token, type_of, no_token, zero_mark, Fault, Choice, Refuse, Leave, RawEvent, State, Given, Stream, spell, items, choice_at, left_at, Fed, stop, go, with_item, turn, feed, Outcome, finished, carry, ending_at, run, initial, bare, BeginsWithItems, TreeGoesOn, RefusedAt, RunsOut, TreeGoesOnGiving, StandsAtLoad, FaultsStandAtFirst, FrontsAreNotRefused}
+use Rattle.yaml_parse_laws_trees.proofs.Words.{append_assoc, yaml_mark_t, Token, type_of, no_token, zero_mark, Fault, Choice, Refuse, Leave, RawEvent, State, Given, Stream, spell, items, choice_at, left_at, Fed, stop, go, with_item, turn, feed, Outcome, finished, carry, ending_at, run, initial, bare, BeginsWithItems, GoesOn, RefusedAt, RunsOut, TreeGoesOnGiving, StandsAtLoad, FaultsStandAtFirst, FrontsAreNotRefused}
 use Rattle.yaml_parse_laws_trees.proofs.CompleteStream.{stream_runs, nothing_runs}
 use Rattle.yaml_parse_laws_trees.proofs.Turns.{items_given}
 use Rattle.yaml_parse_laws_trees.proofs.Left.{Over}
@@ -192,14 +192,14 @@ placed (t ∷ ts) f e s a q =
 
 -- ---- a list of tokens
 
-goes_on : (ts more : List Token) → Over initial Empty (ts ++ more) → TreeGoesOn ts
+goes_on : (ts more : List Token) → Over initial Empty (ts ++ more) → GoesOn ts
 goes_on ts more h = record { tree = h.tree; more = more; same = h.same ∙ ap (spell h.tree) h.goes }
 
 goes_giving : (ts more : List Token) (given : List RawEvent) → Over initial Empty (ts ++ more)
     → BeginsWithItems given (run (ts ++ more) initial None).items → TreeGoesOnGiving ts given
 unfolding goes_on
 goes_giving ts more given h b =
-    let g : TreeGoesOn ts = goes_on ts more h in
+    let g : GoesOn ts = goes_on ts more h in
     let o : run (ts ++ more) initial None ≡ record { items = items g.tree []; ending = None } = ap (λ (us : List Token). run us initial None) g.same ∙ stream_runs g.tree [] None in
     record { tree = g.tree; more = more; same = g.same; begins = subst (λ (gs : List Given). BeginsWithItems given gs) (items_given g.tree []) (subst (λ (z : Outcome). BeginsWithItems given z.items) o b) }
 
@@ -230,7 +230,7 @@ faults_stand ts f e q = whole (placed ts f e initial (tt, tt) q)
 
 -- a front of such a list is one
 front_goes_on : (ts front : List Token) (t : Token) (behind : List Token) → ts ≡ front ++ t ∷ behind
-    → TreeGoesOn ts → TreeGoesOn (front ++ t ∷ [])
+    → GoesOn ts → GoesOn (front ++ t ∷ [])
 front_goes_on ts front t behind p g = record {
   tree = g.tree;
   more = behind ++ g.more;

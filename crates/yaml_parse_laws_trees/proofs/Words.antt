@@ -30,7 +30,7 @@ pub use Rattle.yaml_parse_laws_trees.specs.LookBack.{NodeTag, asks_for_node, clo
 pub use Rattle.yaml_parse_laws_trees.specs.NextLoad.{AreLoadsByContent, AreOutside, FrontsLoadByContent, GivesDocument, GivesLoad, GivesNoDocument, IsLoadOf, IsNextLoad, IsOutside, IsRefusalOf, LoadIsNext, LoadsByContent, NextLoad, NoneNext, RefusalIsNext, RefusesNext, and_anchor, contents_events, ended, is_among, load_unasked, names_behind, next_document, next_fault, next_none, one_more, or_later, told_events, unless_known, wrong_alias}
 unfoldable pub use Rattle.yaml_parse_laws_trees.specs.NextLoad.{first_wrong, left_behind}
 pub use Rattle.yaml_parse_laws_trees.specs.Places.{BeginsWithSentence, ComesBefore, FaultAt, FaultOfTokens, FaultPlace, IsFree, IsOfLeastPlace, IsOwn, IsToldWith, Rank, RanksBefore, StandsIn, WrongToken, directive, grammar, of_handle, of_token, with_end}
-pub use Rattle.yaml_parse_laws_trees.specs.SoundLaws.{AcceptedAreSentences, AcceptedAreTrees, BeginsWithEvents, BeginsWithItems, BeginsWithTree, EventsBeginAsItems, FaultsStandAtFirst, FrontsAreNotRefused, RefusedAt, RunsOut, SentencesAreAccepted, StandsAtLoad, TreeGoesOn, TreeGoesOnGiving, bare, told}
+pub use Rattle.yaml_parse_laws_trees.specs.SoundLaws.{AcceptedAreSentences, AcceptedAreTrees, BeginsWithEvents, BeginsWithItems, BeginsWithTree, EventsBeginAsItems, FaultsStandAtFirst, FrontsAreNotRefused, RefusedAt, RunsOut, SentencesAreAccepted, StandsAtLoad, GoesOn, TreeGoesOnGiving, bare, told}
 pub use Rattle.yaml_parse_laws_trees.specs.Wrong.{directive_fault, grammar_fault, handle_fault, handle_twice, is_version_1, no_document, no_node, no_part, not_going_on, tag_fault, undefined_handle, version_fault}
 pub use Rattle.yaml_parse_laws_trees.specs.parse_grammar.Items.{Properties, RawEvent, RawEventBody, Shape, Tag, blank, item_at, node_at, properties_alone}
 pub use Rattle.yaml_parse_laws_trees.specs.parse_grammar.Machine.{Fed, Outcome, carry, choice_at, content_taken, context_of, documents_taken, ending_at, entries_taken, finished, follows, given_by, go, initial, items_taken, joins, left_at, left_where_stopped, lone_below, more_taken, no_end, node_taken, pairs_taken, parts_documents, starts_content, starts_node, stop, tag_at, taken, taken_at, turn, wants_of, with_item, with_properties_taken}

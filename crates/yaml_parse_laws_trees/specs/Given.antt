@@ -7,7 +7,7 @@ use Rattle.yaml_parse_laws_trees.specs.parse_grammar.parse_model.Faults.{Fault}
 use Rattle.yaml_parse_laws_trees.specs.parse_grammar.Trees.{Stream, spell, Given, next}
 use Rattle.yaml_parse_laws_trees.specs.parse_grammar.TreeEvents.{given_of}
 use Rattle.yaml_parse_laws_trees.specs.parse_grammar.Resolve.{Told, reading, no_directives}
-use Rattle.yaml_parse_laws_trees.specs.SoundLaws.{TreeGoesOn, BeginsWithTree}
+use Rattle.yaml_parse_laws_trees.specs.SoundLaws.{GoesOn, BeginsWithTree}
 use Rattle.yaml_parse_laws_trees.specs.LookBack.{asks_for_node, is_directive}
 
 -- ---- the longest front
@@ -15,7 +15,7 @@ use Rattle.yaml_parse_laws_trees.specs.LookBack.{asks_for_node, is_directive}
 -- no tree goes on with one token more
 abbrev pub IsLongest : List Token → List Token → Type 0
 IsLongest front [] = Unit {0}
-IsLongest front (t ∷ ts) = TreeGoesOn (front ++ t ∷ []) → ⊥
+IsLongest front (t ∷ ts) = GoesOn (front ++ t ∷ []) → ⊥
 
 -- A tree that goes on with the longest front of the tokens with which one does; it has tokens of its own after that.
 pub record LongestFront (ts : List Token) : Type 0 where

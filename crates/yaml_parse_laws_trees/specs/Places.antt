@@ -3,7 +3,7 @@ use Rattle.std.specs.Prelude.{◌≡◌, ◌⊎◌, ℕ, suc, ◌<◌, ◌-◌, 
 use Rattle.yaml_parse_laws_trees.specs.parse_grammar.parse_model.Tokens.{Token, no_token}
 use Rattle.yaml_parse_laws_trees.specs.parse_grammar.parse_model.Faults.{Fault}
 use Rattle.yaml_parse_laws_trees.specs.parse_grammar.Trees.{Stream, spell}
-use Rattle.yaml_parse_laws_trees.specs.SoundLaws.{TreeGoesOn}
+use Rattle.yaml_parse_laws_trees.specs.SoundLaws.{GoesOn}
 use Rattle.yaml_parse_laws_trees.specs.LookBack.{followed_by}
 use Rattle.yaml_parse_laws_trees.specs.Wrong.{grammar_fault, directive_fault, handle_fault}
 
@@ -31,9 +31,9 @@ ComesBefore p q = (p.number < q.number) ⊎ ((p.number ≡ q.number) × RanksBef
 
 -- No tree goes on with the token, or one does, and the token is a directive that isn't in order.
 pub data WrongToken (past : List Token) (t : Token) (e : Fault) : Type 0 where
-  grammar : (TreeGoesOn (followed_by past (t ∷ [])) → ⊥) → e ≡ grammar_fault past t.start_mark
+  grammar : (GoesOn (followed_by past (t ∷ [])) → ⊥) → e ≡ grammar_fault past t.start_mark
       → WrongToken past t e
-  directive : TreeGoesOn (followed_by past (t ∷ []))
+  directive : GoesOn (followed_by past (t ∷ []))
       → directive_fault past t.body t.start_mark ≡ Some e → WrongToken past t e
 
 abbrev pub FaultAt : List Token → Token → Rank → Fault → Type 0

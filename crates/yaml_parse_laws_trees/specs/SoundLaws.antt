@@ -44,7 +44,7 @@ SentencesAreAccepted = (ts : List Token) (f : Option Fault) → BeginsWithTreeIn
 -- ---- where a list is refused
 
 -- a tree goes on with the list: it is a front of the tree's tokens
-pub record TreeGoesOn (ts : List Token) : Type 0 where
+pub record GoesOn (ts : List Token) : Type 0 where
   pub tree : Stream
   pub more : List Token
   pub same : ts ++ more ≡ spell tree []
@@ -79,7 +79,7 @@ pub record RefusedAt (ts : List Token) (given : List RawEvent) (e : Fault) : Typ
   pub behind : List Token
   pub list : ts ≡ front ++ token ∷ behind
   pub before : TreeGoesOnGiving front given
-  pub wrong : TreeGoesOn (front ++ token ∷ []) → ⊥
+  pub wrong : GoesOn (front ++ token ∷ []) → ⊥
   pub stands : StandsAtLoad token.start_mark e
 
 -- a tree goes on with the whole list and gives what was given: the fault is the source's own, or where it has none, stands at the empty token after the list
@@ -97,7 +97,7 @@ FaultsStandAtFirst = (ts : List Token) (f : Option Fault) (e : Fault) → (run t
 
 -- No token is refused of a list with which a tree goes on.
 abbrev pub FrontsAreNotRefused : Type 0
-FrontsAreNotRefused = (ts : List Token) (f : Option Fault) (e : Fault) → TreeGoesOn ts
+FrontsAreNotRefused = (ts : List Token) (f : Option Fault) (e : Fault) → GoesOn ts
     → (run ts initial f).ending ≡ Some e → RunsOut ts f (bare (run ts initial f).items) e
 
 -- ---- events

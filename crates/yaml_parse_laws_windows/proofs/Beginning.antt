@@ -6,7 +6,7 @@ use Rattle.yaml_parse_grammar.specs.parse_model.Tokens as token
 use Rattle.yaml_parse_grammar.specs.parse_model.Events as event
 use Rattle.yaml_parse_grammar.specs.declared.Brackets.TheVariants as brackets
 use Rattle.yaml_parse_grammar.specs.States as state
-use Rattle.yaml_parse_laws_windows.specs.Laws.{BeginsDocument, GoesOn, DirectivesAreParsed}
+use Rattle.yaml_parse_laws_windows.specs.Laws.{BeginsDocument, DocumentGoesOn, DirectivesAreParsed}
 use Rattle.yaml_parse_laws_windows.proofs.Grounding.{Stands}
 use Rattle.yaml_parse_laws_windows.proofs.Noting.{through, none_some, Fine, within_stands, stands_feed}
 use Rattle.yaml_parse_laws_windows.proofs.Parting.{end_at}
@@ -190,7 +190,7 @@ first_plain x a c rest own =
     parse_plain (first ∷ rest) own ∙ went first rest initial (state.first ∷ []) own (event_at (event.stream_start x) a c ∷ []) no_directives (start_taken x a c)
 
 -- it is the same after both
-same_rest : (rest : List Token) (own : Option Fault) → GoesOn rest own
+same_rest : (rest : List Token) (own : Option Fault) → DocumentGoesOn rest own
     → read_of (run rest (state.documents ∷ []) own) no_directives ≡ read_of (run rest (state.first ∷ []) own) no_directives
 unfolding run
 same_rest [] None h = absurd (h refl)
@@ -202,7 +202,7 @@ same_rest (t ∷ ts) own h =
 
 at_once : (front : List Token) → GoOn front → (m e n f : yaml_mark_t)
     → (parse_of (front ++ over_at m e ∷ end_at n f ∷ []) None).ending ≡ None
-    → (rest : List Token) (own : Option Fault) → GoesOn rest own
+    → (rest : List Token) (own : Option Fault) → DocumentGoesOn rest own
     → (x : yaml_encoding_t) (a c : yaml_mark_t) (before : List Event) (end : Event)
     → events_in (parse_of (front ++ over_at m e ∷ end_at n f ∷ []) None) ≡ before ++ end ∷ []
     → (start : Event) (later : List Event)

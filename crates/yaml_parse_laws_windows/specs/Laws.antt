@@ -47,9 +47,9 @@ BeginsDocument document_start = Unit {0}
 BeginsDocument _ = ⊥
 
 -- what begins a document, or a fault, stands first
-abbrev pub GoesOn : List Token → Option Fault → Type 0
-GoesOn [] own = own ≢ None
-GoesOn (mark ∷ behind) own = BeginsDocument mark.body
+abbrev pub DocumentGoesOn : List Token → Option Fault → Type 0
+DocumentGoesOn [] own = own ≢ None
+DocumentGoesOn (mark ∷ behind) own = BeginsDocument mark.body
 
 -- Where DOCUMENT-END stands before STREAM-END, a directive may stand in the latter's place too, wherever it is told, and so may
 -- a fault.
@@ -57,7 +57,7 @@ abbrev pub DirectivesAreParsed : Type 0
 DirectivesAreParsed = (front : List Token) (over last : Token) → GoOn front
     → over.body ≡ document_end → last.body ≡ stream_end
     → (parse_of (front ++ over ∷ last ∷ []) None).ending ≡ None
-    → (rest : List Token) (own : Option Fault) → GoesOn rest own
+    → (rest : List Token) (own : Option Fault) → DocumentGoesOn rest own
     → (first : Token) (encoding : yaml_encoding_t) → first.body ≡ stream_start encoding
     → (before : List Event) (end : Event)
     → events_in (parse_of (front ++ over ∷ last ∷ []) None) ≡ before ++ end ∷ []

@@ -10,8 +10,8 @@ use Rattle.yaml_round_writing.specs.emit.emit_layout.declared.RequestedSettings.
 use Rattle.yaml_round_writing.specs.round_laws_documents.round_content.parse_laws_trees.parse_document.Documents.{Document}
 use Rattle.yaml_round_writing.specs.round_laws_documents.round_content.Loads.{loads_of}
 use Rattle.yaml_round_writing.specs.round_laws_documents.round_content.Said as content
-use Rattle.yaml_round_writing.specs.round_laws_documents.round_content.Canon.{canon}
-use Rattle.yaml_round_writing.specs.round_laws_documents.round_content.Agree.{AreAgreeing}
+use Rattle.yaml_round_writing.specs.round_laws_documents.round_content.Canon.{canonical_layout}
+use Rattle.yaml_round_writing.specs.round_laws_documents.round_content.Agree.{Agrees}
 use Rattle.yaml_round_writing.specs.round_laws_documents.round_content.DumpsEvents.{trees_of_dumps}
 use Rattle.yaml_round_writing.specs.Reload.{AreLoaded, IsLoaded}
 use Rattle.yaml_round_writing.proofs.Whole.{loads_are, texts_tell}
@@ -32,9 +32,9 @@ settings = record { encoding = YAML_UTF8_ENCODING; canonical = true; indent = po
 
 tell : (a_from : yaml_encoding_t) (a : List ℕ) (b_from : yaml_encoding_t) (b : List ℕ)
     → trees_of_dumps (loads_of a_from a).documents ≡ trees_of_dumps (loads_of b_from b).documents
-    → AreAgreeing (loads_of a_from a).documents (loads_of b_from b).documents
+    → Agrees (loads_of a_from a).documents (loads_of b_from b).documents
 tell a_from a b_from b e =
-    (texts_tell settings refl (loads_of a_from a).documents (loads_of b_from b).documents (loads_are a_from a) (loads_are b_from b)).0 (ap (λ (c : List content.Document). canon settings c) e)
+    (texts_tell settings refl (loads_of a_from a).documents (loads_of b_from b).documents (loads_are a_from a) (loads_are b_from b)).0 (ap (λ (c : List content.Document). canonical_layout settings c) e)
 
 pub agree_told : (a_from : yaml_encoding_t) (a : List ℕ) (b_from : yaml_encoding_t) (b : List ℕ)
     (ds es : List Document) → AreLoaded a_from a ds → AreLoaded b_from b es

@@ -20,7 +20,7 @@ use Rattle.yaml_scan_core.specs.declared.lexeme.Lexeme.{Lexeme}
 use Rattle.yaml_scan_core.specs.declared.scanner.Scanner.{Scanner}
 use Rattle.yaml_scan_core.specs.Asked.{HasTaken, IsFront, ShowsKind, Waits, behind_first, front_lexeme, store_in}
 use Rattle.yaml_scan_core.specs.Handed.{given_in, to_come}
-use Rattle.yaml_scan_core.specs.Rows.{RowView, first_kind, lexeme_at, may_lead, no_lexeme, row_of}
+use Rattle.yaml_scan_core.specs.Rows.{RowView, first_kind, row_lexeme, may_lead, no_lexeme, row_of}
 use Rattle.yaml_scan_core.specs.Scanning.{Rests, but_last, stream_of}
 use Rattle.yaml_scan_core.specs.Shown.{Carries, ShowsRow, Store}
 use Rattle.yaml_scan_core.specs.Told.{fault_told}
@@ -105,9 +105,9 @@ lost_own x plain first no_lead = elim (cases_Bool (ltb 0 x.ends)) [
 ]
 
 shown_own : (t : SpelledText) (r : RowView) (es : List Entry) → ShowsRow t r es
-    → r.next < length r.lexemes → may_lead (lexeme_at r r.next).front ≡ false
-    → (lexeme_at r r.next).front ≡ (lexeme_at r r.next).kind
-shown_own t r es h some no_lead = leads_by (lexeme_at r r.next) (lead_kinds (ltb r.next r.settled) (lexeme_at r r.next) (h.front some).front) no_lead
+    → r.next < length r.lexemes → may_lead (row_lexeme r r.next).front ≡ false
+    → (row_lexeme r r.next).front ≡ (row_lexeme r r.next).kind
+shown_own t r es h some no_lead = leads_by (row_lexeme r r.next) (lead_kinds (ltb r.next r.settled) (row_lexeme r r.next) (h.front some).front) no_lead
 
 -- the first lexeme's own token is next, unless such a token leads
 front_own : (s : Scanner) → Rests s → s.row.next < length s.row.lexemes.items
@@ -116,14 +116,14 @@ front_own s (inl g) some no_lead = shown_own (stream_of s) (row_of s.row) _ g.sh
 front_own s (inr (inl o)) some no_lead = shown_own (stream_of s) (row_of s.row) _ o.row some no_lead
 front_own s (inr (inr (n, f))) some no_lead = elim (cases_lt (s.row.next + 1) s.row.settled) [
   | inl low ↦
-      let same : lexeme_at (but_last (row_of s.row)) s.row.next ≡ front_lexeme s = get_or-take (length s.row.lexemes.items - 1) s.row.lexemes.items s.row.next no_lexeme (omega (arith, low, f.all)) in
+      let same : row_lexeme (but_last (row_of s.row)) s.row.next ≡ front_lexeme s = get_or-take (length s.row.lexemes.items - 1) s.row.lexemes.items s.row.next no_lexeme (omega (arith, low, f.all)) in
       let inside : s.row.next < length (take (length s.row.lexemes.items - 1) s.row.lexemes.items) = omega (arith, low, f.all, length-take-le (length s.row.lexemes.items - 1) s.row.lexemes.items (omega arith)) in
       let own = shown_own (stream_of s) (but_last (row_of s.row)) _ f.row inside (ap (λ (x : Lexeme). may_lead x.front) same ∙ no_lead) in
       subst (λ (x : Lexeme). x.front ≡ x.kind) same own
   | inr last ↦
       let at : s.row.settled - 1 ≡ s.row.next = omega (arith, last, some, f.all, f.some) in
-      let plain = subst (λ i. (lexeme_at (row_of s.row) i).flags ≡ 0) at f.lost.plain in
-      let first = subst (λ i. (lexeme_at (row_of s.row) i).front ≡ first_kind (lexeme_at (row_of s.row) i)) at f.lost.front in
+      let plain = subst (λ i. (row_lexeme (row_of s.row) i).flags ≡ 0) at f.lost.plain in
+      let first = subst (λ i. (row_lexeme (row_of s.row) i).front ≡ first_kind (row_lexeme (row_of s.row) i)) at f.lost.front in
       lost_own (front_lexeme s) plain first no_lead
 ]
 

@@ -9,7 +9,7 @@ use Rattle.yaml_parse.specs.Events as event
 use Rattle.yaml_parse.specs.Documents.{Document}
 use Rattle.yaml_round_content.specs.Input.{events_of, ending_of}
 use Rattle.yaml_round_content.specs.Loads.{loads_of, with_implicit_end}
-use Rattle.yaml_round_content.specs.Agree.{AreAgreeing}
+use Rattle.yaml_round_content.specs.Agree.{Agrees}
 use Rattle.yaml_round_content.specs.Said as content
 use Rattle.yaml_round_content.specs.Said.{documents_say, stream_says}
 use Rattle.yaml_round_content.specs.DumpsEvents.{trees_of_dumps}
@@ -78,7 +78,7 @@ same_trees ds es e = says_injective (trees_of_dumps ds) (trees_of_dumps es) (ap 
 pub all_agree : (a_from : yaml_encoding_t) (a : List ℕ) (b_from : yaml_encoding_t) (b : List ℕ)
     (ds es : List Document)
     → (trees_of_dumps (loads_of a_from a).documents ≡ trees_of_dumps (loads_of b_from b).documents
-    → AreAgreeing (loads_of a_from a).documents (loads_of b_from b).documents)
+    → Agrees (loads_of a_from a).documents (loads_of b_from b).documents)
     → HasLoaded a_from a → HasLoaded b_from b
     → ds ≡ map with_implicit_end (loads_of a_from a).documents
     → es ≡ map with_implicit_end (loads_of b_from b).documents

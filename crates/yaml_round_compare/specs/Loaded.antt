@@ -11,7 +11,7 @@ use Rattle.yaml_parse.specs.Resolve.{Told}
 use Rattle.yaml_round_content.specs.Input.{events_of}
 use Rattle.yaml_round_content.specs.Said.{stream_says}
 use Rattle.yaml_round_content.specs.DumpsEvents.{trees_of_dumps}
-use Rattle.yaml_round_content.specs.Agree.{AreAgreeing}
+use Rattle.yaml_round_content.specs.Agree.{Agrees}
 use Rattle.yaml_round_content.specs.PlainLoading.{PlainLoading}
 use Rattle.yaml_round_reading.specs.declared.side.yaml_side_t.{yaml_side_t}
 use Rattle.yaml_round_reading.specs.declared.side.yaml_side_t.TheVariants.{First, Second}
@@ -46,7 +46,7 @@ pub record SameDocuments (a_from : yaml_encoding_t) (a : List ℕ) (b_from : yam
   pub second : List Document
   pub first_loads : PlainLoading a_from a (Ok first)
   pub second_loads : PlainLoading b_from b (Ok second)
-  pub agree : AreAgreeing first second
+  pub agree : Agrees first second
 
 -- Both inputs load, and their documents don't agree. What stands before a place is the same in their dumps, and what is
 -- next isn't. It tells in what that differs, of the inputs' events after as many where these begin and end and what they are,
@@ -57,7 +57,7 @@ pub record IsDocumentsParting (a_from : yaml_encoding_t) (a : List ℕ) (b_from 
   pub second : List Document
   pub first_loads : PlainLoading a_from a (Ok first)
   pub second_loads : PlainLoading b_from b (Ok second)
-  pub apart : AreAgreeing first second → ⊥
+  pub apart : Agrees first second → ⊥
   pub before : List EventBody
   pub left : List EventBody
   pub other_left : List EventBody

@@ -1,6 +1,6 @@
 -- Documents that agree with loaded ones are as loading makes them.
 use Rattle.std.proofs.Common.{◌≡◌, ℕ, zero, suc, ℤ, List, [], ◌∷◌, length, map, Some, None, refl, sym, ap, subst, ◌∙◌}
-use Rattle.yaml_round_content.proofs.Words.{false, slice_get, pos, is_bang, VisitsInPreorder, again, first, events_of, ending_of, Document, Loads, loads_of, InputsAreWritable, CoreNode, Core, core_body, core_node, core_of, LoadsOfContent, IsLoadedDocument, load_each, trees_of_dumps, loaded_again, AreLoadedDocuments, ContentIsSaid, ContentIsLoaded, ContentLoadsDocuments, DumpsAreNumberedBack, done, children, AreAgreeing, HasKind, IsLoadedNode, events_saying, DumpsLoadBack, InputsLoadDocuments}
+use Rattle.yaml_round_content.proofs.Words.{false, slice_get, pos, is_bang, VisitsInPreorder, again, first, events_of, ending_of, Document, Loads, loads_of, InputsAreWritable, CoreNode, Core, core_body, core_node, core_of, LoadsOfContent, IsLoadedDocument, load_each, trees_of_dumps, loaded_again, AreLoadedDocuments, ContentIsSaid, ContentIsLoaded, ContentLoadsDocuments, DumpsAreNumberedBack, done, children, Agrees, HasKind, IsLoadedNode, events_saying, DumpsLoadBack, InputsLoadDocuments}
 use Rattle.yaml_round_content.specs.parse_model.Nodes as model
 use Rattle.yaml_round_content.specs.parse_laws_trees.parse_document.Documents as documents
 use Rattle.yaml_emit_laws_dumps.specs.Dumps as dumps
@@ -70,7 +70,7 @@ document_loaded d e same l =
       nodes = λ k n at. let b = beside d.nodes e.nodes k n nodes at in node_loaded n b.other b.same (l.nodes k b.other b.at);
     }
 
-documents_loaded : (ds es : List documents.Document) → AreAgreeing ds es → AreLoadedDocuments es
+documents_loaded : (ds es : List documents.Document) → Agrees ds es → AreLoadedDocuments es
     → AreLoadedDocuments ds
 documents_loaded [] es h l = tt
 documents_loaded (d ∷ ds) [] h l = absurd (cc)

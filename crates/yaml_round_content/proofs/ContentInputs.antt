@@ -1,6 +1,6 @@
 -- What an input says is a stream in which nothing is wrong.
 use Rattle.std.proofs.Common.{◌≡◌, ◌||◌, ℕ, List, map, Bool, true, false, Option, None, refl, inl, inr}
-use Rattle.yaml_round_content.proofs.Words.{yaml_encoding_t, yaml_scalar_style_t, RightStream, IsNormalized, IsNormalizing, is_lone_mark, normalize_scalar, normalize_body, emitter_events, events_of, ending_of, read, InputsHaveContent, InputsSayFronts}
+use Rattle.yaml_round_content.proofs.Words.{yaml_encoding_t, yaml_scalar_style_t, IsEmittable, IsNormalized, IsNormalizing, is_lone_mark, normalize_scalar, normalize_body, emitter_events, events_of, ending_of, read, InputsHaveContent, InputsSayFronts}
 use Rattle.yaml_round_content.specs.parse_model.Events as event
 use Rattle.yaml_round_content.proofs.StreamsInputs.{inputs_are_streams, inputs_are_fronts}
 use Rattle.yaml_round_content.proofs.Trees.{core, document_trees, stream_trees, front_trees}
@@ -20,7 +20,7 @@ evenly ends _ = refl
 
 pub input_stream : (from : yaml_encoding_t) (input : List ℕ) (canonical : Bool)
     → ending_of from input ≡ None
-    → RightStream canonical (emitter_events canonical (events_of from input))
+    → IsEmittable canonical (emitter_events canonical (events_of from input))
 unfolding read
 input_stream from input canonical r = inputs_are_streams (normalize_body canonical) (evenly canonical) from input canonical r
 

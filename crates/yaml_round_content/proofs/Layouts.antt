@@ -1,6 +1,6 @@
 -- The canonical layout of a stream is that of its content.
 use Rattle.std.proofs.Common.{◌≡◌, ℕ, Bool, true, false, not, List, [], ◌∷◌, Option, Some, None, refl, sym, ap, subst, ◌∙◌}
-use Rattle.yaml_round_content.proofs.Words.{or-true, yaml_encoding_t, YAML_ANY_ENCODING, yaml_scalar_style_t, YAML_ANY_SCALAR_STYLE, EventBody, Told, Settings, Layout, ◌▹◌, node_layout, RightStream, is_lone_mark, normalize_scalar, normalize_body, emitter_events, events_of, Document, written_node, written_nodes, written_pairs, AreFlagged, LayoutIsOfContent, ContentIsLaidOut, order_mark, written, root_position, start_layout, end_layout, documents_layout, stream_layout, written_scalar, written_documents, canon_items, IsSet, IsFlaggedScalar}
+use Rattle.yaml_round_content.proofs.Words.{or-true, yaml_encoding_t, YAML_ANY_ENCODING, yaml_scalar_style_t, YAML_ANY_SCALAR_STYLE, EventBody, Told, Settings, Layout, ◌▹◌, node_layout, IsEmittable, is_lone_mark, normalize_scalar, normalize_body, emitter_events, events_of, Document, written_node, written_nodes, written_pairs, AreFlagged, LayoutIsOfContent, ContentIsLaidOut, order_mark, written, root_position, start_layout, end_layout, documents_layout, stream_layout, written_scalar, written_documents, canon_items, IsSet, IsFlaggedScalar}
 use Rattle.yaml_round_content.specs.parse_model.Events as event
 use Rattle.yaml_round_content.specs.emit_layout.declared.Encoding.{Encoding}
 use Rattle.yaml_round_content.specs.emit_layout.declared.RequestedSettings.{RequestedSettings}
@@ -235,7 +235,7 @@ layouts_of_content w right es flagged c says x whole stream =
 pub content_laid_out : ContentIsLaidOut
 content_laid_out w right from input flagged c has =
     let es = events_of from input in
-    let r = subst (λ (b : Bool). RightStream b (emitter_events true es)) (sym right.canonical) (input_stream from input true has.right) in
+    let r = subst (λ (b : Bool). IsEmittable b (emitter_events true es)) (sym right.canonical) (input_stream from input true has.right) in
     let whole = written (stream_layout (settled w r.encoding) r.documents) in
     let x = (settled w r.encoding).encoding in
     let is : IsStream w x (emitter_events true es) whole = record { encoding = r.encoding; documents = r.documents; coded = refl; same = r.same; right = r.right; is = refl } in

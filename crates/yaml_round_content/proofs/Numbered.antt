@@ -1,6 +1,6 @@
 -- What is loaded of events that are documents' is their numbering.
 use Rattle.std.proofs.Common.{◌≡◌, ℕ, List, [], ◌∷◌, Option, Some, None, Result, Ok, Err, refl, ap, sym, ◌∙◌}
-use Rattle.yaml_round_content.proofs.Words.{told_by, load_of, Token, Fault, Event, Span, Stream, Reading, Told, DocumentContent, document_of, Loading, LoadStep, goes_on, loaded, nothing_loaded, step, tokens_of, Loads, no_more, in_front, load_on, load_all, tree_documents, numbered, placed_events, tree_events, events_told, read_of, end_of, numbered_one, EventsArePlaced, LoadsAreNumbered, InputsAreNumbered, by_next, LoadsAreOneByOne}
+use Rattle.yaml_round_content.proofs.Words.{told_by, load_of, Token, Fault, Event, Span, Stream, Reading, Told, DocumentContent, document_of, Loading, LoadStep, goes_on, loaded, nothing_loaded, step, tokens_of, Loads, no_more, in_front, load_on, load_all, tree_documents, loaded_documents, placed_events, tree_events, events_told, read_of, end_of, numbered_one, EventsArePlaced, LoadsAreNumbered, InputsAreNumbered, by_next, LoadsAreOneByOne}
 use Rattle.yaml_round_content.proofs.TreesEnding.{fault_ends}
 use Rattle.yaml_round_content.specs.parse_laws_trees.parse_document.Documents as documents
 use Rattle.yaml_parse_loader.specs.Loading.{refused}
@@ -33,12 +33,12 @@ numbered_is (Ok d) more = refl
 numbered_is (Err f) more = refl
 
 each_numbered : LoadsDocuments → (ds : List DocumentContent) (s : Span)
-    → load_all (told_by (placed_events ds s)) None nothing_loaded ≡ numbered ds
+    → load_all (told_by (placed_events ds s)) None nothing_loaded ≡ loaded_documents ds
 unfolding load_all
 each_numbered loads [] s = refl
 each_numbered loads (d ∷ ds) s =
-    by_number (document_of d) (placed_events (d ∷ ds) s) (placed_events ds s) nothing_loaded (numbered ds) (loads d (placed_events ds s) nothing_loaded) (each_numbered loads ds s)
-    ∙ numbered_is (document_of d) (numbered ds)
+    by_number (document_of d) (placed_events (d ∷ ds) s) (placed_events ds s) nothing_loaded (loaded_documents ds) (loads d (placed_events ds s) nothing_loaded) (each_numbered loads ds s)
+    ∙ numbered_is (document_of d) (loaded_documents ds)
 
 -- ---- a source
 

@@ -35,7 +35,7 @@ unfoldable pub use Rattle.yaml_parse_loader.specs.Loading.{load}
 pub use Rattle.yaml_parse_loader.specs.Numbering.{Anchored, DocumentContent, Numbered, and_node, document_events, document_of, events, is_bang, item_events, loaded_tag, mapping_node, pair_events, sequence_node, spanning, ◌>>=◌}
 unfoldable pub use Rattle.yaml_parse_loader.specs.Numbering.{number, number_items, number_pairs}
 pub use Rattle.yaml_parse_loader.specs.Order.{VisitsInPreorder, again, children, done, first}
-pub use Rattle.yaml_round_content.specs.Agree.{AreAgreeing, Core, CoreNode, LoadAlike, core_body, core_node, core_of}
+pub use Rattle.yaml_round_content.specs.Agree.{Agrees, Core, CoreNode, LoadAlike, core_body, core_node, core_of}
 pub use Rattle.yaml_round_content.specs.Canon.{canon_items, written_documents, written_node, written_nodes, written_pairs, written_scalar}
 pub use Rattle.yaml_round_content.specs.Content.{content_of, counts_as_plain}
 pub use Rattle.yaml_round_content.specs.ContentLaws.{AreFlagged, ContentIsLaidOut, InputsHaveContent, InputsSayFronts, IsFlagged, IsFlaggedScalar, IsSet, LayoutIsOfContent, SaysIsInjective}
@@ -56,11 +56,11 @@ pub use Rattle.yaml_round_content.specs.Said.{Document, HasContent, Node, Nodes,
 unfoldable pub use Rattle.yaml_round_content.specs.Said.{documents_say, items_say, node_says, pairs_say}
 pub use Rattle.yaml_round_content.specs.StreamsLaws.{InputsAreFronts, InputsAreStreams, InputsLoadRight, IsRightReading, ParsedIsRight, emitter_events_by, parsed_input}
 pub use Rattle.yaml_round_content.specs.TreeContent.{anchor_of, behind_first, colon_of, documents_of, empty, entries_of, full_tag, in_full, is_plain, items_of, mark_of, maybe_of, more_items_of, more_parts_of, node_of, others_of, pairs_of, parts_of, prefix_of, tag_of, tags_in, tree_content, version_in, with_content}
-pub use Rattle.yaml_round_content.specs.TreeDocuments.{begins, ends_at, ends_before, ends_implicitly, entries_end, head, is_untagged, items_end, more_end, nothing_at, numbered, numbered_one, pairs_end, placed_colon, placed_content, placed_documents, placed_empty, placed_entries, placed_first, placed_items, placed_maybe, placed_more_items, placed_more_parts, placed_node, placed_others, placed_pairs, placed_parts, placed_scalar, tree_documents}
+pub use Rattle.yaml_round_content.specs.TreeDocuments.{begins, ends_at, ends_before, ends_implicitly, entries_end, head, is_untagged, items_end, more_end, nothing_at, loaded_documents, numbered_one, pairs_end, placed_colon, placed_content, placed_documents, placed_empty, placed_entries, placed_first, placed_items, placed_maybe, placed_more_items, placed_more_parts, placed_node, placed_others, placed_pairs, placed_parts, placed_scalar, tree_documents}
 pub use Rattle.yaml_round_content.specs.Trees.{document_tree, document_trees, pair_trees_of, tree_of, trees_of}
 pub use Rattle.yaml_round_content.specs.Writable.{AreItemsWritable, ArePairsWritable, AreWritable, HavePrefixes, IsAnchor, IsMark, IsTag, IsWritable}
 pub use Rattle.yaml_round_content.specs.WritableLaws.{HaveUtf8Texts, InputsAreFlagged, InputsAreWritable, InputsContentIsLaidOut, InputsHaveUtf8, LayoutIsOfInputsContent}
-pub use Rattle.yaml_round_content.specs.emit_laws_dumps.StreamsLaws.{AreRightTold, RightStream}
+pub use Rattle.yaml_round_content.specs.emit_laws_dumps.StreamsLaws.{AreRightTold, IsEmittable}
 unfoldable pub use Rattle.yaml_round_content.specs.emit_laws_dumps.StreamsLaws.{progress_behind}
 pub use Rattle.yaml_round_content.specs.emit_laws_dumps.emit_graph.Graph.{Met, body_at, body_of_id, graph_content, graph_root, is_met, meet, none_met, none_numbered, number_at, tag_at, tag_of_id, turns}
 unfoldable pub use Rattle.yaml_round_content.specs.emit_laws_dumps.emit_graph.Graph.{numbers}

@@ -39,10 +39,10 @@ core_of d = record {
 }
 
 -- the documents agree, one after another
-abbrev pub AreAgreeing : List Document → List Document → Type 0
-AreAgreeing ds es = map core_of ds ≡ map core_of es
+abbrev pub Agrees : List Document → List Document → Type 0
+Agrees ds es = map core_of ds ≡ map core_of es
 
 -- the documents that were loaded agree, and both loads end in a fault or neither does
 pub record LoadAlike (a b : Loads) : Type 0 where
-  pub agree : AreAgreeing a.documents b.documents
+  pub agree : Agrees a.documents b.documents
   pub both : (a.fault ≡ None) ↔ (b.fault ≡ None)

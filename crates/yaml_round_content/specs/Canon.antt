@@ -74,5 +74,5 @@ abbrev pub canon_encoding : RequestedSettings → Encoding
 canon_encoding w = settled_encoding w.encoding YAML_ANY_ENCODING
 
 -- the text
-abbrev pub canon : RequestedSettings → List Document → List ℕ
-canon w c = encode (canon_encoding w) (canon_items w c)
+abbrev pub canonical_layout : RequestedSettings → List Document → List ℕ
+canonical_layout w c = encode (canon_encoding w) (canon_items w c)

@@ -8,7 +8,7 @@ use Rattle.yaml_round_content.specs.Events.{contents}
 use Rattle.yaml_round_content.specs.Said.{Document, stream_says, HasContent}
 use Rattle.yaml_round_content.specs.Loads.{load_all, loads_of}
 use Rattle.yaml_round_content.specs.Writable.{AreWritable}
-use Rattle.yaml_round_content.specs.Agree.{AreAgreeing}
+use Rattle.yaml_round_content.specs.Agree.{Agrees}
 use Rattle.yaml_round_content.specs.DumpsEvents.{events_saying, load_each, trees_of_dumps, loaded_again, AreLoadedDocuments}
 
 -- ---- the events of a content
@@ -36,7 +36,7 @@ DumpsAreNumberedBack = (ds : List documents.Document) → AreLoadedDocuments ds
 
 -- Events that say what loaded documents do load documents that agree with them, without a fault.
 pub record LoadBack (ds : List documents.Document) (es : List Told) : Type 0 where
-  pub agree : AreAgreeing ds (load_all es None nothing_loaded).documents
+  pub agree : Agrees ds (load_all es None nothing_loaded).documents
   pub right : (load_all es None nothing_loaded).fault ≡ None
 
 abbrev pub DumpsLoadBack : Type 0

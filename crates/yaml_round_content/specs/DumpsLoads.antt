@@ -9,7 +9,7 @@ use Rattle.yaml_round_content.specs.Events.{contents}
 use Rattle.yaml_round_content.specs.Said.{Document, stream_says}
 use Rattle.yaml_round_content.specs.Trees.{document_trees}
 use Rattle.yaml_round_content.specs.Loads.{load_all}
-use Rattle.yaml_round_content.specs.Agree.{AreAgreeing, LoadAlike}
+use Rattle.yaml_round_content.specs.Agree.{Agrees, LoadAlike}
 use Rattle.yaml_round_content.specs.Renamed.{Renaming, renamed, AreOneToOne}
 
 -- Events that say the same load documents that agree, and both or neither are refused.
@@ -28,5 +28,5 @@ LoadsOfRenamed = (r : ℕ → Renaming) (c : List Document) → AreOneToOne r c
 
 -- Documents that agree say the same, as they are dumped: the trees of their nodes are equal.
 abbrev pub AgreeingSayTheSame : Type 0
-AgreeingSayTheSame = (ds es : List documents.Document) → AreAgreeing ds es
+AgreeingSayTheSame = (ds es : List documents.Document) → Agrees ds es
     → document_trees (map graph_content ds) ≡ document_trees (map graph_content es)

@@ -15,7 +15,7 @@ use Rattle.yaml_round_content.specs.parse_laws_trees.NextLoad.{NextLoad, next_do
 use Rattle.yaml_parse_loader.specs.Numbering.{DocumentContent, spanning, document_events}
 use Rattle.yaml_round_content.specs.Input.{tokens_of}
 use Rattle.yaml_round_content.specs.Loads.{Loads, no_more, in_front, load_all, loads_of}
-use Rattle.yaml_round_content.specs.TreeDocuments.{tree_documents, numbered}
+use Rattle.yaml_round_content.specs.TreeDocuments.{tree_documents, loaded_documents}
 
 -- where a tree's stream ends
 abbrev pub end_of : tree.Documents → tree.Span
@@ -48,13 +48,13 @@ EventsArePlaced = (ts : List Token) (own : Option Fault) → (b : BeginsWithSent
 abbrev pub LoadsAreNumbered : Type 0
 LoadsAreNumbered = (ts : List Token) (own : Option Fault) → (b : BeginsWithSentence ts)
     → load_all (read_of ts own).events (read_of ts own).ending nothing_loaded
-    ≡ numbered (tree_documents b.tree b.rest)
+    ≡ loaded_documents (tree_documents b.tree b.rest)
 
 -- So is what an input loads that is accepted by the parser.
 abbrev pub InputsAreNumbered : Type 0
 InputsAreNumbered = (from : yaml_encoding_t) (input : List ℕ)
     → (b : BeginsWithSentence (tokens_of from input).tokens)
-    → loads_of from input ≡ numbered (tree_documents b.tree b.rest)
+    → loads_of from input ≡ loaded_documents (tree_documents b.tree b.rest)
 
 -- ---- one load after another
 

@@ -12,14 +12,14 @@ use Rattle.yaml_round_content.specs.Input.{tokens_of}
 use Rattle.yaml_round_content.specs.Reading.{spelled_in, text_tokens, IsOffence}
 use Rattle.yaml_parse_loader.specs.Loading.{nothing_loaded}
 use Rattle.yaml_round_content.specs.Loads.{Loads, load_all, loads_of}
-use Rattle.yaml_round_content.specs.TreeDocuments.{tree_documents, numbered}
+use Rattle.yaml_round_content.specs.TreeDocuments.{tree_documents, loaded_documents}
 use Rattle.yaml_round_content.specs.Loading.{read_of}
 
 -- The tokens are a sentence in which each alias has its anchor, and the documents are those of its tree, numbered.
 pub record HaveDocuments (ts : List Token) (ds : List Document) : Type 0 where
   pub sentence : BeginsWithSentence ts
   pub loadable : IsLoadable (spell sentence.tree [])
-  pub documents : ds ≡ (numbered (tree_documents sentence.tree sentence.rest)).documents
+  pub documents : ds ≡ (loaded_documents (tree_documents sentence.tree sentence.rest)).documents
 
 -- The loading of tokens that end in a fault of their own, or in none: documents, or a fault.
 abbrev pub TokensLoad : List Token → Option Fault → Result (List Document) Fault → Type 0

@@ -12,7 +12,7 @@ use Rattle.yaml_emit_laws_dumps.specs.parse_grammar.Remaining.{reading_of}
 use Rattle.yaml_emit_laws_dumps.specs.emit_layout.declared.Expected.TheVariants as at
 use Rattle.yaml_emit_laws_dumps.specs.emit_layout.Content.{Event, emitter_event}
 use Rattle.yaml_emit_laws_dumps.specs.emit_layout.Progress.{first_progress, first_refusal}
-use Rattle.yaml_emit_laws_dumps.specs.StreamsLaws.{progress_behind, RightStream, RightFront, AreRightTold}
+use Rattle.yaml_emit_laws_dumps.specs.StreamsLaws.{progress_behind, IsEmittable, RightFront, AreRightTold}
 use Rattle.yaml_round_laws_adapted.specs.Adapted.{adapted}
 use Rattle.yaml_round_content.specs.Normalized.{IsNormalizing}
 
@@ -51,7 +51,7 @@ abbrev pub InputsAreStreams : Type 0
 InputsAreStreams = (normalize : EventBody → EventBody) → IsNormalizing normalize
     → (from : yaml_encoding_t) (input : List ℕ) (canonical : Bool)
     → (parsed_input from input).ending ≡ None
-    → RightStream canonical (emitter_events_by normalize (parsed_input from input).events)
+    → IsEmittable canonical (emitter_events_by normalize (parsed_input from input).events)
 
 -- Those of any input are a front of such a stream's.
 abbrev pub InputsAreFronts : Type 0

@@ -237,6 +237,6 @@ numbered_one (Ok d) rest = in_front d.nodes d rest
 numbered_one (Err f) rest = no_more (Some f)
 
 -- Each document, its nodes numbered in preorder, up to the first alias that no node before it anchors.
-abbrev pub numbered : List DocumentContent → Loads
-numbered [] = no_more None
-numbered (d ∷ ds) = numbered_one (document_of d) (numbered ds)
+abbrev pub loaded_documents : List DocumentContent → Loads
+loaded_documents [] = no_more None
+loaded_documents (d ∷ ds) = numbered_one (document_of d) (loaded_documents ds)

@@ -1,6 +1,6 @@
 -- Handles, tags, directives and quoted scalars.
 use Rattle.std.proofs.Common.{◌≡◌, ℕ, ◌-◌, ◌<◌, Bool, true, false, not, ◌&&◌, ◌==◌, List, [], ◌∷◌, ◌++◌, length, take, drop, get_or, Option, Some, None, refl, sym, ap, subst, ◌∙◌, arith, if◌then◌else◌, IsUtf8, codes, chars}
-use Rattle.yaml_round_laws_documents.proofs.Words.{list_all, scalars-chars, and_parts, eqb-true, not-false, is_alpha_byte, yaml_version_directive_t, TagDirective, Settings, Layout, ◌▹◌, choose, when, char, letters, blanks, new_line, gap, word, is_past, needs_escape, escape_text, first, is_empty, may_fold, fold, escaped, quoted_char, quoted_body, double_quoted, has_shorter_prefix, defines, primary, secondary, unless_defined, defaults, in_force, split_by, spelled, tag_spelling, uri_text, or_else, between, inner_problem, ends_problem, handle_problem, prefix_problem, twice_problem, directive_problem, directives_problem, Context, anchor_text, tag_text, version_word, version_text, directive_text, directives_text, line_at, IsNameOption, IsTextOption, or_first, or_second, none_all, if_none, last_rest, long_rest}
+use Rattle.yaml_round_laws_documents.proofs.Words.{list_all, scalars-chars, and_parts, eqb-true, not-false, is_alpha_byte, yaml_version_directive_t, TagDirective, Settings, Layout, ◌▹◌, choose, when, char, letters, blanks, new_line, gap, word, is_past, needs_escape, escape_text, first, is_empty, may_fold, fold, escaped, quoted_char, quoted_body, quoted_text, has_shorter_prefix, defines, primary, secondary, unless_defined, defaults, in_force, split_by, spelled, tag_spelling, uri_text, or_else, between, inner_problem, ends_problem, handle_problem, prefix_problem, twice_problem, directive_problem, directives_problem, Context, anchor_text, tag_text, version_word, version_text, directive_text, directives_text, line_at, IsNameOption, IsTextOption, or_first, or_second, none_all, if_none, last_rest, long_rest}
 use Rattle.yaml_emit_laws_text.specs.emit_layout.declared.page.Page.{Page}
 use Rattle.yaml_emit_laws_text.specs.emit_layout.Tags.{directive_for}
 use Rattle.yaml_round_laws_documents.specs.BytesLaws.{HavePrefixes}
@@ -148,7 +148,7 @@ body_tame page before (x ∷ xs) (h, hs) = both (quoted_char page before x xs) (
 
 -- A double quoted value is tame.
 pub quoted_tame : (page : Page) (value : List ℕ) → IsUtf8 value
-    → Tame (double_quoted page (chars value))
+    → Tame (quoted_text page (chars value))
 quoted_tame page value u =
     let quote : Fits 34 = graphic 34 (omega arith) (omega arith) in
     let body = body_tame page 32 (chars value) (scalars_below (chars value) (scalars-chars value u)) in

@@ -1,5 +1,5 @@
 -- The laws of canonical text, joined from the laws beneath.
-use Rattle.yaml_round_laws_documents.proofs.Words.{YAML_ANY_ENCODING, canon, LayoutIsOfInputsContent, InputsContentIsLaidOut, layouts_of_content, content_laid_out, written_readable, CanonIsScanned, CanonReadsBack, CanonTellsContents, CanonicalReadsBack, CanonTellsInputs, CanonIsLaidOutAgain}
+use Rattle.yaml_round_laws_documents.proofs.Words.{YAML_ANY_ENCODING, canonical_layout, LayoutIsOfInputsContent, InputsContentIsLaidOut, layouts_of_content, content_laid_out, written_readable, CanonIsScanned, CanonReadsBack, CanonTellsContents, CanonicalReadsBack, CanonTellsInputs, CanonIsLaidOutAgain}
 use Rattle.yaml_round_content.proofs.Injective.{says_injective}
 use Rattle.yaml_round_content.proofs.Flags.{layout_of_input, input_laid_out}
 use Rattle.yaml_round_content.proofs.WritableContents.{are_writable}
@@ -35,4 +35,4 @@ input_is_laid_out : InputsContentIsLaidOut
 input_is_laid_out = input_laid_out content_laid_out
 
 pub is_laid_out_again : CanonIsLaidOutAgain
-is_laid_out_again from input c h w k = input_is_laid_out w k YAML_ANY_ENCODING (canon w c) c (inputs_read_back from input c h w k.canonical)
+is_laid_out_again from input c h w k = input_is_laid_out w k YAML_ANY_ENCODING (canonical_layout w c) c (inputs_read_back from input c h w k.canonical)

@@ -1,6 +1,6 @@
 -- The laws of loaded documents and of their texts, joined from the laws beneath.
 use Rattle.std.proofs.Common.{◌≡◌, ℕ, List, map, Option, Some, None, Ok, sym, ap, subst, ◌∙◌}
-use Rattle.yaml_round_laws_documents.proofs.Words.{YAML_ANY_ENCODING, Fault, nothing_loaded, HasContent, events_of, ending_of, Loads, load_all, loads_of, canon, core_of, AreAgreeing, loads_of_contents, trees_of_dumps, ContentIsLoaded, DumpsLoadBack, dumps_loaded, AllLoadDocuments, LoadedAreSound, LoadedAreWritable}
+use Rattle.yaml_round_laws_documents.proofs.Words.{YAML_ANY_ENCODING, Fault, nothing_loaded, HasContent, events_of, ending_of, Loads, load_all, loads_of, canonical_layout, core_of, Agrees, loads_of_contents, trees_of_dumps, ContentIsLoaded, DumpsLoadBack, dumps_loaded, AllLoadDocuments, LoadedAreSound, LoadedAreWritable}
 use Rattle.yaml_round_content.specs.parse_laws_trees.parse_document.Documents.{Document}
 use Rattle.yaml_round_content.proofs.Loads.{loads_document}
 use Rattle.yaml_round_content.proofs.Visited.{numbered_in_order}
@@ -59,17 +59,17 @@ dumps_load = dumps_loaded content_said content_is_loaded (trees.numbered_back (n
 pub texts_load_again : DocumentTextsLoadAgain
 texts_load_again w k ds d =
     let c : List content.Document = trees_of_dumps ds in
-    let h : HasContent YAML_ANY_ENCODING (canon w c) c = reads_back w k c d.writable in
-    let es = events_of YAML_ANY_ENCODING (canon w c) in
+    let h : HasContent YAML_ANY_ENCODING (canonical_layout w c) c = reads_back w k c d.writable in
+    let es = events_of YAML_ANY_ENCODING (canonical_layout w c) in
     let b = dumps_load ds d.loaded d.writable es h.says in
     let same = ap (λ (f : Option Fault). load_all es f nothing_loaded) (sym h.right) in
-    let agree : AreAgreeing ds (loads_of YAML_ANY_ENCODING (canon w c)).documents = b.agree ∙ ap (λ (l : Loads). map core_of l.documents) same in
-    let says = agreeing_said ds (loads_of YAML_ANY_ENCODING (canon w c)).documents agree in
+    let agree : Agrees ds (loads_of YAML_ANY_ENCODING (canonical_layout w c)).documents = b.agree ∙ ap (λ (l : Loads). map core_of l.documents) same in
+    let says = agreeing_said ds (loads_of YAML_ANY_ENCODING (canonical_layout w c)).documents agree in
     record {
       right = ap (λ (l : Loads). l.fault) (sym same) ∙ b.right;
       agree = agree;
       says = says;
-      again = ap (λ (t : List content.Document). canon w t) says;
+      again = ap (λ (t : List content.Document). canonical_layout w t) says;
     }
 
 pub texts_tell : DocumentTextsTell
@@ -77,7 +77,7 @@ texts_tell w k ds es d e =
     let x = texts_load_again w k ds d in
     let y = texts_load_again w k es e in (
       λ q. x.agree ∙ ap (λ (t : List ℕ). map core_of (loads_of YAML_ANY_ENCODING t).documents) q ∙ sym y.agree,
-      λ q. ap (λ (t : List content.Document). canon w t) (agreeing_said ds es q),
+      λ q. ap (λ (t : List content.Document). canonical_layout w t) (agreeing_said ds es q),
     )
 
 -- ---- of inputs
@@ -110,4 +110,4 @@ inputs_load_alike c a_from a h b_from b g =
 pub names_do_not_matter : NamesDoNotMatter
 names_do_not_matter w r c one a_from a h b_from b g =
     let l = loads_of_renamings r c one (events_of a_from a) (events_of b_from b) (ending_of a_from a) (ending_of b_from b) ((λ x. g.right), (λ x. h.right)) h.says g.says in
-    ap (λ (t : List content.Document). canon w t) (agreeing_said (loads_of a_from a).documents (loads_of b_from b).documents l.agree)
+    ap (λ (t : List content.Document). canonical_layout w t) (agreeing_said (loads_of a_from a).documents (loads_of b_from b).documents l.agree)

@@ -19,7 +19,7 @@ pub use Rattle.yaml_emit_laws_text.specs.emit_layout.Tags.{Split, defaults, defi
 unfoldable pub use Rattle.yaml_emit_laws_text.specs.emit_layout.Tags.{spelled, suffix_keeps, uri_text}
 pub use Rattle.yaml_emit_laws_text.specs.emit_layout.Layout.{Layout, Rest, blank, break, char, choose, gap, indent_to, is_past, is_white, keep, must_break, new_line, nothing_more, opener, order_mark, start, stay, when, word, written, ◌▹◌}
 unfoldable pub use Rattle.yaml_emit_laws_text.specs.emit_layout.Layout.{blanks, letters, line}
-pub use Rattle.yaml_emit_laws_text.specs.emit_layout.Quoted.{double_quoted, escaped, first, fold, hex_4, hex_8, is_empty, is_printable, may_fold}
+pub use Rattle.yaml_emit_laws_text.specs.emit_layout.Quoted.{quoted_text, escaped, first, fold, hex_4, hex_8, is_empty, is_printable, may_fold}
 unfoldable pub use Rattle.yaml_emit_laws_text.specs.emit_layout.Quoted.{escape_letter, escape_text, needs_escape, quoted_body, quoted_char}
 pub use Rattle.yaml_emit_laws_text.specs.emit_layout.Text.{Item, deep, is_break, letter, unit_bytes}
 unfoldable pub use Rattle.yaml_emit_laws_text.specs.emit_layout.Text.{char_bytes, encode, shown}
@@ -35,8 +35,8 @@ pub use Rattle.yaml_round_content.proofs.Agreeing.{document_loaded, dumps_loaded
 pub use Rattle.yaml_round_content.proofs.Contents.{dumped_streams, root_holds}
 pub use Rattle.yaml_round_content.proofs.DumpsContents.{loads_of_contents, loads_said, on_same}
 pub use Rattle.yaml_round_content.proofs.Layouts.{NodeFlagged, NodesFlagged, Normalize, PairsFlagged, content_laid_out, layouts_of_content, normal_layout}
-pub use Rattle.yaml_round_content.specs.Agree.{AreAgreeing, Core, CoreNode, core_of}
-pub use Rattle.yaml_round_content.specs.Canon.{canon, canon_encoding, canon_items, written_document, written_documents, written_node, written_nodes, written_pairs, written_scalar}
+pub use Rattle.yaml_round_content.specs.Agree.{Agrees, Core, CoreNode, core_of}
+pub use Rattle.yaml_round_content.specs.Canon.{canonical_layout, canon_encoding, canon_items, written_document, written_documents, written_node, written_nodes, written_pairs, written_scalar}
 pub use Rattle.yaml_round_content.specs.ContentLaws.{InputsSayFronts, SaysIsInjective}
 pub use Rattle.yaml_round_content.specs.DumpsEvents.{AreLoadedDocuments, content_events, events_saying, load_each, told_by, trees_of_dumps, unplaced}
 pub use Rattle.yaml_round_content.specs.DumpsLaws.{ContentIsLoaded, ContentLoadsDocuments, DumpsLoadBack}

@@ -10,9 +10,9 @@ use Rattle.yaml_round_laws_documents.specs.emit_laws_text.emit_layout.Streams.{I
 use Rattle.yaml_round_content.specs.Said as content
 use Rattle.yaml_round_content.specs.Said.{HasContent}
 use Rattle.yaml_round_content.specs.Loads.{with_implicit_end, loads_of}
-use Rattle.yaml_round_content.specs.Canon.{canon, canon_encoding, canon_items}
+use Rattle.yaml_round_content.specs.Canon.{canonical_layout, canon_encoding, canon_items}
 use Rattle.yaml_round_content.specs.ContentLaws.{AreCanonical}
-use Rattle.yaml_round_content.specs.Agree.{AreAgreeing, LoadAlike}
+use Rattle.yaml_round_content.specs.Agree.{Agrees, LoadAlike}
 use Rattle.yaml_round_content.specs.Renamed.{Renaming, renamed, AreOneToOne}
 use Rattle.yaml_round_content.specs.Writable.{AreWritable}
 use Rattle.yaml_round_content.specs.PlainLoading.{PlainLoading}
@@ -28,7 +28,7 @@ dump_events ds = stream_events YAML_ANY_ENCODING (map graph_content (ended ds))
 
 -- the canonical text of what the documents say
 abbrev pub dump_text : RequestedSettings → List Document → List ℕ
-dump_text w ds = canon w (trees_of_dumps ds)
+dump_text w ds = canonical_layout w (trees_of_dumps ds)
 
 -- Documents as loading makes them, and what they say may be written.
 pub record AreWritableDocuments (ds : List Document) : Type 0 where
@@ -46,7 +46,7 @@ DumpsAreLaidOut = (w : RequestedSettings) → AreCanonical w
 -- it is their text.
 pub record LoadsAgain (w : RequestedSettings) (ds : List Document) (text : List ℕ) : Type 0 where
   pub right : (loads_of YAML_ANY_ENCODING text).fault ≡ None
-  pub agree : AreAgreeing ds (loads_of YAML_ANY_ENCODING text).documents
+  pub agree : Agrees ds (loads_of YAML_ANY_ENCODING text).documents
   pub says : trees_of_dumps ds ≡ trees_of_dumps (loads_of YAML_ANY_ENCODING text).documents
   pub again : text ≡ dump_text w (loads_of YAML_ANY_ENCODING text).documents
 
@@ -59,7 +59,7 @@ DocumentTextsLoadAgain = (w : RequestedSettings) → w.canonical ≡ true
 abbrev pub DocumentTextsTell : Type 0
 DocumentTextsTell = (w : RequestedSettings) → w.canonical ≡ true
     → (ds es : List Document) → AreWritableDocuments ds → AreWritableDocuments es
-    → (dump_text w ds ≡ dump_text w es) ↔ AreAgreeing ds es
+    → (dump_text w ds ≡ dump_text w es) ↔ Agrees ds es
 
 -- Such are the documents of each input, also those before a fault.
 abbrev pub LoadsAreDocuments : Type 0
@@ -82,7 +82,7 @@ abbrev pub DumpTextsTellDocuments : Type 0
 DumpTextsTellDocuments = (w : RequestedSettings) → w.canonical ≡ true
     → (a_from : yaml_encoding_t) (a : List ℕ) (b_from : yaml_encoding_t) (b : List ℕ)
     → (dump_text w (loads_of a_from a).documents ≡ dump_text w (loads_of b_from b).documents)
-    ↔ AreAgreeing (loads_of a_from a).documents (loads_of b_from b).documents
+    ↔ Agrees (loads_of a_from a).documents (loads_of b_from b).documents
 
 -- Inputs with one content load documents that agree, and both or neither are refused.
 abbrev pub InputsLoadAlike : Type 0

@@ -1,6 +1,6 @@
 -- A text's tokens leave as many brackets open as its lexemes do.
 use Rattle.std.proofs.Common.{◌≡◌, ℕ, zero, suc, nat_lt, List, [], ◌∷◌, ◌++◌, replicate, Option, Some, None, Result, Ok, Err, refl, sym, ap, ◌∙◌, inl, inr}
-use Rattle.yaml_round_laws_inputs.proofs.WindowsWords.{cases_Bool, yaml_encoding_t, Token, TokenBody, block_end, depth, Candidate, found_by, inside, entry_of, mark_key, marked, keyed, entries, SpelledText, body_of_word, body_by, before, start_tokens, end_tokens, own_tokens, spell, all, scan_of, ended_told, depth_after, depth_behind}
+use Rattle.yaml_round_laws_inputs.proofs.WindowsWords.{cases_Bool, yaml_encoding_t, Token, TokenBody, block_end, flow_depth, Candidate, found_by, inside, entry_of, mark_key, marked, keyed, finished_tokens, SpelledText, body_of_word, body_by, before, start_tokens, end_tokens, own_tokens, spell, all, scan_of, ended_told, depth_after, depth_behind}
 use Rattle.std.specs.List.{flat_map}
 use Rattle.yaml_round_content.specs.scan_model.declared.yaml_scalar_style_t.{yaml_scalar_style_t}
 use Rattle.yaml_round_content.specs.scan_model.declared.yaml_scalar_style_t.TheVariants as styles
@@ -22,7 +22,7 @@ use Rattle.yaml_round_content.specs.scan_history.declared.Opens.{Opens}
 use Rattle.yaml_round_content.specs.scan_history.declared.Opens.TheVariants as opening
 use Rattle.yaml_round_content.specs.scan_history.Kinds.{is_value}
 use Rattle.yaml_round_content.specs.scan_history.Kinds as by_kind
-use Rattle.yaml_round_content.specs.scan_history.Words.{word_at, valued, tagged, body_said, directed, blocked, plainly}
+use Rattle.yaml_round_content.specs.scan_history.Words.{lexeme_at, valued, tagged, body_said, directed, blocked, plainly}
 use Rattle.yaml_scan_laws_texts.proofs.Depths.{AllDeep, all_deep}
 
 -- Tokens after others go on from their depth.
@@ -66,7 +66,7 @@ plainly_flat (Err w) n = refl
 -- what a lexeme carries opens and closes what its kind does
 body_deep : (k : Kind) (s : SpelledText) (l : Lexeme) (n : ℕ)
     → depth_after (body_by k s l) n ≡ by_kind.depth_after k n
-unfolding word_at
+unfolding lexeme_at
 body_deep kinds.Directive s l n = directed_flat (directive_at s.text l.start.index) n
 body_deep kinds.Alias s l n = valued_flat tokens.alias (anchor_at contexts.Alias s.text l.start.index) (λ v m. refl) n
 body_deep kinds.Anchor s l n = valued_flat tokens.anchor (anchor_at contexts.Anchor s.text l.start.index) (λ v m. refl) n
@@ -143,16 +143,16 @@ push_deep : (es : List Entry) (e : Entry) (n : ℕ)
 push_deep [] e n = refl
 push_deep (x ∷ es) e n = push_deep es e (by_kind.depth_after x.lexeme.kind n)
 
-entries_deep : (h : List Lexeme) → AllDeep h → entries_behind (entries h) 0 ≡ depth h
-unfolding entries
+entries_deep : (h : List Lexeme) → AllDeep h → entries_behind (finished_tokens h) 0 ≡ flow_depth h
+unfolding finished_tokens
 entries_deep [] a = refl
 entries_deep (l ∷ h) a =
-    push_deep (keyed l h (entries h)) (entry_of l h) 0
-    ∙ ap (by_kind.depth_after l.kind) (keyed_deep l h (entries h) 0 ∙ entries_deep h a.1 ∙ sym a.0)
+    push_deep (keyed l h (finished_tokens h)) (entry_of l h) 0
+    ∙ ap (by_kind.depth_after l.kind) (keyed_deep l h (finished_tokens h) 0 ∙ entries_deep h a.1 ∙ sym a.0)
 
 -- A text without fault.
 pub told_deep : (x : yaml_encoding_t) (text : List ℕ) → (scan_of x text).fault ≡ None
-    → depth_behind (scan_of x text).tokens 0 ≡ depth (all text)
+    → depth_behind (scan_of x text).tokens 0 ≡ flow_depth (all text)
 told_deep x text none =
     let s : SpelledText = record { encoding = x; text = text } in
-    ap (λ ts. depth_behind ts 0) (ended_told s none) ∙ spells_deep s (entries (all text)) 0 ∙ entries_deep (all text) (all_deep text)
+    ap (λ ts. depth_behind ts 0) (ended_told s none) ∙ spells_deep s (finished_tokens (all text)) 0 ∙ entries_deep (all text) (all_deep text)

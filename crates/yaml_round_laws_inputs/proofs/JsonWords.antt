@@ -33,10 +33,10 @@ pub use Rattle.yaml_round_laws_inputs.specs.JsonLaws.{IsReadAsValue, JsonIsRead,
 pub use Rattle.yaml_round_laws_inputs.specs.Values.{Json, JsonPairs, Jsons, bare, content, contents, flow_start, json_content, json_document, json_elements, json_members, json_node, json_nodes, json_value, letter_means, letters_mean, list, no_pairs, nothing, one, pair, pair_contents, pairs, quoted_scalar, text}
 pub use Rattle.yaml_scan_history.proofs.GapsRead.{break_parts, cr_width, lexeme_parts, no_bom, no_skip, some_width}
 pub use Rattle.yaml_scan_history.proofs.HasLemmas.{Has, has, has_front}
-pub use Rattle.yaml_scan_history.specs.History.{depth, in_flow, is_fresh, key_allowed, margin_at}
+pub use Rattle.yaml_scan_history.specs.History.{flow_depth, in_flow, is_fresh, key_allowed, margin_at}
 unfoldable pub use Rattle.yaml_scan_history.specs.History.{indent}
 pub use Rattle.yaml_scan_history.specs.Words.{WordText, plainly, valued}
-unfoldable pub use Rattle.yaml_scan_history.specs.Words.{indicator_of, kind_at, word_at}
+unfoldable pub use Rattle.yaml_scan_history.specs.Words.{indicator_of, kind_at, lexeme_at}
 pub use Rattle.yaml_scan_history.specs.scan_model.Marks.{break_width, byte, column_at, ends_break, is_blank, is_blank_or_end, mark_at, starts}
 unfoldable pub use Rattle.yaml_scan_history.specs.scan_model.Marks.{break_of, ends_of}
 pub use Rattle.yaml_scan_history.specs.scan_model.Wrong.{Wrong}

@@ -1,6 +1,6 @@
 -- The lexemes of a text are worth no more than the characters that begin in it, and one.
 use Rattle.std.proofs.Common.{◌≡◌, ℕ, zero, suc, ◌+◌, ◌<◌, ◌≤◌, Bool, true, false, not, List, [], ◌∷◌, length, Option, Some, None, Result, Ok, Err, refl, ap, subst, ◌∙◌, arith, inl, inr}
-use Rattle.yaml_round_laws_inputs.proofs.SizesWords.{cases_Bool, cond_both, ScanFault, Wrong, byte, starts, is_blank_or_end, Kind, Lexeme, is_end, depth, in_flow, Next, Read, Fails, Ends, first_lexeme, begun_behind, with_end, gap_behind, place_behind, kind_behind, word_behind, lexeme_behind, first_fault_or, stale_before, no_start, faults, coming, next, extended, history, WordText, word_at, all, Stands, history_stands, stand_in, not_ended, first_is, takes_bytes, placed_index}
+use Rattle.yaml_round_laws_inputs.proofs.SizesWords.{cases_Bool, cond_both, ScanFault, Wrong, byte, starts, is_blank_or_end, Kind, Lexeme, is_end, flow_depth, in_flow, Next, Read, Fails, Ends, first_lexeme, begun_behind, with_end, gap_behind, place_behind, kind_behind, word_behind, lexeme_behind, first_fault_or, stale_before, no_start, faults, coming, next, extended, history, WordText, lexeme_at, all, Stands, history_stands, stand_in, not_ended, first_is, takes_bytes, placed_index}
 use Rattle.yaml_scan_history.specs.scan_model.declared.record.yaml_mark_t.{yaml_mark_t}
 use Rattle.yaml_scan_history.specs.declared.kind.Kind.TheVariants as kinds
 use Rattle.yaml_round_laws_inputs.proofs.Leads.{one_if, leads, leads_grow}
@@ -38,9 +38,9 @@ ended_keeps text l (Err w) = record { kind = refl; depth = refl; start = refl }
 
 -- the place after an indicator of blocks is the next one
 behind_of : (k : Kind) (text : List ℕ) (h : List Lexeme)
-    → apart k (depth h) ≤ one_if (is_blank_or_end text ((gap_behind text h).place + 1))
-    → apart k (depth h) ≤ one_if (is_blank_or_end text (lexeme_behind k text h).reached.index)
-unfolding word_at
+    → apart k (flow_depth h) ≤ one_if (is_blank_or_end text ((gap_behind text h).place + 1))
+    → apart k (flow_depth h) ≤ one_if (is_blank_or_end text (lexeme_behind k text h).reached.index)
+unfolding lexeme_at
 behind_of kinds.BlockEntry text h w = w
 behind_of kinds.KeyMark text h w = w
 behind_of kinds.ValueMark text h w = w
@@ -56,7 +56,7 @@ coming_tells (Some k) text h e =
     let at : l.start.index ≡ q = ap (λ (m : yaml_mark_t). m.index) same.start ∙ placed_index k (place_behind text h) in
     let a : own k ≤ one_if (starts (byte text q)) = begins (in_flow h) text q k e in
     let b : one_if (not (is_end k)) + one_if (is_blank_or_end text q) ≤ 1 = not_blank (in_flow h) text q k e in
-    let c : apart k (depth h) ≤ one_if (is_blank_or_end text l.reached.index) = behind_of k text h (followed (depth h) text q k e) in
+    let c : apart k (flow_depth h) ≤ one_if (is_blank_or_end text l.reached.index) = behind_of k text h (followed (flow_depth h) text q k e) in
     first_tells text (faults k text h) (Read l) (record {
       begins = rw same.kind (rw at a);
       bare = rw same.kind (rw at b);

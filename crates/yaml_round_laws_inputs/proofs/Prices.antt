@@ -1,6 +1,6 @@
 -- What the tokens of a text cost, by the lengths of what they carry: so much for each byte of the text, and once more.
 use Rattle.std.proofs.Common.{◌≡◌, ℕ, zero, suc, ◌+◌, ◌-◌, ◌*◌, ◌<◌, ◌≤◌, Bool, true, false, true≢false, not, ◌&&◌, nat_lt, List, [], ◌∷◌, length, Option, Some, None, Result, Ok, Err, refl, sym, ap, subst, ◌∙◌, arith, inl, inr, le_refl, mul-le-mul_left, mul-le-mul_right, mul-add}
-use Rattle.yaml_round_laws_inputs.proofs.SizesWords.{cases_Bool, ScanFault, TokenBody, Wrong, is_blank_or_end, Kind, Lexeme, Opens, is_end, is_value, depth, indent, start_of, Next, Read, Fails, Ends, first_lexeme, begun_behind, with_end, place_behind, kind_behind, word_behind, lexeme_behind, first_fault_or, stale_before, no_start, faults, coming, next, extended, history, WordText, word_at, SpelledText, body_of_word, body_by, body_in, all, offline, Stands, history_stands, stand_in, not_ended, first_is, takes_bytes, placed_index}
+use Rattle.yaml_round_laws_inputs.proofs.SizesWords.{cases_Bool, ScanFault, TokenBody, Wrong, is_blank_or_end, Kind, Lexeme, Opens, is_end, is_value, flow_depth, indent, start_of, Next, Read, Fails, Ends, first_lexeme, begun_behind, with_end, place_behind, kind_behind, word_behind, lexeme_behind, first_fault_or, stale_before, no_start, faults, coming, next, extended, history, WordText, lexeme_at, SpelledText, body_of_word, body_by, body_in, all, offline, Stands, history_stands, stand_in, not_ended, first_is, takes_bytes, placed_index}
 use Rattle.yaml_scan_history.specs.scan_model.Tokens as token
 use Rattle.yaml_scan_history.specs.declared.kind.Kind.TheVariants as kinds
 use Rattle.yaml_scan_history.specs.declared.lexeme.Opens.TheVariants as opening
@@ -35,7 +35,7 @@ reached_or (Ok w) p = w.reached
 reached_or (Err e) p = p
 
 abbrev word_of : List ℕ → Lexeme → Result WordText Wrong
-word_of text l = word_at l.kind (nat_lt 0 l.depth) l.level text l.start.index
+word_of text l = lexeme_at l.kind (nat_lt 0 l.depth) l.level text l.start.index
 
 carried : (p q : ℕ) (r : Result WordText Wrong) → WordSpans p r → q ≡ reached_or r p
     → Spans p q (body_of_word r)
@@ -44,11 +44,12 @@ carried p q (Err x) f e = tt
 
 end_spans : (s : SpelledText) (l : Lexeme) (q : ℕ)
     → Spans l.start.index q (body_by kinds.StreamEnd s l)
-unfolding word_at
+unfolding lexeme_at
 end_spans s l q = tt
 
 body_spans : (k : Kind) (s : SpelledText) (l : Lexeme) (q : ℕ)
-    → (is_end k ≡ false → q ≡ reached_or (word_at k (nat_lt 0 l.depth) l.level s.text l.start.index)
+    → (is_end k ≡ false → q ≡ reached_or
+        (lexeme_at k (nat_lt 0 l.depth) l.level s.text l.start.index)
     l.start.index)
     → Spans l.start.index q (body_by k s l)
 body_spans kinds.StreamStart s l q f = tt
@@ -73,7 +74,7 @@ reach_is : (k : Kind) (text : List ℕ) (h : List Lexeme) → is_end k ≡ false
 reach_is k text h e =
     let b = begun_behind k text h in
     let r = word_behind k text h in
-    let word : word_of text (lexeme_behind k text h) ≡ r = ended_word text b r ∙ (ap (λ p. word_at k (nat_lt 0 (depth h)) (begun_behind k text h).level text p) (placed_index k (place_behind text h))) in
+    let word : word_of text (lexeme_behind k text h) ≡ r = ended_word text b r ∙ (ap (λ p. lexeme_at k (nat_lt 0 (flow_depth h)) (begun_behind k text h).level text p) (placed_index k (place_behind text h))) in
     let start : (lexeme_behind k text h).start.index ≡ b.start.index = ap (λ (m : yaml_mark_t). m.index) (ended_keeps text b r).start in
     let end : (lexeme_behind k text h).reached.index ≡ reached_or r b.start.index = ended_reach text b r e in
     rw word (rw start end)
@@ -308,12 +309,12 @@ first_body u b s l = refl
 
 end_body : (u b : ℕ) (s : SpelledText) (l : Lexeme)
     → by_length u b (body_by kinds.StreamEnd s l) ≡ 0
-unfolding word_at
+unfolding lexeme_at
 end_body u b s l = refl
 
 value_body : (u b : ℕ) (s : SpelledText) (l : Lexeme)
     → by_length u b (body_by kinds.ValueMark s l) ≡ 0
-unfolding word_at
+unfolding lexeme_at
 value_body u b s l = refl
 
 lexeme_pays : (u b : ℕ) → 10 * u ≤ b
@@ -386,7 +387,7 @@ no_key_marks k found (suc d) =
     elim (cases_Bool (is_value k && found)) [ inl e ↦ rw e refl | inr e ↦ rw e refl ]
 
 end_marks : (s : SpelledText) (l : Lexeme) → marks (body_by kinds.StreamEnd s l) ≡ 0
-unfolding word_at
+unfolding lexeme_at
 end_marks s l = refl
 
 kind_marks : (k : Kind) (s : SpelledText) (l : Lexeme) (p q : ℕ) → TakesSome k p q

@@ -38,15 +38,15 @@ unfoldable pub use Rattle.yaml_scan_decode.specs.Decoding.{characters}
 pub use Rattle.yaml_scan_decode.specs.Encodings.{encoding_of, mark_length}
 pub use Rattle.yaml_scan_decode.specs.declared.offence.Character.{Character}
 pub use Rattle.yaml_scan_decode.specs.declared.offence.Offence.{Offence}
-pub use Rattle.yaml_scan_history.specs.History.{Candidate, as_key, depth, entry_of, first_open, found_by, has, in_flow, indent, inside, keyed, level_of, margin_at, marked, opens_of, start_of}
-unfoldable pub use Rattle.yaml_scan_history.specs.History.{candidate, entries, mark_key}
+pub use Rattle.yaml_scan_history.specs.History.{Candidate, as_key, flow_depth, entry_of, first_open, found_by, has, in_flow, indent, inside, keyed, level_of, margin_at, marked, opens_of, start_of}
+unfoldable pub use Rattle.yaml_scan_history.specs.History.{candidate, finished_tokens, mark_key}
 pub use Rattle.yaml_scan_history.specs.Kinds.{is_end, is_start, is_value}
 pub use Rattle.yaml_scan_history.specs.Next.{Ends, Fails, Next, Read, begun_behind, coming, extended, faults, first_fault_or, first_lexeme, gap_behind, kind_behind, lexeme_behind, no_start, place_behind, stale_before, with_end, word_behind}
 unfoldable pub use Rattle.yaml_scan_history.specs.Next.{history, next}
 pub use Rattle.yaml_scan_history.specs.Remaining.{SpelledText, body_by, body_in, body_of_word, end_tokens, front_ends, handed_out, kept_of, offline, own_tokens, start_tokens}
 unfoldable pub use Rattle.yaml_scan_history.specs.Remaining.{all, handed, remaining}
 pub use Rattle.yaml_scan_history.specs.Words.{WordText, blocked, body_said, directed, or_plain, plainly, tagged, valued}
-unfoldable pub use Rattle.yaml_scan_history.specs.Words.{indicator_of, kind_at, word_at}
+unfoldable pub use Rattle.yaml_scan_history.specs.Words.{indicator_of, kind_at, lexeme_at}
 pub use Rattle.yaml_scan_history.specs.declared.kind.Kind.{Kind}
 pub use Rattle.yaml_scan_history.specs.declared.lexeme.Lexeme.{Lexeme}
 pub use Rattle.yaml_scan_history.specs.declared.lexeme.Opens.{Opens}

@@ -1,6 +1,6 @@
 -- What a lexeme carries is no longer than what it takes of the text: names and tags as long at most, values one and a half times.
 use Rattle.std.proofs.Common.{◌&&◌, ◌||◌, not, ℕ, zero, suc, ◌+◌, ◌-◌, ◌*◌, ◌≤◌, Bool, true, false, ◌==◌, nat_lt, if◌then◌else◌, List, [], ◌∷◌, length, Option, Some, None, Result, Ok, Err, arith, inl, inr, le_refl}
-use Rattle.yaml_round_laws_inputs.proofs.SizesWords.{is_yaml, is_tag, may_end_tag, is_blank_or_end, may_end_name, cases_Bool, slice_range, TokenBody, byte, break_width, Wrong, name_between, anchor_at, TagText, bracketed, name_end, with_handle, bare, parts_at, ended, tag_at, Said, ValueText, then_at, directive_name_between, number_at, with_major, minor_at, handle_between, handle_at, prefix_ended, prefix_at, with_prefix, tag_directive_at, named_value_at, value_at, comment_end, break_end, line_end_at, with_line_end, finished, double_quoted_at, single_quoted_at, PlainText, plain_at, BlockText, block_at, style_at, Kind, WordText, valued, tagged, body_said, directed, blocked, plainly, word_at}
+use Rattle.yaml_round_laws_inputs.proofs.SizesWords.{is_yaml, is_tag, may_end_tag, is_blank_or_end, may_end_name, cases_Bool, slice_range, TokenBody, byte, break_width, Wrong, name_between, anchor_at, TagText, bracketed, name_end, with_handle, bare, parts_at, ended, tag_at, Said, ValueText, then_at, directive_name_between, number_at, with_major, minor_at, handle_between, handle_at, prefix_ended, prefix_at, with_prefix, tag_directive_at, named_value_at, value_at, comment_end, break_end, line_end_at, with_line_end, finished, double_quoted_at, single_quoted_at, PlainText, plain_at, BlockText, block_at, style_at, Kind, WordText, valued, tagged, body_said, directed, blocked, plainly, lexeme_at}
 use Rattle.yaml_scan_history.specs.scan_model.declared.name.yaml_scalar_style_t.{yaml_scalar_style_t}
 use Rattle.yaml_scan_history.specs.scan_model.declared.name.yaml_scalar_style_t.TheVariants as styles
 use Rattle.yaml_scan_history.specs.scan_model.declared.problem.Context.{Context}
@@ -321,8 +321,8 @@ plainly_spans p (Ok x) f = omega (arith, f)
 plainly_spans p (Err w) f = tt
 
 pub word_spans : (k : Kind) (flow : Bool) (level : ℕ) (text : List ℕ) (p : ℕ)
-    → WordSpans p (word_at k flow level text p)
-unfolding word_at
+    → WordSpans p (lexeme_at k flow level text p)
+unfolding lexeme_at
 word_spans kinds.Directive flow level text p = finished_spans text p (value_at text p) (value_said text p)
 word_spans kinds.Alias flow level text p = alias_spans p (anchor_at contexts.Alias text p) (anchor_spent contexts.Alias text p)
 word_spans kinds.Anchor flow level text p = anchor_spans p (anchor_at contexts.Anchor text p) (anchor_spent contexts.Anchor text p)

@@ -1,6 +1,6 @@
 -- Keys are near their `:`.
 use Rattle.std.proofs.Common.{◌≡◌, ℕ, ◌+◌, ◌<◌, ◌≤◌, ◌==◌, ◌&&◌, ◌||◌, not, Bool, true, false, List, [], ◌∷◌, ◌++◌, length, refl, sym, ap, subst, arith, append-nil, encode_utf8_all, ◌-◌, nat_lt, Some, Result, Ok, ◌∙◌, inl, inr, ◌⊎◌, append_assoc, if◌then◌else◌, true≢false}
-use Rattle.yaml_round_laws_inputs.proofs.JsonWords.{list_all, or_parts, and_parts, nat_tests, mark_at, byte, column_at, is_blank_or_end, HasAt, begins_lexeme, is_fresh, margin_at, indent, is_white, are_white, Letter, string_bytes, AreLetters, is_break, has_break, are_kept, is_near, or-true, TokenBody, Wrong, is_document_start, is_document_end, PlainText, starts_plain, Has, has, has_front, WordText, indicator_of, kind_at, word_at, valued, plainly, Comes, WordLeaves, WalkState, WalkReads, LeaveClear, behind, printed_begins, chain, no_start, no_end, no_percent, walk_word, walk_key_starts, walk_key_stops, Left, left_first, left_more, left_rest, end_begins, is_plain_value, letters_mean}
+use Rattle.yaml_round_laws_inputs.proofs.JsonWords.{list_all, or_parts, and_parts, nat_tests, mark_at, byte, column_at, is_blank_or_end, HasAt, begins_lexeme, is_fresh, margin_at, indent, is_white, are_white, Letter, string_bytes, AreLetters, is_break, has_break, are_kept, is_near, or-true, TokenBody, Wrong, is_document_start, is_document_end, PlainText, starts_plain, Has, has, has_front, WordText, indicator_of, kind_at, lexeme_at, valued, plainly, Comes, WordLeaves, WalkState, WalkReads, LeaveClear, behind, printed_begins, chain, no_start, no_end, no_percent, walk_word, walk_key_starts, walk_key_stops, Left, left_first, left_more, left_rest, end_begins, is_plain_value, letters_mean}
 use Rattle.yaml_emit_laws_text.specs.emit_layout.declared.Cursor.{Cursor}
 use Rattle.yaml_emit_laws_text.specs.emit_layout.Text.{is_break as ends}
 use Rattle.yaml_emit_laws_text.specs.emit_layout.Layout.{Layout}
@@ -162,7 +162,7 @@ right_none d c = inr (let z = indent_none in omega (arith, z))
 record Stands (text : List ℕ) (p d : ℕ) (k : Kind) (w : WordText) : Type 0 where
   starts : begins_lexeme text p ≡ true
   kind : kind_at (nat_lt 0 d) text p ≡ Some k
-  word : word_at k (nat_lt 0 d) 0 text p ≡ Ok w
+  word : lexeme_at k (nat_lt 0 d) 0 text p ≡ Ok w
 
 comes_of : (text : List ℕ) (p d : ℕ) (k : Kind) (w : WordText) (e : ℕ) → Stands text p d k w → p ≤ e
     → Comes text p d (indent []) k [] w e
@@ -171,7 +171,7 @@ comes_of text p d k w e s up =
     record {
       behind = no_gap text p s.starts;
       kind = ap (λ n. kind_at (nat_lt 0 d) text n) z ∙ s.kind;
-      word = ap (λ n. word_at k (nat_lt 0 d) (indent []) text n) z ∙ ap (λ n. word_at k (nat_lt 0 d) n text p) indent_none ∙ s.word;
+      word = ap (λ n. lexeme_at k (nat_lt 0 d) (indent []) text n) z ∙ ap (λ n. lexeme_at k (nat_lt 0 d) n text p) indent_none ∙ s.word;
       up = omega (arith, up);
     }
 
@@ -208,7 +208,7 @@ kind_by flow text p b k h z pc ds de o =
 record IsSign (b : ℕ) (k : Kind) (body : TokenBody) (d : ℕ) : Type 0 where
   solid : is_solid b ≡ true
   kind : (text : List ℕ) (p : ℕ) → byte text p ≡ b → kind_at (nat_lt 0 d) text p ≡ Some k
-  word : (text : List ℕ) (p : ℕ) → word_at k (nat_lt 0 d) 0 text p ≡ Ok (sign body (p + 1))
+  word : (text : List ℕ) (p : ℕ) → lexeme_at k (nat_lt 0 d) 0 text p ≡ Ok (sign body (p + 1))
 
 sign_stands : (b : ℕ) (k : Kind) (body : TokenBody) (d : ℕ) → IsSign b k body d
     → (text : List ℕ) (p : ℕ) → byte text p ≡ b → Stands text p d k (sign body (p + 1))
@@ -224,7 +224,7 @@ opener_sign : (mapping : Bool) (d : ℕ)
     → IsSign (if mapping then 123 else 91)
     (if mapping then kinds.FlowMappingStart else kinds.FlowSequenceStart)
     (if mapping then tokens.flow_mapping_start else tokens.flow_sequence_start) d
-unfolding word_at indicator_of
+unfolding lexeme_at indicator_of
 opener_sign true d = record { solid = refl; kind = λ text p h. kind_by (nat_lt 0 d) text p 123 kinds.FlowMappingStart h refl refl refl refl refl; word = λ text p. refl }
 opener_sign false d = record { solid = refl; kind = λ text p h. kind_by (nat_lt 0 d) text p 91 kinds.FlowSequenceStart h refl refl refl refl refl; word = λ text p. refl }
 
@@ -232,16 +232,16 @@ closer_sign : (mapping : Bool) (d : ℕ)
     → IsSign (if mapping then 125 else 93)
     (if mapping then kinds.FlowMappingEnd else kinds.FlowSequenceEnd)
     (if mapping then tokens.flow_mapping_end else tokens.flow_sequence_end) d
-unfolding word_at indicator_of
+unfolding lexeme_at indicator_of
 closer_sign true d = record { solid = refl; kind = λ text p h. kind_by (nat_lt 0 d) text p 125 kinds.FlowMappingEnd h refl refl refl refl refl; word = λ text p. refl }
 closer_sign false d = record { solid = refl; kind = λ text p h. kind_by (nat_lt 0 d) text p 93 kinds.FlowSequenceEnd h refl refl refl refl refl; word = λ text p. refl }
 
 comma_sign : (d : ℕ) → IsSign 44 kinds.FlowEntry tokens.flow_entry d
-unfolding word_at indicator_of
+unfolding lexeme_at indicator_of
 comma_sign d = record { solid = refl; kind = λ text p h. kind_by (nat_lt 0 d) text p 44 kinds.FlowEntry h refl refl refl refl refl; word = λ text p. refl }
 
 colon_sign : (d : ℕ) → nat_lt 0 d ≡ true → IsSign 58 kinds.ValueMark tokens.value d
-unfolding word_at
+unfolding lexeme_at
 colon_sign d deep = record { solid = refl; kind = λ text p h. kind_by (nat_lt 0 d) text p 58 kinds.ValueMark h refl refl refl refl (colon_kind (nat_lt 0 d) (is_blank_or_end text (p + 1)) deep); word = λ text p. refl }
 
 -- a sign and the white after it
@@ -324,7 +324,7 @@ pub plain_step : (x : yaml_encoding_t) (text value ws bs : List ℕ) (d : ℕ) (
     → is_plain_value value ≡ true → At x text (value ++ (ws ++ bs)) d T → are_white ws ≡ true
     → Behind d bs
     → At x text bs d (λ es. T (tokens.scalar value YAML_PLAIN_SCALAR_STYLE ∷ es))
-unfolding word_at
+unfolding lexeme_at
 plain_step x text value ws bs d T is a white next =
     let o = a.place in
     let p = o.at in
@@ -346,7 +346,7 @@ string_stands : (ls : List Letter) (text rest : List ℕ) (p d : ℕ) → AreLet
     → Stands text p d kinds.DoubleQuoted
     (sign (tokens.scalar (letters_mean ls) YAML_DOUBLE_QUOTED_SCALAR_STYLE)
     (p + length (string_bytes ls)))
-unfolding word_at
+unfolding lexeme_at
 string_stands ls text rest p d h k l =
     let first = left_first text p 34 _ l in
     record {

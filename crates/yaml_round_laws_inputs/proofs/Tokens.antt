@@ -1,6 +1,6 @@
 -- The tokens by which levels are told weigh no more than the lexemes of a text are worth.
 use Rattle.std.proofs.Common.{◌≡◌, ℕ, zero, suc, ◌+◌, ◌≤◌, Bool, true, false, not, ◌&&◌, nat_lt, List, [], ◌∷◌, ◌++◌, length, Option, Result, Ok, Err, refl, arith, inl, inr}
-use Rattle.yaml_round_laws_inputs.proofs.SizesWords.{cases_Bool, Fault, Token, TokenBody, Wrong, anchor_at, TagText, tag_at, Said, DirectiveText, directive_at, double_quoted_at, single_quoted_at, PlainText, plain_at, BlockText, block_at, style_at, Kind, Lexeme, indent, start_of, word_at, body_said, valued, tagged, directed, blocked, plainly, SpelledText, body_of_word, body_by, all, offline, cut}
+use Rattle.yaml_round_laws_inputs.proofs.SizesWords.{cases_Bool, Fault, Token, TokenBody, Wrong, anchor_at, TagText, tag_at, Said, DirectiveText, directive_at, double_quoted_at, single_quoted_at, PlainText, plain_at, BlockText, block_at, style_at, Kind, Lexeme, indent, start_of, lexeme_at, body_said, valued, tagged, directed, blocked, plainly, SpelledText, body_of_word, body_by, all, offline, cut}
 use Rattle.yaml_scan_history.specs.scan_model.Tokens as token
 use Rattle.yaml_scan_history.specs.scan_model.declared.yaml_scalar_style_t.{yaml_scalar_style_t}
 use Rattle.yaml_scan_history.specs.scan_model.declared.yaml_scalar_style_t.TheVariants as styles
@@ -73,7 +73,7 @@ opened_is (suc d) = refl
 pays : (k : Kind) (s : SpelledText) (l : Lexeme) (d margin : ℕ) (found : Bool) (levels : List ℕ)
     → start_weight weight (opens_by k d margin found levels) + weight (body_by k s l) + taken weight
     k found d ≤ own k + apart k d
-unfolding word_at
+unfolding lexeme_at
 pays kinds.BlockEntry s l d margin found levels = omega (arith, sequence_none d margin levels)
 pays kinds.KeyMark s l d margin found levels = omega (arith, mapping_most weight d margin levels, opened_is d)
 pays kinds.ValueMark s l d margin true levels = omega (arith, opened_is d)

@@ -1,6 +1,6 @@
 -- What tokens weigh, by any weight of which no end has one, is paid by the lexemes of a text, where each pays for its own.
 use Rattle.std.proofs.Common.{◌≡◌, ℕ, zero, suc, ◌+◌, ◌<◌, ◌≤◌, ◌⊎◌, Bool, true, false, not, ◌&&◌, ◌==◌, nat_lt, if◌then◌else◌, List, [], ◌∷◌, ◌++◌, length, take, drop, Option, Some, None, refl, sym, ap, subst, ◌∙◌, arith, inl, inr, le_refl}
-use Rattle.yaml_round_laws_inputs.proofs.SizesWords.{cases_Bool, lt-ltb, eqb-true, replicate, flat_map, Fault, Token, TokenBody, Kind, Lexeme, Opens, is_value, is_start, Candidate, candidate, entries, mark_key, marked, keyed, found_by, inside, entry_of, as_key, first_open, indent, margin_at, start_of, level_of, opens_of, has, Next, Fails, next, SpelledText, body_in, start_tokens, end_tokens, own_tokens, all, handed_out, handed, front_ends, kept_of, remaining, offline, spells_text, cut}
+use Rattle.yaml_round_laws_inputs.proofs.SizesWords.{cases_Bool, lt-ltb, eqb-true, replicate, flat_map, Fault, Token, TokenBody, Kind, Lexeme, Opens, is_value, is_start, Candidate, candidate, finished_tokens, mark_key, marked, keyed, found_by, inside, entry_of, as_key, first_open, indent, margin_at, start_of, level_of, opens_of, has, Next, Fails, next, SpelledText, body_in, start_tokens, end_tokens, own_tokens, all, handed_out, handed, front_ends, kept_of, remaining, offline, spells_text, cut}
 use Rattle.yaml_scan_history.specs.scan_model.Tokens as token
 use Rattle.yaml_scan_history.specs.declared.kind.Kind.TheVariants as kinds
 use Rattle.yaml_scan_history.specs.declared.lexeme.Entry.{Entry}
@@ -140,28 +140,28 @@ newest_depth d l h c e =
     ]
 
 front_of : (l : Lexeme) (h : List Lexeme) (n : ℕ) → n < length h
-    → depth_at (entries (l ∷ h)) n ≡ depth_at (entries h) n
-unfolding entries
+    → depth_at (finished_tokens (l ∷ h)) n ≡ depth_at (finished_tokens h) n
+unfolding finished_tokens
 front_of l h n w =
-    let long = length-keyed l h (entries h) in
+    let long = length-keyed l h (finished_tokens h) in
     let all_of = length-entries h in
-    front_depth (keyed l h (entries h)) (entry_of l h ∷ []) n (omega (arith, long, all_of)) ∙ keyed_depth l h (entries h) n
+    front_depth (keyed l h (finished_tokens h)) (entry_of l h ∷ []) n (omega (arith, long, all_of)) ∙ keyed_depth l h (finished_tokens h) n
 
-last_of : (l : Lexeme) (h : List Lexeme) → depth_at (entries (l ∷ h)) (length h) ≡ l.depth
-unfolding entries
+last_of : (l : Lexeme) (h : List Lexeme) → depth_at (finished_tokens (l ∷ h)) (length h) ≡ l.depth
+unfolding finished_tokens
 last_of l h =
-    let e : length (keyed l h (entries h)) ≡ length h = length-keyed l h (entries h) ∙ length-entries h in
-    ap (depth_at (keyed l h (entries h) ++ entry_of l h ∷ [])) (sym e) ∙ last_depth (keyed l h (entries h)) (entry_of l h)
+    let e : length (keyed l h (finished_tokens h)) ≡ length h = length-keyed l h (finished_tokens h) ∙ length-entries h in
+    ap (depth_at (keyed l h (finished_tokens h) ++ entry_of l h ∷ [])) (sym e) ∙ last_depth (keyed l h (finished_tokens h)) (entry_of l h)
 
 candidate_depth : (d : ℕ) (h : List Lexeme) (c : Candidate) → candidate d h ≡ Some c
-    → depth_at (entries h) c.number ≡ d
+    → depth_at (finished_tokens h) c.number ≡ d
 unfolding candidate
 candidate_depth d [] c e = cc
 candidate_depth d (l ∷ h) c e =
     elim (newest_depth d l h c e) [
       | inr old ↦ front_of l h c.number (candidate_below d h c old) ∙ candidate_depth d h c old
       | inl here ↦ elim (candidate-more d l h c e) [
-        | inl number ↦ ap (depth_at (entries (l ∷ h))) number ∙ (last_of l h ∙ here)
+        | inl number ↦ ap (depth_at (finished_tokens (l ∷ h))) number ∙ (last_of l h ∙ here)
         | inr old ↦ front_of l h c.number (candidate_below d h c old) ∙ candidate_depth d h c old
       ]
     ]
@@ -227,21 +227,21 @@ value_is w k b d e = rw e refl
 
 entries_few : (w : Weight) → EndsAreFree w
     → (s : SpelledText) (price : Lexeme → ℕ) (h : List Lexeme) → ArePaid w s price h
-    → total w s (entries h) ≤ prices price h
-unfolding entries
+    → total w s (finished_tokens h) ≤ prices price h
+unfolding finished_tokens
 entries_few w free s price [] paid = omega arith
 entries_few w free s price (l ∷ h) paid =
     let few = entries_few w free s price h paid.1 in
     let last = entry_most w free s price l h paid in
-    let a = total_append w s (keyed l h (entries h)) (entry_of l h ∷ []) in
+    let a = total_append w s (keyed l h (finished_tokens h)) (entry_of l h ∷ []) in
     elim (cases_Bool (is_value l.kind)) [
       | inl e ↦
           let t = value_is w l.kind (has (found_by l h)) l.depth e in
-          let m = marked_most w free s (found_by l h) (inside l h) (entries h) l.depth (λ c f. candidate_depth l.depth h c (fresh_is (candidate l.depth h) l.start c f)) in
-          let more : total w s (keyed l h (entries h)) ≤ total w s (entries h) + taken w kinds.ValueMark (has (found_by l h)) l.depth = rw e m in
+          let m = marked_most w free s (found_by l h) (inside l h) (finished_tokens h) l.depth (λ c f. candidate_depth l.depth h c (fresh_is (candidate l.depth h) l.start c f)) in
+          let more : total w s (keyed l h (finished_tokens h)) ≤ total w s (finished_tokens h) + taken w kinds.ValueMark (has (found_by l h)) l.depth = rw e m in
           omega (arith, few, last, a, t, more)
       | inr e ↦
-          let same : total w s (keyed l h (entries h)) ≤ total w s (entries h) = rw e (le_refl _) in
+          let same : total w s (keyed l h (finished_tokens h)) ≤ total w s (finished_tokens h) = rw e (le_refl _) in
           omega (arith, few, last, a, same)
     ]
 
@@ -263,8 +263,8 @@ drop_most w (suc n) [] = le_refl _
 drop_most w (suc n) (t ∷ ts) = omega (arith, drop_most w n ts)
 
 handed_most : (w : Weight) (s : SpelledText) (x : Next) (h : List Lexeme)
-    → total w s (handed_out x h) ≤ total w s (entries h)
-handed_most w s (Fails p) h = take_most w s (first_open h h) (entries h)
+    → total w s (handed_out x h) ≤ total w s (finished_tokens h)
+handed_most w s (Fails p) h = take_most w s (first_open h h) (finished_tokens h)
 handed_most w s _ h = le_refl _
 
 front_weigh : (w : Weight) → EndsAreFree w → (es : List Entry) → weigh w (front_ends es) ≡ 0
@@ -272,7 +272,7 @@ front_weigh w free [] = refl
 front_weigh w free (e ∷ es) = ends_weigh w free e.ends e.lexeme
 
 kept_weigh : (w : Weight) → EndsAreFree w → (x : Next) (h : List Lexeme) → weigh w (kept_of x h) ≡ 0
-kept_weigh w free (Fails p) h = front_weigh w free (drop (first_open h h) (entries h))
+kept_weigh w free (Fails p) h = front_weigh w free (drop (first_open h h) (finished_tokens h))
 kept_weigh w free _ h = refl
 
 -- ---- the text
@@ -287,7 +287,7 @@ tokens_weigh w free s price paid =
     let a : weigh w (offline s).tokens ≤ weigh w (flat_map (spell s) listed ++ kept_of x h) = drop_most w 0 (flat_map (spell s) listed ++ kept_of x h) in
     let b = weigh_append w (flat_map (spell s) listed) (kept_of x h) in
     let c : total w s listed ≤ total w s (handed s.text) = drops_most w s 0 (handed s.text) in
-    let d : total w s (handed s.text) ≤ total w s (entries h) = handed_most w s x h in
+    let d : total w s (handed s.text) ≤ total w s (finished_tokens h) = handed_most w s x h in
     omega (arith, a, b, c, d, entries_few w free s price h paid, kept_weigh w free x h)
 
 pub cut_weighs : (w : Weight) (f : Option Fault) (ts : List Token)

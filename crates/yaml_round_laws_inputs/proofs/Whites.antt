@@ -1,6 +1,6 @@
 -- The white of JSON, with tabs, between lexemes.
 use Rattle.std.proofs.Common.{◌≡◌, ◌≢◌, ℕ, zero, suc, ◌+◌, ◌<◌, ◌≤◌, ◌==◌, ◌&&◌, ◌||◌, not, nat_lt, Bool, true, false, List, [], ◌∷◌, length, refl, sym, ap, subst, ◌∙◌, inl, inr, ◌⊎◌, arith}
-use Rattle.yaml_round_laws_inputs.proofs.JsonWords.{true≢false, cases_Bool, and_parts, ne_eqb, lt-ltb, nat_tests, byte, break_of, break_width, begins_lexeme, Has, depth, in_flow, key_allowed, WordText, WordLeaves, is_white, are_white, is_break, has_tab, has_tab_below, lexeme_parts, break_parts, no_bom, no_skip, cr_width, some_width}
+use Rattle.yaml_round_laws_inputs.proofs.JsonWords.{true≢false, cases_Bool, and_parts, ne_eqb, lt-ltb, nat_tests, byte, break_of, break_width, begins_lexeme, Has, flow_depth, in_flow, key_allowed, WordText, WordLeaves, is_white, are_white, is_break, has_tab, has_tab_below, lexeme_parts, break_parts, no_bom, no_skip, cr_width, some_width}
 use Rattle.yaml_scan_history.specs.scan_model.Classes.{is_bom}
 use Rattle.yaml_scan_history.specs.scan_words.Between.{step_at, is_skipped, Gap, gap_within, gap_at}
 use Rattle.yaml_scan_history.proofs.BetweenLemmas.{gap_blank, gap_break, gap_stop}
@@ -196,7 +196,7 @@ place_leaves : (text : List ℕ) (d : ℕ) (allows : Bool) (w : WordText) (e : �
     → begins_lexeme text e ≡ true → WordLeaves text d allows w e (may_then text d allows w) false
 place_leaves text d allows w e there stop h at key deep =
     let G : ℕ → Bool → ℕ → Gap = λ n b i. gap_at (nat_lt 0 n) b text i in
-    let same : gap_behind text h ≡ gap_at (nat_lt 0 d) (allows || w.broke) text w.reached = ap (λ (i : ℕ). G (depth h) (key_allowed h) i) at ∙ ap (λ (b : Bool). G (depth h) b w.reached) key ∙ ap (λ (n : ℕ). G n (allows || w.broke) w.reached) deep in
+    let same : gap_behind text h ≡ gap_at (nat_lt 0 d) (allows || w.broke) text w.reached = ap (λ (i : ℕ). G (flow_depth h) (key_allowed h) i) at ∙ ap (λ (b : Bool). G (flow_depth h) b w.reached) key ∙ ap (λ (n : ℕ). G n (allows || w.broke) w.reached) deep in
     record {
       place = λ gap g.
           let none = nothing_more text e gap stop g in

@@ -1,6 +1,6 @@
 -- The law of windows.
 use Rattle.std.proofs.Common.{◌≡◌, ◌≢◌, ℕ, true, List, [], ◌∷◌, ◌++◌, map, length, Option, Some, None, option_map, refl, sym, ap, subst, ◌∙◌, inl, inr, ◌⊎◌}
-use Rattle.yaml_round_laws_inputs.proofs.WindowsWords.{cases_Bool, append_assoc, same_from_push, yaml_encoding_t, yaml_mark_t, Fault, line_at, Token, TokenBody, stream_start, stream_end, document_start, zero_mark, Remaining, all, depth, is_document_start, feed, run, initial, Reading, no_directives, placed, IsCut, IsEndCut, LeadsToDirective, Event, spells_text, with_token, cut, scan_of, moved_mark, moved_token, moved_fault, windows_are_scanned, at_cut, ended_front, ended_windows_are_scanned, stream_starts, stream_ends, parse_of, GoOn, depth_after, depth_behind, items_of, Plain, plain, seen, parse_plain, step_items, Front, front_of, front_events, windows_are_parsed, brackets_are_closed, body_at, end_at, refused_fronts_stay, moved_event, IsMovedEnd, tokens_in, reading_in, IsAccepted, WindowsAreRead, WindowsAreAccepted, ReadingsAreFramed, AwaitsDocument, RefusedFrontsAreRead}
+use Rattle.yaml_round_laws_inputs.proofs.WindowsWords.{cases_Bool, append_assoc, same_from_push, yaml_encoding_t, yaml_mark_t, Fault, line_at, Token, TokenBody, stream_start, stream_end, document_start, zero_mark, Remaining, all, flow_depth, is_document_start, feed, run, initial, Reading, no_directives, placed, IsCut, IsEndCut, LeadsToDirective, Event, spells_text, with_token, cut, scan_of, moved_mark, moved_token, moved_fault, windows_are_scanned, at_cut, ended_front, ended_windows_are_scanned, stream_starts, stream_ends, parse_of, GoOn, depth_after, depth_behind, items_of, Plain, plain, seen, parse_plain, step_items, Front, front_of, front_events, windows_are_parsed, brackets_are_closed, body_at, end_at, refused_fronts_stay, moved_event, IsMovedEnd, tokens_in, reading_in, IsAccepted, WindowsAreRead, WindowsAreAccepted, ReadingsAreFramed, AwaitsDocument, RefusedFrontsAreRead}
 use Rattle.std.proofs.lemmas.List.Elements.{All-head, All-tail}
 use Rattle.std.specs.Prelude.{All}
 use Rattle.yaml_round_content.specs.scan_model.Tokens as token
@@ -87,7 +87,7 @@ go_on (t ∷ ts) h = (All-head IsInner t ts h, go_on ts (All-tail IsInner t ts h
 -- ---- the law
 
 -- a front that is accepted leaves no bracket open
-no_bracket : (x : yaml_encoding_t) (text : List ℕ) → IsAccepted x text → depth (all text) ≡ 0
+no_bracket : (x : yaml_encoding_t) (text : List ℕ) → IsAccepted x text → flow_depth (all text) ≡ 0
 no_bracket x text g =
     let p = passed x text g.scanned in
     let (front, last, are, ends, others) = stream_ends (record { encoding = x; text = text }) p.none in
@@ -138,7 +138,7 @@ record Handed (x : yaml_encoding_t) (a b : List ℕ) (front : List Token) (last 
       ≡ behind_tokens front (moved_remaining (length a) (line_at a (length a)) (with_token mark behind))
 
 handed : (x : yaml_encoding_t) (a b : List ℕ) → IsCut a b → is_document_start b 0 ≡ true
-    → depth (all a) ≡ 0
+    → flow_depth (all a) ≡ 0
     → (scan_of x a).fault ≡ None → AllSpell (scan_of x a).tokens
     → (front : List Token) (last : Token) → (scan_of x a).tokens ≡ front ++ last ∷ []
     → Handed x a b front last
@@ -211,7 +211,7 @@ directive_begins _ h = absurd h
 
 -- what the adapter hands on of tokens that begin with a directive's does so too, or is a fault
 cut_leads : (d n : ℕ) (f : Option Fault) (ts : List Token) → LeadsSo ts f
-    → let r = moved_remaining d n (cut f ts) in parse.GoesOn r.tokens r.fault
+    → let r = moved_remaining d n (cut f ts) in parse.DocumentGoesOn r.tokens r.fault
 cut_leads d n None [] h = absurd (h refl)
 cut_leads d n (Some f) [] h = λ e. some_none e
   where
@@ -369,7 +369,7 @@ spell_or (t ∷ front) =
     ]
 
 parser_refuses : (x : yaml_encoding_t) (a b : List ℕ) → IsCut a b → is_document_start b 0 ≡ true
-    → (tokens_in x a).fault ≡ None → depth (all a) ≡ 0
+    → (tokens_in x a).fault ≡ None → flow_depth (all a) ≡ 0
     → (f : Fault) → (reading_in x a).ending ≡ Some f → (AwaitsDocument x a f → ⊥)
     → (parse.events_in (reading_in x (a ++ b)) ≡ parse.events_in (reading_in x a))
     × ((reading_in x (a ++ b)).ending ≡ Some f)

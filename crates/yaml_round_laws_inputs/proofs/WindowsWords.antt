@@ -16,8 +16,8 @@ pub use Rattle.yaml_round_content.specs.parse_grammar.Resolve.{Directives, Readi
 pub use Rattle.yaml_round_content.specs.parse_grammar.States.{State, Taken}
 pub use Rattle.yaml_round_content.specs.parse_model.Events.{Event}
 pub use Rattle.yaml_round_content.specs.round_laws_adapted.Adapted.{cut, spells_text, with_token}
-pub use Rattle.yaml_round_content.specs.scan_history.History.{Candidate, depth, entry_of, found_by, inside, keyed, marked}
-unfoldable pub use Rattle.yaml_round_content.specs.scan_history.History.{entries, mark_key}
+pub use Rattle.yaml_round_content.specs.scan_history.History.{Candidate, flow_depth, entry_of, found_by, inside, keyed, marked}
+unfoldable pub use Rattle.yaml_round_content.specs.scan_history.History.{finished_tokens, mark_key}
 pub use Rattle.yaml_round_content.specs.scan_history.Remaining.{Remaining, SpelledText, all, before, body_by, body_of_word, end_tokens, own_tokens, spell, start_tokens}
 pub use Rattle.yaml_round_content.specs.scan_history.scan_words.Indicators.{is_document_start}
 pub use Rattle.yaml_round_content.specs.scan_model.Faults.{Fault}

@@ -12,7 +12,7 @@ use Rattle.yaml_round_content.specs.emit_layout.Streams.{IsStream}
 use Rattle.yaml_round_content.specs.Input.{events_of}
 use Rattle.yaml_round_content.specs.Events.{emitter_events}
 use Rattle.yaml_round_content.specs.Said.{Document}
-use Rattle.yaml_round_content.specs.Canon.{written_documents, canon_encoding, canon_items, canon}
+use Rattle.yaml_round_content.specs.Canon.{written_documents, canon_encoding, canon_items, canonical_layout}
 use Rattle.yaml_round_content.specs.Reading.{PlainReading}
 use Rattle.yaml_emit_laws_text.specs.Depths.{RootStandsAt, IsTooDeep}
 use Rattle.yaml_emit_laws_text.specs.Sizes.{unit, most_bytes}
@@ -40,7 +40,7 @@ ShortInputsKeepColumns = (from : yaml_encoding_t) (input : List ℕ) (c : List D
 -- Canonical text of a content has at most as many bytes as its nodes, lines and texts tell.
 abbrev pub CanonicalTextsAreBounded : Type 0
 CanonicalTextsAreBounded = (w : RequestedSettings) → w.canonical ≡ true → (c : List Document)
-    → length (canon w c) ≤ most_bytes (settled w YAML_ANY_ENCODING) (written_documents c)
+    → length (canonical_layout w c) ≤ most_bytes (settled w YAML_ANY_ENCODING) (written_documents c)
 
 -- ---- by the input's length
 
@@ -72,7 +72,7 @@ ContentsAreBounded = (from : yaml_encoding_t) (input : List ℕ) (c : List Docum
 abbrev pub CanonicalTextsAreShort : Type 0
 CanonicalTextsAreShort = (from : yaml_encoding_t) (input : List ℕ) (c : List Document)
     → PlainReading from input (Ok c) → (w : RequestedSettings) → w.canonical ≡ true
-    → length (canon w c) ≤ most_of_input w (canon_encoding w) from input
+    → length (canonical_layout w c) ≤ most_of_input w (canon_encoding w) from input
 
 -- And so has what is laid out for its events in either form, whatever their styles are.
 abbrev pub LayoutsAreShort : Type 0

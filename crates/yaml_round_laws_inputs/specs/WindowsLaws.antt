@@ -4,7 +4,7 @@ use Rattle.yaml_round_content.specs.scan_model.declared.yaml_encoding_t.{yaml_en
 use Rattle.yaml_round_content.specs.scan_model.Marks.{line_at}
 use Rattle.yaml_round_content.specs.scan_model.Faults.{Fault}
 use Rattle.yaml_round_content.specs.scan_model.Tokens.{Token}
-use Rattle.yaml_round_content.specs.scan_history.History.{depth}
+use Rattle.yaml_round_content.specs.scan_history.History.{flow_depth}
 use Rattle.yaml_round_content.specs.scan_history.Remaining as scan
 use Rattle.yaml_round_content.specs.scan_history.scan_words.Indicators.{is_document_start}
 use Rattle.yaml_round_content.specs.parse_model.Events.{Event, stream_start, stream_end}
@@ -70,7 +70,7 @@ AwaitsDocument encoding text f = (before : List Token) × (last : Token)
 abbrev pub RefusedFrontsAreRead : Type 0
 RefusedFrontsAreRead = (encoding : yaml_encoding_t) (front rest : List ℕ) → IsCut front rest
     → is_document_start rest 0 ≡ true
-    → (scan_of encoding front).fault ≡ None → depth (scan.all front) ≡ 0
+    → (scan_of encoding front).fault ≡ None → flow_depth (scan.all front) ≡ 0
     → (f : Fault) → (reading_in encoding front).ending ≡ Some f
     → (AwaitsDocument encoding front f → ⊥)
     → (events_in encoding (front ++ rest) ≡ events_in encoding front)

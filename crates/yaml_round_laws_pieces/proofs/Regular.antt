@@ -8,7 +8,7 @@ use Rattle.yaml_emit_layout.specs.declared.Style.TheVariants as style
 use Rattle.yaml_emit_layout.specs.declared.Chomp.{Chomp}
 use Rattle.yaml_emit_layout.specs.declared.Chomp.TheVariants as chomping
 use Rattle.yaml_emit_layout.specs.declared.Encoding.TheVariants.{Utf8}
-use Rattle.yaml_emit_layout.specs.Quoted.{needs_escape, escape_text, first, is_empty, may_fold, fold, escaped, quoted_char, quoted_body, double_quoted}
+use Rattle.yaml_emit_layout.specs.Quoted.{needs_escape, escape_text, first, is_empty, may_fold, fold, escaped, quoted_char, quoted_body, quoted_text}
 
 -- what it writes from there, and where it ends
 pub record Written (a : Layout) (c : Cursor) : Type 0 where
@@ -140,7 +140,7 @@ unfolding quoted_body
 quoted_body_regular page before [] = stay_regular
 quoted_body_regular page before (x ∷ xs) = both (quoted_char page before x xs) (quoted_body page x xs) (quoted_char_regular page before x xs) (quoted_body_regular page x xs)
 
-double_regular : (page : Page) (value : List ℕ) → Regular (double_quoted page value)
+double_regular : (page : Page) (value : List ℕ) → Regular (quoted_text page value)
 double_regular page value =
     both gap (char 34 ▹ (quoted_body page 32 value ▹ char 34)) gap_regular
     (both (char 34) (quoted_body page 32 value ▹ char 34) (char_regular 34) (both (quoted_body page 32 value) (char 34) (quoted_body_regular page 32 value) (char_regular 34)))

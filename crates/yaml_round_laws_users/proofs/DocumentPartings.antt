@@ -4,7 +4,7 @@ use Rattle.yaml_round.specs.declared.yaml_encoding_t.{yaml_encoding_t}
 use Rattle.yaml_round.specs.declared.yaml_difference_t.{yaml_difference_t}
 use Rattle.yaml_round.specs.round_laws_documents.round_content.parse_model.Events.{EventBody, type_of}
 use Rattle.yaml_round.specs.round_laws_documents.round_content.parse_laws_trees.parse_document.Documents.{Document}
-use Rattle.yaml_round.specs.round_laws_documents.round_content.Agree.{AreAgreeing}
+use Rattle.yaml_round.specs.round_laws_documents.round_content.Agree.{Agrees}
 use Rattle.yaml_round_content.specs.Input.{events_of}
 use Rattle.yaml_round.specs.Causes.{next_cause}
 use Rattle.yaml_round.specs.Loaded.{dumps_say, next_of, event_at, SameDocuments, IsDocumentsParting}
@@ -106,7 +106,7 @@ not_apart : (a_from b_from : yaml_encoding_t) (a b : List ℕ) (d : yaml_differe
 not_apart a_from b_from a b d s h =
     let first : h.first ≡ s.first = same_loading a_from a s.first h.first s.first_loads h.first_loads in
     let second : h.second ≡ s.second = same_loading b_from b s.second h.second s.second_loads h.second_loads in
-    h.apart (subst (λ (ds : List Document). AreAgreeing ds h.second) (sym first) (subst (λ (es : List Document). AreAgreeing s.first es) (sym second) s.agree))
+    h.apart (subst (λ (ds : List Document). Agrees ds h.second) (sym first) (subst (λ (es : List Document). Agrees s.first es) (sym second) s.agree))
 
 pub agree : DocumentDiffsAgree
 agree = record {

@@ -18,7 +18,7 @@ use Rattle.yaml_round.specs.round_laws_documents.Normal.{ended}
 use Rattle.yaml_round.specs.Reload.{IsReloaded, IsDumped}
 use Rattle.yaml_round.specs.emit.Emitter.{Passes, write_error, too_deep}
 use Rattle.yaml_round.specs.round_laws_documents.round_content.Said.{Document}
-use Rattle.yaml_round.specs.round_laws_documents.round_content.Canon.{written_node, written_nodes, written_pairs, written_documents, canon_encoding, canon}
+use Rattle.yaml_round.specs.round_laws_documents.round_content.Canon.{written_node, written_nodes, written_pairs, written_documents, canon_encoding, canonical_layout}
 use Rattle.yaml_round.specs.round_laws_documents.round_content.Said as content
 use Rattle.yaml_round.specs.round_content.Reading.{PlainReading}
 use Rattle.yaml_round.specs.declared.yaml_settings_t.{yaml_settings_t}
@@ -50,13 +50,13 @@ past_size limit bytes deep (inr p) = absurd (not_columns p.0)
 -- the text is the content's, and longer than the limit
 text_passes : (from : yaml_encoding_t) (s : yaml_settings_t) (input : List ℕ) (c : List Document)
     → PlainReading from input (Ok c) → IsTooLong from input s true write_error
-    → s.limit < length (canon (requested_under s true) c)
+    → s.limit < length (canonical_layout (requested_under s true) c)
 text_passes from s input c h k =
     let w = requested_under s true in
     let past = subst (λ (es : List Told). IsPast w s.limit (emitter_events true es) write_error) (events_are from input k.events k.of_input) k.past in
     let is = layout_is_of_input w (canonical_under s) from input c (read_said from input c h) past.encoding past.whole past.stream in
     let long : s.limit < length (encode past.encoding past.whole) = past_size s.limit (encode past.encoding past.whole) (is_deep past.whole) past.passes in
-    let same : length (encode past.encoding past.whole) ≡ length (canon w c) = ap (λ (x : Encoding). length (encode x past.whole)) is.0 ∙ ap (λ (t : List Item). length (encode (canon_encoding w) t)) is.1 in
+    let same : length (encode past.encoding past.whole) ≡ length (canonical_layout w c) = ap (λ (x : Encoding). length (encode x past.whole)) is.0 ∙ ap (λ (t : List Item). length (encode (canon_encoding w) t)) is.1 in
     omega (arith, long, same)
 
 pub fits_content : LimitsOfContentSuffice

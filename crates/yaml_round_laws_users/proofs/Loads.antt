@@ -6,7 +6,7 @@ use Rattle.yaml_emit_laws_text.specs.emit_layout.scan_model.Faults.{Fault}
 use Rattle.yaml_round.specs.round_laws_documents.round_content.parse_laws_trees.parse_document.Documents.{Document}
 use Rattle.yaml_round.specs.round_laws_documents.round_content.Loads.{loads_of}
 use Rattle.yaml_round.specs.round_laws_documents.round_content.PlainLoading.{PlainLoading, unless_faulty}
-use Rattle.yaml_round.specs.round_laws_documents.round_content.Agree.{AreAgreeing, core_of}
+use Rattle.yaml_round.specs.round_laws_documents.round_content.Agree.{Agrees, core_of}
 use Rattle.yaml_round.proofs.Whole.{loads_are, documents_alike, inputs_load_alike, names_do_not_matter}
 use Rattle.yaml_round.proofs.Loaded.{faultless_load, faulty_load, loading_loads}
 use Rattle.yaml_round.specs.declared.yaml_settings_t.{yaml_settings_t}
@@ -79,7 +79,7 @@ of_documents from settings input text n =
     record {
       is = n.is;
       right = right_loads YAML_ANY_ENCODING text n.back n.right;
-      agree = subst (λ (ds : List Document). AreAgreeing (loads_of from input).documents ds) (sym e) n.agree;
+      agree = subst (λ (ds : List Document). Agrees (loads_of from input).documents ds) (sym e) n.agree;
       only = λ other source k. n.any (loads_of other source).documents (loads_are other source) k;
       again = subst (λ (ds : List Document). IsDumped settings ds (Ok text)) (sym e) n.again;
     }

@@ -21,8 +21,8 @@ use Rattle.yaml_round_content.specs.scan_history.declared.Lexeme.{Lexeme}
 use Rattle.yaml_round_content.specs.scan_history.declared.Entry.{Entry}
 use Rattle.yaml_round_content.specs.scan_history.declared.Opens.{Opens}
 use Rattle.yaml_round_content.specs.scan_history.declared.Opens.TheVariants as opening
-use Rattle.yaml_round_content.specs.scan_history.History.{first_open, entries}
-use Rattle.yaml_round_content.specs.scan_history.Words.{WordText, valued, tagged, directed, blocked, plainly, body_said, word_at}
+use Rattle.yaml_round_content.specs.scan_history.History.{first_open, finished_tokens}
+use Rattle.yaml_round_content.specs.scan_history.Words.{WordText, valued, tagged, directed, blocked, plainly, body_said, lexeme_at}
 use Rattle.yaml_round_content.specs.scan_history.Next.{Next, Read, Fails, Ends, next}
 use Rattle.yaml_round_content.specs.scan_history.Remaining.{SpelledText, body_of_word, body_by, body_in, before, start_tokens, end_tokens, own_tokens, spell, all, handed, front_ends, kept_of, remaining}
 use Rattle.yaml_round_content.specs.scan_history.Scanned.{scanned_in, scanned}
@@ -96,8 +96,8 @@ directive_full (Ok d) = said_full d.said
 directive_full (Err w) = tt
 
 word_full : (k : Kind) (flow : _) (level : ℕ) (text : List ℕ) (p : ℕ)
-    → HasFull (word_at k flow level text p)
-unfolding word_at
+    → HasFull (lexeme_at k flow level text p)
+unfolding lexeme_at
 word_full kinds.Directive flow level text p = directive_full _
 word_full kinds.Alias flow level text p = alias_full _
 word_full kinds.Anchor flow level text p = anchor_full _
@@ -115,7 +115,7 @@ word_body (Err w) h = tt
 
 body_full : (k : Kind) (s : SpelledText) (l : Lexeme) → IsFull (body_by k s l)
 body_full kinds.StreamStart s l = tt
-body_full k s l = word_body (word_at k (nat_lt 0 l.depth) l.level s.text l.start.index) (word_full k (nat_lt 0 l.depth) l.level s.text l.start.index)
+body_full k s l = word_body (lexeme_at k (nat_lt 0 l.depth) l.level s.text l.start.index) (word_full k (nat_lt 0 l.depth) l.level s.text l.start.index)
 
 -- ---- lists of tokens
 
@@ -166,7 +166,7 @@ front_full [] = tt
 front_full (e ∷ es) = ends_full e
 
 kept_full : (x : Next) (h : List Lexeme) → AreFull (kept_of x h)
-kept_full (Fails p) h = front_full (drop (first_open h h) (entries h))
+kept_full (Fails p) h = front_full (drop (first_open h h) (finished_tokens h))
 kept_full Ends h = tt
 kept_full (Read l) h = tt
 

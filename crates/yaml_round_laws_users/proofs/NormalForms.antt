@@ -18,7 +18,7 @@ use Rattle.yaml_emit_laws_text.specs.emit_layout.declared.RequestedSettings.{Req
 use Rattle.yaml_round.specs.emit.Streams.{IsStream}
 use Rattle.yaml_round.specs.round_laws_documents.round_content.parse_grammar.Resolve.{Told}
 use Rattle.yaml_round.specs.round_laws_documents.Stays.{SaysInput}
-use Rattle.yaml_round.specs.round_laws_documents.round_content.Canon.{canon}
+use Rattle.yaml_round.specs.round_laws_documents.round_content.Canon.{canonical_layout}
 use Rattle.yaml_round.specs.round_content.Events.{emitter_events}
 use Rattle.yaml_round_content.specs.Input.{events_of}
 use Rattle.yaml_round_beginning.specs.round_laws_documents.Flags.{begins_with_nothing}
@@ -73,7 +73,7 @@ still from s input text result h k = still_from from s input text result h k
 -- ==== The laws beneath, said of plain readings.
 
 pub reads_back : CanonicalTextReadsBack
-reads_back from input c h w canonical = said_read YAML_ANY_ENCODING (canon w c) c (inputs_read_back from input c (read_said from input c h) w canonical)
+reads_back from input c h w canonical = said_read YAML_ANY_ENCODING (canonical_layout w c) c (inputs_read_back from input c (read_said from input c h) w canonical)
 
 pub tells : CanonicalTextTellsContents
 tells w canonical a_from b_from a b c e h k = tells_inputs w canonical a_from b_from a b c e (read_said a_from a c h) (read_said b_from b e k)

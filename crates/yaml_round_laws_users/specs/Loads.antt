@@ -4,7 +4,7 @@ use Rattle.yaml_round.specs.declared.yaml_encoding_t.{yaml_encoding_t}
 use Rattle.yaml_round.specs.declared.yaml_encoding_t.TheVariants.{YAML_ANY_ENCODING}
 use Rattle.yaml_emit_laws_text.specs.emit_layout.scan_model.Faults.{Fault}
 use Rattle.yaml_round.specs.round_laws_documents.round_content.Loads.{loads_of}
-use Rattle.yaml_round.specs.round_laws_documents.round_content.Agree.{AreAgreeing}
+use Rattle.yaml_round.specs.round_laws_documents.round_content.Agree.{Agrees}
 use Rattle.yaml_round.specs.round_laws_documents.round_content.DumpsEvents.{trees_of_dumps}
 use Rattle.yaml_round.specs.declared.yaml_settings_t.{yaml_settings_t}
 use Rattle.yaml_round.specs.Answers.{canonical_text}
@@ -36,11 +36,11 @@ pub record IsNormalOfLoads (from : yaml_encoding_t) (settings : yaml_settings_t)
     (input text : List ℕ) : Type 0 where
   pub is : text ≡ canonical_text settings (trees_of_dumps (loads_of from input).documents)
   pub right : (loads_of YAML_ANY_ENCODING text).fault ≡ None
-  pub agree : AreAgreeing (loads_of from input).documents
+  pub agree : Agrees (loads_of from input).documents
       (loads_of YAML_ANY_ENCODING text).documents
   pub only : (other : yaml_encoding_t) (source : List ℕ)
       → canonical_text settings (trees_of_dumps (loads_of other source).documents) ≡ text
-      → AreAgreeing (loads_of from input).documents (loads_of other source).documents
+      → Agrees (loads_of from input).documents (loads_of other source).documents
   pub again : IsDumped settings (loads_of YAML_ANY_ENCODING text).documents (Ok text)
 
 -- So is what is answered.

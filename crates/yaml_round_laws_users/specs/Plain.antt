@@ -8,7 +8,7 @@ use Rattle.yaml_emit_laws_text.specs.emit_layout.declared.RequestedSettings.{Req
 use Rattle.yaml_emit_laws_text.specs.emit_layout.Streams.{IsStream}
 use Rattle.yaml_round.specs.round_laws_documents.parse_grammar.Resolve.{Told}
 use Rattle.yaml_round.specs.round_content.Said.{Document}
-use Rattle.yaml_round.specs.round_content.Canon.{canon}
+use Rattle.yaml_round.specs.round_content.Canon.{canonical_layout}
 use Rattle.yaml_round.specs.round_content.Events.{emitter_events}
 use Rattle.yaml_round.specs.round_content.Reading.{PlainReading, HasEvents}
 use Rattle.yaml_round.specs.Flags.{begins_with_nothing}
@@ -20,13 +20,14 @@ use Rattle.yaml_round.specs.Flags.{begins_with_nothing}
 abbrev pub CanonicalTextReadsBack : Type 0
 CanonicalTextReadsBack = (from : yaml_encoding_t) (input : List ℕ) (c : List Document)
     → PlainReading from input (Ok c) → (w : RequestedSettings) → w.canonical ≡ true
-    → PlainReading YAML_ANY_ENCODING (canon w c) (Ok c)
+    → PlainReading YAML_ANY_ENCODING (canonical_layout w c) (Ok c)
 
 -- Contents of inputs that have one canonical text are one.
 abbrev pub CanonicalTextTellsContents : Type 0
 CanonicalTextTellsContents = (w : RequestedSettings) → w.canonical ≡ true
     → (a_from b_from : yaml_encoding_t) (a b : List ℕ) (c e : List Document)
-    → PlainReading a_from a (Ok c) → PlainReading b_from b (Ok e) → canon w c ≡ canon w e → c ≡ e
+    → PlainReading a_from a (Ok c) → PlainReading b_from b (Ok e)
+    → canonical_layout w c ≡ canonical_layout w e → c ≡ e
 
 -- ---- pretty text
 

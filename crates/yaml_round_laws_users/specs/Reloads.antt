@@ -6,7 +6,7 @@ use Rattle.yaml_round.specs.round_laws_documents.round_content.parse_laws_trees.
 use Rattle.yaml_round.specs.round_laws_documents.round_content.PlainLoading.{PlainLoading}
 use Rattle.yaml_round.specs.round_laws_documents.round_content.Said as content
 use Rattle.yaml_round.specs.round_laws_documents.round_content.Reading.{PlainReading}
-use Rattle.yaml_round.specs.round_laws_documents.round_content.Agree.{AreAgreeing}
+use Rattle.yaml_round.specs.round_laws_documents.round_content.Agree.{Agrees}
 use Rattle.yaml_round.specs.round_laws_documents.round_content.Renamed.{Renaming, renamed, AreOneToOne}
 use Rattle.yaml_round.specs.declared.yaml_settings_t.{yaml_settings_t}
 use Rattle.yaml_round.specs.declared.yaml_form_t.{yaml_form_t}
@@ -18,7 +18,7 @@ abbrev pub ReloadsTellDocuments : Type 0
 ReloadsTellDocuments = (s : yaml_settings_t) (a_from b_from : yaml_encoding_t) (a b t u : List ℕ)
     → IsReloaded a_from s a (Ok t) → IsReloaded b_from s b (Ok u)
     → (ds es : List Document) → PlainLoading a_from a (Ok ds) → PlainLoading b_from b (Ok es)
-    → (t ≡ u) ↔ AreAgreeing ds es
+    → (t ≡ u) ↔ Agrees ds es
 
 -- Both texts, each read as its byte order mark shows, load without a fault, and documents that agree.
 pub record LoadAgreeing (t u : List ℕ) : Type 0 where
@@ -26,7 +26,7 @@ pub record LoadAgreeing (t u : List ℕ) : Type 0 where
   pub others : List Document
   pub first : PlainLoading YAML_ANY_ENCODING t (Ok documents)
   pub second : PlainLoading YAML_ANY_ENCODING u (Ok others)
-  pub agree : AreAgreeing documents others
+  pub agree : Agrees documents others
 
 -- What is answered to one input, by either call and under any settings, loads documents that agree.
 abbrev pub AnswersAndReloadsAgree : Type 0

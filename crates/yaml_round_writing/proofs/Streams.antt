@@ -6,7 +6,7 @@ use Rattle.yaml_parse.specs.Documents.{Document}
 use Rattle.yaml_parse.specs.Loading.{nothing_loaded}
 use Rattle.yaml_emit.specs.emit_graph.Graph.{graph_content}
 use Rattle.yaml_emit.specs.emit_layout.declared.RequestedSettings.{RequestedSettings}
-use Rattle.yaml_round_laws_documents.specs.round_content.emit_laws_dumps.StreamsLaws.{RightStream, HasText, AreRightTold}
+use Rattle.yaml_round_laws_documents.specs.round_content.emit_laws_dumps.StreamsLaws.{IsEmittable, HasText, AreRightTold}
 use Rattle.yaml_round_laws_documents.proofs.DocumentsPassing.{texts}
 use Rattle.yaml_round_laws_documents.proofs.DocumentsContents.{dumped_streams}
 use Rattle.yaml_round_laws_documents.proofs.Loading.{empty_right}
@@ -33,7 +33,7 @@ unfolding read
 input_told from input = inputs_load_right from input
 
 loaded_stream : (from : yaml_encoding_t) (input : List ℕ)
-    → RightStream true (written_events (loads_of from input).documents)
+    → IsEmittable true (written_events (loads_of from input).documents)
 loaded_stream from input =
     let ds : List Document = (loads_of from input).documents in
     record {
@@ -45,4 +45,4 @@ loaded_stream from input =
 
 pub loaded_text : (from : yaml_encoding_t) (input : List ℕ) (w : RequestedSettings)
     → w.canonical ≡ true → HasText w (written_events (loads_of from input).documents)
-loaded_text from input w c = texts w (written_events (loads_of from input).documents) (subst (λ (b : Bool). RightStream b (written_events (loads_of from input).documents)) (sym c) (loaded_stream from input))
+loaded_text from input w c = texts w (written_events (loads_of from input).documents) (subst (λ (b : Bool). IsEmittable b (written_events (loads_of from input).documents)) (sym c) (loaded_stream from input))

@@ -21,7 +21,7 @@ use Rattle.yaml_round_laws_documents.specs.round_content.Input.{events_of}
 use Rattle.yaml_parse.specs.Resolve.{Told}
 use Rattle.yaml_round_laws_documents.specs.round_content.Said.{Document}
 use Rattle.yaml_round_laws_documents.specs.round_content.Reading.{PlainReading, HasEvents}
-use Rattle.yaml_round_laws_documents.specs.round_content.Canon.{canon}
+use Rattle.yaml_round_laws_documents.specs.round_content.Canon.{canonical_layout}
 use Rattle.yaml_round_beginning.specs.round_laws_documents.Flags.{begins_with_nothing}
 unfoldable pub use Rattle.yaml_round_reading.specs.Answers.{IsRight, IsFaulty}
 pub use Rattle.yaml_round_reading.specs.Answers.{SameContent, IsCompared, IsSideFaulty, IsSideStarved, IsSame, ReadsBack}
@@ -123,7 +123,7 @@ IsWrittenIn form from settings input (Err fault) = IsFaulty from input fault
 
 -- the canonical text of a content under the settings of a call
 abbrev pub canonical_text : yaml_settings_t → List Document → List ℕ
-canonical_text settings c = canon (requested_under settings true) c
+canonical_text settings c = canonical_layout (requested_under settings true) c
 
 -- The text is the normal form of what the input says: it reads back as exactly that, no other content
 -- has it, and it is laid out again as itself.

@@ -16,7 +16,7 @@ use Rattle.yaml_round_device.specs.declared.yaml_settings_t.{yaml_settings_t}
 use Rattle.yaml_round_laws_documents.specs.round_content.Loads.{Loads, no_more, load_all, loads_of}
 use Rattle.yaml_round_laws_documents.specs.round_content.PlainLoading.{PlainLoading}
 use Rattle.yaml_round_writing.specs.Writing.{requested_under, IsEachLayout, IsPastEach}
-use Rattle.yaml_round_laws_documents.specs.round_content.Agree.{AreAgreeing}
+use Rattle.yaml_round_laws_documents.specs.round_content.Agree.{Agrees}
 use Rattle.yaml_round_laws_documents.specs.round_content.DumpsEvents.{trees_of_dumps, AreNumerable}
 use Rattle.yaml_round_laws_documents.specs.Normal.{ended, AreWritableDocuments}
 use Rattle.yaml_round_writing.specs.Answers.{IsLayout, IsPast, canonical_text}
@@ -57,14 +57,14 @@ pub record IsNormalOfDocuments (settings : yaml_settings_t) (documents : List Do
   -- read as its byte order mark shows, it loads, without a fault, documents that agree with them
   pub back : List Document
   pub right : PlainLoading YAML_ANY_ENCODING text (Ok back)
-  pub agree : AreAgreeing documents back
+  pub agree : Agrees documents back
   -- the documents of any input whose text it is agree with them
   pub only : (other : yaml_encoding_t) (source : List ℕ) (others : List Document)
       → PlainLoading other source (Ok others)
-      → canonical_text settings (trees_of_dumps others) ≡ text → AreAgreeing documents others
+      → canonical_text settings (trees_of_dumps others) ≡ text → Agrees documents others
   -- and so do any that are as loading makes them, as those before a fault are
   pub any : (others : List Document) → AreWritableDocuments others
-      → canonical_text settings (trees_of_dumps others) ≡ text → AreAgreeing documents others
+      → canonical_text settings (trees_of_dumps others) ≡ text → Agrees documents others
   -- it is laid out for the documents that it loads itself
   pub again : IsDumped settings back (Ok text)
 

@@ -2,7 +2,7 @@
 use Rattle.std.proofs.Common.{◌≡◌, ◌≢◌, ℕ, ◌+◌, ◌-◌, ◌<◌, ◌≤◌, true, false, ltb, List, [], ◌∷◌, ◌++◌, get_or, length, length-append, Option, refl, sym, ap, subst, ◌∙◌, inl, inr, arith}
 use Rattle.std.proofs.lemmas.Bool.{true≢false}
 use Rattle.std.proofs.lemmas.List.{get_or_read_under}
-use Rattle.yaml_scan_core.proofs.Words.{cases_Bool, cases_Option, cases_lt, nat_tests, Entry, Lexeme as Read, Remaining, SpelledText, all, ended, entries, entry_of, first_lexeme, history, length-entries, levels, next, offline, remaining}
+use Rattle.yaml_scan_core.proofs.Words.{cases_Bool, cases_Option, cases_lt, nat_tests, Entry, Lexeme as Read, Remaining, SpelledText, all, ended, finished_tokens, entry_of, first_lexeme, history, length-entries, open_levels, next, offline, remaining}
 use Rattle.yaml_scan_model.specs.Coming.{front_of, rest_of}
 use Rattle.yaml_scan_model.specs.Faults.{Fault as PublicFault}
 use Rattle.yaml_scan_model.specs.Tokens.{Token}
@@ -17,7 +17,7 @@ use Rattle.yaml_scan_tokens.specs.declared.kind.Kind.TheVariants as kinds
 use Rattle.yaml_scan_core.specs.declared.lexeme.Lexeme.{Lexeme}
 use Rattle.yaml_scan_core.specs.declared.row.Row.{Row}
 use Rattle.yaml_scan_core.specs.declared.scanner.Scanner.{Scanner}
-use Rattle.yaml_scan_core.specs.Rows.{HasRoom, IsThere, RowView, first_kind, led, lexeme_at, may_lead, no_lexeme, row_of}
+use Rattle.yaml_scan_core.specs.Rows.{HasRoom, IsThere, RowView, first_kind, led, row_lexeme, may_lead, no_lexeme, row_of}
 use Rattle.yaml_scan_core.specs.Shown.{Carries, ShowsRow, entry_at, store_of}
 use Rattle.yaml_scan_core.specs.Scanning.{Fixed, HasFailed, IsGoing, IsOver, IsTold, Rests, fault_in, history_of, read_by, stream_of}
 use Rattle.yaml_scan_core.specs.Handed.{HandsOn, come_of, ends_at, ends_in, given_in, given_of, to_come}
@@ -59,16 +59,16 @@ has_taken s k row f own is =
     let text = s.text.now in
     let t = stream_of s in
     let b = (front_of (to_come s).tokens).body in
-    let Holds : RowView → Type 0 = λ v. Carries (store_of text v) t (lexeme_at v (v.next - 1)) (lexeme_at v (v.next - 1)).kind b in
+    let Holds : RowView → Type 0 = λ v. Carries (store_of text v) t (row_lexeme v (v.next - 1)) (row_lexeme v (v.next - 1)).kind b in
     let body : f.token.body ≡ b = sym (ap (λ ts. (front_of ts).body) f.first) in
-    let now = subst (λ c. Carries (store_of text r) t (lexeme_at r r.next) (lexeme_at r r.next).kind c) body (f.own own) in
+    let now = subst (λ c. Carries (store_of text r) t (row_lexeme r r.next) (row_lexeme r r.next).kind c) body (f.own own) in
     let back : r.next ≡ r.next + 1 - 1 = omega arith in
     let next : row.next ≡ s.row.next + 1 = ap (λ (v : RowView). v.next) is in
     let long : length row.lexemes.items ≡ length s.row.lexemes.items = ap (λ (v : RowView). length v.lexemes) is in
     record {
       some = omega (arith, next);
       inside = omega (arith, next, long, f.some);
-      carries = subst Holds (sym is) (subst (λ i. Carries (store_of text r) t (lexeme_at r i) (lexeme_at r i).kind b) back now);
+      carries = subst Holds (sym is) (subst (λ i. Carries (store_of text r) t (row_lexeme r i) (row_lexeme r i).kind b) back now);
     }
 
 -- ---- the kind of the next token
@@ -111,8 +111,8 @@ end_ready s g some ends = elim (cases_lt s.row.next s.row.settled) [
   | inl low ↦ record { some = some; settled = λ other. low }
   | inr past ↦
       let r = row_of s.row in
-      let x = lexeme_at r r.next in
-      let first = front_first (store_in s) (stream_of s) x (entry_at (entries (history_of s)) (r.dropped + r.next)) (ltb r.next r.settled) (unsettled r.next r.settled past) (g.shows.holds.row.front some) in
+      let x = row_lexeme r r.next in
+      let first = front_first (store_in s) (stream_of s) x (entry_at (finished_tokens (history_of s)) (r.dropped + r.next)) (ltb r.next r.settled) (unsettled r.next r.settled past) (g.shows.holds.row.front some) in
       let is : ltb 0 x.ends ≡ true = grind (arith, nat_tests) in
       let front : first_kind x ≡ kinds.BlockEnd = rw is refl in
       record { some = some; settled = λ other. absurd (other (first ∙ front)) }
@@ -298,19 +298,19 @@ own_skipped s k w f no_lead = (first_by s k w.rests f).plain (ap may_lead (sym f
 -- ---- before the first token
 
 first_ends : (entry_of first_lexeme []).ends ≡ 0
-unfolding levels
+unfolding open_levels
 first_ends = refl
 
 ends_first : (text : List ℕ) → ends_at text 0 ≡ 0
 ends_first text =
-    let is : entries (history text 1) ≡ entry_of first_lexeme [] ∷ [] = ap entries (first_history text) ∙ first_entries in
-    let some : length (entries (history text 1)) ≡ 1 = ap (λ (es : List Entry). length es) is in
+    let is : finished_tokens (history text 1) ≡ entry_of first_lexeme [] ∷ [] = ap finished_tokens (first_history text) ∙ first_entries in
+    let some : length (finished_tokens (history text 1)) ≡ 1 = ap (λ (es : List Entry). length es) is in
     sym (told_history text 1 0 (omega (arith, some))) ∙ ap (λ es. (entry_at es 0).ends) is ∙ first_ends
 
 none_given : (text : List ℕ) → given_in text first_row ≡ 0
 none_given text =
     let ends : ends_in text first_row ≡ 0 = ends_first text in
-    given_is text first_row (omega arith) ∙ ap (λ n. given_of n (lexeme_at first_row first_row.next)) ends
+    given_is text first_row (omega arith) ∙ ap (λ n. given_of n (row_lexeme first_row first_row.next)) ends
 
 -- all is to come
 all_comes : (s : Scanner) → row_of s.row ≡ first_row → to_come s ≡ offline (stream_of s)

@@ -1,6 +1,6 @@
 -- What a lexeme makes of the keys, and which of them is the earliest.
 use Rattle.std.proofs.Common.{◌≡◌, ◌∙◌, ℕ, ◌+◌, ◌-◌, ◌<◌, ◌≤◌, inl, inr, Bool, true, false, cond, eqb, List, [], ◌∷◌, length, get_or, Option, Some, None, refl, sym, ap, arith}
-use Rattle.yaml_scan_core.proofs.Words.{cases_lt, cases_order, cases_Option, nat_tests, set, get_or_append_left, get_or_past, get_or_at, yaml_mark_t, Lexeme, cancels, Candidate, candidate, depth, fresh, first_open, first_open-le, reached, Upto, fresh_before, fresh_is, candidate_below, history, SimpleKey, KeyStack, key_at, inner, saved, given_up, key_opened, key_closed, no_key, view_of, number_in, key_mark, key_view, fresh_key, AreStale, IsKey, AreKeysTo, AreKeys, required_in, required_at}
+use Rattle.yaml_scan_core.proofs.Words.{cases_lt, cases_order, cases_Option, nat_tests, set, get_or_append_left, get_or_past, get_or_at, yaml_mark_t, Lexeme, cancels, Candidate, candidate, flow_depth, fresh, first_open, first_open-le, reached, Upto, fresh_before, fresh_is, candidate_below, history, SimpleKey, KeyStack, key_at, inner, saved, given_up, key_opened, key_closed, no_key, view_of, number_in, key_mark, key_view, fresh_key, AreStale, IsKey, AreKeysTo, AreKeys, required_in, required_at}
 use Rattle.std.proofs.lemmas.List.{length-append, length-set, length-take-le, get_or-take, get_or-set_same, get_or-set_other}
 use Rattle.yaml_scan_history.proofs.HistoryLemmas.{near_before, first_open-is, first_open-least}
 use Rattle.yaml_scan_core.proofs.StepLemmas.{candidate_top, none_deeper}
@@ -292,7 +292,7 @@ pub some_settles : (text : List ℕ) (t : KeyStack) (h : List Lexeme) (n : ℕ)
 some_settles text t h n a some =
     let q = reached h in
     let d = t.passed in
-    let within : d ≤ depth h = elim (cases_lt d (length t.levels)) [
+    let within : d ≤ flow_depth h = elim (cases_lt d (length t.levels)) [
       | inl low ↦ omega (arith, low, a.long)
       | inr high ↦ let bad = rw (get_or_past t.levels d no_key high) at some in cc
     ] in
@@ -316,7 +316,7 @@ none_settles text t n a last =
       | inr past ↦ omega (arith, past, first_open-le h h)
       | inl less ↦
           let (e, (x, there, first)) = first_open-is h h less in
-          let gone : fresh (candidate e h) q ≡ None = elim (cases_lt (depth h) e) [
+          let gone : fresh (candidate e h) q ≡ None = elim (cases_lt (flow_depth h) e) [
             | inl deep ↦ ap (λ o. fresh o q) (none_deeper text n e deep)
             | inr shallow ↦ gone_of text (key_at t e) (candidate e h) q (a.agrees e shallow) (a.stale e (omega (arith, shallow, a.long, last)))
           ] in cc

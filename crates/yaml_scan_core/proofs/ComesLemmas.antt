@@ -1,6 +1,6 @@
 -- What comes where a lexeme of a kind stands after the gap: the lexeme, or what is wrong.
 use Rattle.std.proofs.Common.{◌≡◌, ℕ, ◌<◌, Bool, true, false, ltb, List, length, Option, Some, None, Result, Ok, Err, refl, ap, ◌∙◌}
-use Rattle.yaml_scan_core.proofs.Words.{yaml_mark_t, mark_at, Wrong, Kind, Lexeme, candidate, fresh, reached, depth, ended, WordText, word_at, kind_at, Fails, allowed_behind, finished, misplaced, missed, lost_by, no_colon, unless_wrong, unless_lost, of_kind, unless_missed, next, history}
+use Rattle.yaml_scan_core.proofs.Words.{yaml_mark_t, mark_at, Wrong, Kind, Lexeme, candidate, fresh, reached, flow_depth, ended, WordText, lexeme_at, kind_at, Fails, allowed_behind, finished, misplaced, missed, lost_by, no_colon, unless_wrong, unless_lost, of_kind, unless_missed, next, history}
 use Rattle.yaml_scan_model.specs.Wrong.{scan_fault}
 use Rattle.yaml_scan_history.specs.Stepwise.{no_token, not_allowed, tested}
 use Rattle.yaml_scan_core.proofs.ReadLemmas.{gap_of, begun_at}
@@ -12,7 +12,7 @@ here text h = mark_at text (gap_of text h).place
 
 -- the kind that stands there
 abbrev pub kind_here : List ℕ → List Lexeme → Option Kind
-kind_here text h = kind_at (ltb 0 (depth h)) text (gap_of text h).place
+kind_here text h = kind_at (ltb 0 (flow_depth h)) text (gap_of text h).place
 
 -- a further lexeme or a fault comes
 pub record GoesOn (text : List ℕ) (n : ℕ) (h : List Lexeme) : Type 0 where
@@ -57,10 +57,10 @@ abbrev pub is_wrong : Kind → List ℕ → List Lexeme → Bool
 is_wrong k text h = misplaced k (here text h) (allowed_behind h (gap_of text h)) h
 
 abbrev pub lost_at : Kind → List ℕ → List Lexeme → Option yaml_mark_t
-lost_at k text h = lost_by (begun_at text h k) (fresh (candidate (depth h) h) (here text h))
+lost_at k text h = lost_by (begun_at text h k) (fresh (candidate (flow_depth h) h) (here text h))
 
 abbrev pub word_here : Kind → List ℕ → List Lexeme → Result WordText Wrong
-word_here k text h = word_at k (ltb 0 (depth h)) (begun_at text h k).level text (gap_of text h).place
+word_here k text h = lexeme_at k (ltb 0 (flow_depth h)) (begun_at text h k).level text (gap_of text h).place
 
 pub comes_misplaced : (k : Kind) (text : List ℕ) (n : ℕ) (h : List Lexeme) → IsAt k text n h
     → is_wrong k text h ≡ true → next text h ≡ not_allowed k (here text h)

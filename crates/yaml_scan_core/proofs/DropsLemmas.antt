@@ -7,7 +7,7 @@ use Rattle.yaml_scan_tokens.specs.declared.kind.Kind.{Kind}
 use Rattle.yaml_scan_tokens.specs.declared.kind.Kind.TheVariants as kinds
 use Rattle.yaml_scan_core.specs.declared.lexeme.Lexeme.{Lexeme}
 use Rattle.yaml_scan_core.specs.declared.row.Row.{Row}
-use Rattle.yaml_scan_core.specs.Rows.{HasRoom, RowView, behind_lead, behind_start, first_kind, led, is_set, lexeme_at, no_lexeme, row_of}
+use Rattle.yaml_scan_core.specs.Rows.{HasRoom, RowView, behind_lead, behind_start, first_kind, led, is_set, row_lexeme, no_lexeme, row_of}
 use Rattle.yaml_scan_core.specs.Handed.{Drops, given_in}
 use Rattle.yaml_scan_core.proofs.HandedLemmas.{given_moved}
 use Rattle.yaml_scan_core.specs.Shown.{IsFront, ShowsEntry, Store, ShowsRow, ShowsWhole, ShowsFront, entry_at, store_of}
@@ -27,7 +27,7 @@ moved_plain s u x same plain = record {
 }
 
 pub shown_plain : (t : SpelledText) (r : RowView) (es : List Entry)
-    → ((i : ℕ) → i < length r.lexemes → is_set 8 (lexeme_at r i) ≡ false) → ShowsRow t r es
+    → ((i : ℕ) → i < length r.lexemes → is_set 8 (row_lexeme r i) ≡ false) → ShowsRow t r es
     → ShowsRow t (record r { notes = []; arena = [] }) es
 shown_plain t r es plain h =
     let s = store_of t.text r in
@@ -36,13 +36,13 @@ shown_plain t r es plain h =
       count = h.count;
       taken = h.taken;
       few = h.few;
-      front = λ lt. front_moved _ s u t (lexeme_at r r.next) _ (moved_plain s u (lexeme_at r r.next) refl (plain r.next lt)) (h.front lt);
-      others = λ i gt lt. whole_moved s u t (lexeme_at r i) _ (moved_plain s u (lexeme_at r i) refl (plain i lt)) (h.others i gt lt);
+      front = λ lt. front_moved _ s u t (row_lexeme r r.next) _ (moved_plain s u (row_lexeme r r.next) refl (plain r.next lt)) (h.front lt);
+      others = λ i gt lt. whole_moved s u t (row_lexeme r i) _ (moved_plain s u (row_lexeme r i) refl (plain i lt)) (h.others i gt lt);
     }
 
 -- the notes of a row are dropped
 pub drops_plain : (old new : Row)
-    → ((i : ℕ) → i < length old.lexemes.items → is_set 8 (lexeme_at (row_of old) i) ≡ false)
+    → ((i : ℕ) → i < length old.lexemes.items → is_set 8 (row_lexeme (row_of old) i) ≡ false)
     → row_of new ≡ record (row_of old) { notes = []; arena = [] } → (HasRoom old → HasRoom new)
     → Drops old new
 drops_plain old new plain is room = record {
@@ -71,7 +71,7 @@ drops_on a b c d e = record {
 pub shown_front : (t : SpelledText) (r : RowView) (es : List Entry) (ls : List Lexeme)
     → let q : RowView = record r { lexemes = ls; next = 0; settled = r.settled - r.next; dropped = r.dropped + r.next } in
     length ls + r.next ≡ length r.lexemes
-    → ((i : ℕ) → i < length ls → lexeme_at q i ≡ lexeme_at r (r.next + i))
+    → ((i : ℕ) → i < length ls → row_lexeme q i ≡ row_lexeme r (r.next + i))
     → ShowsRow t r es → ShowsRow t q es
 shown_front t r es ls long are h =
     let s = store_of t.text r in
@@ -83,9 +83,9 @@ shown_front t r es ls long are h =
       taken = omega arith;
       few = omega (arith, h.few, long);
       front = λ lt.
-          let f : ShowsFront (ltb r.next r.settled) s t (lexeme_at r (r.next + 0)) (entry_at es (r.dropped + (r.next + 0))) = subst (λ j. ShowsFront (ltb r.next r.settled) s t (lexeme_at r j) (entry_at es (r.dropped + j))) (sym none) (h.front (omega (arith, lt, long))) in
-          rw (are 0 lt) (subst (λ j. ShowsFront (ltb 0 (r.settled - r.next)) s t (lexeme_at r (r.next + 0)) (entry_at es j)) (place 0) (subst (λ b. ShowsFront b s t (lexeme_at r (r.next + 0)) (entry_at es (r.dropped + (r.next + 0)))) flag f));
-      others = λ i gt lt. rw (are i lt) (subst (λ j. ShowsWhole s t (lexeme_at r (r.next + i)) (entry_at es j)) (place i) (h.others (r.next + i) (omega (arith, gt)) (omega (arith, lt, long))));
+          let f : ShowsFront (ltb r.next r.settled) s t (row_lexeme r (r.next + 0)) (entry_at es (r.dropped + (r.next + 0))) = subst (λ j. ShowsFront (ltb r.next r.settled) s t (row_lexeme r j) (entry_at es (r.dropped + j))) (sym none) (h.front (omega (arith, lt, long))) in
+          rw (are 0 lt) (subst (λ j. ShowsFront (ltb 0 (r.settled - r.next)) s t (row_lexeme r (r.next + 0)) (entry_at es j)) (place 0) (subst (λ b. ShowsFront b s t (row_lexeme r (r.next + 0)) (entry_at es (r.dropped + (r.next + 0)))) flag f));
+      others = λ i gt lt. rw (are i lt) (subst (λ j. ShowsWhole s t (row_lexeme r (r.next + i)) (entry_at es j)) (place i) (h.others (r.next + i) (omega (arith, gt)) (omega (arith, lt, long))));
     }
 
 no_more : (n : ℕ) → n + 0 ≡ n
@@ -97,14 +97,14 @@ pub drops_front : (old now : Row) (ls : Vec Lexeme Global) (left at : ℕ)
     → now ≡ record old { lexemes = now.lexemes }
     → length now.lexemes.items ≡ length old.lexemes.items
     → vec_capacity now.lexemes ≡ vec_capacity old.lexemes
-    → ((i : ℕ) → i < at → lexeme_at (row_of now) i ≡ lexeme_at (row_of old) (old.next + i))
+    → ((i : ℕ) → i < at → row_lexeme (row_of now) i ≡ row_lexeme (row_of old) (old.next + i))
     → left ≤ at → ls.items ≡ take left now.lexemes.items
     → vec_capacity ls ≡ vec_capacity now.lexemes
     → Drops old (record now { lexemes = ls; next = 0; settled = now.settled - now.next; dropped = now.dropped + now.next })
 drops_front old now ls left at taken count same long capacity moved all items room =
     let few : left ≤ length now.lexemes.items = omega (arith, long, count) in
     let short : length ls.items ≡ left = ap (λ (xs : List Lexeme). length xs) items ∙ length-take-le left now.lexemes.items few in
-    let are : (i : ℕ) → i < length ls.items → get_or ls.items i no_lexeme ≡ lexeme_at (row_of old) (old.next + i) = λ i lt. ap (λ (xs : List Lexeme). get_or xs i no_lexeme) items ∙ get_or-take left now.lexemes.items i no_lexeme (omega (arith, lt, short)) ∙ moved i (omega (arith, lt, short, all)) in
+    let are : (i : ℕ) → i < length ls.items → get_or ls.items i no_lexeme ≡ row_lexeme (row_of old) (old.next + i) = λ i lt. ap (λ (xs : List Lexeme). get_or xs i no_lexeme) items ∙ get_or-take left now.lexemes.items i no_lexeme (omega (arith, lt, short)) ∙ moved i (omega (arith, lt, short, all)) in
     let it : Drops old (record old { lexemes = ls; next = 0; settled = old.settled - old.next; dropped = old.dropped + old.next }) = record {
       shows = λ t es h. shown_front t (row_of old) es ls.items (omega (arith, short, count)) are h;
       count = omega (arith, short, count);
@@ -112,7 +112,7 @@ drops_front old now ls left at taken count same long capacity moved all items ro
       settled = omega (arith, taken);
       room = λ r. omega (arith, r, short, count, room, capacity);
       given = λ text. given_moved text (row_of old) (row_of (record old { lexemes = ls; next = 0; settled = old.settled - old.next; dropped = old.dropped + old.next }))
-          (omega arith) (omega (arith, short, count)) (λ some. are 0 some ∙ ap (λ i. lexeme_at (row_of old) i) (no_more old.next));
+          (omega arith) (omega (arith, short, count)) (λ some. are 0 some ∙ ap (λ i. row_lexeme (row_of old) i) (no_more old.next));
     } in
     subst (λ (x : Row). Drops old (record x { lexemes = ls; next = 0; settled = x.settled - x.next; dropped = x.dropped + x.next })) (sym same) it
 
@@ -166,14 +166,14 @@ front_led b s t x e _ is on f =
 
 -- A row of whose first lexeme a token is taken shows the same: a BLOCK-END, or one of a lexeme that is settled.
 pub shown_led : (t : SpelledText) (r : RowView) (es : List Entry) → r.next < length r.lexemes
-    → ((lexeme_at r r.next).front ≢ kinds.BlockEnd → r.next < r.settled)
+    → ((row_lexeme r r.next).front ≢ kinds.BlockEnd → r.next < r.settled)
     → ShowsRow t r es → ShowsRow t (led r) es
 shown_led t r es lt ready h =
     let s = store_of t.text r in
-    let x = lexeme_at r r.next in
+    let x = row_lexeme r r.next in
     let y = behind_lead x.front x in
     let q = led r in
-    let same : lexeme_at q r.next ≡ y = get_or-set_same r.lexemes r.next y no_lexeme lt in
+    let same : row_lexeme q r.next ≡ y = get_or-set_same r.lexemes r.next y no_lexeme lt in
     let long : length q.lexemes ≡ length r.lexemes = length-set r.lexemes r.next y in
     record {
       count = omega (arith, h.count, long);
@@ -190,6 +190,6 @@ shown_own t r es lt h = record {
   count = h.count;
   taken = omega (arith, lt);
   few = h.few;
-  front = λ low. whole_front _ (store_of t.text r) t (lexeme_at r (r.next + 1)) _ (h.others (r.next + 1) (omega arith) low);
+  front = λ low. whole_front _ (store_of t.text r) t (row_lexeme r (r.next + 1)) _ (h.others (r.next + 1) (omega arith) low);
   others = λ i gt low. h.others i (omega (arith, gt)) low;
 }

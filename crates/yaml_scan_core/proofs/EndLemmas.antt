@@ -1,6 +1,6 @@
 -- The stream's end.
 use Rattle.std.proofs.Common.{◌≡◌, ℕ, ◌+◌, ◌-◌, ◌<◌, ◌≤◌, ◌⊎◌, Bool, true, false, cond, ltb, leb, ◌&&◌, not, inl, inr, List, ◌∷◌, length, Option, Some, None, Ok, refl, sym, ap, subst, ◌∙◌, arith}
-use Rattle.yaml_scan_core.proofs.Words.{cases_Bool, cases_lt, nat_tests, byte, yaml_mark_t, mark_at, line_at, column_at, Lexeme, Candidate, candidate, reached, depth, placed, missed, Next, Read, Fails, word_at, next, colon_missing, entries, Upto, history, AreKeys, KeyStack, inner, stack_of, given_up, key_at, required_in, required_at, index_in}
+use Rattle.yaml_scan_core.proofs.Words.{cases_Bool, cases_lt, nat_tests, byte, yaml_mark_t, mark_at, line_at, column_at, Lexeme, Candidate, candidate, reached, flow_depth, placed, missed, Next, Read, Fails, lexeme_at, next, colon_missing, finished_tokens, Upto, history, AreKeys, KeyStack, inner, stack_of, given_up, key_at, required_in, required_at, index_in}
 use Rattle.yaml_scan_core.specs.declared.scanner.Scanner.{Scanner}
 use Rattle.yaml_scan_history.specs.declared.kind.Kind.TheVariants as reads
 use Rattle.yaml_scan_core.specs.Shown.{place_mark}
@@ -82,7 +82,7 @@ due_there s = cond (ltb 0 (inner (stack_of s.keys)) && not (ltb s.at (end_place 
 
 pub end_word : (text : List ℕ) (h : List Lexeme)
     → word_here reads.StreamEnd text h ≡ Ok (bare_word tokens.stream_end 0 text h)
-unfolding word_at
+unfolding lexeme_at
 end_word text h = let z : (gap_of text h).place + 0 ≡ (gap_of text h).place = omega arith in rw z refl
 
 at_mark : (s : Scanner) (h : List Lexeme) (n : ℕ) → StandsAs reads.StreamEnd s h n
@@ -101,15 +101,15 @@ end_comes s h n m a must far =
     let k = reads.StreamEnd in
     let text = s.text.now in
     let l = begun_at text h k in
-    let deep : inner (stack_of s.keys) ≡ depth h = inner_is (depth h) (stack_of s.keys) a.behind.holds.keys.long in
+    let deep : inner (stack_of s.keys) ≡ flow_depth h = inner_is (flow_depth h) (stack_of s.keys) a.behind.holds.keys.long in
     let good = not_wrong k text h refl in
     let lost = lost_there k true s h n a (place_cancels k text h refl refl) in
-    elim (cases_Bool (ltb 0 (depth h))) [
+    elim (cases_Bool (ltb 0 (flow_depth h))) [
       | inr flat ↦ comes_lost k text (read_by s) h m (stands_at k s h n a) good (lost ∙ (rw flat must))
       | inl some ↦
           let none : lost_at k text h ≡ None = lost ∙ (rw some refl) in
           let comes = comes_word k text (read_by s) h (bare_word tokens.stream_end 0 text h) (stands_at k s h n a) good none (end_word text h) in
-          let lt : 0 < depth h = grind (arith, nat_tests, some) in
+          let lt : 0 < flow_depth h = grind (arith, nat_tests, some) in
           let more : s.at < end_place s = let f = far (ap (λ d. ltb 0 d) deep ∙ some) in grind (arith, nat_tests, f) in
           let st = candidate_start text (read_by s) h m a.behind.is must in
           let at = end_at_end s h n a in
@@ -170,7 +170,7 @@ pub end_takes : (s : Scanner) (row : Row) (keys : Keys) (x : Held) (p : ℕ) (h 
     → x ≡ bare kinds.StreamEnd n p p 0 → row_of row ≡ pushed x (row_of s.row) → HasRoom row
     → stack_of keys ≡ given_up (stack_of s.keys)
     → Takes s (record s { keys = keys; row = row; ended = true }) h
-unfolding word_at
+unfolding lexeme_at
 end_takes s row keys x p h n a is_p due is put room given =
     let k = reads.StreamEnd in
     let text = s.text.now in
@@ -180,11 +180,11 @@ end_takes s row keys x p h n a is_p due is put room given =
     let o = a.behind.holds in
     let new : Scanner = record s { keys = keys; row = row; ended = true } in
     let good = not_wrong k text h refl in
-    let deep : inner (stack_of s.keys) ≡ depth h = inner_is (depth h) (stack_of s.keys) o.keys.long in
+    let deep : inner (stack_of s.keys) ≡ flow_depth h = inner_is (flow_depth h) (stack_of s.keys) o.keys.long in
     let lost : lost_at k text h ≡ None = lost_there k true s h n a (place_cancels k text h refl refl) ∙
     elim (none_due (ltb 0 (inner (stack_of s.keys))) (ltb s.at (end_place s)) (required_at text (stack_of s.keys)) due) [
-      | inl none ↦ let must : required_in (candidate 0 h) ≡ None = o.keys.due ∙ none in elim (cases_Bool (ltb 0 (depth h))) [ inl y ↦ rw y refl | inr f ↦ rw f must ]
-      | inr (flow, near) ↦ let some : ltb 0 (depth h) ≡ true = ap (λ d. ltb 0 d) (sym deep) ∙ flow in rw some refl
+      | inl none ↦ let must : required_in (candidate 0 h) ≡ None = o.keys.due ∙ none in elim (cases_Bool (ltb 0 (flow_depth h))) [ inl y ↦ rw y refl | inr f ↦ rw f must ]
+      | inr (flow, near) ↦ let some : ltb 0 (flow_depth h) ≡ true = ap (λ d. ltb 0 d) (sym deep) ∙ flow in rw some refl
     ] in
     let comes = comes_word k text (read_by s) h (bare_word tokens.stream_end 0 text h) (stands_at k s h n a) good lost (end_word text h) in
     let start : place_mark text p ≡ l.start = ap (λ q. place_mark text q) is_p ∙ at_mark s h n a in
@@ -192,15 +192,15 @@ end_takes s row keys x p h n a is_p due is put room given =
     let up : Upto (mark_at text s.at) l.start = subst (λ m. Upto (mark_at text s.at) (placed k m)) (sym there) (placed_on (mark_at text s.at)) in
     let further : Upto (reached h) l.start = upto_on (reached h) (mark_at text s.at) l.start a.behind.further up in
     let free : l.saved ≡ false = grind arith in
-    let turned = cancelled_turns (depth h) text (stack_of s.keys) l h (reached h) o.keys further refl free refl in
+    let turned = cancelled_turns (flow_depth h) text (stack_of s.keys) l h (reached h) o.keys further refl free refl in
     let shown = bare_shows t (store_of text r) kinds.StreamEnd n p p 0 l h start start refl refl refl a.ends (record { plain = refl }, refl) in
     let rows = row_more t r (bare kinds.StreamEnd n p p 0) l h o.row refl shown in
     let is_row : row_of row ≡ pushed (bare kinds.StreamEnd n p p 0) r = put ∙ ap (λ y. pushed y r) is in
-    let gone : depth h ≡ 0 → candidate 0 (l ∷ h) ≡ None = λ z. ap (λ d. candidate d (l ∷ h)) (sym z) ∙ top_cancelled l h free refl in
+    let gone : flow_depth h ≡ 0 → candidate 0 (l ∷ h) ≡ None = λ z. ap (λ d. candidate d (l ∷ h)) (sym z) ∙ top_cancelled l h free refl in
     takes s new l h o record {
       text = refl;
       coding = refl;
-      row = subst (λ q. ShowsRow t q (entries (l ∷ h))) (sym is_row) rows;
+      row = subst (λ q. ShowsRow t q (finished_tokens (l ∷ h))) (sym is_row) rows;
       room = room;
       dropped = ap (λ (q : RowView). q.dropped) is_row;
       settled = ap (λ (q : RowView). q.settled) is_row;
@@ -214,10 +214,10 @@ end_takes s row keys x p h n a is_p due is put room given =
       margins = subst (λ ls. AreLevels s.levels ls) (sym (levels_plain l h refl)) a.margins;
       outer = λ must. inl (
           let now : (given_up (stack_of s.keys)).required ≡ true = ap (λ (q : KeyStack). q.required) (sym given) ∙ must in
-          let (key, same) = given_up_outer (depth h) text (stack_of s.keys) l h (reached h) o.keys refl now in
+          let (key, same) = given_up_outer (flow_depth h) text (stack_of s.keys) l h (reached h) o.keys refl now in
           (ap (λ q. key_at q 0) given ∙ key, same));
       passed = omega (arith, ap (λ (q : KeyStack). q.passed) given);
-      idle = λ e. elim (cases_lt 0 (depth h)) [
+      idle = λ e. elim (cases_lt 0 (flow_depth h)) [
         | inr low ↦ let none = gone (omega (arith, low)) in (ap (λ c. missed c l.reached) none, ap (λ c. missed c (mark_at text s.at)) none)
         | inl lt ↦
             let same : candidate 0 (l ∷ h) ≡ candidate 0 h = lower 0 l h lt in (

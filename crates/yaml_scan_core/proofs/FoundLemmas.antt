@@ -1,6 +1,6 @@
 -- What the lexeme is of which a `:` makes a key.
 use Rattle.std.proofs.Common.{◌≡◌, ◌≢◌, ℕ, zero, suc, ◌-◌, ◌<◌, true, false, cond, ltb, inl, inr, List, [], ◌∷◌, length, get_or, Some, Result, Ok, Err, refl, sym, ap, ◌∙◌, arith}
-use Rattle.yaml_scan_core.proofs.Words.{and_parts, cases_Bool, cases_Option, nat_tests, get_or_append_left, get_or-append_right, Kind, Lexeme, Entry, Candidate, candidate, candidate_below, fresh_is, found_by, inside, entries, entry_of, keyed, mark_key, is_start, is_value, cancels, may_be_key, allowed_behind, length-entries, length-keyed, Wrong, word_at, Read, next, history, SpelledText}
+use Rattle.yaml_scan_core.proofs.Words.{and_parts, cases_Bool, cases_Option, nat_tests, get_or_append_left, get_or-append_right, Kind, Lexeme, Entry, Candidate, candidate, candidate_below, fresh_is, found_by, inside, finished_tokens, entry_of, keyed, mark_key, is_start, is_value, cancels, may_be_key, allowed_behind, length-entries, length-keyed, Wrong, lexeme_at, Read, next, history, SpelledText}
 use Rattle.yaml_scan_model.specs.Tokens as tokens
 use Rattle.yaml_scan_model.specs.Tokens.{TokenBody}
 use Rattle.yaml_scan_words.specs.Tags.{TagText, tag_at}
@@ -49,28 +49,28 @@ mark_other ls (x ∷ es) (suc k) (suc n) e ne = mark_other ls es k n e (λ s. ne
 
 keyed_other : (l : Lexeme) (h : List Lexeme) (n : ℕ) (e : Entry)
     → (is_value l.kind ≡ true → (c : Candidate) → found_by l h ≡ Some c → c.number ≢ n)
-    → get_or (keyed l h (entries h)) n e ≡ get_or (entries h) n e
+    → get_or (keyed l h (finished_tokens h)) n e ≡ get_or (finished_tokens h) n e
 keyed_other l h n e ne = elim (cases_Bool (is_value l.kind)) [
-  | inr other ↦ ap (λ b. get_or (cond b (marked (found_by l h) (inside l h) (entries h)) (entries h)) n e) other
-  | inl value ↦ ap (λ b. get_or (cond b (marked (found_by l h) (inside l h) (entries h)) (entries h)) n e) value ∙
+  | inr other ↦ ap (λ b. get_or (cond b (marked (found_by l h) (inside l h) (finished_tokens h)) (finished_tokens h)) n e) other
+  | inl value ↦ ap (λ b. get_or (cond b (marked (found_by l h) (inside l h) (finished_tokens h)) (finished_tokens h)) n e) value ∙
       elim (cases_Option (found_by l h)) [
-        | inl none ↦ ap (λ o. get_or (marked o (inside l h) (entries h)) n e) none
-        | inr (c, some) ↦ ap (λ o. get_or (marked o (inside l h) (entries h)) n e) some ∙ mark_other (inside l h) (entries h) c.number n e (ne value c some)
+        | inl none ↦ ap (λ o. get_or (marked o (inside l h) (finished_tokens h)) n e) none
+        | inr (c, some) ↦ ap (λ o. get_or (marked o (inside l h) (finished_tokens h)) n e) some ∙ mark_other (inside l h) (finished_tokens h) c.number n e (ne value c some)
       ]
 ]
 
 entry_below : (l : Lexeme) (h : List Lexeme) (n : ℕ) (e : Entry) → n < length h
-    → get_or (entries (l ∷ h)) n e ≡ get_or (keyed l h (entries h)) n e
-unfolding entries
-entry_below l h n e low = get_or_append_left (keyed l h (entries h)) (entry_of l h ∷ []) e n (omega (arith, low, length-keyed l h (entries h), length-entries h))
+    → get_or (finished_tokens (l ∷ h)) n e ≡ get_or (keyed l h (finished_tokens h)) n e
+unfolding finished_tokens
+entry_below l h n e low = get_or_append_left (keyed l h (finished_tokens h)) (entry_of l h ∷ []) e n (omega (arith, low, length-keyed l h (finished_tokens h), length-entries h))
 
 entry_top : (l : Lexeme) (h : List Lexeme) (n : ℕ) (e : Entry) → n ≡ length h
-    → get_or (entries (l ∷ h)) n e ≡ entry_of l h
-unfolding entries
+    → get_or (finished_tokens (l ∷ h)) n e ≡ entry_of l h
+unfolding finished_tokens
 entry_top l h n e top =
-    let long : length (keyed l h (entries h)) ≡ n = omega (arith, length-keyed l h (entries h), length-entries h) in
+    let long : length (keyed l h (finished_tokens h)) ≡ n = omega (arith, length-keyed l h (finished_tokens h), length-entries h) in
     let z : n - n ≡ 0 = omega arith in
-    get_or-append_right (keyed l h (entries h)) (entry_of l h ∷ []) n n e long (omega arith) ∙ ap (λ i. get_or (entry_of l h ∷ []) i e) z
+    get_or-append_right (keyed l h (finished_tokens h)) (entry_of l h ∷ []) n n e long (omega arith) ∙ ap (λ i. get_or (entry_of l h ∷ []) i e) z
 
 -- two candidates of one number are of one depth
 same_depth : (h : List Lexeme) (d e : ℕ) (c x : Candidate) (y : Entry) → candidate d h ≡ Some c
@@ -78,7 +78,7 @@ same_depth : (h : List Lexeme) (d e : ℕ) (c x : Candidate) (y : Entry) → can
 same_depth h d e c x y ic ix same =
     let lc = start_is d h c y ic in
     let lx = start_is e h x y ix in
-    let one : c.lexeme ≡ x.lexeme = sym lc ∙ ap (λ n. (get_or (entries h) n y).lexeme) (sym same) ∙ lx in
+    let one : c.lexeme ≡ x.lexeme = sym lc ∙ ap (λ n. (get_or (finished_tokens h) n y).lexeme) (sym same) ∙ lx in
     sym (candidate_depth d h c ic) ∙ ap (λ (l : Lexeme). l.depth) one ∙ candidate_depth e h x ix
 
 gone_by : (d : ℕ) (l : Lexeme) (h : List Lexeme) (c : Candidate) → l.depth ≡ d → l.saved ≡ false
@@ -89,7 +89,7 @@ gone_by d l h c at free stops e = grind (arith, nat_tests)
 -- no level opens before a candidate
 pub candidate_plain : (text : List ℕ) (n d : ℕ) (c : Candidate) (e : Entry)
     → candidate d (history text n) ≡ Some c
-    → (get_or (entries (history text n)) c.number e).opens ≡ opening.Nothing
+    → (get_or (finished_tokens (history text n)) c.number e).opens ≡ opening.Nothing
 unfolding candidate history
 candidate_plain text zero d c e is = cc
 candidate_plain text (suc n) d c e is =
@@ -98,7 +98,7 @@ candidate_plain text (suc n) d c e is =
       | inr stays ↦ rw stays (candidate_plain text n d c e (rw stays at is))
       | inl (l, reads_it) ↦
           let there : candidate d (l ∷ h) ≡ Some c = rw reads_it at is in
-          let goal : (get_or (entries (l ∷ h)) c.number e).opens ≡ opening.Nothing = elim (candidate_top d l h c there) [
+          let goal : (get_or (finished_tokens (l ∷ h)) c.number e).opens ≡ opening.Nothing = elim (candidate_top d l h c there) [
             | inl (at, top, s) ↦
                 let saved : l.saved ≡ true = ap (λ (x : Lexeme). x.saved) (sym s) ∙ candidate_saved d (l ∷ h) c there in
                 let start = key_no_start l.kind (saved_may text h l reads_it saved) in
@@ -133,7 +133,7 @@ no_plain (Err w) e = cc
 
 pub no_mark : (k : Kind) (s : SpelledText) (l : Lexeme) → may_be_key k ≡ true
     → body_by k s l ≡ tokens.key → ⊥
-unfolding word_at
+unfolding lexeme_at
 no_mark reads.FlowSequenceStart s l may e = cc
 no_mark reads.FlowMappingStart s l may e = cc
 no_mark reads.Alias s l may e = no_value tokens.alias (anchor_at contexts.Alias s.text l.start.index) (λ v x. cc) e

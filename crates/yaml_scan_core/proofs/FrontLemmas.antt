@@ -1,7 +1,7 @@
 -- The tokens that come first.
 use Rattle.std.proofs.Common.{◌≡◌, ◌≢◌, ℕ, ◌+◌, ◌<◌, ◌≤◌, Bool, true, false, List, [], ◌∷◌, ◌++◌, length, get_or, length-append, refl, sym, ap, subst, ◌∙◌, inl, inr, arith}
 use Rattle.std.proofs.lemmas.List.{get_or-replicate, length-replicate}
-use Rattle.yaml_scan_core.proofs.Words.{cases_Bool, get_or_append_left, get_or-append_right, get_or_at, Entry, Lexeme as Read, entries, first_open, history, next, Ends, SpelledText, Opens}
+use Rattle.yaml_scan_core.proofs.Words.{cases_Bool, get_or_append_left, get_or-append_right, get_or_at, Entry, Lexeme as Read, finished_tokens, first_open, history, next, Ends, SpelledText, Opens}
 use Rattle.yaml_scan_model.specs.Tokens.{Token, TokenBody, block_end, block_mapping_start, block_sequence_start, key, no_token}
 use Rattle.yaml_scan_history.specs.declared.lexeme.Opens.TheVariants as opening
 use Rattle.yaml_scan_history.specs.Remaining.{Remaining, before, body_in, end_tokens, own_tokens, remaining, spell, start_tokens, token_in}
@@ -11,7 +11,7 @@ use Rattle.yaml_scan_tokens.specs.declared.kind.Kind.{Kind}
 use Rattle.yaml_scan_tokens.specs.declared.kind.Kind.TheVariants as kinds
 use Rattle.yaml_scan_tokens.specs.Kinds.{IsOf}
 use Rattle.yaml_scan_core.specs.declared.lexeme.Lexeme.{Lexeme}
-use Rattle.yaml_scan_core.specs.Rows.{RowView, is_set, lexeme_at}
+use Rattle.yaml_scan_core.specs.Rows.{RowView, is_set, row_lexeme}
 use Rattle.yaml_scan_core.specs.Shown.{Carries, ShowsEntry, ShowsFront, Store, end_at, entry_at, no_entry, opens_in, place_mark, store_of}
 use Rattle.yaml_scan_core.specs.Handed.{TakesLead, TakesOwn, come_of, ends_in, given_in, given_of, keys_in, left_from, starts_in, tokens_in}
 use Rattle.yaml_scan_core.proofs.DropsLemmas.{lead_zero}
@@ -197,7 +197,7 @@ module _ (b : Bool) (s : Store) (t : SpelledText) (x : Lexeme) (e : Entry) (f : 
 
 -- the tokens of the lexeme of that number come, one after another, and then those of the next one
 abbrev pub Comes : SpelledText → ℕ → ℕ → Type 0
-Comes t n k = (given : ℕ) → let x = get_or (entries (history t.text n)) k no_entry in
+Comes t n k = (given : ℕ) → let x = get_or (finished_tokens (history t.text n)) k no_entry in
     (given < length (spell t x) → GivesFirst (remaining t k given) (get_or (spell t x) given no_token) (remaining t k (given + 1)))
     × (given ≡ length (spell t x) → remaining t k given ≡ remaining t (k + 1) 0)
 
@@ -211,7 +211,7 @@ over_come t n k over low = λ given. last_comes t n k given no_entry no_token ov
 
 -- the entry of that number
 abbrev pub entry_in : SpelledText → ℕ → RowView → Entry
-entry_in t n r = entry_at (entries (history t.text n)) (r.dropped + r.next)
+entry_in t n r = entry_at (finished_tokens (history t.text n)) (r.dropped + r.next)
 
 -- what is to come after the first token
 abbrev pub behind_one : SpelledText → RowView → Remaining
@@ -226,11 +226,11 @@ lead_rest t r q k = ap (λ p. remaining t p (given_in t.text q)) k.place ∙ ap 
 module _ (t : SpelledText) (n : ℕ) (r : RowView) (w : ShowsNext t r (entry_in t n r)) (comes : Comes t n (r.dropped + r.next)) where
   long : length (spell t (entry_in t n r)) ≡ tokens_in t.text r
   long =
-      let x = lexeme_at r r.next in
+      let x = row_lexeme r r.next in
       spell_long (store_of t.text r) t x (entry_in t n r) w.front.shows ∙ omega (arith, w.ends)
 
   low : given_in t.text r < length (spell t (entry_in t n r))
-  low = omega (arith, long, given_is t.text r w.some, given_less (ends_in t.text r) (lexeme_at r r.next))
+  low = omega (arith, long, given_is t.text r w.some, given_less (ends_in t.text r) (row_lexeme r r.next))
 
   pub first_comes : GivesFirst (come_of t r) (get_or (spell t (entry_in t n r)) (given_in t.text r) no_token) (behind_one t r)
   first_comes = (comes (given_in t.text r)).0 low
@@ -244,11 +244,11 @@ module _ (t : SpelledText) (n : ℕ) (r : RowView) (w : ShowsNext t r (entry_in 
 pub end_comes_first : (t : SpelledText) (n : ℕ) (r : RowView) → r.next < length r.lexemes
     → r.dropped + r.next ≤ first_open (history t.text n) (history t.text n)
     → r.dropped + r.next < length (history t.text n)
-    → (lexeme_at r r.next).front ≡ kinds.BlockEnd → 0 < (lexeme_at r r.next).ends
-    → (lexeme_at r r.next).ends ≤ (entry_in t n r).ends → (entry_in t n r).ends ≡ ends_in t.text r
+    → (row_lexeme r r.next).front ≡ kinds.BlockEnd → 0 < (row_lexeme r r.next).ends
+    → (row_lexeme r r.next).ends ≤ (entry_in t n r).ends → (entry_in t n r).ends ≡ ends_in t.text r
     → GivesFirst (come_of t r) (before block_end (entry_in t n r).lexeme) (behind_one t r)
 end_comes_first t n r some low inside front ends fewer known =
-    let x = lexeme_at r r.next in
+    let x = row_lexeme r r.next in
     let left : left_from x.front x ≡ starts_in x + keys_in x + 1 = ap (λ j. left_from j x) front in
     let less : given_in t.text r < (entry_in t n r).ends = omega (arith, given_is t.text r some, left, ends, fewer, known) in
     ends_token t n (r.dropped + r.next) (given_in t.text r) no_entry low inside less

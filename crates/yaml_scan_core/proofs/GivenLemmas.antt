@@ -1,7 +1,7 @@
 -- Which token a scanner hands out first.
 use Rattle.std.proofs.Common.{◌≡◌, ◌≢◌, ◌⊎◌, ℕ, ◌+◌, ◌-◌, ◌<◌, ◌≤◌, true, false, not, ltb, [], length, take, drop, get_or, Some, refl, sym, ap, subst, ◌∙◌, inl, inr, arith}
 use Rattle.std.proofs.lemmas.List.{get_or-take, length-take-le}
-use Rattle.yaml_scan_core.proofs.Words.{cases_lt, nat_tests, get_or_past, Entry, Fails, ScanFault, SpelledText, entries, first_open, first_open-le, front_ends, front_none, history, length-entries, next, remaining, scanner_fault}
+use Rattle.yaml_scan_core.proofs.Words.{cases_lt, nat_tests, get_or_past, Entry, Fails, ScanFault, SpelledText, finished_tokens, first_open, first_open-le, front_ends, front_none, history, length-entries, next, remaining, scanner_fault}
 use Rattle.yaml_scan_model.specs.Tokens.{Token, block_end, no_token}
 use Rattle.yaml_scan_history.specs.Remaining.{before, body_in, spell}
 use Rattle.yaml_scan_laws_order.proofs.RemainingForward.{fault_comes, front_count}
@@ -10,7 +10,7 @@ use Rattle.yaml_scan_tokens.specs.declared.kind.Kind.TheVariants as kinds
 use Rattle.yaml_scan_tokens.specs.Kinds.{IsOf}
 use Rattle.yaml_scan_core.specs.declared.lexeme.Lexeme.{Lexeme}
 use Rattle.yaml_scan_core.specs.declared.scanner.Scanner.{Scanner}
-use Rattle.yaml_scan_core.specs.Rows.{RowView, first_kind, is_set, led, lexeme_at, may_lead, no_lexeme, row_of}
+use Rattle.yaml_scan_core.specs.Rows.{RowView, first_kind, is_set, led, row_lexeme, may_lead, no_lexeme, row_of}
 use Rattle.yaml_scan_core.specs.Shown.{ShowsFront, entry_at, no_entry, place_mark, store_of}
 use Rattle.yaml_scan_core.specs.Scanning.{HasFailed, IsGoing, IsLost, IsOver, Rests, but_last, history_of, read_by, stream_of}
 use Rattle.yaml_scan_core.specs.Handed.{EndsTold, come_of, ends_at, ends_in, ends_known, given_in, given_of, left_from, to_come}
@@ -22,30 +22,30 @@ use Rattle.yaml_scan_core.proofs.TokensLemmas.{IsNew, IsOwn, ShowsNext, lead_end
 
 -- a token of the front is taken
 pub record TakesFront (r q : RowView) : Type 0 where
-  pub own : (lexeme_at r r.next).front ≡ (lexeme_at r r.next).kind
+  pub own : (row_lexeme r r.next).front ≡ (row_lexeme r r.next).kind
       → q ≡ record r { next = r.next + 1 }
-  pub lead : (lexeme_at r r.next).front ≢ (lexeme_at r r.next).kind → q ≡ led r
+  pub lead : (row_lexeme r r.next).front ≢ (row_lexeme r r.next).kind → q ≡ led r
 
 -- The token that the front stands for comes first, and what is to come after it is what is to come where it is taken.
 pub record First (t : SpelledText) (r : RowView) : Type 0 where
   pub token : Token
-  pub shown : ShowsToken (store_of t.text r) t (lexeme_at r r.next) token
+  pub shown : ShowsToken (store_of t.text r) t (row_lexeme r r.next) token
   pub gives : GivesFirst (come_of t r) token (behind_one t r)
   pub rest : (q : RowView) → TakesFront r q → come_of t q ≡ behind_one t r
   -- it is the lexeme's own, or it isn't
-  pub way : ((lexeme_at r r.next).front ≡ (lexeme_at r r.next).kind)
-      ⊎ ((lexeme_at r r.next).front ≢ (lexeme_at r r.next).kind)
-  pub plain : may_lead (lexeme_at r r.next).front ≡ false
-      → (lexeme_at r r.next).front ≡ (lexeme_at r r.next).kind
-  pub real : ((lexeme_at r r.next).front ≢ kinds.Failed)
-      × ((lexeme_at r r.next).front ≢ kinds.Nothing)
-  pub ends : (lexeme_at r r.next).front ≡ kinds.BlockEnd → 0 < (lexeme_at r r.next).ends
+  pub way : ((row_lexeme r r.next).front ≡ (row_lexeme r r.next).kind)
+      ⊎ ((row_lexeme r r.next).front ≢ (row_lexeme r r.next).kind)
+  pub plain : may_lead (row_lexeme r r.next).front ≡ false
+      → (row_lexeme r r.next).front ≡ (row_lexeme r r.next).kind
+  pub real : ((row_lexeme r r.next).front ≢ kinds.Failed)
+      × ((row_lexeme r r.next).front ≢ kinds.Nothing)
+  pub ends : (row_lexeme r r.next).front ≡ kinds.BlockEnd → 0 < (row_lexeme r r.next).ends
 
 -- where the front shows an entry that is known
 pub first_known : (t : SpelledText) (n : ℕ) (r : RowView) → ShowsNext t r (entry_in t n r)
     → Comes t n (r.dropped + r.next) → First t r
 first_known t n r w comes =
-    let x = lexeme_at r r.next in
+    let x = row_lexeme r r.next in
     let e = entry_in t n r in
     let s = store_of t.text r in
     let lead = lead_kinds w.settled x w.front.front in
@@ -70,12 +70,12 @@ first_known t n r w comes =
 pub first_end : (t : SpelledText) (n : ℕ) (r : RowView) → r.next < length r.lexemes
     → r.dropped + r.next ≤ first_open (history t.text n) (history t.text n)
     → r.dropped + r.next < length (history t.text n)
-    → (lexeme_at r r.next).front ≡ kinds.BlockEnd → 0 < (lexeme_at r r.next).ends
-    → (lexeme_at r r.next).ends ≤ (entry_in t n r).ends → (entry_in t n r).ends ≡ ends_in t.text r
-    → IsOwn (lexeme_at r r.next).kind
-    → place_mark t.text (lexeme_at r r.next).start ≡ (entry_in t n r).lexeme.start → First t r
+    → (row_lexeme r r.next).front ≡ kinds.BlockEnd → 0 < (row_lexeme r r.next).ends
+    → (row_lexeme r r.next).ends ≤ (entry_in t n r).ends → (entry_in t n r).ends ≡ ends_in t.text r
+    → IsOwn (row_lexeme r r.next).kind
+    → place_mark t.text (row_lexeme r r.next).start ≡ (entry_in t n r).lexeme.start → First t r
 first_end t n r some low inside front ends fewer known own start =
-    let x = lexeme_at r r.next in
+    let x = row_lexeme r r.next in
     let other : x.front ≢ x.kind = λ same. own.ends (sym same ∙ front) in
     let lead = lead_ends front ends in
     record {
@@ -95,19 +95,19 @@ first_end t n r some low inside front ends fewer known own start =
 -- a token waits there: a BLOCK-END, or one of a settled lexeme
 pub record IsReady (s : Scanner) : Type 0 where
   pub some : s.row.next < length s.row.lexemes.items
-  pub settled : (lexeme_at (row_of s.row) s.row.next).front ≢ kinds.BlockEnd
+  pub settled : (row_lexeme (row_of s.row) s.row.next).front ≢ kinds.BlockEnd
       → s.row.next < s.row.settled
 
 going_next : (s : Scanner) → IsGoing s → s.row.next < length s.row.lexemes.items
     → ShowsNext (stream_of s) (row_of s.row) (entry_in (stream_of s) (read_by s) (row_of s.row))
-going_next s g some = next_shown (stream_of s) (row_of s.row) (entries (history_of s)) (told_history s.text.now (read_by s)) g.shows.holds.row some
+going_next s g some = next_shown (stream_of s) (row_of s.row) (finished_tokens (history_of s)) (told_history s.text.now (read_by s)) g.shows.holds.row some
 
 pub first_going : (s : Scanner) → IsGoing s → IsReady s → First (stream_of s) (row_of s.row)
 first_going s g ready =
     let t = stream_of s in
     let n = read_by s in
     let r = row_of s.row in
-    let x = lexeme_at r r.next in
+    let x = row_lexeme r r.next in
     let w = going_next s g ready.some in
     let number = r.dropped + r.next in
     let own = own_kind (store_of t.text r) t x x.kind (body_in t (entry_in t n r).lexeme) w.front.shows.body in
@@ -131,7 +131,7 @@ first_over s o ready =
     let n = read_by s in
     let r = row_of s.row in
     let h = history_of s in
-    let w = next_shown t r (entries h) (told_history s.text.now n) o.row ready.some in
+    let w = next_shown t r (finished_tokens h) (told_history s.text.now n) o.row ready.some in
     first_known t n r w (over_come t n (r.dropped + r.next) (ends_after s.text.now h o.end) (omega (arith, ready.some, o.row.count, length-entries h)))
 
 -- ---- at a fault
@@ -142,14 +142,15 @@ pub lost_number : (s : Scanner) (n : ℕ) → HasFailed s (history s.text.now n)
 lost_number s n f =
     let h = history s.text.now n in
     let fo = first_open h h in
-    let all : length (take fo (entries h)) ≡ fo = length-take-le fo (entries h) (omega (arith, first_open-le h h, length-entries h)) in
+    let all : length (take fo (finished_tokens h)) ≡ fo = length-take-le fo (finished_tokens h) (omega (arith, first_open-le h h, length-entries h)) in
     let cut = length-take-le (length s.row.lexemes.items - 1) s.row.lexemes.items (omega arith) in
     omega (arith, f.row.count, all, cut, f.all)
 
 -- the BLOCK-ENDs that stand before it
 lost_ends : (s : Scanner) (n : ℕ) → HasFailed s (history s.text.now n)
-    → (entry_at (entries (history s.text.now n)) (first_open (history s.text.now n) (history s.text.now n))).ends
-    ≡ ends_known (lexeme_at (row_of s.row) (s.row.settled - 1)) (ends_at s.text.now (s.row.dropped + (s.row.settled - 1)))
+    → (entry_at (finished_tokens (history s.text.now n))
+        (first_open (history s.text.now n) (history s.text.now n))).ends
+    ≡ ends_known (row_lexeme (row_of s.row) (s.row.settled - 1)) (ends_at s.text.now (s.row.dropped + (s.row.settled - 1)))
 lost_ends s n f =
     let text = s.text.now in
     let h = history text n in
@@ -162,7 +163,7 @@ lost_ends s n f =
           ∙ sym (ap (λ b. known_by b ends) (f.none ∙ ap not is))
       | inr past ↦
           let is : ltb fo (length h) ≡ false = grind (arith, nat_tests) in
-          ap (λ (e : Entry). e.ends) (get_or_past (entries h) fo no_entry (omega (arith, past, length-entries h)))
+          ap (λ (e : Entry). e.ends) (get_or_past (finished_tokens h) fo no_entry (omega (arith, past, length-entries h)))
           ∙ sym (ap (λ b. known_by b ends) (f.none ∙ ap not is))
     ]
 
@@ -178,19 +179,19 @@ module _ (s : Scanner) (n : ℕ) (f : HasFailed s (history s.text.now n)) where
   abbrev before_lost : ℕ
   before_lost = length s.row.lexemes.items - 1
 
-  lexeme_kept : (i : ℕ) → i < before_lost → lexeme_at (but_last (row_of s.row)) i ≡ lexeme_at (row_of s.row) i
+  lexeme_kept : (i : ℕ) → i < before_lost → row_lexeme (but_last (row_of s.row)) i ≡ row_lexeme (row_of s.row) i
   lexeme_kept i lt = get_or-take before_lost s.row.lexemes.items i no_lexeme lt
 
   pub entry_kept : (k : ℕ) → k < first_open (history s.text.now n) (history s.text.now n)
-      → entry_at (take (first_open (history s.text.now n) (history s.text.now n)) (entries (history s.text.now n))) k
-      ≡ entry_at (entries (history s.text.now n)) k
-  entry_kept k lt = get_or-take (first_open (history s.text.now n) (history s.text.now n)) (entries (history s.text.now n)) k no_entry lt
+      → entry_at (take (first_open (history s.text.now n) (history s.text.now n)) (finished_tokens (history s.text.now n))) k
+      ≡ entry_at (finished_tokens (history s.text.now n)) k
+  entry_kept k lt = get_or-take (first_open (history s.text.now n) (history s.text.now n)) (finished_tokens (history s.text.now n)) k no_entry lt
 
-  told_kept : EndsTold s.text.now (take (first_open (history s.text.now n) (history s.text.now n)) (entries (history s.text.now n)))
+  told_kept : EndsTold s.text.now (take (first_open (history s.text.now n) (history s.text.now n)) (finished_tokens (history s.text.now n)))
   told_kept k lt =
       let h = history s.text.now n in
       let fo = first_open h h in
-      let all : length (take fo (entries h)) ≡ fo = length-take-le fo (entries h) (omega (arith, first_open-le h h, length-entries h)) in
+      let all : length (take fo (finished_tokens h)) ≡ fo = length-take-le fo (finished_tokens h) (omega (arith, first_open-le h h, length-entries h)) in
       ap (λ (e : Entry). e.ends) (entry_kept k (omega (arith, lt, all))) ∙ told_history s.text.now n k (omega (arith, lt, all, first_open-le h h, length-entries h))
 
   cut_long : length (but_last (row_of s.row)).lexemes ≡ before_lost
@@ -204,13 +205,13 @@ module _ (s : Scanner) (n : ℕ) (f : HasFailed s (history s.text.now n)) where
       let h = history s.text.now n in
       let number = lost_number s n f in
       let low : s.row.next < before_lost = omega (arith, lt, f.all) in
-      let w = next_shown t (but_last r) (take (first_open h h) (entries h)) told_kept f.row (omega (arith, low, cut_long)) in
+      let w = next_shown t (but_last r) (take (first_open h h) (finished_tokens h)) told_kept f.row (omega (arith, low, cut_long)) in
       let e = entry_kept (r.dropped + r.next) (omega (arith, lt, number)) in
       let x = lexeme_kept s.row.next low in
       record {
         some = omega (arith, lt, f.all);
         settled = w.settled;
-        front = subst (λ y. ShowsFront w.settled (store_of t.text r) t y (entry_in t n r)) x (subst (λ d. ShowsFront w.settled (store_of t.text r) t (lexeme_at (but_last r) r.next) d) e w.front);
+        front = subst (λ y. ShowsFront w.settled (store_of t.text r) t y (entry_in t n r)) x (subst (λ d. ShowsFront w.settled (store_of t.text r) t (row_lexeme (but_last r) r.next) d) e w.front);
         ends = ap (λ (d : Entry). d.ends) (sym e) ∙ w.ends ∙ ap (λ y. ends_known y (ends_at t.text (r.dropped + r.next))) x;
         behind = λ more. elim (cases_lt (s.row.next + 1) before_lost) [
           | inl there ↦
@@ -233,19 +234,19 @@ unset x e = (rw e refl, rw e refl, rw e refl)
 -- the front is the fault
 lost_there : (s : Scanner) (n : ℕ) → HasFailed s (history s.text.now n)
     → s.row.next + 1 ≡ s.row.settled
-    → IsLost s.text.now (ltb (s.row.next + 1) s.row.settled) (lexeme_at (row_of s.row) s.row.next)
-    (entry_at (entries (history s.text.now n)) (first_open (history s.text.now n) (history s.text.now n)))
+    → IsLost s.text.now (ltb (s.row.next + 1) s.row.settled) (row_lexeme (row_of s.row) s.row.next)
+    (entry_at (finished_tokens (history s.text.now n)) (first_open (history s.text.now n) (history s.text.now n)))
 lost_there s n f end =
     let h = history s.text.now n in
     let at : s.row.settled - 1 ≡ s.row.next = omega (arith, end) in
-    subst (λ i. IsLost s.text.now (ltb (s.row.next + 1) s.row.settled) (lexeme_at (row_of s.row) i) (entry_at (entries h) (first_open h h))) at f.lost
+    subst (λ i. IsLost s.text.now (ltb (s.row.next + 1) s.row.settled) (row_lexeme (row_of s.row) i) (entry_at (finished_tokens h) (first_open h h))) at f.lost
 
 -- before which no BLOCK-END is left, or one is
 pub lost_cases : (s : Scanner) (n : ℕ) → HasFailed s (history s.text.now n)
-    → s.row.next + 1 ≡ s.row.settled → let x = lexeme_at (row_of s.row) s.row.next in
+    → s.row.next + 1 ≡ s.row.settled → let x = row_lexeme (row_of s.row) s.row.next in
     ((x.front ≡ kinds.Failed) × (x.ends ≡ 0)) ⊎ ((x.front ≡ kinds.BlockEnd) × (0 < x.ends))
 lost_cases s n f end =
-    let x = lexeme_at (row_of s.row) s.row.next in
+    let x = row_lexeme (row_of s.row) s.row.next in
     let lost = lost_there s n f end in
     let (plain, flat, keyless) = unset x lost.plain in
     elim (cases_lt 0 x.ends) [
@@ -260,7 +261,7 @@ lost_cases s n f end =
     ]
 
 pub lost_end : (s : Scanner) (n : ℕ) → HasFailed s (history s.text.now n)
-    → s.row.next + 1 ≡ s.row.settled → let x = lexeme_at (row_of s.row) s.row.next in
+    → s.row.next + 1 ≡ s.row.settled → let x = row_lexeme (row_of s.row) s.row.next in
     x.front ≢ kinds.Failed → (x.kind ≡ kinds.Failed) × (x.front ≡ kinds.BlockEnd)
 lost_end s n f end isnt = elim (lost_cases s n f end) [
   | inl (front, none) ↦ absurd (isnt front)
@@ -275,51 +276,52 @@ first_kept s n f low =
 
 -- or a BLOCK-END does
 pub first_lost : (s : Scanner) (n : ℕ) → HasFailed s (history s.text.now n)
-    → s.row.next + 1 ≡ s.row.settled → (lexeme_at (row_of s.row) s.row.next).front ≡ kinds.BlockEnd
-    → 0 < (lexeme_at (row_of s.row) s.row.next).ends → First (stream_of s) (row_of s.row)
+    → s.row.next + 1 ≡ s.row.settled → (row_lexeme (row_of s.row) s.row.next).front ≡ kinds.BlockEnd
+    → 0 < (row_lexeme (row_of s.row) s.row.next).ends → First (stream_of s) (row_of s.row)
 first_lost s n f end front ends =
     let t = stream_of s in
     let r = row_of s.row in
     let h = history s.text.now n in
     let fo = first_open h h in
-    let x = lexeme_at r r.next in
+    let x = row_lexeme r r.next in
     let lost = lost_there s n f end in
     let at : r.settled - 1 ≡ r.next = omega (arith, end) in
     let here : r.dropped + r.next ≡ fo = omega (arith, at, lost_number s n f) in
-    let e : entry_at (entries h) fo ≡ entry_in t n r = ap (λ k. entry_at (entries h) k) (sym here) in
+    let e : entry_at (finished_tokens h) fo ≡ entry_in t n r = ap (λ k. entry_at (finished_tokens h) k) (sym here) in
     let own : IsOwn x.kind = record {
       ends = λ k. (let bad = sym lost.kind ∙ k in cc);
       sequence = λ k. (let bad = sym lost.kind ∙ k in cc);
       mapping = λ k. (let bad = sym lost.kind ∙ k in cc);
     } in
     let known : (entry_in t n r).ends ≡ ends_in t.text r = ap (λ (d : Entry). d.ends) (sym e)
-    ∙ subst (λ i. (entry_at (entries h) fo).ends ≡ ends_known (lexeme_at r i) (ends_at s.text.now (s.row.dropped + i))) at (lost_ends s n f) in
+    ∙ subst (λ i. (entry_at (finished_tokens h) fo).ends ≡ ends_known (row_lexeme r i) (ends_at s.text.now (s.row.dropped + i))) at (lost_ends s n f) in
     let fewer : x.ends ≤ (entry_in t n r).ends = omega (arith, lost.ends, ap (λ (d : Entry). d.ends) e) in
     let inside : r.dropped + r.next < length h = elim (cases_lt (r.dropped + r.next) (length h)) [
       | inl low ↦ low
-      | inr out ↦ absurd (omega (arith, ends, fewer, ap (λ (d : Entry). d.ends) (get_or_past (entries h) (r.dropped + r.next) no_entry (omega (arith, out, length-entries h)))))
+      | inr out ↦ absurd (omega (arith, ends, fewer, ap (λ (d : Entry). d.ends) (get_or_past (finished_tokens h) (r.dropped + r.next) no_entry (omega (arith, out, length-entries h)))))
     ] in
     first_end t n r (omega (arith, end, f.all)) (omega (arith, here)) inside front ends fewer known own (lost.start ends ∙ ap (λ (d : Entry). d.lexeme.start) e)
 
 -- after what is told the fault comes
 pub fault_next : (s : Scanner) (n : ℕ) (p : ScanFault) → HasFailed s (history s.text.now n)
-    → s.row.next + 1 ≡ s.row.settled → (lexeme_at (row_of s.row) s.row.next).front ≡ kinds.Failed
-    → (lexeme_at (row_of s.row) s.row.next).ends ≡ 0 → next s.text.now (history s.text.now n) ≡ Fails p
+    → s.row.next + 1 ≡ s.row.settled → (row_lexeme (row_of s.row) s.row.next).front ≡ kinds.Failed
+    → (row_lexeme (row_of s.row) s.row.next).ends ≡ 0
+    → next s.text.now (history s.text.now n) ≡ Fails p
     → to_come s ≡ record { tokens = []; fault = Some (scanner_fault p) }
 fault_next s n p f end front none fails =
     let t = stream_of s in
     let r = row_of s.row in
     let h = history s.text.now n in
     let fo = first_open h h in
-    let x = lexeme_at r r.next in
+    let x = row_lexeme r r.next in
     let at : r.settled - 1 ≡ r.next = omega (arith, end) in
     let here : r.dropped + r.next ≡ fo = omega (arith, at, lost_number s n f) in
     let left : left_from x.front x ≡ 1 = ap (λ k. left_from k x) front in
-    let known : (entry_at (entries h) fo).ends ≡ ends_in t.text r =
-    subst (λ i. (entry_at (entries h) fo).ends ≡ ends_known (lexeme_at r i) (ends_at s.text.now (s.row.dropped + i))) at (lost_ends s n f) in
-    let all : length (front_ends (drop fo (entries h))) ≤ (entry_at (entries h) fo).ends = elim (cases_lt fo (length (entries h))) [
-      | inl low ↦ omega (arith, front_count (entries h) fo no_entry low)
-      | inr past ↦ omega (arith, front_none (entries h) fo past)
+    let known : (entry_at (finished_tokens h) fo).ends ≡ ends_in t.text r =
+    subst (λ i. (entry_at (finished_tokens h) fo).ends ≡ ends_known (row_lexeme r i) (ends_at s.text.now (s.row.dropped + i))) at (lost_ends s n f) in
+    let all : length (front_ends (drop fo (finished_tokens h))) ≤ (entry_at (finished_tokens h) fo).ends = elim (cases_lt fo (length (finished_tokens h))) [
+      | inl low ↦ omega (arith, front_count (finished_tokens h) fo no_entry low)
+      | inr past ↦ omega (arith, front_none (finished_tokens h) fo past)
     ] in
     ap (λ k. remaining t k (given_in t.text r)) here
     ∙ fault_comes t n p (given_in t.text r) fails (omega (arith, all, known, given_is t.text r (omega (arith, end, f.all)), left, none))
@@ -327,8 +329,9 @@ fault_next s n p f end front none fails =
 -- ---- in all three states
 
 pub first_of : (s : Scanner) → Rests s → IsReady s
-    → ((lexeme_at (row_of s.row) s.row.next).front ≡ kinds.Failed
-    → (lexeme_at (row_of s.row) s.row.next).kind ≢ kinds.Failed) → First (stream_of s) (row_of s.row)
+    → ((row_lexeme (row_of s.row) s.row.next).front ≡ kinds.Failed
+    → (row_lexeme (row_of s.row) s.row.next).kind ≢ kinds.Failed)
+    → First (stream_of s) (row_of s.row)
 first_of s (inl g) ready real = first_going s g ready
 first_of s (inr (inl o)) ready real = first_over s o ready
 first_of s (inr (inr (n, f))) ready real = elim (cases_lt (s.row.next + 1) s.row.settled) [

@@ -1,6 +1,6 @@
 -- Lexemes that carry nothing, by what they do to keys and levels.
 use Rattle.std.proofs.Common.{◌≡◌, ℕ, ◌+◌, ◌-◌, ◌<◌, ◌≤◌, ◌^◌, Bool, true, false, cond, ltb, eqb, ◌&&◌, ◌||◌, inl, inr, List, ◌∷◌, length, Option, None, Result, Ok, Err, refl, sym, ap, subst, ◌∙◌, arith}
-use Rattle.yaml_scan_core.proofs.Words.{cases_lt, nat_tests, yaml_mark_t, column_at, byte, Kind, Lexeme, candidate, reached, depth, depth_after, key_allowed, is_value, is_start, is_end, has, found_by, cancels, allows_key, may_be_key, word_at, Upto, SpelledText, AreKeys, AreKeysTo, KeyStack, inner, key_at, stack_of, given_up, key_closed, no_key, index_in, length-entries}
+use Rattle.yaml_scan_core.proofs.Words.{cases_lt, nat_tests, yaml_mark_t, column_at, byte, Kind, Lexeme, candidate, reached, flow_depth, depth_after, key_allowed, is_value, is_start, is_end, has, found_by, cancels, allows_key, may_be_key, lexeme_at, Upto, SpelledText, AreKeys, AreKeysTo, KeyStack, inner, key_at, stack_of, given_up, key_closed, no_key, index_in, length-entries}
 use Rattle.std.proofs.lemmas.List.{get_or-take}
 use Rattle.yaml_scan_model.specs.Tokens as tokens
 use Rattle.yaml_scan_model.specs.Marks.{is_blank_or_end}
@@ -116,7 +116,7 @@ plain_goes k t b width allowed stop key old mid keys row x h n p a same is put r
     let w = bare_word b width text h in
     let puts = puts_by t n width 0 old mid row keys mid.levels allowed x same is put room in
     let place = p.place text old.at old.line old.wide a.behind.place (stands_told k old h n a) in
-    let allows : allowed ≡ key_allowed (put_at k w text h ∷ h) = sym (rw (p.allows (eqb (depth h) 0) (has (found_by (put_at k w text h) h))) (or_false allowed)) in
+    let allows : allowed ≡ key_allowed (put_at k w text h ∷ h) = sym (rw (p.allows (eqb (flow_depth h) 0) (has (found_by (put_at k w text h) h))) (or_false allowed)) in
     bare_goes k t b width old (leaves_it mid width allowed keys row) h n a p.flat p.other p.colon p.starts (p.word text h)
     (λ o. p.carries o (stream_of old) n old.at (old.at + width)) puts (ap (λ (s : Scanner). s.levels) same) place allows
 
@@ -131,7 +131,7 @@ pub plain_takes : (k : Kind) (t : Token) (b : TokenBody) (width : ℕ) (allowed 
     → Takes old (leaves_it mid width allowed keys row) h
 plain_takes k t b width allowed old mid keys row x h n f u p deep a same tests is put room given =
     let text = old.text.now in
-    cancelling_takes k (bare_word b width text h) old (leaves_it mid width allowed keys row) h n a p.stops p.idle p.flat (deep (depth h))
+    cancelling_takes k (bare_word b width text h) old (leaves_it mid width allowed keys row) h n a p.stops p.idle p.flat (deep (flow_depth h))
     (not_wrong k text h p.starts) (keeps_all k old h n f u a (place_cancels k text h p.stops p.colon) tests) (p.word text h)
     (plain_goes k t b width allowed true false old mid keys row x h n p a same is put room)
     (given ∙ ap (λ (s : Scanner). given_up (stack_of s.keys)) same)
@@ -168,25 +168,25 @@ closing_takes k t b old mid keys row x h n f u p less a same tests is put room l
     let all : stack_of keys ≡ left s = leaves ∙ ap (λ (q : Scanner). left (stack_of q.keys)) same in
     let good = not_wrong k text h p.starts in
     let kept = keeps_all k old h n f u a (place_cancels k text h p.stops p.colon) tests in
-    elim (cases_lt 0 (depth h)) [
+    elim (cases_lt 0 (flow_depth h)) [
       | inl some ↦
-          let deep : ltb 0 (inner s) ≡ true = let e = inner_is (depth h) s o.long in grind (arith, nat_tests) in
+          let deep : ltb 0 (inner s) ≡ true = let e = inner_is (flow_depth h) s o.long in grind (arith, nat_tests) in
           let now : stack_of keys ≡ key_closed s = all ∙ (rw deep refl) in
-          let turned = closed_turns (depth h) text s l h (reached h) o on refl some in
-          let (key, stays) = closed_outer (depth h) text s l h (reached h) o refl some in
+          let turned = closed_turns (flow_depth h) text s l h (reached h) o on refl some in
+          let (key, stays) = closed_outer (flow_depth h) text s l h (reached h) o refl some in
           goes_takes k w old new h n a p.flat good kept (p.word text h) (goes_leaves k w old new h n a goes p.flat
-          (subst (λ q. AreKeys text q (l ∷ h) l.reached) (sym now) (subst (λ d. AreKeysTo d text (key_closed s) (l ∷ h) l.reached) (sym (less (depth h))) turned))
+          (subst (λ q. AreKeys text q (l ∷ h) l.reached) (sym now) (subst (λ d. AreKeysTo d text (key_closed s) (l ∷ h) l.reached) (sym (less (flow_depth h))) turned))
           (λ must. inl (ap (λ q. key_at q 0) now ∙ key, stays))
           (omega (arith, ap (λ (q : KeyStack). q.passed) now)))
       | inr low ↦
-          let flat : depth h ≡ 0 = omega (arith, low) in
-          let none : ltb 0 (inner s) ≡ false = let e = inner_is (depth h) s o.long in grind (arith, nat_tests) in
+          let flat : flow_depth h ≡ 0 = omega (arith, low) in
+          let none : ltb 0 (inner s) ≡ false = let e = inner_is (flow_depth h) s o.long in grind (arith, nat_tests) in
           let now : stack_of keys ≡ given_up s = all ∙ (rw none refl) in
-          let turned = cancelled_turns (depth h) text s l h (reached h) o on refl free p.stops in
-          let same_depth : depth h ≡ depth_after k (depth h) = omega (arith, flat, less (depth h)) in
+          let turned = cancelled_turns (flow_depth h) text s l h (reached h) o on refl free p.stops in
+          let same_depth : flow_depth h ≡ depth_after k (flow_depth h) = omega (arith, flat, less (flow_depth h)) in
           goes_takes k w old new h n a p.flat good kept (p.word text h) (goes_leaves k w old new h n a goes p.flat
           (subst (λ q. AreKeys text q (l ∷ h) l.reached) (sym now) (subst (λ d. AreKeysTo d text (given_up s) (l ∷ h) l.reached) same_depth turned))
-          (λ must. let bad = sym (ap (λ (q : KeyStack). q.required) now ∙ given_outer (depth h) text s h (reached h) o flat) ∙ must in cc)
+          (λ must. let bad = sym (ap (λ (q : KeyStack). q.required) now ∙ given_outer (flow_depth h) text s h (reached h) o flat) ∙ must in cc)
           (omega (arith, ap (λ (q : KeyStack). q.passed) now)))
     ]
 
@@ -198,7 +198,7 @@ pub byte_on : (b : ℕ) → 13 < b → b < 128 → (text : List ℕ) (at line wi
 byte_on b low high text at line wide p is = byte_place text at line wide b p is low high
 
 pub comma : Plain reads.FlowEntry kinds.FlowEntry tokens.flow_entry 1 true true false
-unfolding word_at
+unfolding lexeme_at
 comma = record {
   flat = refl;
   other = λ e. cc;
@@ -218,7 +218,7 @@ closer_body kinds.FlowSequenceEnd = tokens.flow_sequence_end
 closer_body _ = tokens.flow_mapping_end
 
 pub closer : (t : Token) → IsCloser t → Plain (read_as t) t (closer_body t) 1 false true false
-unfolding word_at
+unfolding lexeme_at
 closer kinds.FlowSequenceEnd c = record {
   flat = refl;
   other = λ e. cc;
@@ -286,7 +286,7 @@ mark_body kinds.DocumentStart = tokens.document_start
 mark_body _ = tokens.document_end
 
 pub mark : (t : Token) → IsMark t → Plain (read_as t) t (mark_body t) 3 false true false
-unfolding word_at
+unfolding lexeme_at
 mark kinds.DocumentStart c = record {
   flat = refl;
   other = λ e. cc;
@@ -325,7 +325,7 @@ opener_body kinds.FlowSequenceStart = tokens.flow_sequence_start
 opener_body _ = tokens.flow_mapping_start
 
 pub opener : (t : Token) → IsOpener t → Plain (read_as t) t (opener_body t) 1 true false true
-unfolding word_at
+unfolding lexeme_at
 opener kinds.FlowSequenceStart c = record {
   flat = refl;
   other = λ e. cc;

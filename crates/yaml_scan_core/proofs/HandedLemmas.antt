@@ -5,7 +5,7 @@ use Rattle.yaml_scan_core.proofs.Words.{cases_Bool, cases_lt, nat_tests, Entry, 
 use Rattle.yaml_scan_tokens.specs.declared.kind.Kind.{Kind}
 use Rattle.yaml_scan_tokens.specs.declared.kind.Kind.TheVariants as kinds
 use Rattle.yaml_scan_core.specs.declared.lexeme.Lexeme.{Lexeme}
-use Rattle.yaml_scan_core.specs.Rows.{RowView, first_kind, is_set, lexeme_at, loses_none_by}
+use Rattle.yaml_scan_core.specs.Rows.{RowView, first_kind, is_set, row_lexeme, loses_none_by}
 use Rattle.yaml_scan_model.specs.Tokens.{TokenBody}
 use Rattle.yaml_scan_history.specs.Remaining.{body_in}
 use Rattle.yaml_scan_core.specs.Shown.{Carries, KeepsTaken, ShowsEntry, ShowsFront, ShowsRow, Store, entry_at, store_of}
@@ -73,7 +73,7 @@ pub given_none : (text : List ℕ) (r : RowView) → length r.lexemes ≤ r.next
 given_none text r l = rw (unsettled r.next (length r.lexemes) l) refl
 
 pub given_is : (text : List ℕ) (r : RowView) → r.next < length r.lexemes
-    → given_in text r ≡ given_of (ends_in text r) (lexeme_at r r.next)
+    → given_in text r ≡ given_of (ends_in text r) (row_lexeme r r.next)
 given_is text r l = rw (settled r.next (length r.lexemes) l) refl
 
 -- what carries a token isn't lost
@@ -92,30 +92,31 @@ known_shown s t x e n h = ap (λ b. known_by b n) (held s t x x.kind (body_in t 
 pub ends_shown : (text : List ℕ) (t : SpelledText) (r : RowView) (es : List Entry) → ShowsRow t r es
     → r.next < length r.lexemes → ends_in text r ≡ ends_at text (r.dropped + r.next)
 ends_shown text t r es h l =
-    known_shown (store_of t.text r) t (lexeme_at r r.next) (entry_at es (r.dropped + r.next)) (ends_at text (r.dropped + r.next)) (h.front l).shows
+    known_shown (store_of t.text r) t (row_lexeme r r.next) (entry_at es (r.dropped + r.next)) (ends_at text (r.dropped + r.next)) (h.front l).shows
 
 -- where a lexeme is shown
 pub given_some : (text : List ℕ) (t : SpelledText) (r : RowView) (es : List Entry) → ShowsRow t r es
     → r.next < length r.lexemes
-    → given_in text r ≡ given_of (ends_at text (r.dropped + r.next)) (lexeme_at r r.next)
-given_some text t r es h l = given_is text r l ∙ ap (λ n. given_of n (lexeme_at r r.next)) (ends_shown text t r es h l)
+    → given_in text r ≡ given_of (ends_at text (r.dropped + r.next)) (row_lexeme r r.next)
+given_some text t r es h l = given_is text r l ∙ ap (λ n. given_of n (row_lexeme r r.next)) (ends_shown text t r es h l)
 
 -- where what waits first isn't settled
 pub given_open : (text : List ℕ) (t : SpelledText) (r : RowView) (es : List Entry) → ShowsRow t r es
     → r.settled ≤ r.next → r.next < length r.lexemes
-    → given_in text r ≡ ends_at text (r.dropped + r.next) - (lexeme_at r r.next).ends
+    → given_in text r ≡ ends_at text (r.dropped + r.next) - (row_lexeme r r.next).ends
 given_open text t r es h open_one l =
-    given_some text t r es h l ∙ given_first (ends_at text (r.dropped + r.next)) (lexeme_at r r.next)
-    (front_first (store_of t.text r) t (lexeme_at r r.next) (entry_at es (r.dropped + r.next)) (ltb r.next r.settled) (unsettled r.next r.settled open_one) (h.front l))
+    given_some text t r es h l ∙ given_first (ends_at text (r.dropped + r.next)) (row_lexeme r r.next)
+    (front_first (store_of t.text r) t (row_lexeme r r.next) (entry_at es (r.dropped + r.next)) (ltb r.next r.settled) (unsettled r.next r.settled open_one) (h.front l))
 
 -- where the row was moved
 pub given_moved : (text : List ℕ) (r q : RowView) → q.dropped + q.next ≡ r.dropped + r.next
     → length q.lexemes + r.next ≡ length r.lexemes + q.next
-    → (q.next < length q.lexemes → lexeme_at q q.next ≡ lexeme_at r r.next) → given_in text q ≡ given_in text r
+    → (q.next < length q.lexemes → row_lexeme q q.next ≡ row_lexeme r r.next)
+    → given_in text q ≡ given_in text r
 given_moved text r q number long same = elim (cases_lt r.next (length r.lexemes)) [
   | inl some ↦
       let there : q.next < length q.lexemes = omega (arith, some, long) in
-      given_is text q there ∙ ap (λ i. given_of (ends_known (lexeme_at q q.next) (ends_at text i)) (lexeme_at q q.next)) number
+      given_is text q there ∙ ap (λ i. given_of (ends_known (row_lexeme q q.next) (ends_at text i)) (row_lexeme q q.next)) number
       ∙ ap (λ x. given_of (ends_known x (ends_at text (r.dropped + r.next))) x) (same there) ∙ sym (given_is text r some)
   | inr none ↦ given_none text q (omega (arith, none, long)) ∙ sym (given_none text r none)
 ]
@@ -129,28 +130,28 @@ pub given_stays : (text : List ℕ) (t u : SpelledText) (r q : RowView) (es fs :
 given_stays text t u r q es fs k h g longer told =
     let next = k.next in
     let number : q.dropped + q.next ≡ r.dropped + r.next = omega (arith, k.next, k.dropped) in
-    let place : lexeme_at q q.next ≡ lexeme_at q r.next = ap (λ i. lexeme_at q i) k.next in
+    let place : row_lexeme q q.next ≡ row_lexeme q r.next = ap (λ i. row_lexeme q i) k.next in
     elim (cases_lt r.next (length r.lexemes)) [
       | inl some ↦
           let there : q.next < length q.lexemes = omega (arith, some, next, longer) in
           elim (cases_lt r.next r.settled) [
-            | inl done ↦ given_some text u q fs g there ∙ ap (λ i. given_of (ends_at text i) (lexeme_at q q.next)) number
+            | inl done ↦ given_some text u q fs g there ∙ ap (λ i. given_of (ends_at text i) (row_lexeme q q.next)) number
                 ∙ ap (λ x. given_of (ends_at text (r.dropped + r.next)) x) (place ∙ k.same done) ∙ sym (given_some text t r es h some)
             | inr open_one ↦
-                let same : (lexeme_at q q.next).ends ≡ (lexeme_at r r.next).ends = ap (λ (x : Lexeme). x.ends) place ∙ k.ends some in
+                let same : (row_lexeme q q.next).ends ≡ (row_lexeme r r.next).ends = ap (λ (x : Lexeme). x.ends) place ∙ k.ends some in
                 given_open text u q fs g (omega (arith, open_one, k.settled, next)) there
-                ∙ ap (λ i. ends_at text i - (lexeme_at q q.next).ends) number ∙ ap (λ e. ends_at text (r.dropped + r.next) - e) same
+                ∙ ap (λ i. ends_at text i - (row_lexeme q q.next).ends) number ∙ ap (λ e. ends_at text (r.dropped + r.next) - e) same
                 ∙ sym (given_open text t r es h open_one some)
           ]
       | inr none ↦ elim (cases_lt q.next (length q.lexemes)) [
         | inr gone ↦ given_none text q gone ∙ sym (given_none text r none)
         | inl there ↦
             let low : r.next < length q.lexemes = omega (arith, there, next) in
-            let own : (lexeme_at q q.next).ends ≡ ends_at text (r.dropped + r.next) = ap (λ (x : Lexeme). x.ends) place ∙ k.first none low ∙ told low in
+            let own : (row_lexeme q q.next).ends ≡ ends_at text (r.dropped + r.next) = ap (λ (x : Lexeme). x.ends) place ∙ k.first none low ∙ told low in
             let taken = h.taken in
             let few = h.few in
             given_open text u q fs g (omega (arith, none, few, k.settled, next)) there
-            ∙ ap (λ i. ends_at text i - (lexeme_at q q.next).ends) number ∙ ap (λ e. ends_at text (r.dropped + r.next) - e) own
+            ∙ ap (λ i. ends_at text i - (row_lexeme q q.next).ends) number ∙ ap (λ e. ends_at text (r.dropped + r.next) - e) own
             ∙ same_less (ends_at text (r.dropped + r.next)) ∙ sym (given_none text r none)
       ]
     ]

@@ -1,6 +1,6 @@
 -- Lexemes that carry nothing, by kind.
 use Rattle.std.proofs.Common.{◌≡◌, ℕ, ◌+◌, ◌<◌, ◌≤◌, ◌⊎◌, ◌^◌, Bool, true, false, cond, ltb, ◌&&◌, ◌||◌, not, inl, inr, List, [], ◌∷◌, ◌++◌, length, Option, Some, None, Ok, Err, refl, sym, ap, subst, ◌∙◌, arith}
-use Rattle.yaml_scan_core.proofs.Words.{cases_Bool, cases_lt, yaml_mark_t, mark_at, Kind, Lexeme, candidate, reached, depth, levels, key_allowed, entries, entry_of, is_value, is_start, is_end, found_by, inside, left_by, opened, opens_at, cancels, may_be_key, WordText, word_at, kind_at, Upto, Fails, missed, next, allowed_behind, SpelledText, body_in, required_in, AreKeys, AreKeysTo, KeyStack, depth_after, inner, key_at, stack_of, given_up}
+use Rattle.yaml_scan_core.proofs.Words.{cases_Bool, cases_lt, yaml_mark_t, mark_at, Kind, Lexeme, candidate, reached, flow_depth, open_levels, key_allowed, finished_tokens, entry_of, is_value, is_start, is_end, found_by, inside, left_by, opened, opens_at, cancels, may_be_key, WordText, lexeme_at, kind_at, Upto, Fails, missed, next, allowed_behind, SpelledText, body_in, required_in, AreKeys, AreKeysTo, KeyStack, depth_after, inner, key_at, stack_of, given_up}
 use Rattle.yaml_scan_core.specs.Candidates.{cancelled_at, index_in}
 use Rattle.yaml_scan_history.specs.Next.{begun, colon_missing}
 use Rattle.yaml_scan_model.specs.Tokens.{TokenBody}
@@ -44,7 +44,7 @@ pub stands_at : (k : Kind) (s : Scanner) (h : List Lexeme) (n : ℕ) → StandsA
 stands_at k s h n a = record {
   on = record { is = a.behind.is; some = a.behind.some; more = a.behind.more };
   early = ap (λ m. missed (candidate 0 h) m) (stands_here k s h n a) ∙ a.early;
-  kind = ap (λ p. kind_at (ltb 0 (depth h)) s.text.now p) (sym a.behind.gap) ∙ a.kind;
+  kind = ap (λ p. kind_at (ltb 0 (flow_depth h)) s.text.now p) (sym a.behind.gap) ∙ a.kind;
 }
 
 -- the lexeme of a kind that is read there, where it carries that
@@ -67,7 +67,7 @@ keeps_all k s h n f u a e t = lost_there k true s h n a e ∙ sym (cancelled_is 
 
 required_lost : (h : List Lexeme) (start : yaml_mark_t) → lost_in true h ≡ Some start
     → required_in (candidate 0 h) ≡ Some start
-required_lost h start e = elim (cases_Bool (ltb 0 (depth h))) [ inl deep ↦ let bad = rw deep at e in cc | inr flat ↦ rw flat at e ]
+required_lost h start e = elim (cases_Bool (ltb 0 (flow_depth h))) [ inl deep ↦ let bad = rw deep at e in cc | inr flat ↦ rw flat at e ]
 
 -- or fails, and that is what comes
 pub loses : (k : Kind) (s : Scanner) (h : List Lexeme) (n : ℕ) (f : Option Fault)
@@ -89,16 +89,16 @@ loses k s h n f e a place flat good t =
 -- ---- the row
 
 pub entries_more : (l : Lexeme) (h : List Lexeme) → is_value l.kind ≡ false
-    → entries (l ∷ h) ≡ entries h ++ entry_of l h ∷ []
-unfolding entries
-entries_more l h other = ap (λ b. cond b (marked (found_by l h) (inside l h) (entries h)) (entries h) ++ entry_of l h ∷ []) other
+    → finished_tokens (l ∷ h) ≡ finished_tokens h ++ entry_of l h ∷ []
+unfolding finished_tokens
+entries_more l h other = ap (λ b. cond b (marked (found_by l h) (inside l h) (finished_tokens h)) (finished_tokens h) ++ entry_of l h ∷ []) other
 
 -- a lexeme more, which is no `:`
 pub row_more : (t : SpelledText) (r : RowView) (x : Held) (l : Lexeme) (h : List Lexeme)
-    → ShowsRow t r (entries h) → is_value l.kind ≡ false
+    → ShowsRow t r (finished_tokens h) → is_value l.kind ≡ false
     → ShowsWhole (store_of t.text r) t x (entry_of l h)
-    → ShowsRow t (pushed x r) (entries (l ∷ h))
-row_more t r x l h shows other new = subst (λ es. ShowsRow t (pushed x r) es) (sym (entries_more l h other)) (shown_pushed t r (entries h) x (entry_of l h) shows new)
+    → ShowsRow t (pushed x r) (finished_tokens (l ∷ h))
+row_more t r x l h shows other new = subst (λ es. ShowsRow t (pushed x r) es) (sym (entries_more l h other)) (shown_pushed t r (finished_tokens h) x (entry_of l h) shows new)
 
 -- what a lexeme that carries nothing shows
 pub bare_shows : (t : SpelledText) (s : Store) (k : Token) (n p q f : ℕ) (l : Lexeme)
@@ -106,7 +106,7 @@ pub bare_shows : (t : SpelledText) (s : Store) (k : Token) (n p q f : ℕ) (l : 
     → place_mark s.text p ≡ l.start → place_mark s.text q ≡ l.end
     → is_set 8 (bare k n p q f) ≡ false → is_set 4 (bare k n p q f) ≡ false
     → opens_in (bare k n p q f) ≡ opens_of (found_by l h) l (inside l h)
-    → n + length (inside l h) ≡ length (levels h)
+    → n + length (inside l h) ≡ length (open_levels h)
     → Carries s t (bare k n p q f) k (body_in t l)
     → ShowsWhole s t (bare k n p q f) (entry_of l h)
 bare_shows t s k n p q f l h start end plain none opens ends body = record {
@@ -160,7 +160,8 @@ given_up_outer n text s l h p a at must =
 pub record Goes (k : Kind) (w : WordText) (old new : Scanner) (h : List Lexeme) : Type 0 where
   pub text : new.text.now ≡ old.text.now
   pub coding : new.encoding ≡ old.encoding
-  pub row : ShowsRow (stream_of old) (row_of new.row) (entries (put_at k w old.text.now h ∷ h))
+  pub row : ShowsRow (stream_of old) (row_of new.row)
+      (finished_tokens (put_at k w old.text.now h ∷ h))
   pub room : HasRoom new.row
   pub dropped : new.row.dropped ≡ old.row.dropped
   pub settled : new.row.settled ≡ old.row.settled
@@ -171,8 +172,8 @@ pub record Goes (k : Kind) (w : WordText) (old new : Scanner) (h : List Lexeme) 
   pub further : old.at ≤ new.at
   pub allowed : new.key_allowed ≡ key_allowed (put_at k w old.text.now h ∷ h)
   pub few : length new.levels.outer.items < 2 ^ 32
-  pub margins : AreLevels new.levels (levels (put_at k w old.text.now h ∷ h))
-  pub kept : Keeps old new (entries (put_at k w old.text.now h ∷ h))
+  pub margins : AreLevels new.levels (open_levels (put_at k w old.text.now h ∷ h))
+  pub kept : Keeps old new (finished_tokens (put_at k w old.text.now h ∷ h))
 
 pub goes_upto : (k : Kind) (w : WordText) (old new : Scanner) (h : List Lexeme) (n : ℕ)
     → StandsAs k old h n → Goes k w old new h → let l = put_at k w old.text.now h in
@@ -227,7 +228,7 @@ goes_takes k w old new h n a flat good lost word v =
 -- a lexeme that cancels, and stays at its depth
 pub cancelling_takes : (k : Kind) (w : WordText) (old new : Scanner) (h : List Lexeme) (n : ℕ)
     → StandsAs k old h n → cancels k ≡ true → may_be_key k ≡ false → is_end k ≡ false
-    → depth_after k (depth h) ≡ depth h → is_wrong k old.text.now h ≡ false
+    → depth_after k (flow_depth h) ≡ flow_depth h → is_wrong k old.text.now h ≡ false
     → lost_at k old.text.now h ≡ None → word_here k old.text.now h ≡ Ok w
     → Goes k w old new h → stack_of new.keys ≡ given_up (stack_of old.keys) → Takes old new h
 cancelling_takes k w old new h n a stops idle flat deep good lost word g keys =
@@ -237,13 +238,13 @@ cancelling_takes k w old new h n a stops idle flat deep good lost word g keys =
     let (further, forward) = goes_upto k w old new h n a g in
     let on : Upto (reached h) l.reached = upto_on (reached h) l.start l.reached further forward in
     let free : l.saved ≡ false = rw idle (grind arith) in
-    let turned : AreKeysTo (depth h) text (given_up s) (l ∷ h) l.reached = cancelled_turns (depth h) text s l h (reached h) a.behind.holds.keys on refl free stops in
+    let turned : AreKeysTo (flow_depth h) text (given_up s) (l ∷ h) l.reached = cancelled_turns (flow_depth h) text s l h (reached h) a.behind.holds.keys on refl free stops in
     let all : AreKeys text (given_up s) (l ∷ h) l.reached = subst (λ d. AreKeysTo d text (given_up s) (l ∷ h) l.reached) (sym deep) turned in
     goes_takes k w old new h n a flat good lost word (goes_leaves k w old new h n a g flat
     (subst (λ t. AreKeys text t (l ∷ h) l.reached) (sym keys) all)
     (λ must. inl (
     let now : (given_up s).required ≡ true = ap (λ (t : KeyStack). t.required) (sym keys) ∙ must in
-    let (key, same) = given_up_outer (depth h) text s l h (reached h) a.behind.holds.keys refl now in
+    let (key, same) = given_up_outer (flow_depth h) text s l h (reached h) a.behind.holds.keys refl now in
     (ap (λ t. key_at t 0) keys ∙ key, same)))
     (omega (arith, ap (λ (t : KeyStack). t.passed) keys)))
 
@@ -255,7 +256,7 @@ pub not_wrong : (k : Kind) (text : List ℕ) (h : List Lexeme) → is_start k �
 not_wrong k text h e = rw e (grind arith)
 
 body_other : (k : Kind) (s : SpelledText) (l : Lexeme) → (k ≡ reads.StreamStart → ⊥)
-    → body_by k s l ≡ body_of_word (word_at k (ltb 0 l.depth) l.level s.text l.start.index)
+    → body_by k s l ≡ body_of_word (lexeme_at k (ltb 0 l.depth) l.level s.text l.start.index)
 body_other reads.StreamStart s l other = absurd (other refl)
 body_other _ s l other = refl
 
@@ -265,17 +266,17 @@ pub body_put : (k : Kind) (w : WordText) (s : SpelledText) (h : List Lexeme)
     → body_in s (put_at k w s.text h) ≡ w.body
 body_put k w s h other e flat =
     let level : (begun_at s.text h k).level ≡ (put_at k w s.text h).level = rw flat refl in
-    body_other k s (put_at k w s.text h) other ∙ ap (λ v. body_of_word (word_at k (ltb 0 (depth h)) v s.text (gap_of s.text h).place)) (sym level) ∙ ap body_of_word e
+    body_other k s (put_at k w s.text h) other ∙ ap (λ v. body_of_word (lexeme_at k (ltb 0 (flow_depth h)) v s.text (gap_of s.text h).place)) (sym level) ∙ ap body_of_word e
 
 pub levels_plain : (l : Lexeme) (h : List Lexeme) → is_start l.kind ≡ false
-    → levels (l ∷ h) ≡ inside l h
-unfolding levels
+    → open_levels (l ∷ h) ≡ inside l h
+unfolding open_levels
 levels_plain l h e = ap (λ b. opened (b && not (ltb 0 l.depth)) (opens_at (found_by l h) l.kind l.start.column) (inside l h)) e
 
 -- the levels after which it stands are those that were left open
 pub inside_put : (k : Kind) (w : WordText) (s : Scanner) (h : List Lexeme) (n : ℕ)
     → StandsAs k s h n → inside (put_at k w s.text.now h) h ≡ left_behind k s h
-inside_put k w s h n a = ap (λ (m : yaml_mark_t). left_by k (depth h) m.column (levels h)) (stands_here k s h n a)
+inside_put k w s h n a = ap (λ (m : yaml_mark_t). left_by k (flow_depth h) m.column (open_levels h)) (stands_here k s h n a)
 
 -- what stays of a scanner where a lexeme was put that carries nothing
 pub record Puts (t : Token) (n width flags : ℕ) (old new : Scanner) : Type 0 where
@@ -340,11 +341,11 @@ bare_goes k t b width old new h n a flat other colon starts word carries p kept 
     let opens : opening.Nothing ≡ opens_of (found_by l h) l (inside l h) = rw starts refl in
     let shown = bare_entry k t b width 0 old o h n a flat other word refl place.inside refl refl opens (carries o) in
     let row = row_more (stream_of old) r x l h a.behind.holds.row colon shown in
-    let same : levels (l ∷ h) ≡ left_behind k old h = levels_plain l h starts ∙ inside_put k w old h n a in
+    let same : open_levels (l ∷ h) ≡ left_behind k old h = levels_plain l h starts ∙ inside_put k w old h n a in
     record {
       text = p.text;
       coding = p.coding;
-      row = subst (λ q. ShowsRow (stream_of old) q (entries (l ∷ h))) (sym p.row) row;
+      row = subst (λ q. ShowsRow (stream_of old) q (finished_tokens (l ∷ h))) (sym p.row) row;
       room = p.room;
       dropped = ap (λ (q : RowView). q.dropped) p.row;
       settled = ap (λ (q : RowView). q.settled) p.row;
@@ -388,11 +389,11 @@ puts_by t n width flags old mid row keys marg allowed x same is put room =
 
 pub stands_told : (k : Kind) (s : Scanner) (h : List Lexeme) (n : ℕ) → StandsAs k s h n
     → Tells s.text.now s.at k
-stands_told k s h n a = kind_told (ltb 0 (depth h)) s.text.now s.at k a.kind
+stands_told k s h n a = kind_told (ltb 0 (flow_depth h)) s.text.now s.at k a.kind
 
 pub stands_at_told : (k : Kind) (s : Scanner) (h : List Lexeme) → StandsAt k s h
     → Tells s.text.now s.at k
-stands_at_told k s h a = kind_told (ltb 0 (depth h)) s.text.now s.at k a.kind
+stands_at_told k s h a = kind_told (ltb 0 (flow_depth h)) s.text.now s.at k a.kind
 
 or_true : (b : Bool) → (b || true) ≡ true
 or_true true = refl
@@ -407,5 +408,5 @@ place_cancels k text h stops other = rw (stops, other) (or_true _)
 
 pub entry_word : (text : List ℕ) (h : List Lexeme)
     → word_here reads.FlowEntry text h ≡ Ok (bare_word tokens.flow_entry 1 text h)
-unfolding word_at
+unfolding lexeme_at
 entry_word text h = refl

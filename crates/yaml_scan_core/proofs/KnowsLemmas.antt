@@ -1,10 +1,10 @@
 -- The next token is known where the lexemes that were read settle it.
 use Rattle.std.proofs.Common.{◌≡◌, ℕ, zero, suc, ◌+◌, ◌-◌, ◌<◌, ◌≤◌, Bool, true, false, ltb, List, [], ◌∷◌, ◌++◌, length, take, drop, get_or, refl, sym, ap, ◌∙◌, inl, inr, arith, length-append}
-use Rattle.yaml_scan_core.proofs.Words.{cases_lt, nat_tests, length-drop, flat_map, Token, Lexeme as Read, Entry, ended, entries, first_open, history, next, SpelledText, all, handed, spell, front_ends, remaining, length-entries, tokens_is, front_none, ends_token}
+use Rattle.yaml_scan_core.proofs.Words.{cases_lt, nat_tests, length-drop, flat_map, Token, Lexeme as Read, Entry, ended, finished_tokens, first_open, history, next, SpelledText, all, handed, spell, front_ends, remaining, length-entries, tokens_is, front_none, ends_token}
 use Rattle.yaml_scan_history.specs.Remaining.{kept_of}
 use Rattle.yaml_scan_laws_order.proofs.RemainingForward.{Known, front_count, known_ended, known_next, known_settled}
 use Rattle.yaml_scan_core.specs.declared.scanner.Scanner.{Scanner}
-use Rattle.yaml_scan_core.specs.Rows.{lexeme_at, row_of}
+use Rattle.yaml_scan_core.specs.Rows.{row_lexeme, row_of}
 use Rattle.yaml_scan_core.specs.Shown.{ShowsRow, entry_at, no_entry, store_of}
 use Rattle.yaml_scan_core.specs.Scanning.{history_of, read_by, stream_of}
 use Rattle.yaml_scan_core.specs.Handed.{ends_at, given_in, to_come}
@@ -57,7 +57,7 @@ settled_open h low = grind arith
 
 -- how many BLOCK-END tokens are told before the first lexeme that isn't settled
 abbrev fronts : List Read → ℕ
-fronts h = length (front_ends (drop (settled_in h) (entries h)))
+fronts h = length (front_ends (drop (settled_in h) (finished_tokens h)))
 
 fronts_come : (s : SpelledText) (n : ℕ)
     → fronts (history s.text n) ≤ from s (settled_in (history s.text n))
@@ -65,9 +65,9 @@ fronts_come s n =
     let h = history s.text n in
     let f = settled_in h in
     elim (cases_lt f (length h)) [
-      | inr past ↦ omega (arith, front_none (entries h) f (omega (arith, past, length-entries h)))
+      | inr past ↦ omega (arith, front_none (finished_tokens h) f (omega (arith, past, length-entries h)))
       | inl low ↦
-          let is = front_count (entries h) f no_entry (omega (arith, low, length-entries h)) in
+          let is = front_count (finished_tokens h) f no_entry (omega (arith, low, length-entries h)) in
           elim (cases_lt 0 (fronts h)) [
             | inr none ↦ omega (arith, none)
             | inl some ↦
@@ -84,25 +84,25 @@ unfolding settled_tokens
 open_is s n =
     let h = history s.text n in
     let f = settled_in h in
-    let same : count s (take f (handed s.text)) ≡ count s (take f (entries h)) = ap (λ es. count s es) (known_upto s.text n f (omega arith)).same in
-    omega (arith, same, count_split s f (handed s.text), left_length s 0 0, length-append (flat_map (spell s) (take f (entries h))) (front_ends (drop f (entries h))))
+    let same : count s (take f (handed s.text)) ≡ count s (take f (finished_tokens h)) = ap (λ es. count s es) (known_upto s.text n f (omega arith)).same in
+    omega (arith, same, count_split s f (handed s.text), left_length s 0 0, length-append (flat_map (spell s) (take f (finished_tokens h))) (front_ends (drop f (finished_tokens h))))
 
 -- before it more are to come
 before_open : (s : SpelledText) (n k given : ℕ) → let h = history s.text n in k < settled_in h
-    → given < length (spell s (get_or (entries h) k no_entry))
+    → given < length (spell s (get_or (finished_tokens h) k no_entry))
     → from s (settled_in h) < from s k - given
 before_open s n k given low few =
     let h = history s.text n in
     let here = known_next s.text n k no_entry (known_upto s.text n (suc k) (omega (arith, low))) in
     let rest = drop (k + 1) (handed s.text) in
-    let first : count s (drop k (handed s.text)) ≡ length (spell s (get_or (entries h) k no_entry)) + count s rest = ap (λ es. count s es) here ∙ length-append (spell s (get_or (entries h) k no_entry)) (flat_map (spell s) rest) in
+    let first : count s (drop k (handed s.text)) ≡ length (spell s (get_or (finished_tokens h) k no_entry)) + count s rest = ap (λ es. count s es) here ∙ length-append (spell s (get_or (finished_tokens h) k no_entry)) (flat_map (spell s) rest) in
     omega (arith, first, count_less s (k + 1) (settled_in h) (handed s.text) (omega (arith, low)), few)
 
 -- ---- a scanner that met no fault
 
 -- what its row shows, and how much of it is settled
 pub record Seen (s : Scanner) : Type 0 where
-  pub row : ShowsRow (stream_of s) (row_of s.row) (entries (history_of s))
+  pub row : ShowsRow (stream_of s) (row_of s.row) (finished_tokens (history_of s))
   pub settled : settled_in (history_of s) ≡ s.row.dropped + s.row.settled
 
 settled_going : (h : List Read) → ended h ≡ false → settled_in h ≡ first_open h h
@@ -129,7 +129,8 @@ knows_settled s low = rw (is_less s.row.next s.row.settled low) refl
 
 -- one waits that isn't settled
 pub knows_open : (s : Scanner) → s.row.settled ≤ s.row.next
-    → s.row.next < length s.row.lexemes.items → knows s ≡ ltb 0 (lexeme_at (row_of s.row) s.row.next).ends
+    → s.row.next < length s.row.lexemes.items
+    → knows s ≡ ltb 0 (row_lexeme (row_of s.row) s.row.next).ends
 knows_open s high some = rw (isnt_less s.row.next s.row.settled high, is_less s.row.next (length s.row.lexemes.items) some) refl
 
 -- none waits
@@ -162,8 +163,8 @@ tells s i =
     let h = history_of s in
     let v = seen s i in
     let k = r.dropped + r.next in
-    let x = lexeme_at r r.next in
-    let e = entry_at (entries h) k in
+    let x = row_lexeme r r.next in
+    let e = entry_at (finished_tokens h) k in
     let given = given_in t.text r in
     let row = v.row in
     let unset = open_is t n in
@@ -173,7 +174,7 @@ tells s i =
       | inl low ↦
           let some : r.next < length r.lexemes = omega (arith, low, row.few) in
           let long = spell_long (store_of t.text r) t x e (row.front some).shows in
-          let few : given < length (spell t e) = omega (arith, long, given_some t.text t r (entries h) row some, given_less (ends_at t.text k) x, told some) in
+          let few : given < length (spell t e) = omega (arith, long, given_some t.text t r (finished_tokens h) row some, given_less (ends_at t.text k) x, told some) in
           let more = before_open t n k given (omega (arith, low, v.settled)) few in
           more_left (knows s) (open_in t n) (length (to_come s).tokens) (from t (settled_in h)) (fronts h) (knows_settled s low) unset (omega (arith, more, left))
       | inr high ↦
@@ -181,11 +182,11 @@ tells s i =
           let same : from t (settled_in h) ≡ from t k = ap (λ j. from t j) at in
           elim (cases_lt r.next (length r.lexemes)) [
             | inl some ↦
-                let ends : fronts h ≡ e.ends = ap (λ j. length (front_ends (drop j (entries h)))) at ∙ front_count (entries h) k no_entry (omega (arith, row.count, some)) in
-                let taken : given ≡ e.ends - x.ends = given_open t.text t r (entries h) row high some ∙ ap (λ m. m - x.ends) (sym (told some)) in
+                let ends : fronts h ≡ e.ends = ap (λ j. length (front_ends (drop j (finished_tokens h)))) at ∙ front_count (finished_tokens h) k no_entry (omega (arith, row.count, some)) in
+                let taken : given ≡ e.ends - x.ends = given_open t.text t r (finished_tokens h) row high some ∙ ap (λ m. m - x.ends) (sym (told some)) in
                 by_ends (knows s) (open_in t n) (length (to_come s).tokens) x.ends e.ends (from t k) (knows_open s high some) (omega (arith, unset, same, ends)) (omega (arith, left, taken)) (omega (arith, fronts_come t n, same, ends)) (row.front some).ends
             | inr gone ↦
-                let none : fronts h ≡ 0 = front_none (entries h) (settled_in h) (omega (arith, at, row.count, gone)) in
+                let none : fronts h ≡ 0 = front_none (finished_tokens h) (settled_in h) (omega (arith, at, row.count, gone)) in
                 let zero_given : given ≡ 0 = given_none t.text r gone in
                 same_left (knows s) (open_in t n) (length (to_come s).tokens) (knows_none s high gone) (omega (arith, unset, same, none, left, zero_given))
           ]

@@ -1,7 +1,7 @@
 -- What is to come where the end wasn't read, and whether the next token is known, of a scanner that reads one lexeme at once.
 use Rattle.std.proofs.Common.{◌≡◌, ◌⊎◌, ℕ, ◌+◌, ◌<◌, ◌≤◌, true, false, cond, Bool, List, [], ◌∷◌, ◌++◌, length, get_or, Option, Some, None, Result, Ok, Err, refl, sym, ap, subst, ◌∙◌, inl, inr, arith, length-append, ◌^◌, ltb}
 use Rattle.std.proofs.lemmas.List.{length-replicate}
-use Rattle.yaml_scan_core.proofs.Words.{cases_lt, yaml_encoding_t, Fault, scanner_fault, Token, block_end, key, no_token, ScanFault, Kind, Entry, Lexeme, before, end_tokens, ended, entries, entries_ends, first_open, Next, Read, Fails, Ends, kind_behind, no_start, coming, next, history, spell, start_tokens, SpelledText, all, remaining, scanned_in, cases_Bool, nat_tests, length-entries, offline}
+use Rattle.yaml_scan_core.proofs.Words.{cases_lt, yaml_encoding_t, Fault, scanner_fault, Token, block_end, key, no_token, ScanFault, Kind, Entry, Lexeme, before, end_tokens, ended, finished_tokens, entries_ends, first_open, Next, Read, Fails, Ends, kind_behind, no_start, coming, next, history, spell, start_tokens, SpelledText, all, remaining, scanned_in, cases_Bool, nat_tests, length-entries, offline}
 use Rattle.yaml_scan_decode.specs.declared.offence.Offence.{Offence}
 use Rattle.yaml_scan_history.specs.Next.{place_behind, lexeme_behind, stale_before, faults, first_fault_or}
 use Rattle.yaml_scan_history.specs.Remaining.{fault_in, own_tokens, token_in, nothing}
@@ -38,7 +38,7 @@ ends_before s e =
 
 -- further lexemes leave how many levels a lexeme closes
 newer_ends : (newer h : List Lexeme) (k : ℕ) (e : Entry) → k < length h
-    → (get_or (entries (newer ++ h)) k e).ends ≡ (get_or (entries h) k e).ends
+    → (get_or (finished_tokens (newer ++ h)) k e).ends ≡ (get_or (finished_tokens h) k e).ends
 newer_ends [] h k e low = refl
 newer_ends (l ∷ newer) h k e low = (entries_ends l (newer ++ h) k e (omega (arith, low, length-append newer h))).0 ∙ newer_ends newer h k e low
 
@@ -50,17 +50,17 @@ fault_more (t ∷ ts) f e p = tt
 
 -- a lexeme of all whose own token isn't taken
 more_at_end : (s : SpelledText) (n k given : ℕ) (e : Entry) → next s.text (history s.text n) ≡ Ends
-    → k < length (history s.text n) → given ≤ (get_or (entries (history s.text n)) k e).ends
+    → k < length (history s.text n) → given ≤ (get_or (finished_tokens (history s.text n)) k e).ends
     → HasMore (remaining s k given).tokens (remaining s k given).fault
 more_at_end s n k given e over low few =
-    let x = get_or (entries (history s.text n)) k e in
+    let x = get_or (finished_tokens (history s.text n)) k e in
     let (gives, done) = last_comes s n k given e no_token over low in
     let (tokens, fault) = gives (omega (arith, ends_before s x, few)) in
     rw tokens tt
 
 -- what is taken of the lexeme of that number: levels that it closes at most, or nothing
 abbrev pub Untaken : List Lexeme → ℕ → ℕ → Entry → Type 0
-Untaken h k given e = ((k < length h) × (given ≤ (get_or (entries h) k e).ends)) ⊎ (given ≡ 0)
+Untaken h k given e = ((k < length h) × (given ≤ (get_or (finished_tokens h) k e).ends)) ⊎ (given ≡ 0)
 
 at_newer : (s : SpelledText) (n m k given : ℕ) (e : Entry) (newer : List Lexeme)
     → history s.text m ≡ newer ++ history s.text n → (next s.text (history s.text n) ≡ Ends → ⊥)
@@ -71,7 +71,7 @@ at_newer s n m k given e [] grown unended over low few = absurd (unended (subst 
 at_newer s n m k given e (l ∷ newer) grown unended over low few =
     let h = history s.text n in
     let long : length (history s.text m) ≡ length (l ∷ newer) + length h = ap length grown ∙ length-append (l ∷ newer) h in
-    let upto : given ≤ (get_or (entries (l ∷ newer ++ h)) k e).ends = elim few [ inl (here, less) ↦ omega (arith, less, newer_ends (l ∷ newer) h k e here) | inr none ↦ omega (arith, none) ] in
+    let upto : given ≤ (get_or (finished_tokens (l ∷ newer ++ h)) k e).ends = elim few [ inl (here, less) ↦ omega (arith, less, newer_ends (l ∷ newer) h k e here) | inr none ↦ omega (arith, none) ] in
     more_at_end s m k given e over (omega (arith, long, low)) (rw grown upto)
 
 by_all : (s : SpelledText) (k given : ℕ) (x : Next) → next s.text (all s.text) ≡ x
@@ -142,8 +142,8 @@ untaken s i none =
     elim (cases_lt r.next (length r.lexemes)) [
       | inr gone ↦ inr (given_none s.text.now r gone)
       | inl some ↦
-          let told : (entry_at (entries (history_of s)) k).ends ≡ ends_at s.text.now k = told_history s.text.now (read_by s) k (omega (arith, row.count, some)) in
-          let given = given_open s.text.now (stream_of s) r (entries (history_of s)) row high some in
+          let told : (entry_at (finished_tokens (history_of s)) k).ends ≡ ends_at s.text.now k = told_history s.text.now (read_by s) k (omega (arith, row.count, some)) in
+          let given = given_open s.text.now (stream_of s) r (finished_tokens (history_of s)) row high some in
           inl (omega (arith, row.count, some, length-entries (history_of s)), omega (arith, given, told))
     ]
 
@@ -202,7 +202,7 @@ unsettled_all : (n : ℕ) → ltb n n ≡ false
 unsettled_all n = grind (arith, nat_tests)
 
 pub none_settled : (s : SpelledText) → settles_in s (offline s).tokens 0 ≡ false
-unfolding settled_tokens settled_in first_open entries history
+unfolding settled_tokens settled_in first_open finished_tokens history
 none_settled s =
     let none : settled_tokens s 0 ≡ [] = refl in
     let same : open_in s 0 ≡ length (offline s).tokens = omega (arith, ap length none) in

@@ -1,6 +1,6 @@
 -- What comes next.
 use Rattle.std.proofs.Common.{get_or, ◌≡◌, ℕ, zero, suc, ◌<◌, ◌≤◌, Bool, true, false, ltb, eqb, ◌&&◌, List, [], ◌∷◌, length, Option, Some, None, refl, sym, ap, subst, ◌∙◌, inl, inr, arith}
-use Rattle.yaml_scan_core.proofs.Words.{cases_Bool, nat_tests, set, yaml_mark_t, mark_at, Lexeme, Entry, may_be_key, Candidate, candidate, fresh, reached, depth, key_allowed, ended, mark_key, Read, Ends, next, history, first_lexeme, allowed_behind, missed, behind, Upto, stepwise, required_in}
+use Rattle.yaml_scan_core.proofs.Words.{cases_Bool, nat_tests, set, yaml_mark_t, mark_at, Lexeme, Entry, may_be_key, Candidate, candidate, fresh, reached, flow_depth, key_allowed, ended, mark_key, Read, Ends, next, history, first_lexeme, allowed_behind, missed, behind, Upto, stepwise, required_in}
 use Rattle.yaml_scan_history.specs.History.{as_key}
 use Rattle.yaml_scan_core.specs.Candidates.{late}
 use Rattle.yaml_scan_core.proofs.LinesLemmas.{line_upto}
@@ -27,7 +27,7 @@ upto_later text p q le =
 pub upto_gap : (text : List ℕ) (h : List Lexeme) → reached h ≡ mark_at text (reached h).index
     → (reached h).index ≤ length text → Upto (reached h) (mark_at text (gap_of text h).place)
 upto_gap text h is le =
-    let from = gap_place (ltb 0 (depth h)) (key_allowed h) text (reached h).index le in
+    let from = gap_place (ltb 0 (flow_depth h)) (key_allowed h) text (reached h).index le in
     subst (λ (m : yaml_mark_t). Upto m (mark_at text (gap_of text h).place)) (sym is) (upto_later text (reached h).index (gap_of text h).place from.forward)
 
 pub late_same : (o : Option Candidate) (p : yaml_mark_t) → late (required_in o) p ≡ missed o p
@@ -55,7 +55,7 @@ required_is text (y ∷ h) l e must =
     let at = ap (λ (x : Lexeme). x.required) r.is ∙ same.required in
     let depth_at = ap (λ (x : Lexeme). x.depth) r.is ∙ same.depth in
     let saved_at = ap (λ (x : Lexeme). x.saved) r.is ∙ same.saved in
-    let (z, so) = required_parts (allowed_behind (y ∷ h) (gap_of text (y ∷ h))) (may_be_key l.kind) _ (depth (y ∷ h)) (sym at ∙ must) in
+    let (z, so) = required_parts (allowed_behind (y ∷ h) (gap_of text (y ∷ h))) (may_be_key l.kind) _ (flow_depth (y ∷ h)) (sym at ∙ must) in
     (depth_at ∙ z, saved_at ∙ so)
 
 -- a required candidate stands outside all brackets
@@ -104,7 +104,7 @@ pub not_ended : (text : List ℕ) (h : List Lexeme) (l : Lexeme) → next text h
 not_ended text h l e = elim (cases_Bool (ended h)) [ inr more ↦ more | inl over ↦ let bad = next_ended text h over in cc ]
 
 pub depth_of : (text : List ℕ) (h : List Lexeme) (l : Lexeme) → next text h ≡ Read l
-    → l.depth ≡ depth h
+    → l.depth ≡ flow_depth h
 unfolding next
 depth_of text [] l e = ap (λ (x : Lexeme). x.depth) (first_is text l e)
 depth_of text (x ∷ h) l e = let r = next_is text x h l e in ap (λ (y : Lexeme). y.depth) r.is ∙ (finished_same text (begun_at text (x ∷ h) l.kind) r.word).depth

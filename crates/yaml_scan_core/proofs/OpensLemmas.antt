@@ -1,6 +1,6 @@
 -- Brackets that open.
 use Rattle.std.proofs.Common.{◌≡◌, ℕ, ◌+◌, true, false, cond, ltb, eqb, ◌&&◌, not, inl, inr, List, [], ◌∷◌, length, Option, None, Ok, refl, sym, ap, subst, ◌∙◌, arith}
-use Rattle.yaml_scan_core.proofs.Words.{cases_lt, nat_tests, mark_at, line_at, Kind, Lexeme, reached, depth, depth_after, is_fresh, Upto, AreKeys, AreKeysTo, KeyStack, SimpleKey, inner, key_at, stack_of, saved, key_opened, index_in, no_key, get_or_append_left, get_or_past, get_or_at}
+use Rattle.yaml_scan_core.proofs.Words.{cases_lt, nat_tests, mark_at, line_at, Kind, Lexeme, reached, flow_depth, depth_after, is_fresh, Upto, AreKeys, AreKeysTo, KeyStack, SimpleKey, inner, key_at, stack_of, saved, key_opened, index_in, no_key, get_or_append_left, get_or_past, get_or_at}
 use Rattle.yaml_scan_model.specs.Tokens.{TokenBody}
 use Rattle.yaml_scan_core.specs.declared.fault.Fault.{Fault}
 use Rattle.yaml_scan_core.specs.declared.row.Row.{Row}
@@ -61,10 +61,10 @@ opening_takes k t b old mid keys saving row x h n f u p more a same tests is put
     ap (λ q. is_fresh (mark_at text q) (mark_at text (q + 1))) (sym a.behind.gap) ∙ fresh_next text old.at old.line old.wide a.behind.place place in
     let sv = saves_keys k w old h n a p.idle p.stops on (λ may must. next) in
     let all : stack_of keys ≡ key_opened (saves old) = opened_is ∙ ap key_opened saved_is in
-    let turned = opened_turns (depth h) text (saves old) l h l.reached sv.keys refl in
+    let turned = opened_turns (flow_depth h) text (saves old) l h l.reached sv.keys refl in
     goes_takes k w old new h n a p.flat (not_wrong k text h p.starts) (keeps_if k old.key_allowed old h n f u a (place_keys k old h n a p.idle p.stops) tests) (p.word text h)
     (goes_leaves k w old new h n a goes p.flat
-    (subst (λ q. AreKeys text q (l ∷ h) l.reached) (sym all) (subst (λ d. AreKeysTo d text (key_opened (saves old)) (l ∷ h) l.reached) (sym (more (depth h))) turned))
+    (subst (λ q. AreKeys text q (l ∷ h) l.reached) (sym all) (subst (λ d. AreKeysTo d text (key_opened (saves old)) (l ∷ h) l.reached) (sym (more (flow_depth h))) turned))
     (λ must. elim (sv.outer (ap (λ (q : KeyStack). q.required) (sym all) ∙ must)) [
       | inl (key, stays) ↦ inl (ap (λ q. key_at q 0) all ∙ opened_key (saves old) ∙ key, stays)
       | inr none ↦ inr none

@@ -2,7 +2,7 @@
 use Rattle.std.proofs.Common.{◌≡◌, ℕ, zero, suc, ◌+◌, ◌-◌, ◌<◌, ◌≤◌, ◌^◌, ◌++◌, ◌∷◌, Bool, true, false, not, cond, ltb, inl, inr, List, [], length, take, None, Result, Ok, Err, refl, sym, ap, subst, ◌∙◌, arith, length-append}
 use Rattle.std.specs.Prelude.{is_err, max}
 use Rattle.std.proofs.lemmas.List.{get_or-take, length-take-le, take-append-le}
-use Rattle.yaml_scan_core.proofs.Words.{cases_Bool, cases_lt, cases_Option, candidate_below, fresh, fresh_is, nat_tests, get_or_at, get_or_past, take_all, mark_at, Lexeme as Read, Entry, reached, ended, entries, first_open, first_open-le, length-entries, history, next, Fails, Ends, ScanFault, levels, candidate, entry_of, first_lexeme, line_at, column_at, byte, zero_mark, KeyStack, key_at, no_key, SpelledText, AreKeys, IsLineStart, stack_of}
+use Rattle.yaml_scan_core.proofs.Words.{cases_Bool, cases_lt, cases_Option, candidate_below, fresh, fresh_is, nat_tests, get_or_at, get_or_past, take_all, mark_at, Lexeme as Read, Entry, reached, ended, finished_tokens, first_open, first_open-le, length-entries, history, next, Fails, Ends, ScanFault, open_levels, candidate, entry_of, first_lexeme, line_at, column_at, byte, zero_mark, KeyStack, key_at, no_key, SpelledText, AreKeys, IsLineStart, stack_of}
 use Rattle.yaml_scan_core.specs.declared.keys.Keys.{Keys}
 use Rattle.yaml_scan_core.specs.declared.row.Row.{Row}
 use Rattle.yaml_scan_core.specs.declared.fault.Refused.{Refused}
@@ -14,7 +14,7 @@ use Rattle.yaml_scan_core.specs.declared.lexeme.Lexeme.{Lexeme}
 use Rattle.yaml_scan_tokens.specs.declared.kind.Kind.TheVariants as kinds
 use Rattle.yaml_scan_core.specs.Margins.{AreLevels}
 use Rattle.yaml_scan_model.specs.Marks.{splits_of}
-use Rattle.yaml_scan_core.specs.Rows.{RowView, HasRoom, IsThere, bare, row_of, failed, lost_at, lexeme_at, loses_none, no_lexeme}
+use Rattle.yaml_scan_core.specs.Rows.{RowView, HasRoom, IsThere, bare, row_of, failed, lost_at, row_lexeme, loses_none, no_lexeme}
 use Rattle.yaml_scan_core.specs.Handed.{Drops}
 use Rattle.yaml_scan_core.specs.Shown.{Store, ShowsRow, ShowsWhole, ShowsFront, store_of, entry_at, no_entry, place_mark}
 use Rattle.yaml_scan_core.specs.Scanning.{Advances, Falls, HasFailed, HasSettled, IsDecoded, IsGoing, IsLost, IsOver, IsPlace, IsTold, MaySettle, Rests, Shows, ShowsSettled, Steps, TellsFirst, but_last, history_of, read_by, stream_of}
@@ -48,7 +48,7 @@ shown_cut t r es k h more few =
     let q : RowView = record r { lexemes = take k r.lexemes; settled = k } in
     let long : length q.lexemes ≡ k = length-take-le k r.lexemes few in
     let all : length (take (r.dropped + k) es) ≡ r.dropped + k = length-take-le (r.dropped + k) es (omega (arith, few, h.count)) in
-    let lexeme : (i : ℕ) → i < k → lexeme_at q i ≡ lexeme_at r i = λ i lt. get_or-take k r.lexemes i no_lexeme lt in
+    let lexeme : (i : ℕ) → i < k → row_lexeme q i ≡ row_lexeme r i = λ i lt. get_or-take k r.lexemes i no_lexeme lt in
     let entry : (i : ℕ) → i < k → entry_at (take (r.dropped + k) es) (r.dropped + i) ≡ entry_at es (r.dropped + i) = λ i lt. get_or-take (r.dropped + k) es (r.dropped + i) no_entry (omega (arith, lt)) in
     record {
       count = omega (arith, all, long);
@@ -92,7 +92,7 @@ goes_on s t h going some same v =
       shows = record {
         holds = record {
           long = h.holds.long;
-          row = shown_settled (stream_of s) (row_of s.row) (entries hs) k h.holds.row more inside;
+          row = shown_settled (stream_of s) (row_of s.row) (finished_tokens hs) k h.holds.row more inside;
           room = h.holds.room;
           settled = omega (arith, v.first);
           keys = passed_keys _ s.text.now (stack_of s.keys) (stack_of keys) hs (reached hs) h.holds.keys same v.few v.stale;
@@ -118,7 +118,7 @@ pub is_over : (s : Scanner) (k : ℕ) → Shows s (history_of s) → s.ended ≡
 is_over s k h over all = record {
   over = over;
   end = sym h.over ∙ over;
-  row = shown_settled (stream_of s) (row_of s.row) (entries (history_of s)) k h.holds.row (omega (arith, all, h.holds.row.few)) (omega (arith, all));
+  row = shown_settled (stream_of s) (row_of s.row) (finished_tokens (history_of s)) k h.holds.row (omega (arith, all, h.holds.row.few)) (omega (arith, all));
   all = all;
   fault = h.holds.fault;
 }
@@ -154,7 +154,7 @@ keeps_of s h k x first = record {
 
 -- the last lexeme of a row after a fault
 last_failed : (r : RowView) → r.settled ≤ length r.lexemes
-    → lexeme_at (failed r) r.settled ≡ lost_at r
+    → row_lexeme (failed r) r.settled ≡ lost_at r
 last_failed r few = get_or_at (take r.settled r.lexemes) (lost_at r) [] no_lexeme r.settled (length-take-le r.settled r.lexemes few)
 
 cut_failed : (r : RowView) → r.settled ≤ length r.lexemes
@@ -171,13 +171,13 @@ cut_failed r few =
 -- what is lost where there is a lexeme after the settled ones
 lost_some : (t : SpelledText) (r : RowView) (es : List Entry) (k : ℕ) → ShowsRow t r es
     → k < length r.lexemes → r.next ≤ k → let e = entry_at es (r.dropped + k) in
-    let x = lexeme_at r k in
+    let x = row_lexeme r k in
     (x.ends ≤ e.ends) × ((r.next < k → x.ends ≡ e.ends) × (place_mark t.text x.start ≡ e.lexeme.start))
 lost_some t r es k h lt le = elim (cases_lt r.next k) [
   | inl low ↦ let w = h.others k low lt in (omega (arith, w.ends), (λ gt. w.ends, w.shows.start))
   | inr high ↦
       let same : r.next ≡ k = omega (arith, le, high) in
-      let f : ShowsFront (ltb r.next r.settled) (store_of t.text r) t (lexeme_at r k) (entry_at es (r.dropped + k)) = subst (λ j. ShowsFront (ltb r.next r.settled) (store_of t.text r) t (lexeme_at r j) (entry_at es (r.dropped + j))) same (h.front (omega (arith, same, lt))) in
+      let f : ShowsFront (ltb r.next r.settled) (store_of t.text r) t (row_lexeme r k) (entry_at es (r.dropped + k)) = subst (λ j. ShowsFront (ltb r.next r.settled) (store_of t.text r) t (row_lexeme r j) (entry_at es (r.dropped + j))) same (h.front (omega (arith, same, lt))) in
       (f.ends, (λ gt. absurd (omega (arith, gt, same)), f.shows.start))
 ]
 
@@ -226,7 +226,7 @@ none_read s h k x first all = elim x.keys [
 pub loses_one : (r : RowView) → r.settled < length r.lexemes → loses_none (lost_at r) ≡ false
 loses_one r lt =
     let y : ltb r.settled (length r.lexemes) ≡ true = grind (arith, nat_tests) in
-    let same : ltb (lexeme_at r r.settled).start (lexeme_at r r.settled).start ≡ false = grind (arith, nat_tests) in
+    let same : ltb (row_lexeme r r.settled).start (row_lexeme r r.settled).start ≡ false = grind (arith, nat_tests) in
     rw y same
 
 loses_nothing : (r : RowView) → length r.lexemes ≤ r.settled → loses_none (lost_at r) ≡ true
@@ -260,28 +260,28 @@ fell old mid keys k row h f first is =
     let r : RowView = row_of mid.row in
     let q : RowView = record r { settled = k } in
     let fo = first_open h h in
-    let front : take (r.dropped + k) x.all ≡ take fo (entries h) = ap (λ n. take n x.all) first ∙ x.front in
+    let front : take (r.dropped + k) x.all ≡ take fo (finished_tokens h) = ap (λ n. take n x.all) first ∙ x.front in
     let cut = subst (λ es. ShowsRow t (record r { lexemes = take k r.lexemes; settled = k }) es) front (shown_cut t r x.all k x.row keep.more keep.inside) in
     let last : but_last (row_of row) ≡ record r { lexemes = take k r.lexemes; settled = k } = ap but_last is ∙ cut_failed q keep.inside in
     let settled : row.settled ≡ k + 1 = ap (λ (v : RowView). v.settled) is in
     let long : length row.lexemes.items ≡ k + 1 = ap (λ (v : RowView). length v.lexemes) is ∙ length-append (take k r.lexemes) (lost_at q ∷ []) ∙ ap (λ n. n + 1) (length-take-le k r.lexemes keep.inside) in
-    let ends : (entry_at x.all (r.dropped + k)).ends ≡ (entry_at (entries h) fo).ends = ap (λ n. (entry_at x.all n).ends) first ∙ x.lost in
-    let at : 0 < (entry_at (entries h) fo).ends → (entry_at x.all (r.dropped + k)).lexeme ≡ (entry_at (entries h) fo).lexeme = λ some. elim (cases_lt fo (length h)) [
+    let ends : (entry_at x.all (r.dropped + k)).ends ≡ (entry_at (finished_tokens h) fo).ends = ap (λ n. (entry_at x.all n).ends) first ∙ x.lost in
+    let at : 0 < (entry_at (finished_tokens h) fo).ends → (entry_at x.all (r.dropped + k)).lexeme ≡ (entry_at (finished_tokens h) fo).lexeme = λ some. elim (cases_lt fo (length h)) [
       | inl low ↦ ap (λ n. (entry_at x.all n).lexeme) first ∙ x.start low
-      | inr past ↦ let none : entry_at (entries h) fo ≡ no_entry = get_or_past (entries h) fo no_entry (omega (arith, past, length-entries h)) in
-          let zero_ends : (entry_at (entries h) fo).ends ≡ 0 = ap (λ (e : Entry). e.ends) none in absurd (omega (arith, some, zero_ends))
+      | inr past ↦ let none : entry_at (finished_tokens h) fo ≡ no_entry = get_or_past (finished_tokens h) fo no_entry (omega (arith, past, length-entries h)) in
+          let zero_ends : (entry_at (finished_tokens h) fo).ends ≡ 0 = ap (λ (e : Entry). e.ends) none in absurd (omega (arith, some, zero_ends))
     ] in
-    let lost = is_lost t r x.all (entry_at (entries h) fo) k x.row (omega (arith, x.row.taken, keep.more)) keep.inside ends at in
+    let lost = is_lost t r x.all (entry_at (finished_tokens h) fo) k x.row (omega (arith, x.row.taken, keep.more)) keep.inside ends at in
     let back : k + 1 - 1 ≡ k = omega arith in
-    let there : lexeme_at (failed q) (k + 1 - 1) ≡ lost_at q = ap (λ i. lexeme_at (failed q) i) back ∙ last_failed q keep.inside in
-    let lost_there : IsLost t.text (ltb (r.next + 1) (k + 1)) (lexeme_at (failed q) (k + 1 - 1)) (entry_at (entries h) fo) = subst (λ y. IsLost t.text (ltb (r.next + 1) (k + 1)) y (entry_at (entries h) fo)) (sym there) lost in
+    let there : row_lexeme (failed q) (k + 1 - 1) ≡ lost_at q = ap (λ i. row_lexeme (failed q) i) back ∙ last_failed q keep.inside in
+    let lost_there : IsLost t.text (ltb (r.next + 1) (k + 1)) (row_lexeme (failed q) (k + 1 - 1)) (entry_at (finished_tokens h) fo) = subst (λ y. IsLost t.text (ltb (r.next + 1) (k + 1)) y (entry_at (finished_tokens h) fo)) (sym there) lost in
     record {
       over = refl;
-      row = subst (λ v. ShowsRow t v (take fo (entries h))) (sym last) cut;
+      row = subst (λ v. ShowsRow t v (take fo (finished_tokens h))) (sym last) cut;
       some = omega (arith, settled);
       all = settled ∙ sym long;
-      lost = subst (λ (v : RowView). IsLost t.text (ltb (v.next + 1) v.settled) (lexeme_at v (v.settled - 1)) (entry_at (entries h) fo)) (sym is) lost_there;
-      none = ap (λ (v : RowView). loses_none (lexeme_at v (v.settled - 1))) is ∙ ap loses_none there ∙ tells_lost mid h k x first;
+      lost = subst (λ (v : RowView). IsLost t.text (ltb (v.next + 1) v.settled) (row_lexeme v (v.settled - 1)) (entry_at (finished_tokens h) fo)) (sym is) lost_there;
+      none = ap (λ (v : RowView). loses_none (row_lexeme v (v.settled - 1))) is ∙ ap loses_none there ∙ tells_lost mid h k x first;
       told = subst (λ s. IsTold s mid.fault (next s h)) (sym f.text) f.told;
     }
 
@@ -359,7 +359,7 @@ going_dropped s row g d =
     let shows : Shows t hs = record {
       holds = record {
         long = h.holds.long;
-        row = d.shows (stream_of s) (entries hs) h.holds.row;
+        row = d.shows (stream_of s) (finished_tokens hs) h.holds.row;
         room = d.room h.holds.room;
         settled = omega (arith, d.settled, h.holds.settled);
         keys = h.holds.keys;
@@ -419,7 +419,7 @@ first_row = record {
 
 first_shows : (t : SpelledText)
     → ShowsWhole (store_of t.text first_row) t (bare kinds.StreamStart 0 0 0 0) (entry_of first_lexeme [])
-unfolding levels candidate
+unfolding open_levels candidate
 first_shows t = record {
   shows = record {
     start = start_place t.text;
@@ -432,11 +432,11 @@ first_shows t = record {
   front = refl;
 }
 
-pub first_entries : entries (first_lexeme ∷ []) ≡ entry_of first_lexeme [] ∷ []
-unfolding entries
+pub first_entries : finished_tokens (first_lexeme ∷ []) ≡ entry_of first_lexeme [] ∷ []
+unfolding finished_tokens
 first_entries = refl
 
-first_shown : (t : SpelledText) → ShowsRow t first_row (entries (first_lexeme ∷ []))
+first_shown : (t : SpelledText) → ShowsRow t first_row (finished_tokens (first_lexeme ∷ []))
 first_shown t = rw first_entries record {
   count = refl;
   taken = omega arith;
@@ -471,8 +471,8 @@ first_first : first_open (first_lexeme ∷ []) (first_lexeme ∷ []) ≡ 1
 unfolding first_open candidate
 first_first = refl
 
-first_levels : [] ≡ levels (first_lexeme ∷ [])
-unfolding levels candidate
+first_levels : [] ≡ open_levels (first_lexeme ∷ [])
+unfolding open_levels candidate
 first_levels = refl
 
 no_double : (b : ℕ) (c : ℕ) → splits_of b b b c ≡ false
@@ -502,7 +502,7 @@ starts_going s row room keys margins at line wide allowed going fault long bytes
     let shows : Shows s h = record {
       holds = record {
         long = long;
-        row = subst (λ r. ShowsRow (stream_of s) r (entries h)) (sym row) (first_shown (stream_of s));
+        row = subst (λ r. ShowsRow (stream_of s) r (finished_tokens h)) (sym row) (first_shown (stream_of s));
         room = room;
         settled = omega (arith, settled, first_first);
         keys = subst (λ k. AreKeys s.text.now k h zero_mark) (sym keys) (first_are s.text.now);
@@ -525,16 +525,17 @@ starts_going s row room keys margins at line wide allowed going fault long bytes
 
 -- where as many wait as are asked for, one is there
 pub one_waits : (r : RowView) (batch waiting : ℕ) → r.next ≤ r.settled → 0 < batch → batch ≤ waiting
-    → (r.next < length r.lexemes → waiting ≡ max (r.settled - r.next) (cond (ltb 0 (lexeme_at r r.next).ends) 1 0))
+    → (r.next < length r.lexemes → waiting
+        ≡ max (r.settled - r.next) (cond (ltb 0 (row_lexeme r r.next).ends) 1 0))
     → (length r.lexemes ≤ r.next → waiting ≡ r.settled - r.next) → IsThere r
 one_waits r batch waiting taken some many there none = elim (cases_lt r.next r.settled) [
   | inl low ↦ inl low
   | inr done ↦ elim (cases_lt r.next (length r.lexemes)) [
     | inr gone ↦ absurd (omega (arith, some, many, none gone, done))
-    | inl more ↦ elim (cases_lt 0 (lexeme_at r r.next).ends) [
+    | inl more ↦ elim (cases_lt 0 (row_lexeme r r.next).ends) [
       | inl ends ↦ inr (more, ends)
       | inr flat ↦
-          let is : ltb 0 (lexeme_at r r.next).ends ≡ false = grind (arith, nat_tests) in
+          let is : ltb 0 (row_lexeme r r.next).ends ≡ false = grind (arith, nat_tests) in
           let idle : waiting ≡ max (r.settled - r.next) 0 = there more ∙ ap (λ b. max (r.settled - r.next) (cond b 1 0)) is in
           absurd (grind (arith, nat_tests, some, many, idle, done))
     ]
@@ -545,7 +546,7 @@ one_waits r batch waiting taken some many there none = elim (cases_lt r.next r.s
 
 -- the lexemes before a fault
 pub handed_failed : (text : List ℕ) (n : ℕ) (p : ScanFault) → let h = history text n in
-    next text h ≡ Fails p → handed text ≡ take (first_open h h) (entries h)
+    next text h ≡ Fails p → handed text ≡ take (first_open h h) (finished_tokens h)
 unfolding handed
 handed_failed text n p e =
     let h = history text n in
@@ -558,7 +559,7 @@ ends_after text [] e = cc
 ends_after text (l ∷ h) e = rw e refl
 
 -- and all up to the stream's end
-pub handed_over : (s : Scanner) → IsOver s → handed s.text.now ≡ entries (history_of s)
+pub handed_over : (s : Scanner) → IsOver s → handed s.text.now ≡ finished_tokens (history_of s)
 unfolding handed
 handed_over s o =
     let h = history_of s in

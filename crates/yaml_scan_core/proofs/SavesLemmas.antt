@@ -1,6 +1,6 @@
 -- Lexemes that may be keys.
 use Rattle.std.proofs.Common.{◌≡◌, ℕ, ◌+◌, ◌≤◌, ◌⊎◌, Bool, true, false, cond, ltb, eqb, ◌&&◌, ◌||◌, not, inl, inr, List, ◌∷◌, length, Option, Some, None, Ok, refl, sym, ap, subst, ◌∙◌, arith}
-use Rattle.yaml_scan_core.proofs.Words.{cases_Bool, cases_lt, nat_tests, yaml_mark_t, line_at, column_at, indent, Kind, Lexeme, candidate, reached, depth, levels, left_by, cancels, may_be_key, WordText, Upto, missed, allowed_behind, AreKeysTo, KeyStack, inner, key_at, key_mark, stack_of, saved, index_in, is_fresh, length-entries}
+use Rattle.yaml_scan_core.proofs.Words.{cases_Bool, cases_lt, nat_tests, yaml_mark_t, line_at, column_at, indent, Kind, Lexeme, candidate, reached, flow_depth, open_levels, left_by, cancels, may_be_key, WordText, Upto, missed, allowed_behind, AreKeysTo, KeyStack, inner, key_at, key_mark, stack_of, saved, index_in, is_fresh, length-entries}
 use Rattle.yaml_scan_core.specs.declared.fault.Fault.{Fault}
 use Rattle.yaml_scan_core.specs.declared.scanner.Scanner.{Scanner}
 use Rattle.yaml_scan_core.specs.Candidates.{cancelled_at}
@@ -51,18 +51,18 @@ required_is k w s h n a may on =
     let there = stands_here k s h n a in
     let col : (candidate_in s).column ≡ column_at text s.at = place_column text s.at s.line s.wide a.behind.place in
     let margin : s.levels.margin ≡ indent (left_behind k s h) = margin_is s.levels (left_behind k s h) a.margins in
-    let flat : not (ltb 0 (inner (stack_of s.keys))) ≡ eqb (depth h) 0 = ap (λ d. not (ltb 0 d)) (inner_is (depth h) (stack_of s.keys) a.behind.holds.keys.long) ∙ sym (flat_test (depth h)) in
+    let flat : not (ltb 0 (inner (stack_of s.keys))) ≡ eqb (flow_depth h) 0 = ap (λ d. not (ltb 0 d)) (inner_is (flow_depth h) (stack_of s.keys) a.behind.holds.keys.long) ∙ sym (flat_test (flow_depth h)) in
     let allow : allowed_behind h (gap_of text h) ≡ true = sym a.behind.allowed ∙ on in
     let here_col : (put_at k w text h).start.column ≡ column_at text s.at = ap (λ (m : yaml_mark_t). m.column) there in
-    let one : (put_at k w text h).required ≡ (eqb (depth h) 0 && eqb (indent (left_by k (depth h) (put_at k w text h).start.column (levels h))) ((put_at k w text h).start.column + 1)) = rw (allow, may) refl in
-    one ∙ ap (λ c. eqb (depth h) 0 && eqb (indent (left_by k (depth h) c (levels h))) (c + 1)) here_col
-    ∙ ap (λ m. eqb (depth h) 0 && eqb m (column_at text s.at + 1)) (sym margin)
+    let one : (put_at k w text h).required ≡ (eqb (flow_depth h) 0 && eqb (indent (left_by k (flow_depth h) (put_at k w text h).start.column (open_levels h))) ((put_at k w text h).start.column + 1)) = rw (allow, may) refl in
+    one ∙ ap (λ c. eqb (flow_depth h) 0 && eqb (indent (left_by k (flow_depth h) c (open_levels h))) (c + 1)) here_col
+    ∙ ap (λ m. eqb (flow_depth h) 0 && eqb m (column_at text s.at + 1)) (sym margin)
     ∙ ap (λ b. b && eqb s.levels.margin (column_at text s.at + 1)) (sym flat)
     ∙ ap (λ c. not (ltb 0 (inner (stack_of s.keys))) && eqb s.levels.margin (c + 1)) (sym col)
 
 -- what is left of the keys after a lexeme that may be one
 pub record Saved (t : KeyStack) (old : Scanner) (l : Lexeme) (h : List Lexeme) : Type 0 where
-  pub keys : AreKeysTo (depth h) old.text.now t (l ∷ h) l.reached
+  pub keys : AreKeysTo (flow_depth h) old.text.now t (l ∷ h) l.reached
   pub outer : t.required ≡ true → ((key_at t 0 ≡ key_at (stack_of old.keys) 0)
       × (candidate 0 (l ∷ h) ≡ candidate 0 h)) ⊎ (missed (candidate 0 (l ∷ h)) l.reached ≡ None)
   pub passed : t.passed ≤ old.keys.passed
@@ -84,7 +84,7 @@ stays_put : (k : Kind) (w : WordText) (old : Scanner) (h : List Lexeme) (n : ℕ
 stays_put k w old h n a idle free on =
     let l = put_at k w old.text.now h in
     record {
-      keys = kept_turns (depth h) old.text.now (stack_of old.keys) l h (reached h) a.behind.holds.keys on refl free idle;
+      keys = kept_turns (flow_depth h) old.text.now (stack_of old.keys) l h (reached h) a.behind.holds.keys on refl free idle;
       outer = λ must. inl (refl, kept_candidate l h free idle);
       passed = omega arith;
     }
@@ -105,12 +105,12 @@ takes_it k w old h n a may on keeps upto fresh_one =
     let col : key.column ≡ column_at text old.at = place_column text old.at old.line old.wide a.behind.place in
     let start : key_mark text key ≡ l.start = ap (λ c. record { index = old.at; line = line_at text old.at; column = c }) col ∙ sym (stands_here k old h n a) in
     let number : key.number ≡ length h = omega (arith, a.behind.holds.row.count, length-entries h) in
-    let same = inner_is (depth h) s o.long in
+    let same = inner_is (flow_depth h) s o.long in
     record {
-      keys = saved_turns (depth h) text s l h (reached h) key o upto refl keeps on start number a.behind.place.inside;
-      outer = λ must. elim (cases_lt 0 (depth h)) [
+      keys = saved_turns (flow_depth h) text s l h (reached h) key o upto refl keeps on start number a.behind.place.inside;
+      outer = λ must. elim (cases_lt 0 (flow_depth h)) [
         | inl deep ↦
-            let (c, there) = set_changes (depth h) (inner s) s t key same refl (omega (arith, o.long)) in
+            let (c, there) = set_changes (flow_depth h) (inner s) s t key same refl (omega (arith, o.long)) in
             inl (c.outer 0 deep, lower 0 l h deep)
         | inr low ↦
             let flat : l.depth ≡ 0 = omega (arith, low) in

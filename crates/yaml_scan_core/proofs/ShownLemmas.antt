@@ -15,7 +15,7 @@ use Rattle.yaml_scan_tokens.specs.declared.kind.Kind.TheVariants as kinds
 use Rattle.yaml_scan_core.specs.declared.lexeme.Lexeme.{Lexeme}
 use Rattle.yaml_scan_core.specs.declared.lexeme.Note.{Note}
 use Rattle.yaml_scan_core.specs.declared.lexeme.Span.{Span}
-use Rattle.yaml_scan_core.specs.Rows.{RowView, first_kind, is_set, keyed, key_flags, key_marked, lexeme_at, no_lexeme}
+use Rattle.yaml_scan_core.specs.Rows.{RowView, first_kind, is_set, keyed, key_flags, key_marked, row_lexeme, no_lexeme}
 use Rattle.yaml_scan_core.specs.Shown.{Store, store_of, note_at, SpanHolds, NoteHolds, ValueStands, HoldsValue, IsBare, Carries, end_at, opens_in, ShowsEntry, ShowsWhole, ShowsFront, entry_at, no_entry, ShowsRow}
 
 -- ---- texts that move
@@ -164,8 +164,8 @@ shown_stored t r es ns bs h = record {
   count = h.count;
   taken = h.taken;
   few = h.few;
-  front = λ lt. front_moved _ (store_of t.text r) (store_of t.text (stored r ns bs)) t (lexeme_at r r.next) _ (moved_grown (store_of t.text r) ns bs (lexeme_at r r.next)) (h.front lt);
-  others = λ i lt low. whole_moved (store_of t.text r) (store_of t.text (stored r ns bs)) t (lexeme_at r i) _ (moved_grown (store_of t.text r) ns bs (lexeme_at r i)) (h.others i lt low);
+  front = λ lt. front_moved _ (store_of t.text r) (store_of t.text (stored r ns bs)) t (row_lexeme r r.next) _ (moved_grown (store_of t.text r) ns bs (row_lexeme r r.next)) (h.front lt);
+  others = λ i lt low. whole_moved (store_of t.text r) (store_of t.text (stored r ns bs)) t (row_lexeme r i) _ (moved_grown (store_of t.text r) ns bs (row_lexeme r i)) (h.others i lt low);
 }
 
 -- one lexeme more
@@ -176,16 +176,16 @@ shown_pushed t r es x e h new =
     let s = store_of t.text r in
     let q : RowView = record r { lexemes = r.lexemes ++ x ∷ [] } in
     let more : length q.lexemes ≡ length r.lexemes + 1 = length-append r.lexemes (x ∷ []) in
-    let old : (i : ℕ) → i < length r.lexemes → lexeme_at q i ≡ lexeme_at r i = λ i lt. get_or_append_left r.lexemes (x ∷ []) no_lexeme i lt in
+    let old : (i : ℕ) → i < length r.lexemes → row_lexeme q i ≡ row_lexeme r i = λ i lt. get_or_append_left r.lexemes (x ∷ []) no_lexeme i lt in
     let entry : (i : ℕ) → i < length r.lexemes → entry_at (es ++ e ∷ []) (r.dropped + i) ≡ entry_at es (r.dropped + i) = λ i lt. get_or_append_left es (e ∷ []) no_entry (r.dropped + i) (omega (arith, lt, h.count)) in
-    let last : (i : ℕ) → i ≡ length r.lexemes → ShowsWhole s t (lexeme_at q i) (entry_at (es ++ e ∷ []) (r.dropped + i)) = λ i is.
+    let last : (i : ℕ) → i ≡ length r.lexemes → ShowsWhole s t (row_lexeme q i) (entry_at (es ++ e ∷ []) (r.dropped + i)) = λ i is.
     rw (get_or_at r.lexemes x [] no_lexeme i (sym is), get_or_at es e [] no_entry (r.dropped + i) (omega (arith, is, h.count))) new in record {
       count = omega (arith, more, h.count, length-append es (e ∷ []));
       taken = h.taken;
       few = omega (arith, h.few, more);
       front = λ lt. elim (cases_lt r.next (length r.lexemes)) [
         | inl low ↦ rw (old r.next low, entry r.next low) (h.front low)
-        | inr high ↦ whole_front _ s t (lexeme_at q r.next) _ (last r.next (omega (arith, lt, high, more)))
+        | inr high ↦ whole_front _ s t (row_lexeme q r.next) _ (last r.next (omega (arith, lt, high, more)))
       ];
       others = λ i gt lt. elim (cases_lt i (length r.lexemes)) [
         | inl low ↦ rw (old i low, entry i low) (h.others i gt low)
@@ -258,7 +258,7 @@ key_shows s t x e ls m h none other is = record {
 pub shown_marked : (t : SpelledText) (r : RowView) (es : List Entry) (ls : List ℕ) (n : ℕ)
     (m : Bool)
     → ShowsRow t r es → r.dropped + r.settled ≤ n → n < length es
-    → let x = lexeme_at r (n - r.dropped) in let e = entry_at es n in
+    → let x = row_lexeme r (n - r.dropped) in let e = entry_at es n in
     e.opens ≡ opening.Nothing → x.kind ≢ kinds.Key
     → cond m opening.Mapping opening.Nothing
     ≡ start_of e.lexeme.depth (e.lexeme.start.column + 1) ls opening.Mapping
@@ -268,20 +268,20 @@ shown_marked t r es ls n m h free low none other is =
     let k : ℕ = n - r.dropped in
     let at : r.dropped + k ≡ n = omega (arith, free) in
     let inside : k < length r.lexemes = omega (arith, low, h.count, at) in
-    let x = lexeme_at r k in
+    let x = row_lexeme r k in
     let e = entry_at es n in
     let q = key_marked n m r in
     let fs = set es n (as_key ls e) in
     let marked : mark_key ls es n ≡ fs = as_key_set ls es n e low (get_or_default es n no_entry e low) in
-    let same : lexeme_at q k ≡ keyed m x = get_or-set_same r.lexemes k (keyed m x) no_lexeme inside in
+    let same : row_lexeme q k ≡ keyed m x = get_or-set_same r.lexemes k (keyed m x) no_lexeme inside in
     let entry : entry_at fs n ≡ as_key ls e = get_or-set_same es n (as_key ls e) no_entry low in
-    let others : (i : ℕ) → i ≢ k → (lexeme_at q i ≡ lexeme_at r i) × (entry_at fs (r.dropped + i) ≡ entry_at es (r.dropped + i)) = λ i ne.
+    let others : (i : ℕ) → i ≢ k → (row_lexeme q i ≡ row_lexeme r i) × (entry_at fs (r.dropped + i) ≡ entry_at es (r.dropped + i)) = λ i ne.
     (get_or-set_other r.lexemes k i (keyed m x) no_lexeme ne, get_or-set_other es n (r.dropped + i) (as_key ls e) no_entry (λ eq. ne (omega (arith, eq, at)))) in
     let long : length q.lexemes ≡ length r.lexemes = length-set r.lexemes k (keyed m x) in
-    let becomes : (i : ℕ) → i ≡ k → ShowsEntry s t (lexeme_at r i) (entry_at es (r.dropped + i)) → ShowsEntry s t (lexeme_at q i) (entry_at fs (r.dropped + i)) = λ i here f.
-    let was : ShowsEntry s t x e = subst (λ j. ShowsEntry s t x (entry_at es j)) at (subst (λ j. ShowsEntry s t (lexeme_at r j) (entry_at es (r.dropped + j))) here f) in
+    let becomes : (i : ℕ) → i ≡ k → ShowsEntry s t (row_lexeme r i) (entry_at es (r.dropped + i)) → ShowsEntry s t (row_lexeme q i) (entry_at fs (r.dropped + i)) = λ i here f.
+    let was : ShowsEntry s t x e = subst (λ j. ShowsEntry s t x (entry_at es j)) at (subst (λ j. ShowsEntry s t (row_lexeme r j) (entry_at es (r.dropped + j))) here f) in
     rw (here, at, same, entry) (key_shows s t x e ls m was none other is) in
-    let ends : (i : ℕ) → i ≡ k → ((lexeme_at q i).ends ≡ (lexeme_at r i).ends) × ((entry_at fs (r.dropped + i)).ends ≡ (entry_at es (r.dropped + i)).ends) × ((lexeme_at q i).front ≡ first_kind (lexeme_at q i)) = λ i here.
+    let ends : (i : ℕ) → i ≡ k → ((row_lexeme q i).ends ≡ (row_lexeme r i).ends) × ((entry_at fs (r.dropped + i)).ends ≡ (entry_at es (r.dropped + i)).ends) × ((row_lexeme q i).front ≡ first_kind (row_lexeme q i)) = λ i here.
     (rw (here, same) refl, rw (here, at, entry) refl, rw (here, same) refl) in
     rw marked record {
       count = length-set es n (as_key ls e) ∙ h.count ∙ ap (λ j. r.dropped + j) (sym long);

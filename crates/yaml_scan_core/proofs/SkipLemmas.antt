@@ -2,12 +2,12 @@
 use Rattle.std.proofs.Common.{◌≡◌, ℕ, ◌+◌, ◌-◌, ◌<◌, ◌≤◌, Bool, true, false, not, ltb, List, length, take, refl, sym, ap, subst, ◌∙◌, inl, inr, arith}
 use Rattle.std.proofs.Math.Seq.{take-set-lt}
 use Rattle.std.proofs.lemmas.List.{get_or-set_other, get_or-set_same, get_or-take, length-set, take-set-le}
-use Rattle.yaml_scan_core.proofs.Words.{cases_lt, nat_tests, set, Entry, SpelledText, ended, entries, first_open, history}
+use Rattle.yaml_scan_core.proofs.Words.{cases_lt, nat_tests, set, Entry, SpelledText, ended, finished_tokens, first_open, history}
 use Rattle.yaml_scan_tokens.specs.declared.kind.Kind.TheVariants as kinds
 use Rattle.yaml_scan_core.specs.declared.lexeme.Lexeme.{Lexeme}
 use Rattle.yaml_scan_core.specs.declared.row.Row.{Row}
 use Rattle.yaml_scan_core.specs.declared.scanner.Scanner.{Scanner}
-use Rattle.yaml_scan_core.specs.Rows.{HasRoom, RowView, behind_lead, led, lexeme_at, loses_none, no_lexeme, row_of}
+use Rattle.yaml_scan_core.specs.Rows.{HasRoom, RowView, behind_lead, led, row_lexeme, loses_none, no_lexeme, row_of}
 use Rattle.yaml_scan_core.specs.Shown.{ShowsRow, entry_at}
 use Rattle.yaml_scan_core.specs.Scanning.{HasFailed, IsGoing, IsLost, IsOver, Rests, Shows, but_last, history_of, stream_of}
 use Rattle.yaml_scan_core.proofs.DropsLemmas.{shown_led, shown_own}
@@ -31,7 +31,7 @@ stays t r q f taken = elim f.way [
       }
   | inr other ↦
       let is = taken.lead other in
-      let x = lexeme_at r r.next in
+      let x = row_lexeme r r.next in
       record {
         dropped = ap (λ (v : RowView). v.dropped) is;
         settled = ap (λ (v : RowView). v.settled) is;
@@ -56,7 +56,7 @@ going_taken s row g k shows room =
     let shown : Shows t hs = record {
       holds = record {
         long = h.holds.long;
-        row = shows (stream_of s) (entries hs) h.holds.row;
+        row = shows (stream_of s) (finished_tokens hs) h.holds.row;
         room = room h.holds.room;
         settled = omega (arith, settled, h.holds.settled);
         keys = h.holds.keys;
@@ -86,7 +86,7 @@ over_taken s row o k shows =
     record {
       over = o.over;
       end = subst (λ x. ended x ≡ true) same o.end;
-      row = subst (λ x. ShowsRow (stream_of s) (row_of row) (entries x)) same (shows (stream_of s) (entries (history_of s)) o.row);
+      row = subst (λ x. ShowsRow (stream_of s) (row_of row) (finished_tokens x)) same (shows (stream_of s) (finished_tokens (history_of s)) o.row);
       all = k.settled ∙ o.all ∙ sym k.long;
       fault = o.fault;
     }
@@ -108,9 +108,9 @@ lost_weaker text a b x e on h = record {
 cut_led : (r : RowView) → r.next < length r.lexemes - 1 → but_last (led r) ≡ led (but_last r)
 cut_led r low =
     let n = length r.lexemes - 1 in
-    let x = lexeme_at r r.next in
+    let x = row_lexeme r r.next in
     let y = behind_lead x.front x in
-    let kept : lexeme_at (but_last r) r.next ≡ x = get_or-take n r.lexemes r.next no_lexeme low in
+    let kept : row_lexeme (but_last r) r.next ≡ x = get_or-take n r.lexemes r.next no_lexeme low in
     ap (λ xs. record r { lexemes = xs; settled = r.settled - 1 })
     (ap (λ k. take (k - 1) (set r.lexemes r.next y)) (length-set r.lexemes r.next y) ∙ take-set-lt n r.lexemes r.next y low
     ∙ ap (λ (z : Lexeme). set (take n r.lexemes) r.next (behind_lead z.front z)) (sym kept))
@@ -118,7 +118,7 @@ cut_led r low =
 cut_last : (r : RowView) → length r.lexemes - 1 ≤ r.next → but_last (led r) ≡ but_last r
 cut_last r high =
     let n = length r.lexemes - 1 in
-    let x = lexeme_at r r.next in
+    let x = row_lexeme r r.next in
     let y = behind_lead x.front x in
     ap (λ xs. record r { lexemes = xs; settled = r.settled - 1 })
     (ap (λ k. take (k - 1) (set r.lexemes r.next y)) (length-set r.lexemes r.next y) ∙ take-set-le n r.lexemes r.next y high)
@@ -127,10 +127,11 @@ cut_last r high =
 failed_by : (s : Scanner) (n : ℕ) (row : Row) (v : RowView) → HasFailed s (history s.text.now n)
     → row_of row ≡ v
     → let h = history s.text.now n in
-    ShowsRow (stream_of s) (but_last v) (take (first_open h h) (entries h))
+    ShowsRow (stream_of s) (but_last v) (take (first_open h h) (finished_tokens h))
     → 0 < v.settled → v.settled ≡ length v.lexemes
-    → IsLost s.text.now (ltb (v.next + 1) v.settled) (lexeme_at v (v.settled - 1)) (entry_at (entries h) (first_open h h))
-    → loses_none (lexeme_at v (v.settled - 1)) ≡ not (ltb (first_open h h) (length h))
+    → IsLost s.text.now (ltb (v.next + 1) v.settled) (row_lexeme v (v.settled - 1))
+        (entry_at (finished_tokens h) (first_open h h))
+    → loses_none (row_lexeme v (v.settled - 1)) ≡ not (ltb (first_open h h) (length h))
     → HasFailed (record s { row = row }) (history s.text.now n)
 failed_by s n row v f is shows some all lost none =
     let h = history s.text.now n in
@@ -138,11 +139,11 @@ failed_by s n row v f is shows some all lost none =
     let back = sym is in
     record {
       over = f.over;
-      row = subst (λ (w : RowView). ShowsRow (stream_of s) (but_last w) (take fo (entries h))) back shows;
+      row = subst (λ (w : RowView). ShowsRow (stream_of s) (but_last w) (take fo (finished_tokens h))) back shows;
       some = subst (λ (w : RowView). 0 < w.settled) back some;
       all = subst (λ (w : RowView). w.settled ≡ length w.lexemes) back all;
-      lost = subst (λ (w : RowView). IsLost s.text.now (ltb (w.next + 1) w.settled) (lexeme_at w (w.settled - 1)) (entry_at (entries h) fo)) back lost;
-      none = subst (λ (w : RowView). loses_none (lexeme_at w (w.settled - 1)) ≡ not (ltb fo (length h))) back none;
+      lost = subst (λ (w : RowView). IsLost s.text.now (ltb (w.next + 1) w.settled) (row_lexeme w (w.settled - 1)) (entry_at (finished_tokens h) fo)) back lost;
+      none = subst (λ (w : RowView). loses_none (row_lexeme w (w.settled - 1)) ≡ not (ltb fo (length h))) back none;
       told = f.told;
     }
 
@@ -155,8 +156,8 @@ failed_own s n row f low is =
     let fo = first_open h h in
     let r = row_of s.row in
     failed_by s n row (record r { next = r.next + 1 }) f is
-    (shown_own (stream_of s) (but_last r) (take fo (entries h)) (omega (arith, low)) f.row) f.some f.all
-    (lost_weaker s.text.now (ltb (r.next + 1) r.settled) (ltb (r.next + 1 + 1) r.settled) (lexeme_at r (r.settled - 1)) (entry_at (entries h) fo) (λ b. grind (arith, nat_tests, b)) f.lost)
+    (shown_own (stream_of s) (but_last r) (take fo (finished_tokens h)) (omega (arith, low)) f.row) f.some f.all
+    (lost_weaker s.text.now (ltb (r.next + 1) r.settled) (ltb (r.next + 1 + 1) r.settled) (row_lexeme r (r.settled - 1)) (entry_at (finished_tokens h) fo) (λ b. grind (arith, nat_tests, b)) f.lost)
     f.none
 
 -- one before it
@@ -167,32 +168,32 @@ failed_lead s n row f low is =
     let h = history s.text.now n in
     let fo = first_open h h in
     let r = row_of s.row in
-    let x = lexeme_at r r.next in
+    let x = row_lexeme r r.next in
     let y = behind_lead x.front x in
     let inside : r.next < length r.lexemes - 1 = omega (arith, low, f.all) in
     let inside_cut : r.next < length (but_last r).lexemes = omega (arith, inside, f.row.few, f.all, low) in
-    let last : lexeme_at r (r.settled - 1) ≡ lexeme_at (led r) (r.settled - 1) = sym (get_or-set_other r.lexemes r.next (r.settled - 1) y no_lexeme (λ e. absurd (omega (arith, e, low)))) in
+    let last : row_lexeme r (r.settled - 1) ≡ row_lexeme (led r) (r.settled - 1) = sym (get_or-set_other r.lexemes r.next (r.settled - 1) y no_lexeme (λ e. absurd (omega (arith, e, low)))) in
     failed_by s n row (led r) f is
-    (subst (λ v. ShowsRow (stream_of s) v (take fo (entries h))) (sym (cut_led r inside))
-    (shown_led (stream_of s) (but_last r) (take fo (entries h)) inside_cut (λ o. omega (arith, low)) f.row))
+    (subst (λ v. ShowsRow (stream_of s) v (take fo (finished_tokens h))) (sym (cut_led r inside))
+    (shown_led (stream_of s) (but_last r) (take fo (finished_tokens h)) inside_cut (λ o. omega (arith, low)) f.row))
     f.some (f.all ∙ sym (length-set r.lexemes r.next y))
-    (subst (λ z. IsLost s.text.now (ltb (r.next + 1) r.settled) z (entry_at (entries h) fo)) last f.lost) (ap loses_none (sym last) ∙ f.none)
+    (subst (λ z. IsLost s.text.now (ltb (r.next + 1) r.settled) z (entry_at (finished_tokens h) fo)) last f.lost) (ap loses_none (sym last) ∙ f.none)
 
 -- a BLOCK-END before the fault
 failed_end : (s : Scanner) (n : ℕ) (row : Row) → HasFailed s (history s.text.now n)
-    → s.row.next + 1 ≡ s.row.settled → (lexeme_at (row_of s.row) s.row.next).front ≡ kinds.BlockEnd
+    → s.row.next + 1 ≡ s.row.settled → (row_lexeme (row_of s.row) s.row.next).front ≡ kinds.BlockEnd
     → row_of row ≡ led (row_of s.row) → HasFailed (record s { row = row }) (history s.text.now n)
 failed_end s n row f end front is =
     let h = history s.text.now n in
     let fo = first_open h h in
-    let e = entry_at (entries h) fo in
+    let e = entry_at (finished_tokens h) fo in
     let r = row_of s.row in
-    let x = lexeme_at r r.next in
+    let x = row_lexeme r r.next in
     let y = behind_lead x.front x in
     let at : r.settled - 1 ≡ r.next = omega (arith, end) in
-    let there : lexeme_at (led r) r.next ≡ y = get_or-set_same r.lexemes r.next y no_lexeme (omega (arith, end, f.all)) in
-    let same : lexeme_at (led r) (r.settled - 1) ≡ y = ap (λ i. lexeme_at (led r) i) at ∙ there in
-    let was : IsLost s.text.now (ltb (r.next + 1) r.settled) x e = subst (λ i. IsLost s.text.now (ltb (r.next + 1) r.settled) (lexeme_at r i) e) at f.lost in
+    let there : row_lexeme (led r) r.next ≡ y = get_or-set_same r.lexemes r.next y no_lexeme (omega (arith, end, f.all)) in
+    let same : row_lexeme (led r) (r.settled - 1) ≡ y = ap (λ i. row_lexeme (led r) i) at ∙ there in
+    let was : IsLost s.text.now (ltb (r.next + 1) r.settled) x e = subst (λ i. IsLost s.text.now (ltb (r.next + 1) r.settled) (row_lexeme r i) e) at f.lost in
     let over : ltb (r.next + 1) r.settled ≡ false = grind (arith, nat_tests, end) in
     let less : IsLost s.text.now (ltb (r.next + 1) r.settled) (behind_lead kinds.BlockEnd x) e = record {
       kind = was.kind;
@@ -203,10 +204,10 @@ failed_end s n row f end front is =
       start = λ some. was.start (omega (arith, some));
     } in
     failed_by s n row (led r) f is
-    (subst (λ v. ShowsRow (stream_of s) v (take fo (entries h))) (sym (cut_last r (omega (arith, end, f.all)))) f.row)
+    (subst (λ v. ShowsRow (stream_of s) v (take fo (finished_tokens h))) (sym (cut_last r (omega (arith, end, f.all)))) f.row)
     f.some (f.all ∙ sym (length-set r.lexemes r.next y))
     (subst (λ z. IsLost s.text.now (ltb (r.next + 1) r.settled) z e) (ap (λ k. behind_lead k x) (sym front) ∙ sym same) less)
-    (ap loses_none same ∙ lead_known x.front x ∙ ap (λ i. loses_none (lexeme_at r i)) (sym at) ∙ f.none)
+    (ap loses_none same ∙ lead_known x.front x ∙ ap (λ i. loses_none (row_lexeme r i)) (sym at) ∙ f.none)
 
 failed_taken : (s : Scanner) (n : ℕ) (row : Row) → HasFailed s (history s.text.now n) → IsReady s
     → First (stream_of s) (row_of s.row) → TakesFront (row_of s.row) (row_of row)

@@ -1,6 +1,6 @@
 -- What is known where a lexeme with a text stands.
 use Rattle.std.proofs.Common.{◌≡◌, ℕ, ◌+◌, ◌<◌, ◌≤◌, Bool, true, false, cond, ltb, leb, eqb, ◌&&◌, ◌||◌, not, inl, inr, List, [], ◌∷◌, length, Option, Some, None, Result, Ok, Err, refl, sym, ap, subst, ◌∙◌, arith}
-use Rattle.yaml_scan_core.proofs.Words.{cases_Bool, nat_tests, byte, mark_at, starts, splits_break, column_at, is_blank_or_end, indent, Kind, Lexeme, depth, levels, kind_at, indicator_of, inner, stack_of, Wrong, WordText, word_at}
+use Rattle.yaml_scan_core.proofs.Words.{cases_Bool, nat_tests, byte, mark_at, starts, splits_break, column_at, is_blank_or_end, indent, Kind, Lexeme, flow_depth, open_levels, kind_at, indicator_of, inner, stack_of, Wrong, WordText, lexeme_at}
 use Rattle.yaml_scan_model.specs.Marks.{break_of, break_width, is_blank}
 use Rattle.yaml_scan_model.proofs.MarksLemmas.{within}
 use Rattle.yaml_scan_model.specs.Wrong.{scan_fault}
@@ -171,7 +171,7 @@ pub stands_there : (k : Kind) (s : Scanner) (h : List Lexeme) (n : ℕ) → Stan
     → StandsThere k (ltb 0 (inner (stack_of s.keys))) s.levels.margin s.text.now (record { at = s.at; line = s.line; wide = s.wide; ends = n })
 stands_there k s h n a =
     let text = s.text.now in
-    let deep : depth h ≡ inner (stack_of s.keys) = sym (inner_is (depth h) (stack_of s.keys) a.behind.holds.keys.long) in
+    let deep : flow_depth h ≡ inner (stack_of s.keys) = sym (inner_is (flow_depth h) (stack_of s.keys) a.behind.holds.keys.long) in
     let clear = (spelled s.text.now a.behind.holds.bytes.spells).clear (read_by s) in
     let margin : s.levels.margin ≡ indent (left_behind k s h) = margin_is s.levels (left_behind k s h) a.margins in
     record {
@@ -179,8 +179,8 @@ stands_there k s h n a =
       kind = ap (λ d. kind_at (ltb 0 d) text s.at) (sym deep) ∙ a.kind;
       first = ap (λ p. starts (byte text p)) (a.behind.gap ∙ ap (λ (x : List Lexeme). (gap_behind text x).place) a.behind.is) ∙ clear;
       low = λ e.
-          let flat : ltb 0 (depth h) ≡ false = scalar_block k (ltb 0 (depth h)) text s.at e (kind_said (ltb 0 (depth h)) text s.at k a.kind) in
-          let low = indent_left (keeps k (column_at text s.at)) (levels h) in
+          let flat : ltb 0 (flow_depth h) ≡ false = scalar_block k (ltb 0 (flow_depth h)) text s.at e (kind_said (ltb 0 (flow_depth h)) text s.at k a.kind) in
+          let low = indent_left (keeps k (column_at text s.at)) (open_levels h) in
           let up = rw flat at margin in
           omega (arith, up, low, scalar_keeps k (column_at text s.at) e, a.behind.place.column, a.behind.place.inside);
     }
@@ -248,7 +248,7 @@ tells_wrong text arena spot start (refusals.Wrong told) (Err w) inside is =
 
 directive_there : (text : List ℕ) (p : ℕ) → p < length text
     → LandsWord text p (directed (directive_at text p))
-unfolding word_at
+unfolding lexeme_at
 directive_there text p f = word_lands reads.Directive false 0 text p refl f
 
 pub directive_lands : (text : List ℕ) (p : ℕ) → byte text p ≡ 37
@@ -257,7 +257,7 @@ directive_lands text p e = directive_there text p (within text p (omega (arith, 
 
 pub plain_lands : (flow : Bool) (level : ℕ) (text : List ℕ) (p : ℕ) → p < length text
     → LandsWord text p (plainly (plain_at flow level text p))
-unfolding word_at
+unfolding lexeme_at
 plain_lands flow level text p f = word_lands reads.Plain flow level text p refl f
 
 restyled : (text : List ℕ) (p : ℕ) (s t : yaml_scalar_style_t) (r : Result BlockText Wrong)
@@ -267,7 +267,7 @@ restyled text p s t (Err w) h = tt
 
 block_there : (level : ℕ) (text : List ℕ) (p : ℕ) → p < length text
     → LandsWord text p (blocked (style_at text p) (block_at level text p))
-unfolding word_at
+unfolding lexeme_at
 block_there level text p f = word_lands reads.Literal false level text p refl f
 
 pub block_lands : (style : yaml_scalar_style_t) (level : ℕ) (text : List ℕ) (p : ℕ)
@@ -304,46 +304,54 @@ style_greater text p e = rw e refl
 -- ---- which word it is
 
 pub alias_word : (flow : Bool) (level : ℕ) (text : List ℕ) (p : ℕ)
-    → word_at reads.Alias flow level text p ≡ valued tokens.alias (anchor_at contexts.Alias text p)
-unfolding word_at
+    → lexeme_at reads.Alias flow level text p
+        ≡ valued tokens.alias (anchor_at contexts.Alias text p)
+unfolding lexeme_at
 alias_word flow level text p = refl
 
 pub anchor_word : (flow : Bool) (level : ℕ) (text : List ℕ) (p : ℕ)
-    → word_at reads.Anchor flow level text p ≡ valued tokens.anchor (anchor_at contexts.Anchor text p)
-unfolding word_at
+    → lexeme_at reads.Anchor flow level text p
+        ≡ valued tokens.anchor (anchor_at contexts.Anchor text p)
+unfolding lexeme_at
 anchor_word flow level text p = refl
 
 pub tag_word : (flow : Bool) (level : ℕ) (text : List ℕ) (p : ℕ)
-    → word_at reads.Tag flow level text p ≡ tagged (tag_at flow text p)
-unfolding word_at
+    → lexeme_at reads.Tag flow level text p ≡ tagged (tag_at flow text p)
+unfolding lexeme_at
 tag_word flow level text p = refl
 
 pub directive_word : (flow : Bool) (level : ℕ) (text : List ℕ) (p : ℕ)
-    → word_at reads.Directive flow level text p ≡ directed (directive_at text p)
-unfolding word_at
+    → lexeme_at reads.Directive flow level text p ≡ directed (directive_at text p)
+unfolding lexeme_at
 directive_word flow level text p = refl
 
 pub plain_read : (flow : Bool) (level : ℕ) (text : List ℕ) (p : ℕ)
-    → word_at reads.Plain flow level text p ≡ plainly (plain_at flow level text p)
-unfolding word_at
+    → lexeme_at reads.Plain flow level text p ≡ plainly (plain_at flow level text p)
+unfolding lexeme_at
 plain_read flow level text p = refl
 
 pub single_word : (flow : Bool) (level : ℕ) (text : List ℕ) (p : ℕ) → byte text p ≡ 39
-    → word_at reads.SingleQuoted flow level text p ≡ valued (scalar_body styles.YAML_SINGLE_QUOTED_SCALAR_STYLE) (quoted_at (byte text p) text p)
-unfolding word_at
+    → lexeme_at reads.SingleQuoted flow level text p
+        ≡ valued (scalar_body styles.YAML_SINGLE_QUOTED_SCALAR_STYLE)
+        (quoted_at (byte text p) text p)
+unfolding lexeme_at
 single_word flow level text p e = ap (λ q. valued (scalar_body styles.YAML_SINGLE_QUOTED_SCALAR_STYLE) (quoted_at q text p)) (sym e)
 
 pub double_word : (flow : Bool) (level : ℕ) (text : List ℕ) (p : ℕ) → byte text p ≡ 34
-    → word_at reads.DoubleQuoted flow level text p ≡ valued (scalar_body styles.YAML_DOUBLE_QUOTED_SCALAR_STYLE) (quoted_at (byte text p) text p)
-unfolding word_at
+    → lexeme_at reads.DoubleQuoted flow level text p
+        ≡ valued (scalar_body styles.YAML_DOUBLE_QUOTED_SCALAR_STYLE)
+        (quoted_at (byte text p) text p)
+unfolding lexeme_at
 double_word flow level text p e = ap (λ q. valued (scalar_body styles.YAML_DOUBLE_QUOTED_SCALAR_STYLE) (quoted_at q text p)) (sym e)
 
 pub literal_word : (flow : Bool) (level : ℕ) (text : List ℕ) (p : ℕ) → byte text p ≡ 124
-    → word_at reads.Literal flow level text p ≡ blocked styles.YAML_LITERAL_SCALAR_STYLE (block_at level text p)
-unfolding word_at
+    → lexeme_at reads.Literal flow level text p
+        ≡ blocked styles.YAML_LITERAL_SCALAR_STYLE (block_at level text p)
+unfolding lexeme_at
 literal_word flow level text p e = ap (λ s. blocked s (block_at level text p)) (style_bar text p e)
 
 pub folded_word : (flow : Bool) (level : ℕ) (text : List ℕ) (p : ℕ) → byte text p ≡ 62
-    → word_at reads.Folded flow level text p ≡ blocked styles.YAML_FOLDED_SCALAR_STYLE (block_at level text p)
-unfolding word_at
+    → lexeme_at reads.Folded flow level text p
+        ≡ blocked styles.YAML_FOLDED_SCALAR_STYLE (block_at level text p)
+unfolding lexeme_at
 folded_word flow level text p e = ap (λ s. blocked s (block_at level text p)) (style_greater text p e)

@@ -1,6 +1,6 @@
 -- Where candidates stand, and what the scanner's tests tell of them.
 use Rattle.std.proofs.Common.{◌≡◌, ℕ, zero, suc, ◌≤◌, Bool, true, false, cond, ltb, ◌&&◌, ◌||◌, not, inl, inr, List, [], ◌∷◌, length, Option, Some, None, Ok, Err, refl, sym, ap, ◌∙◌, arith}
-use Rattle.yaml_scan_core.proofs.Words.{and_parts, cases_Bool, cases_lt, nat_tests, yaml_mark_t, mark_at, Kind, Lexeme, Candidate, candidate, fresh, depth, is_end, is_value, cancels, may_be_key, allowed_behind, missed, lost_by, Read, colon_missing, next, history, required_in, required_at, late, index_in, KeyStack, AreKeys, inner, fresh_is}
+use Rattle.yaml_scan_core.proofs.Words.{and_parts, cases_Bool, cases_lt, nat_tests, yaml_mark_t, mark_at, Kind, Lexeme, Candidate, candidate, fresh, flow_depth, is_end, is_value, cancels, may_be_key, allowed_behind, missed, lost_by, Read, colon_missing, next, history, required_in, required_at, late, index_in, KeyStack, AreKeys, inner, fresh_is}
 use Rattle.yaml_scan_history.specs.declared.kind.Kind.TheVariants as kinds
 use Rattle.yaml_scan_laws_order.proofs.HistoryForward.{history_stands, stand_in, takes_bytes}
 use Rattle.yaml_scan_core.specs.declared.fault.Fault.{Fault}
@@ -116,7 +116,7 @@ missed_required (Some c) q start e = grind (arith, e)
 
 -- what a lexeme that cancels or replaces loses
 abbrev pub lost_in : Bool → List Lexeme → Option yaml_mark_t
-lost_in b h = cond b (cond (ltb 0 (depth h)) None (required_in (candidate 0 h))) None
+lost_in b h = cond b (cond (ltb 0 (flow_depth h)) None (required_in (candidate 0 h))) None
 
 abbrev pub takes_place : Lexeme → Bool
 takes_place l = l.saved || (cancels l.kind && not (is_value l.kind))
@@ -137,26 +137,26 @@ lost_idle l (Some c) idle = rw (idle c refl) refl
 
 pub lost_is : (text : List ℕ) (n : ℕ) (h : List Lexeme) (l : Lexeme) (m : yaml_mark_t) (b : Bool)
     → h ≡ history text n → missed (candidate 0 h) m ≡ None → takes_place l ≡ b
-    → lost_by l (fresh (candidate (depth h) h) m) ≡ lost_in b h
-lost_is text n h l m false is early e = lost_none l (fresh (candidate (depth h) h) m) e
+    → lost_by l (fresh (candidate (flow_depth h) h) m) ≡ lost_in b h
+lost_is text n h l m false is early e = lost_none l (fresh (candidate (flow_depth h) h) m) e
 lost_is text n h l m true is early e =
-    elim (cases_lt 0 (depth h)) [
+    elim (cases_lt 0 (flow_depth h)) [
       | inr low ↦
-          let flat : depth h ≡ 0 = omega (arith, low) in
-          let none : ltb 0 (depth h) ≡ false = grind (arith, nat_tests) in
+          let flat : flow_depth h ≡ 0 = omega (arith, low) in
+          let none : ltb 0 (flow_depth h) ≡ false = grind (arith, nat_tests) in
           rw none (ap (λ d. lost_by l (fresh (candidate d h) m)) flat ∙ lost_required l (candidate 0 h) m e early)
       | inl deep ↦
-          let some : ltb 0 (depth h) ≡ true = grind (arith, nat_tests) in
-          rw some (lost_idle l (fresh (candidate (depth h) h) m) (λ c there. elim (cases_Bool c.lexeme.required) [
+          let some : ltb 0 (flow_depth h) ≡ true = grind (arith, nat_tests) in
+          rw some (lost_idle l (fresh (candidate (flow_depth h) h) m) (λ c there. elim (cases_Bool c.lexeme.required) [
             | inr idle ↦ idle
             | inl must ↦
-                let at : candidate (depth h) (history text n) ≡ Some c = ap (λ x. candidate (depth h) x) (sym is) ∙ fresh_is (candidate (depth h) h) m c there in
-                absurd (omega (arith, deep, shallow text n (depth h) c at must))
+                let at : candidate (flow_depth h) (history text n) ≡ Some c = ap (λ x. candidate (flow_depth h) x) (sym is) ∙ fresh_is (candidate (flow_depth h) h) m c there in
+                absurd (omega (arith, deep, shallow text n (flow_depth h) c at must))
           ]))
     ]
 
 pub inner_depth : (text : List ℕ) (s : KeyStack) (h : List Lexeme) (p : yaml_mark_t)
-    → AreKeys text s h p → inner s ≡ depth h
+    → AreKeys text s h p → inner s ≡ flow_depth h
 inner_depth text s h p a = omega (arith, a.long)
 
 -- the code's test of that

@@ -1,7 +1,7 @@
 -- Where a lexeme stands after the gap.
 use Rattle.std.proofs.Common.{◌≡◌, ℕ, ◌+◌, ◌<◌, Bool, true, false, cond, ltb, ◌&&◌, ◌||◌, not, inl, inr, List, length, Option, Some, None, Result, Ok, Err, refl, sym, ap, subst, ◌∙◌, arith}
 use Rattle.std.specs.Prelude.{filter, nat_le}
-use Rattle.yaml_scan_core.proofs.Words.{yaml_mark_t, mark_at, column_at, Kind, Lexeme, candidate, reached, depth, ended, levels, key_allowed, keeps, kind_at, Fails, missed, next, history, colon_missing, no_start, required_in, required_at, inner, stack_of, late, index_in, Upto, length-entries}
+use Rattle.yaml_scan_core.proofs.Words.{yaml_mark_t, mark_at, column_at, Kind, Lexeme, candidate, reached, flow_depth, ended, open_levels, key_allowed, keeps, kind_at, Fails, missed, next, history, colon_missing, no_start, required_in, required_at, inner, stack_of, late, index_in, Upto, length-entries}
 use Rattle.yaml_scan_words.specs.Between.{Gap, gap_at, with_break}
 use Rattle.yaml_scan_history.specs.Next.{gap_behind}
 use Rattle.yaml_scan_core.specs.declared.fault.Fault.{Fault}
@@ -31,9 +31,9 @@ pub closes : (k : Kind) (old : Scanner) (lv : Levels) (n kept : ℕ) → let h =
 closes k old lv n kept a flat is left fewer =
     let h = history_of old in
     let b = a.behind in
-    let deep : ltb 0 (depth h) ≡ false = ap (λ d. ltb 0 d) (sym (inner_is (depth h) (stack_of old.keys) b.holds.keys.long)) ∙ flat in
-    let same : left_of kept (levels h) ≡ left_behind k old h = ap (λ m. left_of m (levels h)) is ∙ ap (λ b. cond b (levels h) (filter (λ x. nat_le x (keeps k (column_at old.text.now old.at))) (levels h))) (sym deep) in
-    let are : AreLevels lv (left_behind k old h) = subst (λ ls. AreLevels lv ls) same (left (levels h) a.margins) in
+    let deep : ltb 0 (flow_depth h) ≡ false = ap (λ d. ltb 0 d) (sym (inner_is (flow_depth h) (stack_of old.keys) b.holds.keys.long)) ∙ flat in
+    let same : left_of kept (open_levels h) ≡ left_behind k old h = ap (λ m. left_of m (open_levels h)) is ∙ ap (λ b. cond b (open_levels h) (filter (λ x. nat_le x (keeps k (column_at old.text.now old.at))) (open_levels h))) (sym deep) in
+    let are : AreLevels lv (left_behind k old h) = subst (λ ls. AreLevels lv ls) same (left (open_levels h) a.margins) in
     record {
       behind = record {
         holds = record {
@@ -58,7 +58,7 @@ closes k old lv n kept a flat is left fewer =
       early = a.early;
       margins = are;
       kind = a.kind;
-      ends = omega (arith, fewer, count_is lv (left_behind k old h) are, count_is old.levels (levels h) a.margins);
+      ends = omega (arith, fewer, count_is lv (left_behind k old h) are, count_is old.levels (open_levels h) a.margins);
     }
 
 -- what is closed is no part of what a lexeme leaves
@@ -145,10 +145,10 @@ gap_is : (old mid : Scanner) (h : List Lexeme) → Shows old h → ended h ≡ f
     → gap_there old ≡ gap_behind old.text.now h
 gap_is old mid h s more =
     let text = old.text.now in
-    let deep : inner (stack_of old.keys) ≡ depth h = inner_is (depth h) (stack_of old.keys) s.holds.keys.long in
+    let deep : inner (stack_of old.keys) ≡ flow_depth h = inner_is (flow_depth h) (stack_of old.keys) s.holds.keys.long in
     ap (λ d. gap_at (ltb 0 d) old.key_allowed text old.at) deep
-    ∙ ap (λ b. gap_at (ltb 0 (depth h)) b text old.at) (s.allowed more)
-    ∙ ap (λ (m : yaml_mark_t). gap_at (ltb 0 (depth h)) (key_allowed h) text m.index) (sym (s.mark more))
+    ∙ ap (λ b. gap_at (ltb 0 (flow_depth h)) b text old.at) (s.allowed more)
+    ∙ ap (λ (m : yaml_mark_t). gap_at (ltb 0 (flow_depth h)) (key_allowed h) text m.index) (sym (s.mark more))
 
 pub behind_gap : (old mid : Scanner) → let h = history_of old in Shows old h → 0 < read_by old
     → old.ended ≡ false → StaysAt old mid → Passes old mid
@@ -158,7 +158,7 @@ behind_gap old mid s some going same p stop =
     let text = old.text.now in
     let more : ended h ≡ false = sym s.over ∙ going in
     let text_same : mid.text.now ≡ text = ap (λ (x : Scanner). x.text.now) same in
-    let deep : inner (stack_of old.keys) ≡ depth h = inner_is (depth h) (stack_of old.keys) s.holds.keys.long in
+    let deep : inner (stack_of old.keys) ≡ flow_depth h = inner_is (flow_depth h) (stack_of old.keys) s.holds.keys.long in
     let gap : gap_behind text h ≡ record { place = mid.at; broke = p.broke } =
     sym (gap_is old mid h s more) ∙ p.gap ∙ ap (with_break p.broke) stop ∙ ap (λ b. record { place = mid.at; broke = b }) (or_same p.broke) in
     let gap_mid : gap_behind mid.text.now h ≡ record { place = mid.at; broke = p.broke } = ap (λ t. gap_behind t h) text_same ∙ gap in
@@ -172,8 +172,8 @@ behind_gap old mid s some going same p stop =
       place = p.place;
       gap = sym (ap (λ (g : Gap). g.place) gap_mid);
       further = subst (λ m. Upto m (mark_at mid.text.now mid.at)) (sym (s.mark more)) (subst (λ t. Upto (mark_at text old.at) (mark_at t mid.at)) (sym text_same) (upto_later text old.at mid.at p.further));
-      allowed = p.allowed ∙ ap (λ d. old.key_allowed || (p.broke && not (ltb 0 d))) deep ∙ ap (λ b. b || (p.broke && not (ltb 0 (depth h)))) (s.allowed more)
-          ∙ ap (λ (g : Gap). key_allowed h || (g.broke && not (ltb 0 (depth h)))) (sym gap_mid);
+      allowed = p.allowed ∙ ap (λ d. old.key_allowed || (p.broke && not (ltb 0 d))) deep ∙ ap (λ b. b || (p.broke && not (ltb 0 (flow_depth h)))) (s.allowed more)
+          ∙ ap (λ (g : Gap). key_allowed h || (g.broke && not (ltb 0 (flow_depth h)))) (sym gap_mid);
     }
 
 pub goes_on : (s : Scanner) (h : List Lexeme) → IsBehind s h → GoesOn s.text.now (read_by s) h
@@ -223,8 +223,8 @@ none_late mid h f u b tests =
 
 kind_same : (mid : Scanner) (h : List Lexeme) (o : Option Kind) → IsBehind mid h
     → o ≡ kind_at (ltb 0 (inner (stack_of mid.keys))) mid.text.now mid.at
-    → kind_at (ltb 0 (depth h)) mid.text.now mid.at ≡ o
-kind_same mid h o b is = sym (is ∙ ap (λ d. kind_at (ltb 0 d) mid.text.now mid.at) (inner_is (depth h) (stack_of mid.keys) b.holds.keys.long))
+    → kind_at (ltb 0 (flow_depth h)) mid.text.now mid.at ≡ o
+kind_same mid h o b is = sym (is ∙ ap (λ d. kind_at (ltb 0 d) mid.text.now mid.at) (inner_is (flow_depth h) (stack_of mid.keys) b.holds.keys.long))
 
 -- a lexeme stands there
 pub finds : (old mid new : Scanner) (h : List Lexeme) (k : Kind) → Shows old h → StaysAt old mid
@@ -235,7 +235,7 @@ finds old mid new h k s same b kept early kind =
     let there : StandsAt k mid h = record {
       behind = b;
       early = early;
-      margins = subst (λ l. AreLevels l (levels h)) (sym (ap (λ (x : Scanner). x.levels) same)) s.margins;
+      margins = subst (λ l. AreLevels l (open_levels h)) (sym (ap (λ (x : Scanner). x.levels) same)) s.margins;
       kind = kind_same mid h (Some k) b (kind ∙ ap (λ (x : Scanner). kind_at (ltb 0 (inner (stack_of x.keys))) x.text.now x.at) kept);
     } in (
       subst (λ (x : Scanner). StandsAt k x h) (sym kept) there,
@@ -252,8 +252,8 @@ pub none_there : (old mid tested new : Scanner) (h : List Lexeme) → StaysAt ol
 none_there old mid tested new h same b kept early kind is =
     let text = mid.text.now in
     let spot = here_is mid h b in
-    let none : kind_at (ltb 0 (depth h)) text mid.at ≡ None = kind_same mid h None b (kind ∙ ap (λ (x : Scanner). kind_at (ltb 0 (inner (stack_of x.keys))) x.text.now x.at) kept) in
-    let comes = comes_none text (read_by mid) h (goes_on mid h b) (ap (λ m. missed (candidate 0 h) m) spot ∙ early) (ap (λ p. kind_at (ltb 0 (depth h)) text p) (sym b.gap) ∙ none) in
+    let none : kind_at (ltb 0 (flow_depth h)) text mid.at ≡ None = kind_same mid h None b (kind ∙ ap (λ (x : Scanner). kind_at (ltb 0 (inner (stack_of x.keys))) x.text.now x.at) kept) in
+    let comes = comes_none text (read_by mid) h (goes_on mid h b) (ap (λ m. missed (candidate 0 h) m) spot ∙ early) (ap (λ p. kind_at (ltb 0 (flow_depth h)) text p) (sym b.gap) ∙ none) in
     let m : place_mark text mid.at ≡ here text h = mark_of_place text mid.at b.place.inside ∙ sym spot in
     let told : next text h ≡ Fails (fault_in text (no_start_at mid.at)) = comes ∙ ap (λ q. Fails (no_start q)) (sym m) in
     let all : new ≡ record mid { fault = Some (no_start_at mid.at) } = is ∙ ap (λ (x : Scanner). record x { fault = Some (no_start_at x.at) }) kept in

@@ -1,6 +1,6 @@
 -- A `-`, a `?` and a `:`, which may open a block level.
 use Rattle.std.proofs.Common.{◌≡◌, ℕ, ◌+◌, ◌-◌, ◌<◌, ◌^◌, Bool, true, false, cond, ltb, eqb, ◌&&◌, ◌||◌, not, inl, inr, List, [], ◌∷◌, ◌++◌, length, Option, Some, None, Result, Ok, Err, refl, sym, ap, subst, ◌∙◌, arith}
-use Rattle.yaml_scan_core.proofs.Words.{cases_Bool, cases_lt, nat_tests, yaml_mark_t, mark_at, column_at, indent, Kind, Lexeme, Entry, Candidate, candidate, fresh, reached, depth, depth_after, levels, entries, entry_of, found_by, has, inside, opened, opens_at, is_value, is_start, is_end, cancels, key_allowed, may_be_key, word_at, Upto, Fails, missed, next, allowed_behind, AreKeys, KeyStack, inner, key_at, stack_of, given_up, index_in, fresh_key, view_of, required_in, required_at}
+use Rattle.yaml_scan_core.proofs.Words.{cases_Bool, cases_lt, nat_tests, yaml_mark_t, mark_at, column_at, indent, Kind, Lexeme, Entry, Candidate, candidate, fresh, reached, flow_depth, depth_after, open_levels, finished_tokens, entry_of, found_by, has, inside, opened, opens_at, is_value, is_start, is_end, cancels, key_allowed, may_be_key, lexeme_at, Upto, Fails, missed, next, allowed_behind, AreKeys, KeyStack, inner, key_at, stack_of, given_up, index_in, fresh_key, view_of, required_in, required_at}
 use Rattle.yaml_scan_model.specs.Tokens as tokens
 use Rattle.yaml_scan_model.specs.Tokens.{TokenBody}
 use Rattle.yaml_scan_history.specs.History.{marked, opens_of, level_of, start_of}
@@ -35,14 +35,15 @@ use Rattle.yaml_scan_core.proofs.KindsLemmas.{Goes, Puts, bare_entry, bare_word,
 -- a lexeme of that kind may open a level, and finds no key
 pub record Starts (k : Kind) (s : Scanner) (h : List Lexeme) : Type 0 where
   pub starts : is_start k ≡ true
-  pub none : (is_value k && has (fresh (candidate (depth h) h) (mark_at s.text.now s.at))) ≡ false
+  pub none : (is_value k && has (fresh (candidate (flow_depth h) h) (mark_at s.text.now s.at)))
+      ≡ false
 
 wrong_is : (k : Kind) (s : Scanner) (h : List Lexeme) (n : ℕ) → StandsAs k s h n → Starts k s h
     → is_wrong k s.text.now h ≡ not (ltb 0 (inner (stack_of s.keys)) || s.key_allowed)
 wrong_is k s h n a p =
-    let deep : depth h ≡ inner (stack_of s.keys) = sym (inner_is (depth h) (stack_of s.keys) a.behind.holds.keys.long) in
-    let none : (is_value k && has (fresh (candidate (depth h) h) (mark_at s.text.now (gap_of s.text.now h).place))) ≡ false = ap (λ m. is_value k && has (fresh (candidate (depth h) h) m)) (stands_here k s h n a) ∙ p.none in
-    rw (p.starts, none) (both (ltb 0 (depth h)) (allowed_behind h (gap_of s.text.now h)) ∙ ap (λ d. not (ltb 0 d || allowed_behind h (gap_of s.text.now h))) deep ∙ ap (λ b. not (ltb 0 (inner (stack_of s.keys)) || b)) (sym a.behind.allowed))
+    let deep : flow_depth h ≡ inner (stack_of s.keys) = sym (inner_is (flow_depth h) (stack_of s.keys) a.behind.holds.keys.long) in
+    let none : (is_value k && has (fresh (candidate (flow_depth h) h) (mark_at s.text.now (gap_of s.text.now h).place))) ≡ false = ap (λ m. is_value k && has (fresh (candidate (flow_depth h) h) m)) (stands_here k s h n a) ∙ p.none in
+    rw (p.starts, none) (both (ltb 0 (flow_depth h)) (allowed_behind h (gap_of s.text.now h)) ∙ ap (λ d. not (ltb 0 d || allowed_behind h (gap_of s.text.now h))) deep ∙ ap (λ b. not (ltb 0 (inner (stack_of s.keys)) || b)) (sym a.behind.allowed))
   where
     both : (x y : Bool) → ((not x && not y) && true) ≡ not (x || y)
     both true y = refl
@@ -93,9 +94,9 @@ abbrev pub finds_none : Lexeme → List Lexeme → Type 0
 finds_none l h = (is_value l.kind && has (found_by l h)) ≡ false
 
 entries_start : (l : Lexeme) (h : List Lexeme) → finds_none l h
-    → entries (l ∷ h) ≡ entries h ++ entry_of l h ∷ []
-unfolding entries
-entries_start l h none = ap (λ es. es ++ entry_of l h ∷ []) (plain_keyed (is_value l.kind) (found_by l h) (inside l h) (entries h) none)
+    → finished_tokens (l ∷ h) ≡ finished_tokens h ++ entry_of l h ∷ []
+unfolding finished_tokens
+entries_start l h none = ap (λ es. es ++ entry_of l h ∷ []) (plain_keyed (is_value l.kind) (found_by l h) (inside l h) (finished_tokens h) none)
 
 opens_same : (o : Option Candidate) (k : Kind) (c : ℕ) → (is_value k && has o) ≡ false
     → opens_at o k c ≡ c + 1
@@ -103,8 +104,8 @@ opens_same None k c e = refl
 opens_same (Some x) k c e = elim (cases_Bool (is_value k)) [ inl y ↦ let bad = rw y at e in cc | inr n ↦ rw n refl ]
 
 levels_start : (l : Lexeme) (h : List Lexeme) → is_start l.kind ≡ true → finds_none l h
-    → levels (l ∷ h) ≡ opened (not (ltb 0 l.depth)) (l.start.column + 1) (inside l h)
-unfolding levels
+    → open_levels (l ∷ h) ≡ opened (not (ltb 0 l.depth)) (l.start.column + 1) (inside l h)
+unfolding open_levels
 levels_start l h starts none =
     ap (λ b. opened (b && not (ltb 0 l.depth)) (opens_at (found_by l h) l.kind l.start.column) (inside l h)) starts
     ∙ ap (λ m. opened (not (ltb 0 l.depth)) m (inside l h)) (opens_same (found_by l h) l.kind l.start.column none)
@@ -164,27 +165,27 @@ starting_goes k t body b old new h n a st flat other word carries p lv place all
     let x = bare t n old.at (old.at + 1) (flag k b) in
     let o = store_of text r in
     let there = stands_here k old h n a in
-    let none : finds_none l h = ap (λ m. is_value k && has (fresh (candidate (depth h) h) m)) there ∙ st.none in
-    let inner_one : inner (stack_of old.keys) ≡ depth h = inner_is (depth h) (stack_of old.keys) a.behind.holds.keys.long in
+    let none : finds_none l h = ap (λ m. is_value k && has (fresh (candidate (flow_depth h) h) m)) there ∙ st.none in
+    let inner_one : inner (stack_of old.keys) ≡ flow_depth h = inner_is (flow_depth h) (stack_of old.keys) a.behind.holds.keys.long in
     let ins = inside_put k w old h n a in
     let col : l.start.column ≡ column_at text old.at = ap (λ (m : yaml_mark_t). m.column) there in
-    let opens_b : b ≡ (not (ltb 0 (depth h)) && ltb (indent (inside l h)) (l.start.column + 1)) =
+    let opens_b : b ≡ (not (ltb 0 (flow_depth h)) && ltb (indent (inside l h)) (l.start.column + 1)) =
     lv.opens ∙ ap (λ d. not (ltb 0 d) && ltb (indent (left_behind k old h)) (column_at text old.at + 1)) inner_one
-    ∙ ap (λ ls. not (ltb 0 (depth h)) && ltb (indent ls) (column_at text old.at + 1)) (sym ins)
-    ∙ ap (λ c. not (ltb 0 (depth h)) && ltb (indent (inside l h)) (c + 1)) (sym col) in
+    ∙ ap (λ ls. not (ltb 0 (flow_depth h)) && ltb (indent ls) (column_at text old.at + 1)) (sym ins)
+    ∙ ap (λ c. not (ltb 0 (flow_depth h)) && ltb (indent (inside l h)) (c + 1)) (sym col) in
     let opens : opens_in x ≡ opens_of (found_by l h) l (inside l h) =
     flag_opens k t n old.at (old.at + 1) b ∙ ap (λ y. cond y (level_of k) opening.Nothing) opens_b ∙ sym (opens_start l h st.starts none) in
     let shown = bare_entry k t body 1 (flag k b) old o h n a flat other word refl place.inside (flag_note k t n old.at (old.at + 1) b) (flag_key k t n old.at (old.at + 1) b) opens (carries o) in
-    let row : ShowsRow (stream_of old) (pushed x r) (entries (l ∷ h)) = subst (λ es. ShowsRow (stream_of old) (pushed x r) es) (sym (entries_start l h none)) (shown_pushed (stream_of old) r (entries h) x (entry_of l h) a.behind.holds.row shown) in
-    let same : opened (not (ltb 0 (inner (stack_of old.keys)))) (column_at text old.at + 1) (left_behind k old h) ≡ levels (l ∷ h) =
+    let row : ShowsRow (stream_of old) (pushed x r) (finished_tokens (l ∷ h)) = subst (λ es. ShowsRow (stream_of old) (pushed x r) es) (sym (entries_start l h none)) (shown_pushed (stream_of old) r (finished_tokens h) x (entry_of l h) a.behind.holds.row shown) in
+    let same : opened (not (ltb 0 (inner (stack_of old.keys)))) (column_at text old.at + 1) (left_behind k old h) ≡ open_levels (l ∷ h) =
     ap (λ d. opened (not (ltb 0 d)) (column_at text old.at + 1) (left_behind k old h)) inner_one
-    ∙ ap (λ ls. opened (not (ltb 0 (depth h))) (column_at text old.at + 1) ls) (sym ins)
-    ∙ ap (λ c. opened (not (ltb 0 (depth h))) (c + 1) (inside l h)) (sym col)
+    ∙ ap (λ ls. opened (not (ltb 0 (flow_depth h))) (column_at text old.at + 1) ls) (sym ins)
+    ∙ ap (λ c. opened (not (ltb 0 (flow_depth h))) (c + 1) (inside l h)) (sym col)
     ∙ sym (levels_start l h st.starts none) in
     record {
       text = p.text;
       coding = p.coding;
-      row = subst (λ q. ShowsRow (stream_of old) q (entries (l ∷ h))) (sym p.row) row;
+      row = subst (λ q. ShowsRow (stream_of old) q (finished_tokens (l ∷ h))) (sym p.row) row;
       room = p.room;
       dropped = ap (λ (q : RowView). q.dropped) p.row;
       settled = ap (λ (q : RowView). q.settled) p.row;
@@ -257,7 +258,7 @@ pub starting_takes : (k : Kind) (t : Token) (body : TokenBody) (b : Bool) (old m
     (row : Row) (keys : Keys) (allowed : Bool) (x : Held) (h : List Lexeme) (n : ℕ)
     (f : Option Fault) (u : Unit {0}) → StandsAs k old h n → Starts k old h → is_end k ≡ false
     → (k ≡ reads.StreamStart → ⊥) → is_value k ≡ false → cancels k ≡ true → may_be_key k ≡ false
-    → depth_after k (depth h) ≡ depth h → is_wrong k old.text.now h ≡ false
+    → depth_after k (flow_depth h) ≡ flow_depth h → is_wrong k old.text.now h ≡ false
     → Tests (index_in (cancelled_at old.text.now (stack_of old.keys))) old.at f (Ok u)
     → word_here k old.text.now h ≡ Ok (bare_word body 1 old.text.now h)
     → ((o : Store) → Carries o (stream_of old) (bare t n old.at (old.at + 1) (flag k b)) t body)
@@ -278,26 +279,26 @@ starting_takes k t body b old mid row keys allowed x h n f u a st flat other pla
 
 pub entry_word : (text : List ℕ) (h : List Lexeme)
     → word_here reads.BlockEntry text h ≡ Ok (bare_word tokens.block_entry 1 text h)
-unfolding word_at
+unfolding lexeme_at
 entry_word text h = refl
 
 pub key_word : (text : List ℕ) (h : List Lexeme)
     → word_here reads.KeyMark text h ≡ Ok (bare_word tokens.key 1 text h)
-unfolding word_at
+unfolding lexeme_at
 key_word text h = refl
 
 pub value_word : (text : List ℕ) (h : List Lexeme)
     → word_here reads.ValueMark text h ≡ Ok (bare_word tokens.value 1 text h)
-unfolding word_at
+unfolding lexeme_at
 value_word text h = refl
 
 -- whether a key may begin after a `?`
 pub flow_same : (s : KeyStack) (t : KeyStack) (h : List Lexeme) (text : List ℕ) (p : yaml_mark_t)
     → AreKeys text s h p → length t.levels ≡ length s.levels
-    → (not (ltb 0 (inner t)) || false) ≡ (eqb (depth h) 0 || false)
+    → (not (ltb 0 (inner t)) || false) ≡ (eqb (flow_depth h) 0 || false)
 flow_same s t h text p a long =
-    let same : inner t ≡ depth h = omega (arith, a.long, long) in
-    rw same (ap (λ b. b || false) (flat (depth h)))
+    let same : inner t ≡ flow_depth h = omega (arith, a.long, long) in
+    rw same (ap (λ b. b || false) (flat (flow_depth h)))
   where
     flat : (d : ℕ) → not (ltb 0 d) ≡ eqb d 0
     flat d = grind (arith, nat_tests)
@@ -310,13 +311,13 @@ view_none (Some c) e = cc
 
 -- no key of the level is open where the code finds none
 pub none_open : (k : Kind) (s : Scanner) (h : List Lexeme) (n : ℕ) → StandsAs k s h n
-    → FindsNone s h → fresh (candidate (depth h) h) (mark_at s.text.now s.at) ≡ None
+    → FindsNone s h → fresh (candidate (flow_depth h) h) (mark_at s.text.now s.at) ≡ None
 none_open k s h n a none =
     let text = s.text.now in
     let o = a.behind.holds.keys in
-    let same : inner (stack_of s.keys) ≡ depth h = inner_is (depth h) (stack_of s.keys) o.long in
-    let key : fresh_key text (key_at (stack_of s.keys) (depth h)) (mark_at text s.at) ≡ None = ap (λ d. fresh_key text (key_at (stack_of s.keys) d) (mark_at text s.at)) (sym same) ∙ none in
-    view_none (fresh (candidate (depth h) h) (mark_at text s.at)) (sym (o.agrees (depth h) (omega arith) (mark_at text s.at) a.behind.further) ∙ key)
+    let same : inner (stack_of s.keys) ≡ flow_depth h = inner_is (flow_depth h) (stack_of s.keys) o.long in
+    let key : fresh_key text (key_at (stack_of s.keys) (flow_depth h)) (mark_at text s.at) ≡ None = ap (λ d. fresh_key text (key_at (stack_of s.keys) d) (mark_at text s.at)) (sym same) ∙ none in
+    view_none (fresh (candidate (flow_depth h) h) (mark_at text s.at)) (sym (o.agrees (flow_depth h) (omega arith) (mark_at text s.at) a.behind.further) ∙ key)
 
 pub value_starts : (s : Scanner) (h : List Lexeme) (n : ℕ) → StandsAs reads.ValueMark s h n
     → FindsNone s h → Starts reads.ValueMark s h
@@ -340,9 +341,9 @@ and_yes false = refl
 
 pub value_allows : (s t : KeyStack) (h : List Lexeme) (text : List ℕ) (p : yaml_mark_t) (l : Lexeme)
     → AreKeys text s h p → t ≡ s → has (found_by l h) ≡ false
-    → not (ltb 0 (inner t)) ≡ ((eqb (depth h) 0 && not (has (found_by l h))) || false)
+    → not (ltb 0 (inner t)) ≡ ((eqb (flow_depth h) 0 && not (has (found_by l h))) || false)
 value_allows s t h text p l a same none =
-    sym (or_false (not (ltb 0 (inner t)))) ∙ flow_same s t h text p a (ap (λ (q : KeyStack). length q.levels) same) ∙ sym (and_yes (eqb (depth h) 0)) ∙ (rw none refl)
+    sym (or_false (not (ltb 0 (inner t)))) ∙ flow_same s t h text p a (ap (λ (q : KeyStack). length q.levels) same) ∙ sym (and_yes (eqb (flow_depth h) 0)) ∙ (rw none refl)
 
 pub alone_takes : (old mid : Scanner) (row : Row) (allowed : Bool) (b : Bool) (x : Held)
     (h : List Lexeme) (n : ℕ) → let k = reads.ValueMark in
@@ -362,7 +363,7 @@ alone_takes old mid row allowed b x h n a none good same is put room lv allows =
     let st = value_starts old h n a none in
     let gone = none_open k old h n a none in
     let there = stands_here k old h n a in
-    let found : has (found_by l h) ≡ false = ap (λ m. has (fresh (candidate (depth h) h) m)) there ∙ ap has gone in
+    let found : has (found_by l h) ≡ false = ap (λ m. has (fresh (candidate (flow_depth h) h) m)) there ∙ ap has gone in
     let keys_same : stack_of mid.keys ≡ s = ap (λ (y : Scanner). stack_of y.keys) same in
     let puts = puts_on kinds.Value n (flag k b) old mid row mid.keys allowed x same is put room in
     let lv2 : OpensLevel k old new h b = record { margins = lv.margins; opens = lv.opens; few = lv.few } in
@@ -373,16 +374,16 @@ alone_takes old mid row allowed b x h n a none good same is put room lv allows =
     let (further, forward) = goes_upto k w old new h n a goes in
     let on : Upto (reached h) l.reached = upto_on (reached h) l.start l.reached further forward in
     let free : l.saved ≡ false = grind arith in
-    let inner_same : inner s ≡ depth h = inner_is (depth h) s o.long in
-    let stale_here : fresh_key text (key_at s (depth h)) (mark_at text old.at) ≡ None = ap (λ d. fresh_key text (key_at s d) (mark_at text old.at)) (sym inner_same) ∙ none in
-    let stale : fresh_key text (key_at s (depth h)) l.reached ≡ None = stays_stale text (key_at s (depth h)) (mark_at text old.at) l.reached stale_here (subst (λ m. Upto m l.reached) there forward) in
-    let idle : depth h ≡ 0 → old.keys.required ≡ false = λ z.
+    let inner_same : inner s ≡ flow_depth h = inner_is (flow_depth h) s o.long in
+    let stale_here : fresh_key text (key_at s (flow_depth h)) (mark_at text old.at) ≡ None = ap (λ d. fresh_key text (key_at s d) (mark_at text old.at)) (sym inner_same) ∙ none in
+    let stale : fresh_key text (key_at s (flow_depth h)) l.reached ≡ None = stays_stale text (key_at s (flow_depth h)) (mark_at text old.at) l.reached stale_here (subst (λ m. Upto m l.reached) there forward) in
+    let idle : flow_depth h ≡ 0 → old.keys.required ≡ false = λ z.
     required_none text s (sym o.due ∙ idle_gone (candidate 0 h) (mark_at text old.at) (ap (λ d. fresh (candidate d h) (mark_at text old.at)) (sym z) ∙ gone) a.early) in
-    let turned = stale_turns (depth h) text s l h (reached h) o on refl free refl stale idle in
+    let turned = stale_turns (flow_depth h) text s l h (reached h) o on refl free refl stale idle in
     let lost = lost_there k false old h n a (no_place (allowed_behind h (gap_of text h))) in
     goes_takes k w old new h n a refl good lost (value_word text h)
     (goes_leaves k w old new h n a goes refl (subst (λ q. AreKeys text q (l ∷ h) l.reached) (sym keys_same) turned)
-    (λ must. inl (elim (cases_lt 0 (depth h)) [
+    (λ must. inl (elim (cases_lt 0 (flow_depth h)) [
       | inl deep ↦ (ap (λ q. key_at q 0) keys_same, lower 0 l h deep)
       | inr low ↦ let bad = sym (ap (λ (q : KeyStack). q.required) keys_same ∙ idle (omega (arith, low))) ∙ must in cc
     ]))

@@ -1,6 +1,6 @@
 -- What one more lexeme changes.
 use Rattle.std.proofs.Common.{◌≡◌, ℕ, zero, suc, ◌+◌, ◌-◌, ◌<◌, ◌≤◌, Bool, true, false, cond, ◌&&◌, List, [], ◌∷◌, length, get_or, Some, None, refl, sym, ap, ◌∙◌, inl, inr, ◌⊎◌, arith}
-use Rattle.yaml_scan_core.proofs.Words.{nat_tests, get_or_append_left, get_or-append_right, Kind, Lexeme, Entry, is_value, cancels, may_be_key, depth_after, Candidate, candidate, mark_key, keyed, entries, entry_of, found_by, inside, depth, history, Next, Read, Fails, Ends, next, first_lexeme, allowed_behind, candidate_below, length-entries, length-keyed}
+use Rattle.yaml_scan_core.proofs.Words.{nat_tests, get_or_append_left, get_or-append_right, Kind, Lexeme, Entry, is_value, cancels, may_be_key, depth_after, Candidate, candidate, mark_key, keyed, finished_tokens, entry_of, found_by, inside, flow_depth, history, Next, Read, Fails, Ends, next, first_lexeme, allowed_behind, candidate_below, length-entries, length-keyed}
 use Rattle.yaml_scan_history.specs.Next.{extended}
 use Rattle.yaml_scan_history.specs.History.{marked}
 use Rattle.yaml_scan_history.specs.declared.kind.Kind.TheVariants as kinds
@@ -24,19 +24,19 @@ lexeme-keyed l h es n e =
     ]
 
 lexeme-below : (l : Lexeme) (h : List Lexeme) (n : ℕ) (e : Entry) → n < length h
-    → (get_or (entries (l ∷ h)) n e).lexeme ≡ (get_or (entries h) n e).lexeme
-unfolding entries
+    → (get_or (finished_tokens (l ∷ h)) n e).lexeme ≡ (get_or (finished_tokens h) n e).lexeme
+unfolding finished_tokens
 lexeme-below l h n e below =
-    let fits : n < length (keyed l h (entries h)) = omega (arith, length-keyed l h (entries h), length-entries h) in
-    ap (λ (x : Entry). x.lexeme) (get_or_append_left (keyed l h (entries h)) _ e n fits) ∙ lexeme-keyed l h (entries h) n e
+    let fits : n < length (keyed l h (finished_tokens h)) = omega (arith, length-keyed l h (finished_tokens h), length-entries h) in
+    ap (λ (x : Entry). x.lexeme) (get_or_append_left (keyed l h (finished_tokens h)) _ e n fits) ∙ lexeme-keyed l h (finished_tokens h) n e
 
 lexeme-top : (l : Lexeme) (h : List Lexeme) (n : ℕ) (e : Entry) → n ≡ length h
-    → (get_or (entries (l ∷ h)) n e).lexeme ≡ l
-unfolding entries
+    → (get_or (finished_tokens (l ∷ h)) n e).lexeme ≡ l
+unfolding finished_tokens
 lexeme-top l h n e top =
-    let here : length (keyed l h (entries h)) ≡ n = omega (arith, length-keyed l h (entries h), length-entries h) in
+    let here : length (keyed l h (finished_tokens h)) ≡ n = omega (arith, length-keyed l h (finished_tokens h), length-entries h) in
     let z : n - n ≡ 0 = omega arith in
-    ap (λ (x : Entry). x.lexeme) (get_or-append_right (keyed l h (entries h)) _ n n e here (omega arith) ∙ ap (λ i. get_or (entry_of l h ∷ []) i e) z)
+    ap (λ (x : Entry). x.lexeme) (get_or-append_right (keyed l h (finished_tokens h)) _ n n e here (omega arith) ∙ ap (λ i. get_or (entry_of l h ∷ []) i e) z)
 
 -- a candidate is the lexeme of its number
 pub candidate_top : (d : ℕ) (l : Lexeme) (h : List Lexeme) (c : Candidate)
@@ -46,7 +46,7 @@ unfolding candidate
 candidate_top d l h c e = grind (arith, nat_tests)
 
 pub start_is : (d : ℕ) (h : List Lexeme) (c : Candidate) (e : Entry) → candidate d h ≡ Some c
-    → (get_or (entries h) c.number e).lexeme ≡ c.lexeme
+    → (get_or (finished_tokens h) c.number e).lexeme ≡ c.lexeme
 unfolding candidate
 start_is d [] c e is = cc
 start_is d (l ∷ h) c e is = grind (arith, candidate_top d l h c is, lexeme-top l h c.number e, lexeme-below l h c.number e, candidate_below d h c, start_is d h c e)
@@ -82,7 +82,7 @@ saved_keeps text (x ∷ h) l e =
 
 -- Inside no level there is no candidate of a deeper one.
 none_deeper_next : (text : List ℕ) (h : List Lexeme) (l : Lexeme) (d : ℕ) → next text h ≡ Read l
-    → depth (l ∷ h) < d → candidate d (l ∷ h) ≡ None
+    → flow_depth (l ∷ h) < d → candidate d (l ∷ h) ≡ None
 unfolding next candidate
 none_deeper_next text h l d e deep = none_after l d h deep (saved_keeps text h l e)
 
@@ -106,7 +106,7 @@ each_history text P none more (suc n) =
       | inr stays ↦ rw stays before
     ]
 
-pub none_deeper : (text : List ℕ) (n d : ℕ) → depth (history text n) < d
+pub none_deeper : (text : List ℕ) (n d : ℕ) → flow_depth (history text n) < d
     → candidate d (history text n) ≡ None
 unfolding candidate
-none_deeper text n = each_history text (λ h. (d : ℕ) → depth h < d → candidate d h ≡ None) (λ d deep. refl) (λ h l before e d deep. none_deeper_next text h l d e deep) n
+none_deeper text n = each_history text (λ h. (d : ℕ) → flow_depth h < d → candidate d h ≡ None) (λ d deep. refl) (λ h l before e d deep. none_deeper_next text h l d e deep) n

@@ -1,7 +1,7 @@
 -- What a step comes to.
 use Rattle.std.proofs.Common.{◌≡◌, ℕ, suc, ◌+◌, ◌-◌, ◌<◌, ◌≤◌, ◌⊎◌, Bool, true, false, inl, inr, List, ◌∷◌, length, Option, Some, None, Result, Ok, Err, refl, sym, ap, subst, ◌∙◌, arith}
 use Rattle.std.specs.Prelude.{OnOk}
-use Rattle.yaml_scan_core.proofs.Words.{cases_Bool, yaml_mark_t, mark_at, Kind, Lexeme, Candidate, candidate, reached, entries, is_end, length-entries, Next, Read, Fails, missed, next, history, colon_missing, required_in, required_at, KeyStack, AreWithin, AreKeys, stack_of, late, index_in}
+use Rattle.yaml_scan_core.proofs.Words.{cases_Bool, yaml_mark_t, mark_at, Kind, Lexeme, Candidate, candidate, reached, finished_tokens, is_end, length-entries, Next, Read, Fails, missed, next, history, colon_missing, required_in, required_at, KeyStack, AreWithin, AreKeys, stack_of, late, index_in}
 use Rattle.yaml_scan_history.specs.Stepwise.{no_colon as comes_no_colon}
 use Rattle.yaml_scan_core.specs.Lines.{IsLineStart}
 use Rattle.yaml_scan_core.specs.declared.fault.Fault.{Fault}
@@ -34,7 +34,7 @@ advance_one mid new h t o is none =
     let count : read_by new ≡ suc (read_by mid) = omega (arith, before, after) in
     let more : history text (suc (read_by mid)) ≡ l ∷ history text (read_by mid) = history_more text (read_by mid) l (subst (λ x. next text x ≡ Read l) is reads) in
     let same : l ∷ h ≡ history_of new = ap (λ x. l ∷ x) is ∙ sym more ∙ ap (λ n. history text n) (sym count) ∙ ap (λ x. history x (read_by new)) (sym t.text) in
-    record { shows = subst (λ x. Shows new x) same t.shows; further = omega (arith, count); text = t.text; kept = subst (λ x. Keeps mid new (entries x)) same t.kept; one = inr (omega (arith, count)) }
+    record { shows = subst (λ x. Shows new x) same t.shows; further = omega (arith, count); text = t.text; kept = subst (λ x. Keeps mid new (finished_tokens x)) same t.kept; one = inr (omega (arith, count)) }
 
 pub advance_both : (mid new : Scanner) (h : List Lexeme) → TakesBoth mid new h → Holds mid h
     → h ≡ history_of mid → Advances mid new
@@ -47,7 +47,7 @@ advance_both mid new h t o is =
     let one : history text (suc n) ≡ t.key ∷ h = history_more text n t.key (subst (λ x. next text x ≡ Read t.key) is t.first) ∙ ap (λ x. t.key ∷ x) (sym is) in
     let two : history text (suc (suc n)) ≡ t.value ∷ history text (suc n) = history_more text (suc n) t.value (subst (λ x. next text x ≡ Read t.value) (sym one) t.second) in
     let same : t.value ∷ t.key ∷ h ≡ history_of new = ap (λ x. t.value ∷ x) (sym one) ∙ sym two ∙ ap (λ m. history text m) (sym count) ∙ ap (λ x. history x (read_by new)) (sym t.text) in
-    record { shows = subst (λ x. Shows new x) same t.shows; further = omega (arith, count); text = t.text; kept = subst (λ x. Keeps mid new (entries x)) same t.kept; one = inl t.many }
+    record { shows = subst (λ x. Shows new x) same t.shows; further = omega (arith, count); text = t.text; kept = subst (λ x. Keeps mid new (finished_tokens x)) same t.kept; one = inl t.many }
 
 -- ---- from the state before the gap
 
@@ -67,7 +67,7 @@ advances_from old mid new text row fixed v =
       shows = v.shows;
       further = omega (arith, v.further, count);
       text = v.text ∙ text;
-      kept = keeps_from old mid new (entries (history_of new)) row fixed v.kept;
+      kept = keeps_from old mid new (finished_tokens (history_of new)) row fixed v.kept;
       one = elim v.one [ inl many ↦ inl (omega (arith, many, ap (λ (f : Fixed). f.batch) fixed)) | inr one ↦ inr (omega (arith, one, count)) ];
     }
 

@@ -1,6 +1,6 @@
 -- The state after one lexeme more, and where none is read.
 use Rattle.std.proofs.Common.{◌≡◌, ℕ, suc, ◌+◌, ◌-◌, ◌<◌, ◌≤◌, ◌⊎◌, ◌^◌, true, false, inl, inr, List, [], ◌∷◌, ◌++◌, length, get_or, Option, Some, None, Result, Err, refl, sym, ap, subst, ◌∙◌, arith}
-use Rattle.yaml_scan_core.proofs.Words.{get_or_append_left, get_or-append_right, length-keyed, cases_Bool, cases_lt, yaml_mark_t, mark_at, Lexeme, Entry, Candidate, candidate, fresh, reached, levels, key_allowed, entries, entry_of, first_open, is_end, keyed, Upto, Read, missed, next, history, SpelledText, candidate_below, fresh_is, length-entries, AreKeys, AreWithin, key_at, stack_of, fresh_key, view_of}
+use Rattle.yaml_scan_core.proofs.Words.{get_or_append_left, get_or-append_right, length-keyed, cases_Bool, cases_lt, yaml_mark_t, mark_at, Lexeme, Entry, Candidate, candidate, fresh, reached, open_levels, key_allowed, finished_tokens, entry_of, first_open, is_end, keyed, Upto, Read, missed, next, history, SpelledText, candidate_below, fresh_is, length-entries, AreKeys, AreWithin, key_at, stack_of, fresh_key, view_of}
 use Rattle.yaml_scan_history.specs.Stepwise.{tested}
 use Rattle.yaml_scan_history.proofs.HistoryLemmas.{first_open-grows, take-entries}
 use Rattle.yaml_scan_laws_order.proofs.RemainingForward.{entries_ends}
@@ -36,21 +36,22 @@ keeps_lexemes old new es lexemes next dropped settled fixed = record {
 }
 
 entry_top : (l : Lexeme) (h : List Lexeme) (n : ℕ) → n ≡ length h
-    → get_or (entries (l ∷ h)) n no_entry ≡ entry_of l h
-unfolding entries
+    → get_or (finished_tokens (l ∷ h)) n no_entry ≡ entry_of l h
+unfolding finished_tokens
 entry_top l h n top =
-    let here : length (keyed l h (entries h)) ≡ n = omega (arith, length-keyed l h (entries h), length-entries h) in
+    let here : length (keyed l h (finished_tokens h)) ≡ n = omega (arith, length-keyed l h (finished_tokens h), length-entries h) in
     let z : n - n ≡ 0 = omega arith in
-    get_or-append_right (keyed l h (entries h)) _ n n no_entry here (omega arith) ∙ ap (λ i. get_or (entry_of l h ∷ []) i no_entry) z
+    get_or-append_right (keyed l h (finished_tokens h)) _ n n no_entry here (omega arith) ∙ ap (λ i. get_or (entry_of l h ∷ []) i no_entry) z
 
 -- after one more lexeme, where those before it are these
 pub keeps_put : (old new : Scanner) (t : SpelledText) (l : Lexeme) (h : List Lexeme)
     (ls : List Held) (x : Held)
-    → ShowsRow t (row_of old.row) (entries h) → length ls ≡ length old.row.lexemes.items
+    → ShowsRow t (row_of old.row) (finished_tokens h) → length ls ≡ length old.row.lexemes.items
     → (old.row.next < old.row.settled → get_or ls old.row.next no_lexeme ≡ get_or old.row.lexemes.items old.row.next no_lexeme)
     → (old.row.next < length old.row.lexemes.items → (get_or ls old.row.next no_lexeme).ends ≡ (get_or old.row.lexemes.items old.row.next no_lexeme).ends)
     → new.row.lexemes.items ≡ ls ++ x ∷ [] → new.row.next ≡ old.row.next → new.row.dropped ≡ old.row.dropped
-    → new.row.settled ≡ old.row.settled → x.ends ≡ (entry_of l h).ends → fixed_of new ≡ fixed_of old → Keeps old new (entries (l ∷ h))
+    → new.row.settled ≡ old.row.settled → x.ends ≡ (entry_of l h).ends
+    → fixed_of new ≡ fixed_of old → Keeps old new (finished_tokens (l ∷ h))
 keeps_put old new t l h ls x row long same ends lexemes next dropped settled own fixed =
     let n = old.row.next in
     let taken = row.taken in
@@ -73,8 +74,9 @@ keeps_put old new t l h ls x row long same ends lexemes next dropped settled own
     }
 
 pub keeps_pushed : (old new : Scanner) (t : SpelledText) (l : Lexeme) (h : List Lexeme) (x : Held)
-    → ShowsRow t (row_of old.row) (entries h)
-    → row_of new.row ≡ pushed x (row_of old.row) → x.ends ≡ (entry_of l h).ends → fixed_of new ≡ fixed_of old → Keeps old new (entries (l ∷ h))
+    → ShowsRow t (row_of old.row) (finished_tokens h)
+    → row_of new.row ≡ pushed x (row_of old.row) → x.ends ≡ (entry_of l h).ends
+    → fixed_of new ≡ fixed_of old → Keeps old new (finished_tokens (l ∷ h))
 keeps_pushed old new t l h x row is own fixed =
     keeps_put old new t l h old.row.lexemes.items x row refl (λ lt. refl) (λ lt. refl) (ap (λ (r : RowView). r.lexemes) is)
     (ap (λ (r : RowView). r.next) is) (ap (λ (r : RowView). r.dropped) is) (ap (λ (r : RowView). r.settled) is) own fixed
@@ -89,7 +91,7 @@ keeps_from old mid new es row fixed k = record { fixed = k.fixed ∙ fixed; row 
 -- nothing but the fault, the levels and what is put after the arena has changed
 pub falls_kept : (old new : Scanner) (h : List Lexeme) → Holds old h
     → new.text.now ≡ old.text.now → new.encoding ≡ old.encoding
-    → ShowsRow (stream_of old) (row_of new.row) (entries h) → HasRoom new.row
+    → ShowsRow (stream_of old) (row_of new.row) (finished_tokens h) → HasRoom new.row
     → new.row.dropped ≡ old.row.dropped → new.row.settled ≡ old.row.settled
     → stack_of new.keys ≡ stack_of old.keys
     → IsTold old.text.now new.fault (next old.text.now h)
@@ -97,7 +99,7 @@ pub falls_kept : (old new : Scanner) (h : List Lexeme) → Holds old h
     → Falls old new h
 falls_kept old new h o text coding row room dropped settled keys told lexemes next fixed = record {
   settled = record {
-    all = entries h;
+    all = finished_tokens h;
     row = rw (text, coding) row;
     more = omega (arith, length-entries h);
     front = refl;
@@ -111,7 +113,7 @@ falls_kept old new h o text coding row room dropped settled keys told lexemes ne
   };
   text = text;
   told = told;
-  kept = keeps_lexemes old new (entries h) lexemes next dropped settled fixed;
+  kept = keeps_lexemes old new (finished_tokens h) lexemes next dropped settled fixed;
 }
 
 -- ---- a lexeme that is read
@@ -120,7 +122,7 @@ falls_kept old new h o text coding row room dropped settled keys told lexemes ne
 pub record Leaves (old new : Scanner) (l : Lexeme) (h : List Lexeme) : Type 0 where
   pub text : new.text.now ≡ old.text.now
   pub coding : new.encoding ≡ old.encoding
-  pub row : ShowsRow (stream_of old) (row_of new.row) (entries (l ∷ h))
+  pub row : ShowsRow (stream_of old) (row_of new.row) (finished_tokens (l ∷ h))
   pub room : HasRoom new.row
   pub dropped : new.row.dropped ≡ old.row.dropped
   pub settled : new.row.settled ≡ old.row.settled
@@ -131,7 +133,7 @@ pub record Leaves (old new : Scanner) (l : Lexeme) (h : List Lexeme) : Type 0 wh
   pub place : IsPlace old.text.now new.at new.line new.wide
   pub mark : is_end l.kind ≡ false → l.reached ≡ mark_at old.text.now new.at
   pub allowed : is_end l.kind ≡ false → new.key_allowed ≡ key_allowed (l ∷ h)
-  pub margins : AreLevels new.levels (levels (l ∷ h))
+  pub margins : AreLevels new.levels (open_levels (l ∷ h))
   pub outer : new.keys.required ≡ true → ((key_at (stack_of new.keys) 0 ≡ key_at (stack_of old.keys) 0)
       × (candidate 0 (l ∷ h) ≡ candidate 0 h)) ⊎ (missed (candidate 0 (l ∷ h)) l.reached ≡ None)
   pub passed : new.keys.passed ≤ old.keys.passed
@@ -139,7 +141,7 @@ pub record Leaves (old new : Scanner) (l : Lexeme) (h : List Lexeme) : Type 0 wh
       × (missed (candidate 0 (l ∷ h)) (mark_at old.text.now new.at) ≡ None)
   pub further : Upto (reached h) l.start
   pub forward : Upto l.start l.reached
-  pub kept : Keeps old new (entries (l ∷ h))
+  pub kept : Keeps old new (finished_tokens (l ∷ h))
 
 pub takes : (old new : Scanner) (l : Lexeme) (h : List Lexeme) → Holds old h → Leaves old new l h
     → next old.text.now h ≡ tested l h → Takes old new h
@@ -214,7 +216,7 @@ falls_after old new n h start o t calm must late =
             | inl some ↦ let bad = sym (o.keys.stale 0 some) ∙ agrees ∙ ap view_of here in cc
           ] in (
             record {
-              all = entries (l ∷ h);
+              all = finished_tokens (l ∷ h);
               row = t.shows.holds.row;
               more = omega (arith, length-entries (l ∷ h));
               front = take-entries l h (first_open h h) t.further (omega arith);
@@ -245,7 +247,7 @@ pub falls_same : (old new : Scanner) (h : List Lexeme) → Holds old h
     → Falls old new h
 falls_same old new h o e told =
     falls_kept old new h o (ap (λ (s : Scanner). s.text.now) e) (ap (λ (s : Scanner). s.encoding) e)
-    (subst (λ r. ShowsRow (stream_of old) r (entries h)) (sym (ap (λ (s : Scanner). row_of s.row) e)) o.row)
+    (subst (λ r. ShowsRow (stream_of old) r (finished_tokens h)) (sym (ap (λ (s : Scanner). row_of s.row) e)) o.row)
     (subst HasRoom (sym (ap (λ (s : Scanner). s.row) e)) o.room)
     (ap (λ (s : Scanner). s.row.dropped) e) (ap (λ (s : Scanner). s.row.settled) e)
     (ap (λ (s : Scanner). stack_of s.keys) e) told
@@ -257,7 +259,7 @@ pub falls_memory : (old new : Scanner) (h : List Lexeme) → Holds old h
     → stack_of new.keys ≡ stack_of old.keys → row_of new.row ≡ row_of old.row → HasRoom new.row
     → new.fault ≡ old.fault → fixed_of new ≡ fixed_of old → Falls old new h
 falls_memory old new h o text coding keys row room fault fixed =
-    falls_kept old new h o text coding (subst (λ r. ShowsRow (stream_of old) r (entries h)) (sym row) o.row) room
+    falls_kept old new h o text coding (subst (λ r. ShowsRow (stream_of old) r (finished_tokens h)) (sym row) o.row) room
     (ap (λ (r : RowView). r.dropped) row) (ap (λ (r : RowView). r.settled) row) keys
     (subst (λ f. IsTold old.text.now f (next old.text.now h)) (sym (fault ∙ o.fault)) tt)
     (ap (λ (r : RowView). r.lexemes) row) (ap (λ (r : RowView). r.next) row) fixed

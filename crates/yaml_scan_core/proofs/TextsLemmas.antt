@@ -1,6 +1,6 @@
 -- Lexemes that carry a text.
 use Rattle.std.proofs.Common.{◌≡◌, ℕ, ◌≤◌, Bool, false, ltb, List, [], ◌∷◌, ◌++◌, length, append-nil, Option, Some, None, Result, Ok, Err, refl, sym, ap, subst, ◌∙◌, arith}
-use Rattle.yaml_scan_core.proofs.Words.{yaml_mark_t, mark_at, Wrong, indent, Kind, Lexeme, Entry, depth, levels, entries, entry_of, is_value, is_start, is_end, key_allowed, left_by, WordText, word_at, Fails, next, SpelledText, inner, stack_of}
+use Rattle.yaml_scan_core.proofs.Words.{yaml_mark_t, mark_at, Wrong, indent, Kind, Lexeme, Entry, flow_depth, open_levels, finished_tokens, entry_of, is_value, is_start, is_end, key_allowed, left_by, WordText, lexeme_at, Fails, next, SpelledText, inner, stack_of}
 use Rattle.yaml_scan_model.specs.Wrong.{scan_fault}
 use Rattle.yaml_scan_history.specs.declared.kind.Kind.TheVariants as reads
 use Rattle.yaml_scan_laws_order.proofs.WordForward.{LandsWord, IsWordFrom, kind_fits, word_lands, FitsAny, Fits}
@@ -30,12 +30,12 @@ pub word_same : (k : Kind) (s : Scanner) (h : List Lexeme) (n : ℕ) → StandsA
     → is_end k ≡ false → word_here k s.text.now h ≡ word_in k s
 word_same k s h n a flat =
     let text = s.text.now in
-    let deep : depth h ≡ inner (stack_of s.keys) = sym (inner_is (depth h) (stack_of s.keys) a.behind.holds.keys.long) in
-    let one : (begun_at text h k).level ≡ indent (left_behind k s h) = rw flat (ap (λ (m : yaml_mark_t). indent (left_by k (depth h) m.column (levels h))) (stands_here k s h n a)) in
+    let deep : flow_depth h ≡ inner (stack_of s.keys) = sym (inner_is (flow_depth h) (stack_of s.keys) a.behind.holds.keys.long) in
+    let one : (begun_at text h k).level ≡ indent (left_behind k s h) = rw flat (ap (λ (m : yaml_mark_t). indent (left_by k (flow_depth h) m.column (open_levels h))) (stands_here k s h n a)) in
     let level : (begun_at text h k).level ≡ s.levels.margin = one ∙ sym (margin_is s.levels (left_behind k s h) a.margins) in
-    ap (λ v. word_at k (ltb 0 (depth h)) v text (gap_of text h).place) level
-    ∙ ap (λ p. word_at k (ltb 0 (depth h)) s.levels.margin text p) (sym a.behind.gap)
-    ∙ ap (λ d. word_at k (ltb 0 d) s.levels.margin text s.at) deep
+    ap (λ v. lexeme_at k (ltb 0 (flow_depth h)) v text (gap_of text h).place) level
+    ∙ ap (λ p. lexeme_at k (ltb 0 (flow_depth h)) s.levels.margin text p) (sym a.behind.gap)
+    ∙ ap (λ d. lexeme_at k (ltb 0 d) s.levels.margin text s.at) deep
 
 start_same : (k : Kind) (s : Scanner) (h : List Lexeme) (n : ℕ) → StandsAs k s h n
     → is_end k ≡ false → (begun_at s.text.now h k).start ≡ mark_at s.text.now s.at
@@ -69,12 +69,12 @@ notes_shown t r es ns h =
 
 -- a lexeme with a text more
 pub word_row : (t : SpelledText) (r : RowView) (w : Word) (l : Lexeme) (h : List Lexeme)
-    → ShowsRow t r (entries h) → is_value l.kind ≡ false
+    → ShowsRow t r (finished_tokens h) → is_value l.kind ≡ false
     → ShowsWhole (store_of t.text (put w r)) t (lexeme_of w (length r.notes)) (entry_of l h)
-    → ShowsRow t (put w r) (entries (l ∷ h))
+    → ShowsRow t (put w r) (finished_tokens (l ∷ h))
 word_row t r w l h shows other new =
     subst (λ es. ShowsRow t (put w r) es) (sym (entries_more l h other))
-    (shown_pushed t (record r { notes = r.notes ++ notes_of w }) (entries h) (lexeme_of w (length r.notes)) (entry_of l h) (notes_shown t r (entries h) (notes_of w) shows) new)
+    (shown_pushed t (record r { notes = r.notes ++ notes_of w }) (finished_tokens h) (lexeme_of w (length r.notes)) (entry_of l h) (notes_shown t r (finished_tokens h) (notes_of w) shows) new)
 
 held_start : (o : Option Note) (n : ℕ) (x : Held)
     → (elim o as (λ _. Held) [ Some y ↦ noted n x | None ↦ x ]).start ≡ x.start
@@ -107,7 +107,8 @@ there_stream old mid s = ap (λ (x : Scanner). stream_of x) s.rest
 -- the row shows it, once it is put
 pub word_shows : (k : Kind) (old mid : Scanner) (h : List Lexeme) (n : ℕ) (w : Word) (x : WordText)
     → ReadThere k old mid h n w x
-    → ShowsRow (stream_of old) (put w (row_of mid.row)) (entries (put_at k x old.text.now h ∷ h))
+    → ShowsRow (stream_of old) (put w (row_of mid.row))
+        (finished_tokens (put_at k x old.text.now h ∷ h))
 word_shows k old mid h n w x r =
     let a = r.stands in
     let text = old.text.now in
@@ -116,7 +117,7 @@ word_shows k old mid h n w x r =
     let y = lexeme_of w (length q.notes) in
     let same = there_text old mid r.stores in
     let stream = there_stream old mid r.stores in
-    let before = arena_shown (stream_of old) (row_of old.row) q (entries h) r.stores.bytes a.behind.holds.row r.stores.row in
+    let before = arena_shown (stream_of old) (row_of old.row) q (finished_tokens h) r.stores.bytes a.behind.holds.row r.stores.row in
     let o = store_of text (put w q) in
     let start : place_mark text y.start ≡ l.start = ap (λ p. place_mark text p) (held_start w.note (length q.notes) w.lexeme ∙ r.has.start ∙ ap (λ (s : Scanner). s.at) r.stores.rest) ∙ mark_of_place text old.at a.behind.place.inside ∙ sym (stands_here k old h n a) in
     let fits : x.end ≤ length text = subst (λ (t : List ℕ). x.end ≤ length t) same r.has.inside in
@@ -147,8 +148,8 @@ pub word_further : (k : Kind) (old mid : Scanner) (h : List Lexeme) (n : ℕ) (w
     → ReadThere k old mid h n w x → old.at ≤ w.at
 word_further k old mid h n w x r =
     let flow = ltb 0 (inner (stack_of old.keys)) in
-    let deep : depth h ≡ inner (stack_of old.keys) = sym (inner_is (depth h) (stack_of old.keys) r.stands.behind.holds.keys.long) in
-    let fits : Fits k old.text.now old.at = subst (λ (o : Option Kind). FitsAny o old.text.now old.at) r.stands.kind (kind_fits (ltb 0 (depth h)) old.text.now old.at) in
+    let deep : flow_depth h ≡ inner (stack_of old.keys) = sym (inner_is (flow_depth h) (stack_of old.keys) r.stands.behind.holds.keys.long) in
+    let fits : Fits k old.text.now old.at = subst (λ (o : Option Kind). FitsAny o old.text.now old.at) r.stands.kind (kind_fits (ltb 0 (flow_depth h)) old.text.now old.at) in
     let lands : IsWordFrom old.text.now old.at x = subst (λ (y : Result WordText Wrong). LandsWord old.text.now old.at y) r.word (word_lands k flow old.levels.margin old.text.now old.at r.flat fits) in
     omega (arith, lands.end, lands.place, r.has.at)
 
@@ -173,12 +174,12 @@ word_goes k old mid h n w x row keys allowed r calm is room allows =
     let l = put_at k x old.text.now h in
     let rest = r.stores.rest in
     let levels_same : mid.levels ≡ old.levels = ap (λ (s : Scanner). s.levels) rest in
-    let same : levels (l ∷ h) ≡ left_behind k old h = levels_plain l h r.starts ∙ inside_put k x old h n a in
+    let same : open_levels (l ∷ h) ≡ left_behind k old h = levels_plain l h r.starts ∙ inside_put k x old h n a in
     let rows : row_of row ≡ put w (row_of mid.row) = is in
     record {
       text = there_text old mid r.stores;
       coding = ap (λ (s : Scanner). s.encoding) rest;
-      row = subst (λ q. ShowsRow (stream_of old) q (entries (l ∷ h))) (sym is) (word_shows k old mid h n w x r);
+      row = subst (λ q. ShowsRow (stream_of old) q (finished_tokens (l ∷ h))) (sym is) (word_shows k old mid h n w x r);
       room = room;
       dropped = ap (λ (q : RowView). q.dropped) is ∙ ap (λ (q : RowView). q.dropped) r.stores.row;
       settled = ap (λ (q : RowView). q.settled) is ∙ ap (λ (q : RowView). q.settled) r.stores.row;
@@ -208,7 +209,7 @@ pub stored_falls : (old mid new : Scanner) (h : List Lexeme) → Holds old h →
     → IsTold old.text.now new.fault (next old.text.now h) → fixed_of new ≡ fixed_of mid → Falls old new h
 stored_falls old mid new h o s text coding keys row room told fixed =
     falls_kept old new h o (text ∙ there_text old mid s) (coding ∙ ap (λ (x : Scanner). x.encoding) s.rest)
-    (arena_shown (stream_of old) (row_of old.row) (row_of new.row) (entries h) s.bytes o.row (row ∙ s.row)) room
+    (arena_shown (stream_of old) (row_of old.row) (row_of new.row) (finished_tokens h) s.bytes o.row (row ∙ s.row)) room
     (ap (λ (q : RowView). q.dropped) row ∙ ap (λ (q : RowView). q.dropped) s.row) (ap (λ (q : RowView). q.settled) row ∙ ap (λ (q : RowView). q.settled) s.row)
     (keys ∙ ap (λ (x : Scanner). stack_of x.keys) s.rest) told
     (ap (λ (q : RowView). q.lexemes) row ∙ ap (λ (q : RowView). q.lexemes) s.row)

@@ -8,7 +8,7 @@ use Rattle.yaml_scan_history.specs.Remaining.{body_in}
 use Rattle.yaml_scan_tokens.specs.declared.kind.Kind.{Kind}
 use Rattle.yaml_scan_tokens.specs.declared.kind.Kind.TheVariants as kinds
 use Rattle.yaml_scan_core.specs.declared.lexeme.Lexeme.{Lexeme}
-use Rattle.yaml_scan_core.specs.Rows.{RowView, behind_lead, behind_start, first_kind, is_set, led, lexeme_at, loses_none, may_lead, no_lexeme}
+use Rattle.yaml_scan_core.specs.Rows.{RowView, behind_lead, behind_start, first_kind, is_set, led, row_lexeme, loses_none, may_lead, no_lexeme}
 use Rattle.yaml_scan_core.specs.Shown.{Carries, IsFront, ShowsFront, ShowsRow, Store, entry_at, store_of}
 use Rattle.yaml_scan_core.specs.Handed.{EndsTold, TakesLead, TakesOwn, ends_at, ends_in, ends_known, given_in, given_of, keys_in, left_from, starts_in}
 use Rattle.yaml_scan_core.proofs.DropsLemmas.{lead_zero}
@@ -166,14 +166,14 @@ ends_left x (lead_own e) o end = absurd (o.ends (sym e ∙ end))
 
 -- nothing of the lexeme of that number is taken
 pub record IsNew (text : List ℕ) (r : RowView) (i : ℕ) : Type 0 where
-  pub front : (lexeme_at r i).front ≡ first_kind (lexeme_at r i)
-  pub ends : (lexeme_at r i).ends ≡ ends_known (lexeme_at r i) (ends_at text (r.dropped + i))
+  pub front : (row_lexeme r i).front ≡ first_kind (row_lexeme r i)
+  pub ends : (row_lexeme r i).ends ≡ ends_known (row_lexeme r i) (ends_at text (r.dropped + i))
 
 -- the lexeme whose token is next shows that entry
 pub record ShowsNext (t : SpelledText) (r : RowView) (e : Entry) : Type 0 where
   pub some : r.next < length r.lexemes
   pub settled : Bool
-  pub front : ShowsFront settled (store_of t.text r) t (lexeme_at r r.next) e
+  pub front : ShowsFront settled (store_of t.text r) t (row_lexeme r r.next) e
   pub ends : e.ends ≡ ends_in t.text r
   pub behind : r.next + 1 < length r.lexemes → IsNew t.text r (r.next + 1)
 
@@ -188,7 +188,7 @@ new_there t r es told h i gt lt =
     let w = h.others i gt lt in
     record {
       front = w.front;
-      ends = w.ends ∙ told_here t.text t r es told h i lt ∙ sym (known_shown (store_of t.text r) t (lexeme_at r i) (entry_at es (r.dropped + i)) (ends_at t.text (r.dropped + i)) w.shows);
+      ends = w.ends ∙ told_here t.text t r es told h i lt ∙ sym (known_shown (store_of t.text r) t (row_lexeme r i) (entry_at es (r.dropped + i)) (ends_at t.text (r.dropped + i)) w.shows);
     }
 
 pub next_shown : (t : SpelledText) (r : RowView) (es : List Entry) → EndsTold t.text es
@@ -208,41 +208,41 @@ lead_known _ x = refl
 
 -- one token more of the lexeme is taken, which isn't its own
 pub leads_one : (text : List ℕ) (r q : RowView) → r.next < length r.lexemes
-    → LeadKind (lexeme_at r r.next) → IsOwn (lexeme_at r r.next).kind
-    → (lexeme_at r r.next).ends ≤ ends_in text r
-    → ((lexeme_at r r.next).front ≢ kinds.BlockEnd → (lexeme_at r r.next).ends ≡ 0)
-    → (lexeme_at r r.next).front ≢ (lexeme_at r r.next).kind → q ≡ led r → TakesLead text r q
+    → LeadKind (row_lexeme r r.next) → IsOwn (row_lexeme r r.next).kind
+    → (row_lexeme r r.next).ends ≤ ends_in text r
+    → ((row_lexeme r r.next).front ≢ kinds.BlockEnd → (row_lexeme r r.next).ends ≡ 0)
+    → (row_lexeme r r.next).front ≢ (row_lexeme r r.next).kind → q ≡ led r → TakesLead text r q
 leads_one text r q some lead own few none other is =
-    let x = lexeme_at r r.next in
+    let x = row_lexeme r r.next in
     let y = behind_lead x.front x in
     let number = ends_at text (r.dropped + r.next) in
     let n = ends_in text r in
-    let here : lexeme_at (led r) r.next ≡ y = get_or-set_same r.lexemes r.next y no_lexeme some in
+    let here : row_lexeme (led r) r.next ≡ y = get_or-set_same r.lexemes r.next y no_lexeme some in
     let long : length (led r).lexemes ≡ length r.lexemes = length-set r.lexemes r.next y in
     let known : ends_in text (led r) ≡ n = ap (λ z. ends_known z number) here ∙ ap (λ b. known_by b number) (lead_known x.front x) in
     let more = lead_given n x lead own few none other in
     record {
       place = ap (λ (v : RowView). v.dropped + v.next) is;
-      given = ap (λ v. given_in text v) is ∙ given_is text (led r) (omega (arith, some, long)) ∙ ap (λ m. given_of m (lexeme_at (led r) r.next)) known
+      given = ap (λ v. given_in text v) is ∙ given_is text (led r) (omega (arith, some, long)) ∙ ap (λ m. given_of m (row_lexeme (led r) r.next)) known
           ∙ ap (λ z. given_of n z) here ∙ more ∙ ap (λ m. m + 1) (sym (given_is text r some));
     }
 
 -- a token before a lexeme's own one
 pub takes_lead : (t : SpelledText) (r q : RowView) (e : Entry) → ShowsNext t r e
-    → (lexeme_at r r.next).front ≢ (lexeme_at r r.next).kind → q ≡ led r → TakesLead t.text r q
+    → (row_lexeme r r.next).front ≢ (row_lexeme r r.next).kind → q ≡ led r → TakesLead t.text r q
 takes_lead t r q e w other is =
-    let x = lexeme_at r r.next in
+    let x = row_lexeme r r.next in
     let f = w.front in
     leads_one t.text r q w.some (lead_kinds w.settled x f.front) (own_kind (store_of t.text r) t x x.kind (body_in t e.lexeme) f.shows.body)
     (omega (arith, f.ends, w.ends)) (λ o. lead_zero w.settled x f.front o) other is
 
 -- its own one
 pub takes_own : (t : SpelledText) (r q : RowView) (e : Entry) → ShowsNext t r e
-    → (lexeme_at r r.next).front ≡ (lexeme_at r r.next).kind
+    → (row_lexeme r r.next).front ≡ (row_lexeme r r.next).kind
     → q ≡ record r { next = r.next + 1 } → TakesOwn t.text r q
 takes_own t r q e w own is =
     let text = t.text in
-    let x = lexeme_at r r.next in
+    let x = row_lexeme r r.next in
     let f = w.front in
     let body = f.shows.body in
     let o = own_kind (store_of text r) t x x.kind (body_in t e.lexeme) body in
@@ -254,7 +254,7 @@ takes_own t r q e w own is =
       | inr gone ↦ given_none text after gone
       | inl there ↦
           let b = w.behind there in
-          given_is text after there ∙ given_first (ends_in text after) (lexeme_at r (r.next + 1)) b.front ∙ omega (arith, b.ends)
+          given_is text after there ∙ given_first (ends_in text after) (row_lexeme r (r.next + 1)) b.front ∙ omega (arith, b.ends)
     ] in
     record {
       place = ap (λ (v : RowView). v.dropped + v.next) is ∙ omega arith;

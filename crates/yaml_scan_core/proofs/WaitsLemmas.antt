@@ -3,7 +3,7 @@ use Rattle.std.proofs.Common.{◌≡◌, ◌≢◌, ℕ, suc, ◌+◌, ◌-◌, 
 use Rattle.std.specs.Prelude.{max}
 use Rattle.std.proofs.lemmas.Bool.{true≢false}
 use Rattle.std.proofs.lemmas.List.{length-take-le}
-use Rattle.yaml_scan_core.proofs.Words.{cases_Bool, cases_lt, nat_tests, get_or_at, get_or_past, Entry, Lexeme as Read, entries, first_open, first_open-le, length-entries, history, next, Next, Fails, Ends, Read as IsNext, Remaining, SpelledText}
+use Rattle.yaml_scan_core.proofs.Words.{cases_Bool, cases_lt, nat_tests, get_or_at, get_or_past, Entry, Lexeme as Read, finished_tokens, first_open, first_open-le, length-entries, history, next, Next, Fails, Ends, Read as IsNext, Remaining, SpelledText}
 use Rattle.yaml_scan_history.specs.Next.{extended}
 use Rattle.yaml_scan_history.specs.Remaining.{body_in}
 use Rattle.yaml_scan_laws_order.proofs.HeldForward.{few_are_held, few_wait}
@@ -13,7 +13,7 @@ use Rattle.yaml_scan_core.specs.declared.keys.Keys.{Keys}
 use Rattle.yaml_scan_core.specs.declared.row.Row.{Row}
 use Rattle.yaml_scan_core.specs.declared.scanner.Scanner.{Scanner}
 use Rattle.yaml_scan_core.specs.declared.lexeme.Lexeme.{Lexeme}
-use Rattle.yaml_scan_core.specs.Rows.{RowView, failed, lexeme_at, lost_at, no_lexeme, row_of}
+use Rattle.yaml_scan_core.specs.Rows.{RowView, failed, row_lexeme, lost_at, no_lexeme, row_of}
 use Rattle.yaml_scan_core.specs.Scanning.{Advances, Falls, IsGoing, Rests, history_of, read_by, stream_of}
 use Rattle.yaml_scan_core.specs.Handed.{Drops, HandsOn, to_come}
 use Rattle.yaml_scan_core.specs.Shown.{Carries, ShowsRow, entry_at, no_entry, store_of}
@@ -93,7 +93,7 @@ less_none n l = omega (arith, l)
 long_more : (xs : List Lexeme) (x : Lexeme) (k : ℕ) → length xs ≡ k → length (xs ++ x ∷ []) ≡ k + 1
 long_more xs x k e = omega (arith, length-append xs (x ∷ []), e)
 
-front_lost : (r : RowView) → (r.settled < length r.lexemes → (lexeme_at r r.settled).ends ≡ 0)
+front_lost : (r : RowView) → (r.settled < length r.lexemes → (row_lexeme r r.settled).ends ≡ 0)
     → (lost_at r).front ≡ kinds.Failed
 front_lost r none = elim (cases_lt r.settled (length r.lexemes)) [
   | inl some ↦ let y : ltb r.settled (length r.lexemes) ≡ true = grind (arith, nat_tests) in rw (y, none some) refl
@@ -121,16 +121,16 @@ fails_one old mid keys k row f count first is =
     let high = known_not old none in
     let at : k ≡ old.row.next = omega (arith, here, g.first, kept.dropped, high, g.shows.holds.row.taken) in
     let next_one : row.next ≡ k = ap (λ (v : RowView). v.next) is ∙ kept.next ∙ sym at in
-    let lost : lexeme_at (row_of row) row.next ≡ lost_at q = ap (λ i. lexeme_at (row_of row) i) next_one ∙ ap (λ (v : RowView). lexeme_at v k) is ∙ get_or_at (take k q.lexemes) (lost_at q) [] no_lexeme k long in
-    let ends : k < length q.lexemes → (lexeme_at q k).ends ≡ 0 = λ some. elim (cases_lt old.row.next (length old.row.lexemes.items)) [
-      | inl inside ↦ ap (λ i. (lexeme_at q i).ends) at ∙ kept.ends inside ∙ none_ends (lexeme_at (row_of old.row) old.row.next).ends (sym (knows_open old high inside) ∙ none)
+    let lost : row_lexeme (row_of row) row.next ≡ lost_at q = ap (λ i. row_lexeme (row_of row) i) next_one ∙ ap (λ (v : RowView). row_lexeme v k) is ∙ get_or_at (take k q.lexemes) (lost_at q) [] no_lexeme k long in
+    let ends : k < length q.lexemes → (row_lexeme q k).ends ≡ 0 = λ some. elim (cases_lt old.row.next (length old.row.lexemes.items)) [
+      | inl inside ↦ ap (λ i. (row_lexeme q i).ends) at ∙ kept.ends inside ∙ none_ends (row_lexeme (row_of old.row) old.row.next).ends (sym (knows_open old high inside) ∙ none)
       | inr gone ↦
           let h_long = length-entries h in
-          let past : length (entries h) ≤ first_open h h = omega (arith, here, at, gone, count, kept.dropped, h_long) in
+          let past : length (finished_tokens h) ≤ first_open h h = omega (arith, here, at, gone, count, kept.dropped, h_long) in
           let number : mid.row.dropped + mid.row.next ≡ first_open h h = omega (arith, here, at, kept.next) in
-          let own : (entry_at shown.all (mid.row.dropped + mid.row.next)).ends ≡ 0 = ap (λ i. (entry_at shown.all i).ends) number ∙ shown.lost ∙ ap (λ (e : Entry). e.ends) (get_or_past (entries h) (first_open h h) no_entry past) in
+          let own : (entry_at shown.all (mid.row.dropped + mid.row.next)).ends ≡ 0 = ap (λ i. (entry_at shown.all i).ends) number ∙ shown.lost ∙ ap (λ (e : Entry). e.ends) (get_or_past (finished_tokens h) (first_open h h) no_entry past) in
           let front = shown.row.front (omega (arith, some, at, kept.next)) in
-          ap (λ i. (lexeme_at q i).ends) (at ∙ sym kept.next) ∙ less_none (lexeme_at (row_of mid.row) mid.row.next).ends (omega (arith, front.ends, own))
+          ap (λ i. (row_lexeme q i).ends) (at ∙ sym kept.next) ∙ less_none (row_lexeme (row_of mid.row) mid.row.next).ends (omega (arith, front.ends, own))
     ] in
     let settled : row.settled ≡ k + 1 = ap (λ (v : RowView). v.settled) is in
     record { last = settled ∙ ap (λ n. n + 1) (sym next_one); all = settled ∙ sym all; front = ap (λ (x : Lexeme). x.front) lost ∙ front_lost q ends })
@@ -151,12 +151,14 @@ needs_dropped s row g d = record {
 
 -- nothing waits whose first token is known
 pub waits_not : (s : Scanner) (r : ℕ) → r < 1 → s.row.settled ≤ length s.row.lexemes.items
-    → (s.row.next < length s.row.lexemes.items → r ≡ max (s.row.settled - s.row.next) (cond (ltb 0 (lexeme_at (row_of s.row) s.row.next).ends) 1 0))
+    → (s.row.next < length s.row.lexemes.items
+    → r ≡ max (s.row.settled - s.row.next)
+        (cond (ltb 0 (row_lexeme (row_of s.row) s.row.next).ends) 1 0))
     → (length s.row.lexemes.items ≤ s.row.next → r ≡ s.row.settled - s.row.next) → knows s ≡ false
 waits_not s r less few some gone = elim (cases_lt s.row.next (length s.row.lexemes.items)) [
   | inl inside ↦
       let is = some inside in
-      elim (cases_Bool (ltb 0 (lexeme_at (row_of s.row) s.row.next).ends)) [
+      elim (cases_Bool (ltb 0 (row_lexeme (row_of s.row) s.row.next).ends)) [
         | inl y ↦ let one : r ≡ max (s.row.settled - s.row.next) 1 = rw y at is in absurd (omega (arith, one, less))
         | inr n ↦ let none : r ≡ max (s.row.settled - s.row.next) 0 = rw n at is in knows_open s (omega (arith, none, less)) inside ∙ n
       ]
@@ -214,9 +216,9 @@ pub not_failed : (s : Scanner) → IsRead s → s.row.next < length s.row.lexeme
     → (front_lexeme s).front ≢ kinds.Failed
 not_failed s i some =
     let r = row_of s.row in
-    let x = lexeme_at r r.next in
+    let x = row_lexeme r r.next in
     let f = (seen s i).row.front some in
-    let body = (entry_at (entries (history_of s)) (r.dropped + r.next)).lexeme in
+    let body = (entry_at (finished_tokens (history_of s)) (r.dropped + r.next)).lexeme in
     by_lead x (lead_kinds (ltb r.next r.settled) x f.front) (λ e. subst (λ k. Carries (store_of s.text.now r) (stream_of s) x k (body_in (stream_of s) body)) e f.shows.body)
 
 still : (s : Scanner) → IsRead s → ReadsNeeded s s

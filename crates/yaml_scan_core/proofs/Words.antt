@@ -8,8 +8,8 @@ pub use Rattle.std.specs.Prelude.{IfSome, is_some, map, option_map, slice_index}
 pub use Rattle.std.specs.Result.{result_err}
 pub use Rattle.yaml_scan_history.proofs.HistoryLemmas.{candidate_below, cases_Option, first_open-le, fresh_before, fresh_is, length-entries, length-keyed}
 pub use Rattle.yaml_scan_history.proofs.StepwiseLemmas.{stepwise}
-pub use Rattle.yaml_scan_history.specs.History.{Candidate, depth, ended, entry_of, found_by, fresh, has, inside, is_fresh, keeps, key_allowed, keyed, left_by, opened, opens_at, placed, reached, start_of}
-unfoldable pub use Rattle.yaml_scan_history.specs.History.{candidate, entries, first_open, indent, levels, mark_key}
+pub use Rattle.yaml_scan_history.specs.History.{Candidate, flow_depth, ended, entry_of, found_by, fresh, has, inside, is_fresh, keeps, key_allowed, keyed, left_by, opened, opens_at, placed, reached, start_of}
+unfoldable pub use Rattle.yaml_scan_history.specs.History.{candidate, finished_tokens, first_open, indent, open_levels, mark_key}
 pub use Rattle.yaml_scan_history.specs.Kinds.{allows_key, cancels, depth_after, is_end, is_start, is_value, may_be_key}
 pub use Rattle.yaml_scan_history.specs.Laws.{GoesForward, Upto}
 pub use Rattle.yaml_scan_history.specs.Next.{Ends, Fails, Next, Read, allowed_behind, colon_missing, coming, finished, first_lexeme, kind_behind, lost_by, misplaced, missed, no_start}
@@ -19,7 +19,7 @@ unfoldable pub use Rattle.yaml_scan_history.specs.Remaining.{all}
 pub use Rattle.yaml_scan_history.specs.Scanned.{scanned, scanned_in}
 pub use Rattle.yaml_scan_history.specs.Stepwise.{behind, no_colon, of_kind, unless_lost, unless_missed, unless_wrong}
 pub use Rattle.yaml_scan_history.specs.Words.{WordText}
-unfoldable pub use Rattle.yaml_scan_history.specs.Words.{indicator_of, kind_at, word_at}
+unfoldable pub use Rattle.yaml_scan_history.specs.Words.{indicator_of, kind_at, lexeme_at}
 pub use Rattle.yaml_scan_history.specs.declared.kind.Kind.{Kind}
 pub use Rattle.yaml_scan_history.specs.declared.lexeme.Entry.{Entry}
 pub use Rattle.yaml_scan_history.specs.declared.lexeme.Lexeme.{Lexeme}

@@ -1,6 +1,6 @@
 -- What a lexeme that carries a text leaves after it.
 use Rattle.std.proofs.Common.{◌≡◌, ℕ, ◌+◌, ◌-◌, ◌<◌, ◌≤◌, Bool, true, false, cond, ltb, eqb, ◌&&◌, not, inl, inr, List, ◌∷◌, length, Option, Some, None, Result, Ok, Err, refl, sym, ap, subst, ◌∙◌, arith}
-use Rattle.yaml_scan_core.proofs.Words.{and_parts, cases_Bool, cases_lt, nat_tests, yaml_mark_t, mark_at, line_at, Wrong, Kind, Lexeme, candidate, reached, depth, depth_after, is_end, is_fresh, is_start, is_value, allowed_behind, cancels, allows_key, key_allowed, may_be_key, has, found_by, WordText, word_at, Upto, Next, Read, Fails, missed, next, colon_missing, AreKeys, AreKeysTo, KeyStack, SimpleKey, inner, key_at, key_mark, stack_of, given_up, saved, late, index_in}
+use Rattle.yaml_scan_core.proofs.Words.{and_parts, cases_Bool, cases_lt, nat_tests, yaml_mark_t, mark_at, line_at, Wrong, Kind, Lexeme, candidate, reached, flow_depth, depth_after, is_end, is_fresh, is_start, is_value, allowed_behind, cancels, allows_key, key_allowed, may_be_key, has, found_by, WordText, lexeme_at, Upto, Next, Read, Fails, missed, next, colon_missing, AreKeys, AreKeysTo, KeyStack, SimpleKey, inner, key_at, key_mark, stack_of, given_up, saved, late, index_in}
 use Rattle.yaml_scan_history.specs.Stepwise.{tested, no_colon as comes_no_colon}
 use Rattle.yaml_scan_core.specs.Rows.{RowView}
 use Rattle.yaml_scan_history.specs.Words.{directed}
@@ -90,7 +90,7 @@ key_start k x s h n a =
 pub record KeyWord (k : Kind) (h : List Lexeme) : Type 0 where
   pub may : may_be_key k ≡ true
   pub idle : cancels k ≡ false
-  pub deep : depth_after k (depth h) ≡ depth h
+  pub deep : depth_after k (flow_depth h) ≡ flow_depth h
   pub allows : (block found : Bool) → allows_key k block found ≡ false
 
 pub keyed_takes : (k : Kind) (old mid : Scanner) (h : List Lexeme) (n : ℕ) (w : Word) (x : WordText)
@@ -104,7 +104,7 @@ keyed_takes k old mid h n w x row keys f u r p calm is room kept tests =
     let l = put_at k x text h in
     let a = r.stands in
     let new = behind_word mid w row keys w.broke in
-    let allows : w.broke ≡ key_allowed (l ∷ h) = sym (rw (p.allows (eqb (depth h) 0) (has (found_by l h))) (sym r.has.broke)) in
+    let allows : w.broke ≡ key_allowed (l ∷ h) = sym (rw (p.allows (eqb (flow_depth h) 0) (has (found_by l h))) (sym r.has.broke)) in
     let goes = word_goes k old mid h n w x row keys w.broke r calm is room allows in
     let (further, forward) = goes_upto k x old new h n a goes in
     let on : Upto (reached h) l.reached = upto_on (reached h) l.start l.reached further forward in
@@ -140,9 +140,9 @@ stale_told k old mid h n w x f d r p tests =
     let (may, must) = and_parts old.key_allowed (required_in_column key.column old) both in
     let required : l.required ≡ true = required_is k x old h n a p.may may ∙ must in
     let (flat_here, same_col) = and_parts (not (ltb 0 (inner (stack_of old.keys)))) (eqb old.levels.margin (key.column + 1)) must in
-    let flat : depth h ≡ 0 = elim (cases_lt 0 (depth h)) [
+    let flat : flow_depth h ≡ 0 = elim (cases_lt 0 (flow_depth h)) [
       | inr low ↦ omega (arith, low)
-      | inl deep ↦ let e = inner_is (depth h) (stack_of old.keys) a.behind.holds.keys.long in absurd (some_not (inner (stack_of old.keys)) flat_here (omega (arith, e, deep)))
+      | inl deep ↦ let e = inner_is (flow_depth h) (stack_of old.keys) a.behind.holds.keys.long in absurd (some_not (inner (stack_of old.keys)) flat_here (omega (arith, e, deep)))
     ] in
     let keeps : l.saved ≡ true = rw p.may (only (allowed_behind h (gap_of text h)) (sym a.behind.allowed ∙ may)) in
     let start = key_start k x old h n a in
@@ -172,7 +172,7 @@ stale_told k old mid h n w x f d r p tests =
 -- a block scalar or a directive
 pub lined_takes : (k : Kind) (old mid : Scanner) (h : List Lexeme) (n : ℕ) (w : Word) (x : WordText)
     (row : Row) (keys : Keys) (allowed : Bool) → ReadThere k old mid h n w x
-    → cancels k ≡ true → may_be_key k ≡ false → depth_after k (depth h) ≡ depth h
+    → cancels k ≡ true → may_be_key k ≡ false → depth_after k (flow_depth h) ≡ flow_depth h
     → allowed ≡ key_allowed (put_at k x old.text.now h ∷ h)
     → mid.fault ≡ old.fault → row_of row ≡ put w (row_of mid.row) → HasRoom row
     → stack_of keys ≡ given_up (stack_of mid.keys)
@@ -218,7 +218,7 @@ line_text _ e = cc
 pub record LineKind (k : Kind) (h : List Lexeme) : Type 0 where
   pub stops : cancels k ≡ true
   pub idle : may_be_key k ≡ false
-  pub deep : depth_after k (depth h) ≡ depth h
+  pub deep : depth_after k (flow_depth h) ≡ flow_depth h
 
 pub line_kind : (k : Kind) (h : List Lexeme) → is_line_word k ≡ true → LineKind k h
 line_kind reads.Directive h e = record { stops = refl; idle = refl; deep = refl }
@@ -233,7 +233,7 @@ directive_calm (Err w) x e = cc
 
 pub line_allows : (k : Kind) (s : Scanner) (h : List Lexeme) (x : WordText) → is_line_word k ≡ true
     → word_in k s ≡ Ok x → is_scalar k ≡ key_allowed (put_at k x s.text.now h ∷ h)
-unfolding word_at
+unfolding lexeme_at
 line_allows reads.Directive s h x e is = sym (directive_calm (directive_at s.text.now s.at) x is)
 line_allows reads.Literal s h x e is = refl
 line_allows reads.Folded s h x e is = refl

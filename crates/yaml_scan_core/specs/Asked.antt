@@ -11,7 +11,7 @@ use Rattle.yaml_scan_tokens.specs.Kinds.{IsOf}
 use Rattle.yaml_scan_core.specs.declared.fault.Fault.{Fault}
 use Rattle.yaml_scan_core.specs.declared.lexeme.Lexeme.{Lexeme}
 use Rattle.yaml_scan_core.specs.declared.scanner.Scanner.{Scanner}
-use Rattle.yaml_scan_core.specs.Rows.{lexeme_at, row_of}
+use Rattle.yaml_scan_core.specs.Rows.{row_lexeme, row_of}
 use Rattle.yaml_scan_core.specs.Shown.{Carries, Store, end_at, place_mark, store_of}
 use Rattle.yaml_scan_core.specs.Handed.{to_come}
 use Rattle.yaml_scan_core.specs.Scanning.{IsGoing, Rests, fault_in, read_by, stream_of, taken_by}
@@ -38,11 +38,11 @@ store_in s = store_of s.text.now (row_of s.row)
 
 -- the lexeme whose token is next
 abbrev pub front_lexeme : Scanner → Lexeme
-front_lexeme s = lexeme_at (row_of s.row) s.row.next
+front_lexeme s = row_lexeme (row_of s.row) s.row.next
 
 -- the one of which a token was taken last
 abbrev pub last_lexeme : Scanner → Lexeme
-last_lexeme s = lexeme_at (row_of s.row) (s.row.next - 1)
+last_lexeme s = row_lexeme (row_of s.row) (s.row.next - 1)
 
 -- A token of that kind is next: one that stands before a lexeme's own, or that one, which carries its text.
 pub record IsFront (k : Kind) (s : Scanner) : Type 0 where

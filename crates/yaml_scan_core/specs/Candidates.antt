@@ -3,7 +3,7 @@ use Rattle.std.specs.Prelude.{ℕ, ◌+◌, ◌-◌, ◌≡◌, ◌≤◌, ◌<�
 use Rattle.yaml_scan_model.specs.declared.record.yaml_mark_t.{yaml_mark_t}
 use Rattle.yaml_scan_model.specs.Marks.{line_at}
 use Rattle.yaml_scan_history.specs.declared.lexeme.Lexeme.{Lexeme}
-use Rattle.yaml_scan_history.specs.History.{Candidate, candidate, depth, fresh, is_fresh}
+use Rattle.yaml_scan_history.specs.History.{Candidate, candidate, flow_depth, fresh, is_fresh}
 use Rattle.yaml_scan_history.specs.Laws.{Upto}
 use Rattle.yaml_scan_core.specs.declared.keys.SimpleKey.{SimpleKey}
 use Rattle.yaml_scan_core.specs.declared.keys.Keys.{Keys}
@@ -136,4 +136,4 @@ pub record AreKeysTo (n : ℕ) (text : List ℕ) (s : KeyStack) (h : List Lexeme
   pub due : required_in (candidate 0 h) ≡ required_at text s
 
 abbrev pub AreKeys : List ℕ → KeyStack → List Lexeme → yaml_mark_t → Type 0
-AreKeys text s h place = AreKeysTo (depth h) text s h place
+AreKeys text s h place = AreKeysTo (flow_depth h) text s h place

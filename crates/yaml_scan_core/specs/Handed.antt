@@ -1,6 +1,6 @@
 -- What of the tokens is taken.
 use Rattle.std.specs.Prelude.{ℕ, ◌+◌, ◌-◌, ◌≡◌, ◌<◌, ◌||◌, nat_lt, if◌then◌else◌, List, length}
-use Rattle.yaml_scan_history.specs.History.{entries}
+use Rattle.yaml_scan_history.specs.History.{finished_tokens}
 use Rattle.yaml_scan_history.specs.declared.lexeme.Entry.{Entry}
 use Rattle.yaml_scan_history.specs.Remaining.{Remaining, SpelledText, all, remaining}
 use Rattle.yaml_scan_tokens.specs.declared.kind.Kind.{Kind}
@@ -8,7 +8,7 @@ use Rattle.yaml_scan_tokens.specs.declared.kind.Kind.TheVariants as kinds
 use Rattle.yaml_scan_core.specs.declared.lexeme.Lexeme.{Lexeme}
 use Rattle.yaml_scan_core.specs.declared.row.Row.{Row}
 use Rattle.yaml_scan_core.specs.declared.scanner.Scanner.{Scanner}
-use Rattle.yaml_scan_core.specs.Rows.{HasRoom, RowView, is_set, lexeme_at, loses_none, row_of}
+use Rattle.yaml_scan_core.specs.Rows.{HasRoom, RowView, is_set, row_lexeme, loses_none, row_of}
 use Rattle.yaml_scan_core.specs.Scanning.{fixed_of, stream_of}
 use Rattle.yaml_scan_core.specs.Shown.{ShowsRow, entry_at}
 
@@ -33,7 +33,7 @@ given_of ends x = (ends + starts_in x + keys_in x + 1) - (x.ends + left_from x.f
 
 -- how many levels end before the lexeme of that number
 abbrev pub ends_at : List ℕ → ℕ → ℕ
-ends_at text k = (entry_at (entries (all text)) k).ends
+ends_at text k = (entry_at (finished_tokens (all text)) k).ends
 
 -- how many of them are known: none before a lexeme that wasn't read
 abbrev pub ends_known : Lexeme → ℕ → ℕ
@@ -41,17 +41,17 @@ ends_known x ends = if loses_none x then 0 else ends
 
 -- how many levels end before the first lexeme that isn't taken
 abbrev pub ends_in : List ℕ → RowView → ℕ
-ends_in text r = ends_known (lexeme_at r r.next) (ends_at text (r.dropped + r.next))
+ends_in text r = ends_known (row_lexeme r r.next) (ends_at text (r.dropped + r.next))
 
 -- how many tokens are taken of it
 abbrev pub given_in : List ℕ → RowView → ℕ
 given_in text r = if nat_lt r.next (length r.lexemes)
-    then given_of (ends_in text r) (lexeme_at r r.next) else 0
+    then given_of (ends_in text r) (row_lexeme r r.next) else 0
 
 -- how many tokens it is spelled as
 abbrev pub tokens_in : List ℕ → RowView → ℕ
-tokens_in text r = ends_in text r + starts_in (lexeme_at r r.next)
-    + keys_in (lexeme_at r r.next) + 1
+tokens_in text r = ends_in text r + starts_in (row_lexeme r r.next)
+    + keys_in (row_lexeme r r.next) + 1
 
 -- one token more of that lexeme is taken
 pub record TakesLead (text : List ℕ) (old new : RowView) : Type 0 where

@@ -84,12 +84,12 @@ HasRoom r = length r.lexemes.items < vec_capacity r.lexemes
 abbrev pub no_lexeme : Lexeme
 no_lexeme = bare kinds.Failed 0 0 0 0
 
-abbrev pub lexeme_at : RowView → ℕ → Lexeme
-lexeme_at r i = slice_index_or r.lexemes i no_lexeme
+abbrev pub row_lexeme : RowView → ℕ → Lexeme
+row_lexeme r i = slice_index_or r.lexemes i no_lexeme
 
 -- a token waits that no later lexeme changes: one of a settled lexeme, or a BLOCK-END
 abbrev pub IsThere : RowView → Type 0
-IsThere r = (r.next < r.settled) ⊎ ((r.next < length r.lexemes) × (0 < (lexeme_at r r.next).ends))
+IsThere r = (r.next < r.settled) ⊎ ((r.next < length r.lexemes) × (0 < (row_lexeme r r.next).ends))
 
 abbrev pub pushed : Lexeme → RowView → RowView
 pushed x r = record r { lexemes = r.lexemes ++ x ∷ [] }
@@ -104,15 +104,15 @@ pushed_noted x n r = record r {
 abbrev pub key_marked : ℕ → Bool → RowView → RowView
 key_marked number mapping r = record r {
   lexemes = slice_set r.lexemes (number - r.dropped)
-      (keyed mapping (lexeme_at r (number - r.dropped)));
+      (keyed mapping (row_lexeme r (number - r.dropped)));
 }
 
 -- What stands after the settled lexemes where they end in a fault: the BLOCK-ENDs of the first of the others. Where there
 -- is none it ends after its start.
 abbrev pub lost_at : RowView → Lexeme
 lost_at r = if nat_lt r.settled (length r.lexemes)
-    then bare kinds.Failed (lexeme_at r r.settled).ends (lexeme_at r r.settled).start
-    (lexeme_at r r.settled).start 0
+    then bare kinds.Failed (row_lexeme r r.settled).ends (row_lexeme r r.settled).start
+    (row_lexeme r r.settled).start 0
     else bare kinds.Failed 0 0 1 0
 
 -- it stands for a fault after which no lexeme is lost
@@ -139,5 +139,5 @@ behind_lead _ x = record x { front = behind_start x }
 abbrev pub led : RowView → RowView
 led r = record r {
   lexemes = slice_set r.lexemes r.next
-      (behind_lead (lexeme_at r r.next).front (lexeme_at r r.next));
+      (behind_lead (row_lexeme r r.next).front (row_lexeme r r.next));
 }

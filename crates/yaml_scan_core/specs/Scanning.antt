@@ -12,7 +12,7 @@ use Rattle.yaml_scan_history.specs.declared.kind.Kind.{Kind as ReadKind}
 use Rattle.yaml_scan_history.specs.declared.kind.Kind.TheVariants as reads
 use Rattle.yaml_scan_history.specs.declared.lexeme.Lexeme.{Lexeme as Read}
 use Rattle.yaml_scan_history.specs.declared.lexeme.Entry.{Entry}
-use Rattle.yaml_scan_history.specs.History.{candidate, depth, ended, entries, first_open, fresh, key_allowed, left_by, levels, reached}
+use Rattle.yaml_scan_history.specs.History.{candidate, flow_depth, ended, finished_tokens, first_open, fresh, key_allowed, left_by, open_levels, reached}
 use Rattle.yaml_scan_history.specs.Kinds.{is_end}
 use Rattle.yaml_scan_history.specs.Laws.{Upto}
 use Rattle.yaml_scan_history.specs.Next.{Next, Read as IsRead, Fails, allowed_behind, gap_behind, history, missed, next}
@@ -30,7 +30,7 @@ use Rattle.yaml_scan_core.specs.declared.lexeme.Lexeme.{Lexeme}
 use Rattle.yaml_scan_core.specs.Lines.{IsLineStart}
 use Rattle.yaml_scan_core.specs.Candidates.{AreKeys, AreStale, AreWithin, KeyStack, fresh_key, inner, key_at, key_view, stack_of, view_of}
 use Rattle.yaml_scan_core.specs.Margins.{AreLevels}
-use Rattle.yaml_scan_core.specs.Rows.{HasRoom, RowView, first_kind, lexeme_at, loses_none, row_of}
+use Rattle.yaml_scan_core.specs.Rows.{HasRoom, RowView, first_kind, row_lexeme, loses_none, row_of}
 use Rattle.yaml_scan_core.specs.Shown.{KeepsTaken, ShowsRow, entry_at, place_mark}
 
 -- ---- places
@@ -192,7 +192,7 @@ pub record IsDecoded (text : List ℕ) : Type 0 where
 -- the row, the keys and what was settled, after lexemes
 pub record Holds (s : Scanner) (h : List Read) : Type 0 where
   pub long : length s.text.now < 2 ^ 63
-  pub row : ShowsRow (stream_of s) (row_of s.row) (entries h)
+  pub row : ShowsRow (stream_of s) (row_of s.row) (finished_tokens h)
   pub room : HasRoom s.row
   pub settled : s.row.dropped + s.row.settled ≤ first_open h h
   pub keys : AreKeys s.text.now (stack_of s.keys) h (reached h)
@@ -207,7 +207,7 @@ pub record Shows (s : Scanner) (h : List Read) : Type 0 where
   pub place : IsPlace s.text.now s.at s.line s.wide
   pub mark : ended h ≡ false → reached h ≡ mark_at s.text.now s.at
   pub allowed : ended h ≡ false → s.key_allowed ≡ key_allowed h
-  pub margins : AreLevels s.levels (levels h)
+  pub margins : AreLevels s.levels (open_levels h)
 
 -- the state after the gap
 pub record IsBehind (s : Scanner) (h : List Read) : Type 0 where
@@ -225,20 +225,20 @@ pub record IsBehind (s : Scanner) (h : List Read) : Type 0 where
 pub record StandsAt (k : ReadKind) (s : Scanner) (h : List Read) : Type 0 where
   pub behind : IsBehind s h
   pub early : missed (candidate 0 h) (mark_at s.text.now s.at) ≡ None
-  pub margins : AreLevels s.levels (levels h)
-  pub kind : kind_at (nat_lt 0 (depth h)) s.text.now s.at ≡ Some k
+  pub margins : AreLevels s.levels (open_levels h)
+  pub kind : kind_at (nat_lt 0 (flow_depth h)) s.text.now s.at ≡ Some k
 
 -- the levels that it leaves open
 abbrev pub left_behind : ReadKind → Scanner → List Read → List ℕ
-left_behind k s h = left_by k (depth h) (column_at s.text.now s.at) (levels h)
+left_behind k s h = left_by k (flow_depth h) (column_at s.text.now s.at) (open_levels h)
 
 -- the same, where that many levels that it closes are closed
 pub record StandsAs (k : ReadKind) (s : Scanner) (h : List Read) (n : ℕ) : Type 0 where
   pub behind : IsBehind s h
   pub early : missed (candidate 0 h) (mark_at s.text.now s.at) ≡ None
   pub margins : AreLevels s.levels (left_behind k s h)
-  pub kind : kind_at (nat_lt 0 (depth h)) s.text.now s.at ≡ Some k
-  pub ends : n + length (left_behind k s h) ≡ length (levels h)
+  pub kind : kind_at (nat_lt 0 (flow_depth h)) s.text.now s.at ≡ Some k
+  pub ends : n + length (left_behind k s h) ≡ length (open_levels h)
 
 -- ---- kinds
 
@@ -319,7 +319,7 @@ pub record Takes (old new : Scanner) (h : List Read) : Type 0 where
   -- after the stream's end none is
   pub idle : is_end lexeme.kind ≡ true → (missed (candidate 0 (lexeme ∷ h)) lexeme.reached ≡ None)
       × (missed (candidate 0 (lexeme ∷ h)) (mark_at old.text.now new.at) ≡ None)
-  pub kept : Keeps old new (entries (lexeme ∷ h))
+  pub kept : Keeps old new (finished_tokens (lexeme ∷ h))
 
 -- ---- where no lexeme is read
 
@@ -334,10 +334,12 @@ pub record ShowsSettled (s : Scanner) (h : List Read) : Type 0 where
   pub all : List Entry
   pub row : ShowsRow (stream_of s) (row_of s.row) all
   pub more : length h ≤ length all
-  pub front : take (first_open h h) all ≡ take (first_open h h) (entries h)
-  pub lost : (entry_at all (first_open h h)).ends ≡ (entry_at (entries h) (first_open h h)).ends
+  pub front : take (first_open h h) all ≡ take (first_open h h) (finished_tokens h)
+  pub lost : (entry_at all (first_open h h)).ends
+      ≡ (entry_at (finished_tokens h) (first_open h h)).ends
   pub start : first_open h h < length h
-      → (entry_at all (first_open h h)).lexeme ≡ (entry_at (entries h) (first_open h h)).lexeme
+      → (entry_at all (first_open h h)).lexeme
+          ≡ (entry_at (finished_tokens h) (first_open h h)).lexeme
   pub room : HasRoom s.row
   pub settled : s.row.dropped + s.row.settled ≤ first_open h h
   pub keys : TellsFirst s.text.now (stack_of s.keys) (read_by s) h
@@ -365,7 +367,7 @@ pub record TakesBoth (old new : Scanner) (h : List Read) : Type 0 where
   pub second : next old.text.now (key ∷ h) ≡ IsRead value
   pub text : new.text.now ≡ old.text.now
   pub idle : new.keys.required ≡ false
-  pub kept : Keeps old new (entries (value ∷ key ∷ h))
+  pub kept : Keeps old new (finished_tokens (value ∷ key ∷ h))
   pub many : 1 < old.batch
 
 abbrev pub Reads : Scanner → Scanner → List Read → Result (Unit {0}) Refused → Type 0
@@ -383,7 +385,7 @@ pub record Advances (old new : Scanner) : Type 0 where
   pub shows : Shows new (history_of new)
   pub further : read_by old < read_by new
   pub text : new.text.now ≡ old.text.now
-  pub kept : Keeps old new (entries (history_of new))
+  pub kept : Keeps old new (finished_tokens (history_of new))
   pub one : (1 < old.batch) ⊎ (read_by new ≡ read_by old + 1)
 
 -- what one step comes to
@@ -423,7 +425,7 @@ pub record IsGoing (s : Scanner) : Type 0 where
 pub record IsOver (s : Scanner) : Type 0 where
   pub over : s.ended ≡ true
   pub end : ended (history_of s) ≡ true
-  pub row : ShowsRow (stream_of s) (row_of s.row) (entries (history_of s))
+  pub row : ShowsRow (stream_of s) (row_of s.row) (finished_tokens (history_of s))
   pub all : s.row.settled ≡ length s.row.lexemes.items
   pub fault : s.fault ≡ None
 
@@ -443,12 +445,14 @@ pub record IsLost (text : List ℕ) (none : Bool) (x : Lexeme) (e : Entry) : Typ
 -- After h the tokens end by the fault that comes, or by out of memory: the lexemes from the earliest open candidate on are lost.
 pub record HasFailed (s : Scanner) (h : List Read) : Type 0 where
   pub over : s.ended ≡ true
-  pub row : ShowsRow (stream_of s) (but_last (row_of s.row)) (take (first_open h h) (entries h))
+  pub row : ShowsRow (stream_of s) (but_last (row_of s.row))
+      (take (first_open h h) (finished_tokens h))
   pub some : 0 < s.row.settled
   pub all : s.row.settled ≡ length s.row.lexemes.items
   pub lost : IsLost s.text.now (nat_lt (s.row.next + 1) s.row.settled)
-      (lexeme_at (row_of s.row) (s.row.settled - 1)) (entry_at (entries h) (first_open h h))
-  pub none : loses_none (lexeme_at (row_of s.row) (s.row.settled - 1))
+      (row_lexeme (row_of s.row) (s.row.settled - 1))
+      (entry_at (finished_tokens h) (first_open h h))
+  pub none : loses_none (row_lexeme (row_of s.row) (s.row.settled - 1))
       ≡ not (nat_lt (first_open h h) (length h))
   pub told : IsTold s.text.now s.fault (next s.text.now h)
 

@@ -7,7 +7,7 @@ use Rattle.yaml_scan_decode.specs.declared.offence.Offence.{Offence}
 use Rattle.yaml_scan_decode.specs.Encodings.{encoding_of}
 use Rattle.yaml_scan_decode.specs.Decoding.{decoded_text}
 use Rattle.yaml_scan_history.specs.declared.lexeme.Lexeme.{Lexeme}
-use Rattle.yaml_scan_history.specs.History.{ended, entries, first_open}
+use Rattle.yaml_scan_history.specs.History.{ended, finished_tokens, first_open}
 use Rattle.yaml_scan_history.specs.Next.{history}
 use Rattle.yaml_scan_history.specs.Remaining.{SpelledText, body_in, front_ends, offline, spell}
 use Rattle.yaml_scan_history.specs.Scanned.{scanned_in}
@@ -19,8 +19,8 @@ settled_in h = if ended h then length h else first_open h h
 -- The tokens of the lexemes that no later one changes, and the BLOCK-END tokens before the next lexeme, whatever that
 -- becomes.
 abbrev pub settled_behind : SpelledText → List Lexeme → List Token
-settled_behind s h = flat_map (spell s) (take (settled_in h) (entries h))
-    ++ front_ends (drop (settled_in h) (entries h))
+settled_behind s h = flat_map (spell s) (take (settled_in h) (finished_tokens h))
+    ++ front_ends (drop (settled_in h) (finished_tokens h))
 
 -- what the first n lexemes of a text settle
 unfoldable pub settled_tokens : SpelledText → ℕ → List Token
@@ -53,5 +53,5 @@ settles setting bytes tokens n = nat_lt (open_count setting bytes n) (length tok
 -- that they settle.
 abbrev pub WhateverFollows : Type 0
 WhateverFollows = (s t : SpelledText) (n : ℕ) → history t.text n ≡ history s.text n
-    → All (λ e. body_in t e.lexeme ≡ body_in s e.lexeme) (entries (history s.text n))
+    → All (λ e. body_in t e.lexeme ≡ body_in s e.lexeme) (finished_tokens (history s.text n))
     → (rest : List Token) × ((offline t).tokens ≡ settled_tokens s n ++ rest)

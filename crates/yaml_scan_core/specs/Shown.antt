@@ -17,7 +17,7 @@ use Rattle.yaml_scan_tokens.specs.declared.kind.Kind.TheVariants as kinds
 use Rattle.yaml_scan_core.specs.declared.lexeme.Lexeme.{Lexeme}
 use Rattle.yaml_scan_core.specs.declared.lexeme.Note.{Note}
 use Rattle.yaml_scan_core.specs.declared.lexeme.Span.{Span}
-use Rattle.yaml_scan_core.specs.Rows.{RowView, first_kind, behind_start, is_set, lexeme_at}
+use Rattle.yaml_scan_core.specs.Rows.{RowView, first_kind, behind_start, is_set, row_lexeme}
 
 -- ---- texts
 
@@ -173,9 +173,9 @@ pub record ShowsRow (t : SpelledText) (r : RowView) (es : List Entry) : Type 0 w
   pub taken : r.next ≤ r.settled
   pub few : r.settled ≤ length r.lexemes
   pub front : r.next < length r.lexemes → ShowsFront (nat_lt r.next r.settled)
-      (store_of t.text r) t (lexeme_at r r.next) (entry_at es (r.dropped + r.next))
+      (store_of t.text r) t (row_lexeme r r.next) (entry_at es (r.dropped + r.next))
   pub others : (i : ℕ) → r.next < i → i < length r.lexemes
-      → ShowsWhole (store_of t.text r) t (lexeme_at r i) (entry_at es (r.dropped + i))
+      → ShowsWhole (store_of t.text r) t (row_lexeme r i) (entry_at es (r.dropped + i))
 
 -- What is taken of these entries stays: the lexeme that waits first is the same where it is settled, and else keeps its BLOCK-ENDs;
 -- where none waited, nothing is taken of the next one.
@@ -183,8 +183,8 @@ pub record KeepsTaken (old new : RowView) (es : List Entry) : Type 0 where
   pub next : new.next ≡ old.next
   pub dropped : new.dropped ≡ old.dropped
   pub settled : new.settled ≡ old.settled
-  pub same : old.next < old.settled → lexeme_at new old.next ≡ lexeme_at old old.next
+  pub same : old.next < old.settled → row_lexeme new old.next ≡ row_lexeme old old.next
   pub ends : old.next < length old.lexemes
-      → (lexeme_at new old.next).ends ≡ (lexeme_at old old.next).ends
+      → (row_lexeme new old.next).ends ≡ (row_lexeme old old.next).ends
   pub first : length old.lexemes ≤ old.next → old.next < length new.lexemes
-      → (lexeme_at new old.next).ends ≡ (entry_at es (old.dropped + old.next)).ends
+      → (row_lexeme new old.next).ends ≡ (entry_at es (old.dropped + old.next)).ends

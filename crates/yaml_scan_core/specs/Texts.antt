@@ -6,7 +6,7 @@ use Rattle.yaml_scan_model.specs.Wrong.{Wrong, scan_fault}
 use Rattle.yaml_scan_history.specs.declared.kind.Kind.{Kind as ReadKind}
 use Rattle.yaml_scan_history.specs.declared.kind.Kind.TheVariants as reads
 use Rattle.yaml_scan_history.specs.declared.lexeme.Opens.TheVariants as opening
-use Rattle.yaml_scan_history.specs.Words.{WordText, word_at}
+use Rattle.yaml_scan_history.specs.Words.{WordText, lexeme_at}
 use Rattle.yaml_scan_core.specs.declared.fault.Fault.{Fault}
 use Rattle.yaml_scan_core.specs.declared.fault.Refused.{Refused}
 use Rattle.yaml_scan_core.specs.declared.lexeme.Lexeme.{Lexeme}
@@ -77,7 +77,7 @@ pub record StoresMore (old new : Scanner) : Type 0 where
 
 -- the text of the lexeme of a kind that stands at the place
 abbrev pub word_in : ReadKind → Scanner → Result WordText Wrong
-word_in k s = word_at k (nat_lt 0 (inner (stack_of s.keys))) s.levels.margin s.text.now s.at
+word_in k s = lexeme_at k (nat_lt 0 (inner (stack_of s.keys))) s.levels.margin s.text.now s.at
 
 -- where the texts of a word lie, once it is put
 abbrev pub store_with : Word → Scanner → Store

@@ -7,7 +7,7 @@ ghost use Rattle.yaml_scan_core.specs.Handed.{Drops};
 ghost use Rattle.yaml_scan_core.specs.Shown.{ShowsRow, store_of};
 ghost use Rattle.yaml_scan_core.specs.Told.{SpanFits, span_in};
 ghost use Rattle.yaml_scan_tokens.specs.declared.kind.Kind.TheVariants.{BlockEnd};
-ghost use Rattle.yaml_scan_core.specs.Rows.{HasRoom, failed, is_set, led, key_marked, lexeme_at, may_lead, pushed, pushed_noted, row_of};
+ghost use Rattle.yaml_scan_core.specs.Rows.{HasRoom, failed, is_set, led, key_marked, row_lexeme, may_lead, pushed, pushed_noted, row_of};
 
 use crate::lexeme::{Lexeme, NOTED, Note, Span, may_lead};
 use std::alloc::{AllocError, Global};
@@ -61,7 +61,7 @@ impl Row {
         requires { self.now.next ≤ self.now.settled }
         ensures ends { self.now.next < length self.now.lexemes.items
             → result ≡ max (self.now.settled - self.now.next)
-            (if nat_lt 0 (lexeme_at (row_of self.now) self.now.next).ends then 1 else 0) }
+            (if nat_lt 0 (row_lexeme (row_of self.now) self.now.next).ends then 1 else 0) }
         ensures none { length self.now.lexemes.items ≤ self.now.next
             → result ≡ self.now.settled - self.now.next }
     {
@@ -115,16 +115,16 @@ impl Row {
     /// Takes the next token, which may stand before a lexeme's own one.
     pub(crate) fn skip_lead(&mut self)
         requires some { self.old.next < length self.old.lexemes.items }
-        requires ends { (lexeme_at (row_of self.old) self.old.next).front ≡ BlockEnd
-            → 0 < (lexeme_at (row_of self.old) self.old.next).ends }
-        ensures own { (lexeme_at (row_of self.old) self.old.next).front
-            ≡ (lexeme_at (row_of self.old) self.old.next).kind
+        requires ends { (row_lexeme (row_of self.old) self.old.next).front ≡ BlockEnd
+            → 0 < (row_lexeme (row_of self.old) self.old.next).ends }
+        ensures own { (row_lexeme (row_of self.old) self.old.next).front
+            ≡ (row_lexeme (row_of self.old) self.old.next).kind
             → row_of self.new ≡ record (row_of self.old) { next = self.old.next + 1 } }
-        ensures lead { (lexeme_at (row_of self.old) self.old.next).front
-            ≢ (lexeme_at (row_of self.old) self.old.next).kind
+        ensures lead { (row_lexeme (row_of self.old) self.old.next).front
+            ≢ (row_lexeme (row_of self.old) self.old.next).kind
             → row_of self.new ≡ led (row_of self.old) }
         ensures shows { (t : SpelledText) (es : List Entry) → ShowsRow t (row_of self.old) es
-            → ((lexeme_at (row_of self.old) self.old.next).front ≢ BlockEnd
+            → ((row_lexeme (row_of self.old) self.old.next).front ≢ BlockEnd
             → self.old.next < self.old.settled) → ShowsRow t (row_of self.new) es }
         ensures room { HasRoom self.old → HasRoom self.new }
     {
@@ -144,19 +144,19 @@ impl Row {
     /// Takes the next token, which is of that kind.
     pub(crate) fn skip(&mut self, kind: Kind)
         requires some { self.old.next < length self.old.lexemes.items }
-        requires kind { kind ≡ (lexeme_at (row_of self.old) self.old.next).front }
-        requires ends { (lexeme_at (row_of self.old) self.old.next).front ≡ BlockEnd
-            → 0 < (lexeme_at (row_of self.old) self.old.next).ends }
-        requires own { may_lead kind ≡ false → (lexeme_at (row_of self.old) self.old.next).front
-            ≡ (lexeme_at (row_of self.old) self.old.next).kind }
-        ensures own { (lexeme_at (row_of self.old) self.old.next).front
-            ≡ (lexeme_at (row_of self.old) self.old.next).kind
+        requires kind { kind ≡ (row_lexeme (row_of self.old) self.old.next).front }
+        requires ends { (row_lexeme (row_of self.old) self.old.next).front ≡ BlockEnd
+            → 0 < (row_lexeme (row_of self.old) self.old.next).ends }
+        requires own { may_lead kind ≡ false → (row_lexeme (row_of self.old) self.old.next).front
+            ≡ (row_lexeme (row_of self.old) self.old.next).kind }
+        ensures own { (row_lexeme (row_of self.old) self.old.next).front
+            ≡ (row_lexeme (row_of self.old) self.old.next).kind
             → row_of self.new ≡ record (row_of self.old) { next = self.old.next + 1 } }
-        ensures lead { (lexeme_at (row_of self.old) self.old.next).front
-            ≢ (lexeme_at (row_of self.old) self.old.next).kind
+        ensures lead { (row_lexeme (row_of self.old) self.old.next).front
+            ≢ (row_lexeme (row_of self.old) self.old.next).kind
             → row_of self.new ≡ led (row_of self.old) }
         ensures shows { (t : SpelledText) (es : List Entry) → ShowsRow t (row_of self.old) es
-            → ((lexeme_at (row_of self.old) self.old.next).front ≢ BlockEnd
+            → ((row_lexeme (row_of self.old) self.old.next).front ≢ BlockEnd
             → self.old.next < self.old.settled) → ShowsRow t (row_of self.new) es }
         ensures room { HasRoom self.old → HasRoom self.new }
     {
@@ -199,7 +199,7 @@ impl Row {
     /// Whether a lexeme has a note.
     fn has_notes(&self) -> bool
         ensures { result ≡ false → (i : ℕ) → i < length self.now.lexemes.items
-            → is_set 8 (lexeme_at (row_of self.now) i) ≡ false }
+            → is_set 8 (row_lexeme (row_of self.now) i) ≡ false }
     {
         'lexemes: for at in 0..self.lexemes.len() {
             if self.lexemes[at].flags & NOTED != 0 {

@@ -11,7 +11,7 @@ ghost use Rattle.yaml_scan_words.specs.Quoted as quoted;
 ghost use Rattle.yaml_scan_words.specs.Anchors as anchors;
 ghost use Rattle.yaml_scan_words.specs.Directives as directives;
 ghost use Rattle.yaml_scan_words.specs.Tags as tags;
-ghost use Rattle.yaml_scan_history.specs.Words.{blocked, directed, plainly, tagged, valued, word_at};
+ghost use Rattle.yaml_scan_history.specs.Words.{blocked, directed, plainly, tagged, valued, lexeme_at};
 ghost use Rattle.yaml_scan_text.specs.Lines.{line_start};
 ghost use Rattle.yaml_scan_text.specs.PlainRead as plainly_read;
 ghost use Rattle.yaml_scan_text.specs.Refused.{Keeps};
@@ -180,7 +180,7 @@ fn read_word(
     requires kind { has_text kind ≡ true }
     requires stands { StandsThere kind flow margin text.now spot }
     ensures value { GivesWord text.now arena.new.items spot result
-        (word_at kind flow margin text.now spot.at) }
+        (lexeme_at kind flow margin text.now spot.at) }
     ensures kept { Keeps arena.old.items arena.new.items }
 {
     match kind {

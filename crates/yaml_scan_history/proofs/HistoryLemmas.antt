@@ -9,7 +9,7 @@ use Rattle.yaml_scan_history.specs.declared.lexeme.Lexeme.{Lexeme}
 use Rattle.yaml_scan_history.specs.declared.lexeme.Entry.{Entry}
 use Rattle.yaml_scan_history.specs.Kinds.{is_value}
 use Rattle.yaml_scan_history.specs.Remaining.{all, handed_out, handed}
-use Rattle.yaml_scan_history.specs.History.{Candidate, candidate, is_fresh, fresh, has_number, first_open, mark_key, keyed, entries, reached, found_by, inside}
+use Rattle.yaml_scan_history.specs.History.{Candidate, candidate, is_fresh, fresh, has_number, first_open, mark_key, keyed, finished_tokens, reached, found_by, inside}
 use Rattle.yaml_scan_history.specs.Next.{history, Next, Read, next, extended}
 use Rattle.yaml_scan_history.specs.Laws.{Upto, GoesForward}
 
@@ -44,10 +44,10 @@ pub length-keyed : (l : Lexeme) (h : List Lexeme) (es : List Entry)
 length-keyed l h es = grind (arith, length-mark_key)
 
 -- Each lexeme has one entry.
-pub length-entries : (h : List Lexeme) → length (entries h) ≡ length h
-unfolding entries
+pub length-entries : (h : List Lexeme) → length (finished_tokens h) ≡ length h
+unfolding finished_tokens
 length-entries [] = refl
-length-entries (l ∷ h) = grind (arith, common_steps, length-keyed l h (entries h), length-entries h)
+length-entries (l ∷ h) = grind (arith, common_steps, length-keyed l h (finished_tokens h), length-entries h)
 
 pub take-mark_key : (ls : List ℕ) (n : ℕ) (es : List Entry) (k : ℕ) → n ≤ k
     → take n (mark_key ls es k) ≡ take n es
@@ -204,21 +204,21 @@ take-keyed l h es n further room =
 
 -- one more lexeme leaves the marks of what is before the earliest open candidate
 pub take-entries : (l : Lexeme) (h : List Lexeme) (n : ℕ) → Upto (reached h) l.start
-    → n ≤ first_open h h → take n (entries (l ∷ h)) ≡ take n (entries h)
-unfolding entries
+    → n ≤ first_open h h → take n (finished_tokens (l ∷ h)) ≡ take n (finished_tokens h)
+unfolding finished_tokens
 take-entries l h n further room = grind (arith, first_open-le, length-keyed, length-entries, take-append-le, take-keyed)
 
 take-extended : (text : List ℕ) (h : List Lexeme)
     → ((l : Lexeme) → next text h ≡ Read l → Upto (reached h) l.start × Upto l.start l.reached)
     → (n : ℕ) (x : Next) → next text h ≡ x → n ≤ first_open h h
-    → (take n (entries (extended x h)) ≡ take n (entries h))
+    → (take n (finished_tokens (extended x h)) ≡ take n (finished_tokens h))
     × (first_open h h ≤ first_open (extended x h) (extended x h))
 take-extended text h go n x e room = grind (arith, take-entries, first_open-grows)
 
 -- further steps leave the marks of what is before the earliest open candidate
 pub take-history : (text : List ℕ) → GoesForward text → (n k m : ℕ) → let h = history text n in
     m ≤ first_open h h
-    → (take m (entries (history text (k + n))) ≡ take m (entries h))
+    → (take m (finished_tokens (history text (k + n))) ≡ take m (finished_tokens h))
     × (m ≤ first_open (history text (k + n)) (history text (k + n)))
 unfolding history
 take-history text go n zero m room = let z : 0 + n ≡ n = omega arith in rw z (refl, room)
@@ -244,16 +244,16 @@ stays text n (suc k) h =
     rw (z, before) (not_read (next text (history text n)) (history text n) h)
 
 take-handed_out : (x : Next) (h : List Lexeme) (m : ℕ) → m ≤ first_open h h
-    → take m (handed_out x h) ≡ take m (entries h)
+    → take m (handed_out x h) ≡ take m (finished_tokens h)
 take-handed_out x h m room = grind (arith, take-take)
 
 -- What is before the earliest open candidate is handed out as it stands.
 pub take-handed : (text : List ℕ) → GoesForward text → (n m : ℕ) → n ≤ length text + 2
     → m ≤ first_open (history text n) (history text n)
-    → take m (handed text) ≡ take m (entries (history text n))
+    → take m (handed text) ≡ take m (finished_tokens (history text n))
 unfolding handed all
 take-handed text go n m room low =
     let k : length text + 2 - n + n ≡ length text + 2 = omega arith in
-    let P : ℕ → Type 0 = λ x. (take m (entries (history text x)) ≡ take m (entries (history text n))) × (m ≤ first_open (history text x) (history text x)) in
+    let P : ℕ → Type 0 = λ x. (take m (finished_tokens (history text x)) ≡ take m (finished_tokens (history text n))) × (m ≤ first_open (history text x) (history text x)) in
     let (same, more) = subst P k (take-history text go n (length text + 2 - n) m low) in
     take-handed_out (next text (history text (length text + 2))) (history text (length text + 2)) m more ∙ same

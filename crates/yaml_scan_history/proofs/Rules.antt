@@ -23,7 +23,7 @@ use Rattle.yaml_scan_words.specs.Plain as plain
 use Rattle.yaml_scan_words.specs.Header.{header_at}
 use Rattle.yaml_scan_words.specs.Lines.{lines_from}
 use Rattle.yaml_scan_history.specs.declared.kind.Kind.TheVariants as kinds
-use Rattle.yaml_scan_history.specs.Words.{word_at}
+use Rattle.yaml_scan_history.specs.Words.{lexeme_at}
 use Rattle.yaml_scan_history.specs.Rules.{TellsAll, IsTold, NoName, NamesAreTold, TagsAreTold, IsYaml, IsTagDirective, DirectivesAreTold, IsStandingTold, IsEscape, QuotesAreTold, PlainsAreTold, BlocksAreTold, PlacesAreTold}
 
 abbrev wrong_here : Problem → Context → ℕ → Wrong
@@ -51,7 +51,7 @@ no_name : (context : Context) (text : List ℕ) (p q : ℕ) → NoName text p q
 no_name context text p q h = grind (arith, name_ends, eq-eqb, no_end)
 
 pub names_are_told : NamesAreTold
-unfolding word_at problem_text_of context_text_of
+unfolding lexeme_at problem_text_of context_text_of
 names_are_told = grind (arith, no_name)
 
 -- ---- tags
@@ -92,15 +92,15 @@ unfolding due_behind
 trails_none b due d h = grind arith
 
 pub tags_are_told : TagsAreTold
-unfolding word_at problem_text_of context_text_of spot_at
+unfolding lexeme_at problem_text_of context_text_of spot_at
 tags_are_told = grind (arith, nat_tests, bracket_wrong, empty_wrong, end_wrong, eq-eqb, ne_eqb, lt-ltb, leads_none, trails_none)
 
 -- ---- directives
 
 directive_told : (flow : Bool) (level : ℕ) (text : List ℕ) (p q : ℕ) (w : Wrong)
     (context problem : List ℕ) → directive_at text p ≡ Err w → TellsAll w context problem q
-    → IsTold (word_at kinds.Directive flow level text p) context problem q
-unfolding word_at
+    → IsTold (lexeme_at kinds.Directive flow level text p) context problem q
+unfolding lexeme_at
 directive_told flow level text p q w context problem e t = rw e t
 
 by_name : (text : List ℕ) (p : ℕ) (w : Wrong) → name_at text p ≡ Err w

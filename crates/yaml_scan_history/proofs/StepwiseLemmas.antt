@@ -7,7 +7,7 @@ use Rattle.yaml_scan_model.specs.Wrong.{Wrong}
 use Rattle.yaml_scan_words.specs.Between.{Gap}
 use Rattle.yaml_scan_history.specs.declared.kind.Kind.{Kind}
 use Rattle.yaml_scan_history.specs.declared.lexeme.Lexeme.{Lexeme}
-use Rattle.yaml_scan_history.specs.History.{depth, candidate, fresh, open_at}
+use Rattle.yaml_scan_history.specs.History.{flow_depth, candidate, fresh, open_at}
 use Rattle.yaml_scan_history.specs.Next.{Next, Read, Fails, gap_behind, place_behind, kind_behind, allowed_behind, begun_behind, word_behind, with_end, lexeme_behind, missed, lost_by, misplaced, no_start, not_allowed_there, colon_missing_of, wrong_in, stale_after, indicator_misplaced, candidate_lost, text_wrong, first_fault_or, coming}
 use Rattle.yaml_scan_history.specs.Stepwise.{unless_wrong, unless_lost, of_kind, unless_missed, behind}
 use Rattle.yaml_scan_history.specs.Words.{WordText}
@@ -47,9 +47,9 @@ of_that_kind k text h =
     let gap = gap_behind text h in
     let r = word_behind k text h in
     let own = read r text l h in
-    let whole = kept (lost_by l (fresh (candidate (depth h) h) place)) text gap.place l h (wrong_in text l.start r ∷ stale_after (with_end text l r) h ∷ []) (Read (with_end text l r)) own in
+    let whole = kept (lost_by l (fresh (candidate (flow_depth h) h) place)) text gap.place l h (wrong_in text l.start r ∷ stale_after (with_end text l r) h ∷ []) (Read (with_end text l r)) own in
     in_place (misplaced k place (allowed_behind h gap) h) (not_allowed_there k place) (candidate_lost k text h ∷ text_wrong k text h ∷ stale_after (lexeme_behind k text h) h ∷ []) (Read (lexeme_behind k text h))
-    (unless_lost (lost_by l (fresh (candidate (depth h) h) place)) text gap.place l h) whole
+    (unless_lost (lost_by l (fresh (candidate (flow_depth h) h) place)) text gap.place l h) whole
 
 by_kind : (o : Option Kind) (text : List ℕ) (h : List Lexeme) → kind_behind text h ≡ o
     → coming o text h ≡ behind text (gap_behind text h) h

@@ -17,13 +17,13 @@ reached [] = zero_mark
 reached (l ∷ h) = l.reached
 
 -- how many brackets are open
-abbrev pub depth : List Lexeme → ℕ
-depth [] = 0
-depth (l ∷ h) = depth_after l.kind l.depth
+abbrev pub flow_depth : List Lexeme → ℕ
+flow_depth [] = 0
+flow_depth (l ∷ h) = depth_after l.kind l.depth
 
 -- some bracket is open
 abbrev pub in_flow : List Lexeme → Bool
-in_flow h = nat_lt 0 (depth h)
+in_flow h = nat_lt 0 (flow_depth h)
 
 abbrev pub ended : List Lexeme → Bool
 ended [] = false
@@ -119,11 +119,11 @@ opened may margin levels = if may && nat_lt (indent levels) margin then levels +
     else levels
 
 -- the margins of the levels that no later lexeme has closed
-unfoldable pub levels : List Lexeme → List ℕ
-levels [] = []
-levels (l ∷ h) = opened (is_start l.kind && not (nat_lt 0 l.depth))
+unfoldable pub open_levels : List Lexeme → List ℕ
+open_levels [] = []
+open_levels (l ∷ h) = opened (is_start l.kind && not (nat_lt 0 l.depth))
     (opens_at (found_by l h) l.kind l.start.column)
-    (left_by l.kind l.depth l.start.column (levels h))
+    (left_by l.kind l.depth l.start.column (open_levels h))
 
 -- the level that opens with that margin, where it stands right of the innermost one
 abbrev pub start_of : ℕ → ℕ → List ℕ → Opens → Opens
@@ -143,12 +143,12 @@ opens_of found l levels =
 
 -- the levels after which a lexeme stands
 abbrev pub inside : Lexeme → List Lexeme → List ℕ
-inside l h = left_by l.kind l.depth l.start.column (levels h)
+inside l h = left_by l.kind l.depth l.start.column (open_levels h)
 
 abbrev pub entry_of : Lexeme → List Lexeme → Entry
 entry_of l h = record {
   lexeme = l;
-  ends = length (levels h) - length (inside l h);
+  ends = length (open_levels h) - length (inside l h);
   opens = opens_of
       (found_by l h) l (inside l h);
   key = false;
@@ -178,9 +178,9 @@ abbrev pub keyed : Lexeme → List Lexeme → List Entry → List Entry
 keyed l h es = if is_value l.kind then marked (found_by l h) (inside l h) es else es
 
 -- the lexemes from the first on, each with its marks
-unfoldable pub entries : List Lexeme → List Entry
-entries [] = []
-entries (l ∷ h) = keyed l h (entries h) ++ entry_of l h ∷ []
+unfoldable pub finished_tokens : List Lexeme → List Entry
+finished_tokens [] = []
+finished_tokens (l ∷ h) = keyed l h (finished_tokens h) ++ entry_of l h ∷ []
 
 -- Whether a key may begin after these lexemes, without a break between.
 abbrev pub key_allowed : List Lexeme → Bool

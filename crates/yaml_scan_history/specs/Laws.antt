@@ -2,7 +2,7 @@
 use Rattle.std.specs.Prelude.{ℕ, ◌+◌, ◌≡◌, ◌≤◌, List, length, take}
 use Rattle.yaml_scan_model.specs.declared.record.yaml_mark_t.{yaml_mark_t}
 use Rattle.yaml_scan_history.specs.declared.lexeme.Lexeme.{Lexeme}
-use Rattle.yaml_scan_history.specs.History.{reached, entries, first_open}
+use Rattle.yaml_scan_history.specs.History.{reached, finished_tokens, first_open}
 use Rattle.yaml_scan_history.specs.Next.{Read, next, history}
 use Rattle.yaml_scan_history.specs.Remaining.{handed}
 
@@ -19,4 +19,4 @@ GoesForward text = (n : ℕ) (l : Lexeme) → next text (history text n) ≡ Rea
 abbrev pub SettledStays : Type 0
 SettledStays = (text : List ℕ) → GoesForward text → (n m : ℕ) → n ≤ length text + 2
     → m ≤ first_open (history text n) (history text n)
-    → take m (handed text) ≡ take m (entries (history text n))
+    → take m (handed text) ≡ take m (finished_tokens (history text n))

@@ -13,8 +13,8 @@ use Rattle.yaml_scan_history.specs.declared.kind.Kind.{Kind}
 use Rattle.yaml_scan_history.specs.declared.kind.Kind.TheVariants as kinds
 use Rattle.yaml_scan_history.specs.declared.lexeme.Lexeme.{Lexeme}
 use Rattle.yaml_scan_history.specs.Kinds.{may_be_key, cancels, is_value, is_start, is_end}
-use Rattle.yaml_scan_history.specs.History.{reached, depth, in_flow, Candidate, candidate, fresh, open_at, has, is_fresh, margin_at, indent, left_by, levels, key_allowed, placed}
-use Rattle.yaml_scan_history.specs.Words.{WordText, word_at, kind_at}
+use Rattle.yaml_scan_history.specs.History.{reached, flow_depth, in_flow, Candidate, candidate, fresh, open_at, has, is_fresh, margin_at, indent, left_by, open_levels, key_allowed, placed}
+use Rattle.yaml_scan_history.specs.Words.{WordText, lexeme_at, kind_at}
 use Rattle.yaml_scan_words.specs.Between.{Gap, gap_at}
 
 -- a lexeme that was read, or the fault that comes in its place, or nothing after the end
@@ -57,7 +57,7 @@ allowed_behind h gap = key_allowed h || (gap.broke && not (in_flow h))
 
 -- the margin of the innermost level that a lexeme stands in
 abbrev pub level_in : Kind → ℕ → List Lexeme → ℕ
-level_in k column h = indent (left_by k (depth h) column (levels h))
+level_in k column h = indent (left_by k (flow_depth h) column (open_levels h))
 
 -- The lexeme of a kind that starts there, its end aside. It is saved where it may become a key, and required to become
 -- one where it also stands at the indent, in block context.
@@ -67,11 +67,11 @@ begun k start allowed h = record {
   start = start;
   end = start;
   reached = start;
-  depth = depth h;
+  depth = flow_depth h;
   level = level_in k start.column h;
   saved = allowed && may_be_key k;
   required = (allowed && may_be_key k)
-      && (depth h == 0 && level_in k start.column h == margin_at start.column);
+      && (flow_depth h == 0 && level_in k start.column h == margin_at start.column);
   broke = false;
 }
 
@@ -87,7 +87,7 @@ begun_behind k text h = begun k (placed k (place_behind text h))
 
 -- what its text is, or what is wrong with it
 abbrev pub word_behind : Kind → List ℕ → List Lexeme → Result WordText Wrong
-word_behind k text h = word_at k (in_flow h) (begun_behind k text h).level text
+word_behind k text h = lexeme_at k (in_flow h) (begun_behind k text h).level text
     (gap_behind text h).place
 
 -- the end, where the text isn't wrong
@@ -116,7 +116,7 @@ lost_by l (Some c) = if c.lexeme.required && (l.saved || (cancels l.kind && not 
 -- a `-`, a `?` and a `:` without candidate stand only where a key may begin, in block context
 abbrev pub misplaced : Kind → yaml_mark_t → Bool → List Lexeme → Bool
 misplaced k m allowed h = (not (in_flow h) && not allowed)
-    && (is_start k && not (is_value k && has (fresh (candidate (depth h) h) m)))
+    && (is_start k && not (is_value k && has (fresh (candidate (flow_depth h) h) m)))
 
 -- the fault of a required candidate whose `:` hasn't come at a place
 abbrev pub colon_missing : yaml_mark_t → yaml_mark_t → ScanFault
@@ -167,7 +167,7 @@ indicator_misplaced k text h =
 -- a required candidate that the lexeme cancels or replaces
 abbrev pub candidate_lost : Kind → List ℕ → List Lexeme → Option ScanFault
 candidate_lost k text h = colon_missing_of
-    (lost_by (begun_behind k text h) (fresh (candidate (depth h) h) (place_behind text h)))
+    (lost_by (begun_behind k text h) (fresh (candidate (flow_depth h) h) (place_behind text h)))
     (begun_behind k text h).start
 
 abbrev pub wrong_in : List ℕ → yaml_mark_t → Result WordText Wrong → Option ScanFault

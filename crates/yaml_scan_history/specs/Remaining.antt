@@ -12,9 +12,9 @@ use Rattle.yaml_scan_history.specs.declared.lexeme.Lexeme.{Lexeme}
 use Rattle.yaml_scan_history.specs.declared.lexeme.Entry.{Entry}
 use Rattle.yaml_scan_history.specs.declared.lexeme.Opens.{Opens}
 use Rattle.yaml_scan_history.specs.declared.lexeme.Opens.TheVariants as opening
-use Rattle.yaml_scan_history.specs.History.{entries, first_open}
+use Rattle.yaml_scan_history.specs.History.{finished_tokens, first_open}
 use Rattle.yaml_scan_history.specs.Next.{Next, Read, Fails, Ends, next, history}
-use Rattle.yaml_scan_history.specs.Words.{WordText, word_at}
+use Rattle.yaml_scan_history.specs.Words.{WordText, lexeme_at}
 
 -- what a stream is: how its bytes were spelled, and the text
 pub record SpelledText : Type 0 where
@@ -28,7 +28,7 @@ body_of_word (Err w) = no
 -- what a lexeme carries, read where it stands
 abbrev pub body_by : Kind → SpelledText → Lexeme → TokenBody
 body_by kinds.StreamStart s l = stream_start s.encoding
-body_by k s l = body_of_word (word_at k (nat_lt 0 l.depth) l.level s.text l.start.index)
+body_by k s l = body_of_word (lexeme_at k (nat_lt 0 l.depth) l.level s.text l.start.index)
 
 abbrev pub body_in : SpelledText → Lexeme → TokenBody
 body_in s l = body_by l.kind s l
@@ -63,9 +63,9 @@ all text = history text (length text + 2)
 
 -- Where there is a fault, the lexemes from the earliest open candidate on are lost.
 abbrev pub handed_out : Next → List Lexeme → List Entry
-handed_out (Fails p) h = take (first_open h h) (entries h)
-handed_out Ends h = entries h
-handed_out (Read l) h = entries h
+handed_out (Fails p) h = take (first_open h h) (finished_tokens h)
+handed_out Ends h = finished_tokens h
+handed_out (Read l) h = finished_tokens h
 
 unfoldable pub handed : List ℕ → List Entry
 handed text = handed_out (next text (all text)) (all text)
@@ -76,7 +76,7 @@ front_ends (e ∷ es) = end_tokens e
 
 -- BLOCK-END tokens stand before a lost candidate, and are not lost.
 abbrev pub kept_of : Next → List Lexeme → List Token
-kept_of (Fails p) h = front_ends (drop (first_open h h) (entries h))
+kept_of (Fails p) h = front_ends (drop (first_open h h) (finished_tokens h))
 kept_of Ends h = []
 kept_of (Read l) h = []
 

@@ -21,7 +21,7 @@ use Rattle.yaml_scan_words.specs.Plain as plain
 use Rattle.yaml_scan_words.specs.Header.{digit_place, header_end, header_at}
 use Rattle.yaml_scan_words.specs.Lines.{Tab, line_spot, lines_from}
 use Rattle.yaml_scan_history.specs.declared.kind.Kind.TheVariants as kinds
-use Rattle.yaml_scan_history.specs.Words.{word_at}
+use Rattle.yaml_scan_history.specs.Words.{lexeme_at}
 use Rattle.yaml_scan_history.specs.Next.{colon_missing, no_start, not_allowed_there}
 
 -- what is wrong says that problem, in that context, at that place
@@ -43,10 +43,10 @@ NoName text p q = EndsBlockRun is_alpha text (p + 1) q
 
 pub record NamesAreTold : Type 0 where
   pub anchor : (flow : Bool) (level : ℕ) (text : List ℕ) (p q : ℕ) → NoName text p q
-      → IsTold (word_at kinds.Anchor flow level text p) (codes "while scanning an anchor")
+      → IsTold (lexeme_at kinds.Anchor flow level text p) (codes "while scanning an anchor")
       (codes "did not find expected alphabetic or numeric character") q
   pub alias : (flow : Bool) (level : ℕ) (text : List ℕ) (p q : ℕ) → NoName text p q
-      → IsTold (word_at kinds.Alias flow level text p) (codes "while scanning an alias")
+      → IsTold (lexeme_at kinds.Alias flow level text p) (codes "while scanning an alias")
       (codes "did not find expected alphabetic or numeric character") q
 
 -- ---- tags
@@ -61,17 +61,17 @@ pub record TagsAreTold : Type 0 where
   pub bracket : (flow : Bool) (level : ℕ) (text : List ℕ) (p : ℕ) (u : List ℕ × ℕ)
       → byte text (p + 1) ≡ ascii.less → some_uri_at contexts.TagUri true text (p + 2) ≡ Ok u
       → byte text u.1 ≢ ascii.greater
-      → IsTold (word_at kinds.Tag flow level text p) (codes "while scanning a tag")
+      → IsTold (lexeme_at kinds.Tag flow level text p) (codes "while scanning a tag")
       (codes "did not find the expected '>'") u.1
   -- `!<` and no URI
   pub empty : (flow : Bool) (level : ℕ) (text : List ℕ) (p q : ℕ) → byte text (p + 1) ≡ ascii.less
       → uri_at contexts.TagUri true text (p + 2) ≡ Ok ([], q)
-      → IsTold (word_at kinds.Tag flow level text p) (codes "while parsing a tag")
+      → IsTold (lexeme_at kinds.Tag flow level text p) (codes "while parsing a tag")
       (codes "did not find expected tag URI") q
   -- a tag, and what can't follow it
   pub end : (flow : Bool) (level : ℕ) (text : List ℕ) (p : ℕ) (t : TagText)
       → parts_at text p ≡ Ok t → may_end_tag flow text t.end ≡ false
-      → IsTold (word_at kinds.Tag flow level text p) (codes "while scanning a tag")
+      → IsTold (lexeme_at kinds.Tag flow level text p) (codes "while scanning a tag")
       (codes "did not find expected whitespace or line break") t.end
   -- a `%` that no two hexadecimal digits follow; another character where an escape is due
   pub escape : (wide : Bool) (due : ℕ) (text : List ℕ) (p : ℕ) → byte text p ≡ ascii.percent
@@ -112,62 +112,65 @@ pub record DirectivesAreTold : Type 0 where
   -- after the `%` no letter, something else after letters, and letters that aren't YAML or TAG
   pub no_name : (flow : Bool) (level : ℕ) (text : List ℕ) (p : ℕ)
       → EndsBlockRun is_alpha text (p + 1) (p + 1)
-      → IsTold (word_at kinds.Directive flow level text p) (codes "while scanning a directive")
+      → IsTold (lexeme_at kinds.Directive flow level text p) (codes "while scanning a directive")
       (codes "could not find expected directive name") (p + 1)
   pub letters : (flow : Bool) (level : ℕ) (text : List ℕ) (p q : ℕ)
       → EndsBlockRun is_alpha text (p + 1) q → p + 1 < q → is_blank_or_end text q ≡ false
-      → IsTold (word_at kinds.Directive flow level text p) (codes "while scanning a directive")
+      → IsTold (lexeme_at kinds.Directive flow level text p) (codes "while scanning a directive")
       (codes "found unexpected non-alphabetical character") q
   pub unknown : (flow : Bool) (level : ℕ) (text : List ℕ) (p q : ℕ)
       → EndsBlockRun is_alpha text (p + 1) q → p + 1 < q → is_blank_or_end text q ≡ true
       → (is_yaml text (p + 1) && q - (p + 1) == 4) ≡ false
       → (is_tag text (p + 1) && q - (p + 1) == 3) ≡ false
-      → IsTold (word_at kinds.Directive flow level text p) (codes "while scanning a directive")
+      → IsTold (lexeme_at kinds.Directive flow level text p) (codes "while scanning a directive")
       (codes "found unknown directive name") q
   -- after `%YAML` no digit, more than nine of them, and no `.` after them
   pub no_number : (flow : Bool) (level : ℕ) (text : List ℕ) (p r : ℕ)
       → IsYaml text p r → EndsBlockRun is_digit text r r
-      → IsTold (word_at kinds.Directive flow level text p)
+      → IsTold (lexeme_at kinds.Directive flow level text p)
       (codes "while scanning a %YAML directive") (codes "did not find expected version number") r
   pub long_number : (flow : Bool) (level : ℕ) (text : List ℕ) (p r e : ℕ)
       → IsYaml text p r → EndsBlockRun is_digit text r e → r + most_digits < e
-      → IsTold (word_at kinds.Directive flow level text p)
+      → IsTold (lexeme_at kinds.Directive flow level text p)
       (codes "while scanning a %YAML directive") (codes "found extremely long version number")
       (r + most_digits)
   pub no_dot : (flow : Bool) (level : ℕ) (text : List ℕ) (p r e : ℕ)
       → IsYaml text p r → EndsBlockRun is_digit text r e → r < e → e ≤ r + most_digits
       → byte text e ≢ ascii.dot
-      → IsTold (word_at kinds.Directive flow level text p)
+      → IsTold (lexeme_at kinds.Directive flow level text p)
       (codes "while scanning a %YAML directive")
       (codes "did not find expected digit or '.' character") e
   -- after `%TAG` no `!`, and none after the letters of a handle
   pub no_handle : (flow : Bool) (level : ℕ) (text : List ℕ) (p r : ℕ)
       → IsTagDirective text p r → byte text r ≢ ascii.exclamation
-      → IsTold (word_at kinds.Directive flow level text p) (codes "while scanning a tag directive")
+      → IsTold (lexeme_at kinds.Directive flow level text p)
+          (codes "while scanning a tag directive")
       (codes "did not find expected '!'") r
   pub open_handle : (flow : Bool) (level : ℕ) (text : List ℕ) (p r e : ℕ)
       → IsTagDirective text p r → byte text r ≡ ascii.exclamation
       → EndsBlockRun is_alpha text (r + 1) e
       → r + 1 < e → byte text e ≢ ascii.exclamation
-      → IsTold (word_at kinds.Directive flow level text p) (codes "while parsing a tag directive")
+      → IsTold (lexeme_at kinds.Directive flow level text p) (codes "while parsing a tag directive")
       (codes "did not find expected '!'") e
   -- after the handle no blank, and something else after the prefix
   pub no_white : (flow : Bool) (level : ℕ) (text : List ℕ) (p r : ℕ) (h : List ℕ × ℕ)
       → IsTagDirective text p r → handle_at text r ≡ Ok h
       → is_blank text h.1 ≡ false
-      → IsTold (word_at kinds.Directive flow level text p) (codes "while scanning a %TAG directive")
+      → IsTold (lexeme_at kinds.Directive flow level text p)
+          (codes "while scanning a %TAG directive")
       (codes "did not find expected whitespace") h.1
   pub behind_prefix : (flow : Bool) (level : ℕ) (text : List ℕ) (p r f : ℕ) (h u : List ℕ × ℕ)
       → IsTagDirective text p r → handle_at text r ≡ Ok h
       → is_blank text h.1 ≡ true → EndsBlockRun is_blank text h.1 f
       → some_uri_at contexts.TagDirectiveUri true text f ≡ Ok u → is_blank_or_end text u.1 ≡ false
-      → IsTold (word_at kinds.Directive flow level text p) (codes "while scanning a %TAG directive")
+      → IsTold (lexeme_at kinds.Directive flow level text p)
+          (codes "while scanning a %TAG directive")
       (codes "did not find expected whitespace or line break") u.1
   -- after the value something else than a comment
   pub line : (flow : Bool) (level : ℕ) (text : List ℕ) (p r : ℕ) (v : ValueText)
       → value_at text p ≡ Ok v → EndsBlockRun is_blank text v.end r
       → break_width text (comment_end text r) ≡ 0 → byte text (comment_end text r) ≢ 0
-      → IsTold (word_at kinds.Directive flow level text p) (codes "while scanning a directive")
+      → IsTold (lexeme_at kinds.Directive flow level text p) (codes "while scanning a directive")
       (codes "did not find expected comment or line break") (comment_end text r)
 
 -- ---- quotes

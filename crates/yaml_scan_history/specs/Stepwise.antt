@@ -5,9 +5,9 @@ use Rattle.yaml_scan_model.specs.Marks.{mark_at}
 use Rattle.yaml_scan_model.specs.Wrong.{Wrong, scan_fault}
 use Rattle.yaml_scan_history.specs.declared.kind.Kind.{Kind}
 use Rattle.yaml_scan_history.specs.declared.lexeme.Lexeme.{Lexeme}
-use Rattle.yaml_scan_history.specs.History.{reached, depth, candidate, fresh, placed}
+use Rattle.yaml_scan_history.specs.History.{reached, flow_depth, candidate, fresh, placed}
 use Rattle.yaml_scan_history.specs.Next.{Next, Read, Fails, colon_missing, no_start, not_allowed_there, allowed_behind, begun, finished, misplaced, missed, lost_by}
-use Rattle.yaml_scan_history.specs.Words.{WordText, word_at, kind_at}
+use Rattle.yaml_scan_history.specs.Words.{WordText, lexeme_at, kind_at}
 use Rattle.yaml_scan_words.specs.Between.{Gap}
 
 abbrev pub no_colon : yaml_mark_t → yaml_mark_t → Next
@@ -31,7 +31,8 @@ unless_wrong (Ok w) text l h = tested (finished text l w) h
 
 abbrev pub unless_lost : Option yaml_mark_t → List ℕ → ℕ → Lexeme → List Lexeme → Next
 unless_lost (Some start) text p l h = no_colon start l.start
-unless_lost None text p l h = unless_wrong (word_at l.kind (nat_lt 0 l.depth) l.level text p) text l
+unless_lost None text p l h = unless_wrong
+    (lexeme_at l.kind (nat_lt 0 l.depth) l.level text p) text l
     h
 
 -- the lexeme of that kind, which stands after the gap
@@ -41,12 +42,13 @@ of_kind (Some k) text gap h =
     if misplaced k (mark_at text gap.place) (allowed_behind h gap) h
     then not_allowed k (mark_at text gap.place)
     else unless_lost (lost_by (begun k (placed k (mark_at text gap.place)) (allowed_behind h gap) h)
-    (fresh (candidate (depth h) h) (mark_at text gap.place))) text gap.place
+    (fresh (candidate (flow_depth h) h) (mark_at text gap.place))) text gap.place
     (begun k (placed k (mark_at text gap.place)) (allowed_behind h gap) h) h
 
 abbrev pub unless_missed : Option yaml_mark_t → List ℕ → Gap → List Lexeme → Next
 unless_missed (Some start) text gap h = no_colon start (mark_at text gap.place)
-unless_missed None text gap h = of_kind (kind_at (nat_lt 0 (depth h)) text gap.place) text gap h
+unless_missed None text gap h = of_kind
+    (kind_at (nat_lt 0 (flow_depth h)) text gap.place) text gap h
 
 -- what stands after the gap
 abbrev pub behind : List ℕ → Gap → List Lexeme → Next

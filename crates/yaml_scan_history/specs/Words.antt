@@ -111,27 +111,27 @@ plainly (Ok p) = Ok record {
 plainly (Err w) = Err w
 
 -- the lexeme of that kind that stands there, in flow context or not, in that level; or what is wrong with it
-unfoldable pub word_at : Kind → Bool → ℕ → List ℕ → ℕ → Result WordText Wrong
-word_at kinds.StreamStart flow level text p = carrying tokens.stream_end p
-word_at kinds.StreamEnd flow level text p = carrying tokens.stream_end p
-word_at kinds.Directive flow level text p = directed (directive_at text p)
-word_at kinds.DocumentStart flow level text p = carrying tokens.document_start (p + 3)
-word_at kinds.DocumentEnd flow level text p = carrying tokens.document_end (p + 3)
-word_at kinds.FlowSequenceStart flow level text p = carrying tokens.flow_sequence_start (p + 1)
-word_at kinds.FlowMappingStart flow level text p = carrying tokens.flow_mapping_start (p + 1)
-word_at kinds.FlowSequenceEnd flow level text p = carrying tokens.flow_sequence_end (p + 1)
-word_at kinds.FlowMappingEnd flow level text p = carrying tokens.flow_mapping_end (p + 1)
-word_at kinds.FlowEntry flow level text p = carrying tokens.flow_entry (p + 1)
-word_at kinds.BlockEntry flow level text p = carrying tokens.block_entry (p + 1)
-word_at kinds.KeyMark flow level text p = carrying tokens.key (p + 1)
-word_at kinds.ValueMark flow level text p = carrying tokens.value (p + 1)
-word_at kinds.Alias flow level text p = valued tokens.alias (anchor_at contexts.Alias text p)
-word_at kinds.Anchor flow level text p = valued tokens.anchor (anchor_at contexts.Anchor text p)
-word_at kinds.Tag flow level text p = tagged (tag_at flow text p)
-word_at kinds.Literal flow level text p = blocked (style_at text p) (block_at level text p)
-word_at kinds.Folded flow level text p = blocked (style_at text p) (block_at level text p)
-word_at kinds.SingleQuoted flow level text p = valued
+unfoldable pub lexeme_at : Kind → Bool → ℕ → List ℕ → ℕ → Result WordText Wrong
+lexeme_at kinds.StreamStart flow level text p = carrying tokens.stream_end p
+lexeme_at kinds.StreamEnd flow level text p = carrying tokens.stream_end p
+lexeme_at kinds.Directive flow level text p = directed (directive_at text p)
+lexeme_at kinds.DocumentStart flow level text p = carrying tokens.document_start (p + 3)
+lexeme_at kinds.DocumentEnd flow level text p = carrying tokens.document_end (p + 3)
+lexeme_at kinds.FlowSequenceStart flow level text p = carrying tokens.flow_sequence_start (p + 1)
+lexeme_at kinds.FlowMappingStart flow level text p = carrying tokens.flow_mapping_start (p + 1)
+lexeme_at kinds.FlowSequenceEnd flow level text p = carrying tokens.flow_sequence_end (p + 1)
+lexeme_at kinds.FlowMappingEnd flow level text p = carrying tokens.flow_mapping_end (p + 1)
+lexeme_at kinds.FlowEntry flow level text p = carrying tokens.flow_entry (p + 1)
+lexeme_at kinds.BlockEntry flow level text p = carrying tokens.block_entry (p + 1)
+lexeme_at kinds.KeyMark flow level text p = carrying tokens.key (p + 1)
+lexeme_at kinds.ValueMark flow level text p = carrying tokens.value (p + 1)
+lexeme_at kinds.Alias flow level text p = valued tokens.alias (anchor_at contexts.Alias text p)
+lexeme_at kinds.Anchor flow level text p = valued tokens.anchor (anchor_at contexts.Anchor text p)
+lexeme_at kinds.Tag flow level text p = tagged (tag_at flow text p)
+lexeme_at kinds.Literal flow level text p = blocked (style_at text p) (block_at level text p)
+lexeme_at kinds.Folded flow level text p = blocked (style_at text p) (block_at level text p)
+lexeme_at kinds.SingleQuoted flow level text p = valued
     (λ v. tokens.scalar v styles.YAML_SINGLE_QUOTED_SCALAR_STYLE) (single_quoted_at text p)
-word_at kinds.DoubleQuoted flow level text p = valued
+lexeme_at kinds.DoubleQuoted flow level text p = valued
     (λ v. tokens.scalar v styles.YAML_DOUBLE_QUOTED_SCALAR_STYLE) (double_quoted_at text p)
-word_at kinds.Plain flow level text p = plainly (plain_at flow level text p)
+lexeme_at kinds.Plain flow level text p = plainly (plain_at flow level text p)

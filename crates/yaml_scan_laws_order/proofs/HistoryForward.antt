@@ -1,6 +1,6 @@
 -- Histories go forward, and end.
 use Rattle.std.proofs.Common.{◌≡◌, ◌≢◌, ℕ, zero, suc, ◌+◌, ◌-◌, ◌<◌, ◌≤◌, ◌&&◌, nat_lt, Bool, true, false, List, [], ◌∷◌, ◌++◌, length, take, refl, sym, ap, subst, ◌∙◌, inl, inr, ◌⊎◌, arith, append_assoc}
-use Rattle.yaml_scan_laws_order.proofs.Words.{cases_Bool, cases_lt, yaml_mark_t, mark_at, line_at, Kind, Lexeme, is_end, reached, placed, entries, first_open, Next, Read, Fails, Ends, first_lexeme, next, extended, history, all, handed, stays, take-handed, TakesBytes, StandsIn, column_at}
+use Rattle.yaml_scan_laws_order.proofs.Words.{cases_Bool, cases_lt, yaml_mark_t, mark_at, line_at, Kind, Lexeme, is_end, reached, placed, finished_tokens, first_open, Next, Read, Fails, Ends, first_lexeme, next, extended, history, all, handed, stays, take-handed, TakesBytes, StandsIn, column_at}
 use Rattle.yaml_scan_history.specs.Laws.{Upto, GoesForward}
 use Rattle.yaml_scan_laws_order.specs.Standing.{Takes}
 use Rattle.yaml_scan_laws_order.proofs.MarksForward.{line_at-grows}
@@ -203,7 +203,7 @@ last_is_all text n never =
 
 -- what is settled stays so
 pub settled_stays : (text : List ℕ) (n m : ℕ) → m ≤ first_open (history text n) (history text n)
-    → take m (handed text) ≡ take m (entries (history text n))
+    → take m (handed text) ≡ take m (finished_tokens (history text n))
 unfolding all
 settled_stays text n m low =
     elim (cases_le n (length text + 2)) [

@@ -1,6 +1,6 @@
 -- The next lexeme stands after the ones before it.
 use Rattle.std.proofs.Common.{◌≡◌, ℕ, ◌≤◌, ◌&&◌, nat_lt, true, false, List, ◌∷◌, length, Option, Some, None, Result, Ok, Err, refl, sym, ap, subst, ◌∙◌, inl, inr, arith}
-use Rattle.yaml_scan_laws_order.proofs.Words.{cases_Bool, yaml_mark_t, mark_at, Wrong, gap_place, Kind, Lexeme, is_end, placed, depth, key_allowed, candidate, fresh, WordText, kind_at, word_at, Next, Read, Fails, Ends, begun, finished, allowed_behind, misplaced, missed, lost_by, next, StandsIn}
+use Rattle.yaml_scan_laws_order.proofs.Words.{cases_Bool, yaml_mark_t, mark_at, Wrong, gap_place, Kind, Lexeme, is_end, placed, flow_depth, key_allowed, candidate, fresh, WordText, kind_at, lexeme_at, Next, Read, Fails, Ends, begun, finished, allowed_behind, misplaced, missed, lost_by, next, StandsIn}
 use Rattle.yaml_scan_history.specs.scan_words.Between.{Gap, gap_at}
 use Rattle.yaml_scan_history.specs.Stepwise.{no_colon, tested, unless_wrong, unless_lost, of_kind, unless_missed}
 use Rattle.yaml_scan_history.proofs.StepwiseLemmas.{stepwise}
@@ -82,7 +82,7 @@ lost_reads : (o : Option yaml_mark_t) (text : List ℕ) (p q : ℕ) (l : Lexeme)
     → ReadsBehind text p (unless_lost o text q l h)
 lost_reads (Some start) text p q l h b f i fits = tt
 lost_reads None text p q l h b f i fits =
-    wrong_reads text p q (word_at l.kind (nat_lt 0 l.depth) l.level text q) l h b f i (λ e. word_lands l.kind (nat_lt 0 l.depth) l.level text q e fits)
+    wrong_reads text p q (lexeme_at l.kind (nat_lt 0 l.depth) l.level text q) l h b f i (λ e. word_lands l.kind (nat_lt 0 l.depth) l.level text q e fits)
 
 kind_reads : (o : Option Kind) (text : List ℕ) (p : ℕ) (gap : Gap) (h : List Lexeme) → p ≤ gap.place
     → gap.place ≤ length text → FitsAny o text gap.place
@@ -93,20 +93,20 @@ kind_reads (Some k) text p gap h f i fits =
     let l = begun k (placed k start) (allowed_behind h gap) h in
     elim (cases_Bool (misplaced k start (allowed_behind h gap) h)) [
       | inl e ↦ rw e tt
-      | inr e ↦ rw e (lost_reads (lost_by l (fresh (candidate (depth h) h) start)) text p gap.place l h record { start = refl; end = refl; reached = refl } f i fits)
+      | inr e ↦ rw e (lost_reads (lost_by l (fresh (candidate (flow_depth h) h) start)) text p gap.place l h record { start = refl; end = refl; reached = refl } f i fits)
     ]
 
 missed_reads : (o : Option yaml_mark_t) (text : List ℕ) (p : ℕ) (gap : Gap) (h : List Lexeme)
     → p ≤ gap.place → gap.place ≤ length text → ReadsBehind text p (unless_missed o text gap h)
 missed_reads (Some start) text p gap h f i = tt
-missed_reads None text p gap h f i = kind_reads (kind_at (nat_lt 0 (depth h)) text gap.place) text p gap h f i (kind_fits (nat_lt 0 (depth h)) text gap.place)
+missed_reads None text p gap h f i = kind_reads (kind_at (nat_lt 0 (flow_depth h)) text gap.place) text p gap h f i (kind_fits (nat_lt 0 (flow_depth h)) text gap.place)
 
 -- after a lexeme that isn't the stream's end
 pub next_reads : (text : List ℕ) (x : Lexeme) (h : List Lexeme) → is_end x.kind ≡ false
     → x.reached.index ≤ length text → ReadsBehind text x.reached.index (next text (x ∷ h))
 unfolding next
 next_reads text x h more i =
-    let flow = nat_lt 0 (depth (x ∷ h)) in
+    let flow = nat_lt 0 (flow_depth (x ∷ h)) in
     let gap = gap_at flow (key_allowed (x ∷ h)) text x.reached.index in
     let from = gap_place flow (key_allowed (x ∷ h)) text x.reached.index i in
     rw more (subst (ReadsBehind text x.reached.index) (sym (stepwise text (x ∷ h))) (missed_reads (missed (fresh (candidate 0 (x ∷ h)) x.reached) (mark_at text gap.place)) text x.reached.index gap (x ∷ h) from.forward from.inside))

@@ -1,6 +1,6 @@
 -- How the tokens of a text begin and end.
 use Rattle.std.proofs.Common.{◌≡◌, ◌≢◌, ℕ, zero, suc, ◌+◌, ◌<◌, Bool, true, false, cond, if◌then◌else◌, nat_lt, List, [], ◌∷◌, ◌++◌, length, take, drop, get_or, Some, None, Result, Ok, Err, refl, sym, ap, subst, ◌∙◌, inl, inr, append_assoc, append-nil, arith}
-use Rattle.yaml_scan_laws_order.proofs.Words.{cases_Bool, true≢false, flat_map, ScanFault, Token, TokenBody, stream_start, stream_end, block_end, zero_mark, no_token, Fault, scanner_fault, Wrong, yaml_scalar_style_t, anchor_at, TagText, tag_at, Said, DirectiveText, directive_at, double_quoted_at, single_quoted_at, PlainText, plain_at, BlockText, block_at, style_at, Kind, Lexeme, Entry, is_end, is_value, ended, entries, levels, candidate, first_open, mark_key, marked, keyed, found_by, inside, entry_of, word_at, valued, tagged, body_said, directed, blocked, plainly, Next, Read, Fails, Ends, first_lexeme, next, history, SpelledText, body_of_word, body_by, token_in, before, start_tokens, end_tokens, own_tokens, spell, all, handed, front_ends, fault_in, remaining, offline}
+use Rattle.yaml_scan_laws_order.proofs.Words.{cases_Bool, true≢false, flat_map, ScanFault, Token, TokenBody, stream_start, stream_end, block_end, zero_mark, no_token, Fault, scanner_fault, Wrong, yaml_scalar_style_t, anchor_at, TagText, tag_at, Said, DirectiveText, directive_at, double_quoted_at, single_quoted_at, PlainText, plain_at, BlockText, block_at, style_at, Kind, Lexeme, Entry, is_end, is_value, ended, finished_tokens, open_levels, candidate, first_open, mark_key, marked, keyed, found_by, inside, entry_of, lexeme_at, valued, tagged, body_said, directed, blocked, plainly, Next, Read, Fails, Ends, first_lexeme, next, history, SpelledText, body_of_word, body_by, token_in, before, start_tokens, end_tokens, own_tokens, spell, all, handed, front_ends, fault_in, remaining, offline}
 use Rattle.std.proofs.lemmas.Grind.{flat_map-append}
 use Rattle.std.proofs.lemmas.List.Elements.{All-nil, All-cons, All-append, All-replicate}
 use Rattle.std.specs.Prelude.{All}
@@ -58,7 +58,7 @@ plainly_other (Err w) = tt
 
 -- only the stream's end carries it
 body_other : (k : Kind) (s : SpelledText) (l : Lexeme) → is_end k ≡ false → IsOther (body_by k s l)
-unfolding word_at
+unfolding lexeme_at
 body_other kinds.StreamStart s l e = tt
 body_other kinds.StreamEnd s l e = absurd (true≢false e)
 body_other kinds.Directive s l e = directed_other (directive_at s.text l.start.index)
@@ -84,7 +84,7 @@ body_other kinds.DoubleQuoted s l e =
 body_other kinds.Plain s l e = plainly_other (plain_at (nat_lt 0 l.depth) l.level s.text l.start.index)
 
 end_body : (k : Kind) (s : SpelledText) (l : Lexeme) → is_end k ≡ true → body_by k s l ≡ stream_end
-unfolding word_at
+unfolding lexeme_at
 end_body kinds.StreamEnd s l e = refl
 end_body _ s l e = absurd (true≢false (sym e))
 
@@ -145,10 +145,10 @@ take_no_end (suc n) [] h = tt
 take_no_end (suc n) (e ∷ es) (h, more) = (h, take_no_end n es more)
 
 entries_no_end : (text : List ℕ) (h : List Lexeme) → Chain text h → ended h ≡ false
-    → NoEnd (entries h)
-unfolding entries
+    → NoEnd (finished_tokens h)
+unfolding finished_tokens
 entries_no_end text [] c e = tt
-entries_no_end text (l ∷ h) (b, c) e = push_no_end (keyed l h (entries h)) (entry_of l h) (keyed_no_end l h (entries h) (entries_no_end text h c b.open_end)) e
+entries_no_end text (l ∷ h) (b, c) e = push_no_end (keyed l h (finished_tokens h)) (entry_of l h) (keyed_no_end l h (finished_tokens h) (entries_no_end text h c b.open_end)) e
 
 chain_all : (text : List ℕ) → Chain text (all text)
 unfolding all
@@ -187,11 +187,11 @@ record IsWhole (ts : List Token) : Type 0 where
   pub others : All IsOtherToken front
 
 whole_pool : (s : SpelledText) (h : List Lexeme) → Chain s.text h → ended h ≡ true
-    → IsWhole (flat_map (spell s) (entries h) ++ [])
-unfolding entries
+    → IsWhole (flat_map (spell s) (finished_tokens h) ++ [])
+unfolding finished_tokens
 whole_pool s [] c e = absurd (true≢false (sym e))
 whole_pool s (l ∷ h) (b, c) e =
-    let es = keyed l h (entries h) in
+    let es = keyed l h (finished_tokens h) in
     let x = entry_of l h in
     let a = end_tokens x ++ start_tokens x.opens x.lexeme in
     let before_last = flat_map (spell s) es in
@@ -200,7 +200,7 @@ whole_pool s (l ∷ h) (b, c) e =
       last = token_in s l;
       are = append-nil (flat_map (spell s) (es ++ x ∷ [])) ∙ flat_map-append (spell s) es (x ∷ []) ∙ ap (λ ts. before_last ++ ts) (append-nil (spell s x)) ∙ sym (append_assoc before_last a (token_in s l ∷ []));
       end = end_body l.kind s l e;
-      others = All-append IsOtherToken before_last a (pool_other s es (keyed_no_end l h (entries h) (entries_no_end s.text h c b.open_end))) (front_other s x);
+      others = All-append IsOtherToken before_last a (pool_other s es (keyed_no_end l h (finished_tokens h) (entries_no_end s.text h c b.open_end))) (front_other s x);
     }
 
 kept_other : (h : List Lexeme) (es : List Entry) → All IsOtherToken (front_ends es)
@@ -208,11 +208,11 @@ kept_other h [] = All-nil IsOtherToken
 kept_other h (e ∷ es) = ends_other e
 
 failed_pool : (s : SpelledText) (h : List Lexeme) → Chain s.text h → ended h ≡ false
-    → All IsOtherToken (flat_map (spell s) (take (first_open h h) (entries h))
-    ++ front_ends (drop (first_open h h) (entries h)))
+    → All IsOtherToken (flat_map (spell s) (take (first_open h h) (finished_tokens h))
+    ++ front_ends (drop (first_open h h) (finished_tokens h)))
 failed_pool s h c e =
-    All-append IsOtherToken (flat_map (spell s) (take (first_open h h) (entries h))) (front_ends (drop (first_open h h) (entries h)))
-    (pool_other s (take (first_open h h) (entries h)) (take_no_end (first_open h h) (entries h) (entries_no_end s.text h c e))) (kept_other h (drop (first_open h h) (entries h)))
+    All-append IsOtherToken (flat_map (spell s) (take (first_open h h) (finished_tokens h))) (front_ends (drop (first_open h h) (finished_tokens h)))
+    (pool_other s (take (first_open h h) (finished_tokens h)) (take_no_end (first_open h h) (finished_tokens h) (entries_no_end s.text h c e))) (kept_other h (drop (first_open h h) (finished_tokens h)))
 
 -- no fault
 pub fault_none : (x : Next) → fault_in x ≡ None → ((l : Lexeme) → x ≢ Read l) → x ≡ Ends
@@ -231,7 +231,7 @@ unfolding remaining
 fault_next s = refl
 
 ended_tokens : (s : SpelledText) → next s.text (all s.text) ≡ Ends
-    → (offline s).tokens ≡ flat_map (spell s) (entries (all s.text)) ++ []
+    → (offline s).tokens ≡ flat_map (spell s) (finished_tokens (all s.text)) ++ []
 unfolding remaining handed
 ended_tokens s e = rw e refl
 
@@ -247,8 +247,8 @@ stream_ends s e =
 
 failed_tokens : (s : SpelledText) (p : ScanFault) → next s.text (all s.text) ≡ Fails p
     → let h = all s.text in
-    (offline s).tokens ≡ flat_map (spell s) (take (first_open h h) (entries h))
-    ++ front_ends (drop (first_open h h) (entries h))
+    (offline s).tokens ≡ flat_map (spell s) (take (first_open h h) (finished_tokens h))
+    ++ front_ends (drop (first_open h h) (finished_tokens h))
 unfolding remaining handed
 failed_tokens s p e = rw e refl
 
@@ -264,9 +264,9 @@ abbrev any_entry : Entry
 any_entry = entry_of first_lexeme []
 
 first_spelled : (s : SpelledText)
-    → spell s (get_or (entries (history s.text 1)) 0 any_entry)
+    → spell s (get_or (finished_tokens (history s.text 1)) 0 any_entry)
     ≡ record { body = stream_start s.encoding; start_mark = zero_mark; end_mark = zero_mark } ∷ []
-unfolding history next entries levels candidate
+unfolding history next finished_tokens open_levels candidate
 first_spelled s = refl
 
 first_known : (text : List ℕ) → 0 < first_open (history text 1) (history text 1)

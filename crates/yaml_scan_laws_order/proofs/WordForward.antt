@@ -1,6 +1,6 @@
 -- Lexemes of every kind end after their start, inside the text.
 use Rattle.std.proofs.Common.{◌≡◌, ℕ, ◌+◌, ◌<◌, ◌≤◌, ◌==◌, ◌&&◌, ◌||◌, not, Bool, true, false, if◌then◌else◌, List, length, Option, Some, None, Result, Ok, Err, refl, subst, inl, inr, arith}
-use Rattle.yaml_scan_laws_order.proofs.Words.{cases_Bool, and_parts, eqb-true, true≢false, nat_tests, yaml_scalar_style_t, TokenBody, byte, column_at, is_blank_or_end, Wrong, within, behind_bytes, anchor_at, TagText, tag_end, tag_at, ValueText, value_end, value_at, line_place, line_end_at, with_line, Lands, line_end_place, anchor_place, tag_place, value_place, double_quoted_at, single_quoted_at, PlainText, starts_plain, plain_at, BlockText, block_at, style_at, Kind, is_end, indicator_of, or_plain, kind_at, WordText, carrying, valued, tagged, directed, blocked, plainly, word_at}
+use Rattle.yaml_scan_laws_order.proofs.Words.{cases_Bool, and_parts, eqb-true, true≢false, nat_tests, yaml_scalar_style_t, TokenBody, byte, column_at, is_blank_or_end, Wrong, within, behind_bytes, anchor_at, TagText, tag_end, tag_at, ValueText, value_end, value_at, line_place, line_end_at, with_line, Lands, line_end_place, anchor_place, tag_place, value_place, double_quoted_at, single_quoted_at, PlainText, starts_plain, plain_at, BlockText, block_at, style_at, Kind, is_end, indicator_of, or_plain, kind_at, WordText, carrying, valued, tagged, directed, blocked, plainly, lexeme_at}
 use Rattle.yaml_scan_history.specs.scan_model.declared.name.yaml_scalar_style_t.TheVariants as styles
 use Rattle.yaml_scan_history.specs.scan_model.declared.problem.Context.TheVariants as contexts
 use Rattle.yaml_scan_history.specs.scan_model.Tokens as tokens
@@ -181,8 +181,8 @@ finished_lands text p (Err w) h = tt
 
 -- what is read where its kind stands ends after its start, the stream's end aside
 pub word_lands : (k : Kind) (flow : Bool) (level : ℕ) (text : List ℕ) (p : ℕ) → is_end k ≡ false
-    → Fits k text p → LandsWord text p (word_at k flow level text p)
-unfolding word_at
+    → Fits k text p → LandsWord text p (lexeme_at k flow level text p)
+unfolding lexeme_at
 word_lands kinds.StreamStart flow level text p e f = absurd f
 word_lands kinds.StreamEnd flow level text p e f = absurd (true≢false e)
 word_lands kinds.Directive flow level text p e f = finished_lands text p (value_at text p) (value_place text p f)

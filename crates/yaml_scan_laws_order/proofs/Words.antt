@@ -5,15 +5,15 @@ pub use Rattle.std.specs.List.{flat_map}
 pub use Rattle.yaml_scan_history.proofs.HistoryLemmas.{candidate-more, candidate_below, first_open-is, first_open-le, first_open-least, fresh_is, length-entries, length-keyed, stays, take-handed, take-history}
 pub use Rattle.yaml_scan_history.proofs.MarksLemmas.{past_break, within}
 pub use Rattle.yaml_scan_history.proofs.PlacesLemmas.{IsFrom, Lands, anchor_place, gap_place, line_end_place, tag_place, value_place}
-pub use Rattle.yaml_scan_history.specs.History.{Candidate, depth, ended, entry_of, found_by, fresh, inside, is_fresh, key_allowed, keyed, marked, placed, reached}
-unfoldable pub use Rattle.yaml_scan_history.specs.History.{candidate, entries, first_open, levels, mark_key}
+pub use Rattle.yaml_scan_history.specs.History.{Candidate, flow_depth, ended, entry_of, found_by, fresh, inside, is_fresh, key_allowed, keyed, marked, placed, reached}
+unfoldable pub use Rattle.yaml_scan_history.specs.History.{candidate, finished_tokens, first_open, open_levels, mark_key}
 pub use Rattle.yaml_scan_history.specs.Kinds.{cancels, is_end, is_value}
 pub use Rattle.yaml_scan_history.specs.Next.{Ends, Fails, Next, Read, allowed_behind, begun, extended, finished, first_lexeme, lost_by, misplaced, missed}
 unfoldable pub use Rattle.yaml_scan_history.specs.Next.{history, next}
 pub use Rattle.yaml_scan_history.specs.Remaining.{Remaining, SpelledText, before, body_by, body_of_word, end_tokens, fault_in, front_ends, handed_out, kept_of, nothing, offline, own_tokens, spell, start_tokens, token_in}
 unfoldable pub use Rattle.yaml_scan_history.specs.Remaining.{all, handed, remaining}
 pub use Rattle.yaml_scan_history.specs.Words.{WordText, blocked, body_said, carrying, directed, or_plain, plainly, tagged, valued}
-unfoldable pub use Rattle.yaml_scan_history.specs.Words.{indicator_of, kind_at, word_at}
+unfoldable pub use Rattle.yaml_scan_history.specs.Words.{indicator_of, kind_at, lexeme_at}
 pub use Rattle.yaml_scan_history.specs.declared.kind.Kind.{Kind}
 pub use Rattle.yaml_scan_history.specs.declared.lexeme.Entry.{Entry}
 pub use Rattle.yaml_scan_history.specs.declared.lexeme.Lexeme.{Lexeme}

@@ -1,7 +1,7 @@
 -- What is known of the lexemes of every text.
 use Rattle.std.specs.Prelude.{ℕ, suc, ◌+◌, ◌≡◌, ◌≢◌, ◌<◌, ◌≤◌, Some, List, ◌++◌, length, take}
 use Rattle.yaml_scan_history.specs.declared.lexeme.Lexeme.{Lexeme}
-use Rattle.yaml_scan_history.specs.History.{key_bytes, most_waiting, reached, Candidate, candidate, fresh, entries, first_open}
+use Rattle.yaml_scan_history.specs.History.{key_bytes, most_waiting, reached, Candidate, candidate, fresh, finished_tokens, first_open}
 use Rattle.yaml_scan_history.specs.Next.{Read, next, history}
 use Rattle.yaml_scan_history.specs.Remaining.{all, handed}
 use Rattle.yaml_scan_history.specs.Laws as layout
@@ -19,7 +19,7 @@ LexemesStand = (text : List ℕ) (n : ℕ) (l : Lexeme) → next text (history t
 -- Of the lexemes of n steps, those before the earliest open candidate are handed out as they stand, whatever follows.
 abbrev pub SettledStays : Type 0
 SettledStays = (text : List ℕ) (n m : ℕ) → m ≤ first_open (history text n) (history text n)
-    → take m (handed text) ≡ take m (entries (history text n))
+    → take m (handed text) ≡ take m (finished_tokens (history text n))
 
 -- A text has at most two lexemes more than bytes.
 abbrev pub AreFew : Type 0

@@ -1,6 +1,6 @@
 -- The law of windows after a line `...`.
 use Rattle.std.proofs.Common.{◌≡◌, ℕ, suc, ◌+◌, ◌-◌, true, false, List, [], ◌∷◌, ◌++◌, map, length, Option, Some, None, option_map, refl, sym, ap, subst, ◌∙◌, inl, inr, arith, ◌≤◌, nat_lt, take, drop, ◌⊎◌, add_assoc}
-use Rattle.yaml_scan_laws_texts.proofs.Shared.{cases_lt, cases_Bool, append_assoc, append-nil, length-append, same_from_push, flat_map, none-some, same_Some, yaml_encoding_t, yaml_mark_t, ScanFault, Fault, byte, line_at, mark_at, is_bom, Token, gap_within, gap_at, Kind, Lexeme, depth_after, is_end, is_outside, is_start, reached, depth, in_flow, ended, key_allowed, candidate, levels, entries, open_at, first_open, entry_of, kind_at, word_at, Next, Read, Fails, Ends, first_lexeme, gap_behind, kind_behind, next, extended, history, place_behind, missed, stale_before, coming, first_fault_or, no_start, SpelledText, token_in, spell, all, fault_in, Remaining, handed, remaining, body_by, front_ends, gap_place, all_ends, last_is_all, stream_starts, stream_ends, fault_next, IsCut, is_white, IsEndLine, IsEndCut, moved_mark, moved_token, moved_fault, moved_next, scan_of, EndedWindowsAreScanned, flat_map-append, scanner_fault, length-entries, take-length, drop-length}
+use Rattle.yaml_scan_laws_texts.proofs.Shared.{cases_lt, cases_Bool, append_assoc, append-nil, length-append, same_from_push, flat_map, none-some, same_Some, yaml_encoding_t, yaml_mark_t, ScanFault, Fault, byte, line_at, mark_at, is_bom, Token, gap_within, gap_at, Kind, Lexeme, depth_after, is_end, is_outside, is_start, reached, flow_depth, in_flow, ended, key_allowed, candidate, open_levels, finished_tokens, open_at, first_open, entry_of, kind_at, lexeme_at, Next, Read, Fails, Ends, first_lexeme, gap_behind, kind_behind, next, extended, history, place_behind, missed, stale_before, coming, first_fault_or, no_start, SpelledText, token_in, spell, all, fault_in, Remaining, handed, remaining, body_by, front_ends, gap_place, all_ends, last_is_all, stream_starts, stream_ends, fault_next, IsCut, is_white, IsEndLine, IsEndCut, moved_mark, moved_token, moved_fault, moved_next, scan_of, EndedWindowsAreScanned, flat_map-append, scanner_fault, length-entries, take-length, drop-length}
 use Rattle.yaml_scan_history.specs.scan_model.Tokens as tokens
 use Rattle.yaml_scan_history.specs.declared.kind.Kind.TheVariants as kinds
 use Rattle.yaml_scan_laws_texts.proofs.CutsWords.{end_kind}
@@ -80,7 +80,8 @@ line_reaches x line e none =
 -- where the front leaves no bracket open, none is open before its line
 line_outer : (x : yaml_encoding_t) (a line : List ℕ) → IsEndLine line → (front : List Token)
     (last : Token) → (g : Begun x a line kinds.DocumentEnd tokens.document_end front last)
-    → next (a ++ line) (all (a ++ line)) ≡ Ends → depth (all (a ++ line)) ≡ 0 → depth (all a) ≡ 0
+    → next (a ++ line) (all (a ++ line)) ≡ Ends → flow_depth (all (a ++ line)) ≡ 0
+    → flow_depth (all a) ≡ 0
 line_outer x a line e front last g over outer =
     let t = a ++ line in
     let H = g.newest ∷ g.older in
@@ -88,8 +89,8 @@ line_outer x a line e front last g over outer =
     let (y, finish) = goes_on t over g.steps g.newest g.older g.history_is goes in
     let (ended, _) = line_over a line e g.newest g.older (ap (λ (m : yaml_mark_t). m.index) g.lies.reached) y goes finish in
     let all_is = last_two t (suc g.steps) y H (one_more t g.steps H y g.history_is finish) (ap is_end ended) in
-    let deep : depth (all t) ≡ depth g.older =
-    ap depth all_is ∙ ap (λ k. depth_after k y.depth) ended ∙ read_deep t H y finish
+    let deep : flow_depth (all t) ≡ flow_depth g.older =
+    ap flow_depth all_is ∙ ap (λ k. depth_after k y.depth) ended ∙ read_deep t H y finish
     ∙ ap (λ k. depth_after k g.newest.depth) g.lies.kind ∙ g.lies.deep in
     g.deep ∙ sym deep ∙ outer
 
@@ -108,8 +109,8 @@ record Lined (x : yaml_encoding_t) (line b : List ℕ) (behind : List Token) : T
   pub fault : (scan_of x (line ++ b)).fault ≡ option_map (moved_fault (length line) (line_at (line ++ b) (length line))) (scan_of x b).fault
 
 start_told : (s : SpelledText)
-    → flat_map (spell s) (entries (first_lexeme ∷ [])) ≡ token_in s first_lexeme ∷ []
-unfolding entries levels candidate
+    → flat_map (spell s) (finished_tokens (first_lexeme ∷ [])) ≡ token_in s first_lexeme ∷ []
+unfolding finished_tokens open_levels candidate
 start_told s = refl
 
 lined : (x : yaml_encoding_t) (line b : List ℕ) → IsEndLine line → is_bom b 0 ≡ false
@@ -157,12 +158,12 @@ fault_twice d e n o (Some f) = rw (mark_twice d e n o f.problem_mark, mark_twice
 -- the empty text's tokens
 empty_told : (x : yaml_encoding_t)
     → (first : Token) × (last : Token) × ((scan_of x []).tokens ≡ first ∷ last ∷ [])
-unfolding remaining handed all history next entries levels candidate kind_at word_at gap_within
+unfolding remaining handed all history next finished_tokens open_levels candidate kind_at lexeme_at gap_within
 empty_told x = (_, _, refl)
 
 dots_same : (x : yaml_encoding_t) (line b : List ℕ) → IsEndLine line
     → dots_token x (line ++ b) ≡ dots_token x line
-unfolding word_at
+unfolding lexeme_at
 dots_same x line b e =
     let start = front_mark line b e.feed 0 (omega arith) in
     let end = front_mark line b e.feed 3 (omega (arith, line_long line e)) in
@@ -188,7 +189,7 @@ lined_alone x line e there =
 -- what is told of a front that ends in such a line
 record AtLine (x : yaml_encoding_t) (a line : List ℕ) : Type 0 where
   pub clear : (scan_of x a).fault ≡ None
-  pub inner : depth (all a) ≡ 0
+  pub inner : flow_depth (all a) ≡ 0
   pub front : List Token
   pub end : Token
   pub told : (scan_of x a).tokens ≡ front ++ end ∷ []
@@ -198,7 +199,7 @@ record AtLine (x : yaml_encoding_t) (a line : List ℕ) : Type 0 where
   pub reaches : (gap_at false false line 3).place ≡ length line
 
 at_line : (x : yaml_encoding_t) (a line : List ℕ) → IsCut a line → IsEndLine line
-    → (scan_of x (a ++ line)).fault ≡ None → depth (all (a ++ line)) ≡ 0 → AtLine x a line
+    → (scan_of x (a ++ line)).fault ≡ None → flow_depth (all (a ++ line)) ≡ 0 → AtLine x a line
 at_line x a line cut e none outer =
     let s : SpelledText = record { encoding = x; text = a } in
     let t = a ++ line in
@@ -238,7 +239,7 @@ at_line x a line cut e none outer =
 
 ended_at : (x : yaml_encoding_t) (a line b : List ℕ) → IsCut a line → IsCut a (line ++ b)
     → IsEndLine line
-    → is_bom b 0 ≡ false → (scan_of x (a ++ line)).fault ≡ None → depth (all (a ++ line)) ≡ 0
+    → is_bom b 0 ≡ false → (scan_of x (a ++ line)).fault ≡ None → flow_depth (all (a ++ line)) ≡ 0
     → (before : List Token) (last : Token) → (scan_of x (a ++ line)).tokens ≡ before ++ last ∷ []
     → (first : Token) (behind : List Token) → (scan_of x b).tokens ≡ first ∷ behind
     → let d = length a + length line in let n = line_at a (length a) + line_at line (length line) in
@@ -268,12 +269,12 @@ ended_at x a line b cut over e plain none outer before last are first behind com
 
 -- A front that ends in such a line has DOCUMENT-END before STREAM-END.
 pub ended_front : (x : yaml_encoding_t) (front rest : List ℕ) → IsEndCut front rest
-    → (scan_of x front).fault ≡ None → depth (all front) ≡ 0
+    → (scan_of x front).fault ≡ None → flow_depth (all front) ≡ 0
     → (before : List Token) × (over last : Token)
     × ((scan_of x front).tokens ≡ (before ++ over ∷ []) ++ last ∷ []) × (over.body ≡ tokens.document_end)
-unfolding word_at
+unfolding lexeme_at
 ended_front x front rest cut none outer =
-    let m = at_line x cut.before cut.line (line_cut cut.before cut.line cut.lines cut.some cut.ends.mark) cut.ends (subst (λ t. (scan_of x t).fault ≡ None) cut.parts none) (subst (λ t. depth (all t) ≡ 0) cut.parts outer) in
+    let m = at_line x cut.before cut.line (line_cut cut.before cut.line cut.lines cut.some cut.ends.mark) cut.ends (subst (λ t. (scan_of x t).fault ≡ None) cut.parts none) (subst (λ t. flow_depth (all t) ≡ 0) cut.parts outer) in
     (m.front, moved_token (length cut.before) (line_at cut.before (length cut.before)) (dots_token x cut.line), m.tail, ap (λ t. (scan_of x t).tokens) cut.parts ∙ m.whole, refl)
 
 pub ended_windows_are_scanned : EndedWindowsAreScanned
@@ -281,7 +282,7 @@ ended_windows_are_scanned x front rest cut none outer before last are first behi
     let a = cut.before in
     let line = cut.line in
     let (told, fault) = ended_at x a line rest (line_cut a line cut.lines cut.some cut.ends.mark) (line_cut a (line ++ rest) cut.lines cut.some (whole_end line rest cut.ends)) cut.ends cut.mark
-    (subst (λ t. (scan_of x t).fault ≡ None) cut.parts none) (subst (λ t. depth (all t) ≡ 0) cut.parts outer)
+    (subst (λ t. (scan_of x t).fault ≡ None) cut.parts none) (subst (λ t. flow_depth (all t) ≡ 0) cut.parts outer)
     before last (subst (λ t. (scan_of x t).tokens ≡ before ++ last ∷ []) cut.parts are) first behind come in
     let whole : a ++ (line ++ rest) ≡ front ++ rest = sym (append_assoc a line rest) ∙ ap (λ t. t ++ rest) (sym cut.parts) in
     let size : length a + length line ≡ length front = sym (length-append a line) ∙ ap length (sym cut.parts) in
@@ -300,8 +301,8 @@ ended_windows_are_scanned x front rest cut none outer before last are first behi
 -- ---- a line `...` with nothing after it
 
 outer_levels : (l : Lexeme) (H : List Lexeme) (K : Kind) → l.kind ≡ K → is_outside K ≡ true
-    → is_start K ≡ false → nat_lt 0 l.depth ≡ false → levels (l ∷ H) ≡ []
-unfolding levels
+    → is_start K ≡ false → nat_lt 0 l.depth ≡ false → open_levels (l ∷ H) ≡ []
+unfolding open_levels
 outer_levels l H K k out start deep = rw (k, start, deep, out) (none_left H)
 
 no_closings : (l : Lexeme) (H : List Lexeme) (K : Kind) → l.kind ≡ K → is_outside K ≡ true
@@ -309,7 +310,7 @@ no_closings : (l : Lexeme) (H : List Lexeme) (K : Kind) → l.kind ≡ K → is_
 no_closings l H K k out start m =
     elim (cases_Bool (nat_lt 0 l.depth)) [
       | inl deep ↦
-          let none : length (levels (l ∷ H)) - length (levels (l ∷ H)) ≡ 0 = omega arith in
+          let none : length (open_levels (l ∷ H)) - length (open_levels (l ∷ H)) ≡ 0 = omega arith in
           rw (deep, none) refl
       | inr flat ↦ rw (flat, outer_levels l H K k out start flat) refl
     ]
@@ -357,20 +358,20 @@ line_fails a line e l h at more g fails =
         go (Some f) k r = ap (λ (z : ScanFault). z.problem_mark.index) (fails_same (sym r)) ∙ ap (λ (z : yaml_mark_t). z.index) (colon_index (missed _ (place_behind t H)) (place_behind t H) f k)
 
 all_taken : (s : SpelledText) (g : ScanFault) (H : List Lexeme) → ((e : ℕ) → open_at e H ≡ None)
-    → told s (Fails g) H ≡ flat_map (spell s) (entries H)
+    → told s (Fails g) H ≡ flat_map (spell s) (finished_tokens H)
 all_taken s g H shut =
-    let n : first_open H H ≡ length (entries H) = none_open H H shut ∙ sym (length-entries H) in
-    ap (λ k. flat_map (spell s) (take k (entries H)) ++ front_ends (drop k (entries H))) n
-    ∙ ap (λ z. flat_map (spell s) z ++ front_ends (drop (length (entries H)) (entries H))) (take-length (entries H))
-    ∙ ap (λ z. flat_map (spell s) (entries H) ++ front_ends z) (drop-length (entries H))
-    ∙ append-nil (flat_map (spell s) (entries H))
+    let n : first_open H H ≡ length (finished_tokens H) = none_open H H shut ∙ sym (length-entries H) in
+    ap (λ k. flat_map (spell s) (take k (finished_tokens H)) ++ front_ends (drop k (finished_tokens H))) n
+    ∙ ap (λ z. flat_map (spell s) z ++ front_ends (drop (length (finished_tokens H)) (finished_tokens H))) (take-length (finished_tokens H))
+    ∙ ap (λ z. flat_map (spell s) (finished_tokens H) ++ front_ends z) (drop-length (finished_tokens H))
+    ∙ append-nil (flat_map (spell s) (finished_tokens H))
 
 -- A front's tokens, where it ends in such a line.
 pub line_tail : (x : yaml_encoding_t) (a line : List ℕ) → IsEndLine line → (front : List Token)
     (last : Token) → (r : Begun x a line kinds.DocumentEnd tokens.document_end front last)
     → (tail : List Token) × ((scan_of x (a ++ line)).tokens ≡ front ++ r.mark ∷ tail)
     × TailSo a tail (scan_of x (a ++ line)).fault
-unfolding word_at
+unfolding lexeme_at
 line_tail x a line e front last r = by (next (a ++ line) (r.newest ∷ r.older)) refl
   where
     by : (y : Next) → next (a ++ line) (r.newest ∷ r.older) ≡ y
@@ -388,10 +389,10 @@ line_tail x a line e front last r = by (next (a ++ line) (r.newest ∷ r.older))
         let deep : y.depth ≡ r.newest.depth = read_deep t H y k ∙ ap (λ z. depth_after z r.newest.depth) r.lies.kind in
         let closed : closings y.depth H y.start ≡ [] = ap (λ d. closings d H y.start) deep ∙ no_closings r.newest r.older kinds.DocumentEnd r.lies.kind refl refl y.start in
         let list : (scan_of x t).tokens ≡ front ++ r.mark ∷ token_in s y ∷ [] =
-        offline_told s ∙ ap (λ z. told s z (all t)) over ∙ append-nil (flat_map (spell s) (entries (all t)))
-        ∙ ap (λ z. flat_map (spell s) (entries z)) is_all
+        offline_told s ∙ ap (λ z. told s z (all t)) over ∙ append-nil (flat_map (spell s) (finished_tokens (all t)))
+        ∙ ap (λ z. flat_map (spell s) (finished_tokens z)) is_all
         ∙ ap (flat_map (spell s)) (outer_entries y H kinds.StreamEnd ended refl)
-        ∙ flat_map-append (spell s) (entries H) (entry_of y H ∷ [])
+        ∙ flat_map-append (spell s) (finished_tokens H) (entry_of y H ∷ [])
         ∙ ap (λ z. z ++ (spell s (entry_of y H) ++ [])) r.base
         ∙ ap (λ z. (front ++ r.mark ∷ []) ++ z) (append-nil (spell s (entry_of y H)) ∙ outer_spelled s y H kinds.StreamEnd ended refl refl ∙ ap (λ z. z ++ token_in s y ∷ []) closed)
         ∙ append_assoc front (r.mark ∷ []) (token_in s y ∷ []) in

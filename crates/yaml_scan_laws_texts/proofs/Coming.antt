@@ -1,6 +1,6 @@
 -- What comes next is the same in both texts.
 use Rattle.std.proofs.Common.{◌≡◌, ℕ, ◌+◌, ◌<◌, ◌≤◌, ◌&&◌, ◌||◌, nat_lt, if◌then◌else◌, Bool, true, false, not, List, [], ◌∷◌, ◌++◌, length, Option, Some, None, Result, Ok, Err, refl, sym, ap, ◌∙◌, inl, inr, arith}
-use Rattle.yaml_scan_laws_texts.proofs.Shared.{cases_Bool, yaml_mark_t, ScanFault, line_at, mark_at, Wrong, Gap, Kind, Lexeme, cancels, is_value, is_start, is_end, reached, depth, in_flow, Candidate, candidate, is_fresh, fresh, open_at, has, levels, key_allowed, placed, WordText, kind_at, Read, Fails, gap_behind, place_behind, kind_behind, allowed_behind, begun, finished, begun_behind, word_behind, with_end, lexeme_behind, missed, lost_by, misplaced, colon_missing_of, no_start, not_allowed_there, stale_before, indicator_misplaced, candidate_lost, wrong_in, text_wrong, stale_after, first_fault_or, coming, Alike, moved_mark, moved_lexeme, moved_scan_fault, moved_next}
+use Rattle.yaml_scan_laws_texts.proofs.Shared.{cases_Bool, yaml_mark_t, ScanFault, line_at, mark_at, Wrong, Gap, Kind, Lexeme, cancels, is_value, is_start, is_end, reached, flow_depth, in_flow, Candidate, candidate, is_fresh, fresh, open_at, has, open_levels, key_allowed, placed, WordText, kind_at, Read, Fails, gap_behind, place_behind, kind_behind, allowed_behind, begun, finished, begun_behind, word_behind, with_end, lexeme_behind, missed, lost_by, misplaced, colon_missing_of, no_start, not_allowed_there, stale_before, indicator_misplaced, candidate_lost, wrong_in, text_wrong, stale_after, first_fault_or, coming, Alike, moved_mark, moved_lexeme, moved_scan_fault, moved_next}
 use Rattle.yaml_scan_laws_texts.proofs.Bytes.{column_alike, line_alike}
 use Rattle.yaml_scan_laws_texts.proofs.Gaps.{GapsAlike, gap_alike, moved_by}
 use Rattle.yaml_scan_laws_texts.proofs.CutsWords.{kind_alike, moved_word}
@@ -79,8 +79,8 @@ mark_alike t u d m n p a line l = rw (line_alike t u d m p a l, column_alike t u
 pub record Pair (t u : List ℕ) (d m n k : ℕ) (H G : List Lexeme) : Type 0 where
   pub alike : Alike t u d m
   pub line : line_at u d ≡ n
-  pub same_depth : depth G ≡ depth H
-  pub same_levels : levels G ≡ levels H
+  pub same_depth : flow_depth G ≡ flow_depth H
+  pub same_levels : open_levels G ≡ open_levels H
   pub candidates : (e : ℕ) → candidate e G ≡ moved_found d n k (candidate e H)
   pub count : length G ≡ k + length H
   pub place : (gap_behind u G).place ≡ d + (gap_behind t H).place
@@ -92,10 +92,10 @@ pub record Pair (t u : List ℕ) (d m n k : ℕ) (H G : List Lexeme) : Type 0 wh
 pub record Abreast (t u : List ℕ) (d m n k : ℕ) (H G : List Lexeme) : Type 0 where
   pub alike : Alike t u d m
   pub line : line_at u d ≡ n
-  pub same_depth : depth G ≡ depth H
+  pub same_depth : flow_depth G ≡ flow_depth H
   pub same_place : reached G ≡ moved_mark d n (reached H)
   pub same_allowed : key_allowed G ≡ key_allowed H
-  pub same_levels : levels G ≡ levels H
+  pub same_levels : open_levels G ≡ open_levels H
   pub candidates : (e : ℕ) → candidate e G ≡ moved_found d n k (candidate e H)
   pub count : length G ≡ k + length H
   pub within : (reached H).index ≤ m
@@ -214,14 +214,14 @@ stale_there t u d m n k H G p =
     ∙ colon_moved d n (missed (open_at 0 H) (place_behind t H)) (place_behind t H)
 
 misplaced_moved : (d n k : ℕ) (x : Kind) (m : yaml_mark_t) (a : Bool) (H G : List Lexeme)
-    → depth G ≡ depth H → ((e : ℕ) → candidate e G ≡ moved_found d n k (candidate e H))
+    → flow_depth G ≡ flow_depth H → ((e : ℕ) → candidate e G ≡ moved_found d n k (candidate e H))
     → misplaced x (moved_mark d n m) a G ≡ misplaced x m a H
 misplaced_moved d n k x m a H G e f =
     let found = ap (λ (z : ℕ). has (fresh (candidate z G) (moved_mark d n m))) e
-    ∙ ap (λ o. has (fresh o (moved_mark d n m))) (f (depth H))
-    ∙ ap has (fresh_moved d n k (candidate (depth H) H) m)
-    ∙ has_moved d n k (fresh (candidate (depth H) H) m) in
-    ap (λ (z : ℕ). (not (nat_lt 0 z) && not a) && (is_start x && not (is_value x && has (fresh (candidate (depth G) G) (moved_mark d n m))))) e
+    ∙ ap (λ o. has (fresh o (moved_mark d n m))) (f (flow_depth H))
+    ∙ ap has (fresh_moved d n k (candidate (flow_depth H) H) m)
+    ∙ has_moved d n k (fresh (candidate (flow_depth H) H) m) in
+    ap (λ (z : ℕ). (not (nat_lt 0 z) && not a) && (is_start x && not (is_value x && has (fresh (candidate (flow_depth G) G) (moved_mark d n m))))) e
     ∙ ap (λ (z : Bool). (not (in_flow H) && not a) && (is_start x && not (is_value x && z))) found
 
 pub misplaced_there : (t u : List ℕ) (d m n k : ℕ) (H G : List Lexeme) → Pair t u d m n k H G
@@ -244,13 +244,13 @@ lost_there t u d m n k H G p x =
     let place = place_there t u d m n k H G p in
     let begins = begun_there t u d m n k H G p x in
     let found = ap (λ (e : ℕ). fresh (candidate e G) (place_behind u G)) p.same_depth
-    ∙ ap (λ o. fresh o (place_behind u G)) (p.candidates (depth H))
-    ∙ ap (λ (m : yaml_mark_t). fresh (moved_found d n k (candidate (depth H) H)) m) place
-    ∙ fresh_moved d n k (candidate (depth H) H) (place_behind t H) in
-    ap (λ (l : Lexeme). colon_missing_of (lost_by l (fresh (candidate (depth G) G) (place_behind u G))) l.start) begins
+    ∙ ap (λ o. fresh o (place_behind u G)) (p.candidates (flow_depth H))
+    ∙ ap (λ (m : yaml_mark_t). fresh (moved_found d n k (candidate (flow_depth H) H)) m) place
+    ∙ fresh_moved d n k (candidate (flow_depth H) H) (place_behind t H) in
+    ap (λ (l : Lexeme). colon_missing_of (lost_by l (fresh (candidate (flow_depth G) G) (place_behind u G))) l.start) begins
     ∙ ap (λ o. colon_missing_of (lost_by (moved_lexeme d n (begun_behind x t H)) o) (moved_mark d n (begun_behind x t H).start)) found
-    ∙ ap (λ o. colon_missing_of o (moved_mark d n (begun_behind x t H).start)) (lost_moved d n k (begun_behind x t H) (fresh (candidate (depth H) H) (place_behind t H)))
-    ∙ colon_moved d n (lost_by (begun_behind x t H) (fresh (candidate (depth H) H) (place_behind t H))) (begun_behind x t H).start
+    ∙ ap (λ o. colon_missing_of o (moved_mark d n (begun_behind x t H).start)) (lost_moved d n k (begun_behind x t H) (fresh (candidate (flow_depth H) H) (place_behind t H)))
+    ∙ colon_moved d n (lost_by (begun_behind x t H) (fresh (candidate (flow_depth H) H) (place_behind t H))) (begun_behind x t H).start
 
 text_there : (t u : List ℕ) (d m n k : ℕ) (H G : List Lexeme) → Pair t u d m n k H G → (x : Kind)
     → Said t u d m n x (word_behind x t H) (word_behind x u G)

@@ -1,6 +1,6 @@
 -- After a line `...` the whole goes on as a stream that begins there.
 use Rattle.std.proofs.Common.{◌≡◌, ℕ, zero, suc, ◌+◌, ◌<◌, ◌≤◌, ◌==◌, ◌&&◌, ◌||◌, nat_lt, not, Bool, true, false, List, [], ◌∷◌, ◌++◌, length, None, refl, sym, ap, subst, ◌∙◌, inl, inr, ◌⊎◌, arith}
-use Rattle.yaml_scan_laws_texts.proofs.Shared.{cases_Bool, cases_lt, and_parts, eqb-true, true≢false, nat_tests, length-append, or-true, byte, break_of, break_width, line_at, column_at, is_blank, is_blank_or_end, is_bom, is_document_indicator, is_document_end, step_at, Gap, with_break, gap_within, gap_at, within, start_column, past_break, Lexeme, candidate, levels, kind_at, first_lexeme, gap_behind, allowed_behind, next, history, EndsIn, EndsLine, IsCut, is_white, IsEndLine, ne_eqb, lt-ltb, ltb-true}
+use Rattle.yaml_scan_laws_texts.proofs.Shared.{cases_Bool, cases_lt, and_parts, eqb-true, true≢false, nat_tests, length-append, or-true, byte, break_of, break_width, line_at, column_at, is_blank, is_blank_or_end, is_bom, is_document_indicator, is_document_end, step_at, Gap, with_break, gap_within, gap_at, within, start_column, past_break, Lexeme, candidate, open_levels, kind_at, first_lexeme, gap_behind, allowed_behind, next, history, EndsIn, EndsLine, IsCut, is_white, IsEndLine, ne_eqb, lt-ltb, ltb-true}
 use Rattle.yaml_scan_history.specs.scan_model.Tokens as tokens
 use Rattle.yaml_scan_history.specs.declared.kind.Kind.TheVariants as kinds
 use Rattle.yaml_scan_laws_texts.proofs.Gaps.{is_passed, gap_passes, gap_breaks, gap_stops, left_step, gap_by}
@@ -249,8 +249,8 @@ unfolding candidate
 first_candidate zero = refl
 first_candidate (suc e) = rw (ne_eqb 0 (suc e) (omega arith), lt-ltb 0 (suc e) (omega arith)) refl
 
-first_levels : levels (first_lexeme ∷ []) ≡ []
-unfolding levels
+first_levels : open_levels (first_lexeme ∷ []) ≡ []
+unfolding open_levels
 first_levels = refl
 
 line_bases : (t : List ℕ) (d n : ℕ) → Bases d n 1 (first_lexeme ∷ []) (line_base t)

@@ -1,6 +1,6 @@
 -- Entries of lexemes that stand on others that decide the same, and the tokens of a text that is cut in two.
 use Rattle.std.proofs.Common.{◌≡◌, ℕ, zero, suc, ◌+◌, ◌-◌, ◌≤◌, ◌==◌, nat_lt, if◌then◌else◌, Bool, true, false, List, [], ◌∷◌, ◌++◌, map, length, Option, Some, None, refl, sym, ap, ◌∙◌, inl, inr, arith, ◌≢◌, take, drop, replicate}
-use Rattle.yaml_scan_laws_texts.proofs.Shared.{cases_Bool, nat_tests, length-append, append-nil, append_assoc, map-append, none-some, same_Some, yaml_encoding_t, Lexeme, Entry, is_value, reached, Candidate, candidate, fresh, open_at, has_number, first_or, first_open, found_by, left_by, inside, entry_of, mark_key, marked, keyed, entries, body_in, candidate-more, fresh_is, length-entries, first_open-le, moved_lexeme, flat_map-append, take-map, drop-map, flat_map, ScanFault, Token, block_end, Next, Read, Fails, Ends, next, SpelledText, token_in, before, start_tokens, end_tokens, own_tokens, spell, all, handed_out, handed, front_ends, kept_of, remaining, offline, moved_token, moved_next, take-append-add, drop-append-add, le-ltb, ne_eqb}
+use Rattle.yaml_scan_laws_texts.proofs.Shared.{cases_Bool, nat_tests, length-append, append-nil, append_assoc, map-append, none-some, same_Some, yaml_encoding_t, Lexeme, Entry, is_value, reached, Candidate, candidate, fresh, open_at, has_number, first_or, first_open, found_by, left_by, inside, entry_of, mark_key, marked, keyed, finished_tokens, body_in, candidate-more, fresh_is, length-entries, first_open-le, moved_lexeme, flat_map-append, take-map, drop-map, flat_map, ScanFault, Token, block_end, Next, Read, Fails, Ends, next, SpelledText, token_in, before, start_tokens, end_tokens, own_tokens, spell, all, handed_out, handed, front_ends, kept_of, remaining, offline, moved_token, moved_next, take-append-add, drop-append-add, le-ltb, ne_eqb}
 use Rattle.yaml_scan_laws_texts.proofs.Rests.{AllCarry}
 use Rattle.yaml_scan_laws_texts.proofs.Histories.{Bases, moved_lexemes, moved_candidate, moved_found, length_on, candidate_on, fresh_moved, found_on, has_moved, levels_on}
 use Rattle.yaml_scan_history.specs.declared.lexeme.Opens.{Opens}
@@ -74,45 +74,46 @@ say_push x t u d n (y ∷ es) e s h = (s.0, say_push x t u d n es e s.1 h)
 -- The entries of lexemes on a base: those of the base, and others, which in the other text are moved.
 pub record Entered (d n : ℕ) (h b c : List Lexeme) : Type 0 where
   pub more : List Entry
-  pub mine : entries (h ++ b) ≡ entries b ++ more
-  pub others : entries (moved_lexemes d n h ++ c) ≡ entries c ++ map (moved_entry d n) more
+  pub mine : finished_tokens (h ++ b) ≡ finished_tokens b ++ more
+  pub others : finished_tokens (moved_lexemes d n h ++ c)
+      ≡ finished_tokens c ++ map (moved_entry d n) more
   pub say : (x : yaml_encoding_t) (t u : List ℕ) → AllCarry x t u d n h → AllSay x t u d n more
 
 keyed_on : (d n k : ℕ) (l : Lexeme) (h b c : List Lexeme) → Bases d n k b c → (es : List Entry)
     → (o : Option Candidate) → found_by l (h ++ b) ≡ o
     → (more : List Entry)
-    × (marked o (inside l (h ++ b)) (entries b ++ es) ≡ entries b ++ more)
-    × (marked (moved_found d n k o) (inside l (h ++ b)) (entries c ++ map (moved_entry d n) es) ≡ entries c ++ map (moved_entry d n) more)
+    × (marked o (inside l (h ++ b)) (finished_tokens b ++ es) ≡ finished_tokens b ++ more)
+    × (marked (moved_found d n k o) (inside l (h ++ b)) (finished_tokens c ++ map (moved_entry d n) es) ≡ finished_tokens c ++ map (moved_entry d n) more)
     × ((x : yaml_encoding_t) (t u : List ℕ) → AllSay x t u d n es → AllSay x t u d n more)
 keyed_on d n k l h b c s es None e = (es, refl, refl, λ x t u y. y)
 keyed_on d n k l h b c s es (Some f) e =
     let lv = inside l (h ++ b) in
     let high = above h b l.depth f s.mine (fresh_is (candidate l.depth (h ++ b)) l.start f e) in
-    let long : length (entries b) ≡ length b = length-entries b in
-    let wide : length (entries c) ≡ length c = length-entries c in
-    let i = f.number - length (entries b) in
-    let same : k + f.number - length (entries c) ≡ i = omega (arith, s.count, long, wide) in (
+    let long : length (finished_tokens b) ≡ length b = length-entries b in
+    let wide : length (finished_tokens c) ≡ length c = length-entries c in
+    let i = f.number - length (finished_tokens b) in
+    let same : k + f.number - length (finished_tokens c) ≡ i = omega (arith, s.count, long, wide) in (
       mark_key lv es i,
-      mark_right lv (entries b) es f.number (omega (arith, high, long)),
-      mark_right lv (entries c) (map (moved_entry d n) es) (k + f.number) (omega (arith, high, long, wide, s.count))
-          ∙ ap (λ z. entries c ++ mark_key lv (map (moved_entry d n) es) z) same
-          ∙ ap (λ z. entries c ++ z) (mark_moved d n lv es i),
+      mark_right lv (finished_tokens b) es f.number (omega (arith, high, long)),
+      mark_right lv (finished_tokens c) (map (moved_entry d n) es) (k + f.number) (omega (arith, high, long, wide, s.count))
+          ∙ ap (λ z. finished_tokens c ++ mark_key lv (map (moved_entry d n) es) z) same
+          ∙ ap (λ z. finished_tokens c ++ z) (mark_moved d n lv es i),
       λ x t u y. say_mark x t u d n lv es i y,
     )
 
 keyed_same : (d n k : ℕ) (l : Lexeme) (h b c : List Lexeme) → Bases d n k b c → (es : List Entry)
     → (more : List Entry)
-    × (keyed l (h ++ b) (entries b ++ es) ≡ entries b ++ more)
-    × (keyed (moved_lexeme d n l) (moved_lexemes d n h ++ c) (entries c ++ map (moved_entry d n) es) ≡ entries c ++ map (moved_entry d n) more)
+    × (keyed l (h ++ b) (finished_tokens b ++ es) ≡ finished_tokens b ++ more)
+    × (keyed (moved_lexeme d n l) (moved_lexemes d n h ++ c) (finished_tokens c ++ map (moved_entry d n) es) ≡ finished_tokens c ++ map (moved_entry d n) more)
     × ((x : yaml_encoding_t) (t u : List ℕ) → AllSay x t u d n es → AllSay x t u d n more)
 keyed_same d n k l h b c s es =
     elim (cases_Bool (is_value l.kind)) [
-      | inr v ↦ (es, off v (marked (found_by l (h ++ b)) (inside l (h ++ b)) (entries b ++ es)) (entries b ++ es), off v (marked (found_by (moved_lexeme d n l) (moved_lexemes d n h ++ c)) (inside (moved_lexeme d n l) (moved_lexemes d n h ++ c)) (entries c ++ map (moved_entry d n) es)) (entries c ++ map (moved_entry d n) es), λ x t u y. y)
+      | inr v ↦ (es, off v (marked (found_by l (h ++ b)) (inside l (h ++ b)) (finished_tokens b ++ es)) (finished_tokens b ++ es), off v (marked (found_by (moved_lexeme d n l) (moved_lexemes d n h ++ c)) (inside (moved_lexeme d n l) (moved_lexemes d n h ++ c)) (finished_tokens c ++ map (moved_entry d n) es)) (finished_tokens c ++ map (moved_entry d n) es), λ x t u y. y)
       | inl v ↦
           let (more, mine, others, say) = keyed_on d n k l h b c s es (found_by l (h ++ b)) refl in
-          let ys = entries c ++ map (moved_entry d n) es in (
+          let ys = finished_tokens c ++ map (moved_entry d n) es in (
             more,
-            on v _ (entries b ++ es) ∙ mine,
+            on v _ (finished_tokens b ++ es) ∙ mine,
             on v _ ys ∙ ap (λ o. marked o (inside (moved_lexeme d n l) (moved_lexemes d n h ++ c)) ys) (found_on d n k l h b c s)
                 ∙ ap (λ z. marked (moved_found d n k (found_by l (h ++ b))) z ys) (inside_on d n k l h b c s) ∙ others,
             say,
@@ -126,11 +127,11 @@ keyed_same d n k l h b c s es =
     off v xs ys = rw v refl
 
 pub entered : (d n k : ℕ) (h b c : List Lexeme) → Bases d n k b c → Entered d n h b c
-unfolding entries
+unfolding finished_tokens
 entered d n k [] b c s = record {
   more = [];
-  mine = sym (append-nil (entries b));
-  others = sym (append-nil (entries c));
+  mine = sym (append-nil (finished_tokens b));
+  others = sym (append-nil (finished_tokens c));
   say = λ x t u y. tt;
 }
 entered d n k (l ∷ h) b c s =
@@ -139,12 +140,12 @@ entered d n k (l ∷ h) b c s =
     let e = entry_of l (h ++ b) in
     record {
       more = more ++ e ∷ [];
-      mine = ap (λ z. keyed l (h ++ b) z ++ e ∷ []) before.mine ∙ ap (λ z. z ++ e ∷ []) mine ∙ append_assoc (entries b) more (e ∷ []);
+      mine = ap (λ z. keyed l (h ++ b) z ++ e ∷ []) before.mine ∙ ap (λ z. z ++ e ∷ []) mine ∙ append_assoc (finished_tokens b) more (e ∷ []);
       others = ap (λ z. keyed (moved_lexeme d n l) (moved_lexemes d n h ++ c) z ++ entry_of (moved_lexeme d n l) (moved_lexemes d n h ++ c) ∷ []) before.others
           ∙ ap (λ z. z ++ entry_of (moved_lexeme d n l) (moved_lexemes d n h ++ c) ∷ []) others
-          ∙ ap (λ z. (entries c ++ map (moved_entry d n) more) ++ z ∷ []) (entry_on d n k l h b c s)
-          ∙ append_assoc (entries c) (map (moved_entry d n) more) (moved_entry d n e ∷ [])
-          ∙ ap (λ z. entries c ++ z) (sym (map-append (moved_entry d n) more (e ∷ [])));
+          ∙ ap (λ z. (finished_tokens c ++ map (moved_entry d n) more) ++ z ∷ []) (entry_on d n k l h b c s)
+          ∙ append_assoc (finished_tokens c) (map (moved_entry d n) more) (moved_entry d n e ∷ [])
+          ∙ ap (λ z. finished_tokens c ++ z) (sym (map-append (moved_entry d n) more (e ∷ [])));
       say = λ x t u y. say_push x t u d n more e (say x t u (before.say x t u y.1)) y.0;
     }
 
@@ -323,9 +324,9 @@ offline_told s = refl
 -- what is told of the lexemes on a base
 pub record Parted (s v : SpelledText) (d n : ℕ) (y : Next) (h b c : List Lexeme) : Type 0 where
   pub behind : List Token
-  pub mine : told s y (h ++ b) ≡ flat_map (spell s) (entries b) ++ behind
+  pub mine : told s y (h ++ b) ≡ flat_map (spell s) (finished_tokens b) ++ behind
   pub others : told v (moved_next d n y) (moved_lexemes d n h ++ c)
-      ≡ flat_map (spell v) (entries c) ++ map (moved_token d n) behind
+      ≡ flat_map (spell v) (finished_tokens c) ++ map (moved_token d n) behind
 
 whole_parts : (x : yaml_encoding_t) (t u : List ℕ) (d n k : ℕ) (h b c : List Lexeme)
     → Bases d n k b c
@@ -340,9 +341,9 @@ whole_parts x t u d n k h b c base carry =
     let said = spells_moved d n x t u es.more (es.say x t u carry) in
     record {
       behind = flat_map (spell s) es.more;
-      mine = append-nil (flat_map (spell s) (entries (h ++ b))) ∙ ap (flat_map (spell s)) es.mine ∙ flat_map-append (spell s) (entries b) es.more;
-      others = append-nil (flat_map (spell v) (entries (moved_lexemes d n h ++ c))) ∙ ap (flat_map (spell v)) es.others ∙ flat_map-append (spell v) (entries c) (map (moved_entry d n) es.more)
-          ∙ ap (λ z. flat_map (spell v) (entries c) ++ z) said;
+      mine = append-nil (flat_map (spell s) (finished_tokens (h ++ b))) ∙ ap (flat_map (spell s)) es.mine ∙ flat_map-append (spell s) (finished_tokens b) es.more;
+      others = append-nil (flat_map (spell v) (finished_tokens (moved_lexemes d n h ++ c))) ∙ ap (flat_map (spell v)) es.others ∙ flat_map-append (spell v) (finished_tokens c) (map (moved_entry d n) es.more)
+          ∙ ap (λ z. flat_map (spell v) (finished_tokens c) ++ z) said;
     }
 
 failed_parts : (x : yaml_encoding_t) (t u : List ℕ) (d n k : ℕ) (p : ScanFault)
@@ -358,34 +359,34 @@ failed_parts x t u d n k p h b c base carry =
     let high = first_above d n k h b c base in
     let moved = first_open_on d n k h b c base in
     let i = first_open (h ++ b) (h ++ b) - length b in
-    let short : first_open (h ++ b) (h ++ b) ≡ length (entries b) + i = omega (arith, high, length-entries b) in
-    let long : first_open (moved_lexemes d n h ++ c) (moved_lexemes d n h ++ c) ≡ length (entries c) + i = omega (arith, high, moved, base.count, length-entries c) in
+    let short : first_open (h ++ b) (h ++ b) ≡ length (finished_tokens b) + i = omega (arith, high, length-entries b) in
+    let long : first_open (moved_lexemes d n h ++ c) (moved_lexemes d n h ++ c) ≡ length (finished_tokens c) + i = omega (arith, high, moved, base.count, length-entries c) in
     let f = moved_token d n in
-    let took : take (first_open (h ++ b) (h ++ b)) (entries (h ++ b)) ≡ entries b ++ take i es.more =
-    ap (λ z. take z (entries (h ++ b))) short ∙ ap (take (length (entries b) + i)) es.mine ∙ take-append-add (entries b) es.more i in
-    let left : drop (first_open (h ++ b) (h ++ b)) (entries (h ++ b)) ≡ drop i es.more =
-    ap (λ z. drop z (entries (h ++ b))) short ∙ ap (drop (length (entries b) + i)) es.mine ∙ drop-append-add (entries b) es.more i in
-    let took_there : take (first_open (moved_lexemes d n h ++ c) (moved_lexemes d n h ++ c)) (entries (moved_lexemes d n h ++ c)) ≡ entries c ++ map (moved_entry d n) (take i es.more) =
-    ap (λ z. take z (entries (moved_lexemes d n h ++ c))) long ∙ ap (take (length (entries c) + i)) es.others ∙ take-append-add (entries c) (map (moved_entry d n) es.more) i
-    ∙ ap (λ z. entries c ++ z) (take-map (moved_entry d n) i es.more) in
-    let left_there : drop (first_open (moved_lexemes d n h ++ c) (moved_lexemes d n h ++ c)) (entries (moved_lexemes d n h ++ c)) ≡ map (moved_entry d n) (drop i es.more) =
-    ap (λ z. drop z (entries (moved_lexemes d n h ++ c))) long ∙ ap (drop (length (entries c) + i)) es.others ∙ drop-append-add (entries c) (map (moved_entry d n) es.more) i
+    let took : take (first_open (h ++ b) (h ++ b)) (finished_tokens (h ++ b)) ≡ finished_tokens b ++ take i es.more =
+    ap (λ z. take z (finished_tokens (h ++ b))) short ∙ ap (take (length (finished_tokens b) + i)) es.mine ∙ take-append-add (finished_tokens b) es.more i in
+    let left : drop (first_open (h ++ b) (h ++ b)) (finished_tokens (h ++ b)) ≡ drop i es.more =
+    ap (λ z. drop z (finished_tokens (h ++ b))) short ∙ ap (drop (length (finished_tokens b) + i)) es.mine ∙ drop-append-add (finished_tokens b) es.more i in
+    let took_there : take (first_open (moved_lexemes d n h ++ c) (moved_lexemes d n h ++ c)) (finished_tokens (moved_lexemes d n h ++ c)) ≡ finished_tokens c ++ map (moved_entry d n) (take i es.more) =
+    ap (λ z. take z (finished_tokens (moved_lexemes d n h ++ c))) long ∙ ap (take (length (finished_tokens c) + i)) es.others ∙ take-append-add (finished_tokens c) (map (moved_entry d n) es.more) i
+    ∙ ap (λ z. finished_tokens c ++ z) (take-map (moved_entry d n) i es.more) in
+    let left_there : drop (first_open (moved_lexemes d n h ++ c) (moved_lexemes d n h ++ c)) (finished_tokens (moved_lexemes d n h ++ c)) ≡ map (moved_entry d n) (drop i es.more) =
+    ap (λ z. drop z (finished_tokens (moved_lexemes d n h ++ c))) long ∙ ap (drop (length (finished_tokens c) + i)) es.others ∙ drop-append-add (finished_tokens c) (map (moved_entry d n) es.more) i
     ∙ drop-map (moved_entry d n) i es.more in
     let said = spells_moved d n x t u (take i es.more) (say_take x t u d n i es.more (es.say x t u carry)) in
     let kept = front_ends (drop i es.more) in
     record {
       behind = flat_map (spell s) (take i es.more) ++ kept;
-      mine = ap (λ z. flat_map (spell s) z ++ front_ends (drop (first_open (h ++ b) (h ++ b)) (entries (h ++ b)))) took
-          ∙ ap (λ z. flat_map (spell s) (entries b ++ take i es.more) ++ front_ends z) left
-          ∙ ap (λ z. z ++ kept) (flat_map-append (spell s) (entries b) (take i es.more))
-          ∙ append_assoc (flat_map (spell s) (entries b)) (flat_map (spell s) (take i es.more)) kept;
-      others = ap (λ z. flat_map (spell v) z ++ front_ends (drop (first_open (moved_lexemes d n h ++ c) (moved_lexemes d n h ++ c)) (entries (moved_lexemes d n h ++ c)))) took_there
-          ∙ ap (λ z. flat_map (spell v) (entries c ++ map (moved_entry d n) (take i es.more)) ++ front_ends z) left_there
-          ∙ ap (λ z. z ++ front_ends (map (moved_entry d n) (drop i es.more))) (flat_map-append (spell v) (entries c) (map (moved_entry d n) (take i es.more)))
-          ∙ append_assoc (flat_map (spell v) (entries c)) (flat_map (spell v) (map (moved_entry d n) (take i es.more))) (front_ends (map (moved_entry d n) (drop i es.more)))
-          ∙ ap (λ z. flat_map (spell v) (entries c) ++ (z ++ front_ends (map (moved_entry d n) (drop i es.more)))) said
-          ∙ ap (λ z. flat_map (spell v) (entries c) ++ (map f (flat_map (spell s) (take i es.more)) ++ z)) (fronts_moved d n (drop i es.more))
-          ∙ ap (λ z. flat_map (spell v) (entries c) ++ z) (sym (map-append f (flat_map (spell s) (take i es.more)) kept));
+      mine = ap (λ z. flat_map (spell s) z ++ front_ends (drop (first_open (h ++ b) (h ++ b)) (finished_tokens (h ++ b)))) took
+          ∙ ap (λ z. flat_map (spell s) (finished_tokens b ++ take i es.more) ++ front_ends z) left
+          ∙ ap (λ z. z ++ kept) (flat_map-append (spell s) (finished_tokens b) (take i es.more))
+          ∙ append_assoc (flat_map (spell s) (finished_tokens b)) (flat_map (spell s) (take i es.more)) kept;
+      others = ap (λ z. flat_map (spell v) z ++ front_ends (drop (first_open (moved_lexemes d n h ++ c) (moved_lexemes d n h ++ c)) (finished_tokens (moved_lexemes d n h ++ c)))) took_there
+          ∙ ap (λ z. flat_map (spell v) (finished_tokens c ++ map (moved_entry d n) (take i es.more)) ++ front_ends z) left_there
+          ∙ ap (λ z. z ++ front_ends (map (moved_entry d n) (drop i es.more))) (flat_map-append (spell v) (finished_tokens c) (map (moved_entry d n) (take i es.more)))
+          ∙ append_assoc (flat_map (spell v) (finished_tokens c)) (flat_map (spell v) (map (moved_entry d n) (take i es.more))) (front_ends (map (moved_entry d n) (drop i es.more)))
+          ∙ ap (λ z. flat_map (spell v) (finished_tokens c) ++ (z ++ front_ends (map (moved_entry d n) (drop i es.more)))) said
+          ∙ ap (λ z. flat_map (spell v) (finished_tokens c) ++ (map f (flat_map (spell s) (take i es.more)) ++ z)) (fronts_moved d n (drop i es.more))
+          ∙ ap (λ z. flat_map (spell v) (finished_tokens c) ++ z) (sym (map-append f (flat_map (spell s) (take i es.more)) kept));
     }
 
 pub parted : (x : yaml_encoding_t) (t u : List ℕ) (d n k : ℕ) (h b c : List Lexeme)

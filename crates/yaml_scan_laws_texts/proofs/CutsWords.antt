@@ -1,6 +1,6 @@
 -- Lexemes of every kind are the same in both texts.
 use Rattle.std.proofs.Common.{◌≡◌, ℕ, ◌+◌, ◌<◌, ◌==◌, ◌&&◌, nat_lt, Bool, true, false, List, Some, None, Result, Ok, Err, refl, sym, ap, ◌∙◌, inl, inr, ◌⊎◌, arith}
-use Rattle.yaml_scan_laws_texts.proofs.Shared.{cases_Bool, true≢false, or-true, none-some, same_Some, TokenBody, byte, break_of, break_width, column_at, is_blank, is_blank_or_end, Wrong, is_document_start, is_document_end, anchor_at, TagText, tag_at, DirectiveText, directive_at, double_quoted_at, single_quoted_at, PlainText, starts_plain, plain_at, BlockText, block_at, style_at, Kind, is_end, indicator_of, kind_at, WordText, carrying, valued, tagged, directed, blocked, plainly, word_at, Alike, is_onward, blank_cases}
+use Rattle.yaml_scan_laws_texts.proofs.Shared.{cases_Bool, true≢false, or-true, none-some, same_Some, TokenBody, byte, break_of, break_width, column_at, is_blank, is_blank_or_end, Wrong, is_document_start, is_document_end, anchor_at, TagText, tag_at, DirectiveText, directive_at, double_quoted_at, single_quoted_at, PlainText, starts_plain, plain_at, BlockText, block_at, style_at, Kind, is_end, indicator_of, kind_at, WordText, carrying, valued, tagged, directed, blocked, plainly, lexeme_at, Alike, is_onward, blank_cases}
 use Rattle.yaml_scan_history.specs.scan_model.declared.name.yaml_scalar_style_t.{yaml_scalar_style_t}
 use Rattle.yaml_scan_history.specs.scan_model.declared.name.yaml_scalar_style_t.TheVariants as styles
 use Rattle.yaml_scan_history.specs.scan_model.declared.problem.Context.TheVariants as contexts
@@ -210,8 +210,8 @@ block_word t u d m p level a l on =
 -- what stands there is the same, moved, unless it is open where the first text ends
 pub word_alike : (k : Kind) (flow : Bool) (level : ℕ) (t u : List ℕ) (d m p : ℕ) → Alike t u d m
     → p < m → (is_end k ≡ false → is_onward (byte t p) ≡ true) → is_blank (byte t p) ≡ false
-    → WordCarried u d m (word_at k flow level t p) (word_at k flow level u (d + p))
-unfolding word_at
+    → WordCarried u d m (lexeme_at k flow level t p) (lexeme_at k flow level u (d + p))
+unfolding lexeme_at
 word_alike kinds.StreamStart flow level t u d m p a l on text = inl refl
 word_alike kinds.StreamEnd flow level t u d m p a l on text = inl refl
 word_alike kinds.Directive flow level t u d m p a l on text =

@@ -1,6 +1,6 @@
 -- What entries say; a text begins with the stream's start, and ends with its end.
 use Rattle.std.proofs.Common.{◌≡◌, ℕ, zero, suc, Bool, true, false, List, [], ◌∷◌, ◌++◌, map, replicate, flat_map, refl, sym, ap, ◌∙◌, append_assoc, ◌+◌, ◌-◌, ◌==◌, ◌&&◌, not, nat_lt, cond, length, Option, Some, None, Result, Ok, arith}
-use Rattle.yaml_scan_laws_texts.proofs.LevelWords.{append_cancel_left, flat_map-append, Token, TokenBody, block_end, key, Lexeme, Entry, Opens, margin_at, start_of, as_key, SpelledText, body_in, before, spell, start_tokens, own_tokens, entry, bodies_of, told, start_bodies, WordTells, LevelTells, KeyTells, append-nil, and-false, yaml_mark_t, mark_at, stream_end, Wrong, Gap, Kind, depth, reached, placed, candidate, fresh, indent, left_by, levels, entries, WordText, kind_at, word_at, Next, Read, Ends, first_lexeme, begun, gap_behind, allowed_behind, misplaced, missed, lost_by, level_in, next, extended, history, not_allowed, unless_wrong, unless_lost, of_kind, unless_missed, behind, all, handed_out, handed, kept_of, fault_in, Remaining, remaining, offline, Came, Rises, Front, Idle, InTime, StartStands, end_at, EndIsRead}
+use Rattle.yaml_scan_laws_texts.proofs.LevelWords.{append_cancel_left, flat_map-append, Token, TokenBody, block_end, key, Lexeme, Entry, Opens, margin_at, start_of, as_key, SpelledText, body_in, before, spell, start_tokens, own_tokens, entry, bodies_of, told, start_bodies, WordTells, LevelTells, KeyTells, append-nil, and-false, yaml_mark_t, mark_at, stream_end, Wrong, Gap, Kind, flow_depth, reached, placed, candidate, fresh, indent, left_by, open_levels, finished_tokens, WordText, kind_at, lexeme_at, Next, Read, Ends, first_lexeme, begun, gap_behind, allowed_behind, misplaced, missed, lost_by, level_in, next, extended, history, not_allowed, unless_wrong, unless_lost, of_kind, unless_missed, behind, all, handed_out, handed, kept_of, fault_in, Remaining, remaining, offline, Came, Rises, Front, Idle, InTime, StartStands, end_at, EndIsRead}
 use Rattle.yaml_scan_laws_order.specs.scan_history.declared.lexeme.Opens.TheVariants as opening
 use Rattle.yaml_scan_laws_order.specs.scan_history.declared.kind.Kind.TheVariants as kinds
 use Rattle.yaml_scan_laws_order.proofs.HistoryForward.{last_is_all}
@@ -101,7 +101,7 @@ key_tells s ms done l n rest v K says bs =
 
 start_front : (text : List ℕ)
     → Front text (first_lexeme ∷ []) 0 [] (entry first_lexeme 0 opening.Nothing ∷ [])
-unfolding Came Rises levels entries candidate
+unfolding Came Rises open_levels finished_tokens candidate
 start_front text = record { came = refl; going = refl; depth = refl; levels = refl; rises = tt; entries = refl }
 
 pub start_stands : StartStands
@@ -116,14 +116,14 @@ start_stands text = record {
 end_read : (text : List ℕ) (gap : Gap) (h : List Lexeme) (q : ℕ) (a : Bool) (w : WordText)
     → gap.place ≡ q → allowed_behind h gap ≡ a
     → let m = mark_at text q in let l = end_at text h q a in
-    kind_at (nat_lt 0 (depth h)) text q ≡ Some kinds.StreamEnd
-    → word_at kinds.StreamEnd (nat_lt 0 (depth h)) l.level text q ≡ Ok w
+    kind_at (nat_lt 0 (flow_depth h)) text q ≡ Some kinds.StreamEnd
+    → lexeme_at kinds.StreamEnd (nat_lt 0 (flow_depth h)) l.level text q ≡ Ok w
     → missed (fresh (candidate 0 h) (reached h)) m ≡ None
-    → lost_by l (fresh (candidate (depth h) h) m) ≡ None
+    → lost_by l (fresh (candidate (flow_depth h) h) m) ≡ None
     → InTime (candidate 0 (l ∷ h)) l.reached
     → behind text gap h ≡ Read l
 end_read text gap h q a w place allowed kind said none lost time =
-    let flow = nat_lt 0 (depth h) in
+    let flow = nat_lt 0 (flow_depth h) in
     let m = mark_at text q in
     let k = kinds.StreamEnd in
     let l = end_at text h q a in
@@ -132,8 +132,8 @@ end_read text gap h q a w place allowed kind said none lost time =
     ∙ ap (λ (p : ℕ). of_kind (kind_at flow text p) text gap h) place
     ∙ ap (λ (o : Option Kind). of_kind o text gap h) kind
     ∙ ap (λ (p : ℕ). cond (misplaced k (mark_at text p) (allowed_behind h gap) h) (not_allowed k (mark_at text p))
-    (unless_lost (lost_by (begun k (placed k (mark_at text p)) (allowed_behind h gap) h) (fresh (candidate (depth h) h) (mark_at text p))) text p (begun k (placed k (mark_at text p)) (allowed_behind h gap) h) h)) place
-    ∙ ap (λ (x : Bool). cond (misplaced k m x h) (not_allowed k m) (unless_lost (lost_by (begun k (placed k m) x h) (fresh (candidate (depth h) h) m)) text q (begun k (placed k m) x h) h)) allowed
+    (unless_lost (lost_by (begun k (placed k (mark_at text p)) (allowed_behind h gap) h) (fresh (candidate (flow_depth h) h) (mark_at text p))) text p (begun k (placed k (mark_at text p)) (allowed_behind h gap) h) h)) place
+    ∙ ap (λ (x : Bool). cond (misplaced k m x h) (not_allowed k m) (unless_lost (lost_by (begun k (placed k m) x h) (fresh (candidate (flow_depth h) h) m)) text q (begun k (placed k m) x h) h)) allowed
     ∙ unless_so (misplaced k m a h) (not_allowed k m) _ (and-false (not flow && not a))
     ∙ ap (λ (o : Option yaml_mark_t). unless_lost o text q l h) lost
     ∙ ap (λ (r : Result WordText Wrong). unless_wrong r text l h) said
@@ -159,12 +159,12 @@ came_all text h came ends =
     last_is_all text (length h) (λ l. never_read _ l last) ∙ so
 
 offline_ends : (s : SpelledText) (h : List Lexeme) → all s.text ≡ h → next s.text h ≡ Ends
-    → offline s ≡ record { tokens = flat_map (spell s) (entries h); fault = None }
+    → offline s ≡ record { tokens = flat_map (spell s) (finished_tokens h); fault = None }
 unfolding remaining handed
 offline_ends s h whole ends =
     let last : next s.text (all s.text) ≡ Ends = ap (λ (x : List Lexeme). next s.text x) whole ∙ ends in
-    remaining_of _ (flat_map (spell s) (entries h)) (fault_in (next s.text (all s.text)))
-    (ap (λ (x : Next). flat_map (spell s) (handed_out x (all s.text)) ++ kept_of x (all s.text)) last ∙ ap (λ (x : List Lexeme). flat_map (spell s) (entries x) ++ []) whole ∙ append-nil (flat_map (spell s) (entries h)))
+    remaining_of _ (flat_map (spell s) (finished_tokens h)) (fault_in (next s.text (all s.text)))
+    (ap (λ (x : Next). flat_map (spell s) (handed_out x (all s.text)) ++ kept_of x (all s.text)) last ∙ ap (λ (x : List Lexeme). flat_map (spell s) (finished_tokens x) ++ []) whole ∙ append-nil (flat_map (spell s) (finished_tokens h)))
     (ap (λ (x : Next). fault_in x) last)
 
 all_less : (n : ℕ) → n - 0 ≡ n
@@ -172,16 +172,16 @@ all_less n = omega arith
 
 end_entries : (text : List ℕ) (h : List Lexeme) (ms : List ℕ) (es : List Entry) (q : ℕ) (a : Bool)
     → Front text h 0 ms es → let l = end_at text h q a in
-    entries (l ∷ h) ≡ es ++ entry l (length ms) opening.Nothing ∷ []
-unfolding entries
+    finished_tokens (l ∷ h) ≡ es ++ entry l (length ms) opening.Nothing ∷ []
+unfolding finished_tokens
 end_entries text h ms es q a f =
     let l = end_at text h q a in
     let k = kinds.StreamEnd in
     let c = l.start.column in
-    ap (λ (n : ℕ). entries h ++ entry l (length (levels h) - length (left_by k n c (levels h))) opening.Nothing ∷ []) f.depth
-    ∙ ap (λ (x : List ℕ). entries h ++ entry l (length x - length (left_by k 0 c x)) opening.Nothing ∷ []) f.levels
-    ∙ ap (λ (x : List ℕ). entries h ++ entry l (length ms - length x) opening.Nothing ∷ []) (left_outside k c ms refl f.rises)
-    ∙ ap (λ (n : ℕ). entries h ++ entry l n opening.Nothing ∷ []) (all_less (length ms))
+    ap (λ (n : ℕ). finished_tokens h ++ entry l (length (open_levels h) - length (left_by k n c (open_levels h))) opening.Nothing ∷ []) f.depth
+    ∙ ap (λ (x : List ℕ). finished_tokens h ++ entry l (length x - length (left_by k 0 c x)) opening.Nothing ∷ []) f.levels
+    ∙ ap (λ (x : List ℕ). finished_tokens h ++ entry l (length ms - length x) opening.Nothing ∷ []) (left_outside k c ms refl f.rises)
+    ∙ ap (λ (n : ℕ). finished_tokens h ++ entry l n opening.Nothing ∷ []) (all_less (length ms))
     ∙ ap (λ (zs : List Entry). zs ++ entry l (length ms) opening.Nothing ∷ []) f.entries
 
 no_key : (a more : Bool) → ((a && false) && more) ≡ false
@@ -190,23 +190,23 @@ no_key false more = refl
 
 end_body : (s : SpelledText) (h : List Lexeme) (q : ℕ) (a : Bool)
     → body_in s (end_at s.text h q a) ≡ stream_end
-unfolding word_at
+unfolding lexeme_at
 end_body s h q a = refl
 
 pub end_is_read : EndIsRead
-unfolding word_at indent
+unfolding lexeme_at indent
 end_is_read x text h ms es q a w f idle meets =
     let s : SpelledText = record { encoding = x; text = text } in
     let k = kinds.StreamEnd in
     let m = mark_at text q in
     let l = end_at text h q a in
     let fs = es ++ entry l (length ms) opening.Nothing ∷ [] in
-    let kind : kind_at (nat_lt 0 (depth h)) text q ≡ Some k = ap (λ (n : ℕ). kind_at (nat_lt 0 n) text q) f.depth ∙ meets.kind in
-    let unrequired : l.required ≡ false = no_key a (depth h == 0 && level_in k l.start.column h == l.start.column + 1) in
+    let kind : kind_at (nat_lt 0 (flow_depth h)) text q ≡ Some k = ap (λ (n : ℕ). kind_at (nat_lt 0 n) text q) f.depth ∙ meets.kind in
+    let unrequired : l.required ≡ false = no_key a (flow_depth h == 0 && level_in k l.start.column h == l.start.column + 1) in
     let still : Idle (l ∷ h) = λ e. free_push l h e (idle e) unrequired in
     let read : next text h ≡ Read l = came_some text h f.came f.going
     ∙ end_read text (gap_behind text h) h q a w meets.place meets.allowed kind meets.word (fresh_in_time (candidate 0 h) (reached h) m (free_in_time (candidate 0 h) m (idle 0)))
-    (lost_none l (candidate (depth h) h) m (λ e. idle (depth h))) (free_in_time (candidate 0 (l ∷ h)) l.reached (still 0)) in
+    (lost_none l (candidate (flow_depth h) h) m (λ e. idle (flow_depth h))) (free_in_time (candidate 0 (l ∷ h)) l.reached (still 0)) in
     let ends = nothing_more text l h refl in
     let whole = came_all text (l ∷ h) (came_push text l h f.came read) ends in
     let offline_is = offline_ends s (l ∷ h) whole ends ∙ ap (λ (zs : List Entry). let r : Remaining = record { tokens = flat_map (spell s) zs; fault = None } in r) (end_entries text h ms es q a f) in (

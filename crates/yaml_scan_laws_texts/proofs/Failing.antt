@@ -1,6 +1,6 @@
 -- A front with a fault: the whole has the same tokens, and a fault there.
 use Rattle.std.proofs.Common.{◌≡◌, ◌≢◌, ℕ, ◌+◌, ◌<◌, ◌≤◌, ◌==◌, ◌&&◌, nat_le, not, Bool, true, false, List, [], ◌∷◌, ◌++◌, length, Option, Some, None, Result, Ok, Err, refl, sym, ap, subst, ◌∙◌, inl, inr, arith, ◌⊎◌}
-use Rattle.yaml_scan_laws_texts.proofs.Shared.{cases_Bool, cases_lt, nat_tests, none-some, same_Some, yaml_mark_t, ScanFault, byte, line_at, mark_at, Wrong, Kind, Lexeme, is_end, reached, depth, in_flow, Candidate, candidate, is_fresh, fresh, placed, WordText, word_at, Next, Read, Fails, gap_behind, place_behind, allowed_behind, kind_behind, begun_behind, word_behind, lexeme_behind, missed, lost_by, stale_before, indicator_misplaced, candidate_lost, wrong_in, text_wrong, stale_after, colon_missing_of, first_fault_or, coming, next, Stands, line_at-grows, IsCut, moved_scan_fault, moved_next, le-ltb}
+use Rattle.yaml_scan_laws_texts.proofs.Shared.{cases_Bool, cases_lt, nat_tests, none-some, same_Some, yaml_mark_t, ScanFault, byte, line_at, mark_at, Wrong, Kind, Lexeme, is_end, reached, flow_depth, in_flow, Candidate, candidate, is_fresh, fresh, placed, WordText, lexeme_at, Next, Read, Fails, gap_behind, place_behind, allowed_behind, kind_behind, begun_behind, word_behind, lexeme_behind, missed, lost_by, stale_before, indicator_misplaced, candidate_lost, wrong_in, text_wrong, stale_after, colon_missing_of, first_fault_or, coming, next, Stands, line_at-grows, IsCut, moved_scan_fault, moved_next, le-ltb}
 use Rattle.yaml_scan_history.specs.declared.kind.Kind.TheVariants as kinds
 use Rattle.yaml_scan_laws_texts.proofs.Gaps.{moved_wrong, moved_by}
 use Rattle.yaml_scan_laws_texts.proofs.CutsWords.{moved_word, end_kind, WordCarried}
@@ -47,7 +47,7 @@ unfolding candidate
 outer_same l H deep = rw (deep, le-ltb l.depth 0 (omega arith)) refl
 
 end_text : (t : List ℕ) (H : List Lexeme) → text_wrong kinds.StreamEnd t H ≡ None
-unfolding word_at
+unfolding lexeme_at
 end_text t H = refl
 
 end_misplaced : (t : List ℕ) (H : List Lexeme) → indicator_misplaced kinds.StreamEnd t H ≡ None
@@ -59,7 +59,7 @@ reads_end : (t : List ℕ) (H : List Lexeme) → stale_before t H ≡ None
     → coming (Some kinds.StreamEnd) t H ≡ Read (lexeme_behind kinds.StreamEnd t H)
 reads_end t H a c f = rw (a, end_misplaced t H, c, end_text t H, f) refl
 
-end_candidate : (t : List ℕ) (H : List Lexeme) → (depth H == 0) ≡ true
+end_candidate : (t : List ℕ) (H : List Lexeme) → (flow_depth H == 0) ≡ true
     → candidate 0 (begun_behind kinds.StreamEnd t H ∷ H) ≡ None
 unfolding candidate
 end_candidate t H e = rw (e, and_false (allowed_behind H (gap_behind t H))) refl
@@ -81,15 +81,15 @@ end_reads a b cut H inside at l there =
     let after = after_none (stale_before W H) (indicator_misplaced m.kind W H) (candidate_lost m.kind W H) (text_wrong m.kind W H) (stale_after (lexeme_behind m.kind W H) H) (lexeme_behind m.kind W H) l reads in
     let place : place_behind W H ≡ place_behind a H = place_there a W 0 (length a) 0 0 H H pair ∙ mark_zero (place_behind a H) in
     let stale = none_moved (stale_before a H) (sym (stale_there a W 0 (length a) 0 0 H H pair) ∙ c.stale) in
-    let free = free_of (begun_behind m.kind W H) (fresh (candidate (depth H) H) (place_behind W H)) m.is.cancels m.is.value
-    (colon_none (lost_by (begun_behind m.kind W H) (fresh (candidate (depth H) H) (place_behind W H))) (begun_behind m.kind W H).start c.lost) in
-    let mine : IsFree (fresh (candidate (depth H) H) (place_behind a H)) = subst (λ q. IsFree (fresh (candidate (depth H) H) q)) place free in
+    let free = free_of (begun_behind m.kind W H) (fresh (candidate (flow_depth H) H) (place_behind W H)) m.is.cancels m.is.value
+    (colon_none (lost_by (begun_behind m.kind W H) (fresh (candidate (flow_depth H) H) (place_behind W H))) (begun_behind m.kind W H).start c.lost) in
+    let mine : IsFree (fresh (candidate (flow_depth H) H) (place_behind a H)) = subst (λ q. IsFree (fresh (candidate (flow_depth H) H) q)) place free in
     let E = begun_behind kinds.StreamEnd a H in
-    let lost : candidate_lost kinds.StreamEnd a H ≡ None = rw (lost_none E (fresh (candidate (depth H) H) (place_behind a H)) mine) refl in
+    let lost : candidate_lost kinds.StreamEnd a H ≡ None = rw (lost_none E (fresh (candidate (flow_depth H) H) (place_behind a H)) mine) refl in
     let begins : E.reached ≡ mark_at W (length a) =
     ap (λ q. placed kinds.StreamEnd (mark_at a q)) at ∙ ap (placed kinds.StreamEnd) (mark_there a b cut) ∙ end_mark_placed a b cut in
     let lines : line_at W (length a) ≤ line_at W (length a + 3) = line_at-grows W (length a) (length a + 3) (omega arith) in
-    let ended : stale_after E H ≡ None = elim (cases_Bool (depth H == 0)) [
+    let ended : stale_after E H ≡ None = elim (cases_Bool (flow_depth H == 0)) [
       | inl z ↦ rw (end_candidate a H z) refl
       | inr z ↦
           let there_is : candidate 0 (lexeme_behind m.kind W H ∷ H) ≡ candidate 0 H =

@@ -1,6 +1,6 @@
 -- What steps make of a lexeme, and key-free lexemes.
 use Rattle.std.proofs.Common.{◌≡◌, ℕ, zero, suc, ◌+◌, ◌==◌, ◌&&◌, ◌||◌, not, nat_lt, Bool, true, false, List, [], ◌∷◌, Option, Some, None, Result, Ok, Err, refl, sym, subst, inl, inr, arith, ◌-◌, ◌<◌, ◌++◌, length, map, reverse, flat_map, ap, ◌∙◌}
-use Rattle.yaml_scan_laws_texts.proofs.Words.{cases_Bool, and_parts, nat_tests, yaml_mark_t, yaml_scalar_style_t, TokenBody, mark_at, Wrong, Gap, BlockText, block_at, style_at, Kind, Lexeme, may_be_key, is_end, placed, depth, key_allowed, candidate, fresh, indent, left_by, levels, WordText, valued, tagged, directed, blocked, kind_at, word_at, Next, Read, Fails, Ends, level_in, begun, finished, allowed_behind, misplaced, missed, lost_by, next, extended, history, no_colon, tested, unless_wrong, unless_lost, of_kind, unless_missed, stepwise, reverse-append, Token, Entry, depth_after, cancels, is_value, is_start, allows_key, Candidate, found_by, has, opened, opens_at, inside, entry_of, level_of, entries, SpelledText, token_in, spell, innermost, around, marked_so, is_inside, asked_after, asked, fits, is_key_free, keeps_level, is_level_free, kinds_of}
+use Rattle.yaml_scan_laws_texts.proofs.Words.{cases_Bool, and_parts, nat_tests, yaml_mark_t, yaml_scalar_style_t, TokenBody, mark_at, Wrong, Gap, BlockText, block_at, style_at, Kind, Lexeme, may_be_key, is_end, placed, flow_depth, key_allowed, candidate, fresh, indent, left_by, open_levels, WordText, valued, tagged, directed, blocked, kind_at, lexeme_at, Next, Read, Fails, Ends, level_in, begun, finished, allowed_behind, misplaced, missed, lost_by, next, extended, history, no_colon, tested, unless_wrong, unless_lost, of_kind, unless_missed, stepwise, reverse-append, Token, Entry, depth_after, cancels, is_value, is_start, allows_key, Candidate, found_by, has, opened, opens_at, inside, entry_of, level_of, finished_tokens, SpelledText, token_in, spell, innermost, around, marked_so, is_inside, asked_after, asked, fits, is_key_free, keeps_level, is_level_free, kinds_of}
 use Rattle.yaml_scan_laws_order.specs.scan_words.Between.{gap_at}
 use Rattle.yaml_scan_laws_order.specs.scan_words.Tags.{TagText, tag_at}
 use Rattle.yaml_scan_laws_order.specs.scan_words.Directives.{DirectiveText, directive_at}
@@ -14,11 +14,11 @@ is_plain _ = false
 
 -- a lexeme by those before it
 pub record MadeBehind (h : List Lexeme) (l : Lexeme) : Type 0 where
-  pub at : l.depth ≡ depth h
+  pub at : l.depth ≡ flow_depth h
   pub kind : l.saved ≡ true → may_be_key l.kind ≡ true
   pub allowed : nat_lt 0 l.depth ≡ true → l.saved ≡ true → key_allowed h ≡ true
-  pub level : levels h ≡ [] → l.level ≡ 0
-  pub required : levels h ≡ [] → l.required ≡ false
+  pub level : open_levels h ≡ [] → l.level ≡ 0
+  pub required : open_levels h ≡ [] → l.required ≡ false
   pub broke : is_plain l.kind ≡ false → l.broke ≡ false
 
 unfoldable pub AllMade : List Lexeme → Type 0
@@ -52,8 +52,8 @@ whole_blocked style (Ok x) = refl
 whole_blocked style (Err w) = tt
 
 pub whole_word : (k : Kind) (flow : Bool) (level : ℕ) (text : List ℕ) (p : ℕ) → is_plain k ≡ false
-    → Whole (word_at k flow level text p)
-unfolding word_at
+    → Whole (lexeme_at k flow level text p)
+unfolding lexeme_at
 whole_word kinds.Alias flow level text p e = whole_valued _ _
 whole_word kinds.Anchor flow level text p e = whole_valued _ _
 whole_word kinds.SingleQuoted flow level text p e = whole_valued _ _
@@ -96,9 +96,9 @@ pub begun_made : (k : Kind) (start : yaml_mark_t) (gap : Gap) (h : List Lexeme)
 begun_made k start gap h = record {
   at = refl;
   kind = λ s. (and_parts (allowed_behind h gap) (may_be_key k) s).1;
-  allowed = λ f s. saved_allowed (key_allowed h) gap.broke (may_be_key k) (nat_lt 0 (depth h)) f s;
-  level = λ e. no_level k (depth h) start.column (levels h) e;
-  required = λ e. not_level (allowed_behind h gap && may_be_key k) (depth h == 0) (level_in k start.column h) start.column (no_level k (depth h) start.column (levels h) e);
+  allowed = λ f s. saved_allowed (key_allowed h) gap.broke (may_be_key k) (nat_lt 0 (flow_depth h)) f s;
+  level = λ e. no_level k (flow_depth h) start.column (open_levels h) e;
+  required = λ e. not_level (allowed_behind h gap && may_be_key k) (flow_depth h == 0) (level_in k start.column h) start.column (no_level k (flow_depth h) start.column (open_levels h) e);
   broke = λ e. refl;
 }
 
@@ -126,7 +126,7 @@ wrong_made text (Err w) l h b m = tt
 lost_made : (o : Option yaml_mark_t) (text : List ℕ) (p : ℕ) (l : Lexeme) (h : List Lexeme)
     → MadeBehind h l → MadeAny h (unless_lost o text p l h)
 lost_made (Some start) text p l h m = tt
-lost_made None text p l h m = wrong_made text (word_at l.kind (nat_lt 0 l.depth) l.level text p) l h (λ e. whole_word l.kind (nat_lt 0 l.depth) l.level text p e) m
+lost_made None text p l h m = wrong_made text (lexeme_at l.kind (nat_lt 0 l.depth) l.level text p) l h (λ e. whole_word l.kind (nat_lt 0 l.depth) l.level text p e) m
 
 kind_made : (o : Option Kind) (text : List ℕ) (gap : Gap) (h : List Lexeme)
     → MadeAny h (of_kind o text gap h)
@@ -136,13 +136,13 @@ kind_made (Some k) text gap h =
     let l = begun k (placed k start) (allowed_behind h gap) h in
     elim (cases_Bool (misplaced k start (allowed_behind h gap) h)) [
       | inl e ↦ rw e tt
-      | inr e ↦ rw e (lost_made (lost_by l (fresh (candidate (depth h) h) start)) text gap.place l h (begun_made k (placed k start) gap h))
+      | inr e ↦ rw e (lost_made (lost_by l (fresh (candidate (flow_depth h) h) start)) text gap.place l h (begun_made k (placed k start) gap h))
     ]
 
 missed_made : (o : Option yaml_mark_t) (text : List ℕ) (gap : Gap) (h : List Lexeme)
     → MadeAny h (unless_missed o text gap h)
 missed_made (Some start) text gap h = tt
-missed_made None text gap h = kind_made (kind_at (nat_lt 0 (depth h)) text gap.place) text gap h
+missed_made None text gap h = kind_made (kind_at (nat_lt 0 (flow_depth h)) text gap.place) text gap h
 
 next_made : (text : List ℕ) (h : List Lexeme) → MadeAny h (next text h)
 unfolding next
@@ -155,7 +155,7 @@ next_made text [] = record {
   broke = λ e. refl;
 }
 next_made text (l ∷ h) =
-    let gap = gap_at (nat_lt 0 (depth (l ∷ h))) (key_allowed (l ∷ h)) text l.reached.index in
+    let gap = gap_at (nat_lt 0 (flow_depth (l ∷ h))) (key_allowed (l ∷ h)) text l.reached.index in
     elim (cases_Bool (is_end l.kind)) [
       | inl e ↦ rw e tt
       | inr e ↦ rw e (subst (MadeAny (l ∷ h)) (sym (stepwise text (l ∷ h))) (missed_made (missed (fresh (candidate 0 (l ∷ h)) l.reached) (mark_at text gap.place)) text gap (l ∷ h)))
@@ -215,7 +215,7 @@ depth_after_is kinds.KeyMark qs = sym (marked_length true qs)
 depth_after_is k qs = sym (marked_length false qs)
 
 -- the depth after lexemes is how many brackets their kinds leave open
-pub depth_is : (h : List Lexeme) → AllMade h → depth h ≡ length (asked (kinds_of h))
+pub depth_is : (h : List Lexeme) → AllMade h → flow_depth h ≡ length (asked (kinds_of h))
 unfolding AllMade asked
 depth_is [] made = refl
 depth_is (l ∷ h) (m, made) = ap (λ n. depth_after l.kind n) (m.at ∙ depth_is h made) ∙ depth_after_is l.kind (asked (kinds_of h))
@@ -359,7 +359,7 @@ clear_none [] h c t = absurd (cc)
 clear_none (q ∷ qs) h (own, c) t = own t
 
 pub no_candidate : (h : List Lexeme) → AllMade h → is_key_free (kinds_of h) ≡ true
-    → innermost (asked (kinds_of h)) ≡ true → candidate (depth h) h ≡ None
+    → innermost (asked (kinds_of h)) ≡ true → candidate (flow_depth h) h ≡ None
 no_candidate h made free t =
     ap (λ d. candidate d h) (depth_is h made) ∙ clear_none (asked (kinds_of h)) h (clear h made free) t
 
@@ -416,13 +416,14 @@ opened_none : (may : Bool) (column : ℕ) (ls : List ℕ) → may ≡ false → 
     → opened may column ls ≡ []
 opened_none may column ls e f = rw (e, f) refl
 
-pub no_levels : (h : List Lexeme) → AllMade h → is_level_free (kinds_of h) ≡ true → levels h ≡ []
-unfolding levels AllMade
+pub no_levels : (h : List Lexeme) → AllMade h → is_level_free (kinds_of h) ≡ true
+    → open_levels h ≡ []
+unfolding open_levels AllMade
 no_levels [] made free = refl
 no_levels (l ∷ h) (m, made) free =
     let rest = no_levels h made (level_rest l.kind (kinds_of h) free) in
     let start = starts_none l.kind (asked (kinds_of h)) l.depth (level_head l.kind (kinds_of h) free) (m.at ∙ depth_is h made) in
-    opened_none (is_start l.kind && not (nat_lt 0 l.depth)) (opens_at (found_by l h) l.kind l.start.column) (left_by l.kind l.depth l.start.column (levels h)) start
+    opened_none (is_start l.kind && not (nat_lt 0 l.depth)) (opens_at (found_by l h) l.kind l.start.column) (left_by l.kind l.depth l.start.column (open_levels h)) start
     (ap (λ (ls : List ℕ). left_by l.kind l.depth l.start.column ls) rest ∙ left_none l.kind l.depth l.start.column)
 
 -- Entries.
@@ -438,7 +439,7 @@ entry_bare l h (m, made) free =
     let none = no_levels h made (level_free (kinds_of h) (free_rest l h free)) in
     let start = starts_none l.kind (asked (kinds_of h)) l.depth (level_head l.kind (kinds_of h) (level_free (kinds_of (l ∷ h)) free)) (m.at ∙ depth_is h made) in
     let opens = calm_opens (is_start l.kind) (is_value l.kind) (has (found_by l h)) l.depth (l.start.column + 1) (inside l h) (level_of l.kind) start in
-    let ends : length (levels h) - length (inside l h) ≡ 0 = rw none (omega arith) in
+    let ends : length (open_levels h) - length (inside l h) ≡ 0 = rw none (omega arith) in
     rw (ends, opens) refl
 
 value_asked : (k : Kind) (qs : List Bool) → fits k qs ≡ true → is_value k ≡ true
@@ -459,19 +460,20 @@ map_more [] ys = refl
 map_more (x ∷ xs) ys = rw (map_more xs ys) refl
 
 entries_more : (l : Lexeme) (h : List Lexeme) → AllMade (l ∷ h)
-    → is_key_free (kinds_of (l ∷ h)) ≡ true → entries (l ∷ h) ≡ entries h ++ bare l ∷ []
-unfolding entries
+    → is_key_free (kinds_of (l ∷ h)) ≡ true
+    → finished_tokens (l ∷ h) ≡ finished_tokens h ++ bare l ∷ []
+unfolding finished_tokens
 entries_more l h made free =
-    let same = lone_marks (is_value l.kind) (found_by l h) (inside l h) (entries h) (found_none l h made free) in
-    ap (λ (es : List Entry). es ++ entry_of l h ∷ []) same ∙ ap (λ (e : Entry). entries h ++ e ∷ []) (entry_bare l h made free)
+    let same = lone_marks (is_value l.kind) (found_by l h) (inside l h) (finished_tokens h) (found_none l h made free) in
+    ap (λ (es : List Entry). es ++ entry_of l h ∷ []) same ∙ ap (λ (e : Entry). finished_tokens h ++ e ∷ []) (entry_bare l h made free)
 
 tail_made : (l : Lexeme) (h : List Lexeme) → AllMade (l ∷ h) → AllMade h
 unfolding AllMade
 tail_made l h (m, made) = made
 
 pub entries_bare : (h : List Lexeme) → AllMade h → is_key_free (kinds_of h) ≡ true
-    → entries h ≡ map bare (reverse h)
-unfolding entries
+    → finished_tokens h ≡ map bare (reverse h)
+unfolding finished_tokens
 entries_bare [] made free = refl
 entries_bare (l ∷ h) made free =
     entries_more l h made free ∙ ap (λ (es : List Entry). es ++ bare l ∷ []) (entries_bare h (tail_made l h made) (free_rest l h free))
@@ -484,5 +486,5 @@ bare_tokens s (l ∷ ls) = ap (λ (ts : List Token). token_in s l ∷ ts) (bare_
 
 pub own_tokens_are : (s : SpelledText) (h : List Lexeme) → AllMade h
     → is_key_free (kinds_of h) ≡ true
-    → flat_map (spell s) (entries h) ≡ map (token_in s) (reverse h)
+    → flat_map (spell s) (finished_tokens h) ≡ map (token_in s) (reverse h)
 own_tokens_are s h made free = ap (λ (es : List Entry). flat_map (spell s) es) (entries_bare h made free) ∙ bare_tokens s (reverse h)

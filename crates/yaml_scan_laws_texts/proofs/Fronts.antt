@@ -1,6 +1,6 @@
 -- The next lexeme, in each part of a text; the lexemes of the front are the first ones of the whole.
 use Rattle.std.proofs.Common.{◌≡◌, ◌≢◌, ℕ, ◌+◌, ◌<◌, ◌≤◌, nat_lt, false, List, [], ◌∷◌, length, Option, Some, None, Result, Ok, Err, refl, sym, ap, subst, ◌∙◌, inl, inr, arith, zero-add, zero, suc, true, ◌++◌}
-use Rattle.yaml_scan_laws_texts.proofs.Shared.{cases_Bool, cases_lt, true≢false, same_Some, ScanFault, byte, mark_at, is_document_indicator, Wrong, Kind, Lexeme, is_end, in_flow, WordText, word_at, Read, Fails, gap_behind, place_behind, kind_behind, begun_behind, word_behind, with_end, lexeme_behind, stale_before, indicator_misplaced, candidate_lost, wrong_in, text_wrong, stale_after, first_fault_or, coming, no_start, moved_mark, moved_lexeme, moved_next, yaml_mark_t, start_line, reached, ended, Candidate, candidate, Next, Ends, next, extended, step, history, Stands, history_stands, not_ended, stays_upto, IsCut}
+use Rattle.yaml_scan_laws_texts.proofs.Shared.{cases_Bool, cases_lt, true≢false, same_Some, ScanFault, byte, mark_at, is_document_indicator, Wrong, Kind, Lexeme, is_end, in_flow, WordText, lexeme_at, Read, Fails, gap_behind, place_behind, kind_behind, begun_behind, word_behind, with_end, lexeme_behind, stale_before, indicator_misplaced, candidate_lost, wrong_in, text_wrong, stale_after, first_fault_or, coming, no_start, moved_mark, moved_lexeme, moved_next, yaml_mark_t, start_line, reached, ended, Candidate, candidate, Next, Ends, next, extended, step, history, Stands, history_stands, not_ended, stays_upto, IsCut}
 use Rattle.yaml_scan_history.specs.declared.kind.Kind.TheVariants as kinds
 use Rattle.yaml_scan_laws_order.proofs.WordForward.{Fits, FitsAny, kind_fits, LandsWord, IsWordFrom, word_lands}
 use Rattle.yaml_scan_laws_texts.proofs.CutsWords.{end_kind, kind_onward, kind_text, WordCarried, word_alike}
@@ -16,9 +16,9 @@ pub word_there : (t u : List ℕ) (d m n k : ℕ) (H G : List Lexeme) → Pair t
     → WordCarried u d m (word_behind x t H) (word_behind x u G)
 word_there t u d m n k H G p l x e =
     let at = (gap_behind t H).place in
-    let same = ap (word_at x (in_flow G) (begun_behind x u G).level u) p.place
-    ∙ ap (λ (y : Lexeme). word_at x (in_flow G) y.level u (d + at)) (begun_there t u d m n k H G p x)
-    ∙ ap (λ (y : ℕ). word_at x (nat_lt 0 y) (begun_behind x t H).level u (d + at)) p.same_depth in
+    let same = ap (lexeme_at x (in_flow G) (begun_behind x u G).level u) p.place
+    ∙ ap (λ (y : Lexeme). lexeme_at x (in_flow G) y.level u (d + at)) (begun_there t u d m n k H G p x)
+    ∙ ap (λ (y : ℕ). lexeme_at x (nat_lt 0 y) (begun_behind x t H).level u (d + at)) p.same_depth in
     subst (λ s. WordCarried u d m (word_behind x t H) s) (sym same)
     (word_alike x (in_flow H) (begun_behind x t H).level t u d m at p.alike l (λ go. kind_onward (in_flow H) t at x e go) (kind_text (in_flow H) t at x e))
 

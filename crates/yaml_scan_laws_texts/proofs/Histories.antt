@@ -1,14 +1,14 @@
 -- What lexemes decide, where they stand on others that decide the same.
 use Rattle.std.proofs.Common.{◌≡◌, ℕ, ◌+◌, ◌==◌, ◌&&◌, ◌||◌, nat_lt, nat_le, not, List, [], ◌∷◌, ◌++◌, map, length, Option, Some, None, refl, ap, ◌∙◌, inl, inr, arith}
-use Rattle.yaml_scan_laws_texts.proofs.Shared.{cases_Bool, nat_tests, length-append, length-map, yaml_mark_t, Kind, Lexeme, cancels, is_start, allows_key, depth, Candidate, candidate, is_fresh, fresh, found_by, has, opens_at, opened, left_by, levels, key_allowed, moved_mark, moved_lexeme}
+use Rattle.yaml_scan_laws_texts.proofs.Shared.{cases_Bool, nat_tests, length-append, length-map, yaml_mark_t, Kind, Lexeme, cancels, is_start, allows_key, flow_depth, Candidate, candidate, is_fresh, fresh, found_by, has, opens_at, opened, left_by, open_levels, key_allowed, moved_mark, moved_lexeme}
 
 -- Two lists of lexemes that decide the same of what stands on them after another one: no candidate is open in either, and the
 -- second one has k more.
 pub record Bases (d n k : ℕ) (b c : List Lexeme) : Type 0 where
-  pub depth : depth c ≡ depth b
+  pub depth : flow_depth c ≡ flow_depth b
   pub mine : (e : ℕ) → candidate e b ≡ None
   pub others : (e : ℕ) → candidate e c ≡ None
-  pub levels : levels c ≡ levels b
+  pub levels : open_levels c ≡ open_levels b
   pub count : length c ≡ k + length b
 
 abbrev pub moved_lexemes : ℕ → ℕ → List Lexeme → List Lexeme
@@ -22,7 +22,7 @@ moved_found d n k None = None
 moved_found d n k (Some c) = Some (moved_candidate d n k c)
 
 pub depth_on : (d n k : ℕ) (h b c : List Lexeme) → Bases d n k b c
-    → depth (moved_lexemes d n h ++ c) ≡ depth (h ++ b)
+    → flow_depth (moved_lexemes d n h ++ c) ≡ flow_depth (h ++ b)
 depth_on d n k [] b c s = s.depth
 depth_on d n k (l ∷ h) b c s = refl
 
@@ -88,14 +88,14 @@ opens_moved d n k None x column = refl
 opens_moved d n k (Some c) x column = refl
 
 pub levels_on : (d n k : ℕ) (h b c : List Lexeme) → Bases d n k b c
-    → levels (moved_lexemes d n h ++ c) ≡ levels (h ++ b)
-unfolding levels
+    → open_levels (moved_lexemes d n h ++ c) ≡ open_levels (h ++ b)
+unfolding open_levels
 levels_on d n k [] b c s = s.levels
 levels_on d n k (l ∷ h) b c s =
     let opens = ap (λ o. opens_at o l.kind l.start.column) (found_on d n k l h b c s) ∙ opens_moved d n k (found_by l (h ++ b)) l.kind l.start.column in
     let before = levels_on d n k h b c s in
     let may = is_start l.kind && not (nat_lt 0 l.depth) in
-    ap (λ x. opened may x (left_by l.kind l.depth l.start.column (levels (moved_lexemes d n h ++ c)))) opens
+    ap (λ x. opened may x (left_by l.kind l.depth l.start.column (open_levels (moved_lexemes d n h ++ c)))) opens
     ∙ ap (λ x. opened may (opens_at (found_by l (h ++ b)) l.kind l.start.column) (left_by l.kind l.depth l.start.column x)) before
 
 pub allowed_on : (d n k : ℕ) (l : Lexeme) (h b c : List Lexeme) → Bases d n k b c

@@ -1,6 +1,6 @@
 -- A text that leads to a directive has its token first, or a fault in its place.
 use Rattle.std.proofs.Common.{◌≡◌, ◌≢◌, ℕ, suc, ◌+◌, nat_lt, false, List, [], ◌∷◌, ◌++◌, length, Option, Some, None, Result, Ok, Err, refl, sym, ap, subst, ◌∙◌, arith}
-use Rattle.yaml_scan_laws_texts.proofs.Shared.{flat_map, same_Some, and-false, yaml_encoding_t, ScanFault, Fault, Token, TokenBody, Wrong, Said, DirectiveText, directive_at, Lexeme, candidate, levels, entries, first_open, WordText, body_said, directed, kind_at, word_at, Next, Read, Fails, Ends, first_lexeme, gap_behind, allowed_behind, kind_behind, begun_behind, word_behind, next, extended, history, SpelledText, body_of_word, body_by, body_in, token_in, spell, all, fault_in, all_ends, last_is_all, history_grows, LeadsToDirective, scan_of, fault_next, cancels}
+use Rattle.yaml_scan_laws_texts.proofs.Shared.{flat_map, same_Some, and-false, yaml_encoding_t, ScanFault, Fault, Token, TokenBody, Wrong, Said, DirectiveText, directive_at, Lexeme, candidate, open_levels, finished_tokens, first_open, WordText, body_said, directed, kind_at, lexeme_at, Next, Read, Fails, Ends, first_lexeme, gap_behind, allowed_behind, kind_behind, begun_behind, word_behind, next, extended, history, SpelledText, body_of_word, body_by, body_in, token_in, spell, all, fault_in, all_ends, last_is_all, history_grows, LeadsToDirective, scan_of, fault_next, cancels}
 use Rattle.yaml_scan_history.specs.scan_model.Tokens as tokens
 use Rattle.yaml_scan_history.specs.scan_words.Directives as directives
 use Rattle.yaml_scan_history.specs.declared.kind.Kind.TheVariants as kinds
@@ -51,8 +51,9 @@ lead_kind b lead =
 -- ---- the lexemes of both
 
 lead_told : (s : SpelledText) (l : Lexeme) → l.kind ≡ kinds.Directive → l.depth ≡ 0
-    → flat_map (spell s) (entries (l ∷ first_lexeme ∷ [])) ≡ token_in s first_lexeme ∷ token_in s l ∷ []
-unfolding entries levels candidate
+    → flat_map (spell s) (finished_tokens (l ∷ first_lexeme ∷ []))
+        ≡ token_in s first_lexeme ∷ token_in s l ∷ []
+unfolding finished_tokens open_levels candidate
 lead_told s l k z = rw (k, z) refl
 
 self_carry : (x : yaml_encoding_t) (t : List ℕ) (h : List Lexeme) → AllCarry x t t 0 0 h
@@ -61,18 +62,18 @@ self_carry x t (l ∷ h) = (ap (body_in (record { encoding = x; text = t })) (le
 
 failed_told : (s : SpelledText) (f : ScanFault)
     → told s (Fails f) (first_lexeme ∷ []) ≡ token_in s first_lexeme ∷ []
-unfolding entries levels candidate first_open
+unfolding finished_tokens open_levels candidate first_open
 failed_told s f = refl
 
 lead_body : (x : yaml_encoding_t) (b : List ℕ) (l : Lexeme) → (r : HasRead b (first_lexeme ∷ []) l)
     → r.kind ≡ kinds.Directive → IsDirective (body_in (record { encoding = x; text = b }) l)
-unfolding word_at
+unfolding lexeme_at
 lead_body x b l r kind =
     let s : SpelledText = record { encoding = x; text = b } in
     let H = first_lexeme ∷ [] in
     let is : l.kind ≡ kinds.Directive = read_kind b H l r ∙ kind in
     let reads : directed (directive_at b (gap_behind b H).place) ≡ Ok r.word = ap (λ k. word_behind k b H) (sym kind) ∙ r.reads in
-    let same = ap (λ k. word_at k (nat_lt 0 l.depth) l.level b l.start.index) (sym kind) ∙ word_of r.kind b H l r.clean.is ∙ r.reads in
+    let same = ap (λ k. lexeme_at k (nat_lt 0 l.depth) l.level b l.start.index) (sym kind) ∙ word_of r.kind b H l r.clean.is ∙ r.reads in
     let body : body_in s l ≡ r.word.body = ap (λ k. body_by k s l) is ∙ ap body_of_word same in
     subst IsDirective (sym body) (directed_body (directive_at b (gap_behind b H).place) r.word reads)
 

@@ -18,8 +18,8 @@ pub use Rattle.yaml_scan_laws_texts.specs.White.{IsGap, KeyIsAllowed, White, Whi
 pub use Rattle.yaml_scan_laws_order.proofs.GapsRead.{byte_cases, gap_is_read}
 pub use Rattle.yaml_scan_laws_order.proofs.HistoryLemmas.{candidate-more, candidate_below, fresh_is, length-entries}
 pub use Rattle.yaml_scan_laws_order.proofs.MarksForward.{line_at-grows}
-pub use Rattle.yaml_scan_laws_order.specs.scan_history.History.{Candidate, as_key, depth, ended, entry_of, first_open, found_by, fresh, has, has_number, in_flow, inside, is_fresh, key_allowed, keyed, left_by, level_of, margin_at, marked, opened, opens_at, opens_of, placed, reached, start_of}
-unfoldable pub use Rattle.yaml_scan_laws_order.specs.scan_history.History.{candidate, entries, indent, levels, mark_key}
+pub use Rattle.yaml_scan_laws_order.specs.scan_history.History.{Candidate, as_key, flow_depth, ended, entry_of, first_open, found_by, fresh, has, has_number, in_flow, inside, is_fresh, key_allowed, keyed, left_by, level_of, margin_at, marked, opened, opens_at, opens_of, placed, reached, start_of}
+unfoldable pub use Rattle.yaml_scan_laws_order.specs.scan_history.History.{candidate, finished_tokens, indent, open_levels, mark_key}
 pub use Rattle.yaml_scan_laws_order.specs.scan_history.Kinds.{allows_key, cancels, depth_after, is_end, is_outside, is_start, is_value, may_be_key}
 pub use Rattle.yaml_scan_laws_order.specs.scan_history.Next.{Ends, Fails, Next, Read, allowed_behind, begun, begun_behind, coming, extended, faults, finished, first_fault_or, first_lexeme, gap_behind, kind_behind, level_in, lexeme_behind, lost_by, misplaced, missed, no_start, place_behind, stale_before, with_end, word_behind}
 unfoldable pub use Rattle.yaml_scan_laws_order.specs.scan_history.Next.{history, next}
@@ -27,7 +27,7 @@ pub use Rattle.yaml_scan_laws_order.specs.scan_history.Remaining.{Remaining, Spe
 unfoldable pub use Rattle.yaml_scan_laws_order.specs.scan_history.Remaining.{all, handed, remaining}
 pub use Rattle.yaml_scan_laws_order.specs.scan_history.Stepwise.{behind, no_colon, not_allowed, of_kind, tested, unless_lost, unless_missed, unless_wrong}
 pub use Rattle.yaml_scan_laws_order.specs.scan_history.Words.{WordText, or_plain}
-unfoldable pub use Rattle.yaml_scan_laws_order.specs.scan_history.Words.{indicator_of, kind_at, word_at}
+unfoldable pub use Rattle.yaml_scan_laws_order.specs.scan_history.Words.{indicator_of, kind_at, lexeme_at}
 pub use Rattle.yaml_scan_laws_order.specs.scan_history.declared.kind.Kind.{Kind}
 pub use Rattle.yaml_scan_laws_order.specs.scan_history.declared.lexeme.Entry.{Entry}
 pub use Rattle.yaml_scan_laws_order.specs.scan_history.declared.lexeme.Lexeme.{Lexeme}

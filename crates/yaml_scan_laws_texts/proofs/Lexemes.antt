@@ -1,6 +1,6 @@
 -- Each lexeme of a text in UTF-8 starts and is left where the text may be cut, and carries UTF-8.
 use Rattle.std.proofs.Common.{◌≡◌, ℕ, zero, suc, ◌+◌, ◌==◌, ◌&&◌, ◌||◌, not, nat_lt, Bool, true, List, length, inl, inr, arith, IsUtf8, [], ◌∷◌, Option, Some, None, Result, Ok, Err, sym, subst}
-use Rattle.yaml_scan_laws_texts.proofs.Words.{cases_Bool, ltb-true, and_parts, nat_tests, byte, break_width, is_bom, step_at, is_skipped, gap_within, gap_at, comment_end, yaml_mark_t, mark_at, Wrong, Kind, Lexeme, is_end, placed, depth, key_allowed, candidate, fresh, WordText, kind_at, word_at, Next, Read, Fails, Ends, begun, finished, allowed_behind, misplaced, missed, lost_by, next, extended, history, no_colon, tested, unless_wrong, unless_lost, of_kind, unless_missed, stepwise, SpelledText, body_of_word, body_by, body_in, HasTexts, placed_index, with_end}
+use Rattle.yaml_scan_laws_texts.proofs.Words.{cases_Bool, ltb-true, and_parts, nat_tests, byte, break_width, is_bom, step_at, is_skipped, gap_within, gap_at, comment_end, yaml_mark_t, mark_at, Wrong, Kind, Lexeme, is_end, placed, flow_depth, key_allowed, candidate, fresh, WordText, kind_at, lexeme_at, Next, Read, Fails, Ends, begun, finished, allowed_behind, misplaced, missed, lost_by, next, extended, history, no_colon, tested, unless_wrong, unless_lost, of_kind, unless_missed, stepwise, SpelledText, body_of_word, body_by, body_in, HasTexts, placed_index, with_end}
 use Rattle.yaml_scan_words.proofs.BetweenLemmas.{bom_bytes}
 use Rattle.yaml_scan_laws_texts.proofs.Whole.{IsWhole, whole_after, whole_behind, whole_bom}
 use Rattle.yaml_scan_laws_texts.proofs.Block.{past_whole}
@@ -51,10 +51,10 @@ word_texts text (Err e) h = tt
 
 -- what a kind carries, where its word does
 body_texts : (k : Kind) (s : SpelledText) (l : Lexeme)
-    → HasWord s.text (word_at k (nat_lt 0 l.depth) l.level s.text l.start.index)
+    → HasWord s.text (lexeme_at k (nat_lt 0 l.depth) l.level s.text l.start.index)
     → HasTexts (body_by k s l)
 body_texts kinds.StreamStart s l h = tt
-body_texts k s l h = word_texts s.text (word_at k (nat_lt 0 l.depth) l.level s.text l.start.index) h
+body_texts k s l h = word_texts s.text (lexeme_at k (nat_lt 0 l.depth) l.level s.text l.start.index) h
 
 -- a lexeme that starts at a place, its end aside
 record IsBegun (q : ℕ) (l : Lexeme) : Type 0 where
@@ -97,8 +97,8 @@ lost_carries (Some start) s q l h t b here fits = tt
 lost_carries None s q l h t b here fits =
     let flow = nat_lt 0 l.depth in
     let word = word_utf8 l.kind flow l.level s.text q t here fits in
-    let there : HasWord s.text (word_at l.kind flow l.level s.text l.start.index) = subst (λ p. HasWord s.text (word_at l.kind flow l.level s.text p)) (sym b.start) word in
-    wrong_carries s q (word_at l.kind flow l.level s.text q) l h b here (body_texts l.kind s l there) word
+    let there : HasWord s.text (lexeme_at l.kind flow l.level s.text l.start.index) = subst (λ p. HasWord s.text (lexeme_at l.kind flow l.level s.text p)) (sym b.start) word in
+    wrong_carries s q (lexeme_at l.kind flow l.level s.text q) l h b here (body_texts l.kind s l there) word
 
 kind_carries : (o : Option Kind) (s : SpelledText) (gap : Gap) (h : List Lexeme) → IsUtf8 s.text
     → IsWhole s.text gap.place → FitsAny o s.text gap.place → CarriesAny s (of_kind o s.text gap h)
@@ -109,13 +109,13 @@ kind_carries (Some k) s gap h t here fits =
     let same = placed_index k start in
     elim (cases_Bool (misplaced k start (allowed_behind h gap) h)) [
       | inl e ↦ rw e tt
-      | inr e ↦ rw e (lost_carries (lost_by l (fresh (candidate (depth h) h) start)) s gap.place l h t record { start = same; reached = same } here fits)
+      | inr e ↦ rw e (lost_carries (lost_by l (fresh (candidate (flow_depth h) h) start)) s gap.place l h t record { start = same; reached = same } here fits)
     ]
 
 missed_carries : (o : Option yaml_mark_t) (s : SpelledText) (gap : Gap) (h : List Lexeme)
     → IsUtf8 s.text → IsWhole s.text gap.place → CarriesAny s (unless_missed o s.text gap h)
 missed_carries (Some start) s gap h t here = tt
-missed_carries None s gap h t here = kind_carries (kind_at (nat_lt 0 (depth h)) s.text gap.place) s gap h t here (kind_fits (nat_lt 0 (depth h)) s.text gap.place)
+missed_carries None s gap h t here = kind_carries (kind_at (nat_lt 0 (flow_depth h)) s.text gap.place) s gap h t here (kind_fits (nat_lt 0 (flow_depth h)) s.text gap.place)
 
 abbrev pub AllCarry : SpelledText → List Lexeme → Type 0
 AllCarry s [] = Unit {0}
@@ -126,7 +126,7 @@ next_carries : (s : SpelledText) (h : List Lexeme) → IsUtf8 s.text → AllCarr
 unfolding next
 next_carries s [] t c = record { texts = tt; place = t }
 next_carries s (x ∷ h) t (c, cs) =
-    let flow = nat_lt 0 (depth (x ∷ h)) in
+    let flow = nat_lt 0 (flow_depth (x ∷ h)) in
     let gap = gap_at flow (key_allowed (x ∷ h)) s.text x.reached.index in
     elim (cases_Bool (is_end x.kind)) [
       | inl e ↦ rw e tt

@@ -1,6 +1,6 @@
 -- What looking back gives is what marking entries gives.
 use Rattle.std.proofs.Common.{◌≡◌, ℕ, zero, suc, ◌+◌, ◌<◌, ◌≤◌, ◌==◌, ◌&&◌, not, nat_lt, cond, Bool, true, false, List, [], ◌∷◌, ◌++◌, length, take, drop, flat_map, Option, Some, None, Result, Ok, Err, refl, sym, ap, ◌∙◌, inl, inr, ◌⊎◌, arith, append_assoc, length-append}
-use Rattle.yaml_scan_laws_texts.proofs.LevelWords.{cases_Bool, cases_lt, and_parts, nat_tests, flat_map-append, append-nil, and-false, Token, Wrong, Kind, Lexeme, Entry, Opens, may_be_key, cancels, is_value, is_start, is_end, Candidate, candidate, has_number, found_by, first_open, indent, inside, level_of, opens_at, opens_of, margin_at, start_of, entry_of, as_key, mark_key, marked, keyed, entries, WordText, Next, Read, Fails, Ends, next, first_fault_or, coming, faults, stale_before, no_start, place_behind, kind_behind, with_end, begun_behind, word_behind, lexeme_behind, extended, history, SpelledText, spell, front_ends, handed_out, handed, kept_of, all, fault_in, Remaining, remaining, candidate-more, candidate_below, fresh_is, eq-eqb}
+use Rattle.yaml_scan_laws_texts.proofs.LevelWords.{cases_Bool, cases_lt, and_parts, nat_tests, flat_map-append, append-nil, and-false, Token, Wrong, Kind, Lexeme, Entry, Opens, may_be_key, cancels, is_value, is_start, is_end, Candidate, candidate, has_number, found_by, first_open, indent, inside, level_of, opens_at, opens_of, margin_at, start_of, entry_of, as_key, mark_key, marked, keyed, finished_tokens, WordText, Next, Read, Fails, Ends, next, first_fault_or, coming, faults, stale_before, no_start, place_behind, kind_behind, with_end, begun_behind, word_behind, lexeme_behind, extended, history, SpelledText, spell, front_ends, handed_out, handed, kept_of, all, fault_in, Remaining, remaining, candidate-more, candidate_below, fresh_is, eq-eqb}
 use Rattle.yaml_scan_laws_order.specs.scan_model.declared.problem.ScanFault.{ScanFault}
 use Rattle.yaml_scan_laws_order.specs.scan_history.declared.kind.Kind.TheVariants as kinds
 use Rattle.yaml_scan_laws_order.specs.scan_history.declared.lexeme.Opens.TheVariants as opening
@@ -362,8 +362,8 @@ keyed_told l h a o f =
     by_found None e v = rw e (all_left l h (λ n. rw (v, e) refl) (rw (v, e) refl) h (omega arith))
     by_found (Some c) e v = rw e (one_marked l h c v e a [] h refl)
 
-entries_are : (h : List Lexeme) → AllMay h → entries h ≡ entries_told h h
-unfolding entries
+entries_are : (h : List Lexeme) → AllMay h → finished_tokens h ≡ entries_told h h
+unfolding finished_tokens
 entries_are [] a = refl
 entries_are (l ∷ h) (m, a) =
     ap (λ (es : List Entry). keyed l h es ++ entry_of l h ∷ []) (entries_are h a)
@@ -463,9 +463,9 @@ lost s m h =
     ]
 
 unlost : (s : SpelledText) (h : List Lexeme) → AllMay h
-    → flat_map (spell s) (entries h) ++ [] ≡ tokens_before s h (length h) h
+    → flat_map (spell s) (finished_tokens h) ++ [] ≡ tokens_before s h (length h) h
 unlost s h a =
-    append-nil (flat_map (spell s) (entries h))
+    append-nil (flat_map (spell s) (finished_tokens h))
     ∙ ap (λ (es : List Entry). flat_map (spell s) es) (entries_are h a)
     ∙ none_lost s h (length h) h (omega arith)
 

@@ -1,6 +1,6 @@
 -- Names and handles as they are read; what each lexeme carries is well spelled.
 use Rattle.std.proofs.Common.{◌≡◌, ℕ, zero, suc, ◌+◌, ◌≤◌, ◌<◌, ◌==◌, ◌||◌, not, true, false, List, [], ◌∷◌, ◌++◌, length, slice_range, Result, Ok, Err, refl, sym, ◌∙◌, inl, inr, arith, add-zero, length-append, subst, ◌-◌, ◌&&◌, if◌then◌else◌, Bool}
-use Rattle.yaml_scan_laws_texts.proofs.Words.{cases_Bool, and_parts, or_parts, eqb-true, nat_tests, Context, byte, is_digit_byte, is_alpha_byte, Wrong, within, belongs, run_within, may_end_name, name_between, anchor_at, name_end, handle_between, handle_at, Has, range_reads, AreAlphas, IsName, IsHandle, TokenBody, is_blank_or_end, run_end, filled, uri_at, some_uri_at, TagText, bracketed, with_handle, bare, parts_at, may_end_tag, ValueText, then_at, is_yaml, is_tag, directive_name_between, number_at, with_major, minor_at, prefix_ended, prefix_at, with_prefix, named_value_at, value_at, line_end_at, with_line, single_quoted_at, double_quoted_at, PlainText, plain_at, BlockText, block_at, style_at, WordText, valued, tagged, body_said, directed, blocked, plainly, word_at, IsSome, IsSpelled, ne_eqb}
+use Rattle.yaml_scan_laws_texts.proofs.Words.{cases_Bool, and_parts, or_parts, eqb-true, nat_tests, Context, byte, is_digit_byte, is_alpha_byte, Wrong, within, belongs, run_within, may_end_name, name_between, anchor_at, name_end, handle_between, handle_at, Has, range_reads, AreAlphas, IsName, IsHandle, TokenBody, is_blank_or_end, run_end, filled, uri_at, some_uri_at, TagText, bracketed, with_handle, bare, parts_at, may_end_tag, ValueText, then_at, is_yaml, is_tag, directive_name_between, number_at, with_major, minor_at, prefix_ended, prefix_at, with_prefix, named_value_at, value_at, line_end_at, with_line, single_quoted_at, double_quoted_at, PlainText, plain_at, BlockText, block_at, style_at, WordText, valued, tagged, body_said, directed, blocked, plainly, lexeme_at, IsSome, IsSpelled, ne_eqb}
 use Rattle.yaml_scan_laws_order.proofs.WordsRunsLemmas.{run_within-le}
 use Rattle.yaml_scan_laws_order.specs.scan_model.declared.Context.TheVariants as contexts
 use Rattle.yaml_scan_laws_order.specs.scan_model.declared.Problem.TheVariants as problems
@@ -326,8 +326,8 @@ Marked _ text p = Unit {0}
 
 -- what stands there of a kind
 pub word_spelled : (k : Kind) (flow : Bool) (level : ℕ) (text : List ℕ) (p : ℕ) → Marked k text p
-    → HasWord (word_at k flow level text p)
-unfolding word_at
+    → HasWord (lexeme_at k flow level text p)
+unfolding lexeme_at
 word_spelled kinds.Directive flow level text p m = directive_word text (value_at text p) (value_good text (p + 1) (name_end text p))
 word_spelled kinds.Alias flow level text p m = alias_word (anchor_at contexts.Alias text p) (anchor_good contexts.Alias text p)
 word_spelled kinds.Anchor flow level text p m = anchor_word (anchor_at contexts.Anchor text p) (anchor_good contexts.Anchor text p)

@@ -1,6 +1,6 @@
 -- A front without fault, whatever brackets it leaves open: the whole begins with its tokens, and a mark in its end's place.
 use Rattle.std.proofs.Common.{◌≡◌, ℕ, zero, suc, ◌+◌, ◌-◌, ◌<◌, ◌≤◌, ◌==◌, ◌&&◌, nat_lt, nat_le, if◌then◌else◌, true, false, List, [], ◌∷◌, ◌++◌, take, drop, filter, replicate, length, Option, Some, None, refl, sym, ap, subst, ◌∙◌, inl, inr, arith, ◌≢◌, map}
-use Rattle.yaml_scan_laws_texts.proofs.Shared.{cases_Bool, true≢false, nat_tests, flat_map-append, append-nil, append_assoc, same_from_push, take-append-drop, flat_map, none-some, same_Some, yaml_encoding_t, yaml_mark_t, ScanFault, byte, ends_break, line_at, mark_at, Token, TokenBody, block_end, is_document_start, is_document_end, Kind, Lexeme, is_outside, is_start, is_value, is_end, cancels, depth_after, depth, in_flow, ended, Candidate, candidate, is_fresh, fresh, open_at, first_open, levels, entry_of, entries, placed, word_at, Read, Fails, Ends, gap_behind, place_behind, kind_behind, begun_behind, word_behind, lexeme_behind, missed, lost_by, colon_missing_of, stale_before, indicator_misplaced, candidate_lost, text_wrong, stale_after, coming, next, extended, history, first_fault_or, no_start, first_lexeme, SpelledText, body_by, token_in, start_tokens, end_tokens, spell, all, handed, kept_of, remaining, body_in, length-entries, Stands, history_stands, first_is, not_ended, all_ends, settled_stays, line_at-grows, IsCut, scan_of, fault_next, moved_token, moved_lexeme, take-length, le-ltb, offline}
+use Rattle.yaml_scan_laws_texts.proofs.Shared.{cases_Bool, true≢false, nat_tests, flat_map-append, append-nil, append_assoc, same_from_push, take-append-drop, flat_map, none-some, same_Some, yaml_encoding_t, yaml_mark_t, ScanFault, byte, ends_break, line_at, mark_at, Token, TokenBody, block_end, is_document_start, is_document_end, Kind, Lexeme, is_outside, is_start, is_value, is_end, cancels, depth_after, flow_depth, in_flow, ended, Candidate, candidate, is_fresh, fresh, open_at, first_open, open_levels, entry_of, finished_tokens, placed, lexeme_at, Read, Fails, Ends, gap_behind, place_behind, kind_behind, begun_behind, word_behind, lexeme_behind, missed, lost_by, colon_missing_of, stale_before, indicator_misplaced, candidate_lost, text_wrong, stale_after, coming, next, extended, history, first_fault_or, no_start, first_lexeme, SpelledText, body_by, token_in, start_tokens, end_tokens, spell, all, handed, kept_of, remaining, body_in, length-entries, Stands, history_stands, first_is, not_ended, all_ends, settled_stays, line_at-grows, IsCut, scan_of, fault_next, moved_token, moved_lexeme, take-length, le-ltb, offline}
 use Rattle.yaml_scan_history.specs.scan_model.Tokens as tokens
 use Rattle.yaml_scan_history.specs.declared.kind.Kind.TheVariants as kinds
 use Rattle.yaml_scan_laws_texts.proofs.Cutting.{byte_past, last_byte, line_ended}
@@ -86,7 +86,7 @@ pub tokens_zero : (ts : List Token) → map (moved_token 0 0) ts ≡ ts
 tokens_zero ts = map_same (moved_token 0 0) (λ t. rw (mark_zero t.start_mark, mark_zero t.end_mark) refl) ts
 
 pub no_bases : Bases 0 0 0 [] []
-unfolding candidate levels
+unfolding candidate open_levels
 no_bases = record {
   depth = refl;
   mine = λ e. refl;
@@ -95,20 +95,20 @@ no_bases = record {
   count = refl;
 }
 
-pub no_entries : entries [] ≡ []
-unfolding entries
+pub no_entries : finished_tokens [] ≡ []
+unfolding finished_tokens
 no_entries = refl
 
 -- the front's tokens before its end
 pub front_told : (x : yaml_encoding_t) (a b : List ℕ) (h : List Lexeme)
     → AllCarry x a (a ++ b) 0 0 h
-    → flat_map (spell (record { encoding = x; text = a ++ b })) (entries h)
-    ≡ flat_map (spell (record { encoding = x; text = a })) (entries h)
+    → flat_map (spell (record { encoding = x; text = a ++ b })) (finished_tokens h)
+    ≡ flat_map (spell (record { encoding = x; text = a })) (finished_tokens h)
 front_told x a b h carry =
     let s : SpelledText = record { encoding = x; text = a } in
     let v : SpelledText = record { encoding = x; text = a ++ b } in
     let es = entered 0 0 0 h [] [] no_bases in
-    let is : entries h ≡ es.more = ap entries (sym (append-nil h)) ∙ es.mine ∙ ap (λ z. z ++ es.more) no_entries in
+    let is : finished_tokens h ≡ es.more = ap finished_tokens (sym (append-nil h)) ∙ es.mine ∙ ap (λ z. z ++ es.more) no_entries in
     ap (flat_map (spell v)) (is ∙ sym (map_same (moved_entry 0 0) (λ e. rw (lexeme_zero e.lexeme) refl) es.more)) ∙ spells_moved 0 0 x a (a ++ b) es.more (es.say x a (a ++ b) carry)
     ∙ tokens_zero (flat_map (spell s) es.more) ∙ ap (flat_map (spell s)) (sym is)
 
@@ -215,11 +215,11 @@ none_open H (l ∷ h) shut =
 record MarkReads (a b : List ℕ) (K : Kind) (H : List Lexeme) (E M : Lexeme) : Type 0 where
   pub reads : next (a ++ b) H ≡ Read M
   pub lies : MarkLies K (a ++ b) H (length a) M
-  pub deep : E.depth ≡ depth H
+  pub deep : E.depth ≡ flow_depth H
   pub below : line_at (a ++ b) (length a) ≤ M.reached.line
   pub end : E.kind ≡ kinds.StreamEnd
   pub place : E.start ≡ mark_at (a ++ b) (length a)
-  pub flat : depth H ≡ 0 → M ≡ mark_lexeme K (a ++ b) (length a)
+  pub flat : flow_depth H ≡ 0 → M ≡ mark_lexeme K (a ++ b) (length a)
 
 -- the candidate of depth 0 after what cancels and isn't saved
 outer_none : (l : Lexeme) (H : List Lexeme) → (l.depth == 0) ≡ true → l.saved ≡ false
@@ -247,9 +247,9 @@ mark_reads_there a b cut x h stands early E e end m =
     let stale : stale_before W H ≡ None = stale_there a W 0 (length a) 0 0 H H pair ∙ ap (moved_fault 0 0) r.clean.stale in
     let begun = begun_behind kinds.StreamEnd a H in
     let lost : candidate_lost kinds.StreamEnd a H ≡ None = ap (λ k. candidate_lost k a H) (sym is) ∙ r.clean.lost in
-    let mine = free_of begun (fresh (candidate (depth H) H) (place_behind a H)) refl refl
-    (colon_none (lost_by begun (fresh (candidate (depth H) H) (place_behind a H))) begun.start lost) in
-    let free : IsFree (fresh (candidate (depth H) H) (place_behind W H)) = subst (λ q. IsFree (fresh (candidate (depth H) H) q)) (sym place) mine in
+    let mine = free_of begun (fresh (candidate (flow_depth H) H) (place_behind a H)) refl refl
+    (colon_none (lost_by begun (fresh (candidate (flow_depth H) H) (place_behind a H))) begun.start lost) in
+    let free : IsFree (fresh (candidate (flow_depth H) H) (place_behind W H)) = subst (λ q. IsFree (fresh (candidate (flow_depth H) H) q)) (sym place) mine in
     let mark = stands_there a b cut H m.kind (m.stands (in_flow H)) there in
     let same : begun ≡ E = sym (end_begun a H) ∙ ap (λ k. lexeme_behind k a H) (sym is) ∙ r.clean.is in
     let begins : begun.start ≡ mark_at W (length a) =
@@ -262,7 +262,7 @@ mark_reads_there a b cut x h stands early E e end m =
     let reads_end : coming (Some kinds.StreamEnd) a H ≡ Read E = ap (λ o. coming o a H) (ap Some (sym is) ∙ sym r.stands) ∙ here in
     let ended = after_none (stale_before a H) (indicator_misplaced kinds.StreamEnd a H) (candidate_lost kinds.StreamEnd a H) (text_wrong kinds.StreamEnd a H) (stale_after (lexeme_behind kinds.StreamEnd a H) H) (lexeme_behind kinds.StreamEnd a H) E reads_end in
     let ended_so : stale_after begun H ≡ None = ap (λ y. stale_after y H) (sym (end_begun a H)) ∙ ended in
-    let after : stale_after M H ≡ None = elim (cases_Bool (depth H == 0)) [
+    let after : stale_after M H ≡ None = elim (cases_Bool (flow_depth H == 0)) [
       | inl z ↦
           let gone = outer_none M H (ap (λ n. n == 0) lies.deep ∙ z) lies.saved (ap cancels lies.kind ∙ m.is.cancels) in
           rw gone refl
@@ -292,7 +292,7 @@ closing m = record { body = block_end; start_mark = m; end_mark = m }
 
 -- what a lexeme that stands outside of levels closes
 abbrev pub closings : ℕ → List Lexeme → yaml_mark_t → List Token
-closings d H m = replicate (length (levels H) - length (if nat_lt 0 d then levels H else filter (λ x. nat_le x 0) (levels H))) (closing m)
+closings d H m = replicate (length (open_levels H) - length (if nat_lt 0 d then open_levels H else filter (λ x. nat_le x 0) (open_levels H))) (closing m)
 
 pub outer_spelled : (s : SpelledText) (l : Lexeme) (H : List Lexeme) (K : Kind) → l.kind ≡ K
     → is_outside K ≡ true → is_start K ≡ false
@@ -305,18 +305,18 @@ outer_spelled s l H K k out start =
     ∙ ap (λ y. y ++ token_in s l ∷ []) (append-nil (closings l.depth H l.start))
 
 pub outer_entries : (l : Lexeme) (H : List Lexeme) (K : Kind) → l.kind ≡ K → is_value K ≡ false
-    → entries (l ∷ H) ≡ entries H ++ entry_of l H ∷ []
-unfolding entries
+    → finished_tokens (l ∷ H) ≡ finished_tokens H ++ entry_of l H ∷ []
+unfolding finished_tokens
 outer_entries l H K k none = rw (k, none) refl
 
 -- what is handed out begins with the entries of lexemes none of which may become a key any more
 handed_first : (t : List ℕ) (n : ℕ) (H : List Lexeme) → history t n ≡ H
-    → ((e : ℕ) → open_at e H ≡ None) → handed t ≡ entries H ++ drop (length H) (handed t)
+    → ((e : ℕ) → open_at e H ≡ None) → handed t ≡ finished_tokens H ++ drop (length H) (handed t)
 handed_first t n H is shut =
     let high : length H ≤ first_open (history t n) (history t n) = rw is (omega (arith, none_open H H shut)) in
     let settled = settled_stays t n (length H) high in
-    let took : take (length H) (handed t) ≡ entries H =
-    settled ∙ ap (λ h. take (length H) (entries h)) is ∙ ap (λ k. take k (entries H)) (sym (length-entries H)) ∙ take-length (entries H) in
+    let took : take (length H) (handed t) ≡ finished_tokens H =
+    settled ∙ ap (λ h. take (length H) (finished_tokens h)) is ∙ ap (λ k. take k (finished_tokens H)) (sym (length-entries H)) ∙ take-length (finished_tokens H) in
     sym (take-append-drop (length H) (handed t)) ∙ ap (λ z. z ++ drop (length H) (handed t)) took
 
 -- ---- the law
@@ -329,13 +329,13 @@ pub record Begun (x : yaml_encoding_t) (a b : List ℕ) (K : Kind) (body : Token
   pub steps : ℕ
   pub history_is : history (a ++ b) steps ≡ newest ∷ older
   pub lies : MarkLies K (a ++ b) older (length a) newest
-  pub flat : depth older ≡ 0 → newest ≡ mark_lexeme K (a ++ b) (length a)
-  pub deep : depth (all a) ≡ depth older
+  pub flat : flow_depth older ≡ 0 → newest ≡ mark_lexeme K (a ++ b) (length a)
+  pub deep : flow_depth (all a) ≡ flow_depth older
   pub some : 0 < length older
   pub shut : (e : ℕ) → open_at e (newest ∷ older) ≡ None
   pub mark : Token
   pub is : mark ≡ token_in (record { encoding = x; text = a ++ b }) newest
-  pub base : flat_map (spell (record { encoding = x; text = a ++ b })) (entries (newest ∷ older)) ≡ front ++ mark ∷ []
+  pub base : flat_map (spell (record { encoding = x; text = a ++ b })) (finished_tokens (newest ∷ older)) ≡ front ++ mark ∷ []
   pub behind : List Token
   pub are : (scan_of x (a ++ b)).tokens ≡ front ++ mark ∷ behind
   pub begins : mark.body ≡ body
@@ -354,7 +354,7 @@ begun_at : (x : yaml_encoding_t) (a b : List ℕ) → IsCut a b → (m : MarkSta
     → (y : Lexeme) (h : List Lexeme) → history a j ≡ y ∷ h
     → (front : List Token) (last : Token) → (scan_of x a).tokens ≡ front ++ last ∷ []
     → Begun x a b m.kind m.body front last
-unfolding word_at
+unfolding lexeme_at
 begun_at x a b cut m j E at is over y h same front last are =
     let s : SpelledText = record { encoding = x; text = a } in
     let W = a ++ b in
@@ -374,23 +374,23 @@ begun_at x a b cut m j E at is over y h same front last are =
     let shut : (e : ℕ) → open_at e (M ∷ H) ≡ None = λ e. none_fresh (line_at a (length a)) (candidate e (M ∷ H)) M.reached low (λ c k. candidate_early (line_at a (length a)) (M ∷ H) all_low e c k) in
     let rest = drop (length (M ∷ H)) (handed W) in
     let kept = kept_of (next W (all W)) (all W) in
-    let old = flat_map (spell s) (entries H) in
+    let old = flat_map (spell s) (finished_tokens H) in
     let carry : AllCarry x a W 0 0 H = subst (AllCarry x a W 0 0) same (front_carry x a b cut j E at j (omega arith)) in
     let closed = closings E.depth H E.start in
     let mark_told : spell v (entry_of M H) ≡ closed ++ token_in v M ∷ [] =
     outer_spelled v M H K r.lies.kind m.is.outside m.is.start
     ∙ ap (λ d. closings d H M.start ++ token_in v M ∷ []) (r.lies.deep ∙ sym r.deep) ∙ ap (λ k. closings E.depth H k ++ token_in v M ∷ []) (r.lies.start ∙ sym r.place) in
-    let base : flat_map (spell v) (entries (M ∷ H)) ≡ (old ++ closed) ++ token_in v M ∷ [] =
+    let base : flat_map (spell v) (finished_tokens (M ∷ H)) ≡ (old ++ closed) ++ token_in v M ∷ [] =
     ap (flat_map (spell v)) (outer_entries M H K r.lies.kind m.is.value)
-    ∙ flat_map-append (spell v) (entries H) (entry_of M H ∷ [])
+    ∙ flat_map-append (spell v) (finished_tokens H) (entry_of M H ∷ [])
     ∙ ap (λ z. z ++ (spell v (entry_of M H) ++ [])) (front_told x a b H carry)
     ∙ ap (λ z. old ++ z) (append-nil (spell v (entry_of M H)) ∙ mark_told)
     ∙ sym (append_assoc old closed (token_in v M ∷ [])) in
     let ends : (scan_of x a).tokens ≡ (old ++ closed) ++ token_in s E ∷ [] =
-    offline_told s ∙ ap (λ z. told s z (all a)) over ∙ append-nil (flat_map (spell s) (entries (all a)))
-    ∙ ap (λ z. flat_map (spell s) (entries z)) (is ∙ ap (λ z. E ∷ z) same)
+    offline_told s ∙ ap (λ z. told s z (all a)) over ∙ append-nil (flat_map (spell s) (finished_tokens (all a)))
+    ∙ ap (λ z. flat_map (spell s) (finished_tokens z)) (is ∙ ap (λ z. E ∷ z) same)
     ∙ ap (flat_map (spell s)) (outer_entries E H kinds.StreamEnd r.end refl)
-    ∙ flat_map-append (spell s) (entries H) (entry_of E H ∷ [])
+    ∙ flat_map-append (spell s) (finished_tokens H) (entry_of E H ∷ [])
     ∙ ap (λ z. old ++ z) (append-nil (spell s (entry_of E H)) ∙ outer_spelled s E H kinds.StreamEnd r.end refl refl)
     ∙ sym (append_assoc old closed (token_in s E ∷ [])) in
     let (fronts, lasts) = same_from_push front (old ++ closed) last (token_in s E) (sym are ∙ ends) in
@@ -402,7 +402,7 @@ begun_at x a b cut m j E at is over y h same front last are =
       history_is = steps;
       lies = r.lies;
       flat = r.flat;
-      deep = ap depth (is ∙ ap (λ z. E ∷ z) same) ∙ ap (λ k. depth_after k E.depth) r.end ∙ r.deep;
+      deep = ap flow_depth (is ∙ ap (λ z. E ∷ z) same) ∙ ap (λ k. depth_after k E.depth) r.end ∙ r.deep;
       some = omega arith;
       shut = shut;
       mark = token_in v M;
@@ -410,8 +410,8 @@ begun_at x a b cut m j E at is over y h same front last are =
       base = base ∙ ap (λ z. z ++ token_in v M ∷ []) (sym fronts);
       behind = more;
       are = all_tokens v ∙ ap (λ z. flat_map (spell v) z ++ kept) (handed_first W (suc j) (M ∷ H) steps shut)
-          ∙ ap (λ z. z ++ kept) (flat_map-append (spell v) (entries (M ∷ H)) rest)
-          ∙ append_assoc (flat_map (spell v) (entries (M ∷ H))) (flat_map (spell v) rest) kept
+          ∙ ap (λ z. z ++ kept) (flat_map-append (spell v) (finished_tokens (M ∷ H)) rest)
+          ∙ append_assoc (flat_map (spell v) (finished_tokens (M ∷ H))) (flat_map (spell v) rest) kept
           ∙ ap (λ z. z ++ more) base ∙ append_assoc (old ++ closed) (token_in v M ∷ []) more
           ∙ ap (λ z. z ++ token_in v M ∷ more) (sym fronts);
       begins = ap (λ k. body_by k v M) r.lies.kind ∙ m.is.told v M;

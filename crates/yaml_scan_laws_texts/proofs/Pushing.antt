@@ -1,7 +1,7 @@
 -- Levels that close and open, what stands after lexemes, and what is known after one more.
 use Rattle.std.proofs.Common.{◌≡◌, ◌⊎◌, ℕ, ◌-◌, ◌<◌, ◌≤◌, nat_lt, nat_le, cond, Bool, true, false, List, [], ◌∷◌, ◌++◌, length, refl, ap, ◌∙◌, inl, inr, arith, ◌&&◌, ◌||◌, not, Option, Some, None, Result, Ok, ◌+◌, ◌==◌, sym, subst}
 use Rattle.std.specs.Prelude.{filter}
-use Rattle.yaml_scan_laws_texts.proofs.LevelWords.{cases_Bool, nat_tests, Kind, is_outside, indent, left_by, opened, margin_at, Rises, InsideLeaves, RightLeaves, LeftCloses, yaml_mark_t, column_at, mark_at, Wrong, Gap, Lexeme, cancels, is_value, is_start, is_end, depth, reached, ended, Candidate, candidate, fresh, is_fresh, has, placed, levels, WordText, kind_at, word_at, Next, Read, Ends, begun, finished, gap_behind, allowed_behind, misplaced, missed, lost_by, level_in, kind_behind, coming, next, no_colon, not_allowed, tested, unless_wrong, unless_lost, of_kind, unless_missed, behind, Came, IsFree, InTime, read_at, MetIsRead, not-true, and_parts, Entry, Opens, depth_after, may_be_key, opens_at, start_of, level_of, marked, entries, SpelledText, body_of_word, body_by, Says, Front, Idle, Meets, entry, IsPlaced, stays_level, WordIsRead, MarkIsRead, OuterIsRead, ltb-true}
+use Rattle.yaml_scan_laws_texts.proofs.LevelWords.{cases_Bool, nat_tests, Kind, is_outside, indent, left_by, opened, margin_at, Rises, InsideLeaves, RightLeaves, LeftCloses, yaml_mark_t, column_at, mark_at, Wrong, Gap, Lexeme, cancels, is_value, is_start, is_end, flow_depth, reached, ended, Candidate, candidate, fresh, is_fresh, has, placed, open_levels, WordText, kind_at, lexeme_at, Next, Read, Ends, begun, finished, gap_behind, allowed_behind, misplaced, missed, lost_by, level_in, kind_behind, coming, next, no_colon, not_allowed, tested, unless_wrong, unless_lost, of_kind, unless_missed, behind, Came, IsFree, InTime, read_at, MetIsRead, not-true, and_parts, Entry, Opens, depth_after, may_be_key, opens_at, start_of, level_of, marked, finished_tokens, SpelledText, body_of_word, body_by, Says, Front, Idle, Meets, entry, IsPlaced, stays_level, WordIsRead, MarkIsRead, OuterIsRead, ltb-true}
 use Rattle.yaml_scan_laws_order.proofs.StepwiseLemmas.{stepwise}
 use Rattle.yaml_scan_laws_order.proofs.NextForward.{placed_same}
 use Rattle.yaml_scan_laws_order.specs.scan_history.declared.kind.Kind.TheVariants as kinds
@@ -176,11 +176,11 @@ tested_read l h u =
 of_place : (text : List ℕ) (gap : Gap) (h : List Lexeme) (k : Kind) (q : ℕ) (a : Bool)
     (w : WordText) → gap.place ≡ q → allowed_behind h gap ≡ a → is_end k ≡ false
     → let m = mark_at text q in let b = begun k m a h in let l = read_at text h k q a w in
-    kind_at (nat_lt 0 (depth h)) text q ≡ Some k
-    → word_at k (nat_lt 0 (depth h)) (level_in k (column_at text q) h) text q ≡ Ok w
+    kind_at (nat_lt 0 (flow_depth h)) text q ≡ Some k
+    → lexeme_at k (nat_lt 0 (flow_depth h)) (level_in k (column_at text q) h) text q ≡ Ok w
     → misplaced k m a h ≡ false
     → missed (fresh (candidate 0 h) (reached h)) m ≡ None
-    → lost_by b (fresh (candidate (depth h) h) m) ≡ None
+    → lost_by b (fresh (candidate (flow_depth h) h) m) ≡ None
     → InTime (candidate 0 (l ∷ h)) l.reached
     → behind text gap h ≡ Read l
 of_place text gap h k q a w place allowed goes kind said placed_so none lost time =
@@ -188,13 +188,13 @@ of_place text gap h k q a w place allowed goes kind said placed_so none lost tim
     let b = begun k m a h in
     ap (λ (p : ℕ). unless_missed (missed (fresh (candidate 0 h) (reached h)) (mark_at text p)) text gap h) place
     ∙ ap (λ (o : Option yaml_mark_t). unless_missed o text gap h) none
-    ∙ ap (λ (p : ℕ). of_kind (kind_at (nat_lt 0 (depth h)) text p) text gap h) place
+    ∙ ap (λ (p : ℕ). of_kind (kind_at (nat_lt 0 (flow_depth h)) text p) text gap h) place
     ∙ ap (λ (o : Option Kind). of_kind o text gap h) kind
     ∙ ap (λ (p : ℕ). cond (misplaced k (mark_at text p) (allowed_behind h gap) h) (not_allowed k (mark_at text p))
-    (unless_lost (lost_by (begun k (placed k (mark_at text p)) (allowed_behind h gap) h) (fresh (candidate (depth h) h) (mark_at text p))) text p (begun k (placed k (mark_at text p)) (allowed_behind h gap) h) h)) place
-    ∙ ap (λ (x : Bool). cond (misplaced k m x h) (not_allowed k m) (unless_lost (lost_by (begun k (placed k m) x h) (fresh (candidate (depth h) h) m)) text q (begun k (placed k m) x h) h)) allowed
+    (unless_lost (lost_by (begun k (placed k (mark_at text p)) (allowed_behind h gap) h) (fresh (candidate (flow_depth h) h) (mark_at text p))) text p (begun k (placed k (mark_at text p)) (allowed_behind h gap) h) h)) place
+    ∙ ap (λ (x : Bool). cond (misplaced k m x h) (not_allowed k m) (unless_lost (lost_by (begun k (placed k m) x h) (fresh (candidate (flow_depth h) h) m)) text q (begun k (placed k m) x h) h)) allowed
     ∙ unless_so (misplaced k m a h) (not_allowed k m) _ placed_so
-    ∙ ap (λ (s : yaml_mark_t). unless_lost (lost_by (begun k s a h) (fresh (candidate (depth h) h) m)) text q (begun k s a h) h) (placed_same k m goes)
+    ∙ ap (λ (s : yaml_mark_t). unless_lost (lost_by (begun k s a h) (fresh (candidate (flow_depth h) h) m)) text q (begun k s a h) h) (placed_same k m goes)
     ∙ ap (λ (o : Option yaml_mark_t). unless_lost o text q b h) lost
     ∙ ap (λ (r : Result WordText Wrong). unless_wrong r text b h) said
     ∙ ap (λ (x : Lexeme). tested x h) (finished_is text b w goes)
@@ -210,14 +210,14 @@ pub met_is_read : MetIsRead
 met_is_read text h d ms es k q a w f goes meets is_placed due free time =
     let m = mark_at text q in
     let b = begun k m a h in
-    let kind : kind_at (nat_lt 0 (depth h)) text q ≡ Some k = ap (λ (n : ℕ). kind_at (nat_lt 0 n) text q) f.depth ∙ meets.kind in
-    let word : word_at k (nat_lt 0 (depth h)) (level_in k (column_at text q) h) text q ≡ Ok w =
-    ap (λ (n : ℕ). word_at k (nat_lt 0 n) (indent (left_by k n (column_at text q) (levels h))) text q) f.depth
-    ∙ ap (λ (x : List ℕ). word_at k (nat_lt 0 d) (indent (left_by k d (column_at text q) x)) text q) f.levels ∙ meets.word in
+    let kind : kind_at (nat_lt 0 (flow_depth h)) text q ≡ Some k = ap (λ (n : ℕ). kind_at (nat_lt 0 n) text q) f.depth ∙ meets.kind in
+    let word : lexeme_at k (nat_lt 0 (flow_depth h)) (level_in k (column_at text q) h) text q ≡ Ok w =
+    ap (λ (n : ℕ). lexeme_at k (nat_lt 0 n) (indent (left_by k n (column_at text q) (open_levels h))) text q) f.depth
+    ∙ ap (λ (x : List ℕ). lexeme_at k (nat_lt 0 d) (indent (left_by k d (column_at text q) x)) text q) f.levels ∙ meets.word in
     let stands : misplaced k m a h ≡ false =
     ap (λ (n : ℕ). (not (nat_lt 0 n) && not a) && (is_start k && not (is_value k && has (fresh (candidate n h) m)))) f.depth
     ∙ in_place (nat_lt 0 d) a (is_start k) (is_value k && has (fresh (candidate d h) m)) is_placed in
-    let lost : lost_by b (fresh (candidate (depth h) h) m) ≡ None =
+    let lost : lost_by b (fresh (candidate (flow_depth h) h) m) ≡ None =
     ap (λ (n : ℕ). lost_by b (fresh (candidate n h) m)) f.depth ∙ lost_none b (candidate d h) m free in
     came_some text h f.came f.going
     ∙ of_place text (gap_behind text h) h k q a w meets.place meets.allowed goes kind word stands (fresh_in_time (candidate 0 h) (reached h) m due) lost time
@@ -315,7 +315,7 @@ pub front_push : (text : List ℕ) (h : List Lexeme) (d : ℕ) (ms : List ℕ) (
     → let new = opened (is_start k && not (nat_lt 0 d)) (opens_at found k c) left in
     Rises 0 new
     → Front text (l ∷ h) (depth_after k d) new (cond (is_value k) (marked found left es) es ++ entry l (length ms - length left) (opens_by found k d (margin_at c) left) ∷ [])
-unfolding levels entries
+unfolding open_levels finished_tokens
 front_push text h d ms es k q a w f goes read found found_is left left_is rises =
     let m = mark_at text q in
     let c = column_at text q in
@@ -327,15 +327,15 @@ front_push text h d ms es k q a w f goes read found found_is left left_is rises 
       came = came_push text l h f.came read;
       going = goes;
       depth = ap (λ (n : ℕ). depth_after k n) f.depth;
-      levels = ap (λ (n : ℕ). N (nat_lt 0 n) (fresh (candidate n h) m) (left_by k n c (levels h))) f.depth
-          ∙ ap (λ (o : Option Candidate). N (nat_lt 0 d) o (left_by k d c (levels h))) found_is
+      levels = ap (λ (n : ℕ). N (nat_lt 0 n) (fresh (candidate n h) m) (left_by k n c (open_levels h))) f.depth
+          ∙ ap (λ (o : Option Candidate). N (nat_lt 0 d) o (left_by k d c (open_levels h))) found_is
           ∙ ap (λ (x : List ℕ). N (nat_lt 0 d) found (left_by k d c x)) f.levels
           ∙ ap (λ (x : List ℕ). N (nat_lt 0 d) found x) left_is;
       rises = rises;
-      entries = ap (λ (n : ℕ). E n (fresh (candidate n h) m) (levels h) (left_by k n c (levels h)) (entries h)) f.depth
-          ∙ ap (λ (o : Option Candidate). E d o (levels h) (left_by k d c (levels h)) (entries h)) found_is
-          ∙ ap (λ (x : List ℕ). E d found x (left_by k d c x) (entries h)) f.levels
-          ∙ ap (λ (x : List ℕ). E d found ms x (entries h)) left_is
+      entries = ap (λ (n : ℕ). E n (fresh (candidate n h) m) (open_levels h) (left_by k n c (open_levels h)) (finished_tokens h)) f.depth
+          ∙ ap (λ (o : Option Candidate). E d o (open_levels h) (left_by k d c (open_levels h)) (finished_tokens h)) found_is
+          ∙ ap (λ (x : List ℕ). E d found x (left_by k d c x) (finished_tokens h)) f.levels
+          ∙ ap (λ (x : List ℕ). E d found ms x (finished_tokens h)) left_is
           ∙ ap (λ (zs : List Entry). E d found ms left zs) f.entries;
     }
 
@@ -404,11 +404,11 @@ pub level_is : (text : List ℕ) (h : List Lexeme) (d : ℕ) (ms left : List ℕ
     (k : Kind) (c : ℕ) → Front text h d ms es → left_by k d c ms ≡ left
     → level_in k c h ≡ indent left
 level_is text h d ms left es k c f e =
-    ap (λ (n : ℕ). indent (left_by k n c (levels h))) f.depth ∙ ap (λ (x : List ℕ). indent (left_by k d c x)) f.levels ∙ ap (λ (x : List ℕ). indent x) e
+    ap (λ (n : ℕ). indent (left_by k n c (open_levels h))) f.depth ∙ ap (λ (x : List ℕ). indent (left_by k d c x)) f.levels ∙ ap (λ (x : List ℕ). indent x) e
 
 said_body : (k : Kind) (s : SpelledText) (l : Lexeme) (w : WordText)
     → FitsAny (Some k) s.text l.start.index
-    → word_at k (nat_lt 0 l.depth) l.level s.text l.start.index ≡ Ok w → body_by k s l ≡ w.body
+    → lexeme_at k (nat_lt 0 l.depth) l.level s.text l.start.index ≡ Ok w → body_by k s l ≡ w.body
 said_body kinds.StreamStart s l w f said = absurd f
 said_body k s l w f said = ap (λ (r : Result WordText Wrong). body_of_word r) said
 
@@ -421,8 +421,8 @@ body_met text h d ms left es k q a w f e meets = λ x.
     let l = read_at text h k q a w in
     let P : Option Kind → Type 0 = λ o. FitsAny o text q in
     said_body k s l w (subst P meets.kind (kind_fits (nat_lt 0 d) text q))
-    (ap (λ (n : ℕ). word_at k (nat_lt 0 n) l.level text q) f.depth
-    ∙ ap (λ (n : ℕ). word_at k (nat_lt 0 d) n text q) (level_is text h d ms left es k (column_at text q) f e) ∙ meets.word)
+    (ap (λ (n : ℕ). lexeme_at k (nat_lt 0 n) l.level text q) f.depth
+    ∙ ap (λ (n : ℕ). lexeme_at k (nat_lt 0 d) n text q) (level_is text h d ms left es k (column_at text q) f e) ∙ meets.word)
 
 -- ---- the laws
 
@@ -481,7 +481,7 @@ mark_is_read text h ms ls n es k q w f idle start meets leaves lone =
     let inside = start_inside k start in
     let goes = goes_on k inside in
     let left = leaves.left k inside in
-    let unrequired : l.required ≡ false = no_key true (may_be_key k) (depth h == 0 && level_in k c h == margin_at c) (start_no_key k start) in
+    let unrequired : l.required ≡ false = no_key true (may_be_key k) (flow_depth h == 0 && level_in k c h == margin_at c) (start_no_key k start) in
     let still : Idle (l ∷ h) = λ e. free_push l h e (idle e) unrequired in
     let found = fresh (candidate 0 h) (mark_at text q) in
     let new = opened (is_start k && not (nat_lt 0 0)) (opens_at found k c) ls in
@@ -514,7 +514,7 @@ outer_is_read text h ms es k q a w f idle outer meets =
     let l = read_at text h k q a w in
     let o = outer_kind k outer in
     let left = left_outside k c ms o.out f.rises in
-    let unrequired : l.required ≡ false = no_key a (may_be_key k) (depth h == 0 && level_in k c h == margin_at c) o.key in
+    let unrequired : l.required ≡ false = no_key a (may_be_key k) (flow_depth h == 0 && level_in k c h == margin_at c) o.key in
     let still : Idle (l ∷ h) = λ e. free_push l h e (idle e) unrequired in
     let found = fresh (candidate 0 h) (mark_at text q) in
     let flag = is_start k && not (nat_lt 0 0) in

@@ -1,6 +1,6 @@
 -- The lexemes of the rest are the last ones of the whole, moved.
 use Rattle.std.proofs.Common.{◌≡◌, ℕ, zero, suc, ◌+◌, ◌-◌, ◌<◌, ◌≤◌, ◌&&◌, nat_lt, true, false, List, [], ◌∷◌, ◌++◌, length, Some, None, Result, Ok, Err, refl, sym, ap, subst, ◌∙◌, inl, inr, ◌⊎◌, ◌≢◌, arith}
-use Rattle.yaml_scan_laws_texts.proofs.Shared.{cases_Bool, yaml_encoding_t, yaml_mark_t, TokenBody, byte, line_at, column_at, mark_at, Wrong, Kind, Lexeme, is_end, cancels, reached, depth, in_flow, candidate, has, found_by, levels, key_allowed, WordText, kind_at, word_at, Next, Read, Fails, Ends, first_lexeme, gap_behind, kind_behind, begun_behind, word_behind, lexeme_behind, coming, next, extended, step, history, SpelledText, body_of_word, body_by, body_in, all, gap_place, Stands, history_stands, not_ended, all_ends, stays_all, last_is_all, Alike, IsCut, moved_mark, moved_lexeme, moved_next, ne_eqb, lt-ltb, stale_before}
+use Rattle.yaml_scan_laws_texts.proofs.Shared.{cases_Bool, yaml_encoding_t, yaml_mark_t, TokenBody, byte, line_at, column_at, mark_at, Wrong, Kind, Lexeme, is_end, cancels, reached, flow_depth, in_flow, candidate, has, found_by, open_levels, key_allowed, WordText, kind_at, lexeme_at, Next, Read, Fails, Ends, first_lexeme, gap_behind, kind_behind, begun_behind, word_behind, lexeme_behind, coming, next, extended, step, history, SpelledText, body_of_word, body_by, body_in, all, gap_place, Stands, history_stands, not_ended, all_ends, stays_all, last_is_all, Alike, IsCut, moved_mark, moved_lexeme, moved_next, ne_eqb, lt-ltb, stale_before}
 use Rattle.yaml_scan_history.specs.declared.kind.Kind.TheVariants as kinds
 use Rattle.yaml_scan_laws_texts.proofs.Bytes.{IsQuiet}
 use Rattle.yaml_scan_laws_texts.proofs.Gaps.{quiet_gap, moved_by}
@@ -15,8 +15,8 @@ use Rattle.yaml_scan_laws_texts.proofs.Turning.{IsMark, mark_lexeme, mark_reads,
 -- ---- what lexemes carry
 
 pub body_same : (k : Kind) (s v : SpelledText) (l y : Lexeme) → s.encoding ≡ v.encoding
-    → body_of_word (word_at k (nat_lt 0 l.depth) l.level s.text l.start.index)
-    ≡ body_of_word (word_at k (nat_lt 0 y.depth) y.level v.text y.start.index)
+    → body_of_word (lexeme_at k (nat_lt 0 l.depth) l.level s.text l.start.index)
+    ≡ body_of_word (lexeme_at k (nat_lt 0 y.depth) y.level v.text y.start.index)
     → body_by k s l ≡ body_by k v y
 body_same kinds.StreamStart s v l y e h = rw e refl
 body_same _ s v l y e h = h
@@ -31,14 +31,14 @@ start_index x t H =
 
 -- the word of a lexeme that stands there
 pub word_of : (x : Kind) (t : List ℕ) (H : List Lexeme) (l : Lexeme) → lexeme_behind x t H ≡ l
-    → word_at x (nat_lt 0 l.depth) l.level t l.start.index ≡ word_behind x t H
+    → lexeme_at x (nat_lt 0 l.depth) l.level t l.start.index ≡ word_behind x t H
 word_of x t H l e =
     let y = begun_behind x t H in
     let same = kept t y (word_behind x t H) in
-    let depth : l.depth ≡ depth H = ap (λ (z : Lexeme). z.depth) (sym e) ∙ same.deep in
+    let flow_depth : l.depth ≡ flow_depth H = ap (λ (z : Lexeme). z.depth) (sym e) ∙ same.deep in
     let level : l.level ≡ y.level = ap (λ (z : Lexeme). z.level) (sym e) ∙ same.level in
     let at : l.start.index ≡ (gap_behind t H).place = ap (λ (z : Lexeme). z.start.index) (sym e) ∙ ap (λ (m : yaml_mark_t). m.index) same.start ∙ start_index x t H in
-    rw (depth, level, at) refl
+    rw (flow_depth, level, at) refl
 
 same_word : (d : ℕ) (r : Result WordText Wrong)
     → body_of_word (moved_by (moved_word d) d r) ≡ body_of_word r
@@ -116,8 +116,8 @@ mark_candidate K body m t p H e = no_candidates (mark_lexeme K t p) H refl refl 
 
 pub mark_levels : (K : Kind) (body : TokenBody) → IsMark K body
     → (t : List ℕ) (p : ℕ) (H : List Lexeme)
-    → levels (mark_lexeme K t p ∷ H) ≡ []
-unfolding levels
+    → open_levels (mark_lexeme K t p ∷ H) ≡ []
+unfolding open_levels
 mark_levels K body m t p H = rw (m.start, m.outside) (none_left H)
 
 pub rest_bases : (a b : List ℕ) → IsCut a b → (m : MarkStands b 0) → (H : List Lexeme)

@@ -13,15 +13,15 @@ pub use Rattle.yaml_scan_history.proofs.MarksLemmas.{column_end, no_break, past_
 pub use Rattle.yaml_scan_history.proofs.PlacesLemmas.{gap_place, run_place}
 pub use Rattle.yaml_scan_history.proofs.RunsLemmas.{blank_parts, past_more, past_some, past_stop, space_parts, text_parts}
 pub use Rattle.yaml_scan_history.proofs.WordsRunsLemmas.{belongs_here, blank_cases}
-pub use Rattle.yaml_scan_history.specs.History.{Candidate, depth, ended, entry_of, first_or, found_by, fresh, has, has_number, in_flow, inside, is_fresh, key_allowed, keyed, left_by, margin_at, marked, open_at, opened, opens_at, opens_of, placed, reached}
-unfoldable pub use Rattle.yaml_scan_history.specs.History.{candidate, entries, first_open, indent, levels, mark_key}
+pub use Rattle.yaml_scan_history.specs.History.{Candidate, flow_depth, ended, entry_of, first_or, found_by, fresh, has, has_number, in_flow, inside, is_fresh, key_allowed, keyed, left_by, margin_at, marked, open_at, opened, opens_at, opens_of, placed, reached}
+unfoldable pub use Rattle.yaml_scan_history.specs.History.{candidate, finished_tokens, first_open, indent, open_levels, mark_key}
 pub use Rattle.yaml_scan_history.specs.Kinds.{allows_key, cancels, depth_after, is_end, is_outside, is_start, is_value, may_be_key}
 pub use Rattle.yaml_scan_history.specs.Next.{Ends, Fails, Next, Read, allowed_behind, begun, begun_behind, candidate_lost, colon_missing_of, coming, extended, finished, first_fault_or, first_lexeme, gap_behind, indicator_misplaced, kind_behind, lexeme_behind, lost_by, misplaced, missed, no_start, not_allowed_there, place_behind, stale_after, stale_before, step, text_wrong, with_end, word_behind, wrong_in}
 unfoldable pub use Rattle.yaml_scan_history.specs.Next.{history, next}
 pub use Rattle.yaml_scan_history.specs.Remaining.{Remaining, SpelledText, before, body_by, body_in, body_of_word, end_tokens, fault_in, front_ends, handed_out, kept_of, offline, own_tokens, spell, start_tokens, token_in}
 unfoldable pub use Rattle.yaml_scan_history.specs.Remaining.{all, handed, remaining}
 pub use Rattle.yaml_scan_history.specs.Words.{WordText, blocked, body_said, carrying, directed, or_plain, plainly, tagged, valued}
-unfoldable pub use Rattle.yaml_scan_history.specs.Words.{indicator_of, kind_at, word_at}
+unfoldable pub use Rattle.yaml_scan_history.specs.Words.{indicator_of, kind_at, lexeme_at}
 pub use Rattle.yaml_scan_history.specs.declared.kind.Kind.{Kind}
 pub use Rattle.yaml_scan_history.specs.declared.lexeme.Entry.{Entry}
 pub use Rattle.yaml_scan_history.specs.declared.lexeme.Lexeme.{Lexeme}

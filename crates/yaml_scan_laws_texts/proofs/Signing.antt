@@ -1,6 +1,6 @@
 -- Words of one byte, and the marks of documents and of the stream's end.
 use Rattle.std.proofs.Common.{◌≡◌, ℕ, ◌+◌, ◌<◌, ◌==◌, ◌&&◌, nat_lt, cond, Bool, true, false, List, length, Option, Some, Ok, refl, ap, ◌∙◌, arith}
-use Rattle.yaml_scan_laws_texts.proofs.LevelWords.{nat_tests, and-false, ne_eqb, byte, break_of, column_at, is_blank_or_end, TokenBody, is_document_start, is_document_end, Kind, indicator_of, or_plain, kind_at, word_at, IsGap, Comes}
+use Rattle.yaml_scan_laws_texts.proofs.LevelWords.{nat_tests, and-false, ne_eqb, byte, break_of, column_at, is_blank_or_end, TokenBody, is_document_start, is_document_end, Kind, indicator_of, or_plain, kind_at, lexeme_at, IsGap, Comes}
 use Rattle.yaml_scan_laws_order.specs.scan_model.Tokens as tokens
 use Rattle.yaml_scan_laws_order.specs.scan_history.declared.kind.Kind.TheVariants as kinds
 use Rattle.yaml_scan_laws_texts.specs.Signs.{sign, SignComes, MarkComes, SignsCome, MarksCome, PrintedBegins, LevelIsOut}
@@ -41,7 +41,7 @@ kind_by flow text p b k h z pc ds de o = rw (h, z, pc, ds, de, o) refl
 -- what is read of a word of one byte
 abbrev IsRead : Kind → TokenBody → Type 0
 IsRead k body = (flow : Bool) (level : ℕ) (text : List ℕ) (q : ℕ)
-    → word_at k flow level text q ≡ Ok (sign body (q + 1))
+    → lexeme_at k flow level text q ≡ Ok (sign body (q + 1))
 
 came : (text : List ℕ) (p d level b : ℕ) (k : Kind) (gap : List ℕ) (body : TokenBody)
     → IsRead k body
@@ -75,7 +75,7 @@ no_second text p alone =
     rw (e, and-false (byte text p == 45), and-false (column_at text p == 0)) refl
 
 entry_mark : MarkComes 45 kinds.BlockEntry tokens.block_entry
-unfolding indicator_of word_at
+unfolding indicator_of lexeme_at
 entry_mark text p d level gap g h alone =
     came text p d level 45 kinds.BlockEntry gap tokens.block_entry (λ f n t q. refl) refl refl refl g h (no_second text (p + length gap) alone) (rw alone refl)
 
@@ -90,7 +90,7 @@ colon_alone true = refl
 colon_alone false = refl
 
 pub signs_come : SignsCome
-unfolding indicator_of word_at
+unfolding indicator_of lexeme_at
 signs_come = record {
   sequence = one_sign 91 kinds.FlowSequenceStart tokens.flow_sequence_start (λ f n t q. refl) (λ f a. refl) refl refl refl refl;
   mapping = one_sign 123 kinds.FlowMappingStart tokens.flow_mapping_start (λ f n t q. refl) (λ f a. refl) refl refl refl refl;
@@ -110,7 +110,7 @@ unfolding kind_at
 end_kind text p h e = rw (h, no_start text p 46 h refl, e) refl
 
 pub marks_come : MarksCome
-unfolding word_at
+unfolding lexeme_at
 marks_come = record {
   starts = λ text p level gap g h e. record { behind = g; kind = (unfold kind_at in rw (h, e) refl); word = refl; up = omega arith };
   ends = λ text p level gap g h e. record { behind = g; kind = end_kind text (p + length gap) h e; word = refl; up = omega arith };
@@ -133,7 +133,7 @@ printed_begins text p b h low high hash =
 -- ---- levels
 
 pub level_is_out : LevelIsOut
-unfolding word_at
+unfolding lexeme_at
 level_is_out kinds.Plain flow n m text p e = absurd (cc)
 level_is_out kinds.Literal flow n m text p e = absurd (cc)
 level_is_out kinds.Folded flow n m text p e = absurd (cc)

@@ -1,6 +1,6 @@
 -- A step after key-free lexemes, and what comes of them.
 use Rattle.std.proofs.Common.{◌≡◌, ℕ, zero, suc, ◌+◌, ◌&&◌, not, nat_lt, if◌then◌else◌, Bool, true, false, List, [], ◌∷◌, ◌++◌, length, map, reverse, drop, flat_map, Option, Some, None, Result, Ok, Err, refl, sym, ap, subst, ◌∙◌, inl, inr}
-use Rattle.yaml_scan_laws_texts.proofs.Words.{cases_Bool, append-nil, drop-map, yaml_mark_t, Token, mark_at, Wrong, Gap, Kind, Lexeme, Entry, is_value, is_start, is_end, depth, reached, ended, Candidate, candidate, fresh, is_fresh, has, placed, entries, WordText, kind_at, word_at, Next, Read, Fails, Ends, first_lexeme, begun, finished, allowed_behind, misplaced, missed, lost_by, kind_behind, coming, next, extended, history, no_colon, not_allowed, tested, unless_wrong, unless_lost, of_kind, unless_missed, behind, stepwise, SpelledText, token_in, spell, all, handed_out, handed, kept_of, fault_in, Remaining, remaining, asked, is_key_free, is_level_free, kinds_of, gap_in, lexeme_of}
+use Rattle.yaml_scan_laws_texts.proofs.Words.{cases_Bool, append-nil, drop-map, yaml_mark_t, Token, mark_at, Wrong, Gap, Kind, Lexeme, Entry, is_value, is_start, is_end, flow_depth, reached, ended, Candidate, candidate, fresh, is_fresh, has, placed, finished_tokens, WordText, kind_at, lexeme_at, Next, Read, Fails, Ends, first_lexeme, begun, finished, allowed_behind, misplaced, missed, lost_by, kind_behind, coming, next, extended, history, no_colon, not_allowed, tested, unless_wrong, unless_lost, of_kind, unless_missed, behind, stepwise, SpelledText, token_in, spell, all, handed_out, handed, kept_of, fault_in, Remaining, remaining, asked, is_key_free, is_level_free, kinds_of, gap_in, lexeme_of}
 use Rattle.yaml_scan_laws_order.specs.scan_model.Faults.{Fault}
 use Rattle.yaml_scan_laws_order.specs.scan_history.declared.kind.Kind.TheVariants as kinds
 use Rattle.yaml_scan_laws_texts.proofs.FreeLemmas.{is_plain, AllMade, Whole, whole_word, begun_made, finished_made, history_made, level_head, level_rest, depth_is, starts_none, no_levels, bare, entries_bare, bare_tokens}
@@ -17,10 +17,10 @@ remaining_of ts us f e g = rw (e, g) refl
 
 tokens_are : (s : SpelledText) (h : List Lexeme) (dropped : ℕ) → AllMade h
     → is_key_free (kinds_of h) ≡ true
-    → flat_map (spell s) (drop dropped (entries h)) ++ []
+    → flat_map (spell s) (drop dropped (finished_tokens h)) ++ []
     ≡ map (token_in s) (drop dropped (reverse h))
 tokens_are s h dropped made free =
-    append-nil (flat_map (spell s) (drop dropped (entries h))) ∙ ap (λ (es : List Entry). flat_map (spell s) (drop dropped es)) (entries_bare h made free)
+    append-nil (flat_map (spell s) (drop dropped (finished_tokens h))) ∙ ap (λ (es : List Entry). flat_map (spell s) (drop dropped es)) (entries_bare h made free)
     ∙ ap (λ (es : List Entry). flat_map (spell s) es) (drop-map bare dropped (reverse h)) ∙ bare_tokens s (drop dropped (reverse h))
 
 all_made : (text : List ℕ) → AllMade (all text)
@@ -124,7 +124,7 @@ finished_is : (text : List ℕ) (h : List Lexeme) (gap : Gap) (k : Kind) (w : Wo
     l.level ≡ 0 → l.required ≡ false → (is_end k ≡ true → w.broke ≡ false) → finished text l w ≡ lexeme_of text h gap k w
 finished_is text h gap k w level required broke =
     let l = begun k (placed k (mark_at text gap.place)) (allowed_behind h gap) h in
-    finished_plain text k l.start (depth h) l.level l.saved l.required w level required broke
+    finished_plain text k l.start (flow_depth h) l.level l.saved l.required w level required broke
 
 end_not_plain : (k : Kind) → is_end k ≡ true → is_plain k ≡ false
 end_not_plain kinds.Plain e = absurd (cc)
@@ -132,34 +132,34 @@ end_not_plain k e = refl
 
 word_behind : (text : List ℕ) (x : List Lexeme) (k : Kind) (w : WordText) → AllMade x
     → is_level_free (k ∷ kinds_of x) ≡ true
-    → kind_at (nat_lt 0 (depth x)) text (gap_in text x).place ≡ Some k
-    → word_at k (nat_lt 0 (depth x)) 0 text (gap_in text x).place ≡ Ok w
+    → kind_at (nat_lt 0 (flow_depth x)) text (gap_in text x).place ≡ Some k
+    → lexeme_at k (nat_lt 0 (flow_depth x)) 0 text (gap_in text x).place ≡ Ok w
     → behind text (gap_in text x) x ≡ Read (lexeme_of text x (gap_in text x) k w)
 word_behind text x k w made free kind said =
     let gap = gap_in text x in
-    let flow = nat_lt 0 (depth x) in
+    let flow = nat_lt 0 (flow_depth x) in
     let m = mark_at text gap.place in
     let b = begun k (placed k m) (allowed_behind x gap) x in
     let fit = level_head k (kinds_of x) free in
     let rest = level_rest k (kinds_of x) free in
     let none = no_levels x made rest in
     let bm = begun_made k (placed k m) gap x in
-    let whole : is_plain k ≡ false → w.broke ≡ false = λ e. whole_of w (word_at k flow 0 text gap.place) said (whole_word k flow 0 text gap.place e) in
+    let whole : is_plain k ≡ false → w.broke ≡ false = λ e. whole_of w (lexeme_at k flow 0 text gap.place) said (whole_word k flow 0 text gap.place e) in
     let fm = finished_made text b x w whole bm in
     let u = unrequired 0 x made rest in
     ap (λ (o : Option yaml_mark_t). unless_missed o text gap x) (unmissed (fresh (candidate 0 x) (reached x)) m (fresh_unrequired (candidate 0 x) (reached x) u))
     ∙ ap (λ (o : Option Kind). of_kind o text gap x) kind
-    ∙ unless_so (misplaced k m (allowed_behind x gap) x) (not_allowed k m) (unless_lost (lost_by b (fresh (candidate (depth x) x) m)) text gap.place b x)
-    (in_place (not flow) (allowed_behind x gap) (is_start k) (is_value k && has (fresh (candidate (depth x) x) m)) (starts_none k (asked (kinds_of x)) (depth x) fit (depth_is x made)))
-    ∙ ap (λ (o : Option yaml_mark_t). unless_lost o text gap.place b x) (lost_none b (fresh (candidate (depth x) x) m) (fresh_unrequired (candidate (depth x) x) m (unrequired (depth x) x made rest)))
-    ∙ ap (λ (r : Result WordText Wrong). unless_wrong r text b x) (ap (λ n. word_at k flow n text gap.place) (bm.level none) ∙ said)
+    ∙ unless_so (misplaced k m (allowed_behind x gap) x) (not_allowed k m) (unless_lost (lost_by b (fresh (candidate (flow_depth x) x) m)) text gap.place b x)
+    (in_place (not flow) (allowed_behind x gap) (is_start k) (is_value k && has (fresh (candidate (flow_depth x) x) m)) (starts_none k (asked (kinds_of x)) (flow_depth x) fit (depth_is x made)))
+    ∙ ap (λ (o : Option yaml_mark_t). unless_lost o text gap.place b x) (lost_none b (fresh (candidate (flow_depth x) x) m) (fresh_unrequired (candidate (flow_depth x) x) m (unrequired (flow_depth x) x made rest)))
+    ∙ ap (λ (r : Result WordText Wrong). unless_wrong r text b x) (ap (λ n. lexeme_at k flow n text gap.place) (bm.level none) ∙ said)
     ∙ tested_read (finished text b w) x (free_push (finished text b w) x 0 u (fm.required none))
     ∙ ap (λ (l : Lexeme). Read l) (finished_is text x gap k w (bm.level none) (bm.required none) (λ e. whole (end_not_plain k e)))
 
 pub word_read : (text : List ℕ) (l : Lexeme) (h : List Lexeme) (k : Kind) (w : WordText)
     → AllMade (l ∷ h) → is_level_free (k ∷ kinds_of (l ∷ h)) ≡ true → ended (l ∷ h) ≡ false
-    → kind_at (nat_lt 0 (depth (l ∷ h))) text (gap_in text (l ∷ h)).place ≡ Some k
-    → word_at k (nat_lt 0 (depth (l ∷ h))) 0 text (gap_in text (l ∷ h)).place ≡ Ok w
+    → kind_at (nat_lt 0 (flow_depth (l ∷ h))) text (gap_in text (l ∷ h)).place ≡ Some k
+    → lexeme_at k (nat_lt 0 (flow_depth (l ∷ h))) 0 text (gap_in text (l ∷ h)).place ≡ Ok w
     → next text (l ∷ h) ≡ Read (lexeme_of text (l ∷ h) (gap_in text (l ∷ h)) k w)
 unfolding next
 word_read text l h k w made free more kind said =
@@ -184,7 +184,8 @@ has_newest text (suc n) = extended_more (next text (history text (suc n))) (hist
 -- Each word after such lexemes is read.
 abbrev ReadsWords : List ℕ → List Lexeme → Type 0
 ReadsWords text h = (k : Kind) (w : WordText) → AllMade h → is_level_free (k ∷ kinds_of h) ≡ true → ended h ≡ false
-    → kind_at (nat_lt 0 (depth h)) text (gap_in text h).place ≡ Some k → word_at k (nat_lt 0 (depth h)) 0 text (gap_in text h).place ≡ Ok w
+    → kind_at (nat_lt 0 (flow_depth h)) text (gap_in text h).place ≡ Some k
+    → lexeme_at k (nat_lt 0 (flow_depth h)) 0 text (gap_in text h).place ≡ Ok w
     → next text h ≡ Read (lexeme_of text h (gap_in text h) k w)
 
 pub step_reads : (text : List ℕ) (n : ℕ) → ReadsWords text (history text (suc n))

@@ -1,6 +1,6 @@
 -- One lexeme more after lexemes at a place.
 use Rattle.std.proofs.Common.{◌≡◌, ℕ, ◌+◌, ◌≤◌, ◌==◌, ◌&&◌, ◌||◌, not, nat_lt, Bool, true, false, List, [], ◌∷◌, length, Option, refl, sym, ap, subst, ◌∙◌, arith}
-use Rattle.yaml_scan_laws_texts.proofs.LevelWords.{or-false, line_at, mark_at, Kind, Lexeme, Entry, depth_after, may_be_key, allows_key, is_value, is_outside, is_end, depth, Candidate, candidate, fresh, has, indent, WordText, first_lexeme, line_at-grows, Front, Meets, read_at, IsLone, White, Started, Stands, Comes, WordLeaves, WordsLeave, may_begin, StartSteps, WhiteSteps, WordSteps, MarkSteps, OuterSteps, KeyStarts, KeySteps, KeyStops}
+use Rattle.yaml_scan_laws_texts.proofs.LevelWords.{or-false, line_at, mark_at, Kind, Lexeme, Entry, depth_after, may_be_key, allows_key, is_value, is_outside, is_end, flow_depth, Candidate, candidate, fresh, has, indent, WordText, first_lexeme, line_at-grows, Front, Meets, read_at, IsLone, White, Started, Stands, Comes, WordLeaves, WordsLeave, may_begin, StartSteps, WhiteSteps, WordSteps, MarkSteps, OuterSteps, KeyStarts, KeySteps, KeyStops}
 use Rattle.yaml_scan_laws_order.specs.scan_history.declared.kind.Kind.TheVariants as kinds
 use Rattle.yaml_scan_laws_texts.proofs.Pushing.{word_is_read, mark_is_read, outer_is_read}
 use Rattle.yaml_scan_laws_texts.proofs.Keying.{key_begins, key_goes_on, key_ends, still_fresh}
@@ -31,7 +31,7 @@ meets_so text h d level k q a b w m e = let P : Bool → Type 0 = λ x. Meets te
 -- what is known at the place after it
 stands_of : (text : List ℕ) (p : ℕ) (h : List Lexeme) (d f : ℕ) (k : Kind) (gap : List ℕ)
     (a found : Bool) (w : WordText) (e : ℕ) (ms : List ℕ) (es : List Entry) (then wide : Bool)
-    (i : ℕ) → depth h ≡ d → Started h i → i ≤ line_at text p → p + length gap ≤ e
+    (i : ℕ) → flow_depth h ≡ d → Started h i → i ≤ line_at text p → p + length gap ≤ e
     → let q = p + length gap in let l = read_at text h k q a w in
     Front text (l ∷ h) f ms es → (is_value k ≡ true → has (fresh (candidate d h) (mark_at text q)) ≡ found)
     → WordLeaves text f (allows_key k (d == 0) found) w e then wide → Stands text e (line_at text q) (l ∷ h) f ms es then wide

@@ -1,6 +1,6 @@
 -- Texts of key-free words.
 use Rattle.std.proofs.Common.{◌≡◌, ℕ, suc, ◌&&◌, not, nat_lt, if◌then◌else◌, Bool, true, false, List, [], ◌∷◌, ◌++◌, length, map, reverse, Option, Some, None, Result, Ok, refl, sym, ap, subst, ◌∙◌}
-use Rattle.yaml_scan_laws_texts.proofs.Words.{and_parts, not-true, reverse-append, list_all, Token, TokenBody, mark_at, Wrong, Kind, Lexeme, is_end, depth, ended, placed, WordText, kind_at, word_at, Next, Read, Ends, kind_behind, coming, next, extended, history, SpelledText, body_of_word, body_by, token_in, all, Remaining, offline, asked_after, asked, fits, is_key_free, keeps_level, is_level_free, kinds_of, gap_in, end_in, lexeme_of, placed_index}
+use Rattle.yaml_scan_laws_texts.proofs.Words.{and_parts, not-true, reverse-append, list_all, Token, TokenBody, mark_at, Wrong, Kind, Lexeme, is_end, flow_depth, ended, placed, WordText, kind_at, lexeme_at, Next, Read, Ends, kind_behind, coming, next, extended, history, SpelledText, body_of_word, body_by, token_in, all, Remaining, offline, asked_after, asked, fits, is_key_free, keeps_level, is_level_free, kinds_of, gap_in, end_in, lexeme_of, placed_index}
 use Rattle.yaml_scan_laws_order.specs.scan_history.declared.kind.Kind.TheVariants as kinds
 use Rattle.yaml_scan_laws_order.proofs.HistoryForward.{last_is_all}
 use Rattle.yaml_scan_laws_order.proofs.WordForward.{FitsAny, kind_fits}
@@ -49,12 +49,13 @@ words_history text w ws (stands, more) free on before =
     let h = lexemes text ws in
     let P : List Lexeme → Type 0 = λ x. AllMade x in
     let Q : List Lexeme → Type 0 = λ x. (k : Kind) (t : WordText) → AllMade x → is_level_free (k ∷ kinds_of x) ≡ true → ended x ≡ false
-    → kind_at (nat_lt 0 (depth x)) text (gap_in text x).place ≡ Some k → word_at k (nat_lt 0 (depth x)) 0 text (gap_in text x).place ≡ Ok t
+    → kind_at (nat_lt 0 (flow_depth x)) text (gap_in text x).place ≡ Some k
+    → lexeme_at k (nat_lt 0 (flow_depth x)) 0 text (gap_in text x).place ≡ Ok t
     → next text x ≡ Read (lexeme_of text x (gap_in text x) k t) in
     let made = subst P before (history_made text (suc (length ws))) in
     let reads = subst Q before (step_reads text (length ws)) in
-    let kind = ap (λ p. kind_at (nat_lt 0 (depth h)) text p) stands.place ∙ stands.kind in
-    let said = ap (λ p. word_at w.kind (nat_lt 0 (depth h)) 0 text p) stands.place ∙ stands.said in
+    let kind = ap (λ p. kind_at (nat_lt 0 (flow_depth h)) text p) stands.place ∙ stands.kind in
+    let said = ap (λ p. lexeme_at w.kind (nat_lt 0 (flow_depth h)) 0 text p) stands.place ∙ stands.said in
     ap (λ (x : List Lexeme). extended (next text x) x) before
     ∙ ap (λ (x : Next). extended x h) (reads w.kind w.said made (unfold lexemes in level_first text (w ∷ ws) ∙ free) (goes_on text ws on) kind said)
 
@@ -81,11 +82,11 @@ not_start o text p k f e = let P : Option Kind → Type 0 = λ x. FitsAny x text
 
 body_is : (k : Kind) (s : SpelledText) (l : Lexeme) (p : ℕ) (w : WordText)
     → FitsAny (Some k) s.text p → l.level ≡ 0 → l.start.index ≡ p
-    → word_at k (nat_lt 0 l.depth) 0 s.text p ≡ Ok w
+    → lexeme_at k (nat_lt 0 l.depth) 0 s.text p ≡ Ok w
     → body_by k s l ≡ w.body
 body_is kinds.StreamStart s l p w f level at said = absurd f
 body_is k s l p w f level at said =
-    ap (λ n. body_of_word (word_at k (nat_lt 0 l.depth) n s.text l.start.index)) level ∙ ap (λ n. body_of_word (word_at k (nat_lt 0 l.depth) 0 s.text n)) at
+    ap (λ n. body_of_word (lexeme_at k (nat_lt 0 l.depth) n s.text l.start.index)) level ∙ ap (λ n. body_of_word (lexeme_at k (nat_lt 0 l.depth) 0 s.text n)) at
     ∙ ap (λ (r : Result WordText Wrong). body_of_word r) said
 
 pub token_is : (s : SpelledText) (w : Word) (h : List Lexeme) → StandsBehind s.text h w
@@ -93,7 +94,7 @@ pub token_is : (s : SpelledText) (w : Word) (h : List Lexeme) → StandsBehind s
 token_is s w h stands =
     let gap = gap_in s.text h in
     let l = lexeme_of s.text h gap w.kind w.said in
-    let fit = not_start (kind_at (nat_lt 0 (depth h)) s.text w.place) s.text w.place w.kind (kind_fits (nat_lt 0 (depth h)) s.text w.place) stands.kind in
+    let fit = not_start (kind_at (nat_lt 0 (flow_depth h)) s.text w.place) s.text w.place w.kind (kind_fits (nat_lt 0 (flow_depth h)) s.text w.place) stands.kind in
     let body = body_is w.kind s l w.place w.said fit refl (placed_index w.kind (mark_at s.text gap.place) ∙ stands.place) stands.said in
     ap (λ (b : TokenBody). record { body = b; start_mark = l.start; end_mark = l.end }) body
     ∙ ap (λ (p : ℕ). record { body = w.said.body; start_mark = placed w.kind (mark_at s.text p); end_mark = end_in s.text w.kind p w.said.end }) stands.place

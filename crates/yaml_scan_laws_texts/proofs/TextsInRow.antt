@@ -1,6 +1,6 @@
 -- Two small texts, lexeme by lexeme: a key of two words, sequences and brackets; and marks, a `?` and keys in brackets.
 use Rattle.std.proofs.Common.{◌≡◌, ◌≤◌, ℕ, suc, zero, ◌+◌, true, false, nat_lt, List, [], ◌∷◌, length, Some, Ok, refl, ap, ◌∙◌, inl, inr, arith}
-use Rattle.yaml_scan_laws_texts.proofs.LevelWords.{false≢true, byte, line_at, column_at, break_of, ends_of, is_digit_byte, is_alpha_byte, is_document_indicator, break_value, TokenBody, is_document_start, is_document_end, HasAt, are_gap, begins_lexeme, Kind, may_end_name, run_within, belongs, is_bracket, is_indicator_byte, starts_plain, leads, ends_at, spot_at, words, indent, WordText, indicator_of, kind_at, word_at, Rises, IsGap, Comes, row_of_blocks, plain, BlocksAreRead, LeaveClear, row_of_keys, KeysAreRead}
+use Rattle.yaml_scan_laws_texts.proofs.LevelWords.{false≢true, byte, line_at, column_at, break_of, ends_of, is_digit_byte, is_alpha_byte, is_document_indicator, break_value, TokenBody, is_document_start, is_document_end, HasAt, are_gap, begins_lexeme, Kind, may_end_name, run_within, belongs, is_bracket, is_indicator_byte, starts_plain, leads, ends_at, spot_at, words, indent, WordText, indicator_of, kind_at, lexeme_at, Rises, IsGap, Comes, row_of_blocks, plain, BlocksAreRead, LeaveClear, row_of_keys, KeysAreRead}
 use Rattle.yaml_scan_laws_order.specs.scan_model.Tokens as tokens
 use Rattle.yaml_scan_laws_order.specs.scan_history.declared.kind.Kind.TheVariants as kinds
 use Rattle.yaml_scan_laws_order.specs.scan_history.declared.lexeme.Opens.TheVariants as opening
@@ -35,12 +35,12 @@ behind_one text p b e blank f = record { has = has; blank = blank; ends = f }
 -- a word stands after it
 pub there : {text : List ℕ} {p d level e : ℕ} {k : Kind} {gap : List ℕ} {w : WordText}
     → IsGap text p gap → kind_at (nat_lt 0 d) text (p + length gap) ≡ Some k
-    → word_at k (nat_lt 0 d) level text (p + length gap) ≡ Ok w → p + length gap ≤ e
+    → lexeme_at k (nat_lt 0 d) level text (p + length gap) ≡ Ok w → p + length gap ≤ e
     → Comes text p d level k gap w e
 there g k w u = record { behind = g; kind = k; word = w; up = u }
 
 pub blocks_are_read : BlocksAreRead
-unfolding kind_at word_at indicator_of break_of is_document_start is_document_end column_at line_at ends_of starts_plain words spot_at ends_at leads is_bracket is_indicator_byte is_document_indicator break_value is_alpha_byte is_digit_byte run_within belongs may_end_name indent Rises LeaveClear
+unfolding kind_at lexeme_at indicator_of break_of is_document_start is_document_end column_at line_at ends_of starts_plain words spot_at ends_at leads is_bracket is_indicator_byte is_document_indicator break_value is_alpha_byte is_digit_byte run_within belongs may_end_name indent Rises LeaveClear
 blocks_are_read x =
     let r0 = walk_starts x row_of_blocks in
     let r1 = walk_key_starts x row_of_blocks _ [] [] [] _ kinds.Anchor [] _ 2 false true r0 tt (there (at_once row_of_blocks 0 refl) refl refl (omega arith)) refl refl (inr (refl, omega arith, tt)) refl (words_leave.all row_of_blocks 0 false (short (tokens.anchor (120 ∷ [])) 2) refl) in
@@ -61,7 +61,7 @@ blocks_are_read x =
     walk_stops x row_of_blocks _ (1 ∷ []) _ (10 ∷ []) _ 23 s5 refl (there (behind_one row_of_blocks 22 10 refl refl refl) refl refl (omega arith))
 
 pub keys_are_read : KeysAreRead
-unfolding kind_at word_at indicator_of break_of is_document_start is_document_end column_at line_at ends_of starts_plain words spot_at ends_at leads is_bracket is_indicator_byte is_document_indicator break_value is_alpha_byte is_digit_byte run_within belongs may_end_name indent Rises LeaveClear past is_chomping chomp_of digit_of indicators past_comment header_at spaces spot_behind lines_from larger deepest column_of between
+unfolding kind_at lexeme_at indicator_of break_of is_document_start is_document_end column_at line_at ends_of starts_plain words spot_at ends_at leads is_bracket is_indicator_byte is_document_indicator break_value is_alpha_byte is_digit_byte run_within belongs may_end_name indent Rises LeaveClear past is_chomping chomp_of digit_of indicators past_comment header_at spaces spot_behind lines_from larger deepest column_of between
 keys_are_read x =
     let r0 = walk_starts x row_of_keys in
     let r1 = walk_outer x row_of_keys _ [] _ kinds.DocumentStart [] _ 3 false true r0 refl (there (at_once row_of_keys 0 refl) refl refl (omega arith)) refl (words_leave.all row_of_keys 0 false (short tokens.document_start 3) refl) in

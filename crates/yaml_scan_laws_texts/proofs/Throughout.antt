@@ -1,6 +1,6 @@
 -- What each lexeme carries, each token that is handed out says.
 use Rattle.std.proofs.Common.{ℕ, zero, suc, ◌+◌, List, [], ◌∷◌, ◌++◌, length, take, drop, replicate, Option, Some, None, inl, inr, flat_map}
-use Rattle.yaml_scan_laws_texts.proofs.Words.{cases_Bool, Token, block_end, block_sequence_start, block_mapping_start, key, TokenBody, is_value, Candidate, first_open, found_by, inside, entry_of, mark_key, marked, keyed, entries, Next, Read, Fails, Ends, next, history, SpelledText, body_in, before, start_tokens, end_tokens, own_tokens, spell, all, handed_out, handed, front_ends, kept_of, remaining}
+use Rattle.yaml_scan_laws_texts.proofs.Words.{cases_Bool, Token, block_end, block_sequence_start, block_mapping_start, key, TokenBody, is_value, Candidate, first_open, found_by, inside, entry_of, mark_key, marked, keyed, finished_tokens, Next, Read, Fails, Ends, next, history, SpelledText, body_in, before, start_tokens, end_tokens, own_tokens, spell, all, handed_out, handed, front_ends, kept_of, remaining}
 use Rattle.yaml_scan_laws_order.specs.scan_history.declared.Lexeme.{Lexeme}
 use Rattle.yaml_scan_laws_order.specs.scan_history.declared.Entry.{Entry}
 use Rattle.yaml_scan_laws_order.specs.scan_history.declared.Opens.{Opens}
@@ -53,13 +53,13 @@ module _ (Q : TokenBody → Type 0) (s : SpelledText) where
         | inr e ↦ rw e a
       ]
 
-  entries_have : (h : List Lexeme) → Carry Q s h → Has Q s (entries h)
-  unfolding entries
+  entries_have : (h : List Lexeme) → Carry Q s h → Has Q s (finished_tokens h)
+  unfolding finished_tokens
   entries_have [] c = tt
-  entries_have (l ∷ h) (c, cs) = has_append (keyed l h (entries h)) (entry_of l h ∷ []) (keyed_has l h (entries h) (entries_have h cs)) (c, tt)
+  entries_have (l ∷ h) (c, cs) = has_append (keyed l h (finished_tokens h)) (entry_of l h ∷ []) (keyed_has l h (finished_tokens h) (entries_have h cs)) (c, tt)
 
   handed_has : (x : Next) (h : List Lexeme) → Carry Q s h → Has Q s (handed_out x h)
-  handed_has (Fails p) h c = has_take (first_open h h) (entries h) (entries_have h c)
+  handed_has (Fails p) h c = has_take (first_open h h) (finished_tokens h) (entries_have h c)
   handed_has Ends h c = entries_have h c
   handed_has (Read l) h c = entries_have h c
 
@@ -111,7 +111,7 @@ module _ (Q : TokenBody → Type 0) (s : SpelledText) (bare : IsBare Q) where
   front_says (e ∷ es) = ends_say e
 
   kept_says : (x : Next) (h : List Lexeme) → Say Q (kept_of x h)
-  kept_says (Fails p) h = front_says (drop (first_open h h) (entries h))
+  kept_says (Fails p) h = front_says (drop (first_open h h) (finished_tokens h))
   kept_says Ends h = tt
   kept_says (Read l) h = tt
 

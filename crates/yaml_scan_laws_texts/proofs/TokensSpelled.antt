@@ -1,6 +1,6 @@
 -- Each tag of a text starts with `!`; the tokens that are handed out are well spelled.
 use Rattle.std.proofs.Common.{ℕ, zero, suc, nat_lt, Bool, List, [], ◌∷◌, Option, Some, None, Result, Ok, Err, sym, subst, inl, inr}
-use Rattle.yaml_scan_laws_texts.proofs.Words.{cases_Bool, mark_at, Wrong, gap_at, is_end, placed, depth, key_allowed, candidate, fresh, kind_at, WordText, word_at, Next, Read, Fails, Ends, begun, finished, allowed_behind, misplaced, missed, lost_by, next, extended, history, no_colon, tested, unless_wrong, unless_lost, of_kind, unless_missed, stepwise, placed_index, Token, SpelledText, body_of_word, body_by, remaining, IsSpelled, AreSpelled}
+use Rattle.yaml_scan_laws_texts.proofs.Words.{cases_Bool, mark_at, Wrong, gap_at, is_end, placed, flow_depth, key_allowed, candidate, fresh, kind_at, WordText, lexeme_at, Next, Read, Fails, Ends, begun, finished, allowed_behind, misplaced, missed, lost_by, next, extended, history, no_colon, tested, unless_wrong, unless_lost, of_kind, unless_missed, stepwise, placed_index, Token, SpelledText, body_of_word, body_by, remaining, IsSpelled, AreSpelled}
 use Rattle.yaml_scan_laws_order.specs.scan_model.declared.yaml_mark_t.{yaml_mark_t}
 use Rattle.yaml_scan_words.specs.Between.{Gap}
 use Rattle.yaml_scan_laws_order.specs.scan_history.declared.Kind.{Kind}
@@ -57,7 +57,7 @@ wrong_starts text (Err w) l h s = tt
 lost_starts : (o : Option yaml_mark_t) (text : List ℕ) (p : ℕ) (l : Lexeme) (h : List Lexeme)
     → Starts text l → StartsAny text (unless_lost o text p l h)
 lost_starts (Some start) text p l h s = tt
-lost_starts None text p l h s = wrong_starts text (word_at l.kind (nat_lt 0 l.depth) l.level text p) l h s
+lost_starts None text p l h s = wrong_starts text (lexeme_at l.kind (nat_lt 0 l.depth) l.level text p) l h s
 
 kind_starts : (o : Option Kind) (text : List ℕ) (gap : Gap) (h : List Lexeme)
     → MarkedAny o text gap.place → StartsAny text (of_kind o text gap h)
@@ -68,19 +68,19 @@ kind_starts (Some k) text gap h m =
     let own : Marked k text (placed k start).index = subst (λ q. Marked k text q) (sym (placed_index k start)) m in
     elim (cases_Bool (misplaced k start (allowed_behind h gap) h)) [
       | inl e ↦ rw e tt
-      | inr e ↦ rw e (lost_starts (lost_by l (fresh (candidate (depth h) h) start)) text gap.place l h own)
+      | inr e ↦ rw e (lost_starts (lost_by l (fresh (candidate (flow_depth h) h) start)) text gap.place l h own)
     ]
 
 missed_starts : (o : Option yaml_mark_t) (text : List ℕ) (gap : Gap) (h : List Lexeme)
     → StartsAny text (unless_missed o text gap h)
 missed_starts (Some start) text gap h = tt
-missed_starts None text gap h = kind_starts (kind_at (nat_lt 0 (depth h)) text gap.place) text gap h (kind_marked (nat_lt 0 (depth h)) text gap.place)
+missed_starts None text gap h = kind_starts (kind_at (nat_lt 0 (flow_depth h)) text gap.place) text gap h (kind_marked (nat_lt 0 (flow_depth h)) text gap.place)
 
 next_starts : (text : List ℕ) (h : List Lexeme) → StartsAny text (next text h)
 unfolding next
 next_starts text [] = tt
 next_starts text (l ∷ h) =
-    let gap = gap_at (nat_lt 0 (depth (l ∷ h))) (key_allowed (l ∷ h)) text l.reached.index in
+    let gap = gap_at (nat_lt 0 (flow_depth (l ∷ h))) (key_allowed (l ∷ h)) text l.reached.index in
     elim (cases_Bool (is_end l.kind)) [
       | inl e ↦ rw e tt
       | inr e ↦ rw e (subst (StartsAny text) (sym (stepwise text (l ∷ h))) (missed_starts (missed (fresh (candidate 0 (l ∷ h)) l.reached) (mark_at text gap.place)) text gap (l ∷ h)))
@@ -109,7 +109,7 @@ word_body (Err w) h = tt
 body_spelled : (k : Kind) (s : SpelledText) (l : Lexeme) → Marked k s.text l.start.index
     → IsSpelled (body_by k s l)
 body_spelled kinds.StreamStart s l m = tt
-body_spelled k s l m = word_body (word_at k (nat_lt 0 l.depth) l.level s.text l.start.index) (word_spelled k (nat_lt 0 l.depth) l.level s.text l.start.index m)
+body_spelled k s l m = word_body (lexeme_at k (nat_lt 0 l.depth) l.level s.text l.start.index) (word_spelled k (nat_lt 0 l.depth) l.level s.text l.start.index m)
 
 carried : (s : SpelledText) (h : List Lexeme) → AllStart s.text h → Carry IsSpelled s h
 carried s [] a = tt

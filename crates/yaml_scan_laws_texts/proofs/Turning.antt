@@ -1,6 +1,6 @@
 -- A mark of documents is read outside of all levels; where the front ends, the whole goes on with the rest's mark.
 use Rattle.std.proofs.Common.{◌≡◌, ℕ, ◌+◌, ◌&&◌, nat_lt, nat_le, if◌then◌else◌, Bool, true, false, not, List, [], ◌∷◌, filter, Option, Some, None, refl, ap, ◌∙◌, inl, inr, arith, add-zero, suc, ◌≤◌, ◌==◌, ◌||◌, ◌++◌, length, sym, ◌⊎◌}
-use Rattle.yaml_scan_laws_texts.proofs.Shared.{cases_Bool, nat_tests, TokenBody, column_at, mark_at, Kind, Lexeme, depth_after, may_be_key, cancels, is_value, is_start, is_outside, is_end, allows_key, depth, in_flow, Candidate, candidate, fresh, found_by, margin_at, indent, left_by, opens_at, levels, carrying, word_at, SpelledText, body_by, Read, gap_behind, place_behind, allowed_behind, begun_behind, word_behind, lexeme_behind, lost_by, stale_before, indicator_misplaced, candidate_lost, text_wrong, stale_after, coming, cases_lt, and_parts, eqb-true, true≢false, and-false, yaml_mark_t, byte, is_blank_or_end, is_document_indicator, is_document_start, is_document_end, reached, key_allowed, placed, kind_at, kind_behind, colon_missing_of, start_line, gap_place, IsCut, moved_mark, none-some}
+use Rattle.yaml_scan_laws_texts.proofs.Shared.{cases_Bool, nat_tests, TokenBody, column_at, mark_at, Kind, Lexeme, depth_after, may_be_key, cancels, is_value, is_start, is_outside, is_end, allows_key, flow_depth, in_flow, Candidate, candidate, fresh, found_by, margin_at, indent, left_by, opens_at, open_levels, carrying, lexeme_at, SpelledText, body_by, Read, gap_behind, place_behind, allowed_behind, begun_behind, word_behind, lexeme_behind, lost_by, stale_before, indicator_misplaced, candidate_lost, text_wrong, stale_after, coming, cases_lt, and_parts, eqb-true, true≢false, and-false, yaml_mark_t, byte, is_blank_or_end, is_document_indicator, is_document_start, is_document_end, reached, key_allowed, placed, kind_at, kind_behind, colon_missing_of, start_line, gap_place, IsCut, moved_mark, none-some}
 use Rattle.std.proofs.lemmas.List.Elements.{filter-append}
 use Rattle.yaml_scan_history.specs.scan_model.Tokens as tokens
 use Rattle.yaml_scan_history.specs.declared.kind.Kind.TheVariants as kinds
@@ -22,10 +22,11 @@ pub record IsMark (K : Kind) (body : TokenBody) : Type 0 where
   pub deep : (d : ℕ) → depth_after K d ≡ d
   pub allows : (x y : Bool) → allows_key K x y ≡ false
   pub told : (s : SpelledText) (l : Lexeme) → body_by K s l ≡ body
-  pub word : (flow : Bool) (level : ℕ) (text : List ℕ) (p : ℕ) → word_at K flow level text p ≡ carrying body (p + 3)
+  pub word : (flow : Bool) (level : ℕ) (text : List ℕ) (p : ℕ)
+      → lexeme_at K flow level text p ≡ carrying body (p + 3)
 
 pub start_mark : IsMark kinds.DocumentStart tokens.document_start
-unfolding word_at
+unfolding lexeme_at
 start_mark = record {
   outside = refl;
   cancels = refl;
@@ -40,7 +41,7 @@ start_mark = record {
 }
 
 pub end_mark : IsMark kinds.DocumentEnd tokens.document_end
-unfolding word_at
+unfolding lexeme_at
 end_mark = record {
   outside = refl;
   cancels = refl;
@@ -86,15 +87,15 @@ margin_left (Some c) k column =
       | inr h ↦ rw h (over column)
     ]
 
-pub none_left : (h : List Lexeme) → filter is_left (levels h) ≡ []
-unfolding levels
+pub none_left : (h : List Lexeme) → filter is_left (open_levels h) ≡ []
+unfolding open_levels
 none_left [] = refl
 none_left (l ∷ h) =
     let before = none_left h in
-    let xs = left_by l.kind l.depth l.start.column (levels h) in
+    let xs = left_by l.kind l.depth l.start.column (open_levels h) in
     let kept : filter is_left xs ≡ [] = elim (cases_Bool (nat_lt 0 l.depth)) [
       | inl d ↦ rw d before
-      | inr d ↦ rw d (none_of (λ x. nat_le x (if is_outside l.kind then 0 else margin_at l.start.column)) (levels h) before)
+      | inr d ↦ rw d (none_of (λ x. nat_le x (if is_outside l.kind then 0 else margin_at l.start.column)) (open_levels h) before)
     ] in
     let m = opens_at (found_by l h) l.kind l.start.column in
     elim (cases_Bool ((is_start l.kind && not (nat_lt 0 l.depth)) && nat_lt (indent xs) m)) [
@@ -123,7 +124,7 @@ and_false false = refl
 
 mark_begun : (K : Kind) (body : TokenBody) → IsMark K body
     → (text : List ℕ) (H : List Lexeme) (p : ℕ)
-    → (gap_behind text H).place ≡ p → depth H ≡ 0
+    → (gap_behind text H).place ≡ p → flow_depth H ≡ 0
     → begun_behind K text H ≡ record {
       kind = K;
       start = mark_at text p;
@@ -137,7 +138,7 @@ mark_begun : (K : Kind) (body : TokenBody) → IsMark K body
     }
 unfolding indent
 mark_begun K body m text H p e z =
-    let level : left_by K (depth H) (column_at text p) (levels H) ≡ [] = rw (z, m.outside) (none_left H) in
+    let level : left_by K (flow_depth H) (column_at text p) (open_levels H) ≡ [] = rw (z, m.outside) (none_left H) in
     rw (e, m.end, m.key, and_false (allowed_behind H (gap_behind text H)), level, z) refl
 
 -- what is free is not lost
@@ -151,7 +152,7 @@ pub mark_word : (K : Kind) (body : TokenBody) → IsMark K body
 mark_word K body m text H p e = m.word (in_flow H) (begun_behind K text H).level text (gap_behind text H).place ∙ ap (λ q. carrying body (q + 3)) e
 
 pub mark_behind : (K : Kind) (body : TokenBody) → IsMark K body → (text : List ℕ) (H : List Lexeme)
-    (p : ℕ) → (gap_behind text H).place ≡ p → depth H ≡ 0
+    (p : ℕ) → (gap_behind text H).place ≡ p → flow_depth H ≡ 0
     → lexeme_behind K text H ≡ mark_lexeme K text p
 mark_behind K body m text H p e z =
     rw (mark_begun K body m text H p e z, mark_word K body m text H p e, m.end) refl
@@ -167,7 +168,7 @@ pub record MarkLies (K : Kind) (t : List ℕ) (H : List Lexeme) (p : ℕ) (l : L
   pub start : l.start ≡ mark_at t p
   pub end : l.end ≡ mark_at t (p + 3)
   pub reached : l.reached ≡ mark_at t (p + 3)
-  pub deep : l.depth ≡ depth H
+  pub deep : l.depth ≡ flow_depth H
   pub saved : l.saved ≡ false
 
 pub mark_lies : (K : Kind) (body : TokenBody) → IsMark K body → (t : List ℕ) (H : List Lexeme)
@@ -180,19 +181,19 @@ mark_lies K body m t H p e =
 -- a mark is read, where no candidate is lost or missed
 pub mark_comes : (K : Kind) (body : TokenBody) → IsMark K body → (t : List ℕ) (H : List Lexeme)
     (p : ℕ) → (gap_behind t H).place ≡ p → stale_before t H ≡ None
-    → IsFree (fresh (candidate (depth H) H) (place_behind t H))
+    → IsFree (fresh (candidate (flow_depth H) H) (place_behind t H))
     → stale_after (lexeme_behind K t H) H ≡ None
     → coming (Some K) t H ≡ Read (lexeme_behind K t H)
 mark_comes K body m t H p e stale free after =
     let misplaced : indicator_misplaced K t H ≡ None = rw (m.start, and_false (not (in_flow H) && not (allowed_behind H (gap_behind t H)))) refl in
-    let lost : candidate_lost K t H ≡ None = rw (lost_none (begun_behind K t H) (fresh (candidate (depth H) H) (place_behind t H)) free) refl in
+    let lost : candidate_lost K t H ≡ None = rw (lost_none (begun_behind K t H) (fresh (candidate (flow_depth H) H) (place_behind t H)) free) refl in
     let wrong : text_wrong K t H ≡ None = rw (mark_word K body m t H p e) refl in
     rw (stale, misplaced, lost, wrong, after) refl
 
 -- the mark is read there
 pub mark_reads : (K : Kind) (body : TokenBody) → IsMark K body → (text : List ℕ) (H : List Lexeme)
-    (p : ℕ) → (gap_behind text H).place ≡ p → depth H ≡ 0 → stale_before text H ≡ None
-    → IsFree (fresh (candidate (depth H) H) (place_behind text H))
+    (p : ℕ) → (gap_behind text H).place ≡ p → flow_depth H ≡ 0 → stale_before text H ≡ None
+    → IsFree (fresh (candidate (flow_depth H) H) (place_behind text H))
     → coming (Some K) text H ≡ Read (mark_lexeme K text p)
 mark_reads K body m text H p e z stale free =
     let is = mark_behind K body m text H p e z in
@@ -315,7 +316,7 @@ colon_none (Some x) m e = absurd (none-some _ (sym e))
 
 pub end_begun : (t : List ℕ) (H : List Lexeme)
     → lexeme_behind kinds.StreamEnd t H ≡ begun_behind kinds.StreamEnd t H
-unfolding word_at
+unfolding lexeme_at
 end_begun t H = refl
 
 pub end_place : (a b : List ℕ) → IsCut a b → (H : List Lexeme) → (reached H).index ≤ length a

@@ -1,6 +1,6 @@
 -- What each lexeme carries is UTF-8, except for what escapes spell, and the text may be cut after it.
 use Rattle.std.proofs.Common.{◌≡◌, ℕ, ◌+◌, ◌<◌, ◌==◌, ◌&&◌, ◌||◌, not, nat_lt, Bool, true, false, List, length, slice_range, Option, Result, Ok, Err, inl, inr, arith, IsUtf8}
-use Rattle.yaml_scan_laws_texts.proofs.Words.{cases_Bool, ltb-true, eqb-true, or_cases, not-false, or_parts, nat_tests, IsUtf8-nil, yaml_scalar_style_t, TokenBody, byte, break_width, column_at, is_blank, is_blank_or_end, Wrong, within, is_document_start, is_document_end, is_name_end, may_end_name, name_between, anchor_at, some_uri_at, uri_at, TagText, bracketed, name_end, with_handle, bare, parts_at, may_end_tag, ValueText, then_at, directive_name_between, handle_between, handle_at, prefix_at, with_prefix, named_value_at, value_at, break_end, line_end_at, with_line, single_quoted_at, double_quoted_at, PlainText, plain_at, BlockText, block_at, style_at, Kind, kind_at, WordText, carrying, valued, tagged, body_said, directed, blocked, plainly, word_at, HasTexts}
+use Rattle.yaml_scan_laws_texts.proofs.Words.{cases_Bool, ltb-true, eqb-true, or_cases, not-false, or_parts, nat_tests, IsUtf8-nil, yaml_scalar_style_t, TokenBody, byte, break_width, column_at, is_blank, is_blank_or_end, Wrong, within, is_document_start, is_document_end, is_name_end, may_end_name, name_between, anchor_at, some_uri_at, uri_at, TagText, bracketed, name_end, with_handle, bare, parts_at, may_end_tag, ValueText, then_at, directive_name_between, handle_between, handle_at, prefix_at, with_prefix, named_value_at, value_at, break_end, line_end_at, with_line, single_quoted_at, double_quoted_at, PlainText, plain_at, BlockText, block_at, style_at, Kind, kind_at, WordText, carrying, valued, tagged, body_said, directed, blocked, plainly, lexeme_at, HasTexts}
 use Rattle.yaml_scan_laws_order.specs.scan_model.declared.problem.Context.{Context}
 use Rattle.yaml_scan_laws_order.specs.scan_model.declared.problem.Context.TheVariants as contexts
 use Rattle.yaml_scan_laws_order.specs.scan_model.declared.name.yaml_scalar_style_t.TheVariants as styles
@@ -257,8 +257,8 @@ third_whole text p t s = let e : p + 2 + 1 ≡ p + 3 = omega arith in rw e at (w
 
 -- what stands where its kind does, and the text may be cut
 pub word_utf8 : (k : Kind) (flow : Bool) (level : ℕ) (text : List ℕ) (p : ℕ) → IsUtf8 text
-    → IsWhole text p → Fits k text p → HasWord text (word_at k flow level text p)
-unfolding word_at
+    → IsWhole text p → Fits k text p → HasWord text (lexeme_at k flow level text p)
+unfolding lexeme_at
 word_utf8 kinds.StreamStart flow level text p t w f = indicator_word text tokens.stream_end p tt w
 word_utf8 kinds.StreamEnd flow level text p t w f = indicator_word text tokens.stream_end p tt w
 word_utf8 kinds.Directive flow level text p t w f = directive_word text (value_at text p) t (value_good text (p + 1) (name_end text p) t)

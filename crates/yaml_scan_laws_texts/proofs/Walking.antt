@@ -1,6 +1,6 @@
 -- A walk goes on, lexeme by lexeme.
 use Rattle.std.proofs.Common.{◌≡◌, ℕ, ◌+◌, ◌==◌, ◌&&◌, ◌||◌, not, nat_lt, Bool, true, false, List, [], ◌∷◌, ◌++◌, length, flat_map, None, refl, sym, ap, subst, ◌∙◌, inl, inr, arith, append_assoc}
-use Rattle.yaml_scan_laws_texts.proofs.LevelWords.{nat_tests, append-nil, and_parts, and-false, yaml_mark_t, line_at, column_at, mark_at, TokenBody, stream_end, block_end, key, Kind, Lexeme, Entry, Opens, depth_after, allows_key, is_value, depth, Candidate, candidate, is_fresh, margin_at, indent, opened, start_of, level_of, WordText, first_lexeme, SpelledText, spell, Rises, LeavesLevels, Meets, Says, entry, read_at, IsRight, IsLone, stays_level, told, start_bodies, Stands, Comes, WordLeaves, may_begin, end_at, WalkSays, Content, Key, WalkGoes, WalkState, Clear, LeaveClear, Outside, DeeperLeaves, WalkReads, ClosesAt, LevelsPart, WalkEnds, WalkStarts, WalkWhite, WalkWord, WalkMark, WalkOuter, WalkStops, WalkKeyStarts, WalkKeyGoes, WalkKeyStops, WalkAsks, WalkAnswers}
+use Rattle.yaml_scan_laws_texts.proofs.LevelWords.{nat_tests, append-nil, and_parts, and-false, yaml_mark_t, line_at, column_at, mark_at, TokenBody, stream_end, block_end, key, Kind, Lexeme, Entry, Opens, depth_after, allows_key, is_value, flow_depth, Candidate, candidate, is_fresh, margin_at, indent, opened, start_of, level_of, WordText, first_lexeme, SpelledText, spell, Rises, LeavesLevels, Meets, Says, entry, read_at, IsRight, IsLone, stays_level, told, start_bodies, Stands, Comes, WordLeaves, may_begin, end_at, WalkSays, Content, Key, WalkGoes, WalkState, Clear, LeaveClear, Outside, DeeperLeaves, WalkReads, ClosesAt, LevelsPart, WalkEnds, WalkStarts, WalkWhite, WalkWord, WalkMark, WalkOuter, WalkStops, WalkKeyStarts, WalkKeyGoes, WalkKeyStops, WalkAsks, WalkAnswers}
 use Rattle.yaml_scan_laws_order.specs.scan_model.declared.name.yaml_encoding_t.{yaml_encoding_t}
 use Rattle.yaml_scan_laws_order.specs.scan_history.declared.kind.Kind.TheVariants as kinds
 use Rattle.yaml_scan_laws_order.specs.scan_history.declared.lexeme.Opens.TheVariants as opening
@@ -18,7 +18,7 @@ deeper_leaves k f a [] o = tt
 deeper_leaves k f a (e ∷ es) (less, o) = (inr less, deeper_leaves k f a es o)
 
 still_clear : (text : List ℕ) (h : List Lexeme) (f : ℕ) (k : Kind) (q : ℕ) (a : Bool) (w : WordText)
-    (cs : List ℕ) → depth h ≡ f → Clear h cs → LeaveClear k f a cs
+    (cs : List ℕ) → flow_depth h ≡ f → Clear h cs → LeaveClear k f a cs
     → Clear (read_at text h k q a w ∷ h) cs
 unfolding Clear LeaveClear
 still_clear text h f k q a w [] deep c l = tt

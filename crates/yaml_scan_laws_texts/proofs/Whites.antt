@@ -1,6 +1,6 @@
 -- The white after lexemes.
 use Rattle.std.proofs.Common.{◌≡◌, ℕ, zero, suc, ◌+◌, ◌-◌, ◌<◌, ◌≤◌, ◌==◌, ◌&&◌, ◌||◌, not, nat_lt, Bool, true, false, List, [], ◌∷◌, ◌++◌, length, get_or, refl, sym, ap, subst, ◌∙◌, inl, inr, ◌⊎◌, arith}
-use Rattle.yaml_scan_laws_texts.proofs.LevelWords.{cases_Bool, and_parts, not-true, nat_tests, append-nil, byte, break_of, break_width, mark_at, is_bom, Gap, gap_at, HasAt, are_gap, has_break, begins_lexeme, Kind, Lexeme, allows_key, is_value, reached, depth, in_flow, candidate, fresh, has, key_allowed, gap_behind, allowed_behind, gap_is_read, IsGap, WhiteBegins, WhiteGoesOn, WhiteIsTaken, WhiteIsOver, WhiteIsPassed, WhiteMeets, KeyIsAllowed}
+use Rattle.yaml_scan_laws_texts.proofs.LevelWords.{cases_Bool, and_parts, not-true, nat_tests, append-nil, byte, break_of, break_width, mark_at, is_bom, Gap, gap_at, HasAt, are_gap, has_break, begins_lexeme, Kind, Lexeme, allows_key, is_value, reached, flow_depth, in_flow, candidate, fresh, has, key_allowed, gap_behind, allowed_behind, gap_is_read, IsGap, WhiteBegins, WhiteGoesOn, WhiteIsTaken, WhiteIsOver, WhiteIsPassed, WhiteMeets, KeyIsAllowed}
 use Rattle.yaml_scan_laws_order.specs.scan_history.declared.kind.Kind.TheVariants as kinds
 
 -- ---- gaps of several parts
@@ -52,7 +52,7 @@ gap_there text h p gap e g = ap (λ (i : ℕ). gap_at (in_flow h) (key_allowed h
 pub white_begins : WhiteBegins
 white_begins text h p now e k = record {
   place = λ gap g. ap (λ (x : Gap). x.place) (gap_there text h p gap e g);
-  allowed = λ gap g. ap (λ (x : Gap). key_allowed h || (x.broke && not (in_flow h))) (gap_there text h p gap e g) ∙ ap (λ (b : Bool). b || (has_break gap && not (nat_lt 0 (depth h)))) k;
+  allowed = λ gap g. ap (λ (x : Gap). key_allowed h || (x.broke && not (in_flow h))) (gap_there text h p gap e g) ∙ ap (λ (b : Bool). b || (has_break gap && not (nat_lt 0 (flow_depth h)))) k;
 }
 
 -- ---- further white

@@ -1,6 +1,6 @@
 -- The law of windows, for a scanner.
 use Rattle.std.proofs.Common.{◌≡◌, ℕ, ◌-◌, true, List, [], ◌∷◌, ◌++◌, map, length, Option, None, option_map, refl, sym, ap, ◌∙◌, add-zero}
-use Rattle.yaml_scan_laws_texts.proofs.Shared.{append-nil, append_assoc, flat_map, yaml_encoding_t, yaml_mark_t, stream_start, document_start, stream_end, Token, TokenBody, Fault, line_at, mark_at, is_document_start, Kind, depth, candidate, levels, entries, word_at, Next, Read, Fails, Ends, first_lexeme, next, SpelledText, body_by, token_in, spell, all, fault_in, Remaining, offline, all_ends, IsCut, moved_mark, moved_token, moved_fault, moved_next, scan_of, WindowsAreScanned, joined, fault_next}
+use Rattle.yaml_scan_laws_texts.proofs.Shared.{append-nil, append_assoc, flat_map, yaml_encoding_t, yaml_mark_t, stream_start, document_start, stream_end, Token, TokenBody, Fault, line_at, mark_at, is_document_start, Kind, flow_depth, candidate, open_levels, finished_tokens, lexeme_at, Next, Read, Fails, Ends, first_lexeme, next, SpelledText, body_by, token_in, spell, all, fault_in, Remaining, offline, all_ends, IsCut, moved_mark, moved_token, moved_fault, moved_next, scan_of, WindowsAreScanned, joined, fault_next}
 use Rattle.yaml_scan_history.specs.declared.kind.Kind.TheVariants as kinds
 use Rattle.yaml_scan_laws_texts.proofs.Turning.{IsMark, mark_lexeme, MarkStands, mark_stands, mark_there, start_stands}
 use Rattle.yaml_scan_laws_texts.proofs.Rests.{rest_base, whole_base, rest_begins, rest_bases, rest_ground, rest_marks, whole}
@@ -12,8 +12,9 @@ use Rattle.yaml_scan_laws_order.proofs.StreamForward.{fault_none}
 
 -- STREAM-START and the mark
 pub first_told : (s : SpelledText) (K : Kind) (body : TokenBody) → IsMark K body → (b : List ℕ)
-    → flat_map (spell s) (entries (rest_base K b)) ≡ token_in s first_lexeme ∷ token_in s (mark_lexeme K b 0) ∷ []
-unfolding entries levels candidate
+    → flat_map (spell s) (finished_tokens (rest_base K b))
+        ≡ token_in s first_lexeme ∷ token_in s (mark_lexeme K b 0) ∷ []
+unfolding finished_tokens open_levels candidate
 first_told s K body m b = rw (m.value, m.start) refl
 
 -- the token of the rest's mark is the same, moved
@@ -60,7 +61,7 @@ record Parts (x : yaml_encoding_t) (a b : List ℕ) (m : MarkStands b 0) (front 
   pub told : scan_of x (a ++ b) ≡ joined a front behind (scan_of x b)
 
 parts : (x : yaml_encoding_t) (a b : List ℕ) → IsCut a b → (m : MarkStands b 0)
-    → (scan_of x a).fault ≡ None → depth (all a) ≡ 0
+    → (scan_of x a).fault ≡ None → flow_depth (all a) ≡ 0
     → (front : List Token) (last : Token) → (scan_of x a).tokens ≡ front ++ last ∷ []
     → (first : Token) (behind : List Token) → (scan_of x b).tokens ≡ first ∷ behind
     → Parts x a b m front last first behind
@@ -91,7 +92,7 @@ parts x a b cut m none outer front last are first behind come =
       moved = moved ∙ ap (λ k. moved_token d k B) lines;
       told = made (scan_of x (a ++ b)) _ _
           (offline_told v ∙ ap (λ z. told v z (all (a ++ b))) w.comes ∙ ap (λ h. told v (moved_next d n y) h) w.others ∙ p.others
-          ∙ ap (λ z. z ++ map (moved_token d n) p.behind) (ap (λ h. flat_map (spell v) (entries h)) (sym is) ∙ g.base)
+          ∙ ap (λ z. z ++ map (moved_token d n) p.behind) (ap (λ h. flat_map (spell v) (finished_tokens h)) (sym is) ∙ g.base)
           ∙ append_assoc front (g.mark ∷ []) (map (moved_token d n) p.behind)
           ∙ ap (λ z. front ++ z ∷ map (moved_token d n) p.behind) moved
           ∙ ap (λ z. front ++ map (moved_token d n) z) (sym rest) ∙ ap (λ k. front ++ map (moved_token d k) behind) lines)
@@ -105,10 +106,10 @@ windows_are_scanned x a b cut none outer front last are first behind come =
 
 -- The tokens of a text without fault are those of its lexemes.
 pub ended_told : (s : SpelledText) → (offline s).fault ≡ None
-    → (offline s).tokens ≡ flat_map (spell s) (entries (all s.text))
+    → (offline s).tokens ≡ flat_map (spell s) (finished_tokens (all s.text))
 ended_told s none =
     let over = fault_none (next s.text (all s.text)) (sym (fault_next s) ∙ none) (all_ends s.text) in
-    offline_told s ∙ ap (λ z. told s z (all s.text)) over ∙ append-nil (flat_map (spell s) (entries (all s.text)))
+    offline_told s ∙ ap (λ z. told s z (all s.text)) over ∙ append-nil (flat_map (spell s) (finished_tokens (all s.text)))
 
 -- ---- the tokens at the cut
 
@@ -124,11 +125,11 @@ pub record AtCut (x : yaml_encoding_t) (a : List ℕ) (last first : Token) (behi
 
 -- After a cut before `---` stands DOCUMENT-START, at the place where the front's STREAM-END stood.
 pub at_cut : (x : yaml_encoding_t) (a b : List ℕ) → IsCut a b → is_document_start b 0 ≡ true
-    → (scan_of x a).fault ≡ None → depth (all a) ≡ 0
+    → (scan_of x a).fault ≡ None → flow_depth (all a) ≡ 0
     → (front : List Token) (last : Token) → (scan_of x a).tokens ≡ front ++ last ∷ []
     → (first : Token) (behind : List Token) → (scan_of x b).tokens ≡ first ∷ behind
     → AtCut x a last first behind
-unfolding word_at
+unfolding lexeme_at
 at_cut x a b cut begins none outer front last are first behind come =
     let p = parts x a b cut (start_stands b 0 begins) none outer front last are first behind come in
     record {

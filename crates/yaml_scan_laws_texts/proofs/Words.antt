@@ -11,8 +11,8 @@ pub use Rattle.yaml_scan_laws_order.proofs.MarksLemmas.{widths, within}
 pub use Rattle.yaml_scan_laws_order.proofs.NextForward.{placed_index, with_end}
 pub use Rattle.yaml_scan_laws_order.proofs.StepwiseLemmas.{stepwise}
 pub use Rattle.yaml_scan_laws_order.specs.scan_words.Block.{BlockText, block_at, block_behind, block_lines, block_with, column_of, style_at}
-pub use Rattle.yaml_scan_laws_order.specs.scan_history.History.{Candidate, depth, ended, entry_of, first_open, found_by, fresh, has, inside, is_fresh, key_allowed, keyed, left_by, level_of, marked, opened, opens_at, placed, reached, start_of}
-unfoldable pub use Rattle.yaml_scan_laws_order.specs.scan_history.History.{candidate, entries, indent, levels, mark_key}
+pub use Rattle.yaml_scan_laws_order.specs.scan_history.History.{Candidate, flow_depth, ended, entry_of, first_open, found_by, fresh, has, inside, is_fresh, key_allowed, keyed, left_by, level_of, marked, opened, opens_at, placed, reached, start_of}
+unfoldable pub use Rattle.yaml_scan_laws_order.specs.scan_history.History.{candidate, finished_tokens, indent, open_levels, mark_key}
 pub use Rattle.yaml_scan_laws_order.specs.scan_history.Kinds.{allows_key, cancels, depth_after, is_end, is_start, is_value, may_be_key}
 pub use Rattle.yaml_scan_laws_order.specs.scan_history.Next.{Ends, Fails, Next, Read, allowed_behind, begun, coming, extended, finished, first_lexeme, kind_behind, level_in, lost_by, misplaced, missed}
 unfoldable pub use Rattle.yaml_scan_laws_order.specs.scan_history.Next.{history, next}
@@ -20,7 +20,7 @@ pub use Rattle.yaml_scan_laws_order.specs.scan_history.Remaining.{Remaining, Spe
 unfoldable pub use Rattle.yaml_scan_laws_order.specs.scan_history.Remaining.{all, handed, remaining}
 pub use Rattle.yaml_scan_laws_order.specs.scan_history.Stepwise.{behind, no_colon, not_allowed, of_kind, tested, unless_lost, unless_missed, unless_wrong}
 pub use Rattle.yaml_scan_laws_order.specs.scan_history.Words.{WordText, blocked, body_said, carrying, directed, or_plain, plainly, tagged, valued}
-unfoldable pub use Rattle.yaml_scan_laws_order.specs.scan_history.Words.{indicator_of, kind_at, word_at}
+unfoldable pub use Rattle.yaml_scan_laws_order.specs.scan_history.Words.{indicator_of, kind_at, lexeme_at}
 pub use Rattle.yaml_scan_laws_order.specs.scan_history.declared.kind.Kind.{Kind}
 pub use Rattle.yaml_scan_laws_order.specs.scan_history.declared.lexeme.Entry.{Entry}
 pub use Rattle.yaml_scan_laws_order.specs.scan_history.declared.lexeme.Lexeme.{Lexeme}

@@ -4,7 +4,7 @@ use Rattle.yaml_scan_history.specs.scan_model.declared.name.yaml_encoding_t.{yam
 use Rattle.yaml_scan_history.specs.scan_model.Tokens.{Token}
 use Rattle.yaml_scan_history.specs.scan_model.Faults.{Fault}
 use Rattle.yaml_scan_history.specs.scan_model.Marks.{line_at}
-use Rattle.yaml_scan_history.specs.History.{depth}
+use Rattle.yaml_scan_history.specs.History.{flow_depth}
 use Rattle.yaml_scan_history.specs.Remaining.{all, Remaining, offline}
 use Rattle.yaml_scan_laws_texts.specs.Cuts.{IsCut, IsEndCut}
 use Rattle.yaml_scan_laws_texts.specs.Moved.{moved_token, moved_fault}
@@ -25,7 +25,7 @@ joined front before behind rest = record {
 -- fault is that of the rest, moved.
 abbrev pub WindowsAreScanned : Type 0
 WindowsAreScanned = (encoding : yaml_encoding_t) (front rest : List ℕ) → IsCut front rest
-    → (scan_of encoding front).fault ≡ None → depth (all front) ≡ 0
+    → (scan_of encoding front).fault ≡ None → flow_depth (all front) ≡ 0
     → (before : List Token) (last : Token) → (scan_of encoding front).tokens ≡ before ++ last ∷ []
     → (first : Token) (behind : List Token) → (scan_of encoding rest).tokens ≡ first ∷ behind
     → scan_of encoding (front ++ rest) ≡ joined front before behind (scan_of encoding rest)
@@ -45,7 +45,7 @@ RefusedFrontsAreScanned = (encoding : yaml_encoding_t) (front rest : List ℕ) �
 -- So it is where a text is cut after a line `...`.
 abbrev pub EndedWindowsAreScanned : Type 0
 EndedWindowsAreScanned = (encoding : yaml_encoding_t) (front rest : List ℕ) → IsEndCut front rest
-    → (scan_of encoding front).fault ≡ None → depth (all front) ≡ 0
+    → (scan_of encoding front).fault ≡ None → flow_depth (all front) ≡ 0
     → (before : List Token) (last : Token) → (scan_of encoding front).tokens ≡ before ++ last ∷ []
     → (first : Token) (behind : List Token) → (scan_of encoding rest).tokens ≡ first ∷ behind
     → scan_of encoding (front ++ rest) ≡ joined front before behind (scan_of encoding rest)

@@ -8,8 +8,8 @@ use Rattle.yaml_scan_laws_order.specs.scan_history.declared.lexeme.Lexeme.{Lexem
 use Rattle.yaml_scan_laws_order.specs.scan_history.declared.lexeme.Entry.{Entry}
 use Rattle.yaml_scan_laws_order.specs.scan_history.declared.lexeme.Opens.{Opens}
 use Rattle.yaml_scan_laws_order.specs.scan_history.Kinds.{may_be_key, is_outside}
-use Rattle.yaml_scan_laws_order.specs.scan_history.History.{depth, ended, Candidate, candidate, is_fresh, left_by, levels, entries}
-use Rattle.yaml_scan_laws_order.specs.scan_history.Words.{WordText, kind_at, word_at}
+use Rattle.yaml_scan_laws_order.specs.scan_history.History.{flow_depth, ended, Candidate, candidate, is_fresh, left_by, open_levels, finished_tokens}
+use Rattle.yaml_scan_laws_order.specs.scan_history.Words.{WordText, kind_at, lexeme_at}
 use Rattle.yaml_scan_laws_order.specs.scan_history.Next.{Read, next, first_lexeme, gap_behind, allowed_behind, begun, level_in}
 use Rattle.yaml_scan_laws_order.specs.scan_history.Remaining.{body_in}
 
@@ -30,10 +30,10 @@ pub record Front (text : List ℕ) (h : List Lexeme) (d : ℕ) (ms : List ℕ)
     (es : List Entry) : Type 0 where
   pub came : Came text h
   pub going : ended h ≡ false
-  pub depth : depth h ≡ d
-  pub levels : levels h ≡ ms
+  pub depth : flow_depth h ≡ d
+  pub levels : open_levels h ≡ ms
   pub rises : Rises 0 ms
-  pub entries : entries h ≡ es
+  pub entries : finished_tokens h ≡ es
 
 -- no `:` is owed to it
 abbrev pub IsFree : Option Candidate → Type 0
@@ -61,7 +61,7 @@ pub record Meets (text : List ℕ) (h : List Lexeme) (d level : ℕ) (k : Kind) 
   pub place : (gap_behind text h).place ≡ q
   pub allowed : allowed_behind h (gap_behind text h) ≡ a
   pub kind : kind_at (nat_lt 0 d) text q ≡ Some k
-  pub word : word_at k (nat_lt 0 d) level text q ≡ Ok w
+  pub word : lexeme_at k (nat_lt 0 d) level text q ≡ Ok w
 
 -- the lexeme of a kind that isn't the stream's end, at a place after lexemes
 abbrev pub read_at : List ℕ → List Lexeme → Kind → ℕ → Bool → WordText → Lexeme
@@ -70,7 +70,7 @@ read_at text h k q a w = record {
   start = mark_at text q;
   end = mark_at text w.end;
   reached = mark_at text w.reached;
-  depth = depth h;
+  depth = flow_depth h;
   level = level_in k (column_at text q) h;
   saved = a && may_be_key k;
   required = (begun k (mark_at text q) a h).required;

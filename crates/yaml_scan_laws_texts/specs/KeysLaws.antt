@@ -7,8 +7,8 @@ use Rattle.yaml_scan_laws_order.specs.scan_words.Between.{Gap, gap_at}
 use Rattle.yaml_scan_laws_order.specs.scan_history.declared.kind.Kind.{Kind}
 use Rattle.yaml_scan_laws_order.specs.scan_history.declared.lexeme.Lexeme.{Lexeme}
 use Rattle.yaml_scan_laws_order.specs.scan_history.Kinds.{may_be_key, is_end}
-use Rattle.yaml_scan_laws_order.specs.scan_history.History.{depth, reached, ended, candidate, fresh, key_allowed, placed, entries}
-use Rattle.yaml_scan_laws_order.specs.scan_history.Words.{WordText, kind_at, word_at}
+use Rattle.yaml_scan_laws_order.specs.scan_history.History.{flow_depth, reached, ended, candidate, fresh, key_allowed, placed, finished_tokens}
+use Rattle.yaml_scan_laws_order.specs.scan_history.Words.{WordText, kind_at, lexeme_at}
 use Rattle.yaml_scan_laws_order.specs.scan_history.Next.{Read, Ends, allowed_behind, missed, lost_by, next, history}
 use Rattle.yaml_scan_laws_order.specs.scan_history.Remaining.{SpelledText, token_in, spell, all, remaining}
 use Rattle.yaml_scan_laws_texts.specs.KeyFree.{innermost, asked, is_key_free, is_level_free, kinds_of}
@@ -16,13 +16,15 @@ use Rattle.yaml_scan_laws_texts.specs.KeyFree.{innermost, asked, is_key_free, is
 -- After a `?` in brackets, with only nodes after it, no candidate stands at its depth.
 abbrev pub AskedHaveNoCandidate : Type 0
 AskedHaveNoCandidate = (text : List ℕ) (n : ℕ) → let h = history text n in
-    is_key_free (kinds_of h) ≡ true → innermost (asked (kinds_of h)) ≡ true → candidate (depth h) h
+    is_key_free (kinds_of h) ≡ true → innermost (asked (kinds_of h)) ≡ true
+        → candidate (flow_depth h) h
     ≡ None
 
 -- The tokens of key-free lexemes are their own, in order.
 abbrev pub KeyFreeTokensAreOwn : Type 0
 KeyFreeTokensAreOwn = (s : SpelledText) (n : ℕ) → let h = history s.text n in
-    is_key_free (kinds_of h) ≡ true → flat_map (spell s) (entries h) ≡ map (token_in s) (reverse h)
+    is_key_free (kinds_of h) ≡ true
+        → flat_map (spell s) (finished_tokens h) ≡ map (token_in s) (reverse h)
 
 -- What comes of a key-free text that no fault ends is its lexemes' own tokens.
 abbrev pub KeyFreeTextsAreBare : Type 0
@@ -50,7 +52,7 @@ NoneIsRequired = (text : List ℕ) (n d : ℕ) (l : Lexeme) (at to : yaml_mark_t
 
 -- what stands after lexemes
 abbrev pub gap_in : List ℕ → List Lexeme → Gap
-gap_in text h = gap_at (nat_lt 0 (depth h)) (key_allowed h) text (reached h).index
+gap_in text h = gap_at (nat_lt 0 (flow_depth h)) (key_allowed h) text (reached h).index
 
 -- a lexeme's end; the stream's stays where it starts
 abbrev pub end_in : List ℕ → Kind → ℕ → ℕ → yaml_mark_t
@@ -63,7 +65,7 @@ lexeme_of text h gap k w = record {
   start = placed k (mark_at text gap.place);
   end = end_in text k gap.place w.end;
   reached = end_in text k gap.place w.reached;
-  depth = depth h;
+  depth = flow_depth h;
   level = 0;
   saved = allowed_behind h gap && may_be_key k;
   required = false;
@@ -74,6 +76,7 @@ lexeme_of text h gap k w = record {
 abbrev pub WordIsRead : Type 0
 WordIsRead = (text : List ℕ) (n : ℕ) (k : Kind) (w : WordText) → let h = history text (suc n) in
     is_level_free (k ∷ kinds_of h) ≡ true → ended h ≡ false → let gap = gap_in text h in
-    kind_at (nat_lt 0 (depth h)) text gap.place ≡ Some k → word_at k (nat_lt 0 (depth h)) 0 text
+    kind_at (nat_lt 0 (flow_depth h)) text gap.place ≡ Some k
+        → lexeme_at k (nat_lt 0 (flow_depth h)) 0 text
     gap.place ≡ Ok w
     → next text h ≡ Read (lexeme_of text h gap k w)

@@ -6,8 +6,8 @@ use Rattle.yaml_scan_laws_order.specs.scan_model.Tokens.{Token, stream_start, ze
 use Rattle.yaml_scan_laws_order.specs.scan_history.declared.kind.Kind.{Kind}
 use Rattle.yaml_scan_laws_order.specs.scan_history.declared.lexeme.Lexeme.{Lexeme}
 use Rattle.yaml_scan_laws_order.specs.scan_history.Kinds.{is_end}
-use Rattle.yaml_scan_laws_order.specs.scan_history.History.{depth, placed}
-use Rattle.yaml_scan_laws_order.specs.scan_history.Words.{WordText, kind_at, word_at}
+use Rattle.yaml_scan_laws_order.specs.scan_history.History.{flow_depth, placed}
+use Rattle.yaml_scan_laws_order.specs.scan_history.Words.{WordText, kind_at, lexeme_at}
 use Rattle.yaml_scan_laws_order.specs.scan_history.Next.{first_lexeme, Ends, next}
 use Rattle.yaml_scan_laws_order.specs.scan_history.Remaining.{SpelledText, all, offline}
 use Rattle.yaml_scan_laws_texts.specs.KeyFree.{is_key_free, is_level_free}
@@ -28,8 +28,8 @@ lexemes text (w ∷ ws) = lexeme_of text (lexemes text ws) (gap_in text (lexemes
 -- After those lexemes the word's kind stands at its place, and is read so.
 pub record StandsBehind (text : List ℕ) (h : List Lexeme) (w : Word) : Type 0 where
   pub place : (gap_in text h).place ≡ w.place
-  pub kind : kind_at (nat_lt 0 (depth h)) text w.place ≡ Some w.kind
-  pub said : word_at w.kind (nat_lt 0 (depth h)) 0 text w.place ≡ Ok w.said
+  pub kind : kind_at (nat_lt 0 (flow_depth h)) text w.place ≡ Some w.kind
+  pub said : lexeme_at w.kind (nat_lt 0 (flow_depth h)) 0 text w.place ≡ Ok w.said
 
 -- each word stands after those before it
 unfoldable pub WordsStand : List ℕ → List Word → Type 0

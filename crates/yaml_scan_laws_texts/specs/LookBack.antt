@@ -5,7 +5,7 @@ use Rattle.yaml_scan_laws_order.specs.scan_history.declared.lexeme.Lexeme.{Lexem
 use Rattle.yaml_scan_laws_order.specs.scan_history.declared.lexeme.Opens.{Opens}
 use Rattle.yaml_scan_laws_order.specs.scan_history.declared.lexeme.Opens.TheVariants as opening
 use Rattle.yaml_scan_laws_order.specs.scan_history.Kinds.{is_value, is_start}
-use Rattle.yaml_scan_laws_order.specs.scan_history.History.{Candidate, has_number, found_by, first_open, indent, inside, levels, level_of, opens_at}
+use Rattle.yaml_scan_laws_order.specs.scan_history.History.{Candidate, has_number, found_by, first_open, indent, inside, open_levels, level_of, opens_at}
 use Rattle.yaml_scan_laws_order.specs.scan_history.Next.{Next, Read, Fails, Ends, next}
 use Rattle.yaml_scan_laws_order.specs.scan_history.Remaining.{SpelledText, before, token_in, start_tokens, all, fault_in, Remaining, offline}
 
@@ -40,7 +40,7 @@ level_at n (l ∷ h) = if opens_level l h && begins_with l h == n then level_of 
 
 -- the levels that a lexeme closes: those before it that it doesn't leave open
 abbrev pub closes : Lexeme → List Lexeme → ℕ
-closes l h = length (levels h) - length (inside l h)
+closes l h = length (open_levels h) - length (inside l h)
 
 abbrev pub end_tokens : Lexeme → List Lexeme → List Token
 end_tokens l h = replicate (closes l h) (before block_end l)

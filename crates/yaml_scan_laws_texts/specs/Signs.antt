@@ -8,7 +8,7 @@ use Rattle.yaml_scan_laws_order.specs.scan_words.Indicators.{is_document_start, 
 use Rattle.yaml_scan_laws_order.specs.scan_words.Written.{begins_lexeme}
 use Rattle.yaml_scan_laws_order.specs.scan_history.declared.kind.Kind.{Kind}
 use Rattle.yaml_scan_laws_order.specs.scan_history.declared.kind.Kind.TheVariants as kinds
-use Rattle.yaml_scan_laws_order.specs.scan_history.Words.{WordText, word_at}
+use Rattle.yaml_scan_laws_order.specs.scan_history.Words.{WordText, lexeme_at}
 use Rattle.yaml_scan_laws_texts.specs.White.{IsGap}
 use Rattle.yaml_scan_laws_texts.specs.Steps.{Comes}
 
@@ -69,4 +69,4 @@ reads_level _ = false
 -- All other words are the same in every level.
 abbrev pub LevelIsOut : Type 0
 LevelIsOut = (k : Kind) (flow : Bool) (n m : ℕ) (text : List ℕ) (p : ℕ) → reads_level k ≡ false
-    → word_at k flow n text p ≡ word_at k flow m text p
+    → lexeme_at k flow n text p ≡ lexeme_at k flow m text p

@@ -10,7 +10,7 @@ use Rattle.yaml_scan_laws_order.specs.scan_history.declared.lexeme.Lexeme.{Lexem
 use Rattle.yaml_scan_laws_order.specs.scan_history.declared.lexeme.Opens.{Opens}
 use Rattle.yaml_scan_laws_order.specs.scan_history.declared.lexeme.Opens.TheVariants as opening
 use Rattle.yaml_scan_laws_order.specs.scan_history.Kinds.{may_be_key, cancels}
-use Rattle.yaml_scan_laws_order.specs.scan_history.History.{depth, Candidate, candidate, fresh, is_fresh, indent, opened, start_of}
+use Rattle.yaml_scan_laws_order.specs.scan_history.History.{flow_depth, Candidate, candidate, fresh, is_fresh, indent, opened, start_of}
 use Rattle.yaml_scan_laws_order.specs.scan_history.Words.{WordText}
 use Rattle.yaml_scan_laws_texts.specs.Fronts.{read_at}
 use Rattle.yaml_scan_laws_texts.specs.White.{IsGap}
@@ -54,14 +54,14 @@ NearBefore = (text : List ℕ) (start : yaml_mark_t) (p q : ℕ) → p ≤ q
 -- opened.
 pub record SlotsGoOn : Type 0 where
   pub stays : (text : List ℕ) (h : List Lexeme) (d e : ℕ) (k : Kind) (q : ℕ) (a : Bool)
-      (w : WordText) → depth h ≡ e
+      (w : WordText) → flow_depth h ≡ e
       → IsInKey k d e a → candidate d (read_at text h k q a w ∷ h) ≡ candidate d h
   pub goes : (text : List ℕ) (h : List Lexeme) (d : ℕ) (k : Kind) (q : ℕ) (a : Bool)
-      (w : WordText) → depth h ≡ d
+      (w : WordText) → flow_depth h ≡ d
       → (a && may_be_key k) ≡ false → cancels k ≡ true → candidate d (read_at text h k q a w
       ∷ h) ≡ None
   pub opens : (text : List ℕ) (h : List Lexeme) (d e : ℕ) (k : Kind) (q : ℕ) (a : Bool)
-      (w : WordText) → depth h ≡ d
+      (w : WordText) → flow_depth h ≡ d
       → d < e → candidate e (read_at text h k q a w ∷ h) ≡ None
 
 -- A `:` meets no candidate where there is none.

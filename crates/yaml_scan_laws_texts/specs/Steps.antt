@@ -9,8 +9,8 @@ use Rattle.yaml_scan_laws_order.specs.scan_history.declared.lexeme.Lexeme.{Lexem
 use Rattle.yaml_scan_laws_order.specs.scan_history.declared.lexeme.Entry.{Entry}
 use Rattle.yaml_scan_laws_order.specs.scan_history.declared.lexeme.Opens.TheVariants as opening
 use Rattle.yaml_scan_laws_order.specs.scan_history.Kinds.{depth_after, may_be_key, allows_key, is_start, is_outside, is_end}
-use Rattle.yaml_scan_laws_order.specs.scan_history.History.{depth, reached, key_allowed, Candidate, is_fresh, margin_at, indent, opened, start_of, level_of, as_key}
-use Rattle.yaml_scan_laws_order.specs.scan_history.Words.{WordText, kind_at, word_at}
+use Rattle.yaml_scan_laws_order.specs.scan_history.History.{flow_depth, reached, key_allowed, Candidate, is_fresh, margin_at, indent, opened, start_of, level_of, as_key}
+use Rattle.yaml_scan_laws_order.specs.scan_history.Words.{WordText, kind_at, lexeme_at}
 use Rattle.yaml_scan_laws_order.specs.scan_history.Next.{first_lexeme}
 use Rattle.yaml_scan_laws_texts.specs.Fronts.{Front, Idle, Holds, LeavesLevels, Says, entry, read_at}
 use Rattle.yaml_scan_laws_texts.specs.Pushes.{IsRight, IsLone, stays_level}
@@ -32,13 +32,13 @@ pub record Comes (text : List ℕ) (p d level : ℕ) (k : Kind) (gap : List ℕ)
     (e : ℕ) : Type 0 where
   pub behind : IsGap text p gap
   pub kind : kind_at (nat_lt 0 d) text (p + length gap) ≡ Some k
-  pub word : word_at k (nat_lt 0 d) level text (p + length gap) ≡ Ok w
+  pub word : lexeme_at k (nat_lt 0 d) level text (p + length gap) ≡ Ok w
   pub up : p + length gap ≤ e
 
 -- After a word, which allows a key or not, white is to come from e on.
 abbrev pub WordLeaves : List ℕ → ℕ → Bool → WordText → ℕ → Bool → Bool → Type 0
 WordLeaves text d allows w e now broken = (h : List Lexeme) → (reached h).index ≡ w.reached
-    → key_allowed h ≡ (allows || w.broke) → depth h ≡ d → White text h e now broken
+    → key_allowed h ≡ (allows || w.broke) → flow_depth h ≡ d → White text h e now broken
 
 -- Most words leave the white; plain scalars take all of it; block scalars take some; directives
 -- take all, and the break lets no key begin.

@@ -6,8 +6,8 @@ use Rattle.yaml_scan_laws_order.specs.scan_words.Written.{HasAt, are_gap, has_br
 use Rattle.yaml_scan_laws_order.specs.scan_history.declared.kind.Kind.{Kind}
 use Rattle.yaml_scan_laws_order.specs.scan_history.declared.lexeme.Lexeme.{Lexeme}
 use Rattle.yaml_scan_laws_order.specs.scan_history.Kinds.{allows_key, is_value}
-use Rattle.yaml_scan_laws_order.specs.scan_history.History.{reached, depth, candidate, fresh, has, key_allowed}
-use Rattle.yaml_scan_laws_order.specs.scan_history.Words.{WordText, kind_at, word_at}
+use Rattle.yaml_scan_laws_order.specs.scan_history.History.{reached, flow_depth, candidate, fresh, has, key_allowed}
+use Rattle.yaml_scan_laws_order.specs.scan_history.Words.{WordText, kind_at, lexeme_at}
 use Rattle.yaml_scan_laws_order.specs.scan_history.Next.{gap_behind, allowed_behind}
 use Rattle.yaml_scan_laws_texts.specs.Fronts.{Meets, read_at}
 
@@ -27,7 +27,7 @@ pub record White (text : List ℕ) (h : List Lexeme) (p : ℕ) (now broken : Boo
 -- Where the last lexeme ends before the white, which all do but plain and block scalars.
 abbrev pub WhiteBegins : Type 0
 WhiteBegins = (text : List ℕ) (h : List Lexeme) (p : ℕ) (now : Bool) → (reached h).index ≡ p
-    → key_allowed h ≡ now → White text h p now (not (nat_lt 0 (depth h)))
+    → key_allowed h ≡ now → White text h p now (not (nat_lt 0 (flow_depth h)))
 
 -- Further white.
 abbrev pub WhiteGoesOn : Type 0
@@ -62,14 +62,14 @@ abbrev pub WhiteMeets : Type 0
 WhiteMeets = (text : List ℕ) (h : List Lexeme) (p d level : ℕ) (now broken : Bool) (gap : List ℕ)
     (k : Kind)
     (w : WordText) → White text h p now broken → IsGap text p gap → let q = p + length gap in
-    kind_at (nat_lt 0 d) text q ≡ Some k → word_at k (nat_lt 0 d) level text q ≡ Ok w
+    kind_at (nat_lt 0 d) text q ≡ Some k → lexeme_at k (nat_lt 0 d) level text q ≡ Ok w
     → Meets text h d level k q (now || (has_break gap && broken)) w
 
 -- Whether a key may begin after a lexeme that was read so.
 abbrev pub KeyIsAllowed : Type 0
 KeyIsAllowed = (text : List ℕ) (h : List Lexeme) (d : ℕ) (k : Kind) (q : ℕ) (a found : Bool)
     (w : WordText)
-    → depth h ≡ d → (is_value k ≡ true → has (fresh (candidate d h) (mark_at text q)) ≡ found)
+    → flow_depth h ≡ d → (is_value k ≡ true → has (fresh (candidate d h) (mark_at text q)) ≡ found)
     → let l = read_at text h k q a w in
     ((reached (l ∷ h)).index ≡ w.reached) × (key_allowed (l
     ∷ h) ≡ (allows_key k (d == 0) found || w.broke))

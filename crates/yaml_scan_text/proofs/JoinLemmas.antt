@@ -1,7 +1,7 @@
 -- Plain scalars of more than one line.
 use Rattle.std.proofs.Common.{◌≡◌, ℕ, ◌+◌, ◌-◌, ◌<◌, ◌≤◌, max, Bool, true, false, List, [], ◌∷◌, ◌++◌, length, slice_range, Result, Ok, Err, refl, sym, ap, ◌∙◌, inl, inr, append_assoc, append-nil, arith}
 use Rattle.yaml_scan_text.proofs.Words.{cases_Bool, cases_lt, byte, break_width, starts, spot_at, ends_at, spot_kept, spot_ends, Faulty, Wrong, PlainText, plain_at, Piece, Kept, Break, value, value-kept, blanks_of, bytes_at, feed_at, past_blanks, IsWord, InHead, IsHead, IsBadTab, IsPlainLine, ReadsPlain, coming, is_bad_colon, bad_colon, White, no_white, white_blank, white_break, feeds, fold_of, Refuses, IsMemory, Line, lines, rest_of, folded, blank_parts, not_ended, true≢false, false≢true, Keeps, within}
-use Rattle.yaml_scan_text.specs.PlainRead.{GoesOn, EndsLine}
+use Rattle.yaml_scan_text.specs.PlainRead.{LineGoesOn, EndsLine}
 use Rattle.yaml_scan_text.specs.declared.plain.PlainLine.{PlainLine}
 use Rattle.yaml_scan_text.specs.declared.plain.PlainScalar.{PlainScalar}
 use Rattle.yaml_scan_text.specs.declared.fold.Head.{Head}
@@ -125,7 +125,7 @@ join_tab flow level text p l w is broke bad done =
 pub record Joins (flow : Bool) (level : ℕ) (text : List ℕ) (start : ℕ) (old new : List ℕ) (from : ℕ) (part : PlainLine) (h : Head) : Type 0 where
   pub done : List ℕ
   pub is : new ≡ old ++ done
-  pub on : GoesOn flow level text from part h
+  pub on : LineGoesOn flow level text from part h
   pub rest : plain_at flow level text start ≡ coming flow level text (done ++ slice_range text from part.end) part.end
 
 pub line_first : (flow : Bool) (level : ℕ) (text : List ℕ) (p : ℕ) (l : PlainLine)
@@ -135,7 +135,8 @@ line_first flow level text p l inside is = plain_coming flow level text p inside
 
 pub joins_first : (flow : Bool) (level : ℕ) (text : List ℕ) (start : ℕ) (old : List ℕ)
     (part : PlainLine) (h : Head)
-    → start < length text → GoesOn flow level text start part h → Joins flow level text start old old start part h
+    → start < length text → LineGoesOn flow level text start part h
+    → Joins flow level text start old old start part h
 joins_first flow level text start old part h inside on = record {
   done = [];
   is = sym (append-nil old);
@@ -302,7 +303,7 @@ answer_last flow level text start old new last from part line r none (Err e) (ba
 
 -- the next line starts further on
 pub on_further : (flow : Bool) (level : ℕ) (text : List ℕ) (from : ℕ) (part : PlainLine) (h : Head)
-    → GoesOn flow level text from part h
+    → LineGoesOn flow level text from part h
     → from < h.at
 on_further flow level text from part h on =
     let le = white_le level text (part.next + break_width text part.next) h.at on.head.pieces on.head.white in

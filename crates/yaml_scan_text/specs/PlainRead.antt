@@ -159,7 +159,7 @@ PassesBreaks level text p (Ok h) = IsHead level text p h
 PassesBreaks level text p (Err w) = IsBadTab level text p (wrong_of w)
 
 -- A plain scalar that starts there goes on after such a part on its first line, and such white.
-pub record GoesOn (flow : Bool) (level : ℕ) (text : List ℕ) (start : ℕ) (part : PlainLine)
+pub record LineGoesOn (flow : Bool) (level : ℕ) (text : List ℕ) (start : ℕ) (part : PlainLine)
     (h : Head) : Type 0 where
   pub line : IsPlainLine flow text start part
   pub broke : 0 < break_width text part.next

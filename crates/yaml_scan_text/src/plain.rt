@@ -262,7 +262,7 @@ fn join_lines(
 ) -> Result<PlainScalar, Refusal>
     requires text { IsSpelled text.now }
     requires start { start < length text.now }
-    requires joins { spec.GoesOn flow margin text.now start first behind }
+    requires joins { spec.LineGoesOn flow margin text.now start first behind }
     ensures value { spec.ReadsPlain text.now start arena.old.items arena.new.items result
         (plain.plain_at flow margin text.now start) }
     ensures kept { Keeps arena.old.items arena.new.items }

@@ -7,7 +7,7 @@ use Rattle.yaml_emit_layout.specs.Text.{Item}
 use Rattle.yaml_emit_layout.specs.Layout.{Rest, nothing_more, written}
 use Rattle.yaml_emit_layout.specs.Sink.{Ends, EndsBy, Puts}
 use Rattle.yaml_emit_layout.proofs.Sinks.{ends_other, status_cases}
-use Rattle.yaml_scan_types.specs.declared.yaml_encoding_t.{yaml_encoding_t}
+use Rattle.yaml_scan_types.specs.declared.name.yaml_encoding_t.{yaml_encoding_t}
 use Rattle.yaml_emit_layout.specs.declared.problem.Problem.{Problem}
 use Rattle.yaml_emit_layout.specs.Content.{Event, Document, stream_events}
 use Rattle.yaml_emit_layout.specs.Grammar.{or_else, event_problem, last_problem, place_problem, problem_by, own_problem, own_problems}

@@ -2,7 +2,7 @@
 use Rattle.std.proofs.Common.{◌≡◌, ℕ, ◌<◌, ◌≤◌, ◌^◌, List, [], length, Bool, true, false, IsUtf8, refl, sym, subst, ◌∙◌, ap, arith}
 use Rattle.std.specs.Prelude.{Option, Some, None, ℤ, pos, negsuc}
 use Rattle.std.proofs.lemmas.Bool.Decides.{nat_tests}
-use Rattle.yaml_scan_types.specs.declared.yaml_encoding_t.{yaml_encoding_t}
+use Rattle.yaml_scan_types.specs.declared.name.yaml_encoding_t.{yaml_encoding_t}
 use Rattle.yaml_emit_layout.specs.declared.settings.RequestedSettings.{RequestedSettings}
 use Rattle.yaml_emit_layout.specs.Settings.{settled, settled_indent}
 use Rattle.std.specs.Str.{chars}

@@ -7,7 +7,7 @@ use Rattle.yaml_emit_layout.specs.declared.settings.Settings.{Settings}
 use Rattle.yaml_emit_layout.specs.Layout.{Layout, ◌▹◌, stay, when, keep, choose, order_mark}
 use Rattle.yaml_emit_layout.proofs.Sinks.{cond_true, cond_false}
 use Rattle.yaml_parse_model.specs.Events.{TagDirective}
-use Rattle.yaml_scan_types.specs.declared.yaml_encoding_t.{yaml_encoding_t}
+use Rattle.yaml_scan_types.specs.declared.name.yaml_encoding_t.{yaml_encoding_t}
 use Rattle.yaml_emit_layout.specs.Content as said
 use Rattle.yaml_emit_layout.specs.Nodes.{dots, dashes, is_kept, is_directed, version_text, directive_text, directives_text, start_layout, stop_layout}
 use Rattle.yaml_emit_layout.specs.State.{start_at, stop_at, text_at, depth_at, piece, next, next_at}

@@ -2,7 +2,7 @@
 use Rattle.std.proofs.Common.{◌≡◌, ℕ, List, Bool, true, false, refl, subst, ◌∙◌}
 use Rattle.std.specs.Prelude.{Option, Some, None, option_map, ◌||◌}
 use Rattle.std.specs.Option.{is_some}
-use Rattle.yaml_scan_types.specs.declared.yaml_scalar_style_t.{yaml_scalar_style_t}
+use Rattle.yaml_scan_types.specs.declared.name.yaml_scalar_style_t.{yaml_scalar_style_t}
 use Rattle.yaml_emit_layout.specs.Content as said
 use Rattle.yaml_emit_layout.specs.Grammar.{has}
 use Rattle.yaml_emit_core.specs.Levels.{opening}

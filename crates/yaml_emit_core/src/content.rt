@@ -28,8 +28,7 @@ use crate::scalars::{put_sign_if, put_value};
 use yaml_emit_layout::{Page, Settings, Style};
 use yaml_emit_output::Draft;
 use yaml_emit_scalars::{BREAK, Manner, allowed_by, taken};
-use yaml_scan_classes::has_break;
-use yaml_scan_types::yaml_scalar_style_t;
+use yaml_scan_types::{has_break, yaml_scalar_style_t};
 
 /// A scalar: whether it may be untagged where it is plain and where it isn't, the style that is asked for, and classes that its bytes
 /// have.

@@ -4,7 +4,7 @@ use Rattle.std.proofs.lemmas.Bool.{cases_Bool}
 use Rattle.std.specs.Prelude.{zero, suc, ℤ, pos}
 use Rattle.yaml_parse_model.specs.declared.yaml_node_pair_t.{yaml_node_pair_t}
 use Rattle.yaml_parse_model.specs.Nodes as model
-use Rattle.yaml_parse_document.specs.Documents.{Document, seq_tag, map_tag}
+use Rattle.yaml_parse_model.specs.Documents.{Document, seq_tag, map_tag}
 use Rattle.yaml_emit_layout.specs.Content.{Node, Nodes, Pairs, node, pair, no_nodes, no_pairs, Event, document_start, document_end, node_events, items_events, pairs_events, sequence_start, mapping_start, is_flow_sequence, is_flow_mapping}
 use Rattle.yaml_emit_graph.specs.declared.walk.Turn.{Turn}
 use Rattle.yaml_emit_graph.specs.declared.walk.Turn.TheVariants.{Leave}

@@ -5,7 +5,7 @@ use Rattle.std.proofs.lemmas.Bool.{cases_Bool}
 use Rattle.std.proofs.lemmas.List.{length-replicate}
 use Rattle.yaml_parse_model.specs.declared.yaml_node_pair_t.{yaml_node_pair_t}
 use Rattle.yaml_parse_model.specs.Nodes as model
-use Rattle.yaml_parse_document.specs.Documents.{seq_tag, map_tag}
+use Rattle.yaml_parse_model.specs.Documents.{seq_tag, map_tag}
 use Rattle.yaml_emit_layout.specs.Content.{Node, sequence_node, mapping_node, Nodes, node, Pairs, pair, is_flow_sequence, is_flow_mapping}
 use Rattle.yaml_emit_graph.specs.declared.walk.Turn.{Turn}
 use Rattle.yaml_emit_graph.specs.declared.walk.Turn.TheVariants.{First, Leave}

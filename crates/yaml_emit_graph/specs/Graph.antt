@@ -6,8 +6,8 @@ use Rattle.yaml_scan_model.specs.declared.yaml_scalar_style_t.{yaml_scalar_style
 use Rattle.yaml_scan_model.specs.declared.yaml_scalar_style_t.TheVariants.{YAML_ANY_SCALAR_STYLE}
 use Rattle.yaml_parse_model.specs.declared.yaml_node_pair_t.{yaml_node_pair_t}
 use Rattle.yaml_parse_model.specs.Nodes as model
-use Rattle.yaml_parse_document.specs.Documents.{node_at, str_tag, seq_tag, map_tag}
-use Rattle.yaml_parse_document.specs.Documents as documents
+use Rattle.yaml_parse_model.specs.Documents.{node_at, str_tag, seq_tag, map_tag}
+use Rattle.yaml_parse_model.specs.Documents as documents
 use Rattle.yaml_emit_layout.specs.Content.{Scalar, Start, Node, alias_node, scalar_node, sequence_node, mapping_node, Nodes, no_nodes, node, Pairs, no_pairs, pair, Opening, Document, Event, document_start, document_end, alias, scalar, sequence_start, sequence_end, mapping_start, mapping_end, is_flow_sequence, is_flow_mapping, node_events}
 use Rattle.yaml_emit_graph.specs.declared.walk.Turn.{Turn}
 use Rattle.yaml_emit_graph.specs.declared.walk.Turn.TheVariants.{First, Again, Leave}

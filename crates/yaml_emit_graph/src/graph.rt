@@ -2,7 +2,7 @@
 
 ghost use Rattle.std.specs.Prelude.{◌≡◌, ◌≢◌, ◌≤◌, ◌∷◌, OnOk, IfOk, Some, None, IsUtf8, length, option_map};
 ghost use Rattle.yaml_parse_model.specs.Constructors.{HasUtf8, IsUtf8Option};
-ghost use Rattle.yaml_parse_document.specs.Documents.{Document};
+ghost use Rattle.yaml_parse_model.specs.Documents.{Document};
 ghost use Rattle.yaml_parse_model.specs.Events.{borrowed_body};
 ghost use Rattle.yaml_parse_model.specs.Nodes.{tag_of};
 ghost use Rattle.yaml_emit_layout.specs.Content.{emitter_event, scalar};
@@ -12,8 +12,10 @@ ghost use Rattle.yaml_emit_graph.specs.Events.{remaining_events, IsEvents, IsNam
 use crate::numbers::{Walked, number_of, walk_nodes};
 use crate::walk::Turn;
 use std::alloc::{AllocError, Global};
-use yaml_parse_document::{yaml_document_get_node, yaml_document_t};
-use yaml_parse_model::{EventRef, YAML_STR_TAG, yaml_node_body_t, yaml_node_tag_t};
+use yaml_parse_model::{
+    EventRef, YAML_STR_TAG, yaml_document_get_node, yaml_document_t, yaml_node_body_t,
+    yaml_node_tag_t,
+};
 use yaml_scan_model::yaml_scalar_style_t;
 
 /// The events of a document, one after another.

@@ -5,8 +5,9 @@ ghost use Rattle.yaml_emit_graph.specs.Graph.{pair_ids};
 ghost use Rattle.yaml_emit_graph.specs.Walk.{NextHeld, half_of};
 
 use crate::walk::{Open, Walkable};
-use yaml_parse_document::{yaml_document_get_node, yaml_document_t};
-use yaml_parse_model::{yaml_node_body_t, yaml_node_pair_t};
+use yaml_parse_model::{
+    yaml_document_get_node, yaml_document_t, yaml_node_body_t, yaml_node_pair_t,
+};
 
 /// The number at an index, if there are as many.
 pub fn next_held(held: &[i32], index: usize) -> Option<i32>

@@ -3,7 +3,7 @@ use Rattle.std.proofs.Common.{subst, ◌≡◌, ◌<◌, ℕ, zero, suc, ℤ, po
 use Rattle.yaml_emit_laws_dumps.proofs.Words.{cases_Bool, YAML_ANY_SCALAR_STYLE, yaml_sequence_style_t, yaml_mapping_style_t, yaml_node_pair_t, seq_tag, map_tag, alias_node, scalar_node, sequence_node, mapping_node, Nodes, no_nodes, node, Pairs, no_pairs, pair, Event, document_start, document_end, sequence_end, mapping_end, is_flow_sequence, is_flow_mapping, node_events, items_events, pairs_events, documents_events, kept_if, anchor_problem, tag_problem, event_problem, last_problem, own_problems, Met, is_met, meet, body_of_id, tag_at, tag_of_id, number_at, numbers, name_of, anchor_of, graph_scalar, graph_start, graph_root, graph_content, none_met, dumped, items_by, pairs_by, node_by, content_by, itself, root_onward, root_joined, AreTagged, RightDocument, AreRight, DumpsAreRight, DumpedStreamsAreRight}
 use Rattle.yaml_emit_graph.specs.emit_layout.scan_model.declared.yaml_scalar_style_t.{yaml_scalar_style_t}
 use Rattle.yaml_emit_graph.specs.emit_layout.parse_model.Nodes as model
-use Rattle.yaml_parse_laws_trees.specs.parse_document.Documents as documents
+use Rattle.yaml_parse_laws_trees.specs.parse_model.Documents as documents
 use Rattle.yaml_emit_graph.specs.emit_layout.declared.Problem.TheVariants as problem
 use Rattle.yaml_emit_graph.specs.emit_layout.Content.{Node}
 use Rattle.yaml_emit_laws_dumps.proofs.Passing.{or_none}

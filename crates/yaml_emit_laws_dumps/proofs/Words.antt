@@ -29,7 +29,7 @@ unfoldable pub use Rattle.yaml_emit_laws_dumps.specs.Dumps.{before_at}
 pub use Rattle.yaml_emit_laws_dumps.specs.DumpsLaws.{AgainsAreTurns, DocumentsAreLoaded, DumpsLoadBack, DumpsNumberBack, MetAgainAreNumbered, NamesAreApart, NamesAreFound, NumbersAreApart, NumbersAreFound, VisitsNumberBack}
 pub use Rattle.yaml_emit_laws_dumps.specs.StreamsLaws.{AreRight, AreRightTold, AreTagged, DumpedStreamsAreRight, DumpsAreRight, LoadsAreRight, MayTag, PassedAreFronts, PassedAreStreams, RightBody, RightDocument, RightFed, RightLoad, IsEmittable, RightStreamsHaveTexts, StepsKeepRight, TakenAreRight}
 unfoldable pub use Rattle.yaml_emit_laws_dumps.specs.StreamsLaws.{progress_behind}
-pub use Rattle.yaml_parse_laws_trees.specs.parse_document.Documents.{Document, change_place, map_tag, no_document, seq_tag, str_tag, with_node}
+pub use Rattle.yaml_parse_laws_trees.specs.parse_model.Documents.{Document, change_place, map_tag, no_document, seq_tag, str_tag, with_node}
 pub use Rattle.yaml_parse_loader.specs.Loading.{LoadStep, Loading, Open, aliased, behind, closed, filled, goes_on, load, loaded, nothing_loaded, refused, step, step_body}
 pub use Rattle.yaml_parse_loader.specs.Numbering.{Anchored, Content, Contents, DocumentContent, Head, Numbered, alias_number, and_node, document_events, document_of, is_bang, is_same, item, last_with, loaded_tag, mapping, no_items, sequence, ◌>>=◌}
 unfoldable pub use Rattle.yaml_parse_loader.specs.Numbering.{number, number_items, number_pairs}

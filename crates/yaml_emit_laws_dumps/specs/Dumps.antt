@@ -6,7 +6,7 @@ use Rattle.yaml_emit_graph.specs.emit_layout.parse_model.declared.yaml_mapping_s
 use Rattle.yaml_emit_graph.specs.emit_layout.scan_model.Tokens.{zero_mark}
 use Rattle.yaml_emit_graph.specs.emit_layout.parse_model.Nodes.{Node, NodeBody}
 use Rattle.yaml_emit_graph.specs.emit_layout.parse_model.Nodes as model
-use Rattle.yaml_parse_laws_trees.specs.parse_document.Documents.{Document}
+use Rattle.yaml_parse_laws_trees.specs.parse_model.Documents.{Document}
 use Rattle.yaml_parse_loader.specs.Numbering.{Head, Span, Content, Contents, DocumentContent, Anchored, and_node, number_items, is_bang}
 use Rattle.yaml_parse_loader.specs.Numbering as numbering
 use Rattle.yaml_parse_loader.specs.Order.{VisitsInPreorder, done, again, first, IsInPreorder}

@@ -1,7 +1,7 @@
 -- What a dump of a loaded document says, numbered as the loader numbers, is that document again.
 use Rattle.std.specs.Prelude.{◌≡◌, ◌<◌, ◌≤◌, ◌+◌, ℕ, suc, ℤ, pos, List, length, Some, Ok, IfOk}
 use Rattle.yaml_emit_graph.specs.emit_layout.parse_model.Nodes.{Node}
-use Rattle.yaml_parse_laws_trees.specs.parse_document.Documents.{Document}
+use Rattle.yaml_parse_laws_trees.specs.parse_model.Documents.{Document}
 use Rattle.yaml_emit_graph.specs.emit_layout.parse_model.Events.{Event}
 use Rattle.yaml_parse_loader.specs.Loading.{Loading, load}
 use Rattle.yaml_parse_loader.specs.Loading as loading

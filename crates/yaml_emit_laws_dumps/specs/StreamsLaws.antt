@@ -4,7 +4,7 @@ use Rattle.yaml_emit_graph.specs.emit_layout.scan_model.declared.yaml_encoding_t
 use Rattle.yaml_emit_graph.specs.emit_layout.scan_model.Faults.{Fault}
 use Rattle.yaml_emit_graph.specs.emit_layout.parse_model.Events as event
 use Rattle.yaml_emit_graph.specs.emit_layout.parse_model.Nodes as model
-use Rattle.yaml_parse_laws_trees.specs.parse_document.Documents as documents
+use Rattle.yaml_parse_laws_trees.specs.parse_model.Documents as documents
 use Rattle.yaml_parse_laws_trees.specs.parse_grammar.Resolve.{Told}
 use Rattle.yaml_parse_laws_trees.specs.parse_loader.Loading.{Loading, LoadStep, goes_on, loaded, refused, step}
 use Rattle.yaml_parse_laws_trees.specs.NextLoad.{NextLoad, next_document, next_fault, next_none, IsLoadOf}

@@ -2,7 +2,7 @@
 use Rattle.std.proofs.Common.{◌≡◌, ◌≢◌, ℕ, ◌+◌, ◌<◌, ◌≤◌, true, false, ◌||◌, ◌==◌, List, [], ◌∷◌, ◌++◌, length, refl, sym, ap, ◌∙◌, inl, inr, arith, encode_utf8, encode_utf8_all, Bool, not, nat_lt, Ok, subst, add-zero, ◌-◌, get_or}
 use Rattle.yaml_emit_laws_pretty.proofs.ScalarWords.{cases_lt, cases_eq, ne_eqb, or_parts, eqb-false, byte, break_of, break_width, is_blank, column_at, break_value, is_feed, starts_blank, Has, has_front, has_at, LineBreak, Lf, Cr, CrLf, is_break, Item, is_printable, encode_1, encode_2, encode_3, encode_4, high_blank, LineMark, own, separator, paragraph, mark_char, mark_text, mark_bytes, mark_means, NoWhite, nat_tests, past_break, is_text, is_blank_there, past_blanks, is_digit_byte, past_stop, is_chomping, chomp_at, digit_of, digit_place, chomping_place, indicators, past_comment, header_end, header_at, break_text, cond_true, cond_false, Chomping, get_or_past, Cursor, Rest, page_at, Left, bytes, margin_round, BlockAndLineRead, BlockAtPosition, left_rest, front_encodes}
 use lib.Utf8.{encode}
-use Rattle.yaml_scan_words.proofs.HeaderLemmas.{whole_header}
+use Rattle.yaml_scan_history.proofs.HeaderLemmas.{whole_header}
 use Rattle.yaml_emit_laws_text.specs.emit_layout.declared.page.Chomp.TheVariants as chomping
 use Rattle.yaml_emit_laws_pretty.proofs.BlockWaiting.{read_chomp}
 use Rattle.yaml_emit_laws_text.specs.emit_layout.declared.page.Page.{Page}

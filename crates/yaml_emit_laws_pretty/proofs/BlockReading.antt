@@ -1,7 +1,7 @@
 -- Lines of a block scalar that stand in a text are read.
 use Rattle.std.proofs.Common.{◌≡◌, ◌≢◌, ℕ, zero, suc, ◌+◌, ◌/◌, ◌%◌, ◌<◌, ◌≤◌, true, false, not, ◌&&◌, ◌||◌, ◌==◌, nat_lt, List, [], ◌∷◌, ◌++◌, length, replicate, slice_range, Result, Ok, refl, sym, ap, subst, ◌∙◌, inl, inr, arith, add-zero, encode_utf8, encode_utf8_all, length-append}
 use Rattle.yaml_emit_laws_pretty.proofs.ScalarWords.{cases_lt, and_parts, not-true, eqb-false, nat_tests, encodes-append, byte, break_of, break_width, column_at, break_value, feed_at, is_text, line_end, Wrong, within, past_break, InRun, run_start, run_more, run_done, text_parts, Has, has, has_front, has_rest, range_reads, BlockLine, Empty, Words, spaces, Line, spot_behind, line_spot, Lines, with_line, line_then, lines_from, LineBreak, Lf, Cr, CrLf, is_break, cond_true, encode_1, encode_2, encode_3, encode_4, low_break, two_break, three_break, four_break, later_break, LineMark, own, separator, paragraph, mark_text, mark_bytes, mark_means, BodyLine, bare, full, line_text, body_text, line_bytes, body_bytes, read_line, read_lines, are_inside, AreInside, StandsLeft}
-use Rattle.yaml_scan_words.proofs.BlockLemmas.{space_column, empty_spot, end_spot, text_spot, stop_short, no_stop}
+use Rattle.yaml_scan_history.proofs.BlockLemmas.{space_column, empty_spot, end_spot, text_spot, stop_short, no_stop}
 use Rattle.yaml_emit_laws_pretty.proofs.BlockHeader.{NoFeed, breaks, text_encodes, no_text_there}
 use Rattle.yaml_emit_laws_pretty.proofs.Writing.{spaces_low}
 use Rattle.yaml_emit_laws_text.proofs.RunsLemmas.{no_space}

@@ -7,9 +7,9 @@ use Rattle.yaml_emit_laws_text.specs.emit_layout.declared.Style.TheVariants as s
 use Rattle.yaml_emit_laws_text.specs.scan_model.declared.yaml_scalar_style_t.TheVariants as asked
 use Rattle.yaml_emit_laws_pretty.proofs.BlockLayouts.{line_is, start_is, new_line_is}
 use Rattle.yaml_emit_laws_pretty.proofs.BlockReading.{spaces_column, left_of, next_feed, length_more, AllText, chars_text, body_reads, body_column, body_encodes}
-use Rattle.yaml_scan_words.specs.Block.{larger, column_of, BlockText, block_with, block_at, style_at}
-use Rattle.yaml_scan_words.proofs.DepthLemmas.{depth_done, column_given, column_found}
-use Rattle.yaml_scan_words.proofs.ScalarLemmas.{block_found}
+use Rattle.yaml_scan_history.specs.Block.{larger, column_of, BlockText, block_with, block_at, style_at}
+use Rattle.yaml_scan_history.proofs.DepthLemmas.{depth_done, column_given, column_found}
+use Rattle.yaml_scan_history.proofs.ScalarLemmas.{block_found}
 use Rattle.yaml_emit_laws_text.specs.emit_layout.declared.page.Chomp.TheVariants as chomping
 use Rattle.yaml_emit_laws_pretty.proofs.BlockHeader.{text_encodes, text_blank, digit_text, digit_value, chomp_text, header_reads}
 use Rattle.yaml_emit_laws_pretty.proofs.BlockWaiting.{read_chomp, Waits}

@@ -2,8 +2,8 @@
 use Rattle.std.proofs.Common.{◌≡◌, ◌⊎◌, ℕ, ◌+◌, ◌<◌, ◌||◌, nat_lt, Bool, true, false, List, [], ◌∷◌, ◌++◌, length, Option, Some, None, refl, sym, ap, subst, ◌∙◌, inl, inr, arith, ℤ, pos, codes, if◌then◌else◌, int_eq, ◌&&◌, not}
 use Rattle.std.specs.Cmp.{signed_Decides}
 use Rattle.yaml_emit_laws_pretty.proofs.Words.{cases_Bool, lt-ltb, and_parts, true≢false, false≢true, yaml_encoding_t, byte, break_width, column_at, is_break, HasAt, are_gap, begins_lexeme, WordText, kind_at, lexeme_at, body_said, TokenBody, yaml_version_directive_t, TagDirective, Cursor, Settings, LineBreak, Lf, Cr, CrLf, letter, encode, char_bytes, Layout, Rest, ◌▹◌, letters, word, line, blanks, must_break, new_line, indent_to, keep, when, nothing_more, uri_text, Opening, Document, Node, alias_node, is_version, version_problem, directives_problem, version_word, version_text, directive_text, directives_text, is_directed, is_marked, dots, dashes, start_layout, Context, context_of, root_position, node_layout, end_layout, stop_layout, documents_layout, version_bodies, directives_bodies, end_bodies, VersionReads, IsReadableDirective, AreReadable, WrittenDirectivesAreReadable, ReadableDirectivesAreAscii, DirectivesAreRead, IsWritableOpening, AreWritable, Left, bytes, first, has_front, has_at, left_first, left_more, left_rest, left_letter, behind_feed, behind_return, IsGap, Comes, behind, WalkState, Done, printed_begins, marks_come, words_leave, walk_white, walk_outer, walk_starts, walk_stops, walk_says, return_width, both_width, feed_width, left_byte, none_all, at_line, behind_three, end_zero, end_begins, has_all, pretty, same_settings, begins_white, opening_bodies, node_bodies, node_kept, root_bodies, is_root_kept, documents_bodies, stream_bodies, NodeStage, NoFeed, indent, DocumentsAreRead}
-use Rattle.yaml_emit_laws_text.specs.scan_history.scan_words.Directives as directives
-use Rattle.yaml_emit_laws_text.specs.scan_history.scan_words.Directives.{Said, directive_at}
+use Rattle.yaml_emit_laws_text.specs.scan_history.Directives as directives
+use Rattle.yaml_emit_laws_text.specs.scan_history.Directives.{Said, directive_at}
 use Rattle.yaml_emit_laws_text.specs.scan_history.declared.kind.Kind.TheVariants as kinds
 use Rattle.yaml_emit_laws_text.specs.emit_layout.scan_model.Tokens as tokens
 use Rattle.yaml_emit_laws_pretty.proofs.Lining.{no_gap}

@@ -1,7 +1,7 @@
 -- Lines and breaks that a layout writes inside a scalar.
 use Rattle.std.proofs.Common.{◌≡◌, ℕ, zero, suc, ◌+◌, ◌-◌, Bool, true, false, not, ◌&&◌, ◌||◌, ◌==◌, nat_lt, List, [], ◌∷◌, ◌++◌, replicate, refl, sym, ap, subst, ◌∙◌, inl, inr, ◌⊎◌, arith, append-nil, encode_utf8, encode_utf8_all, true≢false, eqb-true, ne_eqb}
 use Rattle.yaml_emit_laws_pretty.proofs.ScalarWords.{nat_tests, and-false, Cursor, LineBreak, Lf, Cr, CrLf, is_break, Rest, blanks, new_line, line, indent_to, must_break, is_printable, value_break, in_front, break_text, LineEnd, line_separator, paragraph_separator, end_bytes, end_means, is_return, is_feed_end, encode_1, encode_3, cond_false, low_encodes, end_of, spaced_by, new_line_is, blanks_are, bool_cases, after_blanks, line_start}
-use Rattle.yaml_emit_laws_text.specs.scan_history.scan_words.Pieces.{gap}
+use Rattle.yaml_emit_laws_text.specs.scan_history.Pieces.{gap}
 
 -- ---- lines
 

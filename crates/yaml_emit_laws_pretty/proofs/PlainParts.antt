@@ -1,7 +1,7 @@
 -- How a plain scalar's parts are read: characters, single spaces and folds.
 use Rattle.std.proofs.Common.{◌≡◌, ◌≢◌, ℕ, zero, suc, ◌+◌, ◌<◌, ◌≤◌, Bool, true, false, ◌&&◌, ◌==◌, nat_lt, List, [], ◌∷◌, ◌++◌, length, replicate, refl, sym, ap, subst, ◌∙◌, inl, inr, arith, add-zero, encode_utf8, ◌||◌, Result, Ok, append-nil, length-append}
 use Rattle.yaml_emit_laws_pretty.proofs.ScalarWords.{cases_Bool, cases_lt, true≢false, le-ltb, ne_eqb, and_parts, nat_tests, and-false, byte, break_of, break_width, ends_break, column_at, is_blank, is_blank_or_end, starts, break_value, feed_at, Piece, Kept, Blank, Break, value_of, is_bracket, after_white, leads, Takes, spot_at, is_nothing, with_piece, words_from, PlainText, plain_with, plain_text, plain_at, leads-blank, white-blank, spot_blank, spot_break, lead_break, blank_inside, past_break, column_more, within, Has, has_front, has_rest, first, last_or, LineEnd, feed, return, return_feed, next_line, line_separator, paragraph_separator, end_bytes, end_means, QuotedPart, raw, doubled, named, numbered, fold, joint, spelling, LineTurn, turn_bytes, meaning, IsSpelling, encode_1, keeps, blanks_of, read_as, all_read_as, raw_kept, raw_blank, turns_read, spelling_value, calm_end, calm_break, calm_from, column_on, column_start, Wrong, are_gap, has_break, space_encodes}
-use Rattle.yaml_emit_laws_text.specs.scan_history.scan_words.Plain.{Words}
+use Rattle.yaml_emit_laws_text.specs.scan_history.Plain.{Words}
 use Rattle.yaml_emit_laws_pretty.proofs.Standing.{Read, read_blank, read_break, InLine, Stays, Through, CharAt, Plainly, char_at, through_byte, through_both, no_tab, space_blank, sealed, stand_behind, kept_sealed, positive, Stops, gap_words}
 use Rattle.yaml_emit_laws_text.proofs.Turns.{length_spaces}
 use Rattle.yaml_emit_laws_text.proofs.Values.{encoded_front}

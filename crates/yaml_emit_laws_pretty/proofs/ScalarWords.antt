@@ -56,12 +56,12 @@ pub use Rattle.yaml_emit_laws_text.specs.emit_layout.declared.Style.{Style}
 pub use Rattle.yaml_emit_laws_text.specs.emit_layout.declared.page.Chomp.{Chomp, Chomp as Chomping}
 pub use Rattle.yaml_emit_laws_text.specs.scan_history.Words.{WordText, blocked, plainly, valued}
 unfoldable pub use Rattle.yaml_emit_laws_text.specs.scan_history.Words.{indicator_of, kind_at, lexeme_at}
-pub use Rattle.yaml_emit_laws_text.specs.scan_history.scan_words.Pieces.{Blank, Break, Kept, Piece, value as value_of}
-pub use Rattle.yaml_emit_laws_text.specs.scan_history.scan_words.Plain.{Ends, PlainSpot, PlainText, Takes, after_white, follows, is_nothing, leads, plain_at, plain_text, plain_with, spot_at, with_piece, words_from}
-unfoldable pub use Rattle.yaml_emit_laws_text.specs.scan_history.scan_words.Plain.{ends_at, is_bracket, is_indicator_byte, starts_plain, words}
-pub use Rattle.yaml_emit_laws_text.specs.scan_history.scan_words.Indicators.{is_thrice}
-unfoldable pub use Rattle.yaml_emit_laws_text.specs.scan_history.scan_words.Indicators.{is_document_end, is_document_start}
-pub use Rattle.yaml_emit_laws_text.specs.scan_history.scan_words.Written.{HasAt, are_alphas, are_gap, begins_lexeme, has_break}
+pub use Rattle.yaml_emit_laws_text.specs.scan_history.Pieces.{Blank, Break, Kept, Piece, value as value_of}
+pub use Rattle.yaml_emit_laws_text.specs.scan_history.Plain.{Ends, PlainSpot, PlainText, Takes, after_white, follows, is_nothing, leads, plain_at, plain_text, plain_with, spot_at, with_piece, words_from}
+unfoldable pub use Rattle.yaml_emit_laws_text.specs.scan_history.Plain.{ends_at, is_bracket, is_indicator_byte, starts_plain, words}
+pub use Rattle.yaml_emit_laws_text.specs.scan_history.Indicators.{is_thrice}
+unfoldable pub use Rattle.yaml_emit_laws_text.specs.scan_history.Indicators.{is_document_end, is_document_start}
+pub use Rattle.yaml_emit_laws_text.specs.scan_history.Written.{HasAt, are_alphas, are_gap, begins_lexeme, has_break}
 unfoldable pub use Rattle.yaml_emit_laws_text.specs.scan_laws_texts.PlainLaws.{ends_plain}
 pub use Rattle.yaml_emit_laws_text.specs.scan_model.Breaks.{feed_at, is_feed}
 unfoldable pub use Rattle.yaml_emit_laws_text.specs.scan_model.Breaks.{break_value, is_document_indicator}
@@ -72,12 +72,12 @@ unfoldable pub use Rattle.yaml_emit_laws_text.specs.scan_model.Marks.{break_of, 
 pub use Rattle.yaml_emit_laws_text.specs.scan_model.Runs.{is_blank_there, is_space_there, is_text, line_end, past_blanks}
 pub use Rattle.yaml_emit_laws_text.specs.scan_model.Wrong.{Wrong}
 pub use Rattle.yaml_emit_laws_text.specs.scan_model.declared.yaml_scalar_style_t.{yaml_scalar_style_t}
-pub use Rattle.yaml_scan_words.proofs.StackingLemmas.{space_or_some, stack_empty}
-pub use Rattle.yaml_scan_words.specs.Header.{chomping_place, digit_place, header_at, header_end}
-unfoldable pub use Rattle.yaml_scan_words.specs.Header.{chomp_of as chomp_at, digit_of, indicators, is_chomping, past_comment}
-pub use Rattle.yaml_scan_words.specs.Lines.{Line, Lines, line_spot, line_then, spot_behind, with_line}
-unfoldable pub use Rattle.yaml_scan_words.specs.Lines.{lines_from, spaces}
-unfoldable pub use Rattle.yaml_scan_words.specs.Value.{stacked_with}
-pub use Rattle.yaml_scan_words.specs.Value.{BlockLine, Empty, Words, at_end, behind_text, block_value, space_or, starts_blank, texts_of, value_with}
+pub use Rattle.yaml_scan_history.proofs.StackingLemmas.{space_or_some, stack_empty}
+pub use Rattle.yaml_scan_history.specs.Header.{chomping_place, digit_place, header_at, header_end}
+unfoldable pub use Rattle.yaml_scan_history.specs.Header.{chomp_of as chomp_at, digit_of, indicators, is_chomping, past_comment}
+pub use Rattle.yaml_scan_history.specs.Lines.{Line, Lines, line_spot, line_then, spot_behind, with_line}
+unfoldable pub use Rattle.yaml_scan_history.specs.Lines.{lines_from, spaces}
+unfoldable pub use Rattle.yaml_scan_history.specs.Value.{stacked_with}
+pub use Rattle.yaml_scan_history.specs.Value.{BlockLine, Empty, Words, at_end, behind_text, block_value, space_or, starts_blank, texts_of, value_with}
 pub use Rattle.yaml_emit_laws_text.proofs.Sinks.{cond_true, cond_false}
-unfoldable pub use Rattle.yaml_scan_words.specs.Value.{between}
+unfoldable pub use Rattle.yaml_scan_history.specs.Value.{between}

@@ -1,7 +1,7 @@
 -- What an emitter writes between single quotes is read back, in lines or in one.
 use Rattle.std.proofs.Common.{◌≡◌, ℕ, ◌+◌, ◌<◌, true, List, [], ◌∷◌, ◌++◌, length, Ok, refl, sym, ap, subst, ◌∙◌, encode_utf8_all, IsUtf8, false, true≢false, chars}
 use Rattle.yaml_emit_laws_pretty.proofs.ScalarWords.{encodes-chars, scalars-chars, byte, HasAt, Cursor, Page, letter, char, in_front, allowed, doubled, spelling, meaning, quoted, between_single, is_one_line, SingleSpellingReads, front_append, front_one, front_more, moved_by, not_start}
-use Rattle.yaml_emit_laws_text.specs.scan_history.scan_words.Quoted.{single_quoted_at}
+use Rattle.yaml_emit_laws_text.specs.scan_history.Quoted.{single_quoted_at}
 use Rattle.yaml_emit_laws_pretty.specs.SingleLaws.{SingleIsBack}
 use Rattle.yaml_emit_laws_pretty.proofs.Letters.{Behind}
 use Rattle.yaml_emit_laws_pretty.proofs.Writing.{left}

@@ -9,8 +9,8 @@ use Rattle.yaml_scan_laws_texts.specs.PlainLaws.{ends_plain}
 use Rattle.yaml_emit_laws_pretty.proofs.Lining.{line_on_to, no_gap}
 use Rattle.yaml_emit_laws_text.specs.scan_history.scan_model.declared.problem.Context.{Context}
 use Rattle.yaml_emit_laws_text.specs.scan_history.scan_model.declared.problem.Context.TheVariants as contexts
-use Rattle.yaml_emit_laws_text.specs.scan_history.scan_words.Anchors.{anchor_at, may_end_name}
-use Rattle.yaml_emit_laws_text.specs.scan_history.scan_words.Tags.{TagText, tag_at, may_end_tag}
+use Rattle.yaml_emit_laws_text.specs.scan_history.Anchors.{anchor_at, may_end_name}
+use Rattle.yaml_emit_laws_text.specs.scan_history.Tags.{TagText, tag_at, may_end_tag}
 use Rattle.yaml_emit_laws_text.proofs.Words.{sign}
 use Rattle.yaml_emit_laws_pretty.proofs.Stopping.{white_next}
 

@@ -1,7 +1,7 @@
 -- How the bytes of a plain scalar are read, one by one.
 use Rattle.std.proofs.Common.{◌≡◌, ◌≢◌, ℕ, zero, suc, ◌+◌, ◌/◌, ◌%◌, ◌<◌, ◌≤◌, Bool, true, false, ◌&&◌, ◌==◌, nat_lt, List, [], ◌∷◌, ◌++◌, length, Result, Ok, refl, sym, ap, subst, ◌∙◌, inl, inr, arith, append_assoc, encode_utf8, ◌||◌, ◌⊎◌, not}
 use Rattle.yaml_emit_laws_pretty.proofs.ScalarWords.{cases_Bool, cases_lt, true≢false, ne_eqb, not-true, and_parts, nat_tests, and-false, byte, break_width, ends_break, starts, column_at, is_blank, is_blank_or_end, break_of, Wrong, Piece, Kept, Blank, Break, is_bracket, after_white, leads, PlainSpot, Takes, spot_at, ends_at, is_nothing, with_piece, words_from, follows, words, Ends, leads-text, white-text, spot_kept, spot_break, spot_blank, spot_ends, within, Has, encode_1, encode_2, encode_3, encode_4, keeps, low_end, low_break, first_end, second_end, third_end, later_break, two_break, three_break, four_break, high_blank, ends_2, ends_1, in_line, feed_at, are_gap, has_break, space_parts, ends_plain}
-use Rattle.yaml_emit_laws_text.specs.scan_history.scan_words.Plain.{Words}
+use Rattle.yaml_emit_laws_text.specs.scan_history.Plain.{Words}
 use Rattle.yaml_emit_laws_text.proofs.QuotedReading.{column_more}
 use Rattle.yaml_emit_laws_text.proofs.GapsRead.{cr_width, byte_cases}
 

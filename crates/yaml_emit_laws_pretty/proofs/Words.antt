@@ -86,11 +86,11 @@ pub use Rattle.yaml_emit_laws_text.specs.scan_history.scan_model.Classes.{is_bom
 pub use Rattle.yaml_emit_laws_text.specs.scan_history.scan_model.Marks.{break_width, byte, ends_break, is_blank, is_blank_or_end, mark_at, starts}
 unfoldable pub use Rattle.yaml_emit_laws_text.specs.scan_history.scan_model.Marks.{break_of, column_at, ends_of, line_at}
 pub use Rattle.yaml_emit_laws_text.specs.scan_history.scan_model.Wrong.{Wrong}
-pub use Rattle.yaml_emit_laws_text.specs.scan_history.scan_words.Plain.{ends_at}
-unfoldable pub use Rattle.yaml_emit_laws_text.specs.scan_history.scan_words.Plain.{is_bracket}
-pub use Rattle.yaml_emit_laws_text.specs.scan_history.scan_words.Quoted.{double_quoted_at}
-pub use Rattle.yaml_emit_laws_text.specs.scan_history.scan_words.Laws.{AnchorReads}
-pub use Rattle.yaml_emit_laws_text.specs.scan_history.scan_words.Written.{HasAt, are_gap, begins_lexeme, has_break}
+pub use Rattle.yaml_emit_laws_text.specs.scan_history.Plain.{ends_at}
+unfoldable pub use Rattle.yaml_emit_laws_text.specs.scan_history.Plain.{is_bracket}
+pub use Rattle.yaml_emit_laws_text.specs.scan_history.Quoted.{double_quoted_at}
+pub use Rattle.yaml_emit_laws_text.specs.scan_history.WordsLaws.{AnchorReads}
+pub use Rattle.yaml_emit_laws_text.specs.scan_history.Written.{HasAt, are_gap, begins_lexeme, has_break}
 pub use Rattle.yaml_scan_laws_texts.proofs.MarksForward.{line_at-grows}
 pub use Rattle.yaml_scan_laws_texts.proofs.Signing.{marks_come, printed_begins, signs_come}
 pub use Rattle.yaml_scan_laws_texts.proofs.Slotting.{feed_line, letter_columns, level_opens, near_before}

@@ -3,8 +3,8 @@ use Rattle.std.specs.Prelude.{ℕ, ◌+◌, ◌<◌, ◌≡◌, ◌≢◌, Bool,
 use Rattle.yaml_emit_laws_text.specs.scan_model.Ascii as ascii
 use Rattle.yaml_emit_laws_text.specs.scan_model.Points as points
 use Rattle.yaml_emit_laws_text.specs.scan_model.Marks.{byte, break_width}
-use Rattle.yaml_emit_laws_text.specs.scan_history.scan_words.Written.{HasAt}
-use Rattle.yaml_scan_words.specs.Value.{BlockLine, Empty, Words}
+use Rattle.yaml_emit_laws_text.specs.scan_history.Written.{HasAt}
+use Rattle.yaml_scan_history.specs.Value.{BlockLine, Empty, Words}
 use Rattle.yaml_emit_laws_text.specs.emit_layout.declared.LineBreak.{LineBreak}
 use Rattle.yaml_emit_laws_text.specs.emit_layout.Text.{is_break}
 use Rattle.yaml_emit_laws_text.specs.emit_layout.Spelling.{break_text}

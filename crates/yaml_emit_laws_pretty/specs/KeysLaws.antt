@@ -1,7 +1,7 @@
 -- Simple keys stay in one line, and near.
 use Rattle.std.specs.Prelude.{◌≡◌, ℕ, ◌+◌, ◌≤◌, Bool, true, List, ◌++◌, length, encode_utf8_all}
 use Rattle.yaml_emit_laws_text.specs.scan_model.Marks.{mark_at}
-use Rattle.yaml_emit_laws_text.specs.scan_history.scan_words.Written.{HasAt}
+use Rattle.yaml_emit_laws_text.specs.scan_history.Written.{HasAt}
 use Rattle.yaml_emit_laws_text.specs.scan_history.History.{key_bytes, is_fresh}
 use Rattle.yaml_emit_laws_text.specs.emit_layout.declared.Cursor.{Cursor}
 use Rattle.yaml_emit_laws_text.specs.emit_layout.declared.Settings.{Settings}

@@ -2,8 +2,8 @@
 use Rattle.std.specs.Prelude.{ℕ, ◌+◌, ◌<◌, ◌≤◌, ◌≡◌, Bool, true, false, if◌then◌else◌, List, ◌++◌, length, Some, Ok, IsUtf8, encode_utf8_all}
 use Rattle.std.specs.Str.{chars}
 use Rattle.yaml_emit_laws_text.specs.scan_model.Ascii as ascii
-use Rattle.yaml_emit_laws_text.specs.scan_history.scan_words.Written.{HasAt, are_gap, has_break, begins_lexeme}
-use Rattle.yaml_emit_laws_text.specs.scan_history.scan_words.Plain.{PlainText, plain_at}
+use Rattle.yaml_emit_laws_text.specs.scan_history.Written.{HasAt, are_gap, has_break, begins_lexeme}
+use Rattle.yaml_emit_laws_text.specs.scan_history.Plain.{PlainText, plain_at}
 use Rattle.yaml_emit_laws_text.specs.scan_history.declared.kind.Kind.TheVariants as kinds
 use Rattle.yaml_emit_laws_text.specs.scan_history.Words.{kind_at}
 use Rattle.yaml_emit_laws_text.specs.scan_laws_texts.PlainLaws.{ends_plain}

@@ -3,8 +3,8 @@ use Rattle.std.specs.Prelude.{ℕ, ◌+◌, ◌<◌, ◌≡◌, true, false, Lis
 use Rattle.std.specs.Str.{chars}
 use Rattle.yaml_emit_laws_text.specs.scan_model.Ascii as ascii
 use Rattle.yaml_emit_laws_text.specs.scan_model.Marks.{byte}
-use Rattle.yaml_emit_laws_text.specs.scan_history.scan_words.Written.{HasAt}
-use Rattle.yaml_emit_laws_text.specs.scan_history.scan_words.Quoted.{single_quoted_at}
+use Rattle.yaml_emit_laws_text.specs.scan_history.Written.{HasAt}
+use Rattle.yaml_emit_laws_text.specs.scan_history.Quoted.{single_quoted_at}
 use Rattle.yaml_emit_laws_text.specs.emit_layout.declared.Cursor.{Cursor}
 use Rattle.yaml_emit_laws_text.specs.emit_layout.declared.Page.{Page}
 use Rattle.yaml_emit_laws_text.specs.emit_layout.Layout.{Layout, Rest}

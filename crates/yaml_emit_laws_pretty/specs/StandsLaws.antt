@@ -2,8 +2,8 @@
 use Rattle.std.specs.Prelude.{ℕ, ◌+◌, ◌<◌, ◌≤◌, ◌≡◌, Bool, true, false, List, length, Some, None, Ok, IsUtf8}
 use Rattle.std.specs.Str.{chars}
 use Rattle.yaml_emit_laws_text.specs.scan_model.Ascii as ascii
-use Rattle.yaml_emit_laws_text.specs.scan_history.scan_words.Written.{has_break, begins_lexeme}
-use Rattle.yaml_emit_laws_text.specs.scan_history.scan_words.Quoted.{single_quoted_at}
+use Rattle.yaml_emit_laws_text.specs.scan_history.Written.{has_break, begins_lexeme}
+use Rattle.yaml_emit_laws_text.specs.scan_history.Quoted.{single_quoted_at}
 use Rattle.yaml_emit_laws_text.specs.scan_history.declared.kind.Kind.TheVariants as kinds
 use Rattle.yaml_emit_laws_text.specs.scan_history.Words.{lexeme_at, kind_at}
 use Rattle.yaml_emit_laws_text.specs.scan_model.declared.yaml_scalar_style_t.TheVariants.{YAML_PLAIN_SCALAR_STYLE, YAML_SINGLE_QUOTED_SCALAR_STYLE}

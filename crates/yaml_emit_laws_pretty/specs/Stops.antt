@@ -3,8 +3,8 @@ use Rattle.std.specs.Prelude.{ℕ, ◌+◌, ◌≡◌, Bool, true, false, not, �
 use Rattle.yaml_emit_laws_text.specs.scan_model.Ascii as ascii
 use lib.Utf8.{scalar}
 use Rattle.yaml_emit_laws_text.specs.scan_model.Marks.{break_of}
-use Rattle.yaml_emit_laws_text.specs.scan_history.scan_words.Written.{HasAt, are_gap}
-use Rattle.yaml_emit_laws_text.specs.scan_history.scan_words.Plain.{is_bracket}
+use Rattle.yaml_emit_laws_text.specs.scan_history.Written.{HasAt, are_gap}
+use Rattle.yaml_emit_laws_text.specs.scan_history.Plain.{is_bracket}
 use Rattle.yaml_emit_laws_text.specs.scan_laws_texts.PlainLaws.{ends_plain}
 use Rattle.yaml_emit_laws_text.specs.emit_layout.declared.Cursor.{Cursor}
 use Rattle.yaml_emit_laws_text.specs.emit_layout.declared.LineBreak.{LineBreak}

@@ -1,8 +1,8 @@
 -- What is written for tags and directives is ASCII.
 use Rattle.std.proofs.Common.{◌≡◌, inl, inr, ℕ, ◌/◌, ◌%◌, ◌<◌, Bool, true, false, nat_lt, List, [], ◌∷◌, ◌++◌, refl, ap, subst, arith, IsUtf8}
 use Rattle.yaml_emit_laws_text.proofs.Shared.{nat_tests, is_alpha_byte, is_digit_byte, is_punctuation, is_wide_punctuation, are_alphas, UriPiece, escape, capital, is_kept, IsUri, and_from, and_parts, TagDirective, Split, shorthand, verbatim, spelled, uri_text, IsShaped, IsReadable, are_ascii, IsMarked, IsReadableDirective}
-use Rattle.yaml_scan_laws_texts.specs.scan_history.scan_words.Written as written
-use Rattle.yaml_scan_laws_texts.specs.scan_history.scan_words.Written.{raw}
+use Rattle.yaml_scan_laws_texts.specs.scan_history.Written as written
+use Rattle.yaml_scan_laws_texts.specs.scan_history.Written.{raw}
 use Rattle.yaml_emit_laws_text.proofs.Pieces.{pieces_of, text_is, text_uri}
 
 append_ascii : (xs ys : List ℕ) → are_ascii xs ≡ true → are_ascii ys ≡ true

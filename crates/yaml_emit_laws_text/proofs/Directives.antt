@@ -2,7 +2,7 @@
 use Rattle.std.proofs.Common.{◌≡◌, ℕ, ◌+◌, ◌<◌, ◌||◌, nat_lt, Bool, true, false, List, [], ◌∷◌, ◌++◌, length, Option, Some, None, Result, Ok, refl, sym, ap, subst, ◌∙◌, inl, inr, arith, append_assoc, ℤ, pos, codes, if◌then◌else◌, int_eq}
 use Rattle.std.specs.Cmp.{signed_Decides}
 use Rattle.yaml_emit_laws_text.proofs.Shared.{cases_Bool, and_parts, byte, break_of, break_width, column_at, is_break, Wrong, Said, DirectiveText, directive_at, begins_lexeme, GapReads, Kind, WordText, kind_at, lexeme_at, body_said, directed, yaml_version_directive_t, TagDirective, Cursor, Settings, LineBreak, encode, char_bytes, Layout, Rest, ◌▹◌, blank, letters, word, line, uri_text, Opening, is_version, version_problem, directives_problem, version_word, version_text, directive_text, directives_text, version_kinds, directives_kinds, version_bodies, directives_bodies, VersionReads, are_ascii, IsMarked, IsReadableDirective, AreReadable, WrittenDirectivesAreReadable, ReadableDirectivesAreAscii, DirectivesAreRead, IsWritableOpening, Has, Left, bytes, first}
-use Rattle.yaml_scan_laws_texts.specs.scan_history.scan_words.Directives as directives
+use Rattle.yaml_scan_laws_texts.specs.scan_history.Directives as directives
 use Rattle.yaml_emit_laws_text.specs.scan_history.declared.kind.Kind.TheVariants as kinds
 use Rattle.yaml_emit_laws_text.specs.scan_model.Tokens as tokens
 use Rattle.yaml_emit_laws_text.proofs.Forms.{at_line, LinesWalkTo, NoFeed, DirectivesWalk}

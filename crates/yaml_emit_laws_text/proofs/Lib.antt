@@ -45,7 +45,7 @@ pub mod SizesLaid
 pub use Rattle.yaml_scan_laws_texts.proofs.MarksLemmas
 pub use Rattle.yaml_scan_laws_texts.proofs.GapsRead
 pub use Rattle.yaml_scan_laws_texts.proofs.HasLemmas
-pub use Rattle.yaml_scan_words.proofs.scan_model.RunsLemmas
-pub use Rattle.yaml_scan_words.proofs.PlainLemmas
+pub use Rattle.yaml_scan_history.proofs.scan_model.RunsLemmas
+pub use Rattle.yaml_scan_history.proofs.PlainLemmas
 pub use Rattle.yaml_emit_layout.proofs.Spelled as QuotedSpelled
 pub use Rattle.yaml_emit_layout.proofs.Sinks

@@ -2,8 +2,8 @@
 use Rattle.std.proofs.Common.{◌≡◌, inl, inr, ℕ, suc, ◌+◌, ◌-◌, ◌/◌, ◌%◌, ◌<◌, ◌≤◌, Bool, true, false, ◌&&◌, ◌||◌, ◌==◌, nat_lt, nat_le, if◌then◌else◌, List, [], ◌∷◌, ◌++◌, length, Ok, refl, sym, ap, subst, ◌∙◌, arith, encode_utf8, encode_utf8_all, IsUtf8}
 use Rattle.yaml_emit_laws_text.proofs.Shared.{cases_Bool, cases_lt, and_parts, nat_tests, scalar_cases, is_alpha_byte, is_digit_byte, is_punctuation, is_wide_punctuation, due_behind, UriPiece, escape, capital, piece_text, piece_byte, uri_bytes, is_kept, IsUri, has_no_mark, hex_2, suffix_keeps, keeps_byte, uri_byte, uri_text}
 use lib.Utf8.{scalar, scalars}
-use Rattle.yaml_scan_laws_texts.specs.scan_history.scan_words.Written as written
-use Rattle.yaml_scan_laws_texts.specs.scan_history.scan_words.Written.{raw}
+use Rattle.yaml_scan_laws_texts.specs.scan_history.Written as written
+use Rattle.yaml_scan_laws_texts.specs.scan_history.Written.{raw}
 use Rattle.yaml_emit_layout.specs.Hex.{hex_digit}
 use Rattle.yaml_emit_laws_text.proofs.Chars.{encode_4, encode_3, encode_1, encode_2}
 

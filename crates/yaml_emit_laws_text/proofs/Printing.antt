@@ -2,7 +2,7 @@
 use Rattle.std.proofs.Common.{◌≡◌, ℕ, ◌+◌, ◌*◌, ◌/◌, ◌%◌, ◌<◌, ◌≤◌, List, ◌++◌, sym, ap, subst, ◌∙◌, inl, inr, ◌⊎◌, arith, encode_utf8}
 use Rattle.yaml_emit_laws_text.proofs.Shared.{cases_lt, nat_tests, scalar_cases, is_printable_by, is_special, is_printable}
 use Rattle.std.specs.Char.{IsScalar}
-use Rattle.yaml_scan_words.specs.scan_model.Classes as bytes
+use Rattle.yaml_scan_history.specs.scan_model.Classes as bytes
 use Rattle.yaml_emit_laws_text.specs.Printing.{PrintableIsOfCharacters}
 use Rattle.yaml_emit_laws_text.proofs.Chars.{encode_4, encode_3, encode_1, encode_2}
 

@@ -37,9 +37,9 @@ pub use Rattle.yaml_emit_laws_text.specs.scan_history.declared.kind.Kind.{Kind}
 pub use Rattle.yaml_emit_laws_text.specs.scan_history.scan_model.Marks.{break_width, byte, ends_break, is_blank, is_blank_or_end, starts}
 unfoldable pub use Rattle.yaml_emit_laws_text.specs.scan_history.scan_model.Marks.{break_of, column_at, ends_of}
 pub use Rattle.yaml_emit_laws_text.specs.scan_history.scan_model.Wrong.{Wrong}
-pub use Rattle.yaml_emit_laws_text.specs.scan_history.scan_words.Between.{Gap}
-unfoldable pub use Rattle.yaml_emit_laws_text.specs.scan_history.scan_words.Indicators.{is_document_end, is_document_start}
-pub use Rattle.yaml_emit_laws_text.specs.scan_history.scan_words.Laws.{AnchorReads, GapReads}
+pub use Rattle.yaml_emit_laws_text.specs.scan_history.Between.{Gap}
+unfoldable pub use Rattle.yaml_emit_laws_text.specs.scan_history.Indicators.{is_document_end, is_document_start}
+pub use Rattle.yaml_emit_laws_text.specs.scan_history.WordsLaws.{AnchorReads, GapReads}
 pub use Rattle.yaml_emit_laws_text.specs.scan_laws_texts.KeysTexts.{ReachEnd, Word, first_token, token_of, word_kinds}
 unfoldable pub use Rattle.yaml_emit_laws_text.specs.scan_laws_texts.KeysTexts.{WordsStand, lexemes}
 pub use Rattle.yaml_emit_laws_text.specs.scan_model.Tokens.{Token, TokenBody}
@@ -75,14 +75,14 @@ pub use Rattle.yaml_scan_laws_texts.proofs.Directives.{tag_directive_is_read, ve
 pub use Rattle.yaml_scan_laws_texts.proofs.HasLemmas.{has_front, has_rest}
 pub use Rattle.yaml_scan_laws_texts.proofs.MarksLemmas.{column_end, within}
 pub use Rattle.yaml_scan_laws_texts.specs.WordsLaws.{LoneMarkReads, VersionReads}
-pub use Rattle.yaml_scan_laws_texts.specs.scan_history.scan_words.Directives.{DirectiveText, Said, directive_at}
-pub use Rattle.yaml_scan_laws_texts.specs.scan_history.scan_words.Tags.{TagText, may_end_tag, tag_at}
-unfoldable pub use Rattle.yaml_scan_laws_texts.specs.scan_history.scan_words.Uris.{due_behind, is_punctuation, is_wide_punctuation}
-pub use Rattle.yaml_scan_laws_texts.specs.scan_history.scan_words.Written.{HasAt, IsUri, UriPiece, are_alphas, are_gap, begins_lexeme, escape, has_no_mark, is_kept, piece_byte, piece_text, uri_bytes}
-unfoldable pub use Rattle.yaml_scan_laws_texts.specs.scan_history.scan_words.Written.{capital}
-pub use Rattle.yaml_scan_words.specs.Pieces.{Blank, Break, Kept, Line, Piece, folded, lines, rest_of, value}
-pub use Rattle.yaml_scan_words.specs.Quoted.{Bad, Closing, Pieces, QuotedSpot, double_quoted_at, followed, is_scalar, quoted_at, single_quoted_at, valued, with_front}
-unfoldable pub use Rattle.yaml_scan_words.specs.Quoted.{escape_at, hex_digit, hex_len, hex_value, pieces, quote_at, simple_escape, standing_at}
-unfoldable pub use Rattle.yaml_scan_words.specs.scan_model.Breaks.{break_value, is_document_indicator}
-pub use Rattle.yaml_scan_words.specs.scan_model.Classes.{is_break}
-unfoldable pub use Rattle.yaml_scan_words.specs.scan_model.Classes.{is_alpha_byte, is_digit_byte, is_printable_by, is_special}
+pub use Rattle.yaml_scan_laws_texts.specs.scan_history.Directives.{DirectiveText, Said, directive_at}
+pub use Rattle.yaml_scan_laws_texts.specs.scan_history.Tags.{TagText, may_end_tag, tag_at}
+unfoldable pub use Rattle.yaml_scan_laws_texts.specs.scan_history.Uris.{due_behind, is_punctuation, is_wide_punctuation}
+pub use Rattle.yaml_scan_laws_texts.specs.scan_history.Written.{HasAt, IsUri, UriPiece, are_alphas, are_gap, begins_lexeme, escape, has_no_mark, is_kept, piece_byte, piece_text, uri_bytes}
+unfoldable pub use Rattle.yaml_scan_laws_texts.specs.scan_history.Written.{capital}
+pub use Rattle.yaml_scan_history.specs.Pieces.{Blank, Break, Kept, Line, Piece, folded, lines, rest_of, value}
+pub use Rattle.yaml_scan_history.specs.Quoted.{Bad, Closing, Pieces, QuotedSpot, double_quoted_at, followed, is_scalar, quoted_at, single_quoted_at, valued, with_front}
+unfoldable pub use Rattle.yaml_scan_history.specs.Quoted.{escape_at, hex_digit, hex_len, hex_value, pieces, quote_at, simple_escape, standing_at}
+unfoldable pub use Rattle.yaml_scan_history.specs.scan_model.Breaks.{break_value, is_document_indicator}
+pub use Rattle.yaml_scan_history.specs.scan_model.Classes.{is_break}
+unfoldable pub use Rattle.yaml_scan_history.specs.scan_model.Classes.{is_alpha_byte, is_digit_byte, is_printable_by, is_special}

@@ -1,8 +1,8 @@
 -- Directives that are written are read.
 use Rattle.std.proofs.Common.{◌≡◌, ℕ, ◌+◌, true, List, ◌∷◌, ◌++◌, length, Ok, ap, subst, ◌∙◌, arith, codes}
 use Rattle.yaml_emit_laws_text.proofs.Shared.{break_width, is_break, directive_at, HasAt, tag_directive_is_read, TagDirective, IsReadableDirective, directive_bytes}
-use Rattle.yaml_scan_laws_texts.specs.scan_history.scan_words.Directives as directives
-use Rattle.yaml_scan_laws_texts.specs.scan_history.scan_words.Written as written
+use Rattle.yaml_scan_laws_texts.specs.scan_history.Directives as directives
+use Rattle.yaml_scan_laws_texts.specs.scan_history.Written as written
 use Rattle.yaml_emit_laws_text.proofs.Pieces.{pieces_of, text_is, bytes_are, many_are, text_uri}
 
 -- A readable directive's line reads back as its handle and prefix.

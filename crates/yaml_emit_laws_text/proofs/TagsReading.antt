@@ -1,7 +1,7 @@
 -- Spelled tags are read.
 use Rattle.std.proofs.Common.{◌≡◌, inl, inr, ℕ, suc, ◌+◌, ◌<◌, Bool, true, false, List, [], ◌∷◌, ◌++◌, length, Ok, refl, sym, ap, subst, ◌∙◌, arith, append_assoc, length-append, IsUtf8}
 use Rattle.yaml_emit_laws_text.proofs.Shared.{TagText, tag_at, may_end_tag, HasAt, are_alphas, uri_bytes, Split, shorthand, verbatim, spelled, uri_text, IsShaped, IsReadable}
-use Rattle.yaml_scan_laws_texts.specs.scan_history.scan_words.Written as written
+use Rattle.yaml_scan_laws_texts.specs.scan_history.Written as written
 use Rattle.yaml_scan_laws_texts.proofs.TagsRead.{bare_is_read, verbatim_is_read, named_is_read}
 use Rattle.yaml_emit_laws_text.specs.TagsLaws.{tag_text}
 use Rattle.yaml_emit_laws_text.proofs.Pieces.{pieces_of, text_is, bytes_are, many_are, unmarked, text_uri}

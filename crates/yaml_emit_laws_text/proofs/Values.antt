@@ -1,8 +1,8 @@
 -- What a spelling is read as, piece by piece, has the value that it means.
 use Rattle.std.proofs.Common.{◌≡◌, ℕ, zero, suc, true, false, List, [], ◌∷◌, ◌++◌, map, refl, sym, ap, subst, ◌∙◌, inl, inr, arith, append_assoc, encode_utf8, replicate, if◌then◌else◌}
 use Rattle.yaml_emit_laws_text.proofs.Shared.{cases_Bool, cases_lt, encode_ascii, nat_tests, is_blank, Piece, Kept, Blank, Break, Line, lines, rest_of, folded, value, end_means, LineTurn, turn_means, QuotedPart, raw, doubled, named, numbered, joint, meant, meaning, IsSpelling, may_follow, may_be_next, is_raw_blank, is_fold, is_turn}
-use Rattle.yaml_scan_words.specs.Pieces.{is_empty, gap, Rest}
-use Rattle.yaml_scan_words.proofs.FoldingLemmas.{value-kept, rest_of-blank}
+use Rattle.yaml_scan_history.specs.Pieces.{is_empty, gap, Rest}
+use Rattle.yaml_scan_history.proofs.FoldingLemmas.{value-kept, rest_of-blank}
 use Rattle.yaml_emit_laws_text.specs.Spelling.{fold}
 use Rattle.yaml_emit_laws_text.proofs.Chars.{encode_1, encode_2, encode_3, encode_4}
 use Rattle.yaml_emit_layout.proofs.Sinks.{cond_true, cond_false}

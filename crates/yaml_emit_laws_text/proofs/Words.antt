@@ -3,7 +3,7 @@ use Rattle.std.proofs.Common.{◌≡◌, ℕ, suc, ◌+◌, ◌-◌, ◌<◌, �
 use Rattle.yaml_emit_laws_text.proofs.Shared.{cases_Bool, and_parts, nat_tests, encode_ascii, or-true, byte, break_of, Wrong, are_alphas, GapReads, AnchorReads, double_quoted_at, Kind, depth_after, is_end, WordText, indicator_of, lexeme_at, YAML_DOUBLE_QUOTED_SCALAR_STYLE, TokenBody, Cursor, Item, letter, encode, char_bytes, Layout, Rest, ◌▹◌, char, letters, word, opener, quoted_text, in_front, are_ascii, between_quotes, QuotedIsReadBack, Has, Left, WordStage, bytes, Walks, first, parts, Parts}
 use lib.Utf8.{encode as encode_char}
 use Rattle.yaml_emit_laws_text.specs.scan_history.scan_model.declared.problem.Context.TheVariants as contexts
-use Rattle.yaml_emit_laws_text.specs.scan_history.scan_words.Anchors.{anchor_at, may_end_name}
+use Rattle.yaml_emit_laws_text.specs.scan_history.Anchors.{anchor_at, may_end_name}
 use Rattle.yaml_emit_laws_text.specs.scan_history.declared.kind.Kind.TheVariants as kinds
 use Rattle.yaml_emit_laws_text.specs.scan_history.Words.{valued}
 use Rattle.yaml_emit_laws_text.specs.scan_model.Tokens as tokens

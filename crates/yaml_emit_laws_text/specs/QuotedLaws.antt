@@ -1,9 +1,9 @@
 -- What is written between quotes is read back.
 use Rattle.std.specs.Prelude.{ℕ, ◌+◌, ◌<◌, ◌≡◌, true, false, List, length, Ok, IsUtf8}
 use Rattle.std.specs.Str.{chars}
-use Rattle.yaml_scan_words.specs.scan_model.Ascii as ascii
-use Rattle.yaml_scan_words.specs.scan_model.Marks.{byte}
-use Rattle.yaml_scan_words.specs.Quoted.{double_quoted_at, single_quoted_at}
+use Rattle.yaml_scan_history.specs.scan_model.Ascii as ascii
+use Rattle.yaml_scan_history.specs.scan_model.Marks.{byte}
+use Rattle.yaml_scan_history.specs.Quoted.{double_quoted_at, single_quoted_at}
 use Rattle.yaml_emit_layout.specs.declared.Cursor.{Cursor}
 use Rattle.yaml_emit_layout.specs.declared.Encoding.TheVariants.{Utf8}
 use Rattle.yaml_emit_layout.specs.Text.{encode}

@@ -1,8 +1,8 @@
 -- Layouts whose characters are read back.
 use Rattle.std.specs.Prelude.{ℕ, ◌+◌, ◌≡◌, Bool, true, false, not, ◌&&◌, if◌then◌else◌, List, [], ◌∷◌, length, Result, Ok, encode_utf8_all}
-use Rattle.yaml_scan_words.specs.scan_model.Ascii as ascii
-use Rattle.yaml_scan_words.specs.scan_model.Marks.{byte}
-use Rattle.yaml_scan_words.specs.scan_model.Wrong.{Wrong}
+use Rattle.yaml_scan_history.specs.scan_model.Ascii as ascii
+use Rattle.yaml_scan_history.specs.scan_model.Marks.{byte}
+use Rattle.yaml_scan_history.specs.scan_model.Wrong.{Wrong}
 use Rattle.yaml_emit_layout.specs.declared.Cursor.{Cursor}
 use Rattle.yaml_emit_layout.specs.Text.{is_break}
 use Rattle.yaml_emit_layout.specs.Layout.{Layout, Rest, ◌▹◌, char}

@@ -1,11 +1,11 @@
 -- How a value is spelled between quotes: characters as they are, escapes, and lines that are joined.
 use Rattle.std.specs.Prelude.{◌≡◌, ◌<◌, ℕ, ◌*◌, ◌+◌, Bool, true, false, not, ◌&&◌, ◌||◌, ◌==◌, nat_lt, List, [], ◌∷◌, ◌++◌, length, replicate, Option, Some, option_and_then, encode_utf8}
-use Rattle.yaml_scan_words.specs.scan_model.Ascii as ascii
-use Rattle.yaml_scan_words.specs.scan_model.Points as points
+use Rattle.yaml_scan_history.specs.scan_model.Ascii as ascii
+use Rattle.yaml_scan_history.specs.scan_model.Points as points
 use lib.Utf8.{scalar}
-use Rattle.yaml_scan_words.specs.scan_model.Marks.{is_blank}
-use Rattle.yaml_scan_words.specs.Pieces.{gap}
-use Rattle.yaml_scan_words.specs.Quoted.{hex_digit, hex_len, simple_escape}
+use Rattle.yaml_scan_history.specs.scan_model.Marks.{is_blank}
+use Rattle.yaml_scan_history.specs.Pieces.{gap}
+use Rattle.yaml_scan_history.specs.Quoted.{hex_digit, hex_len, simple_escape}
 
 -- ---- ends of lines
 

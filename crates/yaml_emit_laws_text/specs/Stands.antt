@@ -1,6 +1,6 @@
 -- Bytes that stand at a place of a text.
 use Rattle.std.specs.Prelude.{ℕ, ◌+◌, ◌<◌, ◌≡◌, List, length, get_or}
-use Rattle.yaml_scan_words.specs.scan_model.Marks.{byte}
+use Rattle.yaml_scan_history.specs.scan_model.Marks.{byte}
 
 -- the text has these bytes from the place on
 abbrev pub HasAt : List ℕ → ℕ → List ℕ → Type 0

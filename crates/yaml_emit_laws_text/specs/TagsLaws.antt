@@ -1,11 +1,11 @@
 -- What a scanner and a parser make of a tag that an emitter splits and spells, and of a directive that it writes.
 use Rattle.std.specs.Prelude.{◌≡◌, ◌⊎◌, ◌<◌, ◌+◌, ◌&&◌, nat_lt, ℕ, Bool, true, List, [], ◌∷◌, ◌++◌, length, codes, Option, Some, None, Ok}
 use Rattle.std.specs.Str.{IsUtf8}
-use Rattle.yaml_scan_words.specs.scan_model.Ascii as ascii
-use Rattle.yaml_scan_words.specs.scan_model.Classes.{is_break}
-use Rattle.yaml_scan_laws_texts.specs.scan_history.scan_words.Tags.{TagText, tag_at, may_end_tag}
-use Rattle.yaml_scan_laws_texts.specs.scan_history.scan_words.Directives.{directive_at}
-use Rattle.yaml_scan_laws_texts.specs.scan_history.scan_words.Written.{HasAt, are_alphas}
+use Rattle.yaml_scan_history.specs.scan_model.Ascii as ascii
+use Rattle.yaml_scan_history.specs.scan_model.Classes.{is_break}
+use Rattle.yaml_scan_laws_texts.specs.scan_history.Tags.{TagText, tag_at, may_end_tag}
+use Rattle.yaml_scan_laws_texts.specs.scan_history.Directives.{directive_at}
+use Rattle.yaml_scan_laws_texts.specs.scan_history.Written.{HasAt, are_alphas}
 use Rattle.yaml_scan_laws_texts.specs.WordsLaws.{tag_line}
 use Rattle.yaml_emit_layout.specs.parse_model.Events.{TagDirective}
 use Rattle.yaml_parse_grammar.specs.Resolve.{resolved}

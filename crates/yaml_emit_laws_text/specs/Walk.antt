@@ -3,7 +3,7 @@ use Rattle.std.specs.Prelude.{◌≡◌, ℕ, ◌+◌, ◌==◌, ◌||◌, Bool,
 use Rattle.yaml_emit_laws_text.specs.scan_model.Ascii as ascii
 use Rattle.yaml_emit_laws_text.specs.scan_model.Tokens.{TokenBody}
 use Rattle.yaml_emit_laws_text.specs.scan_history.scan_model.Marks.{byte, column_at}
-use Rattle.yaml_emit_laws_text.specs.scan_history.scan_words.Written.{are_gap}
+use Rattle.yaml_emit_laws_text.specs.scan_history.Written.{are_gap}
 use Rattle.yaml_emit_laws_text.specs.scan_history.declared.kind.Kind.{Kind}
 use Rattle.yaml_emit_laws_text.specs.scan_history.History.{reached, flow_depth}
 use Rattle.yaml_emit_laws_text.specs.scan_laws_texts.KeysTexts.{Word, lexemes, WordsStand, word_kinds}

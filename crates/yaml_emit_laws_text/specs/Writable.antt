@@ -1,7 +1,7 @@
 -- What may be written: names of alphas, tags of one byte at least, texts in UTF-8, and directives
 -- without problem.
 use Rattle.std.specs.Prelude.{◌≡◌, ℕ, ◌<◌, true, List, [], ◌∷◌, length, Option, Some, None, IsUtf8}
-use Rattle.yaml_emit_laws_text.specs.scan_history.scan_words.Written.{are_alphas}
+use Rattle.yaml_emit_laws_text.specs.scan_history.Written.{are_alphas}
 use Rattle.yaml_emit_laws_text.specs.emit_layout.Content.{Node, alias_node, scalar_node, sequence_node, mapping_node, Nodes, no_nodes, node, Pairs, no_pairs, pair, Opening, Document}
 use Rattle.yaml_emit_laws_text.specs.emit_layout.Grammar.{opening_problem}
 use Rattle.yaml_emit_laws_text.specs.TagsLaws.{HaveUtf8}

@@ -1,9 +1,9 @@
 -- Settings: those that an emitter was told, and those in force.
 use Rattle.std.specs.Prelude.{ℕ, ◌*◌, ◌&&◌, nat_le, if◌then◌else◌, ℤ, pos, negsuc}
-use Rattle.yaml_scan_types.specs.declared.yaml_encoding_t.{yaml_encoding_t}
-use Rattle.yaml_scan_types.specs.declared.yaml_encoding_t.TheVariants as coding
-use Rattle.yaml_scan_types.specs.declared.yaml_break_t.{yaml_break_t}
-use Rattle.yaml_scan_types.specs.declared.yaml_break_t.TheVariants as ending
+use Rattle.yaml_scan_types.specs.declared.name.yaml_encoding_t.{yaml_encoding_t}
+use Rattle.yaml_scan_types.specs.declared.name.yaml_encoding_t.TheVariants as coding
+use Rattle.yaml_scan_types.specs.declared.event_name.yaml_break_t.{yaml_break_t}
+use Rattle.yaml_scan_types.specs.declared.event_name.yaml_break_t.TheVariants as ending
 use Rattle.yaml_scan_types.specs.Widths.{default_width}
 use Rattle.yaml_scan_types.specs.Indents.{least_indent, most_indent, default_indent}
 use Rattle.yaml_emit_layout.specs.declared.settings.Encoding.{Encoding}

@@ -1,8 +1,8 @@
 -- Which styles a value allows, and which one is taken.
 use Rattle.std.specs.Prelude.{ℕ, Bool, true, false, not, ◌&&◌, ◌||◌, ◌==◌, nat_le, if◌then◌else◌, List, [], ◌∷◌}
 use Rattle.yaml_scan_types.specs.Ascii as ascii
-use Rattle.yaml_scan_types.specs.declared.yaml_scalar_style_t.{yaml_scalar_style_t}
-use Rattle.yaml_scan_types.specs.declared.yaml_scalar_style_t.TheVariants as asked
+use Rattle.yaml_scan_types.specs.declared.name.yaml_scalar_style_t.{yaml_scalar_style_t}
+use Rattle.yaml_scan_types.specs.declared.name.yaml_scalar_style_t.TheVariants as asked
 use Rattle.yaml_emit_layout.specs.declared.page.Allowed.{Allowed}
 use Rattle.yaml_emit_layout.specs.declared.page.Seen.{Seen}
 use Rattle.yaml_emit_layout.specs.declared.page.Style.{Style}

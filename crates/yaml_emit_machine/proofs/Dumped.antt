@@ -2,7 +2,7 @@
 use Rattle.std.proofs.Common.{◌≡◌, List, [], ◌∷◌, length, Bool, true, false, refl, ◌∙◌, arith, ◌<◌, sym, subst}
 use Rattle.yaml_emit_layout.specs.Content.{Event}
 use Rattle.std.proofs.lemmas.Bool.{false≢true}
-use Rattle.yaml_parse_document.specs.Documents.{Document}
+use Rattle.yaml_parse_model.specs.Documents.{Document}
 use Rattle.yaml_emit_graph.specs.declared.graph.Events.{Events}
 use Rattle.yaml_emit_graph.specs.Events.{IsEvents, remaining_events}
 use Rattle.yaml_emit_machine.specs.Emitter.{Emitter, Keeps, left_if}

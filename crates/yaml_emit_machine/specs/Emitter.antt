@@ -32,7 +32,7 @@ use Rattle.yaml_emit_layout.specs.Sink.{Output}
 use Rattle.yaml_emit_layout.specs.declared.Expected.{Expected}
 use Rattle.yaml_emit_layout.specs.declared.Problem.{Problem}
 use Rattle.yaml_parse_model.specs.Nodes as model
-use Rattle.yaml_parse_document.specs.Documents as documents
+use Rattle.yaml_parse_model.specs.Documents as documents
 use Rattle.yaml_emit_layout.specs.Content.{Event, stream_start, stream_end}
 use Rattle.yaml_emit_layout.specs.Grammar.{problem_bytes}
 use Rattle.yaml_emit_layout.specs.Streams.{IsStream}

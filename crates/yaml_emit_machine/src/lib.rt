@@ -18,8 +18,9 @@ pub use name::yaml_emitter_state_t;
 pub use yaml_emit_core::yaml_emitter_stand_t;
 pub use yaml_emit_layout::{Cursor, Encoding, Expected, Level, Phase, RequestedSettings};
 // What its calls name, so that the member needs no other crate: each further one is read again by every check of the member.
-pub use yaml_parse_document::{yaml_document_delete, yaml_document_t};
-pub use yaml_parse_model::{EventRef, yaml_event_body_t, yaml_event_t};
+pub use yaml_parse_model::{
+    EventRef, yaml_document_delete, yaml_document_t, yaml_event_body_t, yaml_event_t,
+};
 pub use yaml_scan_model::{
     yaml_break_t, yaml_encoding_t, yaml_fault_t, yaml_memory_fault, yaml_origin_t,
     yaml_tag_directive_t,

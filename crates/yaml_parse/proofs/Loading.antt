@@ -7,7 +7,7 @@ use Rattle.yaml_parse_model.specs.Events.{Event, EventBody}
 use Rattle.yaml_parse_model.specs.declared.yaml_mark_t.{yaml_mark_t}
 use Rattle.yaml_parse_model.specs.declared.yaml_fault_t.{yaml_fault_t}
 use Rattle.yaml_parse_grammar.specs.Resolve.{Told}
-use Rattle.yaml_parse_laws_trees.specs.parse_document.Documents.{Document, no_document}
+use Rattle.yaml_parse_laws_trees.specs.parse_model.Documents.{Document, no_document}
 use Rattle.yaml_parse_grammar.specs.Remaining.{FaultOf, IsFinished, ParserRemaining, next_unasked}
 use Rattle.yaml_parse.specs.Finds.{GivesEnd, GivesNext}
 use Rattle.yaml_parse_laws_trees.specs.parse_loader.Loading.{Feeds, Loading, LoadStep, goes_on, loaded, refused, step, step_body}

@@ -2,14 +2,15 @@
 
 ghost use Rattle.std.specs.Prelude.{◌≡◌, ◌≤◌, ◌⊎◌, true, Some, IfOk, IfErr};
 ghost use Rattle.yaml_scan_model.specs.Faults.{fault_of, IsMemoryFault, load_layers};
-ghost use Rattle.yaml_parse_document.specs.Sizes.{IsSized};
+ghost use Rattle.yaml_parse_model.specs.Sizes.{IsSized};
 ghost use Rattle.yaml_parse_laws_trees.specs.NextLoad.{AreLoadsByContent, FrontsLoadByContent, LoadIsNext, RefusalIsNext, loads_fault};
 
 use crate::found::yaml_found_t;
 use crate::parser::{yaml_parser_parse_into, yaml_parser_t};
-use yaml_parse_document::{no_document, yaml_document_t};
 use yaml_parse_loader::Loader;
-use yaml_parse_model::{yaml_event_body_t, yaml_event_t, yaml_token_source_t};
+use yaml_parse_model::{
+    no_document, yaml_document_t, yaml_event_body_t, yaml_event_t, yaml_token_source_t,
+};
 use yaml_scan_model::{yaml_fault_t, yaml_memory_fault, yaml_origin_t};
 
 // Both are let go. A call for each way out of a load: there each field that is freed by itself would be a step of its own.

@@ -10,7 +10,7 @@ ghost use Rattle.yaml_parse_model.specs.Prefix.{no_fault};
 ghost use Rattle.yaml_parse_grammar.specs.Machine.{initial, run};
 ghost use Rattle.yaml_parse_grammar.specs.Resolve.{no_directives};
 ghost use Rattle.yaml_parse_grammar.specs.Remaining.{IsFinished, reading_of, unasked_of};
-ghost use Rattle.yaml_parse_document.specs.Sizes.{IsSized};
+ghost use Rattle.yaml_parse_model.specs.Sizes.{IsSized};
 ghost use Rattle.yaml_parse_laws_trees.specs.NextLoad.{AreLoadsByContent, LoadIsNext, RefusalIsNext};
 ghost use Rattle.yaml_parse_laws_trees.specs.Falling.{AreFalling};
 ghost use Rattle.yaml_parse_states.specs.Turned.{Means};
@@ -19,9 +19,8 @@ ghost use Rattle.yaml_parse.specs.Finds.{Finds, IsHeldBy, IsUtf8Found, IsStackFo
 use crate::found::yaml_found_t;
 use std::alloc::Global;
 use std::marker::Model;
-use yaml_parse_document::{no_document, yaml_document_t};
 use yaml_parse_loader::Loader;
-use yaml_parse_model::{EventRef, ZERO_MARK, yaml_event_t};
+use yaml_parse_model::{EventRef, ZERO_MARK, no_document, yaml_document_t, yaml_event_t};
 use yaml_parse_states::{Parser, Refusal, Step};
 use yaml_scan_model::{
     yaml_error_type_t, yaml_fault_t, yaml_mark_t, yaml_memory_fault, yaml_origin_t,

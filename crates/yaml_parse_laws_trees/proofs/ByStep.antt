@@ -1,7 +1,7 @@
 -- What a load gives, by the loader's steps: how it is proved.
 use Rattle.std.proofs.Common.{◌≡◌, ◌⊎◌, ℕ, List, [], ◌∷◌, Option, Some, None}
 use Rattle.yaml_parse_laws_trees.proofs.Words.{Fault, IsMemoryFault, Document, Told, ParserRemaining, Loading, LoadStep, goes_on, loaded, nothing_loaded, step, left_behind, AreFalling, load_layers, IsFinished, GivesDocument, GivesNoDocument}
-use Rattle.yaml_parse_document.specs.Documents.{no_document}
+use Rattle.yaml_parse_model.specs.Documents.{no_document}
 use Rattle.yaml_parse_loader.specs.Loading.{refused}
 
 -- What events come to that a loader is fed, and the fault after them: the document that ends first, the events that are

@@ -50,6 +50,15 @@ mod Meant
 mod Calm
 mod Swapping
 pub mod Ordered
+mod WindowsWords
+pub mod Grounding
+pub mod Noting
+pub mod Parting
+mod WindowsClosing
+pub mod Following
+pub mod Beginning
+pub mod WindowsRefusing
+pub mod Staying
 -- what it stands on, for crates that name this one alone
 pub use Rattle.yaml_parse_grammar.proofs.Complete
 pub use Rattle.yaml_parse_grammar.proofs.CompleteStream
@@ -59,7 +68,7 @@ pub use Rattle.yaml_parse_grammar.proofs.Single
 pub use Rattle.yaml_parse_grammar.proofs.Utf8
 pub use Rattle.yaml_parse_grammar.proofs.EventsToGive
 -- the laws beneath, for crates that name this one alone
-pub use Rattle.yaml_parse_document.proofs.Sound as LoadingSound
+pub use Rattle.yaml_parse_model.proofs.Sound as LoadingSound
 pub use Rattle.yaml_parse_loader.proofs.Keeps
 pub use Rattle.yaml_parse_loader.proofs.Loads
 pub use Rattle.yaml_parse_loader.proofs.Visited

@@ -4,7 +4,7 @@ pub use Rattle.std.proofs.lemmas.List.{append-nil, append_assoc}
 pub use Rattle.std.specs.Cmp.Lexicographic.{nat_list_cmp_total, slice_cmp}
 pub use Rattle.std.specs.Ordering.{nat_cmp}
 pub use Rattle.std.specs.Str.{bytes_eq}
-pub use Rattle.yaml_parse_document.specs.Documents.{Document, change_place}
+pub use Rattle.yaml_parse_model.specs.Documents.{Document, change_place}
 pub use Rattle.yaml_parse_grammar.proofs.Complete.{Ends, Starts, block_colon_follows, colon_follows, ends, ends_apart, entries_follow, follows_ends, more_ends, node_starts, others_follow, pairs_follow}
 pub use Rattle.yaml_parse_grammar.proofs.Rules.{MayLeave, MayRefuse, leave_rule, none_opens, opens_first, refuse_rule, take_rule, was_take}
 pub use Rattle.yaml_parse_grammar.specs.TreeEvents.{Turn, asks, colon_events, colon_start, colon_turns, content_events, content_start, content_turns, directives_events, directives_turns, documents_events, documents_start, documents_turns, each_asks, ends_events, ends_start, ends_turns, entries_events, entries_start, entries_turns, first_events, first_turns, given_of, gives, gives_at_next, items_events, items_turns, lone_turns, lone_value, maybe_events, maybe_turns, more_events, more_start, more_turns, node_events, node_start, node_turns, others_events, others_start, others_turns, pair_closes, pair_closes_turns, pair_opens, pair_opens_turns, pairs_events, pairs_start, pairs_turns, properties_turns, tokens_in, tree_events, tree_turns, unasked}

@@ -3,7 +3,7 @@ use Rattle.std.specs.Prelude.{List, [], ◌∷◌, Option, Some, None}
 use Rattle.yaml_parse_laws_trees.specs.parse_grammar.parse_model.Faults.{Fault}
 use Rattle.yaml_parse_laws_trees.specs.parse_grammar.parse_model.Nodes.{Node}
 use Rattle.yaml_parse_laws_trees.specs.parse_grammar.Resolve.{Told}
-use Rattle.yaml_parse_document.specs.Documents.{Document}
+use Rattle.yaml_parse_model.specs.Documents.{Document}
 use Rattle.yaml_parse_loader.specs.Loading.{Loading, LoadStep, goes_on, loaded, refused, nothing_loaded, step}
 
 -- documents in order, and the fault that ends them

@@ -16,8 +16,10 @@ pub mod Laws
 pub mod Rows
 pub mod NextLoad
 pub mod Falling
+pub mod Depths
+pub mod WindowsLaws
 -- what it stands on, for crates that name this one alone
 pub use Rattle.yaml_parse_grammar.specs as parse_grammar
 -- what it stands on, for crates of laws that name this one alone
-pub use Rattle.yaml_parse_document.specs as parse_document
+pub use Rattle.yaml_parse_model.specs as parse_model
 pub use Rattle.yaml_parse_loader.specs as parse_loader

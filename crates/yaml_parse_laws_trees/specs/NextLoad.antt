@@ -5,7 +5,7 @@ use Rattle.yaml_parse_laws_trees.specs.parse_grammar.parse_model.Faults.{Fault, 
 use Rattle.yaml_parse_laws_trees.specs.parse_grammar.parse_model.Source.{HasMore}
 use Rattle.yaml_parse_laws_trees.specs.parse_grammar.parse_model.Events.{Event, EventBody}
 use Rattle.yaml_parse_laws_trees.specs.parse_grammar.parse_model.Events as event
-use Rattle.yaml_parse_document.specs.Documents.{Document, no_document}
+use Rattle.yaml_parse_model.specs.Documents.{Document, no_document}
 use Rattle.yaml_parse_laws_trees.specs.parse_grammar.Resolve.{Told}
 use Rattle.yaml_parse_laws_trees.specs.parse_grammar.Remaining.{ParserRemaining, IsFinished}
 use Rattle.yaml_parse_loader.specs.Numbering.{is_same, undefined_alias, DocumentContent, document_events, document_of}

@@ -8,9 +8,14 @@ mod faults_laws;
 mod given_laws;
 mod loading_laws;
 mod sound_laws;
+mod windows_laws;
 
 pub use counts_laws::laws_of_counts;
 pub use faults_laws::laws_of_faults;
 pub use given_laws::laws_of_events;
 pub use loading_laws::laws_of_loading;
 pub use sound_laws::laws_of_acceptance;
+pub use windows_laws::{
+    brackets_are_closed, directives_are_parsed, ended_fronts_stay, refused_fronts_stay,
+    refused_tokens_stay, windows_are_parsed,
+};

@@ -9,8 +9,8 @@ use Rattle.yaml_parse_model.specs.declared.yaml_node_pair_t.{yaml_node_pair_t}
 use Rattle.yaml_parse_model.specs.Events.{Event}
 use Rattle.yaml_parse_model.specs.Events as event
 use Rattle.yaml_parse_model.specs.Nodes.{Node}
-use Rattle.yaml_parse_document.specs.Documents.{Document, change_place}
-use Rattle.yaml_parse_document.proofs.Sound.{length_push}
+use Rattle.yaml_parse_model.specs.Documents.{Document, change_place}
+use Rattle.yaml_parse_model.proofs.Sound.{length_push}
 use Rattle.yaml_parse_loader.specs.Anchors.{Anchors}
 use Rattle.yaml_parse_loader.specs.Numbering.{Content, Contents, Pairs, alias, scalar, sequence, mapping, no_items, item, no_pairs, pair, spanning, events, item_events, pair_events, ◌>>=◌, Anchored, is_same, last_with, and_node, alias_number, scalar_node, sequence_node, mapping_node, number, number_items, number_pairs, DocumentContent, document_events, document_of}
 use Rattle.yaml_parse_loader.specs.Loading.{Open, open_sequence, open_mapping, Loading, attach, next, with_leaf, with_open, filled, place_of, closed, named, aliased, started, Loaded, document, turn, load, behind}

@@ -4,9 +4,9 @@ use Rattle.yaml_parse_model.specs.declared.yaml_mark_t.{yaml_mark_t}
 use Rattle.yaml_parse_model.specs.Events.{EventBody}
 use Rattle.yaml_parse_model.specs.Events as event
 use Rattle.yaml_parse_model.specs.Nodes.{Node, NodeBody}
-use Rattle.yaml_parse_document.specs.Sizes.{IsSizedBody, IsSized}
-use Rattle.yaml_parse_document.proofs.Sizing.{with_node_sized, entry_more, nothing_listed, sized_change}
-use Rattle.yaml_parse_document.proofs.Sound.{length_change}
+use Rattle.yaml_parse_model.specs.Sizes.{IsSizedBody, IsSized}
+use Rattle.yaml_parse_model.proofs.Sizing.{with_node_sized, entry_more, nothing_listed, sized_change}
+use Rattle.yaml_parse_model.proofs.Sound.{length_change}
 use Rattle.yaml_parse_loader.specs.Anchors.{Anchors}
 use Rattle.yaml_parse_loader.specs.Loading.{Open, Loading, nothing_loaded, attached, attach, with_leaf, with_open, filled_body, closed, LoadStep, goes_on, loaded, refused, aliased, step_body}
 use Rattle.yaml_parse_loader.specs.Sizes.{HasRoom, HaveRoom, HasRoomForNode, HasRoomFor, IsSizedOpen, AreSizedOpen, IsSizedLoading}

@@ -7,8 +7,8 @@ use Rattle.yaml_parse_model.specs.declared.yaml_mark_t.{yaml_mark_t}
 use Rattle.yaml_parse_model.specs.declared.yaml_node_t.{yaml_node_t}
 use Rattle.yaml_parse_model.specs.declared.yaml_text_fault_t.{yaml_text_fault_t}
 use Rattle.yaml_parse_model.specs.Nodes.{Node, node_of}
-use Rattle.yaml_parse_document.specs.Documents.{Document, change_place}
-pub use Rattle.yaml_parse_document.proofs.Sound.{set_changes}
+use Rattle.yaml_parse_model.specs.Documents.{Document, change_place}
+pub use Rattle.yaml_parse_model.proofs.Sound.{set_changes}
 use Rattle.yaml_parse_loader.specs.declared.making.Level.{Level}
 use Rattle.yaml_parse_loader.specs.declared.making.Fed.{Fed}
 use Rattle.yaml_parse_loader.specs.Anchors.{Anchors}

@@ -4,8 +4,8 @@ use Rattle.std.proofs.lemmas.Bool.{cond_both}
 use Rattle.std.specs.Prelude.{slice_get}
 use Rattle.yaml_parse_model.specs.Faults.{Fault}
 use Rattle.yaml_parse_model.specs.Nodes.{Node}
-use Rattle.yaml_parse_document.specs.Documents.{Document, IsId}
-use Rattle.yaml_parse_document.proofs.Sound.{length_push, wider_id}
+use Rattle.yaml_parse_model.specs.Documents.{Document, IsId}
+use Rattle.yaml_parse_model.proofs.Sound.{length_push, wider_id}
 use Rattle.yaml_parse_loader.specs.Numbering.{Content, Contents, Pairs, alias, scalar, sequence, mapping, no_items, item, no_pairs, pair, ◌>>=◌, Numbered, Anchored, is_same, last_with, and_node, alias_number, number, number_items, number_pairs, DocumentContent, document_of}
 use Rattle.yaml_parse_loader.specs.Order.{VisitsInPreorder, done, again, first, children, pair_numbers, IsInPreorder}
 

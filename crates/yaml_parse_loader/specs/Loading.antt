@@ -12,7 +12,7 @@ use Rattle.yaml_parse_model.specs.Events.{Event, EventBody, TagDirective}
 use Rattle.yaml_parse_model.specs.Events as event
 use Rattle.yaml_parse_model.specs.Nodes.{Node, NodeBody}
 use Rattle.yaml_parse_model.specs.Nodes as node
-use Rattle.yaml_parse_document.specs.Documents.{Document, with_node, change_place, no_document}
+use Rattle.yaml_parse_model.specs.Documents.{Document, with_node, change_place, no_document}
 use Rattle.yaml_parse_loader.specs.Anchors.{Anchors}
 use Rattle.yaml_parse_loader.specs.Numbering.{Head, scalar_node, sequence_node, mapping_node, undefined_alias}
 

@@ -18,7 +18,7 @@ use Rattle.yaml_parse_model.specs.Events.{Event, TagDirective}
 use Rattle.yaml_parse_model.specs.Events as event
 use Rattle.yaml_parse_model.specs.Nodes.{Node}
 use Rattle.yaml_parse_model.specs.Nodes as node
-use Rattle.yaml_parse_document.specs.Documents.{Document, str_tag, seq_tag, map_tag}
+use Rattle.yaml_parse_model.specs.Documents.{Document, str_tag, seq_tag, map_tag}
 
 -- ---- the content of a document, as a tree, and its events
 

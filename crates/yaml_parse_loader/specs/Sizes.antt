@@ -2,8 +2,8 @@
 use Rattle.std.specs.Prelude.{◌≤◌, ◌<◌, List, [], ◌∷◌, length, Some, None}
 use Rattle.yaml_parse_model.specs.Events.{EventBody}
 use Rattle.yaml_parse_model.specs.Events as event
-use Rattle.yaml_parse_document.specs.Documents.{most_entries}
-use Rattle.yaml_parse_document.specs.Sizes.{IsSized}
+use Rattle.yaml_parse_model.specs.Documents.{most_entries}
+use Rattle.yaml_parse_model.specs.Sizes.{IsSized}
 use Rattle.yaml_parse_loader.specs.Loading.{Open, open_sequence, open_mapping, Loading}
 
 -- ---- room

@@ -1,7 +1,7 @@
 -- What stays true of a document in the making.
 use Rattle.std.specs.Prelude.{ℕ, ℤ, List, [], ◌∷◌, length, Option, Some, None, IfSome}
 use Rattle.std.specs.FinMap as map
-use Rattle.yaml_parse_document.specs.Documents.{IsDocument, IsId, AreIds, ArePairs}
+use Rattle.yaml_parse_model.specs.Documents.{IsDocument, IsId, AreIds, ArePairs}
 use Rattle.yaml_parse_loader.specs.Anchors.{Anchors}
 use Rattle.yaml_parse_loader.specs.Loading.{Open, open_sequence, open_mapping, Loading}
 

@@ -1,6 +1,6 @@
 -- What a clause sees of a document in the making.
 use Rattle.std.specs.Prelude.{◌≡◌, ℕ, List, map, reverse, Result, Ok, Err}
-use Rattle.yaml_parse_document.specs.Parts.{parts_view}
+use Rattle.yaml_parse_model.specs.Parts.{parts_view}
 use Rattle.yaml_parse_loader.specs.declared.making.Level.{Level}
 use Rattle.yaml_parse_loader.specs.declared.making.Level.TheVariants as level
 use Rattle.yaml_parse_loader.specs.declared.making.Making.{Making}

@@ -5,17 +5,16 @@ ghost use Rattle.yaml_parse_model.specs.Events.{Event, borrowed_body};
 ghost use Rattle.yaml_parse_model.specs.Faults.{fault_of};
 ghost use Rattle.yaml_parse_loader.specs.Numbering.{DocumentContent, document_events, document_of, undefined_alias};
 ghost use Rattle.yaml_parse_model.specs.Constructors.{HasUtf8};
-ghost use Rattle.yaml_parse_document.specs.Sizes.{IsSized};
+ghost use Rattle.yaml_parse_model.specs.Sizes.{IsSized};
 ghost use Rattle.yaml_parse_loader.specs.Loading.{Loading, load, document, behind, nothing_loaded, step_body, Feeds};
 ghost use Rattle.yaml_parse_loader.specs.Order.{IsInPreorder};
 
 use crate::making::{Fed, Making};
 use std::alloc::Global;
 use std::marker::Model;
-use yaml_parse_document::yaml_document_t;
 use yaml_parse_model::{
-    EventRef, ZERO_MARK, yaml_error_type_t, yaml_fault_t, yaml_mark_t, yaml_memory_fault,
-    yaml_origin_t,
+    EventRef, ZERO_MARK, yaml_document_t, yaml_error_type_t, yaml_fault_t, yaml_mark_t,
+    yaml_memory_fault, yaml_origin_t,
 };
 
 /// The fault of an alias that no node before it anchors: kind 5, at the alias, without context.

@@ -6,8 +6,8 @@ ghost use Rattle.yaml_parse_model.specs.declared.yaml_mark_t.{yaml_mark_t};
 ghost use Rattle.yaml_parse_model.specs.Events.{borrowed_body, directive_of};
 ghost use Rattle.yaml_parse_model.specs.Nodes.{node_of, tag_of};
 ghost use Rattle.yaml_parse_model.specs.Nodes as node;
-ghost use Rattle.yaml_parse_document.specs.Documents.{IsDocument, map_tag, seq_tag, str_tag};
-ghost use Rattle.yaml_parse_document.specs.Sizes.{IsSized};
+ghost use Rattle.yaml_parse_model.specs.Documents.{IsDocument, map_tag, seq_tag, str_tag};
+ghost use Rattle.yaml_parse_model.specs.Sizes.{IsSized};
 ghost use Rattle.yaml_parse_loader.specs.Loading.{open_sequence, open_mapping, attach, attached, nothing_loaded, named, enter_leaf, enter_open, aliased, closed, place_of, filled, goes_on, started, step_body};
 ghost use Rattle.yaml_parse_loader.specs.Numbering.{loaded_tag};
 ghost use Rattle.yaml_parse_loader.specs.Sizes.{HasRoom, HaveRoom, HasRoomForNode, HasRoomFor};
@@ -17,11 +17,11 @@ ghost use Rattle.yaml_parse_loader.specs.Views.{level_of, levels_of, loading_of,
 use crate::anchors::AnchorTable;
 use std::alloc::Global;
 use std::mem;
-use yaml_parse_document::{DocumentParts, push_entry, yaml_document_t};
 use yaml_parse_model::{
-    EventRef, copy_directives, yaml_mapping_style_t, yaml_mark_t, yaml_node_body_t,
-    yaml_node_pair_t, yaml_node_t, yaml_node_tag_t, yaml_node_text_t, yaml_scalar_style_t,
-    yaml_sequence_style_t, yaml_tag_directive_t, yaml_text_fault_t, yaml_version_directive_t,
+    DocumentParts, EventRef, copy_directives, push_entry, yaml_document_t, yaml_mapping_style_t,
+    yaml_mark_t, yaml_node_body_t, yaml_node_pair_t, yaml_node_t, yaml_node_tag_t,
+    yaml_node_text_t, yaml_scalar_style_t, yaml_sequence_style_t, yaml_tag_directive_t,
+    yaml_text_fault_t, yaml_version_directive_t,
 };
 
 /// An open collection: the place of its node, and what it holds so far. A mapping may have a key without its value.

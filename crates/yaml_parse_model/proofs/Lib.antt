@@ -1,2 +1,4 @@
 mod Ends
 mod Refusals
+pub mod Sizing
+pub mod Sound

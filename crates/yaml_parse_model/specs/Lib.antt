@@ -5,6 +5,10 @@ pub mod NodeTexts
 pub mod Prefix
 pub mod Source
 pub mod TextView
+pub mod Documents
+pub mod Parts
+pub mod Sizes
+pub mod Views
 pub use Rattle.yaml_scan_model.specs.Ascii
 pub use Rattle.yaml_scan_model.specs.Tokens
 pub use Rattle.yaml_scan_model.specs.Faults

@@ -2,6 +2,7 @@
 #![tactic(auto)]
 
 mod constructor;
+mod document;
 mod event;
 mod event_ref;
 mod node;
@@ -17,6 +18,13 @@ pub use constructor::{
     yaml_mapping_start_event_initialize, yaml_scalar_event_initialize,
     yaml_sequence_end_event_initialize, yaml_sequence_start_event_initialize,
     yaml_stream_end_event_initialize, yaml_stream_start_event_initialize,
+};
+pub use document::{
+    DocumentParts, MAX_ENTRIES, document_is_sound, no_document, push_entry,
+    yaml_document_add_mapping, yaml_document_add_scalar, yaml_document_add_sequence,
+    yaml_document_append_mapping_pair, yaml_document_append_sequence_item, yaml_document_delete,
+    yaml_document_get_node, yaml_document_get_root_node, yaml_document_initialize,
+    yaml_document_set_end_implicit, yaml_document_t,
 };
 pub use event::{ZERO_MARK, yaml_event_body_t, yaml_event_delete, yaml_event_t};
 pub use event_ref::EventRef;

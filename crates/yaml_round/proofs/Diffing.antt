@@ -7,7 +7,7 @@ use Rattle.yaml_scan_model.specs.declared.yaml_break_t.TheVariants.{YAML_LN_BREA
 use Rattle.yaml_scan_model.specs.declared.yaml_fault_t.{yaml_fault_t}
 use Rattle.yaml_scan_model.specs.Faults.{fault_of, IsMemoryFault, load_layers}
 use Rattle.yaml_round_writing.specs.emit.emit_layout.declared.RequestedSettings.{RequestedSettings}
-use Rattle.yaml_round_writing.specs.round_laws_documents.round_content.parse_laws_trees.parse_document.Documents.{Document}
+use Rattle.yaml_round_writing.specs.round_laws_documents.round_content.parse_laws_trees.parse_model.Documents.{Document}
 use Rattle.yaml_round_writing.specs.round_laws_documents.round_content.Loads.{loads_of}
 use Rattle.yaml_round_writing.specs.round_laws_documents.round_content.Said as content
 use Rattle.yaml_round_writing.specs.round_laws_documents.round_content.Canon.{canonical_layout}

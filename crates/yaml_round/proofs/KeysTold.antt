@@ -5,7 +5,7 @@ use Rattle.std.proofs.lemmas.List.Elements.{All-nil, All-cons, All-head, All-tai
 use Rattle.yaml_scan_model.specs.declared.yaml_encoding_t.{yaml_encoding_t}
 use Rattle.yaml_scan_model.specs.declared.yaml_fault_t.{yaml_fault_t}
 use Rattle.yaml_scan_model.specs.Faults.{Fault, fault_of, IsMemoryFault, load_layers}
-use Rattle.yaml_round_writing.specs.round_laws_documents.round_content.parse_laws_trees.parse_document.Documents.{Document}
+use Rattle.yaml_round_writing.specs.round_laws_documents.round_content.parse_laws_trees.parse_model.Documents.{Document}
 use Rattle.yaml_round_writing.specs.round_laws_documents.round_content.parse_laws_trees.parse_grammar.Remaining.{ParserRemaining}
 use Rattle.yaml_round_writing.specs.round_laws_documents.round_content.Input.{ReadsInput}
 use Rattle.yaml_round_writing.specs.round_laws_documents.round_content.Loads.{Loads, no_more, loads_of}

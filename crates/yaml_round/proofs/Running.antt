@@ -7,11 +7,11 @@ use Rattle.yaml_scan_model.specs.declared.yaml_fault_t.{yaml_fault_t}
 use Rattle.yaml_scan_model.specs.declared.yaml_origin_t.TheVariants.{Reader}
 use Rattle.yaml_scan_model.specs.Faults.{Fault, fault_of, memory_fault, IsMemoryFault}
 use Rattle.yaml_round_device.specs.declared.yaml_settings_t.{yaml_settings_t}
-use Rattle.yaml_round_device.specs.declared.yaml_form_t.{yaml_form_t}
-use Rattle.yaml_round_device.specs.declared.yaml_command_t.{yaml_command_t}
-use Rattle.yaml_round_device.specs.declared.yaml_command_t.TheVariants.{Fmt, Docs, Events}
-use Rattle.yaml_round_device.specs.declared.yaml_run_fault_t.{yaml_run_fault_t}
-use Rattle.yaml_round_device.specs.declared.yaml_run_fault_t.TheVariants as fault
+use Rattle.yaml_round_device.specs.declared.form.yaml_form_t.{yaml_form_t}
+use Rattle.yaml_round_device.specs.declared.form.yaml_command_t.{yaml_command_t}
+use Rattle.yaml_round_device.specs.declared.form.yaml_command_t.TheVariants.{Fmt, Docs, Events}
+use Rattle.yaml_round_device.specs.declared.run_fault.yaml_run_fault_t.{yaml_run_fault_t}
+use Rattle.yaml_round_device.specs.declared.run_fault.yaml_run_fault_t.TheVariants as fault
 use Rattle.yaml_round_device.specs.Run.{GivesWholeInput, IsReadFault, TakesFew, RunTakes, Work, Runs, FailsBy}
 use Rattle.yaml_round.specs.Commands.{IsRunAnswer, run_layers, EndsUnfinished}
 

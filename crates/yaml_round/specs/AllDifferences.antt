@@ -3,7 +3,7 @@ use Rattle.std.specs.Prelude.{◌≡◌, ◌⊎◌, ◌↔◌, ℕ, List, [], Re
 use Rattle.yaml_scan_model.specs.declared.yaml_encoding_t.{yaml_encoding_t}
 use Rattle.yaml_scan_model.specs.declared.yaml_fault_t.{yaml_fault_t}
 use Rattle.yaml_scan_model.specs.Faults.{IsMemoryFault, fault_of, load_layers}
-use Rattle.yaml_round_writing.specs.round_laws_documents.round_content.parse_laws_trees.parse_document.Documents.{Document}
+use Rattle.yaml_round_writing.specs.round_laws_documents.round_content.parse_laws_trees.parse_model.Documents.{Document}
 use Rattle.yaml_round_writing.specs.Reload.{AreLoaded}
 use Rattle.yaml_round_writing.specs.declared.yaml_side_t.{yaml_side_t}
 use Rattle.yaml_round_writing.specs.declared.yaml_side_t.TheVariants.{First}

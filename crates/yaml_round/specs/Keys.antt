@@ -2,7 +2,7 @@
 use Rattle.std.specs.Prelude.{◌≡◌, ◌++◌, ℕ, List, [], ◌∷◌, Result, Ok, Err, All}
 use Rattle.yaml_scan_model.specs.declared.yaml_encoding_t.{yaml_encoding_t}
 use Rattle.yaml_scan_model.specs.Faults.{Fault}
-use Rattle.yaml_round_writing.specs.round_laws_documents.round_content.parse_laws_trees.parse_document.Documents.{Document}
+use Rattle.yaml_round_writing.specs.round_laws_documents.round_content.parse_laws_trees.parse_model.Documents.{Document}
 use Rattle.yaml_round_writing.specs.round_laws_documents.round_content.PlainLoading.{PlainLoading}
 use Rattle.yaml_round_keys.specs.declared.telling.yaml_same_key_t.{yaml_same_key_t}
 use Rattle.yaml_round_keys.specs.Telling.{AreSameKeys, HaveDistinctKeys}

@@ -3,7 +3,7 @@ use Rattle.std.proofs.Common.{◌≡◌, ℕ, length, List, [], ◌∷◌, ◌++
 use Rattle.std.specs.Prelude.{zero, suc, ℤ, pos, negsuc, false, replicate, if◌then◌else◌}
 use Rattle.yaml_parse_model.specs.Nodes.{Node, NodeBody}
 use Rattle.yaml_parse_model.specs.Nodes as node
-use Rattle.yaml_parse_document.specs.Documents.{Document}
+use Rattle.yaml_parse_model.specs.Documents.{Document}
 use Rattle.yaml_emit_graph.specs.declared.Turn.{Turn}
 use Rattle.yaml_emit_graph.specs.declared.Turn.TheVariants as graph_turn
 use Rattle.yaml_emit_graph.specs.Graph.{Met, is_met, meet, place_at, child_ids, is_collection, body_of_id, Visit, cut_off, met_again, met_first, Visits, no_visits, visit, visit_all, visit_node, and_then, first_with, walked, leaving, turns_of, turns_in, turns, numbered, none_numbered, numbers, number_at, none_met, turn_event, graph_opening}

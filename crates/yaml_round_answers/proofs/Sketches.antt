@@ -12,7 +12,7 @@ use Rattle.yaml_parse_loader.specs.Loading.{Open, open_sequence, open_mapping, L
 use Rattle.yaml_round_answers.specs.declared.record.yaml_c_step.{yaml_c_step}
 use Rattle.yaml_round_answers.specs.declared.record.yaml_c_spot.{yaml_c_spot}
 use Rattle.yaml_round_answers.specs.Composing.{kind_number, name_in, IsWithin, name_at, ShowEvents, Sketch, fresh_sketch, innermost, outer, spot, stood_for, drawn, drawn_on, all_drawn, top_of, number_or, spot_of, spots_on, spots_of, IsFresh, is_whole, AreSpots}
-use Rattle.yaml_parse_document.proofs.Sound.{length_change, length_push}
+use Rattle.yaml_parse_model.proofs.Sound.{length_change, length_push}
 
 abbrev numbers_open : List Open → List ℤ
 numbers_open [] = []

@@ -4,7 +4,7 @@ use Rattle.std.specs.Ordering.{int_eq}
 use Rattle.yaml_parse_model.specs.declared.yaml_sequence_style_t.TheVariants.{YAML_ANY_SEQUENCE_STYLE}
 use Rattle.yaml_parse_model.specs.Nodes.{Node, NodeBody}
 use Rattle.yaml_parse_model.specs.Nodes as node
-use Rattle.yaml_parse_document.specs.Documents.{str_tag, unplaced}
+use Rattle.yaml_parse_model.specs.Documents.{str_tag, unplaced}
 use Rattle.yaml_emit_graph.specs.Graph.{place_at, child_ids}
 use Rattle.yaml_round_answers.specs.declared.record.yaml_c_node.{yaml_c_node}
 use Rattle.yaml_round_answers.specs.declared.record.yaml_c_graph.{yaml_c_graph}

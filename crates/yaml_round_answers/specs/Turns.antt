@@ -2,7 +2,7 @@
 use Rattle.std.specs.Prelude.{◌≡◌, ◌++◌, ℕ, ℤ, pos, if◌then◌else◌, List, [], ◌∷◌, map}
 use Rattle.std.specs.Ordering.{int_eq}
 use Rattle.yaml_parse_model.specs.Nodes.{Node}
-use Rattle.yaml_parse_document.specs.Documents.{Document}
+use Rattle.yaml_parse_model.specs.Documents.{Document}
 use Rattle.yaml_emit_graph.specs.emit_layout.Content.{document_start, document_end}
 use Rattle.yaml_emit_graph.specs.declared.Turn.{Turn}
 use Rattle.yaml_emit_graph.specs.declared.Turn.TheVariants.{First, Again, Leave}

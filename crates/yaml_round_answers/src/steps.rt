@@ -11,7 +11,7 @@ use crate::names::{Names, meant, note};
 use crate::record::{yaml_c_spot, yaml_c_step};
 use std::alloc::{AllocError, Global};
 use std::collections::BTreeMap;
-use yaml_parse_document::MAX_ENTRIES;
+use yaml_parse_model::MAX_ENTRIES;
 
 /// A document in the making: how many nodes it has, the numbers of the open collections, the innermost last, and the names.
 #[derive(Drop)]

@@ -9,11 +9,11 @@ ghost use Rattle.yaml_round_beginning.specs.Styles as spec;
 
 use crate::beginning::has_none;
 use yaml_parse_model::EventRef;
-use yaml_scan_classes::has_break;
 use yaml_scan_model::{
     yaml_encoding_t, yaml_mapping_style_t, yaml_scalar_style_t, yaml_sequence_style_t,
     yaml_tag_directive_t, yaml_version_directive_t,
 };
+use yaml_scan_types::has_break;
 
 /// Where an event stands.
 #[derive(Clone, Copy)]

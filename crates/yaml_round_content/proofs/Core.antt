@@ -6,7 +6,7 @@ use Rattle.std.specs.FinMap.{FinMap}
 use Rattle.yaml_round_content.specs.parse_model.Events as event
 use Rattle.yaml_round_content.specs.parse_model.Nodes.{Node, NodeBody}
 use Rattle.yaml_round_content.specs.parse_model.Nodes as node
-use Rattle.yaml_round_content.specs.parse_laws_trees.parse_document.Documents.{Document}
+use Rattle.yaml_round_content.specs.parse_laws_trees.parse_model.Documents.{Document}
 use Rattle.yaml_parse_loader.specs.Loading.{refused}
 
 -- ---- the machine

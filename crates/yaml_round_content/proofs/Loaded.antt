@@ -2,7 +2,7 @@
 use Rattle.std.proofs.Common.{◌≡◌, ℕ, List, Option, Some, None, Ok, Err, ap, sym, subst, ◌∙◌}
 use Rattle.std.proofs.lemmas.Option.{same_Some}
 use Rattle.yaml_round_content.proofs.Words.{yaml_encoding_t, Token, Fault, Reading, BeginsWithSentence, nothing_loaded, tokens_of, Loads, load_all, loads_of, tree_documents, loaded_documents, read_of}
-use Rattle.yaml_round_content.specs.parse_laws_trees.parse_document.Documents.{Document}
+use Rattle.yaml_round_content.specs.parse_laws_trees.parse_model.Documents.{Document}
 use Rattle.yaml_round_content.specs.parse_laws_trees.Faults.{FaultOfLoading}
 use Rattle.yaml_round_content.proofs.Unique.{one_load_fault}
 use Rattle.yaml_round_content.proofs.Ending.{loads_end_in_fault}
@@ -19,13 +19,13 @@ loads_in r = load_all r.events r.ending nothing_loaded
 
 numbered_documents : (ts : List Token) (own : Option Fault) (b : BeginsWithSentence ts)
     → (loads_in (read_of ts own)).documents
-        ≡ (loaded_documents (tree_documents b.tree b.rest)).documents
+    ≡ (loaded_documents (tree_documents b.tree b.rest)).documents
 numbered_documents ts own b = ap (λ (l : Loads). l.documents) (loads_numbered loads_document ts own b)
 
 by_fault : (ts : List Token) (own : Option Fault) (ds : List Document) (o : Option Fault)
     → FaultOfLoading ts own o
     → ((b : BeginsWithSentence ts) → ds
-        ≡ (loaded_documents (tree_documents b.tree b.rest)).documents)
+    ≡ (loaded_documents (tree_documents b.tree b.rest)).documents)
     → TokensLoad ts own (unless_faulty ds o)
 by_fault ts own ds None h k = record { sentence = h.sentence; loadable = h.first; documents = k h.sentence }
 by_fault ts own ds (Some e) h k = h

@@ -2,7 +2,7 @@
 use Rattle.std.proofs.Common.{◌≡◌, ℕ, List, [], ◌∷◌, Option, Some, None, Result, Ok, Err, refl, ap, sym, ◌∙◌}
 use Rattle.yaml_round_content.proofs.Words.{told_by, load_of, Token, Fault, Event, Span, Stream, Reading, Told, DocumentContent, document_of, Loading, LoadStep, goes_on, loaded, nothing_loaded, step, tokens_of, Loads, no_more, in_front, load_on, load_all, tree_documents, loaded_documents, placed_events, tree_events, events_told, read_of, end_of, numbered_one, EventsArePlaced, LoadsAreNumbered, InputsAreNumbered, by_next, LoadsAreOneByOne}
 use Rattle.yaml_round_content.proofs.TreesEnding.{fault_ends}
-use Rattle.yaml_round_content.specs.parse_laws_trees.parse_document.Documents as documents
+use Rattle.yaml_round_content.specs.parse_laws_trees.parse_model.Documents as documents
 use Rattle.yaml_parse_loader.specs.Loading.{refused}
 use Rattle.yaml_round_content.specs.parse_laws_trees.NextLoad.{NextLoad, next_fault}
 use Rattle.yaml_round_content.proofs.ByStep as parse

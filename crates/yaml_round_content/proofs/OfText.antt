@@ -3,7 +3,7 @@ use Rattle.std.proofs.Common.{◌≡◌, ◌∙◌, ℕ, ◌<◌, List, [], Some
 use Rattle.std.specs.Result.{result_err}
 use Rattle.yaml_round_content.proofs.Words.{cases_lt, get_or_past, All-get_or, yaml_encoding_t, Fault, Offence, encoding_of, decoded_characters, in_utf8, Remaining, scanned_in, adapted, initial, run, reading, no_directives, tokens_of, Document, TokensRead, BeginsWithSentence, spells_decoded, decoded_spells, load_all, nothing_loaded}
 use Rattle.yaml_round_content.specs.parse_grammar.Remaining.{reading_of}
-use Rattle.yaml_round_content.specs.parse_laws_trees.parse_document.Documents as loaded
+use Rattle.yaml_round_content.specs.parse_laws_trees.parse_model.Documents as loaded
 use Rattle.yaml_round_content.specs.scan_history.scan_decode.Offences.{reader_fault}
 use Rattle.yaml_round_content.specs.scan_history.scan_decode.DecodedText.{decoding_fault}
 use Rattle.yaml_round_content.specs.scan_history.scan_decode.Spelling.{Spells, SpellsNothing}

@@ -3,7 +3,7 @@ use Rattle.std.proofs.Common.{◌≡◌, ℕ, zero, suc, ℤ, pos, Bool, true, f
 use Rattle.yaml_round_content.proofs.Words.{slice_get, if◌then◌else◌, length-map, yaml_node_pair_t, zero_mark, graph_content, Node, Nodes, Pairs, Document, node, pair, sequence, mapping, tree_of, trees_of, pair_trees_of, document_tree, CoreNode, Core, core_body, core_node, core_of, Met, is_met, meet, body_at, tag_at, body_of_id, tag_of_id, none_met, turns, none_numbered, numbers, number_at, document_trees, AgreeingSayTheSame}
 use Rattle.std.proofs.Math.Path.{fun_ext}
 use Rattle.yaml_round_content.specs.parse_model.Nodes as model
-use Rattle.yaml_round_content.specs.parse_laws_trees.parse_document.Documents as documents
+use Rattle.yaml_round_content.specs.parse_laws_trees.parse_model.Documents as documents
 use Rattle.yaml_round_content.specs.emit_layout.Content as emit
 use Rattle.yaml_round_content.specs.emit_laws_dumps.emit_graph.declared.Turn.{Turn}
 use Rattle.yaml_round_content.specs.emit_laws_dumps.emit_graph.declared.Turn.TheVariants.{First, Again}

@@ -76,7 +76,7 @@ pub use Rattle.yaml_round_content.specs.parse_grammar.Trees.{Directive, Document
 pub use Rattle.yaml_round_content.specs.parse_grammar.declared.Side.{Side}
 pub use Rattle.yaml_round_content.specs.parse_grammar.declared.Site.{Site}
 pub use Rattle.yaml_round_content.specs.parse_laws_trees.Places.{BeginsWithSentence, FaultOfTokens}
-pub use Rattle.yaml_round_content.specs.parse_laws_trees.parse_document.Documents.{change_place, map_tag, seq_tag, str_tag}
+pub use Rattle.yaml_round_content.specs.parse_laws_trees.parse_model.Documents.{change_place, map_tag, seq_tag, str_tag}
 pub use Rattle.yaml_round_content.specs.parse_model.Constructors.{AreUtf8, HasUtf8, IsUtf8Option}
 pub use Rattle.yaml_round_content.specs.parse_model.Events.{Event, EventBody, TagDirective}
 pub use Rattle.yaml_round_content.specs.parse_model.declared.yaml_node_pair_t.{yaml_node_pair_t}

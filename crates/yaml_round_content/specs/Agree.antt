@@ -7,7 +7,7 @@ use Rattle.yaml_round_content.specs.scan_model.declared.yaml_mapping_style_t.The
 use Rattle.yaml_round_content.specs.parse_model.Events.{TagDirective}
 use Rattle.yaml_round_content.specs.parse_model.Nodes.{Node, NodeBody}
 use Rattle.yaml_round_content.specs.parse_model.Nodes as node
-use Rattle.yaml_round_content.specs.parse_laws_trees.parse_document.Documents.{Document}
+use Rattle.yaml_round_content.specs.parse_laws_trees.parse_model.Documents.{Document}
 use Rattle.yaml_round_content.specs.Loads.{Loads}
 
 -- a node without style and marks

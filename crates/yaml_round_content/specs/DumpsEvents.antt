@@ -5,7 +5,7 @@ use Rattle.yaml_round_content.specs.scan_model.Tokens.{zero_mark}
 use Rattle.yaml_round_content.specs.scan_model.Faults.{Fault}
 use Rattle.yaml_round_content.specs.parse_model.Events.{Event, EventBody}
 use Rattle.yaml_round_content.specs.parse_model.Events as event
-use Rattle.yaml_round_content.specs.parse_laws_trees.parse_document.Documents as documents
+use Rattle.yaml_round_content.specs.parse_laws_trees.parse_model.Documents as documents
 use Rattle.yaml_round_content.specs.parse_grammar.Resolve.{Told}
 use Rattle.yaml_parse_loader.specs.Numbering.{DocumentContent, spanning, document_events, document_of}
 use Rattle.yaml_round_content.specs.emit_laws_dumps.emit_graph.Graph.{graph_content}

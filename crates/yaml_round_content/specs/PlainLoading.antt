@@ -5,7 +5,7 @@ use Rattle.yaml_round_content.specs.scan_model.Tokens.{Token}
 use Rattle.yaml_round_content.specs.scan_model.Faults.{Fault}
 use Rattle.yaml_round_content.specs.parse_grammar.Trees.{spell}
 use Rattle.yaml_round_content.specs.parse_laws_trees.Places.{BeginsWithSentence}
-use Rattle.yaml_round_content.specs.parse_laws_trees.parse_document.Documents.{Document}
+use Rattle.yaml_round_content.specs.parse_laws_trees.parse_model.Documents.{Document}
 use Rattle.yaml_round_content.specs.parse_laws_trees.Faults.{IsLoadable, FaultOfLoading}
 use Rattle.yaml_round_content.specs.scan_history.scan_decode.Spelling.{Spells, SpellsNothing}
 use Rattle.yaml_round_content.specs.Input.{tokens_of}

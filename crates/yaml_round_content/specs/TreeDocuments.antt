@@ -20,7 +20,7 @@ use Rattle.yaml_round_content.specs.parse_grammar.declared.Site.TheVariants.{Roo
 use Rattle.yaml_round_content.specs.parse_grammar.Items.{Properties}
 use Rattle.yaml_round_content.specs.parse_grammar.Trees.{next, mark_at, start_of, properties_of, spell_node, spell_colon, spell_more, spell_entries, spell_others, spell_pairs, spell_ends, spell_documents}
 use Rattle.yaml_round_content.specs.parse_grammar.Trees as tree
-use Rattle.yaml_round_content.specs.parse_laws_trees.parse_document.Documents as documents
+use Rattle.yaml_round_content.specs.parse_laws_trees.parse_model.Documents as documents
 use Rattle.yaml_parse_loader.specs.Numbering.{Head, Span, Content, Contents, Pairs, DocumentContent, alias, scalar, sequence, mapping, no_items, item, no_pairs, pair, document_of}
 use Rattle.yaml_round_content.specs.Loads.{Loads, no_more, in_front}
 use Rattle.yaml_round_content.specs.TreeContent.{full_tag, tag_of, anchor_of, is_plain, version_in, tags_in}

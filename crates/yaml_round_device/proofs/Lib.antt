@@ -1,1 +1,3 @@
 mod Failing
+mod Counting
+pub mod Telling

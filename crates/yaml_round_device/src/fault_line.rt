@@ -2,10 +2,10 @@
 
 ghost use Rattle.std.specs.Prelude.{◌≡◌, IfOk, IfErr};
 ghost use Rattle.yaml_scan_types.specs.Faults.{fault_of, memory_fault};
-ghost use Rattle.yaml_round_device_plain.specs.FaultLine.{fault_line};
+ghost use Rattle.yaml_round_device.specs.FaultLine.{fault_line};
 
+use crate::line_of;
 use std::alloc::Global;
-use yaml_round_device_plain::line_of;
 use yaml_scan_types::{yaml_fault_t, yaml_memory_fault, yaml_origin_t};
 
 /// The line that reports a fault, without its end: `K error`, K the kind's word; for all kinds but out of memory then the

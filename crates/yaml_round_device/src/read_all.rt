@@ -1,11 +1,11 @@
 //! The reading of an input to its end.
 
 ghost use Rattle.std.specs.Prelude.{◌≡◌, length, IfOk, IfErr, OnOk};
-ghost use Rattle.yaml_round_device_plain.specs.Counts.{counted};
-ghost use Rattle.yaml_round_device_plain.specs.Run.{GivesWholeInput, IsReadFault, TakesFew};
+ghost use Rattle.yaml_round_device.specs.Counts.{counted};
+ghost use Rattle.yaml_round_device.specs.Run.{GivesWholeInput, IsReadFault, TakesFew};
 
+use crate::{read_to_end, told, yaml_input_t, yaml_run_fault_t};
 use std::alloc::Global;
-use yaml_round_device_plain::{read_to_end, told, yaml_input_t, yaml_run_fault_t};
 
 /// All bytes of the input. `Read` where it has failed, `TooLong` where a byte past `input_limit` came, and a fault of
 /// memory, origin `Reader`, where a growth was refused. Each `get` asks for `min(4095, input_limit - got) + 1` bytes.

@@ -2,7 +2,7 @@
 
 ghost use Rattle.std.specs.Prelude.{◌≡◌};
 
-use yaml_round_device_plain::yaml_output_encoding_t;
+use crate::yaml_output_encoding_t;
 use yaml_scan_types::{DEFAULT_INDENT, DEFAULT_WIDTH, yaml_break_t};
 
 /// How many bytes an answer may have, where nobody set another number: 2 to the power of 40.

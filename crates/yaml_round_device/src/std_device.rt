@@ -3,11 +3,11 @@
 ghost use Rattle.std.specs.Prelude.{◌≡◌, false};
 ghost use Rattle.yaml_round_device.specs.StdDevices.{input_inner, input_given, input_failed, output_inner, output_failed, output_finished};
 
-use std::io::{Read, Write};
-use yaml_round_device_plain::{
+use crate::{
     flush_tried_again, read_tried_again, write_tried_again, yaml_device_fault_t, yaml_input_t,
     yaml_output_t,
 };
+use std::io::{Read, Write};
 
 /// An input over a reader of std. Interrupted reads are tried again; the 1,000th in a row and every other error is
 /// a failure.

@@ -3,7 +3,7 @@
 ghost use Rattle.std.specs.Prelude.{◌≡◌, ◌≤◌, length, take, true, false, IfErr, OnOk, OnErr};
 ghost use Rattle.std.specs.Io.KnownBytes.{Appends};
 
-use yaml_round_device_plain::{put_all, yaml_output_t};
+use crate::{put_all, yaml_output_t};
 
 /// Writes the text and finishes; answers how many of its bytes the output took where it failed.
 pub fn yaml_write_all<O: yaml_output_t>(output: &mut O, text: &[u8]) -> Result<(), u64>

@@ -8,7 +8,7 @@ use Rattle.std.proofs.lemmas.Slice.Eq.{bytes_eq-Decides}
 use Rattle.yaml_parse_model.specs.declared.yaml_node_pair_t.{yaml_node_pair_t}
 use Rattle.yaml_parse_model.specs.Nodes.{Node, NodeBody, type_of}
 use Rattle.yaml_parse_model.specs.Nodes as node
-use Rattle.yaml_parse_document.specs.Documents.{AreIds, AreSound, IsId}
+use Rattle.yaml_parse_model.specs.Documents.{AreIds, AreSound, IsId}
 use Rattle.yaml_emit_graph.specs.Graph.{body_of_id, child_ids, pair_ids, tag_of_id}
 use Rattle.yaml_round_keys.specs.Same.{Agree, AgreeWithin, OneByOne, text_of}
 use Rattle.yaml_round_keys.specs.Ranks.{TellBoth, kind_of}

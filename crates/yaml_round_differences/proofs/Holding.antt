@@ -6,7 +6,7 @@ use Rattle.std.proofs.lemmas.List.{map-append, take_more, drop_more, take_all, d
 use Rattle.yaml_parse_model.specs.declared.yaml_node_pair_t.{yaml_node_pair_t}
 use Rattle.yaml_parse_model.specs.Nodes.{Node, NodeBody}
 use Rattle.yaml_parse_model.specs.Nodes as node
-use Rattle.yaml_parse_document.specs.Documents.{AreIds, ArePairs, AreSound, IsId, IsSoundAt, IsSoundBody}
+use Rattle.yaml_parse_model.specs.Documents.{AreIds, ArePairs, AreSound, IsId, IsSoundAt, IsSoundBody}
 use Rattle.yaml_emit_graph.specs.Graph.{body_at, body_of_id}
 use Rattle.yaml_round_keys.specs.Telling.{keys_of, pair_keys}
 use Rattle.yaml_round_differences.specs.Pairs.{held_values, key_labels, places_from}

@@ -2,7 +2,7 @@
 use Rattle.std.proofs.Common.{◌≡◌, ℕ, suc, ◌+◌, ◌<◌, ◌≤◌, pos, List, [], ◌∷◌, ◌++◌, length, map, get_or, take, drop, min, refl, sym, subst, ◌∙◌, ap, inl, inr, arith, append_assoc, append-nil, add-one}
 use Rattle.std.specs.Prelude.{◌⊎◌, ◌↔◌}
 use Rattle.std.proofs.lemmas.List.{map-append, take_more, drop_more, take_all, drop_all}
-use Rattle.yaml_parse_document.specs.Documents.{Document}
+use Rattle.yaml_parse_model.specs.Documents.{Document}
 use Rattle.yaml_round_differences.specs.declared.difference.yaml_node_cause_t.{yaml_node_cause_t}
 use Rattle.yaml_round_differences.specs.declared.difference.yaml_node_cause_t.TheVariants.{OnlyFirst, OnlySecond}
 use Rattle.yaml_round_differences.specs.declared.difference.yaml_node_difference_t.{yaml_node_difference_t}

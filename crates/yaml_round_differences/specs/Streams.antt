@@ -1,7 +1,7 @@
 -- Every place where the documents of two streams differ.
 use Rattle.std.specs.Prelude.{◌≡◌, ◌↔◌, ℕ, suc, pos, List, [], ◌∷◌, ◌++◌, map, drop}
 use Rattle.yaml_parse_model.specs.Nodes.{Node}
-use Rattle.yaml_parse_document.specs.Documents.{Document}
+use Rattle.yaml_parse_model.specs.Documents.{Document}
 use Rattle.yaml_round_differences.specs.declared.difference.yaml_node_cause_t.{yaml_node_cause_t}
 use Rattle.yaml_round_differences.specs.declared.difference.yaml_node_cause_t.TheVariants.{OnlyFirst, OnlySecond}
 use Rattle.yaml_round_differences.specs.declared.difference.yaml_node_difference_t.{yaml_node_difference_t}

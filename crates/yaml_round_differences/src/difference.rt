@@ -1,7 +1,7 @@
 //! The places at which two documents differ.
 
 ghost use Rattle.std.specs.Prelude.{◌≡◌, ◌↔◌, ◌++◌, [], IfOk, OnOk, length};
-ghost use Rattle.yaml_parse_document.specs.Documents.{AreSound};
+ghost use Rattle.yaml_parse_model.specs.Documents.{AreSound};
 ghost use Rattle.yaml_emit_graph.specs.Graph.{body_of_id};
 ghost use Rattle.yaml_round_keys.specs.Ranks.{LabelsTell};
 ghost use Rattle.yaml_round_differences.specs.Pairs.{held_values, key_labels, pairs_by};
@@ -15,7 +15,7 @@ use crate::matching::match_labels;
 use crate::telling::{own_cause, same_kind, tell_cause, tell_held};
 use crate::walk::{Pair, Walk};
 use std::alloc::{AllocError, Global};
-use yaml_parse_document::{MAX_ENTRIES, document_is_sound, yaml_document_t};
+use yaml_parse_model::{MAX_ENTRIES, document_is_sound, yaml_document_t};
 use yaml_round_keys::{BothLabels, label_both};
 
 /// In what two nodes differ.

@@ -5,8 +5,9 @@ ghost use Rattle.yaml_emit_graph.specs.Graph.{body_of_id, number_at};
 ghost use Rattle.yaml_round_differences.specs.Pairs.{held_values, key_labels, places_from};
 
 use std::alloc::{AllocError, Global};
-use yaml_parse_document::{yaml_document_get_node, yaml_document_t};
-use yaml_parse_model::{yaml_node_body_t, yaml_node_pair_t};
+use yaml_parse_model::{
+    yaml_document_get_node, yaml_document_t, yaml_node_body_t, yaml_node_pair_t,
+};
 use yaml_round_keys::{narrowed, rank_of};
 
 /// Of what a node holds the labels by which it is matched, and the numbers of the nodes: items, or

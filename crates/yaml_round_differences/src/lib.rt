@@ -10,5 +10,6 @@ mod walk;
 
 pub use difference::{yaml_document_differences, yaml_node_cause_t, yaml_node_difference_t};
 pub use streams::{yaml_document_difference_t, yaml_stream_differences};
-pub use yaml_parse_document::{yaml_document_get_node, yaml_document_t};
-pub use yaml_parse_model::{ZERO_MARK, yaml_node_body_t, yaml_node_t};
+pub use yaml_parse_model::{
+    ZERO_MARK, yaml_document_get_node, yaml_document_t, yaml_node_body_t, yaml_node_t,
+};

@@ -6,7 +6,7 @@ ghost use Rattle.yaml_round_differences.specs.Streams.{AreEqualStreams, AreStrea
 use crate::difference::{yaml_document_differences, yaml_node_cause_t, yaml_node_difference_t};
 use std::alloc::{AllocError, Global};
 use std::collections::VecDeque;
-use yaml_parse_document::yaml_document_t;
+use yaml_parse_model::yaml_document_t;
 
 /// A difference of two documents.
 #[derive(Clone, Copy, PartialEq, Eq, Debug)]

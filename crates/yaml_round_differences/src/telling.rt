@@ -12,8 +12,7 @@ use crate::difference::{yaml_node_cause_t, yaml_node_difference_t};
 use crate::matching::in_order;
 use crate::walk::Pair;
 use std::alloc::AllocError;
-use yaml_parse_document::{yaml_document_get_node, yaml_document_t};
-use yaml_parse_model::YAML_STR_TAG;
+use yaml_parse_model::{YAML_STR_TAG, yaml_document_get_node, yaml_document_t};
 use yaml_round_keys::{number_of_kind, scalar_text};
 
 // The kind of a node as a number.

@@ -12,7 +12,7 @@ use Rattle.std.proofs.lemmas.Bool.{cases_eq}
 use Rattle.std.proofs.lemmas.Bool.Decides.{nat_tests}
 use Rattle.std.proofs.lemmas.Map.Lookups.{exact_bytes}
 use Rattle.yaml_parse_model.specs.Nodes.{Node}
-use Rattle.yaml_parse_document.specs.Documents.{IsId}
+use Rattle.yaml_parse_model.specs.Documents.{IsId}
 use Rattle.yaml_emit_graph.specs.Graph.{number_at}
 use Rattle.yaml_emit_graph.specs.Numbers.{counted}
 use Rattle.yaml_round_keys.specs.Same.{Agree, AreSame}

@@ -7,7 +7,7 @@ use Rattle.std.proofs.lemmas.List.{get_or-set_same, get_or-set_other, length-set
 use Rattle.std.proofs.lemmas.List.Elements.{All-nil, All-push}
 use Rattle.yaml_parse_model.specs.declared.yaml_node_pair_t.{yaml_node_pair_t}
 use Rattle.yaml_parse_model.specs.Nodes.{Node}
-use Rattle.yaml_parse_document.specs.Documents.{IsId, AreIds, ArePairs}
+use Rattle.yaml_parse_model.specs.Documents.{IsId, AreIds, ArePairs}
 use Rattle.yaml_emit_graph.specs.Graph.{body_at, body_of_id}
 use Rattle.yaml_round_keys.specs.declared.ranks.Ranks.{Ranks}
 use Rattle.yaml_round_keys.specs.declared.telling.yaml_same_key_t.{yaml_same_key_t}

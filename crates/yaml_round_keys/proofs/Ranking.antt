@@ -7,7 +7,7 @@ use Rattle.std.proofs.lemmas.List.{length-append, get_or-set_same, get_or-set_ot
 use Rattle.std.specs.FinMap as map
 use Rattle.yaml_parse_model.specs.Nodes.{Node, NodeBody, type_of}
 use Rattle.yaml_parse_model.specs.Nodes as node
-use Rattle.yaml_parse_document.specs.Documents.{IsId}
+use Rattle.yaml_parse_model.specs.Documents.{IsId}
 use Rattle.yaml_emit_graph.specs.Graph.{child_ids, body_of_id, tag_of_id, number_at}
 use Rattle.yaml_round_keys.specs.Same.{text_of, LookAlike, OneByOne, AgreeWithin}
 use Rattle.yaml_round_keys.specs.Shapes.{Shapes}

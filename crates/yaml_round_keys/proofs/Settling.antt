@@ -5,7 +5,7 @@ use Rattle.std.proofs.lemmas.Bool.{cases_eq}
 use Rattle.std.proofs.lemmas.Bool.Decides.{nat_tests}
 use Rattle.std.proofs.lemmas.List.{get_or-set_same, get_or-set_other, length-set}
 use Rattle.yaml_parse_model.specs.Nodes.{Node}
-use Rattle.yaml_parse_document.specs.Documents.{IsId}
+use Rattle.yaml_parse_model.specs.Documents.{IsId}
 use Rattle.yaml_emit_graph.specs.Graph.{number_at}
 use Rattle.yaml_round_keys.specs.declared.ranks.Ranks.{Ranks}
 use Rattle.yaml_round_keys.specs.declared.ranks.BothLabels.{BothLabels}

@@ -4,7 +4,7 @@ use Rattle.std.specs.Prelude.{◌↔◌, ◌==◌}
 use Rattle.std.proofs.lemmas.Bool.Decides.{nat_tests}
 use Rattle.std.proofs.lemmas.List.Elements.{All-head, All-tail}
 use Rattle.yaml_parse_model.specs.Nodes.{Node}
-use Rattle.yaml_parse_document.specs.Documents.{IsId, AreIds}
+use Rattle.yaml_parse_model.specs.Documents.{IsId, AreIds}
 use Rattle.yaml_round_keys.specs.declared.ranks.Ranks.{Ranks}
 use Rattle.yaml_round_keys.specs.declared.telling.yaml_same_key_t.{yaml_same_key_t}
 use Rattle.yaml_round_keys.specs.Ranks.{Tells}

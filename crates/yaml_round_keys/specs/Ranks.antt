@@ -4,7 +4,7 @@ use Rattle.std.specs.declared.alloc.AllocError.{AllocError}
 use Rattle.std.specs.FinMap as map
 use Rattle.yaml_parse_model.specs.Nodes.{Node, NodeBody}
 use Rattle.yaml_parse_model.specs.Nodes as node
-use Rattle.yaml_parse_document.specs.Documents.{IsId}
+use Rattle.yaml_parse_model.specs.Documents.{IsId}
 use Rattle.yaml_emit_graph.specs.Graph.{child_ids, body_of_id, tag_of_id, number_at}
 use Rattle.yaml_emit_graph.specs.Numbers.{counted}
 use Rattle.yaml_round_keys.specs.Shapes.{Shapes}

@@ -2,7 +2,7 @@
 use Rattle.std.specs.Prelude.{◌≡◌, ◌⊎◌, ℕ, zero, suc, ℤ, List, [], ◌∷◌, length}
 use Rattle.yaml_parse_model.specs.Nodes.{Node, NodeBody, type_of}
 use Rattle.yaml_parse_model.specs.Nodes as node
-use Rattle.yaml_parse_document.specs.Documents.{IsId}
+use Rattle.yaml_parse_model.specs.Documents.{IsId}
 use Rattle.yaml_emit_graph.specs.Graph.{child_ids, body_of_id, tag_of_id}
 
 -- the text of a scalar; none of a collection

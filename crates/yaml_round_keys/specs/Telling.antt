@@ -7,7 +7,7 @@ use Rattle.yaml_parse_model.specs.declared.yaml_node_pair_t.{yaml_node_pair_t}
 use Rattle.yaml_parse_model.specs.declared.yaml_scalar_style_t.TheVariants.{YAML_PLAIN_SCALAR_STYLE}
 use Rattle.yaml_parse_model.specs.Nodes.{Node, NodeBody}
 use Rattle.yaml_parse_model.specs.Nodes as node
-use Rattle.yaml_parse_document.specs.Documents.{IsId, AreIds, node_at}
+use Rattle.yaml_parse_model.specs.Documents.{IsId, AreIds, node_at}
 use Rattle.yaml_emit_graph.specs.Graph.{body_of_id}
 use Rattle.yaml_round_keys.specs.Same.{AreSame}
 use Rattle.yaml_round_keys.specs.Ranks.{label_of}

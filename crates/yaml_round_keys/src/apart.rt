@@ -8,8 +8,9 @@ ghost use Rattle.yaml_round_keys.specs.Telling.{AreSameKeys, keys_of, pair_keys}
 use crate::shape::{id_of, put_widened, scalar_text};
 use crate::shapes::ShapeTable;
 use std::alloc::{AllocError, Global};
-use yaml_parse_document::{yaml_document_get_node, yaml_document_t};
-use yaml_parse_model::{yaml_node_body_t, yaml_node_pair_t};
+use yaml_parse_model::{
+    yaml_document_get_node, yaml_document_t, yaml_node_body_t, yaml_node_pair_t,
+};
 
 // Puts the text of a key into a room.
 fn put_text(room: &mut Vec<u32>, document: &yaml_document_t, key: i32) -> Result<(), AllocError>

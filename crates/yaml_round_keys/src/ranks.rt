@@ -8,7 +8,7 @@ use crate::shapes::ShapeTable;
 use std::alloc::{AllocError, Global};
 use std::mem;
 use yaml_emit_graph::{Turn, Walked, place_of, walk_nodes};
-use yaml_parse_document::yaml_document_t;
+use yaml_parse_model::yaml_document_t;
 
 /// The rank of each node by its place, 0 where it has none; the ranks of shapes; and the last rank
 /// that was given.

@@ -8,8 +8,7 @@ ghost use Rattle.yaml_round_keys.specs.Ranks.{holds_ranked, kind_of, look, shape
 
 use std::alloc::AllocError;
 use yaml_emit_graph::{Open, Walkable, place_of};
-use yaml_parse_document::{yaml_document_get_node, yaml_document_t};
-use yaml_parse_model::{YAML_STR_TAG, yaml_node_body_t};
+use yaml_parse_model::{YAML_STR_TAG, yaml_document_get_node, yaml_document_t, yaml_node_body_t};
 
 /// The number of a node by its place, or 0.
 pub fn rank_of(ranks: &[u32], id: i32) -> u32

@@ -1,7 +1,7 @@
 //! The keys that are told.
 
 ghost use Rattle.std.specs.Prelude.{◌≡◌, ◌↔◌, ◌<◌, ◌≤◌, ◌++◌, [], suc, pos, OnOk, IfOk, length};
-ghost use Rattle.yaml_parse_document.specs.Documents.{ArePairs, IsId, node_at};
+ghost use Rattle.yaml_parse_model.specs.Documents.{ArePairs, IsId, node_at};
 ghost use Rattle.yaml_emit_graph.specs.Graph.{body_of_id};
 ghost use Rattle.yaml_round_keys.specs.Telling.{AreSameKeys, HasRoom, HaveDistinctKeys, IsFresh, Meets, TellsKey, TellsKeys, TellsMore, TellsNodes, end_at, is_plain_merge, keys_of, label_by, mark_at, pair_keys, told_of};
 
@@ -9,11 +9,9 @@ use crate::apart::all_apart;
 use crate::ranks::Ranks;
 use crate::shape::id_of;
 use std::alloc::{AllocError, Global};
-use yaml_parse_document::{
-    MAX_ENTRIES, yaml_document_delete, yaml_document_get_node, yaml_document_t,
-};
 use yaml_parse_model::{
-    ZERO_MARK, yaml_mark_t, yaml_node_body_t, yaml_node_pair_t, yaml_scalar_style_t,
+    MAX_ENTRIES, ZERO_MARK, yaml_document_delete, yaml_document_get_node, yaml_document_t,
+    yaml_mark_t, yaml_node_body_t, yaml_node_pair_t, yaml_scalar_style_t,
 };
 
 /// A key that is the same as an earlier key of its mapping.

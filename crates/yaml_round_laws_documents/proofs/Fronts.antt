@@ -2,7 +2,7 @@
 use Rattle.std.proofs.Common.{◌≡◌, ◌++◌, ℕ, Bool, true, false, List, [], ◌∷◌, map, Option, None, refl, sym, ap, ◌∙◌}
 use Rattle.yaml_round_laws_documents.proofs.Words.{YAML_ANY_ENCODING, YAML_ANY_SEQUENCE_STYLE, YAML_ANY_MAPPING_STYLE, Event, EventBody, nothing_loaded, events, item_events, pair_events, events_of, ending_of, contents, ScalarMark, untagged, tagged, alias, scalar, sequence, mapping, scalar_says, node_says, items_say, pairs_say, documents_say, stream_says, written_node, written_nodes, written_pairs, InputsSayFronts, Loads, loads_of, Core, CoreNode, core_of, on_same, loads_said, as_content, as_contents, as_pairs, unplaced, content_events, told_by, events_saying, load_each, AreLoadedDocuments, ContentIsLoaded, ContentLoadsDocuments, document_loaded, AllLoadDocuments}
 use Rattle.yaml_round_content.specs.parse_model.Events as event
-use Rattle.yaml_round_content.specs.parse_laws_trees.parse_document.Documents as documents
+use Rattle.yaml_round_content.specs.parse_laws_trees.parse_model.Documents as documents
 use Rattle.yaml_round_content.specs.Said.{Node, Nodes, no_nodes, node, Pairs, no_pairs, pair, Document}
 use Rattle.yaml_round_content.proofs.Core.{CoreLoading, CoreFed, core_goes_on, core_loaded, core_refused, CoreLoads, core_step, core_nothing, core_in_front, core_on, core_loads, is_fault, bodies, load_cores}
 

@@ -3,7 +3,7 @@ use Rattle.std.proofs.Common.{◌≡◌, ℕ, Bool, true, List, [], ◌∷◌, m
 use Rattle.yaml_round_laws_documents.proofs.Words.{YAML_ANY_ENCODING, YAML_ANY_SCALAR_STYLE, Layout, written, own_problems, graph_scalar, graph_root, graph_content, AreRight, document_tree, canon_items, loads_of, trees_of_dumps, NodeFlagged, NodesFlagged, PairsFlagged, Normalize, normal_layout, dumped_streams, root_holds}
 use Rattle.yaml_round_laws_documents.specs.emit_laws_text.scan_model.declared.yaml_scalar_style_t.{yaml_scalar_style_t}
 use Rattle.yaml_round_laws_documents.specs.parse_grammar.parse_model.Nodes as model
-use Rattle.yaml_round_content.specs.parse_laws_trees.parse_document.Documents.{Document}
+use Rattle.yaml_round_content.specs.parse_laws_trees.parse_model.Documents.{Document}
 use Rattle.yaml_emit_laws_text.specs.emit_layout.Content as emit
 use Rattle.yaml_round_content.specs.Said as content
 use Rattle.yaml_round_laws_documents.specs.Normal.{ended, dump_events, DumpsAreLaidOut}

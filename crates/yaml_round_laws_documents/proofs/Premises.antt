@@ -1,7 +1,7 @@
 -- What each half of reading back asks of a content's documents, from what may be written.
 use Rattle.std.proofs.Common.{◌≡◌, inl, inr, ℕ, Bool, false, ◌&&◌, List, [], ◌∷◌, Option, Some, None, refl, sym, ap, ◌∙◌, codes, IsUtf8, bytes_eq}
 use Rattle.yaml_round_laws_documents.proofs.Words.{list_all, cases_Bool, bytes_eq-Decides, is_alpha_byte, TagDirective, Opening, opening_problem, ScalarMark, untagged, tagged, alias, scalar, sequence, mapping, written_scalar, written_node, written_nodes, written_pairs, written_document, written_documents, HaveUtf8, WrittenTagsAreReadable, IsNoMark, HasNoMark, HaveNoMark, PairsHaveNoMark, AreParsable, IsReadableTag, IsTagged, AreTagged, PairsAreTagged, HaveTexts, IsName, IsAnchor, IsTag, IsMark, IsWritable, AreItemsWritable, ArePairsWritable, HavePrefixes, AreWritable}
-use Rattle.yaml_round_laws_documents.specs.emit_laws_text.scan_history.scan_words.Written.{are_alphas}
+use Rattle.yaml_round_laws_documents.specs.emit_laws_text.scan_history.Written.{are_alphas}
 use Rattle.yaml_round_content.specs.Said.{Node, Nodes, no_nodes, node, Pairs, no_pairs, pair, Document}
 use Rattle.yaml_emit_laws_text.specs.Writable as text
 use Rattle.yaml_round_laws_documents.specs.BytesLaws as bytes

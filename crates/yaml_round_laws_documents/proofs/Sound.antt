@@ -2,7 +2,7 @@
 use Rattle.std.proofs.Common.{ℕ, List, [], ◌∷◌, Option, All}
 use Rattle.yaml_round_laws_documents.proofs.Words.{All-nil, All-cons, yaml_encoding_t, Fault, IsDocument, Told, Loading, LoadStep, goes_on, loaded, refused, nothing_loaded, step, RightDocument, AreRight, AreRightTold, RightFed, events_of, ending_of, read, Loads, in_front, load_on, load_all, loads_of, HaveUtf8Texts, InputsHaveUtf8, AreLoadedDocuments, AllLoadDocuments, LoadedAreSound}
 use Rattle.yaml_round_laws_documents.specs.parse_grammar.parse_model.Nodes as model
-use Rattle.yaml_round_content.specs.parse_laws_trees.parse_document.Documents.{Document}
+use Rattle.yaml_round_content.specs.parse_laws_trees.parse_model.Documents.{Document}
 use Rattle.yaml_round_content.specs.parse_laws_trees.parse_loader.Order.{IsInPreorder}
 use Rattle.yaml_round_content.specs.parse_laws_trees.parse_loader.Sound.{IsLoading}
 use Rattle.yaml_round_content.proofs.Keeps.{FedSound, nothing_sound, step_sound}

@@ -1,7 +1,7 @@
 -- The laws of loaded documents and of their texts, joined from the laws beneath.
 use Rattle.std.proofs.Common.{◌≡◌, ℕ, List, map, Option, Some, None, Ok, sym, ap, subst, ◌∙◌}
 use Rattle.yaml_round_laws_documents.proofs.Words.{YAML_ANY_ENCODING, Fault, nothing_loaded, HasContent, events_of, ending_of, Loads, load_all, loads_of, canonical_layout, core_of, Agrees, loads_of_contents, trees_of_dumps, ContentIsLoaded, DumpsLoadBack, dumps_loaded, AllLoadDocuments, LoadedAreSound, LoadedAreWritable}
-use Rattle.yaml_round_content.specs.parse_laws_trees.parse_document.Documents.{Document}
+use Rattle.yaml_round_content.specs.parse_laws_trees.parse_model.Documents.{Document}
 use Rattle.yaml_round_content.proofs.Loads.{loads_document}
 use Rattle.yaml_round_content.proofs.Visited.{numbered_in_order}
 use Rattle.yaml_round_content.proofs.Apart.{apart_all, again_all}

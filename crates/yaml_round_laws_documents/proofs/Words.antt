@@ -58,7 +58,7 @@ unfoldable pub use Rattle.yaml_round_content.specs.parse_grammar.Resolve.{direct
 pub use Rattle.yaml_round_content.specs.parse_grammar.TreeSteps.{items, items_content, items_directives, items_documents, items_ends, items_items, items_more, items_node}
 pub use Rattle.yaml_round_content.specs.parse_grammar.Trees.{Given, Items, More, PropertyTokens, Span, closing, colon, comma, end_event, end_items, end_more, flow_shape, no_first, opening, properties_of, single, spell_content, spell_directives, spell_documents, spell_ends, spell_items, spell_more, spell_node, spell_properties, there, token_at}
 pub use Rattle.yaml_round_content.specs.parse_grammar.declared.name.Wants.TheVariants.{Block, Flow}
-pub use Rattle.yaml_round_content.specs.parse_laws_trees.parse_document.Documents.{AreSound, IsDocument, IsSoundBody, str_tag}
+pub use Rattle.yaml_round_content.specs.parse_laws_trees.parse_model.Documents.{AreSound, IsDocument, IsSoundBody, str_tag}
 pub use Rattle.yaml_round_content.specs.parse_laws_trees.parse_loader.Loading.{LoadStep, Loading, goes_on, loaded, nothing_loaded, refused, step}
 pub use Rattle.yaml_round_content.specs.parse_laws_trees.parse_loader.Numbering.{events, is_bang, item_events, pair_events}
 pub use Rattle.yaml_round_content.specs.parse_model.Events.{Event, EventBody, TagDirective}

@@ -2,7 +2,7 @@
 use Rattle.std.proofs.Common.{◌≡◌, ◌<◌, ℕ, zero, suc, ℤ, pos, Bool, true, false, ◌==◌, if◌then◌else◌, List, [], ◌∷◌, length, Some, None, IsUtf8, refl, ap, codes, arith, sym, ◌∙◌, slice_get, true≢false}
 use Rattle.yaml_round_laws_documents.proofs.Words.{list_all, IsUtf8-nil, root_holds, is_alpha_byte, IsSoundBody, AreSound, str_tag, is_bang, body_at, tag_at, body_of_id, tag_of_id, name_of, graph_root, graph_content, RightDocument, AreRight, loads_of, tree_of, trees_of, pair_trees_of, document_tree, InputsHaveUtf8, IsName, IsAnchor, IsWritable, AreItemsWritable, ArePairsWritable, IsWritableDocument, AreWritable, IsLoadedDocument, trees_of_dumps, AreLoadedDocuments, AllLoadDocuments, LoadedAreWritable}
 use Rattle.yaml_round_laws_documents.specs.parse_grammar.parse_model.Nodes as model
-use Rattle.yaml_round_content.specs.parse_laws_trees.parse_document.Documents as documents
+use Rattle.yaml_round_content.specs.parse_laws_trees.parse_model.Documents as documents
 use Rattle.yaml_round_laws_documents.specs.emit_laws_text.emit_layout.declared.Problem.TheVariants as problem
 use Rattle.yaml_round_content.specs.emit_laws_dumps.StreamsLaws.{AreTagged}
 use Rattle.yaml_round_content.proofs.Sound.{str_utf8}

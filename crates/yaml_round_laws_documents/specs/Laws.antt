@@ -2,7 +2,7 @@
 use Rattle.std.specs.Prelude.{ℕ, List}
 use Rattle.std.specs.List.{All}
 use Rattle.yaml_round_laws_documents.specs.emit_laws_text.scan_model.declared.yaml_encoding_t.{yaml_encoding_t}
-use Rattle.yaml_round_content.specs.parse_laws_trees.parse_document.Documents.{IsDocument}
+use Rattle.yaml_round_content.specs.parse_laws_trees.parse_model.Documents.{IsDocument}
 use Rattle.yaml_round_content.specs.parse_laws_trees.parse_loader.Order.{IsInPreorder}
 use Rattle.yaml_round_content.specs.Loads.{loads_of}
 use Rattle.yaml_round_content.specs.Writable.{AreWritable}

@@ -2,7 +2,7 @@
 use Rattle.std.specs.Prelude.{◌≡◌, ◌↔◌, ℕ, true, List, map, None, Ok}
 use Rattle.yaml_round_laws_documents.specs.emit_laws_text.scan_model.declared.yaml_encoding_t.{yaml_encoding_t}
 use Rattle.yaml_round_laws_documents.specs.emit_laws_text.scan_model.declared.yaml_encoding_t.TheVariants.{YAML_ANY_ENCODING}
-use Rattle.yaml_round_content.specs.parse_laws_trees.parse_document.Documents.{Document}
+use Rattle.yaml_round_content.specs.parse_laws_trees.parse_model.Documents.{Document}
 use Rattle.yaml_round_laws_documents.specs.emit_laws_text.emit_layout.declared.RequestedSettings.{RequestedSettings}
 use Rattle.yaml_round_content.specs.emit_laws_dumps.emit_graph.Graph.{graph_content}
 use Rattle.yaml_round_laws_documents.specs.emit_laws_text.emit_layout.Content.{Event, stream_events}

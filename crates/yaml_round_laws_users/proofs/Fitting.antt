@@ -12,7 +12,7 @@ use Rattle.yaml_emit_laws_text.specs.emit_layout.declared.Encoding.{Encoding}
 use Rattle.yaml_emit_laws_text.specs.emit_layout.declared.Settings.{Settings}
 use Rattle.yaml_emit_laws_text.specs.emit_layout.Nodes.{Context, context_of, stream_layout}
 use Rattle.yaml_emit_laws_text.specs.emit_layout.Layout.{written}
-use Rattle.yaml_round.specs.round_laws_documents.round_content.parse_laws_trees.parse_document.Documents as documents
+use Rattle.yaml_round.specs.round_laws_documents.round_content.parse_laws_trees.parse_model.Documents as documents
 use Rattle.yaml_round.specs.emit.emit_graph.Graph.{graph_content}
 use Rattle.yaml_round.specs.round_laws_documents.Normal.{ended}
 use Rattle.yaml_round.specs.Reload.{IsReloaded, IsDumped}
@@ -33,9 +33,9 @@ use Rattle.yaml_round.proofs.ReadBack.{layout_is_of_input}
 use Rattle.yaml_round_laws_documents.specs.Readable.{is_unmarked, readable_node, readable_nodes, readable_pairs, documents_from, readable_documents}
 use Rattle.yaml_emit_laws_text.specs.Sizes.{most_of_node, most_of_items, most_of_pairs, most_of_documents, most_bytes}
 use Rattle.yaml_emit_laws_text.proofs.SizesLaid.{by_content}
-use Rattle.yaml_round_laws_inputs.specs.SizesLaws.{most_of_input}
-use Rattle.yaml_round_laws_inputs.proofs.SizesJoining.{contents_bounded, layouts_short}
-use Rattle.yaml_round_laws_inputs.proofs.Tally.{tallies_same}
+use Rattle.yaml_round_laws_users.specs.SizesLaws.{most_of_input}
+use Rattle.yaml_round_laws_users.proofs.SizesJoining.{contents_bounded, layouts_short}
+use Rattle.yaml_round_laws_users.proofs.Tally.{tallies_same}
 use Rattle.yaml_round_laws_users.specs.Sizes.{most_of_answer, most_of_dumps, LimitsOfContentSuffice, ReformatsFit, NormalFormsFit, ReloadsFitDocuments}
 use Rattle.yaml_round_laws_users.proofs.Limits.{read_once, loaded_once, same_loading}
 

@@ -4,7 +4,7 @@ use Rattle.std.proofs.lemmas.Bool.{false≢true}
 use Rattle.yaml_round.specs.declared.yaml_encoding_t.{yaml_encoding_t}
 use Rattle.yaml_round.specs.declared.yaml_encoding_t.TheVariants.{YAML_ANY_ENCODING}
 use Rattle.yaml_emit_laws_text.specs.emit_layout.scan_model.Faults.{Fault}
-use Rattle.yaml_round.specs.round_laws_documents.round_content.parse_laws_trees.parse_document.Documents as documents
+use Rattle.yaml_round.specs.round_laws_documents.round_content.parse_laws_trees.parse_model.Documents as documents
 use Rattle.yaml_round.specs.round_laws_documents.round_content.parse_grammar.Resolve.{Told}
 use Rattle.yaml_round.specs.emit.Text.{Item, encode, is_deep}
 use Rattle.yaml_round.specs.emit.Settings.{settled, settled_indent}

@@ -9,12 +9,12 @@ use Rattle.yaml_round_content.specs.scan_model.Tokens.{Token, TokenBody, block_e
 use Rattle.yaml_emit_laws_text.specs.emit_layout.scan_model.Faults.{Fault}
 use Rattle.yaml_round_content.specs.scan_history.scan_model.Wrong.{Wrong}
 use Rattle.yaml_round_content.specs.scan_history.scan_model.Marks.{byte}
-use Rattle.yaml_round_content.specs.scan_history.scan_words.Pieces.{Line, Kept, lines, folded}
-use Rattle.yaml_round_content.specs.scan_history.scan_words.Plain.{Words, words_from, plain_with, plain_text, words}
-use Rattle.yaml_round_content.specs.scan_history.scan_words.Block.{BlockText}
-use Rattle.yaml_round_content.specs.scan_history.scan_words.Directives.{Said, DirectiveText}
-use Rattle.yaml_round_content.specs.scan_history.scan_words.Directives as directives
-use Rattle.yaml_round_content.specs.scan_history.scan_words.Tags.{TagText}
+use Rattle.yaml_round_content.specs.scan_history.Pieces.{Line, Kept, lines, folded}
+use Rattle.yaml_round_content.specs.scan_history.Plain.{Words, words_from, plain_with, plain_text, words}
+use Rattle.yaml_round_content.specs.scan_history.Block.{BlockText}
+use Rattle.yaml_round_content.specs.scan_history.Directives.{Said, DirectiveText}
+use Rattle.yaml_round_content.specs.scan_history.Directives as directives
+use Rattle.yaml_round_content.specs.scan_history.Tags.{TagText}
 use Rattle.yaml_round_content.specs.scan_history.declared.Kind.{Kind}
 use Rattle.yaml_round_content.specs.scan_history.declared.Kind.TheVariants as kinds
 use Rattle.yaml_round_content.specs.scan_history.declared.Lexeme.{Lexeme}

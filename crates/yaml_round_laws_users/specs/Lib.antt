@@ -7,3 +7,10 @@ pub mod Plain
 pub mod Partings
 pub mod Sizes
 pub mod MarkAlone
+pub mod Moved
+pub mod WindowsLaws
+pub mod Grammar
+pub mod Values
+pub mod Exceptions
+pub mod JsonLaws
+pub mod SizesLaws

@@ -1,7 +1,7 @@
 -- Which inputs are refused for columns in canonical form.
 use Rattle.std.specs.Prelude.{◌≡◌, ◌↔◌, ℕ, true, List, map, Ok, Err}
 use Rattle.yaml_round.specs.declared.yaml_encoding_t.{yaml_encoding_t}
-use Rattle.yaml_round.specs.round_laws_documents.round_content.parse_laws_trees.parse_document.Documents as documents
+use Rattle.yaml_round.specs.round_laws_documents.round_content.parse_laws_trees.parse_model.Documents as documents
 use Rattle.yaml_round.specs.emit.Settings.{settled_indent}
 use Rattle.yaml_round.specs.emit.Emitter.{too_deep}
 use Rattle.yaml_round.specs.emit.emit_graph.Graph.{graph_content}

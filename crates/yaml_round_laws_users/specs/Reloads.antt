@@ -2,7 +2,7 @@
 use Rattle.std.specs.Prelude.{◌≡◌, ◌↔◌, ℕ, List, Ok}
 use Rattle.yaml_round.specs.declared.yaml_encoding_t.{yaml_encoding_t}
 use Rattle.yaml_round.specs.declared.yaml_encoding_t.TheVariants.{YAML_ANY_ENCODING}
-use Rattle.yaml_round.specs.round_laws_documents.round_content.parse_laws_trees.parse_document.Documents.{Document}
+use Rattle.yaml_round.specs.round_laws_documents.round_content.parse_laws_trees.parse_model.Documents.{Document}
 use Rattle.yaml_round.specs.round_laws_documents.round_content.PlainLoading.{PlainLoading}
 use Rattle.yaml_round.specs.round_laws_documents.round_content.Said as content
 use Rattle.yaml_round.specs.round_laws_documents.round_content.Reading.{PlainReading}

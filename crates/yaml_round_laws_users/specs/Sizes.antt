@@ -2,7 +2,7 @@
 use Rattle.std.specs.Prelude.{ℕ, ◌≤◌, true, List, map, Ok, Err}
 use Rattle.yaml_round.specs.declared.yaml_encoding_t.{yaml_encoding_t}
 use Rattle.yaml_round.specs.declared.yaml_encoding_t.TheVariants.{YAML_ANY_ENCODING}
-use Rattle.yaml_round.specs.round_laws_documents.round_content.parse_laws_trees.parse_document.Documents as documents
+use Rattle.yaml_round.specs.round_laws_documents.round_content.parse_laws_trees.parse_model.Documents as documents
 use Rattle.yaml_round.specs.emit.Emitter.{write_error}
 use Rattle.yaml_round.specs.emit.emit_graph.Graph.{graph_content}
 use Rattle.yaml_round.specs.emit.Settings.{settled, settled_indent}
@@ -16,7 +16,7 @@ use Rattle.yaml_round.specs.Answers.{IsTooLong, IsReformatted}
 use Rattle.yaml_round.specs.Readable.{IsReadableAnswer}
 use Rattle.yaml_round.specs.Reload.{IsReloaded}
 use Rattle.yaml_emit_laws_text.specs.Sizes.{most_bytes}
-use Rattle.yaml_round_laws_inputs.specs.SizesLaws.{read_bytes, most_of_read}
+use Rattle.yaml_round_laws_users.specs.SizesLaws.{read_bytes, most_of_read}
 
 -- the most bytes of a content's canonical text under the settings of a call
 abbrev pub most_of_content : yaml_settings_t → List Document → ℕ

@@ -3,6 +3,7 @@
 #![tactic(auto)]
 
 mod column;
+mod json_laws;
 mod laws;
 mod mark;
 mod normalizing;
@@ -10,11 +11,14 @@ mod parting;
 mod plain;
 mod reload;
 mod size;
+mod sizes_laws;
+mod windows_laws;
 
 pub use column::{
     canonical_answers_keep_columns, canonical_form_passes_columns, reformats_name_columns,
     reloads_keep_columns, reloads_name_columns,
 };
+pub use json_laws::json_is_read;
 pub use laws::{
     answers_read_back, canonical_answers_tell_contents, comparisons_agree, form_tells_beginning,
     json_stays_pretty, rewriting_is_still, same_content_is_an_equivalence, settings_do_not_matter,
@@ -28,3 +32,11 @@ pub use reload::{
     reloads_are_of_loads, reloads_tell_documents,
 };
 pub use size::{limits_of_content_suffice, normal_forms_fit, reformats_fit, reloads_fit_documents};
+pub use sizes_laws::{
+    canonical_texts_are_bounded, canonical_texts_are_short, contents_are_bounded,
+    deep_inputs_are_long, depths_take_bytes, layouts_are_short, short_inputs_keep_columns,
+};
+pub use windows_laws::{
+    early_faults_are_read, ended_faults_are_read, readings_are_framed, refused_fronts_are_read,
+    windows_are_accepted, windows_are_read,
+};

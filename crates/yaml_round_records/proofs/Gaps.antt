@@ -6,10 +6,10 @@ use Rattle.yaml_scan_model.specs.Marks.{byte, break_width}
 use Rattle.yaml_scan_model.specs.Runs.{line_end}
 use Rattle.yaml_scan_model.specs.Classes.{is_bom}
 use Rattle.yaml_scan_model.proofs.MarksLemmas.{no_break, past_break}
-use Rattle.yaml_scan_words.specs.Between.{step_at, is_skipped, gap_at, gap_behind, Gap, GapStep}
-use Rattle.yaml_scan_words.specs.declared.between.GapSpot.{GapSpot}
-use Rattle.yaml_scan_words.specs.declared.between.GapSpot.TheVariants as gap_spots
-use Rattle.yaml_scan_words.proofs.BetweenLemmas.{gap_here, step_moves, no_bom, no_skip, stays}
+use Rattle.yaml_scan_history.specs.Between.{step_at, is_skipped, gap_at, gap_behind, Gap, GapStep}
+use Rattle.yaml_scan_history.specs.declared.between.GapSpot.{GapSpot}
+use Rattle.yaml_scan_history.specs.declared.between.GapSpot.TheVariants as gap_spots
+use Rattle.yaml_scan_history.proofs.BetweenLemmas.{gap_here, step_moves, no_bom, no_skip, stays}
 
 -- a blank is passed
 pub blank_step : (text : List ℕ) (p : ℕ) → (byte text p == 32 || byte text p == 9) ≡ true

@@ -3,7 +3,7 @@ use Rattle.std.specs.Prelude.{◌≡◌, ◌≤◌, ℕ, Bool, true, false, ◌&
 use Rattle.std.specs.List.{count_by}
 use Rattle.yaml_scan_model.specs.Ascii as ascii
 use Rattle.yaml_scan_model.specs.Marks.{byte, starts}
-use Rattle.yaml_scan_words.specs.Between.{gap_at}
+use Rattle.yaml_scan_history.specs.Between.{gap_at}
 use Rattle.yaml_round_records.specs.declared.counting.Count.{Count}
 
 -- ---- characters

@@ -2,7 +2,7 @@
 
 ghost use Rattle.std.specs.Prelude.{◌≡◌, ◌≤◌, drop, take, length, true};
 ghost use Rattle.yaml_scan_model.specs.Marks.{byte};
-ghost use Rattle.yaml_scan_words.specs.Between.{step_at};
+ghost use Rattle.yaml_scan_history.specs.Between.{step_at};
 ghost use Rattle.yaml_round_records.specs.Characters.{behind_gap, stands_behind, begins_tag, has_tag};
 
 use yaml_scan::IS_BOM;

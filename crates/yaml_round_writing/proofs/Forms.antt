@@ -5,8 +5,8 @@ use Rattle.yaml_parse.specs.declared.yaml_encoding_t.{yaml_encoding_t}
 use Rattle.yaml_parse.specs.declared.yaml_fault_t.{yaml_fault_t}
 use Rattle.yaml_parse.specs.Faults.{Fault, fault_of, IsMemoryFault, Answers}
 use Rattle.yaml_round_device.specs.declared.yaml_settings_t.{yaml_settings_t}
-use Rattle.yaml_round_device.specs.declared.yaml_form_t.{yaml_form_t}
-use Rattle.yaml_round_device.specs.declared.yaml_form_t.TheVariants.{Canonical, Pretty}
+use Rattle.yaml_round_device.specs.declared.form.yaml_form_t.{yaml_form_t}
+use Rattle.yaml_round_device.specs.declared.form.yaml_form_t.TheVariants.{Canonical, Pretty}
 use Rattle.yaml_round_writing.specs.Layers.{reformat_layers}
 use Rattle.yaml_round_reading.specs.Answers.{ReadsBack}
 use Rattle.yaml_round_writing.specs.Answers.{IsLaidOut, IsWritten, BeginsWithNothing, IsCanonicalDue, IsInCanonicalForm, IsReformatted, text_and_form}

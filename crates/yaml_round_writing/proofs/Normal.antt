@@ -13,8 +13,8 @@ use Rattle.yaml_round_laws_documents.specs.round_content.ContentLaws.{IsSet, Are
 use Rattle.yaml_round_laws_documents.proofs.ContentInputs.{have_content}
 use Rattle.yaml_round_laws_documents.proofs.ReadBack.{inputs_read_back, tells_inputs, layout_is_of_input, is_laid_out_again}
 use Rattle.yaml_round_device.specs.declared.yaml_settings_t.{yaml_settings_t}
-use Rattle.yaml_round_device.specs.declared.yaml_output_encoding_t.{yaml_output_encoding_t}
-use Rattle.yaml_round_device.specs.declared.yaml_output_encoding_t.TheVariants.{Utf8, Utf16Le, Utf16Be}
+use Rattle.yaml_round_device.specs.declared.form.yaml_output_encoding_t.{yaml_output_encoding_t}
+use Rattle.yaml_round_device.specs.declared.form.yaml_output_encoding_t.TheVariants.{Utf8, Utf16Le, Utf16Be}
 use Rattle.yaml_round_reading.specs.Reading.{emitter_events}
 use Rattle.yaml_round_writing.specs.declared.writing.Form.TheVariants as form
 use Rattle.yaml_round_writing.specs.Writing.{encoding_under, requested_under}

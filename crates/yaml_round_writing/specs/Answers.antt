@@ -11,8 +11,8 @@ use Rattle.yaml_emit.specs.Within.{Fits}
 use Rattle.yaml_emit.specs.emit_layout.declared.Encoding.{Encoding}
 use Rattle.yaml_emit.specs.emit_layout.declared.RequestedSettings.{RequestedSettings}
 use Rattle.yaml_round_device.specs.declared.yaml_settings_t.{yaml_settings_t}
-use Rattle.yaml_round_device.specs.declared.yaml_form_t.{yaml_form_t}
-use Rattle.yaml_round_device.specs.declared.yaml_form_t.TheVariants.{Canonical, Pretty}
+use Rattle.yaml_round_device.specs.declared.form.yaml_form_t.{yaml_form_t}
+use Rattle.yaml_round_device.specs.declared.form.yaml_form_t.TheVariants.{Canonical, Pretty}
 use Rattle.yaml_round_reading.specs.Reading.{emitter_events}
 use Rattle.yaml_round_writing.specs.Lines.{event_lines}
 use Rattle.yaml_round_writing.specs.declared.writing.Form.{Form}

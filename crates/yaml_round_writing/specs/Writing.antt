@@ -18,8 +18,8 @@ use Rattle.yaml_emit.specs.emit_layout.declared.RequestedSettings.{RequestedSett
 use Rattle.yaml_round_device.specs.declared.yaml_settings_t.{yaml_settings_t}
 use Rattle.yaml_round_writing.specs.declared.writing.Form.{Form}
 use Rattle.yaml_round_writing.specs.declared.writing.Form.TheVariants as form
-use Rattle.yaml_round_device.specs.declared.yaml_output_encoding_t.{yaml_output_encoding_t}
-use Rattle.yaml_round_device.specs.declared.yaml_output_encoding_t.TheVariants.{Utf8, Utf16Le, Utf16Be}
+use Rattle.yaml_round_device.specs.declared.form.yaml_output_encoding_t.{yaml_output_encoding_t}
+use Rattle.yaml_round_device.specs.declared.form.yaml_output_encoding_t.TheVariants.{Utf8, Utf16Le, Utf16Be}
 use Rattle.yaml_round_beginning.specs.round_laws_documents.Restyled.{readable_events}
 use Rattle.yaml_round_beginning.specs.Beginning.{nothing_comes}
 use Rattle.yaml_round_beginning.specs.Styles.{position_of}

@@ -3,10 +3,10 @@ use Rattle.std.proofs.Common.{◌≡◌, ◌≢◌, ℕ, zero, suc, ◌-◌, ◌
 use Rattle.yaml_scan_core.proofs.Words.{and_parts, cases_Bool, cases_Option, nat_tests, get_or_append_left, get_or-append_right, Kind, Lexeme, Entry, Candidate, candidate, candidate_below, fresh_is, found_by, inside, finished_tokens, entry_of, keyed, mark_key, is_start, is_value, cancels, may_be_key, allowed_behind, length-entries, length-keyed, Wrong, lexeme_at, Read, next, history, SpelledText}
 use Rattle.yaml_scan_model.specs.Tokens as tokens
 use Rattle.yaml_scan_model.specs.Tokens.{TokenBody}
-use Rattle.yaml_scan_words.specs.Tags.{TagText, tag_at}
-use Rattle.yaml_scan_words.specs.Anchors.{anchor_at}
-use Rattle.yaml_scan_words.specs.Quoted.{double_quoted_at, single_quoted_at}
-use Rattle.yaml_scan_words.specs.Plain.{PlainText, plain_at}
+use Rattle.yaml_scan_history.specs.Tags.{TagText, tag_at}
+use Rattle.yaml_scan_history.specs.Anchors.{anchor_at}
+use Rattle.yaml_scan_history.specs.Quoted.{double_quoted_at, single_quoted_at}
+use Rattle.yaml_scan_history.specs.Plain.{PlainText, plain_at}
 use Rattle.yaml_scan_model.specs.declared.problem.Context.TheVariants as contexts
 use Rattle.yaml_scan_model.specs.declared.name.yaml_scalar_style_t.TheVariants as styles
 use Rattle.yaml_scan_history.specs.History.{marked}

@@ -4,7 +4,7 @@ use Rattle.yaml_scan_core.proofs.Words.{and_parts, cases_Bool, cases_lt, nat_tes
 use Rattle.yaml_scan_model.specs.Runs.{past, columns_over, is_space_there, is_text, line_end, past_spaces}
 use Rattle.yaml_scan_model.proofs.RunsLemmas.{past-le, past-inside, past_some, text_parts}
 use Rattle.yaml_scan_model.proofs.PrintedLemmas.{behind}
-use Rattle.yaml_scan_words.specs.Between.{Gap, gap_at, step_at, with_break}
+use Rattle.yaml_scan_history.specs.Between.{Gap, gap_at, step_at, with_break}
 use Rattle.yaml_scan_model.specs.Marks.{break_width, starts}
 use Rattle.yaml_scan_model.specs.Classes.{is_bom}
 use Rattle.yaml_scan_model.proofs.MarksLemmas.{column_same, end_next, line_more, no_break, split_next, within}
@@ -13,7 +13,7 @@ use Rattle.std.proofs.lemmas.List.{get_or-drop, length-drop}
 use Rattle.std.proofs.lemmas.List.Sums.{count_by_more_no, count_by_more_yes}
 use Rattle.std.specs.List.{count_by}
 use Rattle.yaml_scan_runs.specs.Runs.{is_continuing}
-use Rattle.yaml_scan_words.proofs.BetweenLemmas.{gap_here, space_here, bom_bytes, break_here, no_bom, no_skip, stays}
+use Rattle.yaml_scan_history.proofs.BetweenLemmas.{gap_here, space_here, bom_bytes, break_here, no_bom, no_skip, stays}
 use Rattle.yaml_scan_core.specs.declared.scanner.Scanner.{Scanner}
 use Rattle.yaml_scan_core.specs.Scanning.{IsCalm, IsPlace, MayBreak, Passes, PassesOne, StaysAt, gap_there}
 use Rattle.yaml_scan_core.proofs.PlacesLemmas.{byte_place, place_behind, place_on}

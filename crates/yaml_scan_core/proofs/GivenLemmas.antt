@@ -149,7 +149,7 @@ lost_number s n f =
 -- the BLOCK-ENDs that stand before it
 lost_ends : (s : Scanner) (n : ℕ) → HasFailed s (history s.text.now n)
     → (entry_at (finished_tokens (history s.text.now n))
-        (first_open (history s.text.now n) (history s.text.now n))).ends
+    (first_open (history s.text.now n) (history s.text.now n))).ends
     ≡ ends_known (row_lexeme (row_of s.row) (s.row.settled - 1)) (ends_at s.text.now (s.row.dropped + (s.row.settled - 1)))
 lost_ends s n f =
     let text = s.text.now in

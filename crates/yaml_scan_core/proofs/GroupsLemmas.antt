@@ -4,7 +4,7 @@ use Rattle.yaml_scan_core.proofs.Words.{cases_lt, nat_tests, yaml_mark_t, column
 use Rattle.std.proofs.lemmas.List.{get_or-take}
 use Rattle.yaml_scan_model.specs.Tokens as tokens
 use Rattle.yaml_scan_model.specs.Marks.{is_blank_or_end}
-use Rattle.yaml_scan_words.specs.Indicators.{is_document_start, is_document_end}
+use Rattle.yaml_scan_history.specs.Indicators.{is_document_start, is_document_end}
 use Rattle.std.specs.Prelude.{◌==◌}
 use Rattle.yaml_scan_model.specs.Tokens.{TokenBody}
 use Rattle.yaml_scan_history.specs.declared.kind.Kind.TheVariants as reads

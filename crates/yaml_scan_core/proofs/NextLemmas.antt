@@ -4,7 +4,7 @@ use Rattle.yaml_scan_core.proofs.Words.{cases_Bool, nat_tests, set, yaml_mark_t,
 use Rattle.yaml_scan_history.specs.History.{as_key}
 use Rattle.yaml_scan_core.specs.Candidates.{late}
 use Rattle.yaml_scan_core.proofs.LinesLemmas.{line_upto}
-use Rattle.yaml_scan_words.proofs.PlacesLemmas.{gap_place}
+use Rattle.yaml_scan_history.proofs.PlacesLemmas.{gap_place}
 use Rattle.yaml_scan_core.proofs.ReadLemmas.{next_is, first_is, begun_at, gap_of, finished_same}
 use Rattle.yaml_scan_core.proofs.StepLemmas.{candidate_top, each_history}
 

@@ -2,14 +2,14 @@
 use Rattle.std.proofs.Common.{◌≡◌, ℕ, zero, suc, ◌+◌, ◌-◌, ◌*◌, ◌^◌, ◌<◌, ◌≤◌, eqb, ltb, List, length, Result, Ok, Err, inl, inr, arith, pow-suc}
 use Rattle.yaml_scan_core.proofs.Words.{cases_Bool, nat_tests, byte, Wrong}
 use Rattle.yaml_scan_model.specs.Ascii as ascii
-use Rattle.yaml_scan_words.specs.Directives as directives
-use Rattle.yaml_scan_words.specs.Directives.{DirectiveText, Said, ValueText, decimal, directive_at, finished, line_end_at, minor_at, named_value_at, name_at, number_at, number_between, tag_directive_at, then_at, value_at, version_at, with_line, with_major, with_prefix}
-use Rattle.yaml_scan_words.specs.declared.directives.DirectiveName.{DirectiveName}
-use Rattle.yaml_scan_words.specs.declared.directives.DirectiveName.TheVariants as names
-use Rattle.yaml_scan_words.specs.declared.run.Run.TheVariants as runs
-use Rattle.yaml_scan_words.specs.Runs.{run_end}
-use Rattle.yaml_scan_words.proofs.DirectivesLemmas.{AreDigits, digit_here, power-room}
-use Rattle.yaml_scan_words.proofs.RunsLemmas.{run_each, run_within-ge}
+use Rattle.yaml_scan_history.specs.Directives as directives
+use Rattle.yaml_scan_history.specs.Directives.{DirectiveText, Said, ValueText, decimal, directive_at, finished, line_end_at, minor_at, named_value_at, name_at, number_at, number_between, tag_directive_at, then_at, value_at, version_at, with_line, with_major, with_prefix}
+use Rattle.yaml_scan_history.specs.declared.directives.DirectiveName.{DirectiveName}
+use Rattle.yaml_scan_history.specs.declared.directives.DirectiveName.TheVariants as names
+use Rattle.yaml_scan_history.specs.declared.run.Run.TheVariants as runs
+use Rattle.yaml_scan_history.specs.Runs.{run_end}
+use Rattle.yaml_scan_history.proofs.DirectivesLemmas.{AreDigits, digit_here, power-room}
+use Rattle.yaml_scan_history.proofs.WordsRunsLemmas.{run_each, run_within-ge}
 
 -- a version's numbers are small
 abbrev pub IsSmallSaid : Said → Type 0

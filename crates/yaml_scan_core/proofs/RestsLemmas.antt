@@ -526,7 +526,7 @@ starts_going s row room keys margins at line wide allowed going fault long bytes
 -- where as many wait as are asked for, one is there
 pub one_waits : (r : RowView) (batch waiting : ℕ) → r.next ≤ r.settled → 0 < batch → batch ≤ waiting
     → (r.next < length r.lexemes → waiting
-        ≡ max (r.settled - r.next) (cond (ltb 0 (row_lexeme r r.next).ends) 1 0))
+    ≡ max (r.settled - r.next) (cond (ltb 0 (row_lexeme r r.next).ends) 1 0))
     → (length r.lexemes ≤ r.next → waiting ≡ r.settled - r.next) → IsThere r
 one_waits r batch waiting taken some many there none = elim (cases_lt r.next r.settled) [
   | inl low ↦ inl low

@@ -130,7 +130,7 @@ failed_by : (s : Scanner) (n : ℕ) (row : Row) (v : RowView) → HasFailed s (h
     ShowsRow (stream_of s) (but_last v) (take (first_open h h) (finished_tokens h))
     → 0 < v.settled → v.settled ≡ length v.lexemes
     → IsLost s.text.now (ltb (v.next + 1) v.settled) (row_lexeme v (v.settled - 1))
-        (entry_at (finished_tokens h) (first_open h h))
+    (entry_at (finished_tokens h) (first_open h h))
     → loses_none (row_lexeme v (v.settled - 1)) ≡ not (ltb (first_open h h) (length h))
     → HasFailed (record s { row = row }) (history s.text.now n)
 failed_by s n row v f is shows some all lost none =

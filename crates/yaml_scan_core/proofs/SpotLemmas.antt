@@ -4,8 +4,8 @@ use Rattle.yaml_scan_core.proofs.Words.{cases_Bool, nat_tests, byte, mark_at, st
 use Rattle.yaml_scan_model.specs.Marks.{break_of, break_width, is_blank}
 use Rattle.yaml_scan_model.proofs.MarksLemmas.{within}
 use Rattle.yaml_scan_model.specs.Wrong.{scan_fault}
-use Rattle.yaml_scan_words.specs.Plain.{is_bracket, is_indicator_byte, plain_at, starts_plain}
-use Rattle.yaml_scan_words.specs.Indicators.{is_document_start, is_document_end}
+use Rattle.yaml_scan_history.specs.Plain.{is_bracket, is_indicator_byte, plain_at, starts_plain}
+use Rattle.yaml_scan_history.specs.Indicators.{is_document_start, is_document_end}
 use Rattle.yaml_scan_history.specs.History.{keeps}
 use Rattle.yaml_scan_history.specs.Next.{gap_behind}
 use Rattle.yaml_scan_history.specs.Words.{blocked, directed, or_plain, plainly, tagged, valued}
@@ -15,11 +15,11 @@ use Rattle.yaml_scan_model.specs.declared.name.yaml_scalar_style_t.{yaml_scalar_
 use Rattle.yaml_scan_model.specs.declared.name.yaml_scalar_style_t.TheVariants as styles
 use Rattle.yaml_scan_model.specs.declared.problem.Context.TheVariants as contexts
 use Rattle.yaml_scan_model.specs.Tokens as tokens
-use Rattle.yaml_scan_words.specs.Block.{BlockText, block_at, style_at}
-use Rattle.yaml_scan_words.specs.Quoted.{quoted_at}
-use Rattle.yaml_scan_words.specs.Anchors.{anchor_at}
-use Rattle.yaml_scan_words.specs.Directives.{directive_at}
-use Rattle.yaml_scan_words.specs.Tags.{tag_at}
+use Rattle.yaml_scan_history.specs.Block.{BlockText, block_at, style_at}
+use Rattle.yaml_scan_history.specs.Quoted.{quoted_at}
+use Rattle.yaml_scan_history.specs.Anchors.{anchor_at}
+use Rattle.yaml_scan_history.specs.Directives.{directive_at}
+use Rattle.yaml_scan_history.specs.Tags.{tag_at}
 use Rattle.yaml_scan_text.specs.PlainRead.{IsWord}
 use Rattle.yaml_scan_text.specs.Refused.{Keeps}
 use Rattle.yaml_scan_text.specs.declared.refusal.Refusal.{Refusal}
@@ -305,13 +305,13 @@ style_greater text p e = rw e refl
 
 pub alias_word : (flow : Bool) (level : ℕ) (text : List ℕ) (p : ℕ)
     → lexeme_at reads.Alias flow level text p
-        ≡ valued tokens.alias (anchor_at contexts.Alias text p)
+    ≡ valued tokens.alias (anchor_at contexts.Alias text p)
 unfolding lexeme_at
 alias_word flow level text p = refl
 
 pub anchor_word : (flow : Bool) (level : ℕ) (text : List ℕ) (p : ℕ)
     → lexeme_at reads.Anchor flow level text p
-        ≡ valued tokens.anchor (anchor_at contexts.Anchor text p)
+    ≡ valued tokens.anchor (anchor_at contexts.Anchor text p)
 unfolding lexeme_at
 anchor_word flow level text p = refl
 
@@ -332,26 +332,26 @@ plain_read flow level text p = refl
 
 pub single_word : (flow : Bool) (level : ℕ) (text : List ℕ) (p : ℕ) → byte text p ≡ 39
     → lexeme_at reads.SingleQuoted flow level text p
-        ≡ valued (scalar_body styles.YAML_SINGLE_QUOTED_SCALAR_STYLE)
-        (quoted_at (byte text p) text p)
+    ≡ valued (scalar_body styles.YAML_SINGLE_QUOTED_SCALAR_STYLE)
+    (quoted_at (byte text p) text p)
 unfolding lexeme_at
 single_word flow level text p e = ap (λ q. valued (scalar_body styles.YAML_SINGLE_QUOTED_SCALAR_STYLE) (quoted_at q text p)) (sym e)
 
 pub double_word : (flow : Bool) (level : ℕ) (text : List ℕ) (p : ℕ) → byte text p ≡ 34
     → lexeme_at reads.DoubleQuoted flow level text p
-        ≡ valued (scalar_body styles.YAML_DOUBLE_QUOTED_SCALAR_STYLE)
-        (quoted_at (byte text p) text p)
+    ≡ valued (scalar_body styles.YAML_DOUBLE_QUOTED_SCALAR_STYLE)
+    (quoted_at (byte text p) text p)
 unfolding lexeme_at
 double_word flow level text p e = ap (λ q. valued (scalar_body styles.YAML_DOUBLE_QUOTED_SCALAR_STYLE) (quoted_at q text p)) (sym e)
 
 pub literal_word : (flow : Bool) (level : ℕ) (text : List ℕ) (p : ℕ) → byte text p ≡ 124
     → lexeme_at reads.Literal flow level text p
-        ≡ blocked styles.YAML_LITERAL_SCALAR_STYLE (block_at level text p)
+    ≡ blocked styles.YAML_LITERAL_SCALAR_STYLE (block_at level text p)
 unfolding lexeme_at
 literal_word flow level text p e = ap (λ s. blocked s (block_at level text p)) (style_bar text p e)
 
 pub folded_word : (flow : Bool) (level : ℕ) (text : List ℕ) (p : ℕ) → byte text p ≡ 62
     → lexeme_at reads.Folded flow level text p
-        ≡ blocked styles.YAML_FOLDED_SCALAR_STYLE (block_at level text p)
+    ≡ blocked styles.YAML_FOLDED_SCALAR_STYLE (block_at level text p)
 unfolding lexeme_at
 folded_word flow level text p e = ap (λ s. blocked s (block_at level text p)) (style_greater text p e)

@@ -2,7 +2,7 @@
 use Rattle.std.proofs.Common.{◌≡◌, ℕ, ◌+◌, ◌<◌, Bool, true, false, cond, ltb, ◌&&◌, ◌||◌, not, inl, inr, List, length, Option, Some, None, Result, Ok, Err, refl, sym, ap, subst, ◌∙◌, arith}
 use Rattle.std.specs.Prelude.{filter, nat_le}
 use Rattle.yaml_scan_core.proofs.Words.{yaml_mark_t, mark_at, column_at, Kind, Lexeme, candidate, reached, flow_depth, ended, open_levels, key_allowed, keeps, kind_at, Fails, missed, next, history, colon_missing, no_start, required_in, required_at, inner, stack_of, late, index_in, Upto, length-entries}
-use Rattle.yaml_scan_words.specs.Between.{Gap, gap_at, with_break}
+use Rattle.yaml_scan_history.specs.Between.{Gap, gap_at, with_break}
 use Rattle.yaml_scan_history.specs.Next.{gap_behind}
 use Rattle.yaml_scan_core.specs.declared.fault.Fault.{Fault}
 use Rattle.yaml_scan_core.specs.declared.fault.Refused.{Refused}

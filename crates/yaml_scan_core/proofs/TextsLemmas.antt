@@ -108,7 +108,7 @@ there_stream old mid s = ap (λ (x : Scanner). stream_of x) s.rest
 pub word_shows : (k : Kind) (old mid : Scanner) (h : List Lexeme) (n : ℕ) (w : Word) (x : WordText)
     → ReadThere k old mid h n w x
     → ShowsRow (stream_of old) (put w (row_of mid.row))
-        (finished_tokens (put_at k x old.text.now h ∷ h))
+    (finished_tokens (put_at k x old.text.now h ∷ h))
 word_shows k old mid h n w x r =
     let a = r.stands in
     let text = old.text.now in

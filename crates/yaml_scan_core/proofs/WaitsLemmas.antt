@@ -153,7 +153,7 @@ needs_dropped s row g d = record {
 pub waits_not : (s : Scanner) (r : ℕ) → r < 1 → s.row.settled ≤ length s.row.lexemes.items
     → (s.row.next < length s.row.lexemes.items
     → r ≡ max (s.row.settled - s.row.next)
-        (cond (ltb 0 (row_lexeme (row_of s.row) s.row.next).ends) 1 0))
+    (cond (ltb 0 (row_lexeme (row_of s.row) s.row.next).ends) 1 0))
     → (length s.row.lexemes.items ≤ s.row.next → r ≡ s.row.settled - s.row.next) → knows s ≡ false
 waits_not s r less few some gone = elim (cases_lt s.row.next (length s.row.lexemes.items)) [
   | inl inside ↦

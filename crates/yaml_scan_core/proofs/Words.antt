@@ -38,7 +38,7 @@ pub use Rattle.yaml_scan_model.specs.declared.fault.yaml_origin_t.TheVariants.{R
 pub use Rattle.yaml_scan_model.specs.declared.name.yaml_encoding_t.{yaml_encoding_t}
 pub use Rattle.yaml_scan_model.specs.declared.problem.ScanFault.{ScanFault}
 pub use Rattle.yaml_scan_model.specs.declared.record.yaml_mark_t.{yaml_mark_t}
-pub use Rattle.yaml_scan_words.specs.Between.{Gap, gap_at}
+pub use Rattle.yaml_scan_history.specs.Between.{Gap, gap_at}
 pub use Rattle.yaml_scan_core.specs.Candidates.{AreKeys, AreKeysTo, AreStale, AreWithin, IsKey, KeyStack, KeyView, fresh_key, given_up, index_in, inner, key_at, key_mark, key_view, late, no_key, number_in, opened as key_opened, closed as key_closed, required_at, required_in, saved, stack_of, view_of}
 pub use Rattle.yaml_scan_core.specs.declared.keys.SimpleKey.{SimpleKey}
 pub use Rattle.yaml_scan_core.specs.declared.keys.Keys.{Keys}

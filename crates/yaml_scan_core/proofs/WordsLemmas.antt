@@ -6,13 +6,13 @@ use Rattle.yaml_scan_model.specs.declared.name.yaml_scalar_style_t.{yaml_scalar_
 use Rattle.yaml_scan_model.specs.declared.name.yaml_scalar_style_t.TheVariants as styles
 use Rattle.yaml_scan_model.specs.declared.problem.Context.{Context}
 use Rattle.yaml_scan_model.specs.Tokens as tokens
-use Rattle.yaml_scan_words.specs.Pieces.{bytes_at}
-use Rattle.yaml_scan_words.proofs.RunLemmas.{slice_bytes}
-use Rattle.yaml_scan_words.specs.Plain.{PlainText}
-use Rattle.yaml_scan_words.specs.Block.{BlockText}
-use Rattle.yaml_scan_words.specs.Tags.{TagText}
-use Rattle.yaml_scan_words.specs.Directives as directives
-use Rattle.yaml_scan_words.specs.Directives.{DirectiveText, Said, decimal}
+use Rattle.yaml_scan_history.specs.Pieces.{bytes_at}
+use Rattle.yaml_scan_history.proofs.RunLemmas.{slice_bytes}
+use Rattle.yaml_scan_history.specs.Plain.{PlainText}
+use Rattle.yaml_scan_history.specs.Block.{BlockText}
+use Rattle.yaml_scan_history.specs.Tags.{TagText}
+use Rattle.yaml_scan_history.specs.Directives as directives
+use Rattle.yaml_scan_history.specs.Directives.{DirectiveText, Said, decimal}
 use Rattle.yaml_scan_history.specs.Words.{blocked, body_said, directed, plainly, tagged, valued}
 use Rattle.yaml_scan_laws_order.proofs.WordForward.{LandsWord}
 use Rattle.yaml_scan_text.specs.Lines.{AtLine, line_start}

@@ -4,7 +4,7 @@ use Rattle.yaml_scan_core.proofs.Words.{and_parts, cases_Bool, cases_lt, nat_tes
 use Rattle.yaml_scan_history.specs.Stepwise.{tested, no_colon as comes_no_colon}
 use Rattle.yaml_scan_core.specs.Rows.{RowView}
 use Rattle.yaml_scan_history.specs.Words.{directed}
-use Rattle.yaml_scan_words.specs.Directives.{DirectiveText, directive_at}
+use Rattle.yaml_scan_history.specs.Directives.{DirectiveText, directive_at}
 use Rattle.yaml_scan_history.specs.declared.kind.Kind.TheVariants as reads
 use Rattle.yaml_scan_core.specs.declared.fault.Fault.{Fault}
 use Rattle.yaml_scan_core.specs.declared.fault.Refused.{Refused}

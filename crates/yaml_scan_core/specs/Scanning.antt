@@ -7,7 +7,7 @@ use Rattle.yaml_scan_model.specs.declared.problem.Problem.TheVariants as problem
 use Rattle.yaml_scan_model.specs.declared.problem.Context.TheVariants as contexts
 use Rattle.yaml_scan_model.specs.Ascii as ascii
 use Rattle.yaml_scan_model.specs.Marks.{byte, column_at, mark_at, splits_break, starts}
-use Rattle.yaml_scan_words.specs.Between.{Gap, gap_at, with_break}
+use Rattle.yaml_scan_history.specs.Between.{Gap, gap_at, with_break}
 use Rattle.yaml_scan_history.specs.declared.kind.Kind.{Kind as ReadKind}
 use Rattle.yaml_scan_history.specs.declared.kind.Kind.TheVariants as reads
 use Rattle.yaml_scan_history.specs.declared.lexeme.Lexeme.{Lexeme as Read}
@@ -339,7 +339,7 @@ pub record ShowsSettled (s : Scanner) (h : List Read) : Type 0 where
       ≡ (entry_at (finished_tokens h) (first_open h h)).ends
   pub start : first_open h h < length h
       → (entry_at all (first_open h h)).lexeme
-          ≡ (entry_at (finished_tokens h) (first_open h h)).lexeme
+      ≡ (entry_at (finished_tokens h) (first_open h h)).lexeme
   pub room : HasRoom s.row
   pub settled : s.row.dropped + s.row.settled ≤ first_open h h
   pub keys : TellsFirst s.text.now (stack_of s.keys) (read_by s) h

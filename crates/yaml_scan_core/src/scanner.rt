@@ -3,7 +3,7 @@
 ghost use Rattle.std.specs.Prelude.{IfOk, ℕ, ◌≡◌, ◌+◌, ◌-◌, ◌<◌, ◌≤◌, ◌^◌, ◌&&◌, ◌||◌, ◌==◌, not, true, false, length, nat_lt, Some, None, List};
 ghost use Rattle.yaml_scan_model.specs.Ascii as ascii;
 ghost use Rattle.yaml_scan_model.specs.Marks.{byte, column_at, is_blank_or_end};
-ghost use Rattle.yaml_scan_words.specs.Plain.{is_indicator_byte, starts_plain};
+ghost use Rattle.yaml_scan_history.specs.Plain.{is_indicator_byte, starts_plain};
 ghost use Rattle.yaml_scan_model.specs.Classes.{is_bom};
 ghost use Rattle.yaml_scan_history.specs.History.{keeps};
 ghost use Rattle.yaml_scan_history.specs.Words.{indicator_of, kind_at};
@@ -286,7 +286,7 @@ impl<'a> Scanner<'a> {
     }
 
     /// The kind of what stands here.
-    #[tactic(auto, using(crate::proofs::SpotLemmas::letter_kind), unfolding(yaml_scan_history::specs::Words::kind_at, yaml_scan_words::specs::Indicators::is_document_start, yaml_scan_words::specs::Indicators::is_document_end))]
+    #[tactic(auto, using(crate::proofs::SpotLemmas::letter_kind), unfolding(yaml_scan_history::specs::Words::kind_at, yaml_scan_history::specs::Indicators::is_document_start, yaml_scan_history::specs::Indicators::is_document_end))]
     fn kind_here(&self) -> Option<LexemeKind>
         requires some { 0 < length self.now.keys.levels.items }
         requires long { length self.now.text.now < 2 ^ 63 }
@@ -332,7 +332,7 @@ impl<'a> Scanner<'a> {
     }
 
     /// Whether a plain scalar starts here.
-    #[tactic(auto, unfolding(yaml_scan_words::specs::Plain::starts_plain))]
+    #[tactic(auto, unfolding(yaml_scan_history::specs::Plain::starts_plain))]
     fn starts_plain(&self) -> bool
         requires some { 0 < length self.now.keys.levels.items }
         requires few { self.now.at < 2 ^ 63 }
@@ -537,7 +537,7 @@ fn indicator(byte: u8, flow: bool, text: &[u8], next: usize) -> Option<LexemeKin
 }
 
 /// Whether the byte is one of YAML's indicators.
-#[tactic(auto, unfolding(yaml_scan_words::specs::Plain::is_indicator_byte, yaml_scan_words::specs::Plain::is_bracket))]
+#[tactic(auto, unfolding(yaml_scan_history::specs::Plain::is_indicator_byte, yaml_scan_history::specs::Plain::is_bracket))]
 fn is_indicator(byte: u8) -> bool
     ensures { result ≡ is_indicator_byte byte }
 {

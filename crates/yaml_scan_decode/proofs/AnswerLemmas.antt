@@ -5,15 +5,15 @@ use Rattle.yaml_scan_model.specs.declared.name.yaml_encoding_t.{yaml_encoding_t}
 use Rattle.yaml_scan_model.specs.declared.fault.yaml_fault_t.{yaml_fault_t}
 use Rattle.yaml_scan_model.specs.declared.fault.yaml_origin_t.TheVariants.{Reader}
 use Rattle.yaml_scan_model.specs.Faults.{Fault, fault_of, memory_fault}
-use Rattle.yaml_scan_characters.specs.declared.offence.Offence.{Offence}
+use Rattle.yaml_scan_decode.specs.declared.offence.Offence.{Offence}
 use Rattle.yaml_scan_decode.specs.declared.decode.yaml_text_t.{yaml_text_t}
-use Rattle.yaml_scan_characters.specs.Offences.{reader_fault}
-use Rattle.yaml_scan_characters.specs.Encodings.{encoding_of, mark_length}
-use Rattle.yaml_scan_characters.specs.Decoding.{characters, in_utf8, decoded_text, first_offence}
-use Rattle.yaml_scan_characters.specs.Spelling.{Spells, SpellsNothing}
+use Rattle.yaml_scan_decode.specs.Offences.{reader_fault}
+use Rattle.yaml_scan_decode.specs.Encodings.{encoding_of, mark_length}
+use Rattle.yaml_scan_decode.specs.Decoding.{characters, in_utf8, decoded_text, first_offence}
+use Rattle.yaml_scan_decode.specs.Spelling.{Spells, SpellsNothing}
 use Rattle.yaml_scan_decode.specs.DecodedText.{text_bytes, fault_in, decoding_fault}
-use Rattle.yaml_scan_characters.proofs.DecodeLemmas.{AreBytes}
-use Rattle.yaml_scan_characters.proofs.CompleteLemmas.{decoded_spells, offence_unspelled}
+use Rattle.yaml_scan_decode.proofs.DecodeLemmas.{AreBytes}
+use Rattle.yaml_scan_decode.proofs.CompleteLemmas.{decoded_spells, offence_unspelled}
 
 pub units_spelled : (s e : yaml_encoding_t) (bytes : List ℕ) (p : ℕ)
     (r : Result yaml_text_t yaml_fault_t) → AreBytes bytes → encoding_of s bytes ≡ e

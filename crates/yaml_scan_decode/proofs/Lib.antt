@@ -1,5 +1,8 @@
 pub mod AnswerLemmas
+pub mod DecodeLemmas
+pub mod SpellingLemmas
+pub mod CompleteLemmas
+pub mod CommonLemmas
+mod Rules
+
 -- the lemmas of characters, passed on
-pub use Rattle.yaml_scan_characters.proofs.DecodeLemmas
-pub use Rattle.yaml_scan_characters.proofs.SpellingLemmas
-pub use Rattle.yaml_scan_characters.proofs.CompleteLemmas

@@ -4,11 +4,11 @@ use Rattle.std.specs.Result.{result_err}
 use Rattle.yaml_scan_model.specs.declared.name.yaml_encoding_t.{yaml_encoding_t}
 use Rattle.yaml_scan_model.specs.declared.name.yaml_encoding_t.TheVariants.{YAML_ANY_ENCODING, YAML_UTF8_ENCODING, YAML_UTF16LE_ENCODING, YAML_UTF16BE_ENCODING}
 use Rattle.yaml_scan_model.specs.Faults.{Fault}
-use Rattle.yaml_scan_characters.specs.declared.offence.Offence.{Offence}
+use Rattle.yaml_scan_decode.specs.declared.offence.Offence.{Offence}
 use Rattle.yaml_scan_decode.specs.declared.decode.yaml_text_t.{yaml_text_t}
 use Rattle.yaml_scan_decode.specs.declared.decode.yaml_text_t.TheVariants.{Borrowed, Owned}
-use Rattle.yaml_scan_characters.specs.Offences.{reader_fault}
-use Rattle.yaml_scan_characters.specs.Decoding.{first_offence}
+use Rattle.yaml_scan_decode.specs.Offences.{reader_fault}
+use Rattle.yaml_scan_decode.specs.Decoding.{first_offence}
 
 -- the bytes of a decoded text
 abbrev pub text_bytes : yaml_text_t → List ℕ

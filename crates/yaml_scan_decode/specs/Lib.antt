@@ -1,9 +1,10 @@
 pub mod DecodedText
+pub mod Encodings
+pub mod Offences
+pub mod Characters
+pub mod Steps
+pub mod Decoding
+pub mod Spelling
+pub mod Rules
+
 -- the definitions of characters, passed on
-pub use Rattle.yaml_scan_characters.specs.Encodings
-pub use Rattle.yaml_scan_characters.specs.Offences
-pub use Rattle.yaml_scan_characters.specs.Characters
-pub use Rattle.yaml_scan_characters.specs.Steps
-pub use Rattle.yaml_scan_characters.specs.Decoding
-pub use Rattle.yaml_scan_characters.specs.Spelling
-pub use Rattle.yaml_scan_characters.specs.Rules

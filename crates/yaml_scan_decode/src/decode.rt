@@ -4,16 +4,16 @@ ghost use Rattle.std.specs.Prelude.{◌≡◌, ◌≤◌, length, Some, Ok, fals
 ghost use Rattle.yaml_scan_model.specs.declared.name.yaml_encoding_t.TheVariants.{YAML_UTF8_ENCODING};
 ghost use Rattle.yaml_scan_model.specs.declared.fault.yaml_origin_t.TheVariants.{Reader};
 ghost use Rattle.yaml_scan_model.specs.Faults.{fault_of, memory_fault};
-ghost use Rattle.yaml_scan_characters.specs.Encodings.{encoding_of};
-ghost use Rattle.yaml_scan_characters.specs.Characters.{encoding_by};
-ghost use Rattle.yaml_scan_characters.specs.Decoding.{characters, in_utf8, decoded_text};
-ghost use Rattle.yaml_scan_characters.specs.Spelling.{Spells, SpellsNothing};
+ghost use Rattle.yaml_scan_decode.specs.Encodings.{encoding_of};
+ghost use Rattle.yaml_scan_decode.specs.Characters.{encoding_by};
+ghost use Rattle.yaml_scan_decode.specs.Decoding.{characters, in_utf8, decoded_text};
+ghost use Rattle.yaml_scan_decode.specs.Spelling.{Spells, SpellsNothing};
 ghost use Rattle.yaml_scan_decode.specs.DecodedText.{text_bytes, is_borrowed, is_utf8, decoding_fault, fault_in};
 
-use std::alloc::Global;
-use yaml_scan_characters::{
+use crate::{
     ByteOrder, DecodeError, check_utf8, decode_utf16, removed_mark_length, stream_encoding,
 };
+use std::alloc::Global;
 use yaml_scan_model::{yaml_encoding_t, yaml_fault_t, yaml_memory_fault, yaml_origin_t};
 
 /// A decoded text, in UTF-8.

@@ -2,10 +2,15 @@
 #![tactic(auto)]
 
 mod decode;
-pub mod offence;
-pub mod utf16;
+mod encoding;
+mod laws;
+mod offence;
+mod utf16;
+mod utf8;
 
 pub use decode::{yaml_decode, yaml_text_t};
-pub use offence::{Character, Offence};
-pub use utf16::ByteOrder;
-pub use yaml_scan_characters::stream_encoding;
+pub use encoding::{removed_mark_length, stream_encoding};
+pub use laws::offences_are_told;
+pub use offence::{Character, Offence, ReaderProblem};
+pub use utf8::check_utf8;
+pub use utf16::{ByteOrder, DecodeError, decode_utf16};

@@ -2,14 +2,37 @@ pub mod HistoryLemmas
 pub mod StepwiseLemmas
 mod Roles
 pub mod Rules
+mod Words
+pub mod WordsRunsLemmas
+pub mod BetweenLemmas
+pub mod UrisLemmas
+pub mod DirectivesLemmas
+pub mod PlacesLemmas
+pub mod HasLemmas
+pub mod GapsRead
+pub mod NamesRead
+pub mod UrisRead
+pub mod TagsRead
+mod Unbounding
+mod ScalarWords
+pub mod FoldingLemmas
+pub mod EscapeLemmas
+pub mod QuotedLemmas
+pub mod RunLemmas
+pub mod PlainLemmas
+mod UnboundingScalars
+mod Digits
+mod BlockWords
+pub mod StackingLemmas
+pub mod BlockLemmas
+pub mod HeaderLemmas
+pub mod DepthLemmas
+pub mod ScalarLemmas
+mod UnboundingBlocks
+mod Indents
 -- what it stands on, for crates of laws that name this one alone
 pub use Rattle.yaml_scan_decode.proofs.CompleteLemmas
 pub use Rattle.yaml_scan_decode.proofs.SpellingLemmas
 pub use Rattle.yaml_scan_model.proofs.MarksLemmas
 pub use Rattle.yaml_scan_model.proofs.RunsLemmas
-pub use Rattle.yaml_scan_words.proofs.PlainLemmas
-pub use Rattle.yaml_scan_words.proofs.BetweenLemmas
-pub use Rattle.yaml_scan_words.proofs.GapsRead
-pub use Rattle.yaml_scan_words.proofs.HasLemmas
-pub use Rattle.yaml_scan_words.proofs.PlacesLemmas
-pub use Rattle.yaml_scan_words.proofs.RunsLemmas as WordsRunsLemmas
+pub use Rattle.yaml_scan_model.proofs as scan_model

@@ -11,17 +11,17 @@ use Rattle.yaml_scan_model.specs.Marks.{byte, break_width, is_blank_or_end}
 use Rattle.yaml_scan_model.specs.Breaks.{is_document_indicator}
 use Rattle.yaml_scan_model.specs.Classes.{is_alpha, is_digit, is_blank}
 use Rattle.yaml_scan_model.specs.Wrong.{Wrong}
-use Rattle.yaml_scan_words.specs.Runs.{belongs, run_end}
-use Rattle.yaml_scan_words.specs.UnboundedBlocks.{EndsBlockRun}
-use Rattle.yaml_scan_words.specs.Anchors.{may_end_name, name_between, anchor_at}
-use Rattle.yaml_scan_words.specs.Uris.{due_behind, spot_at, uri_at, some_uri_at}
-use Rattle.yaml_scan_words.specs.Tags.{TagText, name_end, bracketed, parts_at, may_end_tag, ended}
-use Rattle.yaml_scan_words.specs.Directives.{is_yaml, is_tag, name_between as directive_between, name_at, number_between, number_at, minor_at, version_at, handle_at, prefix_ended, with_prefix, prefix_at, tag_directive_at, named_value_at, value_at, ValueText, then_at, comment_end, break_end, with_line, finished, directive_at}
-use Rattle.yaml_scan_words.proofs.RunsLemmas.{run_to, run_stop}
-use Rattle.yaml_scan_words.specs.Quoted.{standing_at, escape_at, hex_len, hex_value, simple_escape, coded, escaped}
-use Rattle.yaml_scan_words.specs.Plain as plain
-use Rattle.yaml_scan_words.specs.Header.{header_at}
-use Rattle.yaml_scan_words.specs.Lines.{lines_from}
+use Rattle.yaml_scan_history.specs.Runs.{belongs, run_end}
+use Rattle.yaml_scan_history.specs.UnboundedBlocks.{EndsBlockRun}
+use Rattle.yaml_scan_history.specs.Anchors.{may_end_name, name_between, anchor_at}
+use Rattle.yaml_scan_history.specs.Uris.{due_behind, spot_at, uri_at, some_uri_at}
+use Rattle.yaml_scan_history.specs.Tags.{TagText, name_end, bracketed, parts_at, may_end_tag, ended}
+use Rattle.yaml_scan_history.specs.Directives.{is_yaml, is_tag, name_between as directive_between, name_at, number_between, number_at, minor_at, version_at, handle_at, prefix_ended, with_prefix, prefix_at, tag_directive_at, named_value_at, value_at, ValueText, then_at, comment_end, break_end, with_line, finished, directive_at}
+use Rattle.yaml_scan_history.proofs.WordsRunsLemmas.{run_to, run_stop}
+use Rattle.yaml_scan_history.specs.Quoted.{standing_at, escape_at, hex_len, hex_value, simple_escape, coded, escaped}
+use Rattle.yaml_scan_history.specs.Plain as plain
+use Rattle.yaml_scan_history.specs.Header.{header_at}
+use Rattle.yaml_scan_history.specs.Lines.{lines_from}
 use Rattle.yaml_scan_history.specs.declared.kind.Kind.TheVariants as kinds
 use Rattle.yaml_scan_history.specs.Words.{lexeme_at}
 use Rattle.yaml_scan_history.specs.Rules.{TellsAll, IsTold, NoName, NamesAreTold, TagsAreTold, IsYaml, IsTagDirective, DirectivesAreTold, IsStandingTold, IsEscape, QuotesAreTold, PlainsAreTold, BlocksAreTold, PlacesAreTold}

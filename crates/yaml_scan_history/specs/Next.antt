@@ -15,7 +15,7 @@ use Rattle.yaml_scan_history.specs.declared.lexeme.Lexeme.{Lexeme}
 use Rattle.yaml_scan_history.specs.Kinds.{may_be_key, cancels, is_value, is_start, is_end}
 use Rattle.yaml_scan_history.specs.History.{reached, flow_depth, in_flow, Candidate, candidate, fresh, open_at, has, is_fresh, margin_at, indent, left_by, open_levels, key_allowed, placed}
 use Rattle.yaml_scan_history.specs.Words.{WordText, lexeme_at, kind_at}
-use Rattle.yaml_scan_words.specs.Between.{Gap, gap_at}
+use Rattle.yaml_scan_history.specs.Between.{Gap, gap_at}
 
 -- a lexeme that was read, or the fault that comes in its place, or nothing after the end
 pub data Next : Type 0 where

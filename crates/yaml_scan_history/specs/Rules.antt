@@ -10,16 +10,16 @@ use Rattle.yaml_scan_model.specs.Breaks.{is_document_indicator}
 use Rattle.yaml_scan_model.specs.Classes.{is_alpha, is_digit, is_blank}
 use Rattle.yaml_scan_model.specs.Runs.{is_text, past_spaces}
 use Rattle.yaml_scan_model.specs.Wrong.{Wrong}
-use Rattle.yaml_scan_words.specs.UnboundedBlocks.{EndsBlockRun, IsTabbed}
-use Rattle.yaml_scan_words.specs.Anchors.{may_end_name}
-use Rattle.yaml_scan_words.specs.Uris.{UriSpot, Spells, Ends, Faulty, octet_at, spot_at, uri_at, some_uri_at}
-use Rattle.yaml_scan_words.specs.Tags.{TagText, parts_at, may_end_tag}
-use Rattle.yaml_scan_words.specs.Directives.{is_yaml, is_tag, value_at, ValueText, handle_at, comment_end, most_digits}
-use Rattle.yaml_scan_words.specs.Quoted.{QuotedSpot, Bad, standing_at, hex_len, hex_value, is_scalar, simple_escape}
-use Rattle.yaml_scan_words.specs.Quoted as quoted
-use Rattle.yaml_scan_words.specs.Plain as plain
-use Rattle.yaml_scan_words.specs.Header.{digit_place, header_end, header_at}
-use Rattle.yaml_scan_words.specs.Lines.{Tab, line_spot, lines_from}
+use Rattle.yaml_scan_history.specs.UnboundedBlocks.{EndsBlockRun, IsTabbed}
+use Rattle.yaml_scan_history.specs.Anchors.{may_end_name}
+use Rattle.yaml_scan_history.specs.Uris.{UriSpot, Spells, Ends, Faulty, octet_at, spot_at, uri_at, some_uri_at}
+use Rattle.yaml_scan_history.specs.Tags.{TagText, parts_at, may_end_tag}
+use Rattle.yaml_scan_history.specs.Directives.{is_yaml, is_tag, value_at, ValueText, handle_at, comment_end, most_digits}
+use Rattle.yaml_scan_history.specs.Quoted.{QuotedSpot, Bad, standing_at, hex_len, hex_value, is_scalar, simple_escape}
+use Rattle.yaml_scan_history.specs.Quoted as quoted
+use Rattle.yaml_scan_history.specs.Plain as plain
+use Rattle.yaml_scan_history.specs.Header.{digit_place, header_end, header_at}
+use Rattle.yaml_scan_history.specs.Lines.{Tab, line_spot, lines_from}
 use Rattle.yaml_scan_history.specs.declared.kind.Kind.TheVariants as kinds
 use Rattle.yaml_scan_history.specs.Words.{lexeme_at}
 use Rattle.yaml_scan_history.specs.Next.{colon_missing, no_start, not_allowed_there}
@@ -144,7 +144,7 @@ pub record DirectivesAreTold : Type 0 where
   pub no_handle : (flow : Bool) (level : ℕ) (text : List ℕ) (p r : ℕ)
       → IsTagDirective text p r → byte text r ≢ ascii.exclamation
       → IsTold (lexeme_at kinds.Directive flow level text p)
-          (codes "while scanning a tag directive")
+      (codes "while scanning a tag directive")
       (codes "did not find expected '!'") r
   pub open_handle : (flow : Bool) (level : ℕ) (text : List ℕ) (p r e : ℕ)
       → IsTagDirective text p r → byte text r ≡ ascii.exclamation
@@ -157,14 +157,14 @@ pub record DirectivesAreTold : Type 0 where
       → IsTagDirective text p r → handle_at text r ≡ Ok h
       → is_blank text h.1 ≡ false
       → IsTold (lexeme_at kinds.Directive flow level text p)
-          (codes "while scanning a %TAG directive")
+      (codes "while scanning a %TAG directive")
       (codes "did not find expected whitespace") h.1
   pub behind_prefix : (flow : Bool) (level : ℕ) (text : List ℕ) (p r f : ℕ) (h u : List ℕ × ℕ)
       → IsTagDirective text p r → handle_at text r ≡ Ok h
       → is_blank text h.1 ≡ true → EndsBlockRun is_blank text h.1 f
       → some_uri_at contexts.TagDirectiveUri true text f ≡ Ok u → is_blank_or_end text u.1 ≡ false
       → IsTold (lexeme_at kinds.Directive flow level text p)
-          (codes "while scanning a %TAG directive")
+      (codes "while scanning a %TAG directive")
       (codes "did not find expected whitespace or line break") u.1
   -- after the value something else than a comment
   pub line : (flow : Bool) (level : ℕ) (text : List ℕ) (p r : ℕ) (v : ValueText)

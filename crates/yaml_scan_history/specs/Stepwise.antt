@@ -8,7 +8,7 @@ use Rattle.yaml_scan_history.specs.declared.lexeme.Lexeme.{Lexeme}
 use Rattle.yaml_scan_history.specs.History.{reached, flow_depth, candidate, fresh, placed}
 use Rattle.yaml_scan_history.specs.Next.{Next, Read, Fails, colon_missing, no_start, not_allowed_there, allowed_behind, begun, finished, misplaced, missed, lost_by}
 use Rattle.yaml_scan_history.specs.Words.{WordText, lexeme_at, kind_at}
-use Rattle.yaml_scan_words.specs.Between.{Gap}
+use Rattle.yaml_scan_history.specs.Between.{Gap}
 
 abbrev pub no_colon : yaml_mark_t → yaml_mark_t → Next
 no_colon start place = Fails (colon_missing start place)

@@ -8,14 +8,14 @@ use Rattle.yaml_scan_model.specs.Tokens as tokens
 use Rattle.yaml_scan_model.specs.Tokens.{TokenBody}
 use Rattle.yaml_scan_model.specs.Marks.{byte, column_at, is_blank_or_end}
 use Rattle.yaml_scan_model.specs.Wrong.{Wrong}
-use Rattle.yaml_scan_words.specs.Indicators.{is_document_start, is_document_end}
-use Rattle.yaml_scan_words.specs.Anchors.{anchor_at}
-use Rattle.yaml_scan_words.specs.Tags.{TagText, tag_at}
-use Rattle.yaml_scan_words.specs.Directives as directives
-use Rattle.yaml_scan_words.specs.Directives.{Said, DirectiveText, directive_at}
-use Rattle.yaml_scan_words.specs.Quoted.{double_quoted_at, single_quoted_at}
-use Rattle.yaml_scan_words.specs.Plain.{PlainText, plain_at, starts_plain}
-use Rattle.yaml_scan_words.specs.Block.{BlockText, block_at, style_at}
+use Rattle.yaml_scan_history.specs.Indicators.{is_document_start, is_document_end}
+use Rattle.yaml_scan_history.specs.Anchors.{anchor_at}
+use Rattle.yaml_scan_history.specs.Tags.{TagText, tag_at}
+use Rattle.yaml_scan_history.specs.Directives as directives
+use Rattle.yaml_scan_history.specs.Directives.{Said, DirectiveText, directive_at}
+use Rattle.yaml_scan_history.specs.Quoted.{double_quoted_at, single_quoted_at}
+use Rattle.yaml_scan_history.specs.Plain.{PlainText, plain_at, starts_plain}
+use Rattle.yaml_scan_history.specs.Block.{BlockText, block_at, style_at}
 use Rattle.yaml_scan_history.specs.declared.kind.Kind.{Kind}
 use Rattle.yaml_scan_history.specs.declared.kind.Kind.TheVariants as kinds
 

@@ -4,9 +4,9 @@ use Rattle.yaml_scan_laws_order.proofs.Words.{cases_Bool, cases_lt, eqb-true, na
 use Rattle.yaml_scan_history.specs.scan_model.Classes.{is_digit_byte}
 use Rattle.yaml_scan_history.specs.scan_model.Runs.{is_blank_there, is_text, past_blanks, line_end}
 use Rattle.yaml_scan_history.proofs.RunsLemmas.{past-inside, past-le, text_parts}
-use Rattle.yaml_scan_history.specs.scan_words.Value.{BlockLine, block_value}
-use Rattle.yaml_scan_history.specs.scan_words.Lines.{spaces, LineSpot, Stops, Line, Tab, spot_behind, line_spot, Lines, with_line, line_then, lines_from}
-use Rattle.yaml_scan_history.specs.scan_words.Header.{HeaderText, is_chomping, indicators, digit_place, past_comment, header_end, header_at}
+use Rattle.yaml_scan_history.specs.Value.{BlockLine, block_value}
+use Rattle.yaml_scan_history.specs.Lines.{spaces, LineSpot, Stops, Line, Tab, spot_behind, line_spot, Lines, with_line, line_then, lines_from}
+use Rattle.yaml_scan_history.specs.Header.{HeaderText, is_chomping, indicators, digit_place, past_comment, header_end, header_at}
 
 blank_some : (b : ℕ) → is_blank b ≡ true → 0 < b
 blank_some b h = grind (arith, nat_tests)

@@ -1,7 +1,7 @@
 -- The next lexeme stands after the ones before it.
 use Rattle.std.proofs.Common.{◌≡◌, ℕ, ◌≤◌, ◌&&◌, nat_lt, true, false, List, ◌∷◌, length, Option, Some, None, Result, Ok, Err, refl, sym, ap, subst, ◌∙◌, inl, inr, arith}
 use Rattle.yaml_scan_laws_order.proofs.Words.{cases_Bool, yaml_mark_t, mark_at, Wrong, gap_place, Kind, Lexeme, is_end, placed, flow_depth, key_allowed, candidate, fresh, WordText, kind_at, lexeme_at, Next, Read, Fails, Ends, begun, finished, allowed_behind, misplaced, missed, lost_by, next, StandsIn}
-use Rattle.yaml_scan_history.specs.scan_words.Between.{Gap, gap_at}
+use Rattle.yaml_scan_history.specs.Between.{Gap, gap_at}
 use Rattle.yaml_scan_history.specs.Stepwise.{no_colon, tested, unless_wrong, unless_lost, of_kind, unless_missed}
 use Rattle.yaml_scan_history.proofs.StepwiseLemmas.{stepwise}
 use Rattle.yaml_scan_laws_order.proofs.WordForward.{Fits, FitsAny, kind_fits, LandsWord, IsWordFrom, word_lands}

@@ -1,7 +1,7 @@
 -- Plain scalars, and the white after them, end after their start, inside the text.
 use Rattle.std.proofs.Common.{ℕ, zero, suc, ◌+◌, ◌<◌, ◌≤◌, ◌==◌, ◌&&◌, ◌||◌, nat_lt, Bool, List, [], ◌∷◌, length, Result, Ok, Err, inl, inr, arith}
 use Rattle.yaml_scan_laws_order.proofs.Words.{cases_Bool, ltb-true, byte, break_width, column_at, is_blank, Wrong, within, past_break, Piece, Kept, Blank, Break, is_bracket, leads, PlainSpot, Takes, Faulty, ends_at, spot_at, Words, is_nothing, with_piece, words_from, follows, words, PlainText, plain_with, plain_text, plain_at}
-use Rattle.yaml_scan_history.specs.scan_words.Plain.{Ends}
+use Rattle.yaml_scan_history.specs.Plain.{Ends}
 use Rattle.yaml_scan_history.proofs.PlainLemmas.{not_ended, blank_inside}
 
 abbrev Fits : List ℕ → ℕ → PlainSpot → Type 0

@@ -2,7 +2,7 @@
 use Rattle.std.proofs.Common.{◌≡◌, ℕ, zero, suc, ◌+◌, ◌*◌, ◌<◌, ◌≤◌, ◌==◌, ◌&&◌, nat_lt, false, List, length, Option, Some, None, option_and_then, option_map, Result, Ok, Err, inl, inr, arith}
 use Rattle.yaml_scan_laws_order.proofs.Words.{cases_Bool, ltb-true, eqb-true, and_parts, nat_tests, byte, break_width, is_blank, Wrong, within, past_break, behind_bytes, Lands, Piece, value, QuotedSpot, Closing, Pieces, Bad, hex_digit, hex_value, is_scalar, coded, hex_len, simple_escape, escaped, escape_at, quote_at, standing_at, with_front, followed, pieces, quoted_at}
 use Rattle.yaml_scan_history.specs.scan_model.Breaks.{is_document_indicator}
-use Rattle.yaml_scan_history.specs.scan_words.Quoted.{valued}
+use Rattle.yaml_scan_history.specs.Quoted.{valued}
 
 -- what is not 0 is more
 pub some_of : (b : ℕ) → (b == 0) ≡ false → 0 < b

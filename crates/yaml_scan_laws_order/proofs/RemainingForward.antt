@@ -68,7 +68,7 @@ shorter n xs h = let least = length-take n xs in omega (arith, least, h)
 -- a lexeme that is known is the next one of the list
 pub known_next : (text : List ℕ) (n k : ℕ) (e : Entry) → Known text n (suc k)
     → drop k (handed text) ≡ get_or (finished_tokens (history text n)) k e
-        ∷ drop (k + 1) (handed text)
+    ∷ drop (k + 1) (handed text)
 known_next text n k e known =
     let h = history text n in
     let long : suc k ≤ length (finished_tokens h) = omega (arith, known.few, length-entries h) in

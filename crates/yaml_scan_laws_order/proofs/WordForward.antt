@@ -4,8 +4,8 @@ use Rattle.yaml_scan_laws_order.proofs.Words.{cases_Bool, and_parts, eqb-true, t
 use Rattle.yaml_scan_history.specs.scan_model.declared.name.yaml_scalar_style_t.TheVariants as styles
 use Rattle.yaml_scan_history.specs.scan_model.declared.problem.Context.TheVariants as contexts
 use Rattle.yaml_scan_history.specs.scan_model.Tokens as tokens
-use Rattle.yaml_scan_history.specs.scan_words.Indicators.{is_document_start, is_document_end}
-use Rattle.yaml_scan_history.specs.scan_words.Directives.{finished}
+use Rattle.yaml_scan_history.specs.Indicators.{is_document_start, is_document_end}
+use Rattle.yaml_scan_history.specs.Directives.{finished}
 use Rattle.yaml_scan_history.specs.declared.kind.Kind.TheVariants as kinds
 use Rattle.yaml_scan_laws_order.proofs.QuotedForward.{quoted_place, some_of}
 use Rattle.yaml_scan_laws_order.proofs.PlainForward.{LandsPlain, plain_place}

@@ -17,7 +17,7 @@ unfoldable pub use Rattle.yaml_scan_history.specs.Words.{indicator_of, kind_at, 
 pub use Rattle.yaml_scan_history.specs.declared.kind.Kind.{Kind}
 pub use Rattle.yaml_scan_history.specs.declared.lexeme.Entry.{Entry}
 pub use Rattle.yaml_scan_history.specs.declared.lexeme.Lexeme.{Lexeme}
-pub use Rattle.yaml_scan_history.specs.scan_words.Block.{BlockText, block_at, block_behind, block_lines, block_with, column_of, style_at}
+pub use Rattle.yaml_scan_history.specs.Block.{BlockText, block_at, block_behind, block_lines, block_with, column_of, style_at}
 pub use Rattle.yaml_scan_history.specs.scan_model.Faults.{Fault}
 pub use Rattle.yaml_scan_history.specs.scan_model.Marks.{break_width, byte, ends_break, is_blank, is_blank_or_end, mark_at}
 unfoldable pub use Rattle.yaml_scan_history.specs.scan_model.Marks.{column_at, line_at}
@@ -27,13 +27,13 @@ pub use Rattle.yaml_scan_history.specs.scan_model.Wrong.{Wrong}
 pub use Rattle.yaml_scan_history.specs.scan_model.declared.name.yaml_scalar_style_t.{yaml_scalar_style_t}
 pub use Rattle.yaml_scan_history.specs.scan_model.declared.problem.ScanFault.{ScanFault}
 pub use Rattle.yaml_scan_history.specs.scan_model.declared.record.yaml_mark_t.{yaml_mark_t}
-pub use Rattle.yaml_scan_history.specs.scan_words.Pieces.{Blank, Break, Kept, Piece, value}
-pub use Rattle.yaml_scan_history.specs.scan_words.Plain.{Faulty, PlainSpot, PlainText, Takes, Words, ends_at, follows, is_bracket, is_nothing, leads, plain_at, plain_text, plain_with, starts_plain, with_piece, words_from}
-unfoldable pub use Rattle.yaml_scan_history.specs.scan_words.Plain.{spot_at, words}
-pub use Rattle.yaml_scan_history.specs.scan_words.Quoted.{Bad, Closing, Pieces, QuotedSpot, coded, double_quoted_at, escaped, followed, hex_len, is_scalar, quoted_at, single_quoted_at, with_front}
-unfoldable pub use Rattle.yaml_scan_history.specs.scan_words.Quoted.{escape_at, hex_digit, hex_value, pieces, quote_at, simple_escape, standing_at}
-pub use Rattle.yaml_scan_history.specs.scan_words.Anchors.{anchor_at}
-pub use Rattle.yaml_scan_history.specs.scan_words.Directives.{DirectiveText, Said, ValueText, directive_at, line_end_at, line_place, value_at, value_end, with_line}
-pub use Rattle.yaml_scan_history.specs.scan_words.Uris.{behind_bytes}
-pub use Rattle.yaml_scan_history.specs.scan_words.Tags.{TagText, tag_at, tag_end}
+pub use Rattle.yaml_scan_history.specs.Pieces.{Blank, Break, Kept, Piece, value}
+pub use Rattle.yaml_scan_history.specs.Plain.{Faulty, PlainSpot, PlainText, Takes, Words, ends_at, follows, is_bracket, is_nothing, leads, plain_at, plain_text, plain_with, starts_plain, with_piece, words_from}
+unfoldable pub use Rattle.yaml_scan_history.specs.Plain.{spot_at, words}
+pub use Rattle.yaml_scan_history.specs.Quoted.{Bad, Closing, Pieces, QuotedSpot, coded, double_quoted_at, escaped, followed, hex_len, is_scalar, quoted_at, single_quoted_at, with_front}
+unfoldable pub use Rattle.yaml_scan_history.specs.Quoted.{escape_at, hex_digit, hex_value, pieces, quote_at, simple_escape, standing_at}
+pub use Rattle.yaml_scan_history.specs.Anchors.{anchor_at}
+pub use Rattle.yaml_scan_history.specs.Directives.{DirectiveText, Said, ValueText, directive_at, line_end_at, line_place, value_at, value_end, with_line}
+pub use Rattle.yaml_scan_history.specs.Uris.{behind_bytes}
+pub use Rattle.yaml_scan_history.specs.Tags.{TagText, tag_at, tag_end}
 pub use Rattle.yaml_scan_laws_order.specs.Standing.{StandsIn, TakesBytes}

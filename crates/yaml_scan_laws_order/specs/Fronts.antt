@@ -42,7 +42,7 @@ EndsCome = (s : SpelledText) (n k given : ℕ) (e : Entry) → k ≤ first_open 
 abbrev pub FaultComes : Type 0
 FaultComes = (s : SpelledText) (n : ℕ) (p : ScanFault) (given : ℕ) → let h = history s.text n in
     next s.text h ≡ Fails p → length
-        (front_ends (drop (first_open h h) (finished_tokens h))) ≤ given
+    (front_ends (drop (first_open h h) (finished_tokens h))) ≤ given
     → remaining s (first_open h h) given
     ≡ record { tokens = []; fault = Some (scanner_fault p) }
 

@@ -2,9 +2,9 @@
 use Rattle.std.proofs.Common.{◌≡◌, ℕ, zero, suc, ◌+◌, ◌-◌, ◌≤◌, ◌==◌, ◌&&◌, ◌||◌, not, nat_lt, Bool, true, false, List, [], ◌∷◌, length, Result, Ok, Err, refl, true≢false, inl, inr, arith, IsUtf8}
 use Rattle.yaml_scan_laws_texts.proofs.Words.{cases_Bool, cases_lt, ltb-true, eqb-true, IsUtf8-nil, IsUtf8-append, byte, break_width, column_at, feed_at, is_feed, Wrong, BlockText, column_of, block_with, block_lines, block_behind, block_at}
 use Rattle.yaml_scan_laws_order.specs.scan_model.Runs.{past, is_text, line_end}
-use Rattle.yaml_scan_laws_order.specs.scan_words.Value.{BlockLine, Empty, Words, TextLine, Texts, add_line, texts_of, starts_blank, space_or, between, at_end, behind_text, value_with, block_value}
-use Rattle.yaml_scan_laws_order.specs.scan_words.Lines.{spaces, LineSpot, Stops, Line, Tab, spot_behind, line_spot, Lines, with_line, line_then, lines_from}
-use Rattle.yaml_scan_laws_order.specs.scan_words.Header.{HeaderText, chomp_of, digit_place, chomping_place, header_end, header_at}
+use Rattle.yaml_scan_laws_order.specs.scan_history.Value.{BlockLine, Empty, Words, TextLine, Texts, add_line, texts_of, starts_blank, space_or, between, at_end, behind_text, value_with, block_value}
+use Rattle.yaml_scan_laws_order.specs.scan_history.Lines.{spaces, LineSpot, Stops, Line, Tab, spot_behind, line_spot, Lines, with_line, line_then, lines_from}
+use Rattle.yaml_scan_laws_order.specs.scan_history.Header.{HeaderText, chomp_of, digit_place, chomping_place, header_end, header_at}
 use Rattle.yaml_scan_laws_texts.proofs.Whole.{IsWhole, whole_past, whole_ascii, whole_after, whole_before, whole_behind, ascii_utf8, break_utf8, slice_utf8}
 
 -- Values.

@@ -2,9 +2,9 @@
 use Rattle.std.proofs.Common.{add-zero, ◌≡◌, ℕ, zero, suc, ◌+◌, ◌-◌, ◌<◌, ◌≤◌, ◌==◌, ◌&&◌, ◌||◌, nat_lt, if◌then◌else◌, Bool, true, false, not, List, length, slice_range, Result, Ok, Err, refl, ap, ◌∙◌, inl, inr, arith, add_assoc}
 use Rattle.yaml_scan_laws_texts.proofs.Shared.{cases_Bool, cases_lt, eqb-true, ltb-true, nat_tests, byte, break_width, column_at, is_blank_or_end, feed_at, is_document_indicator, is_digit_byte, is_text, past_blanks, past_spaces, line_end, Wrong, larger, larger_of, depth_behind, deepest, column_of, BlockText, block_with, block_lines, block_behind, block_at, within, break_inside, past_stop, past_some, text_parts, Alike, is_onward}
 use Rattle.yaml_scan_history.specs.scan_model.declared.problem.Problem.TheVariants as problems
-use Rattle.yaml_scan_history.specs.scan_words.Value.{BlockLine, Words, block_value}
-use Rattle.yaml_scan_history.specs.scan_words.Lines.{in_block, spaces, LineSpot, Stops, Line, Tab, spot_behind, line_spot, Lines, with_line, lines_from}
-use Rattle.yaml_scan_history.specs.scan_words.Header.{HeaderText, is_chomping, chomp_of, digit_of, digit_place, chomping_place, indicators, past_comment, header_end, header_at}
+use Rattle.yaml_scan_history.specs.Value.{BlockLine, Words, block_value}
+use Rattle.yaml_scan_history.specs.Lines.{in_block, spaces, LineSpot, Stops, Line, Tab, spot_behind, line_spot, Lines, with_line, lines_from}
+use Rattle.yaml_scan_history.specs.Header.{HeaderText, is_chomping, chomp_of, digit_of, digit_place, chomping_place, indicators, past_comment, header_end, header_at}
 use Rattle.yaml_scan_laws_texts.proofs.Bytes.{IsQuiet, quiet_edge, quiet_break, width_alike, next_byte, column_alike}
 use Rattle.yaml_scan_laws_texts.proofs.Gaps.{RunsAlike, blanks_alike, spaces_alike, lines_alike, text_alike, range_alike, moved_by, At, at_step, at_break, ReadAlike, PlaceAlike}
 use Rattle.yaml_scan_laws_texts.proofs.Plains.{value_alike}

@@ -2,7 +2,7 @@
 use Rattle.std.proofs.Common.{◌≡◌, ℕ, zero, suc, ◌+◌, ◌-◌, ◌<◌, ◌≤◌, ◌==◌, ◌&&◌, nat_lt, Bool, true, false, List, Result, Ok, Err, refl, ap, ◌∙◌, inl, inr, arith, add_assoc}
 use Rattle.yaml_scan_laws_texts.proofs.Shared.{cases_Bool, eqb-true, nat_tests, byte, break_width, is_blank, is_blank_or_end, Wrong, belongs, some_uri_at, name_end, ValueText, value_end, DirectiveText, then_at, is_yaml, is_tag, decimal, number_between, number_at, with_major, minor_at, version_at, handle_between, handle_at, prefix_ended, prefix_at, with_prefix, tag_directive_at, named_value_at, value_at, comment_end, break_end, line_end_at, with_line, directive_at, Alike, is_onward}
 use Rattle.yaml_scan_history.specs.scan_model.declared.problem.Context.TheVariants as contexts
-use Rattle.yaml_scan_history.specs.scan_words.Directives.{name_between, finished}
+use Rattle.yaml_scan_history.specs.Directives.{name_between, finished}
 use Rattle.yaml_scan_laws_texts.proofs.Bytes.{width_alike, end_alike, and_alike, onward_some}
 use Rattle.yaml_scan_laws_texts.proofs.Gaps.{range_alike, lines_alike, break_within, at_step, ReadAlike, PlaceAlike}
 use Rattle.yaml_scan_laws_texts.proofs.Names.{Alike_in, PairAlike, Run_in, run_in, some_uri_alike, letter_onward, moved_equal}

@@ -5,8 +5,8 @@ use Rattle.yaml_scan_laws_texts.proofs.Words.{nat_tests, byte, break_width, is_a
 use Rattle.yaml_scan_laws_order.specs.scan_model.declared.problem.Context.TheVariants as contexts
 use Rattle.yaml_scan_laws_order.specs.scan_model.declared.problem.Problem.TheVariants as problems
 use Rattle.yaml_scan_laws_order.specs.scan_model.Classes.{is_blank}
-use Rattle.yaml_scan_words.specs.Written.{HasAt, are_alphas, UriPiece, raw, escape, uri_text, uri_bytes, IsUri}
-use Rattle.yaml_scan_words.proofs.HasLemmas.{has}
+use Rattle.yaml_scan_history.specs.Written.{HasAt, are_alphas, UriPiece, raw, escape, uri_text, uri_bytes, IsUri}
+use Rattle.yaml_scan_history.proofs.HasLemmas.{has}
 use Rattle.yaml_scan_laws_texts.specs.WordsLaws.{IsHandle, directive_text}
 use Rattle.yaml_scan_laws_texts.proofs.Lines.{one_run, blank_is, no_blank, digit_is, dot_no_digit, space_no_alpha, space_ends, break_ends, break_no_digit, break_no_uri, line_ends}
 

@@ -1,9 +1,9 @@
 -- What steps make of a lexeme, and key-free lexemes.
 use Rattle.std.proofs.Common.{◌≡◌, ℕ, zero, suc, ◌+◌, ◌==◌, ◌&&◌, ◌||◌, not, nat_lt, Bool, true, false, List, [], ◌∷◌, Option, Some, None, Result, Ok, Err, refl, sym, subst, inl, inr, arith, ◌-◌, ◌<◌, ◌++◌, length, map, reverse, flat_map, ap, ◌∙◌}
 use Rattle.yaml_scan_laws_texts.proofs.Words.{cases_Bool, and_parts, nat_tests, yaml_mark_t, yaml_scalar_style_t, TokenBody, mark_at, Wrong, Gap, BlockText, block_at, style_at, Kind, Lexeme, may_be_key, is_end, placed, flow_depth, key_allowed, candidate, fresh, indent, left_by, open_levels, WordText, valued, tagged, directed, blocked, kind_at, lexeme_at, Next, Read, Fails, Ends, level_in, begun, finished, allowed_behind, misplaced, missed, lost_by, next, extended, history, no_colon, tested, unless_wrong, unless_lost, of_kind, unless_missed, stepwise, reverse-append, Token, Entry, depth_after, cancels, is_value, is_start, allows_key, Candidate, found_by, has, opened, opens_at, inside, entry_of, level_of, finished_tokens, SpelledText, token_in, spell, innermost, around, marked_so, is_inside, asked_after, asked, fits, is_key_free, keeps_level, is_level_free, kinds_of}
-use Rattle.yaml_scan_laws_order.specs.scan_words.Between.{gap_at}
-use Rattle.yaml_scan_laws_order.specs.scan_words.Tags.{TagText, tag_at}
-use Rattle.yaml_scan_laws_order.specs.scan_words.Directives.{DirectiveText, directive_at}
+use Rattle.yaml_scan_laws_order.specs.scan_history.Between.{gap_at}
+use Rattle.yaml_scan_laws_order.specs.scan_history.Tags.{TagText, tag_at}
+use Rattle.yaml_scan_laws_order.specs.scan_history.Directives.{DirectiveText, directive_at}
 use Rattle.yaml_scan_laws_order.specs.scan_history.declared.kind.Kind.TheVariants as kinds
 use Rattle.yaml_scan_laws_order.specs.scan_history.declared.lexeme.Opens.TheVariants as opening
 use Rattle.yaml_scan_laws_texts.proofs.Pushing.{calm_opens, lone_marks}

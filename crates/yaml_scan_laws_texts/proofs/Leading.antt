@@ -2,7 +2,7 @@
 use Rattle.std.proofs.Common.{◌≡◌, ◌≢◌, ℕ, suc, ◌+◌, nat_lt, false, List, [], ◌∷◌, ◌++◌, length, Option, Some, None, Result, Ok, Err, refl, sym, ap, subst, ◌∙◌, arith}
 use Rattle.yaml_scan_laws_texts.proofs.Shared.{flat_map, same_Some, and-false, yaml_encoding_t, ScanFault, Fault, Token, TokenBody, Wrong, Said, DirectiveText, directive_at, Lexeme, candidate, open_levels, finished_tokens, first_open, WordText, body_said, directed, kind_at, lexeme_at, Next, Read, Fails, Ends, first_lexeme, gap_behind, allowed_behind, kind_behind, begun_behind, word_behind, next, extended, history, SpelledText, body_of_word, body_by, body_in, token_in, spell, all, fault_in, all_ends, last_is_all, history_grows, LeadsToDirective, scan_of, fault_next, cancels}
 use Rattle.yaml_scan_history.specs.scan_model.Tokens as tokens
-use Rattle.yaml_scan_history.specs.scan_words.Directives as directives
+use Rattle.yaml_scan_history.specs.Directives as directives
 use Rattle.yaml_scan_history.specs.declared.kind.Kind.TheVariants as kinds
 use Rattle.yaml_scan_laws_texts.proofs.Fronts.{HasRead, has_read, read_kind, kept, lexeme_zero, next_open, history_more}
 use Rattle.yaml_scan_laws_texts.proofs.Histories.{Bases}
@@ -52,7 +52,7 @@ lead_kind b lead =
 
 lead_told : (s : SpelledText) (l : Lexeme) → l.kind ≡ kinds.Directive → l.depth ≡ 0
     → flat_map (spell s) (finished_tokens (l ∷ first_lexeme ∷ []))
-        ≡ token_in s first_lexeme ∷ token_in s l ∷ []
+    ≡ token_in s first_lexeme ∷ token_in s l ∷ []
 unfolding finished_tokens open_levels candidate
 lead_told s l k z = rw (k, z) refl
 

@@ -40,9 +40,9 @@ unfoldable pub use Rattle.yaml_scan_laws_order.specs.scan_model.Marks.{break_of,
 pub use Rattle.yaml_scan_laws_order.specs.scan_model.Tokens.{Token, TokenBody, block_end, key, stream_end}
 pub use Rattle.yaml_scan_laws_order.specs.scan_model.Wrong.{Wrong}
 pub use Rattle.yaml_scan_laws_order.specs.scan_model.declared.record.yaml_mark_t.{yaml_mark_t}
-unfoldable pub use Rattle.yaml_scan_laws_order.specs.scan_words.Plain.{ends_at, is_bracket, is_indicator_byte, leads, spot_at, starts_plain, words}
-unfoldable pub use Rattle.yaml_scan_laws_order.specs.scan_words.Anchors.{may_end_name}
-pub use Rattle.yaml_scan_laws_order.specs.scan_words.Between.{Gap, gap_at}
-unfoldable pub use Rattle.yaml_scan_laws_order.specs.scan_words.Indicators.{is_document_end, is_document_start}
-unfoldable pub use Rattle.yaml_scan_laws_order.specs.scan_words.Runs.{belongs, run_within}
-pub use Rattle.yaml_scan_laws_order.specs.scan_words.Written.{HasAt, are_gap, begins_lexeme, has_break}
+unfoldable pub use Rattle.yaml_scan_laws_order.specs.scan_history.Plain.{ends_at, is_bracket, is_indicator_byte, leads, spot_at, starts_plain, words}
+unfoldable pub use Rattle.yaml_scan_laws_order.specs.scan_history.Anchors.{may_end_name}
+pub use Rattle.yaml_scan_laws_order.specs.scan_history.Between.{Gap, gap_at}
+unfoldable pub use Rattle.yaml_scan_laws_order.specs.scan_history.Indicators.{is_document_end, is_document_start}
+unfoldable pub use Rattle.yaml_scan_laws_order.specs.scan_history.Runs.{belongs, run_within}
+pub use Rattle.yaml_scan_laws_order.specs.scan_history.Written.{HasAt, are_gap, begins_lexeme, has_break}

@@ -1,10 +1,10 @@
 -- Each lexeme of a text in UTF-8 starts and is left where the text may be cut, and carries UTF-8.
 use Rattle.std.proofs.Common.{◌≡◌, ℕ, zero, suc, ◌+◌, ◌==◌, ◌&&◌, ◌||◌, not, nat_lt, Bool, true, List, length, inl, inr, arith, IsUtf8, [], ◌∷◌, Option, Some, None, Result, Ok, Err, sym, subst}
 use Rattle.yaml_scan_laws_texts.proofs.Words.{cases_Bool, ltb-true, and_parts, nat_tests, byte, break_width, is_bom, step_at, is_skipped, gap_within, gap_at, comment_end, yaml_mark_t, mark_at, Wrong, Kind, Lexeme, is_end, placed, flow_depth, key_allowed, candidate, fresh, WordText, kind_at, lexeme_at, Next, Read, Fails, Ends, begun, finished, allowed_behind, misplaced, missed, lost_by, next, extended, history, no_colon, tested, unless_wrong, unless_lost, of_kind, unless_missed, stepwise, SpelledText, body_of_word, body_by, body_in, HasTexts, placed_index, with_end}
-use Rattle.yaml_scan_words.proofs.BetweenLemmas.{bom_bytes}
+use Rattle.yaml_scan_history.proofs.BetweenLemmas.{bom_bytes}
 use Rattle.yaml_scan_laws_texts.proofs.Whole.{IsWhole, whole_after, whole_behind, whole_bom}
 use Rattle.yaml_scan_laws_texts.proofs.Block.{past_whole}
-use Rattle.yaml_scan_words.specs.Between.{Gap}
+use Rattle.yaml_scan_history.specs.Between.{Gap}
 use Rattle.yaml_scan_laws_order.specs.scan_history.declared.kind.Kind.TheVariants as kinds
 use Rattle.yaml_scan_laws_texts.proofs.Utf8Words.{Fits, FitsAny, kind_fits, HasWord, word_utf8}
 

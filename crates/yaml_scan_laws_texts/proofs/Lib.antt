@@ -57,10 +57,10 @@ pub mod Opening
 pub use Rattle.yaml_scan_laws_order.proofs.CompleteLemmas
 pub use Rattle.yaml_scan_laws_order.proofs.SpellingLemmas
 pub use Rattle.yaml_scan_laws_order.proofs.MarksLemmas
-pub use Rattle.yaml_scan_words.proofs.HasLemmas
-pub use Rattle.yaml_scan_words.proofs.GapsRead
-pub use Rattle.yaml_scan_words.proofs.NamesRead
-pub use Rattle.yaml_scan_words.proofs.TagsRead
+pub use Rattle.yaml_scan_history.proofs.HasLemmas
+pub use Rattle.yaml_scan_history.proofs.GapsRead
+pub use Rattle.yaml_scan_history.proofs.NamesRead
+pub use Rattle.yaml_scan_history.proofs.TagsRead
 pub use Rattle.yaml_scan_laws_order.proofs.MarksForward
 pub use Rattle.yaml_scan_laws_order.proofs.WordForward
 pub use Rattle.yaml_scan_laws_order.proofs.StreamForward as OrderLaws

@@ -4,8 +4,8 @@ use Rattle.yaml_scan_laws_texts.proofs.Shared.{cases_Bool, eqb-true, nat_tests, 
 use Rattle.yaml_scan_history.specs.scan_model.declared.problem.Problem.{Problem}
 use Rattle.yaml_scan_history.specs.scan_model.declared.problem.Context.{Context}
 use Rattle.yaml_scan_history.specs.scan_model.declared.problem.Context.TheVariants as contexts
-use Rattle.yaml_scan_history.specs.scan_words.Uris.{hex_digit, Ends, Faulty, spot_at}
-use Rattle.yaml_scan_history.specs.scan_words.Tags.{ended}
+use Rattle.yaml_scan_history.specs.Uris.{hex_digit, Ends, Faulty, spot_at}
+use Rattle.yaml_scan_history.specs.Tags.{ended}
 use Rattle.yaml_scan_laws_texts.proofs.Bytes.{end_alike, next_byte, off_cases, onward_some, or_alike}
 use Rattle.yaml_scan_laws_texts.proofs.Gaps.{run_alike, range_alike, moved_by, at_step}
 use Rattle.yaml_scan_laws_texts.proofs.Plains.{left_step, byte_at}

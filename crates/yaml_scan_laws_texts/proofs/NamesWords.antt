@@ -7,9 +7,9 @@ use Rattle.yaml_scan_laws_order.specs.scan_model.declared.Problem.TheVariants as
 use Rattle.yaml_scan_laws_order.specs.scan_model.declared.yaml_scalar_style_t.{yaml_scalar_style_t}
 use Rattle.yaml_scan_laws_order.specs.scan_model.declared.yaml_scalar_style_t.TheVariants as styles
 use Rattle.yaml_scan_laws_order.specs.scan_model.Tokens as tokens
-use Rattle.yaml_scan_words.specs.Tags.{ended}
-use Rattle.yaml_scan_words.specs.Directives as directives
-use Rattle.yaml_scan_words.specs.Directives.{finished}
+use Rattle.yaml_scan_history.specs.Tags.{ended}
+use Rattle.yaml_scan_history.specs.Directives as directives
+use Rattle.yaml_scan_history.specs.Directives.{finished}
 use Rattle.yaml_scan_laws_order.specs.scan_history.declared.Kind.{Kind}
 use Rattle.yaml_scan_laws_order.specs.scan_history.declared.Kind.TheVariants as kinds
 

@@ -1,7 +1,7 @@
 -- The value of a plain scalar is UTF-8, and the text may be cut after it.
 use Rattle.std.proofs.Common.{◌≡◌, ℕ, zero, suc, ◌+◌, ◌<◌, ◌==◌, ◌&&◌, ◌||◌, nat_lt, if◌then◌else◌, Bool, true, false, List, [], ◌∷◌, ◌++◌, length, drop, Result, Ok, Err, refl, sym, true≢false, inl, inr, arith, IsUtf8}
 use Rattle.yaml_scan_laws_texts.proofs.Words.{cases_Bool, ltb-true, and_parts, or_cases, nat_tests, byte, break_width, column_at, is_blank, is_blank_or_end, is_document_indicator, Wrong, within, Piece, Kept, Blank, Break, is_bracket, after_white, leads, PlainSpot, Takes, Faulty, ends_at, spot_at, Words, is_nothing, with_piece, words_from, follows, words, PlainText, plain_with, plain_text, plain_at}
-use Rattle.yaml_scan_laws_order.specs.scan_words.Plain.{Ends}
+use Rattle.yaml_scan_laws_order.specs.scan_history.Plain.{Ends}
 use Rattle.yaml_scan_laws_order.proofs.PlainLemmas.{not_ended}
 use Rattle.yaml_scan_laws_texts.proofs.Whole.{IsWhole, whole_ascii, whole_after, whole_before, whole_behind, leads_whole, blank_small, cut, break_utf8, indicator_small, Goes, value_utf8}
 use Rattle.yaml_scan_laws_texts.proofs.Quoted.{Waits, kept_waits}

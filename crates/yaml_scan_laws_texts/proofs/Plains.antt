@@ -1,7 +1,7 @@
 -- Plain scalars are the same in both texts.
 use Rattle.std.proofs.Common.{◌≡◌, ℕ, zero, suc, ◌+◌, ◌-◌, ◌<◌, ◌≤◌, ◌==◌, ◌&&◌, ◌||◌, nat_lt, if◌then◌else◌, Bool, true, false, not, List, [], ◌∷◌, length, Result, Ok, Err, refl, sym, ap, ◌∙◌, inl, inr, ◌⊎◌, arith, add_assoc}
 use Rattle.yaml_scan_laws_texts.proofs.Shared.{cases_Bool, cases_lt, eqb-true, ltb-true, true≢false, nat_tests, byte, break_of, break_width, column_at, is_blank, break_value, is_document_indicator, Wrong, Piece, Kept, Blank, Break, is_bracket, is_indicator_byte, starts_plain, after_white, leads, PlainSpot, Takes, Faulty, ends_at, spot_at, Words, is_nothing, with_piece, words_from, words, PlainText, plain_with, plain_text, plain_at, within, Alike, is_onward}
-use Rattle.yaml_scan_history.specs.scan_words.Plain.{Ends}
+use Rattle.yaml_scan_history.specs.Plain.{Ends}
 use Rattle.yaml_scan_laws_texts.proofs.Bytes.{IsQuiet, quiet_edge, quiet_break, width_alike, end_alike, next_byte, next_end, column_alike, indicator_alike, and_alike, or_alike}
 use Rattle.yaml_scan_laws_texts.proofs.Gaps.{moved_wrong, moved_by, At, at_step, at_break, OkIs, ReadAlike}
 

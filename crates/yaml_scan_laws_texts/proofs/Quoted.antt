@@ -1,7 +1,7 @@
 -- The value of a quoted scalar is UTF-8, and so is what stands after it.
 use Rattle.std.proofs.Common.{◌≡◌, ℕ, zero, suc, ◌+◌, ◌<◌, ◌==◌, ◌&&◌, nat_lt, if◌then◌else◌, ◌||◌, Bool, true, false, List, [], ◌∷◌, ◌++◌, length, drop, Option, Some, None, Result, Ok, Err, refl, inl, inr, arith, IsUtf8, append-nil, append_assoc}
 use Rattle.yaml_scan_laws_texts.proofs.Words.{encode_utf8, IsScalar, cases_Bool, ltb-true, eqb-true, and_parts, nat_tests, drop_more, IsUtf8-nil, IsUtf8-append, IsUtf8-encode, byte, break_width, is_blank, break_value, is_document_indicator, Wrong, within, Piece, Kept, Blank, Break, value, QuotedSpot, Closing, Pieces, Bad, hex_digit, hex_value, is_scalar, coded, hex_len, simple_escape, escaped, escape_at, quote_at, standing_at, with_front, followed, pieces, quoted_at}
-use Rattle.yaml_scan_laws_order.specs.scan_words.Quoted.{valued}
+use Rattle.yaml_scan_laws_order.specs.scan_history.Quoted.{valued}
 use Rattle.yaml_scan_laws_texts.proofs.Whole.{IsWhole, whole_ascii, whole_after, whole_before, whole_behind, blank_small, ascii_utf8, cut, break_utf8, nel_char, nbsp_char, ls_char, ps_char, Goes, value_utf8}
 use Rattle.yaml_scan_laws_order.proofs.QuotedForward.{last_digit, some_of}
 

@@ -3,7 +3,7 @@ use Rattle.std.proofs.Common.{◌≡◌, ◌≢◌, ℕ, zero, suc, ◌+◌, ◌
 use Rattle.yaml_scan_laws_texts.proofs.Shared.{cases_Bool, cases_lt, and_parts, eqb-true, ltb-true, nat_tests, byte, break_width, column_at, is_blank, is_blank_or_end, is_document_indicator, Wrong, Piece, value, QuotedSpot, Closing, Pieces, Bad, hex_digit, hex_value, hex_len, is_scalar, coded, simple_escape, escaped, escape_at, quote_at, standing_at, with_front, pieces, quoted_at, in_quotes, Alike, is_onward, none-some}
 use Rattle.yaml_scan_history.specs.scan_model.declared.problem.Problem.TheVariants as problems
 use Rattle.yaml_scan_history.specs.scan_model.declared.problem.Context.TheVariants as contexts
-use Rattle.yaml_scan_history.specs.scan_words.Quoted.{valued}
+use Rattle.yaml_scan_history.specs.Quoted.{valued}
 use Rattle.yaml_scan_laws_texts.proofs.Bytes.{width_alike, next_byte, indicator_alike, off_cases, onward_some}
 use Rattle.yaml_scan_laws_texts.proofs.Gaps.{moved_wrong, moved_by, At, at_step, at_break, OkIs}
 use Rattle.yaml_scan_laws_texts.proofs.Plains.{value_alike, left_step, byte_at}

@@ -25,8 +25,8 @@ unfoldable pub use Rattle.yaml_scan_history.specs.Words.{indicator_of, kind_at, 
 pub use Rattle.yaml_scan_history.specs.declared.kind.Kind.{Kind}
 pub use Rattle.yaml_scan_history.specs.declared.lexeme.Entry.{Entry}
 pub use Rattle.yaml_scan_history.specs.declared.lexeme.Lexeme.{Lexeme}
-pub use Rattle.yaml_scan_history.specs.scan_words.Block.{BlockText, block_at, block_behind, block_lines, block_with, depth_behind, larger_of, style_at}
-unfoldable pub use Rattle.yaml_scan_history.specs.scan_words.Block.{column_of, deepest, larger}
+pub use Rattle.yaml_scan_history.specs.Block.{BlockText, block_at, block_behind, block_lines, block_with, depth_behind, larger_of, style_at}
+unfoldable pub use Rattle.yaml_scan_history.specs.Block.{column_of, deepest, larger}
 pub use Rattle.yaml_scan_history.specs.scan_model.Breaks.{feed_at}
 unfoldable pub use Rattle.yaml_scan_history.specs.scan_model.Breaks.{break_value, is_document_indicator}
 pub use Rattle.yaml_scan_history.specs.scan_model.Classes.{is_bom}
@@ -42,25 +42,25 @@ pub use Rattle.yaml_scan_history.specs.scan_model.Wrong.{Wrong}
 pub use Rattle.yaml_scan_history.specs.scan_model.declared.name.yaml_encoding_t.{yaml_encoding_t}
 pub use Rattle.yaml_scan_history.specs.scan_model.declared.problem.ScanFault.{ScanFault}
 pub use Rattle.yaml_scan_history.specs.scan_model.declared.record.yaml_mark_t.{yaml_mark_t}
-pub use Rattle.yaml_scan_history.specs.scan_words.Pieces.{Blank, Break, Kept, Piece, value}
-pub use Rattle.yaml_scan_history.specs.scan_words.Plain.{Faulty, PlainSpot, PlainText, Takes, Words, after_white, is_bracket, is_indicator_byte, is_nothing, plain_at, plain_text, plain_with, with_piece, words_from}
-unfoldable pub use Rattle.yaml_scan_history.specs.scan_words.Plain.{ends_at, leads, spot_at, starts_plain, words}
-pub use Rattle.yaml_scan_history.specs.scan_words.Quoted.{Bad, Closing, Pieces, QuotedSpot, coded, double_quoted_at, escaped, in_quotes, is_scalar, quoted_at, single_quoted_at, with_front}
-unfoldable pub use Rattle.yaml_scan_history.specs.scan_words.Quoted.{escape_at, hex_digit, hex_len, hex_value, pieces, quote_at, simple_escape, standing_at}
-pub use Rattle.yaml_scan_history.specs.scan_words.Anchors.{anchor_at, is_name_end, name_between}
-unfoldable pub use Rattle.yaml_scan_history.specs.scan_words.Anchors.{may_end_name}
-pub use Rattle.yaml_scan_history.specs.scan_words.Between.{Gap, gap_at, is_skipped, with_break}
-unfoldable pub use Rattle.yaml_scan_history.specs.scan_words.Between.{gap_within, step_at}
-pub use Rattle.yaml_scan_history.specs.scan_words.Directives.{DirectiveText, Said, ValueText, break_end, comment_end, directive_at, handle_at, handle_between, is_tag, is_yaml, line_end_at, minor_at, named_value_at, number_at, number_between, prefix_at, prefix_ended, tag_directive_at, then_at, value_at, value_end, version_at, with_line, with_major, with_prefix}
-unfoldable pub use Rattle.yaml_scan_history.specs.scan_words.Directives.{decimal}
-pub use Rattle.yaml_scan_history.specs.scan_words.Indicators.{is_thrice}
-unfoldable pub use Rattle.yaml_scan_history.specs.scan_words.Indicators.{is_document_end, is_document_start}
-pub use Rattle.yaml_scan_history.specs.scan_words.Runs.{run_end}
-unfoldable pub use Rattle.yaml_scan_history.specs.scan_words.Runs.{belongs, run_within}
-pub use Rattle.yaml_scan_history.specs.scan_words.Tags.{TagText, bare, bare_at, bracketed, may_end_tag, name_end, tag_at, tag_end, verbatim_at, with_handle}
-unfoldable pub use Rattle.yaml_scan_history.specs.scan_words.Tags.{parts_at}
-pub use Rattle.yaml_scan_history.specs.scan_words.Uris.{Spells, UriSpot, due_behind, escape_spot, filled, is_uri, octet_of, octet_spot, some_uri_at, uri_at, with_bytes}
-unfoldable pub use Rattle.yaml_scan_history.specs.scan_words.Uris.{is_punctuation, is_wide_punctuation, octet_at, uri_within}
+pub use Rattle.yaml_scan_history.specs.Pieces.{Blank, Break, Kept, Piece, value}
+pub use Rattle.yaml_scan_history.specs.Plain.{Faulty, PlainSpot, PlainText, Takes, Words, after_white, is_bracket, is_indicator_byte, is_nothing, plain_at, plain_text, plain_with, with_piece, words_from}
+unfoldable pub use Rattle.yaml_scan_history.specs.Plain.{ends_at, leads, spot_at, starts_plain, words}
+pub use Rattle.yaml_scan_history.specs.Quoted.{Bad, Closing, Pieces, QuotedSpot, coded, double_quoted_at, escaped, in_quotes, is_scalar, quoted_at, single_quoted_at, with_front}
+unfoldable pub use Rattle.yaml_scan_history.specs.Quoted.{escape_at, hex_digit, hex_len, hex_value, pieces, quote_at, simple_escape, standing_at}
+pub use Rattle.yaml_scan_history.specs.Anchors.{anchor_at, is_name_end, name_between}
+unfoldable pub use Rattle.yaml_scan_history.specs.Anchors.{may_end_name}
+pub use Rattle.yaml_scan_history.specs.Between.{Gap, gap_at, is_skipped, with_break}
+unfoldable pub use Rattle.yaml_scan_history.specs.Between.{gap_within, step_at}
+pub use Rattle.yaml_scan_history.specs.Directives.{DirectiveText, Said, ValueText, break_end, comment_end, directive_at, handle_at, handle_between, is_tag, is_yaml, line_end_at, minor_at, named_value_at, number_at, number_between, prefix_at, prefix_ended, tag_directive_at, then_at, value_at, value_end, version_at, with_line, with_major, with_prefix}
+unfoldable pub use Rattle.yaml_scan_history.specs.Directives.{decimal}
+pub use Rattle.yaml_scan_history.specs.Indicators.{is_thrice}
+unfoldable pub use Rattle.yaml_scan_history.specs.Indicators.{is_document_end, is_document_start}
+pub use Rattle.yaml_scan_history.specs.Runs.{run_end}
+unfoldable pub use Rattle.yaml_scan_history.specs.Runs.{belongs, run_within}
+pub use Rattle.yaml_scan_history.specs.Tags.{TagText, bare, bare_at, bracketed, may_end_tag, name_end, tag_at, tag_end, verbatim_at, with_handle}
+unfoldable pub use Rattle.yaml_scan_history.specs.Tags.{parts_at}
+pub use Rattle.yaml_scan_history.specs.Uris.{Spells, UriSpot, due_behind, escape_spot, filled, is_uri, octet_of, octet_spot, some_uri_at, uri_at, with_bytes}
+unfoldable pub use Rattle.yaml_scan_history.specs.Uris.{is_punctuation, is_wide_punctuation, octet_at, uri_within}
 pub use Rattle.yaml_scan_laws_order.proofs.HistoryForward.{Stands, all_ends, first_is, history_grows, history_stands, last_is_all, not_ended, settled_stays, stays_all, stays_upto}
 pub use Rattle.yaml_scan_laws_order.proofs.MarksForward.{line_at-grows}
 pub use Rattle.yaml_scan_laws_order.proofs.StreamForward.{fault_next, stream_ends, stream_starts}

@@ -8,10 +8,10 @@ use Rattle.yaml_scan_laws_texts.proofs.Stepping.{words_leave}
 use Rattle.yaml_scan_laws_texts.proofs.Walking.{walk_starts, walk_mark, walk_word, walk_ends, walk_stops, walk_key_starts, walk_key_goes, walk_key_stops, walk_outer, walk_asks, walk_answers}
 use Rattle.yaml_scan_laws_order.specs.scan_model.declared.name.yaml_scalar_style_t.TheVariants as styles
 use Rattle.yaml_scan_laws_order.specs.scan_model.Runs.{past}
-use Rattle.yaml_scan_laws_order.specs.scan_words.Header.{is_chomping, chomp_of, digit_of, indicators, past_comment, header_at}
-use Rattle.yaml_scan_laws_order.specs.scan_words.Lines.{spaces, spot_behind, lines_from}
-use Rattle.yaml_scan_laws_order.specs.scan_words.Block.{larger, deepest, column_of}
-use Rattle.yaml_scan_laws_order.specs.scan_words.Value.{between}
+use Rattle.yaml_scan_laws_order.specs.scan_history.Header.{is_chomping, chomp_of, digit_of, indicators, past_comment, header_at}
+use Rattle.yaml_scan_laws_order.specs.scan_history.Lines.{spaces, spot_behind, lines_from}
+use Rattle.yaml_scan_laws_order.specs.scan_history.Block.{larger, deepest, column_of}
+use Rattle.yaml_scan_laws_order.specs.scan_history.Value.{between}
 
 abbrev pub short : TokenBody → ℕ → WordText
 short body e = record { body = body; end = e; reached = e; broke = false }

@@ -2,7 +2,7 @@
 use Rattle.std.proofs.Common.{ℕ, zero, suc, nat_lt, Bool, List, [], ◌∷◌, Option, Some, None, Result, Ok, Err, sym, subst, inl, inr}
 use Rattle.yaml_scan_laws_texts.proofs.Words.{cases_Bool, mark_at, Wrong, gap_at, is_end, placed, flow_depth, key_allowed, candidate, fresh, kind_at, WordText, lexeme_at, Next, Read, Fails, Ends, begun, finished, allowed_behind, misplaced, missed, lost_by, next, extended, history, no_colon, tested, unless_wrong, unless_lost, of_kind, unless_missed, stepwise, placed_index, Token, SpelledText, body_of_word, body_by, remaining, IsSpelled, AreSpelled}
 use Rattle.yaml_scan_laws_order.specs.scan_model.declared.yaml_mark_t.{yaml_mark_t}
-use Rattle.yaml_scan_words.specs.Between.{Gap}
+use Rattle.yaml_scan_history.specs.Between.{Gap}
 use Rattle.yaml_scan_laws_order.specs.scan_history.declared.Kind.{Kind}
 use Rattle.yaml_scan_laws_order.specs.scan_history.declared.Kind.TheVariants as kinds
 use Rattle.yaml_scan_laws_order.specs.scan_history.declared.Lexeme.{Lexeme}

@@ -5,8 +5,8 @@ use Rattle.yaml_scan_laws_order.specs.scan_model.declared.problem.Context.{Conte
 use Rattle.yaml_scan_laws_order.specs.scan_model.declared.problem.Context.TheVariants as contexts
 use Rattle.yaml_scan_laws_order.specs.scan_model.declared.name.yaml_scalar_style_t.TheVariants as styles
 use Rattle.yaml_scan_laws_order.specs.scan_model.Tokens as tokens
-use Rattle.yaml_scan_words.specs.Tags.{ended}
-use Rattle.yaml_scan_words.specs.Directives.{finished}
+use Rattle.yaml_scan_history.specs.Tags.{ended}
+use Rattle.yaml_scan_history.specs.Directives.{finished}
 use Rattle.yaml_scan_laws_order.specs.scan_history.declared.kind.Kind.TheVariants as kinds
 use Rattle.yaml_scan_laws_texts.proofs.Whole.{IsWhole, whole_ascii, whole_after, whole_before, whole_behind, blank_small, ascii_utf8, slice_utf8}
 use Rattle.yaml_scan_laws_texts.proofs.Quoted.{HasQuoted, quoted_utf8}

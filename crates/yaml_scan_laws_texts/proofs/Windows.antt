@@ -13,7 +13,7 @@ use Rattle.yaml_scan_laws_order.proofs.StreamForward.{fault_none}
 -- STREAM-START and the mark
 pub first_told : (s : SpelledText) (K : Kind) (body : TokenBody) → IsMark K body → (b : List ℕ)
     → flat_map (spell s) (finished_tokens (rest_base K b))
-        ≡ token_in s first_lexeme ∷ token_in s (mark_lexeme K b 0) ∷ []
+    ≡ token_in s first_lexeme ∷ token_in s (mark_lexeme K b 0) ∷ []
 unfolding finished_tokens open_levels candidate
 first_told s K body m b = rw (m.value, m.start) refl
 

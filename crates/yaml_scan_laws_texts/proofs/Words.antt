@@ -10,7 +10,7 @@ pub use Rattle.std.specs.List.{AllPass, list_all}
 pub use Rattle.yaml_scan_laws_order.proofs.MarksLemmas.{widths, within}
 pub use Rattle.yaml_scan_laws_order.proofs.NextForward.{placed_index, with_end}
 pub use Rattle.yaml_scan_laws_order.proofs.StepwiseLemmas.{stepwise}
-pub use Rattle.yaml_scan_laws_order.specs.scan_words.Block.{BlockText, block_at, block_behind, block_lines, block_with, column_of, style_at}
+pub use Rattle.yaml_scan_laws_order.specs.scan_history.Block.{BlockText, block_at, block_behind, block_lines, block_with, column_of, style_at}
 pub use Rattle.yaml_scan_laws_order.specs.scan_history.History.{Candidate, flow_depth, ended, entry_of, first_open, found_by, fresh, has, inside, is_fresh, key_allowed, keyed, left_by, level_of, marked, opened, opens_at, placed, reached, start_of}
 unfoldable pub use Rattle.yaml_scan_laws_order.specs.scan_history.History.{candidate, finished_tokens, indent, open_levels, mark_key}
 pub use Rattle.yaml_scan_laws_order.specs.scan_history.Kinds.{allows_key, cancels, depth_after, is_end, is_start, is_value, may_be_key}
@@ -35,32 +35,32 @@ pub use Rattle.yaml_scan_laws_order.specs.scan_model.Wrong.{Wrong}
 pub use Rattle.yaml_scan_laws_order.specs.scan_model.declared.Context.{Context}
 pub use Rattle.yaml_scan_laws_order.specs.scan_model.declared.name.yaml_scalar_style_t.{yaml_scalar_style_t}
 pub use Rattle.yaml_scan_laws_order.specs.scan_model.declared.record.yaml_mark_t.{yaml_mark_t}
-pub use Rattle.yaml_scan_laws_order.specs.scan_words.Pieces.{Blank, Break, Kept, Line, Piece, folded, gap, is_empty, lines, rest_of, text, trim_end, trim_start, value}
-pub use Rattle.yaml_scan_laws_order.specs.scan_words.Plain.{Faulty, PlainSpot, PlainText, Takes, Words, after_white, follows, is_nothing, plain_at, plain_text, plain_with, starts_plain, with_piece, words_from}
-unfoldable pub use Rattle.yaml_scan_laws_order.specs.scan_words.Plain.{ends_at, is_bracket, leads, spot_at, words}
-pub use Rattle.yaml_scan_laws_order.specs.scan_words.Quoted.{Bad, Closing, Pieces, QuotedSpot, coded, double_quoted_at, escaped, followed, hex_len, is_scalar, quoted_at, single_quoted_at, with_front}
-unfoldable pub use Rattle.yaml_scan_laws_order.specs.scan_words.Quoted.{escape_at, hex_digit, hex_value, pieces, quote_at, simple_escape, standing_at}
-pub use Rattle.yaml_scan_laws_order.specs.scan_words.Between.{Gap}
+pub use Rattle.yaml_scan_laws_order.specs.scan_history.Pieces.{Blank, Break, Kept, Line, Piece, folded, gap, is_empty, lines, rest_of, text, trim_end, trim_start, value}
+pub use Rattle.yaml_scan_laws_order.specs.scan_history.Plain.{Faulty, PlainSpot, PlainText, Takes, Words, after_white, follows, is_nothing, plain_at, plain_text, plain_with, starts_plain, with_piece, words_from}
+unfoldable pub use Rattle.yaml_scan_laws_order.specs.scan_history.Plain.{ends_at, is_bracket, leads, spot_at, words}
+pub use Rattle.yaml_scan_laws_order.specs.scan_history.Quoted.{Bad, Closing, Pieces, QuotedSpot, coded, double_quoted_at, escaped, followed, hex_len, is_scalar, quoted_at, single_quoted_at, with_front}
+unfoldable pub use Rattle.yaml_scan_laws_order.specs.scan_history.Quoted.{escape_at, hex_digit, hex_value, pieces, quote_at, simple_escape, standing_at}
+pub use Rattle.yaml_scan_laws_order.specs.scan_history.Between.{Gap}
 pub use Rattle.yaml_scan_laws_texts.specs.KeyFree.{around, asked_after, fits, innermost, is_inside, keeps_level, kinds_of, marked_so}
 unfoldable pub use Rattle.yaml_scan_laws_texts.specs.KeyFree.{asked, is_key_free, is_level_free}
 pub use Rattle.yaml_scan_laws_texts.specs.KeysLaws.{end_in, gap_in, lexeme_of}
 pub use Rattle.yaml_scan_laws_texts.specs.Spelled.{AreAlphas, AreSpelled, IsHandle, IsName, IsSome, IsSpelled}
 pub use Rattle.yaml_scan_laws_texts.specs.Utf8Texts.{HasTexts}
-pub use Rattle.yaml_scan_words.proofs.HasLemmas.{Has, has_front, has_rest, range_reads}
-pub use Rattle.yaml_scan_words.proofs.NamesRead.{alphas_run, no_alpha_at}
-pub use Rattle.yaml_scan_words.proofs.RunsLemmas.{belongs_inside, run_more, run_stop}
-pub use Rattle.yaml_scan_words.proofs.UrisLemmas.{uri_range}
-pub use Rattle.yaml_scan_words.proofs.UrisRead.{uri_is_read}
-pub use Rattle.yaml_scan_words.specs.Anchors.{anchor_at, is_name_end, name_between}
-unfoldable pub use Rattle.yaml_scan_words.specs.Anchors.{may_end_name}
-pub use Rattle.yaml_scan_words.specs.Between.{gap_at, is_skipped}
-unfoldable pub use Rattle.yaml_scan_words.specs.Between.{gap_within, step_at}
-pub use Rattle.yaml_scan_words.specs.Directives.{ValueText, break_end, comment_end, directive_at, handle_at, handle_between, is_tag, is_yaml, line_end_at, minor_at, name_between as directive_name_between, named_value_at, number_at, number_between, prefix_at, prefix_ended, tag, tag_directive_at, then_at, value_at, version, version_at, with_line, with_major, with_prefix}
-unfoldable pub use Rattle.yaml_scan_words.specs.Directives.{decimal}
-unfoldable pub use Rattle.yaml_scan_words.specs.Indicators.{is_document_end, is_document_start}
-pub use Rattle.yaml_scan_words.specs.Runs.{run_end}
-unfoldable pub use Rattle.yaml_scan_words.specs.Runs.{belongs, run_within}
-pub use Rattle.yaml_scan_words.specs.Tags.{TagText, bare, bracketed, may_end_tag, name_end, tag_at, with_handle}
-unfoldable pub use Rattle.yaml_scan_words.specs.Tags.{parts_at}
-pub use Rattle.yaml_scan_words.specs.Uris.{filled, is_uri, some_uri_at, uri_at}
-unfoldable pub use Rattle.yaml_scan_words.specs.Uris.{is_punctuation, is_wide_punctuation}
+pub use Rattle.yaml_scan_history.proofs.HasLemmas.{Has, has_front, has_rest, range_reads}
+pub use Rattle.yaml_scan_history.proofs.NamesRead.{alphas_run, no_alpha_at}
+pub use Rattle.yaml_scan_history.proofs.WordsRunsLemmas.{belongs_inside, run_more, run_stop}
+pub use Rattle.yaml_scan_history.proofs.UrisLemmas.{uri_range}
+pub use Rattle.yaml_scan_history.proofs.UrisRead.{uri_is_read}
+pub use Rattle.yaml_scan_history.specs.Anchors.{anchor_at, is_name_end, name_between}
+unfoldable pub use Rattle.yaml_scan_history.specs.Anchors.{may_end_name}
+pub use Rattle.yaml_scan_history.specs.Between.{gap_at, is_skipped}
+unfoldable pub use Rattle.yaml_scan_history.specs.Between.{gap_within, step_at}
+pub use Rattle.yaml_scan_history.specs.Directives.{ValueText, break_end, comment_end, directive_at, handle_at, handle_between, is_tag, is_yaml, line_end_at, minor_at, name_between as directive_name_between, named_value_at, number_at, number_between, prefix_at, prefix_ended, tag, tag_directive_at, then_at, value_at, version, version_at, with_line, with_major, with_prefix}
+unfoldable pub use Rattle.yaml_scan_history.specs.Directives.{decimal}
+unfoldable pub use Rattle.yaml_scan_history.specs.Indicators.{is_document_end, is_document_start}
+pub use Rattle.yaml_scan_history.specs.Runs.{run_end}
+unfoldable pub use Rattle.yaml_scan_history.specs.Runs.{belongs, run_within}
+pub use Rattle.yaml_scan_history.specs.Tags.{TagText, bare, bracketed, may_end_tag, name_end, tag_at, with_handle}
+unfoldable pub use Rattle.yaml_scan_history.specs.Tags.{parts_at}
+pub use Rattle.yaml_scan_history.specs.Uris.{filled, is_uri, some_uri_at, uri_at}
+unfoldable pub use Rattle.yaml_scan_history.specs.Uris.{is_punctuation, is_wide_punctuation}

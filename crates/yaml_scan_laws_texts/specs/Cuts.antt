@@ -4,8 +4,8 @@ use Rattle.yaml_scan_history.specs.scan_model.Ascii as ascii
 use Rattle.yaml_scan_history.specs.scan_model.Marks.{byte, column_at, is_blank}
 use Rattle.yaml_scan_history.specs.scan_model.Classes.{is_bom}
 use Rattle.yaml_scan_history.specs.scan_model.Breaks.{is_document_indicator}
-use Rattle.yaml_scan_history.specs.scan_words.Indicators.{is_document_end}
-use Rattle.yaml_scan_history.specs.scan_words.Between.{gap_at}
+use Rattle.yaml_scan_history.specs.Indicators.{is_document_end}
+use Rattle.yaml_scan_history.specs.Between.{gap_at}
 
 -- the text's last byte
 abbrev pub EndsIn : List ℕ → ℕ → Type 0

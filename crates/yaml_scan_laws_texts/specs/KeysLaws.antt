@@ -3,7 +3,7 @@ use Rattle.std.specs.Prelude.{◌≡◌, ℕ, suc, ◌&&◌, nat_lt, true, false
 use Rattle.std.specs.List.{flat_map}
 use Rattle.yaml_scan_laws_order.specs.scan_model.declared.record.yaml_mark_t.{yaml_mark_t}
 use Rattle.yaml_scan_laws_order.specs.scan_model.Marks.{mark_at}
-use Rattle.yaml_scan_laws_order.specs.scan_words.Between.{Gap, gap_at}
+use Rattle.yaml_scan_laws_order.specs.scan_history.Between.{Gap, gap_at}
 use Rattle.yaml_scan_laws_order.specs.scan_history.declared.kind.Kind.{Kind}
 use Rattle.yaml_scan_laws_order.specs.scan_history.declared.lexeme.Lexeme.{Lexeme}
 use Rattle.yaml_scan_laws_order.specs.scan_history.Kinds.{may_be_key, is_end}
@@ -17,14 +17,14 @@ use Rattle.yaml_scan_laws_texts.specs.KeyFree.{innermost, asked, is_key_free, is
 abbrev pub AskedHaveNoCandidate : Type 0
 AskedHaveNoCandidate = (text : List ℕ) (n : ℕ) → let h = history text n in
     is_key_free (kinds_of h) ≡ true → innermost (asked (kinds_of h)) ≡ true
-        → candidate (flow_depth h) h
+    → candidate (flow_depth h) h
     ≡ None
 
 -- The tokens of key-free lexemes are their own, in order.
 abbrev pub KeyFreeTokensAreOwn : Type 0
 KeyFreeTokensAreOwn = (s : SpelledText) (n : ℕ) → let h = history s.text n in
     is_key_free (kinds_of h) ≡ true
-        → flat_map (spell s) (finished_tokens h) ≡ map (token_in s) (reverse h)
+    → flat_map (spell s) (finished_tokens h) ≡ map (token_in s) (reverse h)
 
 -- What comes of a key-free text that no fault ends is its lexemes' own tokens.
 abbrev pub KeyFreeTextsAreBare : Type 0
@@ -77,6 +77,6 @@ abbrev pub WordIsRead : Type 0
 WordIsRead = (text : List ℕ) (n : ℕ) (k : Kind) (w : WordText) → let h = history text (suc n) in
     is_level_free (k ∷ kinds_of h) ≡ true → ended h ≡ false → let gap = gap_in text h in
     kind_at (nat_lt 0 (flow_depth h)) text gap.place ≡ Some k
-        → lexeme_at k (nat_lt 0 (flow_depth h)) 0 text
+    → lexeme_at k (nat_lt 0 (flow_depth h)) 0 text
     gap.place ≡ Ok w
     → next text h ≡ Read (lexeme_of text h gap k w)

@@ -1,7 +1,7 @@
 -- Where a plain scalar ends.
 use Rattle.std.specs.Prelude.{ℕ, Bool, not, ◌&&◌, nat_lt, List}
 use Rattle.yaml_scan_laws_order.specs.scan_model.Marks.{byte, break_width, is_blank}
-use Rattle.yaml_scan_laws_order.specs.scan_words.Plain.{ends_at}
+use Rattle.yaml_scan_laws_order.specs.scan_history.Plain.{ends_at}
 
 -- a plain scalar ends before what stands there, which is neither a blank nor a break
 unfoldable pub ends_plain : Bool → ℕ → List ℕ → ℕ → Bool

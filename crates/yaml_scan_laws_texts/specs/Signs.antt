@@ -4,8 +4,8 @@ use Rattle.yaml_scan_laws_order.specs.scan_model.Ascii as ascii
 use Rattle.yaml_scan_laws_order.specs.scan_model.Marks.{byte, is_blank_or_end}
 use Rattle.yaml_scan_laws_order.specs.scan_model.Tokens as tokens
 use Rattle.yaml_scan_laws_order.specs.scan_model.Tokens.{TokenBody}
-use Rattle.yaml_scan_laws_order.specs.scan_words.Indicators.{is_document_start, is_document_end}
-use Rattle.yaml_scan_laws_order.specs.scan_words.Written.{begins_lexeme}
+use Rattle.yaml_scan_laws_order.specs.scan_history.Indicators.{is_document_start, is_document_end}
+use Rattle.yaml_scan_laws_order.specs.scan_history.Written.{begins_lexeme}
 use Rattle.yaml_scan_laws_order.specs.scan_history.declared.kind.Kind.{Kind}
 use Rattle.yaml_scan_laws_order.specs.scan_history.declared.kind.Kind.TheVariants as kinds
 use Rattle.yaml_scan_laws_order.specs.scan_history.Words.{WordText, lexeme_at}

@@ -4,7 +4,7 @@ use Rattle.std.specs.Prelude.{◌≡◌, ◌<◌, ◌≤◌, ◌+◌, ◌==◌, 
 use Rattle.yaml_scan_laws_order.specs.scan_model.Ascii as ascii
 use Rattle.yaml_scan_laws_order.specs.scan_model.declared.record.yaml_mark_t.{yaml_mark_t}
 use Rattle.yaml_scan_laws_order.specs.scan_model.Marks.{byte, line_at, column_at, mark_at}
-use Rattle.yaml_scan_laws_order.specs.scan_words.Written.{has_break}
+use Rattle.yaml_scan_laws_order.specs.scan_history.Written.{has_break}
 use Rattle.yaml_scan_laws_order.specs.scan_history.declared.kind.Kind.{Kind}
 use Rattle.yaml_scan_laws_order.specs.scan_history.declared.lexeme.Lexeme.{Lexeme}
 use Rattle.yaml_scan_laws_order.specs.scan_history.declared.lexeme.Opens.{Opens}

@@ -5,7 +5,7 @@ use Rattle.yaml_scan_laws_order.specs.scan_model.declared.record.yaml_mark_t.{ya
 use Rattle.yaml_scan_laws_order.specs.scan_model.declared.name.yaml_encoding_t.{yaml_encoding_t}
 use Rattle.yaml_scan_laws_order.specs.scan_model.Marks.{line_at, column_at, mark_at}
 use Rattle.yaml_scan_laws_order.specs.scan_model.Tokens.{Token, TokenBody, stream_start, stream_end, block_end, key}
-use Rattle.yaml_scan_laws_order.specs.scan_words.Written.{HasAt, are_gap, has_break}
+use Rattle.yaml_scan_laws_order.specs.scan_history.Written.{HasAt, are_gap, has_break}
 use Rattle.yaml_scan_laws_order.specs.scan_history.declared.kind.Kind.{Kind}
 use Rattle.yaml_scan_laws_order.specs.scan_history.declared.kind.Kind.TheVariants as kinds
 use Rattle.yaml_scan_laws_order.specs.scan_history.declared.lexeme.Lexeme.{Lexeme}

@@ -3,9 +3,9 @@ use Rattle.std.specs.Prelude.{◌≡◌, ◌⊎◌, ◌<◌, ◌+◌, ℕ, Bool,
 use Rattle.yaml_scan_laws_order.specs.scan_model.Ascii as ascii
 use Rattle.yaml_scan_laws_order.specs.scan_model.Marks.{byte, break_width}
 use Rattle.yaml_scan_laws_order.specs.scan_model.Classes.{is_break}
-use Rattle.yaml_scan_words.specs.Tags.{tag_at}
-use Rattle.yaml_scan_words.specs.Directives.{DirectiveText, version, tag, directive_at}
-use Rattle.yaml_scan_words.specs.Written.{HasAt, are_alphas, UriPiece, uri_text, uri_bytes, IsUri}
+use Rattle.yaml_scan_history.specs.Tags.{tag_at}
+use Rattle.yaml_scan_history.specs.Directives.{DirectiveText, version, tag, directive_at}
+use Rattle.yaml_scan_history.specs.Written.{HasAt, are_alphas, UriPiece, uri_text, uri_bytes, IsUri}
 
 -- `%YAML 1.` and a digit, before a break: the directive takes the break with it
 abbrev pub VersionReads : Type 0

@@ -43,4 +43,4 @@ pub use utf8_laws::laws_of_utf8;
 pub use walks::laws_of_walks;
 pub use white::laws_of_white;
 pub use words_laws::laws_of_written_words;
-pub use yaml_scan_words::{anchor_reads, gap_reads};
+pub use yaml_scan_history::{anchor_reads, gap_reads};

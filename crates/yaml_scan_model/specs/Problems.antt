@@ -1,7 +1,7 @@
 -- The texts that say why a text can't be scanned.
 use Rattle.std.specs.Prelude.{ℕ, pos, List, Option, Some, None, codes}
-use Rattle.yaml_scan_types.specs.declared.yaml_error_type_t.TheVariants.{YAML_SCANNER_ERROR}
-use Rattle.yaml_scan_types.specs.declared.yaml_origin_t.TheVariants.{Scanner}
+use Rattle.yaml_scan_types.specs.declared.name.yaml_error_type_t.TheVariants.{YAML_SCANNER_ERROR}
+use Rattle.yaml_scan_types.specs.declared.fault.yaml_origin_t.TheVariants.{Scanner}
 use Rattle.yaml_scan_model.specs.declared.problem.Problem.{Problem}
 use Rattle.yaml_scan_model.specs.declared.problem.Problem.TheVariants as problem
 use Rattle.yaml_scan_model.specs.declared.problem.Context.{Context}

@@ -1,6 +1,6 @@
 -- Why no lexeme stands at a place, and the refusal that says it.
 use Rattle.std.specs.Prelude.{ℕ, List}
-use Rattle.yaml_scan_types.specs.declared.yaml_mark_t.{yaml_mark_t}
+use Rattle.yaml_scan_types.specs.declared.record.yaml_mark_t.{yaml_mark_t}
 use Rattle.yaml_scan_model.specs.declared.problem.Problem.{Problem}
 use Rattle.yaml_scan_model.specs.declared.problem.Context.{Context}
 use Rattle.yaml_scan_model.specs.declared.problem.ScanFault.{ScanFault}

@@ -3,15 +3,15 @@ use Rattle.std.proofs.Common.{◌≡◌, ◌≢◌, ℕ, zero, suc, ◌+◌, ◌
 use Rattle.yaml_scan_text.proofs.Words.{nat_tests, cases_Bool, cases_lt, eqb-true, byte, feed_some, value_three, value_other, break_width, column_at, splits_break, ends_break, past_break, text_parts, blank_parts, past-le, past_blanks, within, wrong_of, no_break}
 use Rattle.yaml_scan_model.specs.Runs.{is_text}
 use Rattle.yaml_scan_model.specs.declared.problem.Problem.TheVariants as problems
-use Rattle.yaml_scan_words.proofs.HeaderLemmas as headers
-use Rattle.yaml_scan_words.specs.Header.{chomp_of, chomping_place, digit_of, digit_place, header_at, header_end, indicators, past_comment}
+use Rattle.yaml_scan_history.proofs.HeaderLemmas as headers
+use Rattle.yaml_scan_history.specs.Header.{chomp_of, chomping_place, digit_of, digit_place, header_at, header_end, indicators, past_comment}
 use Rattle.yaml_scan_text.specs.Lines.{AtLine, line_start}
 use Rattle.yaml_scan_text.specs.BlockRead.{AreSpaces, FindsColumn, IsSeen, ReadsHeader}
 use Rattle.yaml_scan_text.specs.declared.block.Seen.TheVariants as seen
-use Rattle.yaml_scan_words.proofs.BlockLemmas as blocks
-use Rattle.yaml_scan_words.specs.Lines.{in_block, spaces, spot_behind}
-use Rattle.yaml_scan_words.specs.Block.{column_of, deepest, larger, larger_of}
-use Rattle.yaml_scan_words.proofs.DepthLemmas as depths
+use Rattle.yaml_scan_history.proofs.BlockLemmas as blocks
+use Rattle.yaml_scan_history.specs.Lines.{in_block, spaces, spot_behind}
+use Rattle.yaml_scan_history.specs.Block.{column_of, deepest, larger, larger_of}
+use Rattle.yaml_scan_history.proofs.DepthLemmas as depths
 use Rattle.yaml_scan_model.specs.Runs.{is_space_there, past_spaces}
 use Rattle.yaml_scan_model.specs.Breaks.{feed_at, is_feed}
 use Rattle.yaml_scan_text.specs.declared.refusal.Wrong.{Wrong as Told}

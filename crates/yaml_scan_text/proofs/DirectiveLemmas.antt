@@ -7,20 +7,20 @@ use Rattle.yaml_scan_model.proofs.RunsLemmas.{past-inside}
 use Rattle.yaml_scan_model.specs.declared.problem.Problem.{Problem}
 use Rattle.yaml_scan_model.specs.declared.problem.Problem.TheVariants as problems
 use Rattle.yaml_scan_model.specs.declared.problem.Context.TheVariants as contexts
-use Rattle.yaml_scan_words.specs.declared.run.Run.TheVariants as runs
-use Rattle.yaml_scan_words.specs.declared.directives.DirectiveName.{DirectiveName}
-use Rattle.yaml_scan_words.specs.declared.directives.DirectiveName.TheVariants as names
+use Rattle.yaml_scan_history.specs.declared.run.Run.TheVariants as runs
+use Rattle.yaml_scan_history.specs.declared.directives.DirectiveName.{DirectiveName}
+use Rattle.yaml_scan_history.specs.declared.directives.DirectiveName.TheVariants as names
 use Rattle.yaml_scan_text.specs.declared.directive.Value.{Value}
-use Rattle.yaml_scan_words.specs.Runs.{belongs, run_end, run_within}
-use Rattle.yaml_scan_words.specs.Directives.{DirectiveText, comment_end, decimal, directive_at, finished, named_value_at, with_line, handle_at, handle_between, prefix_at, prefix_ended, tag_directive_at, value_at, ValueText, with_prefix, line_end_at, minor_at, name_at, name_between, number_at, then_at, version_at, with_major}
-use Rattle.yaml_scan_words.specs.Directives.{name_of}
-use Rattle.yaml_scan_words.proofs.DirectivesLemmas.{AreDigits, number_done, number_long, number_none}
+use Rattle.yaml_scan_history.specs.Runs.{belongs, run_end, run_within}
+use Rattle.yaml_scan_history.specs.Directives.{DirectiveText, comment_end, decimal, directive_at, finished, named_value_at, with_line, handle_at, handle_between, prefix_at, prefix_ended, tag_directive_at, value_at, ValueText, with_prefix, line_end_at, minor_at, name_at, name_between, number_at, then_at, version_at, with_major}
+use Rattle.yaml_scan_history.specs.Directives.{name_of}
+use Rattle.yaml_scan_history.proofs.DirectivesLemmas.{AreDigits, number_done, number_long, number_none}
 use Rattle.yaml_scan_text.specs.Classes.{AreAlphas}
 use Rattle.yaml_scan_text.specs.DirectivesRead.{AreParts, EndsLine, IsSaid, ReadsDirective, ReadsHandle, ReadsValue, ReadsName, ReadsNumber, ReadsVersion}
 use Rattle.yaml_scan_text.specs.QuotedRead.{ArePlain}
 use Rattle.yaml_scan_text.specs.declared.directive.LineEnd.{LineEnd}
 use Rattle.yaml_scan_text.specs.declared.directive.Name.{Name}
-use Rattle.yaml_scan_words.specs.Uris.{some_uri_at}
+use Rattle.yaml_scan_history.specs.Uris.{some_uri_at}
 use Rattle.yaml_scan_text.specs.NamesRead.{ReadsUri}
 use Rattle.yaml_scan_text.specs.Refused.{IsMemory}
 use Rattle.yaml_scan_text.specs.declared.refusal.Refusal.{Refusal}

@@ -4,12 +4,12 @@ use Rattle.yaml_scan_text.proofs.Words.{nat_tests, cases_Bool, cases_lt, lt-ltb,
 use Rattle.yaml_scan_model.specs.declared.problem.Context.{Context}
 use Rattle.yaml_scan_model.specs.declared.problem.Problem.TheVariants as problems
 use Rattle.yaml_scan_model.specs.Classes.{is_alpha_byte}
-use Rattle.yaml_scan_words.specs.declared.run.Run.TheVariants as runs
-use Rattle.yaml_scan_words.specs.Anchors.{anchor_at, may_end_name, name_between}
-use Rattle.yaml_scan_words.specs.Runs.{belongs, run_end}
-use Rattle.yaml_scan_words.proofs.RunsLemmas.{alpha_range, run_is}
-use Rattle.yaml_scan_words.specs.Uris.{Ends, Faulty, IsKept, Spells, UriSpot, is_uri, octet_at, octet_spot, spot_at, uri_at, with_bytes}
-use Rattle.yaml_scan_words.proofs.UrisLemmas.{bytes_twice, octet_digits, spot_ends, uri_behind, uri_due, uri_here, uri_plain, uri_range}
+use Rattle.yaml_scan_history.specs.declared.run.Run.TheVariants as runs
+use Rattle.yaml_scan_history.specs.Anchors.{anchor_at, may_end_name, name_between}
+use Rattle.yaml_scan_history.specs.Runs.{belongs, run_end}
+use Rattle.yaml_scan_history.proofs.WordsRunsLemmas.{alpha_range, run_is}
+use Rattle.yaml_scan_history.specs.Uris.{Ends, Faulty, IsKept, Spells, UriSpot, is_uri, octet_at, octet_spot, spot_at, uri_at, with_bytes}
+use Rattle.yaml_scan_history.proofs.UrisLemmas.{bytes_twice, octet_digits, spot_ends, uri_behind, uri_due, uri_here, uri_plain, uri_range}
 use Rattle.yaml_scan_text.specs.declared.refusal.Refusal.{Refusal}
 use Rattle.yaml_scan_text.specs.declared.refusal.Refusal.TheVariants as refusals
 use Rattle.yaml_scan_text.specs.Classes.{AreAlphas}

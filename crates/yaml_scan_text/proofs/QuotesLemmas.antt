@@ -4,9 +4,9 @@ use Rattle.std.specs.Prelude.{encode_utf8}
 use Rattle.std.specs.Char.{IsScalar}
 use Rattle.yaml_scan_text.proofs.Words.{nat_tests, true≢false, cases_Bool, cases_lt, ne_eqb, lt-ltb, byte, break_of, break_width, feed_at, column_at, column_more, starts, split_next, end_next, is_blank, is_document_indicator, within, no_break, blank_parts, bytes_at, bytes_more, bytes_none, slice_bytes, past_blanks, is_blank_there, Piece, Kept, Blank, Break, lines, text, value, value-kept, blanks_of, gap, White, no_white, white_blank, white_break, fold_of, Wrong, IsHead, InHead}
 use Rattle.yaml_scan_model.proofs.RunsLemmas.{InRun, run_done, run_more, run_start}
-use Rattle.yaml_scan_words.specs.Quoted.{Bad, Closing, Pieces, QuotedSpot, coded, escape_at, escaped, followed, hex_digit, hex_len, hex_value, is_scalar, quote_at, simple_escape, standing_at, valued, with_front}
-use Rattle.yaml_scan_words.proofs.QuotedLemmas as standings
-use Rattle.yaml_scan_words.proofs.QuotedLemmas.{front, pieces_here, pieces_on}
+use Rattle.yaml_scan_history.specs.Quoted.{Bad, Closing, Pieces, QuotedSpot, coded, escape_at, escaped, followed, hex_digit, hex_len, hex_value, is_scalar, quote_at, simple_escape, standing_at, valued, with_front}
+use Rattle.yaml_scan_history.proofs.QuotedLemmas as standings
+use Rattle.yaml_scan_history.proofs.QuotedLemmas.{front, pieces_here, pieces_on}
 use Rattle.yaml_scan_text.specs.White.{IsTrimmed}
 use Rattle.yaml_scan_text.specs.QuotedRead.{ArePlain, Goes, InQuotes, IsNarrow, IsQuote, IsTaken, may_stop, raw_at, raw_piece, to_come}
 use Rattle.yaml_scan_text.specs.declared.fold.Head.{Head}

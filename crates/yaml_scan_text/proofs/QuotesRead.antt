@@ -4,10 +4,10 @@ use Rattle.std.specs.Prelude.{OnOk}
 use Rattle.yaml_scan_text.proofs.Words.{nat_tests, true≢false, false≢true, cases_lt, eq-eqb, ne_eqb, lt-ltb, byte, break_width, feed_at, column_at, column_more, splits_break, starts, split_next, end_next, is_document_indicator, within, no_break, bytes_at, bytes_more, bytes_none, Piece, Kept, Break, text, value, gap-other, White, white_break, feeds, Wrong, wrong_of, IsMemory, IsHead, Keeps, line_start}
 use Rattle.yaml_scan_model.specs.declared.problem.Problem.TheVariants as problems
 use Rattle.yaml_scan_model.specs.declared.problem.Context.TheVariants as contexts
-use Rattle.yaml_scan_words.specs.Quoted.{Bad, Closing, Pieces, QuotedSpot, coded, escape_at, hex_len, hex_value, quote_at, quoted_at, simple_escape, standing_at, valued}
-use Rattle.yaml_scan_words.proofs.QuotedLemmas as standings
-use Rattle.yaml_scan_words.proofs.QuotedLemmas.{pieces_on, quoted_whole}
-use Rattle.yaml_scan_words.proofs.EscapeLemmas as escapes
+use Rattle.yaml_scan_history.specs.Quoted.{Bad, Closing, Pieces, QuotedSpot, coded, escape_at, hex_len, hex_value, quote_at, quoted_at, simple_escape, standing_at, valued}
+use Rattle.yaml_scan_history.proofs.QuotedLemmas as standings
+use Rattle.yaml_scan_history.proofs.QuotedLemmas.{pieces_on, quoted_whole}
+use Rattle.yaml_scan_history.proofs.EscapeLemmas as escapes
 use Rattle.yaml_scan_runs.specs.Runs.{RunsTo}
 use Rattle.yaml_scan_runs.specs.Runs as runs
 use Rattle.yaml_scan_text.specs.QuotedRead.{ArePlain, Goes, Codes, Escapes, InQuotes, IsClosed, IsQuote, IsRead, IsTaken, may_stop, PassesLines, ReadsPiece, ReadsQuoted, RefusedAs, RefusesSpot, closes, marked, raw_at, to_come}

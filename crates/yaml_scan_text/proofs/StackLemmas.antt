@@ -4,15 +4,15 @@ use Rattle.yaml_scan_text.proofs.Words.{nat_tests, cases_lt, byte, break_width, 
 use Rattle.yaml_scan_model.specs.Runs.{is_text, line_end}
 use Rattle.yaml_scan_model.proofs.RunsLemmas.{past-inside}
 use Rattle.yaml_scan_model.specs.declared.problem.Problem.TheVariants as problems
-use Rattle.yaml_scan_words.specs.declared.header.Chomp.{Chomp}
-use Rattle.yaml_scan_words.specs.Value.{BlockLine, Empty, Words, at_end, between, block_value, starts_blank, texts_of}
-use Rattle.yaml_scan_words.specs.Value.{stacked_with}
-use Rattle.yaml_scan_words.specs.Lines.{Line, LineSpot, Lines, Stops, Tab, in_block, line_spot, lines_from, spaces, spot_behind, with_line}
-use Rattle.yaml_scan_words.specs.Header.{HeaderText, header_at}
-use Rattle.yaml_scan_words.specs.Block.{BlockText, block_at, block_with, column_of}
-use Rattle.yaml_scan_words.proofs.BlockLemmas as blocks
-use Rattle.yaml_scan_words.proofs.ScalarLemmas as scalars
-use Rattle.yaml_scan_words.proofs.StackingLemmas as stacking
+use Rattle.yaml_scan_history.specs.declared.header.Chomp.{Chomp}
+use Rattle.yaml_scan_history.specs.Value.{BlockLine, Empty, Words, at_end, between, block_value, starts_blank, texts_of}
+use Rattle.yaml_scan_history.specs.Value.{stacked_with}
+use Rattle.yaml_scan_history.specs.Lines.{Line, LineSpot, Lines, Stops, Tab, in_block, line_spot, lines_from, spaces, spot_behind, with_line}
+use Rattle.yaml_scan_history.specs.Header.{HeaderText, header_at}
+use Rattle.yaml_scan_history.specs.Block.{BlockText, block_at, block_with, column_of}
+use Rattle.yaml_scan_history.proofs.BlockLemmas as blocks
+use Rattle.yaml_scan_history.proofs.ScalarLemmas as scalars
+use Rattle.yaml_scan_history.proofs.StackingLemmas as stacking
 use Rattle.yaml_scan_text.specs.Lines.{AtLine, line_start}
 use Rattle.yaml_scan_text.specs.BlockRead.{AreSpaces, FindsColumn, ReadsBlock, ReadsHeader, after_empty, after_text, lines_at}
 use Rattle.yaml_scan_text.specs.declared.block.Header.{Header}

@@ -2,8 +2,8 @@
 use Rattle.std.proofs.Common.{◌≡◌, ◌≢◌, ℕ, ◌+◌, ◌-◌, ◌<◌, Bool, true, false, List, [], ◌∷◌, ◌++◌, length, slice_range, Result, Ok, Err, refl, ◌∙◌, append-nil, arith}
 use Rattle.yaml_scan_text.proofs.Words.{eq-eqb, ne_eqb, false≢true, byte, within, no_break, slice_bytes, bytes_more, bytes_none, Wrong}
 use Rattle.yaml_scan_model.specs.declared.problem.Context.TheVariants as contexts
-use Rattle.yaml_scan_words.specs.Tags.{bare, bare_at, bracketed, name_end, named_at, parts_at, verbatim_at, with_handle}
-use Rattle.yaml_scan_words.specs.Uris.{some_uri_at, uri_at}
+use Rattle.yaml_scan_history.specs.Tags.{bare, bare_at, bracketed, name_end, named_at, parts_at, verbatim_at, with_handle}
+use Rattle.yaml_scan_history.specs.Uris.{some_uri_at, uri_at}
 use Rattle.yaml_scan_text.specs.Classes.{AreAlphas}
 use Rattle.yaml_scan_text.specs.NamesRead.{ReadsUri}
 use Rattle.yaml_scan_text.specs.TagsRead.{ReadsTag}

@@ -6,11 +6,11 @@ use Rattle.yaml_scan_model.specs.Marks.{byte, break_width, column_at, is_blank}
 use Rattle.yaml_scan_model.specs.Breaks.{break_value, feed_at}
 use Rattle.yaml_scan_model.specs.Runs.{line_end}
 use Rattle.yaml_scan_model.specs.declared.problem.Problem.TheVariants as problems
-use Rattle.yaml_scan_words.specs.declared.header.Chomp.{Chomp}
-use Rattle.yaml_scan_words.specs.Header.{HeaderText}
-use Rattle.yaml_scan_words.specs.Value.{Empty, Words, block_value}
-use Rattle.yaml_scan_words.specs.Lines.{LineSpot, Stops, Line, Tab, in_block, lines_from}
-use Rattle.yaml_scan_words.specs.Block.{BlockText, block_with}
+use Rattle.yaml_scan_history.specs.declared.header.Chomp.{Chomp}
+use Rattle.yaml_scan_history.specs.Header.{HeaderText}
+use Rattle.yaml_scan_history.specs.Value.{Empty, Words, block_value}
+use Rattle.yaml_scan_history.specs.Lines.{LineSpot, Stops, Line, Tab, in_block, lines_from}
+use Rattle.yaml_scan_history.specs.Block.{BlockText, block_with}
 use Rattle.yaml_scan_text.specs.declared.block.BlockScalar.{BlockScalar}
 use Rattle.yaml_scan_text.specs.declared.block.Header.{Header}
 use Rattle.yaml_scan_text.specs.declared.block.Seen.{Seen}

@@ -2,8 +2,8 @@
 use Rattle.std.specs.Prelude.{ℕ, ◌<◌, ◌≤◌, ◌≡◌, true, List, length}
 use Rattle.yaml_scan_model.specs.Marks.{byte}
 use Rattle.yaml_scan_model.specs.Classes.{is_alpha_byte}
-use Rattle.yaml_scan_words.specs.Runs.{run_end}
-use Rattle.yaml_scan_words.specs.declared.run.Run.TheVariants as runs
+use Rattle.yaml_scan_history.specs.Runs.{run_end}
+use Rattle.yaml_scan_history.specs.declared.run.Run.TheVariants as runs
 
 -- a run of alphas, no longer one
 pub record AreAlphas (text : List ℕ) (p q : ℕ) : Type 0 where

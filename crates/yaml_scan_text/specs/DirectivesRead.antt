@@ -2,8 +2,8 @@
 use Rattle.std.specs.Prelude.{ℕ, ◌+◌, ◌-◌, ◌<◌, ◌≤◌, ◌≡◌, true, false, List, ◌++◌, length, slice_range, Result, Ok, Err}
 use Rattle.yaml_scan_model.specs.Marks.{byte, column_at}
 use Rattle.yaml_scan_model.specs.Wrong.{Wrong}
-use Rattle.yaml_scan_words.specs.Directives.{DirectiveText, Said, ValueText, decimal, tag, version}
-use Rattle.yaml_scan_words.specs.declared.directives.DirectiveName.{DirectiveName}
+use Rattle.yaml_scan_history.specs.Directives.{DirectiveText, Said, ValueText, decimal, tag, version}
+use Rattle.yaml_scan_history.specs.declared.directives.DirectiveName.{DirectiveName}
 use Rattle.yaml_scan_text.specs.declared.directive.Directive.{Directive}
 use Rattle.yaml_scan_text.specs.declared.directive.LineEnd.{LineEnd}
 use Rattle.yaml_scan_text.specs.declared.directive.Name.{Name}

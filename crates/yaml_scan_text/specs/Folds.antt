@@ -4,8 +4,8 @@ use Rattle.yaml_scan_model.specs.Ascii as ascii
 use Rattle.yaml_scan_model.specs.Marks.{byte, break_width, column_at, is_blank}
 use Rattle.yaml_scan_model.specs.Breaks.{feed_at}
 use Rattle.yaml_scan_model.specs.Runs.{past_blanks}
-use Rattle.yaml_scan_words.specs.Pieces.{Piece, Blank, Break, gap}
-use Rattle.yaml_scan_words.specs.Plain.{leads}
+use Rattle.yaml_scan_history.specs.Pieces.{Piece, Blank, Break, gap}
+use Rattle.yaml_scan_history.specs.Plain.{leads}
 
 -- how far a look at a place goes: past the break there, or one byte
 abbrev pub step_width : List ℕ → ℕ → ℕ

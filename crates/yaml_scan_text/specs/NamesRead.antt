@@ -2,7 +2,7 @@
 use Rattle.std.specs.Prelude.{ℕ, suc, ◌+◌, ◌<◌, ◌≤◌, ◌≡◌, Bool, true, false, List, [], ◌∷◌, ◌++◌, length, slice_range, Result, Ok, Err}
 use Rattle.yaml_scan_model.specs.declared.problem.Context.{Context}
 use Rattle.yaml_scan_model.specs.Wrong.{Wrong}
-use Rattle.yaml_scan_words.specs.Uris.{Ends, Faulty, Spells, UriSpot, is_uri, uri_within, with_bytes}
+use Rattle.yaml_scan_history.specs.Uris.{Ends, Faulty, Spells, UriSpot, is_uri, uri_within, with_bytes}
 use Rattle.yaml_scan_text.specs.declared.refusal.Refusal.{Refusal}
 use Rattle.yaml_scan_text.specs.declared.refusal.Wrong.{Wrong as Told}
 use Rattle.yaml_scan_model.specs.declared.problem.Problem.{Problem}

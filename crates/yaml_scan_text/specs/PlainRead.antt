@@ -6,8 +6,8 @@ use Rattle.yaml_scan_model.specs.declared.problem.Context.TheVariants as context
 use Rattle.yaml_scan_model.specs.Marks.{byte, break_width, splits_break, column_at, starts, is_blank, is_blank_or_end}
 use Rattle.yaml_scan_model.specs.Runs.{past_blanks}
 use Rattle.yaml_scan_model.specs.Wrong.{Wrong}
-use Rattle.yaml_scan_words.specs.Pieces.{Piece, value}
-use Rattle.yaml_scan_words.specs.Plain.{PlainSpot, Ends, Faulty, Words, PlainText, is_nothing, is_bracket, plain_with, words, spot_at, ends_at, leads, after_white}
+use Rattle.yaml_scan_history.specs.Pieces.{Piece, value}
+use Rattle.yaml_scan_history.specs.Plain.{PlainSpot, Ends, Faulty, Words, PlainText, is_nothing, is_bracket, plain_with, words, spot_at, ends_at, leads, after_white}
 use Rattle.yaml_scan_runs.specs.Runs.{is_stop}
 use Rattle.yaml_scan_text.specs.declared.plain.PlainLine.{PlainLine}
 use Rattle.yaml_scan_text.specs.declared.plain.PlainScalar.{PlainScalar}

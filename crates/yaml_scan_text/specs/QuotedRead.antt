@@ -6,9 +6,9 @@ use Rattle.yaml_scan_model.specs.Marks.{byte, break_width, column_at, is_blank, 
 use Rattle.yaml_scan_model.specs.Breaks.{is_document_indicator}
 use Rattle.yaml_scan_model.specs.declared.problem.Problem.TheVariants as problems
 use Rattle.yaml_scan_model.specs.declared.problem.Context.TheVariants as contexts
-use Rattle.yaml_scan_words.specs.Pieces.{Piece, Blank, Kept, value}
+use Rattle.yaml_scan_history.specs.Pieces.{Piece, Blank, Kept, value}
 use Rattle.yaml_scan_runs.specs.Runs.{is_stop}
-use Rattle.yaml_scan_words.specs.Quoted.{Bad, Pieces, QuotedSpot, pieces, quoted_at, valued}
+use Rattle.yaml_scan_history.specs.Quoted.{Bad, Pieces, QuotedSpot, pieces, quoted_at, valued}
 use Rattle.yaml_scan_text.specs.declared.fold.Head.{Head}
 use Rattle.yaml_scan_text.specs.declared.quoted.Quoted.{Quoted}
 use Rattle.yaml_scan_text.specs.declared.quoted.QuotedScalar.{QuotedScalar}

@@ -1,7 +1,7 @@
 -- What the readers of tags answer.
 use Rattle.std.specs.Prelude.{ℕ, ◌≤◌, ◌≡◌, true, false, List, ◌++◌, length, slice_range, Result, Ok, Err}
 use Rattle.yaml_scan_model.specs.Wrong.{Wrong}
-use Rattle.yaml_scan_words.specs.Tags.{TagText}
+use Rattle.yaml_scan_history.specs.Tags.{TagText}
 use Rattle.yaml_scan_text.specs.declared.refusal.Refusal.{Refusal}
 use Rattle.yaml_scan_text.specs.declared.tag.Tag.{Tag}
 use Rattle.yaml_scan_text.specs.QuotedRead.{ArePlain}

@@ -6,10 +6,10 @@ ghost use Rattle.yaml_scan_model.specs.Marks.{byte, break_width, column_at, is_b
 ghost use Rattle.yaml_scan_model.specs.Classes.{is_digit_byte};
 ghost use Rattle.yaml_scan_model.specs.Breaks.{feed_at, is_feed};
 ghost use Rattle.yaml_scan_model.specs.Runs.{line_end};
-ghost use Rattle.yaml_scan_words.specs.Header as headers;
-ghost use Rattle.yaml_scan_words.specs.Block as blocks;
-ghost use Rattle.yaml_scan_words.specs.Lines as lines;
-ghost use Rattle.yaml_scan_words.specs.Value.{at_end, between, space_or};
+ghost use Rattle.yaml_scan_history.specs.Header as headers;
+ghost use Rattle.yaml_scan_history.specs.Block as blocks;
+ghost use Rattle.yaml_scan_history.specs.Lines as lines;
+ghost use Rattle.yaml_scan_history.specs.Value.{at_end, between, space_or};
 ghost use Rattle.yaml_scan_text.specs.Folds.{feeds};
 ghost use Rattle.yaml_scan_text.specs.Lines.{AtLine, line_start};
 ghost use Rattle.yaml_scan_text.specs.Refused.{Keeps, wrong_of};
@@ -22,8 +22,8 @@ use crate::text::{
     skip_spaces,
 };
 use std::alloc::AllocError;
+use yaml_scan_history::Chomp;
 use yaml_scan_model::{Context, Problem};
-use yaml_scan_words::Chomp;
 
 /// What a header says: what happens to the last breaks, and the indentation's digit, or 0; and the place after it, and where its line
 /// starts.
@@ -80,14 +80,14 @@ fn behind_if(at: usize, other: bool) -> usize
 }
 
 /// `+` or `-`.
-#[tactic(auto, unfolding(yaml_scan_words::specs::Header::is_chomping))]
+#[tactic(auto, unfolding(yaml_scan_history::specs::Header::is_chomping))]
 fn is_chomping(byte: u8) -> bool
     ensures { result ≡ headers.is_chomping byte }
 {
     byte == b'+' || byte == b'-'
 }
 
-#[tactic(auto, unfolding(yaml_scan_words::specs::Header::chomp_of))]
+#[tactic(auto, unfolding(yaml_scan_history::specs::Header::chomp_of))]
 fn chomp_of(byte: u8) -> Chomp
     ensures { result ≡ headers.chomp_of byte }
 {
@@ -99,7 +99,7 @@ fn chomp_of(byte: u8) -> Chomp
 }
 
 /// The digit's value, or 0.
-#[tactic(auto, unfolding(yaml_scan_words::specs::Header::digit_of, yaml_scan_types::specs::Classes::is_digit_byte))]
+#[tactic(auto, unfolding(yaml_scan_history::specs::Header::digit_of, yaml_scan_types::specs::Classes::is_digit_byte))]
 fn digit_of(byte: u8) -> usize
     ensures value { result ≡ headers.digit_of byte }
     ensures small { result < 10 }
@@ -111,7 +111,7 @@ fn digit_of(byte: u8) -> usize
 }
 
 /// How many of two bytes are a chomping indicator and a digit, in either order.
-#[tactic(auto, unfolding(yaml_scan_words::specs::Header::indicators))]
+#[tactic(auto, unfolding(yaml_scan_history::specs::Header::indicators))]
 fn indicators(first: u8, second: u8) -> usize
     ensures { result ≡ headers.indicators first second }
 {
@@ -125,7 +125,7 @@ fn indicators(first: u8, second: u8) -> usize
 }
 
 /// The place after the indicators there, blanks and a comment.
-#[tactic(auto, using(crate::proofs::Words::within, crate::proofs::BlockLemmas::few_indicators), unfolding(yaml_scan_words::specs::Header::past_comment))]
+#[tactic(auto, using(crate::proofs::Words::within, crate::proofs::BlockLemmas::few_indicators), unfolding(yaml_scan_history::specs::Header::past_comment))]
 fn header_end(text: &[u8], at: usize) -> usize
     requires { at ≤ length text.now }
     ensures { result ≡ headers.header_end text.now at }
@@ -316,7 +316,7 @@ fn put_between(
 }
 
 /// Appends a line's text, which starts and ends there, and what stands before it.
-#[tactic(auto, unfolding(yaml_scan_words::specs::Value::between))]
+#[tactic(auto, unfolding(yaml_scan_history::specs::Value::between))]
 fn put_line(
     arena: &mut Vec<u8>,
     text: &[u8],

@@ -2,9 +2,9 @@
 
 ghost use Rattle.std.specs.Prelude.{◌≡◌, ◌≤◌, length};
 ghost use Rattle.yaml_scan_model.specs.Classes.{is_alpha_byte};
-ghost use Rattle.yaml_scan_words.specs.Plain.{is_bracket};
-ghost use Rattle.yaml_scan_words.specs.Uris.{IsKept};
-ghost use Rattle.yaml_scan_words.specs.Written.{is_kept};
+ghost use Rattle.yaml_scan_history.specs.Plain.{is_bracket};
+ghost use Rattle.yaml_scan_history.specs.Uris.{IsKept};
+ghost use Rattle.yaml_scan_history.specs.Written.{is_kept};
 ghost use Rattle.yaml_scan_text.specs.Classes as spec;
 
 /// `4` an alpha, `2` one more that a URI holds, `1` one that only a verbatim tag or a prefix holds.
@@ -19,7 +19,7 @@ static NAMES: [u8; 256] = *b"\
     00000000000000000000000000000000";
 
 /// One of `, [ ] { }`.
-#[tactic(auto, unfolding(yaml_scan_words::specs::Plain::is_bracket))]
+#[tactic(auto, unfolding(yaml_scan_history::specs::Plain::is_bracket))]
 pub fn is_bracket(byte: u8) -> bool
     ensures { result ≡ is_bracket byte }
 {
@@ -57,7 +57,7 @@ pub fn alphas(text: &[u8], from: usize) -> usize
 }
 
 /// The place after the bytes there that a URI holds as they are.
-#[tactic(auto, using(yaml_scan_words::proofs::UrisLemmas::past_uri))]
+#[tactic(auto, using(yaml_scan_history::proofs::UrisLemmas::past_uri))]
 pub(crate) fn uri_run(text: &[u8], from: usize, wide: bool) -> usize
     requires { from ≤ length text.now }
     ensures run { IsKept wide text.now from result }

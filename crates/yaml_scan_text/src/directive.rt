@@ -4,8 +4,8 @@ ghost use Rattle.std.specs.Prelude.{◌≡◌, ◌<◌, ◌≤◌, ◌+◌, ◌-
 ghost use Rattle.yaml_scan_model.specs.Ascii as ascii;
 ghost use Rattle.yaml_scan_model.specs.Marks.{byte, column_at, splits_break};
 ghost use Rattle.yaml_scan_model.specs.Classes.{is_digit_byte};
-ghost use Rattle.yaml_scan_words.specs.Directives as directives;
-ghost use Rattle.yaml_scan_words.specs.Directives.{name_of};
+ghost use Rattle.yaml_scan_history.specs.Directives as directives;
+ghost use Rattle.yaml_scan_history.specs.Directives.{name_of};
 ghost use Rattle.yaml_scan_text.specs.DirectivesRead as spec;
 ghost use Rattle.yaml_scan_text.specs.Lines.{line_start};
 ghost use Rattle.yaml_scan_text.specs.Refused.{Keeps, wrong_of};
@@ -17,8 +17,8 @@ use crate::text::{
     break_width, byte, is_blank, is_blank_or_end, is_digit, is_text, line_end, skip_blanks,
 };
 use crate::uri::some_uri;
+use yaml_scan_history::DirectiveName;
 use yaml_scan_model::{Context, Problem};
-use yaml_scan_words::DirectiveName;
 
 /// A directive's value: whether it is a tag's handle and prefix, or else a version's two numbers; where both parts stand; and whether
 /// the second one was spelled out.

@@ -1,7 +1,7 @@
 //! The names of anchors and aliases.
 
 ghost use Rattle.std.specs.Prelude.{◌≡◌, ◌<◌, ◌||◌, ◌==◌, not, length};
-ghost use Rattle.yaml_scan_words.specs.Anchors as anchors;
+ghost use Rattle.yaml_scan_history.specs.Anchors as anchors;
 ghost use Rattle.yaml_scan_text.specs.NamesRead as spec;
 
 use crate::class::alphas;
@@ -33,7 +33,7 @@ fn is_name(text: &[u8], from: usize, end: usize) -> bool
 }
 
 /// Whether a blank, a break, the end or one of ``? : , ] } % @ ` `` stands there.
-#[tactic(auto, unfolding(yaml_scan_words::specs::Anchors::may_end_name))]
+#[tactic(auto, unfolding(yaml_scan_history::specs::Anchors::may_end_name))]
 fn may_end_name(text: &[u8], at: usize) -> bool
     ensures { result ≡ anchors.may_end_name text.now at }
 {

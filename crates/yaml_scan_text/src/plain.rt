@@ -3,7 +3,7 @@
 ghost use Rattle.std.specs.Prelude.{◌≡◌, ◌<◌, ◌≤◌, ◌+◌, ◌-◌, ◌++◌, ◌&&◌, ◌||◌, ◌==◌, nat_lt, Bool, ℕ, true, false, length, slice_range, OnOk, if◌then◌else◌};
 ghost use Rattle.yaml_scan_model.specs.Ascii as ascii;
 ghost use Rattle.yaml_scan_model.specs.Marks.{byte, break_width, is_blank, is_blank_or_end};
-ghost use Rattle.yaml_scan_words.specs.Plain as plain;
+ghost use Rattle.yaml_scan_history.specs.Plain as plain;
 ghost use Rattle.yaml_scan_text.specs.Lines.{InHead, IsSpelled};
 ghost use Rattle.yaml_scan_text.specs.Refused.{Keeps, wrong_of};
 ghost use Rattle.yaml_scan_text.specs.PlainRead as spec;
@@ -98,7 +98,7 @@ fn is_colon(text: &[u8], at: usize) -> bool
 /// or in brackets a bracket or a `:` before such a one.
 // In line: asked after each run.
 #[inline(always)]
-#[tactic(auto, unfolding(yaml_scan_types::specs::Marks::break_of, yaml_scan_words::specs::Plain::is_bracket))]
+#[tactic(auto, unfolding(yaml_scan_types::specs::Marks::break_of, yaml_scan_history::specs::Plain::is_bracket))]
 fn stops(text: &[u8], at: usize, flow: bool) -> bool
     requires { (0 < at) × (at ≤ length text.now) }
     ensures { result ≡ spec.stops flow (is_blank (byte text.now (at - 1))) text.now at }

@@ -3,8 +3,8 @@
 ghost use Rattle.std.specs.Prelude.{◌≡◌, ◌<◌, ◌≤◌, ◌+◌, ◌-◌, ◌++◌, ◌&&◌, ◌⊎◌, ◌==◌, ◌^◌, ℕ, true, false, not, length, slice_range, option_map, IfSome, OnOk, if◌then◌else◌};
 ghost use Rattle.yaml_scan_model.specs.Ascii as ascii;
 ghost use Rattle.yaml_scan_model.specs.Marks.{byte, break_width, splits_break};
-ghost use Rattle.yaml_scan_words.specs.Quoted as quoted;
-ghost use Rattle.yaml_scan_words.specs.Uris as uris;
+ghost use Rattle.yaml_scan_history.specs.Quoted as quoted;
+ghost use Rattle.yaml_scan_history.specs.Uris as uris;
 ghost use Rattle.yaml_scan_runs.specs.Runs.{RunsTo};
 ghost use Rattle.yaml_scan_runs.specs.Runs as runs;
 ghost use Rattle.yaml_scan_text.specs.Lines.{IsSpelled, line_start};
@@ -393,7 +393,7 @@ fn put_coded(arena: &mut Vec<u8>, text: &[u8], from: usize, digits: usize) -> Re
 }
 
 /// How many hexadecimal digits follow the letter.
-#[tactic(auto, unfolding(yaml_scan_words::specs::Quoted::hex_len))]
+#[tactic(auto, unfolding(yaml_scan_history::specs::Quoted::hex_len))]
 fn hex_len(letter: u8) -> usize
     ensures value { result ≡ quoted.hex_len letter }
     ensures few { result ≤ 8 }
@@ -407,7 +407,7 @@ fn hex_len(letter: u8) -> usize
 }
 
 /// The value of a hexadecimal digit.
-#[tactic(auto, unfolding(yaml_scan_words::specs::Quoted::hex_digit, yaml_scan_words::specs::Uris::hex_digit))]
+#[tactic(auto, unfolding(yaml_scan_history::specs::Quoted::hex_digit, yaml_scan_history::specs::Uris::hex_digit))]
 pub(crate) fn hex_digit(byte: u8) -> Option<u8>
     ensures value { result ≡ quoted.hex_digit byte }
     ensures octet { result ≡ uris.hex_digit byte }
@@ -422,7 +422,7 @@ pub(crate) fn hex_digit(byte: u8) -> Option<u8>
 }
 
 /// The number that as many hexadecimal digits spell there, eight at most.
-#[tactic(auto, using(yaml_scan_words::proofs::EscapeLemmas::hex_refused))]
+#[tactic(auto, using(yaml_scan_history::proofs::EscapeLemmas::hex_refused))]
 fn hex_value(text: &[u8], from: usize, digits: usize) -> Option<u32>
     requires few { digits ≤ 8 }
     requires inside { from ≤ length text.now }
@@ -437,7 +437,7 @@ fn hex_value(text: &[u8], from: usize, digits: usize) -> Option<u32>
 }
 
 /// The bytes that a letter stands for after a backslash.
-#[tactic(auto, unfolding(yaml_scan_words::specs::Quoted::simple_escape))]
+#[tactic(auto, unfolding(yaml_scan_history::specs::Quoted::simple_escape))]
 fn simple_escape(letter: u8) -> Option<&'static [u8]>
     ensures { option_map (λ b. b.now) result ≡ quoted.simple_escape letter }
 {

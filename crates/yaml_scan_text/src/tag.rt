@@ -3,7 +3,7 @@
 ghost use Rattle.std.specs.Prelude.{◌≡◌, ◌≤◌, ◌<◌, ◌+◌, ◌&&◌, ◌||◌, ◌==◌, length};
 ghost use Rattle.yaml_scan_model.specs.Ascii as ascii;
 ghost use Rattle.yaml_scan_model.specs.Marks.{byte};
-ghost use Rattle.yaml_scan_words.specs.Tags as tags;
+ghost use Rattle.yaml_scan_history.specs.Tags as tags;
 ghost use Rattle.yaml_scan_text.specs.Classes.{AreAlphas};
 ghost use Rattle.yaml_scan_text.specs.TagsRead as spec;
 ghost use Rattle.yaml_scan_text.specs.Refused.{Keeps, wrong_of};

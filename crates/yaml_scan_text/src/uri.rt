@@ -3,7 +3,7 @@
 ghost use Rattle.std.specs.Prelude.{◌≡◌, ◌<◌, ◌≤◌, ◌+◌, ◌++◌, true, false, length, IfOk};
 ghost use Rattle.yaml_scan_model.specs.Ascii as ascii;
 ghost use Rattle.yaml_scan_model.specs.Marks.{byte};
-ghost use Rattle.yaml_scan_words.specs.Uris as uris;
+ghost use Rattle.yaml_scan_history.specs.Uris as uris;
 ghost use Rattle.yaml_scan_text.specs.NamesRead as spec;
 ghost use Rattle.yaml_scan_text.specs.Refused.{Keeps};
 
@@ -168,7 +168,7 @@ fn octet_behind(text: &[u8], at: usize, due: usize) -> Result<Octet, Problem>
 }
 
 /// The number that the two digits spell after the `%` there.
-#[tactic(auto, unfolding(yaml_scan_words::specs::Uris::octet_at))]
+#[tactic(auto, unfolding(yaml_scan_history::specs::Uris::octet_at))]
 fn octet_at(text: &[u8], at: usize) -> Option<u8>
     requires { byte text.now at ≡ ascii.percent }
     ensures { result ≡ uris.octet_at text.now at }
@@ -179,7 +179,7 @@ fn octet_at(text: &[u8], at: usize) -> Option<u8>
 }
 
 /// How many escapes are due after an octet, where that many are due with it: those of the rest of its character.
-#[tactic(auto, unfolding(yaml_scan_words::specs::Uris::due_behind))]
+#[tactic(auto, unfolding(yaml_scan_history::specs::Uris::due_behind))]
 fn due_behind(octet: u8, due: usize) -> Result<usize, Problem>
     ensures { result ≡ uris.due_behind octet due }
 {

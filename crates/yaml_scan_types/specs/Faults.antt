@@ -1,11 +1,11 @@
 -- Faults, their texts as bytes.
 use Rattle.std.specs.Prelude.{ℕ, ℤ, pos, List, [], ◌∷◌, Option, None, option_map, codes, ◌≡◌, Result, Ok, Err, ◌⊎◌}
-use Rattle.yaml_scan_types_plain.specs.declared.name.yaml_error_type_t.{yaml_error_type_t}
-use Rattle.yaml_scan_types_plain.specs.declared.name.yaml_error_type_t.TheVariants.{YAML_MEMORY_ERROR}
-use Rattle.yaml_scan_types_plain.specs.declared.fault.yaml_origin_t.{yaml_origin_t}
-use Rattle.yaml_scan_types_plain.specs.declared.fault.yaml_origin_t.TheVariants as layer
-use Rattle.yaml_scan_types_plain.specs.declared.fault.yaml_fault_t.{yaml_fault_t}
-use Rattle.yaml_scan_types_plain.specs.declared.record.yaml_mark_t.{yaml_mark_t}
+use Rattle.yaml_scan_types.specs.declared.name.yaml_error_type_t.{yaml_error_type_t}
+use Rattle.yaml_scan_types.specs.declared.name.yaml_error_type_t.TheVariants.{YAML_MEMORY_ERROR}
+use Rattle.yaml_scan_types.specs.declared.fault.yaml_origin_t.{yaml_origin_t}
+use Rattle.yaml_scan_types.specs.declared.fault.yaml_origin_t.TheVariants as layer
+use Rattle.yaml_scan_types.specs.declared.fault.yaml_fault_t.{yaml_fault_t}
+use Rattle.yaml_scan_types.specs.declared.record.yaml_mark_t.{yaml_mark_t}
 use Rattle.yaml_scan_types.specs.Tokens.{zero_mark}
 
 -- a located fault

@@ -1,4 +1,3 @@
-pub use Rattle.yaml_scan_types_plain.specs.Widths
 pub mod Marks
 pub mod Classes
 pub mod Tokens
@@ -6,3 +5,4 @@ pub mod Faults
 pub mod Ascii
 pub mod Points
 pub mod Indents
+pub mod Widths

@@ -1,7 +1,7 @@
 -- Places in a text, and their marks.
 use Rattle.std.specs.Prelude.{ℕ, zero, suc, ◌+◌, ◌-◌, Bool, true, false, not, ◌&&◌, ◌||◌, ◌==◌, nat_lt, nat_le, if◌then◌else◌, List, slice_index}
 use Rattle.yaml_scan_types.specs.Ascii as ascii
-use Rattle.yaml_scan_types_plain.specs.declared.record.yaml_mark_t.{yaml_mark_t}
+use Rattle.yaml_scan_types.specs.declared.record.yaml_mark_t.{yaml_mark_t}
 
 -- a place in a text
 pub record Place : Type 0 where

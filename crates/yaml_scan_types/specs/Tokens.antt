@@ -1,10 +1,10 @@
 -- Tokens, without where their texts lie in memory.
 use Rattle.std.specs.Prelude.{ℕ, ℤ, List}
-use Rattle.yaml_scan_types_plain.specs.declared.name.yaml_encoding_t.{yaml_encoding_t}
-use Rattle.yaml_scan_types_plain.specs.declared.name.yaml_scalar_style_t.{yaml_scalar_style_t}
-use Rattle.yaml_scan_types_plain.specs.declared.name.yaml_token_type_t.{yaml_token_type_t}
-use Rattle.yaml_scan_types_plain.specs.declared.name.yaml_token_type_t.TheVariants as kind
-use Rattle.yaml_scan_types_plain.specs.declared.record.yaml_mark_t.{yaml_mark_t}
+use Rattle.yaml_scan_types.specs.declared.name.yaml_encoding_t.{yaml_encoding_t}
+use Rattle.yaml_scan_types.specs.declared.name.yaml_scalar_style_t.{yaml_scalar_style_t}
+use Rattle.yaml_scan_types.specs.declared.name.yaml_token_type_t.{yaml_token_type_t}
+use Rattle.yaml_scan_types.specs.declared.name.yaml_token_type_t.TheVariants as kind
+use Rattle.yaml_scan_types.specs.declared.record.yaml_mark_t.{yaml_mark_t}
 use Rattle.yaml_scan_types.specs.declared.token.yaml_token_body_t.{yaml_token_body_t}
 use Rattle.yaml_scan_types.specs.declared.token.yaml_token_body_t.TheVariants as body
 use Rattle.yaml_scan_types.specs.declared.token.yaml_token_t.{yaml_token_t}

@@ -3,7 +3,7 @@
 ghost use Rattle.std.specs.Prelude.{◌≡◌};
 ghost use Rattle.yaml_scan_types.specs.Faults.{fault_of, memory_fault};
 
-use yaml_scan_types_plain::{yaml_error_type_t, yaml_fault_t, yaml_mark_t, yaml_origin_t};
+use crate::{yaml_error_type_t, yaml_fault_t, yaml_mark_t, yaml_origin_t};
 
 /// The fault of a growth that was refused, in that layer.
 pub fn yaml_memory_fault(origin: yaml_origin_t) -> yaml_fault_t

@@ -3,7 +3,7 @@
 ghost use Rattle.std.specs.Prelude.{◌≡◌};
 ghost use Rattle.yaml_scan_types.specs.Tokens.{type_of, token_of, no_token};
 
-use yaml_scan_types_plain::{yaml_encoding_t, yaml_mark_t, yaml_scalar_style_t, yaml_token_type_t};
+use crate::{yaml_encoding_t, yaml_mark_t, yaml_scalar_style_t, yaml_token_type_t};
 
 /// What a token is, and what it carries. Texts are bytes of UTF-8, except for a tag's suffix or prefix, which may be
 /// any bytes.

@@ -11,7 +11,7 @@ use yaml_parse::{
     yaml_parser_parse, yaml_parser_parse_into, yaml_parser_prefix, yaml_parser_t,
     yaml_parser_t_prefix, yaml_token_source_t,
 };
-use yaml_parse_list::{yaml_token_list_t, yaml_token_utf8};
+use yaml_parse_source::{yaml_token_list_t, yaml_token_utf8};
 use yaml_round_adapter::yaml_adapter_t;
 
 // Puts the event, unless all are asked for and it is the empty one after the last, or the fault. The event is kept anyway: to let go

@@ -11,7 +11,7 @@ ghost use Rattle.yaml_emit_machine.specs.Dumping.{Dumps, MayDump, DumpsSome};
 use super::{take_event, yaml_emitter_t};
 use crate::fault::note_refusal;
 use yaml_emit_graph::Events;
-use yaml_parse_document::yaml_document_t;
+use yaml_parse_model::yaml_document_t;
 
 impl yaml_emitter_t {
     // Memory was refused for the dump: what follows counts for nothing.

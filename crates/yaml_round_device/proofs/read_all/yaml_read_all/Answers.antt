@@ -1,5 +1,5 @@
 -- What was read, or why it wasn't. Not searched for, so that a wrong answer fails by its type, at once.
-use Rattle.yaml_round_device_plain.proofs.Telling.{told_cause, told_few}
+use Rattle.yaml_round_device.proofs.Telling.{told_cause, told_few}
 use Rattle.yaml_round_device.proofs.read_all.yaml_read_all.Goals as goal
 
 pub returns-in-Ok-clause-all : goal.returns-in-Ok-clause-all

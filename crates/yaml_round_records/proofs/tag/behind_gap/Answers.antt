@@ -1,5 +1,5 @@
 use Rattle.std.proofs.Common.{◌<◌, true, refl, ◌∙◌, arith}
-use Rattle.yaml_scan_words.specs.Between.{step_at}
+use Rattle.yaml_scan_history.specs.Between.{step_at}
 use Rattle.yaml_round_records.proofs.Gaps.{gap_on, gap_done}
 use Rattle.yaml_round_records.proofs.tag.behind_gap.Goals as goal
 

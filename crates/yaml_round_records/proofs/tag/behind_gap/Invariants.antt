@@ -1,5 +1,5 @@
 use Rattle.std.proofs.Common.{◌≡◌, ◌≤◌, ◌-◌, length, true, false}
-use Rattle.yaml_scan_words.specs.Between.{step_at, gap_at}
+use Rattle.yaml_scan_history.specs.Between.{step_at, gap_at}
 use Rattle.yaml_round_records.proofs.tag.behind_gap.Given as goal
 
 abbrev pub invariant-gap : goal.invariant-gap

@@ -1,6 +1,6 @@
 use Rattle.std.proofs.Common.{◌≡◌, ◌<◌, ◌∙◌, sym, inl, inr, refl, arith}
 use Rattle.yaml_scan_text.proofs.Words.{byte}
-use Rattle.yaml_scan_words.specs.Header.{chomp_of, chomping_place, digit_of}
+use Rattle.yaml_scan_history.specs.Header.{chomp_of, chomping_place, digit_of}
 use Rattle.yaml_scan_text.proofs.TextLemmas.{break_within}
 use Rattle.yaml_scan_text.proofs.BlockLemmas.{header_zero, header_wrong, header_done, header_line}
 use Rattle.yaml_scan_text.proofs.block.read_header.Goals as goal

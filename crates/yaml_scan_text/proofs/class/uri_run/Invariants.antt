@@ -1,5 +1,5 @@
 use Rattle.std.proofs.Common.{◌≡◌, ◌≤◌, ◌<◌, ◌-◌, ℕ, true, length}
-use Rattle.yaml_scan_words.specs.Uris.{is_uri}
+use Rattle.yaml_scan_history.specs.Uris.{is_uri}
 use Rattle.yaml_scan_text.proofs.class.uri_run.Given as goal
 
 abbrev pub invariant-bytes : goal.invariant-bytes

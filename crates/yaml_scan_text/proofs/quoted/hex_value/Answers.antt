@@ -1,7 +1,7 @@
 use Rattle.std.proofs.Common.{arith, sym, ◌≡◌, ◌+◌, Some}
 use Rattle.yaml_scan_text.proofs.Words.{byte}
-use Rattle.yaml_scan_words.specs.Quoted.{hex_digit}
-use Rattle.yaml_scan_words.proofs.EscapeLemmas.{hex_more, power-room, power-more}
+use Rattle.yaml_scan_history.specs.Quoted.{hex_digit}
+use Rattle.yaml_scan_history.proofs.EscapeLemmas.{hex_more, power-room, power-more}
 use Rattle.yaml_scan_text.proofs.QuotesLemmas.{hex_start}
 use Rattle.yaml_scan_text.proofs.quoted.hex_value.Goals as goal
 

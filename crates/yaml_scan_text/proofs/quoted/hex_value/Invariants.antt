@@ -1,5 +1,5 @@
 use Rattle.std.proofs.Common.{◌≡◌, ◌<◌, ◌^◌, Some}
-use Rattle.yaml_scan_words.specs.Quoted.{hex_value}
+use Rattle.yaml_scan_history.specs.Quoted.{hex_value}
 use Rattle.yaml_scan_text.proofs.quoted.hex_value.Given as goal
 
 abbrev pub invariant-digits : goal.invariant-digits

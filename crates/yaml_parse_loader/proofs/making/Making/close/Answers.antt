@@ -1,5 +1,5 @@
 use Rattle.std.proofs.Common.{rules, sym}
-use Rattle.yaml_parse_document.specs.Parts.{parts_view}
+use Rattle.yaml_parse_model.specs.Parts.{parts_view}
 use Rattle.yaml_parse_loader.proofs.Steps.{closes, outside, set_changes}
 use Rattle.yaml_parse_loader.proofs.making.Making.close.Goals as goal
 

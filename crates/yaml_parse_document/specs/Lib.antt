@@ -1,4 +1,0 @@
-pub mod Documents
-pub mod Parts
-pub mod Sizes
-pub mod Views

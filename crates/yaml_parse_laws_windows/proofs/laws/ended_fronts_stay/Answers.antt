@@ -1,5 +1,0 @@
-use Rattle.yaml_parse_laws_windows.proofs.Staying.{ended_fronts_stay}
-use Rattle.yaml_parse_laws_windows.proofs.laws.ended_fronts_stay.Goals as goal
-
-pub returns : goal.returns
-returns c = ended_fronts_stay

@@ -1,5 +1,0 @@
-use Rattle.yaml_parse_laws_windows.proofs.Staying.{refused_tokens_stay}
-use Rattle.yaml_parse_laws_windows.proofs.laws.refused_tokens_stay.Goals as goal
-
-pub returns : goal.returns
-returns c = refused_tokens_stay

@@ -1,5 +1,0 @@
-use Rattle.yaml_parse_laws_windows.proofs.Following.{windows_are_parsed}
-use Rattle.yaml_parse_laws_windows.proofs.laws.windows_are_parsed.Goals as goal
-
-pub returns : goal.returns
-returns c = windows_are_parsed

@@ -1,2 +1,0 @@
-pub mod List
-pub mod ListView

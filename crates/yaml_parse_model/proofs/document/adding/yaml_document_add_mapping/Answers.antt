@@ -1,0 +1,26 @@
+use Rattle.std.proofs.Common.{◌≡◌, sym, subst, option_map, IsUtf8, ◌∙◌, refl}
+use Rattle.std.proofs.lemmas.Bool.{false≢true}
+use Rattle.std.proofs.lemmas.Result.{err_from_is_err_and}
+use Rattle.yaml_parse_model.specs.Documents.{unplaced, ArePairs, new_mapping}
+use Rattle.yaml_parse_model.proofs.Sizing.{no_pairs_sized}
+use Rattle.yaml_parse_model.proofs.Sound.{tag_utf8, map_utf8, added}
+use Rattle.yaml_parse_model.proofs.document.adding.yaml_document_add_mapping.Goals as goal
+
+pub add_node-requires-clause-sound : goal.add_node-requires-clause-sound
+add_node-requires-clause-sound c = (subst IsUtf8 (sym c.in_ok-tag.ensures) (tag_utf8 _ _ map_utf8 (c.if-not-is_utf8_option.ensures.0 refl)), subst (ArePairs _) (sym c.new-pairs.ensures.items) tt)
+
+pub add_node-requires-clause-sized : goal.add_node-requires-clause-sized
+add_node-requires-clause-sized c = no_pairs_sized _ c.args.style c.new-pairs.ensures.items
+
+pub returns : goal.returns
+returns c =
+    let same : unplaced _ _ ≡ new_mapping (option_map (λ t. t.now) c.args.tag) c.args.style = rw (c.in_ok-tag.ensures, c.new-pairs.ensures.items) refl in
+    added _ _ _ _ _ _ same (c.if-not-is_utf8_option.ensures.0 refl) c.add_node.ensures
+
+pub returns-in_err-tag : goal.returns-in_err-tag
+returns-in_err-tag c =
+    let e = err_from_is_err_and c.from_residual.result c.from_residual.ensures.1 in
+    rw (e.1, e.2 ∙ c.in_err-tag.ensures) (refl, c.if-not-is_utf8_option.ensures.0 refl)
+
+pub returns-then-not-is_utf8_option : goal.returns-then-not-is_utf8_option
+returns-then-not-is_utf8_option c = (refl, λ h. false≢true (c.if-not-is_utf8_option.ensures.1 h))

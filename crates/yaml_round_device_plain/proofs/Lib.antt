@@ -1,2 +1,0 @@
-mod Counting
-pub mod Telling

@@ -1,7 +1,0 @@
-pub mod Encodings
-pub mod Offences
-pub mod Characters
-pub mod Steps
-pub mod Decoding
-pub mod Spelling
-pub mod Rules

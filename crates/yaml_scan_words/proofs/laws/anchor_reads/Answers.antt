@@ -1,5 +1,0 @@
-use Rattle.yaml_scan_words.proofs.NamesRead.{anchor_is_read}
-use Rattle.yaml_scan_words.proofs.laws.anchor_reads.Goals as goal
-
-pub returns : goal.returns
-returns c = anchor_is_read

@@ -101,7 +101,7 @@ IsParted by first second r = IsPartedBy (IsDifference by.documents by.from first
 abbrev pub shown_key : yaml_same_key_t → RepeatedKey
 shown_key k = record { mark = k.mark; end_mark = k.end_mark; first_mark = k.first_mark }
 
--- an input's keys that stand in a mapping more than once, or its fault
+-- an input's keys that are in a mapping more than once, or its fault
 abbrev pub IsRepeatedAnswer : yaml_encoding_t → List ℕ → Result (List RepeatedKey) Fault → Type 0
 IsRepeatedAnswer from input (Ok keys) = (told : List yaml_same_key_t)
     × IsKeyCheck from input (Ok told) × (keys ≡ map shown_key told)

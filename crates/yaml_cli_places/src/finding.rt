@@ -68,7 +68,7 @@ impl<'f> Finding<'f, 'static> {
 }
 
 impl<'f> Finding<'f, 'f> {
-    /// A key that stands in its mapping more than once, and where it stands first.
+    /// A key that is in its mapping more than once, and where it is first.
     pub fn repeated(
         source: Source<'f>,
         problem: &'f str,

@@ -1,4 +1,4 @@
-//! Keys that stand in a mapping more than once, as people and programs are told them.
+//! Keys that are in a mapping more than once, as people and programs are told them.
 
 use crate::chars::{Chars, Source};
 use crate::excerpt::{push_around, push_shown};
@@ -61,7 +61,7 @@ fn push_key(text: &mut String, source: Source<'_>, key: RepeatedKey) -> Result<(
     }
 }
 
-// Adds a place, what stands there, and its source line.
+// Adds a place, what is there, and its source line.
 fn push_label(
     text: &mut String,
     source: Source<'_>,

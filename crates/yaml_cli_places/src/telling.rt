@@ -82,7 +82,7 @@ const THINGS: [(&'static str, Thing); 10] = [
     ("expected low surrogate area", Thing::Unit),
 ];
 
-// Adds the character, the alias, the tag or the number that is wrong, where the problem is one of these; what stands at its place
+// Adds the character, the alias, the tag or the number that is wrong, where the problem is one of these; what is at its place
 // is handed in.
 fn push_wrong(text: &mut String, chars: Chars<'_>, fault: &yaml_fault_t) -> Result<(), AllocError> {
     let value = fault.value;
@@ -144,7 +144,7 @@ fn push_problem(
     placed.and(told).and(wrong).and(around).and(excerpt)
 }
 
-// Adds a place, what stands there, and its source line.
+// Adds a place, what is there, and its source line.
 fn push_label(
     text: &mut String,
     source: Source<'_>,

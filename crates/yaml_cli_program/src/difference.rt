@@ -34,7 +34,7 @@ fn cause_words(cause: Cause) -> &'static str {
     }
 }
 
-// Whether an event is shown as it is spelled: a node's tag and anchor stand before it.
+// Whether an event is shown as it is spelled: a node's tag and anchor are before it.
 fn is_spelled(kind: yaml_event_type_t, cause: Cause) -> bool {
     match kind {
         yaml_event_type_t::YAML_SCALAR_EVENT | yaml_event_type_t::YAML_ALIAS_EVENT => true,

@@ -76,7 +76,7 @@ pub trait Engine {
     /// Whether an input is as the question asks, or its fault.
     fn judge(&self, alloc: Global, judging: &Judging, input: &[u8]) -> Result<bool, yaml_fault_t>;
 
-    /// The keys that stand in a mapping of an input's documents more than once, in order, or its fault.
+    /// The keys that are in a mapping of an input's documents more than once, in order, or its fault.
     fn repeated_keys(
         &self,
         alloc: Global,

@@ -33,7 +33,7 @@ pub(crate) enum Fault<'a> {
     Canonical,
     #[error("standard output: {0}")]
     NotPassedOn(Failure),
-    // Of a file, whose name stands before it.
+    // Of a file, whose name is before it.
     #[error("{0}")]
     Failed(Failure),
     #[error("longer than 1073741824 bytes")]

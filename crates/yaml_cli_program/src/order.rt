@@ -70,7 +70,7 @@ pub(crate) enum Does {
 #[derive(Clone, Copy)]
 pub(crate) struct Order<'o, 'a> {
     pub(crate) does: Does,
-    /// What stands after it.
+    /// What is after it.
     pub(crate) told: &'o ArgMatches<'a>,
     /// The files; standard input where there are none.
     pub(crate) files: &'o [&'a str],

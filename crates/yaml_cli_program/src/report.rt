@@ -81,7 +81,7 @@ pub(crate) fn refused<R, W: Write, E: Write>(
     }
 }
 
-// Reports a key that stands in its mapping more than once; answers the status.
+// Reports a key that is in its mapping more than once; answers the status.
 fn tell_repeated<R, W: Write, E: Write>(
     format: Format,
     source: Source<'_>,
@@ -99,7 +99,7 @@ fn tell_repeated<R, W: Write, E: Write>(
     }
 }
 
-/// Reports the keys of a file that stand in their mapping more than once, as is ordered; answers the status.
+/// Reports the keys of a file that are in their mapping more than once, as is ordered; answers the status.
 pub(crate) fn repeated<R, W: Write, E: Write>(
     judging: &Judging,
     source: Source<'_>,

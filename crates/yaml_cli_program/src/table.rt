@@ -65,7 +65,7 @@ const MANY: u8 = FMT | NORM | CHECK;
 
 const ALL: u8 = 127;
 
-/// What stands after the help of the program.
+/// What is after the help of the program.
 pub(crate) const AFTER: &'static str = "\
 Examples:
   yaml_cli check config.yaml

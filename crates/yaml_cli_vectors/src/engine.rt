@@ -65,7 +65,7 @@ pub fn loads(reply: &mut Reply, input: &Input<'_>) {
     reply.done(yaml_check(reply.alloc, input.text, input.from).err());
 }
 
-/// The keys that stand in a mapping more than once: where each begins and ends, and where the first one begins.
+/// The keys that are in a mapping more than once: where each begins and ends, and where the first one begins.
 pub fn keys(reply: &mut Reply, input: &Input<'_>) {
     reply.field("answer", Part::List);
     match yaml_check_keys(reply.alloc, input.text, input.from) {

@@ -1,5 +1,5 @@
 //! Lines of test vectors: what a line says, read to settings, tokens, events and documents, and what a call answered, written
-//! as a line has it and compared with what the line wants. A line is an object of JSON; bytes stand in it as hexadecimal digits.
+//! as a line has it and compared with what the line wants. A line is an object of JSON; bytes are in it as hexadecimal digits.
 
 mod document;
 mod event;

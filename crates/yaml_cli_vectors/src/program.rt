@@ -4,7 +4,7 @@ use crate::lines::{Part, Reply, Stream};
 use serde_json::Value;
 use yaml_cli_main::yaml_main;
 
-// What stands there, or whether something does where the line wants that.
+// What is there, or whether something does where the line wants that.
 fn put_text(reply: &mut Reply, line: &Value, name: &'static str, text: &[u8], is_utf8: bool) {
     match line.get(name) {
         Some(Value::Bool(_)) => reply.field(name, Part::Flag(!text.is_empty())),

@@ -22,7 +22,7 @@ fn call_at<'a>(reply: &mut Reply, line: &'a Value, number: u64) -> Option<&'a st
     Some(reply.text(call, ""))
 }
 
-// Puts the fault; where one call is made again and again it stands after all that was answered, or alone where events are parsed.
+// Puts the fault; where one call is made again and again it is after all that was answered, or alone where events are parsed.
 // Whether there may be more.
 fn put_refused(reply: &mut Reply, line: &Value, fault: yaml_fault_t) -> bool {
     match reply.again {

@@ -13,7 +13,7 @@ fn json_error(error: &Error) -> &'static str {
 }
 
 // Counts the line by what its call answered, an object of JSON. Of a field that is another all that was answered is told; what
-// the line calls and wants stands in the line.
+// the line calls and wants is in the line.
 fn judge_text(rt: &HostRuntime, tally: &mut Tally, line: &Value, text: &[u8]) {
     match Value::from_slice(rt.alloc(), text) {
         Ok(got) => match first_wrong(line, &got) {

@@ -85,7 +85,7 @@ pub fn yaml_emitter_set_width(emitter: &mut yaml_emitter_t, width: i32)
     set_requested_settings(emitter, settings);
 }
 
-/// Whether characters above U+007F stand as they are.
+/// Whether characters above U+007F are as they are.
 pub fn yaml_emitter_set_unicode(emitter: &mut yaml_emitter_t, unicode: bool)
     requires { emitter.old.fresh ≡ true }
     ensures { emitter.new ≡ record emitter.old {

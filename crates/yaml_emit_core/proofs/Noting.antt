@@ -73,7 +73,7 @@ going_by _ was n h = absurd (false≢true (sym n ∙ h))
 pub halts : (old new : Core) → Starves old new → Halts old new
 halts old new s = record { levels = λ off on. (going_by old.sink.status old.starved off (sym s.starved ∙ on), s.text) }
 
--- ---- then all stands there that was put before
+-- ---- then all is there that was put before
 
 same_by : (old new rest : List ℕ) → old ≡ new ++ rest → Grows old new → old ≡ new
 same_by old new rest e g =
@@ -148,7 +148,7 @@ not_going Full n = refl
 not_going Deep n = refl
 not_going Starved n = refl
 
--- all of it stands there, unless it had stopped itself
+-- all of it is there, unless it had stopped itself
 put_there : (old mid new : Core) (x : Layout) → Puts old.sink mid.sink x
     → mid.starved ≡ old.starved → Starves mid new → old.starved ≡ false → new.starved ≡ true
     → IsPut old.sink new.sink x

@@ -47,7 +47,7 @@ abbrev pub IsAtMost : Option ℕ → ℕ → Type 0
 IsAtMost None m = ⊥
 IsAtMost (Some n) m = n ≤ m
 
--- the number stands beside a strictly shorter prefix of the tag
+-- the number is beside a strictly shorter prefix of the tag
 abbrev pub IsFound : List Entry → List ℕ → Option ℕ → Type 0
 IsFound xs tag None = Unit {0}
 IsFound xs tag (Some n) = (k : ℕ) × (k < length xs) × (has_shorter_prefix (at xs k).0 tag ≡ true)

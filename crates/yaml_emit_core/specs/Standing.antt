@@ -49,7 +49,7 @@ IsPlaced (at.Documents first unended) innermost = innermost ≡ None
 IsPlaced at.DocumentEnd innermost = innermost ≡ None
 IsPlaced at.End innermost = innermost ≡ None
 
--- an emitter may stand there: no indentation is too deep
+-- an emitter may be there: no indentation is too deep
 pub record IsStand (stand : yaml_emitter_stand_t) (outer : List Level) : Type 0 where
   pub place : IsPlaced stand.place stand.innermost
   pub narrow : AreNarrow (stack stand.innermost outer)

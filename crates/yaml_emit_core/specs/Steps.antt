@@ -85,12 +85,12 @@ abbrev pub Notes : Bool → Core → Core → Type 0
 Notes takes old new = may_note takes old.sink.status new.sink.status ≡ false
     → new.starved ≡ old.starved
 
--- all of a layout stands in the output, as nothing follows
+-- all of a layout is in the output, as nothing follows
 abbrev pub IsPut : Output → Output → Layout → Type 0
 IsPut old new a = (whole : List Item) → Ends old (a old.cursor nothing_more) whole
     → encode old.encoding whole ≡ new.bytes
 
--- Where it is noted, no text was missing memory: all of the event's layout stands in the output, or, of a document's start, whose
+-- Where it is noted, no text was missing memory: all of the event's layout is in the output, or, of a document's start, whose
 -- directives are looked at first, nothing.
 pub record Blames (old new : Core) (e : Event) (a : Layout) : Type 0 where
   pub levels : old.sink.status ≡ Going → old.starved ≡ false → new.starved ≡ true

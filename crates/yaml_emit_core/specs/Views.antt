@@ -25,7 +25,7 @@ core_of c = record {
   starved = c.starved;
 }
 
--- the draft is of the settings, and while the output goes on all of its text stands there
+-- the draft is of the settings, and while the output goes on all of its text is there
 pub record IsCore (c : Inside) : Type 0 where
   pub on : IsOf c.settings c.draft
   pub encoding : c.settings.encoding ≡ c.output.encoding

@@ -93,7 +93,7 @@ fn is_plain(style: Style) -> bool
     matches!(style, Style::Plain)
 }
 
-// Whether `!` stands in front: it isn't plain, has no tag, and may not lack one.
+// Whether `!` is in front: it isn't plain, has no tag, and may not lack one.
 fn is_marked(scalar: &Scalar, style: Style) -> bool
     ensures value { result ≡ is_marked scalar.now style }
     ensures plain { result ≡ true → style ≢ Style.Plain }

@@ -9,7 +9,7 @@ use crate::level::Level;
 use yaml_emit_layout::Settings;
 use yaml_emit_output::Draft;
 
-/// Whether a node stands in a flow collection.
+/// Whether a node is in a flow collection.
 pub fn is_in_flow(level: Level) -> bool
     ensures { (simple : Bool) → result ≡ (position_of (level_of level) simple).flow }
 {

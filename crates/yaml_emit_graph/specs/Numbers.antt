@@ -12,6 +12,6 @@ counted [] = 0
 counted (zero ∷ ns) = counted ns
 counted (suc n ∷ ns) = suc (counted ns)
 
--- as many were given as stand in the table
+-- as many were given as are in the table
 pub record IsNumbering (s : Numbering) : Type 0 where
   pub counts : s.given ≡ counted s.table

@@ -140,7 +140,7 @@ record Fits (h : Progress) (past : List Event) : Type 0 where
   place : HasPlace h past
   due : HasDue h past
 
--- what has come to stand in open collections
+-- what has come to be in open collections
 inside_fits : (ds : List Due) (last : Event) (past : List Event)
     → ((n : ℕ) (even : Bool) → innermost n even (last ∷ past) ≡ due_at n even ds)
     → ((e : Event) → wrong_place (last ∷ past) e ≡ wrong_in (innermost 0 true (last ∷ past)) e)

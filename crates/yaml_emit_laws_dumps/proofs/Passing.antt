@@ -213,7 +213,7 @@ pub or_none : (p q : Option Problem) → p ≡ None → q ≡ None → or_else p
 or_none None q e f = f
 or_none (Some x) q e f = absurd (cc)
 
--- an event that passes stands in its place, and nothing is wrong with it
+-- an event that passes is in its place, and nothing is wrong with it
 record Passes (canonical : Bool) (h : Progress) (e : Event) : Type 0 where
   there : place_problem h.place (level_due h.due) e ≡ None
   right : own_problem canonical e ≡ None

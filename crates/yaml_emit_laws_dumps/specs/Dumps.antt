@@ -118,7 +118,7 @@ AgainsAre P (done s) = Unit {0}
 AgainsAre P (again s k e more h v) = P k × AgainsAre P v
 AgainsAre P (first s b e more n at v w) = AgainsAre P v × AgainsAre P w
 
--- a turn meets the node again that stands at that place
+-- a turn meets the node again that is at that place
 abbrev pub MeetsAgain : ℕ → List Turn → Type 0
 MeetsAgain k [] = ⊥
 MeetsAgain k (t ∷ ts) = (t ≡ Again (pos (suc k))) ⊎ MeetsAgain k ts

@@ -13,7 +13,7 @@ pub data Collection : Type 0 where
   in_sequence : Collection
   in_mapping : Bool → Collection
 
--- a node has been met; it counts where it stands in the collection that is looked for
+-- a node has been met; it counts where it is in the collection that is looked for
 abbrev pub met : ℕ → Bool → Bool
 met zero even = not even
 met (suc closed) even = even

@@ -73,7 +73,7 @@ text_encodes b own = break_encodes b
 text_encodes b separator = refl
 text_encodes b paragraph = refl
 
--- what stands there is a break of that width, and is read so
+-- what is there is a break of that width, and is read so
 pub record Breaks (text : List ℕ) (p : ℕ) (m : LineMark) (n : ℕ) : Type 0 where
   pub width : break_width text p ≡ n
   pub value : break_value text p ≡ mark_means m
@@ -275,7 +275,7 @@ chomp_text chomping.Strip = 45 ∷ []
 chomp_text chomping.Clip = []
 chomp_text chomping.Keep = 43 ∷ []
 
--- what stands after the header
+-- what is after the header
 record Behind (text : List ℕ) (p w : ℕ) : Type 0 where
   begins : Begins text p
   width : break_width text p ≡ w

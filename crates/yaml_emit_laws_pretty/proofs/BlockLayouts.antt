@@ -44,7 +44,7 @@ value_break_is b own c rest = new_line_is b c rest
 value_break_is b separator c rest = refl
 value_break_is b paragraph c rest = refl
 
--- what stands before a break that one more comes before
+-- what is before a break that one more comes before
 abbrev pub added : Bool → LineBreak → List ℕ
 added true b = break_text b
 added false b = []

@@ -1,4 +1,4 @@
--- A block scalar that stands after the gap is the next lexeme.
+-- A block scalar that is after the gap is the next lexeme.
 use Rattle.std.proofs.Common.{◌≡◌, ℕ, ◌+◌, ◌<◌, Bool, true, false, not, ◌&&◌, ◌==◌, nat_lt, List, [], ◌∷◌, length, Option, Some, None, Ok, refl, ap, ◌∙◌, arith}
 use Rattle.yaml_emit_laws_pretty.proofs.ScalarWords.{and-false, mark_at, WordText, kind_at, lexeme_at, cond_false, kind_of, read_style, BlockStands}
 use Rattle.yaml_emit_laws_text.specs.scan_model.Tokens.{scalar}

@@ -1,4 +1,4 @@
--- Lines of a block scalar that stand in a text are read.
+-- Lines of a block scalar that are in a text are read.
 use Rattle.std.proofs.Common.{◌≡◌, ◌≢◌, ℕ, zero, suc, ◌+◌, ◌/◌, ◌%◌, ◌<◌, ◌≤◌, true, false, not, ◌&&◌, ◌||◌, ◌==◌, nat_lt, List, [], ◌∷◌, ◌++◌, length, replicate, slice_range, Result, Ok, refl, sym, ap, subst, ◌∙◌, inl, inr, arith, add-zero, encode_utf8, encode_utf8_all, length-append}
 use Rattle.yaml_emit_laws_pretty.proofs.ScalarWords.{cases_lt, and_parts, not-true, eqb-false, nat_tests, encodes-append, byte, break_of, break_width, column_at, break_value, feed_at, is_text, line_end, Wrong, within, past_break, InRun, run_start, run_more, run_done, text_parts, Has, has, has_front, has_rest, range_reads, BlockLine, Empty, Words, spaces, Line, spot_behind, line_spot, Lines, with_line, line_then, lines_from, LineBreak, Lf, Cr, CrLf, is_break, cond_true, encode_1, encode_2, encode_3, encode_4, low_break, two_break, three_break, four_break, later_break, LineMark, own, separator, paragraph, mark_text, mark_bytes, mark_means, BodyLine, bare, full, line_text, body_text, line_bytes, body_bytes, read_line, read_lines, are_inside, AreInside, StandsLeft}
 use Rattle.yaml_scan_history.proofs.BlockLemmas.{space_column, empty_spot, end_spot, text_spot, stop_short, no_stop}
@@ -280,7 +280,7 @@ line_feed : (b : LineBreak) (n : ℕ) (l : BodyLine) (text : List ℕ) (q : ℕ)
 line_feed b n (bare m) text q some h = mark_feed_none b m text q h
 line_feed b n (full x xs m) text q some h = spaced_feed b n text q (encode_utf8_all (x ∷ xs) ++ mark_bytes b m) some h
 
--- what stands after a line is no LF of its own, after CR
+-- what is after a line is no LF of its own, after CR
 pub next_feed : (b : LineBreak) (n k : ℕ) (ls : List BodyLine) (text : List ℕ) (q e : ℕ) → 0 < n
     → Has text q (body_bytes b n ls) → e ≡ q + length (body_bytes b n ls) → Left text e n k
     → NoFeed b (byte text q)
@@ -384,7 +384,7 @@ body_read b n k (x ∷ ls) text (suc fuel) p e some i c room l h f s =
     ap (λ t. line_then (λ r. lines_from fuel n text r r) p t) here.spot
     ∙ with_first (read_line x) (read_lines ls) e (e + k) (lines_from fuel n text q q) (body_read b n k ls text fuel q e some more here.column longer here.inside rest far s)
 
--- the lines of a body, before a text that stands left of them
+-- the lines of a body, before a text that is left of them
 pub body_reads : (b : LineBreak) (n k : ℕ) (ls : List BodyLine) (text : List ℕ) (p e : ℕ) → 0 < n
     → AreInside ls → column_at text p ≡ 0 → p ≤ length text → Has text p (body_bytes b n ls)
     → e ≡ p + length (body_bytes b n ls) → StandsLeft text e n k

@@ -10,8 +10,8 @@ read_chomp chomping.Strip = 45
 read_chomp chomping.Clip = 0
 read_chomp chomping.Keep = 43
 
--- A text stands before, whose line begins with a blank and ended in `feed`, or none; `empties` are the breaks since. One break more
--- was written, or none. `broken`: another break stands before the last one.
+-- A text is before, whose line begins with a blank and ended in `feed`, or none; `empties` are the breaks since. One break more
+-- was written, or none. `broken`: another break is before the last one.
 pub record Waits (folded any blank more : Bool) (feed empties : List ℕ) (broken : Bool) (value : List ℕ) : Type 0 where
   pub first : any ≡ false → (feed ≡ []) × (broken ≡ true) × (more ≡ false)
   pub folds : more ≡ true

@@ -29,7 +29,7 @@ pub next_calm : (b : ℕ) → IsNext b → b ≡ 10 → ⊥
 next_calm b (inl e) f = omega (arith, e, f)
 next_calm b (inr e) f = omega (arith, e, f)
 
--- A break stands there, and after it the rest of the text stands at the start of a line.
+-- A break is there, and after it the rest of the text is at the start of a line.
 record Broken (text : List ℕ) (q : ℕ) (rest : Rest) (kept : Bool) : Type 0 where
   white : List ℕ
   has : HasAt text q white

@@ -1,4 +1,4 @@
--- The start of a line outside of all levels, and what may stand there after a root.
+-- The start of a line outside of all levels, and what may be there after a root.
 use Rattle.std.proofs.Common.{◌≡◌, ◌⊎◌, ℕ, ◌==◌, ◌&&◌, ◌||◌, Bool, true, false, List, [], ◌∷◌, ◌++◌, Some, None, refl, sym, ap, subst, ◌∙◌, inl, inr, arith, if◌then◌else◌, not, Option, ◌+◌, nat_lt}
 use Rattle.yaml_emit_laws_pretty.proofs.Words.{false≢true, eqb-true, and_parts, yaml_encoding_t, TokenBody, column_at, break_of, byte, is_blank_or_end, Cursor, LineBreak, Lf, Cr, CrLf, Rest, line, blanks, must_break, new_line, indent_to, when, nothing_more, word, break_text, Left, bytes, first, letter_low, WalkState, WalkReads, behind, begins_white, begins_mark, stops_plain_at, begins_blank, NodeStage, Lined, NoFeed, no_comment, Ending, NodeWalks, at_line, yaml_version_directive_t, TagDirective, Settings, encode, Opening, Document, Node, dots, dashes, context_of, root_position, node_layout, directives_text, start_layout, end_layout, stop_layout, documents_layout, IsWritable, IsWritableOpening, AreWritable, three, behind_three, Thrice, thrice_dash, thrice_dot, line_blank, pretty, Kind, allows_key, is_outside, is_end, WordText, kind_at, lexeme_at, left_first, left_more, line_at-grows, Comes, words_leave, walk_outer}
 use Rattle.yaml_emit_laws_pretty.proofs.Lining.{line_on, no_gap}
@@ -78,7 +78,7 @@ outer_calm (b ∷ bs) h e = elim (mark_first b bs h) [
   | inr f ↦ omega (arith, e, f)
 ]
 
--- ---- what such a line does to what stands before it
+-- ---- what such a line does to what is before it
 
 stops_so : (level b : ℕ) (bs : List ℕ) → (b ≡ 45) ⊎ (b ≡ 46) → begins_mark b bs ≡ true
     → stops_plain_at false level (Some 0) (b ∷ bs) ≡ true
@@ -167,7 +167,7 @@ pub line_lands : (b : LineBreak) (x : yaml_encoding_t) (text : List ℕ) (c : Cu
     → Left text o.at (bytes (line b 0 c rest)) → AtLine x text rest c.kept T
 line_lands b x text c o more T rest s calm l = from_lined x text rest c.kept more T (line_on b 0 x text c o [] more T rest s calm l)
 
--- ==== What stands after a root: a document's mark, or nothing.
+-- ==== What is after a root: a document's mark, or nothing.
 
 -- ---- marks
 

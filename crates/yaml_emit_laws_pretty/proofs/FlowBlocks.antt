@@ -113,7 +113,7 @@ mutual
       pairs_more s d.directives k v ps
       (pairs_first s d.directives k v ps (key_in laws keys s d is k gk (node_in laws keys s d is k gk)) (λ n rest. node_spaced s d.directives v n part.Value rest) (node_in laws keys s d is v gv) (more_pairs_in laws keys s d is ps all))
 
--- ---- no block scalar stands in brackets
+-- ---- no block scalar is in brackets
 
 scalar_keeps : StylesAreAllowed → (p : Context) (q : Part) (x : Scalar) (st : Style)
     → style_at p true q x ≡ st → (kept : Bool) → scalar_kept st x.value kept ≡ kept

@@ -28,7 +28,7 @@ pub record Closed (x : yaml_encoding_t) (text : List ℕ) (rest : Rest) (kept : 
 abbrev pub NodeIn : Settings → List TagDirective → Node → Type 0
 NodeIn s ds y = (n : ℕ) (q : Part) → is_simple_part q ≡ false → (bare : Bool) (ls : List ℕ) → indent ls ≤ n → (rest : Rest) → FollowsIn rest → (c : Cursor) → WalksIn (node_layout (prettily s ds) (position true n q) y) (node_bodies (prettily s ds) true q bare y) ls c rest
 
--- what stands after an opening bracket, with what closes it
+-- what is after an opening bracket, with what closes it
 abbrev pub BodyIn : Layout → (List TokenBody → List TokenBody) → List ℕ → Rest → Type 0
 BodyIn a B ls rest = (c : Cursor) → c.bare ≡ false → (x : yaml_encoding_t) (text : List ℕ) (o : WalkState) (d : ℕ) (cs : List ℕ) (T : List TokenBody → List TokenBody) → WalkReads x text o cs ls [] T → o.depth ≡ d + 1 → o.now ≡ true → Outside (d + 1) cs
     → Left text o.at (bytes (a c rest)) → Closed x text rest c.kept d cs ls (λ bs. T (B bs))

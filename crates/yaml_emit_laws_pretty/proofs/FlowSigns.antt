@@ -166,7 +166,7 @@ mark_spaced false a rest h = h
 abbrev from_sign : Page → ℕ → Bool → List ℕ → Layout
 from_sign page digit folded value = (char (if folded then 62 else 124) ▹ (digit_mark digit value ▹ chomp_mark (chomp true true value))) ▹ (new_line page.line_break ▹ (block_body page folded true 10 value ▹ after_block))
 
--- in brackets a space stands before a scalar of every style
+-- in brackets a space is before a scalar of every style
 pub text_spaced : (page : Page) (digit : ℕ) (s : Style) (value : List ℕ) (rest : Rest)
     → Spaced (λ e. scalar_text page digit true s value e rest)
 unfolding scalar_text

@@ -1,4 +1,4 @@
--- What a simple key writes: words, then what stands between them and its `:`. Such a key is walked, at any depth.
+-- What a simple key writes: words, then what is between them and its `:`. Such a key is walked, at any depth.
 use Rattle.std.proofs.Common.{◌≡◌, ◌⊎◌, ℕ, suc, ◌+◌, ◌-◌, ◌<◌, ◌≤◌, ◌&&◌, not, nat_lt, nat_le, Bool, true, false, List, [], ◌∷◌, ◌++◌, length, refl, sym, ap, subst, ◌∙◌, inl, inr, arith, append_assoc, length-append, encode_utf8_all, if◌then◌else◌, append-nil}
 use Rattle.yaml_emit_laws_pretty.proofs.Words.{nat_tests, yaml_encoding_t, TokenBody, byte, column_at, line_at, mark_at, starts, indent, is_fresh, margin_at, opened, start_of, Opens, Cursor, Layout, Rest, ◌▹◌, char, encode, Has, Left, bytes, first, has_at, has_front, left_first, left_more, left_rest, letter_low, IsRight, start_bodies, WalkState, WalkReads, ClosesAt, Outside, walk_says, letter_columns, near_before, begins_white, white_of, Spoken, spoken_bytes, all_bytes, all_bodies, AllFit, SaysTokens, Fits, has, AreCalm, low_starts}
 use Rattle.yaml_emit_laws_text.specs.emit_layout.scan_model.Tokens as tokens
@@ -9,7 +9,7 @@ use Rattle.yaml_emit_laws_pretty.proofs.OneLine.{near_fresh}
 use Rattle.yaml_emit_laws_pretty.proofs.KeySteps.{columns_grow, Frame, KeyFit, KeyRuns, front, spot_at, key_words, key_front, key_begun, key_space, key_colon, square, curly, brackets_first, brackets_more}
 use Rattle.yaml_emit_laws_pretty.proofs.LeafProps.{Dress, Moved, Leads, NonePlain}
 
--- what stands between a key's words and its `:`: nothing, the space after an alias, or a pair of brackets, by the space in front
+-- what is between a key's words and its `:`: nothing, the space after an alias, or a pair of brackets, by the space in front
 pub data KeyEnd : Type 0 where
   at_once : KeyEnd
   spaced : KeyEnd
@@ -27,7 +27,7 @@ end_bodies (squares b) bs = tokens.flow_sequence_start ∷ tokens.flow_sequence_
 end_bodies (curlies b) bs = tokens.flow_mapping_start ∷ tokens.flow_mapping_end ∷ bs
 end_bodies _ bs = bs
 
--- brackets alone stand at a key's start
+-- brackets alone are at a key's start
 abbrev pub StartsEnd : KeyEnd → Bool → Type 0
 StartsEnd at_once b = ⊥
 StartsEnd spaced b = ⊥

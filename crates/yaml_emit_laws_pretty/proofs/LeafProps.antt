@@ -215,7 +215,7 @@ word_wrote xs are some c =
 
 -- ---- lists of such words
 
--- where none is written the cursor is as before, else it stands after text
+-- where none is written the cursor is as before, else it is after text
 abbrev pub Moved : {flow : Bool} {level : ℕ} → List (Spoken flow level) → Cursor → Cursor → Type 0
 Moved {flow} {level} [] c e = e ≡ c
 Moved {flow} {level} (w ∷ ws) c e = (e.bare ≡ false) × (e.white ≡ false)

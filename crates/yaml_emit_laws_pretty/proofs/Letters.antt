@@ -12,7 +12,7 @@ use Rattle.yaml_emit_laws_pretty.proofs.BlockValues.{unblank, not_printed}
 pub record Shows (x next : ℕ) : Type 0 where
   pub scalar : scalar x ≡ true
   pub printable : is_printable x ≡ true
-  -- no space stands before a break or after one
+  -- no space is before a break or after one
   pub space : (x == 32 && is_break next) ≡ false
   pub broken : (is_break x && next == 32) ≡ false
 

@@ -78,7 +78,7 @@ uri_above flow (b ∷ bs) =
     let e : length (uri_byte flow b ++ uri_text flow bs) ≡ length (uri_byte flow b) + length (uri_text flow bs) = length-append (uri_byte flow b) (uri_text flow bs) in
     (above_append (uri_byte flow b) (uri_text flow bs) one.0 more.0, omega (arith, e, l, m))
 
--- No control character stands in a handle.
+-- No control character is in a handle.
 pub handle_above : (handle : List ℕ) → IsShaped handle → Above handle
 handle_above handle (inl e) = subst (λ (xs : List ℕ). Above xs) (sym e) (omega arith, tt)
 handle_above handle (inr (name, e, are)) = subst (λ (xs : List ℕ). Above xs) (sym e) (omega arith, above_append name (33 ∷ []) (alphas_above name are) (omega arith, tt))

@@ -169,7 +169,7 @@ pairs_up : (n m : ℕ) (ps : Pairs) → m ≤ n → pairs_column n m ps ≤ n
 pairs_up n m no_pairs up = up
 pairs_up n m (pair k v ps) up = omega arith
 
--- what stands after a pair's value
+-- what is after a pair's value
 abbrev value_rest : Context → ℕ → ℕ → Rest → Node → Pairs → Rest
 value_rest p n m after v ps = λ h. node_layout p (position false n part.Value) v h (λ e. pairs_layout p false n false ps e (λ i. line p.settings.line_break m i after))
 

@@ -198,7 +198,7 @@ blanks_read flow level text q (suc n) ps e place broke (b, h) some r =
     some_behind zero ps h = h
     some_behind (suc n) ps h = refl
 
--- an end of a line stands there, before a space
+-- an end of a line is there, before a space
 pub record EndAt (text : List ℕ) (p : ℕ) (e : LineEnd) : Type 0 where
   width : break_width text p ≡ length (end_bytes e)
   some : 0 < length (end_bytes e)
@@ -214,7 +214,7 @@ end_at text p next_line xs good h = absurd (true≢false (sym good))
 end_at text p line_separator xs good h = absurd (true≢false (sym good))
 end_at text p paragraph_separator xs good h = absurd (true≢false (sym good))
 
--- a fold, and what stands after it
+-- a fold, and what is after it
 pub record Folded (flow : Bool) (level : ℕ) (text : List ℕ) (p n : ℕ) (e : LineEnd) : Type 0 where
   pub reads : (ps : List Piece) (f place : ℕ) (broke : Bool) → is_nothing ps ≡ false
       → Read flow level text (p + length (end_bytes e) + n) ps f place broke

@@ -23,7 +23,7 @@ pub bracket_46 : is_bracket 46 ≡ false
 unfolding is_bracket
 bracket_46 = refl
 
--- b is one of `- .`, and stands there; then it doesn't stand after the scalar
+-- b is one of `- .`, and is there; then it doesn't are after the scalar
 no_stop : (flow : Bool) (level : ℕ) (text : List ℕ) (r b : ℕ) → (b ≡ 45) ⊎ (b ≡ 46)
     → byte text r ≡ b → Stops flow level text (r + 1) → byte text (r + 1) ≡ b → ⊥
 no_stop flow level text r b which here stop next =

@@ -203,7 +203,7 @@ plain_on has_gap stands are_words page ls c value rest u some may deep far follo
     subst (λ (a : Layout). Walks a B ls c rest) (sym (has_gap page false value u some))
     (walks_gap (flow_body page false 32 (chars value) ▹ after_text) B ls c rest (body_walks stands are_words page ls value rest u some may deep far follows))
 
--- ==== The words of a node: each is read wherever its bytes stand before what fits.
+-- ==== The words of a node: each is read wherever its bytes are before what fits.
 
 -- a word that takes no white
 in_line : (flow : Bool) (level : ℕ) (k : Kind) (body : TokenBody) (text : List ℕ) (p e : ℕ)

@@ -468,7 +468,7 @@ pub blanks_bare : (n : ℕ) (c : Cursor) → c.bare ≡ true → (after_blanks n
 blanks_bare zero c e = e
 blanks_bare (suc n) c e = blanks_bare n (spaced_by c) e
 
--- After blanks the cursor stands after white, if it did.
+-- After blanks the cursor is after white, if it did.
 pub blanks_white : (n : ℕ) (c : Cursor) → c.white ≡ true → (after_blanks n c).white ≡ true
 blanks_white zero c e = e
 blanks_white (suc n) c e = blanks_white n (spaced_by c) refl

@@ -45,7 +45,7 @@ abbrev pub read_style : Bool → yaml_scalar_style_t
 read_style folded = if folded then styles.YAML_FOLDED_SCALAR_STYLE
     else styles.YAML_LITERAL_SCALAR_STYLE
 
--- A block scalar stands there, which has the value: its end is after its last break, at the start of a line, and the place that
+-- A block scalar is there, which has the value: its end is after its last break, at the start of a line, and the place that
 -- is reached is where it stopped, after that many spaces.
 pub record BlockStands (folded : Bool) (level : ℕ) (text : List ℕ) (p : ℕ) (value : List ℕ)
     (end k : ℕ) : Type 0 where
@@ -60,8 +60,8 @@ pub record BlockStands (folded : Bool) (level : ℕ) (text : List ℕ) (p : ℕ)
   pub column : column_at text (end + k) ≡ k
 
 -- From a cursor on, a layout writes these characters, the indicator first, whatever follows. Where their bytes stand, and after
--- them the break of the next line where the value ends in none, before a text that stands left of the page's indentation: there
--- the value is read, up to the spaces that stand before that text.
+-- them the break of the next line where the value ends in none, before a text that is left of the page's indentation: there
+-- the value is read, up to the spaces that are before that text.
 pub record BlockReads (page : Page) (digit : ℕ) (folded : Bool) (level : ℕ) (c : Cursor)
     (value : List ℕ) : Type 0 where
   pub letters : List ℕ

@@ -28,7 +28,7 @@ pub record BlockComes (folded : Bool) (text : List ℕ) (h : List Lexeme) (value
   pub clear : candidate 0 (lexeme ∷ h) ≡ None
   pub allowed : key_allowed (lexeme ∷ h) ≡ true
 
--- After lexemes, outside of brackets, where no candidate is missed or lost, a block scalar that stands after the gap comes.
+-- After lexemes, outside of brackets, where no candidate is missed or lost, a block scalar that is after the gap comes.
 abbrev pub BlockIsNext : Type 0
 BlockIsNext = (folded : Bool) (text : List ℕ) (h : List Lexeme) (value : List ℕ) (end k : ℕ)
     → 0 < length h → ended h ≡ false → flow_depth h ≡ 0 → stale_before text h ≡ None

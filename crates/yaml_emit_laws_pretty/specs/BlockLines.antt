@@ -44,7 +44,7 @@ pub data BodyLine : Type 0 where
   bare : LineMark → BodyLine
   full : ℕ → List ℕ → LineMark → BodyLine
 
--- a text stands after the indentation; a line without one has none
+-- a text is after the indentation; a line without one has none
 abbrev pub line_text : LineBreak → ℕ → BodyLine → List ℕ
 line_text b n (bare m) = mark_text b m
 line_text b n (full x xs m) = replicate n ascii.space ++ ((x ∷ xs) ++ mark_text b m)
@@ -85,13 +85,13 @@ AreInside (full x xs m ∷ ls) = (are_inside (x ∷ xs) ≡ true) × AreInside l
 abbrev pub closing : LineBreak → Bool → List ℕ
 closing b ended = if ended then [] else break_text b
 
--- Neither a blank nor a break stands there, but a text or the end.
+-- Neither a blank nor a break is there, but a text or the end.
 pub record NoWhite (text : List ℕ) (q : ℕ) : Type 0 where
   pub no_space : byte text q ≢ ascii.space
   pub no_tab : byte text q ≢ ascii.tab
   pub no_break : break_width text q ≡ 0
 
--- At a line's start, that many spaces stand there, fewer than n, and after them a text left of column n, or the end.
+-- At a line's start, that many spaces are there, fewer than n, and after them a text left of column n, or the end.
 pub record StandsLeft (text : List ℕ) (q n k : ℕ) : Type 0 where
   pub fewer : k < n
   pub spaces : HasAt text q (replicate k ascii.space)

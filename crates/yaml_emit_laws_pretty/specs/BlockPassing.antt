@@ -25,7 +25,7 @@ behind_line m value = record {
   kept = is_keep (chomp true true (chars value));
 }
 
--- A block scalar stands there, and where the scanner has come to after it, these bytes are left of the text.
+-- A block scalar is there, and where the scanner has come to after it, these bytes are left of the text.
 pub record BlockPassed (folded : Bool) (level : ℕ) (text : List ℕ) (p : ℕ) (value : List ℕ) (m : ℕ)
     (bs : List ℕ) : Type 0 where
   pub end : ℕ

@@ -20,7 +20,7 @@ use Rattle.yaml_emit_laws_text.specs.emit_layout.Nodes.{Context, context_of, sty
 use Rattle.yaml_emit_laws_text.specs.Bodies.{anchor_bodies, tag_bodies, mark_bodies, version_bodies, directives_bodies, end_bodies}
 use Rattle.yaml_emit_laws_text.specs.PrettyBodies.{comma_bodies, start_bodies}
 
--- ---- what the layout decides, by whether a node stands in brackets, and its part there
+-- ---- what the layout decides, by whether a node is in brackets, and its part there
 
 -- a position, its surroundings' indentation aside: no decision looks at it
 abbrev pub place : Bool → Part → NodePosition
@@ -98,7 +98,7 @@ abbrev pub pair_bodies : Bool → Bool → List TokenBody → List TokenBody
 pair_bodies true fresh bs = comma_bodies fresh (tokens.key ∷ bs)
 pair_bodies false fresh bs = tokens.key ∷ bs
 
--- By whether it stands in brackets, its part there, and whether its line is bare. Simple keys and those after `?` have the same tokens.
+-- By whether it is in brackets, its part there, and whether its line is bare. Simple keys and those after `?` have the same tokens.
 unfoldable mutual
   pub node_bodies : Context → Bool → Part → Bool → Node → List TokenBody → List TokenBody
   node_bodies p flow q bare (alias_node name) bs = tokens.alias name ∷ bs

@@ -1,4 +1,4 @@
--- Collections in brackets, and what stands in them, at any depth.
+-- Collections in brackets, and what is in them, at any depth.
 use Rattle.std.specs.Prelude.{◌≡◌, ◌⊎◌, ◌≤◌, ℕ, nat_lt, Bool, true, false, List, [], ◌∷◌, None}
 use Rattle.yaml_emit_laws_text.specs.emit_layout.scan_model.Ascii as ascii
 use Rattle.yaml_emit_laws_text.specs.emit_layout.scan_model.declared.yaml_encoding_t.{yaml_encoding_t}
@@ -20,7 +20,7 @@ use Rattle.yaml_emit_laws_pretty.specs.Walk.{no_comment}
 use Rattle.yaml_emit_laws_pretty.specs.Nodes.{IsPretty, PartedBehind, PropertiesAreWalked, BracketsAreWalked}
 use Rattle.yaml_emit_laws_pretty.specs.Spoken.{ends_name}
 
--- Content may stand there: each `?` whose `:` is to come stands further out, or it stands in the same brackets and no key may begin.
+-- Content may be there: each `?` whose `:` is to come stands further out, or it is in the same brackets and no key may begin.
 abbrev pub IsClear : WalkState → List ℕ → Type 0
 IsClear o cs = Outside o.depth cs ⊎ ((ds : List ℕ) × (cs ≡ o.depth ∷ ds) × Outside o.depth ds
     × (o.now ≡ false))

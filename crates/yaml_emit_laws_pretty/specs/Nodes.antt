@@ -34,9 +34,9 @@ use Rattle.yaml_emit_laws_pretty.specs.Bodies.{style_at, is_flow_at, node_bodies
 use Rattle.yaml_emit_laws_pretty.specs.Walk.{NodeStage, Lined, LinedUp, Follows, NoFeed, no_comment}
 use Rattle.yaml_emit_laws_pretty.specs.KeyLaws.{Keyed}
 
--- ---- what stands after a node
+-- ---- what is after a node
 
--- What stands after a line is neither white nor a comment.
+-- What is after a line is neither white nor a comment.
 pub record ShowsNode (n : ℕ) (rest : Rest) : Type 0 where
   pub solid : (e : Cursor) → e.bare ≡ true → e.white ≡ true → e.column ≡ n
       → begins_solid (bytes (rest e)) ≡ true
@@ -51,7 +51,7 @@ pub record Ending (b : LineBreak) (m level : ℕ) (after : Rest) : Type 0 where
   pub solid : (e : Cursor) → e.bare ≡ true → e.white ≡ true → e.column ≡ m
       → begins_blank (bytes (after e)) ≡ false
 
--- What shows ends what stands in a level right of it.
+-- What shows ends what is in a level right of it.
 abbrev pub ShownEnds : Type 0
 ShownEnds = (b : LineBreak) (n : ℕ) (after : Rest) → ShowsNode n after → Ending b n (n + 1) after
 
@@ -163,7 +163,7 @@ pub record Dressed (x : yaml_encoding_t) (text : List ℕ) (rest : Rest) (kept :
   pub right : indent ls ≤ column_at text place.at
   pub same : cursor.kept ≡ kept
 
--- white or nothing stands after properties, or after a key's `:`
+-- white or nothing is after properties, or after a key's `:`
 abbrev pub PartedBehind : Rest → Type 0
 PartedBehind rest = (e : Cursor) → e.bare ≡ false → e.white ≡ false
     → begins_white (bytes (rest e)) ≡ true

@@ -23,14 +23,14 @@ plain_of value bytes gap p = record {
   broke = has_break gap;
 }
 
--- What stands where the bytes and the gap do is one plain scalar with that value.
+-- What is where the bytes and the gap do is one plain scalar with that value.
 pub record IsReadPlain (flow : Bool) (level : ℕ) (value bytes gap text : List ℕ) (p : ℕ)
     : Type 0 where
   pub begins : begins_lexeme text p ≡ true
   pub kind : kind_at flow text p ≡ Some kinds.Plain
   pub read : plain_at flow level text p ≡ Ok (plain_of value bytes gap p)
 
--- From a cursor on, a layout writes these characters, whatever follows; and wherever their bytes stand before a gap after which
+-- From a cursor on, a layout writes these characters, whatever follows; and wherever their bytes are before a gap after which
 -- a plain scalar ends, they are one plain scalar with the value. After them the line isn't bare and ends in no space.
 pub record PlainIsBack (flow : Bool) (level : ℕ) (a : Layout) (c : Cursor) (value : List ℕ)
     : Type 0 where

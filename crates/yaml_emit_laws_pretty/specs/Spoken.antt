@@ -23,7 +23,7 @@ is_text kinds.DoubleQuoted = true
 is_text kinds.Plain = true
 is_text _ = false
 
--- what has to stand after a word
+-- what has to be after a word
 pub data Behind : Type 0 where
   -- anything
   anything : Behind
@@ -52,7 +52,7 @@ Fits name_end flow level bs = ends_name bs ≡ true
 Fits unquoted flow level bs = first bs ≡ ascii.apostrophe → ⊥
 Fits stop flow level bs = (stops_plain_at flow level None bs ≡ true) × (no_comment bs ≡ true)
 
--- A word of that kind and with that token stands at a place, up to another one, before these bytes.
+-- A word of that kind and with that token is at a place, up to another one, before these bytes.
 pub record WordStands (flow : Bool) (level : ℕ) (k : Kind) (body : TokenBody) (text : List ℕ)
     (p e : ℕ) (bs : List ℕ) : Type 0 where
   pub begins : begins_lexeme text p ≡ true
@@ -68,7 +68,7 @@ pub record WordStands (flow : Bool) (level : ℕ) (k : Kind) (body : TokenBody) 
   pub leaves : (d : ℕ) → nat_lt 0 d ≡ flow → WordLeaves text d false
       record { body = body; end = end; reached = reached; broke = broke } e false wide
 
--- A word, and whether a space stands in front. Wherever its bytes stand before what fits, it is read.
+-- A word, and whether a space is in front. Wherever its bytes are before what fits, it is read.
 pub record Spoken (flow : Bool) (level : ℕ) : Type 0 where
   pub spaced : Bool
   pub own : List ℕ
@@ -91,7 +91,7 @@ abbrev pub all_bodies : {flow : Bool} {level : ℕ} → List (Spoken flow level)
 all_bodies [] bs = bs
 all_bodies (w ∷ ws) bs = w.body ∷ all_bodies ws bs
 
--- each word stands before what fits
+-- each word is before what fits
 abbrev pub AllFit : {flow : Bool} {level : ℕ} → List (Spoken flow level) → List ℕ → Type 0
 AllFit {flow} {level} [] bs = Unit {0}
 AllFit {flow} {level} (w ∷ ws) bs = Fits w.wants flow level (all_bytes ws ++ bs) × AllFit ws bs

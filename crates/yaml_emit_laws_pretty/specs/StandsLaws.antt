@@ -26,7 +26,7 @@ pub record IsBehind (e c : Cursor) : Type 0 where
   pub column : e.column ≡ 0 → ⊥
   pub kept : e.kept ≡ c.kept
 
--- These bytes stand there, and after them the text goes on as `rest` does after text.
+-- These bytes are there, and after them the text goes on as `rest` does after text.
 pub record GoesBehind (text : List ℕ) (p : ℕ) (c : Cursor) (rest : Rest) : Type 0 where
   pub own : List ℕ
   pub behind : Cursor

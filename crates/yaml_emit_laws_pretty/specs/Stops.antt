@@ -1,4 +1,4 @@
--- What stands after a plain scalar stops it: a test of the bytes that are left.
+-- What is after a plain scalar stops it: a test of the bytes that are left.
 use Rattle.std.specs.Prelude.{ℕ, ◌+◌, ◌≡◌, Bool, true, false, not, ◌&&◌, ◌||◌, ◌==◌, nat_lt, if◌then◌else◌, List, [], ◌∷◌, ◌++◌, length, Option, Some, None, replicate, ◌<◌, encode_utf8, encode_utf8_all}
 use Rattle.yaml_emit_laws_text.specs.scan_model.Ascii as ascii
 use lib.Utf8.{scalar}
@@ -37,7 +37,7 @@ begins_mark a (b ∷ c ∷ bs) = (((a == ascii.hyphen && b == ascii.hyphen) && c
 begins_mark a (b ∷ []) = false
 begins_mark a [] = false
 
--- after that many columns: a document mark, or in a block what stands left of the level
+-- after that many columns: a document mark, or in a block what is left of the level
 abbrev pub stops_line : Bool → ℕ → Option ℕ → ℕ → List ℕ → Bool
 stops_line flow level None b bs = false
 stops_line flow level (Some n) b bs = (n == 0 && begins_mark b bs) || (not flow && nat_lt n level)

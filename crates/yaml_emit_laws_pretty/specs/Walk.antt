@@ -133,7 +133,7 @@ IsLone Entry text o = Unit {0}
 IsLone Question text o = Unit {0}
 IsLone Answer text o = o.line < line_at text o.at
 
--- what stands after an indicator of a bare line, at that column, begins with white or is nothing
+-- what is after an indicator of a bare line, at that column, begins with white or is nothing
 abbrev pub Parted : ℕ → Rest → Type 0
 Parted n rest = (e : Cursor) → e.bare ≡ true → e.white ≡ false → e.column ≡ n
     → begins_white (bytes (rest e)) ≡ true

@@ -15,7 +15,7 @@ pub fn laws_of_block_scalars()
     ensures block_at_position { BlockAtPosition }
     // It is what the layout of a scalar in these styles writes after the space in front.
     ensures block_is_laid_out { BlockIsLaidOut }
-    // After lexemes that leave no key waiting, a block scalar that stands there is the next lexeme.
+    // After lexemes that leave no key waiting, a block scalar that is there is the next lexeme.
     ensures block_is_next { BlockIsNext }
     // A text that goes on as the layout of a block scalar and of the line after it does is read up to what follows.
     ensures block_is_passed { BlockIsPassed }

@@ -1,4 +1,4 @@
-//! Each function's contract is a law of what stands in brackets.
+//! Each function's contract is a law of what is in brackets.
 
 ghost use Rattle.yaml_emit_laws_pretty.specs.Flows.{BracketsFollow};
 

@@ -11,7 +11,7 @@ pub fn laws_of_nodes()
     ensures line_ends_node { LineEndsNode }
     // A `-`, a `?` or a `:` after one opens a level or closes those right of it.
     ensures mark_is_walked { MarkIsWalked }
-    // What is neither white nor a comment ends what stands in a level right of it.
+    // What is neither white nor a comment ends what is in a level right of it.
     ensures shown_ends { ShownEnds }
     // A plain scalar is walked as content.
     ensures plain_is_walked { PlainIsWalked }

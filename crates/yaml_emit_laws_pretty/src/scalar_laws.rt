@@ -24,7 +24,7 @@ pub fn laws_of_scalars()
     ensures simple_keys_are_near { SimpleKeysAreNear }
     // Wherever a text has it, its end is on the line of each of its places, and near them.
     ensures near_is_fresh { NearIsFresh }
-    // What stops a plain scalar: the end, closers and commas in brackets, `:` before white, document marks, and what stands left of
+    // What stops a plain scalar: the end, closers and commas in brackets, `:` before white, document marks, and what is left of
     // the level.
     ensures what_stops_plain { WhatStopsPlain }
     // A character that is printable, no space and no break stops a plain scalar left of the level.
@@ -45,7 +45,7 @@ pub fn laws_of_scalars()
     ensures pages_indent { PagesIndent }
 {}
 
-/// What an emitter writes for a value of one line between single quotes is read as the value, unless a single quote stands after.
+/// What an emitter writes for a value of one line between single quotes is read as the value, unless a single quote is after.
 pub fn single_is_read_back()
     ensures { SingleIsReadBack }
 {}

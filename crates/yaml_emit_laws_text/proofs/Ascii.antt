@@ -61,7 +61,7 @@ spelled_ascii (verbatim tag) (utf8, some) = record {
   ascii = append_ascii (uri_text true tag) (62 ∷ []) (uri_ascii true tag utf8) refl;
 }
 
--- A readable directive's line is ASCII, and its handle stands between marks.
+-- A readable directive's line is ASCII, and its handle is between marks.
 pub directive_ascii : (d : TagDirective) → IsReadableDirective d
     → IsMarked d.handle × (are_ascii (uri_text true d.prefix) ≡ true)
 directive_ascii d (shaped, utf8, some) = (handle_ascii d.handle shaped, uri_ascii true d.prefix utf8)

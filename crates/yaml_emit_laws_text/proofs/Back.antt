@@ -21,7 +21,7 @@ no_fold : (page : Page) (before x : ℕ) (xs : List ℕ) → page.cuts ≡ false
     → may_fold page before x xs ≡ false
 no_fold page before x xs e = ap (λ t. t && (x == 32 && (not (before == 32) && not (is_empty xs)))) e
 
--- Where lines aren't cut a quoted character is itself or its escape, whatever stands before it.
+-- Where lines aren't cut a quoted character is itself or its escape, whatever is before it.
 pub char_escaped : (page : Page) (before x : ℕ) (xs : List ℕ) → page.cuts ≡ false
     → quoted_char page before x xs ≡ escaped page.unicode x
 unfolding quoted_char

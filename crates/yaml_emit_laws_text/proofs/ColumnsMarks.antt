@@ -66,7 +66,7 @@ scalar_marks s ds at x =
     (calm_then (nat_lt MOST m) mark (checked m ▹ text) (when_calm (not (has (scalar_tag true x)) && (not x.quoted && true)) (word (33 ∷ [])) (word_calm (33 ∷ [])))
     (then_calm (nat_lt MOST m) (checked m) text (checked_marks m) (quoted_calm (page_at (form s) at) (chars x.value))))
 
--- ---- what stands between nodes
+-- ---- what is between nodes
 
 turned_calm : (s : Settings) (n : ℕ) → Calm (turned (form s) n)
 unfolding turned

@@ -300,7 +300,7 @@ documents_end law names quoted mark s some opens (d ∷ ds) (right, root, good) 
 
 -- ---- the whole text
 
--- What stands after a front is found at the front's length.
+-- What is after a front is found at the front's length.
 pub has_all : (text : List ℕ) (before rest : List ℕ) → text ≡ before ++ rest
     → Has text (length before) rest
 has_all text before [] e = tt

@@ -51,7 +51,7 @@ held h e =
 pub long_rest : (c r : ℕ) (rs : List ℕ) → length (c ∷ r ∷ rs) - 1 - 1 ≡ length rs
 long_rest c r rs = omega arith
 
--- of two bytes or more, how many stand after the first
+-- of two bytes or more, how many are after the first
 pub last_rest : (c r : ℕ) (rs : List ℕ) → length (c ∷ r ∷ rs) - 1 ≡ suc (length rs)
 last_rest c r rs = omega arith
 

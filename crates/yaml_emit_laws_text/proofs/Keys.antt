@@ -23,7 +23,7 @@ calm_inside x a =
     let l = a.low in
     rw (ne_eqb x 10 a.no_feed, ne_eqb x 13 a.no_return, ne_eqb x 0x85 (λ e. omega arith), ne_eqb x 0x2028 (λ e. omega arith), ne_eqb x 0x2029 (λ e. omega arith)) refl
 
--- Calm bytes stand in one line.
+-- Calm bytes are in one line.
 pub calm_line : (xs : List ℕ) → AreCalm xs → is_one_line xs ≡ true
 calm_line [] a = refl
 calm_line (x ∷ xs) (a, b) = and_from (not (is_break x)) (is_one_line xs) (calm_inside x a) (calm_line xs b)

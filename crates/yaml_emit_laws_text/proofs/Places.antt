@@ -3,7 +3,7 @@ use Rattle.std.proofs.Common.{◌≡◌, ℕ, suc, ◌+◌, List, [], ◌∷◌,
 use Rattle.yaml_emit_laws_text.proofs.Shared.{byte, Left}
 pub use Rattle.yaml_scan_laws_texts.proofs.HasLemmas.{has_at, has_front, has_rest}
 
--- The first of the bytes that are left stands at the place.
+-- The first of the bytes that are left is at the place.
 pub left_first : (text : List ℕ) (p b : ℕ) (bs : List ℕ) → Left text p (b ∷ bs) → byte text p ≡ b
 left_first text p b bs l = let (e, h) = l.has in e
 

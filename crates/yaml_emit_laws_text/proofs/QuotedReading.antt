@@ -14,7 +14,7 @@ pub record Read (quote : ℕ) (text : List ℕ) (p : ℕ) (qs : List Piece) (e :
   pub few : fuel + p ≤ e
   pub gives : pieces fuel quote text p ≡ Ok (qs, e)
 
--- what stands between two places is these pieces, and the second is not at the start of a line
+-- what is between two places is these pieces, and the second is not at the start of a line
 pub record Through (quote : ℕ) (text : List ℕ) (p : ℕ) (qs : List Piece) (q : ℕ) : Type 0 where
   pub reads : (rs : List Piece) (e : ℕ) → Read quote text q rs e → Read quote text p (qs ++ rs) e
   pub column : 0 < column_at text q
@@ -45,7 +45,7 @@ through_at quote text p q r qs e t = subst (λ k. Through quote text p qs k) e t
 
 -- ---- no document begins or ends
 
--- No mark of a document stands within a line.
+-- No mark of a document is within a line.
 pub in_line : (text : List ℕ) (p : ℕ) → 0 < column_at text p → is_document_indicator text p ≡ false
 unfolding is_document_indicator
 in_line text p h =

@@ -45,7 +45,7 @@ pub record CutNeeds (page : Page) (before x : ℕ) (xs : List ℕ) : Type 0 wher
   pub behind : (before == 32) ≡ false
   pub next : (first xs == 32) ≡ false
 
--- what stands where a line is cut
+-- what is where a line is cut
 pub cut_needs : (page : Page) (before x : ℕ) (xs : List ℕ) → cuts_at page before x xs ≡ true
     → CutNeeds page before x xs
 cut_needs page before x xs e =

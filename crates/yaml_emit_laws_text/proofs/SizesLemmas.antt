@@ -164,7 +164,7 @@ quoted_scalar_most s ds at x =
     (omega arith))
     (omega arith)
 
--- ---- what stands between nodes
+-- ---- what is between nodes
 
 indicator_most : (x : Encoding) (i : ℕ) → nat_lt i 128 ≡ true → AtMost x (unit x * 2) (indicator i)
 indicator_most x i e =
@@ -182,7 +182,7 @@ parted_most : (canonical : Bool) (s : Settings) (n : ℕ) (fresh : Bool)
     → Takes s (ascii s (n + 3)) (comma fresh ▹ turned (set canonical s) n)
 parted_most canonical s n fresh = joined s.encoding (unit s.encoding) (ascii s (n + 2)) (ascii s (n + 3)) (comma fresh) (turned (set canonical s) n) (when_most s.encoding (unit s.encoding) (not fresh) (char 44) (ascii_most s.encoding 44 refl)) (turned_most canonical s n) (omega arith)
 
--- What stands before an item.
+-- What is before an item.
 pub before_item_most : (canonical : Bool) (s : Settings) (flow : Bool) (n : ℕ) (fresh : Bool)
     → Takes s (most_of_line s n) (before_item (set canonical s) flow n fresh)
 unfolding before_item
@@ -193,7 +193,7 @@ question_most : (s : Settings) (flow : Bool) → Takes s (ascii s 2) (question f
 question_most s true = ascii_word_most s.encoding (63 ∷ []) (ascii s 2) refl (omega arith)
 question_most s false = indicator_most s.encoding 63 refl
 
--- What stands before a key.
+-- What is before a key.
 pub before_key_most : (canonical : Bool) (s : Settings) (flow : Bool) (n : ℕ) (fresh simple : Bool)
     → Takes s (most_of_line s n) (before_key (set canonical s) flow n fresh simple)
 unfolding before_key
@@ -204,7 +204,7 @@ before_key_most canonical s false n fresh simple =
     joined s.encoding (ascii s (n + 2)) (ascii s 2) (most_of_line s n) (line s.line_break n) (when (not simple) (question false)) (line_at_most s n)
     (when_most s.encoding (ascii s 2) (not simple) (question false) (question_most s false)) (omega arith)
 
--- What stands before a value.
+-- What is before a value.
 pub before_value_most : (canonical : Bool) (s : Settings) (flow : Bool) (n : ℕ) (simple : Bool)
     → Takes s (most_of_line s n) (before_value (set canonical s) flow n simple)
 unfolding before_value

@@ -5,7 +5,7 @@ use Rattle.yaml_emit_laws_text.proofs.Forms.{at_line, NoFeed}
 use Rattle.yaml_emit_laws_text.proofs.Places.{left_first, left_more}
 use Rattle.yaml_emit_laws_text.proofs.Steps.{left_letter, behind_feed, behind_return}
 
--- A break stands there, and the rest of the text stands at the start of the line after it.
+-- A break is there, and the rest of the text is at the start of the line after it.
 pub record Broken (text : List ℕ) (q : ℕ) (rest : Rest) (kept : Bool) : Type 0 where
   pub is : is_break text q ≡ true
   pub starts : Starts text (q + break_width text q)

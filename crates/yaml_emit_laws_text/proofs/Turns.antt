@@ -41,7 +41,7 @@ numbered_at text p l n c e a h more v s =
     let z : break_width text (p + 1) ≡ 0 = rw e (calm_break l _ _ a) in
     rw (z, e, h, more, v, s) refl
 
--- what stands after a backslash
+-- what is after a backslash
 escape_run : (text : List ℕ) (p : ℕ) (xs bs : List ℕ) → 0 < column_at text p → AreCalm xs
     → Has text p (92 ∷ xs)
     → escape_at text p ≡ Pieces (Kept bs ∷ []) (p + length (92 ∷ xs))
@@ -74,7 +74,7 @@ numbered_through text p b c ds col some l n s (e, (f, h)) =
 
 -- ---- ends of lines
 
--- an end of a line stands there
+-- an end of a line is there
 record EndAt (text : List ℕ) (p : ℕ) (e : LineEnd) : Type 0 where
   first : ℕ
   is : byte text p ≡ first

@@ -250,7 +250,7 @@ space_ends : (text : List ℕ) (p : ℕ) → byte text p ≡ 32 → may_end_name
 unfolding may_end_name
 space_ends text p h = rw h refl
 
--- A word in ASCII that its first byte shows stands before a space.
+-- A word in ASCII that its first byte shows is before a space.
 pub word_walks : GapReads → (byte0 : ℕ) → Sign byte0 → (kind : Kind) → is_end kind ≡ false
     → ((d : ℕ) → depth_after kind d ≡ d)
     → ((flow alone : Bool) → indicator_of flow alone byte0 ≡ Some kind)

@@ -20,7 +20,7 @@ properties_kinds anchor tag ks = put_if (has tag) kinds.Tag (put_if (has anchor)
 abbrev pub is_marked : Scalar → Bool
 is_marked x = not (has (scalar_tag true x)) && not x.quoted
 
--- A comma stands after each item and each value, and `?` before each key.
+-- A comma is after each item and each value, and `?` before each key.
 unfoldable mutual
   pub node_kinds : Node → List Kind → List Kind
   node_kinds (alias_node name) ks = kinds.Alias ∷ ks

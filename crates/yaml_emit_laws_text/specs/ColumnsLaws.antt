@@ -39,7 +39,7 @@ EscapesAreShort = (s : Settings) (n c : ℕ) → c < 0x1_0000_0000 → (c == asc
     → most_of_quoted s n c ≤ ascii s (most_of_escape c)
 
 -- Within block collections, where an item, a key or an end is next, what is still to come of a stream is laid out without a look at
--- the column or at what stands in the line: the collections with their indentations, the directives, and whether breaks are kept
+-- the column or at what is in the line: the collections with their indentations, the directives, and whether breaks are kept
 -- are all that counts of what came before.
 abbrev pub BlocksForgetColumns : Type 0
 BlocksForgetColumns = (s : Settings) (directives : List TagDirective) (fs : List Frame)
@@ -47,7 +47,7 @@ BlocksForgetColumns = (s : Settings) (directives : List TagDirective) (fs : List
     → Forgets (layout s (frames directives fs implicit ds))
 
 -- A block sequence that is a value in a block mapping: its indentation is told by the mapping's, by whether its key is simple, and by
--- its own properties, whatever came before and comes after. (By definition a root stands at 0, and items, and mappings that are
+-- its own properties, whatever came before and comes after. (By definition a root is at 0, and items, and mappings that are
 -- values, one indent deeper.)
 abbrev pub ValuesStandByKeys : Type 0
 ValuesStandByKeys = (p : Context) (n : ℕ) (simple : Bool) (q : Start) → (m : ℕ)

@@ -3,7 +3,7 @@ use Rattle.std.specs.Prelude.{◌⊎◌, ℕ, zero, suc, ◌+◌, ◌*◌, ◌<�
 use Rattle.yaml_emit_layout.specs.Content.{Node, alias_node, scalar_node, sequence_node, mapping_node, Nodes, no_nodes, node, Pairs, no_pairs, pair, Document}
 use Rattle.yaml_emit_layout.specs.Nodes.{MOST}
 
--- Some node of the tree that is no alias stands at this depth: the root at 0, and what a collection
+-- Some node of the tree that is no alias is at this depth: the root at 0, and what a collection
 -- holds, keys and values alike, one deeper than the collection.
 unfoldable mutual
   pub StandsAt : ℕ → Node → Type 0
@@ -28,7 +28,7 @@ unfoldable pub RootStandsAt : ℕ → List Document → Type 0
 RootStandsAt d [] = ⊥
 RootStandsAt d (x ∷ xs) = StandsAt d x.root ⊎ RootStandsAt d xs
 
--- Some node of the documents that is no alias stands at a depth d where (d + 1) times the indent is
+-- Some node of the documents that is no alias is at a depth d where (d + 1) times the indent is
 -- more than the most columns, 2,147,483,647.
 pub record IsTooDeep (indent : ℕ) (ds : List Document) : Type 0 where
   pub depth : ℕ

@@ -5,7 +5,7 @@ use Rattle.yaml_emit_layout.specs.scan_model.Tokens as tokens
 use Rattle.yaml_emit_layout.specs.scan_model.Tokens.{TokenBody}
 use Rattle.yaml_emit_layout.specs.Content.{Document, Node, alias_node, scalar_node, sequence_node, mapping_node, Nodes, no_nodes, node, Pairs, no_pairs, pair}
 
--- a comma stands before all but the first
+-- a comma is before all but the first
 abbrev pub comma_bodies : Bool → List TokenBody → List TokenBody
 comma_bodies true bs = bs
 comma_bodies false bs = tokens.flow_entry ∷ bs

@@ -17,14 +17,14 @@ use Rattle.yaml_emit_laws_text.specs.ReadBack.{ValueIsReadBack, ValueIsReadBackB
 
 -- ---- spellings
 
--- Where a spelling stands between double quotes, that is one scalar and has the value that it means, whatever stands before and
+-- Where a spelling is between double quotes, that is one scalar and has the value that it means, whatever is before and
 -- after.
 abbrev pub SpellingReads : Type 0
 SpellingReads = (parts : List QuotedPart) (text : List ℕ) (p : ℕ) → IsSpelling ascii.quote parts
     → HasAt text p (quoted ascii.quote parts)
     → double_quoted_at text p ≡ Ok (meaning parts, p + length (quoted ascii.quote parts))
 
--- So it is between single quotes, where no single quote stands after.
+-- So it is between single quotes, where no single quote is after.
 abbrev pub SingleSpellingReads : Type 0
 SingleSpellingReads =
     (parts : List QuotedPart) (text : List ℕ) (p : ℕ) → IsSpelling ascii.apostrophe parts
@@ -55,7 +55,7 @@ KeysStayInLine = (page : Page) (c : Cursor) (value : List ℕ) → IsUtf8 value 
     → StaysInLine (between_quotes page (chars value)) c
 
 -- What is written for a value of one line between single quotes, where they are allowed, is read as the value, unless a single
--- quote stands after; with lines that may be broken, where new lines are indented.
+-- quote is after; with lines that may be broken, where new lines are indented.
 abbrev pub SingleIsReadBack : Type 0
 SingleIsReadBack = (page : Page) (c : Cursor) (value : List ℕ) → IsUtf8 value
     → (page.cuts ≡ true → 0 < page.indentation)

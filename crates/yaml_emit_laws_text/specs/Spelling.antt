@@ -56,7 +56,7 @@ abbrev pub is_feed_end : LineEnd → Bool
 is_feed_end feed = true
 is_feed_end _ = false
 
--- The last line has an indentation, so that no `---` stands at its start; and CR with LF after it is one end, not two.
+-- The last line has an indentation, so that no `---` is at its start; and CR with LF after it is one end, not two.
 unfoldable pub may_turn : LineTurn → List LineTurn → Bool
 may_turn t [] = nat_lt 0 t.spaces
 may_turn t (u ∷ us) = not (is_return t.end && (t.spaces == 0 && is_feed_end u.end)) && may_turn u us

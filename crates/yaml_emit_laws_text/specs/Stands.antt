@@ -1,4 +1,4 @@
--- Bytes that stand at a place of a text.
+-- Bytes that are at a place of a text.
 use Rattle.std.specs.Prelude.{ℕ, ◌+◌, ◌<◌, ◌≡◌, List, length, get_or}
 use Rattle.yaml_scan_history.specs.scan_model.Marks.{byte}
 

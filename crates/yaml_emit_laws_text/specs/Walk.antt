@@ -1,4 +1,4 @@
--- A text that goes on as a layout writes it, after words that stand in it.
+-- A text that goes on as a layout writes it, after words that are in it.
 use Rattle.std.specs.Prelude.{◌≡◌, ℕ, ◌+◌, ◌==◌, ◌||◌, Bool, true, false, List, [], ◌∷◌, length}
 use Rattle.yaml_emit_laws_text.specs.scan_model.Ascii as ascii
 use Rattle.yaml_emit_laws_text.specs.scan_model.Tokens.{TokenBody}
@@ -22,11 +22,11 @@ pub record Left (text : List ℕ) (p : ℕ) (bs : List ℕ) : Type 0 where
   pub has : Has text p bs
   pub ends : p + length bs ≡ length text
 
--- a line starts there, unless a line feed stands there
+-- a line starts there, unless a line feed is there
 abbrev pub Starts : List ℕ → ℕ → Type 0
 Starts text p = (byte text p ≡ ascii.line_feed → ⊥) → column_at text p ≡ 0
 
--- Words stand in the text up to a gap that goes up to the place; that many brackets are open.
+-- Words are in the text up to a gap that goes up to the place; that many brackets are open.
 pub record WordStage (text : List ℕ) (c : Cursor) (p : ℕ) (ws : List Word) (d : ℕ) : Type 0 where
   pub stand : WordsStand text ws
   pub gap : List ℕ

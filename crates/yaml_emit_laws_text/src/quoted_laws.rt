@@ -7,7 +7,7 @@ ghost use Rattle.yaml_emit_laws_text.specs.QuotedLaws.{KeysStayInLine, QuotedIsR
 pub fn laws_of_quotes()
     // A spelling between double quotes is read as what it means, wherever it stands.
     ensures spelling_reads { SpellingReads }
-    // So is one between single quotes, where no single quote stands after.
+    // So is one between single quotes, where no single quote is after.
     ensures single_spelling_reads { SingleSpellingReads }
     // What an emitter writes for a value between double quotes is read as the value.
     ensures quoted_is_read_back { QuotedIsReadBack }

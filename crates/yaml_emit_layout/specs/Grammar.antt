@@ -104,7 +104,7 @@ abbrev pub version_problem : Option yaml_version_directive_t → Option Problem
 version_problem None = None
 version_problem (Some v) = if is_version v then None else Some problem.Version
 
--- what stands between the first and the last byte
+-- what is between the first and the last byte
 abbrev pub between : List ℕ → List ℕ
 between h = take (length h - 1 - 1) (drop 1 h)
 

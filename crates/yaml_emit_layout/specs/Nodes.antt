@@ -93,7 +93,7 @@ abbrev pub mark_text : Context → Scalar → Style → Layout
 mark_text p x chosen = when (not (has (scalar_tag p.settings.canonical x))
     && (not x.quoted && not (is_plain chosen))) (word (ascii.exclamation ∷ []))
 
--- the lines that a scalar stands in
+-- the lines that a scalar is in
 abbrev pub page_at : Settings → NodePosition → Page
 page_at s at = record {
   width = s.width;

@@ -30,7 +30,7 @@ EndsBy Starved limit x output text whole = (rest : List ℕ) × (encode x whole 
 unfoldable pub Ends : Output → List Item → List Item → Type 0
 Ends s text whole = EndsBy s.status s.limit s.encoding s.bytes text whole
 
--- all that stood there stands there still, before what came
+-- all that stood there is there still, before what came
 abbrev pub Grows : List ℕ → List ℕ → Type 0
 Grows old new = take (length old) new ≡ old
 

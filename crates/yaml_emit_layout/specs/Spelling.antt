@@ -65,7 +65,7 @@ abbrev pub may_follow : SpelledPart → SpelledPart → Bool
 may_follow p q = not (is_fold q && (is_raw_blank p || is_fold p))
     && not (is_fold p && is_raw_blank q)
 
--- Raw characters are no quotes, backslashes or breaks, and not 0. A fold has an indentation, so that no `---` stands at column 0.
+-- Raw characters are no quotes, backslashes or breaks, and not 0. A fold has an indentation, so that no `---` is at column 0.
 abbrev pub may_stand : SpelledPart → Bool
 may_stand (raw c) =
     scalar c && not (is_break c || c == ascii.quote || c == ascii.backslash || c == 0)
@@ -90,7 +90,7 @@ pub record WritesSpelling (a : Layout) (c : Cursor) (value : List ℕ) : Type 0 
   pub spelled : (rest : Rest) → a c rest ≡ in_front (spelling parts) (rest behind)
   pub meant : value ≡ meaning parts
 
--- What stands between double quotes is a spelling of the value, on every page with an indentation and at every column.
+-- What is between double quotes is a spelling of the value, on every page with an indentation and at every column.
 abbrev pub QuotedSpells : Type 0
 QuotedSpells = (page : Page) (c : Cursor) (value : List ℕ) → all_scalars value ≡ true
     → 0 < page.indentation → WritesSpelling (quoted_body page ascii.space value) c value

@@ -8,7 +8,7 @@ pub fn utf8_encodes()
     ensures { Utf8Encodes }
 {}
 
-/// What stands between double quotes is a spelling of the value: raw characters, escapes, and folds that are read as one space.
+/// What is between double quotes is a spelling of the value: raw characters, escapes, and folds that are read as one space.
 pub fn quoted_spells()
     ensures { QuotedSpells }
 {}

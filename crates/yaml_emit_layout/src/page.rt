@@ -9,7 +9,7 @@ pub struct Page {
     pub width: u64,
     /// Columns before the scalar's lines but the first.
     pub indentation: u64,
-    /// Characters above U+007F may stand as they are.
+    /// Characters above U+007F may be as they are.
     pub unicode: bool,
     /// Lines may be broken: the scalar is no simple key.
     pub cuts: bool,

@@ -11,9 +11,9 @@ use yaml_scan_types::{DEFAULT_INDENT, DEFAULT_WIDTH, yaml_break_t, yaml_encoding
 #[derive(Clone, Copy, PartialEq, Eq, Debug)]
 pub enum Encoding {
     Utf8,
-    /// UTF-16, the low byte of a unit first; a byte order mark stands in front.
+    /// UTF-16, the low byte of a unit first; a byte order mark is in front.
     Utf16Le,
-    /// UTF-16, the high byte of a unit first; a byte order mark stands in front.
+    /// UTF-16, the high byte of a unit first; a byte order mark is in front.
     Utf16Be,
 }
 
@@ -48,7 +48,7 @@ pub struct Settings {
     pub indent: u64,
     /// After this column a line may be broken.
     pub width: u64,
-    /// Characters above U+007F may stand as they are.
+    /// Characters above U+007F may be as they are.
     pub unicode: bool,
     pub line_break: LineBreak,
 }

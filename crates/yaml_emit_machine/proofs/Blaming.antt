@@ -1,5 +1,5 @@
 -- What an event that was given does: the state after it is as it has to be, and where memory was refused outside the output it is
--- known which events stand in it.
+-- known which events are in it.
 use Rattle.std.proofs.Common.{◌≡◌, ◌⊎◌, inl, inr, ℕ, suc, drop, List, [], ◌∷◌, ◌++◌, Bool, false, Option, append_assoc, refl, sym, ◌∙◌, None, option_map, rules}
 use Rattle.yaml_scan_model.specs.Faults.{Fault, fault_of}
 use Rattle.yaml_emit_layout.specs.Content.{Event}

@@ -71,7 +71,7 @@ lays_none a h = record {
   blames = λ off on. absurd (false≢true (sym off ∙ on));
 }
 
--- which of the events it was, and what stands in the output then
+-- which of the events it was, and what is in the output then
 blamed : (a b c : Core) (h y : List Event) (e : Event) (empty : Bool)
     → LaysEvents a h b (e ∷ y) → refused_at b.place ≡ None → b.sink.status ≡ Going
     → Settles b e empty y → takes_memory e ≡ true

@@ -13,7 +13,7 @@ use Rattle.yaml_emit_machine.specs.Verdict.{verdict, Writes, wrong, Lays, LaysFi
 
 -- Of the events `es` that were to come those of `left` are still to come, and the others were taken. Whatever follows, they count:
 -- the whole text is the same, the same event is refused, unless the output has stopped, and the same is written, both of those that
--- are let out and of all. What stood in the output stands there still.
+-- are let out and of all. What stood in the output is there still.
 pub record TakesEvents (old : Emitter) (es : List Event) (new : Emitter)
     (left : List Event) : Type 0 where
   pub completes : (x : Encoding) (more : List Event) (whole : List Item)

@@ -93,7 +93,7 @@ pub record TellsOutcome (e : Emitter) : Type 0 where
   pub fault : e.fault ≡ fault_by e.status e.starved (verdict e [])
   pub output : (x : Encoding) (whole : List Item) → Writes e x [] whole
       → HasLetOut e.status e.limit e.output (encode x whole) (is_deep whole)
-  -- a refused event is the first of all that is wrong, whatever follows, and the output is what stands before it
+  -- a refused event is the first of all that is wrong, whatever follows, and the output is what is before it
   pub first : e.status ≡ Going → (p : Problem) → verdict e [] ≡ Some p
       → (more : List Event) → wrong e more ≡ Some p
   pub front : e.status ≡ Going → (p : Problem) → verdict e [] ≡ Some p

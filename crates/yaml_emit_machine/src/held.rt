@@ -21,7 +21,7 @@ pub enum Count {
     Three,
 }
 
-/// Events in their slots, the oldest first; what stands in the slots after them doesn't count.
+/// Events in their slots, the oldest first; what is in the slots after them doesn't count.
 #[derive(Drop)]
 pub struct Held {
     count: Count,

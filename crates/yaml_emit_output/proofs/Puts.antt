@@ -99,7 +99,7 @@ few_sign : (b : Bool) → length (sign_bytes b) ≤ 2
 few_sign true = omega arith
 few_sign false = omega arith
 
--- a word, with what stands around it
+-- a word, with what is around it
 pub word_placed : (marked : Bool) (first last column : ℕ) (text : List ℕ) (c : Cursor)
     → first < 0x80 → last < 0x80 → IsAscii text
     → column ≡ c.column + length ((((due_byte (not c.white) 32 ++ sign_bytes marked) ++ mark_bytes first) ++ text) ++ mark_bytes last)

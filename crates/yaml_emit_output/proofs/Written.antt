@@ -148,7 +148,7 @@ units_by s d cs g h =
     let e = subst P g h in
     (sym (append-nil (bytes_at s.encoding s d.bytes)) ∙ (sym e.0 ∙ (drawn_bytes s.encoding cs [] ∙ append-nil (spelled s.encoding cs))), e.1.0)
 
--- and all of it stands there, unless the output has stopped
+-- and all of it is there, unless the output has stopped
 pub written_settled : (s s' : Sheet) (a mid b : Output) (x : Layout)
     → (output_of s a).status ≡ Going → IsWritten s a → IsText mid → Owes a mid x stay
     → Settles s s' mid b → (b.status ≡ Going → b ≡ mid) → (output_of s' b).status ≡ Going → IsWritten s' b

@@ -77,7 +77,7 @@ pub record Keeps (old new : Page) : Type 0 where
 abbrev pub IsText : Output → Type 0
 IsText draft = (draft.encoding ≡ Utf8) × IsUtf8 draft.bytes
 
--- all of a draft's text stands in an output, and there is no more of it than the limit
+-- all of a draft's text is in an output, and there is no more of it than the limit
 pub record IsWritten (s : Sheet) (draft : Output) : Type 0 where
   pub text : IsText draft
   pub few : length draft.bytes ≤ draft.limit

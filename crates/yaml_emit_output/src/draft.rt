@@ -12,7 +12,7 @@ use std::marker::Model;
 use yaml_emit_layout::{Cursor, Encoding, LineBreak, Status};
 use yaml_scan_runs::{continuing, place_blanks, place_if, place_text};
 
-/// Room for what stands around a text: a comma, a break, a space and single characters, and the spaces that count for nothing.
+/// Room for what is around a text: a comma, a break, a space and single characters, and the spaces that count for nothing.
 const AROUND: usize = 32;
 
 /// A draft. Once it has stopped it has no room, and nothing more is put.
@@ -73,7 +73,7 @@ impl Draft {
         Draft::resumed(alloc, line_break, width, start)
     }
 
-    /// An empty one that goes on in a line: its first character stands at that cursor.
+    /// An empty one that goes on in a line: its first character is at that cursor.
     pub fn resumed(alloc: Global, line_break: LineBreak, width: usize, cursor: Cursor) -> Draft
         requires column { cursor.column < 2 ^ 62 }
         ensures output { result.output ≡ record {
@@ -412,7 +412,7 @@ impl Draft {
         self.kept = kept;
     }
 
-    // Whether there is room for a text of that many bytes, and what stands around it: else the draft has stopped.
+    // Whether there is room for a text of that many bytes, and what is around it: else the draft has stopped.
     fn has_room(&mut self, count: usize) -> bool
         requires few { count < 2 ^ 63 }
         ensures puts { Puts self.old.output self.new.output stay }

@@ -156,7 +156,7 @@ last_of_none : (count : ℕ) (bs : List ℕ) → count ≡ 0
 unfolding last_or
 last_of_none count bs e = rw (e, chars-nil) refl
 
--- up to what tells something, where no space stands before that
+-- up to what tells something, where no space is before that
 pub calm_all : (unicode : Bool) (bs : List ℕ) (end : ℕ) → IsUtf8 bs
     → RunsTo (tells unicode) bs 0 (length bs) end
     → (length bs ≤ end) ⊎ ((end ≡ 0) ⊎ ((get_or bs (end - 1) 0 == 32) ≡ false)) → IsCalm unicode bs end

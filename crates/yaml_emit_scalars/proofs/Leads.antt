@@ -115,7 +115,7 @@ printed c s =
     (λ g. cond_both (nat_lt c 65536) _ _ P (λ t n. long_printed c (ltb-false c 2048 g) (ltb-true c 65536 t) s n)
     (λ h _. far_printed c (ltb-false c 65536 h) s)))
 
--- what stands as it is
+-- what is as it is
 needs_none : (unicode : Bool) (c : ℕ) → is_printable c ≡ true
     → (not unicode && nat_le 0x80 c) ≡ false → is_break c ≡ false → (c == 34) ≡ false
     → (c == 92) ≡ false
@@ -161,7 +161,7 @@ ascii_class b n =
 ascii_needs : (c : ℕ) → c < 128 → (not false && nat_le 0x80 c) ≡ false
 ascii_needs c h = grind (arith, nat_tests, h)
 
--- a character stands as it is where its first byte ends no run
+-- a character is as it is where its first byte ends no run
 pub stands_by_lead : (body : Body) (c : ℕ) → scalar c ≡ true → ends body (lead c) ≡ false
     → stands body c ≡ true
 unfolding lead
@@ -182,7 +182,7 @@ no_needs unicode c h =
     let b : Bool = not unicode && nat_le 0x80 c in
     (or_parts (a || b) (is_break c) (or_parts ((a || b) || is_break c) (c == 34) (or_parts (((a || b) || is_break c) || c == 34) (c == 92) h).0).0).1
 
--- what stands as it is is no break
+-- what is as it is is no break
 pub stands_unbroken : (body : Body) (c : ℕ) → stands body c ≡ true → is_break c ≡ false
 stands_unbroken Open c h = not-true (is_break c) h
 stands_unbroken Single c h = not-true (is_break c) (and_parts (not (is_break c)) (not (c == 39)) h).0

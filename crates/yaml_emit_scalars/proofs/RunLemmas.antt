@@ -45,7 +45,7 @@ free_pass true cuts column width h = refl
 free_pass false false column width h = refl
 free_pass false true column width h = le-leb column width (h refl)
 
--- a character that stands as it is, and is no space past the width
+-- a character that is as it is, and is no space past the width
 pub goes_free : (body : Body) (cuts : Bool) (width column c : ℕ) → stands body c ≡ true
     → ((c == 32) ≡ true → cuts ≡ true → column ≤ width) → goes_on body cuts width column c ≡ true
 goes_free body cuts width column c s h =
@@ -64,7 +64,7 @@ word_less Single b n = (grind (arith, nat_tests, n), grind (arith, nat_tests, n)
 word_less Double b n = (grind (arith, nat_tests, n), grind (arith, nat_tests, n))
 word_less Ascii b n = (is_of_part 0x01F 0x01E b n refl, no_space b (is_of_part 0x01F 1 b n refl))
 
--- what ends a run doesn't continue a character, where characters beyond ASCII may stand in it
+-- what ends a run doesn't continue a character, where characters beyond ASCII may be in it
 unfoldable pub is_mixed : Body → Bool
 is_mixed Open = true
 is_mixed Single = true

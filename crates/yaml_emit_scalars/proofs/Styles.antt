@@ -98,7 +98,7 @@ space_first m bs rest e u inside space =
     let is : rest ≡ 32 ∷ drop (m + 1) bs = e ∙ drop_more bs m 0 inside ∙ ap (λ b. b ∷ drop (m + 1) bs) space in
     ap first (chars_past_char rest (drop (m + 1) bs) 32 u (is ∙ ap (λ t. t ++ drop (m + 1) bs) (sym (encode_ascii 32 (omega arith)))))
 
--- What stands after what is passed: a space, nothing, or anything where the last is no space.
+-- What is after what is passed: a space, nothing, or anything where the last is no space.
 pub calm_behind : (m : ℕ) (bs run rest : List ℕ) → run ≡ take m bs → rest ≡ drop m bs
     → IsUtf8 rest → ((m < length bs) × (get_or bs m 0 ≡ 32)) ⊎ ((length bs ≤ m) ⊎ ((last_or 0 (chars (take m bs)) == 32) ≡ false))
     → (last_or 0 (chars run) == 32 && is_break (first (chars rest))) ≡ false

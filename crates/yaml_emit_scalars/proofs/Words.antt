@@ -144,7 +144,7 @@ empty_lays page flow a b [] l f p =
     subst P (sym f) p
 empty_lays page flow a b (x ∷ xs) l f p = absurd (omega (arith, l))
 
--- what stands between quotes
+-- what is between quotes
 letters_quoted : (q : ℕ) (v : List ℕ) (c : Cursor) (rest : Rest)
     → letters (v ++ q ∷ []) c (λ e. after_text e rest) ≡ letters v c (λ e. char q e rest)
 unfolding letters

@@ -43,14 +43,14 @@ ends_word Double b = is_stop
     (ascii.quote ∷ ascii.backslash ∷ ascii.delete ∷ 0xEF ∷ ascii.space ∷ []) b
 ends_word Ascii b = is_of 0x01F b
 
--- a character stands there as it is
+-- a character is there as it is
 abbrev pub stands : Body → ℕ → Bool
 stands Open c = not (is_break c)
 stands Single c = not (is_break c) && not (c == ascii.apostrophe)
 stands Double c = not (needs_escape true c)
 stands Ascii c = not (needs_escape false c)
 
--- a character of a run at that column: it stands as it is, and is no space past the width where lines may be cut
+-- a character of a run at that column: it is as it is, and is no space past the width where lines may be cut
 abbrev pub goes_on : Body → Bool → ℕ → ℕ → ℕ → Bool
 goes_on body cuts width column c = stands body c
     && (not (c == ascii.space) || (not cuts || nat_le column width))

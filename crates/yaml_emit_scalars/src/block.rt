@@ -47,7 +47,7 @@ fn line_blank(blank: bool, before: char, c: char) -> bool
     }
 }
 
-// What stands before a character: the last one, and whether its line is blank so far.
+// What is before a character: the last one, and whether its line is blank so far.
 #[derive(Clone, Copy)]
 struct Behind {
     last: char,

@@ -17,7 +17,7 @@ pub const WIDE: u16 = 0x010;
 pub const QUOTE: u16 = 0x020;
 /// `, ? [ ] { }`, which end plain scalars in flow collections.
 pub const FLOW: u16 = 0x040;
-/// `:` and `#`, which end plain scalars by what stands beside them.
+/// `:` and `#`, which end plain scalars by what is beside them.
 pub const MARK: u16 = 0x080;
 /// With what no plain scalar begins, or not with every byte after it: a space, an indicator, `-`, `?` and `.`.
 pub const LEAD: u16 = 0x100;

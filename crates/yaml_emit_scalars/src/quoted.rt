@@ -73,7 +73,7 @@ fn letter_of(c: char) -> u8
     }
 }
 
-/// Whether a character may stand in a text as it is.
+/// Whether a character may be in a text as it is.
 pub(crate) fn is_printable(c: char) -> bool
     ensures { result ≡ is_printable c }
 {

@@ -151,7 +151,7 @@ pub(crate) fn last_of(before: char, run: &str) -> char
     }
 }
 
-/// What stands in front as it is, after a character: the last character before what is left, and that.
+/// What is in front as it is, after a character: the last character before what is left, and that.
 pub(crate) fn put_run<'a>(
     draft: &mut Draft,
     body: Body,

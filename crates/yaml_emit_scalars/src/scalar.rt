@@ -18,7 +18,7 @@ pub struct Manner {
     pub style: Style,
     pub flow: bool,
     pub digit: u64,
-    /// `!` stands in front.
+    /// `!` is in front.
     pub marked: bool,
 }
 

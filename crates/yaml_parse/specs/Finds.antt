@@ -21,7 +21,7 @@ pub record GivesEnd (old new : ParserRemaining) : Type 0 where
   pub ending : old.ending ≡ None
   pub nothing : GivesNothing no_event old new
 
--- what a call finds: the next event or a fault, which stands in its slot, or the end
+-- what a call finds: the next event or a fault, which is in its slot, or the end
 abbrev pub Finds : ParserRemaining → yaml_found_t → Event → Fault → ParserRemaining → Type 0
 Finds old found.Event e f new = GivesNext e old new
 Finds old found.Refused e f new = FaultOf old f new

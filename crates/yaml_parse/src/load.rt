@@ -22,7 +22,7 @@ fn let_go(loader: Loader, event: yaml_event_t) {
 /// The next document, its nodes numbered from 1 in preorder; after the last one a document without root. An alias stands
 /// for the last node before it in preorder that has its anchor, a node that encloses it counting from its own start; an
 /// anchor may occur again. Also refused, with kind 5, for an alias without such a node in its document (`found undefined
-/// alias`). What stands after a document is left; after a refusal nothing is to come. No document may be half taken,
+/// alias`). What is after a document is left; after a refusal nothing is to come. No document may be half taken,
 /// which `yaml_parser_between` tells; none is afterwards.
 pub fn yaml_parser_load<S: yaml_token_source_t>(
     parser: &mut yaml_parser_t<S>,

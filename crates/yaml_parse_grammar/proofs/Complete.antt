@@ -192,7 +192,7 @@ items_takes : (b : Brackets) (opener : yaml_mark_t) (k : yaml_token_type_t)
     → starts_node Flow k ≡ true → choice_at (state.items b opener) k ≡ Take
 items_takes b opener k h = grind arith
 
--- A node inside brackets is taken as any node, above what stands below it there.
+-- A node inside brackets is taken as any node, above what is below it there.
 pub items_node_taken : (b : Brackets) (opener start end : yaml_mark_t) (body : TokenBody)
     → starts_node Flow (type_of body) ≡ true
     → items_taken b opener start end body
@@ -225,7 +225,7 @@ flow_pair_opens : (b : Brackets) (p : Span) (o : yaml_mark_t) (ts : List Token) 
     ∷ pair_below b (state.more b o ∷ s)) f)
 flow_pair_opens b p o ts s f = grind (arith, step_take)
 
--- ---- what stands after a node
+-- ---- what is after a node
 
 -- More in brackets ends a node.
 pub more_ends : (b : Brackets) (m : More) (rest : List Token) → Ends Flow (spell_more b m rest)

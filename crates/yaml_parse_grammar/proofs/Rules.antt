@@ -18,7 +18,7 @@ MayLeave state.pair_end k = Unit {0}
 MayLeave state.lone k = Unit {0}
 MayLeave _ k = ⊥
 
--- what may come; a token that a node may begin with, or that may stand after its properties
+-- what may come; a token that a node may begin with, or that may be after its properties
 abbrev pub MayTake : State → yaml_token_type_t → Type 0
 MayTake (state.optional place before) k = starts_node (wants_of place) k ≡ true
 MayTake (state.with_properties w p) k = (joins p k || starts_content w k) ≡ true

@@ -1,4 +1,4 @@
--- A step keeps how states stand above one another, and says by what it gives whether a document is half taken.
+-- A step keeps how states are above one another, and says by what it gives whether a document is half taken.
 use Rattle.std.proofs.Common.{◌≡◌, Bool, false, List, [], ◌∷◌, ◌++◌, Option, Some, None, refl, ap, subst, arith}
 use Rattle.yaml_parse_grammar.proofs.Words.{yaml_mark_t, yaml_token_type_t, Token, TokenBody, type_of, Take, Leave, Open, RawEvent, RawEventBody, State, choice_at, taken_at, documents_taken, stream_taken, left_at, opened, Directives, settle_body, IsInner}
 use Rattle.yaml_parse_grammar.specs.Items as item
@@ -10,7 +10,7 @@ use Rattle.yaml_parse_grammar.specs.Stacks.{parts_documents_behind, StandsBehind
 
 -- ---- inside a document
 
--- what stands within a document is a stack
+-- what is within a document is a stack
 pub inside_stack : (s : List State) → IsInside s → IsStack s
 inside_stack s h = grind arith
 
@@ -72,7 +72,7 @@ taken_stands x t s c h = grind (arith, stream_stands, documents_stand, takes_ins
 
 -- ---- leaving a state
 
--- Leaving a state of a sound stack leaves a sound stack, and the item stands after it.
+-- Leaving a state of a sound stack leaves a sound stack, and the item is after it.
 pub left_stands : (x : State) (k : yaml_token_type_t) (start : yaml_mark_t) (s : List State)
     → choice_at x k ≡ Leave → IsStack (x ∷ s)
     → IsStack s × StandsBehind (left_at x start).body (is_between s)

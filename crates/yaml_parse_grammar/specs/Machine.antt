@@ -372,7 +372,7 @@ abbrev pub left_where_stopped : ℕ → Fed → (List State → ℕ) → ℕ
 left_where_stopped left (stop is f) k = left
 left_where_stopped left (go is s) k = k s
 
--- how many tokens stand after the first that is refused; none, where none is
+-- how many tokens are after the first that is refused; none, where none is
 unfoldable pub unasked_at_stop : List Token → List State → ℕ
 unasked_at_stop [] s = 0
 unasked_at_stop (t ∷ ts) s = left_where_stopped (length ts) (feed s t) (λ s'. unasked_at_stop ts s')

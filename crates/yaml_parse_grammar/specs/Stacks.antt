@@ -1,4 +1,4 @@
--- How states stand above one another, and whether a document is half taken after an event.
+-- How states are above one another, and whether a document is half taken after an event.
 use Rattle.std.specs.Prelude.{◌≡◌, Bool, true, false, List, [], ◌∷◌}
 use Rattle.yaml_parse_model.specs.Events.{EventBody}
 use Rattle.yaml_parse_model.specs.Events as event
@@ -31,7 +31,7 @@ IsInner (state.directives from) = ⊥
 IsInner state.document_end = ⊥
 IsInner _ = Unit {0}
 
--- in a document the states of its nodes stand above its end, and that above the documents after it
+-- in a document the states of its nodes are above its end, and that above the documents after it
 abbrev pub InsideAt : State → List State → Type 0 → Type 0
 InsideAt state.document_end s below = s ≡ state.documents ∷ []
 InsideAt x s below = IsInner x × below
@@ -40,7 +40,7 @@ abbrev pub IsInside : List State → Type 0
 IsInside [] = ⊥
 IsInside (x ∷ s) = InsideAt x s (IsInside s)
 
--- between documents one state stands alone
+-- between documents one state is alone
 abbrev pub StackAt : State → List State → Type 0 → Type 0
 StackAt state.stream s inside = s ≡ []
 StackAt state.first s inside = s ≡ []

@@ -33,7 +33,7 @@ pub data State : Type 0 where
   -- the value of a lone node inside the brackets of a mapping
   lone : State
 
--- what taking a token gives, and the states that stand above the others from then on
+-- what taking a token gives, and the states that are above the others from then on
 pub record Taken : Type 0 where
   pub item : Option RawEvent
   pub above : List State

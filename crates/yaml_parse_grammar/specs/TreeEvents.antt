@@ -96,7 +96,7 @@ abbrev mutual
       ++ maybe_events n (IndentlessEntry side) s.to (others_start entries next)
       ++ others_events side entries next
 
-  -- before is the end of the indicator that stands before the node
+  -- before is the end of the indicator that is before the node
   pub maybe_events : {w : Wants} → Maybe w → Site → yaml_mark_t → yaml_mark_t → List RawEvent
   maybe_events left_out place before next = blank (mark_at place before next) ∷ []
   maybe_events (there n) place before next = node_events n next

@@ -83,7 +83,7 @@ abbrev mutual
       ∷ items_maybe n (IndentlessEntry side) s.to (spell_others others rest)
       (items_others side others rest more)
 
-  -- before is the end of the indicator that stands before the node
+  -- before is the end of the indicator that is before the node
   pub items_maybe : {w : Wants} → Maybe w → Site → yaml_mark_t → List Token → List Given
       → List Given
   items_maybe left_out place before rest more = (

@@ -45,7 +45,7 @@ pub data PropertyTokens : Type 0 where
   tag_anchor : TagToken → AnchorToken → PropertyTokens
 
 mutual
-  -- ALIAS | properties content? | content, of the contents that may stand there
+  -- ALIAS | properties content? | content, of the contents that may be there
   pub data Node : Wants → Type 0 where
     alias : {w : Wants} → Span → List ℕ → Node w
     only_properties : {w : Wants} → PropertyTokens → Node w
@@ -259,7 +259,7 @@ end_event brackets.Mapping = event.mapping_end
 abbrev pub event_at : EventBody → yaml_mark_t → yaml_mark_t → RawEvent
 event_at body from to = item_at (item.event body) from to
 
--- a left-out node stands in a block collection at the end of the indicator before it, else at the next token's start
+-- a left-out node is in a block collection at the end of the indicator before it, else at the next token's start
 abbrev pub mark_at : Site → yaml_mark_t → yaml_mark_t → yaml_mark_t
 mark_at Root before next = next
 mark_at (FlowPair b side) before next = next
@@ -267,7 +267,7 @@ mark_at (Entry) before next = before
 mark_at (IndentlessEntry side) before next = before
 mark_at (BlockPair side) before next = before
 
--- where a document begins whose `---` stands there
+-- where a document begins whose `---` is there
 abbrev pub start_of : List Directive → Span → yaml_mark_t
 start_of [] s = s.from
 start_of (version d major minor ∷ ds) s = d.from

@@ -13,7 +13,7 @@ pub enum Side {
 /// Which nodes may come (YAML 1.1, 4.2.2).
 #[derive(Clone, Copy)]
 pub enum Wants {
-    /// Nodes that may stand inside brackets.
+    /// Nodes that may be inside brackets.
     Flow,
     /// Block nodes too; as a part of a pair of a block mapping also a sequence that isn't indented.
     Block(Option<Side>),

@@ -70,7 +70,7 @@ pub none_given : (x : State) (s : List State) (t : Token) → open_behind (told 
 unfolding feed
 none_given x s t o h = none_turn (choice_at x (type_of t.body)) x t s (feed s t) (λ e. open_leaves x t s o h (leave_rule x (type_of t.body) e))
 
--- ---- else it gives what an end gives that stands there, except for that end
+-- ---- else it gives what an end gives that is there, except for that end
 
 pub record OneMore (is js : List RawEvent) : Type 0 where
   pub last : RawEvent
@@ -201,7 +201,7 @@ pub feed_alike : (x : State) (s : List State) (t u : Token) → open_behind (tol
 unfolding feed
 feed_alike x s t u o p e m = sorted_turn x t u s (feed s t) (feed s u) (light_or_heavy x o) e m (plain_alike s t u p e m)
 
--- ---- an end that stands there
+-- ---- an end that is there
 
 pub closed_top : (x : State) (s : List State) → open_behind (told x) ≡ false → Stood x s
     → Closed (x ∷ s)

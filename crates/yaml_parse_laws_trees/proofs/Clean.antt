@@ -1,4 +1,4 @@
--- Where no fault stands at the tokens that were read.
+-- Where no fault is at the tokens that were read.
 use Rattle.std.proofs.Common.{◌≡◌, ◌⊎◌, inl, inr, ℕ, ◌<◌, ◌+◌, List, [], ◌∷◌, ◌++◌, length, Option, Some, None, refl, ap, sym, subst, ◌∙◌, arith}
 use Rattle.yaml_parse_laws_trees.proofs.Words.{cases_order, Token, Fault, Stream, spell, GoesOn, followed_by, directive_fault, handle_fault, Rank, of_handle, of_token, ComesBefore, WrongToken, grammar, directive, FaultAt, StandsIn, IsOfLeastPlace, BeginsWithSentence, FaultPlace, RanksBefore, IsFree}
 use Rattle.yaml_parse_laws_trees.proofs.Cuts.{SameCut, same_cut, IsNoFront, Reaches, reaches, followed_length, head_same}
@@ -46,7 +46,7 @@ clean_cut (x ∷ past) us other t behind p l c = by_length (λ e. clean_cut past
     by_length k (inr (inl e)) = k e
     by_length k (inr (inr e)) = absurd (over e l)
 
--- nothing stands before a place
+-- nothing is before a place
 pub none_earlier : (past us ts : List Token) (p : FaultPlace) (e : Fault) → ts ≡ followed_by past us
     → Clean past → StandsIn ts p e → p.number < length past → ⊥
 none_earlier past us ts p e l c s n =

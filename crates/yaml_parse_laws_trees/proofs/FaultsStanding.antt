@@ -112,7 +112,7 @@ told (state.with_properties w p) = property
 told (state.directives from) = directive
 told _ = other
 
--- states that may stand below others
+-- states that may be below others
 abbrev pub Plain : List State → Type 0
 Plain [] = Unit {0}
 Plain (x ∷ s) = (told x ≡ other) × Plain s
@@ -125,7 +125,7 @@ pub plain_topped : (s : List State) → Plain s → Topped other s
 plain_topped [] h = tt
 plain_topped (x ∷ s) h = h
 
--- ---- flow nodes stand in brackets, others don't
+-- ---- flow nodes are in brackets, others don't
 
 abbrev pub is_flow : Wants → Bool
 is_flow Flow = true

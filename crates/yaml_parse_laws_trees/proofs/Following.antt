@@ -295,7 +295,7 @@ rest_ending x a c m f behind own =
     step_ending first (start_at m f ∷ behind) initial (state.first ∷ []) own (event_at (event.stream_start x) a c ∷ []) refl
     ∙ step_ending (start_at m f) behind (state.first ∷ []) (begun f) own (item_at (item.document false) m f ∷ []) refl
 
--- What stands after the first is the same where all is.
+-- What is after the first is the same where all is.
 pub uncons : {A : Type 0} (x y : A) (xs ys : List A) → x ∷ xs ≡ y ∷ ys → xs ≡ ys
 uncons x y xs ys e = cc
 

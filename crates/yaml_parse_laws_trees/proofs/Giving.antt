@@ -190,7 +190,7 @@ gives_front ts own l w r q =
     ∙ sym (front_given ts l w)
     ∙ ap (first_items (length l.more) (length l.more) (length l.behind)) (items_given l.tree []))
 
--- ---- where an end stands after the front
+-- ---- where an end is after the front
 
 record Ended (s : List State) (u : Token) (us : List Token) : Type 0 where
   items : List RawEvent

@@ -17,7 +17,7 @@ is_ground state.documents = true
 is_ground (state.directives from) = true
 is_ground _ = false
 
--- states of a document stand above its end, and that above what awaits documents
+-- states of a document are above its end, and that above what awaits documents
 abbrev pub Within : List State → Type 0
 Within [] = ⊥
 Within (state.stream ∷ s) = ⊥
@@ -54,7 +54,7 @@ inner_on (state.directives from ∷ xs) s h g = absurd (true≢false (sym h))
 inner_on (state.document_end ∷ xs) s h g = absurd (true≢false (sym h))
 inner_on (x ∷ xs) s h g = inner_on xs s h g
 
--- ---- what stands above from then on
+-- ---- what is above from then on
 
 inner_of : (xs : List State) → AllAre IsInner xs → inner xs ≡ true
 inner_of [] h = refl

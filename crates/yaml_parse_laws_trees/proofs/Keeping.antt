@@ -24,7 +24,7 @@ keep : {b : TokenBody} {at : yaml_mark_t} {gs : List Sign} {s : List State}
     → is_directive b ≡ false → starts_document b ≡ false → KeptInside b at gs s
 keep o t n i d w = record { kept = record { opened = o; topped = t; nested = n }; inside = i; still = d; within = w }
 
--- a stack that a node stands above
+-- a stack that a node is above
 pub record Ground (w : Wants) (s : List State) : Type 0 where
   pub plain : Plain s
   pub nested : Nested s

@@ -174,7 +174,7 @@ no_alias x b name h c e = h (subst (λ (z : TokenBody). choice_at x (type_of z) 
 abbrev Inner : List Token → Loading → Type 0
 Inner past l = Names past l × Rooted l.document.nodes
 
--- the end of a collection; no anchor stands at its token
+-- the end of a collection; no anchor is at its token
 sequence_closes : (start end : yaml_mark_t) (t : Token) (s : List State) (past : List Token)
     (ds : Directives) (l : Loading) → alias_fault past t.body t.start_mark ≡ None
     → ((name : List ℕ) → has_anchor name (t ∷ past) ≡ has_anchor name past)
@@ -218,7 +218,7 @@ starts_part false p h = cc
 
 -- ---- each state
 
--- between documents one state stands alone, and the end of one stands above the documents after it
+-- between documents one state is alone, and the end of one stands above the documents after it
 abbrev pub SitsAt : State → List State → Type 0 → Type 0
 SitsAt state.stream s below = s ≡ []
 SitsAt state.first s below = s ≡ []

@@ -135,7 +135,7 @@ last_fine Leave t s ds is below shut =
     leave_fine (left_at state.document_end t.start_mark) (feed s t) ds (settle (left_at state.document_end t.start_mark) ds) refl (λ z f. subst (Fine (feed s t)) f below)
 last_fine Open t s ds is below shut = absurd (shut refl)
 
--- A stack stands after each token but the stream's end, with the directives that are noted then.
+-- A stack is after each token but the stream's end, with the directives that are noted then.
 pub stands_feed : (s : List State) (ds : Directives) → Stands s ds → (t : Token)
     → t.body ≢ token.stream_end → Fine (feed s t) ds
 unfolding feed

@@ -1,4 +1,4 @@
--- What stands below a state: after a left-out node nothing is refused, and below a state that leaves something waits to be closed.
+-- What is below a state: after a left-out node nothing is refused, and below a state that leaves something waits to be closed.
 use Rattle.std.proofs.Common.{◌≡◌, ◌⊎◌, inl, inr, true, List, [], ◌∷◌, ◌++◌, Option, Some, None, refl, sym, subst}
 use Rattle.yaml_parse_laws_trees.proofs.Words.{append_assoc, yaml_mark_t, yaml_token_type_t, Token, TokenBody, type_of, Wants, Flow, Block, Side, Key, Value, Brackets, Site, Root, Entry, IndentlessEntry, BlockPair, FlowPair, Choice, Refuse, Take, Leave, Open, RawEvent, Properties, item_at, State, wants_of, follows, choice_at, documents_taken, content_taken, node_taken, lone_below, taken_at, left_at, Fed, stop, go, with_item, given_by, turn, feed, was_take, false≢true}
 use Rattle.yaml_parse_laws_trees.specs.parse_grammar.parse_model.declared.yaml_token_type_t.TheVariants as kind

@@ -129,7 +129,7 @@ inside_fed x (y ∷ s) t (deeper i j) pl n =
     (λ e. inside_kept x t (y ∷ s) e i pl n j) (inside_fed y s t (within y s j) pl.1 n.1)
 inside_fed x e t (at_end p q) pl n = at_end_kept x e t p q
 
--- between documents one state stands alone
+-- between documents one state is alone
 alone_fed : (x : State) (s : List State) (t : Token) → s ≡ []
     → FedKept t.body t.start_mark (open_in (x ∷ [])) (feed (x ∷ []) t)
     → FedKept t.body t.start_mark (open_in (x ∷ s)) (feed (x ∷ s) t)

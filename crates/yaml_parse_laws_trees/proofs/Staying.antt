@@ -1,4 +1,4 @@
--- Tokens that are refused before they end are refused so whatever stands after them.
+-- Tokens that are refused before they end are refused so whatever is after them.
 use Rattle.std.proofs.Common.{◌≡◌, ◌≢◌, List, [], ◌∷◌, ◌++◌, Option, Some, None, refl, sym, ap, subst, ◌∙◌, inl, inr, ◌⊎◌}
 use Rattle.std.proofs.lemmas.Option.{none-some, same_Some}
 use Rattle.yaml_parse_laws_trees.proofs.WindowsWords.{yaml_mark_t, Token, Event, Fault, RawEvent, Directives, no_directives, event_at, State, Fed, stop, go, feed, run, initial, parse_of, events_in, GoOn}

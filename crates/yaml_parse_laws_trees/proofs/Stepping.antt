@@ -159,7 +159,7 @@ pub none_before : (past : List Token) → (last_in past ≡ directive → ⊥)
     → Agree (directives_before past) no_directives
 none_before past h = subst (λ (z : List Token). Agree z no_directives) (sym (no_directives_before past h)) none_agree
 
--- the end of a document stands above the documents after it
+-- the end of a document is above the documents after it
 pub data Within (x : State) (s : List State) : Type 0 where
   at_end : x ≡ state.document_end → s ≡ state.documents ∷ [] → Within x s
   deeper : IsInner x → IsInside s → Within x s

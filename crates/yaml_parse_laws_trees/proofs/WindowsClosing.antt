@@ -12,7 +12,7 @@ use Rattle.yaml_parse_laws_trees.specs.Depths.{depth_after}
 use Rattle.yaml_parse_laws_trees.proofs.Grounding.{is_ground, Stands}
 use Rattle.yaml_parse_laws_trees.proofs.Noting.{within_stands}
 
--- it stands in brackets of its own
+-- it is in brackets of its own
 abbrev weight : State → ℕ
 weight (state.items b opener) = 1
 weight (state.more b opener) = 1
@@ -34,7 +34,7 @@ opened_on (x ∷ xs) s = adds (weight x) (opened xs) (opened s) (opened (xs ++ s
 
 -- ---- a state at a token
 
--- states that stand in place of one, of that weight, after a token
+-- states that are in place of one, of that weight, after a token
 abbrev Rises : List State → ℕ → TokenBody → Type 0
 Rises above x b = (n : ℕ) → opened above + n ≡ depth_after b (x + n)
 

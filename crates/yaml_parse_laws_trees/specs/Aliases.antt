@@ -12,7 +12,7 @@ abbrev pub names : List ℕ → TokenBody → Bool
 names name (token.anchor other) = is_same name other
 names name _ = false
 
--- One of the tokens is an anchor of that name, and no `---` stands after it.
+-- One of the tokens is an anchor of that name, and no `---` is after it.
 abbrev pub has_anchor : List ℕ → List Token → Bool
 has_anchor name [] = false
 has_anchor name (t ∷ past) = if starts_document t.body then false

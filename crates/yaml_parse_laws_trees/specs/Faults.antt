@@ -14,7 +14,7 @@ pub data LoadRank : Type 0 where
   of_parser : Rank → LoadRank
   of_alias : LoadRank
 
--- how many tokens stand before a token, and a rank
+-- how many tokens are before a token, and a rank
 pub record LoadPlace : Type 0 where
   pub number : ℕ
   pub rank : LoadRank
@@ -28,13 +28,13 @@ abbrev pub LoadsBefore : LoadPlace → LoadPlace → Type 0
 LoadsBefore p q = (p.number < q.number)
     ⊎ ((p.number ≡ q.number) × LoadRanksBefore p.rank q.rank)
 
--- ---- which faults stand in a list
+-- ---- which faults are in a list
 
 abbrev pub LoadFaultAt : List Token → Token → LoadRank → Fault → Type 0
 LoadFaultAt past t (of_parser r) e = FaultAt past t r e
 LoadFaultAt past t of_alias e = alias_fault past t.body t.start_mark ≡ Some e
 
--- the fault stands in the list, at that place
+-- the fault is in the list, at that place
 pub record LoadStandsIn (ts : List Token) (p : LoadPlace) (e : Fault) : Type 0 where
   pub past : List Token
   pub token : Token
@@ -43,7 +43,7 @@ pub record LoadStandsIn (ts : List Token) (p : LoadPlace) (e : Fault) : Type 0 w
   pub number : length past ≡ p.number
   pub fault : LoadFaultAt past token p.rank e
 
--- of the faults that stand in the list, the one of the least place
+-- of the faults that are in the list, the one of the least place
 pub record IsFirstIn (ts : List Token) (e : Fault) : Type 0 where
   pub place : LoadPlace
   pub stands : LoadStandsIn ts place e
@@ -54,17 +54,17 @@ IsLoadable ts = (p : LoadPlace) (e : Fault) → LoadStandsIn ts p e → ⊥
 
 -- ---- the fault of a list
 
--- the first fault that stands in the tokens, if any
+-- the first fault that is in the tokens, if any
 abbrev pub FirstOf : List Token → Option Fault → Type 0
 FirstOf ts None = IsLoadable ts
 FirstOf ts (Some e) = IsFirstIn ts e
 
--- the list begins with a sentence, and what stands in that counts
+-- the list begins with a sentence, and what is in that counts
 pub record LoadsSentence (ts : List Token) (fault : Option Fault) : Type 0 where
   pub sentence : BeginsWithSentence ts
   pub first : FirstOf (spell sentence.tree []) fault
 
--- the list's own fault, where no other stands in it
+-- the list's own fault, where no other is in it
 pub record IsLoadOwn (ts : List Token) (own : Option Fault) (e : Fault) : Type 0 where
   pub same : own ≡ Some e
   pub free : IsLoadable ts
@@ -75,7 +75,7 @@ pub record LoadsUnfinished (ts : List Token) (own : Option Fault) (e : Fault) : 
   pub fault : IsFirstIn (with_end own ts) e ⊎ IsLoadOwn ts own e
 
 -- The fault that loading ends in, of a list of tokens that ends in a fault of its own, or in none.
--- Of a list that begins with a sentence it is the first that stands in this: an alias without an anchor.
+-- Of a list that begins with a sentence it is the first that is in this: an alias without an anchor.
 -- Of another it is the one of the least place in the list, and where there is none, the list's own.
 abbrev pub FaultOfLoading : List Token → Option Fault → Option Fault → Type 0
 FaultOfLoading ts own None = LoadsSentence ts None

@@ -68,7 +68,7 @@ is_end token.flow_mapping_end = true
 is_end token.stream_end = true
 is_end _ = false
 
--- such a token stands first, and begins at that mark
+-- such a token is first, and begins at that mark
 abbrev pub EndsAt : yaml_mark_t → List Token → Type 0
 EndsAt at [] = ⊥
 EndsAt at (t ∷ ts) = (is_end t.body ≡ true) × (t.start_mark ≡ at)
@@ -77,12 +77,12 @@ EndsAt at (t ∷ ts) = (is_end t.body ≡ true) × (t.start_mark ≡ at)
 abbrev pub leaves_open : TokenBody → Bool
 leaves_open b = asks_for_node b || is_directive b
 
--- the same of the last of the tokens, and where there is none, of what stands before
+-- the same of the last of the tokens, and where there is none, of what is before
 abbrev pub last_leaves_open : Bool → List Token → Bool
 last_leaves_open before [] = before
 last_leaves_open before (t ∷ ts) = last_leaves_open (leaves_open t.body) ts
 
--- the source's own fault stands there, in a token's place
+-- the source's own fault is there, in a token's place
 abbrev pub has_fault : List Token → Option Fault → Bool
 has_fault [] (Some own) = true
 has_fault _ _ = false

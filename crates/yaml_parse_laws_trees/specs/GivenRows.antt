@@ -21,7 +21,7 @@ at_mark mark body left = (record { body = body; start_mark = mark; end_mark = ma
 abbrev pub told_at : ℕ → EventBody → ℕ → Told
 told_at n body left = at_mark (column n) body left
 
--- a stream's start, and that of its first document, in column 1; that many tokens stand after the first
+-- a stream's start, and that of its first document, in column 1; that many tokens are after the first
 abbrev pub begun : ℕ → ℕ → List Told → List Told
 begun left less others = told_at 0 (event.stream_start YAML_UTF8_ENCODING) left
     ∷ told_at 1 (event.document_start None [] true) less ∷ others
@@ -66,7 +66,7 @@ rows =
     -- an anchor, and the list ends
     ∷ row (stream (in_column 1 anchor_b ∷ [])) None
     (begun 1 0 (told_at 1 named 0 ∷ at_mark zero_mark (event.document_end true) 0 ∷ []))
-    -- or a fault of the scanner stands in the next token's place
+    -- or a fault of the scanner is in the next token's place
     ∷ row (stream (in_column 1 anchor_b ∷ [])) (Some scanner_fault) (begun 1 0 [])
     ∷ []
 

@@ -73,7 +73,7 @@ abbrev pub starts_document : TokenBody → Bool
 starts_document token.document_start = true
 starts_document _ = false
 
--- The directives that stand directly before.
+-- The directives that are directly before.
 abbrev pub directives_before : List Token → List Token
 directives_before [] = []
 directives_before (t ∷ past) = if is_directive t.body then t ∷ directives_before past else []
@@ -119,7 +119,7 @@ pub record NodeTag : Type 0 where
 abbrev pub begins_node : List ℕ → yaml_mark_t → Option NodeTag
 begins_node handle at = Some (record { handle = handle; tag = at; node = at })
 
--- a tag that stands first of the properties: an anchor may still join it
+-- a tag that is first of the properties: an anchor may still join it
 abbrev pub unless_joined : List ℕ → yaml_mark_t → TokenBody → Option NodeTag
 unless_joined handle at (token.anchor name) = None
 unless_joined handle at _ = begins_node handle at

@@ -57,7 +57,7 @@ first_wrong [] names = None
 first_wrong (g ∷ gs) names = or_later (wrong_alias g.0.body g.0.start_mark names) g.1
     (first_wrong gs (names_behind g.0.body names))
 
--- ---- what stands next
+-- ---- what is next
 
 -- an event of no document
 abbrev pub IsOutside : EventBody → Type 0
@@ -130,7 +130,7 @@ IsLoadOf gs own behind next_none = NoneNext gs × (own ≡ None)
 abbrev pub IsNextLoad : ParserRemaining → NextLoad → Type 0
 IsNextLoad c n = IsLoadOf c.events c.ending c.ending_unasked n
 
--- a document was loaded, and what stands after it is left
+-- a document was loaded, and what is after it is left
 pub record GivesDocument (left : List Told) (count : ℕ) (old new : ParserRemaining) : Type 0 where
   pub events : new.events ≡ left
   pub ending : new.ending ≡ old.ending

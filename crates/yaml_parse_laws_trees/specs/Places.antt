@@ -15,7 +15,7 @@ pub data Rank : Type 0 where
   of_handle : Rank
   of_token : Rank
 
--- how many tokens stand before a token, and a rank
+-- how many tokens are before a token, and a rank
 pub record FaultPlace : Type 0 where
   pub number : ℕ
   pub rank : Rank
@@ -27,7 +27,7 @@ RanksBefore _ _ = ⊥
 abbrev pub ComesBefore : FaultPlace → FaultPlace → Type 0
 ComesBefore p q = (p.number < q.number) ⊎ ((p.number ≡ q.number) × RanksBefore p.rank q.rank)
 
--- ---- which faults stand in a list
+-- ---- which faults are in a list
 
 -- No tree goes on with the token, or one does, and the token is a directive that isn't in order.
 pub data WrongToken (past : List Token) (t : Token) (e : Fault) : Type 0 where
@@ -40,7 +40,7 @@ abbrev pub FaultAt : List Token → Token → Rank → Fault → Type 0
 FaultAt past t of_handle e = handle_fault past t.body ≡ Some e
 FaultAt past t of_token e = WrongToken past t e
 
--- the fault stands in the list, at that place
+-- the fault is in the list, at that place
 pub record StandsIn (ts : List Token) (p : FaultPlace) (e : Fault) : Type 0 where
   pub past : List Token
   pub token : Token
@@ -49,7 +49,7 @@ pub record StandsIn (ts : List Token) (p : FaultPlace) (e : Fault) : Type 0 wher
   pub number : length past ≡ p.number
   pub fault : FaultAt past token p.rank e
 
--- of the faults that stand at places, the one of the least place
+-- of the faults that are at places, the one of the least place
 pub record IsOfLeastPlace (Stands : FaultPlace → Fault → Type 0) (e : Fault) : Type 0 where
   pub place : FaultPlace
   pub stands : Stands place e
@@ -72,7 +72,7 @@ abbrev pub with_end : Option Fault → List Token → List Token
 with_end None ts = ts ++ no_token ∷ []
 with_end (Some own) ts = ts
 
--- the list's own fault, where no other stands in it
+-- the list's own fault, where no other is in it
 pub record IsOwn (ts : List Token) (own : Option Fault) (e : Fault) : Type 0 where
   pub same : own ≡ Some e
   pub free : IsFree ts

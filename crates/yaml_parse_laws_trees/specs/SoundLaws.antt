@@ -72,7 +72,7 @@ pub record StandsAtLoad (mark : yaml_mark_t) (e : Fault) : Type 0 where
   pub origin : e.origin ≡ Parser
   pub place : e.problem_mark ≡ mark
 
--- the fault stands at the first token that no tree goes on with; what was given begins the items of a tree that goes on with those before it
+-- the fault is at the first token that no tree goes on with; what was given begins the items of a tree that goes on with those before it
 pub record RefusedAt (ts : List Token) (given : List RawEvent) (e : Fault) : Type 0 where
   pub front : List Token
   pub token : Token
@@ -82,7 +82,7 @@ pub record RefusedAt (ts : List Token) (given : List RawEvent) (e : Fault) : Typ
   pub wrong : GoesOn (front ++ token ∷ []) → ⊥
   pub stands : StandsAtLoad token.start_mark e
 
--- a tree goes on with the whole list and gives what was given: the fault is the source's own, or where it has none, stands at the empty token after the list
+-- a tree goes on with the whole list and gives what was given: the fault is the source's own, or where it has none, is at the empty token after the list
 pub record RunsOut (ts : List Token) (f : Option Fault) (given : List RawEvent) (e : Fault) : Type 0
   where
     pub before : TreeGoesOnGiving ts given

@@ -24,7 +24,7 @@ abbrev pub GoOn : List Token → Type 0
 GoOn [] = Unit {0}
 GoOn (t ∷ ts) = (t.body ≢ stream_end) × GoOn ts
 
--- Where tokens that end in STREAM-END are accepted, and a DOCUMENT-START stands in its place, with others after it, the events are
+-- Where tokens that end in STREAM-END are accepted, and a DOCUMENT-START is in its place, with others after it, the events are
 -- those before the stream's end, and then those that these tokens have after a STREAM-START; and so is what they end in.
 abbrev pub WindowsAreParsed : Type 0
 WindowsAreParsed = (front : List Token) (last : Token) → GoOn front → last.body ≡ stream_end
@@ -46,12 +46,12 @@ BeginsDocument (tag_directive handle prefix) = Unit {0}
 BeginsDocument document_start = Unit {0}
 BeginsDocument _ = ⊥
 
--- what begins a document, or a fault, stands first
+-- what begins a document, or a fault, is first
 abbrev pub DocumentGoesOn : List Token → Option Fault → Type 0
 DocumentGoesOn [] own = own ≢ None
 DocumentGoesOn (mark ∷ behind) own = BeginsDocument mark.body
 
--- Where DOCUMENT-END stands before STREAM-END, a directive may stand in the latter's place too, wherever it is told, and so may
+-- Where DOCUMENT-END is before STREAM-END, a directive may be in the latter's place too, wherever it is told, and so may
 -- a fault.
 abbrev pub DirectivesAreParsed : Type 0
 DirectivesAreParsed = (front : List Token) (over last : Token) → GoOn front
@@ -67,7 +67,7 @@ DirectivesAreParsed = (front : List Token) (over last : Token) → GoOn front
     × ((parse_of (front ++ over ∷ rest) own).ending ≡ (parse_of (first ∷ rest) own).ending)
 
 -- Where tokens that end in STREAM-END are refused, and not for want of a document after directives that end them, they are refused
--- so with a DOCUMENT-START in its place, whatever stands after.
+-- so with a DOCUMENT-START in its place, whatever is after.
 abbrev pub RefusedFrontsStay : Type 0
 RefusedFrontsStay = (front : List Token) (last : Token) → GoOn front → last.body ≡ stream_end
     → (f : Fault) → (parse_of (front ++ last ∷ []) None).ending ≡ Some f
@@ -78,7 +78,7 @@ RefusedFrontsStay = (front : List Token) (last : Token) → GoOn front → last.
     ≡ events_in (parse_of (front ++ last ∷ []) None))
     × ((parse_of (front ++ mark ∷ behind) own).ending ≡ Some f)
 
--- Where tokens that end in DOCUMENT-END and STREAM-END are refused, they are refused so whatever stands after DOCUMENT-END.
+-- Where tokens that end in DOCUMENT-END and STREAM-END are refused, they are refused so whatever is after DOCUMENT-END.
 abbrev pub EndedFrontsStay : Type 0
 EndedFrontsStay = (front : List Token) (over last : Token) → GoOn front
     → over.body ≡ document_end → last.body ≡ stream_end
@@ -88,7 +88,7 @@ EndedFrontsStay = (front : List Token) (over last : Token) → GoOn front
     ≡ events_in (parse_of (front ++ over ∷ last ∷ []) None))
     × ((parse_of (front ++ over ∷ behind) own).ending ≡ Some f)
 
--- Where tokens that a fault ends are refused, that is their fault, or they are refused so whatever stands after them.
+-- Where tokens that a fault ends are refused, that is their fault, or they are refused so whatever is after them.
 abbrev pub RefusedTokensStay : Type 0
 RefusedTokensStay = (front : List Token) (g f : Fault) → (parse_of front (Some g)).ending ≡ Some f
     → (f ≡ g) ⊎ ((behind : List Token) (own : Option Fault)

@@ -90,7 +90,7 @@ abbrev pub handle_twice : Bool → yaml_mark_t → Option Fault
 handle_twice true at = Some (alone (codes "found duplicate %TAG directive") at)
 handle_twice false at = None
 
--- The fault of a directive, by the directives that stand directly before it.
+-- The fault of a directive, by the directives that are directly before it.
 abbrev pub directive_fault : List Token → TokenBody → yaml_mark_t → Option Fault
 directive_fault past (token.version_directive major minor) at =
     version_fault (has_version (directives_before past)) (is_version_1 major minor) at

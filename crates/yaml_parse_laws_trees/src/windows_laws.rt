@@ -8,7 +8,7 @@ pub fn windows_are_parsed()
     ensures { WindowsAreParsed }
 {}
 
-/// So may they go on with a directive, where a document's end stands before it.
+/// So may they go on with a directive, where a document's end is before it.
 pub fn directives_are_parsed()
     ensures { DirectivesAreParsed }
 {}
@@ -23,7 +23,7 @@ pub fn ended_fronts_stay()
     ensures { EndedFrontsStay }
 {}
 
-/// Tokens that a fault ends are refused for it, or so whatever stands after them.
+/// Tokens that a fault ends are refused for it, or so whatever is after them.
 pub fn refused_tokens_stay()
     ensures { RefusedTokensStay }
 {}

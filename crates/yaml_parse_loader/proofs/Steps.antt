@@ -20,7 +20,7 @@ popped : (rest : List Level) (level : Level)
     → levels_of (rest ++ level ∷ []) ≡ level_of level ∷ levels_of rest
 popped rest level = ap reverse (map-append level_of rest (level ∷ [])) ∙ reverse-append (map level_of rest) (level_of level ∷ [])
 
--- the last of a list changes: what stands before it, and itself
+-- the last of a list changes: what is before it, and itself
 last_set : (ls : List Level) (k : ℕ) (x : Level) → suc k ≡ length ls
     → set ls k x ≡ take k ls ++ x ∷ []
 last_set ls k x h =

@@ -123,7 +123,7 @@ abbrev pub last_with : List ℕ → Anchored → Option ℤ
 last_with name [] = None
 last_with name (n ∷ before) = cond (is_same name n.0) (Some n.1) (last_with name before)
 
--- a node stands before what it holds: it counts from its own start
+-- a node is before what it holds: it counts from its own start
 abbrev pub and_node : Option (List ℕ) → ℤ → Anchored → Anchored
 and_node None number before = before
 and_node (Some anchor) number before = (anchor, number) ∷ before

@@ -36,7 +36,7 @@ abbrev pub taken_by : Result Unit yaml_text_fault_t → Fed
 taken_by (Ok _) = fed.Taken
 taken_by (Err _) = fed.Starved
 
--- what an event came to, which stands there, is what it makes of a document in the making, unless memory ran out; it was taken
+-- what an event came to, which is there, is what it makes of a document in the making, unless memory ran out; it was taken
 -- only where it had that room
 abbrev pub Applies : LoadStep → yaml_mark_t → Type 0 → Fed → Loading → Type 0
 Applies came at HadRoom fed.Taken new = (came ≡ goes_on new) × HadRoom

@@ -15,7 +15,7 @@ use Rattle.yaml_parse_model.specs.Nodes.{Node, NodeBody}
 pub use Rattle.yaml_parse_model.specs.Nodes.{str_tag, seq_tag, map_tag}
 use Rattle.yaml_parse_model.specs.Nodes as node
 
--- a document; its nodes stand under the numbers 1, 2, 3 .., and the first is the root
+-- a document; its nodes are under the numbers 1, 2, 3 .., and the first is the root
 pub record Document : Type 0 where
   pub version : Option yaml_version_directive_t
   pub directives : List TagDirective

@@ -20,7 +20,7 @@ prefix_of p = record {
   origin = p.origin;
 }
 
--- what stands before any fault
+-- what is before any fault
 abbrev pub no_fault : Fault
 no_fault = record {
   kind = YAML_NO_ERROR;

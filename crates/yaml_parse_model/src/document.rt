@@ -60,14 +60,14 @@ impl yaml_document_t {
         &self.parts.tag_directives
     }
 
-    /// No `---` stands in front.
+    /// No `---` is in front.
     pub fn start_implicit(&self) -> bool
         ensures { result ≡ self.now.start_implicit }
     {
         self.parts.start_implicit
     }
 
-    /// No `...` stands after.
+    /// No `...` is after.
     pub fn end_implicit(&self) -> bool
         ensures { result ≡ self.now.end_implicit }
     {

@@ -8,7 +8,7 @@ use yaml_scan_model::{
     yaml_sequence_style_t, yaml_tag_directive_t, yaml_version_directive_t,
 };
 
-/// The mark of what stands in no text.
+/// The mark of what is in no text.
 pub const ZERO_MARK: yaml_mark_t = yaml_mark_t {
     index: 0,
     line: 0,
@@ -28,11 +28,11 @@ pub enum yaml_event_body_t {
     DocumentStart {
         version_directive: Option<yaml_version_directive_t>,
         tag_directives: Vec<yaml_tag_directive_t>,
-        /// No `---` stands in front.
+        /// No `---` is in front.
         implicit: bool,
     },
     DocumentEnd {
-        /// No `...` stands after.
+        /// No `...` is after.
         implicit: bool,
     },
     Alias {

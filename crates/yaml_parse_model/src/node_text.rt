@@ -64,7 +64,7 @@ fn put_one(bytes: &mut [u8], text: &[u8])
     }
 }
 
-// A text before what stands there.
+// A text before what is there.
 // Inlined into its one caller, so that the bytes lie where they are to stay.
 #[inline(always)]
 fn put_front(bytes: &mut [u8], text: &[u8])

@@ -51,7 +51,7 @@ abbrev pub Goes : {T P : Type 0} → Ghosts T P → Parser T P → Parser T P �
 Goes g old now = (now.state ≡ old.state)
     × ((w : Wants) (q : Properties) → AreProperties g q old → Joined g w (begun g w (Some q) old) now)
 
--- and the states stand as they did
+-- and the states are as they did
 pub record NamedSo {T P : Type 0} (g : Ghosts T P) (old now : Parser T P) : Type 0 where
   pub goes : Goes g old now
   pub stands : StandsBehind old → StandsBehind now

@@ -23,7 +23,7 @@ use Rattle.yaml_parse_states.specs.Coming.{read, read_node, node_turn}
 use Rattle.yaml_parse_states.proofs.Reading.{read_by, read_fails, read_front}
 use Rattle.yaml_parse_states.proofs.Fronts.{awaits}
 
--- ---- where a node that is left out stands at the token after it
+-- ---- where a node that is left out is at the token after it
 
 turn_at : (c : Choice) (place : Site) (m n : yaml_mark_t) (t : Token) (s : List State) (fed : Fed)
     → mark_at place m t.start_mark ≡ mark_at place n t.start_mark

@@ -67,7 +67,7 @@ property_read k w q s ts f ds n j =
     (ap (λ b. if b || starts_content w (type_by k) then Take else Leave) j)
     (property_taken k w q (front_of ts) j)
 
--- a node of which nothing came, whose first token stands there
+-- a node of which nothing came, whose first token is there
 abbrev pub none_yet : yaml_mark_t → Properties
 none_yet m = record { anchor = None; tag = None; from = m; to = m }
 

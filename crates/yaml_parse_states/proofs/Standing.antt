@@ -1,4 +1,4 @@
--- How states stand above open collections.
+-- How states are above open collections.
 use Rattle.std.proofs.Common.{◌≡◌, ◌∙◌, false, List, [], ◌∷◌, ◌++◌, reverse, ℕ, length, Option, Some, refl, sym, ap, subst}
 use Rattle.std.specs.Option.{option_to_list}
 use Rattle.std.proofs.lemmas.List.{nil_from_length, reverse-append}

@@ -46,14 +46,14 @@ read_fed fed ts f ds =
     (unasked_at_fault (carry (length ts) fed (λ s. run ts s f)).items
     (left_where_stopped (length ts) fed (λ s. unasked_at_stop ts s)) ds)
 
--- a node of those that may stand there, at a token
+-- a node of those that may be there, at a token
 abbrev pub node_turn : Wants → Token → List State → Fed
 node_turn w t s =
     if starts_node w (type_of t.body)
     then given_by (node_taken w t.start_mark t.end_mark t.body) s
     else stop [] (parser_fault (no_node w) t.start_mark t.start_mark)
 
--- where a node has to come, of those that may stand there, above the states; after the last token the empty one stands
+-- where a node has to come, of those that may be there, above the states; after the last token the empty one stands
 unfoldable pub read_node : Wants → List Token → Option Fault → List State → Directives → Coming
 read_node w [] None s ds = read_fed (node_turn w no_token s) [] None ds
 read_node w [] (Some f) s ds = stopped f 0

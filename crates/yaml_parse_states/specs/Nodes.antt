@@ -34,7 +34,7 @@ use Rattle.yaml_parse_states.specs.Coming.{Coming, read, read_node}
 use Rattle.yaml_parse_states.specs.Views.{body_in, directives_of, event_in, side_of, stack, text_if}
 use Rattle.yaml_parse_states.specs.Turned.{GaveEvent, IsRefused, IsTaken, LacksMemory, Opens, Refuses}
 
--- which nodes may stand there
+-- which nodes may be there
 abbrev pub wants_by : Turn → State → Wants
 wants_by turn.FlowNode x = Flow
 wants_by turn.IndentlessNode x = Block (Some (side_of x))

@@ -1,4 +1,4 @@
--- How states stand above open collections, and what the event that was given says of them.
+-- How states are above open collections, and what the event that was given says of them.
 use Rattle.std.specs.Prelude.{◌≡◌, Bool, true, false, List, [], ◌∷◌, reverse, Option, Some, None}
 use Rattle.yaml_parse_model.specs.Events.{Event}
 use Rattle.yaml_parse_grammar.specs.Remaining.{is_between}
@@ -56,7 +56,7 @@ abbrev pub AreNested : {P : Type 0} → List (Level P) → Type 0
 AreNested [] = ⊥
 AreNested (l ∷ ls) = IsBehind l.next (AreNested ls)
 
--- a collection's state stands in one
+-- a collection's state is in one
 abbrev pub StandsIn : {P : Type 0} → State → List (Level P) → Type 0
 StandsIn state.StreamStart ls = Unit {0}
 StandsIn state.FirstDocument ls = Unit {0}

@@ -84,7 +84,7 @@ impl<T: Tokens> Parser<T> {
         self.note_version(major, minor, start)
     }
 
-    /// A version that stands there.
+    /// A version that is there.
     fn note_version(&mut self, major: i32, minor: i32, at: T::Place) -> Turn
         ensures { Settles T.Tokens (with_version (directives_of self.old.directives).version
             (directives_of self.old.directives).tags major minor (T.mark_of self.old.tokens at))
@@ -115,7 +115,7 @@ impl<T: Tokens> Parser<T> {
         self.note_tag(start)
     }
 
-    /// The handle and the prefix that were taken last, which stand there.
+    /// The handle and the prefix that were taken last, which are there.
     fn note_tag(&mut self, at: T::Place) -> Turn
         ensures { Settles T.Tokens (with_tag (directive_for (T.texts self.old.tokens).handle
             (directives_of self.old.directives).tags) (directives_of self.old.directives)

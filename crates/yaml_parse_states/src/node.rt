@@ -27,7 +27,7 @@ use yaml_parse_grammar::ParseProblem;
 use yaml_scan_model::yaml_scalar_style_t;
 use yaml_scan_tokens::{Kind, Tokens};
 
-/// The problem where no node begins, of those that may stand there.
+/// The problem where no node begins, of those that may be there.
 fn no_node(wants: Turn) -> ParseProblem
     ensures { (x : State) → result ≡ no_node (wants_by wants x) }
 {
@@ -38,7 +38,7 @@ fn no_node(wants: Turn) -> ParseProblem
 }
 
 impl<T: Tokens> Parser<T> {
-    /// The node that is next, of those that may stand there, after which the state is the parser's.
+    /// The node that is next, of those that may be there, after which the state is the parser's.
     pub(crate) fn node(&mut self, wants: Turn) -> Turn
         ensures found { (was : Coming)
             → AwaitsNode T.Tokens (wants_by wants self.old.state) was self.old
@@ -241,7 +241,7 @@ impl<T: Tokens> Parser<T> {
 
     // ---- contents
 
-    /// The content that begins with the token of that kind, which is next, if one does that may stand there.
+    /// The content that begins with the token of that kind, which is next, if one does that may be there.
     fn content(&mut self, kind: Kind, wants: Turn) -> Option<Turn>
         requires { IsShown T.Tokens kind self.old.tokens }
         ensures contents { Contents T.Tokens (wants_by wants self.old.state) kind self.old

@@ -72,7 +72,7 @@ pub enum Step {
     End,
 }
 
-/// What a state finds: it has given an event, or a node is next, of those that may stand there, after which the state is the
+/// What a state finds: it has given an event, or a node is next, of those that may be there, after which the state is the
 /// parser's; or the fault was told, or nothing is left.
 #[derive(Clone, Copy, PartialEq, Eq)]
 pub(crate) enum Turn {
@@ -398,7 +398,7 @@ impl<T: Tokens> Parser<T> {
         self.give(kind, at, at)
     }
 
-    /// A node is next, of those that may stand there, with the state after it.
+    /// A node is next, of those that may be there, with the state after it.
     pub(crate) fn awaits(&mut self, node: Turn, next: State) -> Turn
         ensures node { result ≡ node }
         ensures same { self.new ≡ record self.old { state = next } }
@@ -469,7 +469,7 @@ impl<T: Tokens> Parser<T> {
         self.refuse_by(Refusal::LackOfMemory)
     }
 
-    /// The problem stands at one place, in a context that starts at the other.
+    /// The problem is at one place, in a context that starts at the other.
     pub(crate) fn refuse_at(
         &mut self,
         problem: ParseProblem,
@@ -490,7 +490,7 @@ impl<T: Tokens> Parser<T> {
         self.refuse_by(Refusal::Wrong(fault))
     }
 
-    /// Where the context of a problem starts that stands there.
+    /// Where the context of a problem starts that is there.
     fn context(&self, problem: ParseProblem, at: T::Place) -> T::Place
         ensures { T.mark_of self.now.tokens result ≡ context_at problem
             (opener (T.mark_of self.now.tokens) (reverse self.now.levels.items))

@@ -1,4 +1,4 @@
--- Keys that stand in a mapping of an input more than once.
+-- Keys that are in a mapping of an input more than once.
 use Rattle.std.specs.Prelude.{◌≡◌, ◌++◌, ℕ, List, [], ◌∷◌, Result, Ok, Err, All}
 use Rattle.yaml_scan_model.specs.declared.yaml_encoding_t.{yaml_encoding_t}
 use Rattle.yaml_scan_model.specs.Faults.{Fault}

@@ -1,4 +1,4 @@
-//! Keys that stand in a mapping of an input more than once.
+//! Keys that are in a mapping of an input more than once.
 
 ghost use Rattle.std.specs.Prelude.{◌≡◌, ◌↔◌, ℕ, List, [], true, IfOk};
 ghost use Rattle.yaml_scan_model.specs.Faults.{Answers, load_layers};

@@ -49,7 +49,7 @@ none_skipped kind None (standing.Told k) r s w h e next none =
     let is : k ≡ kinds.Nothing = told_kind k kind r s w h n next ∙ none_kind kind none in
     subst (λ j. Leaves (coming None (standing.Told j) r s) (adapted (to_come s)) (texts_by standing.Unasked s)) (sym is) (nothing_left r s (subst (λ j. Knows j s) is h))
 
--- What is left after a token, and how the scanner stands there.
+-- What is left after a token, and how the scanner is there.
 pub some_skipped : (kind : Kind) (o : Option yaml_fault_t) (st : Standing)
     (r : Remaining) (s new : Scanner)
     → Waits s → Stands o st r s → told_by st ≡ Some false → IsNext kind (coming o st r s).tokens
@@ -195,7 +195,7 @@ pub kind_utf8 : (k : Kind) (o : Option yaml_fault_t) (r : Remaining) (s : Scanne
 kind_utf8 k None r s e t = told_utf8 k r s t
 kind_utf8 k (Some f) r s e t = tt
 
--- as many tokens weren't asked for as stand after the first
+-- as many tokens weren't asked for as are after the first
 pub kind_unasked : (k : Kind) (c d : Remaining) → Told k c d
     → unasked_in (Some (is_fault k)) d ≡ length (rest_of d.tokens)
 kind_unasked kinds.Failed c d h = ap length h.none ∙ sym (ap (λ ts. length (rest_of ts)) h.none)

@@ -152,7 +152,7 @@ key_is : (j : Kind) → is_key j ≡ true → kinds.Key ≡ j
 key_is kinds.Key h = refl
 key_is _ h = absurd (true≢false (sym h))
 
--- The token that is next is the first lexeme's own, or stands before that.
+-- The token that is next is the first lexeme's own, or is before that.
 lead_or_own : (s : Scanner) (k : Kind) → IsFront k s → may_lead k ≡ true
     → ((front_lexeme s).front ≡ (front_lexeme s).kind) ⊎ ((front_lexeme s).front ≢ (front_lexeme s).kind)
 lead_or_own s kinds.BlockEnd f lead = inr (λ own. own_carries s kinds.BlockEnd f own)

@@ -29,7 +29,7 @@ pub record FindsOtherBytes (old : View) (f : Fault) (new : View) : Type 0 where
   pub once : old.answered ≡ None
   pub ends : new ≡ ended looked f
 
--- a look at the next token: its tag is UTF-8, or it isn't and the token stands there
+-- a look at the next token: its tag is UTF-8, or it isn't and the token is there
 abbrev pub IsTag : Option yaml_mark_t → Token → Type 0
 IsTag None t = spells_text t.body ≡ true
 IsTag (Some m) t = (spells_text t.body ≡ false) × (m ≡ t.start_mark)

@@ -89,7 +89,7 @@ abbrev pub is_failed : Standing → Bool
 is_failed (standing.Told kinds.Failed) = true
 is_failed _ = false
 
--- how it stands after a token of that kind
+-- how it is after a token of that kind
 abbrev pub behind : Kind → Standing
 behind kinds.BlockEnd = standing.Unasked
 behind kinds.BlockSequenceStart = standing.Unasked

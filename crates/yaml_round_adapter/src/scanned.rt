@@ -113,7 +113,7 @@ fn is_failed(standing: Standing) -> bool
     matches!(standing, Standing::Told(Kind::Failed))
 }
 
-/// How it stands after a token of that kind.
+/// How it is after a token of that kind.
 fn behind(kind: Kind) -> Standing
     ensures { result ≡ behind kind }
 {

@@ -115,7 +115,7 @@ memory_kind (layer ∷ []) f m = ap (λ (g : Fault). is_memory g.kind) m
 memory_kind (layer ∷ other ∷ layers) f (inl m) = ap (λ (g : Fault). is_memory g.kind) m
 memory_kind (layer ∷ other ∷ layers) f (inr m) = memory_kind (other ∷ layers) f m
 
--- the blocks say what stands before the fault, or there are none when out of memory
+-- the blocks say what is before the fault, or there are none when out of memory
 front_says : (from : yaml_encoding_t) (input text : List ℕ) (f : yaml_fault_t) (l : Listing)
     (p : yaml_c_parsed) (a : yaml_c_answer) (b : Bool) → b ≡ is_memory f.kind
     → text ≡ spelled_text from input → HandsOutUnless b text l p

@@ -64,7 +64,7 @@ name_in (event.sequence_start anchor tag implicit style) = anchor
 name_in (event.mapping_start anchor tag implicit style) = anchor
 name_in _ = None
 
--- an event that stands between a document's start and its end
+-- an event that is between a document's start and its end
 abbrev pub IsWithin : EventBody → Type 0
 IsWithin (event.alias name) = Unit {0}
 IsWithin (event.scalar anchor tag value plain quoted style) = Unit {0}

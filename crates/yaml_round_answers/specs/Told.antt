@@ -71,7 +71,7 @@ pub record TellsFaultBy (tell : yaml_mark_t → yaml_c_mark) (fault : Fault) (wh
 abbrev pub TellsFault : Fault → ℤ → yaml_c_answer → Type 0
 TellsFault = TellsFaultBy mark_told
 
--- a fault of a text, with the characters that stand before its marks
+-- a fault of a text, with the characters that are before its marks
 abbrev pub TellsFaultIn : List ℕ → Fault → yaml_c_answer → Type 0
 TellsFaultIn text fault = TellsFaultBy (λ m. mark_counted text (mark_told m)) fault (pos 0)
 

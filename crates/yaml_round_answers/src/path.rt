@@ -6,14 +6,14 @@ ghost use Rattle.yaml_round_answers.specs.Path.{keyed_head, step_head, step_spel
 use std::alloc::{AllocError, Global};
 use yaml_round::yaml_step_t;
 
-// Adds what stands before the text of a value's key.
+// Adds what is before the text of a value's key.
 fn push_keyed(head: &mut String, pair: u64, size: usize) -> Result<(), AllocError>
     ensures { OnOk result (string_bytes head.new ≡ string_bytes head.old ++ keyed_head pair size) }
 {
     write!(head, ".{pair}:{size}:")
 }
 
-// Adds what stands before a step's text.
+// Adds what is before a step's text.
 fn push_head(head: &mut String, step: &yaml_step_t) -> Result<(), AllocError>
     ensures { OnOk result (string_bytes head.new ≡ string_bytes head.old ++ step_head step.now) }
 {

@@ -41,7 +41,7 @@ abbrev pub is_unmarked : OpeningPosition → Option yaml_version_directive_t →
 is_unmarked at version directives = is_first (position_of at)
     && (not (has_version version) && not (has_directives directives))
 
--- what is given of a normalized event that stands there
+-- what is given of a normalized event that is there
 abbrev pub styled : restyled.OpeningPosition → EventBody → Event
 styled at e = readable_event at (content_of e)
 

@@ -156,7 +156,7 @@ pub fn position_after(event: EventRef<'_>, at: OpeningPosition) -> OpeningPositi
     }
 }
 
-/// A normalized event, which stands there, with the style and the marks that what it says decides. It is long by its patterns: an arm
+/// A normalized event, which is there, with the style and the marks that what it says decides. It is long by its patterns: an arm
 /// for each kind.
 // Out of line: canonical form and pretty form, whose events go by the same function, don't come here.
 #[inline(never)]

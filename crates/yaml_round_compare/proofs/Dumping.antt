@@ -79,7 +79,7 @@ unfolding documents_say
 documents_more d ds =
     ap (λ (bs : List EventBody). event.document_start d.version d.directives true ∷ bs) (node_more (document_tree (graph_content d)).root (event.document_end true ∷ []) (documents_left ds))
 
--- ---- no document's events begin with all of another's: its end stands after all else
+-- ---- no document's events begin with all of another's: its end is after all else
 
 -- how many ends of a document there are
 abbrev ends : List EventBody → ℕ
@@ -170,7 +170,7 @@ no_front d e x xs h =
     let s = some_end (document_says d) x xs (event.document_start e.version e.directives true ∷ node_says (document_tree (graph_content e)).root []) (sym h ∙ ends_last e) in
     absurd (omega (arith, a, b, c, k, s))
 
--- ---- what stands in front
+-- ---- what is in front
 
 past_on : (xs ys : List EventBody) (p : Path) → past (xs ++ ys) p ≡ past ys (past xs p)
 past_on [] ys p = refl

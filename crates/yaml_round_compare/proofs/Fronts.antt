@@ -1,4 +1,4 @@
--- No stream says a front of what another says: its end stands before nothing.
+-- No stream says a front of what another says: its end is before nothing.
 use Rattle.std.proofs.Common.{◌≡◌, ◌∙◌, ℕ, suc, List, [], ◌∷◌, ◌++◌, Option, true, refl, sym, ap}
 use Rattle.yaml_round_content.specs.scan_model.declared.yaml_encoding_t.TheVariants.{YAML_ANY_ENCODING}
 use Rattle.yaml_parse.specs.Events.{EventBody}

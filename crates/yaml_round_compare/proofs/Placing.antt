@@ -60,7 +60,7 @@ document_said (c ∷ ds) d es = ap (λ (x : List EventBody). event.document_star
 
 -- ---- inside a node, or after it
 
--- after what stands outside, these events are before a place
+-- after what is outside, these events are before a place
 abbrev Reached : (List EventBody → List EventBody) → List EventBody → Type 0
 Reached around fs = (i : Inside) × (around fs ≡ inside_says i [])
 
@@ -251,7 +251,7 @@ unfolding documents_say
 in_documents [] before fs g gs s = placed_end before fs g gs s
 in_documents (d ∷ ds) before fs g gs s = document_placed before ds d g gs (λ hs t. in_documents ds (with_document before d) hs g gs t) fs s
 
--- What stands before an event of a stream is before a place.
+-- What is before an event of a stream is before a place.
 pub placed : (c : List Document) (f : EventBody) (fs : List EventBody) (g : EventBody)
     (gs : List EventBody) → stream_says c ≡ f ∷ fs ++ g ∷ gs
     → (p : StreamPosition) × (f ∷ fs ≡ position_says p [])

@@ -72,7 +72,7 @@ goes_on first second first_new second_new e x y p q says n real other_real endin
   );
 }
 
--- the first gave that event, and the second stands beside it
+-- the first gave that event, and the second is beside it
 pub beside : (first first_new second second_new : ReadingView) (r : Next)
     → GivesNextEvent first_new.given first.parser first_new.parser
     → StepsBeside first_new.given second.parser r second_new

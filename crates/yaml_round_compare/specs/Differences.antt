@@ -38,7 +38,7 @@ pub record TellsParting (first second : Event) (said other_said : EventBody)
 abbrev pub TellsGiven : Event → Event → yaml_difference_t → Type 0
 TellsGiven first second d = TellsParting first second (saying first.body) (saying second.body) d
 
--- Both inputs are accepted. The events in front say the same, and are what stands before a place; the next ones
+-- Both inputs are accepted. The events in front say the same, and are what is before a place; the next ones
 -- don't. It says where these begin and end, what they are, in what they differ, and the path to that place.
 pub record IsParting (a_from : yaml_encoding_t) (a : List ℕ) (b_from : yaml_encoding_t)
     (b : List ℕ) (d : yaml_difference_t) : Type 0 where

@@ -78,7 +78,7 @@ dump_left d = map said (remaining_events d.document d.events)
 abbrev pub in_slot : Dump → EventBody
 in_slot d = content_of (event_of d.event).body
 
--- the next event stands in the slot
+-- the next event is in the slot
 pub record GivesInto (old new : Dump) : Type 0 where
   pub events : dump_left old ≡ in_slot new ∷ dump_left new
   pub dump : IsDump new
@@ -97,7 +97,7 @@ pub record BothGive (first second first_new second_new : Dump) : Type 0 where
   pub dumps : AreDumps first_new second_new
   pub less : length (dump_left first_new) < length (dump_left first)
 
--- the second gives what stands in the first one's slot
+-- the second gives what is in the first one's slot
 pub record GivesBeside (first second second_new : Dump) : Type 0 where
   pub events : dump_left second ≡ in_slot first ∷ dump_left second_new
   pub dump : IsDump second_new
@@ -108,7 +108,7 @@ IsCauseOf c (Some a) (Some b) = c ≡ cause_of a b
 IsCauseOf c None _ = Unit {0}
 IsCauseOf c _ None = Unit {0}
 
--- they don't give the same next event; where both give one, these stand in the slots
+-- they don't give the same next event; where both give one, these are in the slots
 pub record DiffersInSlots (first second : Option EventBody) (first_new second_new : Dump) : Type 0
   where
     pub differ : first ≡ second → ⊥
@@ -135,7 +135,7 @@ TurnsOn first second (Ok Different) first_new second_new = DiffersInSlots
     (next_of (dump_left first)) (next_of (dump_left second)) first_new second_new
 TurnsOn first second (Err e) first_new second_new = Unit {0}
 
--- ---- what stands in front
+-- ---- what is in front
 
 -- after the streams' start
 pub record IsStarted (f : Front) : Type 0 where

@@ -48,7 +48,7 @@ pub record SameDocuments (a_from : yaml_encoding_t) (a : List ℕ) (b_from : yam
   pub second_loads : PlainLoading b_from b (Ok second)
   pub agree : Agrees first second
 
--- Both inputs load, and their documents don't agree. What stands before a place is the same in their dumps, and what is
+-- Both inputs load, and their documents don't agree. What is before a place is the same in their dumps, and what is
 -- next isn't. It tells in what that differs, of the inputs' events after as many where these begin and end and what they are,
 -- and the path to that place.
 pub record IsDocumentsParting (a_from : yaml_encoding_t) (a : List ℕ) (b_from : yaml_encoding_t)

@@ -1,4 +1,4 @@
--- Places in a stream: what stands before an event, and the path to it.
+-- Places in a stream: what is before an event, and the path to it.
 use Rattle.std.specs.Prelude.{ℕ, suc, true, List, [], ◌∷◌, length, Option, Some, None, map, reverse}
 use Rattle.yaml_round_content.specs.scan_model.declared.yaml_encoding_t.TheVariants.{YAML_ANY_ENCODING}
 use Rattle.yaml_round_content.specs.scan_model.declared.yaml_version_directive_t.{yaml_version_directive_t}
@@ -27,7 +27,7 @@ pub data StreamPosition : Type 0 where
       → StreamPosition
   at_end : List Document → Document → StreamPosition
 
--- ---- what stands in front
+-- ---- what is in front
 
 -- in front inside the document, and then that
 abbrev pub inside_says : Inside → List EventBody → List EventBody
@@ -44,7 +44,7 @@ whole_say [] es = es
 whole_say (d ∷ ds) es = event.document_start d.version d.directives true ∷ node_says d.root
     (event.document_end true ∷ whole_say ds es)
 
--- all that stands in front, and then that
+-- all that is in front, and then that
 abbrev pub position_says : StreamPosition → List EventBody → List EventBody
 position_says (between ds) es = event.stream_start YAML_ANY_ENCODING ∷ whole_say ds es
 position_says (within ds version directives inside) es = event.stream_start YAML_ANY_ENCODING

@@ -20,7 +20,7 @@ pub(crate) enum Turn {
     Different,
 }
 
-// The second dump's next event beside the first's, which stands in its slot.
+// The second dump's next event beside the first's, which is in its slot.
 fn turned_beside(first: &Dump, second: &mut Dump) -> Result<Turn, AllocError>
     requires { IsDump second.old }
     ensures { TurnsBeside first.now second.old result second.new }
@@ -114,7 +114,7 @@ fn same_document(
     }
 }
 
-/// Whether documents have the same dumps, one after another. Where they haven't, the front says what stands before the first
+/// Whether documents have the same dumps, one after another. Where they haven't, the front says what is before the first
 /// events that differ. Documents are let go as they are passed.
 pub fn same_documents(
     alloc: Global,

@@ -1,4 +1,4 @@
-//! What stands before a place in two streams, as far as it was passed.
+//! What is before a place in two streams, as far as it was passed.
 
 ghost use Rattle.std.specs.Prelude.{◌≡◌, OnOk};
 ghost use Rattle.yaml_parse.specs.Events.{borrowed_body};
@@ -28,7 +28,7 @@ impl Front {
         }
     }
 
-    // The event stands before both dumps' next ones.
+    // The event is before both dumps' next ones.
     pub(crate) fn pass(&mut self, event: EventRef<'_>) -> Result<(), AllocError>
         ensures { OnOk result (PassesEvent (borrowed_body event.entry) self.old self.new) }
     {

@@ -1,4 +1,4 @@
-//! What stands in two inputs after that many events.
+//! What is in two inputs after that many events.
 
 ghost use Rattle.std.specs.Prelude.{◌≡◌};
 ghost use Rattle.yaml_round_content.specs.Input.{events_of, ending_of};

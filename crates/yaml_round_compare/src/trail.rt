@@ -43,7 +43,7 @@ fn copy_if(alloc: Global, text: Option<&[u8]>) -> Result<Option<Vec<u8>>, AllocE
     }
 }
 
-// The step to what stands after a node in the same collection; `text` is that of the node, where it is a scalar, and is kept where
+// The step to what is after a node in the same collection; `text` is that of the node, where it is a scalar, and is kept where
 // it is a key.
 fn step_behind(
     alloc: Global,
@@ -79,7 +79,7 @@ fn push_step(path: &mut Vec<yaml_step_t>, step: yaml_step_t) -> Result<(), Alloc
     }
 }
 
-// A whole node stands in front.
+// A whole node is in front.
 fn pass_node(
     alloc: Global,
     path: &mut Vec<yaml_step_t>,
@@ -118,7 +118,7 @@ fn pass_document(document: &mut u64) -> Result<(), AllocError>
     }
 }
 
-// The event stands in front.
+// The event is in front.
 // Out of line, so that the loop that compares stays short.
 #[inline(never)]
 fn pass(alloc: Global, place: &mut yaml_difference_t, event: EventRef<'_>) -> Result<(), AllocError>
@@ -162,7 +162,7 @@ impl Trail {
         }
     }
 
-    // The event stands before both inputs' next ones.
+    // The event is before both inputs' next ones.
     pub(crate) fn go_past(&mut self, event: EventRef<'_>, kept: bool) -> Result<(), AllocError>
         ensures { kept ≡ true → OnOk result (path_of self.new.place
             ≡ past_event (borrowed_body event.entry) (path_of self.old.place)) }

@@ -8,7 +8,7 @@ Text = Option (List ℕ)
 
 -- ---- events read back
 
--- what has begun: a collection's properties, what stands in it so far, before what follows, and a key without its value
+-- what has begun: a collection's properties, what is in it so far, before what follows, and a key without its value
 data Begun : Type 0 where
   in_sequence : Text → Text → (Nodes → Nodes) → Begun
   in_mapping : Text → Text → (Pairs → Pairs) → Begun

@@ -172,7 +172,7 @@ module _ (IsIn : List ℕ → Type 0) (r : Renaming) (one : (a b : List ℕ) →
 
 -- ---- documents
 
--- the end of a document, whatever stands before it
+-- the end of a document, whatever is before it
 document_ends : (IsIn : List ℕ → Type 0) (r : Renaming)
     (one : (a b : List ℕ) → IsIn a → IsIn b → r a ≡ r b → a ≡ b) (f : Bool) (bs cs : List EventBody)
     → ((l m : CoreLoading) → core_loads bs f l ≡ core_loads cs f m)

@@ -74,7 +74,7 @@ node_leads w start end (token.anchor n) s e r = (refl, (e, r))
 node_leads w start end (token.tag x y) s e r = (refl, (e, r))
 node_leads w start end b s e r = content_leads w None start end b s e r
 
--- a node inside brackets, with the states that stand below it from then on
+-- a node inside brackets, with the states that are below it from then on
 part_leads : (start end : yaml_mark_t) (b : TokenBody) (ys s : List State)
     → shape_of (ys ++ s) ≡ inside (dues (ys ++ s)) → AreRight (ys ++ s)
     → Leads (node_shape (ys ++ s)) (node_taken Flow start end b).item

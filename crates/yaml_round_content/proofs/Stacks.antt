@@ -50,7 +50,7 @@ shape_of (x ∷ s) = record { place = place_at x; due = due_at x (dues s) }
 abbrev pub node_shape : List State → Progress
 node_shape s = record { place = at.Node; due = behind_node (dues s) }
 
--- Between documents a state stands alone; in one a state stands above what is expected after its node or collection.
+-- Between documents a state is alone; in one a state is above what is expected after its node or collection.
 abbrev pub StandsAt : State → List State → Type 0
 StandsAt state.stream s = s ≡ []
 StandsAt state.first s = s ≡ []

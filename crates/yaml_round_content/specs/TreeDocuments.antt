@@ -128,7 +128,7 @@ abbrev mutual
       (item (placed_maybe ds n (IndentlessEntry side) s.to (spell_others others rest))
       (placed_others ds side others rest)) (ends_before rest)
 
-  -- before is the end of the indicator that stands before the node
+  -- before is the end of the indicator that is before the node
   pub placed_maybe : {w : Wants} → List TagDirective → tree.Maybe w → Site → yaml_mark_t
       → List Token → Content
   placed_maybe ds tree.left_out place before rest = nothing_at (mark_at place before (next rest))

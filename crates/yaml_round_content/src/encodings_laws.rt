@@ -9,7 +9,7 @@ pub fn laws_of_encodings()
     // refused, they are so by the same fault at the same place.
     ensures encodings_do_not_matter { EncodingsDoNotMatter }
     // So it is of characters that a stream may hold, spelled in any two encodings: named, told by their byte order marks, or UTF-8
-    // where none is named and no mark stands first.
+    // where none is named and no mark is first.
     ensures characters_are_enough { CharactersAreEnough }
 {}
 

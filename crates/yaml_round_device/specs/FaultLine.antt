@@ -22,7 +22,7 @@ abbrev pub place : yaml_mark_t → List ℕ
 place mark = codes " (line " ++ decimal (mark.line + 1) ++ codes ", column " ++ decimal
     (mark.column + 1) ++ codes ")"
 
--- the offset, and the value that stands there unless it is -1
+-- the offset, and the value that is there unless it is -1
 abbrev pub bytes_place : ℕ → ℤ → List ℕ
 bytes_place offset (negsuc zero) = codes " (byte " ++ decimal offset ++ codes ")"
 bytes_place offset number = codes " (byte " ++ decimal offset ++ codes ", value " ++ signed_decimal

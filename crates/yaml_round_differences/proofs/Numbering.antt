@@ -19,7 +19,7 @@ eq_yes n = grind (arith, nat_tests)
 eq_no : (n m : ℕ) → (n ≡ m → ⊥) → (n == m) ≡ false
 eq_no n m h = grind (arith, nat_tests)
 
--- one more stands behind
+-- one more is behind
 pub times_push : (l : ℕ) (xs : List ℕ) (x : ℕ)
     → times l (xs ++ x ∷ []) ≡ cond (l == x) (suc (times l xs)) (times l xs)
 times_push l [] x = refl

@@ -20,7 +20,7 @@ or_nothing : (o : Option ℕ) → or_else o None ≡ o
 or_nothing None = refl
 or_nothing (Some n) = refl
 
--- one more stands behind
+-- one more is behind
 place_push : (at : ℕ) (q x : List ℕ) (ys : List (List ℕ))
     → place_from at q (ys ++ x ∷ [])
     ≡ or_else (place_from at q ys) (cond (is_equal q x) (Some (at + length ys)) None)

@@ -23,7 +23,7 @@ abbrev pub told_cause : Pair → Option yaml_node_cause_t → List yaml_node_dif
 told_cause p None = []
 told_cause p (Some c) = record { first = p.first; second = p.second; cause = c; place = 0 } ∷ []
 
--- what stands at a place and has no partner
+-- what is at a place and has no partner
 abbrev pub alone_at : Pair → yaml_node_cause_t → ℕ → Option ℕ → List yaml_node_difference_t
 alone_at p c at None = record { first = p.first; second = p.second; cause = c; place = at } ∷ []
 alone_at p c at (Some other) = []

@@ -11,22 +11,22 @@ use Rattle.yaml_round_differences.specs.declared.matching.Numbered.{Numbered}
 abbrev pub is_equal : List ℕ → List ℕ → Bool
 is_equal xs ys = eq_by_cmp (slice_cmp nat_cmp) xs ys
 
--- how often a label stands among these
+-- how often a label is among these
 abbrev pub times : ℕ → List ℕ → ℕ
 times l [] = 0
 times l (x ∷ xs) = if l == x then suc (times l xs) else times l xs
 
--- each label, with how often it stands before it
+-- each label, with how often it is before it
 abbrev pub numbered : List ℕ → List ℕ → List (List ℕ)
 numbered before [] = []
 numbered before (l ∷ ls) = (l ∷ times l before ∷ []) ∷ numbered (before ++ l ∷ []) ls
 
--- the place, from a first one on, where that stands first
+-- the place, from a first one on, where that is first
 abbrev pub place_from : ℕ → List ℕ → List (List ℕ) → Option ℕ
 place_from at x [] = None
 place_from at x (y ∷ ys) = if is_equal x y then Some at else place_from (suc at) x ys
 
--- Of each label the place among the others with which it is matched: where it stands as often before.
+-- Of each label the place among the others with which it is matched: where it is as often before.
 abbrev pub matched : List ℕ → List ℕ → List (Option ℕ)
 matched own others = map (λ x. place_from 0 x (numbered [] others)) (numbered [] own)
 

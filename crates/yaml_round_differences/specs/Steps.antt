@@ -52,7 +52,7 @@ abbrev pub Meets : Pair → Walk → Walk → Type 0
 Meets p old new = IsWalk new × (((new.pairs.items ≡ old.pairs.items)
     × IsOneOf p.first p.second old.pairs.items) ⊎ (new.pairs.items ≡ old.pairs.items ++ p ∷ []))
 
--- Those of some pairs that differ stand in the walk; what came on is of them.
+-- Those of some pairs that differ are in the walk; what came on is of them.
 pub record Pushes (first second : ℤ → ℕ) (some old new : List Pair) : Type 0 where
   pub added : List Pair
   pub is : new ≡ old ++ added
@@ -70,7 +70,7 @@ pub record ComparesPair (nodes others : List Node) (labels : BothLabels) (p : Pa
   pub pushes : PushesOn labels (held_pairs (first_of labels) (second_of labels)
       (body_of_id nodes p.first) (body_of_id others p.second)) old new
 
--- The pairs in front were compared: these are told, and what they hold that differs stands in the
+-- The pairs in front were compared: these are told, and what they hold that differs is in the
 -- walk.
 pub record ComparesTo (nodes others : List Node) (first second : ℤ → ℕ) (done : ℕ)
     (pairs : List Pair) (list : List yaml_node_difference_t) : Type 0 where

@@ -7,7 +7,7 @@ ghost use Rattle.yaml_round_differences.specs.Matching.{ArePlaces, Counts, in_or
 use std::alloc::{AllocError, Global};
 use yaml_round_keys::{ShapeTable, narrowed};
 
-/// A label, with how often it stands before it.
+/// A label, with how often it is before it.
 #[derive(Clone, Copy)]
 pub struct Numbered {
     label: u32,
@@ -41,7 +41,7 @@ fn count(alloc: Global, counts: &mut ShapeTable, label: u32) -> Result<u32, Allo
     Ok(number)
 }
 
-// Each label, with how often it stands before it.
+// Each label, with how often it is before it.
 #[tactic(auto, using(crate::proofs::Numbering::all_numbered))]
 fn number_labels(alloc: Global, labels: &[u32]) -> Result<Vec<Numbered>, AllocError>
     ensures { IfOk result (λ names. map name_of names.items ≡ numbered [] labels.now) }

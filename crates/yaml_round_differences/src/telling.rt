@@ -97,7 +97,7 @@ pub(crate) fn tell_cause(
     }
 }
 
-// Tells what stands at a place, where it has no partner.
+// Tells what is at a place, where it has no partner.
 fn tell_alone_at(
     told: &mut Vec<yaml_node_difference_t>,
     pair: Pair,

@@ -34,7 +34,7 @@ fn pair_name(alloc: Global, pair: Pair) -> Result<Vec<u32>, AllocError>
     Ok(name)
 }
 
-// What stands at a place, with the one with which it is matched.
+// What is at a place, with the one with which it is matched.
 #[tactic(auto, using(crate::proofs::Walking::partner_got, crate::proofs::Walking::partner_not_got))]
 fn partner_of(own: &[i32], at: usize, others: &[i32], partner: Option<u32>) -> Option<Pair>
     requires { at < length own.now }

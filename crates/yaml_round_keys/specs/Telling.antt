@@ -147,7 +147,7 @@ pub record HasMet (label : ℤ → ℕ) (slots : List Slot) (mapping : ℕ) (bef
 abbrev pub HasRoom : List Node → Ranks → List Slot → Type 0
 HasRoom nodes r slots = (a : ℤ) → IsId (length nodes) a → label_by r a < length slots
 
--- a key was met: the first with its label stands there
+-- a key was met: the first with its label is there
 abbrev pub Meets : List Slot → ℕ → ℕ → ℤ → Option ℤ → List Slot → Type 0
 Meets old mapping l key found new = (found ≡ met_with old mapping l)
     × (new ≡ met_by found old l (record { mapping = mapping; key = key }))

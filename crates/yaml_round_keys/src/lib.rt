@@ -1,4 +1,4 @@
-//! Keys that stand in a mapping more than once.
+//! Keys that are in a mapping more than once.
 #![tactic(auto)]
 
 mod apart;

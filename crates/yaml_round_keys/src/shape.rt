@@ -20,7 +20,7 @@ pub fn rank_of(ranks: &[u32], id: i32) -> u32
     }
 }
 
-/// A number as it stands in a shape. Larger ones are refused as memory is.
+/// A number as it is in a shape. Larger ones are refused as memory is.
 pub fn narrowed(number: usize) -> Result<u32, AllocError>
     ensures { IfOk result (λ n. n ≡ number) }
 {
@@ -31,7 +31,7 @@ pub fn narrowed(number: usize) -> Result<u32, AllocError>
     }
 }
 
-/// Puts the bytes of a text behind what stands in a room.
+/// Puts the bytes of a text behind what is in a room.
 pub(crate) fn put_widened(room: &mut Vec<u32>, text: &[u8]) -> Result<(), AllocError>
     ensures { OnOk result (room.new.items ≡ room.old.items ++ text.now) }
 {

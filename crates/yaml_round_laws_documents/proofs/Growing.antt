@@ -298,7 +298,7 @@ dress_gives w (Some d) c rest more = refl
 
 -- ---- contents
 
--- The tokens begin with a content of that shape: whatever its properties settle to stands before the events in it.
+-- The tokens begin with a content of that shape: whatever its properties settle to is before the events in it.
 pub record Contained (w : Wants) (ds : List TagDirective) (shape : Shape) (R : Reads) (ts : List Token) (bs : List TokenBody) : Type 0 where
   pub tree : trees.Content w
   pub rest : List Token
@@ -348,7 +348,7 @@ scalar_contained w ds value s bs us e =
     let t = take us (token.scalar value s) bs e in
     record { tree = trees.scalar t.span value s; rest = t.rest; left = t.left; said = λ o b settles. tells ds t (node_at o (item.scalar value s) t.span.from t.span.to) b (settles t.span.from t.span.to) }
 
--- What stands in brackets.
+-- What is in brackets.
 pub bracketed : (b : Brackets) (w : Wants) (ds : List TagDirective) (R : Reads) (us : List Token)
     (cs bs : List TokenBody) → ((ts : List Token) → token_bodies ts ≡ cs → Filled b ds R ts bs)
     → token_bodies us ≡ opening b ∷ cs → Contained w ds (flow_shape b) R us bs
@@ -363,7 +363,7 @@ end_settles : (b : Brackets) (from to : yaml_mark_t) (D : Directives)
 end_settles brackets.Sequence from to D = refl
 end_settles brackets.Mapping from to D = refl
 
--- Nothing stands before a closing bracket.
+-- Nothing is before a closing bracket.
 pub brackets_end : (b : Brackets) (ds : List TagDirective) (ts : List Token) (bs : List TokenBody)
     → token_bodies ts ≡ closing b ∷ bs → Filled b ds (λ es. end_event b ∷ es) ts bs
 brackets_end b ds ts bs e =
@@ -377,7 +377,7 @@ brackets_done b ds ts bs e =
     let t = take ts (closing b) bs e in
     record { tree = end_more t.span; rest = t.rest; left = t.left; said = tells ds t (trees.event_at (end_event b) t.span.from t.span.to) (end_event b) (λ D h. end_settles b t.span.from t.span.to D) }
 
--- A comma is followed by what stands after it.
+-- A comma is followed by what is after it.
 pub comma_follows : (b : Brackets) (ds : List TagDirective) (R : Reads) (cs bs : List TokenBody)
     → ((ts : List Token) → token_bodies ts ≡ cs → Filled b ds R ts bs)
     → (ts : List Token) → token_bodies ts ≡ token.flow_entry ∷ cs → Followed b ds R ts bs

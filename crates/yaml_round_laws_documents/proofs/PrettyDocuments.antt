@@ -84,7 +84,7 @@ closed s implicit kept ds ts b =
           record { events = x.events ∙ ap (λ (y : Bool). event.document_end y ∷ documents_reads s false ds) flag; ending = x.ending };
     }
 
--- what stands after a document's root
+-- what is after a document's root
 abbrev pub After : Settings → Document → List Document → List TokenBody
 After s d ds = end_bodies (not d.implicit_end) (documents_bodies s false d.implicit_end (is_root_kept s d) ds)
 

@@ -182,7 +182,7 @@ scalar_left_out w at before ds false style.Folded anchor tag value quoted none b
 
 -- ==== Trees from the bodies of tokens.
 
--- ---- what may stand at a place
+-- ---- what may be at a place
 
 abbrev side_of : Part → Option Side
 side_of part.Item = None

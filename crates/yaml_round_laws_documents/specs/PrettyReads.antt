@@ -59,7 +59,7 @@ unfoldable mutual
 abbrev pub root_reads : Settings → Document → List EventBody → List EventBody
 root_reads s d es = node_reads (context_in s d) false part.Item d.root es
 
--- by whether none went before; a document ends implicitly where no `...` stands after it
+-- by whether none went before; a document ends implicitly where no `...` is after it
 unfoldable pub documents_reads : Settings → Bool → List Document → List EventBody
 documents_reads s first [] = event.stream_end ∷ []
 documents_reads s first (d ∷ ds) =

@@ -39,7 +39,7 @@ abbrev pub begins_directed : List Document → Bool
 begins_directed [] = false
 begins_directed (d ∷ ds) = is_directed d.opening
 
--- a document ends implicitly where no `...` stands after it
+-- a document ends implicitly where no `...` is after it
 unfoldable pub documents_reads : List Document → List EventBody
 documents_reads [] = event.stream_end ∷ []
 documents_reads (d ∷ ds) =

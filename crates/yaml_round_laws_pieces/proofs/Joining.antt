@@ -1,4 +1,4 @@
--- Pieces one after another, and what stands in for what was written.
+-- Pieces one after another, and what is in for what was written.
 use Rattle.std.proofs.Common.{◌≡◌, suc, ◌+◌, List, [], ◌∷◌, ◌++◌, length, refl, sym, ap, ◌∙◌, arith, append_assoc, append-nil, length-append, map}
 use Rattle.yaml_round_laws_pieces.proofs.Words.{Encoding, Settings, Item, letter, deep, char_bytes, encode, Event, let_out, laid, Stand, first_stand, added, whole, LeadsToStand, joined, Cuts, no_piece, CuttingsAreWholes, CutsAreThere, FrontsAreShown, StandInsStand}
 use Rattle.yaml_round_laws_pieces.specs.Pieces.{piece}

@@ -71,7 +71,7 @@ between_documents first unended column white bare kept = record {
   held = [];
 }
 
--- Before a document it doesn't count whether the last one's breaks are kept: a document that stands in for others has to end as
+-- Before a document it doesn't count whether the last one's breaks are kept: a document that is in for others has to end as
 -- the last of them did, and that is all.
 abbrev pub DocumentsStandByEnds : Type 0
 DocumentsStandByEnds = (s : Settings) (first unended : Bool) (column : ℕ) (white bare k l : Bool)

@@ -54,7 +54,7 @@ scalar_cost s i ds anchor (Some t) plain value =
       | inr e ↦ rw e (omega arith)
     ]
 
--- and so much room as the node has that they stand before
+-- and so much room as the node has that they are before
 properties_cost : (s : Settings) (i t : ℕ) (ds : List TagDirective)
     → ascii s 27 + lent s.encoding ds ≤ t → (d : PropertyTokens) (rest : List Token)
     → tagged_bytes s ds (Some (properties_of d)) + ascii s 5 + weigh (cost s i t) rest ≤ weigh

@@ -6,7 +6,7 @@ use Rattle.yaml_scan_decode.specs.declared.utf16.ByteOrder.TheVariants.{LowFirst
 use Rattle.yaml_scan_decode.proofs.DecodeLemmas.{utf8_stands}
 use Rattle.yaml_scan_history.proofs.SpellingLemmas.{allowed_scalar}
 
--- a character that stands there: one of Unicode, and so long at most
+-- a character that is there: one of Unicode, and so long at most
 record Spelt (n k p : ℕ) (c : Character) : Type 0 where
   scalar : IsScalar c.code
   inside : p + c.width ≤ n

@@ -183,7 +183,7 @@ begun x implicit d is g h root start opens e =
     (item_says g (h ∷ root) None no_directives no_directives (event.stream_start x) start) inner in
     record { events = whole.events ∙ ap (λ (b : Bool). event.stream_start x ∷ event.document_start None [] b ∷ body) (sym is); ending = whole.ending }
 
--- by whether `---` stands in front
+-- by whether `---` is in front
 started : (implicit : Bool) (x : yaml_encoding_t) (d : Document) → d.opening.implicit ≡ implicit
     → (ts : List Token)
     → token_bodies ts ≡ token.stream_start x

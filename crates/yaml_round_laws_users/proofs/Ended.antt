@@ -94,7 +94,7 @@ told_both x a t w f front mark goes over tail behind mine others so refused low 
           ]
     ]
 
--- by what the scanner says of what stands before the line
+-- by what the scanner says of what is before the line
 by_front : (x : yaml_encoding_t) (a line b : List ℕ) → IsCut a line → IsCut a (line ++ b)
     → IsEndLine line
     → (f : Fault) → (reading_in x (a ++ line)).ending ≡ Some f → f.problem_mark.index < length a

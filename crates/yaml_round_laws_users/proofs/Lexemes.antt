@@ -129,7 +129,7 @@ white_starts b w =
           cc
     ]
 
--- there the end may stand alone
+-- there the end may be alone
 busy_of : Option Kind → ℕ
 busy_of None = 0
 busy_of (Some k) = one_if (not (is_end k))

@@ -37,7 +37,7 @@ behind_front : (front : List EventBody) (a b : EventBody) (x y : List EventBody)
 behind_front [] a b x y e = firsts a b x y e
 behind_front (f ∷ front) a b x y e = behind_front front a b x y (tails f f (front ++ a ∷ x) (front ++ b ∷ y) e)
 
--- where other events stand in the same places, they say the same
+-- where other events are in the same places, they say the same
 said_alike : (x y u v : Told) → x ≡ u → y ≡ v → say u ≡ say v → say x ≡ say y
 said_alike x y u v p q e = ap (λ (t : Told). say t) p ∙ e ∙ sym (ap (λ (t : Told). say t) q)
 

@@ -23,7 +23,7 @@ all_white (b ∷ bs) h =
 
 -- ==== What the bytes of plain values are not.
 
--- it stands between `+` and `z`
+-- it is between `+` and `z`
 record Among (b : ℕ) : Type 0 where
   pub low : 42 < b
   pub high : b < 123
@@ -72,7 +72,7 @@ calm text p h =
 no_column : (n : ℕ) → (n + 1 == 0) ≡ false
 no_column n = grind (arith, nat_tests)
 
--- no `---` and no `...` stands after such a byte
+-- no `---` and no `...` is after such a byte
 no_indicator : (text : List ℕ) (p : ℕ) → IsCalm text p → is_document_indicator text (p + 1) ≡ false
 unfolding is_document_indicator
 no_indicator text p c = let e = column_more text p c.ends c.starts in rw (e, no_column (column_at text p)) refl

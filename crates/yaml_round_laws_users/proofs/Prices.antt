@@ -290,7 +290,7 @@ body_pays u b wide _ p q some f = omega arith
 more_pays : (b o x k n : ℕ) → x ≤ (b + b) * k → o ≤ b * n → o + x ≤ (b + b) * (k + n)
 more_pays b o x k n w v = omega (arith, w, v)
 
--- a mapping opens outside of brackets, where a blank stands after what opens it
+-- a mapping opens outside of brackets, where a blank is after what opens it
 key_pays : (b d o x k : ℕ) → x ≤ (b + b) * k → o ≤ outer d b → o + x ≤ (b + b) * (k + outside d)
 key_pays b zero o x k w v = omega (arith, w, v)
 key_pays b (suc d) o x k w v = omega (arith, w, v)

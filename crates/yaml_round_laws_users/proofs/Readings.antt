@@ -145,7 +145,7 @@ nothing_moved : (d n : ℕ) (ds : Directives)
 unfolding run feed
 nothing_moved d n ds = (refl, tt)
 
--- nothing stands after the stream's end
+-- nothing is after the stream's end
 emptied : (s : List State) (ds : Directives) → Stands s ds → (m e : yaml_mark_t)
     → (is : List RawEvent)
     (z : List State) → feed s (end_at m e) ≡ go is z → z ≡ []

@@ -101,7 +101,7 @@ pub left_starts : (text : List ℕ) (p : ℕ) (bs : List ℕ) → Left text p bs
 left_starts text p [] l h = absurd (true≢false (sym h))
 left_starts text p (b ∷ bs) l h = solid_starts text p b (left_first text p b bs l) h
 
--- ---- what stands after a value and its white
+-- ---- what is after a value and its white
 
 -- in brackets a comma or a closing one; outside the end
 abbrev pub Behind : ℕ → List ℕ → Type 0
@@ -158,7 +158,7 @@ indent_none = refl
 right_none : (d c : ℕ) → IsRight d [] c
 right_none d c = inr (let z = indent_none in omega (arith, z))
 
--- a lexeme stands at the place
+-- a lexeme is at the place
 record Stands (text : List ℕ) (p d : ℕ) (k : Kind) (w : WordText) : Type 0 where
   starts : begins_lexeme text p ≡ true
   kind : kind_at (nat_lt 0 d) text p ≡ Some k
@@ -214,7 +214,7 @@ sign_stands : (b : ℕ) (k : Kind) (body : TokenBody) (d : ℕ) → IsSign b k b
     → (text : List ℕ) (p : ℕ) → byte text p ≡ b → Stands text p d k (sign body (p + 1))
 sign_stands b k body d is text p h = record { starts = solid_starts text p b h is.solid; kind = is.kind text p h; word = is.word text p }
 
--- in brackets a `:` stands alone whatever follows
+-- in brackets a `:` is alone whatever follows
 colon_kind : (flow alone : Bool) → flow ≡ true → indicator_of flow alone 58 ≡ Some kinds.ValueMark
 unfolding indicator_of
 colon_kind true alone e = refl

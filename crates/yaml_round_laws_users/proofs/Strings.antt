@@ -99,7 +99,7 @@ number_plain n (hw, hf, he) =
     let all = all_more is_value_byte (sign_bytes sign) (n.whole ++ rest) (signs_value sign) (all_more is_value_byte n.whole rest (digits_value n.whole (whole_digits n.whole hw)) (all_more is_value_byte (fraction_bytes n.fraction) (exponent_bytes n.exponent) (fraction_value n.fraction hf) (exponent_value n.exponent he))) in
     rw (begins_number n.negative n.whole rest hw, all) refl
 
--- ---- what stands first
+-- ---- what is first
 
 -- printed ASCII, but `#`
 abbrev pub is_solid : ℕ → Bool
@@ -315,7 +315,7 @@ text_fine bytes t is u =
     let back : Fine t.back = subst Fine (append-nil t.back) (white_on t.back [] is.back (no_bytes is_allowed)) in
     subst Fine (sym is.spelled) (white_on t.front (value_bytes t.value t.back) is.front (value_fine t.value is.value u.value t.back back))
 
--- ---- no mark stands first
+-- ---- no mark is first
 
 abbrev begins_low : List ℕ → Bool
 begins_low [] = false

@@ -126,7 +126,7 @@ front_depth [] fs n w = absurd (omega arith)
 front_depth (x ∷ es) fs zero w = refl
 front_depth (x ∷ es) fs (suc n) w = front_depth es fs n (omega arith)
 
--- the newest lexeme is a depth's candidate only where it stands there
+-- the newest lexeme is a depth's candidate only where it is there
 newest_depth : (d : ℕ) (l : Lexeme) (h : List Lexeme) (c : Candidate) → candidate d (l ∷ h) ≡ Some c
     → (l.depth ≡ d) ⊎ (candidate d h ≡ Some c)
 unfolding candidate

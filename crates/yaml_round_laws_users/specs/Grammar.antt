@@ -1,5 +1,5 @@
 -- The grammar of JSON (RFC 8259): a text by its parts, and the bytes that spell it in UTF-8. The
--- bytes of a part stand before those that follow.
+-- bytes of a part are before those that follow.
 use Rattle.std.specs.Prelude.{◌≡◌, ◌<◌, ℕ, ◌+◌, ◌*◌, Bool, true, false, not, ◌&&◌, ◌||◌, ◌==◌, nat_lt, nat_le, if◌then◌else◌, List, [], ◌∷◌, ◌++◌, Option, Some, None, codes, encode_utf8}
 use Rattle.std.specs.List.{list_all}
 use Rattle.yaml_scan_history.specs.scan_model.Ascii as ascii
@@ -91,7 +91,7 @@ IsNumber n = (is_whole n.whole ≡ true) × IsFraction n.fraction × IsExponent 
 
 -- ---- strings
 
--- what stands after a backslash for one character
+-- what is after a backslash for one character
 pub data Short : Type 0 where
   quote : Short
   backslash : Short

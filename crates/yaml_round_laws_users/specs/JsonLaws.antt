@@ -17,7 +17,7 @@ may_be_utf8 YAML_UTF16LE_ENCODING = false
 may_be_utf8 YAML_UTF16BE_ENCODING = false
 
 -- The input is accepted, and its content is that value. Its events are shaped as JSON: strings are
--- double quoted, literals and numbers plain, and all else stands in brackets.
+-- double quoted, literals and numbers plain, and all else is in brackets.
 pub record IsReadAsValue (from : yaml_encoding_t) (input : List ℕ) (v : Json) : Type 0 where
   pub reading : PlainReading from input (Ok (json_content v ∷ []))
   pub shaped : IsJsonInput from input

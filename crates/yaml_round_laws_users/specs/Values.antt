@@ -105,7 +105,7 @@ quoted_scalar v = record {
 abbrev pub flow_start : Start
 flow_start = record { anchor = None; tag = None; implicit = true; flow = true }
 
--- Strings are double quoted, literals and numbers plain, and all else stands in brackets.
+-- Strings are double quoted, literals and numbers plain, and all else is in brackets.
 abbrev mutual
   pub json_node : Json → styled.Node
   json_node (bare v) = styled.scalar_node (plain_scalar v)

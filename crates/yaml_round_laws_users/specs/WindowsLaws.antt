@@ -76,7 +76,7 @@ RefusedFrontsAreRead = (encoding : yaml_encoding_t) (front rest : List ℕ) → 
     → (events_in encoding (front ++ rest) ≡ events_in encoding front)
     × ((reading_in encoding (front ++ rest)).ending ≡ Some f)
 
--- Where a front is refused with a fault that stands before its end, by whomever, the whole has its events and its fault.
+-- Where a front is refused with a fault that is before its end, by whomever, the whole has its events and its fault.
 abbrev pub EarlyFaultsAreRead : Type 0
 EarlyFaultsAreRead = (encoding : yaml_encoding_t) (front rest : List ℕ) → IsCut front rest
     → is_document_start rest 0 ≡ true
@@ -85,7 +85,7 @@ EarlyFaultsAreRead = (encoding : yaml_encoding_t) (front rest : List ℕ) → Is
     → (events_in encoding (front ++ rest) ≡ events_in encoding front)
     × ((reading_in encoding (front ++ rest)).ending ≡ Some f)
 
--- So it is where a front that ends in a line `...` is refused with a fault that stands before that line, whatever follows.
+-- So it is where a front that ends in a line `...` is refused with a fault that is before that line, whatever follows.
 abbrev pub EndedFaultsAreRead : Type 0
 EndedFaultsAreRead = (encoding : yaml_encoding_t) (front rest : List ℕ)
     → (at : IsEndCut front rest)

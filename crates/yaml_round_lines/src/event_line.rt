@@ -141,7 +141,7 @@ fn push_event(line: &mut Vec<u8>, event: EventRef<'_>) -> Result<(), AllocError>
 /// Pushes the line that tells an event, with a line feed at its end: `+STR`, `-STR`, `+DOC` (` ---` where it is explicit),
 /// `-DOC` (` ...` where it is explicit), `=ALI *name`, `+SEQ`, `-SEQ`, `+MAP`, `-MAP`, `=VAL`; after a node's word its
 /// ` &anchor` and ` <tag>`, after `=VAL` a space, the style's indicator (`: ' " | >`) and the value. In tags and values a
-/// backslash, 00, 08, 09, 0A and 0D are escaped. After an error what stands in the line counts for nothing.
+/// backslash, 00, 08, 09, 0A and 0D are escaped. After an error what is in the line counts for nothing.
 pub fn yaml_push_event_line_ref(line: &mut Vec<u8>, event: EventRef<'_>) -> Result<(), AllocError>
     ensures { OnOk result (line.new.items ≡ line.old.items
         ++ event_line (borrowed_body event.entry)) }

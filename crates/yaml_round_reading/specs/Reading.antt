@@ -13,7 +13,7 @@ pub use Rattle.yaml_round_content.specs.Events.{emitter_events, contents}
 
 -- ---- events
 
--- the empty event, which stands after the last one
+-- the empty event, which is after the last one
 abbrev pub is_empty : EventBody → Bool
 is_empty event.no = true
 is_empty body = false

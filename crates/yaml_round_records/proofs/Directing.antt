@@ -11,7 +11,7 @@ use Rattle.yaml_round_records.specs.Listing.{Grows, PutsDirective, AppendsDirect
 use Rattle.std.proofs.lemmas.List.{append-nil, map_more, take_all, length-map}
 use Rattle.yaml_round_records.proofs.Placing.{put_on, grows_on, grows_itself, part_stands}
 
--- the parts of a list that something stands before
+-- the parts of a list that something is before
 record Parted (o : Option TagDirective) (p : Option (List TagDirective)) (ts : List TagDirective) : Type 0 where
   first : TagDirective
   others : List TagDirective

@@ -38,7 +38,7 @@ mark_stays text p h first =
     let none : break_width text p ≡ 0 = no_break (byte text p) _ _ (omega arith) (omega arith) (omega arith) (omega arith) in
     ap (λ (s : GapStep). s.place) (stays true text p (omega arith) (omega arith) (omega arith) (rw none refl) first)
 
--- a break stands inside the text
+-- a break is inside the text
 pub width_inside : (text : List ℕ) (p : ℕ) → p ≤ length text → p + break_width text p ≤ length text
 width_inside text p h =
     elim (cases_lt 0 (break_width text p)) [

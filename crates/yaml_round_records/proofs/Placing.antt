@@ -30,7 +30,7 @@ long : {X : Type 0} (old text more : List X)
     → nat_le (length old + length text) (length ((old ++ text) ++ more)) ≡ true
 long old text more = grind (arith, common_steps)
 
--- a part that stands after the first one
+-- a part that is after the first one
 pub part_stands : {X : Type 0} (old text more : List X) (s : yaml_c_span) → s.at ≡ length old
     → s.len ≡ length text
     → part_at ((old ++ text) ++ more) s ≡ Some text

@@ -122,7 +122,7 @@ means_mapping : (bytes : List ℕ) (list : List yaml_c_directive) (r : yaml_c_ev
 unfolding body_meant kind_meant
 means_mapping bytes list r a t i s k ha ht hs hi = rw (k, ha, ht, hs, hi) refl
 
--- the record of an event other than a document's start, whose texts stand after these bytes
+-- the record of an event other than a document's start, whose texts are after these bytes
 abbrev record_at : List ℕ → EventBody → yaml_c_mark → yaml_c_mark → yaml_c_event
 record_at o b s e = with_texts (length o) b (base_record b s e)
 

@@ -5,7 +5,7 @@ use Rattle.yaml_round_records.specs.Characters.{characters_before, has_tag}
 use Rattle.yaml_round_records.specs.declared.record.yaml_c_mark.{yaml_c_mark}
 use Rattle.yaml_round_records.specs.declared.record.yaml_c_event.{yaml_c_event}
 
--- a mark with the characters that stand before it
+-- a mark with the characters that are before it
 abbrev pub mark_counted : List ℕ → yaml_c_mark → yaml_c_mark
 mark_counted text m = record m { character = characters_before text m.index }
 

@@ -24,11 +24,11 @@ pub record Grows {X : Type 0} (old new : List X) : Type 0 where
   pub more : List X
   pub is : new ≡ old ++ more
 
--- a text that stands there
+-- a text that is there
 abbrev pub span_at : ℕ → List ℕ → yaml_c_span
 span_at n text = record { at = n; len = length text }
 
--- a text stands at the end
+-- a text is at the end
 pub record PutsText (old text new : List ℕ) (s : yaml_c_span) : Type 0 where
   pub bytes : new ≡ old ++ text
   pub span : s ≡ span_at (length old) text
@@ -39,12 +39,12 @@ HoldsText bytes s text = (more : List ℕ) → part_at (bytes ++ more) s ≡ Som
 
 -- ---- the record of an event
 
--- the span of a text that stands there, where it isn't left out
+-- the span of a text that is there, where it isn't left out
 abbrev pub optional_span : ℕ → Option (List ℕ) → yaml_c_span
 optional_span n None = no_span
 optional_span n (Some t) = span_at n t
 
--- a record with a node's properties, which stand there one after another
+-- a record with a node's properties, which are there one after another
 abbrev pub with_properties : ℕ → Option (List ℕ) → Option (List ℕ) → yaml_c_event → yaml_c_event
 with_properties n a t r = record r {
   has_anchor = flag_told (is_some a);
@@ -53,7 +53,7 @@ with_properties n a t r = record r {
   tag = optional_span (n + length (optional_text a)) t;
 }
 
--- a record with the texts of an event, which stand there one after another
+-- a record with the texts of an event, which are there one after another
 abbrev pub with_texts : ℕ → EventBody → yaml_c_event → yaml_c_event
 with_texts n (event.alias a) r = record r { anchor = span_at n a }
 with_texts n (event.scalar a t v p q s) r = record (with_properties n a t r) {
@@ -110,7 +110,7 @@ placed b s e = record { body = b; start_mark = s; end_mark = e }
 
 -- ---- directives
 
--- a directive's texts stand there
+-- a directive's texts are there
 pub record PutsDirective (old : List ℕ) (t : TagDirective) (new : List ℕ)
     (d : yaml_c_directive) : Type 0 where
   pub grows : Grows old new
@@ -128,7 +128,7 @@ pub record AppendsDirectives (bytes : List ℕ) (old : List yaml_c_directive) (t
   pub is : new ≡ old ++ added
   pub hold : HoldDirectives bytes added ts
 
--- directives stand at the end of the list
+-- directives are at the end of the list
 pub record AddsDirectives (old : Listing) (ts : List TagDirective) (new : Listing) : Type 0 where
   pub bytes : Grows old.bytes.items new.bytes.items
   pub put : new.bytes.items ≡ old.bytes.items ++ directive_texts ts
@@ -156,7 +156,7 @@ abbrev pub HoldsBody : List ℕ → List yaml_c_directive → yaml_c_event → E
 HoldsBody bytes list r b = (more : List ℕ) (others : List yaml_c_directive)
     → body_meant (bytes ++ more) (list ++ others) r ≡ Some b
 
--- a record was made of an event, whose texts and directives stand in the listing
+-- a record was made of an event, whose texts and directives are in the listing
 pub record Records (old : Listing) (e : Event) (new : Listing) (r : yaml_c_event) : Type 0 where
   pub bytes : Grows old.bytes.items new.bytes.items
   pub directives : Grows old.directives.items new.directives.items
@@ -169,7 +169,7 @@ pub record Records (old : Listing) (e : Event) (new : Listing) (r : yaml_c_event
   pub end : r.end ≡ mark_told e.end_mark
   pub alone : r ≡ bare e.body r
 
--- the record of an event stands at the end of the list
+-- the record of an event is at the end of the list
 pub record AddsRecord (old : Listing) (e : Event) (new : Listing) : Type 0 where
   pub bytes : Grows old.bytes.items new.bytes.items
   pub directives : Grows old.directives.items new.directives.items

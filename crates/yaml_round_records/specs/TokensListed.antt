@@ -1,4 +1,4 @@
--- Tokens as records: what each record has, and where its texts stand in the block of bytes.
+-- Tokens as records: what each record has, and where its texts are in the block of bytes.
 use Rattle.std.specs.Prelude.{◌≡◌, ◌⊎◌, ◌+◌, ℕ, ℤ, pos, List, [], ◌∷◌, ◌++◌, length, None, Some, Result, Ok, Err}
 use Rattle.yaml_scan.specs.declared.yaml_fault_t.{yaml_fault_t}
 use Rattle.yaml_scan.specs.Tokens.{Token, TokenBody}
@@ -34,7 +34,7 @@ plain kind start end = record {
   end = end;
 }
 
--- one with a text that stands there, and one with two of them, one after the other
+-- one with a text that is there, and one with two of them, one after the other
 abbrev pub with_value : ℕ → List ℕ → yaml_c_token → yaml_c_token
 with_value n text r = record r { value = span_at n text }
 
@@ -114,7 +114,7 @@ pub record MakesRecord (old : List ℕ) (t : Token) (new : List ℕ) (r : yaml_c
   pub bytes : new ≡ old ++ body_texts t.body
   pub is : r ≡ record_at (length old) t
 
--- a token's record stands after the others
+-- a token's record is after the others
 pub record Adds (old : TokenListing) (t : Token) (new : TokenListing) : Type 0 where
   pub bytes : new.bytes.items ≡ old.bytes.items ++ body_texts t.body
   pub tokens : new.tokens.items ≡ old.tokens.items ++ record_at (length old.bytes.items) t ∷ []

@@ -7,7 +7,7 @@ ghost use Rattle.yaml_round_records.specs.Characters.{characters_before, Counts}
 
 use yaml_scan_model::starts;
 
-/// How many characters stand before a place in a text, from which the next one is counted. Where each character of the text is a
+/// How many characters are before a place in a text, from which the next one is counted. Where each character of the text is a
 /// byte, none is counted.
 #[derive(Drop)]
 pub(crate) struct Count {
@@ -60,7 +60,7 @@ impl Count {
         self.place = place;
     }
 
-    /// How many characters of the text stand before a place; after its end, all.
+    /// How many characters of the text are before a place; after its end, all.
     // Inlined: mostly each character is a byte.
     #[inline(always)]
     pub(crate) fn characters_before(&mut self, text: &[u8], place: u64) -> u64
@@ -77,7 +77,7 @@ impl Count {
     }
 }
 
-/// How many characters of a text stand before a place; after its end, all.
+/// How many characters of a text are before a place; after its end, all.
 pub fn characters_before(text: &[u8], place: u64) -> u64
     ensures { result ≡ characters_before text.now place }
 {

@@ -33,7 +33,7 @@ pub struct StandRecords {
     pub bytes: Vec<u8>,
 }
 
-/// A text, and where the emitter stands after it.
+/// A text, and where the emitter is after it.
 #[derive(Drop)]
 pub struct Onward {
     pub text: Vec<u8>,
@@ -119,7 +119,7 @@ fn emitter_from(
     }
 }
 
-// Where an emitter stands as C reads it.
+// Where an emitter is as C reads it.
 fn place_told(stand: yaml_emitter_stand_t) -> yaml_c_place
     ensures { TellsStandPlace stand result }
 {

@@ -12,7 +12,7 @@ pub struct yaml_c_mark {
     pub index: u64,
     pub line: u64,
     pub column: u64,
-    /// How many characters stand before it, where they are counted.
+    /// How many characters are before it, where they are counted.
     pub character: u64,
 }
 

@@ -8,7 +8,7 @@ ghost use Rattle.yaml_round_records.specs.Characters.{behind_gap, stands_behind,
 use yaml_scan::IS_BOM;
 use yaml_scan_text::{break_width, byte, line_end};
 
-// What stands after that many bytes of a text.
+// What is after that many bytes of a text.
 fn past(text: &[u8], count: u64) -> &[u8]
     ensures { result.now ≡ drop count text.now }
 {
@@ -37,7 +37,7 @@ fn past_mark(text: &[u8], at: usize) -> usize
     0
 }
 
-// Past the blank, the comment or the break that stands there; the same place, where a lexeme does.
+// Past the blank, the comment or the break that is there; the same place, where a lexeme does.
 #[tactic(auto, using(crate::proofs::Gaps::blank_step, crate::proofs::Gaps::comment_step, crate::proofs::Gaps::other_step, crate::proofs::Gaps::width_inside))]
 fn past_white(text: &[u8], at: usize) -> usize
     requires { at ≤ length text.now }
@@ -64,7 +64,7 @@ fn behind_gap(text: &[u8]) -> u8
     byte(text, at)
 }
 
-// Whether the tag's `!` stands after an anchor.
+// Whether the tag's `!` is after an anchor.
 // Out of line: few nodes have an anchor.
 #[cold]
 #[inline(never)]
@@ -85,7 +85,7 @@ fn begins_tag(part: &[u8], name: u64) -> bool
     }
 }
 
-/// Whether the node between two places in a text has a tag, which stands first or after the anchor; `name` is the length of the
+/// Whether the node between two places in a text has a tag, which is first or after the anchor; `name` is the length of the
 /// anchor's name.
 pub(crate) fn has_tag(text: &[u8], start: u64, end: u64, name: u64) -> bool
     ensures { result ≡ has_tag text.now start end name }

@@ -10,7 +10,7 @@ pub fn settled_is_told()
 {}
 
 /// The tokens of a session that begins, and the fault that ends them, by looking back from each lexeme of the text that the
-/// input's bytes spell: KEY stands before a lexeme exactly if a later `:` finds it.
+/// input's bytes spell: KEY is before a lexeme exactly if a later `:` finds it.
 pub fn tokens_look_back()
     ensures { TokensLookBack }
 {}

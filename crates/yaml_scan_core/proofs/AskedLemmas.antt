@@ -290,7 +290,7 @@ pub taken_skipped : (s : Scanner) (k : Kind) (row : Row) → IsFront k s → Has
     → HasTaken (record s { row = row }) (front_of (to_come s).tokens).body
 taken_skipped s k row f h own = has_taken s k row f own (h.own own)
 
--- one that may stand before no lexeme's own is its own
+-- one that may be before no lexeme's own is its own
 pub own_skipped : (s : Scanner) (k : Kind) → Waits s → IsFront k s → may_lead k ≡ false
     → (front_lexeme s).front ≡ (front_lexeme s).kind
 own_skipped s k w f no_lead = (first_by s k w.rests f).plain (ap may_lead (sym f.kind) ∙ no_lead)
@@ -330,7 +330,7 @@ starts s row some going = record {
 
 -- ---- the lexeme that is read
 
--- what stands at the front of the row
+-- what is at the front of the row
 pub front_read : (s : Scanner) (x : Lexeme) → s.row.next < length s.row.lexemes.items
     → x ≡ get_or s.row.lexemes.items s.row.next x → x.front ≡ (front_lexeme s).front
 front_read s x some is =

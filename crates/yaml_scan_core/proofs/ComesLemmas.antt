@@ -1,4 +1,4 @@
--- What comes where a lexeme of a kind stands after the gap: the lexeme, or what is wrong.
+-- What comes where a lexeme of a kind is after the gap: the lexeme, or what is wrong.
 use Rattle.std.proofs.Common.{◌≡◌, ℕ, ◌<◌, Bool, true, false, ltb, List, length, Option, Some, None, Result, Ok, Err, refl, ap, ◌∙◌}
 use Rattle.yaml_scan_core.proofs.Words.{yaml_mark_t, mark_at, Wrong, Kind, Lexeme, candidate, fresh, reached, flow_depth, ended, WordText, lexeme_at, kind_at, Fails, allowed_behind, finished, misplaced, missed, lost_by, no_colon, unless_wrong, unless_lost, of_kind, unless_missed, next, history}
 use Rattle.yaml_scan_model.specs.Wrong.{scan_fault}
@@ -10,7 +10,7 @@ use Rattle.yaml_scan_core.proofs.NextLemmas.{next_at, unmissed, missed_fresh}
 abbrev pub here : List ℕ → List Lexeme → yaml_mark_t
 here text h = mark_at text (gap_of text h).place
 
--- the kind that stands there
+-- the kind that is there
 abbrev pub kind_here : List ℕ → List Lexeme → Option Kind
 kind_here text h = kind_at (ltb 0 (flow_depth h)) text (gap_of text h).place
 
@@ -40,13 +40,13 @@ comes_kind : (text : List ℕ) (n : ℕ) (h : List Lexeme) (o : Option Kind) →
     → next text h ≡ of_kind o text (gap_of text h) h
 comes_kind text n h o g early kind = comes_by text n h g ∙ ap (λ m. unless_missed m text (gap_of text h) h) early ∙ ap (λ x. of_kind x text (gap_of text h) h) kind
 
--- none stands there
+-- none is there
 pub comes_none : (text : List ℕ) (n : ℕ) (h : List Lexeme) → GoesOn text n h
     → missed (candidate 0 h) (here text h) ≡ None → kind_here text h ≡ None
     → next text h ≡ no_token (here text h)
 comes_none text n h g early kind = comes_kind text n h None g early kind
 
--- one of a kind stands there
+-- one of a kind is there
 pub record IsAt (k : Kind) (text : List ℕ) (n : ℕ) (h : List Lexeme) : Type 0 where
   pub on : GoesOn text n h
   pub early : missed (candidate 0 h) (here text h) ≡ None

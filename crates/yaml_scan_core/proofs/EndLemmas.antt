@@ -24,7 +24,7 @@ use Rattle.yaml_scan_core.proofs.StepTaken.{missed_none}
 use Rattle.yaml_scan_core.proofs.KindsLemmas.{bare_shows, bare_word, given_up_outer, levels_plain, lost_there, row_more, not_wrong, place_cancels, stands_at, stands_here, stands_told}
 use Rattle.yaml_scan_core.proofs.PlacesLemmas.{mark_of_place, place_column}
 
--- it stands at the text's end
+-- it is at the text's end
 pub end_at_end : (s : Scanner) (h : List Lexeme) (n : ℕ) → StandsAs reads.StreamEnd s h n
     → s.at ≡ length s.text.now
 end_at_end s h n a =

@@ -72,7 +72,7 @@ given_less n x = let some = left_some x.front x in omega (arith, some)
 
 -- ---- the token that a lexeme's front stands for
 
--- It is that token: one that stands before the lexeme's own, or that one, with what it carries.
+-- It is that token: one that is before the lexeme's own, or that one, with what it carries.
 pub record ShowsToken (s : Store) (t : SpelledText) (x : Lexeme) (it : Token) : Type 0 where
   pub start : place_mark s.text x.start ≡ it.start_mark
   pub lead_end : x.front ≢ x.kind → it.end_mark ≡ it.start_mark
@@ -108,7 +108,7 @@ own_last t x e same = elim (cases_Bool e.key) [
   | inr k ↦ let unset : is_set 4 x ≡ false = same ∙ k in rw (k, unset) refl
 ]
 
--- the token of a number, and the parts it stands in
+-- the token of a number, and the parts it is in
 front_end : (t : SpelledText) (e : Entry) (i : ℕ) → i < e.ends
     → get_or (spell t e) i no_token ≡ before block_end e.lexeme
 front_end t e i lt =

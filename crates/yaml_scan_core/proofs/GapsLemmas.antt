@@ -1,4 +1,4 @@
--- What stands between lexemes.
+-- What is between lexemes.
 use Rattle.std.proofs.Common.{◌≡◌, ◌≢◌, ℕ, zero, suc, ◌+◌, ◌-◌, ◌<◌, ◌≤◌, Bool, true, false, cond, ltb, eqb, ◌&&◌, ◌||◌, not, inl, inr, List, length, take, drop, get_or, refl, sym, ap, subst, ◌∙◌, arith}
 use Rattle.yaml_scan_core.proofs.Words.{and_parts, cases_Bool, cases_lt, nat_tests, byte, line_at, column_at, splits_break, inner, stack_of}
 use Rattle.yaml_scan_model.specs.Runs.{past, columns_over, is_space_there, is_text, line_end, past_spaces}

@@ -136,7 +136,7 @@ first_over s o ready =
 
 -- ---- at a fault
 
--- the fault stands in the place of the earliest open candidate, or after all
+-- the fault is in the place of the earliest open candidate, or after all
 pub lost_number : (s : Scanner) (n : ℕ) → HasFailed s (history s.text.now n)
     → s.row.dropped + (s.row.settled - 1) ≡ first_open (history s.text.now n) (history s.text.now n)
 lost_number s n f =
@@ -146,7 +146,7 @@ lost_number s n f =
     let cut = length-take-le (length s.row.lexemes.items - 1) s.row.lexemes.items (omega arith) in
     omega (arith, f.row.count, all, cut, f.all)
 
--- the BLOCK-ENDs that stand before it
+-- the BLOCK-ENDs that are before it
 lost_ends : (s : Scanner) (n : ℕ) → HasFailed s (history s.text.now n)
     → (entry_at (finished_tokens (history s.text.now n))
     (first_open (history s.text.now n) (history s.text.now n))).ends

@@ -250,7 +250,7 @@ cancelling_takes k w old new h n a stops idle flat deep good lost word g keys =
 
 -- ---- lexemes that carry nothing
 
--- a lexeme that opens no level may stand there
+-- a lexeme that opens no level may be there
 pub not_wrong : (k : Kind) (text : List ℕ) (h : List Lexeme) → is_start k ≡ false
     → is_wrong k text h ≡ false
 not_wrong k text h e = rw e (grind arith)

@@ -40,7 +40,7 @@ pub below_indent : (xs : List ℕ) (i : ℕ) → IsRising xs → i < length xs
 below_indent [] i r lt = absurd (omega arith)
 below_indent (x ∷ xs) i r lt = omega (arith, r i (length xs) (omega arith) (omega arith), indent_last x xs)
 
--- a level right of the indent stands at the end
+-- a level right of the indent is at the end
 pub rising_more : (xs : List ℕ) (c : ℕ) → IsRising xs → indent xs < c → IsRising (xs ++ c ∷ [])
 rising_more xs c r more = λ i j le lt.
     let len = length-append xs (c ∷ []) in

@@ -26,7 +26,7 @@ use Rattle.yaml_scan_core.proofs.WaitsLemmas.{known_not, not_failed}
 
 -- ---- an entry's tokens
 
--- its own token stands after those of the levels that it closes
+-- its own token is after those of the levels that it closes
 own_some : (s : SpelledText) (e : Entry) (k : Bool)
     → 0 < length (cond k (before key e.lexeme ∷ token_in s e.lexeme ∷ []) (token_in s e.lexeme ∷ []))
 own_some s e true = omega arith

@@ -34,14 +34,14 @@ pub late_same : (o : Option Candidate) (p : yaml_mark_t) → late (required_in o
 late_same None p = refl
 late_same (Some c) p = grind arith
 
--- a candidate stands at its depth
+-- a candidate is at its depth
 pub candidate_depth : (d : ℕ) (h : List Lexeme) (c : Candidate) → candidate d h ≡ Some c
     → c.lexeme.depth ≡ d
 unfolding candidate
 candidate_depth d [] c is = cc
 candidate_depth d (l ∷ h) c is = grind (arith, candidate_top d l h c is, candidate_depth d h c)
 
--- A lexeme that is required stands outside all brackets, and may be a key.
+-- A lexeme that is required is outside all brackets, and may be a key.
 required_parts : (a b c : Bool) (d : ℕ) → ((a && b) && (eqb d 0 && c)) ≡ true
     → (d ≡ 0) × ((a && b) ≡ true)
 required_parts a b c d e = grind (arith, nat_tests)
@@ -58,7 +58,7 @@ required_is text (y ∷ h) l e must =
     let (z, so) = required_parts (allowed_behind (y ∷ h) (gap_of text (y ∷ h))) (may_be_key l.kind) _ (flow_depth (y ∷ h)) (sym at ∙ must) in
     (depth_at ∙ z, saved_at ∙ so)
 
--- a required candidate stands outside all brackets
+-- a required candidate is outside all brackets
 pub shallow : (text : List ℕ) (n d : ℕ) (c : Candidate) → candidate d (history text n) ≡ Some c
     → c.lexeme.required ≡ true → d ≡ 0
 unfolding candidate

@@ -69,7 +69,7 @@ own_spelled kinds.BlockEntry o t x b u (bare, is) a = is
 own_spelled kinds.FlowEntry o t x b u (bare, is) a = is
 own_spelled kinds.Value o t x b u (bare, is) a = is
 
--- what a token is that stands before a lexeme's own one
+-- what a token is that is before a lexeme's own one
 pub lead_spelled : (k : Kind) (b : TokenBody) → may_lead k ≡ true → IsOf k b → b ≡ bare_with k
 lead_spelled kinds.BlockEnd b lead is = is
 lead_spelled kinds.BlockSequenceStart b lead is = is

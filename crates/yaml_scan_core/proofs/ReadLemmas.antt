@@ -3,7 +3,7 @@ use Rattle.std.proofs.Common.{◌≡◌, ℕ, Bool, true, false, cond, ltb, ◌&
 use Rattle.yaml_scan_core.proofs.Words.{cases_Bool, yaml_mark_t, mark_at, Wrong, Gap, gap_at, Kind, Lexeme, is_end, may_be_key, candidate, fresh, reached, flow_depth, key_allowed, placed, WordText, lexeme_at, kind_at, Next, Read, kind_behind, coming, next, first_lexeme, allowed_behind, finished, misplaced, missed, lost_by, no_colon, unless_wrong, unless_lost, of_kind, unless_missed, stepwise}
 use Rattle.yaml_scan_history.specs.Next.{begun}
 
--- what stands between a history and the next lexeme
+-- what is between a history and the next lexeme
 abbrev pub gap_of : List ℕ → List Lexeme → Gap
 gap_of text h = gap_at (ltb 0 (flow_depth h)) (key_allowed h) text (reached h).index
 

@@ -181,7 +181,7 @@ lost_some t r es k h lt le = elim (cases_lt r.next k) [
       (f.ends, (λ gt. absurd (omega (arith, gt, same)), f.shows.start))
 ]
 
--- what stands after the settled lexemes is the fault
+-- what is after the settled lexemes is the fault
 is_lost : (t : SpelledText) (r : RowView) (es : List Entry) (e : Entry) (k : ℕ) → ShowsRow t r es
     → r.next ≤ k → k ≤ length r.lexemes → (entry_at es (r.dropped + k)).ends ≡ e.ends
     → (0 < e.ends → (entry_at es (r.dropped + k)).lexeme ≡ e.lexeme)

@@ -53,7 +53,7 @@ tells s at line n t r m same few stale is last =
       ]
     ]
 
--- the number that is told stands after what is dropped
+-- the number that is told is after what is dropped
 pub told_late : (s : Scanner) (n m : ℕ) (r : Option ℕ) → r ≡ Some m
     → told_first r (read_by s) ≡ first_open (history s.text.now n) (history s.text.now n)
     → s.row.dropped + s.row.settled ≤ first_open (history s.text.now n) (history s.text.now n)

@@ -161,7 +161,7 @@ scalar_block reads.Literal flow text p e says = says
 scalar_block reads.Folded flow text p e says = says
 scalar_block _ flow text p e says = cc
 
--- ---- what stands there
+-- ---- what is there
 
 spelled : (text : List ℕ) → Spells text → SpelledOut text
 unfolding Spells

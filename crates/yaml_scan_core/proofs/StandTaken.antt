@@ -1,4 +1,4 @@
--- Where a lexeme stands after the gap.
+-- Where a lexeme is after the gap.
 use Rattle.std.proofs.Common.{◌≡◌, ℕ, ◌+◌, ◌<◌, Bool, true, false, cond, ltb, ◌&&◌, ◌||◌, not, inl, inr, List, length, Option, Some, None, Result, Ok, Err, refl, sym, ap, subst, ◌∙◌, arith}
 use Rattle.std.specs.Prelude.{filter, nat_le}
 use Rattle.yaml_scan_core.proofs.Words.{yaml_mark_t, mark_at, column_at, Kind, Lexeme, candidate, reached, flow_depth, ended, open_levels, key_allowed, keeps, kind_at, Fails, missed, next, history, colon_missing, no_start, required_in, required_at, inner, stack_of, late, index_in, Upto, length-entries}
@@ -226,7 +226,7 @@ kind_same : (mid : Scanner) (h : List Lexeme) (o : Option Kind) → IsBehind mid
     → kind_at (ltb 0 (flow_depth h)) mid.text.now mid.at ≡ o
 kind_same mid h o b is = sym (is ∙ ap (λ d. kind_at (ltb 0 d) mid.text.now mid.at) (inner_is (flow_depth h) (stack_of mid.keys) b.holds.keys.long))
 
--- a lexeme stands there
+-- a lexeme is there
 pub finds : (old mid new : Scanner) (h : List Lexeme) (k : Kind) → Shows old h → StaysAt old mid
     → IsBehind mid h → new ≡ mid → missed (candidate 0 h) (mark_at mid.text.now mid.at) ≡ None
     → Some k ≡ kind_at (ltb 0 (inner (stack_of new.keys))) new.text.now new.at

@@ -86,7 +86,7 @@ held_ends : (o : Option Note) (n : ℕ) (x : Held)
 held_ends None n x = refl
 held_ends (Some y) n x = refl
 
--- what was read of the text that stands there
+-- what was read of the text that is there
 pub record ReadThere (k : Kind) (old mid : Scanner) (h : List Lexeme) (n : ℕ) (w : Word) (x : WordText) : Type 0 where
   pub stands : StandsAs k old h n
   pub flat : is_end k ≡ false

@@ -233,7 +233,7 @@ pub tag_kind_is : (good : Bool) (k : Kind) (v : List ℕ) → k ≡ cond good ki
 tag_kind_is true k v e g = inl (e, sym g)
 tag_kind_is false k v e g = inr (e, sym g)
 
--- the suffix of a tag stands where it is told
+-- the suffix of a tag is where it is told
 pub tag_fits : (text old new : List ℕ) (p : ℕ) (g : Tag) (r : Result TagText Wrong)
     → ReadsTag text p old new (Ok g) r
     → SpanFits (bare_store text new) (value_span g.joined g.from g.to (length old) (length new))
@@ -529,7 +529,7 @@ said_word good text old new spot v at line wide e (directives.tag h p) small tol
     (told ∙ ap is_utf8 second.are) (span_text text new v.first v.first_end h parts.first (omega (arith, parts.between, parts.second, inside)) handle)
     second ends fits place)
 
--- the second part of a directive stands where it is told
+-- the second part of a directive is where it is told
 pub directive_fits : (text old new : List ℕ) (d : Directive) (r : Result DirectiveText Wrong)
     → ReadsDirective text old new (Ok d) r
     → SpanFits (bare_store text new) (directive_note d.value (length old) (length new)).second

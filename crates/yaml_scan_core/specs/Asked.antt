@@ -44,7 +44,7 @@ front_lexeme s = row_lexeme (row_of s.row) s.row.next
 abbrev pub last_lexeme : Scanner → Lexeme
 last_lexeme s = row_lexeme (row_of s.row) (s.row.next - 1)
 
--- A token of that kind is next: one that stands before a lexeme's own, or that one, which carries its text.
+-- A token of that kind is next: one that is before a lexeme's own, or that one, which carries its text.
 pub record IsFront (k : Kind) (s : Scanner) : Type 0 where
   pub some : s.row.next < length s.row.lexemes.items
   pub kind : k ≡ (front_lexeme s).front
@@ -66,7 +66,7 @@ abbrev pub TellsFault : Remaining → Scanner → Type 0
 TellsFault r s = (s.fault ≡ None) ⊎ ((r.tokens ≡ []) × ((f : Fault) × (s.fault ≡ Some f)
     × (r.fault ≡ Some (scanner_fault (fault_in s.text.now f)))))
 
--- That kind was told of the next token; a fault stands there like a token.
+-- That kind was told of the next token; a fault is there like a token.
 abbrev pub ShowsKind : Kind → Remaining → Scanner → Type 0
 ShowsKind kinds.Failed r s = TellsFault r s × (s.row.next < s.row.settled)
     × ((front_lexeme s).front ≡ kinds.Failed)

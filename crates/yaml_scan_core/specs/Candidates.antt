@@ -121,7 +121,7 @@ abbrev pub index_in : Option yaml_mark_t → Option ℕ
 index_in None = None
 index_in (Some m) = Some m.index
 
--- no key stands after the text's end, which has that many bytes
+-- no key is after the text's end, which has that many bytes
 abbrev pub AreWithin : ℕ → KeyStack → Type 0
 AreWithin n s = (d : ℕ) → (key_at s d).index ≤ n
 

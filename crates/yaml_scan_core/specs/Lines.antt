@@ -2,7 +2,7 @@
 use Rattle.std.specs.Prelude.{ℕ, ◌≡◌, ◌<◌, ◌≤◌, List}
 use Rattle.yaml_scan_model.specs.Marks.{line_at}
 
--- The line of a place starts there: it is the same one, and what stands before is on an earlier one.
+-- The line of a place starts there: it is the same one, and what is before is on an earlier one.
 pub record IsLineStart (text : List ℕ) (at line : ℕ) : Type 0 where
   pub before : line ≤ at
   pub same : line_at text line ≡ line_at text at

@@ -10,7 +10,7 @@ IsRising xs = (i j : ℕ) → i ≤ j → j < length xs → slice_index xs i ≤
 abbrev pub left_of : ℕ → List ℕ → List ℕ
 left_of column levels = filter (λ x. nat_le x column) levels
 
--- 0 and the margins of those levels, the outermost first, stand after one another
+-- 0 and the margins of those levels, the outermost first, are after one another
 pub record AreLevels (l : Levels) (levels : List ℕ) : Type 0 where
   pub all : l.outer.items ++ l.margin ∷ [] ≡ 0 ∷ levels
   pub rising : IsRising levels

@@ -49,7 +49,7 @@ bare kind ends start end flags = whole record {
   flags = flags;
 }
 
--- such a token may stand before a lexeme's own one
+-- such a token may be before a lexeme's own one
 abbrev pub may_lead : Kind → Bool
 may_lead kinds.BlockEnd = true
 may_lead kinds.BlockSequenceStart = true
@@ -107,7 +107,7 @@ key_marked number mapping r = record r {
       (keyed mapping (row_lexeme r (number - r.dropped)));
 }
 
--- What stands after the settled lexemes where they end in a fault: the BLOCK-ENDs of the first of the others. Where there
+-- What is after the settled lexemes where they end in a fault: the BLOCK-ENDs of the first of the others. Where there
 -- is none it ends after its start.
 abbrev pub lost_at : RowView → Lexeme
 lost_at r = if nat_lt r.settled (length r.lexemes)

@@ -35,7 +35,7 @@ use Rattle.yaml_scan_core.specs.Shown.{KeepsTaken, ShowsRow, entry_at, place_mar
 
 -- ---- places
 
--- A lexeme may stand there, in a line that starts there, of which that many bytes continue characters.
+-- A lexeme may be there, in a line that starts there, of which that many bytes continue characters.
 pub record IsPlace (text : List ℕ) (at line wide : ℕ) : Type 0 where
   pub inside : at ≤ length text
   pub whole : splits_break text at ≡ false
@@ -53,7 +53,7 @@ StaysAt old new = new ≡ record old {
   key_allowed = new.key_allowed;
 }
 
--- the gap that stands there
+-- the gap that is there
 abbrev pub gap_there : Scanner → Gap
 gap_there s = gap_at (nat_lt 0 (inner (stack_of s.keys))) s.key_allowed s.text.now s.at
 
@@ -66,7 +66,7 @@ pub record Passes (old new : Scanner) : Type 0 where
   pub place : IsPlace new.text.now new.at new.line new.wide
   pub further : old.at ≤ new.at
 
--- what stands there is passed, or is a lexeme
+-- what is there is passed, or is a lexeme
 pub record PassesOne (old new : Scanner) (on : Bool) : Type 0 where
   pub same : StaysAt old new
   pub passes : Passes old new
@@ -138,7 +138,7 @@ Tests None at f (Err e) = ⊥
 Tests (Some start) at f (Ok u) = ⊥
 Tests (Some start) at f (Err e) = f ≡ Some (no_colon start at)
 
--- a problem of what stands there
+-- a problem of what is there
 abbrev pub refusal_at : Problem → ℕ → Fault
 refusal_at problem at = record {
   problem = problem;
@@ -221,7 +221,7 @@ pub record IsBehind (s : Scanner) (h : List Read) : Type 0 where
   pub further : Upto (reached h) (mark_at s.text.now s.at)
   pub allowed : s.key_allowed ≡ allowed_behind h (gap_behind s.text.now h)
 
--- a lexeme of a kind stands there, where no required candidate is stale
+-- a lexeme of a kind is there, where no required candidate is stale
 pub record StandsAt (k : ReadKind) (s : Scanner) (h : List Read) : Type 0 where
   pub behind : IsBehind s h
   pub early : missed (candidate 0 h) (mark_at s.text.now s.at) ≡ None
@@ -405,7 +405,7 @@ pub record MaySettle (s : Scanner) (at line n : ℕ) : Type 0 where
   pub dropped : s.row.dropped + s.row.settled
       ≤ first_open (history s.text.now n) (history s.text.now n)
 
--- what stands before it is settled, and the keys that are stale are passed
+-- what is before it is settled, and the keys that are stale are passed
 pub record HasSettled (old new : Scanner) (n : ℕ) : Type 0 where
   pub first : old.row.dropped + new.row.settled
       ≡ first_open (history old.text.now n) (history old.text.now n)
@@ -414,7 +414,7 @@ pub record HasSettled (old new : Scanner) (n : ℕ) : Type 0 where
 
 -- ---- what rests
 
--- what stands before the earliest open candidate is settled, and more may be read
+-- what is before the earliest open candidate is settled, and more may be read
 pub record IsGoing (s : Scanner) : Type 0 where
   pub shows : Shows s (history_of s)
   pub some : 0 < read_by s

@@ -53,13 +53,13 @@ pub record NoteHolds (s : Store) (x : Lexeme) (a b : List ℕ) : Type 0 where
   pub first : SpanHolds s (note_at s x.end).first a
   pub second : SpanHolds s (note_at s x.end).second b
 
--- how many bytes stand before and after the value of a scalar without note, and of an anchor or alias
+-- how many bytes are before and after the value of a scalar without note, and of an anchor or alias
 abbrev pub quotes : yaml_scalar_style_t → ℕ × ℕ
 quotes styles.YAML_PLAIN_SCALAR_STYLE = (0, 0)
 quotes styles.YAML_ANY_SCALAR_STYLE = (1, 0)
 quotes _ = (1, 1)
 
--- a lexeme without note has that value, which stands in the text between its marks
+-- a lexeme without note has that value, which is in the text between its marks
 pub record ValueStands (s : Store) (x : Lexeme) (value : List ℕ) : Type 0 where
   pub plain : is_set 8 x ≡ false
   pub order : x.start + (quotes x.style).0 ≤ x.end - (quotes x.style).1

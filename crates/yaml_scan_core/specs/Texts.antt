@@ -75,7 +75,7 @@ pub record StoresMore (old new : Scanner) : Type 0 where
   pub room : HasRoom old.row → HasRoom new.row
   pub rest : new ≡ record old { row = new.row; fault = new.fault }
 
--- the text of the lexeme of a kind that stands at the place
+-- the text of the lexeme of a kind that is at the place
 abbrev pub word_in : ReadKind → Scanner → Result WordText Wrong
 word_in k s = lexeme_at k (nat_lt 0 (inner (stack_of s.keys))) s.levels.margin s.text.now s.at
 

@@ -36,7 +36,7 @@ first_in o x = span_in o (note_at o x.end).first
 abbrev pub second_in : Store → Lexeme → List ℕ
 second_in o x = span_in o (note_at o x.end).second
 
--- a lexeme's value: that of its note, or what stands between its quotes
+-- a lexeme's value: that of its note, or what is between its quotes
 abbrev pub value_in : Store → Lexeme → List ℕ
 value_in o x = if is_set 8 x then second_in o x
     else slice_range o.text (x.start + (quotes x.style).0) (x.end - (quotes x.style).1)

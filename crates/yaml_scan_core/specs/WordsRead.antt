@@ -64,13 +64,13 @@ GivesWord text arena spot (Ok w) (Err e) = ⊥
 GivesWord text arena spot (Err e) (Ok x) = IsMemory e
 GivesWord text arena spot (Err e) (Err w) = Refuses e w
 
--- a lexeme's text may stand there
+-- a lexeme's text may be there
 pub record IsSpot (text : List ℕ) (spot : Spot) : Type 0 where
   pub place : IsPlace text spot.at spot.line spot.wide
   pub long : length text < 2 ^ 63
   pub spelled : IsSpelled text
 
--- a lexeme of a kind stands there, in brackets or not, in that level
+-- a lexeme of a kind is there, in brackets or not, in that level
 pub record StandsThere (k : ReadKind) (flow : Bool) (level : ℕ) (text : List ℕ)
     (spot : Spot) : Type 0 where
   pub here : IsSpot text spot
@@ -90,13 +90,13 @@ told_by (refusals.Wrong w) start end = if nat_le w.place end then Some record {
   at = w.place;
 } else None
 
--- a part of the text, or where it was joined, what stands in the arena between two places
+-- a part of the text, or where it was joined, what is in the arena between two places
 abbrev pub value_span : Bool → ℕ → ℕ → ℕ → ℕ → Span
 value_span joined from to base end = if joined
     then record { from = base; to = end; joined = true }
     else record { from = from; to = to; joined = false }
 
--- the note of a scalar that ends there, whose value stands in the arena between two places
+-- the note of a scalar that ends there, whose value is in the arena between two places
 abbrev pub joined_note : ℕ → ℕ → ℕ → Note
 joined_note end from to = record {
   end = end;
@@ -116,7 +116,7 @@ name_body _ v = tokens.anchor v
 abbrev pub scalar_body : yaml_scalar_style_t → List ℕ → TokenBody
 scalar_body style v = tokens.scalar v style
 
--- a scalar of that style stands between such quotes
+-- a scalar of that style is between such quotes
 abbrev pub IsQuotedBy : yaml_scalar_style_t → ℕ → Type 0
 IsQuotedBy style b = ((style ≡ styles.YAML_SINGLE_QUOTED_SCALAR_STYLE) × (b ≡ ascii.apostrophe))
     ⊎ ((style ≡ styles.YAML_DOUBLE_QUOTED_SCALAR_STYLE) × (b ≡ ascii.quote))

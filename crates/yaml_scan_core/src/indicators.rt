@@ -167,7 +167,7 @@ impl Scanner<'_> {
         Ok(())
     }
 
-    /// `:`, which makes the open candidate a key, or stands after none.
+    /// `:`, which makes the open candidate a key, or is after none.
     pub(crate) fn value_mark(&mut self) -> Result<(), Refused>
         requires { StandsAt kinds.ValueMark self.old (history_of self.old) }
         ensures { Reads self.old self.new (history_of self.old) result }

@@ -6,7 +6,7 @@ ghost use Rattle.yaml_scan_core.specs.Rows.{behind_start, first_kind, keyed, may
 use yaml_scan_model::yaml_scalar_style_t;
 use yaml_scan_tokens::Kind;
 
-/// Whether a token of that kind may stand before a lexeme's own one.
+/// Whether a token of that kind may be before a lexeme's own one.
 pub(crate) fn may_lead(kind: Kind) -> bool
     ensures { result ≡ may_lead kind }
 {

@@ -10,7 +10,7 @@ use crate::text::{byte, continuing};
 use yaml_scan_model::{starts, yaml_mark_t};
 use yaml_scan_runs::{LINE, run_end};
 
-/// Finds the marks of places in a text, each from the one before where it doesn't stand before that.
+/// Finds the marks of places in a text, each from the one before where it doesn't are before that.
 #[derive(Clone, Copy)]
 pub struct Locator {
     pub(crate) mark: yaml_mark_t,
@@ -59,7 +59,7 @@ impl Locator {
         mark
     }
 
-    /// The mark that it has, or the text's start where the place stands before that.
+    /// The mark that it has, or the text's start where the place is before that.
     fn before(&self, place: usize) -> yaml_mark_t
         ensures order { result.index ≤ place }
         ensures mark { (text : List ℕ) → Locates text self.now
@@ -81,7 +81,7 @@ pub fn mark_in(text: &[u8], place: usize) -> yaml_mark_t
     locator.locate(text, place)
 }
 
-/// The mark of a place that doesn't stand before another, whose mark is given.
+/// The mark of a place that doesn't are before another, whose mark is given.
 fn counted(text: &[u8], from: yaml_mark_t, place: usize) -> yaml_mark_t
     requires mark { from ≡ mark_at text.now from.index }
     requires order { from.index ≤ place }
@@ -116,7 +116,7 @@ fn byte_behind(text: &[u8], mark: yaml_mark_t) -> yaml_mark_t
     }
 }
 
-/// The mark after bytes there that end no break, which stand before the other place.
+/// The mark after bytes there that end no break, which are before the other place.
 fn run_behind(text: &[u8], mark: yaml_mark_t, to: usize) -> yaml_mark_t
     requires mark { mark ≡ mark_at text.now mark.index }
     requires some { 0 < mark.index }

@@ -78,7 +78,7 @@ impl Row {
         ensures more { OnOk result (HasRoom self.new) }
         ensures room { HasRoom self.old → HasRoom self.new }
     {
-        // One more than is put: a fault that stands after all has room.
+        // One more than is put: a fault that is after all has room.
         self.lexemes.reserve(2)?;
         self.lexemes.push_reserved(lexeme);
         Ok(())
@@ -112,7 +112,7 @@ impl Row {
         self.lexemes[number - self.dropped].become_key(mapping);
     }
 
-    /// Takes the next token, which may stand before a lexeme's own one.
+    /// Takes the next token, which may be before a lexeme's own one.
     pub(crate) fn skip_lead(&mut self)
         requires some { self.old.next < length self.old.lexemes.items }
         requires ends { (row_lexeme (row_of self.old) self.old.next).front ≡ BlockEnd

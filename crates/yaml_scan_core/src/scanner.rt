@@ -106,7 +106,7 @@ impl<'a> Scanner<'a> {
         self.at - self.line - self.wide
     }
 
-    /// Refuses the lexeme that starts there, for what stands at the other place.
+    /// Refuses the lexeme that starts there, for what is at the other place.
     // Out of line: it is rare, and callers stay small.
     #[cold]
     #[inline(never)]
@@ -227,7 +227,7 @@ impl<'a> Scanner<'a> {
         }
     }
 
-    /// Closes the block levels right of the place here, all where what stands here stands outside them, and says how many they
+    /// Closes the block levels right of the place here, all where what is here is outside them, and says how many they
     /// are. In brackets none is.
     pub(crate) fn close_levels(&mut self, kind: LexemeKind) -> u32
         requires { StandsAt kind self.old (history_of self.old) }
@@ -254,7 +254,7 @@ impl<'a> Scanner<'a> {
         }
     }
 
-    /// Reads the lexeme of that kind, which stands here.
+    /// Reads the lexeme of that kind, which is here.
     // Each kind closes levels for itself: so what tells the kind leads to its arm.
     fn lexeme(&mut self, kind: LexemeKind) -> Result<(), Refused>
         requires { StandsAt kind self.old (history_of self.old) }
@@ -285,7 +285,7 @@ impl<'a> Scanner<'a> {
         }
     }
 
-    /// The kind of what stands here.
+    /// The kind of what is here.
     #[tactic(auto, using(crate::proofs::SpotLemmas::letter_kind), unfolding(yaml_scan_history::specs::Words::kind_at, yaml_scan_history::specs::Indicators::is_document_start, yaml_scan_history::specs::Indicators::is_document_end))]
     fn kind_here(&self) -> Option<LexemeKind>
         requires some { 0 < length self.now.keys.levels.items }
@@ -321,7 +321,7 @@ impl<'a> Scanner<'a> {
         None
     }
 
-    /// Whether a document's mark, of three such bytes, stands here.
+    /// Whether a document's mark, of three such bytes, is here.
     fn is_mark(&self, mark: u8) -> bool
         requires some { 0 < mark }
         requires place { IsPlace self.now.text.now self.now.at self.now.line self.now.wide }
@@ -355,7 +355,7 @@ impl<'a> Scanner<'a> {
         (first == b'?' || first == b':') && !is_blank_or_end(self.text, self.at + 1)
     }
 
-    /// Past what stands between lexemes: blanks, comments, breaks, and U+FEFF at the text's start.
+    /// Past what is between lexemes: blanks, comments, breaks, and U+FEFF at the text's start.
     fn skip_gap(&mut self)
         requires some { 0 < length self.old.keys.levels.items }
         requires long { length self.old.text.now < 2 ^ 63 }
@@ -367,7 +367,7 @@ impl<'a> Scanner<'a> {
         'gap: while self.pass_white() {}
     }
 
-    /// Past what stands here, unless it is a lexeme, and says whether it is none.
+    /// Past what is here, unless it is a lexeme, and says whether it is none.
     // In line: the body of the gap's loop.
     #[inline(always)]
     #[tactic(auto, using(crate::proofs::GapsLemmas::one_calm))]
@@ -489,7 +489,7 @@ impl<'a> Scanner<'a> {
         true
     }
 
-    /// Whether U+FEFF stands here, at the text's start.
+    /// Whether U+FEFF is here, at the text's start.
     fn is_mark_first(&self) -> bool
         requires { self.now.at < 2 ^ 63 }
         ensures { result ≡ (self.now.at == 0 && is_bom self.now.text.now self.now.at) }
@@ -511,7 +511,7 @@ fn is_letter(byte: u8) -> bool
         || (byte >= b'0' && byte <= b'9')
 }
 
-/// The kind that the byte shows, in brackets or not, before what stands there.
+/// The kind that the byte shows, in brackets or not, before what is there.
 #[tactic(auto, unfolding(yaml_scan_history::specs::Words::indicator_of))]
 fn indicator(byte: u8, flow: bool, text: &[u8], next: usize) -> Option<LexemeKind>
     ensures { result ≡ indicator_of flow (is_blank_or_end text.now next) byte }

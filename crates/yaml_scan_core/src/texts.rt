@@ -32,7 +32,7 @@ impl Scanner<'_> {
         self.row.lexemes[self.row.next].start
     }
 
-    /// Where the next token, of that kind, ends. One that stands before a lexeme's own ends where it starts.
+    /// Where the next token, of that kind, ends. One that is before a lexeme's own ends where it starts.
     pub fn end(&self, kind: Kind) -> usize
         requires { IsFront kind self.now }
         ensures own { (front_lexeme self.now).front ≡ (front_lexeme self.now).kind
@@ -149,7 +149,7 @@ fn has_parts(kind: Kind) -> bool
     )
 }
 
-/// How many bytes stand before and after the value of a scalar of that style.
+/// How many bytes are before and after the value of a scalar of that style.
 fn quotes(style: yaml_scalar_style_t) -> (usize, usize)
     ensures { result ≡ quotes style }
 {

@@ -95,7 +95,7 @@ impl Scanner<'_> {
         Ok(())
     }
 
-    /// The text of the lexeme of that kind that stands here. What has to be joined is put after the arena.
+    /// The text of the lexeme of that kind that is here. What has to be joined is put after the arena.
     // In line, as `key_word`.
     #[inline(always)]
     fn word(&mut self, kind: LexemeKind, ends: u32) -> Result<Word, Refused>
@@ -166,7 +166,7 @@ fn fault_told(refusal: Refusal, start: usize, end: usize) -> Option<Fault>
     }
 }
 
-/// The lexeme of that kind that stands there, with its text, by the reader of that.
+/// The lexeme of that kind that is there, with its text, by the reader of that.
 // In line, as `key_word`.
 #[inline(always)]
 fn read_word(
@@ -252,7 +252,7 @@ fn scalar(style: yaml_scalar_style_t, spot: Spot, end: usize) -> Lexeme
     }
 }
 
-/// The note of a scalar that ends there, where its value was joined: it is what stands in the arena between two places.
+/// The note of a scalar that ends there, where its value was joined: it is what is in the arena between two places.
 fn value_note(joined: bool, end: usize, from: usize, to: usize) -> Option<Note>
     ensures { result ≡ (if joined then Some (joined_note end from to) else None) }
 {
@@ -292,7 +292,7 @@ fn name_word(text: &[u8], kind: Kind, context: Context, spot: Spot) -> Result<Wo
     })
 }
 
-/// A part of the text, or where it was joined, what stands in the arena between two places.
+/// A part of the text, or where it was joined, what is in the arena between two places.
 fn span(joined: bool, from: usize, to: usize, base: usize, end: usize) -> Span
     ensures { result ≡ value_span joined from to base end }
 {
@@ -491,7 +491,7 @@ fn plain_word(
     })
 }
 
-/// The same, where a break stands after that part of it.
+/// The same, where a break is after that part of it.
 fn plain_lines_word(
     arena: &mut Vec<u8>,
     text: &[u8],

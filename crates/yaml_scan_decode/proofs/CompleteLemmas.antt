@@ -117,7 +117,7 @@ below_top : (c : ℕ) → is_allowed c ≡ true → c < 1114112
 unfolding is_allowed
 below_top c allowed = grind (arith, nat_tests)
 
--- what stands where the bytes begin with a character's spelling
+-- what is where the bytes begin with a character's spelling
 utf8_spelled : (bytes : List ℕ) (p c : ℕ) (rest : List ℕ) → is_allowed c ≡ true
     → drop p bytes ≡ encode_utf8 c ++ rest
     → utf8_at bytes p ≡ Ok record { code = c; width = length (encode_utf8 c) }

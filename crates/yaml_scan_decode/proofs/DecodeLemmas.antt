@@ -1,4 +1,4 @@
--- Decoding, a character at a time: what a character that stands at a place tells.
+-- Decoding, a character at a time: what a character that is at a place tells.
 use Rattle.std.proofs.Common.{◌≡◌, ℕ, ◌+◌, ◌-◌, ◌*◌, ◌<◌, ◌≤◌, Bool, true, false, not, ◌&&◌, ◌==◌, nat_lt, cond, List, [], ◌∷◌, ◌++◌, take, drop, length, Result, Ok, Err, refl, arith, add-one, add-zero, drop-cons, rules}
 use Rattle.std.proofs.lemmas.Bool.Decides.{nat_tests}
 use Rattle.std.specs.Char.{encode_utf8}
@@ -127,7 +127,7 @@ utf8_gives left p b c d e ch h =
     let (allowed, is, spelled) = sequence_gives (width_of b) p b c d e ch refl some (width_small b) h2 in
     record { some = rw is some; few = rw is (width_small b); inside = grind (arith, nat_tests); allowed = allowed; spelled = rw is spelled }
 
--- a character stands at a place, with bytes of its own
+-- a character is at a place, with bytes of its own
 pub record Stands (bytes : List ℕ) (p : ℕ) (ch : Character) (own : List ℕ) : Type 0 where
   pub some : 0 < ch.width
   pub inside : p + ch.width ≤ length bytes
@@ -139,7 +139,7 @@ front : (bytes : List ℕ) (p w : ℕ) → w ≤ 4 → p + w ≤ length bytes
     (byte bytes (p + 3))) ++ drop (p + w) bytes
 front bytes p w few inside = grind (arith, add-zero, drop_one, drop_two)
 
--- A character that UTF-8 has at a place stands there by its bytes.
+-- A character that UTF-8 has at a place is there by its bytes.
 pub utf8_stands : (bytes : List ℕ) (p : ℕ) (ch : Character) → p < length bytes
     → utf8_at bytes p ≡ Ok ch → Stands bytes p ch (encode_utf8 ch.code)
 utf8_stands bytes p ch in_bytes h =
@@ -200,7 +200,7 @@ utf16_stands order bytes p ch are in_bytes h = by (utf16_gives _ _ _ _ ch h)
         let there = unit_spelled order bytes (p + 2) are in
         record { some = omega arith; inside = omega arith; allowed = allowed; spelled = rw (code, here, there, width) (cc) }
 
--- a character that stands in the bytes is spelled by them
+-- a character that is in the bytes is spelled by them
 pub character_stands : (e : yaml_encoding_t) (bytes : List ℕ) (p : ℕ) (ch : Character)
     → AreBytes bytes → p < length bytes → character_at e bytes p ≡ Ok ch
     → Stands bytes p ch (spelling e ch.code)

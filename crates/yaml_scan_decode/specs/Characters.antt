@@ -1,4 +1,4 @@
--- What stands at a place of the bytes: a character, or an offence.
+-- What is at a place of the bytes: a character, or an offence.
 use Rattle.std.specs.Prelude.{ℕ, ℤ, pos, negsuc, ◌+◌, ◌-◌, ◌*◌, Bool, not, ◌&&◌, ◌||◌, ◌==◌, nat_lt, nat_le, if◌then◌else◌, List, length, Result, Ok, Err}
 use Rattle.yaml_scan_model.specs.Ascii as ascii
 use Rattle.yaml_scan_model.specs.Points as points
@@ -31,7 +31,7 @@ is_low_surrogate c = between 0xDC00 0xDFFF c
 abbrev pub is_high_surrogate : ℕ → Bool
 is_high_surrogate c = between 0xD800 0xDBFF c
 
--- the problem stands at that place; the number is the byte, unit or character that is wrong, or -1
+-- the problem is at that place; the number is the byte, unit or character that is wrong, or -1
 abbrev pub offends : ReaderProblem → ℕ → ℤ → Result Character Offence
 offends problem place number = Err record { problem = problem; offset = place; value = number }
 
@@ -87,7 +87,7 @@ sequence_of width p b c d e =
     (pos e)
     else valued_at p width (utf8_code width b c d e)
 
--- what b begins at p, where c, d and e stand after it, and that many bytes are left with b
+-- what b begins at p, where c, d and e are after it, and that many bytes are left with b
 unfoldable pub utf8_of : ℕ → ℕ → ℕ → ℕ → ℕ → ℕ → Result Character Offence
 utf8_of left p b c d e =
     if width_of b == 0 then offends problems.InvalidLeadingOctet p (pos b)
@@ -108,7 +108,7 @@ unfoldable pub unit_at : ByteOrder → List ℕ → ℕ → ℕ
 unit_at LowFirst bytes p = byte bytes p + byte bytes (p + 1) * 256
 unit_at HighFirst bytes p = byte bytes p * 256 + byte bytes (p + 1)
 
--- what the unit u begins at p, where v stands after it, and that many bytes are left with u
+-- what the unit u begins at p, where v is after it, and that many bytes are left with u
 unfoldable pub utf16_of : ℕ → ℕ → ℕ → ℕ → Result Character Offence
 utf16_of left p u v =
     if nat_lt left 2 then offends problems.IncompleteCharacter p no_value

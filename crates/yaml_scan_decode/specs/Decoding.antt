@@ -12,7 +12,7 @@ abbrev pub before : ℕ → Result (List ℕ) Offence → Result (List ℕ) Offe
 before c (Ok cs) = Ok (c ∷ cs)
 before c (Err o) = Err o
 
--- what stands there, before what the places after it hold
+-- what is there, before what the places after it hold
 abbrev pub led_by : (ℕ → Result (List ℕ) Offence) → ℕ → Result Character Offence
     → Result (List ℕ) Offence
 led_by rest p (Ok c) = before c.code (rest (p + c.width))

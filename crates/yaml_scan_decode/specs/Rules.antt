@@ -1,4 +1,4 @@
--- What is wrong with bytes, rule by rule: what stands there, and what the fault says, in its own words.
+-- What is wrong with bytes, rule by rule: what is there, and what the fault says, in its own words.
 use Rattle.std.specs.Prelude.{◌≡◌, ◌<◌, ◌≤◌, ℕ, ℤ, pos, negsuc, ◌+◌, ◌-◌, false, true, List, length, Result, Ok, Err, codes}
 use Rattle.yaml_scan_model.specs.Marks.{byte}
 use Rattle.yaml_scan_model.specs.Classes.{width_of}
@@ -8,7 +8,7 @@ use Rattle.yaml_scan_decode.specs.declared.utf16.ByteOrder.{ByteOrder}
 use Rattle.yaml_scan_decode.specs.Offences.{problem_text_of}
 use Rattle.yaml_scan_decode.specs.Characters.{is_allowed, is_low_surrogate, is_high_surrogate, is_trailing, least_code, between, allowed_at, valued_at, utf8_at, unit_at, utf16_at}
 
--- no character stands there, and the fault says that problem, the byte's place and a number
+-- no character is there, and the fault says that problem, the byte's place and a number
 abbrev pub IsOffence : Result Character Offence → List ℕ → ℕ → ℤ → Type 0
 IsOffence (Ok c) what p number = ⊥
 IsOffence (Err o) what p number = (problem_text_of o.problem ≡ what) × (o.offset ≡ p)

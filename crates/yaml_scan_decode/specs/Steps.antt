@@ -34,7 +34,7 @@ outcome (Err o) = Err o
 unfoldable pub outcome_at : List ℕ → ℕ → Result (Unit {0}) Offence
 outcome_at bytes p = outcome (characters (length bytes) YAML_UTF8_ENCODING bytes p)
 
--- a character of that many bytes stands there
+-- a character of that many bytes is there
 abbrev pub HasCharacter : List ℕ → ℕ → ℕ → Type 0
 HasCharacter bytes p width =
     (code : ℕ) × (utf8_at bytes p ≡ Ok record { code = code; width = width })

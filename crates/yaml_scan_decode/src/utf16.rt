@@ -41,7 +41,7 @@ impl From<Offence> for DecodeError {
     }
 }
 
-// The unit that stands there.
+// The unit that is there.
 #[tactic(auto, unfolding(crate::specs::Characters::unit_at))]
 fn unit(bytes: &[u8], at: usize, order: ByteOrder) -> u32
     requires { at + 1 < length bytes.now }
@@ -62,7 +62,7 @@ fn is_low_surrogate(unit: u32) -> bool
     unit >= 0xDC00 && unit < 0xE000
 }
 
-// The character whose first unit, a high surrogate, stands there.
+// The character whose first unit, a high surrogate, is there.
 #[tactic(auto, unfolding(crate::specs::Characters::utf16_of))]
 fn pair(bytes: &[u8], at: usize, order: ByteOrder, high: u32) -> Result<Character, Offence>
     requires inside { at + 1 < length bytes.now }
@@ -80,7 +80,7 @@ fn pair(bytes: &[u8], at: usize, order: ByteOrder, high: u32) -> Result<Characte
     allowed_character(at, 4, 0x1_0000 + (high - 0xD800) * 0x400 + (low - 0xDC00))
 }
 
-/// The character that stands there, or what is wrong.
+/// The character that is there, or what is wrong.
 #[tactic(auto, unfolding(crate::specs::Characters::utf16_of))]
 fn utf16_character(bytes: &[u8], at: usize, order: ByteOrder) -> Result<Character, Offence>
     requires { at < length bytes.now }

@@ -100,7 +100,7 @@ fn sequence(bytes: &[u8], at: usize, width: usize) -> Result<Character, Offence>
     valued_character(at, width, code)
 }
 
-/// The character that stands there, or what is wrong.
+/// The character that is there, or what is wrong.
 #[tactic(auto, using(crate::proofs::DecodeLemmas::width_small), unfolding(crate::specs::Characters::utf8_of))]
 fn utf8_character(bytes: &[u8], at: usize) -> Result<Character, Offence>
     requires { at < length bytes.now }

@@ -19,11 +19,11 @@ not_first : (first : Bool) (a b c : ℕ) → a ≢ 0xEF
 not_first true a b c h = grind (arith, nat_tests)
 not_first false a b c h = refl
 
--- no byte order mark stands there
+-- no byte order mark is there
 pub no_bom : (text : List ℕ) (p : ℕ) → byte text p ≢ 0xEF → (p == 0 && is_bom text p) ≡ false
 no_bom text p h = not_first (p == 0) (byte text p) (byte text (p + 1)) (byte text (p + 2)) h
 
--- no white stands there
+-- no white is there
 pub no_skip : (tabs : Bool) (b : ℕ) → b ≢ 32 → b ≢ 9 → (b == 32 || (tabs && b == 9)) ≡ false
 no_skip true b h i = grind (arith, nat_tests)
 no_skip false b h i = grind (arith, nat_tests)

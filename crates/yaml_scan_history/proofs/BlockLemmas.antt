@@ -13,7 +13,7 @@ spaces_more : (n : ℕ) (text : List ℕ) (p : ℕ) → byte text p ≡ 32
 unfolding spaces
 spaces_more n text p h = rw h refl
 
--- As many spaces as stand there and are asked for are passed.
+-- As many spaces as are there and are asked for are passed.
 pub spaces_run : (n left : ℕ) (text : List ℕ) (p : ℕ) → n ≤ left
     → ((k : ℕ) → p ≤ k → k < p + n → byte text k ≡ 32)
     → spaces left text p ≡ n + spaces (left - n) text (p + n)
@@ -74,7 +74,7 @@ stop_end b col c h = grind (arith, nat_tests)
 pub stop_short : (b col c : ℕ) → col ≢ c → (b == 0 || not (col == c)) ≡ true
 stop_short b col c h = grind (arith, nat_tests)
 
--- Where text stands in the scalar's column nothing stops it.
+-- Where text is in the scalar's column nothing stops it.
 pub no_stop : (b col c : ℕ) → b ≢ 0 → col ≡ c → (b == 0 || not (col == c)) ≡ false
 no_stop b col c h k = grind (arith, nat_tests)
 

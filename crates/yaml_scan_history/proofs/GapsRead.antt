@@ -8,7 +8,7 @@ use Rattle.yaml_scan_history.proofs.HasLemmas.{Has, has}
 unequal : (b n : ℕ) → not (b == n) ≡ true → b ≢ n
 unequal b n h = grind (arith, nat_tests)
 
--- what does not stand where a lexeme begins
+-- what does not be where a lexeme begins
 pub lexeme_parts : (b c : Bool) (d : ℕ)
     → (not (d == 32) && (not (d == 9) && (not (d == 35) && (not b && not c)))) ≡ true
     → (d ≢ 32) × (d ≢ 9) × (d ≢ 35) × (b ≡ false) × (c ≡ false)

@@ -112,7 +112,7 @@ first_open-is all (l ∷ h) lt =
           ]
     ]
 
--- the lexeme of a candidate stands at its depth
+-- the lexeme of a candidate is at its depth
 depth_is : (d : ℕ) (newer : List Lexeme) (l : Lexeme) (h : List Lexeme) (c : Candidate)
     → candidate d (newer ++ l ∷ h) ≡ Some c → c.number ≡ length h → l.depth ≡ d
 unfolding candidate

@@ -20,12 +20,12 @@ pub white-suc : (text : List ℕ) (p : ℕ)
     → after_white text (p + 1) ≡ (is_blank (byte text p) || ends_break text p)
 white-suc text p = let z : p + 1 - 1 ≡ p = omega arith in rw z refl
 
--- No white stands before the place after another byte.
+-- No white is before the place after another byte.
 pub white-text : (text : List ℕ) (p : ℕ) → is_blank (byte text p) ≡ false
     → ends_break text p ≡ false → after_white text (p + 1) ≡ false
 white-text text p h e = white-suc text p ∙ rw (h, e) refl
 
--- White stands before the place after a blank.
+-- White is before the place after a blank.
 pub white-blank : (text : List ℕ) (p : ℕ) → is_blank (byte text p) ≡ true
     → after_white text (p + 1) ≡ true
 white-blank text p h = white-suc text p ∙ rw h refl
@@ -47,7 +47,7 @@ lead_break text p h =
     let wh : after_white text (p + break_width text p) ≡ true = rw l.next (white-suc text l.byte_at ∙ rw (b, l.ends) refl) in
     record { leading = sym le; white = sym wh; further = omega arith; inside = omega (arith, past.inside) }
 
--- what stands at a place
+-- what is at a place
 
 -- A break is taken as what it reads as.
 pub spot_break : (flow : Bool) (level : ℕ) (text : List ℕ) (p : ℕ) → 0 < break_width text p
@@ -129,7 +129,7 @@ words_enough (suc n) flow level text p room =
 abbrev pub words_on : Bool → ℕ → List ℕ → ℕ → Result Words Wrong
 words_on flow level text p = words (suc (length text)) flow level text p
 
--- The words from a place on are what stands there, and those after it.
+-- The words from a place on are what is there, and those after it.
 pub words_here : (flow : Bool) (level : ℕ) (text : List ℕ) (p : ℕ)
     → words_on flow level text p
     ≡ follows (words_on flow level text) p (spot_at flow level text p)

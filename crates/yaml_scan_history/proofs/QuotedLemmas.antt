@@ -35,7 +35,7 @@ pieces_more (suc n) quote text p room =
 abbrev pub pieces_on : ℕ → List ℕ → ℕ → Result (List Piece × ℕ) Wrong
 pieces_on quote text p = pieces (suc (length text)) quote text p
 
--- The pieces from a place on are what stands there, and those after it.
+-- The pieces from a place on are what is there, and those after it.
 pub pieces_here : (quote : ℕ) (text : List ℕ) (p : ℕ)
     → pieces_on quote text p ≡ followed (pieces_on quote text) p (standing_at quote text p)
 unfolding pieces
@@ -50,14 +50,14 @@ quoted_whole quote text p h =
 
 -- ---- turns
 
--- Pieces in front of a reading change its value as they change every value.
+-- Pieces before a reading change its value as they change every value.
 pub front : (old new : List Piece → List ℕ) (qs : List Piece) (r : Result (List Piece × ℕ) Wrong)
     → ((ps : List Piece) → new ps ≡ old (qs ++ ps)) → valued old (with_front qs r) ≡ valued new r
 front old new qs r h = grind arith
 
 -- ---- quotes are no breaks
 
--- ---- what stands inside the quotes
+-- ---- what is inside the quotes
 
 pub standing_quote : (quote : ℕ) (text : List ℕ) (p : ℕ) → is_document_indicator text p ≡ false
     → byte text p ≢ 0 → byte text p ≡ quote → standing_at quote text p ≡ quote_at quote text p

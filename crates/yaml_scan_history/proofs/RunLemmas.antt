@@ -20,7 +20,7 @@ pub calm_ends_none : (x y b c : ℕ) → IsCalm b → ends_of x y b c ≡ false
 unfolding ends_of
 calm_ends_none x y b c h = search rules
 
--- what stands in a run
+-- what is in a run
 
 -- bytes of the text
 

@@ -18,7 +18,7 @@ pub stack_line : (folded : Bool) (done : List ℕ) (blank : Bool)
 unfolding stacked_with
 stack_line folded done blank feed empties words next chomp ls = grind (arith, append-nil, append_assoc)
 
--- With no text in front, nothing but the empty lines stands before the first one.
+-- With no text in front, nothing but the empty lines is before the first one.
 pub stack_start : (folded : Bool) (chomp : Chomp) (lead : List ℕ) (lines : List TextLine)
     → behind_text folded chomp false [] lead lines ≡ value_with folded chomp lead lines
 unfolding between

@@ -43,7 +43,7 @@ mark_alpha : is_alpha_byte 33 ≡ false
 unfolding is_alpha_byte is_digit_byte
 mark_alpha = refl
 
--- no `!` stands after the alphas of a URI without one
+-- no `!` is after the alphas of a URI without one
 unmarked : (pieces : List UriPiece) (n : ℕ) (text : List ℕ) (p : ℕ) → Has text p (uri_text pieces)
     → has_no_mark pieces ≡ true
     → byte text (p + length (uri_text pieces)) ≢ 33

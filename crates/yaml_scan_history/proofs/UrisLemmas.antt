@@ -85,7 +85,7 @@ spot_ends wide text p mark kept = rw (mark, kept) refl
 
 -- ---- URIs
 
--- Bytes in front of bytes are both in front.
+-- Bytes before bytes are both in front.
 pub bytes_twice : (xs ys : List ℕ) (r : Result (List ℕ × ℕ) Wrong)
     → with_bytes xs (with_bytes ys r) ≡ with_bytes (xs ++ ys) r
 bytes_twice xs ys (Ok u) = rw (append_assoc xs ys u.0) refl
@@ -118,7 +118,7 @@ uri_turn (suc n) context wide due text p room =
 abbrev pub uri_due : Context → Bool → ℕ → List ℕ → ℕ → Result (List ℕ × ℕ) Wrong
 uri_due context wide due text p = uri_within (suc (length text)) context wide due text p
 
--- A URI is what stands at its place, and the rest.
+-- A URI is what is at its place, and the rest.
 pub uri_here : (context : Context) (wide : Bool) (due : ℕ) (text : List ℕ) (p : ℕ)
     → uri_due context wide due text p
     ≡ uri_from (λ next q. uri_due context wide next text q) context (spot_at wide due text p)
@@ -139,7 +139,7 @@ uri_run (suc d) context wide text p kept =
     let first = rw (spot_kept wide text p here) at (uri_here context wide 0 text p) in
     rw (next, drop_more text p 0 (uri_inside wide text p here)) (first ∙ ap (with_bytes (byte text p ∷ [])) rest ∙ bytes_twice (byte text p ∷ []) (take d (drop (p + 1) text)) (uri_at context wide text (p + 1 + d)))
 
--- Bytes that are kept are in front of what the rest reads as.
+-- Bytes that are kept are before what the rest reads as.
 pub uri_behind : (context : Context) (wide : Bool) (text : List ℕ) (p q : ℕ)
     → IsKept wide text p q
     → uri_at context wide text p ≡ with_bytes (slice_range text p q) (uri_at context wide text q)

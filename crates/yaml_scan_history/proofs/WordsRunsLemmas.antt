@@ -29,7 +29,7 @@ belongs_here runs.Alphas text p h = search (rules, alpha_range, no_break_between
 belongs_here runs.Digits text p h = search (rules, digit_range, no_break_between)
 belongs_here runs.Blanks text p h = blank_parts _ _ _ h
 
--- A byte of a run stands within the text.
+-- A byte of a run is within the text.
 pub belongs_inside : (run : Run) (text : List ℕ) (p : ℕ) → belongs run text p ≡ true
     → p < length text
 belongs_inside run text p h = within text p (belongs_here run text p h).0
@@ -70,7 +70,7 @@ run_to (suc n) run text p q after each room =
       | inr same ↦ let e : q ≡ p = omega arith in rw e (suc n, room, refl)
     ]
 
--- A run ends where all before belong to it, and what stands there doesn't.
+-- A run ends where all before belong to it, and what is there doesn't.
 pub run_is : (run : Run) (text : List ℕ) (p q : ℕ) → p ≤ q
     → ((k : ℕ) → p ≤ k → k < q → belongs run text k ≡ true) → belongs run text q ≡ false
     → run_end run text p ≡ q

@@ -15,7 +15,7 @@ is_name_end b = b == ascii.question || (b == ascii.colon
     || (b == ascii.close_brace
     || (b == ascii.percent || (b == ascii.at || b == ascii.grave))))))
 
--- a blank, a break, the end or one of ``? : , ] } % @ ` `` stands there
+-- a blank, a break, the end or one of ``? : , ] } % @ ` `` is there
 unfoldable pub may_end_name : List ℕ → ℕ → Bool
 may_end_name text p = is_blank_or_end text p || is_name_end (byte text p)
 

@@ -1,4 +1,4 @@
--- What stands between lexemes.
+-- What is between lexemes.
 use Rattle.std.specs.Prelude.{ℕ, zero, suc, ◌+◌, Bool, true, false, not, ◌&&◌, ◌||◌, ◌==◌, nat_lt, if◌then◌else◌, List, length}
 use Rattle.yaml_scan_model.specs.Ascii as ascii
 use Rattle.yaml_scan_history.specs.declared.between.GapSpot.{GapSpot}
@@ -7,7 +7,7 @@ use Rattle.yaml_scan_model.specs.Marks.{byte, break_width}
 use Rattle.yaml_scan_model.specs.Runs.{line_end}
 use Rattle.yaml_scan_model.specs.Classes.{is_bom}
 
--- what stands at a place between lexemes, and the place after it
+-- what is at a place between lexemes, and the place after it
 pub record GapStep : Type 0 where
   pub standing : GapSpot
   pub place : ℕ
@@ -29,7 +29,7 @@ step_at tabs text p =
     then record { standing = gap_spots.Break; place = p + break_width text p }
     else record { standing = gap_spots.Lexeme; place = p }
 
--- what stands between two lexemes: the place of the second one, and whether a break stands before it
+-- what is between two lexemes: the place of the second one, and whether a break is before it
 pub record Gap : Type 0 where
   pub place : ℕ
   pub broke : Bool

@@ -58,7 +58,7 @@ block_behind folded level text (Ok h) = block_lines folded text h
     (column_of level text h.digit h.place)
 block_behind folded level text (Err w) = Err w
 
--- the block scalar whose indicator stands there, `|` or `>`, or what is wrong
+-- the block scalar whose indicator is there, `|` or `>`, or what is wrong
 abbrev pub block_at : ℕ → List ℕ → ℕ → Result BlockText Wrong
 block_at level text p =
     block_behind (byte text p == ascii.greater) level text (header_at text (p + 1))

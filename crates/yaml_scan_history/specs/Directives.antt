@@ -177,7 +177,7 @@ abbrev pub named_value_at : List ℕ → DirectiveName → ℕ → Result ValueT
 named_value_at text names.Yaml q = version_at text q
 named_value_at text names.Tag q = tag_directive_at text q
 
--- the directive whose `%` stands there, up to the end of its value
+-- the directive whose `%` is there, up to the end of its value
 abbrev pub value_at : List ℕ → ℕ → Result ValueText Wrong
 value_at text p = then_at (named_value_at text) (name_at text p)
 
@@ -204,7 +204,7 @@ abbrev pub finished : List ℕ → Result ValueText Wrong → Result DirectiveTe
 finished text (Ok v) = with_line v (line_end_at text v.end)
 finished text (Err w) = Err w
 
--- the directive whose `%` stands there, with its line's end, or what is wrong
+-- the directive whose `%` is there, with its line's end, or what is wrong
 abbrev pub directive_at : List ℕ → ℕ → Result DirectiveText Wrong
 directive_at text p = finished text (value_at text p)
 

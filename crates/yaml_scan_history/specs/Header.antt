@@ -52,7 +52,7 @@ abbrev pub header_end : List ℕ → ℕ → ℕ
 header_end text p = past_comment text
     (past_blanks text (p + indicators (byte text p) (byte text (p + 1))))
 
--- the header whose indicator stands before the place
+-- the header whose indicator is before the place
 unfoldable pub header_at : List ℕ → ℕ → Result HeaderText Wrong
 header_at text p =
     if byte text (digit_place text p) == ascii.digit_zero

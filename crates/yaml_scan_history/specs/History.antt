@@ -29,13 +29,13 @@ abbrev pub ended : List Lexeme → Bool
 ended [] = false
 ended (l ∷ h) = is_end l.kind
 
--- a lexeme by its number: how many stand before it
+-- a lexeme by its number: how many are before it
 pub record Candidate : Type 0 where
   pub number : ℕ
   pub lexeme : Lexeme
 
 -- The last lexeme of that depth that was saved, with no lexeme of that depth after it that cancels. A depth
--- begins after the opener that stands outside it.
+-- begins after the opener that is outside it.
 unfoldable pub candidate : ℕ → List Lexeme → Option Candidate
 candidate d [] = None
 candidate d (l ∷ h) =
@@ -87,7 +87,7 @@ abbrev pub has : Option Candidate → Bool
 has None = false
 has (Some c) = true
 
--- A block level is told by its margin: the first column right of its own, at which what stands in it may begin.
+-- A block level is told by its margin: the first column right of its own, at which what is in it may begin.
 abbrev pub margin_at : ℕ → ℕ
 margin_at column = column + 1
 
@@ -97,7 +97,7 @@ indent [] = 0
 indent (c ∷ []) = c
 indent (c ∷ d ∷ cs) = indent (d ∷ cs)
 
--- The greatest margin that a lexeme leaves open: it closes the levels right of its column; what stands outside of
+-- The greatest margin that a lexeme leaves open: it closes the levels right of its column; what is outside of
 -- them closes all.
 abbrev pub keeps : Kind → ℕ → ℕ
 keeps k column = if is_outside k then 0 else margin_at column
@@ -113,7 +113,7 @@ opens_at None k column = margin_at column
 opens_at (Some c) k column = if is_value k then margin_at c.lexeme.start.column
     else margin_at column
 
--- that level after the others, where it may open and stands right of the innermost one
+-- that level after the others, where it may open and is right of the innermost one
 abbrev pub opened : Bool → ℕ → List ℕ → List ℕ
 opened may margin levels = if may && nat_lt (indent levels) margin then levels ++ margin ∷ []
     else levels
@@ -125,7 +125,7 @@ open_levels (l ∷ h) = opened (is_start l.kind && not (nat_lt 0 l.depth))
     (opens_at (found_by l h) l.kind l.start.column)
     (left_by l.kind l.depth l.start.column (open_levels h))
 
--- the level that opens with that margin, where it stands right of the innermost one
+-- the level that opens with that margin, where it is right of the innermost one
 abbrev pub start_of : ℕ → ℕ → List ℕ → Opens → Opens
 start_of depth margin levels what = if not (nat_lt 0 depth) && nat_lt (indent levels) margin
     then what else opening.Nothing
@@ -154,7 +154,7 @@ entry_of l h = record {
   key = false;
 }
 
--- the mark that a `:` sets at its candidate: a key, which opens a mapping where it stands right of the innermost level
+-- the mark that a `:` sets at its candidate: a key, which opens a mapping where it is right of the innermost level
 abbrev pub as_key : List ℕ → Entry → Entry
 as_key levels e = record {
   lexeme = e.lexeme;
@@ -187,7 +187,7 @@ abbrev pub key_allowed : List Lexeme → Bool
 key_allowed [] = false
 key_allowed (l ∷ h) = allows_key l.kind (l.depth == 0) (has (found_by l h)) || l.broke
 
--- the stream's end stands at the start of a line
+-- the stream's end is at the start of a line
 abbrev pub placed : Kind → yaml_mark_t → yaml_mark_t
 placed k m = if is_end k && nat_lt 0 m.column
     then record { index = m.index; line = m.line + 1; column = 0 } else m

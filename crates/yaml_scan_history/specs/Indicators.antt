@@ -1,9 +1,9 @@
--- Which indicator stands at a place.
+-- Which indicator is at a place.
 use Rattle.std.specs.Prelude.{ℕ, ◌+◌, Bool, ◌&&◌, ◌==◌, List}
 use Rattle.yaml_scan_model.specs.Ascii as ascii
 use Rattle.yaml_scan_model.specs.Marks.{byte, column_at, is_blank_or_end}
 
--- the byte stands there three times
+-- the byte is there three times
 abbrev pub is_thrice : ℕ → List ℕ → ℕ → Bool
 is_thrice b text p = byte text p == b && (byte text (p + 1) == b && byte text (p + 2) == b)
 

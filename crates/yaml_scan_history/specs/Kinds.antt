@@ -50,7 +50,7 @@ is_start kinds.KeyMark = true
 is_start kinds.ValueMark = true
 is_start _ = false
 
--- it stands outside all block levels
+-- it is outside all block levels
 abbrev pub is_outside : Kind → Bool
 is_outside kinds.StreamEnd = true
 is_outside kinds.Directive = true

@@ -10,7 +10,7 @@ use Rattle.yaml_scan_history.specs.Remaining.{handed}
 abbrev pub Upto : yaml_mark_t → yaml_mark_t → Type 0
 Upto p q = (p.index ≤ q.index) × (p.line ≤ q.line)
 
--- each lexeme of the text stands after the ones before it
+-- each lexeme of the text is after the ones before it
 abbrev pub GoesForward : List ℕ → Type 0
 GoesForward text = (n : ℕ) (l : Lexeme) → next text (history text n) ≡ Read l
     → Upto (reached (history text n)) l.start × Upto l.start l.reached

@@ -1,4 +1,4 @@
--- The lines of a block scalar whose text stands at a column.
+-- The lines of a block scalar whose text is at a column.
 use Rattle.std.specs.Prelude.{ℕ, zero, suc, ◌+◌, ◌-◌, not, ◌&&◌, ◌||◌, ◌==◌, nat_lt, if◌then◌else◌, List, [], ◌∷◌, Result, Ok, Err, slice_range}
 use Rattle.yaml_scan_model.specs.Ascii as ascii
 use Rattle.yaml_scan_model.specs.declared.problem.Problem.{Problem}
@@ -14,12 +14,12 @@ use Rattle.yaml_scan_history.specs.Value.{BlockLine, Empty, Words}
 abbrev pub in_block : Problem → ℕ → Wrong
 in_block problem p = record { problem = problem; context = contexts.BlockScalar; place = p }
 
--- how many spaces stand there, at most n
+-- how many spaces are there, at most n
 unfoldable pub spaces : ℕ → List ℕ → ℕ → ℕ
 spaces zero text p = 0
 spaces (suc n) text p = if byte text p == ascii.space then suc (spaces n text (p + 1)) else 0
 
--- What stands at a place in a line's indentation: a line with the place after its break, the end of
+-- What is at a place in a line's indentation: a line with the place after its break, the end of
 -- the scalar with the place that shows it, or a tab.
 pub data LineSpot : Type 0 where
   Stops : ℕ → LineSpot

@@ -37,9 +37,9 @@ first_lexeme = record {
   broke = false;
 }
 
--- ---- which lexeme stands after the gap
+-- ---- which lexeme is after the gap
 
--- what stands between the last lexeme and the next one
+-- what is between the last lexeme and the next one
 abbrev pub gap_behind : List ℕ → List Lexeme → Gap
 gap_behind text h = gap_at (in_flow h) (key_allowed h) text (reached h).index
 
@@ -55,12 +55,12 @@ kind_behind text h = kind_at (in_flow h) text (gap_behind text h).place
 abbrev pub allowed_behind : List Lexeme → Gap → Bool
 allowed_behind h gap = key_allowed h || (gap.broke && not (in_flow h))
 
--- the margin of the innermost level that a lexeme stands in
+-- the margin of the innermost level that a lexeme is in
 abbrev pub level_in : Kind → ℕ → List Lexeme → ℕ
 level_in k column h = indent (left_by k (flow_depth h) column (open_levels h))
 
 -- The lexeme of a kind that starts there, its end aside. It is saved where it may become a key, and required to become
--- one where it also stands at the indent, in block context.
+-- one where it also is at the indent, in block context.
 abbrev pub begun : Kind → yaml_mark_t → Bool → List Lexeme → Lexeme
 begun k start allowed h = record {
   kind = k;
@@ -95,13 +95,13 @@ abbrev pub with_end : List ℕ → Lexeme → Result WordText Wrong → Lexeme
 with_end text l (Ok w) = finished text l w
 with_end text l (Err w) = l
 
--- the lexeme of that kind that stands after the gap
+-- the lexeme of that kind that is after the gap
 abbrev pub lexeme_behind : Kind → List ℕ → List Lexeme → Lexeme
 lexeme_behind k text h = with_end text (begun_behind k text h) (word_behind k text h)
 
 -- ---- what can be wrong
 
--- the start of a required candidate that is stale at a place; they stand at depth 0
+-- the start of a required candidate that is stale at a place; they are at depth 0
 abbrev pub missed : Option Candidate → yaml_mark_t → Option yaml_mark_t
 missed None place = None
 missed (Some c) place = if c.lexeme.required && not (is_fresh c.lexeme.start place)
@@ -200,7 +200,7 @@ first_fault_or [] x = x
 first_fault_or (Some p ∷ ps) x = Fails p
 first_fault_or (None ∷ ps) x = first_fault_or ps x
 
--- what comes where a lexeme of that kind stands after the gap, or none can start there
+-- what comes where a lexeme of that kind is after the gap, or none can start there
 abbrev pub coming : Option Kind → List ℕ → List Lexeme → Next
 coming None text h = first_fault_or (stale_before text h ∷ [])
     (Fails (no_start (place_behind text h)))

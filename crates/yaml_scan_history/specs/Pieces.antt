@@ -88,7 +88,7 @@ folded l (next ∷ ls) =
 abbrev pub value : List Piece → List ℕ
 value ps = let ls = lines ps in folded ls.first ls.others
 
--- the value of pieces that stand after a gap's first break
+-- the value of pieces that are after a gap's first break
 abbrev pub behind : List ℕ → List Piece → List ℕ
 behind first ps =
     let ls = lines ps in

@@ -23,7 +23,7 @@ is_indicator_byte b =
     || ((b == ascii.bar || (b == ascii.greater || b == ascii.apostrophe))
     || ((b == ascii.quote || b == ascii.percent) || (b == ascii.at || b == ascii.grave))))
 
--- a plain scalar can start with what stands there
+-- a plain scalar can start with what is there
 unfoldable pub starts_plain : Bool → List ℕ → ℕ → Bool
 starts_plain flow text p =
     not (is_blank_or_end text p)
@@ -32,16 +32,16 @@ starts_plain flow text p =
     || (not flow && ((byte text p == ascii.question || byte text p == ascii.colon)
     && not (is_blank_or_end text (p + 1)))))
 
--- a blank or the end of a break stands before the place
+-- a blank or the end of a break is before the place
 abbrev pub after_white : List ℕ → ℕ → Bool
 after_white text p = is_blank (byte text (p - 1)) || ends_break text (p - 1)
 
--- blanks alone stand between the place and the break before it
+-- blanks alone are between the place and the break before it
 unfoldable pub leads : List ℕ → ℕ → Bool
 leads text zero = false
 leads text (suc p) = if is_blank (byte text p) then leads text p else ends_break text p
 
--- What stands at a place inside the scalar: its end, a piece with the place after it, or what is wrong.
+-- What is at a place inside the scalar: its end, a piece with the place after it, or what is wrong.
 pub data PlainSpot : Type 0 where
   Ends : PlainSpot
   Takes : Piece → ℕ → PlainSpot
@@ -50,7 +50,7 @@ pub data PlainSpot : Type 0 where
 abbrev pub in_plain : Problem → ℕ → PlainSpot
 in_plain problem p = Faulty record { problem = problem; context = contexts.PlainScalar; place = p }
 
--- the scalar ends before what stands there, which is no blank and no break; a level is an indent's column + 1, or 0
+-- the scalar ends before what is there, which is no blank and no break; a level is an indent's column + 1, or 0
 unfoldable pub ends_at : Bool → ℕ → List ℕ → ℕ → Bool
 ends_at flow level text p =
     (byte text p == 0 || is_document_indicator text p)
@@ -132,7 +132,7 @@ plain_with f (Err e) = Err e
 abbrev pub plain_text : Words → PlainText
 plain_text w = record { value = value w.pieces; end = w.end; place = w.place; broke = w.broke }
 
--- the plain scalar whose first byte stands there, or what is wrong
+-- the plain scalar whose first byte is there, or what is wrong
 abbrev pub plain_at : Bool → ℕ → List ℕ → ℕ → Result PlainText Wrong
 plain_at flow level text p = plain_with plain_text (words_from (Kept (byte text p ∷ [])) (p + 1)
     (words (length text) flow level text (p + 1)))

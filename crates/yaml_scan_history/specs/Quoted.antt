@@ -10,7 +10,7 @@ use Rattle.yaml_scan_model.specs.Breaks.{break_value, is_document_indicator}
 use Rattle.yaml_scan_model.specs.Wrong.{Wrong}
 use Rattle.yaml_scan_history.specs.Pieces.{Piece, Kept, Blank, Break, value}
 
--- What stands at a place inside the quotes: the closing one, pieces with the place after them, or what is wrong.
+-- What is at a place inside the quotes: the closing one, pieces with the place after them, or what is wrong.
 pub data QuotedSpot : Type 0 where
   Closing : QuotedSpot
   Pieces : List Piece → ℕ → QuotedSpot

@@ -37,7 +37,7 @@ body_in s l = body_by l.kind s l
 abbrev pub token_in : SpelledText → Lexeme → Token
 token_in s l = record { body = body_in s l; start_mark = l.start; end_mark = l.end }
 
--- a token that stands before a lexeme
+-- a token that is before a lexeme
 abbrev pub before : TokenBody → Lexeme → Token
 before body l = record { body = body; start_mark = l.start; end_mark = l.start }
 
@@ -74,7 +74,7 @@ abbrev pub front_ends : List Entry → List Token
 front_ends [] = []
 front_ends (e ∷ es) = end_tokens e
 
--- BLOCK-END tokens stand before a lost candidate, and are not lost.
+-- BLOCK-END tokens are before a lost candidate, and are not lost.
 abbrev pub kept_of : Next → List Lexeme → List Token
 kept_of (Fails p) h = front_ends (drop (first_open h h) (finished_tokens h))
 kept_of Ends h = []

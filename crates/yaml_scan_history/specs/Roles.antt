@@ -7,7 +7,7 @@ use Rattle.yaml_scan_history.specs.Kinds as by_kind
 pub data Role : Type 0 where
   -- the start of the stream
   Beginning : Role
-  -- its end, a directive, `---` and `...`: they stand outside of all collections
+  -- its end, a directive, `---` and `...`: they are outside of all collections
   Boundary : Role
   -- `[` and `{`
   Opener : Role
@@ -21,7 +21,7 @@ pub data Role : Type 0 where
   Question : Role
   -- `:`
   Colon : Role
-  -- an alias, an anchor, a tag, a quoted scalar or a plain one: they may stand in brackets, and in a key
+  -- an alias, an anchor, a tag, a quoted scalar or a plain one: they may be in brackets, and in a key
   Word : Role
   -- a literal or folded scalar: lines of its own
   Block : Role

@@ -1,4 +1,4 @@
--- What is wrong with a text, rule by rule: what stands there, and what the fault says, in its own words.
+-- What is wrong with a text, rule by rule: what is there, and what the fault says, in its own words.
 use Rattle.std.specs.Prelude.{◌≡◌, ◌≢◌, ◌<◌, ◌≤◌, ◌⊎◌, ◌&&◌, ◌||◌, ◌==◌, ℕ, suc, ◌+◌, ◌-◌, Bool, true, false, List, [], length, Option, Some, None, Result, Ok, Err, codes}
 use Rattle.yaml_scan_model.specs.Ascii as ascii
 use Rattle.yaml_scan_model.specs.declared.record.yaml_mark_t.{yaml_mark_t}
@@ -36,7 +36,7 @@ IsTold (Err w) context problem q = TellsAll w context problem q
 
 -- ---- names
 
--- After `&` or `*` no character of a name stands up to q, or what stands there can't end one.
+-- After `&` or `*` no character of a name stands up to q, or what is there can't end one.
 abbrev pub NoName : List ℕ → ℕ → ℕ → Type 0
 NoName text p q = EndsBlockRun is_alpha text (p + 1) q
     × ((q ≡ p + 1) ⊎ (may_end_name text q ≡ false))
@@ -94,7 +94,7 @@ pub record TagsAreTold : Type 0 where
 
 -- ---- directives
 
--- `%YAML` and blanks stand there, and then something else
+-- `%YAML` and blanks are there, and then something else
 pub record IsYaml (text : List ℕ) (p r : ℕ) : Type 0 where
   pub letters : EndsBlockRun is_alpha text (p + 1) (p + 5)
   pub name : is_yaml text (p + 1) ≡ true
@@ -180,7 +180,7 @@ IsStandingTold (Bad w) context problem q = TellsAll w context problem q
 IsStandingTold quoted.Closing context problem q = ⊥
 IsStandingTold (quoted.Pieces ps r) context problem q = ⊥
 
--- inside of double quotes a `\` stands there, at no document's mark
+-- inside of double quotes a `\` is there, at no document's mark
 pub record IsEscape (text : List ℕ) (p : ℕ) : Type 0 where
   pub mark : is_document_indicator text p ≡ false
   pub backslash : byte text p ≡ ascii.backslash

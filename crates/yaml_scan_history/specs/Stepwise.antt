@@ -35,7 +35,7 @@ unless_lost None text p l h = unless_wrong
     (lexeme_at l.kind (nat_lt 0 l.depth) l.level text p) text l
     h
 
--- the lexeme of that kind, which stands after the gap
+-- the lexeme of that kind, which is after the gap
 abbrev pub of_kind : Option Kind → List ℕ → Gap → List Lexeme → Next
 of_kind None text gap h = no_token (mark_at text gap.place)
 of_kind (Some k) text gap h =
@@ -50,7 +50,7 @@ unless_missed (Some start) text gap h = no_colon start (mark_at text gap.place)
 unless_missed None text gap h = of_kind
     (kind_at (nat_lt 0 (flow_depth h)) text gap.place) text gap h
 
--- what stands after the gap
+-- what is after the gap
 abbrev pub behind : List ℕ → Gap → List Lexeme → Next
 behind text gap h = unless_missed (missed (fresh (candidate 0 h) (reached h))
     (mark_at text gap.place)) text gap h

@@ -53,14 +53,14 @@ bare (Err w) = Err w
 abbrev pub bare_at : List ℕ → ℕ → Result TagText Wrong
 bare_at text p = bare (uri_at contexts.TagUri false text (p + 1))
 
--- the tag whose `!` stands there, whatever follows it
+-- the tag whose `!` is there, whatever follows it
 unfoldable pub parts_at : List ℕ → ℕ → Result TagText Wrong
 parts_at text p =
     if byte text (p + 1) == ascii.less then verbatim_at text p
     else if byte text (name_end text p) == ascii.exclamation then named_at text p
     else bare_at text p
 
--- a blank, a break or the end stands there, or in flow context `,`
+-- a blank, a break or the end is there, or in flow context `,`
 abbrev pub may_end_tag : Bool → List ℕ → ℕ → Bool
 may_end_tag flow text p = is_blank_or_end text p || (flow && byte text p == ascii.comma)
 
@@ -74,6 +74,6 @@ ended flow text (Ok t) =
     }
 ended flow text (Err w) = Err w
 
--- the tag whose `!` stands there, in flow context or not, and the place after it, or what is wrong
+-- the tag whose `!` is there, in flow context or not, and the place after it, or what is wrong
 abbrev pub tag_at : Bool → List ℕ → ℕ → Result TagText Wrong
 tag_at flow text p = ended flow text (parts_at text p)

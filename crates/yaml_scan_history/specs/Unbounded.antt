@@ -11,7 +11,7 @@ use Rattle.yaml_scan_history.specs.Uris.{Spells, Ends, Faulty, spot_at, with_byt
 
 -- ---- runs
 
--- The longest run of bytes of a kind that begins at a place ends before q: all up to q belong to it, and what stands at q doesn't.
+-- The longest run of bytes of a kind that begins at a place ends before q: all up to q belong to it, and what is at q doesn't.
 pub record EndsRun (run : Run) (text : List ℕ) (p q : ℕ) : Type 0 where
   pub after : p ≤ q
   pub each : (k : ℕ) → p ≤ k → k < q → belongs run text k ≡ true

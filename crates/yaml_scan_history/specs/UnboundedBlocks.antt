@@ -11,7 +11,7 @@ use Rattle.yaml_scan_history.specs.Lines.{in_block, Stops, Line, Tab, line_spot,
 
 -- ---- runs
 
--- The longest run of a kind that begins at a place ends before q: all up to q is of the kind, and what stands at q isn't.
+-- The longest run of a kind that begins at a place ends before q: all up to q is of the kind, and what is at q isn't.
 pub record EndsBlockRun (kind : List ℕ → ℕ → Bool) (text : List ℕ) (p q : ℕ) : Type 0 where
   pub after : p ≤ q
   pub each : (k : ℕ) → p ≤ k → k < q → kind text k ≡ true
@@ -69,7 +69,7 @@ DeepestIsOne = (text : List ℕ) (p : ℕ) (r : Result ℕ Wrong) → Deepest te
 
 -- ---- lines
 
--- The lines from a place on whose text stands at a column, where the last one ended at `end`: line by line up to the end of the
+-- The lines from a place on whose text is at a column, where the last one ended at `end`: line by line up to the end of the
 -- scalar, or a tab.
 pub data AreLinesFrom (c : ℕ) (text : List ℕ) : ℕ → ℕ → Result Lines Wrong → Type 0 where
   stops : (end p q : ℕ) → line_spot c text p ≡ Stops q

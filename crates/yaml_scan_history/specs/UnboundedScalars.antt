@@ -67,7 +67,7 @@ pub data IsPlainFrom (flow : Bool) (level : ℕ) (text : List ℕ)
   is_faulty : (p : ℕ) (w : Wrong) → spot_at flow level text p ≡ Faulty w
       → IsPlainFrom flow level text p (Err w)
 
--- what a plain scalar is, by what stands after its first byte
+-- what a plain scalar is, by what is after its first byte
 abbrev pub plain_behind : List ℕ → ℕ → Result Words Wrong → Result Words Wrong
 plain_behind text p r = words_from (Kept (byte text p ∷ [])) (p + 1) r
 

@@ -22,7 +22,7 @@ is_punctuation b =
 unfoldable pub is_wide_punctuation : ℕ → Bool
 is_wide_punctuation b = b == ascii.comma || (b == ascii.open_bracket || b == ascii.close_bracket)
 
--- a character stands there that a URI holds as it is
+-- a character is there that a URI holds as it is
 abbrev pub is_uri : Bool → List ℕ → ℕ → Bool
 is_uri wide text p = is_alpha text p
     || (is_punctuation (byte text p) || (wide && is_wide_punctuation (byte text p)))
@@ -63,7 +63,7 @@ due_behind b due =
     else if nat_le 0xF0 b && nat_le b 0xF7 then Ok 3
     else Err problems.WrongLeadingOctet
 
--- What stands at a place of a URI: a byte, how many escapes are due after it, and the place after it; or the URI's end; or a
+-- What is at a place of a URI: a byte, how many escapes are due after it, and the place after it; or the URI's end; or a
 -- problem and its place.
 pub data UriSpot : Type 0 where
   Spells : ℕ → ℕ → ℕ → UriSpot
@@ -78,7 +78,7 @@ abbrev pub octet_spot : ℕ → ℕ → Option ℕ → UriSpot
 octet_spot due p (Some b) = escape_spot b p (due_behind b due)
 octet_spot due p None = Faulty problems.NoEscapedOctet p
 
--- what stands there, where that many escapes are due
+-- what is there, where that many escapes are due
 unfoldable pub spot_at : Bool → ℕ → List ℕ → ℕ → UriSpot
 spot_at wide due text p =
     if byte text p == ascii.percent then octet_spot due p (octet_at text p)
@@ -108,7 +108,7 @@ uri_within zero context wide due text p = Ok ([], p)
 uri_within (suc n) context wide due text p = uri_from (λ next q. uri_within n context wide next text
     q) context (spot_at wide due text p)
 
--- the bytes that the URI spells which stands there, none where no URI does, and the place after it, or what is wrong
+-- the bytes that the URI spells which is there, none where no URI does, and the place after it, or what is wrong
 abbrev pub uri_at : Context → Bool → List ℕ → ℕ → Result (List ℕ × ℕ) Wrong
 uri_at context wide text p = uri_within (suc (length text)) context wide 0 text p
 

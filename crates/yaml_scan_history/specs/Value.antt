@@ -48,7 +48,7 @@ abbrev pub space_or : List ℕ → List ℕ
 space_or [] = ascii.space ∷ []
 space_or (b ∷ bs) = b ∷ bs
 
--- what stands between two texts, by their breaks; `bare`: neither begins with a blank
+-- what is between two texts, by their breaks; `bare`: neither begins with a blank
 unfoldable pub between : Bool → Bool → List ℕ → List ℕ → List ℕ
 between folded bare feed empties = if folded && (bare && is_feed feed) then space_or empties
     else feed ++ empties

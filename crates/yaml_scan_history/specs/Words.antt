@@ -1,4 +1,4 @@
--- Which lexeme stands at a place, and what it carries.
+-- Which lexeme is at a place, and what it carries.
 use Rattle.std.specs.Prelude.{ℕ, pos, ◌+◌, Bool, false, not, ◌&&◌, ◌||◌, ◌==◌, if◌then◌else◌, List, Option, Some, None, Result, Ok, Err}
 use Rattle.yaml_scan_model.specs.Ascii as ascii
 use Rattle.yaml_scan_model.specs.declared.name.yaml_scalar_style_t.{yaml_scalar_style_t}
@@ -44,7 +44,7 @@ abbrev pub or_plain : Option Kind → Bool → Option Kind
 or_plain (Some k) starts = Some k
 or_plain None starts = if starts then Some kinds.Plain else None
 
--- the kind of the lexeme that stands there, in flow context or not
+-- the kind of the lexeme that is there, in flow context or not
 unfoldable pub kind_at : Bool → List ℕ → ℕ → Option Kind
 kind_at flow text p =
     if byte text p == 0 then Some kinds.StreamEnd
@@ -110,7 +110,7 @@ plainly (Ok p) = Ok record {
 }
 plainly (Err w) = Err w
 
--- the lexeme of that kind that stands there, in flow context or not, in that level; or what is wrong with it
+-- the lexeme of that kind that is there, in flow context or not, in that level; or what is wrong with it
 unfoldable pub lexeme_at : Kind → Bool → ℕ → List ℕ → ℕ → Result WordText Wrong
 lexeme_at kinds.StreamStart flow level text p = carrying tokens.stream_end p
 lexeme_at kinds.StreamEnd flow level text p = carrying tokens.stream_end p

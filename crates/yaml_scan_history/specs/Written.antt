@@ -25,7 +25,7 @@ abbrev pub has_break : List ℕ → Bool
 has_break [] = false
 has_break (b ∷ bs) = (b == ascii.line_feed || b == ascii.carriage_return) || has_break bs
 
--- a lexeme stands there, or the end: neither a blank nor a comment nor a break, nor U+FEFF at the start of the text
+-- a lexeme is there, or the end: neither a blank nor a comment nor a break, nor U+FEFF at the start of the text
 abbrev pub begins_lexeme : List ℕ → ℕ → Bool
 begins_lexeme text p =
     not (byte text p == ascii.space) && (not (byte text p == ascii.tab)

@@ -34,7 +34,7 @@ pub enum Kind {
 }
 
 impl Kind {
-    /// Whether it stands outside all block levels.
+    /// Whether it is outside all block levels.
     pub fn is_outside(self) -> bool
         ensures { result ≡ kinds.is_outside self }
     {

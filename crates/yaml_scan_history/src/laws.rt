@@ -4,7 +4,7 @@ ghost use Rattle.yaml_scan_history.specs.Laws.{SettledStays};
 ghost use Rattle.yaml_scan_history.specs.Roles.{KindsHaveRoles};
 ghost use Rattle.yaml_scan_history.specs.Rules.{NamesAreTold, TagsAreTold, DirectivesAreTold, QuotesAreTold, PlainsAreTold, BlocksAreTold, PlacesAreTold};
 
-/// What stands before the earliest open candidate never changes, whatever follows, in a text whose lexemes stand after
+/// What is before the earliest open candidate never changes, whatever follows, in a text whose lexemes are after
 /// one another.
 pub fn settled_stays()
     ensures { SettledStays }
@@ -15,7 +15,7 @@ pub fn kinds_have_roles()
     ensures { KindsHaveRoles }
 {}
 
-/// What a fault of the scanner tells, rule by rule: what stands there, and the fault's words and places.
+/// What a fault of the scanner tells, rule by rule: what is there, and the fault's words and places.
 pub fn faults_are_told()
     ensures names { NamesAreTold }
     ensures tags { TagsAreTold }

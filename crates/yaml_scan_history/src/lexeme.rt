@@ -14,7 +14,7 @@ pub struct Lexeme {
     pub reached: yaml_mark_t,
     /// How many brackets are open before it.
     pub depth: usize,
-    /// The margin of the innermost block level that it stands in: the first column right of it; 0 where none is open.
+    /// The margin of the innermost block level that it is in: the first column right of it; 0 where none is open.
     pub level: u64,
     /// It was saved as a candidate: a simple key may begin with it.
     pub saved: bool,

@@ -42,7 +42,7 @@ comment_place text p l =
       | inr h ↦ rw h record { forward = omega arith; inside = l }
     ]
 
--- how many indicators stand there, by what they are
+-- how many indicators are there, by what they are
 indicators_are : (b c : ℕ)
     → (indicators b c ≡ 0) ⊎ (((indicators b c ≡ 1) × (0 < b)) ⊎ ((indicators b c ≡ 2) × (0 < c)))
 unfolding indicators is_chomping is_digit_byte

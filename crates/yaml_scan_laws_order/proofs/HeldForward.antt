@@ -54,7 +54,7 @@ outer_is_first h c e =
           sym m ∙ ap (λ (y : Candidate). y.number) is
     ]
 
--- a lexeme stands after a history
+-- a lexeme is after a history
 pub record IsBehind (text : List ℕ) (h : List Lexeme) (l : Lexeme) : Type 0 where
   pub behind : (reached h).index ≤ l.start.index
   pub lines : ((reached h).line ≤ l.start.line) × (l.start.line ≤ l.reached.line)
@@ -62,7 +62,7 @@ pub record IsBehind (text : List ℕ) (h : List Lexeme) (l : Lexeme) : Type 0 wh
   pub stands : 0 < length h → StandsIn text l
   pub first : length h ≡ 0 → l.saved ≡ false
 
--- each lexeme stands after the ones before it
+-- each lexeme is after the ones before it
 abbrev pub Chain : List ℕ → List Lexeme → Type 0
 Chain text [] = Unit {0}
 Chain text (l ∷ h) = IsBehind text h l × Chain text h
@@ -131,7 +131,7 @@ has_bytes text (l ∷ newer) c older (b, rest) s =
     let (low, high) = own_bytes text l (b.stands some) in
     record { all_but_one = omega (arith, each, behind, low); each = λ n. let more = high n in omega (arith, each, behind, more); lines = omega (arith, before.lines, b.lines) }
 
--- where a candidate stands in its history
+-- where a candidate is in its history
 record IsFound (d : ℕ) (h : List Lexeme) (c : Candidate) : Type 0 where
   pub depth : c.lexeme.depth ≡ d
   pub saved : c.lexeme.saved ≡ true

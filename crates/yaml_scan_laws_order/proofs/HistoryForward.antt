@@ -118,11 +118,11 @@ read_forward text (x ∷ h) l s e =
     let start = placed_line text l (is_end l.kind) t in
     ((f, omega (arith, grown, mark, start)), placed_reached text l (is_end l.kind) t)
 
--- each lexeme stands after the ones before it
+-- each lexeme is after the ones before it
 pub goes_forward : (text : List ℕ) → GoesForward text
 goes_forward text n l e = read_forward text (history text n) l (history_stands text n) e
 
--- The next lexeme stands after those before it.
+-- The next lexeme is after those before it.
 pub stand_in : (text : List ℕ) (h : List Lexeme) (l : Lexeme) → 0 < length h → Stands text h
     → next text h ≡ Read l → ((reached h).index ≤ l.start.index) × StandsIn text l
 stand_in text [] l some s e = absurd (omega arith)

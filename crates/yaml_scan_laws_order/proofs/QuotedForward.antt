@@ -38,7 +38,7 @@ hex_inside (suc n) text p h s =
     let digit = last_digit (hex_value text p n) (hex_digit (byte text (p + n))) s in
     omega (arith, within text (p + n) (digit_some (byte text (p + n)) digit))
 
--- what stands at the place ends after it, inside the text
+-- what is at the place ends after it, inside the text
 abbrev Fits : List ℕ → ℕ → QuotedSpot → Type 0
 Fits text p Closing = p < length text
 Fits text p (Pieces qs q) = (p < q) × (q ≤ length text)

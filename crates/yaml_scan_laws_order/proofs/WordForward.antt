@@ -19,7 +19,7 @@ Fits kinds.DocumentStart text p = p + 3 ≤ length text
 Fits kinds.DocumentEnd text p = p + 3 ≤ length text
 Fits _ text p = p < length text
 
--- ---- what stands there, by its kind
+-- ---- what is there, by its kind
 
 -- what the text has where a lexeme of a kind stands
 abbrev pub Tells : List ℕ → ℕ → Kind → Type 0
@@ -95,12 +95,12 @@ tells_any : (P : Kind → Type 0) (text : List ℕ) (p : ℕ) (o : Option Kind)
 tells_any P text p None f t = tt
 tells_any P text p (Some k) f t = f k t
 
--- what the text says of a kind holds of the one that stands there
+-- what the text says of a kind holds of the one that is there
 pub kind_is : (P : Kind → Type 0) (flow : Bool) (text : List ℕ) (p : ℕ)
     → ((k : Kind) → Tells text p k → P k) → OfAny P (kind_at flow text p)
 kind_is P flow text p f = tells_any P text p (kind_at flow text p) f (kind_tells flow text p)
 
--- what stands there says of its kind
+-- what is there says of its kind
 pub kind_told : (flow : Bool) (text : List ℕ) (p : ℕ) (k : Kind) → kind_at flow text p ≡ Some k
     → Tells text p k
 kind_told flow text p k e = subst (λ (o : Option Kind). OfAny (Tells text p) o) e (kind_tells flow text p)
@@ -124,7 +124,7 @@ end_inside text p h =
 abbrev pub FitsAny : Option Kind → List ℕ → ℕ → Type 0
 FitsAny o text p = OfAny (λ k. Fits k text p) o
 
--- the kind of what stands there fits
+-- the kind of what is there fits
 pub kind_fits : (flow : Bool) (text : List ℕ) (p : ℕ) → FitsAny (kind_at flow text p) text p
 kind_fits flow text p = kind_is (λ k. Fits k text p) flow text p (fits text p)
   where

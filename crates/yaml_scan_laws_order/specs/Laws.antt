@@ -7,7 +7,7 @@ use Rattle.yaml_scan_history.specs.Remaining.{all, handed}
 use Rattle.yaml_scan_history.specs.Laws as layout
 use Rattle.yaml_scan_laws_order.specs.Standing.{StandsIn}
 
--- Each lexeme stands after the ones before it.
+-- Each lexeme is after the ones before it.
 abbrev pub GoesForward : Type 0
 GoesForward = (text : List ℕ) → layout.GoesForward text
 

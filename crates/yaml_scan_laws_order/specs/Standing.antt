@@ -1,4 +1,4 @@
--- Where a lexeme's marks stand in the text.
+-- Where a lexeme's marks are in the text.
 use Rattle.std.specs.Prelude.{ℕ, ◌≡◌, ◌<◌, ◌≤◌, Bool, true, false, List, length}
 use Rattle.yaml_scan_history.specs.scan_model.Marks.{mark_at}
 use Rattle.yaml_scan_history.specs.declared.lexeme.Lexeme.{Lexeme}

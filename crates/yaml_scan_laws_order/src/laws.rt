@@ -20,11 +20,11 @@ ghost use Rattle.yaml_scan_laws_order.specs.Fronts.{SettledComes, LastComes, End
 
 /// The order of tokens, marks and fronts.
 pub fn laws_of_order()
-    // Each lexeme stands after the ones before it: places and lines never go back.
+    // Each lexeme is after the ones before it: places and lines never go back.
     ensures goes_forward { GoesForward }
     // A lexeme's marks are marks of the text. The stream's start and end take no byte, every other lexeme at least one.
     ensures lexemes_stand { LexemesStand }
-    // What stands before the earliest open candidate never changes, whatever follows.
+    // What is before the earliest open candidate never changes, whatever follows.
     ensures settled_stays { SettledStays }
     // A text has at most two lexemes more than bytes.
     ensures are_few { AreFew }

@@ -94,7 +94,7 @@ line_outer x a line e front last g over outer =
     ∙ ap (λ k. depth_after k g.newest.depth) g.lies.kind ∙ g.lies.deep in
     g.deep ∙ sym deep ∙ outer
 
--- ---- the line's tokens, and those of what stands after it
+-- ---- the line's tokens, and those of what is after it
 
 abbrev stream_token : yaml_encoding_t → List ℕ → Token
 stream_token x t = token_in (record { encoding = x; text = t }) first_lexeme
@@ -102,7 +102,7 @@ stream_token x t = token_in (record { encoding = x; text = t }) first_lexeme
 abbrev dots_token : yaml_encoding_t → List ℕ → Token
 dots_token x t = token_in (record { encoding = x; text = t }) (mark_lexeme kinds.DocumentEnd t 0)
 
--- what is told of a line and of what stands after it
+-- what is told of a line and of what is after it
 record Lined (x : yaml_encoding_t) (line b : List ℕ) (behind : List Token) : Type 0 where
   pub are : (scan_of x (line ++ b)).tokens
       ≡ stream_token x (line ++ b) ∷ dots_token x (line ++ b) ∷ map (moved_token (length line) (line_at (line ++ b) (length line))) behind
@@ -315,7 +315,7 @@ no_closings l H K k out start m =
       | inr flat ↦ rw (flat, outer_levels l H K k out start flat) refl
     ]
 
--- what stands after the dots: the end, or a fault
+-- what is after the dots: the end, or a fault
 abbrev pub TailSo : List ℕ → List Token → Option Fault → Type 0
 TailSo a tail own =
     ((last : Token) × (tail ≡ last ∷ []) × (last.body ≡ tokens.stream_end) × (own ≡ None))

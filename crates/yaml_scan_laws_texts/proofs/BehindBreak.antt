@@ -1,4 +1,4 @@
--- What stands after LF is alike in the whole.
+-- What is after LF is alike in the whole.
 use Rattle.std.proofs.Common.{◌≡◌, ℕ, zero, suc, ◌+◌, ◌-◌, ◌<◌, ◌≤◌, true, false, List, ◌++◌, length, refl, sym, ap, ◌∙◌, inl, inr, arith}
 use Rattle.yaml_scan_laws_texts.proofs.Shared.{cases_lt, nat_tests, length_push, byte, ends_of, ends_break, line_at, column_at, mark_at, is_bom, column_end, Alike, EndsIn, moved_mark, ne_eqb}
 use Rattle.yaml_scan_laws_texts.proofs.Cutting.{byte_left, byte_right, behind_alike, bom_by, last_is, columns_by, lines_by, far_ends}
@@ -60,7 +60,7 @@ fed_marks a b feed q =
     let columns = columns_by a b (fed_column a b feed) (fed_ends a b feed) q in
     rw (lines_by a b (fed_ends a b feed) q, columns) refl
 
--- what stands after LF stands so in the whole, except for U+FEFF
+-- what is after LF stands so in the whole, except for U+FEFF
 pub fed_alike : (a b : List ℕ) → EndsIn a 10 → is_bom b 0 ≡ false
     → Alike b (a ++ b) (length a) (suc (length b))
 fed_alike a b feed none = behind_alike a b (fed_column a b feed) (fed_ends a b feed) (bom_by a b (let off = ne_eqb (length a + 0) 0 (omega (arith, feed_long a feed)) in rw (off, none) refl))

@@ -238,7 +238,7 @@ column_there t u d m level digit p a at =
       | inr h ↦ rw h refl
     ]
 
--- the text stands right of column 0
+-- the text is right of column 0
 abbrev Right : Result ℕ Wrong → Type 0
 Right (Ok c) = 0 < c
 Right (Err w) = Unit {0}

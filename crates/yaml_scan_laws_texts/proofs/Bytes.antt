@@ -20,7 +20,7 @@ off_break b (inr z) = rw z refl
 abbrev pub IsQuiet : ℕ → Type 0
 IsQuiet b = (b ≡ 0) ⊎ ((b ≡ 45) ⊎ (b ≡ 46))
 
--- what stands in the other text where this one ends
+-- what is in the other text where this one ends
 pub quiet_edge : (t u : List ℕ) (d m : ℕ) → Alike t u d m → IsQuiet (byte u (d + m))
 unfolding is_document_indicator
 quiet_edge t u d m a =
@@ -69,7 +69,7 @@ next_feed t u d m p a l =
           rw (add_assoc d p 1, here, quiet, a.edge) refl
     ]
 
--- the same break stands there
+-- the same break is there
 pub width_alike : (t u : List ℕ) (d m p : ℕ) → Alike t u d m → p < m
     → break_width u (d + p) ≡ break_width t p
 width_alike t u d m p a l =
@@ -89,7 +89,7 @@ width_alike t u d m p a l =
           ]
     ]
 
--- a blank, a break or the end stands there in both
+-- a blank, a break or the end is there in both
 pub end_alike : (t u : List ℕ) (d m p : ℕ) → Alike t u d m → p < m
     → is_blank_or_end u (d + p) ≡ is_blank_or_end t p
 end_alike t u d m p a l = rw (width_alike t u d m p a l, a.bytes p l) refl
@@ -132,7 +132,7 @@ onward_dot : (b : ℕ) → b ≡ 46 → is_onward b ≡ true
 unfolding is_onward
 onward_dot b h = rw h refl
 
--- three of a byte that goes on stand in both or in neither, and after them the place is within
+-- three of a byte that goes on are in both or in neither, and after them the place is within
 pub thrice_within : (t u : List ℕ) (d m p x : ℕ) → Alike t u d m → p < m → is_onward x ≡ true
     → ((byte t p == x && byte t (p + 1) == x) && byte t (p + 2) == x) ≡ true → p + 3 < m
 thrice_within t u d m p x a l o h =

@@ -9,7 +9,7 @@ use Rattle.yaml_scan_history.specs.declared.lexeme.Opens.TheVariants as opening
 abbrev pub moved_entry : ℕ → ℕ → Entry → Entry
 moved_entry d n e = record { lexeme = moved_lexeme d n e.lexeme; ends = e.ends; opens = e.opens; key = e.key }
 
--- ---- candidates stand above the base
+-- ---- candidates are above the base
 
 above : (h b : List Lexeme) (e : ℕ) (c : Candidate) → ((e : ℕ) → candidate e b ≡ None)
     → candidate e (h ++ b) ≡ Some c → length b ≤ c.number

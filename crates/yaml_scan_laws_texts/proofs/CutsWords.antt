@@ -39,7 +39,7 @@ indicators_alike flow alone other b h =
       | inr off ↦ no_indicator flow other b off ∙ sym (no_indicator flow alone b off)
     ]
 
--- the same kind stands there
+-- the same kind is there
 pub kind_alike : (t u : List ℕ) (d m p : ℕ) (flow : Bool) → Alike t u d m → p < m
     → kind_at flow u (d + p) ≡ kind_at flow t p
 unfolding kind_at
@@ -207,7 +207,7 @@ block_word t u d m p level a l on =
     let block = block_alike level t u d m p a l on in
     ap (λ x. blocked x (block_at level u (d + p))) style ∙ ap (blocked (style_at t p)) block.same ∙ blocked_moves d (style_at t p) (block_at level t p)
 
--- what stands there is the same, moved, unless it is open where the first text ends
+-- what is there is the same, moved, unless it is open where the first text ends
 pub word_alike : (k : Kind) (flow : Bool) (level : ℕ) (t u : List ℕ) (d m p : ℕ) → Alike t u d m
     → p < m → (is_end k ≡ false → is_onward (byte t p) ≡ true) → is_blank (byte t p) ≡ false
     → WordCarried u d m (lexeme_at k flow level t p) (lexeme_at k flow level u (d + p))

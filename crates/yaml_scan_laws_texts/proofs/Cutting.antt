@@ -103,7 +103,7 @@ rest_ends a b cut (suc zero) =
     rw (here, next, before) (second_end (byte (a ++ b) (length a + 1 - 2)) (byte b 0) (byte b 1) (byte b (1 + 1)) (byte b (1 - 2)) (first_mark b cut.mark))
 rest_ends a b cut (suc (suc p)) = far_ends a b p
 
--- the columns and lines of what stands after, at every place, where its breaks end alike
+-- the columns and lines of what is after, at every place, where its breaks end alike
 pub columns_by : (a b : List ℕ) → column_at (a ++ b) (length a) ≡ 0
     → ((p : ℕ) → ends_break (a ++ b) (length a + p) ≡ ends_break b p) → (p : ℕ)
     → column_at (a ++ b) (length a + p) ≡ column_at b p
@@ -151,7 +151,7 @@ rest_bom a b cut =
     let others : is_bom (a ++ b) (length a + 0) ≡ false = rw here (not_bom (byte b 0) (byte (a ++ b) (length a + 0 + 1)) (byte (a ++ b) (length a + 0 + 2)) mark) in
     rw (mine, others) (and-false (length a + 0 == 0))
 
--- What stands after a column 0 stands so in the whole, where its line ends and U+FEFF do.
+-- What is after a column 0 stands so in the whole, where its line ends and U+FEFF do.
 pub behind_alike : (a b : List ℕ) → column_at (a ++ b) (length a) ≡ 0
     → ((p : ℕ) → ends_break (a ++ b) (length a + p) ≡ ends_break b p)
     → ((p : ℕ) → (length a + p == 0 && is_bom (a ++ b) (length a + p)) ≡ (p == 0 && is_bom b p))
@@ -170,7 +170,7 @@ behind_alike a b column ends bom =
       bom = λ p l. bom p;
     }
 
--- The rest stands in the whole.
+-- The rest is in the whole.
 pub rest_alike : (a b : List ℕ) → IsCut a b → Alike b (a ++ b) (length a) (suc (length b))
 rest_alike a b cut = behind_alike a b (cut_column a b cut) (rest_ends a b cut) (bom_by a b (rest_bom a b cut))
 
@@ -222,7 +222,7 @@ front_bom a b cut p l =
     let most = front_onward a b cut (p + 1) more (wide_onward (byte a (p + 1)) 0xBB i (omega arith)) in
     ap (λ c. c == 0xBF) (byte_left a b (p + 2) (omega (arith, most)))))))
 
--- The front stands in the whole.
+-- The front is in the whole.
 pub front_alike : (a b : List ℕ) → IsCut a b → Alike a (a ++ b) 0 (length a)
 front_alike a b cut =
     let rest = rest_alike a b cut in

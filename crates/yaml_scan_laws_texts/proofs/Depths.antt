@@ -1,4 +1,4 @@
--- Each lexeme stands at the depth that those before it leave.
+-- Each lexeme is at the depth that those before it leave.
 use Rattle.std.proofs.Common.{◌≡◌, ℕ, zero, suc, ◌+◌, List, [], ◌∷◌, length, refl, sym, ap, ◌∙◌}
 use Rattle.yaml_scan_laws_texts.proofs.Shared.{Lexeme, flow_depth, Next, Read, Fails, Ends, begun_behind, word_behind, next, extended, history, all, first_is, not_ended}
 use Rattle.yaml_scan_laws_texts.proofs.Fronts.{has_read, kept, next_open}
@@ -7,7 +7,7 @@ abbrev pub AllDeep : List Lexeme → Type 0
 AllDeep [] = Unit {0}
 AllDeep (l ∷ h) = (l.depth ≡ flow_depth h) × AllDeep h
 
--- A lexeme that is read stands at the depth of those before it.
+-- A lexeme that is read is at the depth of those before it.
 pub read_deep : (t : List ℕ) (h : List Lexeme) (l : Lexeme) → next t h ≡ Read l
     → l.depth ≡ flow_depth h
 read_deep t [] l e = ap (λ (y : Lexeme). y.depth) (sym (first_is t l e))

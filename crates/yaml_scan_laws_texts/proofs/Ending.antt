@@ -60,7 +60,7 @@ entry_says s l n what k rest bs =
     ∙ append_assoc (said (spell s e)) (bodies_of s rest) bs
     ∙ spell_says s l n what k (bodies_of s rest ++ bs)
 
--- what stands after entries
+-- what is after entries
 behind_says : (s : SpelledText) (done : List Entry) (l : Lexeme) (n : ℕ) (what : Opens) (k : Bool)
     (rest : List Entry) (bs : List TokenBody)
     → let e : Entry = record { lexeme = l; ends = n; opens = what; key = k } in

@@ -40,7 +40,7 @@ missed_before (Some c) m n l k h =
       | inr free ↦ rw (near_before c.lexeme.required n.line n.index m.line m.index c.lexeme.start.line c.lexeme.start.index l k free) refl
     ]
 
--- the candidate of depth 0 after a lexeme that stands deeper
+-- the candidate of depth 0 after a lexeme that is deeper
 pub outer_same : (l : Lexeme) (H : List Lexeme) → (l.depth == 0) ≡ false
     → candidate 0 (l ∷ H) ≡ candidate 0 H
 unfolding candidate
@@ -239,7 +239,7 @@ reads_not a b cut x h stands f e more l r =
           fails_not (sym here ∙ ap (λ o. coming o a H) none ∙ reads)
     ]
 
--- ---- it is the same one, where it stands before the end
+-- ---- it is the same one, where it is before the end
 
 fault_zero : (f : ScanFault) → moved_scan_fault 0 0 f ≡ f
 fault_zero f = rw (mark_zero f.problem_mark, mark_zero f.context_mark) refl
@@ -326,7 +326,7 @@ first_back None None (Some v) r e w f g y z p q o t s h i j k there l here = sym
 first_back None None None r e w f g y z p q o t s h i j k there l here =
     let same = ap (λ (v : ScanFault). v.problem_mark.index) (fails_same (rw (h, i, j, k) at there)) in absurd (omega (arith, same, l))
 
--- a fault of a mark stands there or after it
+-- a fault of a mark is there or after it
 mark_late : (K : Kind) (body : _) → IsMark K body → (t : List ℕ) (H : List Lexeme) (p : ℕ)
     → (gap_behind t H).place ≡ p → (g : ScanFault) → coming (Some K) t H ≡ Fails g
     → p ≤ g.problem_mark.index

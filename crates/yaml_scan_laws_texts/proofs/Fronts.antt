@@ -138,12 +138,12 @@ kept t l (Ok w) =
       | inr e ↦ rw e record { kind = refl; start = refl; deep = refl; level = refl; saved = refl }
     ]
 
--- the kind that stands there is the lexeme's
+-- the kind that is there is the lexeme's
 pub read_kind : (t : List ℕ) (H : List Lexeme) (l : Lexeme) → (r : HasRead t H l) → l.kind ≡ r.kind
 read_kind t H l r =
     ap (λ (y : Lexeme). y.kind) (sym r.clean.is) ∙ (kept t (begun_behind r.kind t H) (word_behind r.kind t H)).kind
 
--- a lexeme but the end stands before the end
+-- a lexeme but the end is before the end
 pub read_within : (t u : List ℕ) (d m n k : ℕ) (H G : List Lexeme) → Pair t u d m n k H G
     → (l : Lexeme) → HasRead t H l → is_end l.kind ≡ false → (gap_behind t H).place < m
 read_within t u d m n k H G p l r go =
@@ -196,7 +196,7 @@ found_zero None = refl
 found_zero (Some c) =
     rw (zero-add c.number, lexeme_zero c.lexeme) refl
 
--- the same lexemes stand in both
+-- the same lexemes are in both
 pub front_pair : (a b : List ℕ) → IsCut a b → (H : List Lexeme) → (reached H).index ≤ length a
     → Pair a (a ++ b) 0 (length a) 0 0 H H
 front_pair a b cut H inside = abreast a (a ++ b) 0 (length a) 0 0 H H record {

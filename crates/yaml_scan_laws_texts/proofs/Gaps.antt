@@ -1,4 +1,4 @@
--- Runs of bytes and what stands between lexemes are the same in both texts; what is read, with its places moved.
+-- Runs of bytes and what is between lexemes are the same in both texts; what is read, with its places moved.
 use Rattle.std.proofs.Common.{add_assoc, if◌then◌else◌, ◌≡◌, ℕ, zero, suc, ◌+◌, ◌-◌, ◌<◌, ◌≤◌, ◌==◌, Bool, true, false, List, length, slice_range, get_or, take, drop, refl, sym, ap, ◌∙◌, inl, inr, arith, ◌≢◌, ◌&&◌, ◌||◌, nat_lt, not, Result, Ok, Err}
 use Rattle.yaml_scan_laws_texts.proofs.Shared.{cases_Bool, eqb-true, take_more, get_or-drop, length-drop, nat_tests, byte, break_of, break_width, is_blank, past, is_text, is_blank_there, is_space_there, past_blanks, past_spaces, line_end, belongs, run_within, run_end, within, past_more, past_some, past_stop, text_parts, blank_parts, space_parts, belongs_here, Alike, is_onward, cases_lt, ltb-true, true≢false, is_bom, is_skipped, step_at, Gap, with_break, gap_within, gap_at, widths, no_break, break_inside, and-false, Wrong, past_break}
 use Rattle.yaml_scan_laws_texts.proofs.Bytes.{width_alike, IsQuiet, quiet_edge, quiet_break, onward_some}
@@ -14,7 +14,7 @@ pub record RunsAlike (t u : List ℕ) (d m p q r : ℕ) : Type 0 where
   pub inside : q < m
   pub same : r ≡ d + q
 
--- ---- what stands between two places
+-- ---- what is between two places
 
 range_by : (n : ℕ) (t u : List ℕ) (d m p : ℕ) → Alike t u d m → p + n ≤ m → p + n ≤ length t
     → d + p + n ≤ length u → take n (drop (d + p) u) ≡ take n (drop p t)
@@ -137,7 +137,7 @@ break_within t u d m p a l =
 
 -- ---- a step
 
--- a blank, a comment or a byte order mark stands there
+-- a blank, a comment or a byte order mark is there
 abbrev pub is_passed : Bool → List ℕ → ℕ → Bool
 is_passed tabs text p = (p == 0 && is_bom text p) || (is_skipped tabs text p || byte text p == 35)
 
@@ -242,7 +242,7 @@ quiet_parts b c e first tabs (inl z) = rw (z, and-false first, and-false tabs) r
 quiet_parts b c e first tabs (inr (inl z)) = rw (z, and-false first, and-false tabs) refl
 quiet_parts b c e first tabs (inr (inr z)) = rw (z, and-false first, and-false tabs) refl
 
--- no gap stands before what is quiet
+-- no gap is before what is quiet
 pub quiet_gap : (n : ℕ) (flow allowed : Bool) (text : List ℕ) (p : ℕ) → IsQuiet (byte text p)
     → gap_within n flow allowed text p ≡ record { place = p; broke = false }
 quiet_gap n flow allowed text p q =

@@ -22,7 +22,7 @@ IsDirective (tokens.version_directive major minor) = Unit {0}
 IsDirective (tokens.tag_directive handle prefix) = Unit {0}
 IsDirective _ = ⊥
 
--- it stands first, or a fault does
+-- it is first, or a fault does
 abbrev pub LeadsSo : List Token → Option Fault → Type 0
 LeadsSo [] own = own ≢ None
 LeadsSo (t ∷ ts) own = IsDirective t.body

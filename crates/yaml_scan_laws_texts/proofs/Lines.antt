@@ -1,4 +1,4 @@
--- What stands at the end of a word, and runs of one byte or none.
+-- What is at the end of a word, and runs of one byte or none.
 use Rattle.std.proofs.Common.{◌≡◌, ◌≢◌, ℕ, ◌+◌, ◌<◌, ◌≤◌, ◌==◌, ◌&&◌, ◌||◌, nat_lt, Bool, true, false, List, [], ◌∷◌, length, Ok, refl, ◌∙◌, inl, inr, arith, add-zero}
 use Rattle.yaml_scan_laws_texts.proofs.Words.{cases_Bool, eqb-true, nat_tests, byte, break_of, break_width, is_blank_byte, is_blank_or_end, is_alpha_byte, is_digit_byte, is_digit, is_break, belongs, run_end, is_punctuation, is_wide_punctuation, is_uri, name_end, parts_at, tag_at, line_end_at, belongs_inside, run_more, run_stop, no_alpha_at, uri_range, uri_is_read}
 use Rattle.std.proofs.Math.Bool.{or-true}

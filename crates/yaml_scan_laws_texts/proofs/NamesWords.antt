@@ -319,12 +319,12 @@ directive_word : (text : List ℕ) (r : Result ValueText Wrong) → HasSaid IsSp
 directive_word text (Ok v) h = line_word v (line_end_at text v.end) h
 directive_word text (Err w) h = tt
 
--- a tag stands after its `!`
+-- a tag is after its `!`
 abbrev pub Marked : Kind → List ℕ → ℕ → Type 0
 Marked kinds.Tag text p = byte text p ≡ 33
 Marked _ text p = Unit {0}
 
--- what stands there of a kind
+-- what is there of a kind
 pub word_spelled : (k : Kind) (flow : Bool) (level : ℕ) (text : List ℕ) (p : ℕ) → Marked k text p
     → HasWord (lexeme_at k flow level text p)
 unfolding lexeme_at

@@ -112,7 +112,7 @@ front_told x a b h carry =
     ap (flat_map (spell v)) (is ∙ sym (map_same (moved_entry 0 0) (λ e. rw (lexeme_zero e.lexeme) refl) es.more)) ∙ spells_moved 0 0 x a (a ++ b) es.more (es.say x a (a ++ b) carry)
     ∙ tokens_zero (flat_map (spell s) es.more) ∙ ap (flat_map (spell s)) (sym is)
 
--- ---- what may be a key stands before the front's last line
+-- ---- what may be a key is before the front's last line
 
 -- each lexeme that may be a key starts before that line
 abbrev AllEarly : ℕ → List Lexeme → Type 0
@@ -290,7 +290,7 @@ mark_reads_there a b cut x h stands early E e end m =
 abbrev pub closing : yaml_mark_t → Token
 closing m = record { body = block_end; start_mark = m; end_mark = m }
 
--- what a lexeme that stands outside of levels closes
+-- what a lexeme that is outside of levels closes
 abbrev pub closings : ℕ → List Lexeme → yaml_mark_t → List Token
 closings d H m = replicate (length (open_levels H) - length (if nat_lt 0 d then open_levels H else filter (λ x. nat_le x 0) (open_levels H))) (closing m)
 

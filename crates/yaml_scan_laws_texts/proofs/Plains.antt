@@ -26,7 +26,7 @@ value_alike t u d m p a l some =
           rw (same, h, third) refl
     ]
 
--- what is no blank stands there or before it
+-- what is no blank is there or before it
 record Led (t : List ℕ) (p : ℕ) : Type 0 where
   pub start : ℕ
   pub order : start ≤ p
@@ -35,7 +35,7 @@ record Led (t : List ℕ) (p : ℕ) : Type 0 where
 later : (t : List ℕ) (p q : ℕ) → Led t p → p ≤ q → Led t q
 later t p q k l = let order = k.order in record { start = k.start; order = omega (arith, order, l); text = k.text }
 
--- it doesn't stand there where a blank does
+-- it doesn't are there where a blank does
 sooner : (t : List ℕ) (p : ℕ) → Led t (suc p) → is_blank (byte t (suc p)) ≡ true → Led t p
 sooner t p k h =
     elim (cases_lt k.start (suc p)) [

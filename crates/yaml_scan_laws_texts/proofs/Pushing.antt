@@ -1,4 +1,4 @@
--- Levels that close and open, what stands after lexemes, and what is known after one more.
+-- Levels that close and open, what is after lexemes, and what is known after one more.
 use Rattle.std.proofs.Common.{◌≡◌, ◌⊎◌, ℕ, ◌-◌, ◌<◌, ◌≤◌, nat_lt, nat_le, cond, Bool, true, false, List, [], ◌∷◌, ◌++◌, length, refl, ap, ◌∙◌, inl, inr, arith, ◌&&◌, ◌||◌, not, Option, Some, None, Result, Ok, ◌+◌, ◌==◌, sym, subst}
 use Rattle.std.specs.Prelude.{filter}
 use Rattle.yaml_scan_laws_texts.proofs.LevelWords.{cases_Bool, nat_tests, Kind, is_outside, indent, left_by, opened, margin_at, Rises, InsideLeaves, RightLeaves, LeftCloses, yaml_mark_t, column_at, mark_at, Wrong, Gap, Lexeme, cancels, is_value, is_start, is_end, flow_depth, reached, ended, Candidate, candidate, fresh, is_fresh, has, placed, open_levels, WordText, kind_at, lexeme_at, Next, Read, Ends, begun, finished, gap_behind, allowed_behind, misplaced, missed, lost_by, level_in, kind_behind, coming, next, no_colon, not_allowed, tested, unless_wrong, unless_lost, of_kind, unless_missed, behind, Came, IsFree, InTime, read_at, MetIsRead, not-true, and_parts, Entry, Opens, depth_after, may_be_key, opens_at, start_of, level_of, marked, finished_tokens, SpelledText, body_of_word, body_by, Says, Front, Idle, Meets, entry, IsPlaced, stays_level, WordIsRead, MarkIsRead, OuterIsRead, ltb-true}
@@ -399,7 +399,7 @@ stays_placed text h d k q a e = placed_calm (is_start k) (nat_lt 0 d) a (is_valu
 no_less : (n : ℕ) → n - n ≡ 0
 no_less n = omega arith
 
--- the level that a lexeme stands in
+-- the level that a lexeme is in
 pub level_is : (text : List ℕ) (h : List Lexeme) (d : ℕ) (ms left : List ℕ) (es : List Entry)
     (k : Kind) (c : ℕ) → Front text h d ms es → left_by k d c ms ≡ left
     → level_in k c h ≡ indent left

@@ -1,4 +1,4 @@
--- The value of a quoted scalar is UTF-8, and so is what stands after it.
+-- The value of a quoted scalar is UTF-8, and so is what is after it.
 use Rattle.std.proofs.Common.{◌≡◌, ℕ, zero, suc, ◌+◌, ◌<◌, ◌==◌, ◌&&◌, nat_lt, if◌then◌else◌, ◌||◌, Bool, true, false, List, [], ◌∷◌, ◌++◌, length, drop, Option, Some, None, Result, Ok, Err, refl, inl, inr, arith, IsUtf8, append-nil, append_assoc}
 use Rattle.yaml_scan_laws_texts.proofs.Words.{encode_utf8, IsScalar, cases_Bool, ltb-true, eqb-true, and_parts, nat_tests, drop_more, IsUtf8-nil, IsUtf8-append, IsUtf8-encode, byte, break_width, is_blank, break_value, is_document_indicator, Wrong, within, Piece, Kept, Blank, Break, value, QuotedSpot, Closing, Pieces, Bad, hex_digit, hex_value, is_scalar, coded, hex_len, simple_escape, escaped, escape_at, quote_at, standing_at, with_front, followed, pieces, quoted_at}
 use Rattle.yaml_scan_laws_order.specs.scan_history.Quoted.{valued}
@@ -18,7 +18,7 @@ pub kept_waits : (u text : List ℕ) (p : ℕ) → p < length text → Waits u t
     → Waits (u ++ byte text p ∷ []) text (p + 1)
 kept_waits u text p l w = rw (append_assoc u (byte text p ∷ []) (drop (p + 1) text)) (rw (drop_more text p 0 l) at w)
 
--- What stands at a place, and pieces that can follow it, go together with what waits there.
+-- What is at a place, and pieces that can follow it, go together with what waits there.
 record Joins (u text : List ℕ) (qs : List Piece) (q : ℕ) : Type 0 where
   pub waiting : List ℕ
   pub waits : Waits waiting text q

@@ -140,7 +140,7 @@ escape_alike t u d m p a l slash =
           ]
     ]
 
--- ---- what stands at a place
+-- ---- what is at a place
 
 -- of the quotes, none is a break
 abbrev pub IsQuote : ℕ → Type 0
@@ -275,7 +275,7 @@ end_stands : (quote : ℕ) (u : List ℕ) (p : ℕ) → byte u p ≡ 0
 unfolding standing_at
 end_stands quote u p h = rw (end_no_mark u p h, h) refl
 
--- where the first text ends, either ends, or a mark of documents stands in the other
+-- where the first text ends, either ends, or a mark of documents is in the other
 record Tears (u : List ℕ) (d m : ℕ) (s r : QuotedSpot) : Type 0 where
   pub mark : is_document_indicator u (d + m) ≡ true
   pub wrong : Wrong

@@ -29,7 +29,7 @@ start_index x t H =
       | inr e ↦ rw e refl
     ]
 
--- the word of a lexeme that stands there
+-- the word of a lexeme that is there
 pub word_of : (x : Kind) (t : List ℕ) (H : List Lexeme) (l : Lexeme) → lexeme_behind x t H ≡ l
     → lexeme_at x (nat_lt 0 l.depth) l.level t l.start.index ≡ word_behind x t H
 word_of x t H l e =

@@ -7,13 +7,13 @@ use Rattle.yaml_scan_laws_texts.specs.Signs.{sign, SignComes, MarkComes, SignsCo
 
 -- ---- kinds
 
--- no `---` stands where a byte stands that is no hyphen
+-- no `---` is where a byte stands that is no hyphen
 pub no_start : (text : List ℕ) (p b : ℕ) → byte text p ≡ b → (b == 45) ≡ false
     → is_document_start text p ≡ false
 unfolding is_document_start
 no_start text p b h e = rw (h, e, and-false (column_at text p == 0)) refl
 
--- no `...` stands where a byte stands that is no dot
+-- no `...` is where a byte stands that is no dot
 pub no_end : (text : List ℕ) (p b : ℕ) → byte text p ≡ b → (b == 46) ≡ false
     → is_document_end text p ≡ false
 unfolding is_document_end

@@ -75,7 +75,7 @@ return_line : (text : List ℕ) (p : ℕ) → byte text p ≡ 13 → (byte text 
     → ends_break text p ≡ true
 return_line text p e f = ap (λ (x : ℕ). ends_of (byte text (p - 2)) (byte text (p - 1)) x (byte text (p + 1))) e ∙ return_ends (byte text (p - 2)) (byte text (p - 1)) (byte text (p + 1)) f
 
--- LF stands after CR within the gap, or not at all
+-- LF is after CR within the gap, or not at all
 feed_behind : (text : List ℕ) (p : ℕ) (bs : List ℕ) → IsGap text p bs → (byte text p == 10) ≡ true
     → (cs : List ℕ) × (bs ≡ 10 ∷ cs)
 feed_behind text p [] g e =

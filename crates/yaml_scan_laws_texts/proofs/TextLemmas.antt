@@ -135,7 +135,7 @@ words_lexemes text (w ∷ ws) (stands, more) free (end, on) =
     let whole : all text ≡ h = last_is_all text (suc (suc (length ws))) (λ l. never_read _ l ends) ∙ read in
     (whole, ap (λ (x : List Lexeme). next text x) whole ∙ ends_behind text h end)
 
--- Words that stand in a text, free of keys, are read as their tokens.
+-- Words that are in a text, free of keys, are read as their tokens.
 pub words_read : (s : SpelledText) (ws : List Word) → WordsStand s.text ws
     → is_key_free (word_kinds ws) ≡ true → ReachEnd ws
     → offline s ≡ record {

@@ -32,7 +32,7 @@ behind_one text p b e blank f = record { has = has; blank = blank; ends = f }
     has zero few = let z : p + 0 ≡ p = omega arith in ap (λ (n : ℕ). byte text n) z ∙ e
     has (suc k) few = absurd (omega (arith, few))
 
--- a word stands after it
+-- a word is after it
 pub there : {text : List ℕ} {p d level e : ℕ} {k : Kind} {gap : List ℕ} {w : WordText}
     → IsGap text p gap → kind_at (nat_lt 0 d) text (p + length gap) ≡ Some k
     → lexeme_at k (nat_lt 0 d) level text (p + length gap) ≡ Ok w → p + length gap ≤ e

@@ -55,7 +55,7 @@ end_mark = record {
   word = λ flow level text p. refl;
 }
 
--- ---- no level is left by what stands outside
+-- ---- no level is left by what is outside
 
 abbrev is_left : ℕ → Bool
 is_left x = nat_le x 0
@@ -200,7 +200,7 @@ mark_reads K body m text H p e z stale free =
     let after : stale_after (lexeme_behind K text H) H ≡ None = rw (is, no_candidate K body m text p H) refl in
     mark_comes K body m text H p e stale free after ∙ ap Read is
 
--- ---- the stream's end stands where the text ends
+-- ---- the stream's end is where the text ends
 
 pub end_byte : (flow : Bool) (t : List ℕ) (p : ℕ) (k : Kind) → kind_at flow t p ≡ Some k
     → is_end k ≡ true
@@ -217,7 +217,7 @@ end_is _ h = absurd (true≢false (sym h))
 
 -- ---- the mark of the rest
 
--- a mark stands there
+-- a mark is there
 pub record MarkStands (t : List ℕ) (p : ℕ) : Type 0 where
   pub kind : Kind
   pub body : TokenBody
@@ -340,7 +340,7 @@ pub end_mark_placed : (a b : List ℕ) → IsCut a b
     → placed kinds.StreamEnd (mark_at (a ++ b) (length a)) ≡ mark_at (a ++ b) (length a)
 end_mark_placed a b cut = rw (cut_column a b cut) refl
 
--- where the front's lexemes end, the rest's mark stands in the whole
+-- where the front's lexemes end, the rest's mark is in the whole
 pub stands_there : (a b : List ℕ) → IsCut a b → (H : List Lexeme) (K : Kind)
     → kind_at (in_flow H) b 0 ≡ Some K → (gap_behind (a ++ b) H).place ≡ length a
     → kind_behind (a ++ b) H ≡ Some K

@@ -239,7 +239,7 @@ end_fits text p h = third_small (column_at text p) (byte text p) (byte text (p +
 abbrev pub FitsAny : Option Kind → List ℕ → ℕ → Type 0
 FitsAny o text p = OfAny (λ k. Fits k text p) o
 
--- the kind of what stands there fits
+-- the kind of what is there fits
 pub kind_fits : (flow : Bool) (text : List ℕ) (p : ℕ) → FitsAny (kind_at flow text p) text p
 kind_fits flow text p = kind_is (λ k. Fits k text p) flow text p (fits text p)
   where
@@ -255,7 +255,7 @@ kind_fits flow text p = kind_is (λ k. Fits k text p) flow text p (fits text p)
 third_whole : (text : List ℕ) (p : ℕ) → IsUtf8 text → byte text (p + 2) < 128 → IsWhole text (p + 3)
 third_whole text p t s = let e : p + 2 + 1 ≡ p + 3 = omega arith in rw e at (whole_after text (p + 2) t s)
 
--- what stands where its kind does, and the text may be cut
+-- what is where its kind does, and the text may be cut
 pub word_utf8 : (k : Kind) (flow : Bool) (level : ℕ) (text : List ℕ) (p : ℕ) → IsUtf8 text
     → IsWhole text p → Fits k text p → HasWord text (lexeme_at k flow level text p)
 unfolding lexeme_at

@@ -116,7 +116,7 @@ record Parts (text : List ℕ) (p : ℕ) (white gap : List ℕ) : Type 0 where
   same : gap ≡ white ++ more
   is : IsGap text (p + length white) more
 
--- The first of bytes that stand at a place stands there.
+-- The first of bytes that are at a place is there.
 pub has_first : (text : List ℕ) (p b : ℕ) (bs : List ℕ) → HasAt text p (b ∷ bs) → byte text p ≡ b
 has_first text p b bs h = let e : p + 0 ≡ p = omega arith in sym (ap (λ (n : ℕ). byte text n) e) ∙ h 0 (omega arith)
 
@@ -160,7 +160,7 @@ white_is_passed text h p white broken f e there key = record {
   allowed = λ gap g. ap (λ (b : Bool). b || ((gap_behind text h).broke && not (in_flow h))) key;
 }
 
--- no white stands where a lexeme begins
+-- no white is where a lexeme begins
 pub nothing_more : (text : List ℕ) (p : ℕ) (more : List ℕ) → begins_lexeme text p ≡ true
     → IsGap text p more → more ≡ []
 nothing_more text p [] e g = refl

@@ -56,7 +56,7 @@ three_is : (b c d : ℕ) → break_of b c d ≡ 3 → ((b ≡ 0xE2) × (c ≡ 0x
 unfolding break_of
 three_is b c d h = grind (arith, nat_tests)
 
--- after a character that stands there
+-- after a character that is there
 past_char : (text rest : List ℕ) (p q c : ℕ) → IsUtf8 text → Begins (byte text p)
     → drop p text ≡ encode_utf8 c ++ rest → drop q text ≡ rest → IsWhole text q
 past_char text rest p q c u b e f = rw f (IsUtf8-past_char (drop p text) rest c (whole_at text p u b) e)
@@ -176,7 +176,7 @@ ends_whole text p u h =
 pub blank_small : (b : ℕ) → is_blank b ≡ true → b < 128
 blank_small b h = grind (arith, nat_tests)
 
--- where blanks alone stand after a break
+-- where blanks alone are after a break
 pub leads_whole : (text : List ℕ) (p : ℕ) → IsUtf8 text → leads text p ≡ true → IsWhole text p
 unfolding leads
 leads_whole text zero u h = u
@@ -199,7 +199,7 @@ slice_utf8 text i j u a b =
       ]
     ]
 
--- what stands before something in UTF-8
+-- what is before something in UTF-8
 pub cut : (xs ys : List ℕ) → IsUtf8 (xs ++ ys) → IsUtf8 ys → IsUtf8 xs
 cut xs ys u v = rw (take_at xs ys (length xs) refl) at (IsUtf8-take (xs ++ ys) (length xs) u (IsCharBoundary-at_seam (xs ++ ys) xs ys refl v))
 

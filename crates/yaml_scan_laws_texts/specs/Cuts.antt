@@ -15,7 +15,7 @@ EndsIn text b = (before : List ℕ) × (text ≡ before ++ b ∷ [])
 abbrev pub EndsLine : List ℕ → Type 0
 EndsLine text = (text ≡ []) ⊎ (EndsIn text ascii.line_feed ⊎ EndsIn text ascii.carriage_return)
 
--- A text may be cut there: what stands in front ends a line and has no byte 0, which no text of a stream has, and the rest begins
+-- A text may be cut there: what is in front ends a line and has no byte 0, which no text of a stream has, and the rest begins
 -- with `---` or `...` before a blank, a break or the end.
 pub record IsCut (front rest : List ℕ) : Type 0 where
   pub line : EndsLine front

@@ -20,7 +20,7 @@ joined front before behind rest = record {
   fault = option_map (moved_fault (length front) (line_at front (length front))) rest.fault;
 }
 
--- Where a text is cut, and what stands in front has no fault and leaves no bracket open, the tokens of the whole are those of the
+-- Where a text is cut, and what is in front has no fault and leaves no bracket open, the tokens of the whole are those of the
 -- front without STREAM-END, and then those of the rest without STREAM-START, moved by the bytes and lines of the front; and its
 -- fault is that of the rest, moved.
 abbrev pub WindowsAreScanned : Type 0
@@ -30,12 +30,12 @@ WindowsAreScanned = (encoding : yaml_encoding_t) (front rest : List ℕ) → IsC
     → (first : Token) (behind : List Token) → (scan_of encoding rest).tokens ≡ first ∷ behind
     → scan_of encoding (front ++ rest) ≡ joined front before behind (scan_of encoding rest)
 
--- what stands before a fault, and that fault
+-- what is before a fault, and that fault
 abbrev pub refused_by : Fault → Remaining → Remaining
 refused_by g r = record { tokens = r.tokens; fault = Some g }
 
--- Where what stands before a cut has a fault, the whole has its tokens and a fault, whatever stands after the cut; and that is
--- the same fault, where either stands before the cut.
+-- Where what is before a cut has a fault, the whole has its tokens and a fault, whatever is after the cut; and that is
+-- the same fault, where either is before the cut.
 abbrev pub RefusedFrontsAreScanned : Type 0
 RefusedFrontsAreScanned = (encoding : yaml_encoding_t) (front rest : List ℕ) → IsCut front rest
     → (f : Fault) → (scan_of encoding front).fault ≡ Some f

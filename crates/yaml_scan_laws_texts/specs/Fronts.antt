@@ -13,7 +13,7 @@ use Rattle.yaml_scan_laws_order.specs.scan_history.Words.{WordText, kind_at, lex
 use Rattle.yaml_scan_laws_order.specs.scan_history.Next.{Read, next, first_lexeme, gap_behind, allowed_behind, begun, level_in}
 use Rattle.yaml_scan_laws_order.specs.scan_history.Remaining.{body_in}
 
--- Lexemes that come one after the other, from the stream's start on; the newest stands first.
+-- Lexemes that come one after the other, from the stream's start on; the newest is first.
 unfoldable pub Came : List ℕ → List Lexeme → Type 0
 Came text [] = ⊥
 Came text (l ∷ []) = l ≡ first_lexeme
@@ -25,7 +25,7 @@ Rises b [] = Unit {0}
 Rises b (m ∷ ms) = (b < m) × Rises m ms
 
 -- What is known after lexemes: they came, and that many brackets, these levels and these entries
--- stand there.
+-- are there.
 pub record Front (text : List ℕ) (h : List Lexeme) (d : ℕ) (ms : List ℕ)
     (es : List Entry) : Type 0 where
   pub came : Came text h
@@ -54,7 +54,7 @@ pub record Holds (h : List Lexeme) (d : ℕ) (c : Candidate) : Type 0 where
   pub slot : candidate d h ≡ Some c
   pub others : (e : ℕ) → (d ≡ e → ⊥) → IsFree (candidate e h)
 
--- What stands after lexemes, where that many brackets are open: its place, whether a key may begin
+-- What is after lexemes, where that many brackets are open: its place, whether a key may begin
 -- there, its kind, and its word in that level.
 pub record Meets (text : List ℕ) (h : List Lexeme) (d level : ℕ) (k : Kind) (q : ℕ) (a : Bool)
     (w : WordText) : Type 0 where

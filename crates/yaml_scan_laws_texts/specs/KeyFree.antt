@@ -37,12 +37,12 @@ asked_after kinds.SingleQuoted qs = qs
 asked_after kinds.DoubleQuoted qs = qs
 asked_after _ qs = marked_so false qs
 
--- for each open bracket, innermost first: whether a `?` stands in it, and only nodes after that
+-- for each open bracket, innermost first: whether a `?` is in it, and only nodes after that
 unfoldable pub asked : List Kind → List Bool
 asked [] = []
 asked (k ∷ ks) = asked_after k (asked ks)
 
--- `?` stands in brackets, and `:` after a `?`; block marks, block scalars and plain ones have no place.
+-- `?` is in brackets, and `:` after a `?`; block marks, block scalars and plain ones have no place.
 abbrev pub fits : Kind → List Bool → Bool
 fits kinds.KeyMark qs = is_inside qs
 fits kinds.ValueMark qs = innermost qs
@@ -56,7 +56,7 @@ unfoldable pub is_key_free : List Kind → Bool
 is_key_free [] = true
 is_key_free (k ∷ ks) = fits k (asked ks) && is_key_free ks
 
--- `-`, `?` and `:` stand in brackets alone, where they open no level
+-- `-`, `?` and `:` are in brackets alone, where they open no level
 abbrev pub keeps_level : Kind → List Bool → Bool
 keeps_level kinds.BlockEntry qs = is_inside qs
 keeps_level kinds.KeyMark qs = is_inside qs

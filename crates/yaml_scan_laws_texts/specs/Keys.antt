@@ -41,7 +41,7 @@ KeyGoesOn = (text : List ℕ) (h : List Lexeme) (d e : ℕ) (c : Candidate) (ms 
     Held text h l w d (depth_after k e) c ms (es ++ entry l 0 opening.Nothing ∷ [])
 
 -- The `:` of a key, on its line and near: the key's entry is marked, and its level opens where it
--- stands right of the innermost one.
+-- is right of the innermost one.
 abbrev pub KeyEnds : Type 0
 KeyEnds = (text : List ℕ) (h : List Lexeme) (d : ℕ) (ms : List ℕ) (done : List Entry)
     (first : Entry)

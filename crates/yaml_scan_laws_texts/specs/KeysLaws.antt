@@ -13,7 +13,7 @@ use Rattle.yaml_scan_laws_order.specs.scan_history.Next.{Read, Ends, allowed_beh
 use Rattle.yaml_scan_laws_order.specs.scan_history.Remaining.{SpelledText, token_in, spell, all, remaining}
 use Rattle.yaml_scan_laws_texts.specs.KeyFree.{innermost, asked, is_key_free, is_level_free, kinds_of}
 
--- After a `?` in brackets, with only nodes after it, no candidate stands at its depth.
+-- After a `?` in brackets, with only nodes after it, no candidate is at its depth.
 abbrev pub AskedHaveNoCandidate : Type 0
 AskedHaveNoCandidate = (text : List ℕ) (n : ℕ) → let h = history text n in
     is_key_free (kinds_of h) ≡ true → innermost (asked (kinds_of h)) ≡ true
@@ -40,7 +40,7 @@ KeyFreeTextsAreBare = (s : SpelledText) → is_key_free (kinds_of (all s.text)) 
 abbrev pub KeyFreeIsLevelFree : Type 0
 KeyFreeIsLevelFree = (ks : List Kind) → is_key_free ks ≡ true → is_level_free ks ≡ true
 
--- Where no level opens, no candidate is missed or lost, wherever it goes stale and whatever stands in
+-- Where no level opens, no candidate is missed or lost, wherever it goes stale and whatever is in
 -- its place.
 abbrev pub NoneIsRequired : Type 0
 NoneIsRequired = (text : List ℕ) (n d : ℕ) (l : Lexeme) (at to : yaml_mark_t)
@@ -50,7 +50,7 @@ NoneIsRequired = (text : List ℕ) (n d : ℕ) (l : Lexeme) (at to : yaml_mark_t
 
 -- ---- one step
 
--- what stands after lexemes
+-- what is after lexemes
 abbrev pub gap_in : List ℕ → List Lexeme → Gap
 gap_in text h = gap_at (nat_lt 0 (flow_depth h)) (key_allowed h) text (reached h).index
 

@@ -25,13 +25,13 @@ lexemes text [] = first_lexeme ∷ []
 lexemes text (w ∷ ws) = lexeme_of text (lexemes text ws) (gap_in text (lexemes text ws)) w.kind
     w.said ∷ lexemes text ws
 
--- After those lexemes the word's kind stands at its place, and is read so.
+-- After those lexemes the word's kind is at its place, and is read so.
 pub record StandsBehind (text : List ℕ) (h : List Lexeme) (w : Word) : Type 0 where
   pub place : (gap_in text h).place ≡ w.place
   pub kind : kind_at (nat_lt 0 (flow_depth h)) text w.place ≡ Some w.kind
   pub said : lexeme_at w.kind (nat_lt 0 (flow_depth h)) 0 text w.place ≡ Ok w.said
 
--- each word stands after those before it
+-- each word is after those before it
 unfoldable pub WordsStand : List ℕ → List Word → Type 0
 WordsStand text [] = Unit {0}
 WordsStand text (w ∷ ws) = StandsBehind text (lexemes text ws) w × WordsStand text ws

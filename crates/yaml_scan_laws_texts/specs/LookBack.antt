@@ -18,7 +18,7 @@ unfoldable pub is_key : ℕ → List Lexeme → Bool
 is_key n [] = false
 is_key n (l ∷ h) = finds l h n || is_key n h
 
--- A `-`, a `?` or a `:` outside of brackets opens a level, where the level's margin stands right of the innermost one
+-- A `-`, a `?` or a `:` outside of brackets opens a level, where the level's margin is right of the innermost one
 -- that it leaves open.
 abbrev pub opens_level : Lexeme → List Lexeme → Bool
 opens_level l h = (is_start l.kind && not (nat_lt 0 l.depth))
@@ -49,7 +49,7 @@ abbrev pub key_tokens : Bool → Lexeme → List Token
 key_tokens true l = before key l ∷ []
 key_tokens false l = []
 
--- The tokens of a lexeme of `all` that stands after h: BLOCK-END for each level that it closes, the start of the one
+-- The tokens of a lexeme of `all` that is after h: BLOCK-END for each level that it closes, the start of the one
 -- that begins with it, KEY where it is one, and its own.
 abbrev pub tokens_of : SpelledText → List Lexeme → Lexeme → List Lexeme → List Token
 tokens_of s all l h = (end_tokens l h ++ start_tokens (level_at (length h) all) l)

@@ -11,13 +11,13 @@ use Rattle.yaml_scan_laws_order.specs.scan_history.Words.{WordText}
 use Rattle.yaml_scan_laws_order.specs.scan_history.Next.{Read, next}
 use Rattle.yaml_scan_laws_texts.specs.Fronts.{Front, IsFree, InTime, Idle, LeavesLevels, Meets, Pushed, Rises, entry, read_at}
 
--- a `-`, a `?` or a `:` stands where a key may begin, or after a candidate that takes it, or in
+-- a `-`, a `?` or a `:` is where a key may begin, or after a candidate that takes it, or in
 -- brackets
 abbrev pub IsPlaced : List ℕ → List Lexeme → ℕ → Kind → ℕ → Bool → Type 0
 IsPlaced text h d k q a = (is_start k ≡ false) ⊎ ((nat_lt 0 d ≡ true) ⊎ ((a ≡ true) ⊎ (is_value k
     && has (fresh (candidate d h) (mark_at text q)) ≡ true)))
 
--- What stands after lexemes is read, where no `:` that is owed stays out.
+-- What is after lexemes is read, where no `:` that is owed stays out.
 abbrev pub MetIsRead : Type 0
 MetIsRead = (text : List ℕ) (h : List Lexeme) (d : ℕ) (ms : List ℕ) (es : List Entry) (k : Kind)
     (q : ℕ)
@@ -47,7 +47,7 @@ LeftCloses = (c : ℕ) (ls more : List ℕ) → Rises 0 (ls ++ more) → indent 
 
 -- ---- words and marks
 
--- In brackets, or right of the innermost level: no `:` is owed to what stands there.
+-- In brackets, or right of the innermost level: no `:` is owed to what is there.
 abbrev pub IsRight : ℕ → List ℕ → ℕ → Type 0
 IsRight d ms c = (nat_lt 0 d ≡ true) ⊎ (indent ms ≤ c)
 

@@ -1,4 +1,4 @@
--- Words of one byte, and the marks of documents and of the stream's end: what stands there comes.
+-- Words of one byte, and the marks of documents and of the stream's end: what is there comes.
 use Rattle.std.specs.Prelude.{◌≡◌, ◌<◌, ◌+◌, ℕ, Bool, true, false, List, length}
 use Rattle.yaml_scan_laws_order.specs.scan_model.Ascii as ascii
 use Rattle.yaml_scan_laws_order.specs.scan_model.Marks.{byte, is_blank_or_end}
@@ -59,7 +59,7 @@ PrintedBegins =
     → (b ≡ ascii.hash → ⊥)
     → begins_lexeme text p ≡ true
 
--- what reads the level that it stands in
+-- what reads the level that it is in
 abbrev pub reads_level : Kind → Bool
 reads_level kinds.Plain = true
 reads_level kinds.Literal = true

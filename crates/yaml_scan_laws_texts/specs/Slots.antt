@@ -50,7 +50,7 @@ NearBefore = (text : List ℕ) (start : yaml_mark_t) (p q : ℕ) → p ≤ q
 -- ---- one depth's candidate
 
 -- It stays after a word of its depth that neither may be a key nor cancels, and after what stands
--- deeper; what may be no key and cancels takes it away; and none stands in a bracket that has just
+-- deeper; what may be no key and cancels takes it away; and none is in a bracket that has just
 -- opened.
 pub record SlotsGoOn : Type 0 where
   pub stays : (text : List ℕ) (h : List Lexeme) (d e : ℕ) (k : Kind) (q : ℕ) (a : Bool)

@@ -27,7 +27,7 @@ pub record Stands (text : List ℕ) (p n : ℕ) (h : List Lexeme) (d : ℕ) (ms 
   pub started : Started h n
   pub line : n ≤ line_at text p
 
--- A word of that kind stands after the white from p on, and reaches to e or further with white.
+-- A word of that kind is after the white from p on, and reaches to e or further with white.
 pub record Comes (text : List ℕ) (p d level : ℕ) (k : Kind) (gap : List ℕ) (w : WordText)
     (e : ℕ) : Type 0 where
   pub behind : IsGap text p gap
@@ -65,7 +65,7 @@ pub record SteppedInWalk (text : List ℕ) (e n : ℕ) (h : List Lexeme) (l : Le
 abbrev pub may_begin : Bool → Bool → List ℕ → Bool
 may_begin now broken gap = now || (has_break gap && broken)
 
--- The stream's start stands before all.
+-- The stream's start is before all.
 abbrev pub StartSteps : Type 0
 StartSteps = (text : List ℕ)
     → Stands text 0 0 (first_lexeme ∷ []) 0 [] (entry first_lexeme 0 opening.Nothing ∷ []) true true

@@ -31,12 +31,12 @@ pub record WalkState : Type 0 where
   pub now : Bool
   pub broken : Bool
 
--- no candidate stands at these depths
+-- no candidate is at these depths
 unfoldable pub Clear : List Lexeme → List ℕ → Type 0
 Clear h [] = Unit {0}
 Clear h (e ∷ es) = (candidate e h ≡ None) × Clear h es
 
--- what stands at that depth leaves it so
+-- what is at that depth leaves it so
 unfoldable pub LeaveClear : Kind → ℕ → Bool → List ℕ → Type 0
 LeaveClear k f a [] = Unit {0}
 LeaveClear k f a (e ∷ es) = IsInKey k e f a × LeaveClear k f a es
@@ -46,7 +46,7 @@ unfoldable pub Outside : ℕ → List ℕ → Type 0
 Outside f [] = Unit {0}
 Outside f (e ∷ es) = (e < f) × Outside f es
 
--- What stands deeper leaves them clear.
+-- What is deeper leaves them clear.
 abbrev pub DeeperLeaves : Type 0
 DeeperLeaves = (k : Kind) (f : ℕ) (a : Bool) (cs : List ℕ) → Outside f cs → LeaveClear k f a cs
 
@@ -88,12 +88,12 @@ pub record ReadsKey (x : yaml_encoding_t) (text : List ℕ) (o : WalkState) (d :
 
 -- ---- levels
 
--- What stands at a column leaves ls and closes `more`; in brackets there are no more.
+-- What is at a column leaves ls and closes `more`; in brackets there are no more.
 abbrev pub ClosesAt : ℕ → ℕ → List ℕ → List ℕ → Type 0
 ClosesAt d c ls more = ((nat_lt 0 d ≡ true) × (more ≡ []))
     ⊎ ((d ≡ 0) × (indent ls ≤ margin_at c) × Rises (margin_at c) more)
 
--- Levels beside others rise from these on, so that what stands at the innermost one's column closes
+-- Levels beside others rise from these on, so that what is at the innermost one's column closes
 -- them.
 abbrev pub LevelsPart : Type 0
 LevelsPart = (ls more : List ℕ) → Rises 0 (ls ++ more) → Rises 0 ls × Rises (indent ls) more
@@ -242,7 +242,7 @@ WalkKeyStops = (x : yaml_encoding_t) (text : List ℕ) (o : WalkState) (start : 
 
 -- ---- `?` in brackets
 
--- The `?` itself: after it no candidate stands at its depth.
+-- The `?` itself: after it no candidate is at its depth.
 abbrev pub WalkAsks : Type 0
 WalkAsks = (x : yaml_encoding_t) (text : List ℕ) (o : WalkState) (cs ls : List ℕ)
     (T : List TokenBody → List TokenBody)
@@ -277,7 +277,7 @@ abbrev pub Goes : RoleInWalk → yaml_encoding_t → List ℕ → WalkState → 
 Goes Content x text o cs ls T K = WalkReads x text o cs ls [] (λ bs. T (K bs))
 Goes (Key d start) x text o cs ls T K = ReadsKey x text o d start cs ls T K
 
--- a further word may stand there, with nothing that may be a key of its own, on the key's line and
+-- a further word may be there, with nothing that may be a key of its own, on the key's line and
 -- near
 abbrev pub MayGo : RoleInWalk → List ℕ → Kind → ℕ → Bool → ℕ → WordText → Type 0
 MayGo Content text k f a q w = Unit {0}

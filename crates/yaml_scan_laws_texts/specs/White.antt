@@ -17,8 +17,8 @@ pub record IsGap (text : List ℕ) (p : ℕ) (gap : List ℕ) : Type 0 where
   pub blank : are_gap gap ≡ true
   pub ends : begins_lexeme text (p + length gap) ≡ true
 
--- What stands after the white there stands after the lexemes: a key may begin there where `now`
--- says so, or where a break stands in the white and `broken` says so.
+-- What is after the white there is after the lexemes: a key may begin there where `now`
+-- says so, or where a break is in the white and `broken` says so.
 pub record White (text : List ℕ) (h : List Lexeme) (p : ℕ) (now broken : Bool) : Type 0 where
   pub place : (gap : List ℕ) → IsGap text p gap → (gap_behind text h).place ≡ p + length gap
   pub allowed : (gap : List ℕ) → IsGap text p gap
@@ -57,7 +57,7 @@ WhiteIsPassed = (text : List ℕ) (h : List Lexeme) (p : ℕ) (white : List ℕ)
     → are_gap white ≡ true → (reached h).index ≡ p + length white → key_allowed h ≡ true
     → White text h p true broken
 
--- What stands after white.
+-- What is after white.
 abbrev pub WhiteMeets : Type 0
 WhiteMeets = (text : List ℕ) (h : List Lexeme) (p d level : ℕ) (now broken : Bool) (gap : List ℕ)
     (k : Kind)

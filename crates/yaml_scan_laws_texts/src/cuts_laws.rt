@@ -9,6 +9,6 @@ pub fn laws_of_cuts()
     ensures windows_are_scanned { WindowsAreScanned }
     // So are those of a text that is cut after a line `...`.
     ensures ended_windows_are_scanned { EndedWindowsAreScanned }
-    // Where the front has a fault, the whole has its tokens and a fault, which is the same unless it stands at the front's end.
+    // Where the front has a fault, the whole has its tokens and a fault, which is the same unless it is at the front's end.
     ensures refused_fronts_are_scanned { RefusedFrontsAreScanned }
 {}

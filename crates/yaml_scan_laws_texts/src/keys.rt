@@ -9,7 +9,7 @@ pub fn laws_of_keys()
     ensures key_begins { KeyBegins }
     // A further word of a key, on its line and near.
     ensures key_goes_on { KeyGoesOn }
-    // The `:` of a key marks the key's entry, and opens its level where it stands right of the
+    // The `:` of a key marks the key's entry, and opens its level where it is right of the
     // innermost one.
     ensures key_ends { KeyEnds }
 {}

@@ -12,7 +12,7 @@ ghost use Rattle.yaml_scan_laws_texts.specs.KeysTexts.{WordsAreLexemes, WordsAre
 
 /// Lexemes after which no `:` makes a key.
 pub fn laws_of_free_keys()
-    // After a `?` in brackets, with only nodes after it, no candidate stands at its depth: a `:` makes no key there.
+    // After a `?` in brackets, with only nodes after it, no candidate is at its depth: a `:` makes no key there.
     ensures asked_have_no_candidate { AskedHaveNoCandidate }
     // The tokens of key-free lexemes are their own, in order: no KEY is put before one, and no level opens or ends.
     ensures key_free_tokens_are_own { KeyFreeTokensAreOwn }

@@ -10,7 +10,7 @@ pub fn laws_of_pushes()
     ensures right_leaves { RightLeaves }
     // The levels right of a column close, and those before them stay.
     ensures left_closes { LeftCloses }
-    // What stands after lexemes is read, where no `:` that is owed stays out.
+    // What is after lexemes is read, where no `:` that is owed stays out.
     ensures met_is_read { MetIsRead }
     // A word in a line and a bracket change no level; in brackets a `?`, a `,` and a lone `:` neither.
     ensures word_is_read { WordIsRead }

@@ -6,7 +6,7 @@ ghost use Rattle.yaml_scan_laws_texts.specs.Steps.{WordsLeave, StartSteps, White
 pub fn laws_of_steps()
     // Most words leave the white; plain scalars take all of it; block scalars take some.
     ensures words_leave { WordsLeave }
-    // The stream's start stands before all.
+    // The stream's start is before all.
     ensures start_steps { StartSteps }
     // White is passed.
     ensures white_steps { WhiteSteps }

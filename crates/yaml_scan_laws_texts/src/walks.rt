@@ -28,7 +28,7 @@ pub fn laws_of_walks()
     ensures walk_key_stops { WalkKeyStops }
     // A walk passes a `?` in brackets.
     ensures walk_asks { WalkAsks }
-    // What stands deeper leaves outer depths clear.
+    // What is deeper leaves outer depths clear.
     ensures deeper_leaves { DeeperLeaves }
     // A walk passes the `:` of a `?` in brackets.
     ensures walk_answers { WalkAnswers }

@@ -16,7 +16,7 @@ pub fn laws_of_white()
     // The last lexeme has taken some of the white, and a key may begin after it, as after block
     // scalars.
     ensures white_is_passed { WhiteIsPassed }
-    // What stands after white.
+    // What is after white.
     ensures white_meets { WhiteMeets }
     // Whether a key may begin after a lexeme that was read so.
     ensures key_is_allowed { KeyIsAllowed }

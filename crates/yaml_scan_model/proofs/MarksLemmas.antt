@@ -16,7 +16,7 @@ pub no_split : (x y b c d : ℕ) → splits_of x y b c ≡ false → break_of b 
 unfolding splits_of ends_of break_of
 no_split x y b c d h k = grind (arith, nat_tests)
 
--- A byte that isn't 0 stands within the text.
+-- A byte that isn't 0 is within the text.
 pub within : (text : List ℕ) (p : ℕ) → 0 < byte text p → p < length text
 within text p h = search (rules, cases_lt, get_or_past)
 

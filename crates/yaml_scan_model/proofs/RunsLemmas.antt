@@ -65,7 +65,7 @@ past-inside kind (suc n) text p some l =
       | inr e ↦ rw e l
     ]
 
--- some byte of the kind stands there
+-- some byte of the kind is there
 pub past_some : (kind : List ℕ → ℕ → Bool) (text : List ℕ) (p : ℕ) → kind text p ≡ true
     → 0 < byte text p → p < past kind (length text) text p
 past_some kind text p k some =

@@ -14,7 +14,7 @@ is_blank_there text p = is_blank (byte text p)
 abbrev pub is_space_there : List ℕ → ℕ → Bool
 is_space_there text p = byte text p == ascii.space
 
--- neither a break nor the end stands there
+-- neither a break nor the end is there
 abbrev pub is_text : List ℕ → ℕ → Bool
 is_text text p = not (byte text p == 0 || nat_lt 0 (break_width text p))
 

@@ -1,4 +1,4 @@
--- Why no lexeme stands at a place, and the refusal that says it.
+-- Why no lexeme is at a place, and the refusal that says it.
 use Rattle.std.specs.Prelude.{ℕ, List}
 use Rattle.yaml_scan_types.specs.declared.record.yaml_mark_t.{yaml_mark_t}
 use Rattle.yaml_scan_model.specs.declared.problem.Problem.{Problem}

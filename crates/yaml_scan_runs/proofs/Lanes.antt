@@ -103,7 +103,7 @@ before_more : (test : ℕ → Bool) (v : List ℕ)
 before_more test [] = refl
 before_more test (x ∷ xs) = ap (λ n. cond (not (test x)) (1 + n) 0) (before_more test xs)
 
--- how many lanes stand before the first that is set, where one more is put after them
+-- how many lanes are before the first that is set, where one more is put after them
 pub leads : (test : ℕ → Bool) (v : List ℕ) (found : ℕ) → length v ≡ 16 → found ≡ mask_l (map test v)
     → count_trailing_zeros 64 (bit_or found 65536) ≡ position_or_len test v
 leads test v found long e =

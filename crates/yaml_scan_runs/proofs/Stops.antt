@@ -45,7 +45,7 @@ set_first : (b : Bool) (mask before count : ℕ) → 0 < cond b 1 0 + 2 * mask
 set_first true mask before count some rest = omega arith
 set_first false mask before count some rest = omega (arith, rest (omega arith))
 
--- where a lane is set, fewer stand before it than there are
+-- where a lane is set, fewer are before it than there are
 set_within : (test : ℕ → Bool) (v : List ℕ) → 0 < mask_l (map test v)
     → position_or_len test v < length v
 set_within test [] some = absurd (omega arith)

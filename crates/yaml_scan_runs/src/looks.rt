@@ -91,7 +91,7 @@ fn is_wide(lanes: u8x16) -> bool
 /// After the lanes.
 const END: u64 = 1 << 16;
 
-/// How many lanes stand before the first that is set.
+/// How many lanes are before the first that is set.
 // Inlined: two operations.
 #[inline(always)]
 fn leading(found: u64) -> usize
@@ -240,7 +240,7 @@ pub fn skip_blanks(text: &[u8], from: usize) -> usize
     skip(text, from, b' ', b'\t')
 }
 
-/// Copies sixteen bytes, and says how many of them stand before one that stops a run.
+/// Copies sixteen bytes, and says how many of them are before one that stops a run.
 // Inlined: some moves.
 #[inline(always)]
 pub fn copy_look<const N: usize>(out: &mut [u8], at: usize, text: &[u8], stops: &[u8; N]) -> usize

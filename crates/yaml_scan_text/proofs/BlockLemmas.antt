@@ -169,7 +169,7 @@ header_done text p digit end line h inside whole e some at stop is small own =
       first = first;
     })
 
--- ---- what stands after a line's indentation
+-- ---- what is after a line's indentation
 
 tab_test : (b col d c : ℕ) → (0 < b → col ≡ d) → (b == 9 && nat_lt d c) ≡ (b == 9 && nat_lt col c)
 tab_test b col d c h = elim (cases_Bool (b == 9)) [

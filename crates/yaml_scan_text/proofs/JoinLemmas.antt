@@ -144,7 +144,7 @@ joins_first flow level text start old part h inside on = record {
   rest = line_first flow level text start part inside on.line;
 }
 
--- what stands after the white begins a line
+-- what is after the white begins a line
 pub head_word : (flow : Bool) (level : ℕ) (text : List ℕ) (p : ℕ) (h : Head) → IsHead level text p h
     → ends_at flow level text h.at ≡ false → IsWord text h.at
 head_word flow level text p h head more =

@@ -63,7 +63,7 @@ row_blank text p r blank =
       calm = leads-blank text p blank ∙ r.calm;
     }
 
--- no document's mark stands in a line
+-- no document's mark is in a line
 pub no_mark : (text : List ℕ) (p : ℕ) → 0 < column_at text p → is_document_indicator text p ≡ false
 unfolding is_document_indicator
 no_mark text p h = rw (ne_eqb (column_at text p) 0 (omega arith)) refl

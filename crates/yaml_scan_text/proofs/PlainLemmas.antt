@@ -118,7 +118,7 @@ coming_wrong flow level text p q ps e white done h =
     let here = rw h at (words_here flow level text q) in
     ap (λ x. plain_with (so_far done p) x) (over ∙ ap (words_with (with_white ps)) here)
 
--- ---- what stands in a line
+-- ---- what is in a line
 
 pub ends_none : (flow : Bool) (level : ℕ) (text : List ℕ) (p : ℕ) → (byte text p == 0) ≡ false
     → is_document_indicator text p ≡ false → (byte text p == 35 && after_white text p) ≡ false
@@ -145,7 +145,7 @@ pub record Goes (flow : Bool) (text done : List ℕ) (p : ℕ) (more : List ℕ)
 
 -- ---- blanks in a line
 
--- blanks that stand in a line: what they are, and the place after them
+-- blanks that are in a line: what they are, and the place after them
 pub record AreBlanks (text : List ℕ) (p q : ℕ) : Type 0 where
   pub after : p ≤ q
   pub row : InRow text q

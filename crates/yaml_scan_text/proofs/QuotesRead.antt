@@ -36,7 +36,7 @@ fold_refused quote text old new read told is broke (h, head, mark, e) = λ done.
     let bad = come_bad (λ ks. done ++ value (raw_at text read.from (read.at - read.from) ++ (Break (feed_at text read.at) ∷ head.pieces ++ ks))) quote text h.at (marked h.at) (standing_marked quote text h.at mark) in
     rw (over ∙ bad) e
 
--- ---- a character that is taken, and what stands before it
+-- ---- a character that is taken, and what is before it
 
 kept_come : (quote : ℕ) (text done : List ℕ) (from p q : ℕ) (bytes : List ℕ) → from ≤ p
     → p ≤ length text → standing_at quote text p ≡ Pieces (Kept bytes ∷ []) q

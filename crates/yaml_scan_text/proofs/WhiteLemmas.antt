@@ -54,7 +54,7 @@ white_there : (ps qs : List Piece) → is_nothing qs ≡ false → is_nothing (p
 white_there [] qs h = h
 white_there (p ∷ ps) qs h = refl
 
--- before words it stands as its pieces
+-- before words it is as its pieces
 pub white_some : (level : ℕ) (text : List ℕ) (p q : ℕ) (ps : List Piece) → White level text p q ps
     → (w : Words)
     → is_nothing w.pieces ≡ false

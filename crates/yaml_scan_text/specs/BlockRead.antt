@@ -58,7 +58,7 @@ IsSeen text q (Ok seen.Text) s = (0 < byte text q) × (break_width text q ≡ 0)
 IsSeen text q (Ok seen.Other) s = s ≡ Stops q
 IsSeen text q (Err e) s = (s ≡ Tab q) × (wrong_of e ≡ in_block problems.TabForSpace q)
 
--- after an empty line whose break stands there
+-- after an empty line whose break is there
 abbrev pub after_empty : List ℕ → Stack → ℕ → Stack
 after_empty text s q = record {
   at = q + break_width text q;

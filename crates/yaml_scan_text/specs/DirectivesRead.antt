@@ -38,7 +38,7 @@ ReadsHandle text p (Ok q) (Err w) = ⊥
 ReadsHandle text p (Err e) (Ok x) = ⊥
 ReadsHandle text p (Err e) (Err w) = wrong_of e ≡ w
 
--- The value says that: two numbers of one to nine digits, or a handle and a prefix, which is appended to what was there, or stands in
+-- The value says that: two numbers of one to nine digits, or a handle and a prefix, which is appended to what was there, or is in
 -- the text.
 abbrev pub IsSaid : List ℕ → List ℕ → List ℕ → Value → Said → Type 0
 IsSaid text old new v (version major minor) = (v.is_tag ≡ false) × (v.joined ≡ false) × (new ≡ old)
@@ -50,7 +50,7 @@ IsSaid text old new v (tag handle prefix) = (v.is_tag ≡ true)
     × (v.joined ≡ true → new ≡ old ++ prefix)
     × (v.joined ≡ false → (new ≡ old) × (slice_range text v.second v.second_end ≡ prefix))
 
--- its parts stand in order
+-- its parts are in order
 pub record AreParts (v : Value) : Type 0 where
   pub first : v.first ≤ v.first_end
   pub between : v.first_end ≤ v.second

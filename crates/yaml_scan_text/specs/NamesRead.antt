@@ -11,7 +11,7 @@ use Rattle.yaml_scan_text.specs.declared.uri.Uri.{Uri}
 use Rattle.yaml_scan_text.specs.QuotedRead.{ArePlain}
 use Rattle.yaml_scan_text.specs.Refused.{IsMemory, Refuses, wrong_of}
 
--- A name stands after the indicator there, up to that place.
+-- A name is after the indicator there, up to that place.
 pub record IsName (text : List ℕ) (start q : ℕ) (x : List ℕ × ℕ) : Type 0 where
   pub name : slice_range text (start + 1) q ≡ x.0
   pub end : q ≡ x.1

@@ -18,7 +18,7 @@ use Rattle.yaml_scan_text.specs.Folds.{White}
 use Rattle.yaml_scan_text.specs.Lines.{InHead, line_start}
 use Rattle.yaml_scan_text.specs.Refused.{Refuses, IsMemory, wrong_of}
 
--- a character of a scalar stands there
+-- a character of a scalar is there
 pub record IsWord (text : List ℕ) (p : ℕ) : Type 0 where
   pub inside : p < length text
   pub blank : is_blank (byte text p) ≡ false
@@ -45,7 +45,7 @@ abbrev pub coming : Bool → ℕ → List ℕ → List ℕ → ℕ → Result Pl
 coming flow level text done p = plain_with (so_far done p)
     (words (suc (length text)) flow level text p)
 
--- a `:` stands there as a mapping has it
+-- a `:` is there as a mapping has it
 abbrev pub is_colon : List ℕ → ℕ → Bool
 is_colon text p = byte text p == ascii.colon && is_blank_or_end text (p + 1)
 
@@ -62,11 +62,11 @@ bad_colon p = record {
       = p;
 }
 
--- what stands where a line of the scalar stops, and no break does
+-- what is where a line of the scalar stops, and no break does
 abbrev pub stop_at : Bool → List ℕ → ℕ → PlainSpot
 stop_at flow text p = if is_bad_colon flow text p then Faulty (bad_colon p) else Ends
 
--- A line of a plain scalar whose first character stands there.
+-- A line of a plain scalar whose first character is there.
 pub record IsPlainLine (flow : Bool) (text : List ℕ) (p : ℕ) (l : PlainLine) : Type 0 where
   pub after : p < l.end
   pub order : l.end ≤ l.next
@@ -88,7 +88,7 @@ one_line flow text p l =
     if is_bad_colon flow text l.next then Err (bad_colon l.next)
     else Ok record { value = slice_range text p l.end; end = l.end; place = l.next; broke = false }
 
--- A plain scalar is that text; its value is joined after what was there, or stands in the text.
+-- A plain scalar is that text; its value is joined after what was there, or is in the text.
 pub record IsPlain (text : List ℕ) (start : ℕ) (old new : List ℕ) (s : PlainScalar) (x : PlainText)
     : Type 0 where
   pub joined : s.joined ≡ true → new ≡ old ++ x.value

@@ -22,7 +22,7 @@ use Rattle.yaml_scan_text.specs.Refused.{IsMemory, Refuses, wrong_of}
 abbrev pub IsQuote : ℕ → Type 0
 IsQuote b = (b ≡ ascii.quote) ⊎ (b ≡ ascii.apostrophe)
 
--- the quote that closes the scalar stands there
+-- the quote that closes the scalar is there
 abbrev pub closes : ℕ → List ℕ → ℕ → Bool
 closes quote text p = byte text p == quote && not
     (quote == ascii.apostrophe && byte text (p + 1) == ascii.apostrophe)
@@ -56,7 +56,7 @@ to_come quote text done from p =
     valued (λ ps. done ++ value (raw_at text from (p - from) ++ ps))
     (pieces (suc (length text)) quote text p)
 
--- no character beyond ASCII stands in the line before the place, after the scalar's start
+-- no character beyond ASCII is in the line before the place, after the scalar's start
 abbrev pub IsNarrow : List ℕ → ℕ → Quoted → Type 0
 IsNarrow text start r = r.wide ≡ false → (k : ℕ) → start ≤ k → r.line ≤ k → k < r.at
     → starts (byte text k) ≡ true
@@ -94,7 +94,7 @@ ReadsPiece quote text old new read (Ok r) = Goes quote text old new read r
 ReadsPiece quote text old new read (Err e) = (done : List ℕ)
     → RefusedAs e (to_come quote text done read.from read.at)
 
--- what is wrong where a document's mark stands at a line's start
+-- what is wrong where a document's mark is at a line's start
 abbrev pub marked : ℕ → Wrong
 marked p = record {
   problem = problems.DocumentIndicator;
@@ -103,7 +103,7 @@ marked p = record {
       = p;
 }
 
--- White after a break, and the place after it; a document's mark that stands there is refused.
+-- White after a break, and the place after it; a document's mark that is there is refused.
 abbrev pub PassesLines : List ℕ → ℕ → Result Head Told → Type 0
 PassesLines text p (Ok h) = IsHead 0 text p h × (is_document_indicator text h.at ≡ false)
 PassesLines text p (Err e) = (h : Head) × IsHead 0 text p h
@@ -142,7 +142,7 @@ IsClosed start r (Ok s) = s ≡ record
     { end = r.at + 1; line = r.line; wide = r.wide; joined = not (r.from == start + 1) }
 IsClosed start r (Err e) = IsMemory e
 
--- A quoted scalar has that value and that end; its value is joined after what was there, or stands between the quotes.
+-- A quoted scalar has that value and that end; its value is joined after what was there, or is between the quotes.
 pub record IsQuoted (text : List ℕ) (start : ℕ) (old new : List ℕ) (s : QuotedScalar)
     (x : List ℕ × ℕ) : Type 0 where
   pub joined : s.joined ≡ true → new ≡ old ++ x.0

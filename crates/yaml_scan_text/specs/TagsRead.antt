@@ -7,7 +7,7 @@ use Rattle.yaml_scan_text.specs.declared.tag.Tag.{Tag}
 use Rattle.yaml_scan_text.specs.QuotedRead.{ArePlain}
 use Rattle.yaml_scan_text.specs.Refused.{IsMemory, Refuses}
 
--- A tag is that one: its handle stands where it starts, and its suffix in the text, or it is appended to what was there.
+-- A tag is that one: its handle is where it starts, and its suffix in the text, or it is appended to what was there.
 pub record IsTag (text : List ℕ) (p : ℕ) (old new : List ℕ) (t : Tag) (x : TagText) : Type 0 where
   pub handle : slice_range text p t.handle ≡ x.handle
   pub joined : t.joined ≡ true → new ≡ old ++ x.suffix

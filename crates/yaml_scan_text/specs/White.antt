@@ -2,14 +2,14 @@
 use Rattle.std.specs.Prelude.{ℕ, ◌+◌, ◌-◌, ◌<◌, ◌≤◌, ◌≡◌, Bool, true, false, ◌&&◌, ◌==◌, List}
 use Rattle.yaml_scan_model.specs.Marks.{byte, is_blank, is_blank_or_end}
 
--- blanks stand from one place to another, and none that isn't before `least` stands before the first one
+-- blanks stand from one place to another, and none that isn't before `least` is before the first one
 pub record IsTrimmed (text : List ℕ) (least end q : ℕ) : Type 0 where
   pub after : least ≤ q
   pub before : q ≤ end
   pub blanks : (k : ℕ) → q ≤ k → k < end → is_blank (byte text k) ≡ true
   pub last : least < q → is_blank (byte text (q - 1)) ≡ false
 
--- the byte stands there three times before a blank, a break or the end
+-- the byte is there three times before a blank, a break or the end
 abbrev pub is_thrice : ℕ → List ℕ → ℕ → Bool
 is_thrice b text p = ((byte text p == b && byte text (p + 1) == b) && byte text (p + 2) == b)
     && is_blank_or_end text (p + 3)

@@ -47,7 +47,7 @@ fn wrong_block(problem: Problem, place: usize) -> Wrong
     }
 }
 
-/// The header whose indicator stands before that place, in a line that starts there.
+/// The header whose indicator is before that place, in a line that starts there.
 fn read_header(text: &[u8], at: usize, line: usize) -> Result<Header, Wrong>
     requires inside { at ≤ length text.now }
     requires whole { splits_break text.now at ≡ false }
@@ -138,7 +138,7 @@ fn header_end(text: &[u8], at: usize) -> usize
     end
 }
 
-/// Where the line starts after the break that stands there, or else the one that is given.
+/// Where the line starts after the break that is there, or else the one that is given.
 #[tactic(auto, using(crate::proofs::LinesLemmas::line_next, crate::proofs::TextLemmas::break_inside))]
 pub(crate) fn line_behind(text: &[u8], at: usize, line: usize) -> usize
     requires { line ≡ line_start text.now at }
@@ -196,7 +196,7 @@ fn past_indent(text: &[u8], from: usize, most: usize) -> usize
     from + (end - from).min(most)
 }
 
-/// What stands after the indentation of a line of a block scalar.
+/// What is after the indentation of a line of a block scalar.
 #[derive(Clone, Copy)]
 enum Seen {
     /// Its break.
@@ -206,7 +206,7 @@ enum Seen {
     Other,
 }
 
-/// What stands there, in a line that starts at the other place.
+/// What is there, in a line that starts at the other place.
 fn seen_at(text: &[u8], line: usize, at: usize, column: usize) -> Result<Seen, Wrong>
     requires order { line ≤ at }
     requires column { 0 < byte text.now at → column_at text.now at ≡ at - line }
@@ -224,7 +224,7 @@ fn seen_at(text: &[u8], line: usize, at: usize, column: usize) -> Result<Seen, W
     Ok(Seen::Text)
 }
 
-/// Whether the end stands there, or another column than that one is reached.
+/// Whether the end is there, or another column than that one is reached.
 fn is_other(text: &[u8], at: usize, line: usize, column: usize) -> bool
     requires { line ≤ at }
     ensures { result ≡ (byte text.now at == 0 || not (at - line == column)) }
@@ -273,7 +273,7 @@ fn behind_text(text: &[u8], stack: Stack, first: usize, end: usize) -> Stack
     }
 }
 
-/// Whether the break that stands there reads as a line feed.
+/// Whether the break that is there reads as a line feed.
 #[tactic(auto, using(crate::proofs::BlockLemmas::feed_test))]
 fn is_line_feed(text: &[u8], at: usize) -> bool
     ensures { result ≡ is_feed (feed_at text.now at) }
@@ -289,7 +289,7 @@ fn joins_text(text: &[u8], stack: Stack, first: usize, folded: bool) -> bool
     folded && !stack.blank && !is_blank(byte(text, first)) && is_line_feed(text, stack.end)
 }
 
-/// Appends what stands between two texts: the first one's break, unless it is folded, and those of the empty lines between, or a
+/// Appends what is between two texts: the first one's break, unless it is folded, and those of the empty lines between, or a
 /// space where the fold leaves nothing.
 fn put_between(
     arena: &mut Vec<u8>,
@@ -315,7 +315,7 @@ fn put_between(
     Ok(())
 }
 
-/// Appends a line's text, which starts and ends there, and what stands before it.
+/// Appends a line's text, which starts and ends there, and what is before it.
 #[tactic(auto, unfolding(yaml_scan_history::specs::Value::between))]
 fn put_line(
     arena: &mut Vec<u8>,
@@ -364,7 +364,7 @@ pub struct BlockScalar {
     pub line: usize,
 }
 
-/// The block scalar whose indicator stands there, in a line that starts at the other place. Its value is joined from its lines. The
+/// The block scalar whose indicator is there, in a line that starts at the other place. Its value is joined from its lines. The
 /// margin is the column of the innermost block level and one, or 0.
 pub fn block_scalar(
     arena: &mut Vec<u8>,
@@ -386,7 +386,7 @@ pub fn block_scalar(
     block_lines(arena, text, start, header, column)
 }
 
-/// The lines after the header of the block scalar whose indicator stands there, whose text stands at that column.
+/// The lines after the header of the block scalar whose indicator is there, whose text is at that column.
 fn block_lines(
     arena: &mut Vec<u8>,
     text: &[u8],

@@ -44,7 +44,7 @@ fn is_of_uri(byte: u8, wide: bool) -> bool
     }
 }
 
-/// The place after the alphas that stand there.
+/// The place after the alphas that are there.
 pub fn alphas(text: &[u8], from: usize) -> usize
     requires { from ≤ length text.now }
     ensures { spec.AreAlphas text.now from result }

@@ -40,7 +40,7 @@ pub struct Directive {
     pub line: usize,
 }
 
-/// The directive whose `%` stands there, in a line that starts at the other place: `%YAML` with a version, or `%TAG` with a handle and
+/// The directive whose `%` is there, in a line that starts at the other place: `%YAML` with a version, or `%TAG` with a handle and
 /// a prefix. After it blanks, a comment and the break are passed.
 pub fn read_directive(
     arena: &mut Vec<u8>,
@@ -116,7 +116,7 @@ pub(crate) struct Name {
     pub end: usize,
 }
 
-/// The name after the `%` that stands there.
+/// The name after the `%` that is there.
 fn read_name(text: &[u8], start: usize) -> Result<Name, Wrong>
     requires { start < length text.now }
     ensures { spec.ReadsName text.now start result (directives.name_at text.now start) }
@@ -167,7 +167,7 @@ fn is_tag(text: &[u8], at: usize) -> bool
     byte(text, at) == b'T' && (byte(text, at + 1) == b'A' && byte(text, at + 2) == b'G')
 }
 
-/// The value of the directive whose `%` stands there.
+/// The value of the directive whose `%` is there.
 fn read_value(arena: &mut Vec<u8>, text: &[u8], start: usize) -> Result<Value, Refusal>
     requires { byte text.now start ≡ ascii.percent }
     ensures value { spec.ReadsValue text.now start arena.old.items arena.new.items result

@@ -18,7 +18,7 @@ pub(crate) struct Head {
     pub line: usize,
 }
 
-/// Appends what the blanks and breaks read as that stand between two places, the first break among them: blanks go, a line feed
+/// Appends what the blanks and breaks read as that are between two places, the first break among them: blanks go, a line feed
 /// becomes a space, or goes where more breaks follow; others stay.
 pub(crate) fn fold(out: &mut Vec<u8>, text: &[u8], from: usize, to: usize) -> Result<(), AllocError>
     requires broke { 0 < break_width text.now (past_blanks text.now from) }
@@ -79,7 +79,7 @@ pub(crate) fn take_line(
     fold(arena, text, end, to)
 }
 
-/// Whether a document's mark stands after such white.
+/// Whether a document's mark is after such white.
 // In line: mostly a comparison.
 #[tactic(auto, using(crate::proofs::HeadLemmas::mark_first, crate::proofs::HeadLemmas::mark_other))]
 #[inline(always)]

@@ -32,7 +32,7 @@ fn is_name(text: &[u8], from: usize, end: usize) -> bool
     from != end && may_end_name(text, end)
 }
 
-/// Whether a blank, a break, the end or one of ``? : , ] } % @ ` `` stands there.
+/// Whether a blank, a break, the end or one of ``? : , ] } % @ ` `` is there.
 #[tactic(auto, unfolding(yaml_scan_history::specs::Anchors::may_end_name))]
 fn may_end_name(text: &[u8], at: usize) -> bool
     ensures { result ≡ anchors.may_end_name text.now at }

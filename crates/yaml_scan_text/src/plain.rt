@@ -19,7 +19,7 @@ use yaml_scan_model::{Context, Problem};
 use yaml_scan_runs::{BLOCK, FLOW, Run, run_to};
 
 /// The part of a plain scalar that stands on a line: where it ends, where the blanks after it end, whether characters beyond
-/// ASCII are among it, and whether a `:` stands after it as a mapping has it.
+/// ASCII are among it, and whether a `:` is after it as a mapping has it.
 #[derive(Clone, Copy, Drop)]
 pub struct PlainLine {
     pub end: usize,
@@ -29,7 +29,7 @@ pub struct PlainLine {
 }
 
 /// A plain scalar: where it ends, where the white after it ends and that line starts, whether a break is among the white, whether
-/// characters beyond ASCII stand in that line, and whether its value was joined.
+/// characters beyond ASCII are in that line, and whether its value was joined.
 #[derive(Clone, Copy, Drop)]
 pub struct PlainScalar {
     pub end: usize,
@@ -40,7 +40,7 @@ pub struct PlainScalar {
     pub joined: bool,
 }
 
-/// What of a plain scalar stands on the line whose first character stands there.
+/// What of a plain scalar stands on the line whose first character is there.
 // Inlined with its runs: most scalars end here.
 #[inline(always)]
 pub fn plain_line(text: &[u8], first: usize, flow: bool) -> PlainLine
@@ -85,7 +85,7 @@ fn plain_run(text: &[u8], from: usize, flow: bool) -> Run
     }
 }
 
-/// Whether a `:` stands there as a mapping has it.
+/// Whether a `:` is there as a mapping has it.
 // In line: asked after each run.
 #[inline(always)]
 fn is_colon(text: &[u8], at: usize) -> bool
@@ -112,7 +112,7 @@ fn stops(text: &[u8], at: usize, flow: bool) -> bool
     }
 }
 
-/// Whether in brackets a `:` stands there before a bracket or a `?`.
+/// Whether in brackets a `:` is there before a bracket or a `?`.
 // In line: asked after each run.
 #[inline(always)]
 pub fn is_bad_colon(text: &[u8], at: usize, flow: bool) -> bool
@@ -121,7 +121,7 @@ pub fn is_bad_colon(text: &[u8], at: usize, flow: bool) -> bool
     flow && byte(text, at) == b':' && (is_bracket(byte(text, at + 1)) || byte(text, at + 1) == b'?')
 }
 
-/// The place after the breaks that stand there, with the blanks of the lines after them, and where the last line starts.
+/// The place after the breaks that are there, with the blanks of the lines after them, and where the last line starts.
 // In line: one caller for each line.
 #[inline(always)]
 fn pass_breaks(text: &[u8], from: usize, margin: usize) -> Result<Head, Wrong>
@@ -163,7 +163,7 @@ fn wrong_plain(problem: Problem, place: usize) -> Wrong
     }
 }
 
-/// Whether a plain scalar ends before what stands after such white.
+/// Whether a plain scalar ends before what is after such white.
 // In line: asked after each line.
 #[inline(always)]
 fn ends_behind(text: &[u8], head: Head, flow: bool, margin: usize) -> bool
@@ -179,7 +179,7 @@ fn ends_behind(text: &[u8], head: Head, flow: bool, margin: usize) -> bool
     is_apart(text, head, flow, margin)
 }
 
-/// Whether the end, a comment or a `:` as a mapping has it stands there.
+/// Whether the end, a comment or a `:` as a mapping has it is there.
 fn begins_nothing(text: &[u8], at: usize) -> bool
     ensures { result ≡ (byte text.now at == 0 || (byte text.now at == ascii.hash
         || spec.is_colon text.now at)) }
@@ -187,7 +187,7 @@ fn begins_nothing(text: &[u8], at: usize) -> bool
     byte(text, at) == 0 || byte(text, at) == b'#' || is_colon(text, at)
 }
 
-/// Whether what stands after such white is no part of a plain scalar: in brackets a bracket, else what is left of the margin.
+/// Whether what is after such white is no part of a plain scalar: in brackets a bracket, else what is left of the margin.
 fn is_apart(text: &[u8], head: Head, flow: bool, margin: usize) -> bool
     requires { head.line ≤ head.at }
     ensures { result ≡ (if flow then plain.is_bracket (byte text.now head.at)

@@ -38,7 +38,7 @@ pub struct QuotedScalar {
     pub joined: bool,
 }
 
-/// The scalar whose opening quote stands there, in a line that starts at the other place. Its value is what stands between the
+/// The scalar whose opening quote is there, in a line that starts at the other place. Its value is what is between the
 /// quotes, or joined, where that has an escape or a break.
 // Inlined: most scalars end with their first run.
 #[inline(always)]
@@ -105,7 +105,7 @@ fn quoted_pieces(
     }
 }
 
-/// A scalar in the reading after the run that stands there.
+/// A scalar in the reading after the run that is there.
 fn behind_run(text: &[u8], quote: u8, read: Quoted) -> Quoted
     requires { read.at ≤ length text.now }
     ensures run { RunsTo (spec.may_stop quote) text.now read.at (length text.now) result.at }
@@ -136,7 +136,7 @@ fn quoted_run(text: &[u8], from: usize, quote: u8) -> Run
     }
 }
 
-/// Whether the quote that closes the scalar stands there.
+/// Whether the quote that closes the scalar is there.
 fn closes(text: &[u8], at: usize, quote: u8) -> bool
     requires { at ≤ length text.now }
     ensures { result ≡ spec.closes quote text.now at }
@@ -183,7 +183,7 @@ fn wrong_quoted(problem: Problem, place: usize) -> Wrong
     }
 }
 
-/// Takes what stands after a run between those quotes, which isn't the closing one.
+/// Takes what is after a run between those quotes, which isn't the closing one.
 fn piece(arena: &mut Vec<u8>, text: &[u8], quote: u8, read: Quoted) -> Result<Quoted, Refusal>
     requires text { IsSpelled text.now }
     requires quote { spec.IsQuote quote }
@@ -213,7 +213,7 @@ fn piece(arena: &mut Vec<u8>, text: &[u8], quote: u8, read: Quoted) -> Result<Qu
     })
 }
 
-/// Takes the first of the two single quotes there, and what stands before it.
+/// Takes the first of the two single quotes there, and what is before it.
 fn doubled(arena: &mut Vec<u8>, text: &[u8], quote: u8, read: Quoted) -> Result<Quoted, Refusal>
     requires quote { spec.IsQuote quote }
     requires first { byte text.now read.at ≡ quote }
@@ -232,7 +232,7 @@ fn doubled(arena: &mut Vec<u8>, text: &[u8], quote: u8, read: Quoted) -> Result<
     })
 }
 
-/// Takes the break there with the breaks and blanks around it, which are folded, and what stands before them.
+/// Takes the break there with the breaks and blanks around it, which are folded, and what is before them.
 fn fold_lines(arena: &mut Vec<u8>, text: &[u8], quote: u8, read: Quoted) -> Result<Quoted, Refusal>
     requires text { IsSpelled text.now }
     requires quote { spec.IsQuote quote }
@@ -266,7 +266,7 @@ fn pass_lines(text: &[u8], from: usize) -> Result<Head, Wrong>
     Ok(head)
 }
 
-/// The place after the breaks and blanks there, and where that line starts, whatever stands there.
+/// The place after the breaks and blanks there, and where that line starts, whatever is there.
 fn skip_lines(text: &[u8], from: usize) -> Head
     requires text { IsSpelled text.now }
     requires broke { 0 < break_width text.now from }
@@ -283,7 +283,7 @@ fn skip_lines(text: &[u8], from: usize) -> Head
     }
 }
 
-/// Takes what begins with the backslash there, and what stands before it.
+/// Takes what begins with the backslash there, and what is before it.
 fn escape(arena: &mut Vec<u8>, text: &[u8], read: Quoted) -> Result<Quoted, Refusal>
     requires text { IsSpelled text.now }
     requires first { byte text.now read.at ≡ ascii.backslash }
@@ -299,7 +299,7 @@ fn escape(arena: &mut Vec<u8>, text: &[u8], read: Quoted) -> Result<Quoted, Refu
     escape_character(arena, text, read)
 }
 
-/// Takes the escaped break there, with the breaks and blanks after it, and what stands before it.
+/// Takes the escaped break there, with the breaks and blanks after it, and what is before it.
 fn escape_line(arena: &mut Vec<u8>, text: &[u8], read: Quoted) -> Result<Quoted, Refusal>
     requires text { IsSpelled text.now }
     requires first { byte text.now read.at ≡ ascii.backslash }
@@ -322,7 +322,7 @@ fn escape_line(arena: &mut Vec<u8>, text: &[u8], read: Quoted) -> Result<Quoted,
     })
 }
 
-/// Takes the escaped character there, and what stands before it.
+/// Takes the escaped character there, and what is before it.
 fn escape_character(arena: &mut Vec<u8>, text: &[u8], read: Quoted) -> Result<Quoted, Refusal>
     requires first { byte text.now read.at ≡ ascii.backslash }
     requires none { break_width text.now (read.at + 1) ≡ 0 }

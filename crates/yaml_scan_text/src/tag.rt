@@ -25,7 +25,7 @@ pub struct Tag {
     pub end: usize,
 }
 
-/// The tag whose `!` stands there: `!<uri>`, `!uri`, `!!uri`, `!name!uri` or `!`. It ends before a blank, a break or the end, in
+/// The tag whose `!` is there: `!<uri>`, `!uri`, `!!uri`, `!name!uri` or `!`. It ends before a blank, a break or the end, in
 /// brackets also before `,`.
 pub fn read_tag(arena: &mut Vec<u8>, text: &[u8], start: usize, flow: bool) -> Result<Tag, Refusal>
     requires { byte text.now start ≡ ascii.exclamation }
@@ -40,7 +40,7 @@ pub fn read_tag(arena: &mut Vec<u8>, text: &[u8], start: usize, flow: bool) -> R
     Ok(tag)
 }
 
-/// Whether a blank, a break, the end, or in brackets `,` stands there.
+/// Whether a blank, a break, the end, or in brackets `,` is there.
 fn may_end_tag(text: &[u8], at: usize, flow: bool) -> bool
     ensures { result ≡ tags.may_end_tag flow text.now at }
 {
@@ -59,7 +59,7 @@ fn wrong_tag(problem: Problem, place: usize) -> Wrong
     }
 }
 
-/// The tag whose `!` stands there, whatever follows it.
+/// The tag whose `!` is there, whatever follows it.
 fn parts(arena: &mut Vec<u8>, text: &[u8], start: usize) -> Result<Tag, Refusal>
     requires { byte text.now start ≡ ascii.exclamation }
     ensures value { spec.ReadsTag text.now start arena.old.items arena.new.items result
@@ -76,7 +76,7 @@ fn parts(arena: &mut Vec<u8>, text: &[u8], start: usize) -> Result<Tag, Refusal>
     bare(arena, text, start)
 }
 
-/// The tag `!<uri>` that stands there, which has no handle.
+/// The tag `!<uri>` that is there, which has no handle.
 fn verbatim(arena: &mut Vec<u8>, text: &[u8], start: usize) -> Result<Tag, Refusal>
     requires mark { byte text.now start ≡ ascii.exclamation }
     requires angle { byte text.now (start + 1) ≡ ascii.less }
@@ -97,7 +97,7 @@ fn verbatim(arena: &mut Vec<u8>, text: &[u8], start: usize) -> Result<Tag, Refus
     })
 }
 
-/// The tag `!name!uri` that stands there, whose name ends there.
+/// The tag `!name!uri` that is there, whose name ends there.
 fn named(arena: &mut Vec<u8>, text: &[u8], start: usize, name: usize) -> Result<Tag, Refusal>
     requires mark { byte text.now start ≡ ascii.exclamation }
     requires run { AreAlphas text.now (start + 1) name }
@@ -117,7 +117,7 @@ fn named(arena: &mut Vec<u8>, text: &[u8], start: usize, name: usize) -> Result<
     })
 }
 
-/// The tag `!uri` or `!` that stands there; the latter is its own suffix.
+/// The tag `!uri` or `!` that is there; the latter is its own suffix.
 fn bare(arena: &mut Vec<u8>, text: &[u8], start: usize) -> Result<Tag, Refusal>
     requires { byte text.now start ≡ ascii.exclamation }
     ensures value { spec.ReadsTag text.now start arena.old.items arena.new.items result

@@ -10,7 +10,7 @@ ghost use Rattle.yaml_scan_text.specs.White as white;
 
 use yaml_scan_runs::{LINE, run_end};
 
-/// The byte that stands there, or 0 at the end.
+/// The byte that is there, or 0 at the end.
 // In line: asked at each step.
 #[inline(always)]
 pub fn byte(text: &[u8], at: usize) -> u8
@@ -19,7 +19,7 @@ pub fn byte(text: &[u8], at: usize) -> u8
     if at < text.len() { text[at] } else { 0 }
 }
 
-/// How many bytes the break has that stands there, or 0.
+/// How many bytes the break has that is there, or 0.
 #[tactic(auto, using(crate::proofs::Words::within), unfolding(yaml_scan_types::specs::Marks::break_of))]
 pub fn break_width(text: &[u8], at: usize) -> usize
     ensures { result ≡ break_width text.now at }
@@ -55,7 +55,7 @@ pub fn is_blank(byte: u8) -> bool
     byte == b' ' || byte == b'\t'
 }
 
-/// Whether a blank, a break or the end stands there.
+/// Whether a blank, a break or the end is there.
 #[tactic(auto, unfolding(yaml_scan_types::specs::Marks::break_of))]
 pub fn is_blank_or_end(text: &[u8], at: usize) -> bool
     ensures { result ≡ is_blank_or_end text.now at }
@@ -102,7 +102,7 @@ pub fn trim_blanks(text: &[u8], least: usize, end: usize) -> usize
     at
 }
 
-/// Whether neither a break nor the end stands there.
+/// Whether neither a break nor the end is there.
 pub fn is_text(text: &[u8], at: usize) -> bool
     ensures { result ≡ runs.is_text text.now at }
 {
@@ -124,7 +124,7 @@ pub fn line_end(text: &[u8], from: usize) -> usize
     }
 }
 
-/// Whether `---` or `...`, of three such bytes, stands there before a blank, a break or the end.
+/// Whether `---` or `...`, of three such bytes, is there before a blank, a break or the end.
 pub fn is_thrice(text: &[u8], at: usize, mark: u8) -> bool
     requires { 0 < mark }
     ensures { result ≡ white.is_thrice mark text.now at }
@@ -135,7 +135,7 @@ pub fn is_thrice(text: &[u8], at: usize, mark: u8) -> bool
         && is_blank_or_end(text, at + 3)
 }
 
-/// Whether `---` or `...` stands there, where a line starts.
+/// Whether `---` or `...` is there, where a line starts.
 #[tactic(auto, using(crate::proofs::TextLemmas::is_mark))]
 pub fn is_document_mark(text: &[u8], at: usize) -> bool
     ensures { column_at text.now at ≡ 0 → result ≡ is_document_indicator text.now at }
@@ -143,7 +143,7 @@ pub fn is_document_mark(text: &[u8], at: usize) -> bool
     is_thrice(text, at, b'-') || is_thrice(text, at, b'.')
 }
 
-/// Whether a tab stands there, in a line that starts at the other place, that is left of the margin.
+/// Whether a tab is there, in a line that starts at the other place, that is left of the margin.
 pub fn is_bad_tab(text: &[u8], at: usize, line: usize, margin: usize) -> bool
     requires { line ≤ at }
     ensures { result ≡ (byte text.now at == ascii.tab && nat_lt (at - line) margin) }

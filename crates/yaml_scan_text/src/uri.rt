@@ -21,7 +21,7 @@ pub struct Uri {
     pub joined: bool,
 }
 
-/// The URI that stands there: a part of the text, or spelled out after the arena where it has escapes.
+/// The URI that is there: a part of the text, or spelled out after the arena where it has escapes.
 pub fn uri_at(
     arena: &mut Vec<u8>,
     text: &[u8],
@@ -65,7 +65,7 @@ pub fn some_uri(
     Ok(uri)
 }
 
-/// The URI that starts there, whose first escape stands at the other place.
+/// The URI that starts there, whose first escape is at the other place.
 fn spell_uri(
     arena: &mut Vec<u8>,
     text: &[u8],

@@ -34,6 +34,6 @@ Shows kind.BadTag old fault new after = ShowsFault old fault new after
 Shows kind.BadPrefix old fault new after = ShowsFault old fault new after
 Shows k old fault new after = ShowsToken k old fault new after
 
--- how many tokens stand after the first
+-- how many tokens are after the first
 abbrev pub left_behind : List Token → ℕ
 left_behind ts = length (rest_of ts)

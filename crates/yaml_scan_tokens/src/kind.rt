@@ -3,7 +3,7 @@
 ghost use Rattle.std.specs.Prelude.{◌≡◌};
 ghost use Rattle.yaml_scan_tokens.specs.Kinds.{is_fault};
 
-/// What a token is. `Failed` stands where the tokens end by a fault, `Nothing` after their end, and `BadTag` and `BadPrefix` for
+/// What a token is. `Failed` is where the tokens end by a fault, `Nothing` after their end, and `BadTag` and `BadPrefix` for
 /// a tag and a directive's prefix that aren't UTF-8.
 #[derive(Clone, Copy, PartialEq, Eq)]
 pub enum Kind {

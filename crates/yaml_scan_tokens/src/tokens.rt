@@ -126,7 +126,7 @@ pub trait Tokens: Drop {
     fn origin(&self) -> Self::Place
         ensures { mark_of self.now result ≡ zero_mark };
 
-    /// The fault that stands where the next token would.
+    /// The fault that is where the next token would.
     fn fault(&self) -> yaml_fault_t
         requires { tells self.now true }
         ensures { fault_to_come self.now ≡ Some (fault_of result) };

@@ -1,4 +1,4 @@
--- The classes of bytes: what stands at a place of a text.
+-- The classes of bytes: what is at a place of a text.
 use Rattle.std.specs.Prelude.{ℕ, zero, suc, ◌+◌, ◌-◌, Bool, true, false, not, ◌&&◌, ◌||◌, ◌==◌, nat_lt, nat_le, if◌then◌else◌, List, length}
 use Rattle.yaml_scan_types.specs.Ascii as ascii
 use Rattle.yaml_scan_types.specs.Marks.{byte, break_width, is_blank as is_blank_byte}
@@ -41,7 +41,7 @@ width_of b =
 unfoldable pub is_special : ℕ → ℕ → Bool
 is_special c d = (c == 0xBB && d == 0xBF) || (c == 0xBF && (d == 0xBE || d == 0xBF))
 
--- b begins a printable character, where c and d stand after it
+-- b begins a printable character, where c and d are after it
 unfoldable pub is_printable_by : ℕ → ℕ → ℕ → Bool
 is_printable_by b c d =
     if b == ascii.line_feed || (nat_le ascii.space b && nat_le b ascii.tilde) then true
@@ -50,7 +50,7 @@ is_printable_by b c d =
     else if b == 0xEF then not (is_special c d)
     else nat_le 0xC3 b && nat_le b 0xF4
 
--- the place is past the end, or a byte 0 stands there
+-- the place is past the end, or a byte 0 is there
 abbrev pub is_z : List ℕ → ℕ → Bool
 is_z text p = byte text p == 0
 

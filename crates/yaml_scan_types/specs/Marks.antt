@@ -21,7 +21,7 @@ break_of b c d =
     else if (b == 0xE2 && c == 0x80) && (d == 0xA8 || d == 0xA9) then 3
     else 0
 
--- b is the last byte of a break, where x and y stand before it and c after it
+-- b is the last byte of a break, where x and y are before it and c after it
 unfoldable pub ends_of : ℕ → ℕ → ℕ → ℕ → Bool
 ends_of x y b c =
     if b == ascii.line_feed then true
@@ -74,7 +74,7 @@ mark_at text p = record { index = p; line = line_at text p; column = column_at t
 abbrev pub is_blank : ℕ → Bool
 is_blank b = b == ascii.space || b == ascii.tab
 
--- a blank, a break or the end stands there
+-- a blank, a break or the end is there
 abbrev pub is_blank_or_end : List ℕ → ℕ → Bool
 is_blank_or_end text p = (is_blank (byte text p) || byte text p == 0)
     || nat_lt 0 (break_width text p)

@@ -20,7 +20,7 @@ fn tells_none(text: &[u8], place: usize) -> bool
     (b'\r' < byte) & (byte < 0xC2)
 }
 
-// Whether that many bytes stand there, and all tell it.
+// Whether that many bytes are there, and all tell it.
 // Inlined into the loop over such rows; without an early exit, so that the bytes are looked at side by side.
 #[inline(always)]
 fn row_tells_none(text: &[u8], at: usize) -> bool
@@ -40,7 +40,7 @@ fn row_tells_none(text: &[u8], at: usize) -> bool
     all
 }
 
-// How many bytes stand in front in rows that tell it.
+// How many bytes are in front in rows that tell it.
 fn rows_without(text: &[u8]) -> usize
     ensures inside { result ≤ length text.now }
     ensures none { any_below result (is_break text.now) ≡ false }

@@ -1,11 +1,11 @@
-//! The classes of bytes: what stands at a place of a text. A place from the text's length on is past its end.
+//! The classes of bytes: what is at a place of a text. A place from the text's length on is past its end.
 
 ghost use Rattle.std.specs.Prelude.{◌≡◌, ◌+◌, ◌-◌, ◌<◌, pos, length, true};
 ghost use Rattle.yaml_scan_types.specs.Ascii as ascii;
 ghost use Rattle.yaml_scan_types.specs.Marks.{byte, break_width};
 ghost use Rattle.yaml_scan_types.specs.Classes.{is_alpha, is_digit, is_hex, is_ascii, is_bom, is_space, is_tab, is_blank, is_break, is_crlf, is_z, is_breakz, is_blankz, is_printable, width, hex_value_of, is_alpha_byte, is_digit_byte, is_hex_byte, is_printable_by};
 
-// The byte that stands there, or 0 past the end.
+// The byte that is there, or 0 past the end.
 fn byte_here(string: &[u8], place: usize) -> u8
     ensures { result ≡ byte string.now place }
 {
@@ -44,14 +44,14 @@ fn is_alpha_of(byte: u8) -> bool
     matches!(byte, b'0'..=b'9' | b'A'..=b'Z' | b'a'..=b'z' | b'_' | b'-')
 }
 
-/// Whether one of `0-9 A-Z a-z _ -` stands there.
+/// Whether one of `0-9 A-Z a-z _ -` is there.
 pub fn IS_ALPHA(string: &[u8], place: usize) -> bool
     ensures { result ≡ is_alpha string.now place }
 {
     is_alpha_of(byte_here(string, place))
 }
 
-/// Whether one of `0-9` stands there.
+/// Whether one of `0-9` is there.
 pub fn IS_DIGIT(string: &[u8], place: usize) -> bool
     ensures { result ≡ is_digit string.now place }
 {
@@ -73,7 +73,7 @@ fn hex_digit_of(byte: u8) -> u8
     }
 }
 
-/// The value of the digit that stands there.
+/// The value of the digit that is there.
 #[tactic(auto, unfolding(crate::specs::Classes::is_digit_byte))]
 pub fn AS_DIGIT(string: &[u8], place: usize) -> i32
     requires { is_digit string.now place ≡ true }
@@ -82,14 +82,14 @@ pub fn AS_DIGIT(string: &[u8], place: usize) -> i32
     i32::from(byte_here(string, place) - b'0')
 }
 
-/// Whether one of `0-9 A-F a-f` stands there.
+/// Whether one of `0-9 A-F a-f` is there.
 pub fn IS_HEX_AT(string: &[u8], place: usize) -> bool
     ensures { result ≡ is_hex string.now place }
 {
     is_hex_of(byte_here(string, place))
 }
 
-/// The value of the hexadecimal digit that stands there.
+/// The value of the hexadecimal digit that is there.
 pub fn AS_HEX_AT(string: &[u8], place: usize) -> i32
     requires { is_hex string.now place ≡ true }
     ensures { result ≡ pos (hex_value_of (byte string.now place)) }
@@ -97,7 +97,7 @@ pub fn AS_HEX_AT(string: &[u8], place: usize) -> i32
     i32::from(hex_digit_of(byte_here(string, place)))
 }
 
-/// Whether one of 00 to 7F stands there.
+/// Whether one of 00 to 7F is there.
 pub fn IS_ASCII(string: &[u8], place: usize) -> bool
     ensures { result ≡ is_ascii string.now place }
 {
@@ -107,7 +107,7 @@ pub fn IS_ASCII(string: &[u8], place: usize) -> bool
     }
 }
 
-/// Whether U+FEFF stands there, EF BB BF.
+/// Whether U+FEFF is there, EF BB BF.
 pub fn IS_BOM(string: &[u8], place: usize) -> bool
     ensures { result ≡ is_bom string.now place }
 {
@@ -115,21 +115,21 @@ pub fn IS_BOM(string: &[u8], place: usize) -> bool
         && (byte_at(string, place, 1) == 0xBB && byte_at(string, place, 2) == 0xBF)
 }
 
-/// Whether a space stands there.
+/// Whether a space is there.
 pub fn IS_SPACE(string: &[u8], place: usize) -> bool
     ensures { result ≡ is_space string.now place }
 {
     byte_here(string, place) == b' '
 }
 
-/// Whether a tab stands there.
+/// Whether a tab is there.
 pub fn IS_TAB(string: &[u8], place: usize) -> bool
     ensures { result ≡ is_tab string.now place }
 {
     byte_here(string, place) == b'\t'
 }
 
-/// Whether a space or a tab stands there.
+/// Whether a space or a tab is there.
 pub fn IS_BLANK(string: &[u8], place: usize) -> bool
     ensures { result ≡ is_blank string.now place }
 {
@@ -137,7 +137,7 @@ pub fn IS_BLANK(string: &[u8], place: usize) -> bool
     byte == b' ' || byte == b'\t'
 }
 
-// How many bytes the break has that stands there, or 0.
+// How many bytes the break has that is there, or 0.
 #[tactic(auto, unfolding(crate::specs::Marks::break_of))]
 fn break_width_of(string: &[u8], place: usize) -> usize
     ensures { result ≡ break_width string.now place }
@@ -160,14 +160,14 @@ pub fn IS_BREAK(string: &[u8], place: usize) -> bool
     break_width_of(string, place) > 0
 }
 
-/// Whether CR LF stands there.
+/// Whether CR LF is there.
 pub fn IS_CRLF(string: &[u8], place: usize) -> bool
     ensures { result ≡ is_crlf string.now place }
 {
     byte_here(string, place) == b'\r' && byte_at(string, place, 1) == b'\n'
 }
 
-/// Whether a byte 0 stands there, or the place is past the end.
+/// Whether a byte 0 is there, or the place is past the end.
 pub fn IS_Z(string: &[u8], place: usize) -> bool
     ensures { result ≡ is_z string.now place }
 {

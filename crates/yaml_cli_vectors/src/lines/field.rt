@@ -6,7 +6,7 @@ use yaml_scan::yaml_mark_t;
 
 // A path is a pointer of JSON: `/settings/limit`, `/0`. An error says it.
 impl Reply {
-    /// What stands there, else the value itself.
+    /// What is there, else the value itself.
     pub fn value<'a>(&mut self, of: &'a Value, path: &'static str) -> &'a Value {
         self.take(of.pointer(path), path, of)
     }

@@ -25,7 +25,7 @@ pub struct Reply {
     /// What the answer is written by.
     pub(crate) writer: Writer,
     wrong: Option<Wrong>,
-    /// The fault that stands after what else was answered, or of a call that refuses.
+    /// The fault that is after what else was answered, or of a call that refuses.
     pub fault: Option<yaml_fault_t>,
     /// The first error is that the call refuses.
     pub is_refused: bool,

@@ -76,7 +76,7 @@ fn put_prefix(reply: &mut Reply, line: &Value, prefix: &yaml_parser_t_prefix) {
     reply.put_fault(line, &fault);
 }
 
-// What the call of that number answers: an event by its value, or in a slot; a document; whether the parser stands between documents;
+// What the call of that number answers: an event by its value, or in a slot; a document; whether the parser is between documents;
 // the fault that its fields tell. Whether there may be more.
 fn put_call<S: yaml_token_source_t>(
     reply: &mut Reply,

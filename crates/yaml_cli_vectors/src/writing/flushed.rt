@@ -5,7 +5,7 @@ use crate::lines::{Part, Reply};
 use serde_json::Value;
 use yaml_emit::{yaml_emitter_output, yaml_emitter_t};
 
-// Whether the text is the front and, after it, only what stands between nodes: blanks, breaks, and the indicators that part
+// Whether the text is the front and, after it, only what is between nodes: blanks, breaks, and the indicators that part
 // nodes or open a collection; in UTF-16 their other byte.
 fn is_close(text: &[u8], front: &[u8]) -> bool {
     let rest = text.strip_prefix(front);
@@ -13,7 +13,7 @@ fn is_close(text: &[u8], front: &[u8]) -> bool {
 }
 
 // Whether the text is what the line wants of a flush: those bytes at least and a front of the line's answer, where it says so,
-// else those bytes except for what stands between nodes. How much of that a flush shows is open: in canonical form what parts two
+// else those bytes except for what is between nodes. How much of that a flush shows is open: in canonical form what parts two
 // nodes is written with the second, and a collection's opener with the collection.
 fn is_wanted(reply: &mut Reply, line: &Value, wanted: &Value, text: &[u8]) -> bool {
     let want = reply.bytes(wanted, "/1");

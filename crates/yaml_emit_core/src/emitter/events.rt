@@ -144,7 +144,7 @@ impl Core {
         }
     }
 
-    // Of a sequence or a mapping. Where memory is refused for the open collections, its text stands in the output.
+    // Of a sequence or a mapping. Where memory is refused for the open collections, its text is in the output.
     // Inlined: it is judged where it comes, and laid out by one call.
     #[inline(always)]
     fn lay_start(&mut self, named: &Named, implicit: bool, sequence: bool, flow: bool, empty: bool)

@@ -41,7 +41,7 @@ fn may_be_open(place: Expected) -> bool
     matches!(place, Expected::Node | Expected::Refused(_))
 }
 
-// Whether an emitter may stand there.
+// Whether an emitter may be there.
 fn is_stand(stand: &yaml_emitter_stand_t, outer: &[Level]) -> bool
     ensures { result ≡ true → IsStand stand.now outer.now }
 {

@@ -1,4 +1,4 @@
--- What the listing says is what stands before the input's end.
+-- What the listing says is what is before the input's end.
 use Rattle.std.proofs.Common.{inl, inr}
 use Rattle.yaml_round_answers.proofs.parsing.collected.Goals as goal
 

@@ -1,4 +1,4 @@
--- What stands before the end is what C is told.
+-- What is before the end is what C is told.
 use Rattle.std.proofs.Common.{refl}
 use Rattle.std.specs.Prelude.{Ok}
 use Rattle.yaml_round.specs.Input.{events_of}

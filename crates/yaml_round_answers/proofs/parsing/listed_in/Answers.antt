@@ -1,4 +1,4 @@
--- What the listing says is what stands before the input's end.
+-- What the listing says is what is before the input's end.
 use Rattle.std.proofs.Common.{inl}
 use Rattle.yaml_round_answers.proofs.Handing.{front_ended}
 use Rattle.yaml_round_answers.proofs.parsing.listed_in.Goals as goal

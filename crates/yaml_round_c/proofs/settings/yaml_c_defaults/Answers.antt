@@ -1,4 +1,4 @@
--- The numbers as they stand there, and what they mean.
+-- The numbers as they are there, and what they mean.
 use Rattle.std.proofs.Common.{refl}
 use Rattle.yaml_round_answers.specs.Numbers.{is_set, break_meant}
 use Rattle.yaml_round_answers.specs.Settings.{output_meant}

@@ -1,4 +1,4 @@
--- The second input's event stands beside the first's.
+-- The second input's event is beside the first's.
 use Rattle.yaml_round_compare.proofs.Stepping.{beside}
 use Rattle.yaml_round_compare.proofs.compare.compared_next.Goals as goal
 

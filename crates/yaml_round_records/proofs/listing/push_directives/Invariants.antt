@@ -1,4 +1,4 @@
--- The directives so far stand at the end of the list.
+-- The directives so far are at the end of the list.
 use Rattle.std.proofs.Common.{◌≡◌, length, map, take}
 use Rattle.yaml_parse.specs.Events.{directive_of}
 use Rattle.yaml_round_records.specs.Listing.{AddsDirectives}

@@ -1,4 +1,4 @@
--- Between documents one state stands alone, as the invariant says: what it gives is documents.
+-- Between documents one state is alone, as the invariant says: what it gives is documents.
 use Rattle.yaml_parse_model.specs.Prefix.{prefix_of}
 use Rattle.yaml_parse_source.specs.Members.{members_of}
 use Rattle.yaml_parse.proofs.Gives.{parser_falls, parser_loads}

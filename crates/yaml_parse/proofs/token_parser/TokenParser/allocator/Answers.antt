@@ -1,4 +1,4 @@
--- Between documents one state stands alone, as the invariant says: what it gives is documents.
+-- Between documents one state is alone, as the invariant says: what it gives is documents.
 use Rattle.yaml_scan_model.specs.Faults.{fault_of}
 use Rattle.yaml_parse.proofs.Gives.{parser_falls, parser_loads}
 use Rattle.yaml_parse.proofs.token_parser.TokenParser.allocator.Goals as goal

@@ -1,4 +1,4 @@
--- The settings as they stand there.
+-- The settings as they are there.
 use Rattle.std.proofs.Common.{refl}
 use Rattle.yaml_round_device.proofs.settings.yaml_settings_t.new.Goals as goal
 

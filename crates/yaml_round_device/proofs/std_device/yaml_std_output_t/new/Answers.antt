@@ -1,4 +1,4 @@
--- The fields as they stand there.
+-- The fields as they are there.
 use Rattle.std.proofs.Common.{refl}
 use Rattle.yaml_round_device.proofs.std_device.yaml_std_output_t.new.Goals as goal
 

@@ -1,4 +1,4 @@
--- What stands between the two places is counted.
+-- What is between the two places is counted.
 use Rattle.std.proofs.Common.{◌∙◌, ap, arith}
 use Rattle.yaml_round_records.specs.declared.counting.Count.{Count}
 use Rattle.yaml_round_records.proofs.Characters.{off, went_on, went_back}

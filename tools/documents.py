@@ -24,7 +24,7 @@ WORDS = {
 }
 OF_A_CRATE = 120
 # A crate of laws names each.
-OF_LAWS = 160
+OF_LAWS = 230
 BY_HAND = 32000
 # Words that say plainly what another word says better: docs/GLOSSARY.md has none of them. At most twenty.
 PLAINER = {

@@ -6,7 +6,7 @@
  *
  * - Where the front is accepted, the events of the whole are the front's without STREAM-END and then the rest's without STREAM-START,
  *   moved by the front's bytes and lines, and the whole is accepted or has the rest's fault, moved (windows_are_read of
- *   yaml_round_laws_inputs); so are tokens, where the front has no fault and no open bracket (windows_are_scanned and
+ *   yaml_round_laws_users); so are tokens, where the front has no fault and no open bracket (windows_are_scanned and
  *   ended_windows_are_scanned of yaml_scan_laws_texts). What they ask of a cut: it stands behind LF, before a line that begins
  *   with `---`; or behind a line of `...`, blanks and breaks, which ends in LF, where of what follows `%` at column 0 comes first,
  *   behind spaces, breaks and comments. cut_before and is_document_start see to it.

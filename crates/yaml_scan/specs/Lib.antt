@@ -18,6 +18,5 @@ pub use Rattle.yaml_scan_decode.specs.Spelling
 pub use Rattle.yaml_scan_decode.specs.DecodedText
 -- its helpers, for crates of laws that name the member alone
 pub use Rattle.yaml_scan_model.specs as scan_model
-pub use Rattle.yaml_scan_history.specs.scan_history as scan_words
 pub use Rattle.yaml_scan_decode.specs as scan_decode
 pub use Rattle.yaml_scan_history.specs as scan_history

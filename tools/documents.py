@@ -23,8 +23,6 @@ WORDS = {
     "docs/PROFILE.md": 6000, "docs/PROVING.md": 4000, "docs/TOUR.md": 1400, "docs/WHAT-IS-PROVED.md": 1800,
 }
 OF_A_CRATE = 120
-# A crate of laws names each.
-OF_LAWS = 230
 BY_HAND = 32000
 # Words that say plainly what another word says better: docs/GLOSSARY.md has none of them. At most twenty.
 PLAINER = {
@@ -81,7 +79,7 @@ def lengths():
     by_hand = 0
     for page in pages():
         count = len(repo.read(page).split())
-        most = WORDS.get(page, (OF_LAWS if "_laws_" in page else OF_A_CRATE) if page.startswith("crates/") else None)
+        most = WORDS.get(page, OF_A_CRATE if page.startswith("crates/") else None)
         if most and count > most:
             yield f"{page}: {count} words, of {most} at most"
         by_hand += count if page.startswith("docs/") and not is_generated(page) else 0

@@ -66,15 +66,6 @@ def unknown(crate, lines):
     return [it for it in items(lines) if it not in names]
 
 
-def unnamed(crate, lines):
-    """The public laws of a crate of laws that its table doesn't name."""
-    if "_laws_" not in crate:
-        return []
-    named = re.findall(r"`([^`]+)`", "\n".join(lines))
-    laws = [law for path in repo.sources(crate) for it in repo.functions(path) if it.is_pub and it.contract() for law in repo.laws_of(it)]
-    return [it.label for it in laws if it.label not in named and it.name not in named]
-
-
 def is_formed(crate, lines):
     """The name and, behind an empty line, what the crate holds."""
     return lines[:2] == [f"# `{crate}`", ""] and len(lines) > 2 and bool(lines[2])
@@ -87,7 +78,6 @@ def faults(crate):
         return [f"{path} isn't there"]
     lines = repo.read(path).rstrip("\n").split("\n")
     found = [f"{path}: no item of this name stands in the crate: {it}" for it in unknown(crate, lines)]
-    found += [f"{path}: no row names this law: {it}" for it in unnamed(crate, lines)]
     if len(lines) > MOST_LINES:
         found.append(f"{path}: {len(lines)} lines, of {MOST_LINES} at most")
     if not is_formed(crate, lines):

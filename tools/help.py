@@ -31,8 +31,8 @@ NOTES = [
     "A fault's line has its kind, what was being read and what is wrong, with lines and columns from 1. check, norm, diff, and "
     "fmt with --check, show the source line too, with a caret under the place.",
     "A path that diff shows has the document's number first, then the way inwards: [0].service.ports[1]. Numbers count from 0; a "
-    "key that is no more than a word stands behind a dot, another one between [\" and \"], and for a key that is no scalar stands "
-    "its pair's number: <key 2>, <value 2>.",
+    "key that is no more than a word is written after a dot, another one between [\" and \"], and a key that is no scalar as its "
+    "pair's number: <key 2>, <value 2>.",
     "Where files are judged a folder stands for all *.yaml and *.yml below it, in the order of the bytes of their paths: .git is left "
     "out, and links to folders aren't followed. A GLOB with a / stands for paths below the folder that was named, another one for "
     "names. ? is any character except /, * any number of these, ** any number of any characters, **/ any folders or none, [a-z] one "

@@ -5,7 +5,7 @@ Both run in turns in this process, and the table has the least of the processor'
 bound that some calls have: `parse` beside the list of CParser's events, `load` beside CBaseLoader's, `safe_load` and
 `compose` beside CSafeLoader's, `dump` and `safe_dump` beside CSafeDumper's. Where no calls are named they are those that have a
 bound. `check` has no peer, and the input of anchors none in the calls that refuse its tags. The last columns are the peaks of a
-process that makes the call alone, in MB. A ratio above its bound, and then a peak above PyYAML's, ends with status 1.
+process that makes the call alone, with modules that are compiled already, in MB. A ratio above its bound, and then a peak above PyYAML's, ends with status 1.
 """
 
 import argparse
@@ -42,13 +42,17 @@ def seconds(call, given):
 
 
 def peak(call, given):
-    """The peak of a process that makes the call, in MB."""
+    """The least peak of some processes that make the call, in MB. Each reads modules as they are installed, compiled, but for the
+    first one, which compiles them."""
     with tempfile.TemporaryDirectory() as folder:
         path = os.path.join(folder, "given")
         with open(path, "wb") as file:
             pickle.dump(given, file)
-        found = subprocess.run([sys.executable, __file__, "--peak", path, call], capture_output=True, check=True)
-    return int(found.stdout) / 1024
+        around = os.environ | {"PYTHONPYCACHEPREFIX": folder}
+        around.pop("PYTHONDONTWRITEBYTECODE", None)
+        command = [sys.executable, __file__, "--peak", path, call]
+        found = [subprocess.run(command, env=around, capture_output=True, check=True).stdout for _ in range(2)]
+    return min(map(int, found)) / 1024
 
 
 def peak_of_this(path, call):

@@ -26,7 +26,7 @@ _yaml_cli() {
         docs) options='--from --indent --width --ascii --break --encoding --limit -h --help' ;;
         events) options='--from -h --help' ;;
         same) options='--from -q --quiet -h --help' ;;
-        diff) options='--from --documents -q --quiet -h --help' ;;
+        diff) options='--from --all --documents -q --quiet -h --help' ;;
         check) options='--from -q --quiet -v --verbose --include --exclude --files0-from --unique-keys --stdin-filename --format -h --help' ;;
         help) COMPREPLY=($(compgen -W 'fmt norm docs events same diff check help' -- "$now")); return ;;
         *) return ;;

@@ -3,8 +3,8 @@
 
     tools/documents.py
 
-Documents are the pages of the top, of docs/ and of docs/meaning, and the README.md of each crate. Lines that tell how the work went are
-looked for in comments of code too.
+Documents are the pages of the top, of docs/ and of docs/meaning, and the README.md of each crate. In comments of code, definitions, proofs
+and scripts it looks for lines that say how the work went, and for words of the same table.
 """
 import functools
 import glob
@@ -31,9 +31,18 @@ PLAINER = {
     r"\b(?:is|are|was|were) lent\b": "is borrowed", r"\bsays? the same\b": "has the same content", r"\bit is asked whether\b": "checks whether",
     r"\bso many\b": "n", r"\b(?:parting|partings)\b": "difference", r"\bhaven't this form\b": "aren't in this form",
 }
+# So in comments of code, where `said` and `told` are names, and a clause or an edit refuses.
+IN_COMMENTS = PLAINER | {
+    r"\b(?:told|tells?|telling)\b": "reported, says, returns, gives", r"\b(?:behind|in front)\b": "after, before",
+    r"\b(?:stands?|stood)\b(?! for)": "is", r"\b(?:lends?|lent)\b": "borrows, by reference", r"\bwants? of\b": "out of, needs",
+    r"\blets? \w+ go\b": "drops", r"\bhands (?:out|on)\b": "returns, passes on",
+}
+# What begins a line that is a comment whole, and words of its own in it: names, what code is called by, and 'a stand-in'.
+COMMENT = re.compile(r"\s*(?://[/!]?|--|#:?|/\*|\*) (.*)")
+NO_WORDS = re.compile(r"`[^`]*`|'[^']*'|\"[^\"]*\"|\bstand-ins?\b|\b[Aa]n alias stands$|\b(?:call|scanner|iterator) hands out\b")
 # Where a word above is a name, or what it names.
 EXCEPT = {"docs/meaning/", "docs/MEANING.md"}
-# Lines that tell how the work went.
+# Lines that say how the work went.
 DIARY = re.compile(
     r"\b(?:helper sessions?|sub-?agents?|(?:this|last|next|that) session|session (?:before|behind|of \d)|quick hour|busy hour|slow hour|the row above|the next row's|"
     r"in the (?:morning|evening)|half an hour later|machine was busy)\b", re.IGNORECASE)
@@ -95,7 +104,7 @@ def wording(page):
             if found and not page.startswith(tuple(EXCEPT)):
                 yield f"{page}:{number}: '{found[0]}', better '{better}'"
         if DIARY.search(plain):
-            yield f"{page}:{number}: tells how the work went: '{DIARY.search(plain)[0]}'"
+            yield f"{page}:{number}: says how the work went: '{DIARY.search(plain)[0]}'"
 
 
 def names(page):
@@ -108,18 +117,29 @@ def names(page):
                 yield f"{page}:{number}: no such file: {link}"
 
 
-def diary_of_code():
+def code():
+    """The files of code, definitions, proofs and scripts, this one aside, with their lines."""
     for folder in ("crates", "tools", "bindings", "bench"):
-        for path in glob.glob(f"{repo.TOP}/{folder}/**/*.*", recursive=True):
+        for path in sorted(glob.glob(f"{repo.TOP}/{folder}/**/*.*", recursive=True)):
             if path.endswith((".rt", ".antt", ".py", ".sh", ".c", ".h")) and "/out/" not in path and not path.endswith("tools/documents.py"):
                 with open(path, encoding="utf-8", errors="replace") as file:
-                    for number, line in enumerate(file, 1):
-                        if DIARY.search(line):
-                            yield f"{os.path.relpath(path, repo.TOP)}:{number}: tells how the work went: '{DIARY.search(line)[0]}'"
+                    yield os.path.relpath(path, repo.TOP), file.read().split("\n")
+
+
+def comments():
+    for path, lines in code():
+        for number, line in enumerate(lines, 1):
+            if DIARY.search(line):
+                yield f"{path}:{number}: says how the work went: '{DIARY.search(line)[0]}'"
+            comment = COMMENT.match(line)
+            plain = NO_WORDS.sub("", comment[1]) if comment else ""
+            for pattern, better in IN_COMMENTS.items():
+                if re.search(pattern, plain):
+                    yield f"{path}:{number}: '{re.search(pattern, plain)[0]}' in a comment, better '{better}'"
 
 
 def main():
-    wrong = [*lengths(), *diary_of_code()]
+    wrong = [*lengths(), *comments()]
     for page in pages():
         wrong += [*(wording(page) if not is_generated(page) else []), *names(page)]
     print("\n".join(wrong) if wrong else "documents: in order")

@@ -108,6 +108,11 @@ CASES = [
     Case("diff documents equal", ["diff", "--documents", "a", "b"], files={"a": TAGGED, "b": TAGGED}),
     Case("diff documents long", ["diff", "--documents", "a", "b"], files={"a": MAPPING + b"- a", "b": MAPPING + b"- b"}),
     Case("diff documents short", ["diff", "--documents", "-", "a"], b"[&x a, *x]", {"a": b"- a\n- a\n"}),
+    Case("diff all equal", ["diff", "--all", "a", "b"], files={"a": TAGGED, "b": TAGGED}),
+    Case("diff all short", ["diff", "--all", "-", "a"], b"a: {b c: [d], f: g}", {"a": b"h: i\na:\n  b c:\n  - e\n  - e\n"}),
+    Case("diff all quotes", ["diff", "--all", "a", "b"], files={"a": b"- a: {b: [c]}\n", "b": b"- a: {b: ['c']}\n"}),
+    Case("diff all documents", ["diff", "--all", "--documents", "-", "a"], b"[&x a, *x]\n--- b\n", {"a": b"- a\n- c\n"}),
+    Case("diff all refused", ["diff", "--all", "a", "b"], files={"a": b"a", "b": b"- *x\n"}),
     Case("diff documents refused", ["diff", "--documents", "a", "b"], files={"a": b"a", "b": b"- *x\n"}),
     Case("dash", ["same", "-", "a"], b"a: b", {"a": b"{a: b}"}),
     Case("dash twice", ["same", "-", "-"], b"a: b"),
@@ -312,7 +317,7 @@ def sided(bench, number, case, found):
     most = usual_of(bench, bench.place(f"{number}-short", alone), alone).counts[0]
     told = [found[f"memory, told of the {side}"] for side in ["first", "second"]]
     few, many = told if case.short == "first" else told[::-1]
-    if few <= most < many:
+    if few <= most and few < many:
         return ""
     return f"{case.name}: of the short input told {few} times, of the long one {many}, where the short one alone takes {most}"
 
@@ -350,6 +355,8 @@ def real_runs(bench):
         (["diff", "in.yaml", "other.yaml"], full, 2, no_space),
         (["diff", "in.yaml", "other.yaml"], pipe, 1, b""),
         (["diff", "in.yaml", "in.yaml"], full, 0, b""),
+        (["diff", "--all", "in.yaml", "other.yaml"], full, 2, no_space),
+        (["diff", "--all", "in.yaml", "other.yaml"], pipe, 1, b""),
         (["diff", "in.yaml", "."], none, 2, b".: Is a directory (os error 21)"),
         (["diff", "--documents", "in.yaml", "other.yaml"], full, 2, no_space),
     ]:

@@ -73,6 +73,7 @@ LAYERS = {
     "same": PARSE,
     "diff": PARSE,
     "diff_documents": LOAD,
+    "differences": LOAD,
     "events": PARSE | {"Emitter"},
     "reformat": PARSE | EMIT,
     "normalize": PARSE | EMIT,
@@ -142,6 +143,7 @@ TELLS = {
     "yaml_same": "same",
     "yaml_diff": "diff",
     "yaml_diff_documents": "diff_documents",
+    "yaml_differences": "differences",
     "yaml_reformat": "reformat",
     "yaml_normalize": "normalize",
     "yaml_reload": "reload",
@@ -334,7 +336,7 @@ def judge_fault(vector, got):
     line, rest = vector.line, dict(got)
     fault, front, told, side = (rest.pop(it, None) for it in ("fault", "answer", "fault_line", "side"))
     # the second input's comes only where the first is accepted
-    sides = [None] if vector.call not in ("same", "diff", "diff_documents") else ["First"] if line.get("side") == "First" else ["First", "Second"]
+    sides = [None] if vector.call not in ("same", "diff", "diff_documents", "differences") else ["First"] if line.get("side") == "First" else ["First", "Second"]
     is_listed = front is None or vector.call in ("scan", "load", "load_tokens") and is_front(front, line["answer"])
     return fault if not rest and is_listed and told in (None, LINE) and side in sides else None, vector.call
 

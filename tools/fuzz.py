@@ -15,7 +15,7 @@ Judged of each text:
     fmt --pretty    its answer is `same` as the text
     norm            its answer is `same` as the text, and is that of its canonical text and its own, under settings that change
     diff            of the text and its first half: nothing exactly where they are `same`, a path exactly where they aren't; with
-                    --documents: where `docs` writes one text for both
+                    --documents: where `docs` writes one text for both; with --all: a list with its count
     docs            rewriting its answer changes no byte; it accepts only what events accepts
     events, docs    the lines of the events, or the fault's line, are those of libyaml's parser, and the fault's line of docs
                     is its loader's, where a C compiler and libyaml's header are there
@@ -338,6 +338,18 @@ class Judge:
         wanted = 2 if any(it.status for it in docs) else int(docs[0].output != docs[1].output)
         told = (ran.status, bool(ran.output), bool(ran.errors))
         wrong_unless(told == (wanted, wanted == 1, wanted == 2), f"docs says {docs}, and diff --documents {ran}")
+        self.listed(path, half, same, docs)
+
+    def listed(self, path, half, same, docs):
+        """All places where they differ are listed, and counted, where they aren't the same; documents have to load then."""
+        ran = self.ours("diff", "--all", path, half)
+        wanted = {b"equal\n": 0, b"different\n": 1}.get(same.output, 2)
+        wanted = 2 if wanted and any(it.status for it in docs) else wanted
+        told = (ran.status, bool(ran.output), bool(ran.errors))
+        wrong_unless(told == (wanted, wanted == 1, wanted == 2), f"same says {same}, docs {docs}, and diff --all {ran}")
+        *lines, last = ran.output.split(b"\n")[:-1] or [b""]
+        count = sum(not it.startswith((b"  - ", b"  + ")) for it in lines)
+        wrong_unless(last == (b"" if wanted != 1 else b"1 difference" if count == 1 else b"%d differences" % count), f"diff --all tells {ran}")
 
     def loaded(self, number, docs, settings):
         """The loaded documents' text."""

@@ -26,21 +26,21 @@ Option = collections.namedtuple("Option", "short long value text default")
 
 # What no help says: of the words of docs/PROFILE.md, 'The program'.
 NOTES = [
-    "A text comes from FILE, or from standard input where none is named or where it is -; ./- is the file of that name. The "
-    "answer is written once the whole input was read and judged, and nothing is written where it is refused.",
+    "The text is read from FILE, or from standard input if none is named or if it is -; ./- is the file of that name. The "
+    "answer is written once the whole input was read and checked; nothing is written if it is rejected.",
     "A fault's line has its kind, what was being read and what is wrong, with lines and columns from 1. check, norm, diff, and "
     "fmt with --check, show the source line too, with a caret under the place.",
-    "A path that diff shows has the document's number first, then the way inwards: [0].service.ports[1]. Numbers count from 0; a "
-    "key that is no more than a word is written after a dot, another one between [\" and \"], and a key that is no scalar as its "
+    "A path that diff shows has the document's number first, then the keys and items: [0].service.ports[1]. Numbers count from 0; a "
+    "key that is a plain word is written after a dot, any other scalar between [\" and \"], and a key that is no scalar as its "
     "pair's number: <key 2>, <value 2>.",
-    "Where files are judged a folder stands for all *.yaml and *.yml below it, in the order of the bytes of their paths: .git is left "
-    "out, and links to folders aren't followed. A GLOB with a / stands for paths below the folder that was named, another one for "
+    "Where files are checked, a folder means all *.yaml and *.yml below it, in the order of the bytes of their paths: .git is "
+    "skipped, and links to folders aren't followed. A GLOB with a / is matched with paths below the named folder, any other with "
     "names. ? is any character except /, * any number of these, ** any number of any characters, **/ any folders or none, [a-z] one "
-    "of these characters, [!a-z] another one, and \\ is followed by a character that stands for itself.",
-    "With check --unique-keys a mapping that has one key twice is refused. Keys are one where they agree in kind, tag, text and what "
-    "they hold; a scalar without a tag is a string, an alias stands for its node, whose place is shown, and a plain << may come again.",
-    "Comments are dropped: a text that is written has none. norm --write refuses a file with one, unless --drop-comments is given.",
-    "Where pretty form was asked for and wouldn't read back with the same content, canonical form is written, and a line on "
+    "of these characters, [!a-z] any other one, and \\ makes the next character literal.",
+    "With check --unique-keys a mapping that has the same key twice is rejected. Keys are the same if they agree in kind, tag, text and "
+    "content; a scalar without a tag is a string, an alias counts as its node, whose place is shown, and a plain << may be repeated.",
+    "Comments are dropped: no output has any. norm --write leaves a file with comments alone, unless --drop-comments is given.",
+    "If pretty form was asked for and wouldn't read back with the same content, canonical form is written, and a line on "
     "standard error says so.",
 ]
 
@@ -238,7 +238,7 @@ def zsh(_, commands):
 _{NAME}() {{
     local line state
     local -a commands=(
-{listed}        'help:Tells the help of a command'
+{listed}        'help:Prints the help of a command'
     )
     _arguments -C '(-h --help)'{{-h,--help}}'[Print help]' '(-V --version)'{{-V,--version}}'[Print version]' \\
         '1: :->command' '*:: :->words'
@@ -258,11 +258,16 @@ fi
 """
 
 
+def fish_text(text):
+    """A text between the quotes of fish."""
+    return text.replace("\\", "\\\\").replace("'", "\\'")
+
+
 def fish_option(name, option):
     names = f" -s {option.short[1:]}" if option.short else ""
     value = (" -r -F" if is_file(option) else " -x") if option.value else ""
     values = f" -a '{' '.join(values_of(option))}'" if values_of(option) else ""
-    text = option.text.replace("\\", "\\\\").replace("'", "\\'")
+    text = fish_text(option.text)
     return f"complete -c {NAME} -n '__fish_seen_subcommand_from {name}'{names} -l {option.long[2:]}{value}{values} -d '{text}'\n"
 
 
@@ -271,8 +276,8 @@ def fish(_, commands):
     lines = [f"# fish completion for {NAME}. Written by tools/help.py from the program's own help.\n"]
     first = f"complete -c {NAME} -f -n 'not __fish_seen_subcommand_from {names}'"
     for it in commands:
-        lines.append(f"{first} -a {it.name} -d '{it.about}'\n")
-    lines.append(f"{first} -a help -d 'Tells the help of a command'\n")
+        lines.append(f"{first} -a {it.name} -d '{fish_text(it.about)}'\n")
+    lines.append(f"{first} -a help -d 'Prints the help of a command'\n")
     lines.append(f"{first} -s h -l help -d 'Print help'\n")
     lines.append(f"{first} -s V -l version -d 'Print version'\n")
     for it in commands:

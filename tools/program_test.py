@@ -219,6 +219,109 @@ DIFFERENCES = [
 ]
 
 
+# What diff --all writes of two texts, by its words.
+ALL = [
+    (
+        b"spec:\n  replicas: 2\n  image: a\nold: [1]\n",
+        b"spec:\n  image: a\n  replicas: 3\n  new: x\n",
+        """[0].spec: order of keys
+  - replicas: 2        x.yaml:2:3
+  + image: a           y.yaml:2:3
+[0].spec.replicas: value
+  - 2        x.yaml:2:13
+  + 3        y.yaml:3:13
+[0].spec.new: only in B
+  + new: x        y.yaml:4:3
+[0].old: only in A
+  - old: [1]        x.yaml:4:1
+4 differences
+""",
+    ),
+    (
+        b"#\n" * 12 + b"spec:\n  replicas: 2\n",
+        b"#\n" * 12 + b"spec:\n  replicas: 3\n",
+        """[0].spec.replicas: value
+  - 2        x.yaml:14:13
+  + 3        y.yaml:14:13
+1 difference
+""",
+    ),
+    (
+        b"a\n---\nb\n",
+        b"a\n---\nc\n---\nd\n",
+        """[1]: value
+  - b        x.yaml:3:1
+  + c        y.yaml:3:1
+[2]: only in B
+  + a document        y.yaml:4:1
+2 differences
+""",
+    ),
+    (
+        b"{a: 1, a: 2}",
+        b"{a: 1, b: 2, a: 3}",
+        """[0].a: value
+  - 2        x.yaml:1:11
+  + 3        y.yaml:1:17
+[0].b: only in B
+  + b: 2        y.yaml:1:8
+2 differences
+""",
+    ),
+    (
+        b"[&x {k: 1}, *x]",
+        b"[{k: 1}, {k: 2}]",
+        """[0][1].k: value
+  - 1        x.yaml:1:9
+  + 2        y.yaml:1:14
+1 difference
+""",
+    ),
+    (
+        b"? [a, b]\n: [c]\n? {d: e}\n: f\n",
+        b"? {d: e}\n: g\n? [a, c]\n: [c]\n",
+        """[0].<value 0>: only in A
+  - [a, b]        x.yaml:1:3
+[0].<value 1>: value
+  - f        x.yaml:4:3
+  + g        y.yaml:2:3
+[0].<value 1>: only in B
+  + [a, c]        y.yaml:3:3
+3 differences
+""",
+    ),
+    (
+        b"\xef\xbb\xbf\xc3\xa9: [\xc3\xa9, b]",
+        "é: [é, c]".encode("utf-16"),
+        """[0].é[1]: value
+  - b        x.yaml:1:8
+  + c        y.yaml:1:8
+1 difference
+""",
+    ),
+    (b"a: 'b'", b"a: b", "[0].a: quotes\n  - 'b'        x.yaml:1:4\n  + b          y.yaml:1:4\n1 difference\n"),
+    (b"{b: c, a: d}", b"a: d\nb: c", "[0]: order of keys\n  - {b: c, a: d}        x.yaml:1:1\n  + a: d                y.yaml:1:1\n1 difference\n"),
+    (b"{a: b, c: d}", b"a: b\nc: d", ""),
+]
+
+
+def all_differences():
+    """What diff --all lists."""
+    for first, second, wanted in ALL:
+        put("x.yaml", first)
+        put("y.yaml", second)
+        judge_run(f"diff --all of {first} and {second}", ["diff", "--all", "x.yaml", "y.yaml"], int(wanted != ""), wanted.encode())
+        status = int(wanted != "" and "quotes" not in wanted)
+        judge_run("the status alone, of the documents", ["diff", "-q", "--all", "--documents", "x.yaml", "y.yaml"], status)
+    put("x.yaml", b"[" + b"a, " * 2000 + b"]")
+    put("y.yaml", b"[" + b"b, " * 2000 + b"]")
+    lines = run("diff", "--all", "x.yaml", "y.yaml").stdout.splitlines()
+    judge("many differences", len(lines) == 6001 and lines[-1] == b"2000 differences" and lines[5997] == b"[0][1999]: value", lines[-4:])
+    put("y.yaml", b"- *a")
+    told = b"y.yaml:1:3: composer error: found undefined alias: *a\n- *a\n  ^\n"
+    judge_run("a document that doesn't load", ["diff", "--all", "x.yaml", "y.yaml"], 2, b"", told)
+
+
 def differences():
     """What diff shows, with each cause."""
     for first, second, path, *shown in DIFFERENCES:
@@ -232,6 +335,9 @@ def differences():
         is_well = [(it.rstrip(), place) for it, place in found] == wanted and len({len(it) for it, _ in found}) < 2
         judge(f"diff of {first} and {second}", path_line == path and is_well and ran.returncode == 1, ran)
         judge("the status alone", run("diff", "-q", "x.yaml", "y.yaml").returncode == 1)
+        if b"*" not in first:
+            listed = run("diff", "--all", "x.yaml", "y.yaml")
+            judge(f"diff --all of {first} and {second}", listed.stdout == ran.stdout + b"1 difference\n" and listed.returncode == 1, listed)
 
 
 def steps(folder):
@@ -291,6 +397,7 @@ def main():
         unique_keys()
         places()
         differences()
+        all_differences()
         steps(folder)
         os.makedirs(f"{folder}/hooked")
         os.chdir(f"{folder}/hooked")

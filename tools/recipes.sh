@@ -103,6 +103,13 @@ found=$(bash -c "$(recipe 4)")
 [ $? -eq 1 ] && [[ $found == "::error file="*"own.yml"* && $found != *vendor* ]] || wrong "the findings below a folder are $found"
 say "a check of a folder"
 
+printf 'd: f\na: {b: c}\n' >some.yaml
+git add -A && git commit -qnm third
+printf 'a: {b: e}\n' >some.yaml
+found=$(bash -c "$(recipe 5)")
+[ $? -eq 1 ] && [[ $found == *"[0].d: only in A"*"[0].a.b: value"*"2 differences" ]] || wrong "the changes since a commit are $found"
+say "changes since a commit"
+
 if [ -f "$top/out/library/libyaml_c.so" ]; then
     cd "$work/top" && ln -s "$top/bindings" "$top/out" . && printf '{a: b}' >some.yaml
     bash -c "$(line 'cc -I')" >"$work/c" || wrong "the line for C ends with status $?"

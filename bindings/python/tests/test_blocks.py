@@ -29,6 +29,9 @@ RECORDS: dict[str, Any] = {
     "settings": _library.SettingsRecord,
     "answer": _library.AnswerRecord,
     "parsed": _library.ParsedRecord,
+    "level": _library.LevelRecord,
+    "place": _library.PlaceRecord,
+    "stand": _library.StandRecord,
 }
 CALLS = [
     lambda: yaml_c.reformat(b"a: [b, 'c']"),
@@ -46,6 +49,7 @@ CALLS = [
     lambda: yaml_c.safe_load(b"{a: &x [1], c: *x}"),
     lambda: list(yaml_c.safe_load_all("a\n---\n!!set {b}")),
     lambda: yaml_c.safe_dump({"a": [1, b"b"]}),
+    lambda: yaml_c.safe_dump(["a" * 200_000] * 3),
 ]
 REFUSED = [
     lambda: yaml_c.reformat(b"]"),

@@ -6,8 +6,10 @@ import sys
 import unittest
 from enum import IntEnum
 from typing import Any, NamedTuple
+from unittest import mock
 
 import yaml_c
+from yaml_c import _writer
 
 from .objects import Objects, are_same
 
@@ -87,6 +89,28 @@ class SafeDump(unittest.TestCase):
         self.assertEqual(yaml_c.safe_dump(one), "&id001\n- x\n- *id001\n")
         again = yaml_c.safe_load(yaml_c.safe_dump(one))
         self.assertIs(again[1], again)
+
+    def test_long_texts(self) -> None:
+        long, list_of = "x y\u00e9 " * 100, ["a " * 300]
+        value = {long: [long, list_of, {"\u0444" * 400: b"b" * 900}, 10**400], "b": [list_of, "", long * 9, "'" * 256]}
+        for named in ({}, {"default_flow_style": True}, {"allow_unicode": True}, {"encoding": "utf-16-le"}):
+            wanted: Any = yaml_c.safe_dump_all([value, long, [value]], **named)  # type: ignore[arg-type]
+            for many in (1, 300, 2000):
+                with mock.patch.object(_writer, "_PIECE", many):
+                    self.assertEqual(yaml_c.safe_dump_all([value, long, [value]], **named), wanted)  # type: ignore[arg-type]
+            with mock.patch.object(_writer, "_LONG", 1 << 20):
+                self.assertEqual(yaml_c.safe_dump_all([value, long, [value]], **named), wanted)  # type: ignore[arg-type]
+            again = list(yaml_c.safe_load_all(wanted))
+            self.assertTrue(are_same(again, [value, long, [value]]))
+            for many in (1, 1 << 18):
+                with mock.patch.object(_writer, "_PIECE", many):
+                    size = len(wanted if isinstance(wanted, bytes) else wanted.encode())
+                    yaml_c.safe_dump_all([value, long, [value]], limit=size, **named)  # type: ignore[arg-type]
+                    with self.assertRaises(yaml_c.WriterFault):
+                        yaml_c.safe_dump_all([value, long, [value]], limit=size - 1, **named)  # type: ignore[arg-type]
+        for wrong in ("a" * 300 + "\ud800", ["a" * 300, "\ud800" * 300]):
+            with self.assertRaises(yaml_c.RepresenterError):
+                yaml_c.safe_dump(wrong)
 
     def test_what_it_refuses(self) -> None:
         odd = datetime.timezone(datetime.timedelta(hours=1, seconds=30))

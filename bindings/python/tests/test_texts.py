@@ -4,7 +4,7 @@ import doctest
 import unittest
 
 import yaml_c
-from yaml_c import Encoding, Form, LineBreak, Settings
+from yaml_c import Encoding, Form, LineBreak, Settings, _construct, _diff, _documents, _dump, _engine, _nodes, _represent
 
 PRETTY = Settings(canonical=False)
 MANY = b"".join(b"- {name: alpha %d, tags: [a, 'b'], text: \"c\\td\"}\n" % i for i in range(5000))
@@ -127,9 +127,7 @@ class Others(unittest.TestCase):
 
     def test_documented_examples(self) -> None:
         finder = doctest.DocTestFinder(exclude_empty=True)
-        modules = (
-            yaml_c, yaml_c._construct, yaml_c._diff, yaml_c._documents, yaml_c._dump, yaml_c._represent
-        )  # fmt: skip
+        modules = (yaml_c, _construct, _diff, _documents, _dump, _engine, _nodes, _represent)
         tests = [it for module in modules for it in finder.find(module) if it.examples]
         self.assertGreater(len(tests), 12)
         runner = doctest.DocTestRunner()

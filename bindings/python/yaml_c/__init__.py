@@ -26,43 +26,10 @@ of it here, objects of Python, is tested. Calls keep nothing between them and le
 
 from __future__ import annotations
 
-import struct
-from collections.abc import Iterable
+from importlib import import_module
+from typing import TYPE_CHECKING, Any
 
-from . import _library
-from ._calls import Form, LineBreak, Settings, ask, input_of, parsed, record_of
-from ._construct import safe_load, safe_load_all
-from ._convert import Packed, unpacked
-from ._diff import Difference, ItemStep, KeyStep, Step, ValueStep, diff
-from ._documents import (
-    Loaded,
-    MappingNode,
-    Node,
-    ScalarNode,
-    SequenceNode,
-    check,
-    compose,
-    compose_all,
-    load,
-    load_all,
-)
-from ._dump import Writable, dump, dump_all
-from ._events import (
-    Alias,
-    DocumentEnd,
-    DocumentStart,
-    Encoding,
-    Event,
-    MappingEnd,
-    MappingStart,
-    Scalar,
-    ScalarStyle,
-    SequenceEnd,
-    SequenceStart,
-    StreamEnd,
-    StreamStart,
-    Style,
-)
+from . import _faults, _library
 from ._faults import (
     ArgumentRefused,
     ComposerFault,
@@ -84,9 +51,43 @@ from ._faults import (
     YAMLError,
     YamlFault,
 )
-from ._represent import safe_dump, safe_dump_all
-from ._source import Readable, Text
 from ._version import VERSION
+
+if TYPE_CHECKING:
+    from ._construct import safe_load, safe_load_all
+    from ._diff import Difference, ItemStep, KeyStep, Step, ValueStep, diff
+    from ._documents import Loaded, check, load, load_all
+    from ._dump import dump, dump_all
+    from ._engine import (
+        emit,
+        events,
+        norm,
+        normalize,
+        parse,
+        reformat,
+        reformat_with_form,
+        reload,
+        same,
+    )
+    from ._enums import Encoding, Form, LineBreak, ScalarStyle, Style
+    from ._events import (
+        Alias,
+        DocumentEnd,
+        DocumentStart,
+        Event,
+        MappingEnd,
+        MappingStart,
+        Scalar,
+        SequenceEnd,
+        SequenceStart,
+        StreamEnd,
+        StreamStart,
+    )
+    from ._nodes import MappingNode, Node, ScalarNode, SequenceNode, compose, compose_all
+    from ._represent import safe_dump, safe_dump_all
+    from ._settings import Settings
+    from ._source import Readable, Text
+    from ._writer import Writable
 
 __all__ = [
     "Alias", "ArgumentRefused", "ComposerFault", "ConstructorError", "Difference", "DocumentEnd", "DocumentStart",
@@ -99,99 +100,42 @@ __all__ = [
     "reformat", "reformat_with_form", "reload", "safe_dump", "safe_dump_all", "safe_load", "safe_load_all", "same",
 ]  # fmt: skip
 
+# The module of each name: it is read where the name is first asked for.
+_MODULES = {
+    "_construct": "safe_load safe_load_all",
+    "_diff": "Difference ItemStep KeyStep Step ValueStep diff",
+    "_documents": "Loaded check load load_all",
+    "_dump": "dump dump_all",
+    "_engine": "emit events norm normalize parse reformat reformat_with_form reload same",
+    "_enums": "Encoding Form LineBreak ScalarStyle Style",
+    "_events": (
+        "Alias DocumentEnd DocumentStart Event MappingEnd MappingStart Scalar SequenceEnd SequenceStart "
+        "StreamEnd StreamStart"
+    ),
+    "_nodes": "MappingNode Node ScalarNode SequenceNode compose compose_all",
+    "_represent": "safe_dump safe_dump_all",
+    "_settings": "Settings",
+    "_source": "Readable Text",
+    "_writer": "Writable",
+}
+_WHERE = {name: module for module, names in _MODULES.items() for name in names.split()}
+
 # Errors are named, and pickled, by the package alone.
-for _it in list(globals().values()):
-    if isinstance(_it, type) and issubclass(_it, (YAMLError, Mark, Kind)):
+for _it in list(vars(_faults).values()):
+    if isinstance(_it, type) and issubclass(_it, (_faults.YAMLError, _faults.Mark, _faults.Kind)):
         _it.__module__ = __name__
 
 #: The version of the package, and of the repository that it stands in.
 __version__ = VERSION
-_USUAL = Settings()
 
+if not TYPE_CHECKING:
 
-def reformat_with_form(
-    text: Text, settings: Settings = _USUAL, *, encoding: Encoding | str = Encoding.ANY
-) -> tuple[bytes, Form]:
-    """The text again, and in which form it is: where pretty form was asked for, it is that, except a
-    first document without `---` that is a `!` alone, whose pretty text wouldn't read back: that is in canonical form.
+    def __getattr__(name: str) -> Any:
+        # only a name that nobody has asked for yet comes here
+        if name not in _WHERE:
+            raise AttributeError(f"module {__name__!r} has no attribute {name!r}")
+        found = globals()[name] = getattr(import_module(f".{_WHERE[name]}", __name__), name)
+        return found
 
-    Raises the fault of the text, else a `WriterFault` past the limit, or an `EmitterFault` where an indentation is too deep.
-    """
-    found, form = ask(_library.reformat, (input_of(text, encoding),), record_of(settings))
-    return found, Form(form)
-
-
-def reformat(text: Text, settings: Settings = _USUAL, *, encoding: Encoding | str = Encoding.ANY) -> bytes:
-    """The text again, in canonical form, or in pretty form where the settings say so: `reformat_with_form` without the form.
-
-    >>> reformat(b"[a, 'b']")
-    b'---\\n[\\n  ! "a",\\n  "b",\\n]\\n'
-    """
-    return reformat_with_form(text, settings, encoding=encoding)[0]
-
-
-def normalize(text: Text, settings: Settings = _USUAL, *, encoding: Encoding | str = Encoding.ANY) -> bytes:
-    """The text in the normal form that people read: in blocks, with styles that its content alone decides, so that under equal
-    settings two texts have equal normal forms exactly if they have the same content. `canonical` isn't looked at.
-
-    Raises the fault of the text, else a `WriterFault` past the limit, or an `EmitterFault` where an indentation is too deep.
-
-    >>> normalize(b'{a: "b", c: [d, e]}')
-    b"a: 'b'\\nc:\\n- d\\n- e\\n"
-    """
-    return ask(_library.normalize, (input_of(text, encoding),), record_of(settings))[0]
-
-
-# `normalize` by its command's name.
-norm = normalize
-
-
-def reload(text: Text, settings: Settings = _USUAL, *, encoding: Encoding | str = Encoding.ANY) -> bytes:
-    """The documents of the text, loaded and written again in canonical form.
-
-    Raises as `reformat`, and a `ComposerFault` where a document can't be loaded.
-    """
-    return ask(_library.reload, (input_of(text, encoding),), record_of(settings))[0]
-
-
-def same(
-    first: Text, second: Text, *, first_encoding: Encoding | str = Encoding.ANY, second_encoding: Encoding | str = Encoding.ANY
-) -> bool:
-    """Whether two texts have the same content.
-
-    Raises the first text's fault, else the second's, with `second` set.
-    """
-    sources = input_of(first, first_encoding), input_of(second, second_encoding)
-    return bool(ask(_library.same, sources)[1])
-
-
-def events(text: Text, *, encoding: Encoding | str = Encoding.ANY) -> bytes:
-    """A line for each event of the text.
-
-    >>> events(b"[a]").split()
-    [b'+STR', b'+DOC', b'+SEQ', b'=VAL', b':a', b'-SEQ', b'-DOC', b'-STR']
-    """
-    return ask(_library.events, (input_of(text, encoding),))[0]
-
-
-def parse(text: Text, *, encoding: Encoding | str = Encoding.ANY) -> list[Event]:
-    """All events of the text, with their places. Raises the text's fault."""
-    return unpacked(parsed(input_of(text, encoding)).once())
-
-
-def emit(events: Iterable[Event], settings: Settings = _USUAL) -> bytes:
-    """The text of events. Those that are no whole stream give the text of the events that could be written by then.
-
-    Raises an `EmitterFault` for the first event that is in the wrong place, or that can't be written; a `WriterFault` past
-    the limit.
-
-    >>> emit([StreamStart(), DocumentStart(), Scalar("a"), DocumentEnd(), StreamEnd()])
-    b'---\\n"a"\\n'
-    """
-    packed = Packed()
-    for event in events:
-        try:
-            packed.add(event)
-        except struct.error as error:
-            raise ArgumentRefused(f"a number of an event: {error}") from None
-    return packed.emitted(settings)
+    def __dir__() -> list[str]:
+        return sorted({*globals(), *__all__})

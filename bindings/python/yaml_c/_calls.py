@@ -3,53 +3,17 @@
 from __future__ import annotations
 
 import ctypes
-from dataclasses import dataclass, fields
-from enum import IntEnum
 from typing import Any
 
 from . import _library
-from ._events import Encoding
-from ._faults import CLASS_OF, ArgumentRefused, FaultMark, Kind, Mark, YamlFault
-from ._records import Records
+from ._enums import Encoding
+from ._faults import CLASS_OF, ArgumentRefused, FaultMark, Kind, ManyDocuments, Mark, YamlFault
+from ._records import START, Records
 from ._source import Source, Text, encoding_of, source_of
 
-
-class LineBreak(IntEnum):
-    """How lines end; ANY means LF."""
-
-    ANY = 0
-    CR = 1
-    LF = 2
-    CRLF = 3
-
-
-class Form(IntEnum):
-    """In which form a text was written."""
-
-    CANONICAL = 0
-    PRETTY = 1
-
-
-@dataclass(frozen=True)
-class Settings:
-    """How a text is written."""
-
-    #: How it is encoded. ANY: UTF-8, and in `emit` what the stream's start names.
-    encoding: Encoding = Encoding.UTF8
-    #: Canonical form; else pretty form, which keeps styles.
-    canonical: bool = True
-    #: Columns of a level, 2 to 9; any other number means 2.
-    indent: int = 2
-    #: The column behind which lines are folded; a negative one means 2,147,483,647, 0 to twice the indent means 80.
-    width: int = 80
-    #: Whether characters that aren't ASCII are written as they are.
-    unicode: bool = True
-    #: How lines end.
-    line_break: LineBreak = LineBreak.LF
-    #: How many bytes it may have.
-    limit: int = 1 << 40
-
-
+#: How many bytes a text may have where nobody says.
+LIMIT = 1 << 40
+_DOCUMENT_START = 3
 _LEAST = {"limit": 0}
 _MOST = {"limit": (1 << 64) - 1}
 
@@ -63,12 +27,13 @@ def _number(name: str, value: int) -> int:
     return value
 
 
-def record_of(settings: Settings) -> Any:
+def settings_record(**numbers: int) -> _library.SettingsRecord:
+    """The settings that nobody set, but for these. Raises an `ArgumentRefused` for a number that is none of its field's."""
     record = _library.SettingsRecord()
     _library.defaults(ctypes.byref(record))
-    for it in fields(settings):
-        setattr(record, it.name, _number(it.name, getattr(settings, it.name)))
-    return ctypes.byref(record)
+    for name, value in numbers.items():
+        setattr(record, name, _number(name, value))
+    return record
 
 
 def input_of(text: Text, encoding: Encoding | str) -> Source:
@@ -105,14 +70,14 @@ def _fault(answer: _library.AnswerRecord, sources: tuple[Source, ...]) -> YamlFa
 
 
 def fault_of(kind: int, answer: _library.AnswerRecord, sources: tuple[Source, ...]) -> YamlFault | None:
-    """The fault that a call tells of these inputs. Raises an `ArgumentRefused` where a number meant nothing."""
+    """The fault that a call reports of these inputs. Raises an `ArgumentRefused` where a number meant nothing."""
     if kind == -1:
         raise ArgumentRefused("a number among the arguments means nothing")
     return _fault(answer, sources) if kind else None
 
 
 def judge_kind(kind: int, answer: _library.AnswerRecord, sources: tuple[Source, ...]) -> None:
-    """Raises the fault that a call tells of these inputs."""
+    """Raises the fault that a call reports of these inputs."""
     fault = fault_of(kind, answer, sources)
     if fault is not None:
         raise fault
@@ -145,6 +110,24 @@ def front(source: Source) -> tuple[Records, YamlFault | None]:
         return Records(record), fault_of(kind, answer, (source,))
     finally:
         _library.free(answer)
+
+
+def past_the_only(
+    source: Source, records: Records, fault: YamlFault | None, start: int, end: int
+) -> None:
+    """Raises what comes after the document that begins and ends at these records: another one, or a fault."""
+    after = records.kind(end + 1)
+    if after == _DOCUMENT_START:
+        # what was read of the first document may be given back
+        records, _ = front(source)
+        raise ManyDocuments(
+            "but found another document",
+            problem_mark=source.mark(records.mark(end + 1, START)),
+            context="expected a single document in the stream",
+            context_mark=source.mark(records.mark(start + 1, START)),
+        )
+    if after == 0 and fault is not None:
+        raise fault
 
 
 def judge(source: Source) -> None:

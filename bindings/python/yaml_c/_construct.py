@@ -5,9 +5,8 @@ from __future__ import annotations
 from collections.abc import Iterator
 from typing import Any
 
-from ._calls import front, input_of
-from ._events import Encoding
-from ._explain import explained, past_the_only, undefined_alias
+from ._calls import front, input_of, past_the_only
+from ._enums import Encoding
 from ._faults import YamlFault
 from ._records import Records
 from ._source import Source, Text
@@ -276,8 +275,12 @@ def _constructed(source: Source, records: Records, fault: YamlFault | None, uniq
                 past_the_only(source, records, fault, found.start, found.end)
             yield document
     except _Trouble:
+        from ._explain import explained
+
         error: Exception = explained(source, found.start, unique_keys, only)
     except _Undefined as missing:
+        from ._explain import undefined_alias
+
         error = undefined_alias(source, records, missing.args[0])
     else:
         if fault is None:

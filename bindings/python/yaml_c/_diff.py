@@ -1,4 +1,4 @@
-"""Where two texts part."""
+"""Where two texts differ."""
 
 from __future__ import annotations
 
@@ -9,7 +9,8 @@ from typing import NamedTuple, Union
 
 from . import _library
 from ._calls import input_of, judge_kind, mark_of
-from ._events import KINDS, Encoding, Event
+from ._enums import Encoding
+from ._events import KINDS, Event
 from ._faults import Mark
 from ._source import Text
 
@@ -39,7 +40,7 @@ Step = Union[ItemStep, KeyStep, ValueStep]
 
 @dataclass(frozen=True)
 class Difference:
-    """The first place at which two texts part."""
+    """The first place at which two texts differ."""
 
     #: So many documents end before it.
     document: int
@@ -87,7 +88,7 @@ def diff(
     first_encoding: Encoding | str = Encoding.ANY,
     second_encoding: Encoding | str = Encoding.ANY,
 ) -> Difference | None:
-    """The first place at which the contents of two texts part, None exactly where `same` says that they are the same; with
+    """The first place at which the contents of two texts differ, None exactly where `same` says that they are the same; with
     `documents` of the documents that they load: names of anchors don't count, what they share does.
 
     Raises the first text's fault, else the second's, with `second` set; with `documents` also a `ComposerFault`.

@@ -1,104 +1,20 @@
-"""Texts of what a program holds: `dump`, and what it has in common with `safe_dump`."""
+"""Texts of str, list, tuple, dict and None: `dump`."""
 
 from __future__ import annotations
 
-import io
 from collections.abc import Iterable, Iterator
 from dataclasses import replace
 from itertools import chain
-from typing import Any, Protocol
+from typing import Any
 
-from ._calls import Settings
-from ._convert import Packed
-from ._events import DocumentStart, Encoding, ScalarStyle, StreamEnd, StreamStart
+from ._enums import Encoding, ScalarStyle
 from ._faults import RepresenterError
+from ._settings import Settings, record_of
 from ._source import encoding_of
 from ._types import is_taken
+from ._writer import MAPPING, SCALAR, SEQUENCE, Writable, Writer, give, judge_stream, takes_bytes
 
-ALIAS, SCALAR, SEQUENCE, MAPPING = 5, 6, 7, 9
-_DOCUMENT_END = 4
 _PRETTY = Settings(canonical=False)
-# So many records of scalars are kept, to be used again where a text comes again.
-_KEPT = 4096
-
-
-class Writable(Protocol):
-    """An open file, of text or of bytes."""
-
-    def write(self, text: Any, /) -> Any:
-        """Adds to it."""
-        ...
-
-
-class Writer:
-    """Makes the events of documents. A class below it says how objects are written."""
-
-    def __init__(self) -> None:
-        self.packed = Packed()
-        self.packed.add(StreamStart())
-        # each object that may be shared, with the place of its record; holding it keeps its id
-        self._met: dict[int, tuple[int, Any]] = {}
-        self._names: dict[int, str] = {}
-        self._kept: dict[str, bytes] = {}
-
-    def scalar(self, value: Any) -> bytes | None:
-        """The record of a scalar; None where the object is a collection."""
-        raise NotImplementedError
-
-    def start(self, value: Any) -> tuple[Iterator[Any], int]:
-        """Adds the event that begins a collection. Answers what that holds, of a mapping keys and values in turns, and the
-        kind of the event that ends it. Raises a `RepresenterError` for what is no collection either."""
-        raise NotImplementedError
-
-    def kept(self, text: str, **fields: Any) -> bytes:
-        """The record of a scalar of that text, which fields tell more of that depend on it alone."""
-        try:
-            record = self.packed.made(SCALAR, value=text, **fields)
-        except UnicodeEncodeError as error:
-            problem = f"a str has a lone surrogate at {error.start}, which is no character"
-            raise RepresenterError(problem) from None
-        if len(self._kept) < _KEPT:
-            self._kept[text] = record
-        return record
-
-    def alias(self, value: Any) -> bool:
-        """Adds an alias where the document has the object already; else remembers that its record comes next."""
-        found = self._met.get(id(value))
-        if found is None:
-            self._met[id(value)] = len(self.packed.records), value
-            return False
-        name = self._names.get(id(value))
-        if name is None:
-            name = self._names[id(value)] = f"id{len(self._names) + 1:03}"
-            self.packed.set_anchor(found[0], name)
-        self.packed.record(ALIAS, anchor=name)
-        return True
-
-    def document(self, value: Any, start: DocumentStart, is_end_implicit: bool = True) -> None:
-        """Adds a document. What it has more than once gets an anchor where it comes first, and is an alias then."""
-        self.packed.add(start)
-        self._met, self._names = {}, {}
-        records = self.packed.records
-        # what is still to come of each collection around, and the event that ends it
-        around: list[tuple[Iterator[Any], int]] = [(iter((value,)), _DOCUMENT_END)]
-        while around:
-            children, end = around[-1]
-            for child in children:
-                record = self.scalar(child)
-                if record is not None:
-                    records += record
-                elif isinstance(child, tuple) and not child or not self.alias(child):
-                    # there is one tuple without an item, wherever it is
-                    around.append(self.start(child))
-                    break
-            else:
-                around.pop()
-                self.packed.record(end, implicit=1 if around else is_end_implicit)
-
-    def text(self, settings: Settings) -> bytes:
-        """The text of all documents."""
-        self.packed.add(StreamEnd())
-        return self.packed.emitted(settings)
 
 
 class _Texts(Writer):
@@ -126,24 +42,7 @@ class _Texts(Writer):
         if isinstance(value, (list, tuple)):
             self.packed.record(SEQUENCE, implicit=1)
             return iter(value), SEQUENCE + 1
-        raise RepresenterError(f"what is dumped is str, list, tuple, dict or None, and not {type(value).__name__}")
-
-
-def judge_stream(stream: Writable | None) -> None:
-    """Raises a `TypeError` for what can't be written to."""
-    if stream is not None and not hasattr(stream, "write"):
-        raise TypeError(f"a stream has write(), and {type(stream).__name__} hasn't")
-
-
-def give(text: bytes, stream: Writable | None, encoding: Encoding | str | None) -> Any:
-    """Writes the text to the stream, or answers it where there is none: as a str where no encoding is asked for and the
-    stream is none of bytes."""
-    is_binary = isinstance(stream, (io.RawIOBase, io.BufferedIOBase)) or "b" in str(getattr(stream, "mode", ""))
-    found = text if encoding is not None or is_binary else text.decode()
-    if stream is None:
-        return found
-    stream.write(found)
-    return None
+        raise RepresenterError(f"can dump str, list, tuple, dict and None, not {type(value).__name__}")
 
 
 def dump_all(
@@ -172,12 +71,12 @@ def dump_all(
     'a:\\n- b\\n-\\n--- c\\n'
     """
     judge_stream(stream)
-    settings = replace(settings, encoding=Encoding.UTF8 if encoding is None else encoding_of(encoding))
+    record = record_of(replace(settings, encoding=Encoding.UTF8 if encoding is None else encoding_of(encoding)))
     writer = _Texts()
     for document in documents:
         # without its `---` a document that is an empty plain scalar would be none
-        writer.document(document, DocumentStart(implicit=document is not None))
-    return give(writer.text(settings), stream, encoding)
+        writer.document(document, document is not None)
+    return give(writer.text(record, takes_bytes(stream, encoding)), stream)
 
 
 def dump(

@@ -5,44 +5,12 @@ from __future__ import annotations
 import struct
 from collections.abc import Sequence
 from dataclasses import dataclass, field
-from enum import IntEnum
 from typing import Any, Union, get_args
 
+from ._enums import Encoding, ScalarStyle, Style
 from ._faults import Mark
 
 _NOWHERE = Mark(0, 0, 0)
-
-
-class Encoding(IntEnum):
-    """How a text is encoded. As an input's, ANY means what its byte order mark tells, UTF-8 where it has none."""
-
-    ANY = 0
-    UTF8 = 1
-    UTF16LE = 2
-    UTF16BE = 3
-
-
-class ScalarStyle(IntEnum):
-    """How a scalar is written."""
-
-    ANY = 0
-    PLAIN = 1
-    SINGLE_QUOTED = 2
-    DOUBLE_QUOTED = 3
-    LITERAL = 4
-    FOLDED = 5
-
-
-class Style(IntEnum):
-    """How a sequence or a mapping is written."""
-
-    ANY = 0
-    BLOCK = 1
-    FLOW = 2
-
-
-#: The styles by their numbers.
-SCALAR_STYLES, STYLES = tuple(ScalarStyle), tuple(Style)
 
 
 class Placed:
@@ -62,7 +30,7 @@ class Placed:
 
 @dataclass(frozen=True, slots=True)
 class _Event(Placed):
-    """What each event has: where its tokens stand. Two events are equal also where they stand at different places."""
+    """What each event has: where its tokens are. Two events are equal also where they are at different places."""
 
     start: Mark = field(default=_NOWHERE, compare=False, kw_only=True, repr=False)
     end: Mark = field(default=_NOWHERE, compare=False, kw_only=True, repr=False)

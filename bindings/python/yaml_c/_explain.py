@@ -9,7 +9,7 @@ from collections import deque
 from collections.abc import Iterator
 from typing import Any
 
-from ._calls import front
+from ._calls import front, past_the_only
 from ._faults import ComposerFault, ConstructorError, DuplicateKey, Kind, ManyDocuments, YamlFault
 from ._records import START, Records
 from ._source import Source
@@ -60,24 +60,6 @@ def undefined_alias(source: Source, records: Records, number: int) -> ComposerFa
     place = source.mark(records.mark(number, START))
     message = f"composer error: {problem} (line {place.line + 1}, column {place.column + 1})"
     return ComposerFault(problem, kind=Kind.COMPOSER, message=message, problem_mark=place)
-
-
-def past_the_only(
-    source: Source, records: Records, fault: YamlFault | None, start: int, end: int
-) -> None:
-    """Raises what comes after the document that begins and ends at these records: another one, or a fault."""
-    after = records.kind(end + 1)
-    if after == _DOCUMENT_START:
-        # what was read of the first document may be given back
-        records, _ = front(source)
-        raise ManyDocuments(
-            "but found another document",
-            problem_mark=source.mark(records.mark(end + 1, START)),
-            context="expected a single document in the stream",
-            context_mark=source.mark(records.mark(start + 1, START)),
-        )
-    if after == 0 and fault is not None:
-        raise fault
 
 
 def _tag(records: Records, number: int, kind: int, implicit: int, has_tag: int, text: str) -> str:

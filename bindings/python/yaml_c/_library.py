@@ -40,8 +40,8 @@ def viewed(at: int, size: int) -> memoryview:
 
 
 def lent(data: bytearray) -> Any:
-    """A pointer to the bytes themselves, which can't change their size as long as it is there."""
-    return ctypes.byref(ctypes.c_char.from_buffer(data)) if data else ctypes.byref(NOTHING)
+    """The first byte, where it is: the bytes can't change their number as long as it is there."""
+    return ctypes.c_char.from_buffer(data) if data else NOTHING
 
 
 class Bytes(ctypes.Structure):
@@ -86,7 +86,7 @@ class AnswerRecord(ctypes.Structure):
 
 
 class PartingRecord(ctypes.Structure):
-    """Where two inputs part."""
+    """Where two inputs differ."""
 
     _fields_ = [
         ("answer", AnswerRecord),
@@ -115,6 +115,41 @@ class ParsedRecord(ctypes.Structure):
         return [it for it in found if it[1]]
 
 
+class LevelRecord(ctypes.Structure):
+    """An open collection."""
+
+    _fields_ = [("state", ctypes.c_int32), ("indent", ctypes.c_uint64)]
+
+
+class PlaceRecord(ctypes.Structure):
+    """Where an emitter is, except lists."""
+
+    _fields_ = [
+        *[(name, ctypes.c_int32) for name in ("state", "encoding", "implicit", "white", "bare", "kept")],
+        ("column", ctypes.c_uint64),
+        ("waiting", ctypes.c_uint64),
+        ("innermost", LevelRecord),
+    ]
+
+
+class StandRecord(ctypes.Structure):
+    """Where an emitter is, with the collections and the directives there."""
+
+    _fields_ = [
+        ("place", PlaceRecord),
+        ("levels", ctypes.c_void_p),
+        ("levels_len", ctypes.c_size_t),
+        ("directives", ctypes.c_void_p),
+        ("directives_len", ctypes.c_size_t),
+        ("bytes", Bytes),
+    ]
+
+    def blocks(self) -> list[tuple[int, int]]:
+        """Address and length of what the call handed out."""
+        found = [(self.levels, self.levels_len), (self.directives, self.directives_len), (self.bytes.at, self.bytes.len)]
+        return [it for it in found if it[1]]
+
+
 # What a pointer names that has a length of 0: it is never NULL.
 NOTHING = ctypes.create_string_buffer(1)
 _AT = ctypes.addressof(NOTHING)
@@ -138,7 +173,12 @@ def new_parsed() -> ParsedRecord:
     return ParsedRecord(events=_AT, directives=_AT, bytes=Bytes(at=_AT))
 
 
-def free(record: AnswerRecord | ParsedRecord) -> None:
+def new_stand() -> StandRecord:
+    """Before the first event."""
+    return StandRecord(levels=_AT, directives=_AT, bytes=Bytes(at=_AT))
+
+
+def free(record: AnswerRecord | ParsedRecord | StandRecord) -> None:
     """Frees what a call handed out."""
     for at, _ in record.blocks():
         release(at)
@@ -176,16 +216,16 @@ _SIZES = [
     (AnswerRecord, 152),
     (PartingRecord, 232),
     (ParsedRecord, 48),
+    (StandRecord, 104),
     (MarkRecord, 32),
     (Bytes, 16),
 ]
 if any(ctypes.sizeof(it) != size for it, size in _SIZES):
-    raise ImportError("the records of the library aren't laid out here as in its header: it needs a machine of 64 bits")
+    raise ImportError("the library's records have another layout here than in its header: it needs a 64-bit machine")
 
 library = _load()
 _POINTER = ctypes.c_void_p
 _INPUT = (ctypes.c_char_p, ctypes.c_size_t, ctypes.c_int32)
-_LIST = (_POINTER, ctypes.c_size_t)
 
 defaults = _call("yaml_c_defaults", _POINTER)
 defaults.restype = None
@@ -199,7 +239,7 @@ diff_documents = _call("yaml_c_diff_documents", *_INPUT, *_INPUT, _POINTER)
 events = _call("yaml_c_events", *_INPUT, _POINTER)
 parse = _call("yaml_c_parse", *_INPUT, _POINTER, _POINTER)
 front = _call("yaml_c_front", *_INPUT, _POINTER, _POINTER)
-emit = _call("yaml_c_emit", *_LIST, *_LIST, *_LIST, _POINTER, _POINTER)
+emit_on = _call("yaml_c_emit_on", *[_POINTER] * 5)
 
 # The heap that the library takes its blocks from is the process's own.
 release = ctypes.CDLL(None).free

@@ -2,21 +2,20 @@
 
 from __future__ import annotations
 
-import base64
 import math
-from collections.abc import Iterable, Iterator
+from collections.abc import Callable, Iterable, Iterator
 from itertools import chain
 from typing import Any
 
-from ._calls import LineBreak, Settings
-from ._dump import MAPPING, SCALAR, SEQUENCE, Writable, Writer, give, judge_stream
-from ._events import DocumentStart, Encoding, ScalarStyle, Style
+from ._calls import LIMIT, settings_record
+from ._enums import Encoding, LineBreak, ScalarStyle, Style
 from ._faults import ArgumentRefused, RepresenterError
 from ._source import encoding_of
 from ._types import PREFIX, TEXTS, type_of
+from ._writer import MAPPING, SEQUENCE, Writable, Writer, give, judge_stream, takes_bytes
 
 _BREAKS = {None: LineBreak.LF, "\n": LineBreak.LF, "\r": LineBreak.CR, "\r\n": LineBreak.CRLF}
-# What is written in a word or in quotes, so that a collection of nothing else may stand in one line.
+# Classes whose objects are written in a word or in quotes, so that a collection of nothing else may be in one line.
 _FLAT = (*TEXTS, str)
 
 
@@ -34,18 +33,30 @@ class _Objects(Writer):
             record = self._kept.get(value)
             return record or self.kept(value, implicit=type_of(value) == "str", quoted=1)
         if kind in TEXTS:
-            return self.typed(value, *TEXTS[kind])
+            return self.plain(value, TEXTS[kind])
         if kind is bytes:
-            text = base64.encodebytes(value).decode("ascii")
-            return self.packed.made(SCALAR, value=text, style=ScalarStyle.LITERAL, tag=PREFIX + "binary")
-        return None
+            return self.binary(value)
+        return self.date(value) if kind.__module__ == "datetime" else None
 
-    def typed(self, value: Any, type_name: str, text_of: Any) -> bytes:
-        """The record of a number, a bool, None or a date. A date that comes again is an alias, as PyYAML writes it."""
-        if type_name == "timestamp" and self.alias(value):
-            return b""
+    def binary(self, value: bytes) -> bytes:
+        """The record of bytes."""
+        from base64 import encodebytes
+
+        return self.made(encodebytes(value).decode("ascii"), style=ScalarStyle.LITERAL, tag=PREFIX + "binary")
+
+    def date(self, value: Any) -> bytes | None:
+        """The record of a date, which is an alias where it comes again, as PyYAML writes it; None where it is none."""
+        from ._dates import DATES
+
+        text_of = DATES.get(type(value))
+        if text_of is None:
+            return None
+        return b"" if self.alias(value) else self.plain(value, text_of)
+
+    def plain(self, value: Any, text_of: Callable[[Any], str]) -> bytes:
+        """The record of a number, a bool, None or a date."""
         try:
-            return self.packed.made(SCALAR, value=text_of(value), implicit=1)
+            return self.made(text_of(value), implicit=1)
         except ValueError as error:
             raise RepresenterError(f"cannot represent an object of {type(value).__name__}: {error}") from None
 
@@ -76,7 +87,7 @@ class _Objects(Writer):
         """The style of a collection."""
         is_flow = self._flow_style
         if is_flow is None:
-            is_flow = all(type(it) in _FLAT for it in children)
+            is_flow = all(type(it) in _FLAT or type(it).__module__ == "datetime" for it in children)
         return Style.FLOW if is_flow else Style.BLOCK
 
 
@@ -100,7 +111,7 @@ def safe_dump_all(
     explicit_end: bool = False,
     line_break: str | None = None,
     encoding: Encoding | str | None = None,
-    limit: int = Settings.limit,
+    limit: int = LIMIT,
 ) -> Any:
     """The text of documents of Python's types, which PyYAML's `safe_load_all` and this package's read as the same objects.
 
@@ -125,7 +136,7 @@ def safe_dump_all(
     judge_stream(stream)
     if line_break not in _BREAKS:
         raise ArgumentRefused(f"a line ends with \\n, \\r or \\r\\n, and not with {line_break!r}")
-    settings = Settings(
+    settings = settings_record(
         encoding=Encoding.UTF8 if encoding is None else encoding_of(encoding),
         canonical=False,
         indent=2 if indent is None else indent,
@@ -136,8 +147,8 @@ def safe_dump_all(
     )
     writer = _Objects(sort_keys, default_flow_style)
     for document in documents:
-        writer.document(document, DocumentStart(implicit=not explicit_start), not explicit_end)
-    return give(writer.text(settings), stream, encoding)
+        writer.document(document, not explicit_start, not explicit_end)
+    return give(writer.text(settings, takes_bytes(stream, encoding)), stream)
 
 
 def safe_dump(
@@ -153,7 +164,7 @@ def safe_dump(
     explicit_end: bool = False,
     line_break: str | None = None,
     encoding: Encoding | str | None = None,
-    limit: int = Settings.limit,
+    limit: int = LIMIT,
 ) -> Any:
     """The text of one document, as `safe_dump_all` writes it, with its arguments and errors.
 

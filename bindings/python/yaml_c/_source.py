@@ -7,7 +7,7 @@ import os
 import re
 from typing import Any, Protocol, Union
 
-from ._events import Encoding
+from ._enums import Encoding
 from ._faults import ArgumentRefused, FaultMark, Kind, Mark, ReaderFault
 
 
@@ -132,7 +132,7 @@ def _read(text: Any) -> tuple[Any, str | None]:
         )
     found, name = text.read(), getattr(text, "name", None)
     if not isinstance(found, (str, bytes, bytearray, memoryview)):
-        raise TypeError(f"read() of an open file gives str or bytes, and not {type(found).__name__}")
+        raise TypeError(f"read() of an open file must return str or bytes, not {type(found).__name__}")
     return found, name if isinstance(name, str) else "<file>"
 
 

@@ -3,10 +3,9 @@ type means, and how an object of Python is written."""
 
 from __future__ import annotations
 
-import base64
-import datetime
 import math
 import re
+from binascii import a2b_base64
 from collections.abc import Callable
 from typing import Any
 
@@ -32,12 +31,6 @@ _PLAIN = re.compile(
 _ELSEWHERE = re.compile(
     r"[yYnN]|[-+]?(?:\.[0-9]+|[0-9]+(?:\.[0-9]*)?)(?:[eE][-+]?[0-9]+)?|[-+]?0o[0-7_]+|[-+]?0x[0-9a-fA-F_]+"
 )
-_TIMESTAMP = re.compile(
-    r"""([0-9]{4})-([0-9]{1,2})-([0-9]{1,2})
-        (?:(?:[Tt]|[ \t]+)([0-9]{1,2}):([0-9]{2}):([0-9]{2})(?:\.([0-9]*))?
-        (?:[ \t]*(Z|([-+])([0-9]{1,2})(?::([0-9]{2}))?))?)?$""",
-    re.VERBOSE,
-)
 _BOOLS = {"yes": True, "no": False, "true": True, "false": False, "on": True, "off": False}
 _NAN = math.nan
 
@@ -60,7 +53,7 @@ def _null(text: str) -> None:
 def _bool(text: str) -> bool:
     found = _BOOLS.get(text.lower())
     if found is None:
-        raise ValueError("it is none of yes, no, true, false, on, off")
+        raise ValueError("not a boolean (yes, no, true, false, on, off)")
     return found
 
 
@@ -103,23 +96,14 @@ def _float(text: str) -> float:
     return sign * value
 
 
-def _timestamp(text: str) -> datetime.date:
-    found = _TIMESTAMP.match(text)
-    if found is None:
-        raise ValueError("it is no date, and no date with a time")
-    year, month, day, hour, minute, second, fraction, zone, sign, zone_hour, zone_minute = found.groups()
-    if hour is None:
-        return datetime.date(int(year), int(month), int(day))
-    shift = datetime.timedelta(hours=int(zone_hour or 0), minutes=int(zone_minute or 0))
-    zone_info = datetime.timezone(-shift if sign == "-" else shift) if zone else None
-    micro = int((fraction or "")[:6].ljust(6, "0"))
-    return datetime.datetime(
-        int(year), int(month), int(day), int(hour), int(minute), int(second), micro, zone_info
-    )
+def _timestamp(text: str) -> Any:
+    from ._dates import timestamp
+
+    return timestamp(text)
 
 
 def _binary(text: str) -> bytes:
-    return base64.decodebytes(text.encode("ascii"))
+    return a2b_base64(text.encode("ascii"))
 
 
 #: What a scalar with one of these tags means. Each raises a `ValueError` for a text that isn't of its type.
@@ -144,23 +128,10 @@ def _float_text(value: float) -> str:
     return text if "." in text or "e" not in text else text.replace("e", ".0e", 1)
 
 
-def _date_text(value: datetime.date) -> str:
-    return value.isoformat()
-
-
-def _datetime_text(value: datetime.datetime) -> str:
-    shift = value.utcoffset()
-    if shift is not None and shift % datetime.timedelta(minutes=1):
-        raise ValueError("its time zone isn't a whole number of minutes from UTC, which YAML can't tell")
-    return value.isoformat(" ")
-
-
-#: How an object of one of these classes is written: its type's name, and its plain text.
-TEXTS: dict[type, tuple[str, Callable[[Any], str]]] = {
-    type(None): ("null", lambda _: "null"),
-    bool: ("bool", lambda value: "true" if value else "false"),
-    int: ("int", str),
-    float: ("float", _float_text),
-    datetime.date: ("timestamp", _date_text),
-    datetime.datetime: ("timestamp", _datetime_text),
+#: How an object of one of these classes is written.
+TEXTS: dict[type, Callable[[Any], str]] = {
+    type(None): lambda _: "null",
+    bool: lambda value: "true" if value else "false",
+    int: str,
+    float: _float_text,
 }

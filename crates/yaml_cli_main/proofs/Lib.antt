@@ -1,1 +1,2 @@
+mod Listed
 mod Shown

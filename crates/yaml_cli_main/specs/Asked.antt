@@ -1,9 +1,10 @@
 -- What the program's engine answers, in the words of the program.
-use Rattle.std.specs.Prelude.{◌≡◌, ℕ, Bool, true, false, List, map, Option, None, Some, Result, Ok, Err}
+use Rattle.std.specs.Prelude.{◌≡◌, ◌⊎◌, ℕ, Bool, true, false, List, [], ◌∷◌, map, Option, None, Some, Vec, Result, Ok, Err}
+use Rattle.std.specs.declared.alloc.Global.{Global}
 use Rattle.yaml_round.specs.declared.yaml_encoding_t.{yaml_encoding_t}
 use Rattle.yaml_round.specs.declared.yaml_origin_t.{yaml_origin_t}
 use Rattle.yaml_round.specs.declared.yaml_fault_t.{yaml_fault_t}
-use Rattle.yaml_round.specs.emit.emit_layout.scan_model.Faults.{Fault, load_layers}
+use Rattle.yaml_round.specs.emit.emit_layout.scan_model.Faults.{Fault, IsMemoryFault, fault_of, load_layers}
 use Rattle.yaml_round.specs.declared.yaml_form_t.{yaml_form_t}
 use Rattle.yaml_round.specs.declared.yaml_run_fault_t.{yaml_run_fault_t}
 use Rattle.yaml_round.specs.declared.yaml_run_fault_t.TheVariants.{Read, TooLong, Yaml, Write}
@@ -26,6 +27,11 @@ use Rattle.yaml_round.specs.declared.yaml_cause_t.TheVariants as reason
 use Rattle.yaml_round.specs.Answers.{IsSame, IsReformatted}
 use Rattle.yaml_round.specs.Differences.{IsDiff}
 use Rattle.yaml_round.specs.Loaded.{IsDocumentsDiff}
+use Rattle.yaml_round.specs.AllDifferences.{AreDifferences}
+use Rattle.yaml_round.specs.declared.differences.yaml_differences_t.{yaml_differences_t}
+use Rattle.yaml_round.specs.declared.yaml_document_difference_t.{yaml_document_difference_t}
+use Rattle.yaml_round.specs.declared.yaml_node_cause_t.{yaml_node_cause_t}
+use Rattle.yaml_round.specs.declared.yaml_node_cause_t.TheVariants as node
 use Rattle.yaml_round.specs.Checking.{IsChecked}
 use Rattle.yaml_round.specs.Keys.{IsKeyCheck}
 use Rattle.yaml_round.specs.declared.yaml_same_key_t.{yaml_same_key_t}
@@ -60,15 +66,17 @@ IsSameAnswer from first second (Err (s, Read)) = ⊥
 IsSameAnswer from first second (Err (s, TooLong)) = ⊥
 IsSameAnswer from first second (Err (s, Write written)) = ⊥
 
-abbrev pub cause_told : Cause → yaml_cause_t
-cause_told cause.OnlyFirst = reason.OnlyFirst
-cause_told cause.OnlySecond = reason.OnlySecond
-cause_told cause.Kind = reason.Kind
-cause_told cause.Directives = reason.Directives
-cause_told cause.Value = reason.Value
-cause_told cause.Tag = reason.Tag
-cause_told cause.Quotes = reason.Quotes
-cause_told cause.Anchor = reason.Anchor
+-- that of a place where contents part, if it is one
+abbrev pub cause_told : Cause → Option yaml_cause_t
+cause_told cause.OnlyFirst = Some reason.OnlyFirst
+cause_told cause.OnlySecond = Some reason.OnlySecond
+cause_told cause.Kind = Some reason.Kind
+cause_told cause.Directives = Some reason.Directives
+cause_told cause.Value = Some reason.Value
+cause_told cause.Tag = Some reason.Tag
+cause_told cause.Quotes = Some reason.Quotes
+cause_told cause.Anchor = Some reason.Anchor
+cause_told cause.KeyOrder = None
 
 -- it has the places and the kinds of events of that difference, and its cause
 pub record TellsDifference (d : Difference) (x : yaml_difference_t) : Type 0 where
@@ -78,7 +86,7 @@ pub record TellsDifference (d : Difference) (x : yaml_difference_t) : Type 0 whe
   pub second_start : d.second.start ≡ x.second_mark
   pub second_end : d.second.end ≡ x.second_end
   pub second_kind : d.second.kind ≡ x.second_type
-  pub cause : cause_told d.cause ≡ x.cause
+  pub cause : cause_told d.cause ≡ Some x.cause
 
 abbrev pub IsPartedBy : (Result (Option yaml_difference_t) (yaml_side_t × yaml_fault_t) → Type 0)
     → Result (Option Difference) (Side × yaml_fault_t) → Type 0
@@ -96,6 +104,37 @@ IsDifference false from first second r = IsDiff from first from second r
 abbrev pub IsParted : Measure → List ℕ → List ℕ → Result (Option Difference) (Side × yaml_fault_t)
     → Type 0
 IsParted by first second r = IsPartedBy (IsDifference by.documents by.from first second) r
+
+-- the cause of a difference of nodes
+abbrev pub node_cause : yaml_node_cause_t → Cause
+node_cause node.Kind = cause.Kind
+node_cause node.Value = cause.Value
+node_cause node.Tag = cause.Tag
+node_cause node.KeyOrder = cause.KeyOrder
+node_cause node.OnlyFirst = cause.OnlyFirst
+node_cause node.OnlySecond = cause.OnlySecond
+
+abbrev pub cause_of : yaml_document_difference_t → Cause
+cause_of x = node_cause x.difference.cause
+
+abbrev pub shown_cause : Difference → Cause
+shown_cause d = d.cause
+
+-- Each place where documents differ is shown, in order, with its cause; where none does, the place where contents part.
+abbrev pub AreShown : List yaml_document_difference_t → Option yaml_difference_t → List Difference
+    → Type 0
+AreShown [] None shown = shown ≡ []
+AreShown [] (Some x) shown = (d : Difference) × (shown ≡ d ∷ []) × TellsDifference d x
+AreShown (t ∷ told) content shown = map shown_cause shown ≡ map cause_of (t ∷ told)
+
+-- all places where two inputs differ, or the fault of one of them
+abbrev pub AreAllParted : Measure → List ℕ → List ℕ
+    → Result (Vec Difference Global) (Side × yaml_fault_t) → Type 0
+AreAllParted by first second (Ok shown) = (d : yaml_differences_t)
+    × AreDifferences by.from first by.from second by.documents (Ok d)
+    × AreShown d.told.items d.content shown.items
+AreAllParted by first second (Err (s, f)) = IsMemoryFault load_layers (fault_of f)
+    ⊎ AreDifferences by.from first by.from second by.documents (Err (side_told s, f))
 
 -- the keys as they are reported
 abbrev pub shown_key : yaml_same_key_t → RepeatedKey

@@ -1,24 +1,25 @@
 //! The engine that the program runs.
 
-ghost use Rattle.std.specs.Prelude.{◌≡◌, IfOk, map};
+ghost use Rattle.std.specs.Prelude.{◌≡◌, IfOk, Some, map};
 ghost use Rattle.yaml_round.specs.emit.emit_layout.scan_model.Faults.{Answers, load_layers};
 ghost use Rattle.yaml_round.specs.Answers.{bytes_of};
 ghost use Rattle.yaml_round.specs.Layers.{reformat_layers};
 ghost use Rattle.yaml_round.specs.Readable.{IsReadableAnswer};
-ghost use Rattle.yaml_cli_main.specs.Asked.{IsRun, IsSameAnswer, IsDifference, IsParted, IsJudgedBy, IsRepeatedAnswer, cause_told, judge_layers, shown_key, side_told, TellsDifference};
+ghost use Rattle.yaml_cli_main.specs.Asked.{AreAllParted, IsRun, IsSameAnswer, IsDifference, IsParted, IsJudgedBy, IsRepeatedAnswer, cause_told, judge_layers, shown_key, side_told, TellsDifference};
 
 use crate::comment::first_comment;
+use crate::differences::shown_differences;
 use std::alloc::{AllocError, Global};
 use std::io::{Read, Write};
 use yaml_cli_program::{
-    Cause, Compared, Difference, Ended, Engine, INPUT_LIMIT, Judging, Manner, Measure, Met, Parted,
-    Question, RepeatedKey, Side, Step, Task, push_step,
+    AllParted, Cause, Compared, Difference, Ended, Engine, INPUT_LIMIT, Judging, Manner, Measure,
+    Met, Parted, Question, RepeatedKey, Side, Step, Task, push_step,
 };
 use yaml_round::{
     yaml_cause_t, yaml_check, yaml_check_keys, yaml_diff, yaml_diff_documents, yaml_difference_t,
-    yaml_encoding_t, yaml_fault_t, yaml_mark_t, yaml_memory_fault, yaml_normalize, yaml_origin_t,
-    yaml_reformat, yaml_run, yaml_run_fault_t, yaml_same, yaml_same_key_t, yaml_side_t,
-    yaml_std_input_t, yaml_std_output_t, yaml_step_t,
+    yaml_differences, yaml_encoding_t, yaml_fault_t, yaml_mark_t, yaml_memory_fault,
+    yaml_normalize, yaml_origin_t, yaml_reformat, yaml_run, yaml_run_fault_t, yaml_same,
+    yaml_same_key_t, yaml_side_t, yaml_std_input_t, yaml_std_output_t, yaml_step_t,
 };
 
 /// The engine of `yaml_round`, with the program's limit.
@@ -34,7 +35,7 @@ fn side_of(side: yaml_side_t) -> Side
 }
 
 fn cause_of(cause: yaml_cause_t) -> Cause
-    ensures { cause_told result ≡ cause }
+    ensures { cause_told result ≡ Some cause }
 {
     match cause {
         yaml_cause_t::OnlyFirst => Cause::OnlyFirst,
@@ -66,7 +67,8 @@ fn path_of(alloc: Global, difference: &yaml_difference_t) -> Result<String, Allo
     Ok(path)
 }
 
-fn difference_of(alloc: Global, difference: &yaml_difference_t) -> Difference
+/// The place where two contents part, as it is shown.
+pub(crate) fn difference_of(alloc: Global, difference: &yaml_difference_t) -> Difference
     ensures { TellsDifference result difference.now }
 {
     Difference {
@@ -217,6 +219,19 @@ impl Engine for Rounds {
         match found {
             Ok(None) => Ok(None),
             Ok(Some(difference)) => Ok(Some(difference_of(alloc, &difference))),
+            Err((side, fault)) => Err((side_of(side), fault)),
+        }
+    }
+
+    fn differences(&self, alloc: Global, by: Measure, first: &[u8], second: &[u8]) -> AllParted
+        ensures { AreAllParted by first.now second.now result }
+    {
+        let found = yaml_differences(alloc, first, by.from, second, by.from, by.documents);
+        match found {
+            Ok(differences) => match shown_differences(alloc, &differences) {
+                Ok(shown) => Ok(shown),
+                Err(_) => Err((Side::First, yaml_memory_fault(yaml_origin_t::Loader))),
+            },
             Err((side, fault)) => Err((side_of(side), fault)),
         }
     }

@@ -2,8 +2,10 @@
 #![tactic(auto)]
 
 mod comment;
+mod differences;
 mod engine;
 mod program;
+mod reached;
 
 pub use program::yaml_main;
 pub use yaml_cli_program::{UNNAMED, WRONG_WORDS, shown_bytes};

@@ -2,7 +2,7 @@
 
 use crate::chars::{Chars, Next, Source, ends_line};
 use crate::excerpt::{columns_in, push_shown};
-use crate::place::from_place;
+use crate::place::before_place;
 use crate::telling::push_at;
 use std::alloc::AllocError;
 use yaml_scan_types::yaml_mark_t;
@@ -22,7 +22,7 @@ const CUT: &'static str = "...";
 // How many columns are between the longer value and its place.
 const GAP: u64 = 8;
 
-/// A part of a text.
+/// A part of a text. The places' `index` counts bytes of the text.
 #[derive(Clone, Copy)]
 pub struct Span<'a> {
     pub source: Source<'a>,
@@ -37,17 +37,35 @@ pub struct Line {
     pub place: yaml_mark_t,
 }
 
-// What is left of a text, and its place; `index` counts the characters.
+// What is left of a text, and its place.
 #[derive(Clone, Copy)]
 struct Walk<'a> {
     left: Chars<'a>,
     place: yaml_mark_t,
 }
 
-impl Walk<'_> {
+impl<'a> Walk<'a> {
+    // From the beginning of the line of a place on.
+    fn of_line(source: Source<'a>, at: yaml_mark_t) -> Walk<'a> {
+        let left = before_place(source, at, at.column);
+        let behind = before_place(source, at, 0);
+        let before = left.left.len().saturating_sub(behind.left.len());
+        let index = at.index.saturating_sub(before as u64);
+        Walk {
+            left,
+            place: yaml_mark_t {
+                index,
+                column: 0,
+                ..at
+            },
+        }
+    }
+
     fn next(&mut self) -> Next {
+        let before = self.left.left.len();
         let next = self.left.next();
-        self.place.index = self.place.index.saturating_add(1);
+        let passed = before.saturating_sub(self.left.left.len());
+        self.place.index = self.place.index.saturating_add(passed as u64);
         if ends_line(next) {
             self.place.line = self.place.line.saturating_add(1);
             self.place.column = 0;
@@ -79,7 +97,7 @@ fn is_before(place: yaml_mark_t, other: yaml_mark_t) -> bool {
 impl<'a> Span<'a> {
     fn walk(&self) -> Walk<'a> {
         Walk {
-            left: from_place(self.source, self.start),
+            left: before_place(self.source, self.start, 0),
             place: self.start,
         }
     }
@@ -98,11 +116,7 @@ impl<'a> Span<'a> {
         if at.line == self.start.line {
             return self.start;
         }
-        let place = yaml_mark_t { column: 0, ..at };
-        let mut walk = Walk {
-            left: from_place(self.source, place),
-            place,
-        };
+        let mut walk = Walk::of_line(self.source, at);
         walk.skip_indent();
         if is_before(at, walk.place) {
             at
@@ -130,7 +144,7 @@ impl<'a> Span<'a> {
         } else {
             before.saturating_sub(BEFORE)
         };
-        let mut chars = from_place(self.source, place);
+        let mut chars = before_place(self.source, place, 0);
         chars.skip_columns(skipped);
         let columns = self.columns_from(place).saturating_sub(skipped);
         let begun = line.text.push_str(if skipped > 0 { CUT } else { "" });

@@ -42,6 +42,18 @@ pub(crate) fn from_place(source: Source<'_>, place: yaml_mark_t) -> Chars<'_> {
     chars
 }
 
+/// The same from that many characters before it in that line on, where its `index` counts bytes of the text: then a text in UTF-8
+/// isn't gone through.
+pub(crate) fn before_place(source: Source<'_>, place: yaml_mark_t, characters: u64) -> Chars<'_> {
+    match Chars::of(source.input, source.from).before(place.index, characters) {
+        Some(chars) => chars,
+        None => {
+            let column = place.column.saturating_sub(characters);
+            from_place(source, yaml_mark_t { column, ..place })
+        }
+    }
+}
+
 // How many characters the line has.
 fn columns_of(mut line: Chars<'_>) -> u64 {
     let mut columns = 0u64;

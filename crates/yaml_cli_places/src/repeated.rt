@@ -1,9 +1,9 @@
 //! Keys that are in a mapping more than once, as people and programs are told them.
 
-use crate::chars::{Chars, Source};
+use crate::chars::Source;
 use crate::excerpt::{push_around, push_shown};
 use crate::finding::{Finding, Format, push_finding};
-use crate::place::from_place;
+use crate::place::before_place;
 use crate::telling::push_place;
 use std::alloc::{AllocError, Global};
 use yaml_scan_types::yaml_mark_t;
@@ -22,17 +22,6 @@ pub struct RepeatedKey {
     pub mark: yaml_mark_t,
     pub end_mark: yaml_mark_t,
     pub first_mark: yaml_mark_t,
-}
-
-// What is left of a text from that many characters before a place in that line on.
-fn before_place(source: Source<'_>, place: yaml_mark_t, characters: u64) -> Chars<'_> {
-    match Chars::of(source.input, source.from).before(place.index, characters) {
-        Some(chars) => chars,
-        None => {
-            let column = place.column.saturating_sub(characters);
-            from_place(source, yaml_mark_t { column, ..place })
-        }
-    }
 }
 
 // How many characters of its line a key has, where it ends there.

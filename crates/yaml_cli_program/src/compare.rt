@@ -5,11 +5,12 @@ use crate::engine::{Difference, Engine, Side};
 use crate::fault::{FAILED, Fault, UNJUDGED, run_failed, shown, told};
 use crate::file::{STANDARD, Streams, flushed, whole_of, write_answer};
 use crate::order::{Does, Measure, Order};
+use std::alloc::{AllocError, Global};
 use std::io::{Read, Write};
 use std::rt::Files;
 use yaml_cli_places::Source;
 use yaml_round_device::yaml_run_fault_t;
-use yaml_scan_types::{yaml_memory_fault, yaml_origin_t};
+use yaml_scan_types::{yaml_fault_t, yaml_memory_fault, yaml_origin_t};
 
 // Two files that are to be compared.
 #[derive(Clone, Copy)]
@@ -21,6 +22,8 @@ struct Pair<'a> {
     is_itself: bool,
     // Where they part is shown; else it is told whether they do.
     shows: bool,
+    // All places are.
+    all: bool,
     // Only the status says.
     quiet: bool,
 }
@@ -37,6 +40,7 @@ fn pair_of<'a>(order: &Order<'_, 'a>) -> Pair<'a> {
         second,
         is_itself: first == STANDARD && second == STANDARD,
         shows: matches!(order.does, Does::Diff),
+        all: order.told.get_flag("all"),
         quiet: order.judging.quiet,
     }
 }
@@ -104,20 +108,50 @@ fn tell_same<G: Engine, R, W: Write, E: Write>(
     }
 }
 
-fn tell_difference<R, W: Write, E: Write>(
-    difference: &Difference,
+// Adds what is shown of all places, in the order of the first text, and how many they are.
+fn push_all(
+    alloc: Global,
+    text: &mut String,
+    all: &mut Vec<Difference>,
     first: Source<'_>,
     second: Source<'_>,
+) -> Result<(), AllocError> {
+    all.sort_by_key(|difference| difference.first.start.index)?;
+    for difference in all.as_slice() {
+        push_difference(alloc, text, difference, first, second)?;
+    }
+    let count = all.len();
+    let word = if count == 1 {
+        "difference"
+    } else {
+        "differences"
+    };
+    writeln!(text, "{count} {word}")
+}
+
+// Writes what is shown of places where two inputs differ, if there was room for it; answers the status.
+fn put_shown<R, W: Write, E: Write>(
+    shown: Result<(), AllocError>,
+    text: &str,
     streams: &mut Streams<R, W, E>,
 ) -> u8 {
-    let mut text = String::new(streams.alloc);
-    match push_difference(streams.alloc, &mut text, difference, first, second) {
+    match shown {
         Ok(()) => {
             let written = streams.output.write_all(text.as_bytes());
             flushed(written, streams).max(FAILED)
         }
         Err(_) => UNJUDGED,
     }
+}
+
+// Shows the fault of an input that couldn't be compared; answers the status.
+fn tell_refused<R, W, E: Write>(
+    source: Source<'_>,
+    fault: &yaml_fault_t,
+    streams: &mut Streams<R, W, E>,
+) -> u8 {
+    let _ = shown(streams.alloc, &mut streams.errors, false, source, fault);
+    UNJUDGED
 }
 
 // Says where they part; answers the status, as diff's: 0 where they don't, 1 where they do, 2 where they couldn't be compared.
@@ -128,17 +162,37 @@ fn tell_diff<G: Engine, R, W: Write, E: Write>(
     second: Source<'_>,
     streams: &mut Streams<R, W, E>,
 ) -> u8 {
-    match engine.diff(streams.alloc, by, first.input, second.input) {
+    let alloc = streams.alloc;
+    match engine.diff(alloc, by, first.input, second.input) {
         Ok(None) => 0,
-        Ok(Some(difference)) => tell_difference(&difference, first, second, streams),
-        Err((side, fault)) => {
-            let source = match side {
-                Side::First => first,
-                Side::Second => second,
-            };
-            let _ = shown(streams.alloc, &mut streams.errors, false, source, &fault);
-            UNJUDGED
+        Ok(Some(difference)) => {
+            let mut text = String::new(alloc);
+            let shown = push_difference(alloc, &mut text, &difference, first, second);
+            put_shown(shown, &text, streams)
         }
+        Err((Side::First, fault)) => tell_refused(first, &fault, streams),
+        Err((Side::Second, fault)) => tell_refused(second, &fault, streams),
+    }
+}
+
+// The same of all places.
+fn tell_all<G: Engine, R, W: Write, E: Write>(
+    engine: &G,
+    by: Measure,
+    first: Source<'_>,
+    second: Source<'_>,
+    streams: &mut Streams<R, W, E>,
+) -> u8 {
+    let alloc = streams.alloc;
+    match engine.differences(alloc, by, first.input, second.input) {
+        Ok(all) if all.is_empty() => 0,
+        Ok(mut all) => {
+            let mut text = String::new(alloc);
+            let shown = push_all(alloc, &mut text, &mut all, first, second);
+            put_shown(shown, &text, streams)
+        }
+        Err((Side::First, fault)) => tell_refused(first, &fault, streams),
+        Err((Side::Second, fault)) => tell_refused(second, &fault, streams),
     }
 }
 
@@ -150,8 +204,13 @@ fn compare_quietly<G: Engine, R, W, E>(
     second: &[u8],
     streams: &Streams<R, W, E>,
 ) -> u8 {
-    let Pair { by, shows, .. } = *pair;
-    let is_same = if shows {
+    let Pair { by, shows, all, .. } = *pair;
+    let is_same = if all {
+        engine
+            .differences(streams.alloc, by, first, second)
+            .map(|differences| differences.is_empty())
+            .ok()
+    } else if shows {
         engine
             .diff(streams.alloc, by, first, second)
             .map(|difference| difference.is_none())
@@ -190,7 +249,11 @@ fn compare_texts<G: Engine, R, W: Write, E: Write>(
         input: second,
         from,
     };
-    tell_diff(engine, by, first, second, streams)
+    if pair.all {
+        tell_all(engine, by, first, second, streams)
+    } else {
+        tell_diff(engine, by, first, second, streams)
+    }
 }
 
 // Compares what was read of the first file with the second one.

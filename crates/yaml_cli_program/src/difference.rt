@@ -31,6 +31,7 @@ fn cause_words(cause: Cause) -> &'static str {
         Cause::Tag => "tag",
         Cause::Quotes => "quotes",
         Cause::Anchor => "anchor",
+        Cause::KeyOrder => "order of keys",
     }
 }
 
@@ -41,7 +42,7 @@ fn is_spelled(kind: yaml_event_type_t, cause: Cause) -> bool {
         yaml_event_type_t::YAML_DOCUMENT_START_EVENT => matches!(cause, Cause::Directives),
         yaml_event_type_t::YAML_SEQUENCE_START_EVENT
         | yaml_event_type_t::YAML_MAPPING_START_EVENT => {
-            matches!(cause, Cause::Tag | Cause::Anchor)
+            matches!(cause, Cause::Tag | Cause::Anchor | Cause::KeyOrder)
         }
         _ => false,
     }
@@ -74,8 +75,9 @@ fn spelled_line(
 }
 
 // Whether what is spelled shows nothing: no characters, or a collection's bracket alone.
-fn is_bare(kind: yaml_event_type_t, text: &str) -> bool {
+fn is_bare(kind: yaml_event_type_t, cause: Cause, text: &str) -> bool {
     match kind {
+        _ if matches!(cause, Cause::KeyOrder) => text.is_empty(),
         yaml_event_type_t::YAML_SEQUENCE_START_EVENT
         | yaml_event_type_t::YAML_MAPPING_START_EVENT => {
             !matches!(text.as_bytes().first(), Some(b'&' | b'!'))
@@ -93,7 +95,7 @@ fn line_of(
     at: yaml_mark_t,
 ) -> Result<Line, AllocError> {
     let mut line = spelled_line(source, met, cause, String::new(alloc), at)?;
-    if is_bare(met.kind, &line.text) {
+    if is_bare(met.kind, cause, &line.text) {
         line.text.clear();
         let is_behind = at.line > met.start.line || at.column > met.start.column;
         line.text.push_str(event_words(met.kind, is_behind))?;
@@ -136,7 +138,10 @@ pub(crate) fn push_difference(
     let words = cause_words(cause);
     writeln!(text, "{path}: {words}")?;
     let (one, two) = (difference.first, difference.second);
-    let (at, there) = parted(span_of(first, one), span_of(second, two));
+    let (at, there) = match cause {
+        Cause::OnlyFirst | Cause::OnlySecond => (one.start, two.start),
+        _ => parted(span_of(first, one), span_of(second, two)),
+    };
     let line = line_of(alloc, first, one, cause, at)?;
     let other = line_of(alloc, second, two, cause, there)?;
     push_both(text, cause, (first.name, second.name), &line, &other)

@@ -39,9 +39,10 @@ pub enum Cause {
     Tag,
     Quotes,
     Anchor,
+    KeyOrder,
 }
 
-/// The first place at which two inputs part.
+/// A place at which two inputs differ.
 #[derive(Drop)]
 pub struct Difference {
     /// The path to it, as people are shown it, where there is room for it.
@@ -53,6 +54,9 @@ pub struct Difference {
 
 /// Where two inputs part, nothing where they don't, or the fault of one of them.
 pub type Parted = Result<Option<Difference>, (Side, yaml_fault_t)>;
+
+/// All places where two inputs differ, or the fault of one of them.
+pub type AllParted = Result<Vec<Difference>, (Side, yaml_fault_t)>;
 
 /// An engine.
 pub trait Engine {
@@ -97,4 +101,7 @@ pub trait Engine {
 
     /// Where two inputs part, by that measure.
     fn diff(&self, alloc: Global, by: Measure, first: &[u8], second: &[u8]) -> Parted;
+
+    /// All places where two inputs differ, by that measure.
+    fn differences(&self, alloc: Global, by: Measure, first: &[u8], second: &[u8]) -> AllParted;
 }

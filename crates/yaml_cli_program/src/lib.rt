@@ -17,7 +17,7 @@ mod version;
 mod words;
 mod writing;
 
-pub use engine::{Cause, Compared, Difference, Ended, Engine, Met, Parted, Side};
+pub use engine::{AllParted, Cause, Compared, Difference, Ended, Engine, Met, Parted, Side};
 pub use fault::INPUT_LIMIT;
 pub use order::{Judging, Manner, Measure, Question, Task, WRONG_WORDS};
 pub use program::main_by;

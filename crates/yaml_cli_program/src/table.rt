@@ -73,8 +73,8 @@ Examples:
 
 Status:
   0  All is well
-  1  An input is refused, isn't as it was asked for, or differs (diff), or reading or writing fails
-  2  The arguments are wrong, or check, --check, diff or same -q can't judge a file";
+  1  An input is rejected, not in the form asked for, or differs (diff), or reading or writing fails
+  2  The arguments are wrong, or check, --check, diff or same -q can't read a file";
 
 /// The commands, in the order in which help lists them.
 pub(crate) const COMMANDS: [Told; 7] = [
@@ -87,8 +87,8 @@ Examples:
   yaml_cli fmt --check --pretty *.yaml
 
 Status:
-  0  The text was written, or all files have the form already
-  1  An input is refused or hasn't the form, or reading or writing fails
+  0  The text was written, or with --check all files are in this form
+  1  An input is rejected or isn't in this form, or reading or writing fails
   2  The arguments are wrong, or with --check a file can't be read",
         bit: FMT,
     },
@@ -102,8 +102,8 @@ Examples:
   yaml_cli norm --write config.yaml
 
 Status:
-  0  The text was written, or all files are in normal form already, or are now
-  1  An input is refused or isn't in normal form, or reading or writing fails
+  0  The text was written, or all files are in normal form, or are now
+  1  An input is rejected or isn't in normal form, or reading or writing fails
   2  The arguments are wrong, or with --check a file can't be read",
         bit: NORM,
     },
@@ -116,7 +116,7 @@ Example:
 
 Status:
   0  The text was written
-  1  The input is refused, or reading or writing fails
+  1  The input is rejected, or reading or writing fails
   2  The arguments are wrong",
         bit: DOCS,
     },
@@ -129,41 +129,42 @@ Example:
 
 Status:
   0  The lines were written
-  1  The input is refused, or reading or writing fails
+  1  The input is rejected, or reading or writing fails
   2  The arguments are wrong",
         bit: EVENTS,
     },
     Told {
         name: "same",
-        about: "Tells whether two files have the same content",
+        about: "Checks whether two files have the same content",
         after: "\
 Examples:
   yaml_cli same old.yaml new.yaml
   yaml_cli same -q old.yaml new.yaml
 
 Status:
-  0  It is told, whether `equal` or `different`; with -q they have the same content
-  1  An input is refused, or reading or writing fails; with -q they haven't the same content
-  2  The arguments are wrong; with -q an input is refused or can't be read",
+  0  `equal` or `different` was written; with -q they have the same content
+  1  An input is rejected, or reading or writing fails; with -q the contents differ
+  2  The arguments are wrong; with -q an input is rejected or can't be read",
         bit: SAME,
     },
     Told {
         name: "diff",
-        about: "Shows where the contents of two files part, and writes nothing where they don't",
+        about: "Shows where the contents of two files differ; writes nothing if they don't",
         after: "\
 Examples:
   yaml_cli diff old.yaml new.yaml
+  yaml_cli diff --all old.yaml new.yaml
   yaml_cli diff --documents old.yaml new.yaml
 
 Status:
   0  The files have the same content, or the same documents
-  1  They haven't: the path to the first difference was written, its cause, and what both have there
-  2  The arguments are wrong, or a file is refused or can't be read",
+  1  They differ: path, cause and both values of the first difference (--all: of each) were written
+  2  The arguments are wrong, or a file is rejected or can't be read",
         bit: DIFF,
     },
     Told {
         name: "check",
-        about: "Loads files and folders, writes nothing where all load, and shows where one is refused",
+        about: "Checks that files load, and shows where one doesn't",
         after: "\
 Examples:
   yaml_cli check config.yaml
@@ -172,7 +173,7 @@ Examples:
   find . -name '*.yaml' -print0 | yaml_cli check --files0-from -
 
 Status:
-  0  All files load, or there is none
+  0  All files load, or there are none
   1  A file doesn't load, or with --unique-keys has a key twice
   2  The arguments are wrong, or a file can't be read",
         bit: CHECK,
@@ -180,7 +181,7 @@ Status:
 ];
 
 /// The arguments, in the order in which a command lists those that it takes.
-pub(crate) const ROWS: [Row; 27] = [
+pub(crate) const ROWS: [Row; 28] = [
     Row(
         "files",
         Kind::Place("FILE"),
@@ -209,7 +210,7 @@ pub(crate) const ROWS: [Row; 27] = [
         "second",
         Kind::Needed("B"),
         SAME | DIFF,
-        "The file that it is compared with; `-` is standard input",
+        "The file to compare it with; `-` is standard input",
     ),
     Row(
         "from",
@@ -221,103 +222,109 @@ pub(crate) const ROWS: [Row; 27] = [
         "check",
         Kind::Flag(LONG),
         FMT | NORM,
-        "Write no text, but the names of the files that haven't this form already",
+        "List the files that aren't in this form, and write nothing else",
     ),
     Row(
         "write",
         Kind::Flag('w'),
         NORM,
-        "Write the files in place, and the names of those that change",
+        "Rewrite the files in place, and list those that change",
     ),
     Row(
         "drop-comments",
         Kind::Flag(LONG),
         NORM,
-        "Write in place what has comments, too",
+        "Also rewrite files that have comments, which are lost",
+    ),
+    Row(
+        "all",
+        Kind::Flag(LONG),
+        DIFF,
+        "List all differences, and their number; mappings are compared by key, sharing doesn't count",
     ),
     Row(
         "documents",
         Kind::Flag(LONG),
         DIFF,
-        "Compare the loaded documents: names of anchors and quotes don't count, sharing does",
+        "Compare the loaded documents: anchor names and quotes don't count, sharing does",
     ),
     Row(
         "quiet",
         Kind::Flag('q'),
         MANY | SAME | DIFF,
-        "Report nothing; the status says it",
+        "Report nothing; only set the exit status",
     ),
     Row(
         "verbose",
         Kind::Flag('v'),
         MANY,
-        "Report how many files were judged, and how many were refused",
+        "Report how many files were checked, and how many were refused",
     ),
     Row(
         "include",
         Kind::Names("GLOB"),
         MANY,
-        "Read the files of folders that GLOB stands for, in place of *.yaml and *.yml",
+        "Read the files of folders that match GLOB, instead of *.yaml and *.yml",
     ),
     Row(
         "exclude",
         Kind::Names("GLOB"),
         MANY,
-        "Leave out the files of folders, and the folders in them, that GLOB stands for",
+        "Skip the files and subfolders of folders that match GLOB",
     ),
     Row(
         "files0-from",
         Kind::Name("LIST"),
         CHECK,
-        "Also load the files that LIST names, each ended by a zero byte; `-` is standard input",
+        "Also load the files named in LIST, each name ended by a zero byte; `-` is standard input",
     ),
     Row(
         "unique-keys",
         Kind::Flag(LONG),
         CHECK,
-        "Also refuse a mapping that has one key twice",
+        "Also reject a mapping that has the same key twice",
     ),
     Row(
         "stdin-filename",
         Kind::Name("NAME"),
         MANY,
-        "How standard input is called where it is reported",
+        "The name for standard input in messages",
     ),
     Row(
         "format",
         Kind::Text("FORMAT", "full"),
         CHECK,
-        "How refused files are reported: full, line, github or json",
+        "How rejected files are reported: full, line, github or json",
     ),
     Row(
         "pretty",
         Kind::Flag(LONG),
         FMT,
-        "Keep the styles, where the text then reads the same",
+        "Keep the styles, if the text then reads back the same",
     ),
     Row(
         "indent",
         Kind::Columns("2", 0, MOST),
         FMT | DOCS,
-        "Columns of a level, 2 to 9; any other number counts as 2",
+        "Columns per level, 2 to 9; any other number counts as 2",
     ),
     Row(
         "indent",
         Kind::Columns("2", 2, 9),
         NORM,
-        "Columns of a level, 2 to 9",
+        "Columns per level, 2 to 9",
     ),
     Row(
         "width",
         Kind::Columns("80", 0, MOST),
         FMT | DOCS,
-        "The column behind which lines are folded; 0, up to twice the indent, means 80",
+        "The column after which lines are folded; up to twice the indent counts as 80",
     ),
     Row(
         "width",
         Kind::Columns("80", 5, MOST),
         NORM,
-        "The column behind which lines are folded, more than twice the indent",
+        "The column after which lines are folded, more than twice the indent",
     ),
     Row(
         "ascii",
@@ -341,6 +348,6 @@ pub(crate) const ROWS: [Row; 27] = [
         "limit",
         Kind::Bytes("1099511627776"),
         TEXT,
-        "How many bytes the output may have",
+        "The most bytes that the output may have",
     ),
 ];

@@ -1,6 +1,6 @@
 //! The calls that lines name.
 
-use crate::difference::compare;
+use crate::difference::{compare, list_differences};
 use crate::lines::{ENCODINGS, Reply, tokens};
 use crate::reading::{next_tokens, parse_input, parse_tokens, scan};
 use crate::writing::{emit_again, emit_line};
@@ -26,6 +26,7 @@ fn answer_input(reply: &mut Reply, line: &Value, call: &str, input: &Input<'_>) 
         "lookup" => engine::look_up(reply, line, input),
         "least_limit" => engine::least_limit(reply, line, input),
         "same" | "diff" | "diff_documents" => compare(reply, line, call, input),
+        "differences" => list_differences(reply, line, input),
         "run" => run::run(reply, line, input),
         "scan" | "scan_calls" => scan(reply, line, input),
         "next_tokens" => next_tokens(reply, line, input),

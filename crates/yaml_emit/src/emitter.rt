@@ -10,13 +10,13 @@ ghost use Rattle.yaml_emit_machine.specs.Emitter.{IsNew, IsLimited, ShowsFront, 
 ghost use Rattle.yaml_emit_machine.specs.Held.{AreLast};
 ghost use Rattle.yaml_emit_machine.specs.Within.{IsWithin};
 ghost use Rattle.yaml_emit_machine.specs.Verdict.{TellsOutcome};
-ghost use Rattle.yaml_emit_machine.specs.Taking.{TakesEvents, NotesMemoryOf, BlamesLevels};
+ghost use Rattle.yaml_emit_machine.specs.Taking.{TakesEvents, TakesSoon, NotesMemoryOf, BlamesLevels};
 
 use std::alloc::Global;
 use yaml_emit_machine::{
     EventRef, RequestedSettings, answer, first_fault, into_output, is_fresh, is_opened, let_go,
-    new_emitter, output, requested_settings, set_requested_settings, take_event, yaml_break_t,
-    yaml_emitter_t, yaml_encoding_t, yaml_event_t, yaml_fault_t,
+    new_emitter, output, requested_settings, set_requested_settings, take_event, take_soon,
+    yaml_break_t, yaml_emitter_t, yaml_encoding_t, yaml_event_t, yaml_fault_t,
 };
 
 /// An emitter whose text has at most `limit` bytes. It is fresh, with any encoding, canonical and unicode off, indent 2,
@@ -216,6 +216,18 @@ pub fn yaml_emitter_emit_ref(emitter: &mut yaml_emitter_t, event: EventRef<'_>)
         ++ emitter_event (borrowed_body event.entry) ∷ []) emitter.new.held }
 {
     take_event(emitter, &event);
+}
+
+/// Takes an event and lays it out, for a caller that asks for the text or the fault at the end of its events alone. A collection's
+/// start waits for the next event, unless the form is canonical; what was held before is laid out. So the text, and the first event
+/// that is wrong, are those of `yaml_emitter_emit`, but come sooner. The fault, if there is one, is the emitter's
+/// (`yaml_emitter_fault`).
+pub fn yaml_emitter_emit_soon(emitter: &mut yaml_emitter_t, event: &EventRef<'_>)
+    requires { HasUtf8 (borrowed_body event.now) }
+    ensures takes { TakesSoon emitter.old (emitter_event (borrowed_body event.now)) emitter.new }
+    ensures stays { Stays emitter.old emitter.new }
+{
+    take_soon(emitter, event);
 }
 
 /// What was laid out is in the output. The first fault, if there is one, is answered. Asks that an event was given.

@@ -100,6 +100,8 @@ fn anchor_if(number: u64, name: &[u8]) -> Option<&[u8]>
 }
 
 // Whether a tag is that of its kind by default.
+// Inlined: mostly one comparison of kinds that are known.
+#[inline(always)]
 fn is_default(tag: &yaml_node_tag_t, default: &yaml_node_tag_t) -> bool
     ensures { result ≡ is_text (tag_of tag.now) (tag_of default.now) }
 {

@@ -3,6 +3,7 @@
 use Rattle.std.proofs.Common.{◌≡◌, ◌+◌, ◌≤◌, List, [], ◌∷◌, ◌++◌, length, Bool, true, false, refl, sym, subst, ◌∙◌, ap, arith, append-nil}
 use Rattle.std.specs.Prelude.{nat_le}
 use Rattle.std.proofs.Math.Bool.{or-true}
+use Rattle.std.proofs.lemmas.List.{length-append}
 use Rattle.yaml_emit_layout.specs.declared.Encoding.{Encoding}
 use Rattle.yaml_emit_layout.specs.declared.Settings.{Settings}
 use Rattle.yaml_emit_layout.specs.declared.Status.{Status}
@@ -11,13 +12,15 @@ use Rattle.yaml_emit_layout.specs.Text.{Item, encode, is_deep}
 use Rattle.yaml_emit_layout.specs.Sink.{Output, Ends}
 use Rattle.yaml_emit_layout.specs.Content.{Event, Opening, Start, stream_start, stream_end, document_start, document_end, alias, scalar, sequence_start, mapping_start, Node, alias_node, scalar_node, sequence_node, mapping_node, Nodes, no_nodes, node, Pairs, no_pairs, pair, Document, sequence_end, mapping_end, node_events, items_events, pairs_events, documents_events}
 use Rattle.yaml_emit_layout.specs.State.{State}
+use Rattle.yaml_parse_model.specs.Documents as documents
+use Rattle.yaml_emit_graph.specs.Graph.{dumped, graph_content}
 use Rattle.yaml_emit_layout.specs.ToCome.{ToCome, stream, documents, root, frames, nothing, Frame, items_left, pairs_left, value_left, events, frame_events, frames_events, ending_events, layout}
 use Rattle.yaml_emit_core.specs.Finish.{Finishes, FinishesAt}
 use Rattle.yaml_emit_machine.specs.Held.{is_ready, needs}
 use Rattle.yaml_emit_machine.specs.Emitter.{Emitter, text_of, CompletesBy}
 use Rattle.yaml_emit_machine.specs.Within.{Fits}
 use Rattle.yaml_emit_machine.specs.Judged.{let_out, AreOut}
-use Rattle.yaml_emit_machine.proofs.Holding.{enough, none_needed}
+use Rattle.yaml_emit_machine.proofs.Holding.{enough, none_needed, three_enough}
 use Rattle.yaml_emit_machine.proofs.Judging.{first_out, ready_more, held_stays}
 
 mutual
@@ -97,6 +100,22 @@ document_out o v b es out =
     let end : Event = document_end b in
     let k = long_node v (end ∷ es) in
     out_next (document_start o) (node_events v (end ∷ es)) (enough (document_start o) (node_events v (end ∷ es)) (omega (arith, k))) (node_out v (end ∷ es) (out_alone end es refl out))
+
+-- what is held before three events or more
+held_out : (hs es : List Event) → 3 ≤ length es → AreOut es → AreOut (hs ++ es)
+held_out [] es long out = out
+held_out (h ∷ hs) es long out =
+    let all = length-append hs es in
+    out_next h (hs ++ es) (three_enough h (hs ++ es) (omega (arith, long, all))) (held_out hs es long out)
+
+-- the events of a dump, after what is held
+pub dumped_out : (hs : List Event) (d : documents.Document) → AreOut (hs ++ dumped d)
+unfolding dumped
+dumped_out hs d =
+    let said = graph_content d in
+    let end : List Event = document_end said.implicit_end ∷ [] in
+    let k = long_node said.root end in
+    held_out hs (document_start said.opening ∷ node_events said.root end) (omega (arith, k)) (document_out said.opening said.root said.implicit_end [] (λ more. refl))
 
 documents_out : (ds : List Document) → AreOut (documents_events ds)
 unfolding documents_events

@@ -5,14 +5,17 @@ use Rattle.yaml_emit_layout.specs.declared.Status.TheVariants.{Going}
 use Rattle.yaml_emit_layout.specs.declared.Cursor.{Cursor}
 use Rattle.yaml_emit_layout.specs.Layout.{stay}
 use Rattle.yaml_emit_layout.proofs.Sinks.{grows_none, grows_both}
-use Rattle.yaml_emit_layout.specs.Content.{Event, sequence_start, mapping_start}
-use Rattle.yaml_emit_layout.specs.State.{piece, next, problem_at, opens_empty}
+use Rattle.yaml_emit_layout.specs.declared.Settings.{Settings}
+use Rattle.yaml_emit_layout.specs.declared.level.NodePosition.{NodePosition}
+use Rattle.yaml_emit_layout.specs.Nodes.{Context, context_of, is_simple_start, is_flow}
+use Rattle.yaml_emit_layout.specs.Content.{Event, Start, sequence_start, mapping_start}
+use Rattle.yaml_emit_layout.specs.State.{State, piece, next, problem_at, opens_empty, text_at, depth_at, next_at, is_simple_event, position_of, top_of}
 use Rattle.yaml_emit_core.specs.Steps.{Core, state_of, settings_of, next_state, next_piece, LaysOut, IsPut, IsSame, takes_memory, is_document_start, goes_on}
 use Rattle.yaml_emit_core.proofs.Finishing.{finishes_on}
 use Rattle.yaml_emit_core.proofs.Noting.{notes_both, notes_within}
-use Rattle.yaml_emit_machine.specs.Held.{is_ready, passes}
+use Rattle.yaml_emit_machine.specs.Held.{is_ready, passes, asks_next}
 use Rattle.yaml_emit_machine.specs.Judged.{refused_at, take_memory, first_takes, first_starts, RefusesHeld}
-use Rattle.yaml_emit_machine.specs.Laying.{HasLaid, LaysEvents}
+use Rattle.yaml_emit_machine.specs.Laying.{HasLaid, LaysOn, LaysEvents}
 use Rattle.yaml_emit_machine.proofs.Opening.{opens_none}
 use Rattle.yaml_emit_machine.proofs.Holding.{ready_empty}
 use Rattle.yaml_emit_machine.proofs.Judging.{ready_more, going_open, goes_going, text_step, some_step, some_one, some_none, going_notes, noted_takes, drop_next, refusal_on, wrong_on, lays_first}
@@ -52,11 +55,9 @@ told _ z f es = refl
 
 -- ---- one after another
 
-pub lays_none : (a : Core) (h : List Event) → LaysEvents a h a h
-lays_none a h = record {
+pub on_none : (a : Core) (h : List Event) → LaysOn a h a h
+on_none a h = record {
   finishes = λ es whole f. f;
-  refuses = λ g es. refl;
-  lets_out = λ es whole f. f;
   first = λ g es. refl;
   lays = λ es whole f. f;
   grows = grows_none a.sink.bytes;
@@ -71,9 +72,16 @@ lays_none a h = record {
   blames = λ off on. absurd (false≢true (sym off ∙ on));
 }
 
+pub lays_none : (a : Core) (h : List Event) → LaysEvents a h a h
+lays_none a h = record {
+  on = on_none a h;
+  refuses = λ g es. refl;
+  lets_out = λ es whole f. f;
+}
+
 -- which of the events it was, and what is in the output then
 blamed : (a b c : Core) (h y : List Event) (e : Event) (empty : Bool)
-    → LaysEvents a h b (e ∷ y) → refused_at b.place ≡ None → b.sink.status ≡ Going
+    → LaysOn a h b (e ∷ y) → refused_at b.place ≡ None → b.sink.status ≡ Going
     → Settles b e empty y → takes_memory e ≡ true
     → (IsPut b.sink c.sink (next_piece (problem_at (settings_of b) (state_of b) e)
     (piece (settings_of b) (state_of b) e empty))
@@ -95,17 +103,14 @@ blamed a b c h y e empty p o g is takes (inr put) = record {
   );
 }
 
-lays_more : (a b c : Core) (h y : List Event) (e : Event) (empty : Bool)
-    → LaysEvents a h b (e ∷ y) → goes_on b.sink.status b.place ≡ true
-    → is_ready (e ∷ y) ≡ true
-    → Settles b e empty y → LaysOut b c e empty → LaysEvents a h c y
-lays_more a b c h y e empty p goes r is l =
+pub on_more : (a b c : Core) (h y : List Event) (e : Event) (empty : Bool)
+    → LaysOn a h b (e ∷ y) → goes_on b.sink.status b.place ≡ true
+    → Settles b e empty y → LaysOut b c e empty → LaysOn a h c y
+on_more a b c h y e empty p goes is l =
     let o : refused_at b.place ≡ None = going_open b.sink.status b.place goes in
     let laid : (es : List Event) → LaysOut b c e (opens_empty e (y ++ es)) = λ es. lays_either b c e empty (opens_empty e (y ++ es)) (is es) l in
     record {
       finishes = λ es whole f. finishes_on b c e (y ++ es) whole (laid es) (p.finishes es whole f);
-      refuses = λ g es. refusal_on b c e (y ++ es) empty o (ready_more e y es r) l g ∙ p.refuses (l.text.going g) es;
-      lets_out = λ es whole f. text_step b c e (y ++ es) whole o (ready_more e y es r) (laid es) (p.lets_out es whole f);
       first = λ g es. wrong_on b c e (y ++ es) empty o l g ∙ p.first (l.text.going g) es;
       lays = λ es whole f. lays_first b c e (y ++ es) whole o (laid es) (p.lays es whole f);
       grows = grows_both a.sink.bytes b.sink.bytes c.sink.bytes p.grows l.text.grows;
@@ -126,6 +131,19 @@ lays_more a b c h y e empty p goes r is l =
           blamed a b c h y e empty p o on_still is takes (l.blames.levels on_still off' on);
     }
 
+lays_more : (a b c : Core) (h y : List Event) (e : Event) (empty : Bool)
+    → LaysEvents a h b (e ∷ y) → goes_on b.sink.status b.place ≡ true
+    → is_ready (e ∷ y) ≡ true
+    → Settles b e empty y → LaysOut b c e empty → LaysEvents a h c y
+lays_more a b c h y e empty p goes r is l =
+    let o : refused_at b.place ≡ None = going_open b.sink.status b.place goes in
+    let laid : (es : List Event) → LaysOut b c e (opens_empty e (y ++ es)) = λ es. lays_either b c e empty (opens_empty e (y ++ es)) (is es) l in
+    record {
+      on = on_more a b c h y e empty p.on goes is l;
+      refuses = λ g es. refusal_on b c e (y ++ es) empty o (ready_more e y es r) l g ∙ p.refuses (l.text.going g) es;
+      lets_out = λ es whole f. text_step b c e (y ++ es) whole o (ready_more e y es r) (laid es) (p.lets_out es whole f);
+    }
+
 -- the oldest of those that are held, with an event after them
 pub lays_oldest : (a b c : Core) (h held new z : List Event) (e f : Event)
     → LaysEvents a h b (held ++ f ∷ []) → held ≡ e ∷ z → new ≡ z
@@ -142,10 +160,71 @@ lays_past a b c x [] e j g p l =
     lays_more a b c x [] e false j g p (settles_by b e false [] (λ es. sym (ready_empty e [] es p ∙ opens_none e))) l
 lays_past a b c x (f ∷ fs) e j g p l = absurd (cc)
 
+-- ---- laid out as they come
+
+-- the oldest of those that are held, with an event after them
+pub on_oldest : (a b c : Core) (h held new z : List Event) (e f : Event)
+    → LaysOn a h b (held ++ f ∷ []) → held ≡ e ∷ z → new ≡ z
+    → goes_on b.sink.status b.place ≡ true
+    → LaysOut b c e (opens_empty e (z ++ f ∷ [])) → LaysOn a h c (new ++ f ∷ [])
+on_oldest a b c h held new z e f p same n goes l =
+    rw n (on_more a b c h (z ++ f ∷ []) e _ (rw same at p) goes (settles_by b e _ (z ++ f ∷ []) (λ es. told e z f es)) l)
+
+simple_off : (p : Context) (q : Start) (v : Bool) → p.settings.canonical ≡ true
+    → is_simple_start p q v ≡ false
+unfolding is_simple_start
+simple_off p q v c = rw c refl
+
+flow_on : (s : Settings) (at : NodePosition) (q : Start) (v : Bool) → s.canonical ≡ true
+    → is_flow s at q v ≡ true
+flow_on s at q v c = rw c refl
+
+-- canonical form doesn't ask whether a collection is empty
+pub same_canonical : (s : Settings) (st : State) (e : Event) (v w : Bool) → s.canonical ≡ true
+    → IsSame s st e v w
+unfolding text_at depth_at next_at is_simple_event
+same_canonical s st (sequence_start q) v w c =
+    let p : Context = context_of s st.directives in
+    let a = simple_off p q v c in
+    let b = simple_off p q w c in
+    let m = flow_on s (position_of (top_of st.levels) false) q v c in
+    let n = flow_on s (position_of (top_of st.levels) false) q w c in
+    rw (a, b, m, n) (refl, λ d. refl)
+same_canonical s st (mapping_start q) v w c =
+    let p : Context = context_of s st.directives in
+    let a = simple_off p q v c in
+    let b = simple_off p q w c in
+    let m = flow_on s (position_of (top_of st.levels) false) q v c in
+    let n = flow_on s (position_of (top_of st.levels) false) q w c in
+    rw (a, b, m, n) (refl, λ d. refl)
+same_canonical s st _ v w c = (refl, λ d. refl)
+
+asked : (canonical : Bool) (e : Event) (es : List Event) → canonical ≡ false
+    → asks_next canonical e ≡ false → false ≡ opens_empty e es
+unfolding opens_empty
+asked true e es c h = absurd (cc)
+asked false (sequence_start q) es c h = absurd (cc)
+asked false (mapping_start q) es c h = absurd (cc)
+asked false _ es c h = refl
+
+-- what needn't wait for the next event is laid out the same whatever that is
+settles_alone : (canonical : Bool) (b : Core) (e : Event) → canonical ≡ b.settings.canonical
+    → asks_next canonical e ≡ false → Settles b e false []
+settles_alone true b e c h = λ es. same_canonical (settings_of b) (state_of b) e false (opens_empty e es) (sym c)
+settles_alone false b e c h = settles_by b e false [] (λ es. asked false e es refl h)
+
+-- an event that needn't wait
+pub on_alone : (canonical : Bool) (a b c : Core) (x h : List Event) (e : Event)
+    → LaysOn a x b (h ++ e ∷ []) → h ≡ [] → goes_on b.sink.status b.place ≡ true
+    → canonical ≡ b.settings.canonical → asks_next canonical e ≡ false
+    → LaysOut b c e false → LaysOn a x c []
+on_alone canonical a b c x h e j none goes is off l =
+    on_more a b c x [] e false (rw none at j) goes (settles_alone canonical b e is off) l
+
 -- ---- memory
 
 -- while the output goes on, none was refused outside it
 pub lays_unnoted : (old new : Core) (before after : List Event)
-    → LaysEvents old before new after → (old.sink.status ≡ Going → old.starved ≡ false) → new.sink.status ≡ Going
+    → LaysOn old before new after → (old.sink.status ≡ Going → old.starved ≡ false) → new.sink.status ≡ Going
     → new.starved ≡ false
 lays_unnoted old new before after j n g = j.memory (going_notes _ old.sink.status new.sink.status g) ∙ n (j.going g)

@@ -1,14 +1,14 @@
 -- What is held, and when it is laid out: the last events that were given.
-use Rattle.std.proofs.Common.{◌≡◌, List, [], ◌∷◌, ◌++◌, length, true, false, refl, sym, ◌∙◌, ap, arith, append_assoc}
+use Rattle.std.proofs.Common.{◌≡◌, List, [], ◌∷◌, ◌++◌, length, Bool, true, false, refl, sym, ◌∙◌, ap, arith, append_assoc}
 use Rattle.std.specs.Prelude.{◌||◌, ◌≤◌, map}
-use Rattle.std.proofs.lemmas.Bool.{le-leb}
+use Rattle.std.proofs.lemmas.Bool.{le-leb, false≢true}
 use Rattle.yaml_emit_layout.specs.Content.{Event, no_event, sequence_start, mapping_start, emitter_event}
 use Rattle.yaml_emit_layout.specs.State.{opens_empty}
 use Rattle.yaml_parse_model.specs.Events.{EventBody, body_of}
 use Rattle.yaml_emit_machine.specs.declared.held.Held.{Held}
 use Rattle.yaml_emit_machine.specs.declared.held.Count.{Count}
 use Rattle.yaml_emit_machine.specs.declared.held.Count.TheVariants.{Nothing}
-use Rattle.yaml_emit_machine.specs.Held.{is_ready, needs, closes, ends_level, releases, passes, are_some, back, all_held, later_bodies, held_events, oldest_event, later_events, AreLast}
+use Rattle.yaml_emit_machine.specs.Held.{is_ready, needs, closes, ends_level, releases, passes, asks_next, are_some, back, all_held, later_bodies, held_events, oldest_event, later_events, AreLast}
 use Rattle.std.proofs.lemmas.List.{append-nil}
 
 -- Whether an event opens an empty collection is told by what has come, once it is ready: what follows changes nothing.
@@ -76,6 +76,19 @@ none_waits = refl
 
 pub none_ready : (xs : List Event) → xs ≡ [] → is_ready xs ≡ false
 none_ready xs h = ap is_ready h ∙ none_waits
+
+-- one that is to wait for the next one isn't ready
+pub asked_waits : (canonical : Bool) (e : Event) → asks_next canonical e ≡ true
+    → is_ready (e ∷ []) ≡ false
+unfolding is_ready
+asked_waits true e h = absurd (false≢true h)
+asked_waits false (sequence_start q) h = refl
+asked_waits false (mapping_start q) h = refl
+asked_waits false _ h = absurd (cc)
+
+pub asks_waits : (canonical : Bool) (held : List Event) (e : Event) → held ≡ []
+    → asks_next canonical e ≡ true → is_ready (held ++ e ∷ []) ≡ false
+asks_waits canonical held e none h = rw none (asked_waits canonical e h)
 
 -- one that passes leaves none
 pub passed_waits : (xs : List Event) (f : Event) → passes xs f ≡ true → is_ready xs ≡ false

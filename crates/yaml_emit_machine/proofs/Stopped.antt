@@ -18,7 +18,7 @@ use Rattle.yaml_emit_core.specs.Finish.{Finishes}
 use Rattle.yaml_emit_core.proofs.Noting.{all_there, nothing_blank, noted}
 use Rattle.yaml_emit_machine.specs.Held.{is_ready}
 use Rattle.yaml_emit_machine.specs.Judged.{refused_at, let_out, refusal_behind, first_wrong, LetsOut, LaysAll, LaysSome, take_memory, first_takes}
-use Rattle.yaml_emit_machine.specs.Laying.{LaysEvents}
+use Rattle.yaml_emit_machine.specs.Laying.{LaysOn, LaysEvents}
 use Rattle.yaml_emit_machine.specs.Emitter.{write_error, too_deep, problem_fault, memory_origin, refusal_by}
 use Rattle.yaml_emit_machine.proofs.Emitting.{stopped_at}
 use Rattle.yaml_emit_machine.proofs.Holding.{none_needed}
@@ -59,17 +59,15 @@ few_laid n h held e r =
     omega (arith, a, b)
 
 -- an event was refused, or the output has stopped
-pub lays_stuck : (a b : Core) (h held : List Event) (e : Event) → LaysEvents a h b (held ++ e ∷ [])
-    → goes_on b.sink.status b.place ≡ false → LaysEvents a h b []
-unfolding Finishes refusal_behind first_wrong LetsOut LaysAll
-lays_stuck a b h held e p off =
+pub on_stuck : (a b : Core) (h held : List Event) (e : Event) → LaysOn a h b (held ++ e ∷ [])
+    → goes_on b.sink.status b.place ≡ false → LaysOn a h b []
+unfolding Finishes
+on_stuck a b h held e p off =
     let k = stop_by b.sink.status b.starved b.place off in
     let x = held ++ e ∷ [] in
     let few = few_laid p.laid h held e p.rest in
     record {
       finishes = λ es whole f. stopped_at b.sink.status (settings_of b) (state_of b) b.sink b.starved k.0 (x ++ es) es whole k.1 (p.finishes es whole f);
-      refuses = λ g es. stuck_first b k.0 (let_out es) (let_out (x ++ es)) k.1 g ∙ p.refuses g es;
-      lets_out = λ es whole f. stuck_all b k.0 (let_out (x ++ es)) (let_out es) whole k.1 (p.lets_out es whole f);
       first = λ g es. stuck_first b k.0 es (x ++ es) k.1 g ∙ p.first g es;
       lays = λ es whole f. stuck_all b k.0 (x ++ es) es whole k.1 (p.lays es whole f);
       grows = p.grows;
@@ -82,6 +80,18 @@ lays_stuck a b h held e p off =
       rest = drop_all (length h) h (omega arith);
       some = λ g m n is es whole f. stuck_some b k.0 ((length h - p.laid) + n) n (x ++ es) es whole k.1 g (p.some g m ((length h - p.laid) + n) (omega (arith, is, few)) es whole f);
       blames = p.blames;
+    }
+
+pub lays_stuck : (a b : Core) (h held : List Event) (e : Event) → LaysEvents a h b (held ++ e ∷ [])
+    → goes_on b.sink.status b.place ≡ false → LaysEvents a h b []
+unfolding refusal_behind first_wrong LetsOut LaysAll
+lays_stuck a b h held e p off =
+    let k = stop_by b.sink.status b.starved b.place off in
+    let x = held ++ e ∷ [] in
+    record {
+      on = on_stuck a b h held e p.on off;
+      refuses = λ g es. stuck_first b k.0 (let_out es) (let_out (x ++ es)) k.1 g ∙ p.refuses g es;
+      lets_out = λ es whole f. stuck_all b k.0 (let_out (x ++ es)) (let_out es) whole k.1 (p.lets_out es whole f);
     }
 
 -- ---- memory was refused for an event that has to be held
@@ -109,19 +119,16 @@ not_false : (b c : Bool) → (b ≡ false → c ≡ false) → c ≡ true → b 
 not_false true c f h = refl
 not_false false c f h = absurd (false≢true (sym (f refl) ∙ h))
 
-pub lays_starved : (a b c : Core) (h held : List Event) (e : Event)
-    → LaysEvents a h b (held ++ e ∷ []) → goes_on b.sink.status b.place ≡ true
-    → is_ready (held ++ e ∷ []) ≡ false → Starves b c → LaysEvents a h c []
-unfolding LetsOut LaysAll
-lays_starved a b c h held e p on waits s =
+pub on_starved : (a b c : Core) (h held : List Event) (e : Event)
+    → LaysOn a h b (held ++ e ∷ []) → goes_on b.sink.status b.place ≡ true
+    → is_ready (held ++ e ∷ []) ≡ false → Starves b c → LaysOn a h c []
+on_starved a b c h held e p on waits s =
     let x = held ++ e ∷ [] in
     let open_still = going_open b.sink.status b.place on in
     let going = goes_going b.sink.status b.place on in
     let takes = waits_takes held e waits in
     record {
       finishes = λ es whole f. starved_finishes b c (x ++ es) es whole s (p.finishes es whole f);
-      refuses = λ g es. absurd (s.stopped g);
-      lets_out = λ es whole f. starved_all b c (let_out (x ++ es)) (let_out es) whole s (p.lets_out es whole f);
       first = λ g es. absurd (s.stopped g);
       lays = λ es whole f. starved_all b c (x ++ es) es whole s (p.lays es whole f);
       grows = grows_both a.sink.bytes b.sink.bytes c.sink.bytes p.grows (s.text stay).grows;
@@ -138,4 +145,16 @@ lays_starved a b c h held e p on waits s =
         takes = ap first_takes p.rest ∙ takes.0;
         stands = inr (inr (ap is_ready p.rest ∙ waits), λ es whole f. rw (← p.encoding) (all_there b.sink c.sink [] whole going s.text (nothing_blank b.sink.encoding) (some_none (settings_of b) (state_of b) b.sink (x ++ es) whole open_still (p.some going p.laid zero (omega arith) es whole f))));
       };
+    }
+
+pub lays_starved : (a b c : Core) (h held : List Event) (e : Event)
+    → LaysEvents a h b (held ++ e ∷ []) → goes_on b.sink.status b.place ≡ true
+    → is_ready (held ++ e ∷ []) ≡ false → Starves b c → LaysEvents a h c []
+unfolding LetsOut LaysAll
+lays_starved a b c h held e p on waits s =
+    let x = held ++ e ∷ [] in
+    record {
+      on = on_starved a b c h held e p.on on waits s;
+      refuses = λ g es. absurd (s.stopped g);
+      lets_out = λ es whole f. starved_all b c (let_out (x ++ es)) (let_out es) whole s (p.lets_out es whole f);
     }

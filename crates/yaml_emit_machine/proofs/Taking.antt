@@ -29,7 +29,7 @@ use Rattle.yaml_emit_machine.specs.Laying.{LaysEvents}
 use Rattle.yaml_emit_machine.specs.Emitter.{Emitter, fault_by, refusal_by, stream_encoding, Completes}
 use Rattle.yaml_emit_machine.specs.Views.{emitter_of, IsEmitter}
 use Rattle.yaml_emit_machine.specs.Verdict.{verdict, Writes, wrong, Lays, LaysFirst, TellsOutcome}
-use Rattle.yaml_emit_machine.specs.Taking.{TakesEvents, Stuck, NotesMemory, NotesMemoryOf, ComesIntoForce}
+use Rattle.yaml_emit_machine.specs.Taking.{TakesEvents, TakesSoon, Stuck, NotesMemory, NotesMemoryOf, ComesIntoForce}
 use Rattle.yaml_emit_machine.proofs.Emitting.{left, inside_begun, stopped_at, begin_finishes}
 use Rattle.yaml_emit_machine.proofs.Judging.{or_some, unless_some}
 
@@ -109,15 +109,15 @@ pub inside_takes : (i : Inside) (core : Core) (held : Held) (fault : Option Faul
 unfolding Completes verdict Writes wrong Lays
 inside_takes i core held fault e fr on l =
     rw fr (record {
-      completes = λ x es whole c. (l.encoding ∙ c.0, l.finishes es whole (rw append_assoc c.1));
+      completes = λ x es whole c. (l.on.encoding ∙ c.0, l.on.finishes es whole (rw append_assoc c.1));
       refuses = λ g es. l.refuses g es ∙ ap (refusal_behind (settings_of i.core) (state_of i.core)) (append_assoc (held_events i.held) (e ∷ []) es);
-      writes = λ x es whole c. (l.encoding ∙ c.0, l.lets_out es whole (rw append_assoc c.1));
-      first = λ g es. l.first g es ∙ ap (first_wrong (settings_of i.core) (state_of i.core)) (append_assoc (held_events i.held) (e ∷ []) es);
-      lays = λ x es whole c. (l.encoding ∙ c.0, l.lays es whole (rw append_assoc c.1));
-      grows = l.grows;
+      writes = λ x es whole c. (l.on.encoding ∙ c.0, l.lets_out es whole (rw append_assoc c.1));
+      first = λ g es. l.on.first g es ∙ ap (first_wrong (settings_of i.core) (state_of i.core)) (append_assoc (held_events i.held) (e ∷ []) es);
+      lays = λ x es whole c. (l.on.encoding ∙ c.0, l.on.lays es whole (rw append_assoc c.1));
+      grows = l.on.grows;
       going = λ _. on;
       requested_settings = refl;
-      limit = l.limit;
+      limit = l.on.limit;
       begun = λ f. absurd (false≢true f);
     })
 
@@ -228,6 +228,27 @@ inside_stuck i inv f is =
       limit = refl;
       begun = λ t. absurd (false≢true t);
     })
+
+-- the same of an event that is laid out as it comes
+pub inside_still : (i : Inside) → IsEmitter i → (f : Fault) → option_map fault_of i.fault ≡ Some f
+    → (e : Event) → TakesSoon (emitter_of i) e (emitter_of i)
+inside_still i inv f is e =
+    let t = inside_stuck i inv f is (e ∷ []) [] in
+    record {
+      completes = t.completes;
+      first = t.first;
+      lays = t.lays;
+      grows = t.grows;
+      going = t.going;
+      requested_settings = t.requested_settings;
+      limit = t.limit;
+      memory = λ _. refl;
+      blames = λ off on. absurd (false≢true (sym off ∙ on));
+      opened = (refl, refl);
+      begun = inside_begun i inv f is;
+      waits = λ none. let k = sym none ∙ is in absurd (cc);
+      stopped = λ none. let k = sym none ∙ is in absurd (cc);
+    }
 
 -- ---- that the stream was opened or closed is noted
 

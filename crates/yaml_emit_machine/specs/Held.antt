@@ -1,8 +1,9 @@
 -- The events that are held.
-use Rattle.std.specs.Prelude.{◌≡◌, ℕ, Bool, true, false, not, ◌&&◌, ◌||◌, nat_le, List, [], ◌∷◌, ◌++◌, length, map, All}
+use Rattle.std.specs.Prelude.{◌≡◌, ◌⊎◌, ℕ, Bool, true, false, not, ◌&&◌, ◌||◌, nat_le, List, [], ◌∷◌, ◌++◌, length, map, All}
 use Rattle.yaml_parse_model.specs.Events.{EventBody, body_of}
 use Rattle.yaml_parse_model.specs.Constructors.{HasUtf8}
 use Rattle.yaml_emit_layout.specs.Content.{Event, no_event, stream_start, stream_end, document_start, document_end, alias, scalar, sequence_start, sequence_end, mapping_start, mapping_end, emitter_event}
+use Rattle.yaml_emit_core.specs.Steps.{opens}
 use Rattle.yaml_emit_machine.specs.declared.held.Held.{Held}
 use Rattle.yaml_emit_machine.specs.declared.held.Count.{Count}
 use Rattle.yaml_emit_machine.specs.declared.held.Count.TheVariants.{Nothing, One, Two, Three}
@@ -103,3 +104,11 @@ AreLast all last = (front : List Event) × (all ≡ front ++ last)
 abbrev pub releases : List Event → Event → Bool
 releases [] e = false
 releases (f ∷ fs) e = is_ready (f ∷ fs ++ e ∷ [])
+
+-- an event is to wait for the next one: it opens a collection, and the form, which isn't canonical, asks whether that is empty
+abbrev pub asks_next : Bool → Event → Bool
+asks_next canonical e = not canonical && opens e
+
+-- where events are laid out as they come, nothing is held, or the last event alone, which is to wait for the next one
+abbrev pub IsWaiting : Bool → Event → List Event → Type 0
+IsWaiting canonical e held = (held ≡ []) ⊎ ((held ≡ e ∷ []) × (asks_next canonical e ≡ true))

@@ -1,12 +1,12 @@
 -- What becomes of the events that an emitter is given.
-use Rattle.std.specs.Prelude.{◌≡◌, ℕ, ◌≤◌, Bool, true, false, List, [], ◌∷◌, ◌++◌, length, None}
+use Rattle.std.specs.Prelude.{◌≡◌, ◌≢◌, ℕ, ◌≤◌, Bool, true, false, List, [], ◌∷◌, ◌++◌, length, None}
 use Rattle.yaml_emit_layout.specs.declared.Encoding.{Encoding}
 use Rattle.yaml_emit_layout.specs.declared.Status.TheVariants.{Going}
 use Rattle.yaml_emit_layout.specs.Text.{Item, encode}
 use Rattle.yaml_emit_layout.specs.Sink.{Grows}
 use Rattle.yaml_emit_layout.specs.Content.{Event}
 use Rattle.yaml_emit_core.specs.Steps.{may_note}
-use Rattle.yaml_emit_machine.specs.Held.{AreLast}
+use Rattle.yaml_emit_machine.specs.Held.{AreLast, IsWaiting}
 use Rattle.yaml_emit_machine.specs.Judged.{take_memory, RefusesHeld}
 use Rattle.yaml_emit_machine.specs.Emitter.{Emitter, Completes, Keeps}
 use Rattle.yaml_emit_machine.specs.Verdict.{verdict, Writes, wrong, Lays, LaysFirst}
@@ -69,6 +69,28 @@ pub record TakesOne (old : Emitter) (e : Event) (new : Emitter) : Type 0 where
   pub begun : new.fresh ≡ false
   -- what is held are the last that were given
   pub last : AreLast (old.held ++ e ∷ []) new.held
+
+-- An event was taken, and laid out unless it has to wait for the next one, and so was what was held before. Whatever follows, they
+-- count: the whole text is the same, the same event is the first that is wrong, unless the output has stopped, and the same is written
+-- of all. What stood in the output is there still.
+pub record TakesSoon (old : Emitter) (e : Event) (new : Emitter) : Type 0 where
+  pub completes : (x : Encoding) (more : List Event) (whole : List Item)
+      → Completes old x (e ∷ more) whole → Completes new x more whole
+  pub first : new.status ≡ Going → (more : List Event) → wrong new more ≡ wrong old (e ∷ more)
+  pub lays : (x : Encoding) (more : List Event) (whole : List Item)
+      → Lays old x (e ∷ more) whole → Lays new x more whole
+  pub grows : Grows old.output new.output
+  pub going : new.status ≡ Going → old.status ≡ Going
+  pub requested_settings : new.requested_settings ≡ old.requested_settings
+  pub limit : new.limit ≡ old.limit
+  pub memory : NotesMemoryOf e old new
+  pub blames : BlamesLevels e old new
+  pub opened : Keeps old new
+  pub begun : new.fresh ≡ false
+  -- in canonical form nothing is held, and else at most the start of a collection, until the next event
+  pub waits : old.fault ≡ None → IsWaiting old.requested_settings.canonical e new.held
+  -- nor is anything once a fault has come
+  pub stopped : old.fault ≡ None → new.fault ≢ None → new.held ≡ []
 
 -- The settings came into force before the first event, which is still to come.
 pub record ComesIntoForce (old : Emitter) (e : Event) (new : Emitter) : Type 0 where

@@ -9,14 +9,14 @@ ghost use Rattle.yaml_emit_machine.specs.Emitter.{stream_encoding, IsNew, IsLimi
 ghost use Rattle.yaml_emit_machine.specs.Held.{AreLast};
 ghost use Rattle.yaml_emit_machine.specs.Within.{IsWithin};
 ghost use Rattle.yaml_emit_machine.specs.Verdict.{TellsOutcome};
-ghost use Rattle.yaml_emit_machine.specs.Taking.{TakesEvents, TakesOne, Stuck, NotesMemoryOf, BlamesLevels, ComesIntoForce};
+ghost use Rattle.yaml_emit_machine.specs.Taking.{TakesEvents, TakesOne, TakesSoon, Stuck, NotesMemoryOf, BlamesLevels, ComesIntoForce};
 
 mod dump;
 mod resume;
 
 use crate::fault::note;
 use crate::held::Held;
-use crate::release::hold_or_lay;
+use crate::release::{hold_or_lay, lay_soon};
 pub use dump::dump_document;
 pub use resume::{directives, outer, resumed, stand};
 use std::alloc::Global;
@@ -225,6 +225,37 @@ impl yaml_emitter_t {
             self.lay(event);
         }
     }
+
+    // An event is given, and what is held is laid out, and it too unless it has to wait for the next one.
+    fn lay_soon(&mut self, event: &EventRef)
+        requires utf8 { HasUtf8 (borrowed_body event.now) }
+        requires right { self.old.fault ≡ None }
+        requires begun { self.old.fresh ≡ false }
+        ensures { TakesSoon self.old (emitter_event (borrowed_body event.now)) self.new }
+    {
+        lay_soon(
+            self.alloc,
+            self.requested_settings.canonical,
+            &mut self.core,
+            &mut self.held,
+            event,
+        );
+        note(&self.core, &mut self.fault);
+    }
+
+    // An emitter without a fault takes an event so.
+    fn begin_or_lay_soon(&mut self, event: &EventRef)
+        requires utf8 { HasUtf8 (borrowed_body event.now) }
+        requires right { self.old.fault ≡ None }
+        ensures { TakesSoon self.old (emitter_event (borrowed_body event.now)) self.new }
+    {
+        if self.fresh {
+            self.begin(event);
+            self.lay_soon(event);
+        } else {
+            self.lay_soon(event);
+        }
+    }
 }
 
 /// The first fault, if there is one, as a call answers it.
@@ -267,5 +298,19 @@ pub fn take_event(emitter: &mut yaml_emitter_t, event: &EventRef)
     match emitter.fault {
         Some(_) => (),
         None => emitter.begin_or_lay(event),
+    }
+}
+
+/// Takes an event, unless a fault has come. It is laid out, and so is what is held, unless it has to wait for the next one.
+// Out of line: the whole work on an event stands once, not in each of its callers.
+#[inline(never)]
+pub fn take_soon(emitter: &mut yaml_emitter_t, event: &EventRef)
+    requires { HasUtf8 (borrowed_body event.now) }
+    ensures takes { TakesSoon emitter.old (emitter_event (borrowed_body event.now)) emitter.new }
+    ensures stays { Stays emitter.old emitter.new }
+{
+    match emitter.fault {
+        Some(_) => (),
+        None => emitter.begin_or_lay_soon(event),
     }
 }

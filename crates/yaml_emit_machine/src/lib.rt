@@ -11,7 +11,7 @@ mod release;
 pub use emitter::{
     answer, directives, dump_document, first_fault, into_output, is_closed, is_fresh, is_opened,
     let_go, new_emitter, outer, output, requested_settings, resumed, set_closed, set_opened,
-    set_requested_settings, stand, take_event, yaml_emitter_t,
+    set_requested_settings, stand, take_event, take_soon, yaml_emitter_t,
 };
 pub use law::{streams_are_laid, streams_pass};
 pub use name::yaml_emitter_state_t;

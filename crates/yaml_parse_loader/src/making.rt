@@ -65,19 +65,15 @@ fn tag_or_default(
     }
 }
 
-// From now on a node is what its anchor names.
+// From now on a node is what a name names.
 fn register(
     alloc: Global,
     anchors: &mut AnchorTable,
-    anchor: Option<&[u8]>,
+    name: &[u8],
     number: i32,
 ) -> Result<(), yaml_text_fault_t>
-    ensures { OnOk result (anchors.new ≡ named (option_map (λ t. t.now) anchor.entry) number
-        anchors.old) }
+    ensures { OnOk result (anchors.new ≡ finite.insert anchors.old name.now number) }
 {
-    let Some(name) = anchor else {
-        return Ok(());
-    };
     let Ok(name) = Vec::from_slice(alloc, name) else {
         return Err(yaml_text_fault_t::Memory);
     };
@@ -220,6 +216,8 @@ impl Making {
     }
 
     // One node more: its anchor is noted, and the collection around it gets its number.
+    // Inlined: the node is built where it is to stand.
+    #[inline(always)]
     fn add(&mut self, anchor: Option<&[u8]>, node: yaml_node_t) -> Result<(), yaml_text_fault_t>
         ensures { OnOk result ((loading_of self.new ≡ enter_leaf (loading_of self.old)
             (option_map (λ t. t.now) anchor.entry) (node_of node))
@@ -227,11 +225,16 @@ impl Making {
     {
         push_entry(&mut self.parts.nodes, node)?;
         let number = self.parts.nodes.len() as i32;
-        register(self.parts.alloc, &mut self.anchors, anchor, number)?;
-        attach(&mut self.levels, number)
+        attach(&mut self.levels, number)?;
+        match anchor {
+            None => Ok(()),
+            Some(name) => register(self.parts.alloc, &mut self.anchors, name, number),
+        }
     }
 
     // One node more, which is open.
+    // Inlined: as the node.
+    #[inline(always)]
     fn open(
         &mut self,
         anchor: Option<&[u8]>,

@@ -1,6 +1,5 @@
 -- What nodes come to: the event that is given, or the fault that is told.
 use Rattle.std.proofs.Common.{◌≡◌, ◌⊎◌, inl, inr, ℕ, ◌≤◌, Bool, true, false, List, [], ◌∷◌, ◌++◌, reverse, length, Option, Some, None, refl, sym, ap, subst, ◌∙◌, arith}
-use Rattle.std.proofs.lemmas.Bool.{false≢true}
 use Rattle.yaml_parse_model.specs.declared.yaml_mark_t.{yaml_mark_t}
 use Rattle.yaml_parse_model.specs.declared.yaml_origin_t.TheVariants.{Parser as ParserLayer}
 use Rattle.yaml_parse_model.specs.Tokens.{Token}
@@ -8,11 +7,11 @@ use Rattle.yaml_parse_model.specs.Faults.{Fault, memory_fault}
 use Rattle.yaml_parse_model.specs.Source.{front_of, rest_of, MayAnswer}
 use Rattle.yaml_parse_model.specs.Events.{Event, EventBody}
 use Rattle.yaml_parse_grammar.specs.declared.name.Wants.{Wants}
-use Rattle.yaml_parse_grammar.specs.declared.name.Wants.TheVariants.{Flow, Block}
+use Rattle.yaml_parse_grammar.specs.declared.name.Wants.TheVariants.{Block}
 use Rattle.yaml_parse_grammar.specs.declared.name.Site.TheVariants.{IndentlessEntry}
 use Rattle.yaml_parse_grammar.specs.declared.name.Side.{Side}
 use Rattle.yaml_parse_grammar.specs.declared.problem.ParseProblem.{ParseProblem}
-use Rattle.yaml_parse_grammar.specs.Items.{RawEvent, Properties, Shape, node_at, properties_alone}
+use Rattle.yaml_parse_grammar.specs.Items.{Properties, Shape, node_at}
 use Rattle.yaml_parse_grammar.specs.Items as item
 use Rattle.yaml_parse_grammar.specs.States as grammar
 use Rattle.yaml_parse_grammar.specs.Machine.{content_taken, starts_content, taken}
@@ -258,13 +257,6 @@ empty_found g k w q r old mid new shown j h a n same is kept event =
 
 -- ---- kinds that begin no content
 
-pub no_flow_content : (k : Kind) → (k ≡ kind.Scalar → ⊥) → (k ≡ kind.FlowSequenceStart → ⊥)
-    → (k ≡ kind.FlowMappingStart → ⊥) → starts_content Flow (type_by k) ≡ false
-no_flow_content kind.Scalar a b c = absurd (a refl)
-no_flow_content kind.FlowSequenceStart a b c = absurd (b refl)
-no_flow_content kind.FlowMappingStart a b c = absurd (c refl)
-no_flow_content k a b c = refl
-
 pub block_starts : (k : Kind) (r : Turn) (x : State) → (k ≡ kind.BlockSequenceStart)
     ⊎ (k ≡ kind.BlockMappingStart)
     → (r ≡ turn.FlowNode → ⊥) → starts_content (wants_by r x) (type_by k) ≡ true
@@ -273,22 +265,6 @@ block_starts k turn.IndentlessNode x (inl e) n = ap (λ z. starts_content (Block
 block_starts k turn.IndentlessNode x (inr e) n = ap (λ z. starts_content (Block (Some (side_of x))) (type_by z)) e
 block_starts k r x (inl e) n = ap (λ z. starts_content (Block None) (type_by z)) e
 block_starts k r x (inr e) n = ap (λ z. starts_content (Block None) (type_by z)) e
-
-pub no_loose_content : (r : Turn) (x : State) → (r ≡ turn.IndentlessNode → ⊥)
-    → starts_content (wants_by r x) (type_by kind.BlockEntry) ≡ false
-no_loose_content turn.IndentlessNode x n = absurd (n refl)
-no_loose_content r x n = refl
-
-pub no_content : (k : Kind) (w : Wants) → starts_content Flow (type_by k) ≡ false
-    → (k ≡ kind.BlockSequenceStart → ⊥) → (k ≡ kind.BlockMappingStart → ⊥) → (k ≡ kind.BlockEntry → ⊥)
-    → starts_content w (type_by k) ≡ false
-no_content kind.BlockSequenceStart w f a b c = absurd (a refl)
-no_content kind.BlockMappingStart w f a b c = absurd (b refl)
-no_content kind.BlockEntry w f a b c = absurd (c refl)
-no_content kind.Scalar w f a b c = absurd (false≢true (sym f))
-no_content kind.FlowSequenceStart w f a b c = absurd (false≢true (sym f))
-no_content kind.FlowMappingStart w f a b c = absurd (false≢true (sym f))
-no_content k w f a b c = refl
 
 -- ---- a node that has to come, at the token that is looked at
 

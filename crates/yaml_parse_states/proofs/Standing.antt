@@ -80,9 +80,6 @@ awaiting_stands turn.FlowNode p i h = h
 awaiting_stands turn.Refused p i h = tt
 awaiting_stands turn.End p i h = tt
 
-pub refused_stands : {T P : Type 0} (r : Turn) (p : Parser T P) → r ≡ turn.Refused → StandsAfter r p
-refused_stands r p e = subst (λ z. StandsAfter z p) (sym e) tt
-
 -- a node's event was given, with nothing opened
 pub node_stood : {T P : Type 0} (r : Turn) (old new : Parser T P) → r ≡ turn.Given
     → StandsBehind old → new.state ≡ old.state → new.levels ≡ old.levels

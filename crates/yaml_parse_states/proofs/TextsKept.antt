@@ -156,13 +156,6 @@ in_kept : (x : State) (kept new : Type 0) → (kept → new) → IsUtf8In x kept
 in_kept state.End kept new f h = tt
 in_kept x kept new f h = f h
 
--- What a parser holds stays UTF-8 as marks are made.
-pub stays_held : {T P : Type 0} (g : Ghosts T P) (mid new : Parser T P) → Stays g mid new
-    → IsUtf8Held g mid → IsUtf8Held g new
-stays_held g mid new s h =
-    subst (λ (p : Parser _ _). IsUtf8In p.state (IsUtf8Kept g new)) (sym s.same)
-    (in_kept mid.state (IsUtf8Kept g mid) (IsUtf8Kept g new) (stays_kept g mid new s) h)
-
 pub told_utf8 : {T P : Type 0} (g : Ghosts T P) (e : Event) (mid new : Parser T P)
     → IsUtf8Given g mid → Stays g mid new → e ≡ event_in g mid → IsUtf8Told g e new
 told_utf8 g e mid new h s is = record {

@@ -201,6 +201,8 @@ impl<T: Tokens> Parser<T> {
     }
 
     /// The event that was given last.
+    // In line: by memory it takes a tenth of `events` on short words.
+    #[inline(always)]
     pub fn event(&self) -> EventRef<'_>
         ensures { borrowed_body result ≡ body_in self.now.event self.now.anchor.items
             self.now.tag.items (T.texts self.now.tokens) (directives_of self.now.directives) }

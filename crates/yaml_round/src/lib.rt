@@ -27,7 +27,8 @@ pub use yaml_round_device::{
     yaml_std_input_t, yaml_std_output_t, yaml_write_all,
 };
 pub use yaml_round_differences::{
-    yaml_document_difference_t, yaml_node_cause_t, yaml_node_difference_t,
+    yaml_document_difference_t, yaml_document_get_node, yaml_document_t, yaml_node_body_t,
+    yaml_node_cause_t, yaml_node_difference_t, yaml_node_t,
 };
 pub use yaml_round_keys::yaml_same_key_t;
 pub use yaml_round_writing::{yaml_adapter_t, yaml_side_t};

@@ -1,5 +1,5 @@
 -- What was collected is handed out, and C is told of it.
-use Rattle.std.proofs.Common.{◌≡◌, ◌∙◌, ◌⊎◌, inl, inr, ap, refl, sym, subst, ℕ, ℤ, Bool, true, false, List, [], ◌∷◌, ◌++◌, Some, Result, Ok, Err}
+use Rattle.std.proofs.Common.{◌≡◌, ◌∙◌, ◌⊎◌, inl, inr, ap, refl, sym, subst, ℕ, ℤ, pos, Bool, true, false, List, [], ◌∷◌, ◌++◌, Some, Result, Ok, Err}
 use Rattle.std.proofs.lemmas.Bool.{false≢true}
 use Rattle.std.proofs.lemmas.List.{append-nil}
 use Rattle.yaml_parse.specs.declared.yaml_encoding_t.{yaml_encoding_t}
@@ -14,7 +14,8 @@ use Rattle.yaml_parse.specs.declared.yaml_error_type_t.TheVariants as error
 use Rattle.yaml_parse.specs.Remaining.{ParserRemaining}
 use Rattle.yaml_round.specs.Answers.{IsFaulty}
 use Rattle.yaml_round.specs.Input.{ReadsInput, events_of, ending_of}
-use Rattle.yaml_round.proofs.Plain.{faulty}
+use Rattle.yaml_round.proofs.Plain.{faulty, has_events}
+use Rattle.yaml_round.specs.round_content.Reading.{HasEvents}
 use Rattle.yaml_round_records.specs.declared.Listing.{Listing}
 use Rattle.yaml_round_records.specs.declared.yaml_c_directive.{yaml_c_directive}
 use Rattle.yaml_round_answers.specs.declared.parsing.yaml_c_parsed.{yaml_c_parsed}
@@ -22,10 +23,10 @@ use Rattle.yaml_round_records.specs.Records.{all_directives}
 use Rattle.yaml_round_records.specs.Blocks.{listed_directives}
 use Rattle.yaml_round_records.specs.Listing.{Collected, Collects, AreSaid, HoldsAll, events_alone}
 use Rattle.yaml_round_answers.specs.declared.answer.yaml_c_answer.{yaml_c_answer}
-use Rattle.yaml_round_answers.specs.Told.{TellsFaultIn, TellsMemory, TellsWant, RefusesIn}
+use Rattle.yaml_round_answers.specs.Told.{TellsText, TellsFaultIn, TellsMemory, TellsWant, RefusesIn}
 use Rattle.yaml_round_records.specs.Numbers.{error_number}
 use Rattle.yaml_round_answers.specs.Spelled.{spelled_text, is_memory, is_starved}
-use Rattle.yaml_round_answers.specs.Parses.{HasNothing, HandsOut, HandsOutUnless, SayEvents, SayFront, IsParsed, IsFront, EndsFront, TellsEvents, Parses, Fronts}
+use Rattle.yaml_round_answers.specs.Parses.{HasNothing, HandsOut, HandsOutUnless, SayEvents, SayFront, IsParsed, IsFront, EndsFront, TellsEvents, Parses, Fronts, is_cut_off, Gives, GivesNone}
 use Rattle.yaml_round_answers.proofs.Refusing.{refused_answer_in}
 use Rattle.yaml_round_records.proofs.Saying.{say_at}
 
@@ -84,11 +85,49 @@ pub says_in : (from : yaml_encoding_t) (input text : List ℕ) (l : Listing) (p 
     → SayEvents (spelled_text from input) p es
 says_in from input text l p es e h s a = handed_says (spelled_text from input) l p es (subst (λ t. HandsOut t l p) e h) s a
 
--- what ends a listing to its end isn't out of memory
-pub ended : (b : Bool) (r : Result (Unit {0}) yaml_fault_t) (text : List ℕ) (l : Listing)
-    (p : yaml_c_parsed) → b ≡ is_starved r → r ≡ Ok tt → HandsOutUnless b text l p
+-- what ends a listing to its end doesn't cut it off
+whole_or_not : (whole : Bool) → is_cut_off whole (Ok tt) ≡ false
+whole_or_not true = refl
+whole_or_not false = refl
+
+ended : (whole b : Bool) (r : Result (Unit {0}) yaml_fault_t) (text : List ℕ) (l : Listing)
+    (p : yaml_c_parsed) → b ≡ is_cut_off whole r → r ≡ Ok tt → HandsOutUnless b text l p
     → HandsOut text l p
-ended b r text l p is done h = subst (λ c. HandsOutUnless c text l p) (is ∙ ap is_starved done) h
+ended whole b r text l p is done h =
+    subst (λ c. HandsOutUnless c text l p) (is ∙ ap (is_cut_off whole) done ∙ whole_or_not whole) h
+
+both_give : (whole : Bool) (from : yaml_encoding_t) (input : List ℕ) (p : yaml_c_parsed)
+    (a : yaml_c_answer) → HasEvents from input (events_of from input) → TellsText [] (pos 0) a
+    → SayEvents (spelled_text from input) p (events_of from input) → Gives whole input p from a
+both_give true from input p a e t s = record { result = Ok (events_of from input); is = e; told = (t, s) }
+both_give false from input p a e t s = record { result = Ok (events_of from input); is = e; told = (t, s) }
+
+-- all events are given
+pub all_given : (whole : Bool) (from : yaml_encoding_t) (input text : List ℕ)
+    (r : Result (Unit {0}) yaml_fault_t) (l : Listing) (p : yaml_c_parsed) (a : yaml_c_answer)
+    (b : Bool) → b ≡ is_cut_off whole r → r ≡ Ok tt → text ≡ spelled_text from input
+    → HandsOutUnless b text l p → EndsFront from input (Ok tt) l → TellsText [] (pos 0) a
+    → Gives whole input p from a
+all_given whole from input text r l p a b is done e h i t =
+    both_give whole from input p a (has_events from input (events_of from input) i.0 refl) t
+    (says_in from input text l p (events_of from input) e (ended whole b r text l p is done h) i.1.0 i.1.1)
+
+pub kind_given : (whole : Bool) (p : yaml_c_parsed) (a : yaml_c_answer) → TellsText [] (pos 0) a
+    → GivesNone whole p a
+kind_given true p a t = inl t.kind
+kind_given false p a t = tt
+
+pub nothing_given : (whole : Bool) (p : yaml_c_parsed) (a : yaml_c_answer) → HasNothing p
+    → GivesNone whole p a
+nothing_given true p a h = inr h
+nothing_given false p a h = tt
+
+-- behind a fault there is nothing where all are asked for
+pub refused_none : (whole : Bool) (text : List ℕ) (r : Result (Unit {0}) yaml_fault_t)
+    (f : yaml_fault_t) (l : Listing) (p : yaml_c_parsed) (a : yaml_c_answer) (b : Bool)
+    → b ≡ is_cut_off whole r → r ≡ Err f → HandsOutUnless b text l p → GivesNone whole p a
+refused_none true text r f l p a b is ends h = inr (subst (λ c. HandsOutUnless c text l p) (is ∙ ap (is_cut_off true) ends) h)
+refused_none false text r f l p a b is ends h = tt
 
 -- the answer to out of memory says that
 told_want : (k : yaml_error_type_t) (n : ℤ) → is_memory k ≡ true → n ≡ error_number k
@@ -128,7 +167,7 @@ front_says from input text f l p a false is e h (inr i) t = inr (says_in from in
 
 -- ---- a refused parse is told
 
-pub refused_parse : (from : yaml_encoding_t) (input text : List ℕ) (f : yaml_fault_t)
+refused_parse : (from : yaml_encoding_t) (input text : List ℕ) (f : yaml_fault_t)
     (p : yaml_c_parsed) (a : yaml_c_answer) → text ≡ spelled_text from input → HasNothing p
     → IsMemoryFault parse_layers (fault_of f) ⊎ (ending_of from input ≡ Some (fault_of f))
     → RefusesIn text (fault_of f) a → Parses input p from a
@@ -153,7 +192,7 @@ fail_front from input text f l p a e h i (inr s) = record {
   told = (s Parser (spelled_text from input), h);
 }
 
-pub refused_front : (from : yaml_encoding_t) (input text : List ℕ)
+refused_front : (from : yaml_encoding_t) (input text : List ℕ)
     (r : Result (Unit {0}) yaml_fault_t) (f : yaml_fault_t) (l : Listing) (p : yaml_c_parsed) (a : yaml_c_answer) (b : Bool)
     → b ≡ is_starved r → r ≡ Err f → text ≡ spelled_text from input → HandsOutUnless b text l p
     → IsMemoryFault parse_layers (fault_of f)
@@ -162,8 +201,24 @@ pub refused_front : (from : yaml_encoding_t) (input text : List ℕ)
 refused_front from input text r f l p a b is ends e h i t =
     fail_front from input text f l p a e (front_says from input text f l p a b (is ∙ ap is_starved ends) e h i t) i t
 
+ending_alone : (from : yaml_encoding_t) (input : List ℕ) (f : yaml_fault_t) (l : Listing)
+    → EndsFront from input (Err f) l
+    → IsMemoryFault parse_layers (fault_of f) ⊎ (ending_of from input ≡ Some (fault_of f))
+ending_alone from input f l (inl m) = inl m
+ending_alone from input f l (inr e) = inr e.0
+
+-- a fault is told
+pub refused_gives : (whole : Bool) (from : yaml_encoding_t) (input text : List ℕ)
+    (r : Result (Unit {0}) yaml_fault_t) (f : yaml_fault_t) (l : Listing) (p : yaml_c_parsed) (a : yaml_c_answer) (b : Bool)
+    → b ≡ is_cut_off whole r → r ≡ Err f → text ≡ spelled_text from input
+    → HandsOutUnless b text l p → EndsFront from input (Err f) l → RefusesIn text (fault_of f) a
+    → Gives whole input p from a
+refused_gives true from input text r f l p a b is ends e h i t =
+    refused_parse from input text f p a e (subst (λ c. HandsOutUnless c text l p) (is ∙ ap (is_cut_off true) ends) h) (ending_alone from input f l i) t
+refused_gives false from input text r f l p a b is ends e h i t = refused_front from input text r f l p a b is ends e h i t
+
 -- memory for the text was refused
-pub starved_parse : (from : yaml_encoding_t) (input : List ℕ) (p : yaml_c_parsed)
+starved_parse : (from : yaml_encoding_t) (input : List ℕ) (p : yaml_c_parsed)
     (a : yaml_c_answer) → HasNothing p → TellsMemory a → Parses input p from a
 starved_parse from input p a h s = record {
   result = Err (memory_fault Parser);
@@ -171,10 +226,15 @@ starved_parse from input p a h s = record {
   told = (s Parser (spelled_text from input), h);
 }
 
-pub starved_front : (from : yaml_encoding_t) (input : List ℕ) (p : yaml_c_parsed)
+starved_front : (from : yaml_encoding_t) (input : List ℕ) (p : yaml_c_parsed)
     (a : yaml_c_answer) → HasNothing p → TellsMemory a → Fronts input p from a
 starved_front from input p a h s = record {
   result = Err (memory_fault Parser);
   is = inl (inl refl);
   told = (s Parser (spelled_text from input), inl ((s Parser []).kind, h));
 }
+
+pub starved_gives : (whole : Bool) (from : yaml_encoding_t) (input : List ℕ) (p : yaml_c_parsed)
+    (a : yaml_c_answer) → HasNothing p → TellsMemory a → Gives whole input p from a
+starved_gives true from input p a h s = starved_parse from input p a h s
+starved_gives false from input p a h s = starved_front from input p a h s

@@ -5,7 +5,6 @@ mod ScanTelling
 pub mod Exact
 pub mod NormalExact
 pub mod Offsets
-pub mod Rows
 pub mod PartingExact
 pub mod EmittedPieces
 pub mod Dumping

@@ -1,5 +1,6 @@
 -- What C is told of a parse.
 use Rattle.std.specs.Prelude.{◌≡◌, ◌⊎◌, pos, ℕ, Bool, true, false, List, [], map, Option, None, Some, Result, Ok, Err}
+use Rattle.std.specs.Result.{is_err}
 use Rattle.yaml_parse.specs.declared.yaml_encoding_t.{yaml_encoding_t}
 use Rattle.yaml_parse.specs.declared.yaml_fault_t.{yaml_fault_t}
 use Rattle.yaml_parse.specs.Faults.{Fault, fault_of, IsMemoryFault, parse_layers}
@@ -16,7 +17,7 @@ use Rattle.yaml_round_records.specs.Counted.{event_counted}
 use Rattle.yaml_round_records.specs.Blocks.{all_texts, listed_directives}
 use Rattle.yaml_round_records.specs.Listing.{AreSaid, HoldsAll, events_alone}
 use Rattle.yaml_round_answers.specs.Told.{TellsText, TellsFaultIn, TellsWant, IsAnswered, OrMemory}
-use Rattle.yaml_round_answers.specs.Spelled.{spelled_text}
+use Rattle.yaml_round_answers.specs.Spelled.{spelled_text, is_starved}
 
 -- the events of an input, where it is accepted: those of the tree that its tokens are
 abbrev pub IsParsed : yaml_encoding_t → List ℕ → Result (List Told) Fault → Type 0
@@ -54,12 +55,6 @@ abbrev pub IsFront : yaml_encoding_t → List ℕ → Listing → Type 0
 IsFront from input l = AreSaid l (events_alone (events_of from input))
     × HoldsAll l (events_alone (events_of from input))
 
--- the listing says the input's events, and nothing beside; or its fault, or out of memory
-abbrev pub IsCollected : yaml_encoding_t → List ℕ → Result Listing yaml_fault_t → Type 0
-IsCollected from input (Ok l) = (ending_of from input ≡ None) × IsFront from input l
-IsCollected from input (Err f) = IsMemoryFault parse_layers (fault_of f)
-    ⊎ (ending_of from input ≡ Some (fault_of f))
-
 -- the blocks are the listing's, with what is counted and told of the events in their text
 pub record HandsOut (text : List ℕ) (l : Listing) (p : yaml_c_parsed) : Type 0 where
   pub events : p.events.now ≡ map (event_counted text) l.events.items
@@ -93,6 +88,22 @@ TellsFront from input p (Err fault) a = TellsFaultIn (spelled_text from input) f
 abbrev pub Fronts : List ℕ → yaml_c_parsed → yaml_encoding_t → yaml_c_answer → Type 0
 Fronts input p from = IsAnswered (OrMemory parse_layers (IsParsed from input))
     (TellsFront from input p)
+
+-- ---- both calls: that of all events, and that of the events before a fault
+
+-- what was listed isn't handed out
+abbrev pub is_cut_off : Bool → Result (Unit {0}) yaml_fault_t → Bool
+is_cut_off true end = is_err end
+is_cut_off false end = is_starved end
+
+abbrev pub Gives : Bool → List ℕ → yaml_c_parsed → yaml_encoding_t → yaml_c_answer → Type 0
+Gives true input p from a = Parses input p from a
+Gives false input p from a = Fronts input p from a
+
+-- where all are asked for there are no blocks beside a fault
+abbrev pub GivesNone : Bool → yaml_c_parsed → yaml_c_answer → Type 0
+GivesNone true p a = (a.kind ≡ pos 0) ⊎ HasNothing p
+GivesNone false p a = Unit {0}
 
 -- where the number of an encoding means nothing, nothing is handed out
 abbrev pub NothingUnmeant : {M : Type 0} → Option M → yaml_c_parsed → Type 0

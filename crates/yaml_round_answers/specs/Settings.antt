@@ -1,27 +1,21 @@
 -- The settings that C's record means.
-use Rattle.std.specs.Prelude.{ℤ, pos, if◌then◌else◌, List, [], ◌∷◌, Option, None, Some}
-use Rattle.std.specs.Ordering.{int_eq}
+use Rattle.std.specs.Prelude.{ℤ, pos, List, [], ◌∷◌, Option, None, Some}
 use Rattle.yaml_parse.specs.declared.yaml_break_t.{yaml_break_t}
 use Rattle.yaml_round.specs.declared.yaml_settings_t.{yaml_settings_t}
 use Rattle.yaml_round.specs.declared.yaml_output_encoding_t.{yaml_output_encoding_t}
 use Rattle.yaml_round.specs.declared.yaml_output_encoding_t.TheVariants as output
 use Rattle.yaml_round_records.specs.declared.yaml_c_settings.{yaml_c_settings}
-use Rattle.yaml_round_records.specs.Numbers.{is_set, break_meant}
+use Rattle.yaml_round_records.specs.Numbers.{is_set, break_meant, numbered}
 -- the engine's own, which those of C are compared with
 pub use Rattle.yaml_round.specs.Settings.{default_settings}
 
--- the encoding of an answer: any means UTF-8
-unfoldable pub output_meant : ℤ → Option yaml_output_encoding_t
-output_meant n =
-    if int_eq n (pos 0) then Some output.Utf8
-    else if int_eq n (pos 1) then Some output.Utf8
-    else if int_eq n (pos 2) then Some output.Utf16Le
-    else if int_eq n (pos 3) then Some output.Utf16Be
-    else None
-
--- the same by rows, in the order of libyaml's enum
+-- in the order of libyaml's enum
 abbrev pub outputs : List yaml_output_encoding_t
 outputs = output.Utf8 ∷ output.Utf8 ∷ output.Utf16Le ∷ output.Utf16Be ∷ []
+
+-- the encoding of an answer: any means UTF-8
+unfoldable pub output_meant : ℤ → Option yaml_output_encoding_t
+output_meant n = numbered outputs n
 
 abbrev pub settings_by : Option yaml_output_encoding_t → Option yaml_break_t → yaml_c_settings
     → Option yaml_settings_t

@@ -65,8 +65,5 @@ pub fn is_graph(graph: &yaml_c_graph) -> bool
 pub(crate) fn record_at(graph: &yaml_c_graph, id: i32) -> Option<yaml_c_node>
     ensures { result ≡ record_in graph.now.nodes.now (place_at id) }
 {
-    match place_of(id) {
-        None => None,
-        Some(at) => graph.nodes.get(at).copied(),
-    }
+    graph.nodes.get(place_of(id)?).copied()
 }

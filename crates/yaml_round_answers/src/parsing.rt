@@ -3,7 +3,7 @@
 ghost use Rattle.std.specs.Prelude.{◌≡◌, ◌⊎◌, pos};
 ghost use Rattle.yaml_round_records.specs.Numbers.{encoding_meant};
 ghost use Rattle.yaml_round_answers.specs.Told.{AnswersMeant, TellsMemory};
-ghost use Rattle.yaml_round_answers.specs.Parses.{HasNothing, HandsOut, HandsOutUnless, Parses, IsCollected, EndsFront, Fronts, NothingUnmeant};
+ghost use Rattle.yaml_round_answers.specs.Parses.{HasNothing, HandsOut, HandsOutUnless, Parses, EndsFront, Fronts, NothingUnmeant, is_cut_off, Gives, GivesNone};
 ghost use Rattle.yaml_round_answers.specs.Spelled.{spelled_text};
 ghost use Rattle.yaml_round_records.specs.Listing.{Collects, StartsEmpty};
 
@@ -77,16 +77,6 @@ fn fronted(
     end
 }
 
-fn collected(alloc: Global, input: &[u8], from: yaml_encoding_t) -> Result<Listing, yaml_fault_t>
-    ensures { IsCollected from input.now result }
-{
-    let mut listing = Listing::new(alloc);
-    match fronted(alloc, input, from, &mut listing) {
-        Ok(()) => Ok(listing),
-        Err(fault) => Err(fault),
-    }
-}
-
 fn nothing() -> yaml_c_parsed
     ensures { HasNothing result }
 {
@@ -126,26 +116,32 @@ fn blocks_unless(cut_off: bool, text: &[u8], listing: Listing) -> yaml_c_parsed
     }
 }
 
-fn parsed_in(
+// Whether the events that were listed are not to be handed out: all are asked for, and a fault ended them, or memory was refused.
+fn is_cut_off(whole: bool, end: &Result<(), yaml_fault_t>) -> bool
+    ensures { result ≡ is_cut_off whole end.now }
+{
+    if whole { end.is_err() } else { is_starved(end) }
+}
+
+// The events of an input whose text it is: all of them, or those before its fault too.
+fn given_in(
     alloc: Global,
     input: &[u8],
     from: yaml_encoding_t,
     text: &[u8],
+    whole: bool,
     blocks: &mut yaml_c_parsed,
 ) -> yaml_c_answer
     requires { text.now ≡ spelled_text from input.now }
-    ensures told { Parses input.now blocks.new from result }
-    ensures none { (result.kind ≡ pos 0) ⊎ HasNothing blocks.new }
+    ensures told { Gives whole input.now blocks.new from result }
+    ensures none { GivesNone whole blocks.new result }
 {
-    match collected(alloc, input, from) {
-        Ok(listing) => {
-            *blocks = blocks_of(text, listing);
-            said(0)
-        }
-        Err(fault) => {
-            *blocks = nothing();
-            refused_in(alloc, text, &fault)
-        }
+    let mut listing = Listing::new(alloc);
+    let end = fronted(alloc, input, from, &mut listing);
+    *blocks = blocks_unless(is_cut_off(whole, &end), text, listing);
+    match end {
+        Ok(()) => said(0),
+        Err(fault) => refused_in(alloc, text, &fault),
     }
 }
 
@@ -158,17 +154,18 @@ fn starved(alloc: Global, blocks: &mut yaml_c_parsed) -> yaml_c_answer
     refused_in(alloc, b"", &yaml_memory_fault(yaml_origin_t::Parser))
 }
 
-fn parsed(
+fn given(
     alloc: Global,
     input: &[u8],
     from: yaml_encoding_t,
+    whole: bool,
     blocks: &mut yaml_c_parsed,
 ) -> yaml_c_answer
-    ensures told { Parses input.now blocks.new from result }
-    ensures none { (result.kind ≡ pos 0) ⊎ HasNothing blocks.new }
+    ensures told { Gives whole input.now blocks.new from result }
+    ensures none { GivesNone whole blocks.new result }
 {
     match spelled_text(alloc, input, from) {
-        Some(text) => parsed_in(alloc, input, from, text.as_slice(), blocks),
+        Some(text) => given_in(alloc, input, from, text.as_slice(), whole, blocks),
         None => starved(alloc, blocks),
     }
 }
@@ -184,44 +181,11 @@ pub fn parsed_by(
     ensures none { (result.kind ≡ pos 0) ⊎ HasNothing blocks.new }
 {
     match encoding_of(from) {
-        Some(from) => parsed(alloc, input, from, blocks),
+        Some(from) => given(alloc, input, from, true, blocks),
         None => {
             *blocks = nothing();
             misused()
         }
-    }
-}
-
-fn front_in(
-    alloc: Global,
-    input: &[u8],
-    from: yaml_encoding_t,
-    text: &[u8],
-    blocks: &mut yaml_c_parsed,
-) -> yaml_c_answer
-    requires { text.now ≡ spelled_text from input.now }
-    ensures { Fronts input.now blocks.new from result }
-{
-    let mut listing = Listing::new(alloc);
-    let end = fronted(alloc, input, from, &mut listing);
-    *blocks = blocks_unless(is_starved(&end), text, listing);
-    match end {
-        Ok(()) => said(0),
-        Err(fault) => refused_in(alloc, text, &fault),
-    }
-}
-
-fn front(
-    alloc: Global,
-    input: &[u8],
-    from: yaml_encoding_t,
-    blocks: &mut yaml_c_parsed,
-) -> yaml_c_answer
-    ensures { Fronts input.now blocks.new from result }
-{
-    match spelled_text(alloc, input, from) {
-        Some(text) => front_in(alloc, input, from, text.as_slice(), blocks),
-        None => starved(alloc, blocks),
     }
 }
 
@@ -231,7 +195,7 @@ pub fn front_by(alloc: Global, input: &[u8], from: i32, blocks: &mut yaml_c_pars
     ensures none { NothingUnmeant (encoding_meant from) blocks.new }
 {
     match encoding_of(from) {
-        Some(from) => front(alloc, input, from, blocks),
+        Some(from) => given(alloc, input, from, false, blocks),
         None => {
             *blocks = nothing();
             misused()

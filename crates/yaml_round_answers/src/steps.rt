@@ -1,7 +1,6 @@
 //! Which node of a document each event is of, and which collection takes it.
 
 ghost use Rattle.std.specs.Prelude.{◌≡◌, IfOk, OnOk, option_map, is_some};
-ghost use Rattle.yaml_round_answers.specs.Graphs.{part};
 ghost use Rattle.yaml_round_answers.specs.Names.{names_of};
 ghost use Rattle.yaml_round_answers.specs.Composing.{is_named, name_at, is_step, are_steps, sketch_of, fresh_sketch, innermost, begun, opened, ended, meant_by, stood, drawn, Draws, all_drawn};
 ghost use Rattle.yaml_parse_loader.specs.Loading.{named};
@@ -29,13 +28,6 @@ pub struct Composed {
     pub whole: bool,
 }
 
-// The bytes that a record names, where they lie within the block.
-fn bytes_of(bytes: &[u8], step: yaml_c_step) -> Option<&[u8]>
-    ensures { option_map (λ t. t.now) result ≡ part bytes.now step.first step.count }
-{
-    part_of(bytes, step.first, step.count)
-}
-
 #[tactic(auto, unfolding(crate::specs::Composing::is_named))]
 fn is_named(step: yaml_c_step) -> bool
     ensures { result ≡ is_named step.has_name }
@@ -49,7 +41,7 @@ fn spot_name(bytes: &[u8], step: yaml_c_step) -> Option<&[u8]>
     ensures { option_map (λ t. t.now) result ≡ name_at bytes.now step }
 {
     if is_named(step) {
-        bytes_of(bytes, step)
+        part_of(bytes, step.first, step.count)
     } else {
         None
     }
@@ -62,7 +54,7 @@ fn is_step(bytes: &[u8], step: yaml_c_step) -> bool
 {
     match step.kind {
         5 => spot_name(bytes, step).is_some(),
-        6 | 7 | 9 => !is_named(step) || bytes_of(bytes, step).is_some(),
+        6 | 7 | 9 => !is_named(step) || part_of(bytes, step.first, step.count).is_some(),
         8 | 10 => true,
         _ => false,
     }

@@ -34,31 +34,24 @@ pub(crate) fn has_none(
     ensures { result ≡ not (has_version version || has_directives
         (map directive_of directives.now)) }
 {
-    match version {
-        None => directives.is_empty(),
-        Some(_) => false,
-    }
+    version.is_none() && directives.is_empty()
 }
 
 fn is_bare(anchor: Option<&[u8]>, tag: Option<&[u8]>) -> bool
     ensures { result ≡ is_bare (option_map (λ t. t.now) anchor.entry)
         (option_map (λ t. t.now) tag.entry) }
 {
-    match (anchor, tag) {
-        (None, None) => true,
-        _ => false,
-    }
+    matches!((anchor, tag), (None, None))
 }
 
 // Whether plain style is taken where it may be.
 fn is_asked_plain(style: yaml_scalar_style_t) -> bool
     ensures { result ≡ is_asked_plain style }
 {
-    match style {
-        yaml_scalar_style_t::YAML_ANY_SCALAR_STYLE | yaml_scalar_style_t::YAML_PLAIN_SCALAR_STYLE =>
-            true,
-        _ => false,
-    }
+    matches!(
+        style,
+        yaml_scalar_style_t::YAML_ANY_SCALAR_STYLE | yaml_scalar_style_t::YAML_PLAIN_SCALAR_STYLE
+    )
 }
 
 // After the stream's start.
@@ -121,8 +114,7 @@ pub fn behind(beginning: Beginning, event: EventRef<'_>) -> Beginning
         },
         Beginning::Stream => behind_stream(event),
         Beginning::Document => behind_document(event),
-        Beginning::Nothing => Beginning::Nothing,
-        Beginning::Something => Beginning::Something,
+        Beginning::Nothing | Beginning::Something => beginning,
     }
 }
 
@@ -130,8 +122,5 @@ pub fn behind(beginning: Beginning, event: EventRef<'_>) -> Beginning
 pub fn is_nothing(beginning: Beginning) -> bool
     ensures { result ≡ spec.nothing_comes beginning [] }
 {
-    match beginning {
-        Beginning::Nothing => true,
-        _ => false,
-    }
+    matches!(beginning, Beginning::Nothing)
 }

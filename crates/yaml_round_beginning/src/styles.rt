@@ -52,12 +52,8 @@ fn plain_style(at: OpeningPosition, anchor: Option<&[u8]>, value: &[u8]) -> yaml
     ensures { result ≡ spec.plain_style at (option_map (λ t. t.now) anchor.entry) value.now }
 {
     match (at, anchor) {
-        (OpeningPosition::Starts, None) => {
-            if value.is_empty() {
-                yaml_scalar_style_t::YAML_SINGLE_QUOTED_SCALAR_STYLE
-            } else {
-                yaml_scalar_style_t::YAML_PLAIN_SCALAR_STYLE
-            }
+        (OpeningPosition::Starts, None) if value.is_empty() => {
+            yaml_scalar_style_t::YAML_SINGLE_QUOTED_SCALAR_STYLE
         }
         _ => yaml_scalar_style_t::YAML_PLAIN_SCALAR_STYLE,
     }
@@ -75,20 +71,10 @@ fn style_of(
         (option_map (λ t. t.now) tag.entry) value.now plain }
 {
     match tag {
-        None => {
-            if plain {
-                plain_style(at, anchor, value)
-            } else {
-                quoted_style(value, has_break(value))
-            }
-        }
-        Some(_) => {
-            if has_break(value) {
-                quoted_style(value, true)
-            } else {
-                yaml_scalar_style_t::YAML_PLAIN_SCALAR_STYLE
-            }
-        }
+        None if plain => plain_style(at, anchor, value),
+        None => quoted_style(value, has_break(value)),
+        Some(_) if has_break(value) => quoted_style(value, true),
+        Some(_) => yaml_scalar_style_t::YAML_PLAIN_SCALAR_STYLE,
     }
 }
 
@@ -126,10 +112,7 @@ fn is_unmarked(
 ) -> bool
     ensures { result ≡ spec.is_unmarked at version (map directive_of directives.now) }
 {
-    match at {
-        OpeningPosition::Before => has_none(version, directives),
-        OpeningPosition::Starts | OpeningPosition::Within => false,
-    }
+    matches!(at, OpeningPosition::Before) && has_none(version, directives)
 }
 
 /// Where the next event stands.
@@ -137,22 +120,23 @@ pub fn position_after(event: EventRef<'_>, at: OpeningPosition) -> OpeningPositi
     ensures { spec.position_of result
         ≡ spec.behind (spec.position_of at) (borrowed_body event.entry) }
 {
-    match at {
-        OpeningPosition::Before => match event {
+    match (at, event) {
+        (
+            OpeningPosition::Before,
             EventRef::DocumentStart {
                 version_directive,
                 tag_directives,
                 ..
-            } => {
-                if has_none(version_directive, tag_directives) {
-                    OpeningPosition::Starts
-                } else {
-                    OpeningPosition::Within
-                }
+            },
+        ) => {
+            if has_none(version_directive, tag_directives) {
+                OpeningPosition::Starts
+            } else {
+                OpeningPosition::Within
             }
-            _ => OpeningPosition::Before,
-        },
-        OpeningPosition::Starts | OpeningPosition::Within => OpeningPosition::Within,
+        }
+        (OpeningPosition::Before, _) => OpeningPosition::Before,
+        _ => OpeningPosition::Within,
     }
 }
 

@@ -15,14 +15,22 @@ use Rattle.yaml_round_content.specs.Trees.{tree_of, trees_of, pair_trees_of, doc
 use Rattle.yaml_round_compare.specs.declared.front.Front.{Front}
 use Rattle.yaml_round_compare.specs.declared.cause.yaml_cause_t.{yaml_cause_t}
 use Rattle.yaml_round_compare.specs.declared.cause.yaml_cause_t.TheVariants.{OnlyFirst, OnlySecond}
-use Rattle.yaml_round_compare.specs.Causes.{cause_of}
 use Rattle.yaml_round_compare.specs.Places.{Path, path_of}
 use Rattle.yaml_round_compare.specs.Walking.{past, past_event}
 use Rattle.yaml_round_compare.specs.Loaded.{next_of}
-use Rattle.yaml_round_compare.specs.Dumps.{said, document_says, documents_left, IsCauseOf, PassesEvent, PartsFront, EndsFront, GoesPast, PartsBehind}
+use Rattle.yaml_round_compare.specs.Dumps.{said, document_says, documents_left, DifferNextIn, PassesEvent, EndsFront, GoesPast, PartsBehind}
 use Rattle.yaml_round_content.proofs.Trees.{scalar_core}
 
 -- ---- what a dump says
+
+core_said : (b : EventBody) → content_of b ≡ said (emit.emitter_event b)
+core_said event.no = refl
+core_said _ = refl
+
+-- what a borrowed event says is what the emitter's event does
+pub event_said : (b : EventBody) (e : emit.Event) → emit.emitter_event b ≡ e
+    → content_of b ≡ said e
+event_said b e h = core_said b ∙ ap said h
 
 mutual
   unfolding emit.node_events emit.items_events emit.pairs_events node_says items_say pairs_say
@@ -178,16 +186,7 @@ past_on (x ∷ xs) ys p = past_on xs ys (past_event x p)
 
 content_past : (b : EventBody) (p : Path) → past_event b p ≡ past_event (content_of b) p
 content_past event.no p = refl
-content_past (event.stream_start encoding) p = refl
-content_past event.stream_end p = refl
-content_past (event.document_start version directives implicit) p = refl
-content_past (event.document_end implicit) p = refl
-content_past (event.alias name) p = refl
-content_past (event.scalar anchor tag value plain quoted style) p = refl
-content_past (event.sequence_start anchor tag implicit style) p = refl
-content_past event.sequence_end p = refl
-content_past (event.mapping_start anchor tag implicit style) p = refl
-content_past event.mapping_end p = refl
+content_past _ p = refl
 
 pub goes_on : (a b l r m s : List EventBody) (old mid new : Front) → GoesPast a b l r old mid
     → GoesPast l r m s mid new → GoesPast a b m s old new
@@ -199,13 +198,13 @@ goes_on a b l r m s old mid new g h = record {
   events = let x = g.events in let y = h.events in let z = length-append g.before h.before in omega (arith, x, y, z);
 }
 
-pub goes_one : (l r m s : List EventBody) (body : EventBody) (old new : Front)
-    → l ≡ content_of body ∷ m → r ≡ content_of body ∷ s → PassesEvent body old new
+pub goes_one : (l r m s : List EventBody) (said : EventBody) (body : EventBody) (old new : Front)
+    → content_of body ≡ said → l ≡ said ∷ m → r ≡ said ∷ s → PassesEvent body old new
     → GoesPast l r m s old new
-goes_one l r m s body old new e f p = record {
+goes_one l r m s said body old new g e f p = record {
   before = content_of body ∷ [];
-  first_events = e;
-  second_events = f;
+  first_events = e ∙ ap (λ (b : EventBody). b ∷ m) (sym g);
+  second_events = f ∙ ap (λ (b : EventBody). b ∷ s) (sym g);
   path = p.path ∙ content_past body (path_of old.trail.place);
   events = let x = p.events in omega (arith, x);
 }
@@ -244,60 +243,35 @@ next_documents a b xs ys d e ds es old mid new g p q h =
     subst (λ (z : List Document). GoesPast a b (documents_left (d ∷ ds)) (documents_left z) old mid) q (subst (λ (z : List Document). GoesPast a b (documents_left z) (documents_left ys) old mid) p g) in
     goes_on a b _ _ _ _ old mid new there (past_documents d e ds es mid new h)
 
-still_differ : (d e : Document) (before left other_left l r : List EventBody)
+still_differ : (d e : Document) (before left other_left l r : List EventBody) (c : yaml_cause_t)
     → document_says d ≡ before ++ left → document_says e ≡ before ++ other_left
-    → (next_of left ≡ next_of other_left → ⊥) → next_of (left ++ l) ≡ next_of (other_left ++ r) → ⊥
-still_differ d e before [] [] l r p q differ = λ h. differ refl
-still_differ d e before [] (x ∷ xs) l r p q differ = λ h. no_front d e x xs (q ∙ ap (λ (es : List EventBody). es ++ x ∷ xs) (sym (append-nil before) ∙ sym p))
-still_differ d e before (x ∷ xs) [] l r p q differ = λ h. no_front e d x xs (p ∙ ap (λ (es : List EventBody). es ++ x ∷ xs) (sym (append-nil before) ∙ sym q))
-still_differ d e before (x ∷ xs) (y ∷ ys) l r p q differ = differ
+    → DifferNextIn c (next_of left) (next_of other_left)
+    → DifferNextIn c (next_of (left ++ l)) (next_of (other_left ++ r))
+still_differ d e before [] [] l r c p q n = absurd (n.differ refl)
+still_differ d e before [] (x ∷ xs) l r c p q n = absurd (no_front d e x xs (q ∙ ap (λ (es : List EventBody). es ++ x ∷ xs) (sym (append-nil before) ∙ sym p)))
+still_differ d e before (x ∷ xs) [] l r c p q n = absurd (no_front e d x xs (p ∙ ap (λ (es : List EventBody). es ++ x ∷ xs) (sym (append-nil before) ∙ sym q)))
+still_differ d e before (x ∷ xs) (y ∷ ys) l r c p q n = n
 
 parts_behind : (a b l r : List EventBody) (old mid new : Front) → GoesPast a b l r old mid
     → PartsBehind l r mid new → PartsBehind a b old new
-parts_behind a b l r old mid new g h = record { left = h.left; other_left = h.other_left; past = goes_on a b l r h.left h.other_left old mid new g h.past; differ = h.differ; cause = h.cause }
+parts_behind a b l r old mid new g h = record { left = h.left; other_left = h.other_left; past = goes_on a b l r h.left h.other_left old mid new g h.past; next = h.next }
 
 -- ---- the first events that differ
 
-pub parts_here : (a b l r : List EventBody) (x y : EventBody) (old mid new : Front)
-    → GoesPast a b l r old mid → (next_of l ≡ next_of r → ⊥) → IsCauseOf (cause_of x y) (next_of l) (next_of r)
-    → PartsFront x y mid new → PartsBehind a b old new
-parts_here a b l r x y old mid new g h k p = record {
-  left = l;
-  other_left = r;
-  past = record { before = g.before; first_events = g.first_events; second_events = g.second_events; path = p.path ∙ g.path; events = p.events ∙ g.events };
-  differ = h;
-  cause = subst (λ (c : yaml_cause_t). IsCauseOf c (next_of l) (next_of r)) (sym p.cause) k;
-}
-
-parts_end : (l r : List EventBody) (c : yaml_cause_t) (mid new : Front)
-    → (next_of l ≡ next_of r → ⊥) → IsCauseOf c (next_of l) (next_of r) → EndsFront c mid new
-    → PartsBehind l r mid new
-parts_end l r c mid new h k p = record {
+-- the next events differ, in that
+parts_next : (l r : List EventBody) (c : yaml_cause_t) (old new : Front)
+    → DifferNextIn c (next_of l) (next_of r) → EndsFront c old new → PartsBehind l r old new
+parts_next l r c old new n p = record {
   left = l;
   other_left = r;
   past = record { before = []; first_events = refl; second_events = refl; path = p.path; events = let e = p.events in omega (arith, e) };
-  differ = h;
-  cause = subst (λ (d : yaml_cause_t). IsCauseOf d (next_of l) (next_of r)) (sym p.cause) k;
+  next = subst (λ (k : yaml_cause_t). DifferNextIn k (next_of l) (next_of r)) (sym p.cause) n;
 }
 
-ends_first : (e : Document) (es : List Document)
-    → IsCauseOf OnlySecond (next_of (documents_left [])) (next_of (documents_left (e ∷ es)))
-unfolding documents_say
-ends_first e es = refl
-
-ends_second : (d : Document) (ds : List Document)
-    → IsCauseOf OnlyFirst (next_of (documents_left (d ∷ ds))) (next_of (documents_left []))
-unfolding documents_say
-ends_second d ds = refl
-
-still_cause : (d e : Document) (before left other_left l r : List EventBody) (c : yaml_cause_t)
-    → document_says d ≡ before ++ left → document_says e ≡ before ++ other_left
-    → (next_of left ≡ next_of other_left → ⊥) → IsCauseOf c (next_of left) (next_of other_left)
-    → IsCauseOf c (next_of (left ++ l)) (next_of (other_left ++ r))
-still_cause d e before [] [] l r c p q differ k = absurd (differ refl)
-still_cause d e before [] (x ∷ xs) l r c p q differ k = absurd (no_front d e x xs (q ∙ ap (λ (es : List EventBody). es ++ x ∷ xs) (sym (append-nil before) ∙ sym p)))
-still_cause d e before (x ∷ xs) [] l r c p q differ k = absurd (no_front e d x xs (p ∙ ap (λ (es : List EventBody). es ++ x ∷ xs) (sym (append-nil before) ∙ sym q)))
-still_cause d e before (x ∷ xs) (y ∷ ys) l r c p q differ k = k
+pub parts_here : (a b l r : List EventBody) (c : yaml_cause_t) (old mid new : Front)
+    → GoesPast a b l r old mid → DifferNextIn c (next_of l) (next_of r) → EndsFront c mid new
+    → PartsBehind a b old new
+parts_here a b l r c old mid new g n p = parts_behind a b l r old mid new g (parts_next l r c mid new n p)
 
 part_documents : (d e : Document) (ds es : List Document) (old new : Front)
     → PartsBehind (document_says d) (document_says e) old new
@@ -306,8 +280,7 @@ part_documents d e ds es old new h = record {
   left = h.left ++ documents_left ds;
   other_left = h.other_left ++ documents_left es;
   past = goes_as _ _ _ _ _ _ old new (documents_more d ds) (documents_more e es) (goes_wider (document_says d) (document_says e) h.left h.other_left (documents_left ds) (documents_left es) old new h.past);
-  differ = still_differ d e h.past.before h.left h.other_left (documents_left ds) (documents_left es) h.past.first_events h.past.second_events h.differ;
-  cause = still_cause d e h.past.before h.left h.other_left (documents_left ds) (documents_left es) new.trail.place.cause h.past.first_events h.past.second_events h.differ h.cause;
+  next = still_differ d e h.past.before h.left h.other_left (documents_left ds) (documents_left es) new.trail.place.cause h.past.first_events h.past.second_events h.next;
 }
 
 -- what was passed, and then what is left
@@ -327,9 +300,14 @@ documents_part a b xs ys d e ds es old mid new g p q h = parts_on a b xs ys (d �
 
 -- the end of the stream beside a document
 document_more : (ds : List Document) (d : Document)
-    → next_of (documents_left []) ≡ next_of (documents_left (d ∷ ds)) → ⊥
+    → DifferNextIn OnlySecond (next_of (documents_left [])) (next_of (documents_left (d ∷ ds)))
 unfolding documents_say
-document_more ds d h = absurd (cc)
+document_more ds d = record { differ = λ h. absurd (cc); cause = refl }
+
+document_less : (ds : List Document) (d : Document)
+    → DifferNextIn OnlyFirst (next_of (documents_left (d ∷ ds))) (next_of (documents_left []))
+unfolding documents_say
+document_less ds d = record { differ = λ h. absurd (cc); cause = refl }
 
 none_left : (left rest : List Document) → left ≡ rest → rest ≡ drop 1 left → left ≡ []
 none_left [] rest e h = refl
@@ -340,11 +318,11 @@ pub first_ends : (a b : List EventBody) (xs ys more : List Document) (e : Docume
     → GoesPast a b (documents_left xs) (documents_left ys) old mid → xs ≡ more → more ≡ drop 1 xs
     → ys ≡ e ∷ es → EndsFront OnlySecond mid new → PartsBehind a b old new
 first_ends a b xs ys more e es old mid new g p n q h =
-    parts_on a b xs ys [] (e ∷ es) old mid new g (none_left xs more p n) q (parts_end (documents_left []) (documents_left (e ∷ es)) OnlySecond mid new (document_more es e) (ends_first e es) h)
+    parts_on a b xs ys [] (e ∷ es) old mid new g (none_left xs more p n) q (parts_next (documents_left []) (documents_left (e ∷ es)) OnlySecond mid new (document_more es e) h)
 
 pub second_ends : (a b : List EventBody) (xs ys more : List Document) (d : Document)
     (ds : List Document) (old mid new : Front)
     → GoesPast a b (documents_left xs) (documents_left ys) old mid → xs ≡ d ∷ ds → ys ≡ more
     → more ≡ drop 1 ys → EndsFront OnlyFirst mid new → PartsBehind a b old new
 second_ends a b xs ys more d ds old mid new g p q n h =
-    parts_on a b xs ys (d ∷ ds) [] old mid new g p (none_left ys more q n) (parts_end (documents_left (d ∷ ds)) (documents_left []) OnlyFirst mid new (λ h. document_more ds d (sym h)) (ends_second d ds) h)
+    parts_on a b xs ys (d ∷ ds) [] old mid new g p (none_left ys more q n) (parts_next (documents_left (d ∷ ds)) (documents_left []) OnlyFirst mid new (document_less ds d) h)

@@ -1,5 +1,5 @@
 -- Where the dumps of two inputs' documents part, the documents do, at a place.
-use Rattle.std.proofs.Common.{◌≡◌, ◌∙◌, inl, inr, ℕ, ◌+◌, List, [], ◌∷◌, ◌++◌, length, map, append-nil, Option, Some, None, Ok, refl, sym, ap, subst, arith}
+use Rattle.std.proofs.Common.{◌≡◌, ◌∙◌, inl, inr, ℕ, ◌+◌, List, [], ◌∷◌, ◌++◌, length, map, Option, Some, None, Ok, refl, sym, ap, subst, arith}
 use Rattle.yaml_parse.specs.declared.yaml_encoding_t.{yaml_encoding_t}
 use Rattle.yaml_parse.specs.declared.yaml_fault_t.{yaml_fault_t}
 use Rattle.yaml_parse.specs.Faults.{Fault, fault_of, IsMemoryFault, load_layers}
@@ -11,7 +11,7 @@ use Rattle.yaml_round_content.specs.Input.{events_of, ending_of}
 use Rattle.yaml_round_content.specs.Loads.{loads_of, with_implicit_end}
 use Rattle.yaml_round_content.specs.Agree.{Agrees}
 use Rattle.yaml_round_content.specs.Said as content
-use Rattle.yaml_round_content.specs.Said.{documents_say, stream_says}
+use Rattle.yaml_round_content.specs.Said.{documents_say}
 use Rattle.yaml_round_content.specs.DumpsEvents.{trees_of_dumps}
 use Rattle.yaml_round_content.specs.TreeContent.{tree_content}
 use Rattle.yaml_round_content.proofs.Injective.{says_injective}
@@ -23,16 +23,13 @@ use Rattle.yaml_round_reading.specs.Reading.{IsFaultOf}
 use Rattle.yaml_round_reading.proofs.Plain.{right_ending}
 use Rattle.yaml_round_compare.specs.declared.difference.yaml_difference_t.{yaml_difference_t}
 use Rattle.yaml_round_compare.specs.declared.front.Front.{Front}
-use Rattle.yaml_round_compare.specs.declared.cause.yaml_cause_t.{yaml_cause_t}
-use Rattle.yaml_round_compare.specs.Causes.{next_cause}
 use Rattle.yaml_round_compare.specs.Places.{StreamPosition, position_says, Path}
 use Rattle.yaml_round_compare.specs.Walking.{past, start}
 use Rattle.yaml_round_compare.specs.Differences.{TellsOf}
 use Rattle.yaml_round_compare.specs.Loaded.{next_of, event_at, SameDocuments, IsDocumentsParting, IsLoadable}
-use Rattle.yaml_round_compare.specs.Dumps.{documents_left, IsCauseOf, IsStarted, PartsBehind, TellsOfInputs}
+use Rattle.yaml_round_compare.specs.Dumps.{documents_left, IsStarted, PartsBehind, TellsOfInputs}
 use Rattle.yaml_round_compare.proofs.Walks.{position_walked}
 use Rattle.yaml_round_compare.proofs.Placing.{placed}
-use Rattle.yaml_round_compare.proofs.Fronts.{whole_stream}
 
 -- ---- what is loaded
 
@@ -118,23 +115,6 @@ in_front c d before (x ∷ xs) other_left p q differ =
 in_front c d before [] (y ∷ ys) p q differ =
     placed d (event.stream_start YAML_ANY_ENCODING) before y ys (ap (λ (es : List EventBody). event.stream_start YAML_ANY_ENCODING ∷ es) q)
 
--- neither ends before the other
-longer : (c d : List content.Document) (before : List EventBody) (y : EventBody)
-    (ys : List EventBody) → documents_say c ≡ before ++ [] → documents_say d ≡ before ++ y ∷ ys → ⊥
-longer c d before y ys p q =
-    let e : stream_says c ++ y ∷ ys ≡ stream_says d =
-    ap (λ (es : List EventBody). event.stream_start YAML_ANY_ENCODING ∷ (es ++ y ∷ ys)) (p ∙ append-nil before) ∙ sym (ap (λ (es : List EventBody). event.stream_start YAML_ANY_ENCODING ∷ es) q) in
-    absurd (let h = ap length (whole_stream c d (y ∷ ys) e) in omega (arith, h))
-
-causes : (c d : List content.Document) (before left other_left : List EventBody) (k : yaml_cause_t)
-    → documents_say c ≡ before ++ left → documents_say d ≡ before ++ other_left
-    → (next_of left ≡ next_of other_left → ⊥) → IsCauseOf k (next_of left) (next_of other_left)
-    → k ≡ next_cause (next_of left) (next_of other_left)
-causes c d before [] [] k p q differ h = absurd (differ refl)
-causes c d before [] (y ∷ ys) k p q differ h = absurd (longer c d before y ys p q)
-causes c d before (x ∷ xs) [] k p q differ h = absurd (longer d c before x xs q p)
-causes c d before (x ∷ xs) (y ∷ ys) k p q differ h = h
-
 -- that many are in front
 counted : (m n : ℕ) (before : List EventBody) → n ≡ 1 → m ≡ n + length before
     → m ≡ length (event.stream_start YAML_ANY_ENCODING ∷ before)
@@ -154,20 +134,20 @@ all_part a_from a b_from b ds es old new d h k p q s parts t =
     let g = parts.past in
     let first_says : documents_left xs ≡ g.before ++ parts.left = sym (ended_say xs) ∙ ap (λ (z : List Document). documents_left z) (sym p) ∙ g.first_events in
     let second_says : documents_left ys ≡ g.before ++ parts.other_left = sym (ended_say ys) ∙ ap (λ (z : List Document). documents_left z) (sym q) ∙ g.second_events in
-    let there = in_front (trees_of_dumps xs) (trees_of_dumps ys) g.before parts.left parts.other_left first_says second_says parts.differ in
+    let there = in_front (trees_of_dumps xs) (trees_of_dumps ys) g.before parts.left parts.other_left first_says second_says parts.next.differ in
     record {
       first = xs;
       second = ys;
       first_loads = faultless_load a_from a h;
       second_loads = faultless_load b_from b k;
-      apart = λ agree. parts.differ (ap next_of (behind_same g.before parts.left parts.other_left (sym first_says ∙ ap (λ (c : List content.Document). documents_say c) (agreeing_said xs ys agree) ∙ second_says)));
+      apart = λ agree. parts.next.differ (ap next_of (behind_same g.before parts.left parts.other_left (sym first_says ∙ ap (λ (c : List content.Document). documents_say c) (agreeing_said xs ys agree) ∙ second_says)));
       before = event.stream_start YAML_ANY_ENCODING ∷ g.before;
       left = parts.left;
       other_left = parts.other_left;
       first_says = ap (λ (x : List EventBody). event.stream_start YAML_ANY_ENCODING ∷ x) first_says;
       second_says = ap (λ (x : List EventBody). event.stream_start YAML_ANY_ENCODING ∷ x) second_says;
-      differ = parts.differ;
-      cause = t.cause ∙ causes (trees_of_dumps xs) (trees_of_dumps ys) g.before parts.left parts.other_left new.trail.place.cause first_says second_says parts.differ parts.cause;
+      differ = parts.next.differ;
+      cause = t.cause ∙ parts.next.cause;
       tells = subst (λ (n : ℕ). TellsOf (event_at (events_of a_from a) n) (event_at (events_of b_from b) n) d) (counted new.events old.events g.before s.events g.events) t.tells;
       place = there.0;
       in_front = there.1;

@@ -81,14 +81,14 @@ beside first first_new second second_new Same g b =
     goes_on first.parser second.parser first_new.parser second_new.parser first_new.given (first_new.given, first_new.parser.unasked) b.front
     g.events b.events b.says refl g.real b.real g.ending b.ending
 beside first first_new second second_new End g b = absurd b
-beside first first_new second second_new Different g b = record {
+beside first first_new second second_new (Different k) g b = record {
   contents = record {
     real = (g.real, b.real);
     differ = λ same. b.differ (contents first_new.parser.events) (sym same ∙ ap contents g.events);
     first_ending = g.ending;
     second_ending = b.ending;
   };
-  apart = λ d t. subst (λ (xs : List Told). AreApart xs second.parser.events d) (sym g.events) (b.apart first_new.parser.unasked first_new.parser.events d t);
+  apart = λ d t w. subst (λ (xs : List Told). AreApart xs second.parser.events d) (sym g.events) (b.apart first_new.parser.unasked first_new.parser.events d t w);
 }
 beside first first_new second second_new (Refused First) g b = absurd b
 beside first first_new second second_new (Refused Second) g b = (b, (g.ending, g.real))
@@ -100,11 +100,11 @@ pub judged_beside : (e : Event) (second : ParserRemaining) (r : Next) (second_ne
 judged_beside e second Same second_new g j =
     record { front = (second_new.given, second_new.parser.unasked); events = g.events; says = j; real = g.real; ending = g.ending }
 judged_beside e second End second_new g j = absurd j
-judged_beside e second Different second_new g j = record {
+judged_beside e second (Different k) second_new g j = record {
   real = g.real;
   ending = g.ending;
-  differ = λ rest s. j (first_same (saying e.body) (saying second_new.given.body) rest (contents second_new.parser.events) (sym s ∙ ap contents g.events));
-  apart = λ n xs d t. subst (λ (zs : List Told). AreApart ((e, n) ∷ xs) zs d) (sym g.events) (j, t);
+  differ = λ rest s. j.0 (first_same (saying e.body) (saying second_new.given.body) rest (contents second_new.parser.events) (sym s ∙ ap contents g.events));
+  apart = λ n xs d t w. subst (λ (zs : List Told). AreApart ((e, n) ∷ xs) zs d) (sym g.events) (j.0, record { tells = t; cause = w ∙ j.1 });
 }
 judged_beside e second (Refused side) second_new g j = absurd j
 

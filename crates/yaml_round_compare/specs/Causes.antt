@@ -51,6 +51,17 @@ cause_of (event.mapping_start anchor t i style) (event.mapping_start other u j a
     tag_or t u Anchor
 cause_of a b = cause_between (is_end a) (is_end b)
 
+-- they are the same, or they differ, in that
+abbrev pub Parts : EventBody → EventBody → Option yaml_cause_t → Type 0
+Parts a b None = a ≡ b
+Parts a b (Some c) = (a ≡ b → ⊥) × (c ≡ cause_of a b)
+
+-- the same of anchors and tags
+abbrev pub PartsNode : Option (List ℕ) → Option (List ℕ) → Option (List ℕ) → Option (List ℕ)
+    → Option yaml_cause_t → Type 0
+PartsNode a t b u None = (a ≡ b) × (t ≡ u)
+PartsNode a t b u (Some c) = (a ≡ b → t ≡ u → ⊥) × (c ≡ tag_or t u Anchor)
+
 -- of the next events; what goes on alone is in that alone
 abbrev pub next_cause : Option EventBody → Option EventBody → yaml_cause_t
 next_cause (Some a) (Some b) = cause_of a b

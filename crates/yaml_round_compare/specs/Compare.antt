@@ -8,6 +8,7 @@ use Rattle.yaml_parse.specs.Remaining.{ParserRemaining}
 use Rattle.yaml_round_reading.specs.declared.side.yaml_side_t.{yaml_side_t}
 use Rattle.yaml_round_reading.specs.declared.side.yaml_side_t.TheVariants.{First, Second}
 use Rattle.yaml_round_reading.specs.ReadingView.{ReadingView}
+use Rattle.yaml_round_compare.specs.declared.cause.yaml_cause_t.{yaml_cause_t}
 use Rattle.yaml_round_compare.specs.declared.compare.Next.{Next}
 use Rattle.yaml_round_compare.specs.declared.compare.Next.TheVariants.{Same, End, Different, Refused}
 use Rattle.yaml_round_compare.specs.declared.difference.yaml_difference_t.{yaml_difference_t}
@@ -15,12 +16,13 @@ use Rattle.yaml_round_compare.specs.declared.trail.Trail.{Trail}
 use Rattle.yaml_round_reading.specs.Reading.{contents, AreReal, IsFaultOf}
 use Rattle.yaml_round_compare.specs.Places.{path_of}
 use Rattle.yaml_round_compare.specs.Walking.{past}
-use Rattle.yaml_round_compare.specs.Differences.{saying, TellsGiven}
+use Rattle.yaml_round_compare.specs.Causes.{cause_of}
+use Rattle.yaml_round_compare.specs.Differences.{saying, TellsOf, TellsGiven}
 
 abbrev pub JudgesEvents : EventBody → EventBody → Next → Type 0
 JudgesEvents e f Same = saying e ≡ saying f
 JudgesEvents e f End = ⊥
-JudgesEvents e f Different = saying e ≡ saying f → ⊥
+JudgesEvents e f (Different c) = (saying e ≡ saying f → ⊥) × (c ≡ cause_of (saying e) (saying f))
 JudgesEvents e f (Refused side) = ⊥
 
 -- no event is empty
@@ -81,13 +83,13 @@ pub record Differ (first second first_new second_new : ParserRemaining) : Type 0
   pub first_ending : first_new.ending ≡ first.ending
   pub second_ending : second_new.ending ≡ second.ending
 
--- they do, with the events that were given
-pub record DifferNext (first second : ParserRemaining) (first_new second_new : ReadingView) : Type 0
-  where
-    pub contents : Differ first second first_new.parser second_new.parser
-    pub apart : (d : yaml_difference_t)
-        → TellsGiven first_new.given second_new.given d
-        → AreApart first.events second.events d
+-- they do, in that, with the events that were given
+pub record DifferNext (first second : ParserRemaining) (c : yaml_cause_t)
+    (first_new second_new : ReadingView) : Type 0 where
+  pub contents : Differ first second first_new.parser second_new.parser
+  pub apart : (d : yaml_difference_t)
+      → TellsOf first_new.given second_new.given d → d.cause ≡ c
+      → AreApart first.events second.events d
 
 -- the fault of a side; where the second is refused, the first's is still to come
 abbrev pub SideIs : ParserRemaining → ParserRemaining → ParserRemaining → yaml_side_t → Fault
@@ -105,14 +107,14 @@ pub record GoesBeside (e : Event) (second second_new : ParserRemaining) : Type 0
   pub ending : second_new.ending ≡ second.ending
 
 -- the second has no such next event
-pub record DiffersBeside (e : Event) (second : ParserRemaining) (second_new : ReadingView) : Type 0
-  where
-    pub real : AreReal second_new.parser.events
-    pub ending : second_new.parser.ending ≡ second.ending
-    pub differ : (rest : List EventBody) → contents second.events ≡ saying e.body ∷ rest → ⊥
-    pub apart : (unasked : ℕ) (rest : List Told) (d : yaml_difference_t)
-        → TellsGiven e second_new.given d
-        → AreApart ((e, unasked) ∷ rest) second.events d
+pub record DiffersBeside (e : Event) (second : ParserRemaining) (c : yaml_cause_t)
+    (second_new : ReadingView) : Type 0 where
+  pub real : AreReal second_new.parser.events
+  pub ending : second_new.parser.ending ≡ second.ending
+  pub differ : (rest : List EventBody) → contents second.events ≡ saying e.body ∷ rest → ⊥
+  pub apart : (unasked : ℕ) (rest : List Told) (d : yaml_difference_t)
+      → TellsOf e second_new.given d → d.cause ≡ c
+      → AreApart ((e, unasked) ∷ rest) second.events d
 
 -- the second has events to come
 pub record DiffersAlone (second second_new : ParserRemaining) : Type 0 where
@@ -125,7 +127,7 @@ pub record DiffersAlone (second second_new : ParserRemaining) : Type 0 where
 abbrev pub StepsBeside : Event → ParserRemaining → Next → ReadingView → Type 0
 StepsBeside e second Same second_new = GoesBeside e second second_new.parser
 StepsBeside e second End second_new = ⊥
-StepsBeside e second Different second_new = DiffersBeside e second second_new
+StepsBeside e second (Different c) second_new = DiffersBeside e second c second_new
 StepsBeside e second (Refused First) second_new = ⊥
 StepsBeside e second (Refused Second) second_new = IsFaultOf second.ending
     second_new.parser.answered
@@ -134,7 +136,7 @@ StepsBeside e second (Refused Second) second_new = IsFaultOf second.ending
 abbrev pub StepsAlone : ParserRemaining → Next → ParserRemaining → Type 0
 StepsAlone second Same second_new = ⊥
 StepsAlone second End second_new = (second.events ≡ []) × (second.ending ≡ None)
-StepsAlone second Different second_new = DiffersAlone second second_new
+StepsAlone second (Different c) second_new = DiffersAlone second second_new
 StepsAlone second (Refused First) second_new = ⊥
 StepsAlone second (Refused Second) second_new = IsFaultOf second.ending second_new.answered
 
@@ -143,7 +145,7 @@ abbrev pub StepsOn : ReadingView → ReadingView → Next → ReadingView → Re
 StepsOn first second Same first_new second_new = BothGoOn first.parser second.parser
     first_new.parser second_new.parser first_new.given
 StepsOn first second End first_new second_new = EndBoth first.parser second.parser
-StepsOn first second Different first_new second_new = DifferNext first.parser second.parser
+StepsOn first second (Different c) first_new second_new = DifferNext first.parser second.parser c
     first_new second_new
 StepsOn first second (Refused First) first_new second_new = SideIs first.parser second.parser
     first_new.parser First first_new.parser.answered

@@ -8,15 +8,15 @@ use Rattle.yaml_round_content.specs.scan_model.declared.yaml_encoding_t.TheVaria
 use Rattle.yaml_round_content.specs.scan_model.declared.yaml_scalar_style_t.TheVariants.{YAML_ANY_SCALAR_STYLE}
 use Rattle.yaml_round_content.specs.scan_model.declared.yaml_sequence_style_t.TheVariants.{YAML_ANY_SEQUENCE_STYLE}
 use Rattle.yaml_round_content.specs.scan_model.declared.yaml_mapping_style_t.TheVariants.{YAML_ANY_MAPPING_STYLE}
-use Rattle.yaml_parse.specs.Events.{Event, EventBody, event_of, type_of}
+use Rattle.yaml_parse.specs.Events.{Event, EventBody, type_of}
 use Rattle.yaml_parse.specs.Events as event
 use Rattle.yaml_parse.specs.Documents.{Document}
 use Rattle.yaml_parse.specs.Resolve.{Told}
 use Rattle.yaml_emit_graph.specs.emit_layout.Content as emit
 use Rattle.yaml_emit_graph.specs.Graph.{graph_content}
-use Rattle.yaml_emit_graph.specs.Events.{remaining_events, IsEvents}
+use Rattle.yaml_emit_graph.specs.Events.{remaining_events, given_event, IsEvents}
 use Rattle.yaml_round_content.specs.Input.{events_of, ending_of}
-use Rattle.yaml_round_content.specs.Content.{content_of, counts_as_plain}
+use Rattle.yaml_round_content.specs.Content.{counts_as_plain}
 use Rattle.yaml_round_content.specs.Said.{node_says, documents_say}
 use Rattle.yaml_round_content.specs.Trees.{document_tree}
 use Rattle.yaml_round_content.specs.DumpsEvents.{trees_of_dumps}
@@ -30,7 +30,7 @@ use Rattle.yaml_round_compare.specs.declared.dump.Dump.{Dump}
 use Rattle.yaml_round_compare.specs.declared.front.Front.{Front}
 use Rattle.yaml_round_compare.specs.declared.cause.yaml_cause_t.{yaml_cause_t}
 use Rattle.yaml_round_compare.specs.declared.seen.Seen.{Seen}
-use Rattle.yaml_round_compare.specs.Causes.{cause_of}
+use Rattle.yaml_round_compare.specs.Causes.{next_cause}
 use Rattle.yaml_round_compare.specs.Places.{path_of}
 use Rattle.yaml_round_compare.specs.Walking.{past, past_event, start}
 use Rattle.yaml_round_compare.specs.Differences.{TellsOf}
@@ -74,17 +74,17 @@ AreDumps first second = IsDump first × IsDump second
 abbrev pub dump_left : Dump → List EventBody
 dump_left d = map said (remaining_events d.document d.events)
 
--- what the event in its slot says
-abbrev pub in_slot : Dump → EventBody
-in_slot d = content_of (event_of d.event).body
+-- what the event says that was given last
+abbrev pub given : Dump → EventBody
+given d = said (given_event d.document d.events)
 
--- the next event is in the slot
-pub record GivesInto (old new : Dump) : Type 0 where
-  pub events : dump_left old ≡ in_slot new ∷ dump_left new
+-- the next event was given
+pub record GivesDumpEvent (old new : Dump) : Type 0 where
+  pub events : dump_left old ≡ given new ∷ dump_left new
   pub dump : IsDump new
 
 abbrev pub GivesDumped : Dump → Result Bool AllocError → Dump → Type 0
-GivesDumped old (Ok true) new = GivesInto old new
+GivesDumped old (Ok true) new = GivesDumpEvent old new
 GivesDumped old (Ok false) new = dump_left old ≡ []
 GivesDumped old (Err e) new = Unit {0}
 
@@ -92,47 +92,40 @@ GivesDumped old (Err e) new = Unit {0}
 
 -- both give an event that has the same content
 pub record BothGive (first second first_new second_new : Dump) : Type 0 where
-  pub first_events : dump_left first ≡ in_slot first_new ∷ dump_left first_new
-  pub second_events : dump_left second ≡ in_slot first_new ∷ dump_left second_new
+  pub first_events : dump_left first ≡ given first_new ∷ dump_left first_new
+  pub second_events : dump_left second ≡ given first_new ∷ dump_left second_new
   pub dumps : AreDumps first_new second_new
   pub less : length (dump_left first_new) < length (dump_left first)
 
--- the second gives what is in the first one's slot
+-- the second gives what the first gave last
 pub record GivesBeside (first second second_new : Dump) : Type 0 where
-  pub events : dump_left second ≡ in_slot first ∷ dump_left second_new
+  pub events : dump_left second ≡ given first ∷ dump_left second_new
   pub dump : IsDump second_new
 
--- it is that of the next events, where there are both
-abbrev pub IsCauseOf : yaml_cause_t → Option EventBody → Option EventBody → Type 0
-IsCauseOf c (Some a) (Some b) = c ≡ cause_of a b
-IsCauseOf c None _ = Unit {0}
-IsCauseOf c _ None = Unit {0}
-
--- they don't give the same next event; where both give one, these are in the slots
-pub record DiffersInSlots (first second : Option EventBody) (first_new second_new : Dump) : Type 0
-  where
-    pub differ : first ≡ second → ⊥
-    pub cause : IsCauseOf (cause_of (in_slot first_new) (in_slot second_new)) first second
+-- the next events aren't the same, and differ in that
+pub record DifferNextIn (c : yaml_cause_t) (first second : Option EventBody) : Type 0 where
+  pub differ : first ≡ second → ⊥
+  pub cause : c ≡ next_cause first second
 
 abbrev pub TurnsBeside : Dump → Dump → Result Turn AllocError → Dump → Type 0
 TurnsBeside first second (Ok Same) second_new = GivesBeside first second second_new
 TurnsBeside first second (Ok End) second_new = ⊥
-TurnsBeside first second (Ok Different) second_new = DiffersInSlots (Some (in_slot first))
-    (next_of (dump_left second)) first second_new
+TurnsBeside first second (Ok (Different c)) second_new = DifferNextIn c (Some (given first))
+    (next_of (dump_left second))
 TurnsBeside first second (Err e) second_new = Unit {0}
 
 abbrev pub TurnsAlone : Dump → Result Turn AllocError → Type 0
 TurnsAlone second (Ok Same) = ⊥
 TurnsAlone second (Ok End) = dump_left second ≡ []
-TurnsAlone second (Ok Different) = None ≡ next_of (dump_left second) → ⊥
+TurnsAlone second (Ok (Different c)) = DifferNextIn c None (next_of (dump_left second))
 TurnsAlone second (Err e) = Unit {0}
 
 abbrev pub TurnsOn : Dump → Dump → Result Turn AllocError → Dump → Dump → Type 0
 TurnsOn first second (Ok Same) first_new second_new = BothGive first second first_new second_new
 TurnsOn first second (Ok End) first_new second_new = (dump_left first ≡ [])
     × (dump_left second ≡ [])
-TurnsOn first second (Ok Different) first_new second_new = DiffersInSlots
-    (next_of (dump_left first)) (next_of (dump_left second)) first_new second_new
+TurnsOn first second (Ok (Different c)) first_new second_new = DifferNextIn c
+    (next_of (dump_left first)) (next_of (dump_left second))
 TurnsOn first second (Err e) first_new second_new = Unit {0}
 
 -- ---- what is in front
@@ -146,12 +139,6 @@ pub record IsStarted (f : Front) : Type 0 where
 pub record PassesEvent (e : EventBody) (old new : Front) : Type 0 where
   pub path : path_of new.trail.place ≡ past_event e (path_of old.trail.place)
   pub events : new.events ≡ suc old.events
-
--- nothing was passed, and it is told in what two events differ
-pub record PartsFront (a b : EventBody) (old new : Front) : Type 0 where
-  pub path : path_of new.trail.place ≡ path_of old.trail.place
-  pub events : new.events ≡ old.events
-  pub cause : new.trail.place.cause ≡ cause_of a b
 
 -- nothing was passed, and that is told
 pub record EndsFront (c : yaml_cause_t) (old new : Front) : Type 0 where
@@ -173,8 +160,7 @@ pub record PartsBehind (first second : List EventBody) (old new : Front) : Type 
   pub left : List EventBody
   pub other_left : List EventBody
   pub past : GoesPast first second left other_left old new
-  pub differ : next_of left ≡ next_of other_left → ⊥
-  pub cause : IsCauseOf new.trail.place.cause (next_of left) (next_of other_left)
+  pub next : DifferNextIn new.trail.place.cause (next_of left) (next_of other_left)
 
 abbrev pub Compares : List EventBody → List EventBody → Front → Result Bool AllocError → Front
     → Type 0

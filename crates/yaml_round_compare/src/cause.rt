@@ -1,11 +1,16 @@
-//! In what two events differ.
+//! In what two events differ, if they do.
 
-ghost use Rattle.std.specs.Prelude.{◌≡◌, option_map};
-ghost use Rattle.yaml_parse.specs.Events.{borrowed_body, type_of};
+ghost use Rattle.std.specs.Prelude.{◌≡◌, true, false, map, option_map};
+ghost use Rattle.yaml_parse.specs.Events.{borrowed_body, directive_of};
+ghost use Rattle.yaml_parse.specs.Events as event;
+ghost use Rattle.yaml_round_content.specs.scan_model.declared.yaml_scalar_style_t.TheVariants.{YAML_ANY_SCALAR_STYLE};
+ghost use Rattle.yaml_round_content.specs.scan_model.declared.yaml_sequence_style_t.TheVariants.{YAML_ANY_SEQUENCE_STYLE};
+ghost use Rattle.yaml_round_content.specs.scan_model.declared.yaml_mapping_style_t.TheVariants.{YAML_ANY_MAPPING_STYLE};
 ghost use Rattle.yaml_round_content.specs.Content.{content_of, counts_as_plain};
-ghost use Rattle.yaml_round_compare.specs.Causes.{cause_between, cause_of, is_end, quotes_or_anchor, same_tag, tag_or};
+ghost use Rattle.yaml_round_compare.specs.Causes.{Parts, PartsNode, cause_between, is_end};
 
-use yaml_parse::{EventRef, yaml_event_type_t};
+use crate::content::{same_directives, same_text};
+use yaml_parse::{EventRef, yaml_tag_directive_t, yaml_version_directive_t};
 
 /// In what the two events differ at which contents or documents part: the first of these that holds.
 #[derive(Clone, Copy)]
@@ -51,17 +56,6 @@ fn cause_between(first: bool, second: bool) -> yaml_cause_t
     }
 }
 
-fn same_tag(a: Option<&[u8]>, b: Option<&[u8]>) -> bool
-    ensures { result ≡ same_tag (option_map (λ t. t.now) a.entry)
-        (option_map (λ t. t.now) b.entry) }
-{
-    match (a, b) {
-        (None, None) => true,
-        (Some(a), Some(b)) => a == b,
-        _ => false,
-    }
-}
-
 // Whether a scalar with that tag counts as plain.
 fn counts_as_plain(tag: Option<&[u8]>, plain: bool) -> bool
     ensures { result ≡ counts_as_plain (option_map (λ t. t.now) tag.entry) plain }
@@ -72,83 +66,177 @@ fn counts_as_plain(tag: Option<&[u8]>, plain: bool) -> bool
     }
 }
 
-fn quotes_or_anchor(first: bool, second: bool) -> yaml_cause_t
-    ensures { result ≡ quotes_or_anchor first second }
+// In what a document's start and an event differ, if they do.
+fn document_parts(
+    version: Option<yaml_version_directive_t>,
+    directives: &[yaml_tag_directive_t],
+    body: EventRef<'_>,
+) -> Option<yaml_cause_t>
+    ensures { Parts (event.document_start version (map directive_of directives.now) true)
+        (content_of (borrowed_body body.entry)) result }
 {
-    match (first, second) {
-        (true, true) | (false, false) => yaml_cause_t::Anchor,
-        _ => yaml_cause_t::Quotes,
+    match body {
+        EventRef::DocumentStart {
+            version_directive,
+            tag_directives,
+            ..
+        } => {
+            if version == version_directive && same_directives(directives, tag_directives) {
+                None
+            } else {
+                Some(yaml_cause_t::Directives)
+            }
+        }
+        _ => Some(cause_between(false, is_end(body))),
     }
 }
 
-// The tags, or else that.
-fn tag_or(a: Option<&[u8]>, b: Option<&[u8]>, other: yaml_cause_t) -> yaml_cause_t
-    ensures { result ≡ tag_or (option_map (λ t. t.now) a.entry)
-        (option_map (λ t. t.now) b.entry) other }
+// In what an alias and an event differ, if they do.
+fn alias_parts(name: &[u8], body: EventRef<'_>) -> Option<yaml_cause_t>
+    ensures { Parts (event.alias name.now) (content_of (borrowed_body body.entry)) result }
 {
-    if same_tag(a, b) {
-        other
+    match body {
+        EventRef::Alias { anchor } => {
+            if name == anchor {
+                None
+            } else {
+                Some(yaml_cause_t::Anchor)
+            }
+        }
+        _ => Some(cause_between(false, is_end(body))),
+    }
+}
+
+// In what a scalar and an event differ, if they do.
+fn scalar_parts(
+    anchor: Option<&[u8]>,
+    tag: Option<&[u8]>,
+    value: &[u8],
+    plain: bool,
+    body: EventRef<'_>,
+) -> Option<yaml_cause_t>
+    ensures { Parts (event.scalar (option_map (λ t. t.now) anchor.entry)
+        (option_map (λ t. t.now) tag.entry) value.now
+        (counts_as_plain (option_map (λ t. t.now) tag.entry) plain) false YAML_ANY_SCALAR_STYLE)
+        (content_of (borrowed_body body.entry)) result }
+{
+    match body {
+        EventRef::Scalar {
+            anchor: y,
+            tag: u,
+            value: w,
+            plain_implicit: q,
+            ..
+        } => {
+            if value != w {
+                Some(yaml_cause_t::Value)
+            } else if !same_text(tag, u) {
+                Some(yaml_cause_t::Tag)
+            } else if counts_as_plain(tag, plain) != counts_as_plain(u, q) {
+                Some(yaml_cause_t::Quotes)
+            } else if !same_text(anchor, y) {
+                Some(yaml_cause_t::Anchor)
+            } else {
+                None
+            }
+        }
+        _ => Some(cause_between(false, is_end(body))),
+    }
+}
+
+// In what two collections of one kind differ, if they do.
+fn node_parts(
+    anchor: Option<&[u8]>,
+    tag: Option<&[u8]>,
+    other: Option<&[u8]>,
+    other_tag: Option<&[u8]>,
+) -> Option<yaml_cause_t>
+    ensures { PartsNode (option_map (λ t. t.now) anchor.entry) (option_map (λ t. t.now) tag.entry)
+        (option_map (λ t. t.now) other.entry) (option_map (λ t. t.now) other_tag.entry) result }
+{
+    if !same_text(tag, other_tag) {
+        Some(yaml_cause_t::Tag)
+    } else if !same_text(anchor, other) {
+        Some(yaml_cause_t::Anchor)
     } else {
-        yaml_cause_t::Tag
+        None
     }
 }
 
-/// What an event is.
-pub(crate) fn type_of(event: EventRef<'_>) -> yaml_event_type_t
-    ensures { result ≡ type_of (borrowed_body event.entry) }
+// In what a sequence's start and an event differ, if they do.
+fn sequence_parts(
+    anchor: Option<&[u8]>,
+    tag: Option<&[u8]>,
+    body: EventRef<'_>,
+) -> Option<yaml_cause_t>
+    ensures { Parts (event.sequence_start (option_map (λ t. t.now) anchor.entry)
+        (option_map (λ t. t.now) tag.entry) true YAML_ANY_SEQUENCE_STYLE)
+        (content_of (borrowed_body body.entry)) result }
 {
-    match event {
-        EventRef::No => yaml_event_type_t::YAML_NO_EVENT,
-        EventRef::StreamStart { .. } => yaml_event_type_t::YAML_STREAM_START_EVENT,
-        EventRef::StreamEnd => yaml_event_type_t::YAML_STREAM_END_EVENT,
-        EventRef::DocumentStart { .. } => yaml_event_type_t::YAML_DOCUMENT_START_EVENT,
-        EventRef::DocumentEnd { .. } => yaml_event_type_t::YAML_DOCUMENT_END_EVENT,
-        EventRef::Alias { .. } => yaml_event_type_t::YAML_ALIAS_EVENT,
-        EventRef::Scalar { .. } => yaml_event_type_t::YAML_SCALAR_EVENT,
-        EventRef::SequenceStart { .. } => yaml_event_type_t::YAML_SEQUENCE_START_EVENT,
-        EventRef::SequenceEnd => yaml_event_type_t::YAML_SEQUENCE_END_EVENT,
-        EventRef::MappingStart { .. } => yaml_event_type_t::YAML_MAPPING_START_EVENT,
-        EventRef::MappingEnd => yaml_event_type_t::YAML_MAPPING_END_EVENT,
+    match body {
+        EventRef::SequenceStart {
+            anchor: y,
+            tag: u,
+            ..
+        } => node_parts(anchor, tag, y, u),
+        _ => Some(cause_between(false, is_end(body))),
     }
 }
 
-/// In what two normalized events differ, where they do.
-pub(crate) fn cause_of(a: EventRef<'_>, b: EventRef<'_>) -> yaml_cause_t
-    ensures { result ≡ cause_of (content_of (borrowed_body a.entry))
-        (content_of (borrowed_body b.entry)) }
+// In what a mapping's start and an event differ, if they do.
+fn mapping_parts(
+    anchor: Option<&[u8]>,
+    tag: Option<&[u8]>,
+    body: EventRef<'_>,
+) -> Option<yaml_cause_t>
+    ensures { Parts (event.mapping_start (option_map (λ t. t.now) anchor.entry)
+        (option_map (λ t. t.now) tag.entry) true YAML_ANY_MAPPING_STYLE)
+        (content_of (borrowed_body body.entry)) result }
+{
+    match body {
+        EventRef::MappingStart {
+            anchor: y,
+            tag: u,
+            ..
+        } => node_parts(anchor, tag, y, u),
+        _ => Some(cause_between(false, is_end(body))),
+    }
+}
+
+/// In what two normalized events differ; nothing where they say the same: styles and document marks aside, and of a tagged scalar
+/// the flags.
+pub(crate) fn parting(a: EventRef<'_>, b: EventRef<'_>) -> Option<yaml_cause_t>
+    ensures { Parts (content_of (borrowed_body a.entry)) (content_of (borrowed_body b.entry))
+        result }
 {
     match (a, b) {
-        (EventRef::DocumentStart { .. }, EventRef::DocumentStart { .. }) => {
-            yaml_cause_t::Directives
-        }
-        (EventRef::Alias { .. }, EventRef::Alias { .. }) => yaml_cause_t::Anchor,
+        (EventRef::No, EventRef::No)
+        | (EventRef::StreamStart { .. }, EventRef::StreamStart { .. })
+        | (EventRef::StreamEnd, EventRef::StreamEnd)
+        | (EventRef::DocumentEnd { .. }, EventRef::DocumentEnd { .. })
+        | (EventRef::SequenceEnd, EventRef::SequenceEnd)
+        | (EventRef::MappingEnd, EventRef::MappingEnd) => None,
+        (
+            EventRef::DocumentStart {
+                version_directive: version,
+                tag_directives,
+                ..
+            },
+            body,
+        ) => document_parts(version, tag_directives, body),
+        (EventRef::Alias { anchor }, body) => alias_parts(anchor, body),
         (
             EventRef::Scalar {
+                anchor,
                 tag,
                 value,
                 plain_implicit,
                 ..
             },
-            EventRef::Scalar {
-                tag: u,
-                value: w,
-                plain_implicit: q,
-                ..
-            },
-        ) => {
-            if value != w {
-                return yaml_cause_t::Value;
-            }
-            let plain = counts_as_plain(tag, plain_implicit);
-            let other = counts_as_plain(u, q);
-            tag_or(tag, u, quotes_or_anchor(plain, other))
-        }
-        (EventRef::SequenceStart { tag, .. }, EventRef::SequenceStart { tag: u, .. })
-        | (EventRef::MappingStart { tag, .. }, EventRef::MappingStart { tag: u, .. }) => tag_or(
-            tag,
-            u,
-            yaml_cause_t::Anchor,
-        ),
-        (first, second) => cause_between(is_end(first), is_end(second)),
+            body,
+        ) => scalar_parts(anchor, tag, value, plain_implicit, body),
+        (EventRef::SequenceStart { anchor, tag, .. }, body) => sequence_parts(anchor, tag, body),
+        (EventRef::MappingStart { anchor, tag, .. }, body) => mapping_parts(anchor, tag, body),
+        (first, second) => Some(cause_between(is_end(first), is_end(second))),
     }
 }

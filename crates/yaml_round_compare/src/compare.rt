@@ -9,7 +9,7 @@ ghost use Rattle.yaml_parse.specs.Events.{borrowed_body};
 ghost use Rattle.yaml_round_reading.specs.Reading.{AreReal};
 ghost use Rattle.yaml_round_reading.specs.Answers.{IsSame};
 
-use crate::content::agree;
+use crate::cause::{parting, yaml_cause_t};
 use crate::trail::Trail;
 use std::alloc::Global;
 use yaml_parse::{
@@ -27,7 +27,8 @@ pub(crate) enum Next {
     Same,
     // Both streams are at their end.
     End,
-    Different,
+    // They don't, or one is at its end.
+    Different(yaml_cause_t),
     // That input's fault was answered.
     Refused(yaml_side_t),
 }
@@ -35,14 +36,13 @@ pub(crate) enum Next {
 // A fault, and which input it is said of.
 type SideFault = (yaml_side_t, yaml_fault_t);
 
-// Two events, normalized, say the same.
+// Whether two events, normalized, say the same.
 fn judged(event: EventRef<'_>, other: EventRef<'_>) -> Next
     ensures { JudgesEvents (borrowed_body event.entry) (borrowed_body other.entry) result }
 {
-    if agree(normalized(event, true), normalized(other, true)) {
-        Next::Same
-    } else {
-        Next::Different
+    match parting(normalized(event, true), normalized(other, true)) {
+        None => Next::Same,
+        Some(cause) => Next::Different(cause),
     }
 }
 
@@ -53,7 +53,7 @@ fn compared_event(first: &Reading<'_>, second: &mut Reading<'_>) -> Next
 {
     match second.next() {
         yaml_found_t::Refused => Next::Refused(yaml_side_t::Second),
-        yaml_found_t::End => Next::Different,
+        yaml_found_t::End => Next::Different(yaml_cause_t::OnlyFirst),
         yaml_found_t::Event => judged(first.event(), second.event()),
     }
 }
@@ -66,7 +66,7 @@ fn compared_end(second: &mut Reading<'_>) -> Next
     match second.next() {
         yaml_found_t::Refused => Next::Refused(yaml_side_t::Second),
         yaml_found_t::End => Next::End,
-        yaml_found_t::Event => Next::Different,
+        yaml_found_t::Event => Next::Different(yaml_cause_t::OnlySecond),
     }
 }
 
@@ -102,8 +102,8 @@ fn same_events(
                 return Err((yaml_side_t::Second, second.fault()))
             }
             Next::End => return Ok(true),
-            Next::Different => {
-                trail.part_at(first, second);
+            Next::Different(cause) => {
+                trail.part_at(first, second, cause);
                 return Ok(false);
             }
             Next::Same => match trail.go_past(first.event(), kept) {

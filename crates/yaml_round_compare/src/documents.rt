@@ -2,8 +2,7 @@
 
 ghost use Rattle.yaml_round_compare.specs.Dumps.{IsDump, AreDumps, TurnsBeside, TurnsAlone, TurnsOn, Compares, ComparesAll, document_says, dump_left, documents_left};
 
-use crate::cause::yaml_cause_t;
-use crate::content::agree;
+use crate::cause::{parting, yaml_cause_t};
 use crate::dump::Dump;
 use crate::front::Front;
 use std::alloc::{AllocError, Global};
@@ -17,24 +16,21 @@ pub(crate) enum Turn {
     Same,
     // Both are at their end.
     End,
-    Different,
+    // They don't, or one is at its end.
+    Different(yaml_cause_t),
 }
 
-// The second dump's next event beside the first's, which is in its slot.
+// The second dump's next event beside the one that the first gave.
 fn turned_beside(first: &Dump, second: &mut Dump) -> Result<Turn, AllocError>
-    requires { IsDump second.old }
+    requires { AreDumps first.now second.old }
     ensures { TurnsBeside first.now second.old result second.new }
 {
-    match second.next() {
-        Err(refusal) => Err(refusal),
-        Ok(false) => Ok(Turn::Different),
-        Ok(true) => {
-            if agree(first.event(), second.event()) {
-                Ok(Turn::Same)
-            } else {
-                Ok(Turn::Different)
-            }
-        }
+    if !second.next()? {
+        return Ok(Turn::Different(yaml_cause_t::OnlyFirst));
+    }
+    match parting(first.event(), second.event()) {
+        None => Ok(Turn::Same),
+        Some(cause) => Ok(Turn::Different(cause)),
     }
 }
 
@@ -43,10 +39,10 @@ fn turned_alone(second: &mut Dump) -> Result<Turn, AllocError>
     requires { IsDump second.old }
     ensures { TurnsAlone second.old result }
 {
-    match second.next() {
-        Err(refusal) => Err(refusal),
-        Ok(false) => Ok(Turn::End),
-        Ok(true) => Ok(Turn::Different),
+    if second.next()? {
+        Ok(Turn::Different(yaml_cause_t::OnlySecond))
+    } else {
+        Ok(Turn::End)
     }
 }
 
@@ -55,10 +51,10 @@ fn turned(first: &mut Dump, second: &mut Dump) -> Result<Turn, AllocError>
     requires { AreDumps first.old second.old }
     ensures { TurnsOn first.old second.old result first.new second.new }
 {
-    match first.next() {
-        Err(refusal) => Err(refusal),
-        Ok(false) => turned_alone(second),
-        Ok(true) => turned_beside(first, second),
+    if first.next()? {
+        turned_beside(first, second)
+    } else {
+        turned_alone(second)
     }
 }
 
@@ -71,8 +67,8 @@ fn same_dumps(first: &mut Dump, second: &mut Dump, front: &mut Front) -> Result<
         match turned(first, second) {
             Err(refusal) => return Err(refusal),
             Ok(Turn::End) => return Ok(true),
-            Ok(Turn::Different) => {
-                front.part_at(first.event(), second.event());
+            Ok(Turn::Different(cause)) => {
+                front.part_at(cause);
                 return Ok(false);
             }
             Ok(Turn::Same) => match front.pass(first.event()) {
@@ -93,10 +89,8 @@ fn is_dump_of(
     requires { IsDump first.old }
     ensures { Compares (dump_left first.old) (document_says other) front.old result front.new }
 {
-    match Dump::of(alloc, other) {
-        Err(refusal) => Err(refusal),
-        Ok(mut second) => same_dumps(first, &mut second, front),
-    }
+    let mut second = Dump::of(alloc, other)?;
+    same_dumps(first, &mut second, front)
 }
 
 // Whether two documents have the same dump.
@@ -108,10 +102,8 @@ fn same_document(
 ) -> Result<bool, AllocError>
     ensures { Compares (document_says document) (document_says other) front.old result front.new }
 {
-    match Dump::of(alloc, document) {
-        Err(refusal) => Err(refusal),
-        Ok(mut first) => is_dump_of(alloc, &mut first, other, front),
-    }
+    let mut first = Dump::of(alloc, document)?;
+    is_dump_of(alloc, &mut first, other, front)
 }
 
 /// Whether documents have the same dumps, one after another. Where they haven't, the front says what is before the first
@@ -130,13 +122,13 @@ pub fn same_documents(
             None => match second.pop_front() {
                 None => return Ok(true),
                 Some(_) => {
-                    front.end_at(yaml_cause_t::OnlySecond);
+                    front.part_at(yaml_cause_t::OnlySecond);
                     return Ok(false);
                 }
             },
             Some(document) => match second.pop_front() {
                 None => {
-                    front.end_at(yaml_cause_t::OnlyFirst);
+                    front.part_at(yaml_cause_t::OnlyFirst);
                     return Ok(false);
                 }
                 Some(other) => match same_document(alloc, document, other, front) {

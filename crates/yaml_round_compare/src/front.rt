@@ -2,10 +2,9 @@
 
 ghost use Rattle.std.specs.Prelude.{◌≡◌, OnOk};
 ghost use Rattle.yaml_parse.specs.Events.{borrowed_body};
-ghost use Rattle.yaml_round_content.specs.Content.{content_of};
-ghost use Rattle.yaml_round_compare.specs.Dumps.{EndsFront, IsStarted, PartsFront, PassesEvent};
+ghost use Rattle.yaml_round_compare.specs.Dumps.{EndsFront, IsStarted, PassesEvent};
 
-use crate::cause::{cause_of, yaml_cause_t};
+use crate::cause::yaml_cause_t;
 use crate::trail::{Trail, one_more};
 use std::alloc::{AllocError, Global};
 use yaml_parse::EventRef;
@@ -32,25 +31,13 @@ impl Front {
     pub(crate) fn pass(&mut self, event: EventRef<'_>) -> Result<(), AllocError>
         ensures { OnOk result (PassesEvent (borrowed_body event.entry) self.old self.new) }
     {
-        match one_more(self.events) {
-            Err(refusal) => Err(refusal),
-            Ok(next) => {
-                self.events = next;
-                self.trail.go_past(event, true)
-            }
-        }
+        let next = one_more(self.events)?;
+        self.events = next;
+        self.trail.go_past(event, true)
     }
 
-    // The dumps differ there by these events.
-    pub(crate) fn part_at(&mut self, first: EventRef<'_>, second: EventRef<'_>)
-        ensures { PartsFront (content_of (borrowed_body first.entry))
-            (content_of (borrowed_body second.entry)) self.old self.new }
-    {
-        self.trail.place.cause = cause_of(first, second);
-    }
-
-    // One of both is at its end there.
-    pub(crate) fn end_at(&mut self, cause: yaml_cause_t)
+    // The dumps differ there, in that.
+    pub(crate) fn part_at(&mut self, cause: yaml_cause_t)
         ensures { EndsFront cause self.old self.new }
     {
         self.trail.place.cause = cause;

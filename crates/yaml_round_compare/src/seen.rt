@@ -1,15 +1,17 @@
 //! What is in two inputs after that many events.
 
 ghost use Rattle.std.specs.Prelude.{◌≡◌};
+ghost use Rattle.yaml_parse.specs.Events.{borrowed_body, type_of};
 ghost use Rattle.yaml_round_content.specs.Input.{events_of, ending_of};
 ghost use Rattle.yaml_round_reading.specs.Reading.{AreReal};
 ghost use Rattle.yaml_round_compare.specs.Dumps.{FindsEvent, TellsOfInputs};
 
-use crate::cause::type_of;
 use crate::difference::yaml_difference_t;
 use crate::front::Front;
 use std::alloc::Global;
-use yaml_parse::{yaml_encoding_t, yaml_event_type_t, yaml_fault_t, yaml_found_t, yaml_mark_t};
+use yaml_parse::{
+    EventRef, yaml_encoding_t, yaml_event_type_t, yaml_fault_t, yaml_found_t, yaml_mark_t,
+};
 use yaml_round_reading::{
     ReadText, Reading, let_go, let_text_go, read_text, reading_of, yaml_side_t,
 };
@@ -20,6 +22,25 @@ pub(crate) struct Seen {
     start: yaml_mark_t,
     end: yaml_mark_t,
     kind: yaml_event_type_t,
+}
+
+/// What an event is.
+pub(crate) fn type_of(event: EventRef<'_>) -> yaml_event_type_t
+    ensures { result ≡ type_of (borrowed_body event.entry) }
+{
+    match event {
+        EventRef::No => yaml_event_type_t::YAML_NO_EVENT,
+        EventRef::StreamStart { .. } => yaml_event_type_t::YAML_STREAM_START_EVENT,
+        EventRef::StreamEnd => yaml_event_type_t::YAML_STREAM_END_EVENT,
+        EventRef::DocumentStart { .. } => yaml_event_type_t::YAML_DOCUMENT_START_EVENT,
+        EventRef::DocumentEnd { .. } => yaml_event_type_t::YAML_DOCUMENT_END_EVENT,
+        EventRef::Alias { .. } => yaml_event_type_t::YAML_ALIAS_EVENT,
+        EventRef::Scalar { .. } => yaml_event_type_t::YAML_SCALAR_EVENT,
+        EventRef::SequenceStart { .. } => yaml_event_type_t::YAML_SEQUENCE_START_EVENT,
+        EventRef::SequenceEnd => yaml_event_type_t::YAML_SEQUENCE_END_EVENT,
+        EventRef::MappingStart { .. } => yaml_event_type_t::YAML_MAPPING_START_EVENT,
+        EventRef::MappingEnd => yaml_event_type_t::YAML_MAPPING_END_EVENT,
+    }
 }
 
 // The event of that number, from 0; no event at no place after the last.

@@ -2,15 +2,16 @@
 
 ghost use Rattle.std.specs.Prelude.{◌≡◌, ◌∷◌, true, suc, option_map, OnOk, IfOk};
 ghost use Rattle.yaml_parse.specs.Events.{borrowed_body, text_of};
-ghost use Rattle.yaml_round_compare.specs.Differences.{TellsGiven};
+ghost use Rattle.yaml_round_compare.specs.Differences.{TellsOf};
 ghost use Rattle.yaml_round_compare.specs.Places.{path_of, step_of, steps_of};
 ghost use Rattle.yaml_round_compare.specs.Walking.{past_end, past_event, past_node, start, step_behind};
 
-use crate::cause::{cause_of, type_of, yaml_cause_t};
+use crate::cause::yaml_cause_t;
 use crate::difference::{yaml_difference_t, yaml_step_t};
+use crate::seen::type_of;
 use std::alloc::{AllocError, Global};
 use yaml_parse::{EventRef, yaml_event_type_t, yaml_mark_t};
-use yaml_round_reading::{Reading, normalized};
+use yaml_round_reading::Reading;
 
 /// Where a comparison stands, or where it found that the contents part. The path is kept only where it is asked for.
 #[derive(Drop)]
@@ -36,10 +37,10 @@ fn copy_if(alloc: Global, text: Option<&[u8]>) -> Result<Option<Vec<u8>>, AllocE
 {
     match text {
         None => Ok(None),
-        Some(text) => match Vec::from_slice(alloc, text) {
-            Ok(copy) => Ok(Some(copy)),
-            Err(refusal) => Err(refusal),
-        },
+        Some(text) => {
+            let copy = Vec::from_slice(alloc, text)?;
+            Ok(Some(copy))
+        }
     }
 }
 
@@ -54,18 +55,12 @@ fn step_behind(
         ≡ step_behind (step_of step) (option_map (λ t. t.now) text.entry)) }
 {
     match step {
-        yaml_step_t::Item(number) => match one_more(number) {
-            Ok(next) => Ok(yaml_step_t::Item(next)),
-            Err(refusal) => Err(refusal),
-        },
-        yaml_step_t::Key(pair) => match copy_if(alloc, text) {
-            Ok(key) => Ok(yaml_step_t::Value { pair, key }),
-            Err(refusal) => Err(refusal),
-        },
-        yaml_step_t::Value { pair, .. } => match one_more(pair) {
-            Ok(next) => Ok(yaml_step_t::Key(next)),
-            Err(refusal) => Err(refusal),
-        },
+        yaml_step_t::Item(number) => Ok(yaml_step_t::Item(one_more(number)?)),
+        yaml_step_t::Key(pair) => {
+            let key = copy_if(alloc, text)?;
+            Ok(yaml_step_t::Value { pair, key })
+        }
+        yaml_step_t::Value { pair, .. } => Ok(yaml_step_t::Key(one_more(pair)?)),
     }
 }
 
@@ -91,10 +86,8 @@ fn pass_node(
     let Some(step) = path.pop() else {
         return Ok(());
     };
-    match step_behind(alloc, step, text) {
-        Ok(next) => push_step(path, next),
-        Err(refusal) => Err(refusal),
-    }
+    let next = step_behind(alloc, step, text)?;
+    push_step(path, next)
 }
 
 // A collection has ended.
@@ -109,13 +102,9 @@ fn pass_end(alloc: Global, path: &mut Vec<yaml_step_t>) -> Result<(), AllocError
 fn pass_document(document: &mut u64) -> Result<(), AllocError>
     ensures { OnOk result (document.new ≡ suc document.old) }
 {
-    match one_more(*document) {
-        Ok(next) => {
-            *document = next;
-            Ok(())
-        }
-        Err(refusal) => Err(refusal),
-    }
+    let next = one_more(*document)?;
+    *document = next;
+    Ok(())
 }
 
 // The event is in front.
@@ -174,17 +163,20 @@ impl Trail {
         }
     }
 
-    // The events that these readings gave last differ.
-    pub(crate) fn part_at(&mut self, first: &mut Reading<'_>, second: &mut Reading<'_>)
-        ensures tells { TellsGiven first.old.given second.old.given self.new.place }
+    // The events that these readings gave last differ, in that.
+    pub(crate) fn part_at(
+        &mut self,
+        first: &mut Reading<'_>,
+        second: &mut Reading<'_>,
+        cause: yaml_cause_t,
+    )
+        ensures tells { TellsOf first.old.given second.old.given self.new.place }
+        ensures cause { self.new.place.cause ≡ cause }
         ensures path { path_of self.new.place ≡ path_of self.old.place }
         ensures first { first.new ≡ first.old }
         ensures second { second.new ≡ second.old }
     {
-        self.place.cause = cause_of(
-            normalized(first.event(), true),
-            normalized(second.event(), true),
-        );
+        self.place.cause = cause;
         self.place.first_type = type_of(first.event());
         self.place.second_type = type_of(second.event());
         (self.place.first_mark, self.place.first_end) = first.marks();

@@ -95,7 +95,7 @@ fn none_held(alloc: Global) -> Held
 }
 
 /// What a node holds, by the labels of its document's nodes.
-pub(crate) fn held_of(
+pub fn held_of(
     alloc: Global,
     document: &yaml_document_t,
     labels: &[u32],

@@ -106,7 +106,7 @@ fn find_places(
 
 /// Of each label the place among the others with which it is matched.
 #[tactic(auto, using(crate::proofs::Placing::matched_by))]
-pub(crate) fn match_labels(
+pub fn match_labels(
     alloc: Global,
     own: &[u32],
     others: &[u32],

@@ -1,6 +1,7 @@
 -- Labels: keys have one exactly where they are the same; and a node that gets a rank.
 use Rattle.std.proofs.Common.{◌≡◌, ℕ, zero, suc, ◌+◌, ◌<◌, ◌≤◌, ℤ, pos, negsuc, Bool, true, false, cond, List, [], ◌∷◌, length, map, get_or, Some, None, Ok, refl, sym, subst, ◌∙◌, ap, inl, inr, arith}
-use Rattle.std.specs.Prelude.{◌==◌, ◌||◌, ◌⊎◌, set, replicate}
+use Rattle.std.specs.Prelude.{OnOk, Result, Err, ◌==◌, ◌||◌, ◌⊎◌, set, replicate}
+use Rattle.std.specs.declared.alloc.AllocError.{AllocError}
 use Rattle.std.specs.Ordering.{eq_by_cmp, is_eq, nat_cmp}
 use Rattle.std.specs.declared.cmp.Ordering.{Ordering}
 use Rattle.std.specs.declared.cmp.Ordering.TheVariants.{Less, Equal, Greater}
@@ -18,8 +19,8 @@ use Rattle.yaml_emit_graph.specs.Numbers.{counted}
 use Rattle.yaml_round_keys.specs.Same.{Agree, AreSame}
 use Rattle.yaml_round_keys.specs.Shapes.{Shapes}
 use Rattle.yaml_round_keys.specs.declared.ranks.Ranks.{Ranks}
-use Rattle.yaml_round_keys.specs.Ranks.{shape_of, holds_ranked, AreBothRanked, AreRanks, IsRanking, KeepShapes, IsJudged, AreJudgedFrom, Ranked, Tells, TellBoth, IsWithin, natural, label_of}
-use Rattle.yaml_round_keys.proofs.Ranking.{Gets, agree, one_rank, ranks_more}
+use Rattle.yaml_round_keys.specs.Ranks.{IsIn, all_ranked, shape_of, holds_ranked, AreBothRanked, AreDone, AreRanks, IsRanking, KeepShapes, IsJudged, AreJudgedFrom, Ranked, Tells, TellBoth, IsWithin, natural, label_of}
+use Rattle.yaml_round_keys.proofs.Ranking.{Gets, agree, in_ranked, one_rank, ranks_more, same_rank}
 
 -- ---- labels
 
@@ -79,6 +80,15 @@ module _ (nodes : List Node) (table : List ℕ) (shapes : Shapes) (given floor :
         | inr x ↦ let o = one_rank nodes nodes table table shapes given given r r judged judged x.0 a b x.1 in
             let q : 0 < number_at table b = subst (λ z. 0 < z) o.1 o.0 in
             ranked_label a o.0 ∙ o.1 ∙ sym (ranked_label b q)
+      ]
+
+  -- the same of nodes that have ranks
+  pub label_by_ranks : (a b : ℤ) → 0 < number_at table a → 0 < number_at table b → AreSame nodes a b
+      → label_of table floor a ≡ label_of table floor b
+  label_by_ranks a b p q h =
+      elim h [
+        | inl e ↦ ap (label_of table floor) e
+        | inr x ↦ ranked_label a p ∙ same_rank nodes nodes table table shapes given given r r x.0 a b x.1 p q ∙ sym (ranked_label b q)
       ]
 
 -- ---- a shape more
@@ -300,11 +310,29 @@ all_judged nodes table h (pos (suc k)) v = h k (omega arith) (omega arith)
 all_judged nodes table h (pos zero) v = absurd v
 all_judged nodes table h (negsuc k) v = absurd v
 
-pub tells : (nodes : List Node) (r : Ranks) → IsRanking nodes r
-    → AreJudgedFrom 0 nodes r.table.items → Tells nodes r
-tells nodes r h judged a b v w = (
+pub done_ranked : (ids : List ℤ) (nodes : List Node) (t u : List ℕ) (b : Bool)
+    → b ≡ all_ranked t ids → t ≡ u → b ≡ true → AreDone ids nodes u
+done_ranked ids nodes t u b e same is = inl (ap (λ z. all_ranked z ids) (sym same) ∙ sym e ∙ is)
+
+pub done_judged : (ids : List ℤ) (nodes : List Node) (t : List ℕ) (A C : Type 0)
+    (r : Result (Unit {0}) AllocError) → OnOk r (A × AreJudgedFrom 0 nodes t × C)
+    → OnOk r (AreDone ids nodes t)
+done_judged ids nodes t A C (Ok x) h = inr h.1
+done_judged ids nodes t A C (Err e) h = tt
+
+pub ranked_first : (A B C : Type 0) (r : Result (Unit {0}) AllocError) → OnOk r (A × B × C)
+    → OnOk r A
+ranked_first A B C (Ok x) h = h.0
+ranked_first A B C (Err e) h = tt
+
+pub tells : (ids : List ℤ) (nodes : List Node) (r : Ranks) → IsRanking nodes r
+    → AreDone ids nodes r.table.items → Tells ids nodes r
+tells ids nodes r h done a b v w i j = (
   same_by_label nodes r.table.items r.shapes r.given r.given h (omega arith) (length nodes) a b v w,
-  label_by_same nodes r.table.items r.shapes r.given r.given h (omega arith) (all_judged nodes r.table.items judged) a b,
+  elim done [
+    | inl all ↦ label_by_ranks nodes r.table.items r.shapes r.given r.given h (omega arith) a b (in_ranked r.table.items ids a all i) (in_ranked r.table.items ids b all j)
+    | inr judged ↦ label_by_same nodes r.table.items r.shapes r.given r.given h (omega arith) (all_judged nodes r.table.items judged) a b
+  ],
 )
 
 natural_most : (count : ℕ) (a : ℤ) → IsId count a → natural a ≤ count

@@ -13,7 +13,7 @@ use Rattle.yaml_round_keys.specs.declared.ranks.Ranks.{Ranks}
 use Rattle.yaml_round_keys.specs.declared.telling.yaml_same_key_t.{yaml_same_key_t}
 use Rattle.yaml_round_keys.specs.declared.telling.Slot.{Slot}
 use Rattle.yaml_round_keys.specs.Ranks.{IsWithin}
-use Rattle.yaml_round_keys.specs.Telling.{AreKeyIds, HasMet, HasRoom, IsFresh, TellsKey, TellsKeys, TellsNodes, first_with, keys_of, label_by, met_by, met_in, met_with, pair_keys, told_behind, told_in, told_of}
+use Rattle.yaml_round_keys.specs.Telling.{AreKeyIds, HasMet, HasRoom, IsFresh, TellsKey, TellsKeys, TellsNodes, all_keys, first_with, keys_of, met_by, met_in, met_with, pair_keys, told_behind, told_in, told_of}
 
 eq_yes : (n : ℕ) → (n == n) ≡ true
 eq_yes n = grind (arith, nat_tests)
@@ -234,6 +234,24 @@ no_keys nodes label mapping slots told h = record {
   ids = tt;
 }
 
+-- ---- all keys
+
+pub put_none : (keys : List ℤ) → keys ≡ keys ++ []
+put_none keys = sym (append-nil keys)
+
+pub put_next : (ps : List yaml_node_pair_t) (i : ℕ) (d : yaml_node_pair_t) (start now : List ℤ)
+    (key : ℤ) → now ≡ start ++ pair_keys (take i ps) → i < length ps → key ≡ (get_or ps i d).key
+    → now ++ key ∷ [] ≡ start ++ pair_keys (take (i + 1) ps)
+put_next ps i d start now key h w k =
+    let p = get_or ps i d in
+    rw add-one (ap (λ z. now ++ z ∷ []) k ∙ ap (λ z. z ++ p.key ∷ []) h
+    ∙ append_assoc start (pair_keys (take i ps)) (p.key ∷ [])
+    ∙ ap (λ z. start ++ z) (sym (keys_taken ps i p w (get_or_default ps i d p w))))
+
+pub put_all : (ps : List yaml_node_pair_t) (n : ℕ) (start now : List ℤ)
+    → now ≡ start ++ pair_keys (take n ps) → length ps ≤ n → now ≡ start ++ pair_keys ps
+put_all ps n start now h w = h ∙ ap (λ z. start ++ z) (keys_all ps n w).1
+
 -- ---- node by node
 
 pub node_here : (nodes : List Node) (k : ℕ) → k < length nodes
@@ -309,6 +327,24 @@ nodes_all nodes label start count n slots now h w = record {
   told = sym (append-nil now) ∙ ap (λ z. now ++ told_in label nodes z) (sym (none_from nodes n w)) ∙ h.told;
   ids = subst (AreKeyIds (length nodes)) (all_taken nodes n w) h.ids;
 }
+
+-- the keys of the nodes in front
+all_more : (ns : List Node) (n : Node) → all_keys (ns ++ n ∷ []) ≡ all_keys ns ++ keys_of n.body
+all_more [] n = append-nil (keys_of n.body)
+all_more (m ∷ ns) n = ap (λ z. keys_of m.body ++ z) (all_more ns n) ∙ sym (append_assoc (keys_of m.body) (all_keys ns) (keys_of n.body))
+
+pub more_keys : (nodes : List Node) (i : ℕ) (now next : List ℤ) → now ≡ all_keys (take i nodes)
+    → i < length nodes → next ≡ now ++ keys_of (body_of_id nodes (pos (suc i)))
+    → next ≡ all_keys (take (i + 1) nodes)
+more_keys nodes i now next h w e =
+    let n = node_here nodes i w in
+    rw add-one (e ∙ ap (λ z. z ++ keys_of (body_of_id nodes (pos (suc i)))) h
+    ∙ ap (λ b. all_keys (take i nodes) ++ keys_of b) n.1.1
+    ∙ sym (all_more (take i nodes) n.0) ∙ ap all_keys (sym n.1.2))
+
+pub whole_keys : (nodes : List Node) (n : ℕ) (now : List ℤ) → now ≡ all_keys (take n nodes)
+    → length nodes ≤ n → now ≡ all_keys nodes
+whole_keys nodes n now h w = h ∙ ap all_keys (all_taken nodes n w)
 
 pub fresh_start : (n : ℕ) (k : ℤ) → IsFresh (replicate n (slot 0 k)) 1
 fresh_start n k l m from w =

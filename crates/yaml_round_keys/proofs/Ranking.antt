@@ -11,7 +11,7 @@ use Rattle.yaml_parse_model.specs.Documents.{IsId}
 use Rattle.yaml_emit_graph.specs.Graph.{child_ids, body_of_id, tag_of_id, number_at}
 use Rattle.yaml_round_keys.specs.Same.{text_of, LookAlike, OneByOne, AgreeWithin}
 use Rattle.yaml_round_keys.specs.Shapes.{Shapes}
-use Rattle.yaml_round_keys.specs.Ranks.{kind_of, look, shape_of, all_ranked, holds_ranked, AreRanks, IsJudged}
+use Rattle.yaml_round_keys.specs.Ranks.{IsIn, kind_of, look, shape_of, all_ranked, holds_ranked, AreRanks, IsJudged}
 
 -- ---- shapes
 
@@ -150,6 +150,28 @@ ranks_along ranks more P go (a ∷ xs) (b ∷ bs) h =
     let y = ranks_along ranks more P go xs bs h.1 in
     (more_ranked ranks a xs x.0 y.0, λ i. x.1 i ∷ y.1 i)
 
+same_along : (ranks more : List ℕ) (P : ℤ → ℤ → Type 0)
+    → ((a b : ℤ) → P a b → 0 < number_at ranks a → 0 < number_at more b
+    → number_at ranks a ≡ number_at more b)
+    → (xs bs : List ℤ) → OneByOne P xs bs → all_ranked ranks xs ≡ true → all_ranked more bs ≡ true
+    → map (number_at ranks) xs ≡ map (number_at more) bs
+same_along ranks more P go [] [] h k l = refl
+same_along ranks more P go [] (b ∷ bs) h k l = absurd h
+same_along ranks more P go (a ∷ xs) [] h k l = absurd h
+same_along ranks more P go (a ∷ xs) (b ∷ bs) h k l =
+    let x = go a b h.0 (head_ranked ranks a xs k) (head_ranked more b bs l) in
+    let y = same_along ranks more P go xs bs h.1 (tail_ranked ranks a xs k) (tail_ranked more b bs l) in
+    λ i. x i ∷ y i
+
+-- these have ranks
+pub in_ranked : (ranks : List ℕ) (ids : List ℤ) (a : ℤ) → all_ranked ranks ids ≡ true → IsIn a ids
+    → 0 < number_at ranks a
+in_ranked ranks [] a h i = absurd i
+in_ranked ranks (x ∷ ids) a h i = elim i [
+  | inl e ↦ subst (λ z. 0 < number_at ranks z) (sym e) (head_ranked ranks x ids h)
+  | inr k ↦ in_ranked ranks ids a (tail_ranked ranks x ids h) k
+]
+
 -- nodes of two lists, by ranks of shapes that they share
 module _ (nodes others : List Node) (table more : List ℕ) (shapes : Shapes) (given last : ℕ)
     (r : AreRanks nodes table shapes given) (o : AreRanks others more shapes last) where
@@ -163,6 +185,17 @@ module _ (nodes others : List Node) (table more : List ℕ) (shapes : Shapes) (g
       let s : shape_of table nodes a ≡ shape_of more others b = r.told _ _ (number_at table a) (r.found a p) (o.found b q ∙ ap Some (sym e)) in
       let l = alike table more nodes others a b h.0.first (node_by_rank more (length others) b o.sized q) s in
       (l.0, agree_along table more (AgreeWithin n nodes nodes) (AgreeWithin n nodes others) (λ x y. agree n x y) (child_ids (body_of_id nodes a)) (child_ids (body_of_id others b)) h.1 (r.held a p) l.1)
+
+  -- nodes that agree and have ranks have one
+  pub same_rank : (n : ℕ) (a b : ℤ) → AgreeWithin n nodes others a b → 0 < number_at table a
+      → 0 < number_at more b → number_at table a ≡ number_at more b
+  unfolding AgreeWithin
+  same_rank zero a b h p q = absurd h
+  same_rank (suc n) a b h p q =
+      let l = same_along table more (AgreeWithin n nodes others) (λ x y. same_rank n x y) (child_ids (body_of_id nodes a)) (child_ids (body_of_id others b)) h.1 (r.held a p) (o.held b q) in
+      let s : shape_of table nodes a ≡ shape_of more others b = same_shape table more nodes others a b h.0 l in
+      let e : Some (number_at table a) ≡ Some (number_at more b) = sym (r.found a p) ∙ ap (map.get shapes) s ∙ o.found b q in
+      cc
 
   -- nodes that agree have one rank
   pub one_rank : ((a : ℤ) → IsId (length nodes) a → IsJudged nodes table a)

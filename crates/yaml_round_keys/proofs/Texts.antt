@@ -1,16 +1,21 @@
 -- Keys whose texts differ are told nowhere.
-use Rattle.std.proofs.Common.{◌≡◌, ℕ, zero, suc, ◌+◌, ◌<◌, ◌≤◌, ℤ, pos, List, [], ◌∷◌, ◌++◌, length, get_or, take, drop, Option, Some, None, refl, sym, subst, ◌∙◌, ap, inl, inr, arith, add-one}
-use Rattle.std.proofs.lemmas.List.{get_or_default}
-use Rattle.std.specs.FinMap as map
+use Rattle.std.proofs.Common.{◌≡◌, ℕ, zero, suc, ◌+◌, ◌<◌, ◌≤◌, ℤ, pos, Bool, true, false, true≢false, List, [], ◌∷◌, ◌++◌, length, map, get_or, take, drop, None, Ok, refl, sym, subst, ◌∙◌, ap, inl, inr, arith, add-one}
+use Rattle.std.specs.List.{IsDistinct}
+use Rattle.std.specs.List.Sorted.{IsPermutation, IsStrictlyIncreasing}
+use Rattle.std.specs.Ordering.{eq_by_cmp, nat_cmp}
+use Rattle.std.specs.Cmp.{eq_by_cmp_equiv, nat_cmp_total}
+use Rattle.std.specs.Prelude.{All}
+use Rattle.std.proofs.lemmas.List.Elements.{All-head, All-tail, All-from_recursion}
+use Rattle.std.proofs.lemmas.List.{get_or_default, map-append}
+use Rattle.std.proofs.lemmas.List.Sorted.{IsPermutation-sym}
+use Rattle.std.proofs.lemmas.Map.Keys.{IsDistinct-head, IsDistinct-tail, IsDistinct-from_sorted, IsDistinct-IsPermutation, sorted_from_strictly_increasing}
 use Rattle.yaml_parse_model.specs.declared.yaml_node_pair_t.{yaml_node_pair_t}
 use Rattle.yaml_parse_model.specs.Nodes.{Node}
 use Rattle.yaml_emit_graph.specs.Graph.{body_of_id}
-use Rattle.yaml_round_keys.specs.Shapes.{Shapes}
 use Rattle.yaml_round_keys.specs.Same.{AgreeWithin, AreSame}
-use Rattle.yaml_round_keys.specs.Texts.{NoneIsTold, key_text}
+use Rattle.yaml_round_keys.specs.Texts.{IfApart, NoneIsTold, key_number, key_text, number_from, number_with}
 use Rattle.yaml_round_keys.specs.Telling.{AreSameKeys, AreToldBehind, AreToldIn, IsFirstSame, keys_of, pair_keys}
-use Rattle.yaml_round_keys.proofs.Labels.{inserted_has, inserted_keeps}
-use Rattle.yaml_round_keys.proofs.Meeting.{keys_taken, keys_left, keys_all, node_here, none_from}
+use Rattle.yaml_round_keys.proofs.Meeting.{keys_taken, keys_all, node_here, none_from}
 
 -- keys that are the same have one text
 agree_text : (nodes : List Node) (n : ℕ) (a b : ℤ) → AgreeWithin n nodes nodes a b
@@ -22,62 +27,119 @@ agree_text nodes (suc n) a b h = h.0.text
 same_text : (nodes : List Node) (a b : ℤ) → AreSame nodes a b → key_text nodes a ≡ key_text nodes b
 same_text nodes a b s = elim s [ inl e ↦ ap (key_text nodes) e | inr k ↦ agree_text nodes k.0 a b k.1 ]
 
--- ---- the texts that were met
+-- ---- numbers of texts
 
-abbrev pub AreMet : List Node → Shapes → List ℤ → Type 0
-AreMet nodes texts [] = Unit {0}
-AreMet nodes texts (key ∷ keys) = (map.get texts (key_text nodes key) ≡ Some 1) × AreMet nodes texts keys
+text_left : (text : List ℕ) (i d n : ℕ) → i < length text
+    → number_from n (drop i text) ≡ number_from (number_with n (get_or text i d)) (drop (suc i) text)
+text_left [] i d n w = absurd (omega arith)
+text_left (b ∷ text) zero d n w = refl
+text_left (b ∷ text) (suc i) d n w = text_left text i d n (omega arith)
 
-not_met : (nodes : List Node) (texts : Shapes) (keys : List ℤ) (key : ℤ) → AreMet nodes texts keys
-    → map.get texts (key_text nodes key) ≡ None → IsFirstSame nodes key keys None
-not_met nodes texts [] key h e = refl
-not_met nodes texts (f ∷ keys) key h e =
-    inr (λ s. absurd (let w = sym h.0 ∙ ap (map.get texts) (same_text nodes f key s) ∙ e in cc), not_met nodes texts keys key h.1 e)
+pub number_next : (text : List ℕ) (i d n m : ℕ) → number_from 0 text ≡ number_from n (drop i text)
+    → i < length text → m ≡ number_with n (get_or text i d)
+    → number_from 0 text ≡ number_from m (drop (i + 1) text)
+number_next text i d n m h w e =
+    rw add-one (h ∙ text_left text i d n w ∙ ap (λ z. number_from z (drop (suc i) text)) (sym e))
 
-met_more : (nodes : List Node) (texts : Shapes) (keys : List ℤ) (key : ℤ) → AreMet nodes texts keys
-    → map.get texts (key_text nodes key) ≡ None
-    → AreMet nodes (map.insert texts (key_text nodes key) 1) (keys ++ key ∷ [])
-met_more nodes texts [] key h e = (inserted_has texts (key_text nodes key) 1, tt)
-met_more nodes texts (f ∷ keys) key h e = (inserted_keeps texts (key_text nodes key) 1 e (key_text nodes f) 1 h.0, met_more nodes texts keys key h.1 e)
+text_done : (text : List ℕ) (i n : ℕ) → length text ≤ i → number_from n (drop i text) ≡ n
+text_done [] zero n w = refl
+text_done [] (suc i) n w = refl
+text_done (b ∷ text) zero n w = absurd (omega arith)
+text_done (b ∷ text) (suc i) n w = text_done text i n (omega arith)
 
--- ---- the keys of a mapping
+pub number_all : (text : List ℕ) (i n : ℕ) → number_from 0 text ≡ number_from n (drop i text)
+    → length text ≤ i → n ≡ number_from 0 text
+number_all text i n h w = sym (h ∙ text_done text i n w)
 
--- the keys in front are met, and none of them was told
-pub record ApartSoFar (nodes : List Node) (ps : List yaml_node_pair_t) (i : ℕ)
-    (texts : Shapes) : Type 0 where
-  pub met : AreMet nodes texts (pair_keys (take i ps))
-  pub left : AreToldBehind nodes (pair_keys (take i ps)) (pair_keys (drop i ps)) []
-      → NoneIsTold nodes (pair_keys ps)
+pub numbers_next : (nodes : List Node) (ps : List yaml_node_pair_t) (i : ℕ) (d : yaml_node_pair_t)
+    (now : List ℕ) (n : ℕ) (key : ℤ) → now ≡ map (key_number nodes) (pair_keys (take i ps))
+    → i < length ps → n ≡ key_number nodes key → key ≡ (get_or ps i d).key
+    → now ++ n ∷ [] ≡ map (key_number nodes) (pair_keys (take (i + 1) ps))
+numbers_next nodes ps i d now n key h w e k =
+    rw add-one (ap (λ z. z ++ n ∷ []) h
+    ∙ ap (λ z. map (key_number nodes) (pair_keys (take i ps)) ++ z ∷ []) (e ∙ ap (key_number nodes) k)
+    ∙ sym (map-append (key_number nodes) (pair_keys (take i ps)) ((get_or ps i d).key ∷ []))
+    ∙ ap (map (key_number nodes)) (sym (keys_taken ps i (get_or ps i d) w (get_or_default ps i d (get_or ps i d) w))))
 
-pub none_met : (nodes : List Node) (ps : List yaml_node_pair_t)
-    → ApartSoFar nodes ps 0 map.empty
-none_met nodes ps = record { met = tt; left = λ h. h }
+pub numbers_all : (nodes : List Node) (ps : List yaml_node_pair_t) (i : ℕ) (now : List ℕ)
+    → now ≡ map (key_number nodes) (pair_keys (take i ps)) → length ps ≤ i
+    → now ≡ map (key_number nodes) (pair_keys ps)
+numbers_all nodes ps i now h w = h ∙ ap (map (key_number nodes)) (keys_all ps i w).1
 
-apart_suc : (nodes : List Node) (ps : List yaml_node_pair_t) (i : ℕ) (p : yaml_node_pair_t)
-    (texts new : Shapes) → ApartSoFar nodes ps i texts → i < length ps → p ≡ get_or ps i p
-    → map.get texts (key_text nodes p.key) ≡ None → new ≡ map.insert texts (key_text nodes p.key) 1
-    → ApartSoFar nodes ps (suc i) new
-apart_suc nodes ps i p texts new h w e none n =
-    let before = pair_keys (take i ps) in
-    let rest = pair_keys (drop (suc i) ps) in
-    record {
-      met = subst (λ z. AreMet nodes new z) (sym (keys_taken ps i p w e)) (subst (λ z. AreMet nodes z (before ++ p.key ∷ [])) (sym n) (met_more nodes texts before p.key h.met none));
-      left = λ k. h.left (subst (λ z. AreToldBehind nodes before z []) (sym (keys_left ps i p w e))
-          (None, [], refl, not_met nodes texts before p.key h.met none, subst (λ z. AreToldBehind nodes z rest []) (keys_taken ps i p w e) k));
-    }
+-- ---- keys whose numbers differ
 
-pub apart_next : (nodes : List Node) (ps : List yaml_node_pair_t) (i : ℕ) (d : yaml_node_pair_t)
-    (texts new : Shapes) → ApartSoFar nodes ps i texts → i < length ps
-    → map.get texts (key_text nodes (get_or ps i d).key) ≡ None
-    → new ≡ map.insert texts (key_text nodes (get_or ps i d).key) 1
-    → ApartSoFar nodes ps (i + 1) new
-apart_next nodes ps i d texts new h w none n =
-    rw add-one (apart_suc nodes ps i (get_or ps i d) texts new h w (get_or_default ps i d (get_or ps i d) w) none n)
+abbrev differ : ℕ → ℕ → Bool
+differ n m = eq_by_cmp nat_cmp n m
 
-pub all_met : (nodes : List Node) (ps : List yaml_node_pair_t) (n : ℕ) (texts : Shapes)
-    → ApartSoFar nodes ps n texts → length ps ≤ n → NoneIsTold nodes (pair_keys ps)
-all_met nodes ps n texts h w =
-    h.left (subst (λ z. AreToldBehind nodes (pair_keys (take n ps)) z []) (sym (keys_all ps n w).0) refl)
+same_number : (n : ℕ) → differ n n ≡ true
+same_number n = (eq_by_cmp_equiv nat_cmp_total).refl n
+
+-- a number is none of these
+abbrev IsNone : ℕ → List ℕ → Type 0
+IsNone n ns = All (λ m. differ n m ≡ false) ns
+
+-- the numbers of keys in front are none of these
+abbrev InFront : (ℤ → ℕ) → List ℤ → List ℕ → Type 0
+InFront f [] ns = Unit {0}
+InFront f (b ∷ bs) ns = IsNone (f b) ns × InFront f bs ns
+
+front_none : (nodes : List Node) (before keys : List ℤ) (key : ℤ)
+    → InFront (key_number nodes) before (key_number nodes key ∷ map (key_number nodes) keys)
+    → IsFirstSame nodes key before None
+front_none nodes [] keys key h = refl
+front_none nodes (f ∷ before) keys key h =
+    let n = key_number nodes f in
+    let other : differ n (key_number nodes key) ≡ false = All-head (λ m. differ n m ≡ false) (key_number nodes key) (map (key_number nodes) keys) h.0 in (
+    inr (
+      λ s. absurd (true≢false (sym (same_number n) ∙ ap (λ t. differ n (number_from 0 t)) (same_text nodes f key s) ∙ other)),
+      front_none nodes before keys key h.1,
+    )
+    )
+
+front_left : (f : ℤ → ℕ) (before : List ℤ) (n : ℕ) (ns : List ℕ) → InFront f before (n ∷ ns)
+    → InFront f before ns
+front_left f [] n ns h = tt
+front_left f (b ∷ before) n ns h = (All-tail (λ m. differ (f b) m ≡ false) n ns h.0, front_left f before n ns h.1)
+
+front_more : (f : ℤ → ℕ) (before : List ℤ) (key : ℤ) (ns : List ℕ) → InFront f before ns
+    → IsNone (f key) ns → InFront f (before ++ key ∷ []) ns
+front_more f [] key ns h k = (k, tt)
+front_more f (b ∷ before) key ns h k = (h.0, front_more f before key ns h.1 k)
+
+none_behind : (nodes : List Node) (before keys : List ℤ)
+    → InFront (key_number nodes) before (map (key_number nodes) keys)
+    → IsDistinct (λ n m. differ n m) (map (key_number nodes) keys)
+    → AreToldBehind nodes before keys []
+none_behind nodes before [] h d = refl
+none_behind nodes before (key ∷ keys) h d =
+    let f = key_number nodes in
+    let ns = map f keys in (
+      None,
+      [],
+      refl,
+      front_none nodes before keys key h,
+      none_behind nodes (before ++ key ∷ []) keys
+          (front_more f before key ns (front_left f before (f key) ns h) (All-from_recursion (λ m. differ (f key) m ≡ false) ns (IsDistinct-head (λ n m. differ n m) (f key) ns d)))
+          (IsDistinct-tail (λ n m. differ n m) (f key) ns d),
+    )
+
+-- numbers that rise in some order differ
+none_same : (nodes : List Node) (keys : List ℤ) (room sorted : List ℕ)
+    → room ≡ map (key_number nodes) keys → IsPermutation room sorted → IsStrictlyIncreasing sorted
+    → NoneIsTold nodes keys
+none_same nodes keys room sorted e p r =
+    let d = IsDistinct-from_sorted nat_cmp sorted (sorted_from_strictly_increasing sorted r) in
+    let own = IsDistinct-IsPermutation (λ n m. differ n m) flips sorted room (IsPermutation-sym room sorted p) d in
+    none_behind nodes [] keys tt (subst (IsDistinct (λ n m. differ n m)) e own)
+  where
+    flips : (n m : ℕ) → differ n m ≡ differ m n
+    flips n m = (eq_by_cmp_equiv nat_cmp_total).symm n m
+
+pub apart_answer : (nodes : List Node) (keys : List ℤ) (room sorted slice : List ℕ) (b : Bool)
+    → room ≡ map (key_number nodes) keys → IsPermutation room sorted → slice ≡ sorted
+    → (b ≡ true → IsStrictlyIncreasing slice) → IfApart (NoneIsTold nodes keys) (Ok b)
+apart_answer nodes keys room sorted slice true e p s r = none_same nodes keys room sorted e p (subst IsStrictlyIncreasing s (r refl))
+apart_answer nodes keys room sorted slice false e p s r = tt
 
 -- ---- node by node
 

@@ -62,6 +62,11 @@ pub record KeepShapes (old new : Shapes) : Type 0 where
 abbrev pub RanksOn : List Node → Ranks → Ranks → Type 0
 RanksOn nodes old new = IsRanking nodes new × KeepShapes old.shapes new.shapes
 
+-- a number is one of these
+abbrev pub IsIn : ℤ → List ℤ → Type 0
+IsIn a [] = ⊥
+IsIn a (x ∷ xs) = (a ≡ x) ⊎ IsIn a xs
+
 -- it has a rank, or holds a node that has none
 abbrev pub IsJudged : List Node → List ℕ → ℤ → Type 0
 IsJudged nodes table id = holds_ranked table nodes id ≡ true → 0 < number_at table id
@@ -102,9 +107,14 @@ natural _ = 0
 abbrev pub label_of : List ℕ → ℕ → ℤ → ℕ
 label_of table given id = if number_at table id == 0 then given + natural id else number_at table id
 
--- nodes have one label exactly where they are the same
-abbrev pub Tells : List Node → Ranks → Type 0
-Tells nodes r = (a b : ℤ) → IsId (length nodes) a → IsId (length nodes) b
+-- these nodes have ranks, or all were judged
+abbrev pub AreDone : List ℤ → List Node → List ℕ → Type 0
+AreDone ids nodes table = (all_ranked table ids ≡ true) ⊎ AreJudgedFrom 0 nodes table
+
+-- of these nodes two have one label exactly where they are the same
+abbrev pub Tells : List ℤ → List Node → Ranks → Type 0
+Tells ids nodes r = (a b : ℤ) → IsId (length nodes) a → IsId (length nodes) b → IsIn a ids
+    → IsIn b ids
     → (label_of r.table.items r.given a ≡ label_of r.table.items r.given b) ↔ AreSame nodes a b
 
 -- they lie below a bound

@@ -26,6 +26,11 @@ keys_of (node.scalar value style) = []
 keys_of (node.sequence items style) = []
 keys_of (node.mapping pairs style) = pair_keys pairs
 
+-- those of all mappings
+abbrev pub all_keys : List Node → List ℤ
+all_keys [] = []
+all_keys (n ∷ ns) = keys_of n.body ++ all_keys ns
+
 -- a plain `<<`, which may come again
 abbrev pub is_plain_merge : NodeBody → Bool
 is_plain_merge (node.scalar value YAML_PLAIN_SCALAR_STYLE) = pointwise nat_eq value (codes "<<")

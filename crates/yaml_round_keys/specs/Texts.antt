@@ -1,23 +1,27 @@
 -- Keys whose texts differ: none of them is told.
-use Rattle.std.specs.Prelude.{◌≡◌, ℕ, ℤ, Bool, true, false, List, [], Option, None, Result, Ok, Err}
+use Rattle.std.specs.Prelude.{◌+◌, ◌*◌, ◌%◌, ◌^◌, ℕ, ℤ, Bool, true, false, List, [], ◌∷◌, Result, Ok, Err}
 use Rattle.std.specs.declared.alloc.AllocError.{AllocError}
-use Rattle.std.specs.FinMap as map
 use Rattle.yaml_parse_model.specs.Nodes.{Node}
 use Rattle.yaml_emit_graph.specs.Graph.{body_of_id}
-use Rattle.yaml_round_keys.specs.Shapes.{Shapes}
 use Rattle.yaml_round_keys.specs.Same.{text_of}
-use Rattle.yaml_round_keys.specs.declared.telling.yaml_same_key_t.{yaml_same_key_t}
-use Rattle.yaml_round_keys.specs.Telling.{AreSameKeys, AreToldBehind}
+use Rattle.yaml_round_keys.specs.Telling.{AreToldBehind}
 
 -- the text of a key
 abbrev pub key_text : List Node → ℤ → List ℕ
 key_text nodes key = text_of (body_of_id nodes key)
 
--- that text was not met before, and is met now
-abbrev pub MeetsText : List ℕ → Shapes → Result Bool AllocError → Shapes → Type 0
-MeetsText x old (Ok true) new = (map.get old x ≡ None) × (new ≡ map.insert old x 1)
-MeetsText x old (Ok false) new = Unit {0}
-MeetsText x old (Err e) new = Unit {0}
+-- a number, with a byte more
+abbrev pub number_with : ℕ → ℕ → ℕ
+number_with n b = ((n * 0x100000001b3) % 2 ^ 64 + b) % 2 ^ 64
+
+-- the number of a text behind one that has that number
+abbrev pub number_from : ℕ → List ℕ → ℕ
+number_from n [] = n
+number_from n (b ∷ bs) = number_from (number_with n b) bs
+
+-- that of a key's text
+abbrev pub key_number : List Node → ℤ → ℕ
+key_number nodes key = number_from 0 (key_text nodes key)
 
 -- where the answer is that the texts differ, that holds
 abbrev pub IfApart : Type 0 → Result Bool AllocError → Type 0

@@ -1,81 +1,87 @@
-//! Whether the keys of each mapping differ by their texts alone, as they mostly do: then no key is told.
+//! Whether the keys of each mapping differ by numbers of their texts, as they mostly do: then no key is told.
 
-ghost use Rattle.std.specs.Prelude.{◌≡◌, ◌<◌, ◌≤◌, [], pos, suc, OnOk, length};
+ghost use Rattle.std.specs.Prelude.{◌≡◌, ◌<◌, ◌≤◌, [], map, pos, suc, true, OnOk, length};
+ghost use Rattle.std.specs.List.Sorted.{IsStrictlyIncreasing};
 ghost use Rattle.yaml_emit_graph.specs.Graph.{body_of_id};
-ghost use Rattle.yaml_round_keys.specs.Texts.{IfApart, MeetsText, NoneIsTold, key_text};
+ghost use Rattle.yaml_round_keys.specs.Texts.{IfApart, NoneIsTold, key_number, number_from};
 ghost use Rattle.yaml_round_keys.specs.Telling.{AreSameKeys, keys_of, pair_keys};
 
-use crate::shape::{id_of, put_widened, scalar_text};
-use crate::shapes::ShapeTable;
+use crate::shape::{id_of, scalar_text};
 use std::alloc::{AllocError, Global};
 use yaml_parse_model::{
     yaml_document_get_node, yaml_document_t, yaml_node_body_t, yaml_node_pair_t,
 };
 
-// Puts the text of a key into a room.
-fn put_text(room: &mut Vec<u32>, document: &yaml_document_t, key: i32) -> Result<(), AllocError>
-    ensures { OnOk result (room.new.items ≡ key_text document.now.nodes key) }
+// A number of a text. Texts with two numbers are two; two texts hardly ever have one.
+#[tactic(auto, using(crate::proofs::Texts::number_next, crate::proofs::Texts::number_all))]
+fn number_of(text: &[u8]) -> u64
+    ensures { result ≡ number_from 0 text.now }
+{
+    let mut number: u64 = 0;
+    for byte in text {
+        number = number
+            .wrapping_mul(0x100_0000_01b3)
+            .wrapping_add(u64::from(*byte));
+    }
+    number
+}
+
+// The number of a key's text.
+fn key_number(document: &yaml_document_t, key: i32) -> u64
+    ensures { result ≡ key_number document.now.nodes key }
+{
+    match yaml_document_get_node(document, key) {
+        None => number_of(b""),
+        Some(node) => number_of(scalar_text(&node.body)),
+    }
+}
+
+// Puts the numbers of keys into a room.
+#[tactic(auto, using(crate::proofs::Texts::numbers_next, crate::proofs::Texts::numbers_all))]
+fn put_numbers(
+    room: &mut Vec<u64>,
+    document: &yaml_document_t,
+    pairs: &[yaml_node_pair_t],
+) -> Result<(), AllocError>
+    ensures { OnOk result (room.new.items
+        ≡ map (key_number document.now.nodes) (pair_keys pairs.now)) }
 {
     room.clear();
-    match yaml_document_get_node(document, key) {
-        None => Ok(()),
-        Some(node) => put_widened(room, scalar_text(&node.body)),
+    for place in 0..pairs.len() {
+        room.push(key_number(document, pairs[place].key))?;
     }
+    Ok(())
 }
 
-// Whether a text is none of those that were met; it is one of them from now on.
-fn meet_text(alloc: Global, texts: &mut ShapeTable, text: &[u32]) -> Result<bool, AllocError>
-    ensures { MeetsText text.now texts.old result texts.new }
+// Whether each number is below the next one.
+fn rises(numbers: &[u64]) -> bool
+    ensures { result ≡ true → IsStrictlyIncreasing numbers.now }
 {
-    match texts.get(text) {
-        Some(_) => Ok(false),
-        None => {
-            let kept = Vec::from_slice(alloc, text)?;
-            texts.insert(kept, 1)?;
-            Ok(true)
+    for at in 1..numbers.len() {
+        if numbers[at - 1] >= numbers[at] {
+            return false;
         }
     }
+    true
 }
 
-// The same of the text of a pair's key.
-fn meet_key(
-    alloc: Global,
-    texts: &mut ShapeTable,
-    room: &mut Vec<u32>,
-    document: &yaml_document_t,
-    pair: yaml_node_pair_t,
-) -> Result<bool, AllocError>
-    ensures { MeetsText (key_text document.now.nodes pair.key) texts.old result texts.new }
-{
-    put_text(room, document, pair.key)?;
-    meet_text(alloc, texts, room)
-}
-
-// Whether the keys of a mapping have texts that differ.
-#[tactic(auto, using(crate::proofs::Texts::none_met, crate::proofs::Texts::all_met))]
+// Whether the keys of a mapping have numbers that differ.
 fn are_apart(
-    alloc: Global,
-    room: &mut Vec<u32>,
+    room: &mut Vec<u64>,
     document: &yaml_document_t,
     pairs: &[yaml_node_pair_t],
 ) -> Result<bool, AllocError>
     ensures { IfApart (NoneIsTold document.now.nodes (pair_keys pairs.now)) result }
 {
-    let mut texts = ShapeTable::new(alloc);
-    for place in 0..pairs.len() {
-        let pair = pairs[place];
-        match meet_key(alloc, &mut texts, room, document, pair) {
-            Ok(true) => {}
-            other => return other,
-        }
-    }
-    Ok(true)
+    put_numbers(room, document, pairs)?;
+    room.sort_unstable();
+    let apart = rises(room);
+    Ok(apart)
 }
 
 // The same of the keys of the node at a place, if it is a mapping.
 fn is_apart(
-    alloc: Global,
-    room: &mut Vec<u32>,
+    room: &mut Vec<u64>,
     document: &yaml_document_t,
     place: usize,
 ) -> Result<bool, AllocError>
@@ -89,12 +95,12 @@ fn is_apart(
             yaml_node_body_t::No => Ok(true),
             yaml_node_body_t::Scalar { .. } => Ok(true),
             yaml_node_body_t::Sequence { .. } => Ok(true),
-            yaml_node_body_t::Mapping { pairs, .. } => are_apart(alloc, room, document, pairs),
+            yaml_node_body_t::Mapping { pairs, .. } => are_apart(room, document, pairs),
         },
     }
 }
 
-/// Whether in each mapping the texts of the keys differ.
+/// Whether in each mapping the numbers of the keys' texts differ.
 #[tactic(auto, using(crate::proofs::Texts::none_told, crate::proofs::Texts::all_apart))]
 pub(crate) fn all_apart(alloc: Global, document: &yaml_document_t) -> Result<bool, AllocError>
     requires { length document.now.nodes ≤ 2147483647 }
@@ -102,7 +108,7 @@ pub(crate) fn all_apart(alloc: Global, document: &yaml_document_t) -> Result<boo
 {
     let mut room = Vec::new(alloc);
     for place in 0..document.node_count() {
-        match is_apart(alloc, &mut room, document, place) {
+        match is_apart(&mut room, document, place) {
             Ok(true) => {}
             other => return other,
         }

@@ -1,9 +1,9 @@
 //! Ranks of nodes: one for all that agree to the ground.
 
 ghost use Rattle.std.specs.Prelude.{◌≡◌, ◌<◌, ◌≤◌, ◌+◌, ◌≤ℤ◌, ◌||◌, pos, suc, OnOk, IfOk, length, replicate};
-ghost use Rattle.yaml_round_keys.specs.Ranks.{label_of, AreBothRanked, AreJudgedFrom, GivesRank, IsDue, IsJudged, IsRanking, IsWithin, KeepShapes, Ranked, RanksOn, AreLabels, IsSettled, LabelsTell, Tells};
+ghost use Rattle.yaml_round_keys.specs.Ranks.{label_of, AreBothRanked, AreDone, AreJudgedFrom, GivesRank, IsDue, IsJudged, IsRanking, IsWithin, KeepShapes, Ranked, RanksOn, AreLabels, IsSettled, LabelsTell, Tells};
 
-use crate::shape::{holds_ranked, id_of, narrowed, put_shape, rank_of};
+use crate::shape::{all_ranked, holds_ranked, id_of, narrowed, put_shape, rank_of};
 use crate::shapes::ShapeTable;
 use std::alloc::{AllocError, Global};
 use std::mem;
@@ -198,14 +198,44 @@ impl Ranks {
         }
     }
 
-    /// The ranks of a document's nodes.
-    pub fn of(alloc: Global, document: &yaml_document_t) -> Result<Ranks, AllocError>
+    // Nodes of these numbers get ranks, where they are due.
+    #[tactic(auto, using(crate::proofs::Labels::shapes_kept, crate::proofs::Labels::shapes_along))]
+    fn rank_ids(&mut self, document: &yaml_document_t, ids: &[i32]) -> Result<(), AllocError>
+        requires ranking { IsRanking document.now.nodes self.old }
+        requires small { length document.now.nodes ≤ 2147483647 }
+        ensures { OnOk result (RanksOn document.now.nodes self.old self.new) }
+    {
+        let mut room = Vec::new(self.alloc);
+        for at in 0..ids.len() {
+            self.rank_id(&mut room, document, ids[at])?;
+        }
+        Ok(())
+    }
+
+    // These nodes get ranks; or all do, where one of these holds others.
+    #[tactic(auto, using(crate::proofs::Labels::done_ranked, crate::proofs::Labels::done_judged, crate::proofs::Labels::ranked_first))]
+    fn rank_done(&mut self, document: &yaml_document_t, ids: &[i32]) -> Result<(), AllocError>
+        requires ranking { IsRanking document.now.nodes self.old }
+        requires small { length document.now.nodes ≤ 2147483647 }
+        ensures ranking { OnOk result (IsRanking document.now.nodes self.new) }
+        ensures done { OnOk result (AreDone ids.now document.now.nodes self.new.table.items) }
+    {
+        self.rank_ids(document, ids)?;
+        if all_ranked(&self.table, ids) {
+            Ok(())
+        } else {
+            self.rank_all(document)
+        }
+    }
+
+    /// Ranks by which these nodes of a document are told apart.
+    pub fn of(alloc: Global, document: &yaml_document_t, ids: &[i32]) -> Result<Ranks, AllocError>
         requires { length document.now.nodes ≤ 2147483647 }
-        ensures tells { IfOk result (λ r. Tells document.now.nodes r) }
+        ensures tells { IfOk result (λ r. Tells ids.now document.now.nodes r) }
         ensures within { IfOk result (λ r. IsWithin document.now.nodes r) }
     {
         let mut ranks = Ranks::none(alloc, document)?;
-        match ranks.rank_all(document) {
+        match ranks.rank_done(document, ids) {
             Ok(()) => Ok(ranks),
             Err(refusal) => Err(refusal),
         }

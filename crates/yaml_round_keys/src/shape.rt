@@ -4,7 +4,7 @@ ghost use Rattle.std.specs.Prelude.{◌≡◌, ◌<◌, ◌++◌, ◌∷◌, OnO
 ghost use Rattle.yaml_parse_model.specs.Nodes.{body_of};
 ghost use Rattle.yaml_emit_graph.specs.Graph.{body_of_id, child_ids, number_at, tag_of_id};
 ghost use Rattle.yaml_round_keys.specs.Same.{text_of};
-ghost use Rattle.yaml_round_keys.specs.Ranks.{holds_ranked, kind_of, look, shape_of};
+ghost use Rattle.yaml_round_keys.specs.Ranks.{all_ranked, holds_ranked, kind_of, look, shape_of};
 
 use std::alloc::AllocError;
 use yaml_emit_graph::{Open, Walkable, place_of};
@@ -137,6 +137,19 @@ pub(crate) fn holds_ranked(ranks: &[u32], document: &yaml_document_t, id: i32) -
             return false;
         }
         index += 1;
+    }
+    true
+}
+
+/// Whether all nodes of these numbers have ranks.
+#[tactic(auto, using(crate::proofs::Holding::have_next, crate::proofs::Holding::have_not, crate::proofs::Holding::have_all))]
+pub(crate) fn all_ranked(ranks: &[u32], ids: &[i32]) -> bool
+    ensures { result ≡ all_ranked ranks.now ids.now }
+{
+    for at in 0..ids.len() {
+        if rank_of(ranks, ids[at]) == 0 {
+            return false;
+        }
     }
     true
 }

@@ -3,7 +3,7 @@
 ghost use Rattle.std.specs.Prelude.{◌≡◌, ◌↔◌, ◌<◌, ◌≤◌, ◌++◌, [], suc, pos, OnOk, IfOk, length};
 ghost use Rattle.yaml_parse_model.specs.Documents.{ArePairs, IsId, node_at};
 ghost use Rattle.yaml_emit_graph.specs.Graph.{body_of_id};
-ghost use Rattle.yaml_round_keys.specs.Telling.{AreSameKeys, HasRoom, HaveDistinctKeys, IsFresh, Meets, TellsKey, TellsKeys, TellsMore, TellsNodes, end_at, is_plain_merge, keys_of, label_by, mark_at, pair_keys, told_of};
+ghost use Rattle.yaml_round_keys.specs.Telling.{AreSameKeys, HasRoom, all_keys, HaveDistinctKeys, IsFresh, Meets, TellsKey, TellsKeys, TellsMore, TellsNodes, end_at, is_plain_merge, keys_of, label_by, mark_at, pair_keys, told_of};
 
 use crate::apart::all_apart;
 use crate::ranks::Ranks;
@@ -204,8 +204,54 @@ fn tell_nodes(
     Ok(())
 }
 
+// The keys of pairs are put behind others.
+#[tactic(auto, using(crate::proofs::Meeting::put_none, crate::proofs::Meeting::put_next, crate::proofs::Meeting::put_all))]
+fn put_keys(keys: &mut Vec<i32>, pairs: &[yaml_node_pair_t]) -> Result<(), AllocError>
+    ensures { OnOk result (keys.new.items ≡ keys.old.items ++ pair_keys pairs.now) }
+{
+    for place in 0..pairs.len() {
+        keys.push(pairs[place].key)?;
+    }
+    Ok(())
+}
+
+// The same of the node at a place, if it is a mapping.
+#[tactic(auto, using(crate::proofs::Meeting::put_none))]
+fn put_keys_at(
+    keys: &mut Vec<i32>,
+    document: &yaml_document_t,
+    place: usize,
+) -> Result<(), AllocError>
+    requires small { place < 2147483647 }
+    ensures { OnOk result (keys.new.items ≡ keys.old.items
+        ++ keys_of (body_of_id document.now.nodes (pos (suc place)))) }
+{
+    match yaml_document_get_node(document, id_of(place)) {
+        None => Ok(()),
+        Some(node) => match &node.body {
+            yaml_node_body_t::Mapping { pairs, .. } => put_keys(keys, pairs),
+            yaml_node_body_t::No => Ok(()),
+            yaml_node_body_t::Scalar { .. } => Ok(()),
+            yaml_node_body_t::Sequence { .. } => Ok(()),
+        },
+    }
+}
+
+// The keys of all mappings.
+#[tactic(auto, using(crate::proofs::Meeting::more_keys, crate::proofs::Meeting::whole_keys))]
+fn all_keys(alloc: Global, document: &yaml_document_t) -> Result<Vec<i32>, AllocError>
+    requires small { length document.now.nodes ≤ 2147483647 }
+    ensures { IfOk result (λ keys. keys.items ≡ all_keys document.now.nodes) }
+{
+    let mut keys = Vec::new(alloc);
+    for place in 0..document.node_count() {
+        put_keys_at(&mut keys, document, place)?;
+    }
+    Ok(keys)
+}
+
 // The keys that are told, by ranks.
-#[tactic(auto, using(crate::proofs::Meeting::fresh_start, crate::proofs::Meeting::room_start, crate::proofs::Told::all_told))]
+#[tactic(auto, using(crate::proofs::Meeting::fresh_start, crate::proofs::Meeting::room_start))]
 fn tell_ranked(
     alloc: Global,
     document: &yaml_document_t,
@@ -213,7 +259,8 @@ fn tell_ranked(
     requires { length document.now.nodes ≤ 2147483647 }
     ensures { IfOk result (λ told. AreSameKeys document.now.nodes told.items) }
 {
-    let ranks = Ranks::of(alloc, document)?;
+    let keys = all_keys(alloc, document)?;
+    let ranks = Ranks::of(alloc, document, &keys)?;
     let mut slots = vec![in alloc; Slot { mapping: 0, key: 0 }; ranks.label_count()]?;
     let mut told = Vec::new(alloc);
     tell_nodes(&mut told, document, &ranks, &mut slots)?;

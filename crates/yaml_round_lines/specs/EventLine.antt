@@ -1,5 +1,5 @@
 -- The line that tells an event.
-use Rattle.std.specs.Prelude.{◌≡◌, ℕ, Bool, true, false, ◌==◌, if◌then◌else◌, List, [], ◌∷◌, ◌++◌, Option, Some, None, codes, length, take}
+use Rattle.std.specs.Prelude.{ℕ, Bool, true, false, ◌==◌, if◌then◌else◌, List, [], ◌∷◌, ◌++◌, Option, Some, None, codes}
 use Rattle.std.specs.List.{flat_map}
 use Rattle.yaml_scan_model.specs.Ascii as ascii
 use Rattle.yaml_scan_model.specs.declared.yaml_scalar_style_t.{yaml_scalar_style_t}
@@ -65,13 +65,3 @@ event_text event.mapping_end = codes "-MAP"
 
 abbrev pub event_line : EventBody → List ℕ
 event_line body = event_text body ++ ascii.line_feed ∷ []
-
--- a part is put after a line, or nothing
-abbrev pub Puts : Bool → List ℕ → List ℕ → List ℕ → Type 0
-Puts true old part new = new ≡ old ++ part
-Puts false old part new = new ≡ old
-
--- a part is put after a line, or something else
-abbrev pub PutsOver : Bool → List ℕ → List ℕ → List ℕ → Type 0
-PutsOver true old part new = new ≡ old ++ part
-PutsOver false old part new = take (length old) new ≡ old

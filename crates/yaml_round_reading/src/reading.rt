@@ -69,6 +69,8 @@ impl Reading<'_> {
     }
 
     /// The event that was given last.
+    // In line: by memory it takes a tenth of `events` on short words.
+    #[inline(always)]
     pub fn event(&self) -> EventRef<'_>
         ensures { borrowed_body result ≡ self.now.given.body }
     {

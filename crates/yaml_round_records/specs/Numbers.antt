@@ -1,5 +1,5 @@
 -- What numbers mean: those of libyaml's enums. A number beside them means nothing.
-use Rattle.std.specs.Prelude.{ℕ, zero, suc, ℤ, pos, negsuc, Bool, true, false, not, ◌&&◌, if◌then◌else◌, List, [], ◌∷◌, Option, None, Some}
+use Rattle.std.specs.Prelude.{ℕ, suc, ℤ, pos, Bool, true, false, not, ◌&&◌, if◌then◌else◌, List, [], ◌∷◌, Option, None, Some}
 use Rattle.std.specs.Ordering.{int_eq}
 use Rattle.yaml_parse.specs.declared.yaml_encoding_t.{yaml_encoding_t}
 use Rattle.yaml_parse.specs.declared.yaml_encoding_t.TheVariants as encoding
@@ -29,61 +29,69 @@ abbrev pub flag_told : Bool → ℤ
 flag_told false = pos 0
 flag_told true = pos 1
 
+-- ---- rows: the constants of an enum in their order
+
+-- the constant that a number means, where the first one has the number k
+abbrev pub numbered_from : {X : Type 0} → List X → ℕ → ℤ → Option X
+numbered_from [] k n = None
+numbered_from (x ∷ xs) k n = if int_eq n (pos k) then Some x else numbered_from xs (suc k) n
+
+-- the same where it has the number 0
+abbrev pub numbered : {X : Type 0} → List X → ℤ → Option X
+numbered xs n = numbered_from xs 0 n
+
+abbrev pub encodings : List yaml_encoding_t
+encodings = encoding.YAML_ANY_ENCODING ∷ encoding.YAML_UTF8_ENCODING
+    ∷ encoding.YAML_UTF16LE_ENCODING ∷ encoding.YAML_UTF16BE_ENCODING ∷ []
+
+abbrev pub breaks : List yaml_break_t
+breaks = line_break.YAML_ANY_BREAK ∷ line_break.YAML_CR_BREAK ∷ line_break.YAML_LN_BREAK
+    ∷ line_break.YAML_CRLN_BREAK ∷ []
+
+abbrev pub kinds : List yaml_event_type_t
+kinds = kind.YAML_NO_EVENT ∷ kind.YAML_STREAM_START_EVENT ∷ kind.YAML_STREAM_END_EVENT
+    ∷ kind.YAML_DOCUMENT_START_EVENT ∷ kind.YAML_DOCUMENT_END_EVENT ∷ kind.YAML_ALIAS_EVENT
+    ∷ kind.YAML_SCALAR_EVENT ∷ kind.YAML_SEQUENCE_START_EVENT ∷ kind.YAML_SEQUENCE_END_EVENT
+    ∷ kind.YAML_MAPPING_START_EVENT ∷ kind.YAML_MAPPING_END_EVENT ∷ []
+
+abbrev pub scalar_styles : List yaml_scalar_style_t
+scalar_styles = scalar.YAML_ANY_SCALAR_STYLE ∷ scalar.YAML_PLAIN_SCALAR_STYLE
+    ∷ scalar.YAML_SINGLE_QUOTED_SCALAR_STYLE ∷ scalar.YAML_DOUBLE_QUOTED_SCALAR_STYLE
+    ∷ scalar.YAML_LITERAL_SCALAR_STYLE ∷ scalar.YAML_FOLDED_SCALAR_STYLE ∷ []
+
+abbrev pub sequence_styles : List yaml_sequence_style_t
+sequence_styles = sequence.YAML_ANY_SEQUENCE_STYLE ∷ sequence.YAML_BLOCK_SEQUENCE_STYLE
+    ∷ sequence.YAML_FLOW_SEQUENCE_STYLE ∷ []
+
+abbrev pub mapping_styles : List yaml_mapping_style_t
+mapping_styles = mapping.YAML_ANY_MAPPING_STYLE ∷ mapping.YAML_BLOCK_MAPPING_STYLE
+    ∷ mapping.YAML_FLOW_MAPPING_STYLE ∷ []
+
+abbrev pub errors : List yaml_error_type_t
+errors = error.YAML_NO_ERROR ∷ error.YAML_MEMORY_ERROR ∷ error.YAML_READER_ERROR
+    ∷ error.YAML_SCANNER_ERROR ∷ error.YAML_PARSER_ERROR ∷ error.YAML_COMPOSER_ERROR
+    ∷ error.YAML_WRITER_ERROR ∷ error.YAML_EMITTER_ERROR ∷ []
+
+-- ---- what numbers mean
+
 unfoldable pub encoding_meant : ℤ → Option yaml_encoding_t
-encoding_meant n =
-    if int_eq n (pos 0) then Some encoding.YAML_ANY_ENCODING
-    else if int_eq n (pos 1) then Some encoding.YAML_UTF8_ENCODING
-    else if int_eq n (pos 2) then Some encoding.YAML_UTF16LE_ENCODING
-    else if int_eq n (pos 3) then Some encoding.YAML_UTF16BE_ENCODING
-    else None
+encoding_meant n = numbered encodings n
 
 unfoldable pub break_meant : ℤ → Option yaml_break_t
-break_meant n =
-    if int_eq n (pos 0) then Some line_break.YAML_ANY_BREAK
-    else if int_eq n (pos 1) then Some line_break.YAML_CR_BREAK
-    else if int_eq n (pos 2) then Some line_break.YAML_LN_BREAK
-    else if int_eq n (pos 3) then Some line_break.YAML_CRLN_BREAK
-    else None
+break_meant n = numbered breaks n
 
 -- the kind of an event
 unfoldable pub kind_meant : ℤ → Option yaml_event_type_t
-kind_meant n =
-    if int_eq n (pos 0) then Some kind.YAML_NO_EVENT
-    else if int_eq n (pos 1) then Some kind.YAML_STREAM_START_EVENT
-    else if int_eq n (pos 2) then Some kind.YAML_STREAM_END_EVENT
-    else if int_eq n (pos 3) then Some kind.YAML_DOCUMENT_START_EVENT
-    else if int_eq n (pos 4) then Some kind.YAML_DOCUMENT_END_EVENT
-    else if int_eq n (pos 5) then Some kind.YAML_ALIAS_EVENT
-    else if int_eq n (pos 6) then Some kind.YAML_SCALAR_EVENT
-    else if int_eq n (pos 7) then Some kind.YAML_SEQUENCE_START_EVENT
-    else if int_eq n (pos 8) then Some kind.YAML_SEQUENCE_END_EVENT
-    else if int_eq n (pos 9) then Some kind.YAML_MAPPING_START_EVENT
-    else if int_eq n (pos 10) then Some kind.YAML_MAPPING_END_EVENT
-    else None
+kind_meant n = numbered kinds n
 
 unfoldable pub scalar_style_meant : ℤ → Option yaml_scalar_style_t
-scalar_style_meant n =
-    if int_eq n (pos 0) then Some scalar.YAML_ANY_SCALAR_STYLE
-    else if int_eq n (pos 1) then Some scalar.YAML_PLAIN_SCALAR_STYLE
-    else if int_eq n (pos 2) then Some scalar.YAML_SINGLE_QUOTED_SCALAR_STYLE
-    else if int_eq n (pos 3) then Some scalar.YAML_DOUBLE_QUOTED_SCALAR_STYLE
-    else if int_eq n (pos 4) then Some scalar.YAML_LITERAL_SCALAR_STYLE
-    else if int_eq n (pos 5) then Some scalar.YAML_FOLDED_SCALAR_STYLE
-    else None
+scalar_style_meant n = numbered scalar_styles n
 
 unfoldable pub sequence_style_meant : ℤ → Option yaml_sequence_style_t
-sequence_style_meant n =
-    if int_eq n (pos 0) then Some sequence.YAML_ANY_SEQUENCE_STYLE
-    else if int_eq n (pos 1) then Some sequence.YAML_BLOCK_SEQUENCE_STYLE
-    else if int_eq n (pos 2) then Some sequence.YAML_FLOW_SEQUENCE_STYLE
-    else None
+sequence_style_meant n = numbered sequence_styles n
 
 unfoldable pub mapping_style_meant : ℤ → Option yaml_mapping_style_t
-mapping_style_meant n =
-    if int_eq n (pos 0) then Some mapping.YAML_ANY_MAPPING_STYLE
-    else if int_eq n (pos 1) then Some mapping.YAML_BLOCK_MAPPING_STYLE
-    else if int_eq n (pos 2) then Some mapping.YAML_FLOW_MAPPING_STYLE
-    else None
+mapping_style_meant n = numbered mapping_styles n
 
 -- ---- the numbers of what is handed out
 
@@ -121,47 +129,3 @@ error_number error.YAML_PARSER_ERROR = pos 4
 error_number error.YAML_COMPOSER_ERROR = pos 5
 error_number error.YAML_WRITER_ERROR = pos 6
 error_number error.YAML_EMITTER_ERROR = pos 7
-
--- ---- the same by rows: the constants of each enum in their order, the first of which has the number 0
-
-abbrev pub entry_at : {X : Type 0} → List X → ℕ → Option X
-entry_at [] n = None
-entry_at (x ∷ xs) zero = Some x
-entry_at (x ∷ xs) (suc n) = entry_at xs n
-
--- the constant that has this number
-abbrev pub numbered : {X : Type 0} → List X → ℤ → Option X
-numbered xs (pos n) = entry_at xs n
-numbered xs (negsuc n) = None
-
-abbrev pub encodings : List yaml_encoding_t
-encodings = encoding.YAML_ANY_ENCODING ∷ encoding.YAML_UTF8_ENCODING
-    ∷ encoding.YAML_UTF16LE_ENCODING ∷ encoding.YAML_UTF16BE_ENCODING ∷ []
-
-abbrev pub breaks : List yaml_break_t
-breaks = line_break.YAML_ANY_BREAK ∷ line_break.YAML_CR_BREAK ∷ line_break.YAML_LN_BREAK
-    ∷ line_break.YAML_CRLN_BREAK ∷ []
-
-abbrev pub kinds : List yaml_event_type_t
-kinds = kind.YAML_NO_EVENT ∷ kind.YAML_STREAM_START_EVENT ∷ kind.YAML_STREAM_END_EVENT
-    ∷ kind.YAML_DOCUMENT_START_EVENT ∷ kind.YAML_DOCUMENT_END_EVENT ∷ kind.YAML_ALIAS_EVENT
-    ∷ kind.YAML_SCALAR_EVENT ∷ kind.YAML_SEQUENCE_START_EVENT ∷ kind.YAML_SEQUENCE_END_EVENT
-    ∷ kind.YAML_MAPPING_START_EVENT ∷ kind.YAML_MAPPING_END_EVENT ∷ []
-
-abbrev pub scalar_styles : List yaml_scalar_style_t
-scalar_styles = scalar.YAML_ANY_SCALAR_STYLE ∷ scalar.YAML_PLAIN_SCALAR_STYLE
-    ∷ scalar.YAML_SINGLE_QUOTED_SCALAR_STYLE ∷ scalar.YAML_DOUBLE_QUOTED_SCALAR_STYLE
-    ∷ scalar.YAML_LITERAL_SCALAR_STYLE ∷ scalar.YAML_FOLDED_SCALAR_STYLE ∷ []
-
-abbrev pub sequence_styles : List yaml_sequence_style_t
-sequence_styles = sequence.YAML_ANY_SEQUENCE_STYLE ∷ sequence.YAML_BLOCK_SEQUENCE_STYLE
-    ∷ sequence.YAML_FLOW_SEQUENCE_STYLE ∷ []
-
-abbrev pub mapping_styles : List yaml_mapping_style_t
-mapping_styles = mapping.YAML_ANY_MAPPING_STYLE ∷ mapping.YAML_BLOCK_MAPPING_STYLE
-    ∷ mapping.YAML_FLOW_MAPPING_STYLE ∷ []
-
-abbrev pub errors : List yaml_error_type_t
-errors = error.YAML_NO_ERROR ∷ error.YAML_MEMORY_ERROR ∷ error.YAML_READER_ERROR
-    ∷ error.YAML_SCANNER_ERROR ∷ error.YAML_PARSER_ERROR ∷ error.YAML_COMPOSER_ERROR
-    ∷ error.YAML_WRITER_ERROR ∷ error.YAML_EMITTER_ERROR ∷ []

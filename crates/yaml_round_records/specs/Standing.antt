@@ -17,7 +17,7 @@ use Rattle.yaml_round_laws_pieces.specs.Pieces.{Stand, first_stand}
 use Rattle.yaml_round_records.specs.declared.record.yaml_c_directive.{yaml_c_directive}
 use Rattle.yaml_round_records.specs.declared.standing.yaml_c_level.{yaml_c_level}
 use Rattle.yaml_round_records.specs.declared.standing.yaml_c_place.{yaml_c_place}
-use Rattle.yaml_round_records.specs.Numbers.{is_set, flag_told}
+use Rattle.yaml_round_records.specs.Numbers.{is_set, flag_told, numbered_from}
 use Rattle.yaml_round_records.specs.Records.{all_directives}
 
 -- ---- numbers, which are those of libyaml's states of an emitter
@@ -41,30 +41,21 @@ ends_implicitly at.DocumentEnd = false
 ends_implicitly at.End = false
 ends_implicitly (at.Refused p) = false
 
+abbrev pub spellings : List Encoding
+spellings = Utf8 ∷ Utf16Le ∷ Utf16Be ∷ []
+
 -- the encoding of a text
 unfoldable pub spelling_meant : ℤ → Option Encoding
-spelling_meant n =
-    if int_eq n (pos 1) then Some Utf8
-    else if int_eq n (pos 2) then Some Utf16Le
-    else if int_eq n (pos 3) then Some Utf16Be
-    else None
+spelling_meant n = numbered_from spellings 1 n
+
+abbrev pub phases : List (Phase × Bool)
+phases = (Items true, true) ∷ (Items false, true) ∷ (Keys true, true) ∷ (Keys false, true)
+    ∷ (Value true, true) ∷ (Value false, true) ∷ (Items true, false) ∷ (Items false, false)
+    ∷ (Keys true, false) ∷ (Keys false, false) ∷ (Value true, false) ∷ (Value false, false) ∷ []
 
 -- what is next in an open collection, and whether it is in flow style
 unfoldable pub phase_meant : ℤ → Option (Phase × Bool)
-phase_meant n =
-    if int_eq n (pos 5) then Some (Items true, true)
-    else if int_eq n (pos 6) then Some (Items false, true)
-    else if int_eq n (pos 7) then Some (Keys true, true)
-    else if int_eq n (pos 8) then Some (Keys false, true)
-    else if int_eq n (pos 9) then Some (Value true, true)
-    else if int_eq n (pos 10) then Some (Value false, true)
-    else if int_eq n (pos 11) then Some (Items true, false)
-    else if int_eq n (pos 12) then Some (Items false, false)
-    else if int_eq n (pos 13) then Some (Keys true, false)
-    else if int_eq n (pos 14) then Some (Keys false, false)
-    else if int_eq n (pos 15) then Some (Value true, false)
-    else if int_eq n (pos 16) then Some (Value false, false)
-    else None
+phase_meant n = numbered_from phases 5 n
 
 abbrev pub level_by : Option (Phase × Bool) → ℕ → Option Level
 level_by None n = None

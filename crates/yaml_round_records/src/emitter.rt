@@ -108,10 +108,7 @@ pub(crate) fn fault_in(emitter: &yaml_emitter_t) -> Option<yaml_fault_t>
     ensures tells { TellsOutcome emitter.now }
     ensures limited { (f : Fault) → emitter.now.fault ≡ Some f → IsLimited emitter.now f }
 {
-    match yaml_emitter_fault(emitter) {
-        Some(fault) => Some(*fault),
-        None => None,
-    }
+    yaml_emitter_fault(emitter).copied()
 }
 
 // The text, or the emitter's fault.

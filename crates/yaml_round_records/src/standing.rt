@@ -204,14 +204,12 @@ fn number_of(phase: Phase, flow: bool) -> i32
 pub(crate) fn level_of(given: yaml_c_level) -> Option<Level>
     ensures { result ≡ level_meant given }
 {
-    match phase_of(given.state) {
-        Some((phase, flow)) => Some(Level {
-            phase,
-            flow,
-            indent: given.indent,
-        }),
-        None => None,
-    }
+    let (phase, flow) = phase_of(given.state)?;
+    Some(Level {
+        phase,
+        flow,
+        indent: given.indent,
+    })
 }
 
 /// An open collection as C reads it.
@@ -234,10 +232,7 @@ pub(crate) fn innermost_of(given: yaml_c_level) -> Option<Option<Level>>
     if given.state == 0 {
         return Some(None);
     }
-    match level_of(given) {
-        Some(level) => Some(Some(level)),
-        None => None,
-    }
+    Some(Some(level_of(given)?))
 }
 
 // The innermost open collection as C reads it.

@@ -13,7 +13,7 @@ ghost use Rattle.yaml_round_writing.specs.Writing.{IsUnder, Gives, given_in, is_
 
 use std::alloc::Global;
 use yaml_emit::{
-    yaml_emitter_emit_ref, yaml_emitter_fault, yaml_emitter_initialize, yaml_emitter_into_output,
+    yaml_emitter_emit_soon, yaml_emitter_fault, yaml_emitter_initialize, yaml_emitter_into_output,
     yaml_emitter_output, yaml_emitter_set_break, yaml_emitter_set_canonical,
     yaml_emitter_set_encoding, yaml_emitter_set_indent, yaml_emitter_set_unicode,
     yaml_emitter_set_width, yaml_emitter_t,
@@ -112,41 +112,25 @@ fn see(beginning: &mut Beginning, event: EventRef<'_>)
     }
 }
 
-// The event as its form has it.
-// Inlined: some tests.
-#[inline(always)]
-fn formed<'e>(form: &mut Form, event: EventRef<'e>) -> EventRef<'e>
-    requires { HasUtf8 (borrowed_body event) }
-    ensures utf8 { HasUtf8 (borrowed_body result) }
-    ensures given { (e : Event) (unasked : ℕ) (es : List Told) → e.body ≡ borrowed_body event.entry
-        → given_in form.old ((e, unasked) ∷ es)
-        ≡ emitter_event (borrowed_body result) ∷ given_in form.new es }
-    ensures beginning { (e : Event) (unasked : ℕ) (es : List Told)
-        → e.body ≡ borrowed_body event.entry
-        → comes_to_nothing form.old ((e, unasked) ∷ es) ≡ comes_to_nothing form.new es }
-{
-    let normal = normalized(event, !is_pretty(*form));
-    match form {
-        Form::Canonical => normal,
-        Form::Pretty(beginning) => {
-            see(beginning, normal);
-            normal
-        }
-        Form::Readable(place) => {
-            let at = *place;
-            *place = position_after(normal, at);
-            restyle(normal, at)
-        }
-    }
-}
-
-// Gives the event, as its form has it. The emitter keeps its first fault.
+// Gives the event, normalized, as its form has it. The emitter keeps its first fault.
 fn emit_formed(emitter: &mut yaml_emitter_t, form: &mut Form, event: EventRef<'_>)
     requires { HasUtf8 (borrowed_body event) }
     ensures { (e : Event) → e.body ≡ borrowed_body event.entry
         → Gives form.old emitter.old e form.new emitter.new }
 {
-    yaml_emitter_emit_ref(emitter, formed(form, event));
+    let normal = normalized(event, !is_pretty(*form));
+    match form {
+        Form::Canonical => yaml_emitter_emit_soon(emitter, &normal),
+        Form::Pretty(beginning) => {
+            see(beginning, normal);
+            yaml_emitter_emit_soon(emitter, &normal);
+        }
+        Form::Readable(place) => {
+            let at = *place;
+            *place = position_after(normal, at);
+            yaml_emitter_emit_soon(emitter, &restyle(normal, at));
+        }
+    }
 }
 
 // The loop over events that writes.

@@ -6,9 +6,10 @@ use Rattle.yaml_scan_core.proofs.Words.{cases_Bool, cases_lt, nat_tests, byte, c
 use Rattle.yaml_scan_model.specs.Marks.{ends_break, ends_of}
 use Rattle.yaml_scan_model.specs.Runs.{columns_over}
 use Rattle.yaml_scan_model.proofs.MarksLemmas.{column_at-le, column_end, column_more, column_same, line_at-le, line_end, line_more, start_column, start_line}
-use Rattle.yaml_scan_runs.specs.Runs.{RunsTo, is_stop}
+use Rattle.yaml_scan_runs.specs.Runs.{IsNarrow, is_stop}
 use Rattle.yaml_scan_core.specs.Shown.{number_of}
-use Rattle.yaml_scan_core.specs.Told.{may_split}
+use Rattle.yaml_scan_core.specs.Told.{may_split, IsRun}
+use Rattle.yaml_scan_core.proofs.SeatLemmas.{columns_all}
 
 -- ---- a byte
 
@@ -124,42 +125,66 @@ not_split b h = (grind (arith, nat_tests), grind (arith, nat_tests), grind (arit
 not_stop : (b : ℕ) → is_stop [] b ≡ false → (b ≢ 0xC2) × (b ≢ 0xE2)
 not_stop b h = (grind (arith, nat_tests), grind (arith, nat_tests))
 
-run_none : (text : List ℕ) (p q to : ℕ) → 0 < p → may_split (byte text (p - 1)) ≡ false
-    → RunsTo (is_stop []) text p to q → EndsNone text p q
-run_none text p q to some calm run k low high =
-    let here = run.passed k low high in
+run_none : (text : List ℕ) (p q : ℕ) → may_split (byte text (p - 1)) ≡ false → IsRun text p q
+    → EndsNone text p q
+run_none text p q calm run k low high =
+    let here = run k low high in
     let before = not_split (byte text (p - 1)) calm in
     elim (cases_lt p k) [
       | inr near ↦
           let same : k ≡ p = omega (arith, low, near) in
           rw same (calm_byte (byte text (p - 2)) (byte text (p - 1)) (byte text p) (byte text (p + 1)) (rw same at here) before.1 (inl before.0))
       | inl far ↦
-          let last = not_stop (byte text (k - 1)) (run.passed (k - 1) (omega (arith, far)) (omega (arith, high))) in
+          let last = not_stop (byte text (k - 1)) (run (k - 1) (omega (arith, far)) (omega (arith, high))) in
           elim (cases_lt (p + 1) k) [
             | inl more ↦
-                let first = not_stop (byte text (k - 2)) (run.passed (k - 2) (omega (arith, more)) (omega (arith, high))) in
+                let first = not_stop (byte text (k - 2)) (run (k - 2) (omega (arith, more)) (omega (arith, high))) in
                 calm_byte (byte text (k - 2)) (byte text (k - 1)) (byte text k) (byte text (k + 1)) here last.0 (inr first.1)
             | inr one ↦
-                let second : k - 2 ≡ p - 1 = omega (arith, one, far, some) in
+                let second : k - 2 ≡ p - 1 = omega (arith, one, far) in
                 calm_byte (byte text (k - 2)) (byte text (k - 1)) (byte text k) (byte text (k + 1)) here last.0 (inr (rw second before.2))
           ]
     ]
 
--- the mark after a run, in which that many bytes continue characters
-pub mark_over : (text : List ℕ) (m : yaml_mark_t) (q to count : ℕ) → m ≡ mark_at text m.index
-    → 0 < m.index → may_split (byte text (m.index - 1)) ≡ false
-    → RunsTo (is_stop []) text m.index to q
-    → count + columns_over (q - m.index) text m.index ≡ q - m.index
-    → record { index = q; line = m.line; column = m.column + (q - m.index - count) } ≡ mark_at text q
-mark_over text m q to count is some calm run wide =
+-- the mark after bytes that end no break, of which that many begin a character
+mark_on : (text : List ℕ) (m : yaml_mark_t) (q columns : ℕ) → m ≡ mark_at text m.index
+    → m.index ≤ q → EndsNone text m.index q → columns ≡ columns_over (q - m.index) text m.index
+    → record { index = q; line = m.line; column = m.column + columns } ≡ mark_at text q
+mark_on text m q columns is order calm count =
     let l : m.line ≡ line_at text m.index = ap (λ (x : yaml_mark_t). x.line) is in
     let c : m.column ≡ column_at text m.index = ap (λ (x : yaml_mark_t). x.column) is in
     let d = q - m.index in
-    let whole : m.index + d ≡ q = omega (arith, run.ordered) in
-    let none : EndsNone text m.index (m.index + d) = λ k low high. run_none text m.index q to some calm run k low (rw whole at high) in
+    let whole : m.index + d ≡ q = omega (arith, order) in
+    let none : EndsNone text m.index (m.index + d) = λ k low high. calm k low (rw whole at high) in
     let lines : line_at text q ≡ line_at text m.index = rw whole at (lines_over d text m.index none) in
-    let columns : column_at text q ≡ column_at text m.index + columns_over d text m.index = rw whole at (columns_are d text m.index none) in
-    mark_with text q m.line (m.column + (q - m.index - count)) (l ∙ sym lines) (omega (arith, c, columns, wide))
+    let over : column_at text q ≡ column_at text m.index + columns_over d text m.index = rw whole at (columns_are d text m.index none) in
+    mark_with text q m.line (m.column + columns) (l ∙ sym lines) (omega (arith, c, over, count))
+
+-- the mark after a run, in which that many bytes continue characters
+pub mark_over : (text : List ℕ) (m : yaml_mark_t) (q count : ℕ) → m ≡ mark_at text m.index
+    → m.index ≤ q → may_split (byte text (m.index - 1)) ≡ false → IsRun text m.index q
+    → count + columns_over (q - m.index) text m.index ≡ q - m.index
+    → record { index = q; line = m.line; column = m.column + (q - m.index - count) } ≡ mark_at text q
+mark_over text m q count is order calm run wide = mark_on text m q (q - m.index - count) is order (run_none text m.index q calm run) (omega (arith, wide))
+
+-- a byte of ASCII that stops no run ends no break, and begins a character
+narrow_byte : (x y b c : ℕ) → is_stop [] b ≡ false → b < 128 → ends_of x y b c ≡ false
+unfolding ends_of
+narrow_byte x y b c h n = grind (arith, nat_tests)
+
+narrow_starts : (b : ℕ) → b < 128 → starts b ≡ true
+narrow_starts b n = grind (arith, nat_tests)
+
+-- the mark after a run of ASCII
+pub mark_narrow : (text : List ℕ) (m : yaml_mark_t) (q : ℕ) → m ≡ mark_at text m.index
+    → m.index ≤ q → IsRun text m.index q → IsNarrow text m.index q
+    → record { index = q; line = m.line; column = m.column + (q - m.index) } ≡ mark_at text q
+mark_narrow text m q is order run narrow =
+    let d = q - m.index in
+    let whole : m.index + d ≡ q = omega (arith, order) in
+    let calm : EndsNone text m.index q = λ k low high. narrow_byte (byte text (k - 2)) (byte text (k - 1)) (byte text k) (byte text (k + 1)) (run k low high) (narrow k low high) in
+    let all : columns_over d text m.index ≡ d = columns_all d text m.index (λ k low high. narrow_starts (byte text k) (narrow k low (rw whole at high))) in
+    mark_on text m q d is order calm (sym all)
 
 -- ---- a locator
 

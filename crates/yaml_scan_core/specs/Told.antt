@@ -2,7 +2,8 @@
 use Rattle.std.specs.Prelude.{ℕ, pos, ◌+◌, ◌-◌, ◌≡◌, ◌≢◌, ◌≤◌, ◌<◌, ◌⊎◌, Bool, ◌==◌, ◌||◌, true, false, if◌then◌else◌, List, [], length, slice_range, Option, Some, None}
 use Rattle.yaml_scan_model.specs.declared.fault.yaml_origin_t.TheVariants as origins
 use Rattle.yaml_scan_model.specs.Faults.{Fault as Told, memory_fault}
-use Rattle.yaml_scan_model.specs.Marks.{mark_at}
+use Rattle.yaml_scan_model.specs.Marks.{byte, mark_at}
+use Rattle.yaml_scan_runs.specs.Runs.{is_stop}
 use Rattle.yaml_scan_model.specs.Problems.{scanner_fault}
 use Rattle.yaml_scan_history.specs.Remaining.{SpelledText}
 use Rattle.yaml_scan_tokens.specs.Texts.{Texts}
@@ -94,6 +95,10 @@ fault_told text None = memory_fault origins.Scanner
 -- a break of several bytes may go on after such a byte
 abbrev pub may_split : ℕ → Bool
 may_split b = b == 0x80 || (b == 0xC2 || b == 0xE2)
+
+-- no byte between the places stops a run of text
+abbrev pub IsRun : List ℕ → ℕ → ℕ → Type 0
+IsRun text p q = (k : ℕ) → p ≤ k → k < q → is_stop [] (byte text k) ≡ false
 
 -- a locator has the mark of a place in that text
 pub record Locates (text : List ℕ) (l : Locator) : Type 0 where

@@ -1,16 +1,16 @@
 //! The marks of places: an index into the text stands for its mark, and each index after the text's end for that of the stream's
 //! end, on a line of its own.
 
-ghost use Rattle.std.specs.Prelude.{ℕ, List, ◌≡◌, ◌+◌, ◌<◌, ◌≤◌, length};
+ghost use Rattle.std.specs.Prelude.{ℕ, List, ◌≡◌, ◌+◌, ◌<◌, ◌≤◌, ◌⊎◌, length};
 ghost use Rattle.yaml_scan_model.specs.Marks.{byte, ends_break, mark_at};
 ghost use Rattle.yaml_scan_core.specs.Shown.{place_mark};
-ghost use Rattle.yaml_scan_core.specs.Told.{Locates, may_split};
+ghost use Rattle.yaml_scan_core.specs.Told.{IsRun, Locates, may_split};
 
 use crate::text::{byte, continuing};
 use yaml_scan_model::{starts, yaml_mark_t};
-use yaml_scan_runs::{LINE, run_end};
+use yaml_scan_runs::{LINE, run_to};
 
-/// Finds the marks of places in a text, each from the one before where it doesn't are before that.
+/// Finds the marks of places in a text, each from the last one where it isn't before that.
 #[derive(Clone, Copy)]
 pub struct Locator {
     pub(crate) mark: yaml_mark_t,
@@ -36,27 +36,38 @@ impl Locator {
         ensures mark { result ≡ place_mark text.now place }
         ensures locates { Locates text.now self.new }
     {
-        if place <= text.len() {
-            return self.go_to(text, place);
+        if place > text.len() {
+            self.reach(text, text.len());
+            return yaml_mark_t {
+                index: self.mark.index,
+                line: self.mark.line + 1,
+                column: 0,
+            };
         }
-        let last = self.go_to(text, text.len());
-        yaml_mark_t {
-            index: last.index,
-            line: last.line + 1,
-            column: 0,
+        self.reach(text, place);
+        self.mark
+    }
+
+    /// Goes to a place in the text, unless it is there.
+    fn reach(&mut self, text: &[u8], place: usize)
+        requires locates { Locates text.now self.old }
+        requires inside { place ≤ length text.now }
+        ensures mark { self.new.mark ≡ mark_at text.now place }
+        ensures locates { Locates text.now self.new }
+    {
+        if self.mark.index != place as u64 {
+            self.go_to(text, place);
         }
     }
 
-    /// Goes to a place in the text: its mark.
-    fn go_to(&mut self, text: &[u8], place: usize) -> yaml_mark_t
+    /// Goes to a place in the text.
+    fn go_to(&mut self, text: &[u8], place: usize)
         requires locates { Locates text.now self.old }
         requires inside { place ≤ length text.now }
-        ensures mark { result ≡ mark_at text.now place }
+        ensures mark { self.new.mark ≡ mark_at text.now place }
         ensures locates { Locates text.now self.new }
     {
-        let mark = counted(text, self.before(place), place);
-        self.mark = mark;
-        mark
+        self.mark = counted(text, self.before(place), place);
     }
 
     /// The mark that it has, or the text's start where the place is before that.
@@ -81,7 +92,7 @@ pub fn mark_in(text: &[u8], place: usize) -> yaml_mark_t
     locator.locate(text, place)
 }
 
-/// The mark of a place that doesn't are before another, whose mark is given.
+/// The mark of a place that isn't before another, whose mark is given.
 fn counted(text: &[u8], from: yaml_mark_t, place: usize) -> yaml_mark_t
     requires mark { from ≡ mark_at text.now from.index }
     requires order { from.index ≤ place }
@@ -89,10 +100,26 @@ fn counted(text: &[u8], from: yaml_mark_t, place: usize) -> yaml_mark_t
     ensures { result ≡ mark_at text.now place }
 {
     let mut mark = from;
-    'bytes: while mark.index < place as u64 {
-        mark = run_behind(text, byte_behind(text, mark), place);
+    'runs: while mark.index < place as u64 {
+        mark = byte_before(text, run_behind(text, mark, place), place);
     }
     mark
+}
+
+/// The mark after the byte there, if it is before the other place.
+fn byte_before(text: &[u8], mark: yaml_mark_t, to: usize) -> yaml_mark_t
+    requires mark { mark ≡ mark_at text.now mark.index }
+    requires order { mark.index ≤ to }
+    requires inside { to ≤ length text.now }
+    ensures mark { result ≡ mark_at text.now result.index }
+    ensures order { result.index ≤ to }
+    ensures further { (mark.index < result.index) ⊎ (result.index ≡ to) }
+{
+    if mark.index < to as u64 {
+        byte_behind(text, mark)
+    } else {
+        mark
+    }
 }
 
 /// The mark after the byte there.
@@ -119,7 +146,6 @@ fn byte_behind(text: &[u8], mark: yaml_mark_t) -> yaml_mark_t
 /// The mark after bytes there that end no break, which are before the other place.
 fn run_behind(text: &[u8], mark: yaml_mark_t, to: usize) -> yaml_mark_t
     requires mark { mark ≡ mark_at text.now mark.index }
-    requires some { 0 < mark.index }
     requires order { mark.index ≤ to }
     requires inside { to ≤ length text.now }
     ensures mark { result ≡ mark_at text.now result.index }
@@ -127,10 +153,31 @@ fn run_behind(text: &[u8], mark: yaml_mark_t, to: usize) -> yaml_mark_t
     ensures inside { result.index ≤ to }
 {
     let from = mark.index as usize;
-    if may_split(text[from - 1]) {
+    let run = run_to(text, from, to, &LINE);
+    if run.wide {
+        return wide_behind(text, mark, run.end);
+    }
+    yaml_mark_t {
+        index: run.end as u64,
+        line: mark.line,
+        column: mark.column + (run.end - from) as u64,
+    }
+}
+
+/// The same after a run of them, some of which may be beyond ASCII; where a break may go on there, it is the mark itself.
+fn wide_behind(text: &[u8], mark: yaml_mark_t, end: usize) -> yaml_mark_t
+    requires mark { mark ≡ mark_at text.now mark.index }
+    requires order { mark.index ≤ end }
+    requires run { IsRun text.now mark.index end }
+    requires inside { end ≤ length text.now }
+    ensures mark { result ≡ mark_at text.now result.index }
+    ensures order { mark.index ≤ result.index }
+    ensures inside { result.index ≤ end }
+{
+    let from = mark.index as usize;
+    if may_split(byte(text, from.saturating_sub(1))) {
         return mark;
     }
-    let end = run_end(text, from, to, &LINE);
     let columns = end - from - continuing(text, from, end);
     yaml_mark_t {
         index: end as u64,

@@ -4,8 +4,8 @@ use serde_json::Value;
 
 // The fields that calls answer. A line that has one wants it. No line wants `kept`.
 const ANSWERS: &'static str =
-    "answer call_number errors fault fault_line flushed form kept length output refused side sizes \
-    status whole";
+    "answer call_number content errors fault fault_line flushed form kept length output refused \
+    side sizes status whole";
 
 /// The first field that one of them lacks, or of which they have different values: the line wants its own fields and no others of
 /// what its call answered.

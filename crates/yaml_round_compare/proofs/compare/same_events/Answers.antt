@@ -8,7 +8,7 @@ pub returns-in-Different-clause-parted : goal.returns-in-Different-clause-parted
 returns-in-Different-clause-parted c =
     c.events.invariant.parted c.part_at.new.self
     (parted_here c.args.kept c.events.first.parser.events c.events.second.parser.events c.events.trail c.part_at.new.self
-    (c.in-Different.ensures.apart c.part_at.new.self.place c.part_at.ensures.tells) c.part_at.ensures.path)
+    (c.in-Different.ensures.apart c.part_at.new.self.place c.part_at.ensures.tells c.part_at.ensures.cause) c.part_at.ensures.path)
 
 pub events-preserved : goal.events-preserved
 events-preserved c =

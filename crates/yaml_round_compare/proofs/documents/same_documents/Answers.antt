@@ -13,7 +13,7 @@ returns-in-Ok-false c =
     documents_part _ _ _ _ _ _ _ _ _ _ _ c.documents.invariant.past c.in-Some.ensures.items c.in-Some-pop_front-2.ensures.items h
 
 pub returns-in-Some-pop_front : goal.returns-in-Some-pop_front
-returns-in-Some-pop_front c = first_ends _ _ _ _ _ _ _ _ _ _ c.documents.invariant.past c.in-None.ensures.items c.in-None.ensures.rest c.in-Some-pop_front.ensures.items c.end_at.ensures
+returns-in-Some-pop_front c = first_ends _ _ _ _ _ _ _ _ _ _ c.documents.invariant.past c.in-None.ensures.items c.in-None.ensures.rest c.in-Some-pop_front.ensures.items c.part_at.ensures
 
 pub returns-in-None-pop_front-2 : goal.returns-in-None-pop_front-2
-returns-in-None-pop_front-2 c = second_ends _ _ _ _ _ _ _ _ _ _ c.documents.invariant.past c.in-Some.ensures.items c.in-None-pop_front-2.ensures.items c.in-None-pop_front-2.ensures.rest c.end_at-in-None-pop_front-2.ensures
+returns-in-None-pop_front-2 c = second_ends _ _ _ _ _ _ _ _ _ _ c.documents.invariant.past c.in-Some.ensures.items c.in-None-pop_front-2.ensures.items c.in-None-pop_front-2.ensures.rest c.part_at-in-None-pop_front-2.ensures

@@ -4,7 +4,12 @@ use Rattle.yaml_emit_machine.proofs.emitter.yaml_emitter_t.dump_events.Goals as 
 
 pub loop-init : goal.loop-init
 loop-init c = record {
-  may = record { walk = c.requires.walk; begun = c.requires.begun };
+  may = record {
+    walk = c.requires.walk;
+    begun = c.requires.begun;
+    right = c.requires.right;
+    none = λ none. absurd (c.requires.some none);
+  };
   dumps = dumps_none _ _;
 }
 
@@ -14,7 +19,10 @@ loop-preserved c =
     let dumps = rw c.loop-test.true at turn.dumps in
     record { may = turn.on c.loop-test.true; dumps = dumps_on _ _ _ _ _ _ c.loop.invariant.dumps dumps }
 
-pub returns : goal.returns
-returns c =
+pub returns-clause-dumps : goal.returns-clause-dumps
+returns-clause-dumps c =
     let last = rw c.loop-test.false at c.dump_next.ensures.dumps in
     dumps_on _ _ _ _ _ _ c.loop.invariant.dumps last
+
+pub returns-clause-none : goal.returns-clause-none
+returns-clause-none c = c.dump_next.ensures.none c.loop-test.false

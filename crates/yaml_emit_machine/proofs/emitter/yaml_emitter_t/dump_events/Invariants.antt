@@ -1,5 +1,5 @@
 use Rattle.std.proofs.Common.{length}
-use Rattle.yaml_emit_machine.specs.Dumping.{Dumps, MayDump}
+use Rattle.yaml_emit_machine.specs.Dumping.{LaysDump, MayDump}
 use Rattle.yaml_emit_graph.specs.Events.{remaining_events}
 use Rattle.yaml_emit_machine.proofs.emitter.yaml_emitter_t.dump_events.Given as goal
 
@@ -7,7 +7,7 @@ use Rattle.yaml_emit_machine.proofs.emitter.yaml_emitter_t.dump_events.Given as 
 abbrev pub invariant-loop : goal.invariant-loop
 invariant-loop l = record {
   may : MayDump l.document l.self l.events;
-  dumps : Dumps l.initial.self (remaining_events l.document l.initial.events) l.self
+  dumps : LaysDump l.initial.self (remaining_events l.document l.initial.events) l.self
       (remaining_events l.document l.events);
 }
 

@@ -18,11 +18,14 @@ invariant_of-self c =
       memory = search rules;
     }
 
-pub returns : goal.returns
-returns c = λ es.
+pub returns-clause-dumps : goal.returns-clause-dumps
+returns-clause-dumps c = λ es.
     let fr = rw (← c.self.view_is) at c.requires.begun in
     rw (← c.self.view_is) (record {
       takes = inside_starves c.self.inside c.starve.new.self _ es fr c.starve.ensures;
       memory = notes_starved c.self.inside.core c.starve.new.self c.starve.ensures;
       keeps = (refl, refl);
     })
+
+pub returns-clause-stopped : goal.returns-clause-stopped
+returns-clause-stopped c = c.starve.ensures.stopped

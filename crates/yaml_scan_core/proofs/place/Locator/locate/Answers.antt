@@ -4,5 +4,5 @@ use Rattle.yaml_scan_core.proofs.place.Locator.locate.Goals as goal
 
 pub overflow_add-result : goal.overflow_add-result
 overflow_add-result c =
-    let small = line_small c.args.text.now c.go_to-last.result (length c.args.text.now) c.go_to-last.ensures.mark in
-    omega (arith, small, c.if-place-text.false, c.ranges.place.fits)
+    let small = line_small c.args.text.now c.reach.new.self.mark (length c.args.text.now) c.reach.ensures.mark in
+    omega (arith, small, c.if-place-text.true, c.ranges.place.fits)

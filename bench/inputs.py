@@ -123,7 +123,7 @@ def deep_json(i):
 
 PIECES = {"mapping": mapping, "flow": flow, "scalars": scalars, "literals": literals, "anchors": anchors, "json": json}
 PIECES |= {"prose": prose, "wide": wide, "logs": logs, "workflow": workflow, "manifests": manifest, "openapi": openapi, "deepjson": deep_json}
-# What stands before the first piece, between two, and after the last one, where that isn't nothing.
+# What is before the first piece, between two, and after the last one, where that isn't nothing.
 AROUND = {"json": ("[\n", ",\n", "\n]\n"), "deepjson": ("[\n", ",\n", "\n]\n"), "workflow": ("", "---\n", ""), "manifests": ("", "---\n", "")}
 AROUND["openapi"] = ("openapi: 3.0.3\ninfo: {title: Example, version: 1.0.0}\npaths:\n", "", "")
 

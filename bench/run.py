@@ -20,7 +20,7 @@ KINDS = ["mapping", "flow", "scalars", "literals", "anchors", "json"]
 OTHERS = ["prose", "wide", "logs", "workflow", "manifests", "openapi", "deepjson"]
 MODES = {"events": ["events"], "canonical": ["fmt"], "pretty": ["fmt", "--pretty"], "docs": ["docs"]}
 # What loads the documents, which alone is counted too.
-LOADS = {"ours": "yaml_round_writing::reload::documents_of", "peer": "yaml_parser_load"}
+LOADS = {"ours": "yaml_round_engine::reload::documents_of", "peer": "yaml_parser_load"}
 ROUNDS = {10_000: 25, 1_000_000: 25, 10_000_000: 7}
 
 

@@ -1,5 +1,5 @@
 #!/usr/bin/env python3
-"""Proves the libraries that checks stand on, side by side.
+"""Proves the libraries that checks use, side by side.
 
     tools/base.py [CRATE..]
 

@@ -170,7 +170,7 @@ asan() {
 }
 
 export YAML_C_SO=$library/libyaml_c.so PYTHONDONTWRITEBYTECODE=1
-# The interpreter itself: what stands for it on the path may be a script of a shell.
+# The interpreter itself: what has its name on the path may be a shell script.
 if ! python=$(python3 -c 'import sys; assert sys.version_info >= (3, 10); print(sys.executable)' 2>/dev/null); then
     wrong "python3 of 3.10 or newer isn't here"
 else

@@ -18,7 +18,7 @@ import program
 
 
 def below(rt, crate, logs):
-    """Has the libraries below in their place, each after those that it stands on; answers the first that isn't proved."""
+    """Has the libraries below in their place, each after those that it uses; returns the first that isn't proved."""
     crates = sorted(crate.below(), key=lambda it: len(it.below()))
     kept = lanes.kept_by(rt, [*crates, crate], program.SEARCHES)
     return next((it for it in crates if program.built(rt, kept, logs, it, lanes.processors())), None)

@@ -95,7 +95,7 @@ class Tree:
         os.chmod(target, mode)
 
     def packed(self, source, path):
-        """A gzipped file, as Debian wants manual pages and changelogs."""
+        """A gzipped file, as Debian asks for manual pages and changelogs."""
         target, _ = self.place(path, 0o644)
         with open(os.path.join(TOP, source), "rb") as file, open(target, "wb") as out:
             out.write(gzip.compress(file.read(), 9, mtime=0))
@@ -148,7 +148,7 @@ def archive(work, dist, version, time):
 
 
 def changelog(name, version, time):
-    """Debian's own log of a package: what is new stands in CHANGELOG.md."""
+    """Debian's own log of a package: what is new is in CHANGELOG.md."""
     date = output_of("date", "-u", "-R", "-d", f"@{time}")
     return f"{name} ({version}) unstable; urgency=medium\n\n  * See CHANGELOG.md.\n\n -- The Zurkjoft authors <maintainers@users.noreply.zurkjoft.example>  {date}\n"
 

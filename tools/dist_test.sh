@@ -56,7 +56,7 @@ archive() {
             "$at/share/zsh/site-functions/_yaml_cli" "$at/share/fish/vendor_completions.d/yaml_cli.fish"
         rm -r "$at"
     done
-    # a file in the way stands for a folder that can't be written, also for root
+    # a file in the way acts as a folder that can't be written, also for root
     : >"$work/file"
     "$it/$name/install.sh" "$work/file/below" >/dev/null 2>"$work/errors" && wrong "install.sh says nothing of a folder that can't be made"
     [ "$(wc -l <"$work/errors")" = 1 ] || wrong "install.sh doesn't say in one line that it can't write: $(cat "$work/errors")"

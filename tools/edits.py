@@ -6,12 +6,12 @@ calls that have no edit.
     tools/edits.py             writes the page
     tools/edits.py --check     writes nothing, and fails where the page differs
 
-Both fail where an `old:` text does not stand exactly once in its file, where FIRST or IMPLIED names what isn't there, or where the
-edits of one function don't stand together in the order of their files' names.
+Both fail where an `old:` text isn't exactly once in its file, where FIRST or IMPLIED names what isn't there, or where the
+edits of one function aren't together in the order of their files' names.
 
 An edit's file is EDIT.edit, or FUNCTION.EDIT.edit where its function has several: each is tried over what the check of the one
-before it proved, so that a function that was edited is proved again as it stands before another one is; edits of one function that
-stand together spare that. An edit says what it turns in a line `turns: TEXT`; where it has none, its name stands for it. A line of the vectors that is named
+before it proved, so that a function that was edited is proved again as it is before another one is; edits of one function that
+are together spare that. An edit says what it turns in a line `turns: TEXT`; where it has none, its name does. A line of the vectors that is named
 in an edit's place says it in a field `turns`.
 """
 import collections
@@ -30,13 +30,13 @@ HEAD = """# Must-fail edits
 
 Written by `tools/edits.py`; not by hand.
 
-Each line is a change of the code that the prover must refuse (`crates/CRATE/must-fail/EDIT.edit`, or `FUNCTION.EDIT.edit` where a function has several), and the meaning that it turns: were it still proved, the contract would not say that meaning. A call is public where a member hands it out, or it is an export for C. 'Helper' marks functions that only a helper crate hands out, and 'private' the rest: their edits stand where no public call turns the same meaning.
+Each line is a change of the code that the prover must refuse (`crates/CRATE/must-fail/EDIT.edit`, or `FUNCTION.EDIT.edit` where a function has several), and the meaning that it turns: were it still proved, the contract would not say that meaning. A call is public where a member exports it, or it is an export for C. 'Helper' marks functions that only a helper crate exports, and 'private' the rest: their edits stand where no public call turns the same meaning.
 
 """
 LINES_HEAD = f"""
 ## By a line
 
-No clause says these, or no edit turns them: the crate whose clauses do has none, or one, since for a first one it would be proved once more and for a second one twice, or the body stands too far below its public call. A line of `{LINES}` refuses each. That out of memory is reported where memory was there is refused by every line that wants an answer: no clause can say that memory is there.
+No clause says these, or no edit turns them: the crate whose clauses do has none, or one, since for a first one it would be proved once more and for a second one twice, or the body is too far below its public call. A line of `{LINES}` refuses each. That out of memory is reported where memory was there is refused by every line that expects an answer: no clause can say that memory is there.
 
 | call | line | the meaning that it turns |
 |---|---|---|
@@ -53,17 +53,17 @@ What a reader may try to get past the contracts, and what refuses it: an edit, a
 FIRST = [
     ("`,`, `[` and `]` written raw in the suffix of a shorthand", "yaml_emit_core/raw_flow_indicators_in_suffix", "emit_events: spelled tag 6"),
     ("the tag `!` of an empty scalar passed on, by the parser or into the text", "yaml_parse/lone_mark_passed_on", "yaml_round_reading/lone_mark_kept"),
-    ("bytes of a tag that aren't UTF-8 left out or replaced", "yaml_round_adapter/tag_bytes_replaced"),
+    ("bytes of a tag that aren't UTF-8 left out or replaced", "yaml_round_reading/tag_bytes_replaced"),
     ("tokens of a step that fails handed out", "yaml_scan/failed_steps_token_handed_out", "yaml_scan/tokens_behind_a_fault", "scan: scans: a key without its colon"),
     ("overlong UTF-8 accepted", "yaml_scan_decode/overlong_accepted"),
     ("surrogates accepted", "yaml_scan_decode/surrogate_accepted", "yaml_round_c/offence_hidden", "decode: decoding: faults of UTF-8 10", "yaml_scan_types/printable_surrogate"),
     ("lexemes read ahead of need", "yaml_scan/reads_ahead_of_need"),
     ("a token known where a later text may change it", "yaml_scan/has_token_where_none_is"),
-    ("a token that is settled refused, or told as not known", "yaml_scan/settled_token_refused", "yaml_scan/last_one_unknown"),
-    ("a source or a session that refuses again", "yaml_scan/memory_fault_behind_streams_end", "yaml_round_adapter/refuses_again"),
-    ("a scanner's out of memory told of the reader, a tag's fault told as out of memory", "yaml_scan/scanners_memory_told_of_the_reader", "yaml_round_adapter/tags_fault_told_as_memory"),
+    ("a token that is settled refused, or reported as not known", "yaml_scan/settled_token_refused", "yaml_scan/last_one_unknown"),
+    ("a source or a session that refuses again", "yaml_scan/memory_fault_behind_streams_end", "yaml_round_reading/refuses_again"),
+    ("a scanner's out of memory reported of the reader, a tag's fault reported as out of memory", "yaml_scan/scanners_memory_told_of_the_reader", "yaml_round_reading/tags_fault_told_as_memory"),
     ("every deep input refused", "yaml_parse/deep_input_refused"),
-    ("an undefined handle told before the fault of the next token", "yaml_parse_states/undefined_handle_before_the_next_fault"),
+    ("an undefined handle reported before the fault of the next token", "yaml_parse_states/undefined_handle_before_the_next_fault"),
     ("tokens asked for past STREAM-END, after a fault, or to the end where memory ran out", "yaml_parse_states/asked_past_the_end", "parse_tokens: events of tokens: an empty key in a flow sequence", "yaml_parse_states/token_asked_for_behind_a_fault", "yaml_parse_states/reads_on_where_memory_ran_out"),
     ("out of memory answered after the end, over the first fault", "yaml_parse/memory_fault_behind_the_end"),
     ("directives carried to the next document, by reader and emitter alike", "yaml_parse_states/tags_carried_to_the_next_document", "yaml_emit_core/tags_carried_to_the_next_document", "yaml_parse/version_carried_to_the_next_document", "reformat: fault of the input 6"),
@@ -71,7 +71,7 @@ FIRST = [
     ("the document without root, which ends the loads, never comes", "yaml_parse/ending_document_never_comes"),
     ("names of anchors kept in a dump", "yaml_round_c/reloaded_as_a_rewriting", "reload: documents 1"),
     ("a shared node written twice", "yaml_emit_graph/shared_node_written_twice"),
-    ("the text thrown away behind a wrong event that is given where it stands", "yaml_emit/refusal_left_out"),
+    ("the text thrown away after a wrong event that is given in its place", "yaml_emit/refusal_left_out"),
     ("the text lost where an indentation is too deep or memory ran out", "yaml_emit/goes_on_after_a_fault"),
     ("out of memory reported of another layer, or of the other input", "yaml_round/memory_fault_of_the_writer_for_lines", "yaml_round/second_blamed_for_the_firsts_memory"),
     ("pretty text that has the values alone", "yaml_emit/properties_left_out", "reformat: not shaped as JSON 6, an anchor and an alias"),
@@ -80,14 +80,14 @@ FIRST = [
     ("the input repeated as the answer, or as its normal form", "yaml_round/input_repeated", "yaml_round/own_styles_kept"),
     ("the input's `...` kept in canonical form", "yaml_round_reading/explicit_end_kept"),
     ("a size refused one byte early, or one late", "yaml_round_device/size_refused_one_byte_early", "yaml_round/normal_form_refused_one_byte_early", "yaml_round/size_refused_one_byte_late"),
-    ("a flush left out, an empty `put` that fails, reading on behind the limit", "yaml_round_device/finish_not_called", "yaml_round_device/empty_put_told_as_failed", "yaml_round_device/byte_past_the_limit"),
-    ("for C: a place told of what isn't there, a fault without its line, two fields exchanged", "yaml_round_c/absent_anchor_has_a_place", "yaml_round_c/line_never_told", "yaml_round_c/indent_and_width_exchanged"),
-    ("every fault told as out of memory by a caller", "yaml_cli_lookup/every_fault_told_as_want_of_memory"),
+    ("a flush left out, an empty `put` that fails, reading on past the limit", "yaml_round_device/finish_not_called", "yaml_round_device/empty_put_told_as_failed", "yaml_round_device/byte_past_the_limit"),
+    ("for C: a place given to what isn't there, a fault without its line, two fields exchanged", "yaml_round_c/absent_anchor_has_a_place", "yaml_round_c/line_never_told", "yaml_round_c/indent_and_width_exchanged"),
+    ("every fault reported as out of memory by a caller", "yaml_cli_lookup/every_fault_told_as_want_of_memory"),
 ]
 IMPLIED_HEAD = """
 ## What another edit implies
 
-No edit turns these meanings at their own call. As the clauses stand, no body that turns one is proved: the edit that is named is refused only where such a body is too, or the call has the same definition in its clause as the one that is named. The second says nothing of a clause that names another definition some day: who parts two such clauses gives the call an edit of its own.
+No edit turns these meanings at their own call. As the clauses stand, no body that turns one is proved: the edit that is named is refused only where such a body is too, or the call has the same definition in its clause as the one that is named. The second says nothing of a clause that names another definition some day: whoever separates two such clauses gives the call an edit of its own.
 
 | call | the meaning | implied by | since |
 |---|---|---|---|
@@ -95,45 +95,45 @@ No edit turns these meanings at their own call. As the clauses stand, no body th
 # The call, the meaning, the edits that imply it, and why they do.
 IMPLIED = [
     ("yaml_decode", "in UTF-16LE the low byte of a unit comes first; no byte order mark is removed where an encoding is set", ["yaml_round_c/decoded_as_utf8", "yaml_round_c/mark_removed_with_set_encoding"], "the call for C names the definition that this call's clause names, `decoded_text`, and has the text from it alone: where this call let another text through, so would that one"),
-    ("yaml_decode", "an offence's byte is counted with the removed mark", ["yaml_round_c/offence_hidden"], "the same of the first offence, `decoding_fault`, whose fault is told in each field"),
-    ("yaml_parser_scan", "an alias is told as one", ["yaml_scan/value_ended_by_two_quotes"], "`Takes` says by one equation which token is given: its kind and its texts"),
-    ("yaml_adapter_t::next_token", "out of memory is reported of a layer that scans", ["yaml_round_adapter/tags_fault_told_as_memory"], "the clause of all sources lets an out-of-memory error of such a layer through, so what refuses it is `Stops`: the fault is as a whole the session's own, or its tag's"),
+    ("yaml_decode", "an offence's byte is counted with the removed mark", ["yaml_round_c/offence_hidden"], "likewise for the first offence, `decoding_fault`, whose fault is given in each field"),
+    ("yaml_parser_scan", "an alias is reported as one", ["yaml_scan/value_ended_by_two_quotes"], "`Takes` says by one equation which token is given: its kind and its texts"),
+    ("yaml_adapter_t::next_token", "out of memory is reported of a layer that scans", ["yaml_round_reading/tags_fault_told_as_memory"], "the clause of all sources lets an out-of-memory error of such a layer through, so what refuses it is `Stops`: the fault is as a whole the session's own, or its tag's"),
     ("yaml_diff", "a fault of two inputs that are compared names the input that has it", ["yaml_round/sides_turned"], "`IsDiff` says of a fault what `IsSame` says"),
     ("yaml_diff", "nothing is answered only where the contents are the same", ["yaml_round_c/first_input_compared_with_itself"], "`IsDiff` says of nothing what `IsSame` says of true: `SameContent`"),
-    ("yaml_same", "inputs of another content are told apart", ["yaml_round_c/first_input_compared_with_itself"], "the call for C knows of its answer what `IsSame`, the clause of this call, says of both inputs, and nothing else"),
+    ("yaml_same", "inputs of another content aren't the same", ["yaml_round_c/first_input_compared_with_itself"], "the call for C knows of its answer what `IsSame`, the clause of this call, says of both inputs, and nothing else"),
     ("yaml_check", "an input is read in the encoding that is given", ["yaml_round_c/checked_as_utf8"], "the call for C knows of its answer what `IsChecked`, the clause of this call, says of the encoding, and nothing else"),
     ("yaml_check", "an input that is refused does not load", ["yaml_round/events_alone_checked"], "it accepts some of these"),
     ("yaml_normalize", "the input is not repeated", ["yaml_round/own_styles_kept"], "the pretty text of an input, given in, has the same content and so the same normal form"),
     ("yaml_reformat", "what is answered unasked as canonical form is canonical", ["yaml_round/canonical_unasked"], "no text is, where the input doesn't begin with nothing"),
-    ("yaml_reformat", "a tag that isn't UTF-8 is the input's fault", ["yaml_round_adapter/tag_bytes_replaced"], "the plain reading is of the adapter's tokens"),
+    ("yaml_reformat", "a tag that isn't UTF-8 is the input's fault", ["yaml_round_reading/tag_bytes_replaced"], "the plain reading is of the adapter's tokens"),
     ("yaml_reformat", "out of memory is reported with nothing else", ["yaml_parse/memory_fault_with_an_offset"], "`memory_fault` is one definition for all calls"),
     ("yaml_read_all", "the same", ["yaml_parse/memory_fault_with_an_offset"], "the same"),
     ("yaml_reload", "the same", ["yaml_parse/memory_fault_with_an_offset"], "the same"),
     ("yaml_parser_load", "the same", ["yaml_parse/memory_fault_with_an_offset"], "the same"),
-    ("yaml_parser_parse", "a node's event has its tag, resolved by the document's directives; a scalar with a tag is told to need it", ["yaml_parse/lone_mark_passed_on"], "`EventOf` says the whole event by one equation, so another part that is lost turns the same clause"),
-    ("yaml_parser_parse_into", "an event stands where its tokens do, whichever way it was made", ["yaml_parse/lone_mark_passed_on"], "`yaml_parser_parse` hands on what it gives and knows nothing else of it, so an event that `Finds` left open would be open in `EventOf` too"),
-    ("yaml_parser_parse_into", "what an event leaves of the machine is what the grammar leaves: the events behind it come", ["yaml_parse/version_carried_to_the_next_document"], "the same of what is left: one equation on all events behind"),
-    ("yaml_parser_parse_into", "a parse gives the next event, at every depth", ["yaml_parse/deep_input_refused"], "`yaml_parser_parse` has the fault that it tells from this call alone: where `Finds` let one through while none is to come, so would `FaultOf`"),
-    ("yaml_parser_parse", "a wrong token in a block sequence is told as such", ["yaml_parse/tokens_fault_told_elsewhere"], "both calls promise `FaultOf`, which says the whole fault by one equation"),
-    ("yaml_read_all", "an input is told as failed only where it has", ["yaml_round/refusal_told_as_a_failed_input"], "`yaml_run` hands its refusal on, and `FailsBy` says of `Read` what `IsReadFault` says"),
-    ("yaml_write_all", "a failed finish is a failed write", ["yaml_round_device/finish_not_called"], "an output whose finish failed isn't finished either, which `finished` wants of each answer that is Ok"),
+    ("yaml_parser_parse", "a node's event has its tag, resolved by the document's directives; a scalar with a tag is said to need it", ["yaml_parse/lone_mark_passed_on"], "`EventOf` says the whole event by one equation, so another part that is lost turns the same clause"),
+    ("yaml_parser_parse_into", "an event is where its tokens are, whichever way it was made", ["yaml_parse/lone_mark_passed_on"], "`yaml_parser_parse` passes on what it gives and knows nothing else of it, so an event that `Finds` left open would be open in `EventOf` too"),
+    ("yaml_parser_parse_into", "what an event leaves of the machine is what the grammar leaves: the events after it come", ["yaml_parse/version_carried_to_the_next_document"], "likewise for what is left: one equation on all later events"),
+    ("yaml_parser_parse_into", "a parse gives the next event, at every depth", ["yaml_parse/deep_input_refused"], "`yaml_parser_parse` has the fault that it reports from this call alone: where `Finds` let one through while none is to come, so would `FaultOf`"),
+    ("yaml_parser_parse", "a wrong token in a block sequence is reported as such", ["yaml_parse/tokens_fault_told_elsewhere"], "both calls promise `FaultOf`, which says the whole fault by one equation"),
+    ("yaml_read_all", "an input is reported as failed only where it has", ["yaml_round/refusal_told_as_a_failed_input"], "`yaml_run` passes its refusal on, and `FailsBy` says of `Read` what `IsReadFault` says"),
+    ("yaml_write_all", "a failed finish is a failed write", ["yaml_round_device/finish_not_called"], "an output whose finish failed isn't finished either, which `finished` asks of each answer that is Ok"),
     ("yaml_fault_line", "out of memory names its layer", ["yaml_scan/scanners_memory_told_of_the_reader"], "`memory_fault` is one definition for all calls"),
-    ("yaml_run", "the output is finished behind a whole answer", ["yaml_round_device/finish_not_called"], "`finished` is the clause of `yaml_write_all`, word for word"),
-    ("yaml_emitter_emit", "a fault is told at the call that lets its event out, and not later", ["yaml_emit/flush_always_right"], "`Answers` is the clause of both calls: behind either the answer is Ok only where the emitter has no fault"),
+    ("yaml_run", "the output is finished after a whole answer", ["yaml_round_device/finish_not_called"], "`finished` is the clause of `yaml_write_all`, word for word"),
+    ("yaml_emitter_emit", "a fault is reported at the call that lets its event out, and not later", ["yaml_emit/flush_always_right"], "`Answers` is the clause of both calls: after either the answer is Ok only where the emitter has no fault"),
     ("yaml_diff_documents", "each mark of a place of loaded documents is of its own input's event", ["yaml_round/second_mark_for_the_first"], "`TellsOf` is one record for both calls"),
-    ("yaml_reformat", "a root with an anchor or a tag isn't nothing, nor one behind a `---`, nor that of a later document", ["yaml_round/canonical_unasked"], "canonical form comes unasked only where `begins_with_nothing`, one definition, which names all of these, says so of the input's events"),
+    ("yaml_reformat", "a root with an anchor or a tag isn't nothing, nor one after a `---`, nor that of a later document", ["yaml_round/canonical_unasked"], "canonical form comes unasked only where `begins_with_nothing`, one definition, which names all of these, says so of the input's events"),
     ("yaml_normalize", "a root that would be nothing where the text begins is quoted", ["yaml_round/own_styles_kept"], "the text is `readable_text` of the content, which decides the style of each root"),
     ("yaml_parser_initialize", "a fault's text is the definition's, also where code and machine agree on another", ["yaml_parse/tokens_fault_told_elsewhere"], "the fault to come is said by `FaultOfTokens`, whose texts a law, `rows_of_faults_hold`, has in its own words; a parse that answers another fault than the one to come is refused"),
     ("yaml_parser_initialize", "what is whole when a token comes that is wrong is given before the fault", ["yaml_parse/deep_input_refused"], "the events to come are said by `EventsOfTokens`, whose worked lists a law, `rows_of_events_hold`, has in its own words; a parse that answers a fault where one of them is to come is refused"),
     ("yaml_c_events", "every fault except out of memory comes with its line", ["yaml_round_c/line_never_told"], "`TellsFault`, which says each field of the record, is one definition for all calls"),
-    ("yaml_c_emit", "the fault of a refused event is told", ["yaml_round_c/undefined_alias_hidden"], "the same: it says the kind, of the fault that the definition names"),
+    ("yaml_c_emit", "the fault of a rejected event is reported", ["yaml_round_c/undefined_alias_hidden"], "the same: it says the kind, of the fault that the definition names"),
     ("yaml_c_parse", "every event of the input has its record, the first one too", ["yaml_round/events_left_out", "yaml_round_c/last_event_of_a_starved_front_left_out"], "`HasEvents` says of both calls which events an input has, and `SayEvents` of a parse and of a front that each of its events has its record"),
     ("yaml_c_front", "the events before a fault are handed out with it, the last one too", ["yaml_round_c/last_event_of_a_starved_front_left_out"], "`SayFront` lets through with an out-of-memory error all that it lets through with another fault, and beside it only that nothing is handed out"),
     ("yaml_c_scan", "each token before the end or the fault has its record, the last one too", ["yaml_round_c/last_token_of_a_starved_scan_left_out"], "the same of `Scans`"),
-    ("yaml_c_front", "the characters before a mark are counted, and not bytes, without the one that begins there; a tag that stands behind a node's end is none of it", ["yaml_round_c/absent_anchor_has_a_place"], "`SayEvents` says each record whole, as what `event_counted` makes of one, and the records have these numbers from `characters_before` and `has_tag` of `yaml_round_records` alone: where one of these let another number through, so would that one"),
-    ("yaml_c_parse", "the characters before a fault's marks are counted so", ["yaml_round_c/line_never_told"], "`TellsFaultBy`, which says each field of a fault's record, is one record for all calls; here it has the marks by `mark_counted`, and the code has the numbers from `characters_before` of `yaml_round_records` alone"),
-    ("yaml_emitter_outer", "the collections round the innermost one are told", ["yaml_round_c/stand_without_its_collections"], "`yaml_c_emit_on` has the collections round the innermost one from this call alone, and `TellsStand` says the stand whole"),
-    ("yaml_emitter_directives", "the directives of the document are told", ["yaml_round_c/stand_without_its_collections"], "`yaml_c_emit_on` has the directives in force from this call alone, and `TellsStand` says the stand whole"),
+    ("yaml_c_front", "the characters before a mark are counted, and not bytes, without the one that begins there; a tag after a node's end is none of it", ["yaml_round_c/absent_anchor_has_a_place"], "`SayEvents` says each record whole, as what `event_counted` makes of one, and the records have these numbers from `characters_before` and `has_tag` of `yaml_round_answers` alone: where one of these let another number through, so would that one"),
+    ("yaml_c_parse", "the characters before a fault's marks are counted so", ["yaml_round_c/line_never_told"], "`TellsFaultBy`, which says each field of a fault's record, is one record for all calls; here it has the marks by `mark_counted`, and the code has the numbers from `characters_before` of `yaml_round_answers` alone"),
+    ("yaml_emitter_outer", "the collections round the innermost one are returned", ["yaml_round_c/stand_without_its_collections"], "`yaml_c_emit_on` has the collections round the innermost one from this call alone, and `TellsStand` says the checkpoint whole"),
+    ("yaml_emitter_directives", "the directives of the document are returned", ["yaml_round_c/stand_without_its_collections"], "`yaml_c_emit_on` has the directives in force from this call alone, and `TellsStand` says the checkpoint whole"),
     ("yaml_event_t::unplaced", "an event that a caller makes has zero marks", ["yaml_parse_model/delete_leaves_an_event"], "`yaml_event_delete` leaves what this call answers, and its clause says by one equation which event that is, marks and all"),
     ("yaml_node_text_t::as_slice", "a short text has all its bytes", ["yaml_round/first_document_left_out"], "`yaml_reload` writes each document by a dump, which has it from this call alone, and `IsReloaded` says which text that is"),
 ]
@@ -171,19 +171,19 @@ def unfit(crate, path):
         elif word == "new":
             now = texts.get(file) or repo.read(file)
             if now.count(old) != 1:
-                return f"{path}: its text stands {now.count(old)} times in {file}: {old}"
+                return f"{path}: its text is {now.count(old)} times in {file}: {old}"
             texts[file] = now.replace(old, text)
     return "" if texts else f"{path}: it changes nothing"
 
 
 def scattered(edits):
-    """The functions whose edits don't stand together, as the gate tries them: by the names of their files."""
+    """The functions whose edits aren't together, as the gate tries them: by the names of their files."""
     for crate in sorted({it.crate for it in edits}):
         own = sorted((it for it in edits if it.crate == crate and it.at), key=lambda it: os.path.basename(it.path))
         labels = [it.at.label for it in own]
         met = [label for k, label in enumerate(labels) if not k or labels[k - 1] != label]
         for label in sorted({it for it in met if met.count(it) > 1}):
-            yield f"{crate}: the edits of {label} don't stand together: name each file {label.split('::')[-1]}.EDIT.edit"
+            yield f"{crate}: the edits of {label} aren't together: name each file {label.split('::')[-1]}.EDIT.edit"
 
 
 def function_with(path, text):
@@ -213,7 +213,7 @@ def all_edits():
 
 
 def why_none(it):
-    """Why a public call needs no edit of its own, as far as its text tells."""
+    """Why a public call needs no edit of its own, as far as its text shows."""
     if it.owner and it.owner.trait:
         return "a method of a trait: those who implement it have the edits"
     if repo.is_law(it):
@@ -221,7 +221,7 @@ def why_none(it):
     if it.name == "into_inner":
         return "its type leaves no other value to hand back"
     if it.name == "yaml_parser_prefix":
-        return "it lends the one place that it can lend; what stands there is turned at the calls that answer faults"
+        return "it returns the one place that it has by reference; what is there is turned at the calls that answer faults"
     if it.name == "undefined_alias_fault":
         return "what it answers is turned at `yaml_parser_load`"
     if it.label == "RequestedSettings::new":
@@ -233,7 +233,7 @@ def why_none(it):
     if it.contract() and it.label in {call for call, *_ in IMPLIED}:
         return "what another edit implies, as above"
     if it.owner and it.owner.is_of_trait and not it.contract():
-        return "its clauses are the trait's; what it answers is turned at the calls that stand on it"
+        return "its clauses are the trait's; what it answers is turned at the calls that use it"
     return "" if it.contract() else "no clause"
 
 

@@ -193,13 +193,13 @@ def judge_memory(wrong, run, usual):
     _, reads, _, opens = run.counts
     if run.status == 2 and not reads and not opens:
         return "untold, of the command line's words"
-    # where one alone is refused, only a line that was to be told anyway can lack memory
+    # where one alone is refused, only a line that was to be written anyway can lack memory
     return "untold" if run.status == 1 and (wrong.count == 0 or usual.errors) else None
 
 
 def judge_read(wrong, run, usual):
     if wrong.way in ("fail", "cut") or wrong.count >= TRIES:
-        # behind the last byte no read may come that a cut one could fail at
+        # after the last byte no read may come that a cut one could fail at
         if wrong.way == "cut" and run.hits == 1 and is_answer(run, usual):
             return "answered"
         return "told" if is_told(run, b"cannot read the input") else None
@@ -217,7 +217,7 @@ def judge_write(wrong, run, usual):
         # lines and help are tried again for longer
         return "answered"
     if run.hit == 2:
-        # a line was to be told: a front of it is there
+        # a line was to be written: a front of it is there
         is_front = usual.errors.startswith(run.errors)
         return "untold" if is_front and (run.status, run.output) == (usual.status, usual.output) else None
     is_front = usual.output.startswith(run.output) and run.output != usual.output
@@ -235,11 +235,11 @@ def judge_open(wrong, run, usual):
 
 
 def judge_reasons(wrong, run, usual, failed):
-    """Of the commands that name the file and the reason, one beside others: what goes wrong is told of it alone, by that status."""
+    """Of the commands that name the file and the reason, one beside others: what goes wrong is reported of it alone, by that status."""
     if is_answer(run, usual):
         return "answered"
     if wrong.kind == "write" and run.hit == 2:
-        # of several lines in one write a front is there, and what is written on its own comes behind it
+        # of several lines in one write a front is there, and what is written on its own comes after it
         return "untold" if (run.status, run.output) == (usual.status, usual.output) and len(run.errors) < len(usual.errors) else None
     if wrong.kind == "memory" and run.status == 2 and not (run.output or run.errors or run.counts[1] or run.counts[3]):
         return "untold, of the command line's words"

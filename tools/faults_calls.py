@@ -57,7 +57,7 @@ PARSE = SCAN | {"Parser"}
 LOAD = PARSE | {"Loader"}
 EMIT = {"Emitter", "Writer"}
 # The layers that may report out of memory, by the calls' contracts (`Faults.antt` of yaml_scan_types, `Layers.antt` of
-# yaml_round_writing); what a line makes of several calls, by all of them.
+# yaml_round_engine); what a line makes of several calls, by all of them.
 LAYERS = {
     "decode": SCAN,
     "scan": SCAN,
@@ -98,11 +98,12 @@ UNTOLD = {
     "run": lambda line, got: got == {"refused": "Write"},
     "read_all": lambda line, got: {**got, "sizes": 0} == {"refused": "Read", "sizes": 0},
 }
-# These tell no layer: `lookup` answers the fault of the load as out of memory of the line.
+# These name no layer: `lookup` answers the fault of the load as out of memory of the line.
 OTHERS = {"tokens", "lookup", "make_document", "make_events", *UNTOLD} - {*LAYERS}
 # These make a call again for each limit, or for each size of pieces, so that the shortest line is enough.
 AGAIN = {"least_limit", "emit_limits", "emit_pieces"}
-# The members' calls that may lack memory: which call of a line tells it, and of a line of calls one after another which word.
+# The members' calls that may lack memory: which call of a line reports it, and of a line of calls
+# one after another which word.
 TELLS = {
     "yaml_decode": "decode",
     "yaml_parser_scan": "scan_calls scan",
@@ -160,10 +161,10 @@ ASKS_NONE = {
     "yaml_std_output_t::put",
     "yaml_std_output_t::finish",
 }
-# What an input has where one of these stands in it.
+# What an input has where one of these is in it.
 MARKS = "&*!%|>\"'[{#"
 
-# The calls that are put behind those of a line.
+# The calls that are put after those of a line.
 BEHIND = {
     "scan_calls": ["fault", "scan", "peek", "has", "skip", "fault"],
     "parse_calls": ["prefix", "parse", "into", "between", "load", "prefix"],
@@ -175,7 +176,7 @@ ZERO = [0, 0, 0]
 NO_TOKEN, NO_EVENT = ["NO", ZERO, ZERO], ["", ZERO, ZERO]
 NO_DOCUMENT = {"version": None, "directives": [], "start_implicit": False, "end_implicit": False, "start_mark": ZERO}
 NO_DOCUMENT |= {"end_mark": ZERO, "nodes": []}
-# What a call answers behind a fault, where that isn't the fault.
+# What a call answers after a fault, where that isn't the fault.
 LEFT = {
     "scan_calls": {"scan": NO_TOKEN, "peek": NO_TOKEN, "has": False, "skip": False},
     "parse_calls": {"parse": NO_EVENT, "into": "end", "load": NO_DOCUMENT, "between": True},
@@ -239,7 +240,7 @@ def chosen(lines):
 
 
 def said(run):
-    """What a run says of its line: '' where it passes, else what is told; None where it isn't of that form."""
+    """What a run says of its line: '' where it passes, else what is reported; None where it isn't of that form."""
     first, _, rest = run.output.decode("utf-8", "replace").partition("\n")
     if run.status == 0 and (first, rest) == ("1 passed, 0 failed", ""):
         return ""
@@ -273,7 +274,7 @@ def words_of(line):
 
 
 def is_emitter_left(words, fault, got, whole):
-    """Whether calls of an emitter behind a fault answer it, and show a text that stays and is a front of the line's."""
+    """Whether calls of an emitter after a fault answer it, and show a text that stays and is a front of the line's."""
     shown = {}
     for word, it, usual in zip(words, got, whole):
         if word in ("opened", "output"):
@@ -286,7 +287,7 @@ def is_emitter_left(words, fault, got, whole):
 
 
 def is_left(call, words, fault, got, whole):
-    """Whether calls behind a fault show the state that it leaves."""
+    """Whether calls after a fault show the state that it leaves."""
     if call == "emit_calls":
         return is_emitter_left(words, fault, got, whole)
     left = LEFT["scan_calls" if call == "next_tokens" else call]
@@ -332,7 +333,7 @@ def judge_events(vector, got):
 
 
 def judge_fault(vector, got):
-    """Of a fault alone, with the side that it was met on, the line that tells it, and a front of a list."""
+    """Of a fault alone, with the side that it was met on, the line that reports it, and a front of a list."""
     line, rest = vector.line, dict(got)
     fault, front, told, side = (rest.pop(it, None) for it in ("fault", "answer", "fault_line", "side"))
     # the second input's comes only where the first is accepted
@@ -342,7 +343,7 @@ def judge_fault(vector, got):
 
 
 def judge_answer(vector, got, without):
-    """What was answered in a line's place, and the call that told it; None where it isn't as promised."""
+    """What was answered in a line's place, and the call that reported it; None where it isn't as promised."""
     call = vector.call
     if call in UNTOLD and UNTOLD[call](vector.line, got):
         return "not told apart", call
@@ -355,7 +356,7 @@ def judge_answer(vector, got, without):
 
 
 def judge(vector, run, without):
-    """What a run with a request refused came to, None where it isn't as promised; and the call that told it, where one did."""
+    """What a run with a request refused came to, None where it isn't as promised; and the call that reported it, where one did."""
     text, call = said(run), vector.call
     if run.status == 1 and not run.output and run.errors == b"Error: Kind(OutOfMemory)\n":
         return "the program's", ""
@@ -388,7 +389,7 @@ class Replay:
         return self.bench.run(place, case, faults.Wrong("memory", "fail", at, 1) if at else None)
 
     def extended(self, vector):
-        """The line with more calls behind its own, and what these answer with nothing refused."""
+        """The line with more calls after its own, and what these answer with nothing refused."""
         line, call = dict(vector.line), vector.call
         if call not in BEHIND and call != "next_tokens":
             return vector

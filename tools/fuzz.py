@@ -84,7 +84,7 @@ def place(rng, text):
 
 
 def accepted_first(judge, others):
-    """The texts, those that the program accepts ten times: most changed texts are refused, and tell less."""
+    """The texts, those that the program accepts ten times: most changed texts are rejected, and show less."""
     found = []
     for number, text in enumerate(others):
         is_accepted = judge.ours("events", judge.file(number, "yaml", text)).status == 0

@@ -116,7 +116,7 @@ def man_option(option):
 
 
 def man_usage(usage):
-    """A usage line, with what stands for something in italics."""
+    """A usage line, with its placeholders in italics."""
     return re.sub(r"[A-Z]{1,}\b", lambda it: f"\\fI{it[0]}\\fR", roff(usage))
 
 
@@ -126,7 +126,7 @@ def version_of(path):
 
 
 def newest_change():
-    """The version of the first heading of CHANGELOG.md, as the program tells it."""
+    """The version of the first heading of CHANGELOG.md, as the program prints it."""
     with open(f"{TOP}/CHANGELOG.md", encoding="utf-8") as file:
         version = re.search(r"^## (\S+)", file.read(), re.MULTILINE)[1]
         return f"{NAME} {version}"
@@ -180,7 +180,7 @@ _{NAME}() {{
         COMPREPLY=($(compgen -W '{names} -h --help -V --version' -- "$now"))
         return
     fi
-    # a value behind a = is a word of its own
+    # a value after a = is a word of its own
     if [ "$before" = = ]; then before=${{COMP_WORDS[COMP_CWORD - 2]}}; fi
     if [ "$now" = = ]; then before=${{COMP_WORDS[COMP_CWORD - 1]}} now=''; fi
     case $before in

@@ -1,5 +1,5 @@
 #!/usr/bin/env python3
-"""Lists the functions that sources mark `#[inline(always)]` and that stand in a program all the same, with their bytes.
+"""Lists the functions that sources mark `#[inline(always)]` and that are in a program nevertheless, with their bytes.
 
     tools/hints.py [PROGRAM]        crates/yaml_cli/out/yaml_cli, the proved one, where none is named
 
@@ -33,7 +33,7 @@ def hinted(crate):
 
 
 def standing(program):
-    """The functions of ours that stand in the program: bytes, crate, path."""
+    """The functions of ours that are in the program: bytes, crate, path."""
     listed = subprocess.run(["nm", "-S", program], check=True, capture_output=True, text=True).stdout
     for line in listed.split("\n"):
         symbol = SYMBOL.match(line)
@@ -42,7 +42,7 @@ def standing(program):
 
 
 def is_of(path, functions):
-    """Whether a path is that of one of these functions, maybe behind a type."""
+    """Whether a path is that of one of these functions, maybe after a type."""
     *modules, name = path.split("::")
     return any(it == name and "::".join([*modules, ""]).startswith(module) for module, it in functions)
 

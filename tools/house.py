@@ -112,7 +112,7 @@ def clauses_alone(text):
 
 
 def is_code(before, behind):
-    """Whether a number stands for a character, by what is before it and behind it: compared or joined alone, or laid out."""
+    """Whether a number is a character, by what is before it and after it: compared or joined alone, or laid out."""
     is_summed = re.search(r"[-+*/%^] $", before) or re.match(r" [-+*/%^]", behind)
     return not is_summed and (re.search(r"(?:==|[≡≢∷]|\b(?:char|indicator|word)) $", before) or re.match(r" (?:==|[≡≢∷])", behind))
 
@@ -128,7 +128,7 @@ def bare_codes(path, lines):
 
 
 def copies():
-    """Lemmas and records of proofs that stand twice, by their length: where the one is, and the one that could be cited."""
+    """Lemmas and records of proofs that are there twice, by their length: where the one is, and the one that could be cited."""
     found = collections.defaultdict(list)
     for path in files():
         if "/proofs/" in path and not path.endswith(("/Answers.antt", "/Invariants.antt")):
@@ -189,7 +189,7 @@ def arguments(it):
 
 
 def closed_angle(head, at):
-    """The place of the bracket behind a function's type arguments."""
+    """The place of the bracket after a function's type arguments."""
     depth = 0
     for place in range(at, len(head)):
         depth += (head[place] == "<") - (head[place] == ">" and head[place - 1] != "-")

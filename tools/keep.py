@@ -22,7 +22,7 @@ def made(crate):
 
 
 def is_current(crate):
-    """Whether the crate's library stands, and is newer than all that it is made from."""
+    """Whether the crate's library is there, and is newer than all that it is made from."""
     if not crate.makes_rlib() or not os.path.isdir(crate.rlib):
         return False
     return os.stat(crate.rlib).st_mtime > max(made(it) for it in [crate, *crate.below()])

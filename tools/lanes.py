@@ -1,4 +1,4 @@
-"""Proves crates side by side, those with the longest chain of others behind them first; used by `program.py` and `base.py`.
+"""Proves crates side by side, those with the longest chain of others after them first; used by `program.py` and `base.py`.
 
     python3 tools/lanes.py     prints how many checks this machine holds side by side, as `make test` asks
 """
@@ -26,16 +26,16 @@ WORK = 1_000_000_000
 IN_MEMORY = "/dev/shm"
 # More jobs than these don't make the check of one crate shorter.
 MOST_JOBS = 4
-# A crate is on a long chain where that has so many in 100 of the longest one's work.
+# A crate is on a long chain where that has this many in 100 of the longest one's work.
 LONG_PART = 70
-# What only the last crates name is left for the end, when processors are idle anyway: until its chain has so many in 100 of the
-# longest one's work.
+# What only the last crates name is left for the end, when processors are idle anyway: until its
+# chain has this many in 100 of the longest one's work.
 LATE_PART = 40
-# The part of the work, in 100, behind which the time that is left is told.
+# The part of the work, in 100, after which the remaining time is reported.
 TELLING_PART = 5
 # A crate that took fewer seconds was taken from what an earlier run kept, and says nothing of how fast crates are proved.
 PROVED_SECONDS = 5
-# Behind so many seconds without a line one says what is under way.
+# After this many seconds without a line one says what is under way.
 QUIET_SECONDS = 30
 BEGAN = time.monotonic()
 
@@ -260,7 +260,7 @@ class Lanes:
         return f"{least} to {most} min" if least < most else f"{least} min"
 
     def end(self):
-        """Waits until one has ended, and tells it; that one was taken from what is kept needs no line."""
+        """Waits until one has ended, and reports it; that one was taken from what is kept needs no line."""
         ended = wait(self.running, timeout=QUIET_SECONDS, return_when=FIRST_COMPLETED).done
         if not ended:
             say(self.what, ", ".join(it.name for it in self.running_crates()) + " under way" + self.time_left())

@@ -5,9 +5,10 @@
 #     tools/library.sh install PREFIX           LIBRARY: the folder that it is taken from (out/library)
 #     tools/library.sh link ARCHIVE FOLDER      makes both of what is compiled already (tools/near_library.py)
 #
-# What it stands on is proved side by side, or taken from what the gate and `make program` have kept (tools/program.py). The
-# archive and the shared object have the calls of bindings/c/yaml_c.h and no other symbol, and what they need beside them
-# is the C library's malloc, realloc, free and memory functions. It needs the kit, a C compiler, binutils.
+# What it is built on is proved side by side, or taken from what the gate and `make program` have
+# kept (tools/program.py). The archive and the shared object have the calls of bindings/c/yaml_c.h
+# and no other symbol, and what they need beside them is the C library's malloc, realloc, free and
+# memory functions. It needs the kit, a C compiler, binutils.
 #
 # The shared object's name is libyaml_c.so.MAJOR, of the repository's version: calls and records stay what they are within it.
 # Installed are it, the archive, the header and yaml_c.pc for pkg-config, below DESTDIR where that is set.

@@ -6,9 +6,9 @@
 #
 # out/libyaml gets libyaml-0.so.2, which has libyaml's name and symbols, libyaml.so beside it for linkers, libyaml.a,
 # include/yaml.h and pkgconfig/yaml-0.1.pc. They are made of out/library/libyaml_c.a, which is proved, and of the C code of
-# bindings/libyaml, which isn't. Installed, they stand in a folder of their own, PREFIX/lib/yaml_round (below DESTDIR where
+# bindings/libyaml, which isn't. Installed, they are in a folder of their own, PREFIX/lib/yaml_round (below DESTDIR where
 # that is set), so that no library of the system is replaced. It needs a C compiler (CC, CFLAGS) and binutils. LIBRARY names the
-# folder of another libyaml_c.a, as tools/near_library.py makes it; what is made of that stands in its folder libyaml.
+# folder of another libyaml_c.a, as tools/near_library.py makes it; what is made of that is in its folder libyaml.
 set -eu
 top=$(cd "$(dirname "$0")/.." && pwd)
 source=$top/bindings/libyaml
@@ -18,7 +18,7 @@ compiler=${CC:-cc}
 
 say() { echo "make libyaml: $*" >&2; }
 
-# pkgconfig FOLDER: the description for pkg-config of a library that stands there.
+# pkgconfig FOLDER: the description for pkg-config of a library that is there.
 pkgconfig() {
     cat <<END
 libdir=$1

@@ -46,7 +46,7 @@ compile() {
     return 1
 }
 
-# judges NAME COMMAND..: a program that judges itself and tells in its last line what it saw.
+# judges NAME COMMAND..: a program that judges itself and reports in its last line what it saw.
 judges() {
     local name=$1
     shift

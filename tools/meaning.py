@@ -4,7 +4,7 @@
     tools/meaning.py             writes each quoted block again
     tools/meaning.py --check     writes nothing, and fails where a block differs
 
-A block stands behind a line `<!-- CRATE/FILE: NAME NAME.. -->`, which says what it quotes: the named definitions of
+A block follows a line `<!-- CRATE/FILE: NAME NAME.. -->`, which says what it quotes: the named definitions of
 crates/CRATE/specs/FILE.antt with the comments above them.
 """
 import glob

@@ -33,12 +33,12 @@ SAID = [
     '!14 = !{i32 2, !"Debug Info Version", i32 3}',
     "!15 = !{null}",
 ]
-# The numbers of places stand behind these.
+# The numbers of places come after these.
 FIRST = 100
 
 
 def placed(lines):
-    """The module's lines with a place for each instruction: its function, and the line where it stands."""
+    """The module's lines with a place for each instruction: its function, and the line where it is."""
     found, function, choosing = [], 0, False
     for number, line in enumerate(lines, 1):
         if line.startswith("define "):
@@ -81,7 +81,7 @@ def counted(path, program):
 
 
 def chains(program, addresses):
-    """The functions in which each of these addresses stands, the outermost first."""
+    """The functions in which each of these addresses is, the outermost first."""
     words = ["llvm-symbolizer", f"--obj={program}", "--inlines", "--functions=linkage", "--no-demangle", "--output-style=JSON"]
     asked = "\n".join(map(hex, addresses))
     told = subprocess.run(words, input=asked, capture_output=True, text=True, check=True).stdout.splitlines()

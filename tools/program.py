@@ -43,7 +43,7 @@ class Goal:
 
 
 def goal_of(crate):
-    """The goal that a crate's name stands for."""
+    """The goal of a crate's name."""
     if crate == "yaml_round_c":
         return Goal("make library", crate, "libyaml_round_c.a", "lib")
     if crate == "yaml_cli":
@@ -61,7 +61,7 @@ def compiled(rt, crate, jobs):
 
 def proved(rt, kept, crate, jobs):
     """Proves a library, or takes what an earlier run made of the same."""
-    # where the library's files stand already, the kit's store can't link its own there, takes them for damaged and drops them
+    # where the library's files are there already, the kit's store can't link its own, takes them for damaged and drops them
     shutil.rmtree(os.path.dirname(crate.rlib), ignore_errors=True)
     key = kept.key(crate)
     with kept.in_turn(crate, False, key) if hasattr(kept, "in_turn") else contextlib.nullcontext():
@@ -88,7 +88,7 @@ def built(rt, kept, logs, crate, jobs):
 
 
 def keep_sums(rt):
-    """Has a crate's sum be taken once. The kit takes it before and behind each proof, down every path of edges, to mark a library
+    """Has a crate's sum be taken once. The kit takes it before and after each proof, down every path of edges, to mark a library
     as built, which it doesn't do with one of statements alone."""
     found, sum_of = {}, rt.Crate.stamp
 
@@ -112,7 +112,7 @@ def set_up(rt):
 
 
 def leave_out_search(rt):
-    """Has no crate searched for contracts that no call can meet, which loads once more all that a crate stands on."""
+    """Has no crate searched for contracts that no call can meet, which loads once more all that a crate uses."""
     told = rt.rtlib.help_of
     rt.rtlib.help_of = lambda verb: told(verb).replace("--empty-contracts", "")
 

@@ -40,7 +40,7 @@ def members():
 
 
 def known(crate):
-    """What a row may name: functions, also as methods, types, traits, constants, what the crate hands out, and files of laws."""
+    """What a row may name: functions, also as methods, types, traits, constants, what the crate exports, and files of laws."""
     found = {*repo.handed_out(crate), *repo.declared_in(crate)}
     found.update(os.path.basename(it)[: -len(".antt")] for it in glob.glob(f"{repo.TOP}/crates/{crate}/[sp]*s/*.antt"))
     for path in repo.sources(crate):
@@ -61,13 +61,13 @@ def items(lines):
 
 
 def unknown(crate, lines):
-    """The items of a table that don't stand in the crate."""
+    """The items of a table that aren't in the crate."""
     names = known(crate)
     return [it for it in items(lines) if it not in names]
 
 
 def is_formed(crate, lines):
-    """The name and, behind an empty line, what the crate holds."""
+    """The name and, after an empty line, what the crate holds."""
     return lines[:2] == [f"# `{crate}`", ""] and len(lines) > 2 and bool(lines[2])
 
 
@@ -77,11 +77,11 @@ def faults(crate):
     if not os.path.isfile(f"{repo.TOP}/{path}"):
         return [f"{path} isn't there"]
     lines = repo.read(path).rstrip("\n").split("\n")
-    found = [f"{path}: no item of this name stands in the crate: {it}" for it in unknown(crate, lines)]
+    found = [f"{path}: no item of this name is in the crate: {it}" for it in unknown(crate, lines)]
     if len(lines) > MOST_LINES:
         found.append(f"{path}: {len(lines)} lines, of {MOST_LINES} at most")
     if not is_formed(crate, lines):
-        found.append(f"{path}: the crate's name and a line on what it holds are wanted")
+        found.append(f"{path}: the crate's name and a line on what it holds are missing")
     return found
 
 

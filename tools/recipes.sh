@@ -1,5 +1,5 @@
 #!/bin/bash
-# Runs what README.md shows: the commands of its first screen and of 'What it does' with the answers that stand there, the recipes, and the lines for C
+# Runs what README.md shows: the commands of its first screen and of 'What it does' with the answers that are there, the recipes, and the lines for C
 # and Python where `make library` has left the library. It isn't part of the gate. It needs git and, for these lines, a C
 # compiler and python3.
 #
@@ -28,7 +28,7 @@ wrong() {
 # section TITLE: the lines of README.md below a title.
 section() { awk -v title="## $1" '/^## / { on = $0 == title; next } on' "$top/README.md"; }
 
-# recipe NUMBER: the text of a recipe, as it stands.
+# recipe NUMBER: the text of a recipe, as it is.
 recipe() { section Recipes | awk -v wanted="$1" '/^```/ { inside = $0 == "```sh"; n += inside; next } inside && n == wanted'; }
 
 # line START: the command between ` and ` in README.md that begins so.

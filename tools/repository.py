@@ -18,7 +18,7 @@ def read(path):
 
 @functools.lru_cache(maxsize=None)
 def crates():
-    """By crates.txt, in its order: what stands under each crate."""
+    """By crates.txt, in its order: what is under each crate."""
     found = {}
     for line in read("crates.txt").split("\n"):
         name, colon, below = line.partition("#")[0].partition(":")
@@ -28,7 +28,7 @@ def crates():
 
 
 def below(crate):
-    """The repository's crates that a crate stands on, the nearest first."""
+    """The repository's crates that a crate uses, the nearest first."""
     found, todo = [], [crate]
     while todo:
         new = [it for it in crates()[todo.pop(0)] if it in crates() and it not in found]
@@ -74,7 +74,7 @@ def bare(line):
 
 
 def items(text):
-    """Yields the items of a file of specs/: number of its first line, its lines, and whether it stands in a group."""
+    """Yields the items of a file of specs/: number of its first line, its lines, and whether it is in a group."""
     lines, number, base = text.split("\n"), 0, 0
     found, comment = [], []
     for number, line in enumerate(lines, 1):
@@ -263,7 +263,7 @@ def clauses(text):
 
 
 def is_field(text, match):
-    """Whether the word is a field: behind a point, set in a record, or declared in one."""
+    """Whether the word is a field: after a point, set in a record, or declared in one."""
     before, behind = text[: match.start()], text[match.end() :]
     is_set = re.search(r"[{;]\s*$", before) and re.match(r"\s*=\s", behind)
     is_declared = re.search(r"(?:^|\n)\s+(?:pub )?$", before) and re.match(r" :\s", behind)
@@ -314,7 +314,7 @@ def blanked(text):
 
 
 def closed(text, at):
-    """The place behind the bracket that closes the one at `at`."""
+    """The place after the bracket that closes the one at `at`."""
     depth = 0
     for place in range(at, len(text)):
         depth += (text[place] == "{") - (text[place] == "}")
@@ -324,7 +324,7 @@ def closed(text, at):
 
 
 class Function:
-    """A function of the code: where it stands, whose it is, its head, its clauses and its body."""
+    """A function of the code: where it is, whose it is, its head, its clauses and its body."""
 
     def __init__(self, crate, path, text, start, name, is_pub, owner, end, body):
         self.crate, self.path, self.name, self.owner = crate, path, name, owner

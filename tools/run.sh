@@ -58,7 +58,7 @@ else
         "'make program' builds the proved one"
     "$top/tools/unproved.py" || try_it
 fi
-# It has no words, and formats what stands on standard input.
+# It has no arguments, and formats standard input.
 if [ -n "$file" ]; then
     "$unproved" <"$file"
 else

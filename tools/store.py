@@ -11,7 +11,7 @@ import subprocess
 
 # What of a crate a proof reads.
 PARTS = ("src", "specs", "proofs")
-# A library that no run took for so many days is let go.
+# A library that no run took for this many days is removed.
 DAYS = 3
 
 

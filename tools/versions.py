@@ -1,5 +1,5 @@
 #!/usr/bin/env python3
-"""The version, wherever it stands, and which C library a file needs.
+"""The version, wherever it is, and which C library a file needs.
 
     tools/versions.py             fails where a file states another version than crates/yaml_cli_program/src/version.rt
     tools/versions.py FILE..      which glibc each file needs, read from the symbols that it takes

@@ -129,7 +129,7 @@ static int emit_parsed(int text, yaml_c_settings *settings, yaml_c_answer *answe
                        events->bytes.len, settings, answer);
 }
 
-/* What a call hands out. */
+/* What a call returns in blocks. */
 typedef struct {
     yaml_c_parsed parsed;
     yaml_c_scanned scanned;
@@ -161,8 +161,8 @@ static void give_back(records *r)
     yaml_c_spots_free(&r->spots);
 }
 
-/* The text of the events in pieces of so many, each given from where the one before it ended, behind the events that wait there. It
- * stands in `whole` as far as that goes. The last piece's answer and stand stay in the records. */
+/* The text of the events in pieces of that many, each given from where the one before it ended, after the events that wait there. It
+ * is in `whole` as far as that goes. The last piece's answer and checkpoint stay in the records. */
 static int emit_pieces(const yaml_c_parsed *all, size_t piece, const yaml_c_settings *settings, const yaml_c_bytes *whole, records *r)
 {
     size_t given = 0, written = 0;
@@ -205,7 +205,7 @@ static int emit_list_on(int list, yaml_c_settings *settings, const yaml_c_bytes 
     return emit_pieces(&all, 2, settings, whole, r);
 }
 
-/* The call of that number on a text. What it hands out stays in the records. */
+/* The call of that number on a text. Its blocks stay in the records. */
 static int call_on(int call, int text, yaml_c_settings *settings, records *r)
 {
     yaml_c_answer *answer = &r->answer;
@@ -298,7 +298,7 @@ static int part(int documents, int text, yaml_c_parting *parting)
                      : yaml_c_diff(bytes_of(0), strlen(TEXTS[0]), 0, bytes_of(text), len, 0, parting);
 }
 
-/* A parting with allocations refused after the first `number`. Whether any was refused. */
+/* A search for a difference with allocations refused after the first `number`. Whether any was refused. */
 static int is_parted(int documents, int text, long number, int all, int usual)
 {
     yaml_c_parting parting;
@@ -487,7 +487,7 @@ static void fronts_are_told(void)
     }
 }
 
-/* Characters are counted before each mark, and a tag `!` that was left out of a scalar is told. */
+/* Characters are counted before each mark, and a tag `!` that was left out of a scalar is reported. */
 static void places_are_told(void)
 {
     static const char text[] = "- \xC3\xA9: ! x\n- &a #!\n  !<!> \xC3\xB6\n- &b z\n- !t \xE2\x82\xAC\n- !\n";
@@ -520,7 +520,7 @@ static void places_are_told(void)
     yaml_c_parsed_free(&parsed);
 }
 
-/* The same of tokens, of a fault's places, and of a text in UTF-16. */
+/* So they are for tokens, a fault's places, and a text in UTF-16. */
 static void characters_are_counted(void)
 {
     static const uint8_t wide[] = {0xFF, 0xFE, 0xE9, 0, ':', 0, ' ', 0, '!', 0, ' ', 0, 0x3D, 0xD8, 0x00, 0xDE, '\n', 0};
@@ -626,7 +626,7 @@ static void emitted_in_pieces(void)
         }
 }
 
-/* A stand that means nothing, by a field of its place. */
+/* A checkpoint that means nothing, by a field of its place. */
 static void wrong_stand(yaml_c_place place)
 {
     yaml_c_settings settings;
@@ -692,7 +692,7 @@ static void emitted_again(void)
     }
 }
 
-/* A record that means nothing, behind a stream's and a document's start, and behind an event that the emitter refuses. */
+/* A record that means nothing, after a stream's and a document's start, and after an event that the emitter refuses. */
 static void emit_one(yaml_c_event event, size_t len, int wanted)
 {
     yaml_c_event events[3];

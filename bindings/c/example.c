@@ -1,10 +1,11 @@
-/* Lays a YAML text out in pretty form, and shows its events as the C library hands them out.
+/* Lays a YAML text out in pretty form, and shows its events as the C library returns them.
  *
  *     cc -O2 -Wall -o example example.c ../../out/library/libyaml_c.a
  *     ./example [FILE]
  *
- * The text comes from FILE or from standard input. Status 1: the text is refused, and the line on standard error says
- * why and where; status 2: it can't be read, or something is wrong with the library. */
+ * The text comes from FILE or from standard input. Status 1: the text is rejected, and the line on
+ * standard error says why and where; status 2: it can't be read, or something is wrong with the
+ * library. */
 #include "yaml_c.h"
 
 #include <stdio.h>
@@ -51,7 +52,7 @@ static int show_pretty(const uint8_t *text, size_t len) {
     return status;
 }
 
-/* A span's bytes, behind a word. */
+/* A span's bytes, after a word. */
 static void show_span(const char *word, const yaml_c_parsed *parsed, yaml_c_span span) {
     printf(" %s=\"%.*s\"", word, (int)span.len, (const char *)parsed->bytes.at + span.at);
 }

@@ -2,7 +2,7 @@
  *
  * Link libyaml_c.a or libyaml_c.so; `make library` builds both.
  *
- * A call takes a whole input and writes its answer into a record that the caller lends. Its result is the answer's kind:
+ * A call takes a whole input and writes its answer into the caller's record. Its result is the answer's kind:
  * 0 (YAML_C_ANSWERED), the number of a fault, or -1 where a number among the arguments means nothing. Nothing else comes
  * back: no call prints, aborts, or keeps anything between calls, so that any number of calls may run side by side on
  * records of their own.
@@ -12,14 +12,14 @@
  * has a length and may hold a byte 0; none ends with one.
  *
  * Ownership. The caller owns every record and every input, and the call keeps no pointer to them. Blocks that a call
- * hands out are malloc's and the caller's: `text` and `line` of an answer, the three parts of a yaml_c_parsed, the two of
+ * returns are malloc's and the caller's: `text` and `line` of an answer, the three parts of a yaml_c_parsed, the two of
  * a yaml_c_scanned, and the lists of a yaml_c_turns and a yaml_c_spots, each where its length is not 0. The functions
  * below free them. `problem` and `context` are constants of the library: never free or write them. A call overwrites the
  * record's pointers without freeing what they named, so free a record before it is used again.
  *
- * Errors. A refused call hands out no text and, except yaml_c_front, yaml_c_scan and yaml_c_compose, no records; its one
- * block is `line`, the fault in words. Where that met no memory, YAML_C_MEMORY_ERROR is told in the fault's place, with an
- * empty line, which no other fault has. `problem` names what is told in any case.
+ * Errors. A refused call returns no text and, except yaml_c_front, yaml_c_scan and yaml_c_compose, no records; its one
+ * block is `line`, the fault in words. If that line had no memory, YAML_C_MEMORY_ERROR is the result instead, with an
+ * empty line, which no other fault has. `problem` names what is reported in any case.
  *
  * What nothing checks, and the caller keeps:
  *  - a pointer with a length names that many readable bytes (or records), fewer than 2^63 bytes in all, which nothing
@@ -55,14 +55,14 @@ enum {
     YAML_C_ANSWERED = 0,
     YAML_C_MEMORY_ERROR = 1,   /* memory was refused */
     YAML_C_READER_ERROR = 2,   /* the input is no text in its encoding */
-    YAML_C_SCANNER_ERROR = 3,  /* no token stands there */
+    YAML_C_SCANNER_ERROR = 3,  /* no token is there */
     YAML_C_PARSER_ERROR = 4,   /* tokens that are no stream, or a wrong directive */
     YAML_C_COMPOSER_ERROR = 5, /* the documents can't be loaded */
     YAML_C_WRITER_ERROR = 6,   /* the answer has more than `limit` bytes */
     YAML_C_EMITTER_ERROR = 7   /* an event that can't be written there, or an indentation that is too deep */
 };
 
-/* Encodings. As an input's: any means that its byte order mark tells, UTF-8 where it has none. */
+/* Encodings. As an input's: any means the one that its byte order mark shows, UTF-8 where it has none. */
 enum {
     YAML_C_ANY_ENCODING = 0,
     YAML_C_UTF8_ENCODING = 1,
@@ -147,7 +147,7 @@ typedef struct {
     int32_t encoding;   /* of the answer; any means UTF-8, in yaml_c_emit the encoding that the stream's start names */
     int32_t canonical;  /* 0: pretty form, else canonical form; yaml_c_reload and yaml_c_normalize don't look at it */
     int32_t indent;     /* columns of a level, 2 to 9; any other number means 2 */
-    int32_t width;      /* the column behind which lines are folded; negative: 2,147,483,647; 0 to twice the indent means 80 */
+    int32_t width;      /* the column after which lines are folded; negative: 2,147,483,647; 0 to twice the indent means 80 */
     int32_t unicode;    /* 0: escape what isn't ASCII, else write what is printable as it is */
     int32_t line_break;
     uint64_t limit;     /* how many bytes the answer may have */
@@ -159,19 +159,19 @@ typedef struct {
     int32_t is;               /* yaml_c_reformat: 1 pretty form, 0 canonical; yaml_c_same: 1 equal, 0 different; else 0 */
     int32_t second;           /* yaml_c_same: 1 where the fault is the second input's; else 0 */
     int32_t value;            /* kind 2: the byte, unit or character that is wrong, or -1; else 0 */
-    uint64_t offset;          /* kind 2: the byte of the input at which it stands; else 0 */
+    uint64_t offset;          /* kind 2: the byte of the input where it is; else 0 */
     yaml_c_mark problem_mark; /* kinds 3 to 5: where the problem is */
     yaml_c_mark context_mark; /* where what was being read begins, if there is a context */
     yaml_c_bytes problem;     /* what is wrong, a constant; empty for kind 0 */
-    yaml_c_bytes context;     /* what was being read, a constant; empty where none is told */
+    yaml_c_bytes context;     /* what was being read, a constant; empty where there is none */
     yaml_c_bytes text;        /* the text that the call answers; empty where it is refused */
     yaml_c_bytes line;        /* the fault in words, in one line without its end, places counted from 1; kind 1 may lack it */
 } yaml_c_answer;
 
-/* Where two inputs part. The fields behind `answer` are 0 but where a difference is told. */
+/* Where two inputs differ. The fields after `answer` are 0 except where a difference is reported. */
 typedef struct {
-    yaml_c_answer answer;    /* `is`: 1 where they don't part, else 0; `second` as of yaml_c_same; `text`: the path */
-    uint64_t document;       /* so many documents end before the place */
+    yaml_c_answer answer;    /* `is`: 1 where they don't differ, else 0; `second` as of yaml_c_same; `text`: the path */
+    uint64_t document;       /* how many documents end before the place */
     int32_t first_kind;      /* what the first input's event there is, as an event's kind */
     int32_t second_kind;     /* the second input's */
     yaml_c_mark first_mark;  /* where it begins */
@@ -206,10 +206,10 @@ typedef struct {
     yaml_c_span anchor;      /* of the bytes, as the two below; an alias has it too, without a flag */
     yaml_c_span tag;
     yaml_c_span value;       /* of a scalar */
-    yaml_c_mark start, end;  /* where its tokens stand; yaml_c_emit doesn't look at them */
+    yaml_c_mark start, end;  /* where its tokens are; yaml_c_emit doesn't look at them */
 } yaml_c_event;
 
-/* The events of an input, the directives that they name, and the block of bytes that hold their texts, one behind
+/* The events of an input, the directives that they name, and the block of bytes that hold their texts, one after
  * another. */
 typedef struct {
     const yaml_c_event *events;
@@ -225,7 +225,7 @@ typedef struct {
     uint64_t indent; /* its indentation, in columns */
 } yaml_c_level;
 
-/* Where an emitter stands, except lists. Only `waiting` is of use to a caller. */
+/* An emitter's checkpoint, except lists. Only `waiting` is of use to a caller. */
 typedef struct {
     int32_t state;    /* what is expected next: 0 the stream's start, 1 the first document, 2 another one, 3 a node or the end of
                        * the innermost collection, 4 the document's end, 17 nothing */
@@ -234,12 +234,12 @@ typedef struct {
     int32_t white, bare, kept; /* what was written last: white space; nothing but indentation and block indicators in the line; a
                                 * block scalar that keeps its breaks */
     uint64_t column;  /* characters since the last line break, fewer than 2^62 */
-    uint64_t waiting; /* so many of the events that were given, the last ones and at most three, wait for later ones: give them again
-                       * before these. Not looked at in a stand that is given */
+    uint64_t waiting; /* how many of the given events, the last ones and at most three, wait for later ones: give them again
+                       * before these. Not looked at in a checkpoint that is given */
     yaml_c_level innermost; /* the innermost open collection; its state is 0 where none is open */
 } yaml_c_place;
 
-/* Where an emitter stands: with the open collections round the innermost one, the outermost first, the %TAG directives of the
+/* An emitter's checkpoint: with the open collections round the innermost one, the outermost first, the %TAG directives of the
  * document, and the block of bytes that hold their texts. */
 typedef struct {
     yaml_c_place place;
@@ -262,7 +262,7 @@ typedef struct {
     yaml_c_mark start, end;
 } yaml_c_token;
 
-/* The tokens of an input, and the block of bytes that holds their texts, one behind another. */
+/* The tokens of an input, and the block of bytes that holds their texts, one after another. */
 typedef struct {
     const yaml_c_token *tokens;
     size_t tokens_len;
@@ -273,7 +273,7 @@ typedef struct {
 typedef struct {
     int32_t kind;   /* 0 none, 1 a scalar, 2 a sequence, 3 a mapping */
     uint64_t first; /* of a sequence or a mapping, as the one below: what it holds is the `count` numbers of `held` from here on, */
-    uint64_t count; /* of a mapping each pair's key and its value behind it */
+    uint64_t count; /* of a mapping each pair's key and its value after it */
 } yaml_c_node;
 
 /* The nodes of a document, and the numbers of the nodes that they hold. Nodes count from 1; the first one is the root. */
@@ -323,7 +323,7 @@ typedef struct {
 void yaml_c_defaults(yaml_c_settings *settings);
 
 /* The text again, in canonical or pretty form. With `canonical` off it is the pretty text, which read back has the input's
- * content; only where the first document has no `---` and is a `!` alone it is the canonical one: `is` tells which. Refused
+ * content; only where the first document has no `---` and is a `!` alone it is the canonical one: `is` says which. Refused
  * by a fault of the input (2 to 4), which comes before a limit; by 6 past the limit; by 7 where an indentation is too deep. */
 int32_t yaml_c_reformat(const uint8_t *input, size_t len, int32_t from, const yaml_c_settings *settings,
                         yaml_c_answer *answer);
@@ -346,15 +346,16 @@ int32_t yaml_c_check(const uint8_t *input, size_t len, int32_t from, yaml_c_answ
 int32_t yaml_c_same(const uint8_t *first, size_t first_len, int32_t first_from, const uint8_t *second,
                     size_t second_len, int32_t second_from, yaml_c_answer *answer);
 
-/* The first place at which the contents of two inputs part; none exactly where yaml_c_same answers equal. Before it both
- * say the same, event by event, and their next events don't. `answer.text` is the path to it from the document's root inwards,
- * a step for each open collection, one behind another: `[N]` an item, `<N>` the key itself of a pair, `.N` a pair's value, or
- * `.N:LENGTH:TEXT` where its key is a scalar of that text, of LENGTH bytes; numbers are decimal and count from 0. It is empty at
- * a root, and where a document or its directives differ. Refused as yaml_c_same. */
+/* The first place at which the contents of two inputs differ; none exactly where yaml_c_same answers equal. Before it both
+ * have the same content, event by event, and their next events differ. `answer.text` is the path to
+ * it from the document's root inwards, a step for each open collection, one after another: `[N]` an
+ * item, `<N>` the key itself of a pair, `.N` a pair's value, or `.N:LENGTH:TEXT` where its key is a
+ * scalar of that text, of LENGTH bytes; numbers are decimal and count from 0. It is empty at a
+ * root, and where a document or its directives differ. Refused as yaml_c_same. */
 int32_t yaml_c_diff(const uint8_t *first, size_t first_len, int32_t first_from, const uint8_t *second, size_t second_len,
                     int32_t second_from, yaml_c_parting *parting);
 
-/* The same of the documents that both inputs load, compared as yaml_c_reload writes them: names of anchors don't count, what
+/* The first place at which the documents that both inputs load differ, as yaml_c_reload writes them: names of anchors don't count, what
  * they share does. Refused also by 5. */
 int32_t yaml_c_diff_documents(const uint8_t *first, size_t first_len, int32_t first_from, const uint8_t *second,
                               size_t second_len, int32_t second_from, yaml_c_parting *parting);
@@ -370,7 +371,7 @@ int32_t yaml_c_parse(const uint8_t *input, size_t len, int32_t from, yaml_c_pars
  * is answered there is nothing, or all of these, where the fault's line alone met none; there is nothing where -1 is answered. */
 int32_t yaml_c_front(const uint8_t *input, size_t len, int32_t from, yaml_c_parsed *parsed, yaml_c_answer *answer);
 
-/* The text that the input's bytes spell, in UTF-8. With YAML_C_ANY_ENCODING a byte order mark tells the encoding and is left
+/* The text that the input's bytes spell, in UTF-8. With YAML_C_ANY_ENCODING a byte order mark shows the encoding and is left
  * out. Refused where the bytes spell no text (2), or when out of memory. */
 int32_t yaml_c_decode(const uint8_t *input, size_t len, int32_t from, yaml_c_answer *answer);
 
@@ -383,7 +384,7 @@ int32_t yaml_c_scan(const uint8_t *input, size_t len, int32_t from, yaml_c_scann
  * All records are looked at first, so that -1 comes exactly where, in any of them or in the settings, a number means nothing,
  * a span that is looked at doesn't lie there, or its text isn't UTF-8, whatever else is wrong. Else refused as the emitter
  * refuses: by 7 for the first event that is in the wrong place or has a name, a tag or a directive that can't be written, or
- * where an indentation is too deep; by 6 past the limit. A refused call hands out no text, and events behind a refused one
+ * where an indentation is too deep; by 6 past the limit. A refused call returns no text, and events after a refused one
  * count for nothing. A list that is no whole stream answers the text of the events that could be written by then: the start
  * of a document is written once an event follows, that of a sequence once two do, that of a mapping once three do, or once it
  * is ended. */
@@ -391,12 +392,13 @@ int32_t yaml_c_emit(const yaml_c_event *events, size_t events_len, const yaml_c_
                     size_t directives_len, const uint8_t *bytes, size_t len, const yaml_c_settings *settings,
                     yaml_c_answer *answer);
 
-/* The text that more events add, so that a stream may be given in pieces: `stand` is where the emitter stands that was given those
- * before (yaml_c_stand_init: none yet), and `behind` becomes where it stands then, for the next call. Of the events that were
+/* The text that more events add, so that a stream may be given in pieces: `stand` is the checkpoint of the emitter that was given those
+ * before (yaml_c_stand_init: none yet), and `behind` becomes its next checkpoint, for the next call. Of the events that were
  * given, the last `stand->place.waiting` ones wait: they are to be the first of `given`, with their texts. The texts of the calls,
- * one behind another, are then what yaml_c_emit answers for all events under the same settings. Refused as yaml_c_emit, -1 also
- * where the stand means nothing; `behind` is left as it is then, and there is nothing to go on from. The limit is the call's text's,
- * at most 2^62. `stand` and `behind` are two records: free the old one behind the call. */
+ * one after another, are then what yaml_c_emit answers for all events under the same settings. Refused as yaml_c_emit, -1 also
+ * where the checkpoint means nothing; `behind` is left as it is then, and there is nothing to
+ * continue from. The limit is the call's text's, at most 2^62. `stand` and `behind` are two
+ * records: free the old one after the call. */
 int32_t yaml_c_emit_on(const yaml_c_parsed *given, const yaml_c_settings *settings, const yaml_c_stand *stand,
                        yaml_c_stand *behind, yaml_c_answer *answer);
 
@@ -408,7 +410,7 @@ int32_t yaml_c_emit_on(const yaml_c_parsed *given, const yaml_c_settings *settin
 int32_t yaml_c_compose(const yaml_c_step *steps, size_t steps_len, const uint8_t *bytes, size_t len, yaml_c_spots *spots,
                        yaml_c_answer *answer);
 
-/* What a dump of the document has of its nodes, in order: a node that is met first is begun, and a collection ended behind what it
+/* What a dump of the document has of its nodes, in order: a node that is met first is begun, and a collection ended after what it
  * holds, a pair's key before its value; one that is met again is an alias. A node that is met again has a number, from 1 in the
  * order in which they are met again. Tags and values aren't asked for: each turn names the node whose they are. -1 exactly where the
  * kind of a node is none of the four, or what a collection holds doesn't lie within `held`; else refused only when out of memory,
@@ -468,7 +470,7 @@ static inline void yaml_c_parsed_free(yaml_c_parsed *parsed) {
     yaml_c_parsed_init(parsed);
 }
 
-/* Where an emitter stands that was given no event. Before the first call with the record. */
+/* The checkpoint of an emitter that was given no event. Before the first call with the record. */
 static inline void yaml_c_stand_init(yaml_c_stand *stand) {
     static const yaml_c_level no_level = {0, 0};
     static const yaml_c_directive no_directive = {{0, 0}, {0, 0}};

@@ -21,7 +21,7 @@ YAML_DECLARE(int) yaml_emitter_close(yaml_emitter_t *emitter)
     return emitter->closed;
 }
 
-/* What a node holds, as numbers of nodes: of a mapping each pair's key, and its value behind it. */
+/* What a node holds, as numbers of nodes: of a mapping each pair's key, and its value after it. */
 static const int *held_by(const yaml_node_t *node, size_t *len)
 {
     *len = 0;

@@ -1,4 +1,4 @@
-/* The emitter: events are kept as records, and laid out by the proved core, which goes on from where it stood (yaml_c_emit_on): each
+/* The emitter: events are kept as records, and laid out by the proved core, which continues from its checkpoint (yaml_c_emit_on): each
  * time that enough are kept, at the end of a document, at a flush, and with an event that may be wrong. */
 #include "layer.h"
 
@@ -197,7 +197,7 @@ static inline void look_at(layer_writing *w, const yaml_char_t *anchor, const ya
         w->is_doubtful = 1;
 }
 
-/* ---- where the events lead: an event in a wrong place is laid out at once, which tells the fault */
+/* ---- where the events lead: an event in a wrong place is laid out at once, which reports the fault */
 
 enum { IS_MAPPING = 1, IS_VALUE = 2 };
 
@@ -335,7 +335,7 @@ YAML_DECLARE(int) yaml_emitter_emit(yaml_emitter_t *emitter, yaml_event_t *event
         yaml_event_delete(event);
         return 0;
     }
-    /* as with libyaml, nothing is written where the event stands, which may be far from the processor */
+    /* as with libyaml, nothing is written in the event's place, which may be far from the processor */
     layer_free_texts(event);
     return 1;
 }

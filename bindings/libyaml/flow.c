@@ -1,12 +1,13 @@
-/* Where an input is cut within a document whose root is in flow style: behind an item or a pair of the innermost open collection,
- * where one more begins. Such a cut is told by events: a window that ends anywhere is parsed, its fault counts for nothing, and of
- * its events those before the cut are handed out. The event behind the cut, which isn't, shows that a comma stands between
- * them, so that every token before it has ended. No bracket that is open is the beginning of a key, since the event behind the
- * cut stands in another line, or further on than a key goes.
+/* Where an input is cut within a document whose root is in flow style: after an item or a pair of the innermost open collection,
+ * where one more begins. Such a cut is found by events: a window that ends anywhere is parsed, its
+ * fault counts for nothing, and of its events those before the cut are handed out. The event after
+ * the cut, which isn't, shows that a comma is between them, so that every token before it has
+ * ended. No bracket that is open is the beginning of a key, since the event after the cut is in
+ * another line, or further on than a key goes.
  *
- * What stands behind the cut is parsed behind a stand-in: the brackets that are open, each with a key where it is a value, and an
- * item or a pair in the innermost one; then a line break, behind which none of these brackets begins a key. In flow style no column
- * and no indentation counts, so that the parser is behind the stand-in as it was before the comma. Of the stand-in, and of the
+ * What is after the cut is parsed after a stand-in: the brackets that are open, each with a key where it is a value, and an
+ * item or a pair in the innermost one; then a line break, after which none of these brackets begins a key. In flow style no column
+ * and no indentation counts, so that the parser is after the stand-in as it was before the comma. Of the stand-in, and of the
  * line in which the cut is, the places are put right.
  *
  * It is so where all that is open is plain brackets, without properties, keys, or pairs without brackets, and the document has no
@@ -42,7 +43,7 @@ static void open_at(walk *w, const layer_reading *reading, const yaml_c_event *i
     w->is_plain[at] = is_due && is_bracket(reading, it);
 }
 
-/* Whether what is open can't begin a key, since that event stands too far behind it: a key is in one line, and has at most 1,024
+/* Whether what is open can't begin a key, since that event is too far after it: a key is in one line, and has at most 1,024
  * characters. */
 static int is_past_keys(const walk *w, const yaml_c_event *it)
 {
@@ -50,7 +51,7 @@ static int is_past_keys(const walk *w, const yaml_c_event *it)
     return open->line < it->start.line || open->index + 4 * 1024 < it->start.index;
 }
 
-/* A node has come. Whether the input may be cut behind it, as far as that tells. */
+/* A node has come. Whether the input may be cut after it, as far as that shows. */
 static inline int node_came(walk *w)
 {
     if (!w->depth || w->depth > LAYER_OPENS)
@@ -60,7 +61,7 @@ static inline int node_came(walk *w)
     return w->is_plain[at] && !(w->opens[at].is_mapping && w->is_value[at]);
 }
 
-/* Whether the input may be cut behind this event. */
+/* Whether the input may be cut after this event. */
 static inline int goes_on(walk *w, const layer_reading *reading, const yaml_c_event *it)
 {
     if (it->kind == YAML_C_SCALAR_EVENT)
@@ -94,7 +95,7 @@ static void keep_opens(layer_reading *reading, const walk *w)
     reading->opens_len = w->depth;
 }
 
-/* The last cut except a few: all among the last events are looked at, and some before them. Its number of events in front,
+/* The last cut except a few: all among the last events are looked at, and some before them. Its number of events before it,
  * and what is open there is kept; 0: there is none. */
 static size_t last_cut(layer_reading *reading)
 {
@@ -122,7 +123,7 @@ int layer_cut_in_flow(layer_reading *reading)
     return 1;
 }
 
-/* The window's last places, as those of the input, which are known of what the stand-in stands for. */
+/* The window's last places, as those of the input, which are known of what the stand-in replaces. */
 void layer_leave_flow(layer_reading *reading)
 {
     for (size_t i = 0; i < reading->opens_len; i++)

@@ -1,4 +1,4 @@
-/* What a parser reads, in windows, and where they stand in the input. */
+/* What a parser reads, in windows, and where these are in the input. */
 #include "layer.h"
 
 static int read_string(void *data, unsigned char *buffer, size_t size, size_t *size_read)
@@ -56,7 +56,7 @@ YAML_DECLARE(void) yaml_parser_set_encoding(yaml_parser_t *parser, yaml_encoding
 #define LAYER_WINDOW ((size_t)1 << 13)
 #endif
 
-/* Reads on by the handler. 0: the parser tells why. */
+/* Reads on by the handler. 0: the parser says why. */
 static int read_piece(yaml_parser_t *parser, layer_reading *reading)
 {
     unsigned char piece[16384];
@@ -91,7 +91,7 @@ static int has_utf8_mark(const layer_reading *reading)
     return reading->given >= 3 && !memcmp(reading->bytes, "\xEF\xBB\xBF", 3);
 }
 
-/* The last place in that many bytes behind which a character begins, as far as a document in flow style may be looked at: more is
+/* The last place in that many bytes after which a character begins, as far as a document in flow style may be looked at: more is
  * known to come. 0: there is none. */
 static size_t end_in_flow(layer_reading *reading, size_t len)
 {
@@ -104,7 +104,7 @@ static size_t end_in_flow(layer_reading *reading, size_t len)
     return len;
 }
 
-/* The window ends at a cut behind `from`, where one is found in that many bytes. */
+/* The window ends at a cut after `from`, where one is found in that many bytes. */
 static int ends_at_cut(const yaml_parser_t *parser, layer_reading *reading, size_t from, size_t len)
 {
     if (!may_be_cut(parser, reading))
@@ -152,7 +152,7 @@ static int finds_cut(const yaml_parser_t *parser, layer_reading *reading, size_t
     }
 }
 
-/* Has the core decode what a handler gave since. Whether a byte is wrong there; what stands at the end may be the beginning of a
+/* Has the core decode what a handler gave since. Whether a byte is wrong there; what is at the end may be the beginning of a
  * character. 0 also where memory was refused, which is met again. */
 static int has_wrong_byte(layer_reading *reading)
 {
@@ -197,7 +197,7 @@ static int put_stand_in(layer_reading *reading)
     }
 }
 
-/* What is to be parsed: the window, within a root behind its stand-in, which is a line. */
+/* What is to be parsed: the window, within a root after its stand-in, which is a line. */
 static int join(yaml_parser_t *parser, layer_reading *reading)
 {
     reading->joined.len = 0;
@@ -230,7 +230,7 @@ int layer_widen(yaml_parser_t *parser, layer_reading *reading)
     return find_window(parser, reading);
 }
 
-/* Puts the window's places behind. */
+/* Appends the window's places. */
 static void leave_places(layer_reading *reading)
 {
     if (reading->cut_in == LAYER_FLOW) {
@@ -243,7 +243,7 @@ static void leave_places(layer_reading *reading)
     reading->lines_before = reading->lines_to_window + reading->lines;
 }
 
-/* Puts the window's bytes behind. */
+/* Appends the window's bytes. */
 static void leave_window(layer_reading *reading)
 {
     leave_places(reading);
@@ -292,7 +292,7 @@ int layer_is_doubtful(const layer_reading *reading)
         return 0;
     if (reading->is_wrong)
         return answer->kind != YAML_C_READER_ERROR;
-    /* where a fault stands is where it was found, and what stands further on was looked at by then in no more than 8
+    /* a fault's place is where it was found, and what comes further on was looked at by then in no more than 8
      * bytes; between documents laws ask for less, except the line `...` and a byte order mark (window.c) */
     return is_placed && answer->problem_mark.index + 16 > reading->read_len;
 }

@@ -24,7 +24,7 @@ int yaml_queue_extend(void **start, void **head, void **tail, void **end);
 int yaml_parser_update_buffer(yaml_parser_t *parser, size_t length);
 int yaml_parser_fetch_more_tokens(yaml_parser_t *parser);
 
-/* What isn't called for most events stands by itself, so that what is has fewer registers to keep. */
+/* What isn't called for most events is by itself, so that what is has fewer registers to keep. */
 #if defined(__GNUC__)
 #define LAYER_RARE __attribute__((noinline))
 #else
@@ -57,7 +57,7 @@ static inline void layer_move(uint8_t *to, const uint8_t *from, size_t len)
     }
 }
 
-/* A text of that many bytes, with a byte 0 behind it; NULL where memory was refused. */
+/* A text of that many bytes, with a byte 0 after it; NULL where memory was refused. */
 static inline yaml_char_t *layer_copy(const void *text, size_t len)
 {
     yaml_char_t *copy = malloc(len + 1);
@@ -75,10 +75,10 @@ typedef struct {
     size_t room;
 } layer_bytes;
 
-/* Makes room for so many bytes behind the others. 0: memory was refused, and nothing has changed. */
+/* Makes room for that many bytes after the others. 0: memory was refused, and nothing has changed. */
 int layer_make_room(layer_bytes *bytes, size_t len);
 
-/* Puts bytes behind the others. 0: as above. */
+/* Appends bytes. 0: as above. */
 static inline int layer_put(layer_bytes *bytes, const void *text, size_t len)
 {
     if (len > bytes->room - bytes->len && !layer_make_room(bytes, len))
@@ -92,7 +92,7 @@ static inline int layer_put(layer_bytes *bytes, const void *text, size_t len)
  * memory was refused, or there are INT_MAX items; then the old block is as it was. */
 void *layer_grown(void *block, size_t len, size_t item, size_t *room);
 
-/* Makes room for one item more in a stack of libyaml's form. `is_there` tells whether there is. */
+/* Makes room for one item more in a stack of libyaml's form. `is_there` says whether there is. */
 #define LAYER_MAKE_ROOM(is_there, stack)                                                               \
     do {                                                                                               \
         (is_there) = (stack)->top != (stack)->end;                                                     \
@@ -210,7 +210,7 @@ typedef struct {
     size_t opens_len;
     size_t flow_len;          /* how much of such a document is looked at next */
     int is_uncut;             /* the document isn't cut, since its root is none of these */
-    layer_bytes joined;       /* a root's beginning, as a stand-in, and the window behind it */
+    layer_bytes joined;       /* a root's beginning, as a stand-in, and the window after it */
     const uint8_t *read;      /* what is parsed: that or the window, how much, and how much of it is the stand-in */
     size_t read_len;
     size_t mark_len; /* of its byte order mark */
@@ -234,23 +234,23 @@ typedef struct {
     yaml_c_answer answer;
     yaml_c_event *events;
     yaml_c_scanned scanned;
-    size_t next; /* the event or the token that comes next, and behind which none is to come */
+    size_t next; /* the event or the token that comes next, and after which none is to come */
     size_t end;
     int last; /* the kind of the event that was handed out last */
-    yaml_c_event missed; /* one that the core doesn't tell */
+    yaml_c_event missed; /* one that the core doesn't report */
     char *problem;
     char *context;
     yaml_char_t *shown; /* what libyaml's buffer shows */
     yaml_char_t nothing[1];
 } layer_reading;
 
-/* Has events, or tokens, read until there is one, or none is left. A parser gives one of both. 0: the parser tells why. */
+/* Has events, or tokens, read until there is one, or none is left. A parser gives one of both. 0: the parser says why. */
 int layer_read(yaml_parser_t *parser, layer_reading *reading, enum layer_asked asked);
 /* Whether the window's tokens leave brackets open: a cut is none there. */
 int layer_is_open(const layer_reading *reading);
 /* Takes the tokens out of what was scanned. */
 void layer_take_tokens(layer_reading *reading);
-/* Has libyaml's buffer show a text, and the scanner stand there. 0: memory was refused. */
+/* Has libyaml's buffer show a text, and the scanner be there. 0: memory was refused. */
 int layer_show(yaml_parser_t *parser, layer_reading *reading, const uint8_t *text, size_t len, size_t at);
 /* Tells the input's fault. Answers 0. */
 int layer_fault(yaml_parser_t *parser, layer_reading *reading);
@@ -272,24 +272,24 @@ static inline yaml_mark_t layer_mark(const layer_reading *reading, const yaml_c_
     yaml_mark_t found = {reading->chars_to_window + mark->character, reading->lines_to_window + mark->line, column};
     return found;
 }
-/* Goes on to the next window. 0: the parser tells why. */
+/* Goes on to the next window. 0: the parser says why. */
 int layer_next_window(yaml_parser_t *parser, layer_reading *reading);
-/* Has the window end further on: with its document, where it ends within one, or with the input. 0: the parser tells why. */
+/* Has the window end further on: with its document, where it ends within one, or with the input. 0: the parser says why. */
 int layer_widen(yaml_parser_t *parser, layer_reading *reading);
-/* Whether the input may go on in another way than the window tells: it ends at a cut, and its fault may be due to that. */
+/* Whether the input may go on in another way than the window shows: it ends at a cut, and its fault may be due to that. */
 int layer_is_doubtful(const layer_reading *reading);
 /* Tells the encoding that the core found. */
 void layer_tell_encoding(yaml_parser_t *parser, const layer_reading *reading);
-/* The last place behind `from` at which an input of that length can be cut; 0: none is known by now. */
+/* The last place after `from` at which an input of that length can be cut; 0: none is known by now. */
 size_t layer_last_cut(const uint8_t *text, size_t len, size_t from);
-/* The root with which a document may begin, behind `from`, which is moved on behind comments and `---`. */
+/* The root with which a document may begin, after `from`, which is moved past comments and `---`. */
 enum layer_root layer_root_of(const uint8_t *text, size_t len, size_t *from);
-/* The last place behind `from` where an item of the root begins; 0: none is known by now. */
+/* The last place after `from` where an item of the root begins; 0: none is known by now. */
 size_t layer_last_item(const uint8_t *text, size_t len, size_t from, enum layer_root root);
 
 enum layer_place { LAYER_BEFORE_STREAM, LAYER_BETWEEN_DOCUMENTS, LAYER_IN_DOCUMENT, LAYER_BEHIND_STREAM };
 
-/* What an emitter keeps: where it stands, and the records of the events behind that. */
+/* What an emitter keeps: its checkpoint, and the records of the events after that. */
 typedef struct {
     enum layer_place place;
     int is_doubtful; /* an event that may be wrong is kept */

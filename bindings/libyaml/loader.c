@@ -67,7 +67,7 @@ static int take_tag(yaml_node_t *node, yaml_char_t **tag, const char *own)
     return (node->tag = layer_copy(own, strlen(own))) != NULL;
 }
 
-/* What a node has of the event that starts it, whose anchor is told. */
+/* What a node has of the event that starts it, whose anchor is known. */
 static int begin_node(yaml_node_t *node, yaml_event_t *event, const yaml_char_t **anchor)
 {
     memset(node, 0, sizeof *node);
@@ -127,7 +127,7 @@ static int keep_event(yaml_document_t *document, gathering *g, yaml_event_t *eve
     }
 }
 
-/* Keeps the events behind a document's start up to its end. */
+/* Keeps the events after a document's start up to its end. */
 static int keep_events(yaml_parser_t *parser, yaml_document_t *document, gathering *g)
 {
     for (;;) {
@@ -149,14 +149,14 @@ static int has_mark(const yaml_c_step *step)
     return step->kind == YAML_C_ALIAS_EVENT || step->kind == YAML_C_SEQUENCE_END_EVENT || step->kind == YAML_C_MAPPING_END_EVENT;
 }
 
-/* Tells the alias behind the spots. */
+/* Reports the alias after the spots. */
 static int undefined_alias(yaml_parser_t *parser, const gathering *g, const yaml_c_spots *spots)
 {
     const yaml_c_step *steps = (const void *)g->steps.at;
     const yaml_mark_t *mark = (const void *)g->marks.at;
     for (size_t i = 0; i < spots->spots_len; i++)
         mark += has_mark(&steps[i]);
-    /* in place of a fault behind it, which may have been met */
+    /* in place of a fault after it, which may have been met */
     parser->error = YAML_COMPOSER_ERROR;
     parser->context = NULL;
     memset(&parser->context_mark, 0, sizeof parser->context_mark);

@@ -74,7 +74,7 @@ static size_t width_of(unsigned byte)
     return byte >= 0xF0 && byte < 0xF5 ? 4 : 0;
 }
 
-/* The character that begins there, of that width, or 0xFFFFFFFF: what stands there is none. */
+/* The character that begins there, of that width, or 0xFFFFFFFF: what is there is none. */
 static unsigned character(const yaml_char_t *text, size_t width)
 {
     unsigned value = width == 1 ? text[0] : text[0] & (0xFFu >> (width + 1));

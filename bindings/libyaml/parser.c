@@ -1,5 +1,5 @@
 /* The parser: the input is read in windows of whole documents, each made into records by the proved core; each call hands out one
- * event, and behind those before a fault the fault. */
+ * event, and after those before a fault the fault. */
 #include "layer.h"
 
 int layer_no_memory(yaml_parser_t *parser)
@@ -136,7 +136,7 @@ static int is_doubtful(layer_reading *reading)
     return reading->asked == LAYER_TOKENS ? layer_is_open(reading) : reading->cut_in && !ends_in_root(reading);
 }
 
-/* Reads the next window, and where it may not tell what the input does, more. */
+/* Reads the next window, and where it may not show what the input does, more. */
 static int read_window(yaml_parser_t *parser, layer_reading *reading)
 {
     forget(reading);
@@ -175,7 +175,7 @@ int layer_read(yaml_parser_t *parser, layer_reading *reading, enum layer_asked a
     return 1;
 }
 
-/* Whether behind the events a block mapping waits for a key that isn't its first. */
+/* Whether after the events a block mapping waits for a key that isn't its first. */
 static int waits_for_key(const layer_reading *reading)
 {
     size_t depth = 0, nodes = 0;
@@ -192,7 +192,7 @@ static int waits_for_key(const layer_reading *reading)
 }
 
 /* Settles what libyaml's private fields have at a fault, since some clients (netplan) look at them: the line at which the scanner
- * stands, as far as it is near. Before a reader's fault it stands at the window's beginning. */
+ * is, as far as it is near. Before a reader's fault it is at the window's beginning. */
 static int settle(yaml_parser_t *parser, layer_reading *reading)
 {
     int is_read = parser->error != YAML_READER_ERROR;
@@ -324,7 +324,7 @@ static inline int made(const layer_reading *reading, const yaml_c_event *it, int
     }
 }
 
-/* Whether a document begins before the fault, which the core doesn't tell: where the fault is the stream's first token. */
+/* Whether a document begins before the fault, which the core doesn't report: where the fault is the stream's first token. */
 static int misses_start(const layer_reading *reading)
 {
     static const char problem[] = "did not find expected node content";
@@ -350,8 +350,8 @@ static inline int hand_out(yaml_parser_t *parser, layer_reading *reading, const 
     return 1;
 }
 
-/* The next event, where none is at hand; before a fault also the document's start that the core doesn't tell. NULL: there is
- * none, and the parser tells why. */
+/* The next event, where none is at hand; before a fault also the document's start that the core doesn't report. NULL: there is
+ * none, and the parser says why. */
 LAYER_RARE static const yaml_c_event *read_on(yaml_parser_t *parser, layer_reading *reading)
 {
     yaml_c_event *missed = &reading->missed;

@@ -1,4 +1,4 @@
-/* Events as records, whose texts stand one behind another in a block of bytes. */
+/* Events as records, whose texts are one after another in a block of bytes. */
 #include "layer.h"
 
 static inline int put(layer_writing *w, yaml_c_span *span, const yaml_char_t *text, size_t len)

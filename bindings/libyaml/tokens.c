@@ -1,4 +1,4 @@
-/* Tokens: the input is scanned in windows, as it is parsed for events; each call hands out one token, and behind those before
+/* Tokens: the input is scanned in windows, as it is parsed for events; each call hands out one token, and after those before
  * a fault the fault. */
 #include "layer.h"
 
@@ -55,7 +55,7 @@ static int made(const layer_reading *reading, const yaml_c_token *it, yaml_token
     }
 }
 
-/* libyaml puts tokens into its queue; here there is none, and the tokens are read by then or the fault is told. */
+/* libyaml puts tokens into its queue; here there is none, and the tokens are read by then or the fault is reported. */
 YAML_DECLARE(int) yaml_parser_fetch_more_tokens(yaml_parser_t *parser)
 {
     assert(parser);

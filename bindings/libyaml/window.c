@@ -1,23 +1,23 @@
 /* Where an input is cut: between two documents, or within a long one.
  *
- * Between documents: before a line `---` at column 0, or, where that document has directives, behind the line `...` before
- * them. What stands before a cut is parsed, or scanned, alone, and so is what stands behind it. Laws say of the proved core that
+ * Between documents: before a line `---` at column 0, or, where that document has directives, after the line `...` before
+ * them. What is before a cut is parsed, or scanned, alone, and so is what is after it. Laws say of the proved core that
  * the whole is the same:
  *
  * - Where the front is accepted, the events of the whole are the front's without STREAM-END and then the rest's without STREAM-START,
  *   moved by the front's bytes and lines, and the whole is accepted or has the rest's fault, moved (windows_are_read of
- *   yaml_round_laws_users); so are tokens, where the front has no fault and no open bracket (windows_are_scanned and
- *   ended_windows_are_scanned of yaml_scan_laws_texts). What they ask of a cut: it stands behind LF, before a line that begins
- *   with `---`; or behind a line of `...`, blanks and breaks, which ends in LF, where of what follows `%` at column 0 comes first,
- *   behind spaces, breaks and comments. cut_before and is_document_start see to it.
+ *   yaml_round_laws); so are tokens, where the front has no fault and no open bracket (windows_are_scanned and
+ *   ended_windows_are_scanned of yaml_scan_laws). What they ask of a cut: it is after LF, before a line that begins
+ *   with `---`; or after a line of `...`, blanks and breaks, which ends in LF, where of what follows `%` at column 0 comes first,
+ *   after spaces, breaks and comments. cut_before and is_document_start see to it.
  * - Where the front is refused, by the scanner or the parser, with a fault before its end, or of the line `...` that ends it, the
  *   whole has its events and its fault (early_faults_are_read, ended_faults_are_read); where the fault is the scanner's, and the cut
- *   stands before `---`, it has its tokens too (refused_fronts_are_scanned). layer_is_doubtful sees to that place: where a fault
- *   stands nearer to the end than 16 bytes, 3 of which may be a byte order mark and 8 that line, the cut counts for nothing. It does
+ *   is before `---`, it has its tokens too (refused_fronts_are_scanned). layer_is_doubtful sees to that place: where a fault
+ *   is nearer to the end than 16 bytes, 3 of which may be a byte order mark and 8 that line, the cut counts for nothing. It does
  *   so too where tokens leave a bracket open (tokens.c). No law speaks of the tokens of a front with a fault that ends in `...`.
  *
  * Within a document, where its root is a block collection at column 0, without anchor, tag and directives: before an item at
- * column 0. What stands behind it is parsed behind a stand-in, a root of that kind with one item; of both the events of what
+ * column 0. What is after it is parsed after a stand-in, a root of that kind with one item; of both the events of what
  * isn't there are left out. The line has `- ` or a simple plain key, so that its first token has no fault. */
 #include "layer.h"
 
@@ -26,7 +26,7 @@ static int is_blank_or_break(uint8_t byte)
     return byte == ' ' || byte == '\t' || byte == '\r' || byte == '\n';
 }
 
-/* Whether `---` stands there, with a blank or a break behind it, which is looked at too and has to be there. */
+/* Whether `---` is there, with a blank or a break after it, which is looked at too and has to be there. */
 static int is_document_start(const uint8_t *text, size_t len, size_t at)
 {
     return at + 3 < len && !memcmp(text + at, "---", 3) && is_blank_or_break(text[at + 3]);
@@ -43,7 +43,7 @@ static int is_document_end(const uint8_t *text, size_t at, size_t end)
     return 1;
 }
 
-/* Whether a line has no break but at its end, as far as ASCII tells: behind CR, NEL, LS or PS no comment goes on. */
+/* Whether a line has no break but at its end, as far as ASCII shows: after CR, NEL, LS or PS no comment goes on. */
 static int is_one_line(const uint8_t *text, size_t at, size_t end)
 {
     for (; at + 1 < end; at++)
@@ -52,7 +52,7 @@ static int is_one_line(const uint8_t *text, size_t at, size_t end)
     return 1;
 }
 
-/* What a line begins with, behind spaces where that is a comment or its break. A tab begins no lexeme there. */
+/* What a line begins with, after spaces where that is a comment or its break. A tab begins no lexeme there. */
 static uint8_t first_of(const uint8_t *text, size_t at, size_t end)
 {
     uint8_t first = text[at];
@@ -61,7 +61,7 @@ static uint8_t first_of(const uint8_t *text, size_t at, size_t end)
     return text[at] == '#' || text[at] == '\n' ? text[at] : first;
 }
 
-/* The cut for a document that begins at `---`: there, or where its directives stand, behind `...`. 0: there is none. */
+/* The cut for a document that begins at `---`: there, or where its directives are, after `...`. 0: there is none. */
 static size_t cut_before(const uint8_t *text, size_t mark)
 {
     size_t end = mark;
@@ -88,7 +88,7 @@ static size_t back_to_dash(const uint8_t *text, size_t at, size_t from)
     return at;
 }
 
-/* Of three dashes every third byte is one: where none stands there, no document begins within two bytes of it. */
+/* Of three dashes every third byte is one: where there is none, no document begins within two bytes of it. */
 size_t layer_last_cut(const uint8_t *text, size_t len, size_t from)
 {
     for (size_t at = back_to_dash(text, len, from); at >= from + 3; at = back_to_dash(text, at - 3, from))

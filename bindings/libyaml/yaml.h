@@ -1,7 +1,7 @@
 /* libyaml 0.2.5's interface over the proved YAML parser and emitter.
  *
  * A text of its own. Names, numbers and layouts are libyaml's, so that a program that was built with libyaml's header runs on
- * this library, and one that is built with this header runs on libyaml. docs/LIBYAML.md tells what differs, and what of it is
+ * this library, and one that is built with this header runs on libyaml. docs/LIBYAML.md says what differs, and what of it is
  * proved: the C code below this interface isn't.
  *
  * Calls answer 1 where they went well and 0 where they didn't, if nothing else is said. Texts end with a byte 0, which a
@@ -68,7 +68,7 @@ typedef enum yaml_error_type_e {
     YAML_NO_ERROR = 0,
     YAML_MEMORY_ERROR = 1,   /* memory was refused */
     YAML_READER_ERROR = 2,   /* the input can't be read, or is no text */
-    YAML_SCANNER_ERROR = 3,  /* no token stands there */
+    YAML_SCANNER_ERROR = 3,  /* no token is there */
     YAML_PARSER_ERROR = 4,   /* tokens that are no stream */
     YAML_COMPOSER_ERROR = 5, /* events that are no document */
     YAML_WRITER_ERROR = 6,   /* the output can't be written */
@@ -338,7 +338,7 @@ yaml_document_initialize(yaml_document_t *document, yaml_version_directive_t *ve
 YAML_DECLARE(void) yaml_document_delete(yaml_document_t *document);
 /* The node of that number, or NULL. */
 YAML_DECLARE(yaml_node_t *) yaml_document_get_node(yaml_document_t *document, int index);
-/* The first node, or NULL where there is none: so a stream's end is told. */
+/* The first node, or NULL where there is none: so a stream's end is shown. */
 YAML_DECLARE(yaml_node_t *) yaml_document_get_root_node(yaml_document_t *document);
 /* These three answer the new node's number, or 0. No tag: that of the kind, as above. */
 YAML_DECLARE(int)
@@ -487,7 +487,7 @@ YAML_DECLARE(void) yaml_parser_set_input_file(yaml_parser_t *parser, FILE *file)
 YAML_DECLARE(void) yaml_parser_set_input(yaml_parser_t *parser, yaml_read_handler_t *handler, void *data);
 YAML_DECLARE(void) yaml_parser_set_encoding(yaml_parser_t *parser, yaml_encoding_t encoding);
 /* The next token, event or document, which the caller deletes. One parser is asked for one of the three kinds alone. Behind
- * the stream's end and behind a fault they give a token or event of type 0, a document without a node. */
+ * the stream's end and after a fault they give a token or event of type 0, a document without a node. */
 YAML_DECLARE(int) yaml_parser_scan(yaml_parser_t *parser, yaml_token_t *token);
 YAML_DECLARE(int) yaml_parser_parse(yaml_parser_t *parser, yaml_event_t *event);
 YAML_DECLARE(int) yaml_parser_load(yaml_parser_t *parser, yaml_document_t *document);

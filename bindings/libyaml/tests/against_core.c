@@ -143,7 +143,7 @@ enum { HAS_WINDOWS = 1 };
 enum { HAS_WINDOWS = 0 };
 #endif
 
-/* Of a text with a wrong byte the core tells that alone. A parser that reads in windows tells what stands in those before it
+/* Of a text with a wrong byte the core reports that alone. A parser that reads in windows reports what is in those before it
  * first, and a fault there instead. */
 static int is_cut_short(int by_byte)
 {

@@ -130,7 +130,7 @@ static void scan(void)
     yaml_parser_delete(&parser);
 }
 
-/* A reader that fails: at its first call, or behind some bytes. */
+/* A reader that fails: at its first call, or after some bytes. */
 static void fail(size_t given)
 {
     yaml_parser_t parser;
@@ -159,7 +159,7 @@ int main(int argc, char **argv)
         text = malloc(1 << 16);
         len = fread(text, 1, 1 << 16, file);
         fclose(file);
-        text = realloc(text, len ? len : 1); /* so that a read behind its end is seen */
+        text = realloc(text, len ? len : 1); /* so that a read past its end is seen */
         for (size_t k = 0; k < sizeof ways / sizeof *ways; k++)
             emit(&ways[k]);
         dump();

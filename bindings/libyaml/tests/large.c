@@ -21,7 +21,7 @@ static int wrong;
         }                                                                          \
     } while (0)
 
-/* What a handler gives: what stands in front, and then the piece again and again. */
+/* What a handler gives: what comes first, and then the piece again and again. */
 typedef struct {
     const char *front, *piece;
     size_t given;
@@ -64,7 +64,7 @@ static size_t read_all(yaml_parser_t *parser)
     return len;
 }
 
-/* Reads 20 MB of such pieces, each of so many events. */
+/* Reads 20 MB of such pieces, each of that many events. */
 static void much(const char *front, const char *piece, size_t events)
 {
     yaml_parser_t parser;

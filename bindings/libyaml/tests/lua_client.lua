@@ -15,7 +15,7 @@ local function show(value)
   return '{' .. table.concat(lines, ', ') .. '}'
 end
 
--- All that an iterator hands out, each shown in a line; a fault behind them.
+-- All that an iterator gives, each shown in a line; a fault after them.
 local function list(iterator, text)
   local found = {}
   local is_read, problem = pcall(function()
@@ -30,7 +30,7 @@ local function list(iterator, text)
   return found
 end
 
--- Emits the events. libyaml reads on behind the end of a tag that isn't UTF-8, so that none beyond ASCII is given.
+-- Emits the events. libyaml reads on past the end of a tag that isn't UTF-8, so that none beyond ASCII is given.
 local function emit(events)
   local emitter, told, text = yaml.emitter(), true, nil
   for _, it in ipairs(events) do

@@ -1,6 +1,6 @@
 /* Calls in orders that are made by chance, as far as libyaml's asserts allow them, with texts of files and texts that mean little,
  * readers and writers that fail, objects that are deleted early, and allocations that are refused at times. It is built with
- * sanitizers, and judges that each parser, emitter, document and event leaves no block behind.
+ * sanitizers, and judges that each parser, emitter, document and event frees all its blocks.
  *
  *     orders COUNT FILE..     linked with --wrap for malloc, calloc, realloc and free */
 #include <stdio.h>
@@ -9,7 +9,7 @@
 #include <yaml.h>
 
 static unsigned long long state = 0x9E3779B97F4A7C15;
-static unsigned refused; /* so many allocations of a thousand */
+static unsigned refused; /* how many allocations of a thousand */
 static long blocks;
 static unsigned char *text; /* of a file, and what of it a reader has left */
 static size_t text_len, read_len;

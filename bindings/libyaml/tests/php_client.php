@@ -3,7 +3,7 @@
 //
 //     php_client.php FILE..
 //
-// A warning that is none of the parser's tells where the scanner stands, by a private field of libyaml's: its place is left out.
+// A warning that is none of the parser's says where the scanner is, by a private field of libyaml's: its place is left out.
 set_error_handler(function ($number, $text) {
     print (str_contains($text, 'parsing error') ? $text : preg_replace('/\(line \d+, column \d+\)/', '', $text)) . "\n";
     return true;

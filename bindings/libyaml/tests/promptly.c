@@ -1,6 +1,6 @@
 /* Documents, and the items of a long one, in flow style too, come before the reader is asked for more than what follows them, and within a document
  * output comes before it ends.
- * Linked with Debian's libyaml it tells the same of that.
+ * Linked with Debian's libyaml it reports the same of that.
  *
  *     promptly */
 #include <yaml.h>
@@ -78,7 +78,7 @@ static void reads_items(void)
     yaml_parser_delete(&parser);
 }
 
-/* Gives 4,096 bytes of pairs in lines at each call, 100 times, behind a bracket, and what ends them. */
+/* Gives 4,096 bytes of pairs in lines at each call, 100 times, after a bracket, and what ends them. */
 static int give_flow(void *data, unsigned char *buffer, size_t size, size_t *size_read)
 {
     int *given = data;
@@ -149,8 +149,8 @@ static void writes(yaml_mapping_style_t style)
     yaml_emitter_delete(&emitter);
 }
 
-/* Has a sequence written with an event behind ten items, and more items. How many events are taken behind it before its fault is
- * told, of at most ten. */
+/* Has a sequence written with an event after ten items, and more items. How many events are taken after it before its fault is
+ * reported, of at most ten. */
 static int taken_behind(yaml_event_t *event, const char *problem)
 {
     yaml_emitter_t emitter;

@@ -9,7 +9,7 @@ void *__real_calloc(size_t number, size_t size);
 void *__real_realloc(void *block, size_t size);
 void __real_free(void *block);
 
-/* How many allocations go well before one is refused, or -1; whether all behind it are. */
+/* How many allocations go well before one is refused, or -1; whether all after it are. */
 static long left = -1;
 static int all_refused;
 static long blocks, refusals;
@@ -156,7 +156,7 @@ static int run(int way)
     return is_well ? 0 : error ? error : -1;
 }
 
-/* Whether a run with allocations refused behind the first `number` is as it has to be; whether any was refused. */
+/* Whether a run with allocations refused after the first `number` is as it has to be; whether any was refused. */
 static int is_right(int way, long number, int usual, int *was_refused)
 {
     blocks = refusals = 0;

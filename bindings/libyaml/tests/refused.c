@@ -1,5 +1,6 @@
 /* Emits streams of events made by chance, with wrong names, tags, flags and directives and events in wrong places among them, and
- * tells of each stream how many events are taken, and the fault. It judges nothing: linked with either library it tells the same.
+ * reports of each stream how many events are taken, and the fault. It judges nothing: linked with
+ * either library it reports the same.
  *
  *     refused COUNT */
 #include <yaml.h>
@@ -15,7 +16,7 @@ typedef struct {
     size_t depth;
 } stream;
 
-/* One of so many numbers. */
+/* One of that many numbers. */
 static unsigned one_of(stream *s, unsigned count)
 {
     s->chance = s->chance * 6364136223846793005u + 1442695040888963407u;

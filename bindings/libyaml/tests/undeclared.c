@@ -85,7 +85,7 @@ static void parse_to_fault(yaml_parser_t *parser, const char *text)
         yaml_event_delete(&event);
 }
 
-/* The private fields that netplan looks at when it tells a fault, in the line that it shows. */
+/* The private fields that netplan looks at when it reports a fault, in the line that it shows. */
 static void faults(void)
 {
     yaml_parser_t parser;

@@ -6,7 +6,7 @@ use warnings;
 use Data::Dumper;
 use YAML::XS ();
 
-# what is warned of stands where it was met
+# what is warned of is where it was met
 $| = 1;
 
 $Data::Dumper::Sortkeys = $Data::Dumper::Useqq = $Data::Dumper::Indent = 1;

@@ -18,8 +18,8 @@ CRATES = os.path.join(HERE, "..", "..", "..", "crates")
 PROVED = [
     os.path.join(CRATES, crate, "specs", name)
     for crate, name in (
-        ("yaml_round_records", "Offsets.antt"),
-        ("yaml_round_records", "TokensOffsets.antt"),
+        ("yaml_round_answers", "Offsets.antt"),
+        ("yaml_round_answers", "TokensOffsets.antt"),
         ("yaml_round_answers", "Offsets.antt"),
     )
 ]
@@ -62,7 +62,7 @@ REFUSED = [
     lambda: yaml_c.dump("a", settings=yaml_c.Settings(limit=0)),
     lambda: yaml_c.safe_dump(1, limit=0),
 ]
-# What ends without an answer, though the library has given one; each hands out events, texts or both.
+# What ends without an answer, though the library has given one; each returns events, texts or both.
 ENDED = [
     lambda: yaml_c.safe_load(b"a: !!python/object:x {}"),
     lambda: yaml_c.safe_load(b"[a, b"),
@@ -99,7 +99,7 @@ class Layout(unittest.TestCase):
             proved |= {(record, field): int(place) for record, field, place in rows}
         self.assertGreater(len(proved), 50)
         self.assertEqual({it: at for it, at in places.items() if it in proved}, {it: at for it, at in proved.items() if at})
-        # the length of a list lies behind its pointer
+        # the length of a list lies after its pointer
         lengths = {it: at for it, at in places.items() if it not in proved}
         self.assertEqual(lengths.pop(("bytes", "len")), 8)
         behind = {(record, field): proved[record, field.removesuffix("_len")] + 8 for record, field in lengths}

@@ -130,7 +130,7 @@ class Emit(unittest.TestCase):
         self.assertEqual(yaml_c.emit(iter(events), PRETTY), b"- a\n- 'b'\n")
 
     def test_plain_scalars(self) -> None:
-        # only where the tag may not be left out in quotes, it is told that the scalar was plain
+        # only where the tag may not be left out in quotes, the event says that the scalar was plain
         self.assertEqual(yaml_c.emit(document(Scalar("a", **PLAIN))), b'---\n! "a"\n')
         self.assertEqual(yaml_c.emit(document(Scalar("a"))), b'---\n"a"\n')
         self.assertEqual(yaml_c.emit(document(Scalar("a", **PLAIN)), PRETTY), b"a\n")
@@ -150,7 +150,7 @@ class Emit(unittest.TestCase):
             for settings in (Settings(), PRETTY):
                 written = yaml_c.emit(found, settings)
                 self.assertTrue(yaml_c.same(written, text), (text, written))
-            # an empty plain scalar in brackets is written in quotes, behind a `!` that keeps its content
+            # an empty plain scalar in brackets is written in quotes, after a `!` that keeps its content
             if b"{b: }" not in text:
                 self.assertEqual(yaml_c.parse(yaml_c.emit(found, PRETTY)), found, text)
 

@@ -125,7 +125,7 @@ for _it in list(vars(_faults).values()):
     if isinstance(_it, type) and issubclass(_it, (_faults.YAMLError, _faults.Mark, _faults.Kind)):
         _it.__module__ = __name__
 
-#: The version of the package, and of the repository that it stands in.
+#: The version of the package, and of the repository that it is in.
 __version__ = VERSION
 
 if not TYPE_CHECKING:

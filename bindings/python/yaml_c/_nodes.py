@@ -15,7 +15,7 @@ from ._source import Source, Text
 
 _ALIAS, _SCALAR, _SEQUENCE, _MAPPING, _ENDS = 5, 6, 7, 9, (8, 10)
 _STARTS, _MADE = (_SEQUENCE, _MAPPING), (_SCALAR, _SEQUENCE, _MAPPING)
-# A node has its marks as they stand in its record, until they are asked for.
+# A node has its marks as they are in its record, until they are asked for.
 _new: Any = object.__new__
 _DEFAULT_TAGS = {_SCALAR: "tag:yaml.org,2002:str", _SEQUENCE: "tag:yaml.org,2002:seq", _MAPPING: "tag:yaml.org,2002:map"}
 

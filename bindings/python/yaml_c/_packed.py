@@ -110,7 +110,7 @@ class Layout:
     def _call(self, begin: int, end: int, behind: _library.StandRecord, answer: _library.AnswerRecord) -> int:
         packed = self._packed
         directives = bytearray().join(struct.pack(_library.DIRECTIVE, *it) for it in packed.directives)
-        # nothing is added to a list as long as its first byte is lent
+        # nothing is added to a list as long as its first byte is borrowed
         lent = [_library.lent(it) for it in (packed.records, directives, packed.bytes)]
         records, tags, texts = map(ctypes.addressof, lent)
         given = _library.ParsedRecord(

@@ -11,10 +11,10 @@ from typing import Any
 from . import _library
 from ._faults import Mark
 
-#: Where a record has the span of its anchor, behind it that of its tag, that of its value, and its two marks.
+#: Where a record has the span of its anchor, then that of its tag, that of its value, and its two marks.
 ANCHOR, TAG, VALUE, START, END = 56, 72, 88, 104, 136
 _SIZE = struct.calcsize(_library.EVENT)
-# So many records are copied together, and so many values decoded; the second divides the first.
+# This many records are copied together, and this many values decoded; the second divides the first.
 _RECORDS_AT_ONCE, _VALUES_AT_ONCE = 256, 64
 # So many bytes of texts are given back together.
 _BYTES_AT_ONCE = 1 << 16

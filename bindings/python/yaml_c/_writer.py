@@ -16,7 +16,8 @@ ALIAS, SCALAR, SEQUENCE, MAPPING = 5, 6, 7, 9
 _STREAM_START, _STREAM_END, _DOCUMENT_START, _DOCUMENT_END = 1, 2, 3, 4
 # So many records of scalars are kept, to be used again where a text comes again.
 _KEPT = 4096
-# A text of so many characters is long, and so many characters of long texts are copied together.
+# A text of this many characters is long, and this many characters of long texts are copied
+# together.
 _LONG, _PIECE = 256, 1 << 18
 
 

@@ -1,4 +1,5 @@
-//! The program: it hands its words and the standard streams to `yaml_main`, and ends with the status that this answers.
+//! The program: it passes its arguments and the standard streams to `yaml_main`, and exits with the
+//! status that this returns.
 #![tactic(auto)]
 
 use std::alloc::{AllocError, Global};

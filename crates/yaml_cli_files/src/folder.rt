@@ -17,7 +17,7 @@ const TRIES: u32 = 1000;
 pub enum Found {
     /// A file that is to be read, by its path. It begins with `UNNAMED` where that isn't UTF-8.
     File(String),
-    /// A folder, or a file of it, that the file system tells nothing of, by its path, and why.
+    /// A folder, or a file in it, that can't be examined: its path, and why.
     Failed(String, Error),
 }
 
@@ -34,9 +34,9 @@ pub struct Folder {
 /// Which files of a folder are read.
 #[derive(Clone, Copy)]
 pub struct Choice<'g, 'a> {
-    /// Those that one of these stands for; where there are none, those that end with `.yaml` or `.yml`.
+    /// Those that match one of these; where there are none, those that end with `.yaml` or `.yml`.
     pub included: &'g [Glob<'a>],
-    /// None that one of these stands for, nor what is below a folder that one of these stands for.
+    /// None that matches one of these, nor what is below a folder that does.
     pub excluded: &'g [Glob<'a>],
 }
 
@@ -78,7 +78,7 @@ fn kind_of_link<H: Files>(rt: &H, path: &str) -> Kind {
     }
 }
 
-// What is at that path. Of what the file system tells nothing, the reading of it says why.
+// What is at that path. Where it can't be examined, reading it reports why.
 fn kind_of<H: Files>(rt: &H, path: &str) -> Kind {
     match rt.symlink_metadata(path) {
         Ok(found) if found.is_dir() => Kind::Folder,

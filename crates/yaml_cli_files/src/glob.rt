@@ -23,7 +23,7 @@ enum Part<'a> {
 #[derive(Drop)]
 pub struct Glob<'a> {
     parts: Vec<Part<'a>>,
-    /// It stands for a path below a folder, else for a name.
+    /// It is matched with a path below a folder, else with a name.
     has_slash: bool,
 }
 
@@ -69,7 +69,7 @@ fn has_char(chars: &str, c: char) -> bool {
 }
 
 impl Part<'_> {
-    // Whether it stands for this character alone.
+    // Whether it matches this character alone.
     fn takes(&self, c: char) -> bool {
         match self {
             Part::Char(own) => *own == c,
@@ -205,8 +205,8 @@ fn one_more<'p, 'a>(again: Again<'p, 'a>) -> Option<Again<'p, 'a>> {
     Some(Again { parts, text })
 }
 
-// Whether the parts stand for the text. The last `*` takes as few characters as it may, and the last `**` where no `*` after it
-// helps: what comes before these stands for as little of the text as it can then.
+// Whether the parts match the text. The last `*` takes as few characters as it may, and the last `**` where no `*` after it
+// helps: what comes before these matches as little of the text as it can then.
 fn stands_for(parts: &[Part<'_>], text: &str) -> bool {
     let mut at = Again { parts, text };
     let mut near: Option<Again<'_, '_>> = None;
@@ -287,7 +287,7 @@ impl<'a> Glob<'a> {
         Ok(Glob { parts, has_slash })
     }
 
-    /// Whether it stands for a file of that path below the folder that was named: for the path where the pattern has a `/`, else
+    /// Whether it matches a file of that path below the folder that was named: the path where the pattern has a `/`, else
     /// for the name, which is what comes after the last `/`.
     pub fn matches(&self, path: &str) -> bool {
         let text = if self.has_slash {

@@ -2,7 +2,7 @@
 use Rattle.std.proofs.Common.{◌≡◌, ◌∙◌, sym, subst, true, is_some, ℕ, List, Result, Ok, Err, IfOk, IfErr}
 use Rattle.std.specs.Prelude.{Option, Vec}
 use Rattle.std.specs.Global.{Global}
-use Rattle.yaml_scan.specs.Faults.{Fault}
+use Rattle.yaml_scan.specs.scan_types.Faults.{Fault}
 use Rattle.yaml_parse.specs.Documents.{Document}
 use Rattle.yaml_cli_lookup.specs.declared.error.LookupError.{LookupError}
 use Rattle.yaml_cli_lookup.specs.declared.error.LookupError.TheVariants.{Unreadable, NotAMapping, OutOfMemory, CopyRefused}

@@ -4,7 +4,7 @@ use Rattle.yaml_scan.specs.declared.yaml_encoding_t.{yaml_encoding_t}
 use Rattle.yaml_scan.specs.declared.yaml_fault_t.{yaml_fault_t}
 use Rattle.yaml_scan.specs.declared.yaml_origin_t.{yaml_origin_t}
 use Rattle.yaml_scan.specs.declared.yaml_error_type_t.TheVariants.{YAML_MEMORY_ERROR}
-use Rattle.yaml_scan.specs.Faults.{Fault, fault_of, IsMemoryFault, load_layers, Answers}
+use Rattle.yaml_scan.specs.scan_types.Faults.{Fault, fault_of, IsMemoryFault, load_layers, Answers}
 use Rattle.yaml_scan.specs.Remaining as scan
 use Rattle.yaml_parse.specs.Documents.{Document}
 use Rattle.yaml_parse.specs.NextLoad.{NextLoad, next_document, next_fault, next_none, IsNextLoad, GivesLoad, IsRefusalOf, AreLoadsByContent, LoadIsNext, RefusalIsNext}

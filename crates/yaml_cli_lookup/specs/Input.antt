@@ -1,7 +1,7 @@
 -- What an input loads, by the definitions that the members' contracts cite.
 use Rattle.std.specs.Prelude.{◌≡◌, ℕ, List, Result, Ok, Err}
 use Rattle.yaml_scan.specs.declared.yaml_encoding_t.{yaml_encoding_t}
-use Rattle.yaml_scan.specs.Faults.{Fault}
+use Rattle.yaml_scan.specs.scan_types.Faults.{Fault}
 use Rattle.yaml_scan.specs.Remaining as scan
 use Rattle.yaml_scan.specs.Scanned.{scanned}
 use Rattle.yaml_parse.specs.Documents.{Document, no_document}
@@ -9,7 +9,7 @@ use Rattle.yaml_parse.specs.NextLoad.{NextLoad, next_document, next_fault, next_
 use Rattle.yaml_parse.specs.Resolve.{Reading}
 use Rattle.yaml_parse.specs.parse_laws_trees.Places.{FaultOfTokens}
 use Rattle.yaml_parse.specs.parse_laws_trees.Given.{EventsOfTokens}
-use Rattle.yaml_round_adapter.specs.Adapted.{adapted}
+use Rattle.yaml_round_reading.specs.round_content.Adapted.{adapted}
 
 -- the scanner's tokens of the input, as a parser takes them
 abbrev pub tokens_of : yaml_encoding_t → List ℕ → scan.Remaining
@@ -33,7 +33,7 @@ pub record IsFirstDocument (encoding : yaml_encoding_t) (input : List ℕ)
   pub reading : Reading
   pub parsed : IsReadingOf (tokens_of encoding input) reading
   pub load : NextLoad
-  -- that many tokens are not asked for as the fault after the events is told
+  -- that many tokens are not asked for when the fault after the events is reported
   pub unasked : ℕ
   pub is : IsLoadOf reading.events reading.ending unasked load
   pub same : first ≡ outcome load

@@ -1,7 +1,7 @@
 //! The first document of an input, and a value in it.
 
 ghost use Rattle.std.specs.Prelude.{◌≡◌, true, is_some, option_map, IfOk, IfErr};
-ghost use Rattle.yaml_scan.specs.Faults.{Answers, load_layers};
+ghost use Rattle.yaml_scan.specs.scan_types.Faults.{Answers, load_layers};
 ghost use Rattle.yaml_cli_lookup.specs.declared.error.LookupError.TheVariants.{CopyRefused};
 ghost use Rattle.yaml_cli_lookup.specs.Input.{IsFirstDocument};
 ghost use Rattle.yaml_cli_lookup.specs.Lookup.{IsFirstMapping, IsDue, IsDueOf, IsValueFound, bytes_of};
@@ -13,7 +13,7 @@ use yaml_parse::{
     yaml_document_delete, yaml_document_t, yaml_parser_delete, yaml_parser_initialize,
     yaml_parser_load,
 };
-use yaml_round_adapter::yaml_adapter_t;
+use yaml_round_reading::yaml_adapter_t;
 use yaml_scan::{yaml_encoding_t, yaml_fault_t};
 
 // The first document, or one without nodes where there is none.

@@ -4,7 +4,7 @@ use Rattle.yaml_round.specs.declared.yaml_same_key_t.{yaml_same_key_t}
 use Rattle.yaml_cli_program.specs.declared.RepeatedKey.{RepeatedKey}
 use Rattle.yaml_cli_main.specs.Asked.{shown_key}
 
--- the keys in front are shown
+-- the first keys are shown
 pub record ShownSoFar (keys : List yaml_same_key_t) (i : ℕ) (shown : List RepeatedKey) : Type 0
   where
     pub are : shown ≡ map shown_key (take i keys)

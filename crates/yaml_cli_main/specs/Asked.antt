@@ -4,7 +4,7 @@ use Rattle.std.specs.declared.alloc.Global.{Global}
 use Rattle.yaml_round.specs.declared.yaml_encoding_t.{yaml_encoding_t}
 use Rattle.yaml_round.specs.declared.yaml_origin_t.{yaml_origin_t}
 use Rattle.yaml_round.specs.declared.yaml_fault_t.{yaml_fault_t}
-use Rattle.yaml_round.specs.emit.emit_layout.scan_model.Faults.{Fault, IsMemoryFault, fault_of, load_layers}
+use Rattle.yaml_round.specs.scan_types.Faults.{Fault, IsMemoryFault, fault_of, load_layers}
 use Rattle.yaml_round.specs.declared.yaml_form_t.{yaml_form_t}
 use Rattle.yaml_round.specs.declared.yaml_run_fault_t.{yaml_run_fault_t}
 use Rattle.yaml_round.specs.declared.yaml_run_fault_t.TheVariants.{Read, TooLong, Yaml, Write}
@@ -24,24 +24,25 @@ use Rattle.yaml_round.specs.declared.yaml_side_t.TheVariants as told
 use Rattle.yaml_round.specs.declared.yaml_difference_t.{yaml_difference_t}
 use Rattle.yaml_round.specs.declared.yaml_cause_t.{yaml_cause_t}
 use Rattle.yaml_round.specs.declared.yaml_cause_t.TheVariants as reason
-use Rattle.yaml_round.specs.Answers.{IsSame, IsReformatted}
-use Rattle.yaml_round.specs.Differences.{IsDiff}
-use Rattle.yaml_round.specs.Loaded.{IsDocumentsDiff}
+use Rattle.yaml_round.specs.round_engine.Answers.{IsSame, IsReformatted}
+use Rattle.yaml_round.specs.round_engine.Differences.{IsDiff}
+use Rattle.yaml_round.specs.round_engine.Loaded.{IsDocumentsDiff}
 use Rattle.yaml_round.specs.AllDifferences.{AreDifferences}
 use Rattle.yaml_round.specs.declared.differences.yaml_differences_t.{yaml_differences_t}
 use Rattle.yaml_round.specs.declared.yaml_document_difference_t.{yaml_document_difference_t}
 use Rattle.yaml_round.specs.declared.yaml_node_cause_t.{yaml_node_cause_t}
 use Rattle.yaml_round.specs.declared.yaml_node_cause_t.TheVariants as node
-use Rattle.yaml_round.specs.Checking.{IsChecked}
+use Rattle.yaml_round.specs.round_engine.Checking.{IsChecked}
 use Rattle.yaml_round.specs.Keys.{IsKeyCheck}
 use Rattle.yaml_round.specs.declared.yaml_same_key_t.{yaml_same_key_t}
-use Rattle.yaml_round.specs.Readable.{IsReadableAnswer}
+use Rattle.yaml_round.specs.round_engine.Readable.{IsReadableAnswer}
 use Rattle.yaml_round.specs.Commands.{IsRunAnswer, run_layers}
-use Rattle.yaml_round.specs.Layers.{reformat_layers}
+use Rattle.yaml_round.specs.round_engine.Layers.{reformat_layers}
 use Rattle.yaml_round.specs.Run.{Bytes, Runs}
 
--- What a run answers for a reader that is to give these bytes, and a writer that has received those, where they are told: what the
--- command answers for at most a gibibyte, by the task's encoding and settings. What both are left with is said of the devices.
+-- What a run answers for a reader that is to give these bytes, and a writer that has received
+-- those, where they are known: what the command answers for at most a gibibyte, by the task's
+-- encoding and settings. What both are left with is said of the devices.
 abbrev pub IsRun : Task → Option (List ℕ) → Option (List ℕ)
     → Result (Option yaml_form_t) yaml_run_fault_t → Type 0
 IsRun task to_come received result = (after : Bytes) × Runs
@@ -100,7 +101,7 @@ abbrev pub IsDifference : Bool → yaml_encoding_t → List ℕ → List ℕ
 IsDifference true from first second r = IsDocumentsDiff from first from second r
 IsDifference false from first second r = IsDiff from first from second r
 
--- where two inputs part, or the fault of one of them
+-- where two inputs differ, or the fault of one of them
 abbrev pub IsParted : Measure → List ℕ → List ℕ → Result (Option Difference) (Side × yaml_fault_t)
     → Type 0
 IsParted by first second r = IsPartedBy (IsDifference by.documents by.from first second) r

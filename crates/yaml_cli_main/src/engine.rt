@@ -1,10 +1,10 @@
 //! The engine that the program runs.
 
 ghost use Rattle.std.specs.Prelude.{◌≡◌, IfOk, Some, map};
-ghost use Rattle.yaml_round.specs.emit.emit_layout.scan_model.Faults.{Answers, load_layers};
-ghost use Rattle.yaml_round.specs.Answers.{bytes_of};
-ghost use Rattle.yaml_round.specs.Layers.{reformat_layers};
-ghost use Rattle.yaml_round.specs.Readable.{IsReadableAnswer};
+ghost use Rattle.yaml_round.specs.scan_types.Faults.{Answers, load_layers};
+ghost use Rattle.yaml_round.specs.round_engine.Answers.{bytes_of};
+ghost use Rattle.yaml_round.specs.round_engine.Layers.{reformat_layers};
+ghost use Rattle.yaml_round.specs.round_engine.Readable.{IsReadableAnswer};
 ghost use Rattle.yaml_cli_main.specs.Asked.{AreAllParted, IsRun, IsSameAnswer, IsDifference, IsParted, IsJudgedBy, IsRepeatedAnswer, cause_told, judge_layers, shown_key, side_told, TellsDifference};
 
 use crate::comment::first_comment;
@@ -87,7 +87,7 @@ pub(crate) fn difference_of(alloc: Global, difference: &yaml_difference_t) -> Di
     }
 }
 
-// Where they part, by that measure.
+// Where they differ, by that measure.
 fn found_by(
     alloc: Global,
     by: Measure,

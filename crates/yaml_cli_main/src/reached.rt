@@ -3,8 +3,9 @@
 use std::alloc::{AllocError, Global};
 use yaml_cli_program::{Step, push_step};
 use yaml_round::{yaml_document_get_node, yaml_document_t, yaml_node_body_t};
-use yaml_round_differences::{Held, held_of, match_labels};
-use yaml_round_keys::{BothLabels, ShapeTable, label_both, rank_of};
+use yaml_round_documents::{
+    BothLabels, Held, ShapeTable, held_of, label_both, match_labels, rank_of,
+};
 
 // How many nodes a document has at most: their numbers have 32 bits.
 const MOST: usize = 2_147_483_647;
@@ -19,7 +20,7 @@ pub(crate) struct Pair {
     place: usize,
 }
 
-/// The pairs that are compared, in the order in which their differences are told.
+/// The pairs that are compared, in the order in which their differences are listed.
 #[derive(Drop)]
 pub(crate) struct Reached {
     alloc: Global,

@@ -8,7 +8,7 @@ use crate::order::{Does, Measure, Order};
 use std::alloc::{AllocError, Global};
 use std::io::{Read, Write};
 use std::rt::Files;
-use yaml_cli_places::Source;
+use yaml_cli_files::Source;
 use yaml_round_device::yaml_run_fault_t;
 use yaml_scan_types::{yaml_fault_t, yaml_memory_fault, yaml_origin_t};
 
@@ -20,7 +20,7 @@ struct Pair<'a> {
     second: &'a str,
     // Both are standard input.
     is_itself: bool,
-    // Where they part is shown; else it is told whether they do.
+    // The first difference is shown; else only whether there is one.
     shows: bool,
     // All places are.
     all: bool,
@@ -62,7 +62,7 @@ fn fault_of(why: &Fault<'_>) -> yaml_run_fault_t {
     }
 }
 
-// Reads a file of two. Where it couldn't be read that is told, and its status is the answer.
+// Reads one file of two. Where it can't be read, that is reported, and its status is returned.
 fn read_side<H: Files, R: Read, W, E: Write>(
     rt: &H,
     pair: &Pair<'_>,
@@ -154,7 +154,7 @@ fn tell_refused<R, W, E: Write>(
     UNJUDGED
 }
 
-// Says where they part; answers the status, as diff's: 0 where they don't, 1 where they do, 2 where they couldn't be compared.
+// Reports where they differ; returns diff's status: 0 where they don't, 1 where they do, 2 where they can't be compared.
 fn tell_diff<G: Engine, R, W: Write, E: Write>(
     engine: &G,
     by: Measure,

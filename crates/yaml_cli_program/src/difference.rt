@@ -2,10 +2,10 @@
 
 use crate::engine::{Cause, Difference, Met};
 use std::alloc::{AllocError, Global};
-use yaml_cli_places::{Line, Source, Span, parted, push_line};
+use yaml_cli_files::{Line, Source, Span, parted, push_line};
 use yaml_scan_types::{yaml_event_type_t, yaml_mark_t};
 
-// How people call what begins or ends with such an event, or what is behind it.
+// What people call the thing that begins or ends with such an event, or comes after it.
 fn event_words(kind: yaml_event_type_t, is_behind: bool) -> &'static str {
     match kind {
         yaml_event_type_t::YAML_SCALAR_EVENT if is_behind => "the end of a scalar",

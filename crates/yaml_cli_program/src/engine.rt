@@ -3,7 +3,7 @@
 use crate::order::{Judging, Manner, Measure, Task};
 use std::alloc::Global;
 use std::io::{Read, Write};
-use yaml_cli_places::RepeatedKey;
+use yaml_cli_files::RepeatedKey;
 use yaml_round_device::{yaml_form_t, yaml_run_fault_t};
 use yaml_scan_types::{yaml_encoding_t, yaml_event_type_t, yaml_fault_t, yaml_mark_t};
 
@@ -52,7 +52,7 @@ pub struct Difference {
     pub second: Met,
 }
 
-/// Where two inputs part, nothing where they don't, or the fault of one of them.
+/// Where two inputs differ, nothing where they don't, or the fault of one of them.
 pub type Parted = Result<Option<Difference>, (Side, yaml_fault_t)>;
 
 /// All places where two inputs differ, or the fault of one of them.
@@ -99,7 +99,7 @@ pub trait Engine {
     /// Whether two inputs have the same content.
     fn same(&self, alloc: Global, from: yaml_encoding_t, first: &[u8], second: &[u8]) -> Compared;
 
-    /// Where two inputs part, by that measure.
+    /// Where two inputs differ, by that measure.
     fn diff(&self, alloc: Global, by: Measure, first: &[u8], second: &[u8]) -> Parted;
 
     /// All places where two inputs differ, by that measure.

@@ -5,7 +5,7 @@ use crate::order::WRONG_WORDS;
 use std::alloc::Global;
 use std::io::{Error as Failure, Write};
 use thiserror::Error;
-use yaml_cli_places::{Shown, Source, push_fault};
+use yaml_cli_files::{Shown, Source, push_fault};
 use yaml_round_device::{yaml_fault_line, yaml_run_fault_t};
 use yaml_scan_types::{yaml_error_type_t, yaml_fault_t};
 
@@ -83,7 +83,8 @@ pub(crate) enum Fault<'a> {
     },
 }
 
-// Where a line can't be told, the status still tells, so nothing is asked of the writing.
+// Where a line can't be written, the status still reports the fault, so the result of writing is
+// ignored.
 
 /// Reports a fault, of that file where one is named.
 pub(crate) fn told<E: Write>(errors: &mut E, name: &str, fault: &Fault<'_>) {
@@ -95,7 +96,8 @@ pub(crate) fn told<E: Write>(errors: &mut E, name: &str, fault: &Fault<'_>) {
     let _ = writeln!(errors, "yaml_cli: {name}{colon}{fault}");
 }
 
-// Reports a fault of a text, after the words that say of which input it is. Of out of memory for the line only the status says.
+// Reports a fault of a text, after the words that say of which input it is. Without memory for the
+// line only the status reports it.
 fn tell_fault<E: Write>(alloc: Global, errors: &mut E, input: &str, fault: &yaml_fault_t) {
     if let Ok(line) = yaml_fault_line(alloc, fault) {
         let line = str::from_utf8(line.as_slice()).unwrap_or("");
@@ -151,7 +153,7 @@ pub(crate) fn refusal_status(fault: &yaml_fault_t) -> u8 {
     }
 }
 
-/// Reports what is wrong with the words of a command; answers the status. What clap's texts say in such a place is told as they do.
+/// Reports what is wrong with the arguments of a command, in clap's words where clap has some; returns the status.
 pub(crate) fn told_wrong<E: Write>(errors: &mut E, wrong: &Fault<'_>) -> u8 {
     match wrong {
         Fault::Unknown { .. } | Fault::UnknownOf { .. } => told(errors, "", wrong),

@@ -11,7 +11,7 @@ use yaml_round_device::{yaml_run_fault_t, yaml_std_output_t, yaml_write_all};
 /// How the words name standard input.
 pub(crate) const STANDARD: &'static str = "-";
 
-// How many bytes are read at once of a file that is read whole: each call of the system costs a part of a microsecond.
+// How many bytes of a file are read at a time: each system call takes a fraction of a microsecond.
 const READ_AHEAD: usize = 65_536;
 
 // How many are read first: many files have no more.
@@ -153,8 +153,8 @@ pub(crate) fn write_answer<W: Write, E: Write>(
     }
 }
 
-/// Ends what was written to standard output; answers the status: 0, or that of an output that takes no more, which is told, but
-/// where nobody reads it.
+/// Ends what was written to standard output; returns the status: 0, or that of an output that takes
+/// no more, which is reported except where nobody reads it.
 pub(crate) fn flushed<R, W: Write, E: Write>(
     written: Result<(), Error>,
     streams: &mut Streams<R, W, E>,

@@ -9,8 +9,7 @@ use crate::report::{name_file, refused, repeated, unread};
 use crate::writing::write_normal;
 use std::io::{ErrorKind, Read, Write};
 use std::rt::Files;
-use yaml_cli_files::{Folder, Found, shown_bytes};
-use yaml_cli_places::Source;
+use yaml_cli_files::{Folder, Found, Source, shown_bytes};
 
 // Judges a file by its keys, too.
 fn judge_keys<G: Engine, R, W: Write, E: Write>(
@@ -170,7 +169,7 @@ fn judge_unnamed<R, W: Write, E: Write>(
     unread(&order.judging, shown.as_str(), &Fault::Unnamed, streams)
 }
 
-// The same of files that a list names, each name ended by a zero byte; answers the status.
+// Judges the files that a list names, each name ended by a zero byte; returns the status.
 fn judge_names<G: Engine, H: Files, R: Read, W: Write, E: Write>(
     engine: &G,
     rt: &H,
@@ -242,7 +241,7 @@ pub(crate) fn judge_all<G: Engine, H: Files, R: Read, W: Write, E: Write>(
     }
 }
 
-// Reports how many files were judged, and how many of them weren't as they were asked for.
+// Reports how many files were checked, and how many of them weren't as they were asked for.
 fn tell_count<R, W, E: Write>(streams: &mut Streams<R, W, E>) {
     let Streams {
         files,

@@ -1,5 +1,5 @@
-//! The program except for its engine: its words and what they order, the runs over files and streams, and what is told where one
-//! fails.
+//! The program except for its engine: its arguments and what they ask for, the runs over files and
+//! streams, and reports where one fails.
 #![tactic(auto)]
 
 mod compare;
@@ -21,5 +21,6 @@ pub use engine::{AllParted, Cause, Compared, Difference, Ended, Engine, Met, Par
 pub use fault::INPUT_LIMIT;
 pub use order::{Judging, Manner, Measure, Question, Task, WRONG_WORDS};
 pub use program::main_by;
-pub use yaml_cli_files::{UNNAMED, shown_bytes};
-pub use yaml_cli_places::{Format, RepeatedKey, Source, Step, place_of_byte, push_step};
+pub use yaml_cli_files::{
+    Format, RepeatedKey, Source, Step, UNNAMED, place_of_byte, push_step, shown_bytes,
+};

@@ -82,7 +82,7 @@ fn filled<'a>(alloc: Global, told: &Told) -> Result<Command<'a>, AllocError> {
 }
 
 // A command with its arguments. Where there was no room for one it is left without any, and `is_short` is set: so no command is
-// let go here, which would be dear to prove.
+// dropped here, which would be expensive to prove.
 fn command_of<'a>(alloc: Global, told: &Told, is_short: &mut bool) -> Command<'a> {
     match filled(alloc, told) {
         Ok(command) => command,

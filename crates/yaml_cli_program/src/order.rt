@@ -3,8 +3,7 @@
 use crate::fault::Fault;
 use clap::ArgMatches;
 use std::io::ErrorKind;
-use yaml_cli_files::Choice;
-use yaml_cli_places::{Format, row_of};
+use yaml_cli_files::{Choice, Format, row_of};
 use yaml_round_device::{yaml_command_t, yaml_output_encoding_t, yaml_settings_t};
 use yaml_scan_types::{yaml_break_t, yaml_encoding_t};
 
@@ -18,7 +17,7 @@ pub struct Manner {
     pub settings: yaml_settings_t,
 }
 
-/// What a run is told to do.
+/// What a run is asked to do.
 #[derive(Clone, Copy)]
 pub struct Task {
     pub command: yaml_command_t,
@@ -41,7 +40,7 @@ pub enum Question {
 pub struct Judging {
     pub question: Question,
     pub manner: Manner,
-    /// Nothing is told but by the status.
+    /// Nothing is reported except by the status.
     pub quiet: bool,
     /// How findings are reported.
     pub format: Format,
@@ -66,7 +65,7 @@ pub(crate) enum Does {
     Check,
 }
 
-/// What the program is told to do.
+/// What the program is asked to do.
 #[derive(Clone, Copy)]
 pub(crate) struct Order<'o, 'a> {
     pub(crate) does: Does,
@@ -262,8 +261,9 @@ fn judge_width(words: &mut Words<'_, '_>, settings: &yaml_settings_t) {
     }
 }
 
-/// What the words of a command say, and which files of a folder are read; nothing where `wrong` says that they are wrong. How many files one is given is judged in front
-/// of its other words.
+/// What the arguments of a command ask for, and which files of a folder are read; nothing where
+/// `wrong` says that they are wrong. How many files one is given is judged before its other
+/// arguments.
 pub(crate) fn order_in<'o, 'a>(
     name: &'a str,
     told: &'o ArgMatches<'a>,

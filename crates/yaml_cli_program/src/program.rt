@@ -42,7 +42,7 @@ fn run_path<G: Engine, H: Files, R: Read, W: Write, E>(
 fn ended<E: Write>(alloc: Global, task: &Task, ended: Ended, errors: &mut E) -> u8 {
     match ended {
         Ok(Some(yaml_form_t::Canonical)) if !task.manner.settings.canonical => {
-            // A note: the text is written, whether or not it can be told.
+            // A note: the text is written, whether or not the note can be.
             told(errors, "", &Fault::Canonical);
             0
         }

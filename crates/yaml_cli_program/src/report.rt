@@ -4,7 +4,7 @@ use crate::fault::{FAILED, Fault, UNJUDGED, refusal_status, shown, told};
 use crate::file::{Streams, flushed};
 use crate::order::Judging;
 use std::io::Write;
-use yaml_cli_places::{Finding, Format, RepeatedKey, Shown, Source, push_finding, push_repeated};
+use yaml_cli_files::{Finding, Format, RepeatedKey, Shown, Source, push_finding, push_repeated};
 use yaml_scan_types::{yaml_error_type_t, yaml_fault_t};
 
 // Writes a finding's line; answers the status that is handed in, or that of an output that takes no more.

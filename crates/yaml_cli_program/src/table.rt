@@ -1,4 +1,4 @@
-//! What each command may be told, as tables.
+//! What arguments each command takes, as tables.
 
 /// A command: its name, what it does, an example of it with its statuses, and its bit among those of a row.
 pub(crate) struct Told {
@@ -11,11 +11,11 @@ pub(crate) struct Told {
 /// How an argument is given, and what it may be: what help calls its value, and the value where it is left out.
 #[derive(Clone, Copy)]
 pub(crate) enum Kind {
-    /// A word that stands by itself and may be left out.
+    /// A word by itself, which may be left out.
     Place(&'static str),
-    /// Words that stand by themselves, any number of them.
+    /// Words by themselves, any number of them.
     Many(&'static str),
-    /// A word that stands by itself and has to be there.
+    /// A word by itself, which has to be there.
     Needed(&'static str),
     /// An option without a value, and its letter.
     Flag(char),
@@ -39,7 +39,7 @@ pub(crate) struct Row(
     pub(crate) &'static str,
 );
 
-/// No letter stands for the flag.
+/// The flag has no letter.
 pub(crate) const LONG: char = '-';
 
 const MOST: i64 = 2_147_483_647;

@@ -7,8 +7,7 @@ use crate::order::Order;
 use crate::report::{name_file, refused, unread};
 use std::io::Write;
 use std::rt::Files;
-use yaml_cli_files::{Unreplaced, replace};
-use yaml_cli_places::{Shown, Source};
+use yaml_cli_files::{Shown, Source, Unreplaced, replace};
 use yaml_scan_types::{yaml_fault_t, yaml_mark_t};
 
 // Reports a comment, which the normal form hasn't; answers the status.

@@ -15,7 +15,7 @@ pub struct Input<'a> {
     pub from: yaml_encoding_t,
 }
 
-// What a call answers on the line's input. A line of `emit` wants no events, and if its input is refused it needn't have settings.
+// What a call answers on the line's input. A line of `emit` needs no events, and if its input is refused it needn't have settings.
 fn answer_input(reply: &mut Reply, line: &Value, call: &str, input: &Input<'_>) {
     match call {
         "decode" | "events" | "normalize" | "reload" => engine::make(reply, line, call, input),

@@ -38,7 +38,7 @@ fn put_event(reply: &mut Reply, mark: yaml_mark_t, end: yaml_mark_t, type_: yaml
     reply.put(Part::EndObject);
 }
 
-// The place where two inputs part.
+// The place where two inputs differ.
 fn put_difference(reply: &mut Reply, it: &yaml_difference_t) {
     reply.put(Part::Object);
     reply.field("document", Part::Count(it.document));
@@ -104,7 +104,7 @@ pub fn list_differences(reply: &mut Reply, line: &Value, input: &Input<'_>) {
 }
 
 /// What comparing the input with the line's second one answers: whether they have the same content, or where they, or their
-/// documents, part, null where they don't; or the side that is refused and its fault.
+/// documents, differ, null where they don't; or the side that is rejected and its fault.
 pub fn compare(reply: &mut Reply, line: &Value, call: &str, input: &Input<'_>) {
     let Input { text, from } = *input;
     let from2 = reply.choice(line, "/from2", &ENCODINGS);

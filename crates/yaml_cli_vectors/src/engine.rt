@@ -10,7 +10,7 @@ use yaml_round::{
 };
 use yaml_scan::yaml_decode;
 
-/// A field: the line that tells the fault.
+/// A field: the line that reports the fault.
 pub fn field_line(reply: &mut Reply, name: &str, fault: &yaml_fault_t) {
     match yaml_fault_line(reply.alloc, fault) {
         Ok(text) => reply.field_bytes(name, text.as_slice()),
@@ -18,7 +18,7 @@ pub fn field_line(reply: &mut Reply, name: &str, fault: &yaml_fault_t) {
     }
 }
 
-/// The text, or how many bytes it has where the line wants that; and its form, where it has one.
+/// The text, or how many bytes it has where the line asks for that; and its form, where it has one.
 pub fn put_text(reply: &mut Reply, line: &Value, text: &[u8], form: Option<yaml_form_t>) {
     if line.get("length").is_some() {
         reply.field("length", Part::Count(text.len() as u64));
@@ -83,7 +83,7 @@ pub fn keys(reply: &mut Reply, input: &Input<'_>) {
     reply.put(Part::EndList);
 }
 
-/// The line that tells the input's fault, null where there is none.
+/// The line that reports the input's fault, null where there is none.
 pub fn fault_line(reply: &mut Reply, input: &Input<'_>) {
     let usual = yaml_settings_t::new();
     match yaml_reformat(reply.alloc, input.text, input.from, &usual).err() {

@@ -1,4 +1,4 @@
-//! Replays vectors: reads JSON lines, makes the call that each names, and compares all that it answers. A line's `name` tells
+//! Replays vectors: reads JSON lines, makes the call that each names, and compares all that it answers. A line's `name` says
 //! what it is a row of, and isn't looked at.
 #![tactic(auto)]
 

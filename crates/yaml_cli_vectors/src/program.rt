@@ -4,7 +4,7 @@ use crate::lines::{Part, Reply, Stream};
 use serde_json::Value;
 use yaml_cli_main::yaml_main;
 
-// What is there, or whether something does where the line wants that.
+// What is there, or whether anything is where the line asks for that.
 fn put_text(reply: &mut Reply, line: &Value, name: &'static str, text: &[u8], is_utf8: bool) {
     match line.get(name) {
         Some(Value::Bool(_)) => reply.field(name, Part::Flag(!text.is_empty())),
@@ -13,8 +13,8 @@ fn put_text(reply: &mut Reply, line: &Value, name: &'static str, text: &[u8], is
     }
 }
 
-/// The status that the program ends with on the line's words, what it writes, and what it tells. One function owns the streams, and
-/// asks all there is to ask after the run.
+/// The status that the program exits with for the line's arguments, what it writes, and what it
+/// reports. One function owns the streams, and asks all there is to ask after the run.
 pub fn run(rt: &HostRuntime, reply: &mut Reply, line: &Value) {
     let mut words = Vec::new(reply.alloc);
     for listed in reply.list(line, "/words") {

@@ -12,8 +12,8 @@ fn json_error(error: &Error) -> &'static str {
     if error.is_memory() { MEMORY } else { "no JSON" }
 }
 
-// Counts the line by what its call answered, an object of JSON. Of a field that is another all that was answered is told; what
-// the line calls and wants is in the line.
+// Counts the line by what its call answered, an object of JSON. Where a field differs, the whole answer is reported; what
+// the line calls and expects is in the line.
 fn judge_text(rt: &HostRuntime, tally: &mut Tally, line: &Value, text: &[u8]) {
     match Value::from_slice(rt.alloc(), text) {
         Ok(got) => match first_wrong(line, &got) {
@@ -27,8 +27,8 @@ fn judge_text(rt: &HostRuntime, tally: &mut Tally, line: &Value, text: &[u8]) {
     }
 }
 
-// What the call answers on the line, and after that its fault, or that alone where it refuses; and the line that tells the fault
-// where the vector wants that.
+// What the call answers on the line, and after that its fault, or only that where it fails; and the line that reports the fault
+// where the vector asks for that.
 fn put_answer(rt: &HostRuntime, reply: &mut Reply, line: &Value) {
     answer(rt, reply, line);
     if let Some(fault) = reply.fault {

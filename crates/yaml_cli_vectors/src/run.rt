@@ -44,7 +44,7 @@ pub fn run(reply: &mut Reply, line: &Value, input: &Input<'_>) {
 }
 
 /// What is read of the line's input, which comes as its steps say, under its limit; or why there are no bytes. And how many bytes the
-/// reader was asked for, where the line wants that.
+/// reader was asked for, where the line asks for that.
 pub fn read_all(reply: &mut Reply, line: &Value) {
     let limit = reply.count(line, "/input_limit");
     let bytes = reply.input(line, "/input");

@@ -1,4 +1,4 @@
-//! How many lines passed, and what is told of those that failed.
+//! How many lines passed, and the report of those that failed.
 
 // How many lines that fail are shown.
 const SHOWN: u64 = 20;

@@ -2,8 +2,8 @@
 use Rattle.std.proofs.Common.{◌≡◌, ◌≢◌, ◌∙◌, sym, Option, Some, None, Result, Ok, Err}
 use Rattle.std.proofs.lemmas.Bool.{false≢true}
 use Rattle.std.specs.Prelude.{OnOk, OnErr}
-use Rattle.yaml_emit_machine.specs.scan_model.Faults.{Fault}
-use Rattle.yaml_emit_machine.specs.scan_model.declared.yaml_fault_t.{yaml_fault_t}
+use Rattle.yaml_emit_machine.specs.scan_types.Faults.{Fault}
+use Rattle.yaml_emit_machine.specs.scan_model.declared.fault.yaml_fault_t.{yaml_fault_t}
 use Rattle.yaml_emit_machine.specs.Emitter.{Emitter, Answers}
 use Rattle.yaml_emit_machine.specs.Dumping.{OpensStream}
 

@@ -12,7 +12,7 @@ use yaml_emit_machine::{
     yaml_document_delete, yaml_document_t, yaml_emitter_t, yaml_encoding_t, yaml_fault_t,
 };
 
-/// Starts the stream, which must not have been opened (`yaml_emitter_opened` tells). Refused as `yaml_emitter_emit` is.
+/// Starts the stream, which must not have been opened (see `yaml_emitter_opened`). Refused as `yaml_emitter_emit` is.
 pub fn yaml_emitter_open(emitter: &mut yaml_emitter_t) -> Result<(), yaml_fault_t>
     requires { emitter.old.opened ≡ false }
     ensures answer { Answers emitter.new.fault result }
@@ -128,10 +128,10 @@ fn dump_all(emitter: &mut yaml_emitter_t, document: &yaml_document_t)
     }
 }
 
-/// Writes a document and spends it. Opens the stream if that was not done, and closes it where the document has no root.
-/// A node that is visited more than once has an anchor, `id` and a number of at least three digits, and is an alias at its
-/// later visits. Refused as `yaml_emitter_emit` is: the stream is open then where its start was right, and closed where it
-/// was before.
+/// Writes a document, which is consumed. Opens the stream if that was not done, and closes it where
+/// the document has no root. A node that is visited more than once has an anchor, `id` and a number
+/// of at least three digits, and is an alias at its later visits. Refused as `yaml_emitter_emit`
+/// is: the stream is open then where its start was right, and closed where it was before.
 pub fn yaml_emitter_dump(
     emitter: &mut yaml_emitter_t,
     document: yaml_document_t,

@@ -1,8 +1,8 @@
 //! The emitter.
 
 ghost use Rattle.std.specs.Prelude.{◌≡◌, ◌≤◌, ◌∷◌, ◌++◌, [], length, None, Some, true, false, option_map, IfOk, IfErr};
-ghost use Rattle.yaml_emit_machine.specs.scan_model.Faults.{Fault, fault_of, memory_fault};
-ghost use Rattle.yaml_emit_machine.specs.scan_model.declared.yaml_origin_t.TheVariants as from;
+ghost use Rattle.yaml_emit_machine.specs.scan_types.Faults.{Fault, fault_of, memory_fault};
+ghost use Rattle.yaml_emit_machine.specs.scan_model.declared.fault.yaml_origin_t.TheVariants as from;
 ghost use Rattle.yaml_emit_machine.specs.parse_model.Events.{borrowed_body, event_of};
 ghost use Rattle.yaml_emit_machine.specs.parse_model.Constructors.{HasUtf8};
 ghost use Rattle.yaml_emit_machine.specs.emit_layout.Content.{emitter_event};
@@ -29,7 +29,7 @@ pub fn yaml_emitter_initialize(alloc: Global, limit: u64) -> Result<yaml_emitter
 }
 
 /// The encoding of the text. Any encoding means the one that the stream's start names, or UTF-8. This and every other
-/// setter asks that no event was given, which `yaml_emitter_fresh` tells; the last one counts.
+/// setter requires that no event was given (see `yaml_emitter_fresh`); the last call counts.
 pub fn yaml_emitter_set_encoding(emitter: &mut yaml_emitter_t, encoding: yaml_encoding_t)
     requires { emitter.old.fresh ≡ true }
     ensures { emitter.new ≡ record emitter.old {
@@ -120,7 +120,7 @@ pub fn yaml_emitter_fresh(emitter: &yaml_emitter_t) -> bool
     is_fresh(emitter)
 }
 
-/// Whether an open, a dump's too, was Ok.
+/// Whether the stream was opened, by a dump too.
 pub fn yaml_emitter_opened(emitter: &yaml_emitter_t) -> bool
     ensures { result ≡ emitter.now.opened }
 {
@@ -156,7 +156,7 @@ pub fn yaml_emitter_into_output(emitter: yaml_emitter_t) -> Vec<u8>
     text
 }
 
-/// Spends the emitter.
+/// Drops the emitter.
 pub fn yaml_emitter_delete(emitter: yaml_emitter_t) {
     let_go(emitter);
 }
@@ -175,7 +175,7 @@ fn outcome_of(fault: Option<&yaml_fault_t>) -> Result<(), yaml_fault_t>
 
 /// Takes an event and lays out what no longer has to be held. The first fault is answered again from then on: `write error`
 /// past the limit, the grammar's fault for the first event that it refuses, `indentation is too deep`, or out of memory.
-/// At most three events are held then. Marks are ignored. The event's texts have to be UTF-8, which `yaml_event_utf8` tells.
+/// At most three events are held then. Marks are ignored. The event's texts have to be UTF-8 (see `yaml_event_utf8`).
 pub fn yaml_emitter_emit(
     emitter: &mut yaml_emitter_t,
     event: yaml_event_t,
@@ -230,7 +230,7 @@ pub fn yaml_emitter_emit_soon(emitter: &mut yaml_emitter_t, event: &EventRef<'_>
     take_soon(emitter, event);
 }
 
-/// What was laid out is in the output. The first fault, if there is one, is answered. Asks that an event was given.
+/// Puts what was laid out into the output. Returns the first fault, if there is one. An event must have been given.
 pub fn yaml_emitter_flush(emitter: &mut yaml_emitter_t) -> Result<(), yaml_fault_t>
     requires { emitter.old.fresh ≡ false }
     ensures same { emitter.new ≡ emitter.old }

@@ -1,8 +1,8 @@
-//! An emitter that goes on from where another one stood.
+//! An emitter that continues from another one's checkpoint.
 
 ghost use Rattle.std.specs.Prelude.{◌≡◌, ◌≤◌, ◌<◌, ◌^◌, map, None, IfOk, IfErr};
-ghost use Rattle.yaml_emit_machine.specs.scan_model.Faults.{fault_of, memory_fault};
-ghost use Rattle.yaml_emit_machine.specs.scan_model.declared.yaml_origin_t.TheVariants as from;
+ghost use Rattle.yaml_emit_machine.specs.scan_types.Faults.{fault_of, memory_fault};
+ghost use Rattle.yaml_emit_machine.specs.scan_model.declared.fault.yaml_origin_t.TheVariants as from;
 ghost use Rattle.yaml_emit_machine.specs.parse_model.Events.{directive_of};
 ghost use Rattle.yaml_emit_machine.specs.emit_layout.State.{top_of};
 ghost use Rattle.yaml_emit_machine.specs.emit_core.Levels.{stack};
@@ -15,11 +15,11 @@ use yaml_emit_machine::{
     yaml_emitter_t, yaml_fault_t, yaml_memory_fault, yaml_origin_t, yaml_tag_directive_t,
 };
 
-/// An emitter that goes on from where another one stood: that stand, the open collections round the innermost one, the outermost
+/// An emitter that continues from another one's checkpoint: that, the open collections round the innermost one, the outermost
 /// first, and the document's directives. Its text is what is written from there on, of at most `limit` bytes. The settings are those
-/// that were asked for, except the encoding, which is the stand's; no event is held, so that those that waited are to be given
-/// again. Refused when out of memory, and where no emitter stands: a collection is open where no node comes, or is indented
-/// by more than 2,147,483,647 columns.
+/// that were requested, except the encoding, which is the checkpoint's; no event is held, so those
+/// that waited have to be given again. Refused when out of memory, and for no emitter's checkpoint:
+/// a collection is open where no node comes, or is indented by more than 2,147,483,647 columns.
 pub fn yaml_emitter_resume(
     alloc: Global,
     settings: RequestedSettings,
@@ -41,7 +41,7 @@ pub fn yaml_emitter_resume(
     }
 }
 
-/// Where an emitter stands.
+/// An emitter's checkpoint.
 pub fn yaml_emitter_stand(emitter: &yaml_emitter_t) -> yaml_emitter_stand_t
     ensures { StandsWhere emitter.now result }
 {

@@ -3,7 +3,7 @@ use Rattle.std.proofs.Common.{◌≡◌, ℕ, ◌+◌, ◌<◌, ◌≤◌, List,
 use Rattle.std.specs.Prelude.{Vec}
 use Rattle.std.specs.Global.{Global}
 use Rattle.std.proofs.lemmas.List.{get_or-map, length-map}
-use Rattle.yaml_scan_model.specs.declared.yaml_tag_directive_t.{yaml_tag_directive_t}
+use Rattle.yaml_scan_model.specs.declared.record.yaml_tag_directive_t.{yaml_tag_directive_t}
 use Rattle.yaml_parse_model.specs.Events.{TagDirective, directive_of}
 use Rattle.yaml_emit_layout.specs.Tags.{has_shorter_prefix, directive_for, defines}
 use Rattle.yaml_emit_core.specs.Prefixes.{entry_of, directive_at, IsFirstShorter, IsNumber}

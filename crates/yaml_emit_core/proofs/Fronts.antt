@@ -22,7 +22,7 @@ front_false prefix tag h =
       | inr e ↦ e
     ]
 
--- what says whether a text is in front says it of a shorter one as the definition does
+-- what says whether a text begins with another says it of a shorter one as the definition does
 pub stands_value : (prefix tag : List ℕ) (r : Bool) → length prefix < length tag
     → (r ≡ true → tag ≡ prefix ++ drop (length prefix) tag)
     → (r ≡ false → (rest : List ℕ) → tag ≢ prefix ++ rest)

@@ -52,7 +52,7 @@ Goes c = goes_on (core_of c).sink.status (core_of c).place ≡ true
 pub goes : (c : Inside) → Goes c → ((core_of c).sink.status ≡ Going) × (c.refused ≡ None)
 goes c g = goes_by (core_of c).sink.status c.refused (place_of c.levels.state c.unended) g
 
--- where it stands
+-- its state
 abbrev pub stands : Inside → State
 stands c = state_at c.levels c.unended c.directives
 

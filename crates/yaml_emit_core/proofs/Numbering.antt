@@ -9,7 +9,7 @@ use Rattle.std.specs.List.Sorted.{IsPermutation, IsSorted}
 use Rattle.std.proofs.lemmas.List.{get_or-map, get_or_default, drop_more, drop_all, map-append, length-map}
 use Rattle.std.proofs.lemmas.List.Elements.{All-get_or, All-from_get_or}
 use Rattle.std.proofs.lemmas.List.Sorted.{IsPermutation-map, All-permutation, Contains-permutation}
-use Rattle.yaml_scan_model.specs.declared.yaml_tag_directive_t.{yaml_tag_directive_t}
+use Rattle.yaml_scan_model.specs.declared.record.yaml_tag_directive_t.{yaml_tag_directive_t}
 use Rattle.yaml_parse_model.specs.Events.{TagDirective, directive_of}
 use Rattle.yaml_emit_layout.specs.Tags.{has_shorter_prefix, directive_for}
 use Rattle.yaml_emit_core.specs.Prefixes.{Entry, entry_of, at, entry_cmp, numbered, directive_at, IsIndex, IsFirstShorter, IsAtMost, IsNumber}

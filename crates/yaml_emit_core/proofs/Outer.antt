@@ -3,7 +3,7 @@ use Rattle.std.proofs.Common.{◌≡◌, ℕ, List, [], Bool, true, false, refl,
 use Rattle.std.specs.Prelude.{if◌then◌else◌, Option, Some, None}
 use Rattle.std.proofs.lemmas.Bool.{false≢true}
 use Rattle.yaml_scan_types.specs.declared.name.yaml_encoding_t.{yaml_encoding_t}
-use Rattle.yaml_scan_model.specs.declared.yaml_version_directive_t.{yaml_version_directive_t}
+use Rattle.yaml_scan_model.specs.declared.record.yaml_version_directive_t.{yaml_version_directive_t}
 use Rattle.yaml_parse_model.specs.Events.{TagDirective, borrowed_body}
 use Rattle.yaml_parse_model.specs.declared.event_ref.EventRef.{EventRef}
 use Rattle.yaml_parse_model.specs.declared.event_ref.EventRef.TheVariants as body

@@ -23,7 +23,7 @@ pub next_mapped : {X Y : Type 0} (f : X → Y) (xs : List X) (i : ℕ) (y : X) �
     → y ≡ get_or xs i y → map f (drop i xs) ≡ f y ∷ map f (drop (i + 1) xs)
 next_mapped f xs i y h is = ap (map f) (next_item xs i y h is)
 
--- those after which one more stands
+-- those after which one more comes
 pub taken_more : {X Y : Type 0} (f : X → Y) (xs : List X) (i : ℕ) (y : X) → i < length xs
     → y ≡ get_or xs i y → map f (take (i + 1) xs) ≡ map f (take i xs) ++ f y ∷ []
 taken_more f xs i y h is = ap (map f) (take_more xs i y h ∙ ap (λ z. take i xs ++ z ∷ []) (sym is)) ∙ map-append f (take i xs) (y ∷ [])

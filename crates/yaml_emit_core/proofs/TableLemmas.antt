@@ -3,7 +3,7 @@ use Rattle.std.proofs.Common.{◌≡◌, ℕ, ◌+◌, ◌-◌, ◌<◌, ◌≤�
 use Rattle.std.specs.Prelude.{if◌then◌else◌, not, ◌&&◌, ◌||◌}
 use Rattle.std.specs.Str.{bytes_eq}
 use Rattle.std.proofs.lemmas.List.{drop_more, drop_all, take_all}
-use Rattle.yaml_scan_model.specs.declared.yaml_tag_directive_t.{yaml_tag_directive_t}
+use Rattle.yaml_scan_model.specs.declared.record.yaml_tag_directive_t.{yaml_tag_directive_t}
 use Rattle.yaml_parse_model.specs.Events.{TagDirective, directive_of}
 use Rattle.yaml_emit_layout.specs.Tags.{has_shorter_prefix, directive_for, defines, primary, secondary, unless_defined, stands_for, defaults, split_by}
 
@@ -84,7 +84,8 @@ defaults_law ds tag =
     by_flags primary (unless_defined ds secondary) tag (defines ds primary.handle) _ refl
     ∙ ap (λ o. cond (stands_for ds primary tag) (Some primary) o) (ap (λ t. directive_for t tag) (sym (append-nil (unless_defined ds secondary))) ∙ by_flags secondary [] tag (defines ds secondary.handle) _ refl)
 
--- A tag for which no directive stands is written by the primary handle, the secondary one, or in full.
+-- A tag that begins with no directive's prefix is written by the primary handle, the secondary one,
+-- or in full.
 pub by_defaults : (ds : List TagDirective) (tag : List ℕ) (p s : Bool)
     → stands_for ds primary tag ≡ p → stands_for ds secondary tag ≡ s
     → split_by (cond p (Some primary) (cond s (Some secondary) None)) tag

@@ -1,4 +1,4 @@
--- Where an emitter stands, as the layouts' definitions say it.
+-- An emitter's state, as the layouts' definitions say it.
 use Rattle.std.specs.Prelude.{◌≡◌, ◌<◌, ◌^◌, ◌||◌, ℕ, Bool, true, false, List, [], ◌∷◌, reverse, Option, Some, None, ⊤}
 use Rattle.yaml_emit_layout.specs.declared.level.Level.{Level as Open}
 use Rattle.yaml_emit_layout.specs.declared.level.Phase.{Phase}
@@ -280,7 +280,7 @@ first_of false = state.FirstKey
 abbrev pub Stands : Stack → Type 0
 Stands s = (flow : Bool) × (n : ℕ) × (level_by (phase_of s.state) flow n ≡ top_of s.levels)
 
--- where an emitter stands
+-- the state of an emitter
 abbrev pub state_at : Stack → Bool → List TagDirective → Standing
 state_at s unended directives = record {
   place = place_of s.state unended;

@@ -1,4 +1,4 @@
--- Where an emitter stands, handed out and taken up again.
+-- An emitter's checkpoint, taken and continued from.
 use Rattle.std.specs.Prelude.{◌≡◌, ℕ, Bool, true, false, List, [], Option, Some, None, ⊤}
 use Rattle.yaml_parse_model.specs.Events.{TagDirective}
 use Rattle.yaml_emit_layout.specs.declared.Settings.{Settings}
@@ -62,7 +62,7 @@ state_at stand outer directives = record {
   directives = directives;
 }
 
--- the settings in force, except for the encoding, which is where it stood
+-- the settings in force, except for the encoding, which is the checkpoint's
 abbrev pub settings_at : Settings → yaml_emitter_stand_t → Settings
 settings_at s stand = record s { encoding = stand.encoding }
 
@@ -80,7 +80,7 @@ pub record Resumes (s : Settings) (limit : ℕ) (stand : yaml_emitter_stand_t) (
   }
   pub starved : core.starved ≡ false
 
--- that is where it stands
+-- that is its checkpoint
 pub record IsStandOfCore (core : Core) (count : ℕ) (stand : yaml_emitter_stand_t) : Type 0 where
   pub encoding : stand.encoding ≡ core.sink.encoding
   pub place : stand.place ≡ core.place

@@ -25,7 +25,7 @@ pub record Core : Type 0 where
   pub directives : List TagDirective
   pub starved : Bool
 
--- where an emitter stands
+-- the state of an emitter
 abbrev pub state_of : Core → State
 state_of core = record {
   place = core.place;

@@ -1,7 +1,7 @@
 -- What a clause sees of a document's directives.
 use Rattle.std.specs.Prelude.{◌≡◌, ℕ, List, [], ◌∷◌, map, Option, Some, None, Vec}
 use Rattle.std.specs.Global.{Global}
-use Rattle.yaml_scan_model.specs.Ascii as ascii
+use Rattle.yaml_scan_types.specs.Ascii as ascii
 use Rattle.yaml_parse_model.specs.Events.{TagDirective, directive_of}
 use Rattle.yaml_emit_layout.specs.Tags.{defines}
 use Rattle.yaml_emit_core.specs.Prefixes.{IsIndex, entry_of}

@@ -10,7 +10,7 @@ use Rattle.yaml_emit_core.specs.Levels.{place_of}
 use Rattle.yaml_emit_core.specs.Pages.{IsOf}
 use Rattle.yaml_emit_core.specs.Steps.{Core}
 
--- a refused event is told in place of what is expected
+-- a rejected event replaces what is expected
 abbrev pub place_by : Option Problem → Expected → Expected
 place_by None p = p
 place_by (Some q) p = at.Refused q

@@ -42,7 +42,7 @@ pub struct Scalar<'a> {
     pub classes: u16,
 }
 
-// Whether the value has a break: that it has none its classes mostly tell.
+// Whether the value has a break: mostly its classes show that it has none.
 fn is_broken(scalar: &Scalar) -> bool
     requires { Covers scalar.now.classes scalar.now.value.now 0 (length scalar.now.value.now) }
     ensures { result ≡ has_break scalar.now.value.now }
@@ -93,7 +93,7 @@ fn is_plain(style: Style) -> bool
     matches!(style, Style::Plain)
 }
 
-// Whether `!` is in front: it isn't plain, has no tag, and may not lack one.
+// Whether `!` comes before it: it isn't plain, has no tag, and may not lack one.
 fn is_marked(scalar: &Scalar, style: Style) -> bool
     ensures value { result ≡ is_marked scalar.now style }
     ensures plain { result ≡ true → style ≢ Style.Plain }

@@ -1,4 +1,4 @@
-//! How deep a collection stands.
+//! How deep a collection is.
 
 ghost use Rattle.std.specs.Prelude.{◌≡◌, ◌≢◌, ◌<◌, None, OnOk};
 ghost use Rattle.yaml_emit_layout.specs.Layout.{stay, opener, when};
@@ -24,7 +24,7 @@ pub fn put_opener(draft: &mut Draft, flow: bool, bracket: u8)
     }
 }
 
-/// A collection opens after a node that it is; one that is too deep is marked, and nothing more is put. Refused only for want of
+/// A collection that is a node opens; one that is too deep is marked, and nothing more is written. Refused only when out of
 /// memory.
 pub fn open(
     draft: &mut Draft,

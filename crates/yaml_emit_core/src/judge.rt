@@ -219,7 +219,7 @@ fn names_problem(
     )
 }
 
-/// What is wrong with the names in an event, in canonical form or not, wherever it stands.
+/// What is wrong with the names in an event, in canonical form or not, wherever it is.
 #[tactic(auto, unfolding(yaml_emit_layout::specs::Grammar::event_problem))]
 pub fn event_problem(canonical: bool, event: &EventRef) -> Option<Problem>
     ensures { result ≡ event_problem canonical (emitter_event (borrowed_body event.now)) }

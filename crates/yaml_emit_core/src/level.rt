@@ -1,4 +1,4 @@
-//! Where an emitter stands.
+//! What an emitter expects, and its open collections.
 
 ghost use Rattle.std.specs.Prelude.{◌≡◌, ◌≢◌, ◌<◌, ◌^◌, Bool, [], None, Some, true, false, OnOk, OnErr};
 ghost use Rattle.yaml_emit_layout.specs.State.{top_of, outer_of, place_at};
@@ -30,7 +30,7 @@ pub enum State {
     End,
 }
 
-/// A level: what comes next in it, whether it is a flow collection, and its indentation in columns. Outside all collections stands
+/// A level: what comes next in it, whether it is a flow collection, and its indentation in columns. Outside all collections is
 /// the stream's.
 #[derive(Clone, Copy)]
 pub struct Level {

@@ -151,7 +151,7 @@ fn put_tag_if(draft: &mut Draft, properties: &Properties)
     }
 }
 
-/// An anchor and a tag, each with a space in front where one is due.
+/// An anchor and a tag, each after a space where one is due.
 pub fn put_properties(draft: &mut Draft, properties: &Properties)
     requires { IsName (name_in properties.now) }
     ensures { Lays draft.old draft.new (names_text properties.now) stay }

@@ -92,8 +92,9 @@ fn is_directed(opening: &Opening) -> bool
     opening.version.is_some() | !opening.directives.is_empty()
 }
 
-/// The start of a document, where one may come, by whether the last one ended implicitly: `...` parts its directives from that one, and
-/// a first implicit document without directives has no `---` in pretty form.
+/// The start of a document, where one may come, by whether the last one ended implicitly: `...`
+/// separates its directives from that one, and a first implicit document without directives has no
+/// `---` in pretty form.
 pub fn lay_document_start(
     draft: &mut Draft,
     settings: &Settings,

@@ -57,7 +57,7 @@ fn smaller(a: Option<usize>, b: Option<usize>) -> Option<usize>
     }
 }
 
-// Where, in a part whose keys rise, the first entry with this key or a larger one stands.
+// Where the first entry with this key or a larger one is, in a part whose keys rise.
 fn edge(entries: &[(Vec<u8>, usize)], from: usize, to: usize, depth: usize, least: u16) -> usize
     requires room { from ≤ to }
     requires inside { to ≤ length entries.now }

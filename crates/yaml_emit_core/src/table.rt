@@ -1,6 +1,6 @@
 //! The tag directives of a document.
 ghost use Rattle.std.specs.Prelude.{◌≡◌, ◌<◌, ◌∷◌, [], Some, None, true, map, length, option_map, IfOk, IfSome};
-ghost use Rattle.yaml_scan_model.specs.Ascii as ascii;
+ghost use Rattle.yaml_scan_types.specs.Ascii as ascii;
 ghost use Rattle.yaml_parse_model.specs.Events.{directive_of};
 ghost use Rattle.yaml_emit_core.specs.Prefixes.{IsNumber};
 ghost use Rattle.yaml_emit_core.specs.TableView.{IsIndexed};

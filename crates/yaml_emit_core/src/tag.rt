@@ -8,7 +8,7 @@ use crate::table::DirectiveTable;
 use yaml_emit_layout::SplitTag;
 use yaml_parse_model::SECONDARY_PREFIX;
 
-// Whether a handle that isn't defined stands for the start of a tag.
+// Whether a handle that isn't defined begins the tag.
 // Inlined: the prefix is known, and with it its length.
 #[inline(always)]
 fn stands_for(prefix: &[u8], defined: bool, tag: &[u8]) -> bool

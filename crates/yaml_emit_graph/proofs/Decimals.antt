@@ -1,4 +1,4 @@
--- The digits of a number are what a program writes of it, and tell it.
+-- The digits of a number are what a program writes of it, and determine it.
 use Rattle.std.proofs.Common.{◌≡◌, ◌<◌, ◌^◌, ◌/◌, ◌%◌, ◌==◌, ℕ, zero, suc, Bool, true, false, if◌then◌else◌, List, [], ◌∷◌, sym, ap, ◌∙◌, inl, inr, arith, decimal}
 use Rattle.std.specs.Char.{digit_value}
 use Rattle.std.specs.Fmt.{digits, digits_onto, digit_glyph}
@@ -33,7 +33,7 @@ enough (suc j) (suc k) n acc p q =
           ∙ sym (by_test false n e (suc k) acc)
     ]
 
--- a number has no more digits than it tells
+-- a number has no more digits than its value
 few_digits : (n : ℕ) → n < 10 ^ suc n
 few_digits zero = omega arith
 few_digits (suc n) = omega (arith, few_digits n)
@@ -42,7 +42,7 @@ pub written : (n : ℕ) → n < 2 ^ 64 → decimal_text n ≡ decimal n
 unfolding decimal_text digits
 written n h = enough n 63 n [] (few_digits n) (omega arith)
 
--- ---- what they tell
+-- ---- the number that they give
 
 glyph_value : (d : ℕ) → d < 10 → digit_value (digit_glyph false d) ≡ d
 glyph_value d h = grind (arith, nat_tests)

@@ -1,4 +1,4 @@
--- A walk of visits is the walk that hands on what follows, and no visit is cut off.
+-- A walk of visits is the walk that passes on what follows, and no visit is cut off.
 use Rattle.std.proofs.Common.{◌≡◌, ℕ, ◌+◌, ◌<◌, ◌≤◌, List, [], ◌∷◌, ◌++◌, length, false, refl, sym, ◌∙◌, ap, arith, inl, inr, append_assoc, append-nil, Option}
 use Rattle.std.specs.Prelude.{zero, suc, ℤ, pos}
 use Rattle.std.proofs.lemmas.Bool.{cases_Bool}

@@ -2,8 +2,8 @@
 use Rattle.std.specs.Prelude.{ℕ, zero, suc, ℤ, pos, ◌==◌, Bool, true, false, if◌then◌else◌, List, [], ◌∷◌, ◌++◌, length, get_or, set, replicate, Option, Some, None, nat_eq, codes}
 use Rattle.std.specs.Fmt.{digits_onto}
 use Rattle.std.specs.Cmp.Lexicographic.{pointwise}
-use Rattle.yaml_scan_model.specs.declared.yaml_scalar_style_t.{yaml_scalar_style_t}
-use Rattle.yaml_scan_model.specs.declared.yaml_scalar_style_t.TheVariants.{YAML_ANY_SCALAR_STYLE}
+use Rattle.yaml_scan_model.specs.declared.name.yaml_scalar_style_t.{yaml_scalar_style_t}
+use Rattle.yaml_scan_model.specs.declared.name.yaml_scalar_style_t.TheVariants.{YAML_ANY_SCALAR_STYLE}
 use Rattle.yaml_parse_model.specs.declared.yaml_node_pair_t.{yaml_node_pair_t}
 use Rattle.yaml_parse_model.specs.Nodes as model
 use Rattle.yaml_parse_model.specs.Documents.{node_at, str_tag, seq_tag, map_tag}
@@ -141,7 +141,7 @@ turns nodes = turns_of nodes (walked nodes)
 
 -- ---- the numbers of the nodes that are met again: a node's second visit gives it the next one, from 1
 
--- how many were given, and which node has which; 0 stands for none
+-- how many were given, and which node has which; 0 means none
 pub record Numbering : Type 0 where
   pub given : ℕ
   pub table : List ℕ

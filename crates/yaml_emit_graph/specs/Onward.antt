@@ -1,7 +1,7 @@
 -- The walk of a document's nodes once more, with what follows handed on: what is said of a walk that has begun. `turns_onward`
 -- and `root_onward` are `turns` and `graph_root` (`proofs/Joining.antt`).
 use Rattle.std.specs.Prelude.{ℕ, zero, suc, ℤ, pos, if◌then◌else◌, List, [], ◌∷◌, length, Option}
-use Rattle.yaml_scan_model.specs.declared.yaml_scalar_style_t.TheVariants.{YAML_ANY_SCALAR_STYLE}
+use Rattle.yaml_scan_model.specs.declared.name.yaml_scalar_style_t.TheVariants.{YAML_ANY_SCALAR_STYLE}
 use Rattle.yaml_parse_model.specs.declared.yaml_node_pair_t.{yaml_node_pair_t}
 use Rattle.yaml_parse_model.specs.Nodes as model
 use Rattle.yaml_parse_model.specs.Documents.{seq_tag, map_tag}

@@ -16,7 +16,7 @@ pub fn next_held(held: &[i32], index: usize) -> Option<i32>
     held.get(index).copied()
 }
 
-// The same of pairs, the key of each before its value.
+// What pairs hold at a place, the key of each before its value.
 #[tactic(auto, using(crate::proofs::Walking::pair_comes, crate::proofs::Walking::pair_none))]
 fn next_in_pairs(pairs: &[yaml_node_pair_t], index: usize) -> Option<i32>
     ensures { NextHeld (pair_ids pairs.now) index result }

@@ -7,14 +7,14 @@ ghost use Rattle.yaml_emit_graph.specs.Numbers.{IsNumbering, numbering_of};
 use crate::walk::{Turn, Walk, Walkable, place_of};
 use std::alloc::{AllocError, Global};
 
-/// The turns of a walk over nodes, and the number of each node by its place; 0 stands for none.
+/// The turns of a walk over nodes, and the number of each node by its place; 0 means none.
 #[derive(Drop)]
 pub struct Walked {
     pub turns: Vec<Turn>,
     pub numbers: Vec<u64>,
 }
 
-/// How many numbers were given, and the number of each node by its place; 0 stands for none.
+/// How many numbers were given, and the number of each node by its place; 0 means none.
 #[derive(Drop)]
 pub struct Numbers {
     pub given: u64,

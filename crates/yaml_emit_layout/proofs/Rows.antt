@@ -2,9 +2,9 @@
 use Rattle.std.proofs.Common.{◌≡◌, ℕ, List, [], ◌∷◌, refl, true, false, Bool, Some, None}
 use Rattle.std.specs.Prelude.{codes}
 use Rattle.std.specs.Str.{chars}
-use Rattle.yaml_scan_model.specs.declared.yaml_scalar_style_t.{yaml_scalar_style_t}
-use Rattle.yaml_scan_model.specs.declared.yaml_scalar_style_t.TheVariants as asked
-use Rattle.yaml_scan_model.specs.Classes.{is_alpha_byte, is_digit_byte, any_below}
+use Rattle.yaml_scan_model.specs.declared.name.yaml_scalar_style_t.{yaml_scalar_style_t}
+use Rattle.yaml_scan_model.specs.declared.name.yaml_scalar_style_t.TheVariants as asked
+use Rattle.yaml_scan_types.specs.Classes.{is_alpha_byte, is_digit_byte, any_below}
 use Rattle.yaml_emit_layout.specs.declared.settings.Settings.{Settings}
 use Rattle.yaml_emit_layout.specs.declared.settings.Encoding.TheVariants.{Utf8}
 use Rattle.yaml_emit_layout.specs.declared.settings.LineBreak.TheVariants.{Lf}

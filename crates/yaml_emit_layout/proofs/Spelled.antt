@@ -101,7 +101,7 @@ record Left (page : Page) (before : ℕ) (c : Cursor) (slash : Bool) (last : Spe
       ≡ in_front (spelling parts) (rest behind)
   means : value ≡ meaning parts
 
--- how the last part stands to the character before
+-- how the last part is related to the character before
 record Behind (before : ℕ) (slash : Bool) (last : SpelledPart) (value : List ℕ) : Type 0 where
   same : meant last ≡ before
   folded : is_fold last ≡ true → (slash ≡ (first value == 32)) × (is_empty value ≡ false)
@@ -157,7 +157,7 @@ fold_means (fold b n) e = refl
 fold_means escaped_space e = refl
 fold_means _ e = absurd (cc)
 
--- a part more in front
+-- one part more before it
 part_more : (page : Page) (before x : ℕ) (c d : Cursor) (cs : List ℕ) (slash slash' : Bool)
     (last p : SpelledPart)
     → may_follow last p ≡ true → may_stand p ≡ true → meant p ≡ x

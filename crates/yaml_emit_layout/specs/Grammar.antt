@@ -3,9 +3,9 @@ use Rattle.std.specs.Prelude.{ℕ, ◌-◌, Bool, true, false, not, ◌&&◌, �
 use Rattle.std.specs.Cmp.Lexicographic.{pointwise}
 use Rattle.std.specs.List.{list_all, list_any}
 use Rattle.std.specs.Ordering.{int_eq}
-use Rattle.yaml_scan_model.specs.Ascii as ascii
-use Rattle.yaml_scan_model.specs.Classes.{is_alpha_byte}
-use Rattle.yaml_scan_model.specs.declared.yaml_version_directive_t.{yaml_version_directive_t}
+use Rattle.yaml_scan_types.specs.Ascii as ascii
+use Rattle.yaml_scan_types.specs.Classes.{is_alpha_byte}
+use Rattle.yaml_scan_model.specs.declared.record.yaml_version_directive_t.{yaml_version_directive_t}
 use Rattle.yaml_parse_model.specs.Events.{TagDirective}
 use Rattle.yaml_emit_layout.specs.declared.problem.Problem.{Problem}
 use Rattle.yaml_emit_layout.specs.declared.problem.Problem.TheVariants as problem
@@ -162,11 +162,11 @@ last_problem sequence_end = None
 last_problem (mapping_start p) = None
 last_problem mapping_end = None
 
--- what is wrong with an event wherever it stands
+-- what is wrong with an event wherever it is
 abbrev pub own_problem : Bool → Event → Option Problem
 own_problem canonical e = or_else (event_problem canonical e) (last_problem e)
 
--- the first event of a list with which something is wrong wherever it stands
+-- the first event of a list with which something is wrong wherever it is
 unfoldable pub own_problems : Bool → List Event → Option Problem
 own_problems canonical [] = None
 own_problems canonical (e ∷ es) = or_else (own_problem canonical e) (own_problems canonical es)

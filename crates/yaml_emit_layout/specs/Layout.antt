@@ -67,7 +67,7 @@ is_white c = c.white
 abbrev pub gap : Layout
 gap = choose is_white stay blank
 
--- a text with a space in front where one is due
+-- a text after a space where one is due
 abbrev pub word : List ℕ → Layout
 word t = gap ▹ letters t
 

@@ -20,6 +20,7 @@ pub mod Scalars
 pub mod Runs
 pub mod Spelling
 pub mod Tags
--- what it stands on, for crates of laws that name this one alone
+-- the crates below it, for crates of laws that name this one alone
 pub use Rattle.yaml_scan_model.specs as scan_model
 pub use Rattle.yaml_parse_model.specs as parse_model
+pub use Rattle.yaml_scan_types.specs as scan_types

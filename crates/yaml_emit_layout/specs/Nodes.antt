@@ -2,9 +2,9 @@
 use Rattle.std.specs.Prelude.{ℕ, ◌+◌, ◌-◌, Bool, true, false, not, ◌&&◌, ◌||◌, ◌==◌, nat_le, nat_lt, if◌then◌else◌, List, [], ◌∷◌, length, Option, Some, None, pos, codes}
 use Rattle.std.specs.Ordering.{int_eq}
 use Rattle.std.specs.Str.{chars}
-use Rattle.yaml_scan_model.specs.Ascii as ascii
-use Rattle.yaml_scan_model.specs.Classes.{has_break}
-use Rattle.yaml_scan_model.specs.declared.yaml_version_directive_t.{yaml_version_directive_t}
+use Rattle.yaml_scan_types.specs.Ascii as ascii
+use Rattle.yaml_scan_types.specs.Classes.{has_break}
+use Rattle.yaml_scan_model.specs.declared.record.yaml_version_directive_t.{yaml_version_directive_t}
 use Rattle.yaml_parse_model.specs.Events.{TagDirective}
 use Rattle.yaml_emit_layout.specs.declared.cursor.Cursor.{Cursor}
 use Rattle.yaml_emit_layout.specs.declared.settings.Settings.{Settings}
@@ -88,7 +88,7 @@ style_of p at x =
     else taken (allowed p.settings.unicode (chars x.value)) x.style (has (scalar_tag false x)
     || x.plain) at.flow (is_simple_part at.part) (length x.value == 0)
 
--- an untagged scalar that may not be quoted has `!` in front, unless it is plain
+-- an untagged scalar that may not be quoted has `!` before it, unless it is plain
 abbrev pub mark_text : Context → Scalar → Style → Layout
 mark_text p x chosen = when (not (has (scalar_tag p.settings.canonical x))
     && (not x.quoted && not (is_plain chosen))) (word (ascii.exclamation ∷ []))
@@ -289,7 +289,7 @@ dashes s = line_at s 0 ▹ word (ascii.hyphen ∷ ascii.hyphen ∷ ascii.hyphen 
 abbrev pub is_marked : Settings → Bool → Opening → Bool
 is_marked s first o = s.canonical || not (first && (o.implicit && not (is_directed o)))
 
--- `...` parts directives from a document that ended implicitly
+-- `...` separates directives from a document that ended implicitly
 unfoldable pub start_layout : Settings → Bool → Bool → Opening → Layout
 start_layout s first unended o =
     when (unended && is_directed o) (dots s) ▹ keep false ▹ version_text s o.version

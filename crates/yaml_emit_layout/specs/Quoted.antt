@@ -21,7 +21,7 @@ needs_escape unicode c =
     not (is_printable c) || (not unicode && nat_le 0x80 c) || is_break c || c == ascii.quote
     || c == ascii.backslash
 
--- the letter that stands for a character after a backslash, or 0
+-- the letter that spells a character after a backslash, or 0
 unfoldable pub escape_letter : ℕ → ℕ
 escape_letter c =
     if c == ascii.null then ascii.digit_zero
@@ -81,7 +81,7 @@ unfoldable pub quoted_char : Page → ℕ → ℕ → List ℕ → Layout
 quoted_char page before x rest = if may_fold page before x rest then choose (is_past page.width)
     (fold page rest) (char x) else escaped page.unicode x
 
--- by the character before; a space in front stands for the start, since no space is folded after a space
+-- by the character before; a space as that means the start, since no space is folded after a space
 unfoldable pub quoted_body : Page → ℕ → List ℕ → Layout
 quoted_body page before [] = stay
 quoted_body page before (x ∷ xs) = quoted_char page before x xs ▹ quoted_body page x xs

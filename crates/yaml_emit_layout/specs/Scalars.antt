@@ -33,7 +33,7 @@ quote_char quote x = when (quote && x == ascii.apostrophe) (char ascii.apostroph
 abbrev pub text_char : Page → Bool → Bool → ℕ → Layout
 text_char page quote cuts x = if cuts then cut page x else quote_char quote x
 
--- a run of breaks that begins with LF gets one break more in front; a line follows the run
+-- a run of breaks that begins with LF gets one break more before it; a line follows the run
 unfoldable pub flow_char : Page → Bool → ℕ → ℕ → List ℕ → Layout
 flow_char page quote before x rest =
     if is_break x then when (x == ascii.line_feed && not (is_break before))
@@ -46,7 +46,8 @@ unfoldable pub flow_body : Page → Bool → ℕ → List ℕ → Layout
 flow_body page quote before [] = when (is_break before) (line page.line_break page.indentation)
 flow_body page quote before (x ∷ xs) = flow_char page quote before x xs ▹ flow_body page quote x xs
 
--- a space in front stands for the start: there no space is cut; outside flow an empty one is nothing, not even a space
+-- a space as the character before means the start: there no space is cut; outside flow an empty one
+-- is nothing, not even a space
 abbrev pub plain : Page → Bool → List ℕ → Layout
 plain page flow value = when (flow || not (is_empty value)) gap
     ▹ (flow_body page false ascii.space value ▹ after_text)
@@ -128,7 +129,7 @@ block_header digit folded value = gap
     ▹ (char (if folded then ascii.greater else ascii.bar)
     ▹ (digit_mark digit value ▹ chomp_mark (chomp true true value)))
 
--- at the start stands a break, and the line begins with a blank
+-- at the start is a break, and the line begins with a blank
 abbrev pub block : Page → ℕ → Bool → List ℕ → Layout
 block page digit folded value = block_header digit folded value
     ▹ (new_line page.line_break ▹ (block_body page folded true ascii.line_feed value ▹ after_block))

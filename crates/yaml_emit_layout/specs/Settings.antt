@@ -1,4 +1,4 @@
--- Settings: those that an emitter was told, and those in force.
+-- Settings: those that an emitter was asked for, and those in force.
 use Rattle.std.specs.Prelude.{ℕ, ◌*◌, ◌&&◌, nat_le, if◌then◌else◌, ℤ, pos, negsuc}
 use Rattle.yaml_scan_types.specs.declared.name.yaml_encoding_t.{yaml_encoding_t}
 use Rattle.yaml_scan_types.specs.declared.name.yaml_encoding_t.TheVariants as coding

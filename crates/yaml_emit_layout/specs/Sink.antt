@@ -7,7 +7,7 @@ use Rattle.yaml_emit_layout.specs.declared.settings.Encoding.{Encoding}
 use Rattle.yaml_emit_layout.specs.Text.{Item, encode, is_deep, shallow}
 use Rattle.yaml_emit_layout.specs.Layout.{Layout, Rest, stay}
 
--- An output up to a limit: its bytes so far, and where the next character stands.
+-- An output up to a limit: its bytes so far, and the place of the next character.
 pub record Output : Type 0 where
   pub bytes : List ℕ
   pub limit : ℕ
@@ -30,7 +30,7 @@ EndsBy Starved limit x output text whole = (rest : List ℕ) × (encode x whole 
 unfoldable pub Ends : Output → List Item → List Item → Type 0
 Ends s text whole = EndsBy s.status s.limit s.encoding s.bytes text whole
 
--- all that stood there is there still, before what came
+-- all that was there is there still, before what came
 abbrev pub Grows : List ℕ → List ℕ → Type 0
 Grows old new = take (length old) new ≡ old
 

@@ -13,7 +13,7 @@ use Rattle.yaml_emit_layout.specs.Quoted.{escape_text, quoted_body}
 use Rattle.yaml_emit_layout.specs.Style.{is_blank}
 
 pub data SpelledPart : Type 0 where
-  -- a character that stands for itself
+  -- a character that spells itself
   raw : ℕ → SpelledPart
   -- a character by its letter or number
   escape : ℕ → SpelledPart
@@ -82,7 +82,7 @@ unfoldable pub in_front : List ℕ → List Item → List Item
 in_front [] t = t
 in_front (c ∷ cs) t = letter c ∷ in_front cs t
 
--- From a cursor on, a layout writes a spelling of the value, whatever follows. After a space, at the start, no fold may stand.
+-- From a cursor on, a layout writes a spelling of the value, whatever follows. After a space, at the start, no fold may be.
 pub record WritesSpelling (a : Layout) (c : Cursor) (value : List ℕ) : Type 0 where
   pub parts : List SpelledPart
   pub behind : Cursor

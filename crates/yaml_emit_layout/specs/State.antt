@@ -1,6 +1,6 @@
--- Where an emitter stands, and what it writes for an event.
+-- The state of an emitter, and what it writes for an event.
 use Rattle.std.specs.Prelude.{ℕ, Bool, true, false, List, [], ◌∷◌, Option, Some, None}
-use Rattle.yaml_scan_model.specs.Ascii as ascii
+use Rattle.yaml_scan_types.specs.Ascii as ascii
 use Rattle.yaml_parse_model.specs.Events.{TagDirective}
 use Rattle.yaml_emit_layout.specs.declared.cursor.Cursor.{Cursor}
 use Rattle.yaml_emit_layout.specs.declared.settings.Settings.{Settings}

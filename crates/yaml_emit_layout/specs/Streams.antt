@@ -1,6 +1,6 @@
 -- What a stream is laid out as.
 use Rattle.std.specs.Prelude.{◌≡◌, List, None}
-use Rattle.yaml_scan_model.specs.declared.yaml_encoding_t.{yaml_encoding_t}
+use Rattle.yaml_scan_model.specs.declared.name.yaml_encoding_t.{yaml_encoding_t}
 use Rattle.yaml_emit_layout.specs.declared.settings.Encoding.{Encoding}
 use Rattle.yaml_emit_layout.specs.declared.settings.RequestedSettings.{RequestedSettings}
 use Rattle.yaml_emit_layout.specs.Text.{Item}

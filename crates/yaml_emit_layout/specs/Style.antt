@@ -128,7 +128,7 @@ plain_fits a untagged flow simple empty = (if flow then a.flow_plain else a.plai
 abbrev pub single_or : Allowed → Style
 single_or a = if a.single then style.Single else style.Double
 
--- a block scalar stands neither in flow nor as a simple key
+-- a block scalar is neither in flow nor a simple key
 abbrev pub block_or : Allowed → Bool → Bool → Style → Style
 block_or a flow simple s = if a.block && not (flow || simple) then s else style.Double
 

@@ -1,7 +1,7 @@
 -- The spelling of tags.
 use Rattle.std.specs.Prelude.{ℕ, ◌+◌, Bool, true, false, not, ◌&&◌, ◌||◌, ◌==◌, nat_lt, nat_le, if◌then◌else◌, List, [], ◌∷◌, ◌++◌, length, take, drop, Option, Some, None}
 use Rattle.std.specs.Str.{bytes_eq}
-use Rattle.yaml_scan_model.specs.Ascii as ascii
+use Rattle.yaml_scan_types.specs.Ascii as ascii
 use Rattle.yaml_parse_model.specs.Events.{TagDirective}
 use Rattle.yaml_parse_model.specs.Nodes.{secondary_prefix}
 use Rattle.yaml_emit_layout.specs.declared.split.SplitTag.{SplitTag}
@@ -34,11 +34,11 @@ secondary = record {
   prefix = secondary_prefix;
 }
 
--- a handle that no directive defines stands for the start of a tag
+-- a handle that no directive defines is the start of a tag
 abbrev pub stands_for : List TagDirective → TagDirective → List ℕ → Bool
 stands_for ds d tag = has_shorter_prefix d.prefix tag && not (defines ds d.handle)
 
--- a handle that stands for something without a directive, unless one defines it
+-- a handle that has a meaning without a directive, unless one defines it
 abbrev pub unless_defined : List TagDirective → TagDirective → List TagDirective
 unless_defined ds d = if defines ds d.handle then [] else d ∷ []
 
@@ -75,7 +75,7 @@ keeps_byte flow b = if flow then prefix_keeps b else suffix_keeps b
 abbrev pub uri_byte : Bool → ℕ → List ℕ
 uri_byte flow b = if keeps_byte flow b then b ∷ [] else ascii.percent ∷ hex_2 b
 
--- flow: , [ ] may stand
+-- flow: , [ ] may be there
 unfoldable pub uri_text : Bool → List ℕ → List ℕ
 uri_text flow [] = []
 uri_text flow (b ∷ bs) = uri_byte flow b ++ uri_text flow bs

@@ -1,4 +1,4 @@
-//! Where the next character stands, and whether the output goes on.
+//! The place of the next character, and whether the output goes on.
 
 ghost use Rattle.std.specs.Prelude.{◌≡◌, ◌≢◌, true, false};
 
@@ -14,7 +14,7 @@ pub enum Status {
     Starved,
 }
 
-/// Where the next character stands.
+/// The place of the next character.
 #[derive(Clone, Copy, PartialEq, Eq, Debug)]
 pub struct Cursor {
     /// Characters since the last line break, from 0.

@@ -1,4 +1,4 @@
-//! Where an emitter stands.
+//! What an emitter expects, and its open collections.
 
 use crate::problem::Problem;
 
@@ -44,7 +44,7 @@ pub enum Part {
     Value,
 }
 
-/// Where a node stands: the indentation round it (none round a root), whether that is flow, and its part there.
+/// Where a node is: the indentation round it (none round a root), whether that is flow, and its part there.
 #[derive(Clone, Copy)]
 pub struct NodePosition {
     pub around: Option<u64>,

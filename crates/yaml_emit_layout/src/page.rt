@@ -1,8 +1,8 @@
-//! Where a scalar stands, and its style.
+//! Where a scalar is, and its style.
 
 use crate::settings::LineBreak;
 
-/// Where a scalar stands.
+/// Where a scalar is.
 #[derive(Clone, Copy)]
 pub struct Page {
     /// After this column a line may be broken.

@@ -11,9 +11,9 @@ use yaml_scan_types::{DEFAULT_INDENT, DEFAULT_WIDTH, yaml_break_t, yaml_encoding
 #[derive(Clone, Copy, PartialEq, Eq, Debug)]
 pub enum Encoding {
     Utf8,
-    /// UTF-16, the low byte of a unit first; a byte order mark is in front.
+    /// UTF-16, the low byte of a unit first; a byte order mark comes first.
     Utf16Le,
-    /// UTF-16, the high byte of a unit first; a byte order mark is in front.
+    /// UTF-16, the high byte of a unit first; a byte order mark comes first.
     Utf16Be,
 }
 
@@ -25,7 +25,7 @@ pub enum LineBreak {
     CrLf,
 }
 
-/// What an emitter was told.
+/// What an emitter was asked for.
 #[derive(Clone, Copy, PartialEq, Eq, Debug)]
 pub struct RequestedSettings {
     pub encoding: yaml_encoding_t,
@@ -44,7 +44,7 @@ pub struct Settings {
     pub encoding: Encoding,
     /// The canonical layout and not the pretty one.
     pub canonical: bool,
-    /// How many columns deeper a collection stands than the one round it: 2 to 9.
+    /// How many columns deeper a collection is than the one round it: 2 to 9.
     pub indent: u64,
     /// After this column a line may be broken.
     pub width: u64,
@@ -118,9 +118,9 @@ fn encoding_or(other: Encoding, encoding: yaml_encoding_t) -> Encoding
     }
 }
 
-/// What is in force for an emitter that was told that, in a stream that starts with that encoding. An indent of other than
-/// 2 to 9 means 2; a negative width 2,147,483,647, and one of 0 to twice the indent 80; any break LF; any encoding the
-/// stream's, or UTF-8.
+/// What is in force for an emitter with those settings, in a stream that starts with that encoding.
+/// An indent of other than 2 to 9 means 2; a negative width 2,147,483,647, and one of 0 to twice
+/// the indent 80; any break LF; any encoding the stream's, or UTF-8.
 pub fn settled(requested: RequestedSettings, stream: yaml_encoding_t) -> Settings
     ensures { result ≡ settled requested stream }
 {

@@ -1,7 +1,7 @@
 -- What an event that was given does: the state after it is as it has to be, and where memory was refused outside the output it is
 -- known which events are in it.
 use Rattle.std.proofs.Common.{◌≡◌, ◌≢◌, ◌⊎◌, inl, inr, ℕ, suc, drop, List, [], ◌∷◌, ◌++◌, Bool, false, Option, append_assoc, refl, sym, subst, ap, ◌∙◌, None, option_map}
-use Rattle.yaml_scan_model.specs.Faults.{Fault, fault_of}
+use Rattle.yaml_scan_model.specs.scan_types.Faults.{Fault, fault_of}
 use Rattle.yaml_emit_layout.specs.Content.{Event}
 use Rattle.yaml_emit_layout.specs.declared.Settings.{Settings}
 use Rattle.yaml_emit_core.specs.Steps.{Core, state_of, settings_of, goes_on}
@@ -17,7 +17,7 @@ use Rattle.yaml_emit_machine.specs.Taking.{HasFirst, BlamesLevels, TakesOne, Tak
 use Rattle.yaml_emit_machine.proofs.Emitting.{left, inside_going, unnoted}
 pub use Rattle.yaml_emit_machine.proofs.Taking.{ends_new}
 use Rattle.std.proofs.lemmas.Bool.{cases_Bool, false≢true}
-use Rattle.yaml_scan_model.specs.declared.yaml_fault_t.{yaml_fault_t}
+use Rattle.yaml_scan_model.specs.declared.fault.yaml_fault_t.{yaml_fault_t}
 use Rattle.yaml_emit_machine.proofs.Holding.{three_most, none_ready, asked_waits}
 use Rattle.yaml_emit_machine.proofs.Following.{lays_unnoted}
 use Rattle.yaml_emit_machine.proofs.Taking.{inside_takes}

@@ -1,12 +1,12 @@
--- What is seen of an emitter, what it completes, and what it tells.
+-- What is seen of an emitter, what it completes, and what it reports.
 use Rattle.std.proofs.Common.{List, Bool, Option, option_map, ◌≡◌, ℕ, [], ◌∷◌, ◌++◌, true, false, refl, sym, subst, inl, inr, ◌∙◌, ap, Some, None, arith, append-nil}
-use Rattle.yaml_scan_model.specs.Faults.{Fault, fault_of, memory_fault, IsMemoryFault, emit_layers}
+use Rattle.yaml_scan_model.specs.scan_types.Faults.{Fault, fault_of, memory_fault, IsMemoryFault, emit_layers}
 use Rattle.yaml_emit_layout.specs.declared.RequestedSettings.{RequestedSettings}
 use Rattle.yaml_emit_layout.specs.Content.{Event, stream_start}
 use Rattle.yaml_emit_core.specs.Steps.{Core, state_of, settings_of, goes_on, IsFreshCore}
 use Rattle.yaml_emit_machine.specs.declared.emitter.yaml_emitter_t.TheInside.{Inside}
 use Rattle.yaml_emit_machine.specs.Emitter.{Emitter, write_error, too_deep, problem_fault, memory_origin, fault_by, refusal_by, IsLimited, stream_encoding, CompletesBy, Completes, HasWritten, ShowsFront, Says}
-use Rattle.yaml_scan_model.specs.declared.yaml_encoding_t.{yaml_encoding_t}
+use Rattle.yaml_scan_model.specs.declared.name.yaml_encoding_t.{yaml_encoding_t}
 use Rattle.yaml_emit_layout.specs.declared.Encoding.{Encoding}
 use Rattle.yaml_emit_layout.specs.declared.Settings.{Settings}
 use Rattle.yaml_emit_layout.specs.declared.Status.{Status}
@@ -55,7 +55,7 @@ left i core fresh held fault = record {
   starved = core.starved;
 }
 
--- the same as it stood
+-- the emitter as it was
 abbrev pub stood : Inside → Bool → List Event → Emitter
 stood i fresh held = left i i.core fresh held (option_map fault_of i.fault)
 

@@ -43,7 +43,7 @@ settles_by : (b : Core) (e : Event) (empty : Bool) (y : List Event)
 settles_by b e empty y h = λ es.
     (ap (piece (settings_of b) (state_of b) e) (h es), λ (c : Cursor). ap (λ (z : Bool). next (settings_of b) (state_of b) e z c) (h es))
 
--- the first event after it tells
+-- the first event after it decides
 told : (e : Event) (z : List Event) (f : Event) (es : List Event)
     → opens_empty e (z ++ f ∷ []) ≡ opens_empty e ((z ++ f ∷ []) ++ es)
 unfolding opens_empty

@@ -11,7 +11,8 @@ use Rattle.yaml_emit_machine.specs.declared.held.Count.TheVariants.{Nothing}
 use Rattle.yaml_emit_machine.specs.Held.{is_ready, needs, closes, ends_level, releases, passes, asks_next, are_some, back, all_held, later_bodies, held_events, oldest_event, later_events, AreLast}
 use Rattle.std.proofs.lemmas.List.{append-nil}
 
--- Whether an event opens an empty collection is told by what has come, once it is ready: what follows changes nothing.
+-- Whether an event opens an empty collection is decided by what has come, once it is ready: what
+-- follows changes nothing.
 pub ready_empty : (e : Event) (es more : List Event) → is_ready (e ∷ es) ≡ true
     → opens_empty e (es ++ more) ≡ opens_empty e es
 unfolding is_ready opens_empty

@@ -223,14 +223,14 @@ unfolding let_out
 ends_begin p never [] = refl
 ends_begin p never (f ∷ es) = out_begins p (is_ready (f ∷ es)) f es refl (never f es)
 
--- whether a collection is opened and at once closed is told by the events that are let out
+-- whether a collection is opened and at once closed is decided by the events that are let out
 pub empty_out : (e : Event) (es : List Event) → opens_empty e (let_out es) ≡ opens_empty e es
 unfolding opens_empty
 empty_out (sequence_start p) es = ends_begin is_sequence_end end_sequence es
 empty_out (mapping_start p) es = ends_begin is_mapping_end end_mapping es
 empty_out _ es = refl
 
--- what is written for an event, and after it what `body` tells
+-- what is written for an event, and after it what `body` gives
 ahead : (Settings → State → Layout) → Settings → State → Event → Bool → Layout
 ahead body s st e empty = unless (refused_at st.place) (unless (problem_at s st e)
     (λ c rest. piece s st e empty c (λ d. body s (next s st e empty d) d rest)))
@@ -277,7 +277,7 @@ pub lays_first : (b c : Core) (e : Event) (es : List Event) (whole : List Item)
 unfolding LaysAll laid ahead
 lays_first b c e es whole o l h = text_on _ (λ s st. laid s st es) b c e _ whole o refl l h
 
--- the same of those that are let out
+-- likewise for those that are let out
 pub text_step : (old new : Core) (e : Event) (es : List Event) (whole : List Item)
     → refused_at old.place ≡ None → is_ready (e ∷ es) ≡ true → LaysOut old new e (opens_empty e es)
     → LetsOut (settings_of old) (state_of old) old.sink (e ∷ es) whole
@@ -289,7 +289,7 @@ text_step old new e es whole o r l h =
 
 -- ---- the first few
 
--- Where nothing of the events was laid out, the output ends where it stood.
+-- Where nothing of the events was laid out, the output ends where it was.
 pub some_none : (s : Settings) (st : State) (o : Output) (es : List Event) (whole : List Item)
     → refused_at st.place ≡ None → LaysSome zero s st o es whole → Ends o [] whole
 unfolding LaysSome laid_some
@@ -343,7 +343,7 @@ wrong_on b c e es empty o l g =
     ap (λ (z : Settings). refusal_among z.canonical (state_of c) es) (same_settings b c l.settings l.text.encoding)
     ∙ among_step (settings_of b) (state_of b) (state_of c) e empty c.sink.cursor es (problem_at (settings_of b) (state_of b) e) refl o (l.state g)
 
--- the same of those that are let out
+-- likewise for those that are let out
 pub refusal_on : (b c : Core) (e : Event) (es : List Event) (empty : Bool)
     → refused_at b.place ≡ None
     → is_ready (e ∷ es) ≡ true → LaysOut b c e empty → c.sink.status ≡ Going

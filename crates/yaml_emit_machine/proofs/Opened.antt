@@ -1,6 +1,6 @@
 -- How a dump is taken, event by event, and how far it has opened the stream.
 use Rattle.std.proofs.Common.{◌≡◌, ◌≢◌, List, [], Bool, false, ◌∙◌, Option, ◌++◌, refl}
-use Rattle.yaml_scan_model.specs.Faults.{Fault}
+use Rattle.yaml_scan_model.specs.scan_types.Faults.{Fault}
 use Rattle.yaml_emit_layout.specs.declared.Status.{Status}
 use Rattle.yaml_emit_layout.specs.declared.Status.TheVariants.{Going}
 use Rattle.yaml_emit_layout.specs.Text.{Item}

@@ -1,8 +1,8 @@
 -- What becomes of the events that an emitter is given.
 use Rattle.std.proofs.Common.{◌≡◌, List, [], ◌∷◌, ◌++◌, Bool, true, false, refl, sym, subst, ◌∙◌, ap, arith, Option, Some, None, append_assoc, option_map}
 use Rattle.std.proofs.lemmas.Bool.{false≢true}
-use Rattle.yaml_scan_model.specs.Faults.{Fault, fault_of}
-use Rattle.yaml_scan_model.specs.declared.yaml_encoding_t.{yaml_encoding_t}
+use Rattle.yaml_scan_model.specs.scan_types.Faults.{Fault, fault_of}
+use Rattle.yaml_scan_model.specs.declared.name.yaml_encoding_t.{yaml_encoding_t}
 use Rattle.yaml_emit_layout.specs.declared.Cursor.{Cursor}
 use Rattle.yaml_emit_layout.specs.declared.Encoding.{Encoding}
 use Rattle.yaml_emit_layout.specs.declared.Settings.{Settings}
@@ -293,7 +293,7 @@ tells_as_marked mid o k t = record {
   memory = t.memory;
 }
 
--- Marking the stream open or closed changes nothing of what is told.
+-- Marking the stream open or closed changes nothing of what is reported.
 pub tells_marked : (mid new : Emitter) (o k : Bool) → new ≡ record mid { opened = o; closed = k }
     → TellsOutcome mid → TellsOutcome new
 tells_marked mid new o k same t = rw same (tells_as_marked mid o k t)

@@ -4,22 +4,22 @@
 -- `Completes` is about the end of a stream: these are all the events to come, nothing is wrong in them, and this is the whole
 -- text.
 -- `verdict` and `Writes` (`Verdict.antt`) are about any events, right or not, and not about an end: once these are given too, this
--- event is the first that is refused, and this is the text up to it. `wrong` and `Lays` are the same of all events, those that are
+-- event is the first that is rejected, and this is the text up to it. `wrong` and `Lays` say this of all events, those that are
 -- held too.
 -- `TakesEvents` (`Taking.antt`) says of a call, by both, which of the events that were to come it took.
 use Rattle.std.specs.Prelude.{◌≡◌, ◌⊎◌, ℕ, ◌<◌, Bool, true, false, List, [], ◌∷◌, ◌++◌, length, take, Option, Some, None, option_map, pos, codes, Result, Ok, Err}
-use Rattle.yaml_scan_model.specs.declared.yaml_encoding_t.{yaml_encoding_t}
-use Rattle.yaml_scan_model.specs.declared.yaml_encoding_t.TheVariants.{YAML_ANY_ENCODING}
-use Rattle.yaml_scan_model.specs.declared.yaml_break_t.TheVariants.{YAML_ANY_BREAK}
-use Rattle.yaml_scan_model.specs.declared.yaml_fault_t.{yaml_fault_t}
-use Rattle.yaml_scan_model.specs.declared.yaml_error_type_t.{yaml_error_type_t}
-use Rattle.yaml_scan_model.specs.declared.yaml_error_type_t.TheVariants.{YAML_EMITTER_ERROR, YAML_WRITER_ERROR}
-use Rattle.yaml_scan_model.specs.declared.yaml_origin_t.{yaml_origin_t}
-use Rattle.yaml_scan_model.specs.declared.yaml_origin_t.TheVariants as origin
-use Rattle.yaml_scan_model.specs.Widths.{default_width}
-use Rattle.yaml_scan_model.specs.Indents.{default_indent}
-use Rattle.yaml_scan_model.specs.Tokens.{zero_mark}
-use Rattle.yaml_scan_model.specs.Faults.{Fault, fault_of, memory_fault, IsMemoryFault, emit_layers}
+use Rattle.yaml_scan_model.specs.declared.name.yaml_encoding_t.{yaml_encoding_t}
+use Rattle.yaml_scan_model.specs.declared.name.yaml_encoding_t.TheVariants.{YAML_ANY_ENCODING}
+use Rattle.yaml_scan_model.specs.declared.name.yaml_break_t.TheVariants.{YAML_ANY_BREAK}
+use Rattle.yaml_scan_model.specs.declared.fault.yaml_fault_t.{yaml_fault_t}
+use Rattle.yaml_scan_model.specs.declared.name.yaml_error_type_t.{yaml_error_type_t}
+use Rattle.yaml_scan_model.specs.declared.name.yaml_error_type_t.TheVariants.{YAML_EMITTER_ERROR, YAML_WRITER_ERROR}
+use Rattle.yaml_scan_model.specs.declared.fault.yaml_origin_t.{yaml_origin_t}
+use Rattle.yaml_scan_model.specs.declared.fault.yaml_origin_t.TheVariants as origin
+use Rattle.yaml_scan_model.specs.scan_types.Widths.{default_width}
+use Rattle.yaml_scan_model.specs.scan_types.Indents.{default_indent}
+use Rattle.yaml_scan_model.specs.scan_types.Tokens.{zero_mark}
+use Rattle.yaml_scan_model.specs.scan_types.Faults.{Fault, fault_of, memory_fault, IsMemoryFault, emit_layers}
 use Rattle.yaml_emit_layout.specs.declared.Cursor.{Cursor}
 use Rattle.yaml_emit_layout.specs.declared.Encoding.{Encoding}
 use Rattle.yaml_emit_layout.specs.declared.Settings.{Settings}
@@ -48,7 +48,7 @@ pub record Course : Type 0 where
   pub settings : Settings
   -- what is expected next, the open collections, and the directives of the document
   pub state : State
-  -- where the next character stands
+  -- the place of the next character
   pub cursor : Cursor
 
 -- the settings in force of what was asked for, in that encoding

@@ -68,7 +68,7 @@ refusal_among canonical st es = or_else (refused_at st.place)
 abbrev pub text_among : Settings → State → List Event → Layout
 text_among s st es = unless (refused_at st.place) (laid s st es)
 
--- the same of those that are let out
+-- likewise for those that are let out
 abbrev pub refusal_from : Bool → State → List Event → Option Problem
 refusal_from canonical st es = refusal_among canonical st (let_out es)
 
@@ -83,7 +83,7 @@ refusal_behind s st es = refusal_from s.canonical st es
 unfoldable pub LetsOut : Settings → State → Output → List Event → List Item → Type 0
 LetsOut s st o es whole = Ends o (text_from s st es o.cursor nothing_more) whole
 
--- the same of all these, whether they are let out by then or not
+-- the first refusal among all these, whether they are let out by then or not
 unfoldable pub first_wrong : Settings → State → List Event → Option Problem
 first_wrong s st es = refusal_among s.canonical st es
 

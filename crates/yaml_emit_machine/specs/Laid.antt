@@ -1,6 +1,6 @@
 -- What is written event by event is the layout of the stream.
 use Rattle.std.specs.Prelude.{◌≡◌, List, None}
-use Rattle.yaml_scan_model.specs.declared.yaml_encoding_t.{yaml_encoding_t}
+use Rattle.yaml_scan_model.specs.declared.name.yaml_encoding_t.{yaml_encoding_t}
 use Rattle.yaml_emit_layout.specs.declared.Cursor.{Cursor}
 use Rattle.yaml_emit_layout.specs.declared.Settings.{Settings}
 use Rattle.yaml_emit_layout.specs.Layout.{Rest}

@@ -1,4 +1,4 @@
--- An emitter that goes on from where another one stood.
+-- An emitter that continues from another one's checkpoint.
 use Rattle.std.specs.Prelude.{◌≡◌, ℕ, nat_le, Bool, false, List, [], length, None}
 use Rattle.yaml_parse_model.specs.Events.{TagDirective}
 use Rattle.yaml_emit_layout.specs.declared.Status.TheVariants.{Going}
@@ -41,7 +41,7 @@ resumed w limit stand outer directives = record {
   starved = false;
 }
 
--- that is where an emitter stands
+-- that is an emitter's checkpoint
 pub record StandsWhere (e : Emitter) (stand : yaml_emitter_stand_t) : Type 0 where
   pub encoding : stand.encoding ≡ e.course.settings.encoding
   pub place : stand.place ≡ e.course.state.place

@@ -13,7 +13,7 @@ use Rattle.yaml_emit_machine.specs.Verdict.{verdict, Writes, wrong, Lays, LaysFi
 
 -- Of the events `es` that were to come those of `left` are still to come, and the others were taken. Whatever follows, they count:
 -- the whole text is the same, the same event is refused, unless the output has stopped, and the same is written, both of those that
--- are let out and of all. What stood in the output is there still.
+-- are let out and of all. What was in the output is there still.
 pub record TakesEvents (old : Emitter) (es : List Event) (new : Emitter)
     (left : List Event) : Type 0 where
   pub completes : (x : Encoding) (more : List Event) (whole : List Item)
@@ -44,7 +44,8 @@ abbrev pub NotesMemory : Bool → Emitter → Emitter → Type 0
 NotesMemory takes old new = may_note takes old.status new.status ≡ false
     → new.starved ≡ old.starved
 
--- the same of an event that was given: those that were held, or it, may take such memory
+-- the notes of memory for an event that was given: those that were held, or it, may take such
+-- memory
 abbrev pub NotesMemoryOf : Event → Emitter → Emitter → Type 0
 NotesMemoryOf e old new = NotesMemory (take_memory (old.held ++ e ∷ [])) old new
 
@@ -53,7 +54,7 @@ abbrev pub HasFirst : Emitter → List Event → List ℕ → ℕ → Type 0
 HasFirst old es output n = (x : Encoding) (more : List Event) (whole : List Item)
     → LaysFirst n old x (es ++ more) whole → encode x whole ≡ output
 
--- Where it is noted, the text wanted no memory: the output ends where the text of an event does that opens a collection or a
+-- Where it is noted, the text needed no memory: the output ends where the text of an event does that opens a collection or a
 -- document, or before a document's start, or before the first event that is held.
 abbrev pub BlamesLevels : Event → Emitter → Emitter → Type 0
 BlamesLevels e old new = old.starved ≡ false → new.starved ≡ true
@@ -72,7 +73,7 @@ pub record TakesOne (old : Emitter) (e : Event) (new : Emitter) : Type 0 where
 
 -- An event was taken, and laid out unless it has to wait for the next one, and so was what was held before. Whatever follows, they
 -- count: the whole text is the same, the same event is the first that is wrong, unless the output has stopped, and the same is written
--- of all. What stood in the output is there still.
+-- of all. What was in the output is there still.
 pub record TakesSoon (old : Emitter) (e : Event) (new : Emitter) : Type 0 where
   pub completes : (x : Encoding) (more : List Event) (whole : List Item)
       → Completes old x (e ∷ more) whole → Completes new x more whole

@@ -1,6 +1,6 @@
 -- What an emitter refuses and has written, with the events that follow.
 use Rattle.std.specs.Prelude.{◌≡◌, ℕ, ◌≤◌, Bool, false, if◌then◌else◌, List, [], ◌∷◌, ◌++◌, length, Option, Some}
-use Rattle.yaml_scan_model.specs.declared.yaml_encoding_t.TheVariants.{YAML_ANY_ENCODING}
+use Rattle.yaml_scan_model.specs.declared.name.yaml_encoding_t.TheVariants.{YAML_ANY_ENCODING}
 use Rattle.yaml_emit_layout.specs.declared.Encoding.{Encoding}
 use Rattle.yaml_emit_layout.specs.declared.Settings.{Settings}
 use Rattle.yaml_emit_layout.specs.declared.Status.{Status}

@@ -1,6 +1,6 @@
 -- What a clause sees of an emitter, by the state of the code, and what is true of that state.
 use Rattle.std.specs.Prelude.{◌≡◌, true, false, [], None, option_map}
-use Rattle.yaml_scan_model.specs.Faults.{fault_of}
+use Rattle.yaml_scan_model.specs.scan_types.Faults.{fault_of}
 use Rattle.yaml_emit_layout.specs.declared.Status.TheVariants.{Going}
 use Rattle.yaml_emit_core.specs.Steps.{state_of, settings_of, goes_on}
 use Rattle.yaml_emit_machine.specs.declared.emitter.yaml_emitter_t.TheInside.{Inside}

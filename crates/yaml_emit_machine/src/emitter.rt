@@ -1,7 +1,7 @@
 //! The emitter.
 
 ghost use Rattle.std.specs.Prelude.{◌≡◌, ◌≤◌, ◌∷◌, ◌++◌, [], length, Some, None, true, false, option_map, OnErr};
-ghost use Rattle.yaml_scan_model.specs.Faults.{Fault, fault_of};
+ghost use Rattle.yaml_scan_model.specs.scan_types.Faults.{Fault, fault_of};
 ghost use Rattle.yaml_parse_model.specs.Events.{borrowed_body};
 ghost use Rattle.yaml_parse_model.specs.Constructors.{HasUtf8};
 ghost use Rattle.yaml_emit_layout.specs.Content.{emitter_event};
@@ -181,7 +181,7 @@ pub fn into_output(emitter: yaml_emitter_t) -> Vec<u8>
     core.into_output()
 }
 
-/// Spends it.
+/// Drops it.
 pub fn let_go(emitter: yaml_emitter_t) {
     drop(emitter);
 }
@@ -277,7 +277,7 @@ pub fn answer(emitter: &yaml_emitter_t) -> Result<(), yaml_fault_t>
 }
 
 /// Takes an event, unless a fault has come.
-// Out of line: the whole work on an event stands once, not in each of its callers.
+// Out of line: the whole work on an event is there once, not in each of its callers.
 #[inline(never)]
 pub fn take_event(emitter: &mut yaml_emitter_t, event: &EventRef)
     requires { HasUtf8 (borrowed_body event.now) }
@@ -302,7 +302,7 @@ pub fn take_event(emitter: &mut yaml_emitter_t, event: &EventRef)
 }
 
 /// Takes an event, unless a fault has come. It is laid out, and so is what is held, unless it has to wait for the next one.
-// Out of line: the whole work on an event stands once, not in each of its callers.
+// Out of line: the whole work on an event is there once, not in each of its callers.
 #[inline(never)]
 pub fn take_soon(emitter: &mut yaml_emitter_t, event: &EventRef)
     requires { HasUtf8 (borrowed_body event.now) }

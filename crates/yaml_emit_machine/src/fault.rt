@@ -1,7 +1,7 @@
 //! The faults of an emitter.
 
 ghost use Rattle.std.specs.Prelude.{◌≡◌, None, option_map};
-ghost use Rattle.yaml_scan_model.specs.Faults.{fault_of, memory_fault};
+ghost use Rattle.yaml_scan_model.specs.scan_types.Faults.{fault_of, memory_fault};
 ghost use Rattle.yaml_emit_machine.specs.Judged.{refused_at};
 ghost use Rattle.yaml_emit_machine.specs.Emitter.{plain_fault, emitter_fault, problem_fault, memory_origin, stopped, refusal_by};
 

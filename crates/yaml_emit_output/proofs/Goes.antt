@@ -24,7 +24,7 @@ use Rattle.yaml_emit_output.specs.Draft.{line_mark}
 pub record Goes (a : Layout) (from to : Cursor) (bytes : List ℕ) : Type 0 where
   pub leads : (rest : Rest) → Leads Utf8 (a from rest) (rest to) bytes
 
--- the cursor with all that it tells
+-- the cursor with all its fields
 abbrev pub at : ℕ → Bool → Bool → Bool → Cursor
 at k white bare kept = record { column = k; white = white; bare = bare; kept = kept }
 

@@ -19,7 +19,7 @@ use Rattle.yaml_emit_output.proofs.Goes.{Goes, puts_goes}
 going : (s : Status) (room : ℕ) → (s ≢ Going → room ≡ 0) → 0 < room → s ≡ Going
 going s room h p = status_cases s (λ e. e) (λ n. absurd (let e = h n in omega (arith, e, p)))
 
--- the cursor at which a draft stands
+-- the cursor of a draft
 abbrev pub cursor_at : Inside → ℕ → ℕ → ℕ → Bool → Bool → Cursor
 cursor_at s len origin before white bare = record { column = before + (len - origin); white = white; bare = bare; kept = s.kept }
 

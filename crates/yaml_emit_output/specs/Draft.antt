@@ -1,4 +1,4 @@
--- A text in UTF-8 with no limit, and where its next character stands.
+-- A text in UTF-8 with no limit, and the place of its next character.
 use Rattle.std.specs.Prelude.{◌≡◌, ◌≢◌, ℕ, zero, suc, ◌+◌, ◌-◌, ◌^◌, ◌<◌, ◌≤◌, Bool, true, false, List, [], ◌∷◌, length, take, IsUtf8}
 use Rattle.yaml_emit_layout.specs.declared.cursor.Status.TheVariants.{Going, Full}
 use Rattle.yaml_emit_layout.specs.declared.settings.LineBreak.{LineBreak}

@@ -1,4 +1,4 @@
-//! A text in UTF-8 with no limit, and where its next character stands.
+//! A text in UTF-8 with no limit, and the place of its next character.
 
 ghost use Rattle.std.specs.Prelude.{◌≡◌, ◌≢◌, ◌<◌, ◌≤◌, ◌+◌, ◌-◌, ◌^◌, ◌∷◌, ◌||◌, ◌++◌, [], length, take, IsUtf8, vec_len, vec_capacity, true, false};
 ghost use Rattle.std.specs.Str.{chars, IsAscii};
@@ -115,7 +115,7 @@ impl Draft {
         self.status
     }
 
-    /// Where the next character stands.
+    /// The place of the next character.
     pub fn cursor(&self) -> Cursor
         ensures { result ≡ self.now.output.cursor }
     {
@@ -237,7 +237,7 @@ impl Draft {
         }
     }
 
-    /// A comma where one is due, and a character in ASCII in the same line, of which 0 is none, with a space in front.
+    /// A comma where one is due, a space, and a character in ASCII in the same line, where 0 is none.
     pub fn put_inline(&mut self, comma: bool, mark: u8)
         requires mark { mark < 0x80 }
         ensures { Lays self.old self.new (when comma (char ascii.comma) ▹ mark_word mark) stay }
@@ -254,7 +254,7 @@ impl Draft {
         }
     }
 
-    /// A word in ASCII, with a space in front where one is due: `!` and a space where it is marked, a character, a text, and another
+    /// A word in ASCII, after a space where one is due: `!` and a space where it is marked, a character, a text, and another
     /// character. 0 is none.
     pub fn put_word(&mut self, marked: bool, first: u8, text: &[u8], last: u8)
         requires ascii { IsAscii text.now }
@@ -276,7 +276,7 @@ impl Draft {
         }
     }
 
-    /// A space that parts, unless white space was last.
+    /// A separating space, unless white space was last.
     pub fn put_gap(&mut self)
         ensures { Lays self.old self.new gap stay }
     {

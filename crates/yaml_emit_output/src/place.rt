@@ -1,4 +1,4 @@
-//! Bytes placed in a buffer that has room for them. Each call answers where the next byte stands.
+//! Bytes placed in a buffer that has room for them. Each call returns the place of the next byte.
 
 ghost use Rattle.std.specs.Prelude.{◌≡◌, ◌+◌, ◌<◌, ◌≤◌, [], ◌∷◌, length};
 ghost use Rattle.yaml_scan_runs.specs.Placed.{Placed};

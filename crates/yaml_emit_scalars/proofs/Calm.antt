@@ -21,7 +21,7 @@ use Rattle.yaml_emit_scalars.proofs.Leads.{lead, some_bytes, differs, unbroken, 
 use Rattle.yaml_emit_scalars.proofs.RunLemmas.{ascii_cut}
 use Rattle.yaml_emit_scalars.proofs.Styles.{IsSilent}
 
--- an indicator that tells something
+-- an indicator that rules something out
 abbrev is_sign : ℕ → Bool
 is_sign c = c == 58 || c == 35 || (c == 44 || c == 63 || (c == 91 || c == 93 || (c == 123 || c == 125)))
 
@@ -126,7 +126,7 @@ no_last_space bs count u l some n =
     absurd (false≢true (sym n ∙ ap (λ b. b == 32) (sym (get_or-take count bs (count - 1) 0 (omega (arith, some))) ∙ sym at ∙ last))))
     (λ f. f)
 
--- the bytes in front that don't tell
+-- the first bytes, which rule nothing out
 pub run_quiet : (unicode : Bool) (bs : List ℕ) (count end : ℕ) → IsUtf8 (take count bs)
     → count ≤ end → RunsTo (tells unicode) bs 0 (length bs) end
     → list_all (is_quiet unicode) (chars (take count bs)) ≡ true
@@ -142,7 +142,7 @@ run_quiet unicode bs count end u l run =
     let below : i < count = omega (arith, v, few, size) in
     ap (λ xs. tells unicode (get_or xs i 0)) text ∙ ap (tells unicode) (get_or-take count bs i 0 below) ∙ run.passed i (omega arith) (omega (arith, below, l))))
 
--- a byte of a character but its first tells nothing with unicode on
+-- a byte of a character but its first rules nothing out with unicode on
 tell_leads : (b : ℕ) → tells_on b ≡ true → 128 ≤ b → 192 ≤ b
 tell_leads b h l = grind (arith, nat_tests, h, l)
 
@@ -156,7 +156,7 @@ last_of_none : (count : ℕ) (bs : List ℕ) → count ≡ 0
 unfolding last_or
 last_of_none count bs e = rw (e, chars-nil) refl
 
--- up to what tells something, where no space is before that
+-- up to what rules something out, where no space is before that
 pub calm_all : (unicode : Bool) (bs : List ℕ) (end : ℕ) → IsUtf8 bs
     → RunsTo (tells unicode) bs 0 (length bs) end
     → (length bs ≤ end) ⊎ ((end ≡ 0) ⊎ ((get_or bs (end - 1) 0 == 32) ≡ false)) → IsCalm unicode bs end

@@ -38,8 +38,8 @@ lead_is c =
     first_byte (nat_lt c 128) _ _
     ∙ ap (cond (nat_lt c 128) c) (first_byte (nat_lt c 2048) _ _ ∙ ap (cond (nat_lt c 2048) (192 + c / 64)) (first_byte (nat_lt c 65536) _ _))
 
--- Where whatever holds of each byte of a text gives what is wanted of its characters, by the first byte of each: at a column a
--- character may stand further in front than its bytes do.
+-- Where whatever holds of each byte of a text gives what is needed of its characters, by the first byte of each: at a column a
+-- character may come earlier than its bytes do.
 pub all_by_leads : (test : ℕ → ℕ → Bool) (fine : ℕ → ℕ → Type 0)
     → ((k c : ℕ) → scalar c ≡ true → fine k (lead c) → test k c ≡ true)
     → ((k m b : ℕ) → k ≤ m → fine m b → fine k b) → (cs : List ℕ) (k : ℕ) → scalars cs ≡ true

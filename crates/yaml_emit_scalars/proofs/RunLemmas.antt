@@ -31,7 +31,7 @@ pass_more test k (suc n) m (x ∷ xs) l e h t =
     let there : k + suc n ≡ k + 1 + n = omega arith in
     rw e (and_from (test k x) _ p.0 (pass_more test (k + 1) n (suc n) xs (omega (arith, l)) refl p.1 (rw there at t)))
 
--- all in front pass
+-- all of the first ones pass
 pub pass_all : (test : ℕ → ℕ → Bool) (k n : ℕ) (xs : List ℕ) → n ≤ length xs
     → ((i : ℕ) → i < n → test (k + i) (get_or xs i 0) ≡ true) → all_pass test k (take n xs) ≡ true
 unfolding all_pass

@@ -24,7 +24,7 @@ use Rattle.yaml_emit_scalars.specs.Classes.{class_of, is_of, Covers, leads_badly
 use Rattle.yaml_emit_scalars.proofs.ClassLemmas.{by_class, covers_none}
 use Rattle.yaml_emit_scalars.proofs.Looks.{looked_at}
 
--- a byte that tells nothing is calm
+-- a byte that rules nothing out is calm
 uncalm : ℕ → Bool
 uncalm b = not (is_calm b)
 

@@ -24,7 +24,8 @@ is_quiet unicode c = is_printable c && ((unicode || nat_lt c 0x80)
     || (c == ascii.open_bracket || c == ascii.close_bracket || (c == ascii.open_brace
     || c == ascii.close_brace))))))
 
--- That many bytes in front say nothing. After them stands a space, nothing, or what no space is before.
+-- That many bytes from the start rule out no style. After them is a space, nothing, or what no
+-- space is before.
 pub record IsCalm (unicode : Bool) (text : List ℕ) (count : ℕ) : Type 0 where
   pub whole : IsCharBoundary text count
   pub quiet : list_all (is_quiet unicode) (chars (take count text)) ≡ true

@@ -73,7 +73,7 @@ KeepsRuns test walk before = (bs xs : List ℕ) (c : Cursor) (rest : Rest)
     → all_pass test c.column bs ≡ true
     → walk before (bs ++ xs) c rest ≡ (letters bs ▹ walk (last_or before bs) xs) c rest
 
--- the quote that stands on both sides of a value
+-- the quote on both sides of a value
 abbrev pub quote_of : Body → ℕ
 quote_of Open = ascii.quote
 quote_of Single = ascii.apostrophe

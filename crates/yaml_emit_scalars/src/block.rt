@@ -166,10 +166,10 @@ fn put_header(draft: &mut Draft, digit: u64, folded: bool, value: &str)
     put_chomp(draft, chomp(value));
 }
 
-/// A literal or folded scalar, with a space in front where one is due: `|` or `>`, the indent's digit where the value begins with
+/// A literal or folded scalar, after a space where one is due: `|` or `>`, the indent's digit where the value begins with
 /// a space or a break, `-` where it ends in no break and `+` where it ends in more than one or is one, and its lines, as they are
 /// where it is literal. Folded, after the width a space becomes a line, but not in a line that begins with a blank, nor before a
-/// space; and lines that begin with no blank are parted by a break more.
+/// space; and lines that begin with no blank are separated by one more break.
 pub fn put_block(draft: &mut Draft, page: Page, digit: u64, folded: bool, value: &str)
     requires { IsOn page draft.old }
     ensures { Lays draft.old draft.new (block page digit folded (chars value.now)) stay }

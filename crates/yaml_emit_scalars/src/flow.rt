@@ -55,7 +55,7 @@ fn put_value_break(draft: &mut Draft, c: char)
     }
 }
 
-// The same, with one more in front where it is due.
+// A break of a value, after a new line where one is due.
 pub(crate) fn put_breaks(draft: &mut Draft, due: bool, page: Page, c: char)
     requires { IsOn page draft.old }
     ensures { Lays draft.old draft.new
@@ -121,7 +121,7 @@ fn put_gap_if(draft: &mut Draft, due: bool)
     }
 }
 
-/// A plain scalar, with a space in front where one is due. After the width a space becomes a line of the page's indentation,
+/// A plain scalar, after a space where one is due. After the width a space becomes a line of the page's indentation,
 /// unless the scalar is a simple key, a space is beside it, or it is first or last. Outside flow collections an empty one is
 /// nothing, not even a space.
 pub fn put_plain(draft: &mut Draft, page: Page, flow: bool, value: &str)
@@ -133,8 +133,8 @@ pub fn put_plain(draft: &mut Draft, page: Page, flow: bool, value: &str)
     draft.set_after_text();
 }
 
-/// A single quoted scalar, with a space in front where one is due. `'` is doubled, spaces are cut as in plain scalars, and a
-/// run of breaks that begins with a line feed gets one break more in front.
+/// A single quoted scalar, after a space where one is due. `'` is doubled, spaces are cut as in plain scalars, and a
+/// run of breaks that begins with a line feed gets one break more before it.
 pub fn put_single_quoted(draft: &mut Draft, page: Page, value: &str)
     requires { IsOn page draft.old }
     ensures { Lays draft.old draft.new (single_quoted page (chars value.now)) stay }

@@ -47,7 +47,7 @@ fn put_hex_8(draft: &mut Draft, n: u32)
     put_hex_4(draft, n % 0x1_0000);
 }
 
-// The letter that stands for the character after a backslash, or 0.
+// The letter that spells the character after a backslash, or 0.
 #[tactic(auto, unfolding(yaml_emit_layout::specs::Quoted::escape_letter))]
 fn letter_of(c: char) -> u8
     ensures letter { result ≡ escape_letter c }
@@ -180,7 +180,7 @@ fn put_quoted_body(draft: &mut Draft, page: Page, value: &str)
     }
 }
 
-/// A double quoted scalar, with a space in front where one is due. Characters that are not printable, breaks, `"`, `\` and,
+/// A double quoted scalar, after a space where one is due. Characters that are not printable, breaks, `"`, `\` and,
 /// with unicode off, what is not ASCII are escaped. After the width a space becomes a break and the indentation, unless the
 /// scalar is a simple key, a space goes before, or the space is first or last.
 pub fn put_double_quoted(draft: &mut Draft, page: Page, value: &str)

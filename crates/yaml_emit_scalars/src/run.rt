@@ -16,7 +16,7 @@ use yaml_emit_output::Draft;
 use yaml_scan_runs as runs;
 use yaml_scan_runs::{Run, run_to};
 
-/// In what a run stands: it decides what ends one.
+/// The context of a run, which decides what ends one.
 #[derive(Clone, Copy)]
 pub(crate) enum Body {
     /// A plain scalar, or a block scalar.
@@ -151,7 +151,8 @@ pub(crate) fn last_of(before: char, run: &str) -> char
     }
 }
 
-/// What is in front as it is, after a character: the last character before what is left, and that.
+/// Puts the next run as it is, after a character: returns the last character before what is left,
+/// and that.
 pub(crate) fn put_run<'a>(
     draft: &mut Draft,
     body: Body,

@@ -18,11 +18,11 @@ pub struct Manner {
     pub style: Style,
     pub flow: bool,
     pub digit: u64,
-    /// `!` is in front.
+    /// `!` comes before it.
     pub marked: bool,
 }
 
-/// A scalar in its style, without `!` in front.
+/// A scalar in its style, without `!` before it.
 #[tactic(auto, unfolding(yaml_emit_layout::specs::Scalars::scalar_text))]
 pub fn put_scalar(draft: &mut Draft, page: Page, manner: Manner, value: &str)
     requires { IsOn page draft.old }

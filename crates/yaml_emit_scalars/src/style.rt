@@ -98,7 +98,7 @@ fn plain_or(a: Allowed, untagged: bool, flow: bool, simple: bool, empty: bool) -
 }
 
 /// The style that was asked for, where the value allows it. Any style is plain; plain also needs that the scalar may be
-/// untagged in that style or that its tag is written, block styles that it stands neither in a flow collection nor as a simple
+/// untagged in that style or that its tag is written, block styles that it is neither in a flow collection nor a simple
 /// key. Plain falls back to single quoted, that and block styles to double quoted.
 #[tactic(auto, unfolding(yaml_emit_layout::specs::Style::taken))]
 pub fn taken(
@@ -133,7 +133,7 @@ fn seen_with(all: Seen, unicode: bool, before: char, c: char, next: char) -> See
     }
 }
 
-// Where the first byte stands that may say something against a style.
+// The place of the first byte that may rule out a style.
 fn calm_end(unicode: bool, bytes: &[u8]) -> usize
     ensures { RunsTo (tells unicode) bytes.now 0 (length bytes.now) result }
 {
@@ -246,7 +246,7 @@ fn is_tame(value: &[u8], classes: u16) -> bool
 }
 
 /// The styles that a value allows, whose bytes have no other classes than these. Characters that are not printable, with unicode off
-/// those that are not ASCII, and a space before a break want double quotes. An empty one may be plain outside flow collections.
+/// those that are not ASCII, and a space before a break need double quotes. An empty one may be plain outside flow collections.
 pub fn allowed_by(unicode: bool, value: &str, classes: u16) -> Allowed
     requires { Covers classes value.now 0 (length value.now) }
     ensures { result ≡ allowed unicode (chars value.now) }

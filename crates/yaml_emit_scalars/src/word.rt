@@ -54,7 +54,7 @@ fn put_plain_word(draft: &mut Draft, page: Page, flow: bool, value: &str, classe
     true
 }
 
-// The quote that stands on both sides.
+// The quote on both sides.
 fn quote_of(body: Body) -> u8
     ensures quote { result ≡ quote_of body }
     ensures ascii { (0 < result) × (result < 0x80) }
@@ -91,7 +91,7 @@ fn put_quoted(
     true
 }
 
-/// A scalar in one word, with a space in front where one is due, after `!` where it is marked: where no byte of its classes ends a
+/// A scalar in one word, after a space where one is due and `!` where it is marked: where no byte of its classes ends a
 /// run and no space in it may be past the width. Else nothing is put.
 pub fn put_word(draft: &mut Draft, page: Page, manner: Manner, value: &str, classes: u16) -> bool
     requires on { IsOn page draft.old }

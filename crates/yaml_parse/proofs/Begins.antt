@@ -1,7 +1,7 @@
 -- What is to come of a parser that begins.
 use Rattle.std.proofs.Common.{◌≡◌, ◌∙◌, List, length, Option, Some, None, sym, ap, subst}
-use Rattle.yaml_scan_model.specs.Tokens.{Token}
-use Rattle.yaml_scan_model.specs.Faults.{Fault}
+use Rattle.yaml_scan_model.specs.scan_types.Tokens.{Token}
+use Rattle.yaml_scan_model.specs.scan_types.Faults.{Fault}
 use Rattle.yaml_parse_grammar.specs.Machine.{Outcome, initial, run}
 use Rattle.yaml_parse_grammar.specs.Resolve.{no_directives, reading}
 use Rattle.yaml_parse_grammar.specs.Remaining.{reading_of, unasked_of}

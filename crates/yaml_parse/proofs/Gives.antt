@@ -1,9 +1,9 @@
 -- What a call gives, in the words of what is still to come.
 use Rattle.std.proofs.Common.{◌≡◌, ◌⊎◌, ◌≤◌, ◌∙◌, ℕ, true, List, ◌∷◌, Option, Some, reverse, refl, sym, ap, subst}
-use Rattle.yaml_scan_model.specs.declared.yaml_mark_t.{yaml_mark_t}
-use Rattle.yaml_scan_model.specs.Tokens.{Token}
-use Rattle.yaml_scan_model.specs.Faults.{Fault, fault_of}
-use Rattle.yaml_scan_model.specs.declared.yaml_fault_t.{yaml_fault_t}
+use Rattle.yaml_scan_model.specs.declared.record.yaml_mark_t.{yaml_mark_t}
+use Rattle.yaml_scan_model.specs.scan_types.Tokens.{Token}
+use Rattle.yaml_scan_model.specs.scan_types.Faults.{Fault, fault_of}
+use Rattle.yaml_scan_model.specs.declared.fault.yaml_fault_t.{yaml_fault_t}
 use Rattle.yaml_parse_model.specs.Events.{Event}
 use Rattle.yaml_parse_grammar.specs.Remaining.{FaultOf, IsFinished, ParserRemaining, is_between}
 use Rattle.yaml_parse_grammar.specs.Resolve.{Directives}
@@ -11,11 +11,11 @@ use Rattle.yaml_parse_grammar.specs.Stacks.{IsStack, parts_documents_behind}
 use Rattle.yaml_parse_grammar.specs.States.{State}
 use Rattle.yaml_parse.specs.Finds.{GivesEnd, GivesNext, IsHeldBy}
 use Rattle.yaml_parse.specs.View.{ParserView, view_of}
-use Rattle.yaml_scan_tokens.specs.Texts.{Texts}
-use Rattle.yaml_scan_tokens.specs.declared.tokens.Tokens.{Ghosts}
-use Rattle.yaml_parse_source.specs.declared.source.SourceTokens.{SourceTokens}
-use Rattle.yaml_parse_source.specs.Counts.{held_of}
-use Rattle.yaml_parse_source.proofs.Held.{held_at_most}
+use Rattle.yaml_scan_model.specs.Texts.{Texts}
+use Rattle.yaml_scan_model.specs.declared.tokens.Tokens.{Ghosts}
+use Rattle.yaml_parse_states.specs.declared.source.SourceTokens.{SourceTokens}
+use Rattle.yaml_parse_states.specs.Counts.{held_of}
+use Rattle.yaml_parse_states.proofs.Held.{held_at_most}
 use Rattle.yaml_parse_states.specs.declared.parser.Parser.{Parser}
 use Rattle.yaml_parse_states.specs.declared.parser.Refusal.{Refusal}
 use Rattle.yaml_parse_states.specs.declared.parser.State.TheVariants as state

@@ -1,7 +1,7 @@
 -- What a call finds, as the next event.
 use Rattle.std.proofs.Common.{◌≡◌, List, [], Option, Result, Ok, Err, IfOk, IfErr, refl, sym, subst}
-use Rattle.yaml_scan_model.specs.declared.yaml_fault_t.{yaml_fault_t}
-use Rattle.yaml_scan_model.specs.Faults.{Fault, fault_of}
+use Rattle.yaml_scan_model.specs.declared.fault.yaml_fault_t.{yaml_fault_t}
+use Rattle.yaml_scan_model.specs.scan_types.Faults.{Fault, fault_of}
 use Rattle.yaml_parse_model.specs.declared.yaml_event_t.{yaml_event_t}
 use Rattle.yaml_parse_model.specs.Constructors.{HasUtf8}
 use Rattle.yaml_parse_model.specs.Events.{Event, event_of, no_event}

@@ -1,7 +1,7 @@
 -- What feeding a loader with a parser's events comes to.
 use Rattle.std.proofs.Common.{◌≡◌, ◌⊎◌, ◌≤◌, ℕ, inl, inr, List, [], ◌∷◌, Option, Some, None, Result, refl, sym, ap, subst, ◌∙◌, arith}
-use Rattle.yaml_scan_model.specs.declared.yaml_origin_t.TheVariants.{Loader}
-use Rattle.yaml_scan_model.specs.Faults.{Fault, IsMemoryFault, memory_fault, scan_layers}
+use Rattle.yaml_scan_model.specs.declared.fault.yaml_origin_t.TheVariants.{Loader}
+use Rattle.yaml_scan_model.specs.scan_types.Faults.{Fault, IsMemoryFault, memory_fault, scan_layers}
 use Rattle.yaml_parse_model.specs.Source.{HasMore}
 use Rattle.yaml_parse_model.specs.Events.{Event, EventBody}
 use Rattle.yaml_parse_model.specs.declared.yaml_mark_t.{yaml_mark_t}
@@ -77,7 +77,7 @@ loads_nothing i o n l d k h e =
     subst (λ (r : Loads). LoadGives r d i n) (sym (all_fed i o l None k h.events h.ending).0)
     (e, record { finished = h.nothing.finished; unasked = h.nothing.unasked ∙ (all_fed i o l None k h.events h.ending).2; answered = h.nothing.answered ∙ k.answered })
 
--- A loader hands a fault of the parser on as its own.
+-- A loader passes a fault of the parser on as its own.
 pub load_faulty : (i o n : ParserRemaining) (l : Loading) (f : Fault) → KeepsLoading i o l
     → FaultOf o f n → LoadRefuses f i n
 load_faulty i o n l f k h = record {

@@ -1,8 +1,8 @@
 -- What comes of tokens before their fault begins a tree.
 use Rattle.std.proofs.Common.{◌≡◌, inl, inr, refl, sym, subst, List, [], ◌∷◌, ◌++◌, Option, Some, None}
 use Rattle.std.proofs.lemmas.List.{append-nil}
-use Rattle.yaml_scan_model.specs.Tokens.{Token}
-use Rattle.yaml_scan_model.specs.Faults.{Fault}
+use Rattle.yaml_scan_model.specs.scan_types.Tokens.{Token}
+use Rattle.yaml_scan_model.specs.scan_types.Faults.{Fault}
 use Rattle.yaml_parse_grammar.specs.Machine.{initial, run}
 use Rattle.yaml_parse_grammar.specs.Remaining.{reading_of}
 use Rattle.yaml_parse_grammar.specs.Resolve.{Told, no_directives}

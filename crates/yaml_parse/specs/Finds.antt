@@ -1,6 +1,6 @@
 -- What a call that fills borrowed slots gives.
 use Rattle.std.specs.Prelude.{◌≡◌, ◌≤◌, ℕ, Bool, [], ◌∷◌, None}
-use Rattle.yaml_scan_model.specs.Faults.{Fault}
+use Rattle.yaml_scan_model.specs.scan_types.Faults.{Fault}
 use Rattle.yaml_parse_model.specs.Events.{Event, no_event}
 use Rattle.yaml_parse_model.specs.Constructors.{HasUtf8}
 use Rattle.yaml_parse_grammar.specs.Remaining.{ParserRemaining, GivesNothing, FaultOf}

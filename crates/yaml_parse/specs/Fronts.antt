@@ -1,6 +1,6 @@
 -- What comes of a list of tokens that begins with those of no tree.
 use Rattle.std.specs.Prelude.{◌≡◌, List, [], ◌++◌, None}
-use Rattle.yaml_scan_model.specs.Tokens.{Token}
+use Rattle.yaml_scan_model.specs.scan_types.Tokens.{Token}
 use Rattle.yaml_parse_grammar.specs.Trees.{Stream, spell}
 use Rattle.yaml_parse_grammar.specs.TreeEvents.{given_of}
 use Rattle.yaml_parse_grammar.specs.Resolve.{Told, reading, no_directives}

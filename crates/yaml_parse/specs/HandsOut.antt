@@ -1,7 +1,7 @@
 -- What a call answers of what was found in slots.
 use Rattle.std.specs.Prelude.{◌≡◌, Result, Ok, Err}
-use Rattle.yaml_scan_model.specs.declared.yaml_fault_t.{yaml_fault_t}
-use Rattle.yaml_scan_model.specs.Faults.{Fault, fault_of}
+use Rattle.yaml_scan_model.specs.declared.fault.yaml_fault_t.{yaml_fault_t}
+use Rattle.yaml_scan_model.specs.scan_types.Faults.{Fault, fault_of}
 use Rattle.yaml_parse_model.specs.declared.yaml_event_t.{yaml_event_t}
 use Rattle.yaml_parse_model.specs.Events.{Event, event_of, no_event}
 use Rattle.yaml_parse.specs.declared.found.yaml_found_t.{yaml_found_t}

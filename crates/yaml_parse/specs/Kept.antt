@@ -1,7 +1,7 @@
 -- What is known of all events that are a list's.
 use Rattle.std.specs.Prelude.{List, Option, length}
-use Rattle.yaml_scan_model.specs.Tokens.{Token}
-use Rattle.yaml_scan_model.specs.Faults.{Fault}
+use Rattle.yaml_scan_model.specs.scan_types.Tokens.{Token}
+use Rattle.yaml_scan_model.specs.scan_types.Faults.{Fault}
 use Rattle.yaml_parse_grammar.specs.Resolve.{Told}
 use Rattle.yaml_parse_laws_trees.specs.SoundLaws.{BeginsWithTree}
 use Rattle.yaml_parse_laws_trees.specs.CountsLaws.{AtMostFourSoFar}

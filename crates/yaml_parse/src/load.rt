@@ -1,7 +1,7 @@
 //! Documents of a parser's events.
 
 ghost use Rattle.std.specs.Prelude.{◌≡◌, ◌≤◌, ◌⊎◌, true, Some, IfOk, IfErr};
-ghost use Rattle.yaml_scan_model.specs.Faults.{fault_of, IsMemoryFault, load_layers};
+ghost use Rattle.yaml_scan_model.specs.scan_types.Faults.{fault_of, IsMemoryFault, load_layers};
 ghost use Rattle.yaml_parse_model.specs.Sizes.{IsSized};
 ghost use Rattle.yaml_parse_laws_trees.specs.NextLoad.{AreLoadsByContent, FrontsLoadByContent, LoadIsNext, RefusalIsNext, loads_fault};
 
@@ -13,7 +13,8 @@ use yaml_parse_model::{
 };
 use yaml_scan_model::{yaml_fault_t, yaml_memory_fault, yaml_origin_t};
 
-// Both are let go. A call for each way out of a load: there each field that is freed by itself would be a step of its own.
+// Both are dropped. A call for each way out of a load: there each field that is freed by itself
+// would be a step of its own.
 fn let_go(loader: Loader, event: yaml_event_t) {
     loader.let_go();
     drop(event);
@@ -22,8 +23,8 @@ fn let_go(loader: Loader, event: yaml_event_t) {
 /// The next document, its nodes numbered from 1 in preorder; after the last one a document without root. An alias stands
 /// for the last node before it in preorder that has its anchor, a node that encloses it counting from its own start; an
 /// anchor may occur again. Also refused, with kind 5, for an alias without such a node in its document (`found undefined
-/// alias`). What is after a document is left; after a refusal nothing is to come. No document may be half taken,
-/// which `yaml_parser_between` tells; none is afterwards.
+/// alias`). What is after a document is left; after a refusal nothing is to come. No document may be half taken
+/// (see `yaml_parser_between`); none is afterwards.
 pub fn yaml_parser_load<S: yaml_token_source_t>(
     parser: &mut yaml_parser_t<S>,
 ) -> Result<yaml_document_t, yaml_fault_t>
@@ -34,8 +35,8 @@ pub fn yaml_parser_load<S: yaml_token_source_t>(
     // the fault after the events.
     ensures next { IfOk result (λ d. LoadIsNext parser.old d parser.new) }
     ensures refused { IfErr result (λ f. RefusalIsNext parser.old (fault_of f) parser.new) }
-    // The fault that loads come to, which of a new parser's is the one of loading its tokens (`FaultOfLoading`), is what is told, and
-    // stays as a document is loaded.
+    // The fault that loads come to, which of a new parser's is the one of loading its tokens
+    // (`FaultOfLoading`), is what is reported, and stays as a document is loaded.
     ensures told { (h : AreLoadsByContent parser.old) → IfErr result (λ f. IsMemoryFault
         load_layers (fault_of f) ⊎ (loads_fault h ≡ Some (fault_of f))) }
     ensures stays { (h : AreLoadsByContent parser.old) → IfOk result (λ d.

@@ -1,9 +1,9 @@
 //! The parser and its calls.
 
 ghost use Rattle.std.specs.Prelude.{◌≡◌, ◌≤◌, List, Some, None, true, length, IfOk, IfErr};
-ghost use Rattle.yaml_scan_model.specs.Tokens.{Token};
-ghost use Rattle.yaml_scan_model.specs.Faults.{Fault, fault_of, memory_fault};
-ghost use Rattle.yaml_scan_model.specs.declared.yaml_origin_t.TheVariants.{Parser as ParserLayer};
+ghost use Rattle.yaml_scan_model.specs.scan_types.Tokens.{Token};
+ghost use Rattle.yaml_scan_model.specs.scan_types.Faults.{Fault, fault_of, memory_fault};
+ghost use Rattle.yaml_scan_model.specs.declared.fault.yaml_origin_t.TheVariants.{Parser as ParserLayer};
 ghost use Rattle.yaml_parse_model.specs.Events.{event_of};
 ghost use Rattle.yaml_parse_model.specs.Prefix.{prefix_of, no_fault};
 ghost use Rattle.yaml_parse_model.specs.Constructors.{HasUtf8};
@@ -17,7 +17,7 @@ ghost use Rattle.yaml_parse_laws_trees.specs.Given.{EventsOfTokens};
 ghost use Rattle.yaml_parse_laws_trees.specs.NextLoad.{AreLoadsByContent, loads_fault};
 ghost use Rattle.yaml_parse_laws_trees.specs.Faults.{FaultOfLoading};
 ghost use Rattle.yaml_parse_laws_trees.specs.Falling.{AreFalling};
-ghost use Rattle.yaml_parse_source.specs.Members.{members_of};
+ghost use Rattle.yaml_parse_states.specs.Members.{members_of};
 ghost use Rattle.yaml_parse_states.specs.Turned.{Means};
 ghost use Rattle.yaml_parse.specs.Finds.{Finds, IsUtf8Found, IsStackFound};
 ghost use Rattle.yaml_parse.specs.HandsOut.{HandsOut};
@@ -28,10 +28,8 @@ use std::marker::Model;
 use yaml_parse_model::{
     yaml_event_body_t, yaml_event_t, yaml_parser_t_prefix, yaml_token_source_t,
 };
-use yaml_parse_source::SourceTokens;
-use yaml_parse_states::{Parser, Refusal};
-use yaml_scan_model::{yaml_fault_t, yaml_memory_fault, yaml_origin_t};
-use yaml_scan_tokens::Tokens;
+use yaml_parse_states::{Parser, Refusal, SourceTokens};
+use yaml_scan_model::{Tokens, yaml_fault_t, yaml_memory_fault, yaml_origin_t};
 
 /// A parser of the tokens of a source.
 #[derive(Drop)]
@@ -45,8 +43,8 @@ pub struct yaml_parser_t<S: yaml_token_source_t> {
 impl<S: yaml_token_source_t> Model for yaml_parser_t<S> {
     ghost use Rattle.yaml_parse_model.specs.Prefix.{prefix_of};
     ghost use Rattle.yaml_parse_grammar.specs.Remaining.{ParserRemaining};
-    ghost use Rattle.yaml_parse_source.specs.Counts.{held_of, unasked_of};
-    ghost use Rattle.yaml_parse_source.specs.Members.{members_of};
+    ghost use Rattle.yaml_parse_states.specs.Counts.{held_of, unasked_of};
+    ghost use Rattle.yaml_parse_states.specs.Members.{members_of};
     ghost use Rattle.yaml_parse_states.specs.Remaining.{remaining_of, tokens_of};
 
     ghost Value = { ParserRemaining };
@@ -103,7 +101,7 @@ pub fn yaml_parser_initialize<S: yaml_token_source_t>(
     // token's, a directive's or a tag handle's, or after all the source's own.
     ensures fault { IfOk result (λ p. FaultOfTokens (S.to_come source) (S.fault_to_come source)
         p.ending) }
-    // It is told as its place is reached, with no token asked for after that.
+    // It is reported once its place is reached, with no token asked for after that.
     ensures told { (e : Fault) → IfOk result (λ p. p.ending ≡ Some e
         → IsToldWith (S.to_come source) (S.fault_to_come source) e p.ending_unasked) }
     // Load after load, as content says (`yaml_parser_load`), they come to the fault of loading the tokens: the one of the least
@@ -181,7 +179,7 @@ fn handed_out(
 }
 
 /// The next event, whose texts are UTF-8; after the last one and after a fault the empty event. Refused by the source's
-/// fault, by one of its own (kind 4: the tokens are those of no stream, or a directive or a handle is wrong), or for lack
+/// fault, by one of its own (kind 4: the tokens are those of no stream, or a directive or a handle is wrong), or when out
 /// of memory; once.
 pub fn yaml_parser_parse<S: yaml_token_source_t>(
     parser: &mut yaml_parser_t<S>,
@@ -217,7 +215,7 @@ pub fn yaml_parser_prefix<S: yaml_token_source_t>(
     &parser.prefix
 }
 
-/// Lets the parser and its source go.
+/// Drops the parser and its source.
 pub fn yaml_parser_delete<S: yaml_token_source_t>(parser: yaml_parser_t<S>) {
     drop(parser);
 }

@@ -1,10 +1,10 @@
 //! The parser over any tokens: what `yaml_parser_t` is over a source. That one has bodies of its
-//! own, since the kit's borrow checker covers no call from there: `SourceTokens<S>` stands for
+//! own, since the kit's borrow checker covers no call from there: `SourceTokens<S>` has
 //! several lifetimes, those of `S` and `'static`, and the calls here name `'static`.
 
 ghost use Rattle.std.specs.Prelude.{◌≡◌, true, IfOk, IfErr};
-ghost use Rattle.yaml_scan_model.specs.Faults.{Fault, fault_of};
-ghost use Rattle.yaml_scan_tokens.specs.Utf8.{IsUtf8Next};
+ghost use Rattle.yaml_scan_model.specs.scan_types.Faults.{Fault, fault_of};
+ghost use Rattle.yaml_scan_model.specs.Utf8.{IsUtf8Next};
 ghost use Rattle.yaml_parse_model.specs.Events.{borrowed_body, event_of};
 ghost use Rattle.yaml_parse_model.specs.Prefix.{no_fault};
 ghost use Rattle.yaml_parse_grammar.specs.Machine.{initial, run};
@@ -23,9 +23,8 @@ use yaml_parse_loader::Loader;
 use yaml_parse_model::{EventRef, ZERO_MARK, no_document, yaml_document_t, yaml_event_t};
 use yaml_parse_states::{Parser, Refusal, Step};
 use yaml_scan_model::{
-    yaml_error_type_t, yaml_fault_t, yaml_mark_t, yaml_memory_fault, yaml_origin_t,
+    Tokens, yaml_error_type_t, yaml_fault_t, yaml_mark_t, yaml_memory_fault, yaml_origin_t,
 };
-use yaml_scan_tokens::Tokens;
 
 /// A parser of tokens.
 #[derive(Drop)]
@@ -75,8 +74,8 @@ impl<T: Tokens> TokenParser<T> {
         }
     }
 
-    /// The next event, which `event` lends until the next call; or its fault, which `fault` answers; or neither after the last
-    /// event and after a fault.
+    /// The next event, which is borrowed by `event` until the next call; or its fault, which
+    /// `fault` returns; or neither after the last event and after a fault.
     pub fn next(&mut self) -> yaml_found_t
         ensures finds { Finds self.old.remaining result self.new.given self.new.remaining.answered
             self.new.remaining }
@@ -144,7 +143,7 @@ impl<T: Tokens> TokenParser<T> {
     /// The next document, its nodes numbered from 1 in preorder; after the last one a document
     /// without root. Refused by the parser's fault, or for an alias of which no node before it in
     /// its document has the anchor. After a refusal nothing is to come. No document may be half
-    /// taken, which `between` tells; none is afterwards.
+    /// taken (see `between`); none is afterwards.
     pub fn load(&mut self) -> Result<yaml_document_t, yaml_fault_t>
         requires { self.old.remaining.between ≡ true }
         ensures by_content { AreLoadsByContent self.old.remaining }
@@ -222,7 +221,7 @@ impl<T: Tokens> TokenParser<T> {
     }
 }
 
-// What is told before any fault.
+// What is reported before any fault.
 fn no_fault() -> yaml_fault_t
     ensures { fault_of result ≡ no_fault }
 {

@@ -4,7 +4,7 @@ use Rattle.std.proofs.lemmas.List.{append_assoc}
 use Rattle.std.proofs.Math.Bool.{not}
 use Rattle.yaml_parse_grammar.proofs.Words.{yaml_mark_t, yaml_token_type_t, Token, TokenBody, type_of, Fault, Wants, Flow, Block, Site, Entry, IndentlessEntry, BlockPair, FlowPair, Choice, Take, Leave, RawEvent, Properties, State, Taken, Span, Given, token_at, spell_node, spell_maybe, next, items_node, items_maybe, items, behind, starts_node, wants_of, parts_documents, follows, choice_at, node_taken, content_taken, taken_at, left_at, Fed, go, with_item, given_by, turn, feed, Outcome, finished, carry, run}
 use Rattle.yaml_parse_model.specs.declared.yaml_token_type_t.TheVariants as kind
-use Rattle.yaml_parse_model.specs.Tokens as token
+use Rattle.yaml_parse_model.specs.scan_types.Tokens as token
 use Rattle.yaml_parse_grammar.specs.declared.name.Side.{Side}
 use Rattle.yaml_parse_grammar.specs.declared.name.Side.TheVariants.{Key, Value}
 use Rattle.yaml_parse_grammar.specs.declared.name.Brackets.{Brackets}
@@ -23,7 +23,7 @@ giving g o = record { items = g o.items; ending = o.ending }
 abbrev pub one : RawEvent → ℕ → List Given → List Given
 one i left = λ more. (i, left) ∷ more
 
--- An item of an outcome is carried in front, with how many tokens are left.
+-- An item comes first in an outcome, with how many tokens are left.
 pub carry_with_item : (left : ℕ) (i : RawEvent) (below : Fed) (k : List State → Outcome)
     → carry left (with_item i below) k ≡ giving (one i left) (carry left below k)
 carry_with_item left i below k = grind arith
@@ -171,7 +171,7 @@ properties_start : (w : Wants) (d : PropertyTokens) (ts : List Token)
     → Starts w (spell_properties d ts)
 properties_start w d ts = grind arith
 
--- A node's tokens begin as nodes that are wanted there do.
+-- A node's tokens begin as nodes that may be there do.
 pub node_starts : {w : Wants} (n : Node w) (rest : List Token) → Starts w (spell_node n rest)
 node_starts (tree.alias s name) rest = refl
 node_starts {w = w} (tree.only_properties d) rest = properties_start w d rest

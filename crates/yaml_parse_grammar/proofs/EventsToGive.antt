@@ -18,7 +18,7 @@ abbrev pub TakenSpeaks : Option RawEvent → List State → Type 0
 TakenSpeaks None above = Stands above
 TakenSpeaks (Some i) above = IsDirective i.body → Stands above
 
--- levels that stand do so above others too
+-- sound levels are sound above others too
 pub stands_above : (xs ys : List State) → Stands xs → Stands (xs ++ ys)
 stands_above xs ys h = grind arith
 
@@ -97,7 +97,7 @@ read_on_speaks : (c : Settled) (g : Given) (gs : List Given) (f : Option Fault) 
     → (read_on c g.0 g.1 (λ ds'. reading gs f ds')).ending ≡ None → ⊥
 read_on_speaks c g gs f ds s h k p q = grind arith
 
--- Where something is to be told, an event or a fault is.
+-- Where something is to be given, an event or a fault is.
 pub reading_speaks : (gs : List Given) (f : Option Fault) (ds : Directives) → HasVoice gs f
     → (reading gs f ds).events ≡ [] → (reading gs f ds).ending ≡ None → ⊥
 unfolding reading

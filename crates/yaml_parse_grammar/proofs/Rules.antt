@@ -5,7 +5,7 @@ use Rattle.yaml_parse_grammar.proofs.Words.{yaml_mark_t, yaml_token_type_t, Flow
 use Rattle.yaml_parse_model.specs.declared.yaml_token_type_t.TheVariants as kind
 use Rattle.yaml_parse_grammar.specs.States as state
 
--- ---- what each choice tells
+-- ---- what each choice gives
 
 -- what may be left out; a node only before a token that may follow there
 abbrev pub MayLeave : State → yaml_token_type_t → Type 0

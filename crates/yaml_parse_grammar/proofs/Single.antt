@@ -41,7 +41,7 @@ pub front_runs : (ts : List Token) (f : Option Fault) → MayAnswer ts f → (s 
     → run (front_of ts ∷ rest_of ts) s f ≡ run ts s f
 front_runs ts f h s = grind (arith, unfinished)
 
--- After the tokens, what is told of a fault is reported by the topmost state.
+-- After the tokens, what is said of a fault is reported by the topmost state.
 pub ending_runs : (s : List State) (f : Fault) → run [] s (Some f) ≡ ending_at s f
 unfolding run
 ending_runs s f = refl

@@ -65,7 +65,7 @@ documents_stand : (from start end : yaml_mark_t) (b : TokenBody) (s : List State
     ((documents_taken from start end b).above ++ s)
 documents_stand from start end b s h = grind arith
 
--- Taking a token on a sound stack gives one, and the item stands on it.
+-- Taking a token on a sound stack gives one, and the item fits it.
 pub taken_stands : (x : State) (t : Token) (s : List State) → choice_at x (type_of t.body) ≡ Take
     → IsStack (x ∷ s) → StandsOn (taken_at x t).item ((taken_at x t).above ++ s)
 taken_stands x t s c h = grind (arith, stream_stands, documents_stand, takes_inside, taken_at, inside_taken)
@@ -88,7 +88,7 @@ opened_stands x k start s c h = ((tt, ap (λ (z : List State). state.documents �
 
 -- ---- the event of an item
 
--- Settling an item keeps where it stands.
+-- Settling an item keeps its place.
 pub settled_behind : (b : RawEventBody) (from : yaml_mark_t) (ds : Directives) (x : Bool)
     → StandsBehind b x → SettlesTo (λ e. x ≡ parts_documents_behind e) (settle_body b from ds)
 settled_behind b from ds x h = grind arith

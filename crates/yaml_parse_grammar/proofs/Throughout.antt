@@ -4,7 +4,7 @@ use Rattle.yaml_parse_grammar.proofs.Words.{yaml_mark_t, yaml_scalar_style_t, To
 use Rattle.yaml_parse_model.specs.declared.yaml_encoding_t.{yaml_encoding_t}
 use Rattle.yaml_parse_model.specs.declared.yaml_sequence_style_t.{yaml_sequence_style_t}
 use Rattle.yaml_parse_model.specs.declared.yaml_mapping_style_t.{yaml_mapping_style_t}
-use Rattle.yaml_parse_model.specs.Tokens as token
+use Rattle.yaml_parse_model.specs.scan_types.Tokens as token
 use Rattle.yaml_parse_model.specs.Events as event
 use Rattle.yaml_parse_grammar.specs.declared.name.Brackets.TheVariants as brackets
 use Rattle.yaml_parse_grammar.specs.Items.{Tag}

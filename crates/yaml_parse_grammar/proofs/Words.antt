@@ -16,8 +16,8 @@ pub use Rattle.yaml_parse_grammar.specs.declared.name.Wants.{Wants}
 pub use Rattle.yaml_parse_grammar.specs.declared.name.Wants.TheVariants.{Block, Flow}
 pub use Rattle.yaml_parse_grammar.specs.declared.problem.ParseProblem.{ParseProblem}
 pub use Rattle.yaml_parse_model.specs.Events.{EventBody, TagDirective}
-pub use Rattle.yaml_parse_model.specs.Faults.{Fault}
-pub use Rattle.yaml_parse_model.specs.Tokens.{Token, TokenBody, no_token, type_of}
+pub use Rattle.yaml_parse_model.specs.scan_types.Faults.{Fault}
+pub use Rattle.yaml_parse_model.specs.scan_types.Tokens.{Token, TokenBody, no_token, type_of}
 pub use Rattle.yaml_parse_model.specs.declared.yaml_mark_t.{yaml_mark_t}
 pub use Rattle.yaml_parse_model.specs.declared.yaml_scalar_style_t.{yaml_scalar_style_t}
 pub use Rattle.yaml_parse_model.specs.declared.yaml_token_type_t.{yaml_token_type_t}

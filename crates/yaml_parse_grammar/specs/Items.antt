@@ -12,7 +12,7 @@ pub record Tag : Type 0 where
   pub suffix : List ℕ
   pub mark : yaml_mark_t
 
--- the properties of a node, and where they stand
+-- the properties of a node, and where they are
 pub record Properties : Type 0 where
   pub anchor : Option (List ℕ)
   pub tag : Option Tag
@@ -35,7 +35,7 @@ pub data RawEventBody : Type 0 where
   tag_directive : List ℕ → List ℕ → RawEventBody
   -- a document starts, with the directives before it; implicit
   document : Bool → RawEventBody
-  -- a node starts, or stands whole: anchor, tag
+  -- a node starts, or is whole: anchor, tag
   node : Option (List ℕ) → Option Tag → Shape → RawEventBody
 
 pub record RawEvent : Type 0 where
@@ -54,7 +54,7 @@ blank mark = item_at (node None None empty) mark mark
 abbrev pub properties_alone : Properties → RawEvent
 properties_alone p = item_at (node p.anchor p.tag empty) p.from p.to
 
--- a node after its properties, if it has any, whose first token stands from one mark to another
+-- a node after its properties, if it has any, whose first token is from one mark to another
 abbrev pub node_at : Option Properties → Shape → yaml_mark_t → yaml_mark_t → RawEvent
 node_at None shape from to = item_at (node None None shape) from to
 node_at (Some p) shape from to = item_at (node p.anchor p.tag shape) p.from to

@@ -9,5 +9,6 @@ pub mod Resolve
 pub mod Remaining
 pub mod Texts
 pub mod Stacks
--- what it stands on, for crates of laws that name this one alone
+-- the crates below it, for crates of laws that name this one alone
 pub use Rattle.yaml_parse_model.specs as parse_model
+pub use Rattle.yaml_parse_model.specs.scan_types

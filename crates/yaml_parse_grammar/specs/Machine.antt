@@ -5,9 +5,9 @@ use Rattle.yaml_parse_model.specs.declared.yaml_token_type_t.{yaml_token_type_t}
 use Rattle.yaml_parse_model.specs.declared.yaml_token_type_t.TheVariants as kind
 use Rattle.yaml_parse_model.specs.declared.yaml_sequence_style_t.TheVariants.{YAML_BLOCK_SEQUENCE_STYLE}
 use Rattle.yaml_parse_model.specs.declared.yaml_mapping_style_t.TheVariants.{YAML_BLOCK_MAPPING_STYLE, YAML_FLOW_MAPPING_STYLE}
-use Rattle.yaml_parse_model.specs.Tokens.{Token, TokenBody, type_of, no_token}
-use Rattle.yaml_parse_model.specs.Tokens as token
-use Rattle.yaml_parse_model.specs.Faults.{Fault}
+use Rattle.yaml_parse_model.specs.scan_types.Tokens.{Token, TokenBody, type_of, no_token}
+use Rattle.yaml_parse_model.specs.scan_types.Tokens as token
+use Rattle.yaml_parse_model.specs.scan_types.Faults.{Fault}
 use Rattle.yaml_parse_model.specs.Events as event
 use Rattle.yaml_parse_grammar.specs.declared.name.Wants.{Wants}
 use Rattle.yaml_parse_grammar.specs.declared.name.Wants.TheVariants.{Flow, Block}

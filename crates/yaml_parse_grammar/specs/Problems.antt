@@ -3,8 +3,8 @@ use Rattle.std.specs.Prelude.{ℕ, pos, List, Option, Some, None, codes}
 use Rattle.yaml_parse_model.specs.declared.yaml_mark_t.{yaml_mark_t}
 use Rattle.yaml_parse_model.specs.declared.yaml_error_type_t.TheVariants.{YAML_PARSER_ERROR}
 use Rattle.yaml_parse_model.specs.declared.yaml_origin_t.TheVariants.{Parser}
-use Rattle.yaml_parse_model.specs.Tokens.{zero_mark}
-use Rattle.yaml_parse_model.specs.Faults.{Fault}
+use Rattle.yaml_parse_model.specs.scan_types.Tokens.{zero_mark}
+use Rattle.yaml_parse_model.specs.scan_types.Faults.{Fault}
 use Rattle.yaml_parse_grammar.specs.declared.problem.ParseProblem.{ParseProblem}
 use Rattle.yaml_parse_grammar.specs.declared.problem.ParseProblem.TheVariants as problem
 
@@ -36,7 +36,7 @@ context_text_of problem.IncompatibleVersion = None
 context_text_of problem.DuplicateHandle = None
 context_text_of problem.UndefinedHandle = Some (codes "while parsing a node")
 
--- where the context begins, or zero where none is told
+-- where the context begins, or zero where there is none
 unfoldable pub context_place : ParseProblem → yaml_mark_t → yaml_mark_t
 context_place problem.NoStreamStart mark = zero_mark
 context_place problem.NoDocumentStart mark = zero_mark

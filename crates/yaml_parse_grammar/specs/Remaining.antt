@@ -1,7 +1,7 @@
 -- What is still to come of a parser, and what its calls give.
 use Rattle.std.specs.Prelude.{◌≡◌, ◌⊎◌, ◌≤◌, ℕ, Bool, true, false, List, [], ◌∷◌, length, Option, Some, None}
-use Rattle.yaml_parse_model.specs.Tokens.{Token}
-use Rattle.yaml_parse_model.specs.Faults.{Fault, IsMemoryFault, parse_layers, scan_layers}
+use Rattle.yaml_parse_model.specs.scan_types.Tokens.{Token}
+use Rattle.yaml_parse_model.specs.scan_types.Faults.{Fault, IsMemoryFault, parse_layers, scan_layers}
 use Rattle.yaml_parse_model.specs.Source.{HasMore}
 use Rattle.yaml_parse_model.specs.Events.{Event, no_event}
 use Rattle.yaml_parse_grammar.specs.States.{State}

@@ -6,7 +6,7 @@ use Rattle.yaml_parse_model.specs.declared.yaml_mark_t.{yaml_mark_t}
 use Rattle.yaml_parse_model.specs.declared.yaml_version_directive_t.{yaml_version_directive_t}
 use Rattle.yaml_parse_model.specs.declared.yaml_scalar_style_t.{yaml_scalar_style_t}
 use Rattle.yaml_parse_model.specs.declared.yaml_scalar_style_t.TheVariants.{YAML_PLAIN_SCALAR_STYLE}
-use Rattle.yaml_parse_model.specs.Faults.{Fault}
+use Rattle.yaml_parse_model.specs.scan_types.Faults.{Fault}
 use Rattle.yaml_parse_model.specs.Events.{Event, EventBody, TagDirective}
 use Rattle.yaml_parse_model.specs.Events as event
 use Rattle.yaml_parse_model.specs.Nodes.{secondary_prefix}
@@ -160,7 +160,8 @@ unasked_on (refused f) left k = left
 unasked_on (gave body ds) left k = k ds
 unasked_on (noted ds) left k = k ds
 
--- the same of all items; the number given is that of the fault after them
+-- how many tokens are not asked for at the first fault of all items; the number given is that of
+-- the fault after them
 unfoldable pub unasked_at_fault : List Given → ℕ → Directives → ℕ
 unasked_at_fault [] behind ds = behind
 unasked_at_fault (g ∷ gs) behind ds = unasked_on (settle g.0 ds) g.1

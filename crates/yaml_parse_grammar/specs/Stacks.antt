@@ -15,7 +15,7 @@ parts_documents_behind event.stream_end = true
 parts_documents_behind (event.document_end implicit) = true
 parts_documents_behind _ = false
 
--- the same of an item; a directive gives no event
+-- how the state is after an item; a directive gives no event
 abbrev pub StandsBehind : RawEventBody → Bool → Type 0
 StandsBehind (item.event body) between = between ≡ parts_documents_behind body
 StandsBehind (item.document implicit) between = between ≡ false

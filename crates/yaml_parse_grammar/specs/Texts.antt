@@ -1,6 +1,6 @@
 -- Items, states and tokens whose texts are UTF-8.
 use Rattle.std.specs.Prelude.{List, [], ◌∷◌, Option, Some, None, IsUtf8}
-use Rattle.yaml_parse_model.specs.Tokens.{Token}
+use Rattle.yaml_parse_model.specs.scan_types.Tokens.{Token}
 use Rattle.yaml_parse_model.specs.Source as source
 use Rattle.yaml_parse_model.specs.Constructors.{HasUtf8, IsUtf8Option, AreUtf8}
 use Rattle.yaml_parse_grammar.specs.Items.{RawEventBody, Tag, Shape}

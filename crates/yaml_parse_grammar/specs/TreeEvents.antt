@@ -176,7 +176,8 @@ tree_events t =
 
 -- ---- in which order tokens are asked for and events given
 
--- A token is asked for; an event is given; an event is given that the next token tells, which is asked for too.
+-- A token is asked for; an event is given; an event is given that depends on the next token, which
+-- is asked for too.
 pub data Turn : Type 0 where
   asks : Turn
   gives : Turn

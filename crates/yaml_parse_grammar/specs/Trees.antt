@@ -5,8 +5,8 @@ use Rattle.yaml_parse_model.specs.declared.yaml_encoding_t.{yaml_encoding_t}
 use Rattle.yaml_parse_model.specs.declared.yaml_scalar_style_t.{yaml_scalar_style_t}
 use Rattle.yaml_parse_model.specs.declared.yaml_sequence_style_t.TheVariants.{YAML_FLOW_SEQUENCE_STYLE}
 use Rattle.yaml_parse_model.specs.declared.yaml_mapping_style_t.TheVariants.{YAML_FLOW_MAPPING_STYLE}
-use Rattle.yaml_parse_model.specs.Tokens.{Token, TokenBody, zero_mark}
-use Rattle.yaml_parse_model.specs.Tokens as token
+use Rattle.yaml_parse_model.specs.scan_types.Tokens.{Token, TokenBody, zero_mark}
+use Rattle.yaml_parse_model.specs.scan_types.Tokens as token
 use Rattle.yaml_parse_model.specs.Events.{EventBody}
 use Rattle.yaml_parse_model.specs.Events as event
 use Rattle.yaml_parse_grammar.specs.declared.name.Wants.{Wants}
@@ -20,7 +20,7 @@ use Rattle.yaml_parse_grammar.specs.declared.name.Site.TheVariants.{Root, Entry,
 use Rattle.yaml_parse_grammar.specs.Items.{RawEvent, Tag, Properties, Shape, item_at}
 use Rattle.yaml_parse_grammar.specs.Items as item
 
--- where a token stands
+-- where a token is
 pub record Span : Type 0 where
   pub from : yaml_mark_t
   pub to : yaml_mark_t

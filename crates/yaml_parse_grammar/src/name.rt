@@ -26,7 +26,7 @@ pub enum Brackets {
     Mapping,
 }
 
-/// A place where a node may stand, or be left out.
+/// A place where a node may be, or be left out.
 #[derive(Clone, Copy)]
 pub enum Site {
     /// After `---`.

@@ -1,7 +1,7 @@
-//! Why a list of tokens can't be parsed, and the texts that tell it.
+//! Why a list of tokens can't be parsed, and the texts that report it.
 
 ghost use Rattle.std.specs.Prelude.{◌≡◌, option_map};
-ghost use Rattle.yaml_parse_model.specs.Faults.{fault_of};
+ghost use Rattle.yaml_parse_model.specs.scan_types.Faults.{fault_of};
 ghost use Rattle.yaml_parse_grammar.specs.Problems.{problem_text_of, context_text_of, context_place, parser_fault};
 
 use yaml_parse_model::{ZERO_MARK, yaml_error_type_t, yaml_fault_t, yaml_mark_t, yaml_origin_t};
@@ -32,7 +32,7 @@ pub enum ParseProblem {
 pub struct ParseFault {
     pub problem: ParseProblem,
     pub problem_mark: yaml_mark_t,
-    /// Not told where the problem has no context.
+    /// Not set where the problem has no context.
     pub context_mark: yaml_mark_t,
 }
 
@@ -75,7 +75,7 @@ impl ParseProblem {
         }
     }
 
-    /// Where the context is told to begin: zero where there is none.
+    /// Where the context begins: zero where there is none.
     #[tactic(auto, unfolding(crate::specs::Problems::context_place, crate::specs::Problems::context_text_of))]
     pub fn place(self, context_mark: yaml_mark_t) -> yaml_mark_t
         ensures { result ≡ context_place self context_mark }

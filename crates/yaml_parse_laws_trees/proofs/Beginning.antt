@@ -2,7 +2,7 @@
 use Rattle.std.proofs.Common.{◌≡◌, ◌≢◌, List, [], ◌∷◌, ◌++◌, length, Option, Some, None, refl, sym, ap, subst, ◌∙◌}
 use Rattle.std.proofs.lemmas.List.{append_assoc, same_from_push}
 use Rattle.yaml_parse_laws_trees.proofs.WindowsWords.{yaml_mark_t, yaml_encoding_t, Token, TokenBody, Event, Fault, Root, Entry, IndentlessEntry, BlockPair, FlowPair, Key, Value, Flow, Block, RawEvent, event_at, Directives, no_directives, placed, State, left_at, Fed, stop, go, with_item, feed, carry, run, initial, parse_of, events_in, GoOn}
-use Rattle.yaml_parse_grammar.specs.parse_model.Tokens as token
+use Rattle.yaml_parse_grammar.specs.scan_types.Tokens as token
 use Rattle.yaml_parse_grammar.specs.parse_model.Events as event
 use Rattle.yaml_parse_grammar.specs.declared.Brackets.TheVariants as brackets
 use Rattle.yaml_parse_grammar.specs.States as state

@@ -1,7 +1,7 @@
 -- What a stack gives at a token that it refuses: nothing where a node or a document must come, and else what it gives at an end.
 use Rattle.std.proofs.Common.{◌≡◌, ◌⊎◌, inl, inr, Bool, true, false, List, [], ◌∷◌, ◌++◌, Option, Some, None, refl, ap, sym, subst, ◌∙◌}
 use Rattle.yaml_parse_laws_trees.proofs.Words.{yaml_mark_t, yaml_token_type_t, Token, TokenBody, type_of, Brackets, Choice, Refuse, Take, Leave, Open, RawEvent, State, choice_at, documents_taken, taken_at, left_at, Fed, stop, go, with_item, given_by, turn, feed, is_end, last_leaves_open, entries_taken, pairs_taken, more_taken, leaves_open, MayLeave, leave_rule, refuse_rule, opens_first, was_take, false≢true, true≢false}
-use Rattle.yaml_parse_laws_trees.specs.parse_grammar.parse_model.Tokens as token
+use Rattle.yaml_parse_model.specs.scan_types.Tokens as token
 use Rattle.yaml_parse_laws_trees.specs.parse_grammar.States as state
 use Rattle.yaml_parse_laws_trees.proofs.SoundStanding.{Goes, Closed, Stood}
 use Rattle.yaml_parse_laws_trees.proofs.Closing.{IsLight, light_leaves}

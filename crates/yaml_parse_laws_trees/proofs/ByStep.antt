@@ -24,7 +24,7 @@ unfoldable pub loads : List Told → Option Fault → Loading → Loads
 loads [] f l = behind_all f
 loads (g ∷ gs) f l = load_on (step g.0 l) (loads gs f) gs g.1
 
--- How many tokens are not asked for as a load is refused: those that stand with the event that a loader refuses, or with the
+-- How many tokens are not asked for when a load is refused: those that go with the event that a loader refuses, or with the
 -- fault after all.
 abbrev pub unasked_on : LoadStep → ℕ → (Loading → ℕ) → ℕ
 unasked_on (goes_on l) left go = go l
@@ -75,4 +75,4 @@ pub record KeepsLoading (initial now : ParserRemaining) (l : Loading) : Type 0 w
   pub falls : AreFalling now.events now.ending_unasked
   pub none : initial.events ≡ [] → now.events ≡ []
 
--- ---- the same of events alone
+-- ---- by events alone

@@ -1,7 +1,7 @@
 -- Tokens that close all that is open. What is given at a refused token is given at these too.
 use Rattle.std.proofs.Common.{◌≡◌, true, List, [], ◌∷◌, None, refl, ap, subst, ◌∙◌}
 use Rattle.yaml_parse_laws_trees.proofs.Words.{yaml_mark_t, YAML_ANY_ENCODING, yaml_token_type_t, Token, TokenBody, type_of, Site, Choice, Refuse, Leave, RawEvent, State, Span, closing, token_at, choice_at, left_at, Fed, stop, go, with_item, turn, feed, Outcome, run, bare, BeginsWithItems, is_end, EndsAt, MayLeave, MayRefuse, leave_rule, false≢true}
-use Rattle.yaml_parse_laws_trees.specs.parse_grammar.parse_model.Tokens as token
+use Rattle.yaml_parse_model.specs.scan_types.Tokens as token
 use Rattle.yaml_parse_laws_trees.specs.parse_grammar.declared.name.Brackets.TheVariants as brackets
 use Rattle.yaml_parse_laws_trees.specs.parse_grammar.States as state
 use Rattle.yaml_parse_laws_trees.specs.parse_grammar.Trees as tree

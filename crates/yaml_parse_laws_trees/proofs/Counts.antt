@@ -2,7 +2,7 @@
 use Rattle.std.proofs.Common.{◌≡◌, ◌≤◌, ◌+◌, ◌*◌, ℕ, suc, true, List, [], ◌∷◌, ◌++◌, length, map, Option, Some, None, refl, ap, arith}
 use Rattle.yaml_parse_laws_trees.proofs.Words.{yaml_mark_t, yaml_token_type_t, Token, TokenBody, type_of, no_token, Fault, Wants, Flow, Block, Brackets, Root, Choice, Refuse, Take, Leave, Open, RawEvent, Properties, item_at, State, Taken, Given, choice_at, taken_at, documents_taken, content_taken, node_taken, with_properties_taken, lone_below, left_at, wants_of, Fed, stop, go, with_item, given_by, turn, feed, Outcome, finished, carry, ending_at, run, initial, Directives, Settled, refused, gave, noted, settle, Reading, read_on, reading, reading_of, MayLeave, leave_rule, none_opens}
 use Rattle.yaml_parse_grammar.specs.parse_model.declared.yaml_token_type_t.TheVariants as kind
-use Rattle.yaml_parse_grammar.specs.parse_model.Tokens as token
+use Rattle.yaml_parse_grammar.specs.scan_types.Tokens as token
 use Rattle.yaml_parse_grammar.specs.declared.name.Brackets.TheVariants as brackets
 use Rattle.yaml_parse_grammar.specs.Items as item
 use Rattle.yaml_parse_grammar.specs.States as state

@@ -2,7 +2,7 @@
 use Rattle.std.proofs.Common.{◌≡◌, ℕ, ℤ, Bool, true, false, List, [], ◌∷◌, Option, Some, None, refl, ap, sym, subst, ◌∙◌}
 use Rattle.yaml_parse_laws_trees.proofs.Words.{yaml_encoding_t, yaml_scalar_style_t, yaml_token_type_t, Token, type_of, Wants, Flow, Block, Side, Key, Value, Root, Entry, IndentlessEntry, BlockPair, FlowPair, Brackets, Span, token_at, PropertyTokens, spell_properties, closing, Node, Content, Maybe, Colon, Items, More, Entries, Others, Pairs, Directive, Documents, First, Stream, spell_node, spell_content, spell_maybe, spell_colon, spell_items, spell_more, spell_entries, spell_others, spell_pairs, spell_directives, spell_ends, spell_documents, spell_first, starts_node, Ends, Starts, node_starts, follows_ends, more_ends, colon_follows, entries_follow, pairs_follow, block_colon_follows, others_follow, TokensHaveOneTree}
 use Rattle.yaml_parse_grammar.specs.parse_model.declared.yaml_token_type_t.TheVariants as kind
-use Rattle.yaml_parse_grammar.specs.parse_model.Tokens as token
+use Rattle.yaml_parse_grammar.specs.scan_types.Tokens as token
 use Rattle.yaml_parse_grammar.specs.declared.name.Brackets.TheVariants as brackets
 use Rattle.yaml_parse_grammar.specs.Trees as tree
 use Rattle.yaml_parse_grammar.proofs.CompleteStream.{documents_follow, root_follows}

@@ -20,7 +20,7 @@ nothing_more (x ∷ xs) f p q h = cc
 
 -- ---- items
 
--- none stands with more than that many
+-- none goes with more than that many
 abbrev Within : ℕ → List Given → Type 0
 Within n [] = Unit {0}
 Within n (g ∷ gs) = (g.1 ≤ n) × Within n gs
@@ -76,7 +76,7 @@ unfolding reading unasked_at_fault
 next_read [] f m n ds h l = l
 next_read (g ∷ gs) f m n ds h l = next_on (settle g.0 ds) g.0 g.1 n (λ d. reading gs f d) (λ d. unasked_at_fault gs m d) h.0 (λ d. next_read gs f m n d h.1 l)
 
--- As it is given, or the fault is reported, the token in front was asked for.
+-- When it is given, or the fault is reported, the first token was asked for.
 pub next_behind : (t : Token) (rest : List Token) (f : Option Fault) (s : List State)
     (ds : Directives)
     → next_unasked (reading_of (run (t ∷ rest) s f) ds).events
@@ -94,7 +94,7 @@ ended_next (x ∷ s) e m ds = refl
 
 -- ---- all events
 
--- each stands with no less than those after it
+-- each goes with no less than those after it
 abbrev Down : List Given → ℕ → Type 0
 Down [] m = Unit {0}
 Down (g ∷ gs) m = Within g.1 gs × ((m ≤ g.1) × Down gs m)

@@ -1,7 +1,7 @@
 -- What a stack of states knows of the tokens that were read: which collections are open, and which token was last.
 use Rattle.std.proofs.Common.{◌≡◌, Bool, true, false, if◌then◌else◌, List, [], ◌∷◌, refl, ap}
 use Rattle.yaml_parse_laws_trees.proofs.Words.{yaml_mark_t, Token, TokenBody, Fault, Wants, Flow, Block, State, opening, wants_of, opened, grammar_fault, opens, closes, surrounding, opens_brackets, in_brackets, asks_for_node, no_node, no_document, no_part, not_going_on}
-use Rattle.yaml_parse_laws_trees.specs.parse_grammar.parse_model.Tokens as token
+use Rattle.yaml_parse_model.specs.scan_types.Tokens as token
 use Rattle.yaml_parse_laws_trees.specs.parse_grammar.States as state
 
 -- ---- open collections
@@ -145,7 +145,7 @@ abbrev pub Nested : List State → Type 0
 Nested [] = Unit {0}
 Nested (x ∷ s) = Placed x (open_in s) × Nested s
 
--- ---- the fault that a state on top tells
+-- ---- the fault that a state on top reports
 
 abbrev pub told_fault : Last → List Sign → yaml_mark_t → Fault
 told_fault nothing gs at = grammar_fault [] at

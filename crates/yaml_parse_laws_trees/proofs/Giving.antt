@@ -321,7 +321,7 @@ run_gives_least ts own n = λ l. let w : Here l.front = here ts n l in least_giv
 
 -- ---- the longest front
 
--- another tree that goes on with it: what is open is closed where the token after it stands
+-- another tree that goes on with it: what is open is closed where the token after it is
 closing_tree : (ts : List Token) (l : LongestFront ts) → Here l.front → LongestFront ts
 closing_tree ts l w =
     let us : List Token = closers (next l.behind) (w.top ∷ w.below) in

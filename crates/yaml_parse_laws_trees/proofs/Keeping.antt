@@ -1,7 +1,7 @@
--- Taking a token inside a document: what is open, which token was last, and how the states stand.
+-- Taking a token inside a document: what is open, which token was last, and how the stack is.
 use Rattle.std.proofs.Common.{◌≡◌, true, false, List, [], ◌∷◌, ◌++◌, Option, Some, None, refl, sym, subst}
 use Rattle.yaml_parse_laws_trees.proofs.Words.{append_assoc, yaml_mark_t, Token, TokenBody, type_of, Wants, Flow, Block, Brackets, Take, Properties, State, IsInner, IsInside, starts_content, starts_node, wants_of, choice_at, content_taken, node_taken, lone_below, taken_at, is_directive, starts_document, take_rule, was_take, false≢true}
-use Rattle.yaml_parse_laws_trees.specs.parse_grammar.parse_model.Tokens as token
+use Rattle.yaml_parse_model.specs.scan_types.Tokens as token
 use Rattle.yaml_parse_laws_trees.specs.parse_grammar.declared.name.Brackets.TheVariants as brackets
 use Rattle.yaml_parse_laws_trees.specs.parse_grammar.States as state
 use Rattle.yaml_parse_laws_trees.proofs.FaultsStanding.{Sign, signs_behind, open_in, bracketed, last_of, Plain, Topped, plain_topped, is_flow, Nested}

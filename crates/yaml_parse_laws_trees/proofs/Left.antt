@@ -1,7 +1,7 @@
 -- What a state still waits for: the tokens of part of a tree, and what follows them.
 use Rattle.std.proofs.Common.{◌≡◌, ℕ, Bool, true, false, if◌then◌else◌, ◌||◌, List, [], ◌∷◌, ◌++◌, Option, Some, None, refl, sym, ap, subst, ◌∙◌}
 use Rattle.yaml_parse_laws_trees.proofs.Words.{false≢true, yaml_mark_t, yaml_token_type_t, Token, TokenBody, type_of, Wants, Flow, Block, Brackets, Root, Refuse, Take, Open, ParseProblem, Properties, Tag, State, Span, token_at, AnchorToken, TagToken, anchor_token, tag_token, PropertyTokens, spell_properties, Node, Content, Maybe, Colon, Items, More, Entries, Others, Pairs, Directive, Documents, First, Stream, spell_node, spell_content, spell_maybe, spell_colon, spell_items, spell_more, spell_entries, spell_others, spell_pairs, spell_directives, spell_ends, spell_documents, spell_first, spell, starts_content, starts_node, wants_of, parts_documents, joins, choice_at, documents_taken, content_taken, node_taken, with_properties_taken, lone_below, taken_at, items_taken, MayLeave, take_rule, opens_first, was_take}
-use Rattle.yaml_parse_laws_trees.specs.parse_grammar.parse_model.Tokens as token
+use Rattle.yaml_parse_model.specs.scan_types.Tokens as token
 use Rattle.yaml_parse_laws_trees.specs.parse_grammar.declared.name.Brackets.TheVariants as brackets
 use Rattle.yaml_parse_laws_trees.specs.parse_grammar.declared.problem.ParseProblem.TheVariants as problem
 use Rattle.yaml_parse_laws_trees.specs.parse_grammar.States as state
@@ -22,7 +22,7 @@ pub together : {A B : Type 0} {front : A → List Token → List Token}
     → Spelled (A × B) (λ x rest. front x.0 (back x.1 rest)) P ts
 together {front = front} h k = record { tree = (h.tree, k.tree); rest = k.rest; same = h.same ∙ ap (front h.tree) k.same; goes = k.goes }
 
--- what is made of a part with a token in front
+-- what is made of a part after a token
 pub ahead : {A B : Type 0} {front : A → List Token → List Token}
     {back : B → List Token → List Token} {P : List Token → Type 0} {ts : List Token}
     → Spelled A front P ts → (t : Token) (make : A → B)
@@ -328,7 +328,7 @@ pub taking : (x : State) (t : Token) → choice_at x (type_of t.body) ≡ Take
     (t ∷ ts)
 taking x t c h3 ts h = taking_by x t.start_mark t.end_mark t.body c h3 ts h
 
--- The same of a state at which a document opens.
+-- Likewise for a state at which a document opens.
 pub opening : (x : State) (t : Token) → choice_at x (type_of t.body) ≡ Open
     → (P : List Token → Type 0) (ts : List Token)
     → Over (taken_at (state.optional Root t.start_mark) t).above

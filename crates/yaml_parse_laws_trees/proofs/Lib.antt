@@ -59,7 +59,7 @@ pub mod Following
 pub mod Beginning
 pub mod WindowsRefusing
 pub mod Staying
--- what it stands on, for crates that name this one alone
+-- the crates below it, for crates that name this one alone
 pub use Rattle.yaml_parse_grammar.proofs.Complete
 pub use Rattle.yaml_parse_grammar.proofs.CompleteStream
 pub use Rattle.yaml_parse_grammar.proofs.Rules

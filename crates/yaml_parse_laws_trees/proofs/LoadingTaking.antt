@@ -4,7 +4,7 @@ use Rattle.std.specs.FinMap as map
 use Rattle.yaml_parse_laws_trees.proofs.Words.{nat_cmp, slice_cmp, false≢true, yaml_mark_t, yaml_version_directive_t, Token, TokenBody, type_of, Fault, TagDirective, Wants, Flow, Block, Key, Value, Brackets, Root, Entry, IndentlessEntry, BlockPair, FlowPair, Refuse, Take, Leave, ParseProblem, RawEvent, Properties, Tag, Shape, item_at, node_at, State, event_at, starts_content, starts_node, wants_of, choice_at, documents_taken, content_taken, node_taken, with_properties_taken, lone_below, taken_at, Fed, go, given_by, Directives, noted, with_version, with_tag, directive_for, is_known_version, Loading, nothing_loaded, aliased, has_anchor, alias_fault, flow_shape, taken, tag_at, undefined, take_rule, was_take}
 use Rattle.yaml_parse_laws_trees.specs.parse_grammar.parse_model.declared.yaml_sequence_style_t.TheVariants.{YAML_BLOCK_SEQUENCE_STYLE}
 use Rattle.yaml_parse_laws_trees.specs.parse_grammar.parse_model.declared.yaml_mapping_style_t.TheVariants.{YAML_BLOCK_MAPPING_STYLE, YAML_FLOW_MAPPING_STYLE}
-use Rattle.yaml_parse_laws_trees.specs.parse_grammar.parse_model.Tokens as token
+use Rattle.yaml_parse_model.specs.scan_types.Tokens as token
 use Rattle.yaml_parse_laws_trees.specs.parse_grammar.parse_model.Events as event
 use Rattle.yaml_parse_laws_trees.specs.parse_grammar.declared.name.Brackets.TheVariants as brackets
 use Rattle.yaml_parse_laws_trees.specs.parse_grammar.declared.problem.ParseProblem.TheVariants as problem
@@ -218,7 +218,7 @@ starts_part false p h = cc
 
 -- ---- each state
 
--- between documents one state is alone, and the end of one stands above the documents after it
+-- between documents one state is alone, and the end of one is above the documents after it
 abbrev pub SitsAt : State → List State → Type 0 → Type 0
 SitsAt state.stream s below = s ≡ []
 SitsAt state.first s below = s ≡ []

@@ -1,7 +1,7 @@
 -- The events that items mean; after a tag whose handle nothing defines, none.
 use Rattle.std.proofs.Common.{◌≡◌, ℕ, List, [], ◌∷◌, ◌++◌, length, map, Option, Some, None, refl, ap, sym, subst, ◌∙◌}
 use Rattle.yaml_parse_laws_trees.proofs.Words.{yaml_mark_t, Token, TokenBody, no_token, Fault, Event, Wants, Flow, Block, RawEvent, Tag, Shape, State, Given, item_at, Fed, stop, go, with_item, feed, Outcome, finished, carry, run, Directives, Settled, refused, gave, noted, settle, resolved, with_resolved, Reading, placed, read_on, reading, reading_of, told}
-use Rattle.yaml_parse_laws_trees.specs.parse_grammar.parse_model.Tokens as token
+use Rattle.yaml_parse_model.specs.scan_types.Tokens as token
 use Rattle.yaml_parse_laws_trees.specs.parse_grammar.Items as item
 use Rattle.yaml_parse_laws_trees.specs.parse_grammar.States as state
 use Rattle.yaml_parse_laws_trees.proofs.Refusal.{not_none}

@@ -114,7 +114,7 @@ inner_step _ from to l names h k = (refl, k)
 
 -- ---- a front of a document
 
--- the fault of the first wrong alias comes first, and the number that stands with it
+-- the fault of the first wrong alias comes first, and the number that goes with it
 abbrev RefusedAt : Loads → ℕ → Fault × ℕ → Type 0
 RefusedAt r count w = (r ≡ told.faulty w.0) × (count ≡ w.1)
 

@@ -1,8 +1,8 @@
--- Which directives are noted where a stack stands.
+-- Which directives are noted with a stack.
 use Rattle.std.proofs.Common.{◌≡◌, ◌≢◌, Bool, true, false, if◌then◌else◌, List, [], ◌∷◌, ◌++◌, Option, Some, None, refl, sym, ap, subst, ◌∙◌}
 use Rattle.std.proofs.lemmas.Option.{same_Some}
 use Rattle.yaml_parse_laws_trees.proofs.WindowsWords.{yaml_mark_t, Token, TokenBody, type_of, Event, Refuse, Take, Leave, Open, Choice, Root, Block, RawEvent, item_at, Directives, no_directives, Settled, refused, gave, noted, settle, placed, State, starts_node, choice_at, taken_at, left_at, Fed, stop, go, with_item, turn, feed}
-use Rattle.yaml_parse_grammar.specs.parse_model.Tokens as token
+use Rattle.yaml_parse_grammar.specs.scan_types.Tokens as token
 use Rattle.yaml_parse_grammar.specs.declared.ParseProblem.TheVariants as problem
 use Rattle.yaml_parse_grammar.specs.Items as item
 use Rattle.yaml_parse_grammar.specs.States as state

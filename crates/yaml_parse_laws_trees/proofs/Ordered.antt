@@ -2,7 +2,7 @@
 use Rattle.std.proofs.Common.{◌≡◌, ℕ, true, List, [], ◌∷◌, ◌++◌, Option, Some, None, refl, ap, sym, subst, ◌∙◌, append_assoc, append-nil}
 use Rattle.yaml_parse_laws_trees.proofs.Words.{yaml_mark_t, Token, TokenBody, no_token, zero_mark, Fault, Event, RawEvent, Wants, Shape, Tag, State, NodeTag, Given, Stream, spell, Fed, stop, go, feed, Outcome, run, initial, Directives, no_directives, with_resolved, resolved, Reading, reading, reading_of, told, bare, BeginsWithEvents, followed_by, is_directive, directive_fault, handle_fault, tag_fault, document_directives, directive, IsFree, BeginsWithSentence}
 use Rattle.yaml_parse_laws_trees.specs.Sentences.{NoneLonger, RunBeginsSentence, events_of_tree}
-use Rattle.yaml_parse_laws_trees.specs.parse_grammar.parse_model.Tokens as token
+use Rattle.yaml_parse_model.specs.scan_types.Tokens as token
 use Rattle.yaml_parse_laws_trees.specs.parse_grammar.Items as item
 use Rattle.yaml_parse_laws_trees.specs.parse_grammar.States as state
 use Rattle.yaml_parse_laws_trees.proofs.CompleteStream.{stream_runs}
@@ -189,7 +189,7 @@ directive_here x s s' past ds t ts is e f a q p h r =
       begins = begins_by (events_from (t ∷ ts) (x ∷ s) f ds) (events_from (u ∷ closers zero_mark z) (x ∷ s) None ds) (meant is ds) (meant js ds) _ (bad_meant x s s' t ts f ds is e p h) (go_meant (x ∷ s) z u (closers zero_mark z) None ds js k) (b ds);
     }
 
--- what was read is told by the stack and the directives
+-- what was read is known from the stack and the directives
 abbrev Reads : List Token → State → List State → Directives → Type 0
 Reads past x s ds = (us : List Token) (f : Option Fault) → (reading_of (run (followed_by past us) initial f) no_directives).ending ≡ (reading_of (run us (x ∷ s) f) ds).ending
 

@@ -2,7 +2,7 @@
 use Rattle.std.proofs.Common.{◌≡◌, false, List, [], ◌∷◌, ◌++◌, Option, Some, None, refl, sym, ap, subst, ◌∙◌, inl, inr, ◌⊎◌}
 use Rattle.yaml_parse_laws_trees.proofs.WindowsWords.{yaml_mark_t, Token, Event, Fault, Refuse, Leave, ParseProblem, Root, Entry, IndentlessEntry, BlockPair, FlowPair, Key, Value, Flow, Block, RawEvent, item_at, event_at, Directives, no_directives, Settled, refused, gave, noted, settle, placed, State, choice_at, left_at, stop, go, with_item, turn, feed}
 use Rattle.yaml_parse_grammar.specs.parse_model.declared.yaml_token_type_t.TheVariants as kind
-use Rattle.yaml_parse_grammar.specs.parse_model.Tokens as token
+use Rattle.yaml_parse_grammar.specs.scan_types.Tokens as token
 use Rattle.yaml_parse_grammar.specs.parse_model.Events as event
 use Rattle.yaml_parse_grammar.specs.declared.Brackets.TheVariants as brackets
 use Rattle.yaml_parse_grammar.specs.Items as item
@@ -89,7 +89,7 @@ clean_behind i left ds (gave body z) e h es behind t =
         let last : x.1 ≡ behind = pair_last (ap (with_event (placed body i)) (sym f) ∙ t) in
         sym last ∙ h z refl x.0 x.1 f
 
--- a state that is left hands on what the states below do
+-- a state that is left passes on what the states below do
 left_parts : (x : State) (s : List State) (m e f : yaml_mark_t) → Same x
     → ((ds : Directives) → Stands (x ∷ s) ds → (z : Directives) → Follows (settle (left_at x m) ds) z → Stands s z)
     → Parts s m e f → Parts (x ∷ s) m e f
@@ -104,7 +104,7 @@ left_parts x s m e f (inl (leaves, leaves_too)) stands (inl r) = inl record {
   clean = λ ds g. clean_behind (left_at x m) r.left ds (settle (left_at x m) ds) refl (λ z follows. r.clean z (stands ds g z follows));
 }
 
--- A stack that stands ends at the stream's end, or refuses it.
+-- A sound stack ends at the stream's end, or refuses it.
 pub parts : (s : List State) (ds : Directives) → Stands s ds → (m e f : yaml_mark_t) → Parts s m e f
 unfolding feed
 parts [] ds g m e f = absurd g

@@ -1,7 +1,7 @@
 -- The properties that a state holds are the last tokens.
 use Rattle.std.proofs.Common.{◌≡◌, ℕ, true, false, ◌||◌, List, [], ◌∷◌, ◌++◌, Option, Some, None, refl, sym, subst, ◌∙◌}
 use Rattle.yaml_parse_laws_trees.proofs.Words.{append_assoc, yaml_mark_t, Token, TokenBody, type_of, Fault, Wants, Flow, Block, Brackets, Take, RawEvent, Properties, Tag, Shape, item_at, State, joins, starts_content, choice_at, documents_taken, content_taken, node_taken, with_properties_taken, lone_below, taken_at, Directives, settle, directive_for, NodeTag, ended_tag, has_handle, tag_fault, tag_behind, tag_before_anchor, unless_joined, take_rule, false≢true, true≢false}
-use Rattle.yaml_parse_laws_trees.specs.parse_grammar.parse_model.Tokens as token
+use Rattle.yaml_parse_model.specs.scan_types.Tokens as token
 use Rattle.yaml_parse_laws_trees.specs.parse_grammar.declared.name.Brackets.TheVariants as brackets
 use Rattle.yaml_parse_laws_trees.specs.parse_grammar.Items as item
 use Rattle.yaml_parse_laws_trees.specs.parse_grammar.States as state

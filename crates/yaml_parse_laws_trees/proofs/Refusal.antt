@@ -83,7 +83,7 @@ gone_given : (s : List State) (t : Token) (ts : List Token) (f : Option Fault) (
 unfolding run
 gone_given s t ts f is s' p = ap (λ (d : Fed). bare (carry (length ts) d (λ z. run ts z f)).items) p ∙ bare_more (length ts) is (run ts s' f).items
 
--- a token in front
+-- a token comes first
 begins_behind : (s : List State) (t : Token) (ts us : List Token) (f : Option Fault)
     (is : List RawEvent) (s' : List State) → feed s t ≡ go is s'
     → BeginsWithItems (given_from s' ts f) (run us s' None).items

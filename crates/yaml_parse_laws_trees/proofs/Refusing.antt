@@ -1,8 +1,8 @@
--- A state that refuses a token tells the fault of the grammar.
+-- A state that refuses a token reports the fault of the grammar.
 use Rattle.std.proofs.Common.{◌≡◌, Bool, true, false, if◌then◌else◌, ◌||◌, List, [], ◌∷◌, Option, Some, None, refl, ap, sym, subst, ◌∙◌}
 use Rattle.yaml_parse_laws_trees.proofs.Words.{yaml_mark_t, yaml_token_type_t, Token, type_of, Fault, Wants, Flow, Block, Brackets, Choice, Refuse, Take, Leave, Open, ParseProblem, problem_text_of, context_text_of, context_place, Site, RawEvent, State, starts_content, starts_node, wants_of, parts_documents, follows, joins, choice_at, left_at, Fed, stop, go, with_item, turn, feed, grammar_fault, parser_fault, no_end, context_of, MayLeave, leave_rule}
 use Rattle.yaml_parse_laws_trees.specs.parse_grammar.parse_model.declared.yaml_token_type_t.TheVariants as kind
-use Rattle.yaml_parse_laws_trees.specs.parse_grammar.parse_model.Tokens as token
+use Rattle.yaml_parse_model.specs.scan_types.Tokens as token
 use Rattle.yaml_parse_laws_trees.specs.parse_grammar.declared.name.Brackets.TheVariants as brackets
 use Rattle.yaml_parse_laws_trees.specs.parse_grammar.declared.problem.ParseProblem.TheVariants as problem
 use Rattle.yaml_parse_laws_trees.specs.parse_grammar.States as state

@@ -1,7 +1,7 @@
 -- What the items of a step do to the directives, and which faults they have.
 use Rattle.std.proofs.Common.{◌≡◌, ℕ, ℤ, Bool, true, false, if◌then◌else◌, ◌||◌, List, [], ◌∷◌, ◌++◌, Option, Some, None, is_some, option_map, codes, refl, ap, sym, ◌∙◌}
 use Rattle.yaml_parse_laws_trees.proofs.Words.{bytes_eq, yaml_mark_t, yaml_version_directive_t, Token, TokenBody, Fault, TagDirective, Wants, Flow, Block, problem_text_of, context_text_of, context_place, RawEvent, Properties, Tag, Shape, item_at, State, content_taken, node_taken, taken_at, left_at, Directives, no_directives, Settled, refused, gave, noted, settle, directive_for, with_resolved, with_tag, with_version, is_known_version, directives_before, has_handle, NodeTag, directive_fault, or_default, default_prefix, has_version, version_fault, handle_twice, undefined_handle, is_version_1}
-use Rattle.yaml_parse_laws_trees.specs.parse_grammar.parse_model.Tokens as token
+use Rattle.yaml_parse_model.specs.scan_types.Tokens as token
 use Rattle.yaml_parse_laws_trees.specs.parse_grammar.declared.name.Brackets.TheVariants as brackets
 use Rattle.yaml_parse_laws_trees.specs.parse_grammar.Items as item
 use Rattle.yaml_parse_laws_trees.specs.parse_grammar.States as state

@@ -16,7 +16,7 @@ abbrev pub MayPass : (List Token → Type 0) → List State → Type 0
 MayPass P [] = (t : Token) (ts : List Token) → P ts → P (t ∷ ts)
 MayPass P (x ∷ s) = Unit {0}
 
--- what the stack after a token waits for, with the token in front, is what the stack before it waits for
+-- what the stack after a token waits for, after the token, is what the stack before it waits for
 abbrev pub FedLeft : (List Token → Type 0) → List State → Token → Fed → Type 0
 FedLeft P s t (stop is f) = Unit {0}
 FedLeft P s t (go is s') = MayPass P s' → (ts : List Token) → Over s' P ts → Over s P (t ∷ ts)

@@ -2,7 +2,7 @@
 use Rattle.std.proofs.Common.{◌≡◌, ◌⊎◌, inl, inr, true, List, [], ◌∷◌, ◌++◌, Option, Some, None, refl, sym, subst}
 use Rattle.yaml_parse_laws_trees.proofs.Words.{append_assoc, yaml_mark_t, yaml_token_type_t, Token, TokenBody, type_of, Wants, Flow, Block, Side, Key, Value, Brackets, Site, Root, Entry, IndentlessEntry, BlockPair, FlowPair, Choice, Refuse, Take, Leave, Open, RawEvent, Properties, item_at, State, wants_of, follows, choice_at, documents_taken, content_taken, node_taken, lone_below, taken_at, left_at, Fed, stop, go, with_item, given_by, turn, feed, was_take, false≢true}
 use Rattle.yaml_parse_laws_trees.specs.parse_grammar.parse_model.declared.yaml_token_type_t.TheVariants as kind
-use Rattle.yaml_parse_laws_trees.specs.parse_grammar.parse_model.Tokens as token
+use Rattle.yaml_parse_model.specs.scan_types.Tokens as token
 use Rattle.yaml_parse_laws_trees.specs.parse_grammar.declared.name.Brackets.TheVariants as brackets
 use Rattle.yaml_parse_laws_trees.specs.parse_grammar.Items as item
 use Rattle.yaml_parse_laws_trees.specs.parse_grammar.States as state
@@ -140,7 +140,7 @@ fits_wants : (place : Site) (s : List State) → Fits place s → FitsWants (wan
 fits_wants (BlockPair side) s f = f
 fits_wants _ s f = tt
 
--- ---- how states stand
+-- ---- states that wait for a closing token
 
 -- a token that closes is waited for, and no state above it takes that token
 abbrev pub ClosedAt : State → Type 0 → Type 0

@@ -1,7 +1,7 @@
 -- The tokens of a tree are before what follows them.
 use Rattle.std.proofs.Common.{◌≡◌, List, [], ◌∷◌, ◌++◌, refl, ap, sym, ◌∙◌}
 use Rattle.yaml_parse_laws_trees.proofs.Words.{Token, Wants, Brackets, Span, token_at, opening, PropertyTokens, Node, Content, Maybe, Colon, Items, More, Entries, Others, Pairs, Directive, Documents, First, Stream, spell_properties, spell_node, spell_content, spell_maybe, spell_colon, spell_items, spell_more, spell_entries, spell_others, spell_pairs, spell_directives, spell_ends, spell_documents, spell_first, spell}
-use Rattle.yaml_parse_laws_trees.specs.parse_grammar.parse_model.Tokens as token
+use Rattle.yaml_parse_model.specs.scan_types.Tokens as token
 use Rattle.yaml_parse_laws_trees.specs.parse_grammar.Trees as tree
 
 behind : (t : Token) {x y : List Token} → x ≡ y → t ∷ x ≡ t ∷ y

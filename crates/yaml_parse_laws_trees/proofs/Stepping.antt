@@ -1,7 +1,7 @@
 -- One token: what the stack gives is read, and the directives agree with the tokens from then on.
 use Rattle.std.proofs.Common.{◌≡◌, Bool, true, false, if◌then◌else◌, List, [], ◌∷◌, ◌++◌, Option, Some, None, refl, ap, sym, subst}
 use Rattle.yaml_parse_laws_trees.proofs.Words.{yaml_mark_t, Token, TokenBody, type_of, Choice, Refuse, Take, Leave, Open, RawEvent, item_at, State, IsInner, IsInside, choice_at, taken_at, left_at, Fed, stop, go, with_item, given_by, turn, feed, Directives, no_directives, directives_before, document_directives, is_directive, directive_fault, InsideAt}
-use Rattle.yaml_parse_laws_trees.specs.parse_grammar.parse_model.Tokens as token
+use Rattle.yaml_parse_model.specs.scan_types.Tokens as token
 use Rattle.yaml_parse_laws_trees.specs.parse_grammar.parse_model.Events as event
 use Rattle.yaml_parse_laws_trees.specs.parse_grammar.Items as item
 use Rattle.yaml_parse_laws_trees.specs.parse_grammar.States as state

@@ -1,7 +1,7 @@
 -- A tag in place of another, and a document's start in place of a directive: what a stack gives there.
 use Rattle.std.proofs.Common.{◌≡◌, ℕ, ℤ, Bool, true, false, if◌then◌else◌, List, [], ◌∷◌, ◌++◌, Option, Some, None, refl, ap, sym, subst}
 use Rattle.yaml_parse_laws_trees.proofs.Words.{yaml_mark_t, yaml_version_directive_t, TokenBody, type_of, Event, Site, Root, Entry, IndentlessEntry, BlockPair, FlowPair, Choice, Refuse, Take, Leave, Open, RawEvent, State, item_at, choice_at, taken_at, left_at, Fed, stop, go, with_item, given_by, turn, feed, Directives, Settled, refused, gave, noted, settle, TagDirective, directive_for, with_tag, with_version, is_known_version, placed, is_directive, BeginsWithEvents, was_take, false≢true}
-use Rattle.yaml_parse_laws_trees.specs.parse_grammar.parse_model.Tokens as token
+use Rattle.yaml_parse_model.specs.scan_types.Tokens as token
 use Rattle.yaml_parse_laws_trees.specs.parse_grammar.parse_model.declared.yaml_token_type_t.TheVariants as kind
 use Rattle.yaml_parse_laws_trees.specs.parse_grammar.declared.name.Brackets.TheVariants as brackets
 use Rattle.yaml_parse_laws_trees.specs.parse_grammar.Items as item

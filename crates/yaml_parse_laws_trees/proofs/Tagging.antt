@@ -1,7 +1,7 @@
 -- One token, after properties too: the fault of a handle comes first.
 use Rattle.std.proofs.Common.{◌≡◌, Bool, true, false, if◌then◌else◌, ◌||◌, List, [], ◌∷◌, ◌++◌, Option, Some, None, refl, ap, sym, subst, ◌∙◌}
 use Rattle.yaml_parse_laws_trees.proofs.Words.{yaml_mark_t, Token, TokenBody, type_of, Fault, Wants, Take, Leave, RawEvent, Properties, State, IsInner, IsInside, IsStack, joins, starts_content, choice_at, with_properties_taken, Fed, stop, go, with_item, given_by, turn, feed, Directives, no_directives, settle, NodeTag, directives_before, document_directives, ended_tag, handle_fault, tag_fault, properties_alone, false≢true}
-use Rattle.yaml_parse_laws_trees.specs.parse_grammar.parse_model.Tokens as token
+use Rattle.yaml_parse_model.specs.scan_types.Tokens as token
 use Rattle.yaml_parse_laws_trees.specs.parse_grammar.Items as item
 use Rattle.yaml_parse_laws_trees.specs.parse_grammar.States as state
 use Rattle.yaml_parse_laws_trees.proofs.FaultsStanding.{open_in, nothing, property, directive, other, last_of, last_in, told, Plain, Nested}

@@ -1,4 +1,4 @@
--- What a stack waits for, with a token in front; and the reading of what a step gives.
+-- What a stack waits for, after a token; and the reading of what a step gives.
 use Rattle.std.proofs.Common.{◌≡◌, ℕ, true, List, [], ◌∷◌, ◌++◌, map, Option, Some, None, refl, sym, subst}
 use Rattle.yaml_parse_laws_trees.proofs.Words.{yaml_token_type_t, Token, type_of, no_token, Fault, Root, Choice, Refuse, Take, Leave, Open, RawEvent, item_at, State, IsInside, IsStack, Given, choice_at, taken_at, left_at, Fed, stop, go, with_item, given_by, turn, feed, Directives, Settled, refused, gave, noted, settle, Reading, reading, unasked_at_fault, MayLeave, leave_rule, none_opens}
 use Rattle.yaml_parse_laws_trees.specs.parse_grammar.parse_model.declared.yaml_token_type_t.TheVariants as kind
@@ -45,7 +45,7 @@ solid_left state.documents k A l h = absurd l
 solid_left (state.directives from) k A l h = absurd l
 solid_left _ k A l h = h
 
--- ---- what the stack after a token waits for, with the token in front, is what the stack before it waits for
+-- ---- what the stack after a token waits for, after the token, is what the stack before it waits for
 
 abbrev pub Takes : (List Token → Type 0) → List State → Token → Fed → Type 0
 Takes P s t (stop is e) = Unit {0}

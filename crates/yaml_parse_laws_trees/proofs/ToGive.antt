@@ -1,7 +1,7 @@
 -- What a state still gives: the events of a part of some documents, and what follows them.
 use Rattle.std.proofs.Common.{◌≡◌, ℕ, Bool, true, false, List, [], ◌∷◌, ◌++◌, Option, Some, None, refl, sym, ap, subst, ◌∙◌}
 use Rattle.yaml_parse_laws_trees.proofs.Words.{yaml_mark_t, yaml_encoding_t, YAML_ANY_ENCODING, yaml_token_type_t, yaml_version_directive_t, Token, TokenBody, type_of, zero_mark, Event, EventBody, TagDirective, RawEvent, RawEventBody, Properties, Shape, State, choice_at, taken_at, documents_taken, content_taken, node_taken, lone_below, left_at, wants_of, placed, spanning, Contents, alias, scalar, sequence, mapping, no_items, item, no_pairs, pair, events, item_events, pair_events, DocumentContent, document_events, Head, MayLeave, opens_first, was_take}
-use Rattle.yaml_parse_laws_trees.specs.parse_grammar.parse_model.Tokens as token
+use Rattle.yaml_parse_model.specs.scan_types.Tokens as token
 use Rattle.yaml_parse_laws_trees.specs.parse_grammar.parse_model.Events as event
 use Rattle.yaml_parse_laws_trees.specs.parse_grammar.declared.Wants.{Wants}
 use Rattle.yaml_parse_laws_trees.specs.parse_grammar.declared.Wants.TheVariants.{Flow, Block}

@@ -1,4 +1,4 @@
--- The events of a tree in the form that computes are its events beside the numbers that its turns tell.
+-- The events of a tree in the form that computes are its events beside the numbers that its turns give.
 use Rattle.std.proofs.Common.{◌≡◌, ℕ, ◌+◌, ◌-◌, true, List, [], ◌∷◌, ◌++◌, length, zip, Option, Some, None, refl, ap, sym, ◌∙◌, arith}
 use Rattle.yaml_parse_laws_trees.proofs.Words.{append_assoc, append-nil, yaml_mark_t, Token, Wants, Side, Key, Value, Brackets, Site, Root, Entry, IndentlessEntry, BlockPair, FlowPair, RawEvent, Properties, blank, item_at, Span, PropertyTokens, Node, Content, Maybe, Colon, Items, More, Entries, Others, Pairs, Directive, Documents, First, Stream, Given, next, event_at, spell_properties, spell_node, spell_content, spell_maybe, spell_colon, spell_items, spell_more, spell_entries, spell_others, spell_pairs, spell_directives, spell_ends, spell_documents, spell_first, spell, items, mark_at, content_start, node_start, colon_start, more_start, entries_start, others_start, pairs_start, ends_start, documents_start, pair_opens, pair_closes, lone_value, node_events, content_events, maybe_events, colon_events, items_events, more_events, entries_events, others_events, pairs_events, directives_events, ends_events, documents_events, first_events, tree_events, Turn, asks, gives, gives_at_next, properties_turns, pair_opens_turns, pair_closes_turns, lone_turns, node_turns, content_turns, maybe_turns, colon_turns, items_turns, more_turns, entries_turns, others_turns, pairs_turns, directives_turns, each_asks, ends_turns, documents_turns, first_turns, tree_turns, tokens_in, unasked, pair_start, pair_end, lone, items_node, items_content, items_maybe, items_colon, items_items, items_more, items_entries, items_others, items_pairs, items_directives, items_ends, items_documents, items_first, ItemsAreGiven, TurnsFitTree}
 use Rattle.yaml_parse_grammar.specs.parse_model.Events as event
@@ -179,7 +179,7 @@ own_event : (e : RawEvent) (t : Token) (rest : List Token) (more : List Given)
     → Part (e ∷ []) (asks ∷ gives ∷ []) rest (t ∷ rest) more ((e, length rest) ∷ more)
 own_event e t rest more = asked t (gave e (nothing rest more))
 
--- an event that the next token tells
+-- an event that depends on the next token
 next_event : (e : yaml_mark_t → RawEvent) (at : yaml_mark_t) (rest : List Token) (more : List Given)
     → at ≡ next rest
     → Part (e at ∷ []) (gives_at_next ∷ []) rest rest more ((e (next rest), behind rest) ∷ more)

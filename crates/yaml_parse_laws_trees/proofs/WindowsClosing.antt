@@ -2,7 +2,7 @@
 use Rattle.std.proofs.Common.{◌≡◌, ℕ, ◌+◌, ◌-◌, Bool, true, false, ◌||◌, if◌then◌else◌, List, [], ◌∷◌, ◌++◌, Some, None, refl, sym, ap, subst, ◌∙◌, arith}
 use Rattle.std.proofs.lemmas.Bool.{true≢false}
 use Rattle.yaml_parse_laws_trees.proofs.WindowsWords.{yaml_mark_t, Token, TokenBody, type_of, Flow, Block, Refuse, Take, Leave, Open, Choice, ParseProblem, Root, RawEvent, Directives, no_directives, State, starts_node, choice_at, taken_at, left_at, Fed, stop, go, with_item, turn, feed}
-use Rattle.yaml_parse_grammar.specs.parse_model.Tokens as token
+use Rattle.yaml_parse_grammar.specs.scan_types.Tokens as token
 use Rattle.yaml_parse_grammar.specs.declared.Brackets.TheVariants as brackets
 use Rattle.yaml_parse_grammar.specs.declared.Wants.{Wants}
 use Rattle.yaml_parse_grammar.specs.Items.{Properties}
@@ -199,7 +199,7 @@ turn_level Open x t s h below =
     let none : 0 + (0 + opened s) ≡ opened s = omega arith in
     opened_on above (state.document_end ∷ state.documents ∷ s) ∙ h (0 + (0 + opened s)) ∙ ap (λ k. depth_after t.body (weight x + k)) none
 
--- A stack that stands has a state for each bracket that is open, after each token that it takes.
+-- A sound stack has a state for each bracket that is open, after each token that it takes.
 pub feed_level : (s : List State) (ds : Directives) → Stands s ds → (t : Token)
     → IsLevel (feed s t) t.body (opened s)
 unfolding feed

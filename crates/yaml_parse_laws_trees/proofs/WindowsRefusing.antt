@@ -3,7 +3,7 @@ use Rattle.std.proofs.Common.{◌≡◌, ◌≢◌, false, List, [], ◌∷◌, 
 use Rattle.std.proofs.lemmas.List.{append_assoc}
 use Rattle.std.proofs.lemmas.Option.{none-some, same_Some}
 use Rattle.yaml_parse_laws_trees.proofs.WindowsWords.{yaml_mark_t, Token, Event, Fault, Root, Entry, IndentlessEntry, BlockPair, FlowPair, Key, Value, Flow, Block, RawEvent, item_at, event_at, Directives, no_directives, Settled, refused, gave, noted, settle, placed, State, left_at, Fed, stop, go, with_item, feed, run, initial, parse_of, events_in, GoOn}
-use Rattle.yaml_parse_grammar.specs.parse_model.Tokens as token
+use Rattle.yaml_parse_grammar.specs.scan_types.Tokens as token
 use Rattle.yaml_parse_grammar.specs.parse_model.Events as event
 use Rattle.yaml_parse_grammar.specs.declared.Brackets.TheVariants as brackets
 use Rattle.yaml_parse_grammar.specs.declared.ParseProblem.TheVariants as problem
@@ -91,7 +91,7 @@ stands_halts (state.documents ∷ s) ds g m e f = inl tt
 stands_halts (state.directives from ∷ s) ds g m e f = inr refl
 stands_halts (x ∷ s) ds g m e f = inl (within_halts (x ∷ s) g m e f)
 
--- ---- items in front
+-- ---- items that come first
 
 -- only where all of them settle the others count
 pub same_front : (is : List RawEvent) (ds : Directives) (js ks : List RawEvent) (f g : Option Fault)

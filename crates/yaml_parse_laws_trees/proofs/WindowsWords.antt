@@ -12,8 +12,8 @@ pub use Rattle.yaml_parse_grammar.specs.declared.Side.TheVariants.{Key, Value}
 pub use Rattle.yaml_parse_grammar.specs.declared.Site.TheVariants.{BlockPair, Entry, FlowPair, IndentlessEntry, Root}
 pub use Rattle.yaml_parse_grammar.specs.declared.Wants.TheVariants.{Block, Flow}
 pub use Rattle.yaml_parse_grammar.specs.parse_model.Events.{Event}
-pub use Rattle.yaml_parse_grammar.specs.parse_model.Faults.{Fault}
-pub use Rattle.yaml_parse_grammar.specs.parse_model.Tokens.{Token, TokenBody, type_of}
+pub use Rattle.yaml_parse_grammar.specs.scan_types.Faults.{Fault}
+pub use Rattle.yaml_parse_grammar.specs.scan_types.Tokens.{Token, TokenBody, type_of}
 pub use Rattle.yaml_parse_grammar.specs.parse_model.declared.yaml_encoding_t.{yaml_encoding_t}
 pub use Rattle.yaml_parse_grammar.specs.parse_model.declared.yaml_mark_t.{yaml_mark_t}
 pub use Rattle.yaml_parse_laws_trees.specs.WindowsLaws.{GoOn, events_in, parse_of}

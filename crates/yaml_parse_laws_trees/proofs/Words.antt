@@ -48,8 +48,8 @@ pub use Rattle.yaml_parse_laws_trees.specs.parse_grammar.declared.name.Choice.Th
 pub use Rattle.yaml_parse_laws_trees.specs.parse_grammar.declared.name.Site.{Site}
 pub use Rattle.yaml_parse_laws_trees.specs.parse_grammar.declared.problem.ParseProblem.{ParseProblem}
 pub use Rattle.yaml_parse_laws_trees.specs.parse_grammar.parse_model.Events.{Event, EventBody, TagDirective}
-pub use Rattle.yaml_parse_laws_trees.specs.parse_grammar.parse_model.Faults.{Fault, IsMemoryFault, load_layers, scan_layers}
-pub use Rattle.yaml_parse_laws_trees.specs.parse_grammar.parse_model.Tokens.{Token, TokenBody, no_token, type_of, zero_mark}
+pub use Rattle.yaml_parse_model.specs.scan_types.Faults.{Fault, IsMemoryFault, load_layers, scan_layers}
+pub use Rattle.yaml_parse_model.specs.scan_types.Tokens.{Token, TokenBody, no_token, type_of, zero_mark}
 pub use Rattle.yaml_parse_laws_trees.specs.parse_grammar.parse_model.declared.yaml_encoding_t.TheVariants.{YAML_ANY_ENCODING}
 pub use Rattle.yaml_parse_laws_trees.specs.parse_grammar.parse_model.declared.yaml_mark_t.{yaml_mark_t}
 pub use Rattle.yaml_parse_laws_trees.specs.parse_grammar.parse_model.declared.yaml_scalar_style_t.{yaml_scalar_style_t}

@@ -1,6 +1,6 @@
 -- The documents of events, loaded one after another.
 use Rattle.std.specs.Prelude.{List, [], ◌∷◌, Option, Some, None}
-use Rattle.yaml_parse_laws_trees.specs.parse_grammar.parse_model.Faults.{Fault}
+use Rattle.yaml_parse_model.specs.scan_types.Faults.{Fault}
 use Rattle.yaml_parse_laws_trees.specs.parse_grammar.parse_model.Nodes.{Node}
 use Rattle.yaml_parse_laws_trees.specs.parse_grammar.Resolve.{Told}
 use Rattle.yaml_parse_model.specs.Documents.{Document}

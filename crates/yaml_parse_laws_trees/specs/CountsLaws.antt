@@ -1,7 +1,7 @@
 -- Which trees have the same tokens, and how many events come of tokens.
 use Rattle.std.specs.Prelude.{◌≡◌, ◌≤◌, ◌+◌, ◌*◌, ℕ, List, [], ◌∷◌, Option, length}
-use Rattle.yaml_parse_grammar.specs.parse_model.Tokens.{Token}
-use Rattle.yaml_parse_grammar.specs.parse_model.Faults.{Fault}
+use Rattle.yaml_parse_grammar.specs.scan_types.Tokens.{Token}
+use Rattle.yaml_parse_grammar.specs.scan_types.Faults.{Fault}
 use Rattle.yaml_parse_grammar.specs.Trees.{Stream, spell}
 use Rattle.yaml_parse_grammar.specs.TreeEvents.{tree_events, tree_turns, tokens_in, unasked, given_of}
 use Rattle.yaml_parse_grammar.specs.TreeSteps.{items}
@@ -25,8 +25,9 @@ TurnsFitTree = (t : Stream) (rest : List Token) → TurnsFit t rest
 abbrev pub ItemsAreGiven : Type 0
 ItemsAreGiven = (t : Stream) (rest : List Token) → items t rest ≡ given_of t (length rest)
 
--- Each event stands with the number of tokens, of that many in all, that are not asked for as it is given. The events up to it are
--- at most four times the tokens asked for, where that many were given before these.
+-- Each event comes with the number of tokens, of that many in all, that are not asked for when it
+-- is given. The events up to it are at most four times the tokens asked for, where that many were
+-- given before these.
 abbrev pub AtMostFourSoFar : {A : Type 0} → ℕ → ℕ → List (A × ℕ) → Type 0
 AtMostFourSoFar given all [] = Unit {0}
 AtMostFourSoFar given all (e ∷ es) = (given + 1 + 4 * e.1 ≤ 4 * all)

@@ -1,7 +1,7 @@
 -- How many brackets are open after tokens.
 use Rattle.std.specs.Prelude.{ℕ, ◌+◌, ◌-◌, List, [], ◌∷◌}
-use Rattle.yaml_parse_grammar.specs.parse_model.Tokens.{Token, TokenBody}
-use Rattle.yaml_parse_grammar.specs.parse_model.Tokens as token
+use Rattle.yaml_parse_grammar.specs.scan_types.Tokens.{Token, TokenBody}
+use Rattle.yaml_parse_grammar.specs.scan_types.Tokens as token
 
 -- after a token; a closer closes none where none is open
 abbrev pub depth_after : TokenBody → ℕ → ℕ

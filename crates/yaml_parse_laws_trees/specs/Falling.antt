@@ -1,4 +1,4 @@
--- How the numbers fall that stand with the events to come.
+-- How the numbers fall that go with the events to come.
 use Rattle.std.specs.Prelude.{ℕ, ◌≤◌, List, [], ◌∷◌}
 use Rattle.yaml_parse_laws_trees.specs.parse_grammar.Resolve.{Told}
 use Rattle.yaml_parse_laws_trees.specs.parse_grammar.Remaining.{next_unasked}

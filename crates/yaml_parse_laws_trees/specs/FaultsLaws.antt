@@ -1,7 +1,7 @@
 -- The machine's fault is the list's.
 use Rattle.std.specs.Prelude.{◌≡◌, List, Option, Some}
-use Rattle.yaml_parse_laws_trees.specs.parse_grammar.parse_model.Tokens.{Token}
-use Rattle.yaml_parse_laws_trees.specs.parse_grammar.parse_model.Faults.{Fault}
+use Rattle.yaml_parse_model.specs.scan_types.Tokens.{Token}
+use Rattle.yaml_parse_model.specs.scan_types.Faults.{Fault}
 use Rattle.yaml_parse_laws_trees.specs.parse_grammar.Machine.{run, initial}
 use Rattle.yaml_parse_laws_trees.specs.parse_grammar.Resolve.{no_directives}
 use Rattle.yaml_parse_laws_trees.specs.parse_grammar.Remaining.{reading_of, unasked_of}
@@ -22,7 +22,7 @@ abbrev pub FaultEnds : Type 0
 FaultEnds = (ts : List Token) (own fault : Option Fault) → FaultOfTokens ts own fault
     → (reading_of (run ts initial own) no_directives).ending ≡ fault
 
--- It is told as its place is reached, with no token asked for after that.
+-- It is reported once its place is reached, with no token asked for after that.
 abbrev pub FaultIsToldAtPlace : Type 0
 FaultIsToldAtPlace = (ts : List Token) (own : Option Fault) (e : Fault)
     → (reading_of (run ts initial own) no_directives).ending ≡ Some e

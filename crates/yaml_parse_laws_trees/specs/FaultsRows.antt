@@ -3,9 +3,9 @@ use Rattle.std.specs.Prelude.{ℕ, pos, List, [], ◌∷◌, Option, Some, None,
 use Rattle.yaml_parse_laws_trees.specs.parse_grammar.parse_model.declared.yaml_mark_t.{yaml_mark_t}
 use Rattle.yaml_parse_laws_trees.specs.parse_grammar.parse_model.declared.yaml_encoding_t.TheVariants.{YAML_UTF8_ENCODING}
 use Rattle.yaml_parse_laws_trees.specs.parse_grammar.parse_model.declared.yaml_scalar_style_t.TheVariants.{YAML_PLAIN_SCALAR_STYLE}
-use Rattle.yaml_parse_laws_trees.specs.parse_grammar.parse_model.Tokens.{Token, TokenBody, zero_mark}
-use Rattle.yaml_parse_laws_trees.specs.parse_grammar.parse_model.Tokens as token
-use Rattle.yaml_parse_laws_trees.specs.parse_grammar.parse_model.Faults.{Fault}
+use Rattle.yaml_parse_model.specs.scan_types.Tokens.{Token, TokenBody, zero_mark}
+use Rattle.yaml_parse_model.specs.scan_types.Tokens as token
+use Rattle.yaml_parse_model.specs.scan_types.Faults.{Fault}
 use Rattle.yaml_parse_laws_trees.specs.Wrong.{while_parsing, alone}
 use Rattle.yaml_parse_laws_trees.specs.Places.{FaultOfTokens}
 

@@ -1,9 +1,9 @@
 -- The events of a list of tokens, said of trees: those that come before its fault too.
 use Rattle.std.specs.Prelude.{◌≡◌, ℕ, ◌+◌, ◌-◌, nat_le, Bool, true, false, if◌then◌else◌, ◌||◌, List, [], ◌∷◌, ◌++◌, length, Option, Some, None}
 use Rattle.yaml_parse_laws_trees.specs.parse_grammar.parse_model.declared.yaml_mark_t.{yaml_mark_t}
-use Rattle.yaml_parse_laws_trees.specs.parse_grammar.parse_model.Tokens.{Token, TokenBody}
-use Rattle.yaml_parse_laws_trees.specs.parse_grammar.parse_model.Tokens as token
-use Rattle.yaml_parse_laws_trees.specs.parse_grammar.parse_model.Faults.{Fault}
+use Rattle.yaml_parse_model.specs.scan_types.Tokens.{Token, TokenBody}
+use Rattle.yaml_parse_model.specs.scan_types.Tokens as token
+use Rattle.yaml_parse_model.specs.scan_types.Faults.{Fault}
 use Rattle.yaml_parse_laws_trees.specs.parse_grammar.Trees.{Stream, spell, Given, next}
 use Rattle.yaml_parse_laws_trees.specs.parse_grammar.TreeEvents.{given_of}
 use Rattle.yaml_parse_laws_trees.specs.parse_grammar.Resolve.{Told, reading, no_directives}
@@ -73,11 +73,12 @@ abbrev pub EndsAt : yaml_mark_t → List Token → Type 0
 EndsAt at [] = ⊥
 EndsAt at (t ∷ ts) = (is_end t.body ≡ true) × (t.start_mark ≡ at)
 
--- After the token a node may come or be left out, or a document must come: so far nothing is told by what doesn't fit.
+-- After the token a node may come or be left out, or a document must come: so far nothing is given
+-- by what doesn't fit.
 abbrev pub leaves_open : TokenBody → Bool
 leaves_open b = asks_for_node b || is_directive b
 
--- the same of the last of the tokens, and where there is none, of what is before
+-- whether the last of the tokens leaves that open, and where there is none, what is before
 abbrev pub last_leaves_open : Bool → List Token → Bool
 last_leaves_open before [] = before
 last_leaves_open before (t ∷ ts) = last_leaves_open (leaves_open t.body) ts

@@ -1,7 +1,7 @@
 -- The machine's events are the list's.
 use Rattle.std.specs.Prelude.{◌≡◌, false, List, Option}
-use Rattle.yaml_parse_laws_trees.specs.parse_grammar.parse_model.Tokens.{Token}
-use Rattle.yaml_parse_laws_trees.specs.parse_grammar.parse_model.Faults.{Fault}
+use Rattle.yaml_parse_model.specs.scan_types.Tokens.{Token}
+use Rattle.yaml_parse_model.specs.scan_types.Faults.{Fault}
 use Rattle.yaml_parse_laws_trees.specs.parse_grammar.Trees.{next}
 use Rattle.yaml_parse_laws_trees.specs.parse_grammar.Machine.{run, initial}
 use Rattle.yaml_parse_laws_trees.specs.parse_grammar.Resolve.{Told, no_directives}

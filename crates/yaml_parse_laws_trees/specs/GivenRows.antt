@@ -5,11 +5,11 @@ use Rattle.yaml_parse_laws_trees.specs.parse_grammar.parse_model.declared.yaml_s
 use Rattle.yaml_parse_laws_trees.specs.parse_grammar.parse_model.declared.yaml_sequence_style_t.TheVariants.{YAML_BLOCK_SEQUENCE_STYLE, YAML_FLOW_SEQUENCE_STYLE}
 use Rattle.yaml_parse_laws_trees.specs.parse_grammar.parse_model.declared.yaml_mapping_style_t.TheVariants.{YAML_FLOW_MAPPING_STYLE}
 use Rattle.yaml_parse_laws_trees.specs.parse_grammar.parse_model.declared.yaml_mark_t.{yaml_mark_t}
-use Rattle.yaml_parse_laws_trees.specs.parse_grammar.parse_model.Tokens.{Token, TokenBody, zero_mark}
-use Rattle.yaml_parse_laws_trees.specs.parse_grammar.parse_model.Tokens as token
+use Rattle.yaml_parse_model.specs.scan_types.Tokens.{Token, TokenBody, zero_mark}
+use Rattle.yaml_parse_model.specs.scan_types.Tokens as token
 use Rattle.yaml_parse_laws_trees.specs.parse_grammar.parse_model.Events.{EventBody}
 use Rattle.yaml_parse_laws_trees.specs.parse_grammar.parse_model.Events as event
-use Rattle.yaml_parse_laws_trees.specs.parse_grammar.parse_model.Faults.{Fault}
+use Rattle.yaml_parse_model.specs.scan_types.Faults.{Fault}
 use Rattle.yaml_parse_laws_trees.specs.parse_grammar.Resolve.{Told}
 use Rattle.yaml_parse_laws_trees.specs.FaultsRows.{column, in_column, stream, word, scanner_fault}
 use Rattle.yaml_parse_laws_trees.specs.Given.{EventsOfTokens}

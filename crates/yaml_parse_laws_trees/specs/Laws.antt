@@ -1,7 +1,7 @@
 -- What loads end in is the list's fault.
 use Rattle.std.specs.Prelude.{◌≡◌, ℕ, List, Option}
-use Rattle.yaml_parse_laws_trees.specs.parse_grammar.parse_model.Tokens.{Token}
-use Rattle.yaml_parse_laws_trees.specs.parse_grammar.parse_model.Faults.{Fault}
+use Rattle.yaml_parse_model.specs.scan_types.Tokens.{Token}
+use Rattle.yaml_parse_model.specs.scan_types.Faults.{Fault}
 use Rattle.yaml_parse_laws_trees.specs.parse_grammar.Machine.{run, initial}
 use Rattle.yaml_parse_laws_trees.specs.parse_grammar.Resolve.{no_directives, Reading, Told}
 use Rattle.yaml_parse_laws_trees.specs.parse_grammar.Remaining.{reading_of}

@@ -18,8 +18,8 @@ pub mod NextLoad
 pub mod Falling
 pub mod Depths
 pub mod WindowsLaws
--- what it stands on, for crates that name this one alone
+-- the crates below it, for crates that name this one alone
 pub use Rattle.yaml_parse_grammar.specs as parse_grammar
--- what it stands on, for crates of laws that name this one alone
+-- the crates below it, for crates of laws that name this one alone
 pub use Rattle.yaml_parse_model.specs as parse_model
 pub use Rattle.yaml_parse_loader.specs as parse_loader

@@ -1,7 +1,7 @@
 -- What a load comes to, said by content: by that of the document whose events come next.
 use Rattle.std.specs.Prelude.{◌≡◌, ◌⊎◌, ◌≤◌, ℕ, Bool, true, false, ◌||◌, List, [], ◌∷◌, ◌++◌, map, Option, Some, None, Ok}
 use Rattle.yaml_parse_laws_trees.specs.parse_grammar.parse_model.declared.yaml_mark_t.{yaml_mark_t}
-use Rattle.yaml_parse_laws_trees.specs.parse_grammar.parse_model.Faults.{Fault, IsMemoryFault, scan_layers, load_layers}
+use Rattle.yaml_parse_model.specs.scan_types.Faults.{Fault, IsMemoryFault, scan_layers, load_layers}
 use Rattle.yaml_parse_laws_trees.specs.parse_grammar.parse_model.Source.{HasMore}
 use Rattle.yaml_parse_laws_trees.specs.parse_grammar.parse_model.Events.{Event, EventBody}
 use Rattle.yaml_parse_laws_trees.specs.parse_grammar.parse_model.Events as event
@@ -10,7 +10,7 @@ use Rattle.yaml_parse_laws_trees.specs.parse_grammar.Resolve.{Told}
 use Rattle.yaml_parse_laws_trees.specs.parse_grammar.Remaining.{ParserRemaining, IsFinished}
 use Rattle.yaml_parse_loader.specs.Numbering.{is_same, undefined_alias, DocumentContent, document_events, document_of}
 
--- ---- told events
+-- ---- events without their numbers
 
 abbrev pub told_events : List Told → List Event
 told_events gs = map (λ (g : Told). g.0) gs

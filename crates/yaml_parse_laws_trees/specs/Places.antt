@@ -1,7 +1,7 @@
 -- The fault of a list of tokens: the one of the least place.
 use Rattle.std.specs.Prelude.{◌≡◌, ◌⊎◌, ℕ, suc, ◌<◌, ◌-◌, List, [], ◌∷◌, ◌++◌, length, Option, Some, None}
-use Rattle.yaml_parse_laws_trees.specs.parse_grammar.parse_model.Tokens.{Token, no_token}
-use Rattle.yaml_parse_laws_trees.specs.parse_grammar.parse_model.Faults.{Fault}
+use Rattle.yaml_parse_model.specs.scan_types.Tokens.{Token, no_token}
+use Rattle.yaml_parse_model.specs.scan_types.Faults.{Fault}
 use Rattle.yaml_parse_laws_trees.specs.parse_grammar.Trees.{Stream, spell}
 use Rattle.yaml_parse_laws_trees.specs.SoundLaws.{GoesOn}
 use Rattle.yaml_parse_laws_trees.specs.LookBack.{followed_by}
@@ -60,7 +60,7 @@ IsFree ts = (p : FaultPlace) (e : Fault) → StandsIn ts p e → ⊥
 
 -- ---- the fault of a list
 
--- The list begins with a sentence: the tokens of a tree in which no fault stands.
+-- The list begins with a sentence: the tokens of a tree without a fault.
 pub record BeginsWithSentence (ts : List Token) : Type 0 where
   pub tree : Stream
   pub rest : List Token

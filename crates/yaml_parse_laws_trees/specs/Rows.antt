@@ -1,8 +1,8 @@
 -- Lists of tokens with the faults that loading them ends in, by hand.
 use Rattle.std.specs.Prelude.{ℕ, List, [], ◌∷◌, Some, None, codes}
-use Rattle.yaml_parse_laws_trees.specs.parse_grammar.parse_model.Tokens.{TokenBody, zero_mark}
-use Rattle.yaml_parse_laws_trees.specs.parse_grammar.parse_model.Tokens as token
-use Rattle.yaml_parse_laws_trees.specs.parse_grammar.parse_model.Faults.{Fault}
+use Rattle.yaml_parse_model.specs.scan_types.Tokens.{TokenBody, zero_mark}
+use Rattle.yaml_parse_model.specs.scan_types.Tokens as token
+use Rattle.yaml_parse_model.specs.scan_types.Faults.{Fault}
 use Rattle.yaml_parse_laws_trees.specs.Wrong.{while_parsing, alone}
 use Rattle.yaml_parse_laws_trees.specs.FaultsRows.{column, in_column, stream, word, tag_e, FaultRow, row, scanner_fault}
 use Rattle.yaml_parse_loader.specs.Numbering.{undefined_alias}

@@ -1,7 +1,7 @@
 -- Sentences that go on with tokens, and the events before a fault.
 use Rattle.std.specs.Prelude.{◌≡◌, List, [], ◌∷◌, ◌++◌, Option, None}
-use Rattle.yaml_parse_laws_trees.specs.parse_grammar.parse_model.Tokens.{Token}
-use Rattle.yaml_parse_laws_trees.specs.parse_grammar.parse_model.Faults.{Fault}
+use Rattle.yaml_parse_model.specs.scan_types.Tokens.{Token}
+use Rattle.yaml_parse_model.specs.scan_types.Faults.{Fault}
 use Rattle.yaml_parse_laws_trees.specs.parse_grammar.Trees.{Stream, spell}
 use Rattle.yaml_parse_laws_trees.specs.parse_grammar.TreeEvents.{given_of}
 use Rattle.yaml_parse_laws_trees.specs.parse_grammar.Resolve.{Told, reading, no_directives}
@@ -9,7 +9,7 @@ use Rattle.yaml_parse_laws_trees.specs.SoundLaws.{told, BeginsWithEvents}
 use Rattle.yaml_parse_laws_trees.specs.Places.{IsFree, BeginsWithSentence}
 use Rattle.yaml_parse_laws_trees.specs.GivenLaws.{events_run}
 
--- A sentence goes on with the tokens: they are a front of those of a tree in which no fault stands, so that its directives and
+-- A sentence goes on with the tokens: they are a front of those of a tree without a fault, so that its directives and
 -- its tag handles are in order.
 pub record SentenceGoesOn (ts : List Token) : Type 0 where
   pub tree : Stream

@@ -3,8 +3,8 @@ use Rattle.std.specs.Prelude.{◌≡◌, ◌⊎◌, List, [], ◌∷◌, ◌++�
 use Rattle.yaml_parse_laws_trees.specs.parse_grammar.parse_model.declared.yaml_mark_t.{yaml_mark_t}
 use Rattle.yaml_parse_laws_trees.specs.parse_grammar.parse_model.declared.yaml_error_type_t.TheVariants.{YAML_PARSER_ERROR}
 use Rattle.yaml_parse_laws_trees.specs.parse_grammar.parse_model.declared.yaml_origin_t.TheVariants.{Parser}
-use Rattle.yaml_parse_laws_trees.specs.parse_grammar.parse_model.Tokens.{Token, zero_mark}
-use Rattle.yaml_parse_laws_trees.specs.parse_grammar.parse_model.Faults.{Fault}
+use Rattle.yaml_parse_model.specs.scan_types.Tokens.{Token, zero_mark}
+use Rattle.yaml_parse_model.specs.scan_types.Faults.{Fault}
 use Rattle.yaml_parse_laws_trees.specs.parse_grammar.parse_model.Events.{Event}
 use Rattle.yaml_parse_laws_trees.specs.parse_grammar.Items.{RawEvent}
 use Rattle.yaml_parse_laws_trees.specs.parse_grammar.Trees.{Stream, spell, Given}
@@ -19,7 +19,8 @@ pub record BeginsWithTree (ts : List Token) : Type 0 where
   pub rest : List Token
   pub same : ts ≡ spell tree rest
 
--- the same of a sentence, as the machine reads it: a tree whose directives and tag handles are in order
+-- The list begins with a sentence, as the machine reads it: a tree whose directives and tag handles
+-- are in order
 pub record BeginsWithTreeInOrder (ts : List Token) : Type 0 where
   pub tree : Stream
   pub rest : List Token

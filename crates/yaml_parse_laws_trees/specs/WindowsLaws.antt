@@ -1,8 +1,8 @@
 -- The events of tokens after a document's end.
 use Rattle.std.specs.Prelude.{◌≡◌, ◌≢◌, ◌⊎◌, List, [], ◌∷◌, ◌++◌, map, Option, Some, None}
 use Rattle.yaml_parse_grammar.specs.parse_model.declared.yaml_encoding_t.{yaml_encoding_t}
-use Rattle.yaml_parse_grammar.specs.parse_model.Tokens.{Token, TokenBody, stream_start, stream_end, document_start, document_end, version_directive, tag_directive}
-use Rattle.yaml_parse_grammar.specs.parse_model.Faults.{Fault}
+use Rattle.yaml_parse_grammar.specs.scan_types.Tokens.{Token, TokenBody, stream_start, stream_end, document_start, document_end, version_directive, tag_directive}
+use Rattle.yaml_parse_grammar.specs.scan_types.Faults.{Fault}
 use Rattle.yaml_parse_grammar.specs.parse_model.Events.{Event}
 use Rattle.yaml_parse_grammar.specs.declared.ParseProblem.TheVariants.{NoDocumentStart}
 use Rattle.yaml_parse_grammar.specs.Problems.{parser_fault}
@@ -51,7 +51,7 @@ abbrev pub DocumentGoesOn : List Token → Option Fault → Type 0
 DocumentGoesOn [] own = own ≢ None
 DocumentGoesOn (mark ∷ behind) own = BeginsDocument mark.body
 
--- Where DOCUMENT-END is before STREAM-END, a directive may be in the latter's place too, wherever it is told, and so may
+-- Where DOCUMENT-END is before STREAM-END, a directive may be in the latter's place too, and so may
 -- a fault.
 abbrev pub DirectivesAreParsed : Type 0
 DirectivesAreParsed = (front : List Token) (over last : Token) → GoOn front
@@ -66,7 +66,7 @@ DirectivesAreParsed = (front : List Token) (over last : Token) → GoOn front
     → (events_in (parse_of (front ++ over ∷ rest) own) ≡ before ++ later)
     × ((parse_of (front ++ over ∷ rest) own).ending ≡ (parse_of (first ∷ rest) own).ending)
 
--- Where tokens that end in STREAM-END are refused, and not for want of a document after directives that end them, they are refused
+-- Where tokens that end in STREAM-END are refused, and not for lack of a document after directives that end them, they are refused
 -- so with a DOCUMENT-START in its place, whatever is after.
 abbrev pub RefusedFrontsStay : Type 0
 RefusedFrontsStay = (front : List Token) (last : Token) → GoOn front → last.body ≡ stream_end

@@ -4,9 +4,9 @@ use Rattle.std.specs.Ordering.{int_eq}
 use Rattle.yaml_parse_laws_trees.specs.parse_grammar.parse_model.declared.yaml_mark_t.{yaml_mark_t}
 use Rattle.yaml_parse_laws_trees.specs.parse_grammar.parse_model.declared.yaml_error_type_t.TheVariants.{YAML_PARSER_ERROR}
 use Rattle.yaml_parse_laws_trees.specs.parse_grammar.parse_model.declared.yaml_origin_t.TheVariants.{Parser}
-use Rattle.yaml_parse_laws_trees.specs.parse_grammar.parse_model.Tokens.{Token, TokenBody, zero_mark}
-use Rattle.yaml_parse_laws_trees.specs.parse_grammar.parse_model.Tokens as token
-use Rattle.yaml_parse_laws_trees.specs.parse_grammar.parse_model.Faults.{Fault}
+use Rattle.yaml_parse_model.specs.scan_types.Tokens.{Token, TokenBody, zero_mark}
+use Rattle.yaml_parse_model.specs.scan_types.Tokens as token
+use Rattle.yaml_parse_model.specs.scan_types.Faults.{Fault}
 use Rattle.yaml_parse_laws_trees.specs.LookBack.{opened, in_brackets, asks_for_node, directives_before, document_directives, has_version, has_handle, is_defined, NodeTag, ended_tag}
 
 -- a problem at a mark, while something was parsed that begins at another

@@ -1,8 +1,8 @@
 //! Laws of the grammar of tokens.
 
 ghost use Rattle.std.specs.Prelude.{◌≤◌, ◌*◌, List, Option, length};
-ghost use Rattle.yaml_parse_grammar.specs.parse_model.Tokens.{Token};
-ghost use Rattle.yaml_parse_grammar.specs.parse_model.Faults.{Fault};
+ghost use Rattle.yaml_parse_grammar.specs.scan_types.Tokens.{Token};
+ghost use Rattle.yaml_parse_grammar.specs.scan_types.Faults.{Fault};
 ghost use Rattle.yaml_parse_grammar.specs.Machine.{run, initial};
 ghost use Rattle.yaml_parse_grammar.specs.Resolve.{Directives};
 ghost use Rattle.yaml_parse_grammar.specs.Remaining.{reading_of};

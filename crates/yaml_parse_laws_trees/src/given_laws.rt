@@ -21,7 +21,7 @@ pub fn laws_of_events()
     // which goes on with the longest front of the list with which one does.
     ensures events_before_a_fault_begin_a_sentence { RunBeginsSentence }
     // Lists with their events before a fault: a node that has properties alone, the end of a single pair
-    // and that of a document are given; a node that may be left out isn't, and nothing is told by a fault
+    // and that of a document are given; a node that may be left out isn't, and nothing comes of a fault
     // of the source's own.
     ensures rows_of_events_hold { RowsHold }
 {}

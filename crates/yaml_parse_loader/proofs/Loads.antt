@@ -4,7 +4,7 @@ use Rattle.std.specs.FinMap as map
 use Rattle.std.specs.Ordering.{nat_cmp}
 use Rattle.std.specs.Cmp.Lexicographic.{slice_cmp, nat_list_cmp_total}
 use Rattle.yaml_parse_model.specs.declared.yaml_mark_t.{yaml_mark_t}
-use Rattle.yaml_parse_model.specs.Faults.{Fault}
+use Rattle.yaml_parse_model.specs.scan_types.Faults.{Fault}
 use Rattle.yaml_parse_model.specs.declared.yaml_node_pair_t.{yaml_node_pair_t}
 use Rattle.yaml_parse_model.specs.Events.{Event}
 use Rattle.yaml_parse_model.specs.Events as event

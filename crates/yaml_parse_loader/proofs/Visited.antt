@@ -2,7 +2,7 @@
 use Rattle.std.proofs.Common.{◌≡◌, ◌≤◌, ◌+◌, ℕ, zero, suc, ℤ, pos, List, [], ◌∷◌, ◌++◌, length, Option, Some, Result, Ok, Err, IfOk, IfSome, refl, ap, sym, ◌∙◌, subst, arith, append_assoc, append-nil, length-append}
 use Rattle.std.proofs.lemmas.Bool.{cond_both}
 use Rattle.std.specs.Prelude.{slice_get}
-use Rattle.yaml_parse_model.specs.Faults.{Fault}
+use Rattle.yaml_parse_model.specs.scan_types.Faults.{Fault}
 use Rattle.yaml_parse_model.specs.Nodes.{Node}
 use Rattle.yaml_parse_model.specs.Documents.{Document, IsId}
 use Rattle.yaml_parse_model.proofs.Sound.{length_push, wider_id}
@@ -56,7 +56,7 @@ met_again nodes seen after (pos zero) ids h v = absurd h
 met_again nodes seen after (pos (suc k)) ids h v = again seen k after ids (omega arith) v
 met_again nodes seen after _ ids h v = absurd h
 
--- numbered content, wherever its nodes stand: what stands for it is visited, and then what follows
+-- numbered content, wherever its nodes are: its numbers are visited, and then what follows
 record Placed {A : Type 0} (numbers : A → List ℤ) (count : ℕ) (r : Numbered A) : Type 0 where
   before : AreNodes (count + length r.nodes) r.before
   visits : (nodes before after : List Node) (mid end : ℕ) (ids : List ℤ)
@@ -70,7 +70,7 @@ alone id = id ∷ []
 abbrev these : List ℤ → List ℤ
 these ids = ids
 
--- what stands for nothing
+-- what has no number
 none_placed : {A : Type 0} (numbers : A → List ℤ) (count : ℕ) (ks : Anchored) (x : A)
     → numbers x ≡ [] → AreNodes count ks
     → Placed numbers count (record { number = x; nodes = []; before = ks })
@@ -145,7 +145,7 @@ mutual
 any_good : {A : Type 0} (r : Result A Fault) → Good r (λ x. Unit {0})
 any_good r = grind arith
 
--- the number that stands for the root of a document that loads
+-- the number of the root of a document that loads
 root_number : (c : Content) → Good (number c 0 []) (λ r. r.number ≡ pos 1)
 unfolding number
 root_number (alias name at) = tt

@@ -1,4 +1,4 @@
--- How a table of anchors is told apart from another.
+-- What distinguishes one table of anchors from another.
 use Rattle.std.specs.Coded.{Coded, coded_ℕ, coded_ℤ, coded_list}
 use Rattle.std.specs.FinMap as map
 use Rattle.yaml_parse_loader.specs.Anchors.{Anchors}

@@ -5,8 +5,8 @@ use Rattle.yaml_parse_model.specs.declared.yaml_mark_t.{yaml_mark_t}
 use Rattle.yaml_parse_model.specs.declared.yaml_version_directive_t.{yaml_version_directive_t}
 use Rattle.yaml_parse_model.specs.declared.yaml_fault_t.{yaml_fault_t}
 use Rattle.yaml_parse_model.specs.declared.yaml_origin_t.TheVariants.{Loader}
-use Rattle.yaml_parse_model.specs.Tokens.{zero_mark}
-use Rattle.yaml_parse_model.specs.Faults.{Fault, fault_of, memory_fault}
+use Rattle.yaml_parse_model.specs.scan_types.Tokens.{zero_mark}
+use Rattle.yaml_parse_model.specs.scan_types.Faults.{Fault, fault_of, memory_fault}
 use Rattle.yaml_parse_model.specs.declared.yaml_node_pair_t.{yaml_node_pair_t}
 use Rattle.yaml_parse_model.specs.Events.{Event, EventBody, TagDirective}
 use Rattle.yaml_parse_model.specs.Events as event

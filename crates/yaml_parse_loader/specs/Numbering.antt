@@ -3,7 +3,7 @@
 use Rattle.std.specs.Prelude.{ℕ, suc, ℤ, pos, ◌+◌, ◌==◌, Bool, false, cond, List, [], ◌∷◌, ◌++◌, length, Option, Some, None, Result, Ok, Err, codes}
 use Rattle.std.specs.Ordering.{nat_cmp, eq_by_cmp}
 use Rattle.std.specs.Cmp.Lexicographic.{slice_cmp}
-use Rattle.yaml_parse_model.specs.Ascii as ascii
+use Rattle.yaml_parse_model.specs.scan_types.Ascii as ascii
 use Rattle.yaml_parse_model.specs.declared.yaml_mark_t.{yaml_mark_t}
 use Rattle.yaml_parse_model.specs.declared.yaml_version_directive_t.{yaml_version_directive_t}
 use Rattle.yaml_parse_model.specs.declared.yaml_scalar_style_t.{yaml_scalar_style_t}
@@ -11,8 +11,8 @@ use Rattle.yaml_parse_model.specs.declared.yaml_sequence_style_t.{yaml_sequence_
 use Rattle.yaml_parse_model.specs.declared.yaml_mapping_style_t.{yaml_mapping_style_t}
 use Rattle.yaml_parse_model.specs.declared.yaml_error_type_t.TheVariants.{YAML_COMPOSER_ERROR}
 use Rattle.yaml_parse_model.specs.declared.yaml_origin_t.TheVariants.{Loader}
-use Rattle.yaml_parse_model.specs.Tokens.{zero_mark}
-use Rattle.yaml_parse_model.specs.Faults.{Fault}
+use Rattle.yaml_parse_model.specs.scan_types.Tokens.{zero_mark}
+use Rattle.yaml_parse_model.specs.scan_types.Faults.{Fault}
 use Rattle.yaml_parse_model.specs.declared.yaml_node_pair_t.{yaml_node_pair_t}
 use Rattle.yaml_parse_model.specs.Events.{Event, TagDirective}
 use Rattle.yaml_parse_model.specs.Events as event
@@ -22,14 +22,14 @@ use Rattle.yaml_parse_model.specs.Documents.{Document, str_tag, seq_tag, map_tag
 
 -- ---- the content of a document, as a tree, and its events
 
--- what a node's first event carries: its properties, and where it stands
+-- what a node's first event carries: its properties, and where it is
 pub record Head : Type 0 where
   pub anchor : Option (List ℕ)
   pub tag : Option (List ℕ)
   pub start_mark : yaml_mark_t
   pub end_mark : yaml_mark_t
 
--- where a closing event stands
+-- where a closing event is
 pub record Span : Type 0 where
   pub start_mark : yaml_mark_t
   pub end_mark : yaml_mark_t
@@ -128,7 +128,7 @@ abbrev pub and_node : Option (List ℕ) → ℤ → Anchored → Anchored
 and_node None number before = before
 and_node (Some anchor) number before = (anchor, number) ∷ before
 
--- the number that stands for a node, its own nodes in preorder, and the nodes with an anchor before what is after it
+-- the number of a node, its own nodes in preorder, and the nodes with an anchor before what is after it
 pub record Numbered (A : Type 0) : Type 0 where
   pub number : A
   pub nodes : List Node

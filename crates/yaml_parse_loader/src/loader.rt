@@ -2,7 +2,7 @@
 
 ghost use Rattle.std.specs.Prelude.{◌≡◌, List, IfOk, IfSome};
 ghost use Rattle.yaml_parse_model.specs.Events.{Event, borrowed_body};
-ghost use Rattle.yaml_parse_model.specs.Faults.{fault_of};
+ghost use Rattle.yaml_parse_model.specs.scan_types.Faults.{fault_of};
 ghost use Rattle.yaml_parse_loader.specs.Numbering.{DocumentContent, document_events, document_of, undefined_alias};
 ghost use Rattle.yaml_parse_model.specs.Constructors.{HasUtf8};
 ghost use Rattle.yaml_parse_model.specs.Sizes.{IsSized};
@@ -67,7 +67,7 @@ impl Loader {
         }
     }
 
-    /// Lets go what was loaded. A call of this crate, so that callers need not prove how each part is freed.
+    /// Drops what was loaded. A call of this crate, so that callers need not prove how each part is freed.
     pub fn let_go(self) {
         drop(self);
     }

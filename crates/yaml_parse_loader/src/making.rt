@@ -183,7 +183,7 @@ impl Making {
         }
     }
 
-    /// What was loaded is let go.
+    /// What was loaded is dropped.
     pub fn begin_anew(&mut self)
         ensures { loading_of self.new ≡ nothing_loaded }
     {
@@ -216,7 +216,7 @@ impl Making {
     }
 
     // One node more: its anchor is noted, and the collection around it gets its number.
-    // Inlined: the node is built where it is to stand.
+    // Inlined: the node is built in its place.
     #[inline(always)]
     fn add(&mut self, anchor: Option<&[u8]>, node: yaml_node_t) -> Result<(), yaml_text_fault_t>
         ensures { OnOk result ((loading_of self.new ≡ enter_leaf (loading_of self.old)
@@ -266,7 +266,7 @@ impl Making {
         }
     }
 
-    // A document begins. What was loaded before is let go.
+    // A document begins. What was loaded before is dropped.
     fn begin_document(
         &mut self,
         version_directive: Option<yaml_version_directive_t>,

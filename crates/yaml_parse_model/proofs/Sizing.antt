@@ -2,8 +2,8 @@
 use Rattle.std.proofs.Common.{◌≡◌, ◌≤◌, ◌<◌, ℕ, zero, suc, ℤ, List, [], ◌∷◌, ◌++◌, length, sym, subst, arith, Some, Result, Ok, Err, OnOk, refl}
 use Rattle.std.specs.Prelude.{slice_get}
 use Rattle.yaml_parse_model.specs.declared.node.yaml_node_pair_t.{yaml_node_pair_t}
-use Rattle.yaml_scan_model.specs.declared.yaml_sequence_style_t.{yaml_sequence_style_t}
-use Rattle.yaml_scan_model.specs.declared.yaml_mapping_style_t.{yaml_mapping_style_t}
+use Rattle.yaml_scan_model.specs.declared.name.yaml_sequence_style_t.{yaml_sequence_style_t}
+use Rattle.yaml_scan_model.specs.declared.name.yaml_mapping_style_t.{yaml_mapping_style_t}
 use Rattle.yaml_parse_model.specs.declared.prefix.yaml_text_fault_t.{yaml_text_fault_t}
 use Rattle.yaml_parse_model.specs.Nodes.{Node, NodeBody}
 use Rattle.yaml_parse_model.specs.Nodes as node

@@ -105,7 +105,7 @@ pub pair_sound : (m : ℕ) (p : yaml_node_pair_t) → IsId m p.key × IsId m p.v
     → IsSoundBody m b → IsSoundBody m (with_pair p b)
 pair_sound m p h b s = grind (arith, sound_pairs_push)
 
--- a number under which a node stands is one of that many
+-- a number that has a node is one of that many
 some_place : (ns : List Node) (k : ℕ) → IsSome (slice_get ns k) → suc k ≤ length ns
 some_place [] k h = cc
 some_place (n ∷ ns) zero h = omega arith
@@ -153,7 +153,7 @@ appended_at f count d items k old new (Ok x) inside is view h = (
 appended_at f count d items k old new (Err e) inside is view h =
     ((ap (λ (ns : List Node). let e : Document = record d { nodes = ns } in e) (map-set_same node_of items k new old (h.0 ∙ ap node_of is) ∙ sym view), h.1), tt)
 
--- the same of a node of some kind, under its number
+-- likewise for a node of some kind, under its number
 pub appended : {A : Type 0} (IsKind : NodeBody → Type 0) (f g : NodeBody → NodeBody)
     (count : NodeBody → ℕ) (d e : Document) (items : List yaml_node_t) (k : ℕ) (id : ℤ)
     (old new : yaml_node_t) (r : Result A yaml_text_fault_t)

@@ -1,11 +1,11 @@
 -- Documents: nodes that name each other by number.
 use Rattle.std.specs.Prelude.{◌≡◌, ◌≤◌, ◌<◌, ℕ, zero, suc, ℤ, pos, Bool, Option, Some, None, List, [], ◌∷◌, ◌++◌, length, slice_get, Result, Ok, Err, IsUtf8, false}
-use Rattle.yaml_scan_model.specs.declared.yaml_mark_t.{yaml_mark_t}
-use Rattle.yaml_scan_model.specs.declared.yaml_version_directive_t.{yaml_version_directive_t}
-use Rattle.yaml_scan_model.specs.declared.yaml_scalar_style_t.{yaml_scalar_style_t}
-use Rattle.yaml_scan_model.specs.declared.yaml_sequence_style_t.{yaml_sequence_style_t}
-use Rattle.yaml_scan_model.specs.declared.yaml_mapping_style_t.{yaml_mapping_style_t}
-use Rattle.yaml_parse_model.specs.Tokens.{zero_mark}
+use Rattle.yaml_scan_model.specs.declared.record.yaml_mark_t.{yaml_mark_t}
+use Rattle.yaml_scan_model.specs.declared.record.yaml_version_directive_t.{yaml_version_directive_t}
+use Rattle.yaml_scan_model.specs.declared.name.yaml_scalar_style_t.{yaml_scalar_style_t}
+use Rattle.yaml_scan_model.specs.declared.name.yaml_sequence_style_t.{yaml_sequence_style_t}
+use Rattle.yaml_scan_model.specs.declared.name.yaml_mapping_style_t.{yaml_mapping_style_t}
+use Rattle.yaml_scan_model.specs.scan_types.Tokens.{zero_mark}
 use Rattle.yaml_parse_model.specs.declared.node.yaml_node_pair_t.{yaml_node_pair_t}
 use Rattle.yaml_parse_model.specs.declared.prefix.yaml_text_fault_t.{yaml_text_fault_t}
 use Rattle.yaml_parse_model.specs.declared.prefix.yaml_text_fault_t.TheVariants.{NotUtf8, Memory}
@@ -80,7 +80,7 @@ new_document version directives start_implicit end_implicit = record {
   nodes = [];
 }
 
--- the document that stands for the end: no root, no directives, explicit marks
+-- the document that marks the end: no root, no directives, explicit marks
 abbrev pub no_document : Document
 no_document = new_document None [] false false
 

@@ -1,16 +1,16 @@
 -- Events, without where their texts lie in memory.
 use Rattle.std.specs.Prelude.{ℕ, Bool, List, map, Option, Some, None, option_map, Vec}
 use Rattle.std.specs.Global.{Global}
-use Rattle.yaml_scan_model.specs.declared.yaml_encoding_t.{yaml_encoding_t}
-use Rattle.yaml_scan_model.specs.declared.yaml_mark_t.{yaml_mark_t}
-use Rattle.yaml_scan_model.specs.declared.yaml_scalar_style_t.{yaml_scalar_style_t}
-use Rattle.yaml_scan_model.specs.declared.yaml_sequence_style_t.{yaml_sequence_style_t}
-use Rattle.yaml_scan_model.specs.declared.yaml_mapping_style_t.{yaml_mapping_style_t}
-use Rattle.yaml_scan_model.specs.declared.yaml_version_directive_t.{yaml_version_directive_t}
-use Rattle.yaml_scan_model.specs.declared.yaml_tag_directive_t.{yaml_tag_directive_t}
-use Rattle.yaml_scan_model.specs.declared.yaml_event_type_t.{yaml_event_type_t}
-use Rattle.yaml_scan_model.specs.declared.yaml_event_type_t.TheVariants as kind
-use Rattle.yaml_scan_model.specs.Tokens.{zero_mark}
+use Rattle.yaml_scan_model.specs.declared.name.yaml_encoding_t.{yaml_encoding_t}
+use Rattle.yaml_scan_model.specs.declared.record.yaml_mark_t.{yaml_mark_t}
+use Rattle.yaml_scan_model.specs.declared.name.yaml_scalar_style_t.{yaml_scalar_style_t}
+use Rattle.yaml_scan_model.specs.declared.name.yaml_sequence_style_t.{yaml_sequence_style_t}
+use Rattle.yaml_scan_model.specs.declared.name.yaml_mapping_style_t.{yaml_mapping_style_t}
+use Rattle.yaml_scan_model.specs.declared.record.yaml_version_directive_t.{yaml_version_directive_t}
+use Rattle.yaml_scan_model.specs.declared.record.yaml_tag_directive_t.{yaml_tag_directive_t}
+use Rattle.yaml_scan_model.specs.declared.name.yaml_event_type_t.{yaml_event_type_t}
+use Rattle.yaml_scan_model.specs.declared.name.yaml_event_type_t.TheVariants as kind
+use Rattle.yaml_scan_model.specs.scan_types.Tokens.{zero_mark}
 use Rattle.yaml_parse_model.specs.declared.event.yaml_event_body_t.{yaml_event_body_t}
 use Rattle.yaml_parse_model.specs.declared.event.yaml_event_body_t.TheVariants as body
 use Rattle.yaml_parse_model.specs.declared.event.yaml_event_t.{yaml_event_t}
@@ -70,7 +70,7 @@ body_of (body.MappingStart anchor tag implicit style) = mapping_start (text_of a
     implicit style
 body_of body.MappingEnd = mapping_end
 
--- the same of a body whose texts are borrowed
+-- the body whose texts are borrowed
 abbrev pub borrowed_body : EventRef → EventBody
 borrowed_body borrowed.No = no
 borrowed_body (borrowed.StreamStart encoding) = stream_start encoding

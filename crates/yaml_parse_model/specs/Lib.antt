@@ -9,6 +9,9 @@ pub mod Documents
 pub mod Parts
 pub mod Sizes
 pub mod Views
-pub use Rattle.yaml_scan_model.specs.Ascii
-pub use Rattle.yaml_scan_model.specs.Tokens
-pub use Rattle.yaml_scan_model.specs.Faults
+pub use Rattle.yaml_scan_model.specs.scan_types.Ascii
+pub use Rattle.yaml_scan_model.specs.scan_types.Tokens
+pub use Rattle.yaml_scan_model.specs.scan_types.Faults
+-- the crates below it, for crates that name this one alone
+pub use Rattle.yaml_scan_model.specs.scan_types
+pub use Rattle.yaml_scan_model.specs as scan_model

@@ -1,11 +1,11 @@
 -- Nodes of documents, without where their texts and lists lie in memory.
 use Rattle.std.specs.Prelude.{ℕ, ℤ, List, codes}
-use Rattle.yaml_scan_model.specs.declared.yaml_mark_t.{yaml_mark_t}
-use Rattle.yaml_scan_model.specs.declared.yaml_scalar_style_t.{yaml_scalar_style_t}
-use Rattle.yaml_scan_model.specs.declared.yaml_sequence_style_t.{yaml_sequence_style_t}
-use Rattle.yaml_scan_model.specs.declared.yaml_mapping_style_t.{yaml_mapping_style_t}
-use Rattle.yaml_scan_model.specs.declared.yaml_node_type_t.{yaml_node_type_t}
-use Rattle.yaml_scan_model.specs.declared.yaml_node_type_t.TheVariants as kind
+use Rattle.yaml_scan_model.specs.declared.record.yaml_mark_t.{yaml_mark_t}
+use Rattle.yaml_scan_model.specs.declared.name.yaml_scalar_style_t.{yaml_scalar_style_t}
+use Rattle.yaml_scan_model.specs.declared.name.yaml_sequence_style_t.{yaml_sequence_style_t}
+use Rattle.yaml_scan_model.specs.declared.name.yaml_mapping_style_t.{yaml_mapping_style_t}
+use Rattle.yaml_scan_model.specs.declared.name.yaml_node_type_t.{yaml_node_type_t}
+use Rattle.yaml_scan_model.specs.declared.name.yaml_node_type_t.TheVariants as kind
 use Rattle.yaml_parse_model.specs.declared.node.yaml_node_pair_t.{yaml_node_pair_t}
 use Rattle.yaml_parse_model.specs.declared.node.yaml_node_body_t.{yaml_node_body_t}
 use Rattle.yaml_parse_model.specs.declared.node.yaml_node_body_t.TheVariants as body

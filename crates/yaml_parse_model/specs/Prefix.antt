@@ -1,10 +1,10 @@
--- The fault that a parser lends.
+-- The fault that a parser shows in its fields.
 use Rattle.std.specs.Prelude.{pos, None, option_map, ◌≡◌, []}
-use Rattle.yaml_scan_model.specs.declared.yaml_fault_t.{yaml_fault_t}
-use Rattle.yaml_scan_model.specs.declared.yaml_error_type_t.TheVariants.{YAML_NO_ERROR}
-use Rattle.yaml_scan_model.specs.declared.yaml_origin_t.TheVariants.{Parser}
-use Rattle.yaml_scan_model.specs.Tokens.{zero_mark}
-use Rattle.yaml_scan_model.specs.Faults.{Fault, fault_of}
+use Rattle.yaml_scan_model.specs.declared.fault.yaml_fault_t.{yaml_fault_t}
+use Rattle.yaml_scan_model.specs.declared.name.yaml_error_type_t.TheVariants.{YAML_NO_ERROR}
+use Rattle.yaml_scan_model.specs.declared.fault.yaml_origin_t.TheVariants.{Parser}
+use Rattle.yaml_scan_model.specs.scan_types.Tokens.{zero_mark}
+use Rattle.yaml_scan_model.specs.scan_types.Faults.{Fault, fault_of}
 use Rattle.yaml_parse_model.specs.declared.prefix.yaml_parser_t_prefix.{yaml_parser_t_prefix}
 
 -- the fields, texts as bytes

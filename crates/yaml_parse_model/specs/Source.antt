@@ -2,8 +2,8 @@
 use Rattle.std.specs.Prelude.{◌≡◌, ◌⊎◌, List, [], ◌∷◌, Option, Some, None, Result, Ok, Err}
 use Rattle.yaml_scan_model.specs.declared.token.yaml_token_t.{yaml_token_t}
 use Rattle.yaml_scan_model.specs.declared.fault.yaml_fault_t.{yaml_fault_t}
-use Rattle.yaml_scan_model.specs.Tokens.{Token, token_of}
-use Rattle.yaml_scan_model.specs.Faults.{Fault, fault_of, IsMemoryFault, scan_layers}
+use Rattle.yaml_scan_model.specs.scan_types.Tokens.{Token, token_of}
+use Rattle.yaml_scan_model.specs.scan_types.Faults.{Fault, fault_of, IsMemoryFault, scan_layers}
 pub use Rattle.yaml_scan_model.specs.Coming.{front_of, rest_of, MayAnswer, HasUtf8, spells_text}
 
 -- a token was given: the first to come

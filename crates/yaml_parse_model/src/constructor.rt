@@ -32,7 +32,7 @@ pub fn yaml_stream_end_event_initialize() -> yaml_event_t
     yaml_event_t::unplaced(yaml_event_body_t::StreamEnd)
 }
 
-/// A DOCUMENT-START event with copies of the directives; `implicit`: no `---` is in front. `NotUtf8` where a text isn't
+/// A DOCUMENT-START event with copies of the directives; `implicit`: it has no `---`. `NotUtf8` where a text isn't
 /// UTF-8, looked at before any growth; `Memory` where a growth was refused. The constructors below are refused in the same
 /// way.
 pub fn yaml_document_start_event_initialize(
@@ -55,7 +55,7 @@ pub fn yaml_document_start_event_initialize(
     }))
 }
 
-/// A DOCUMENT-END event; `implicit`: no `...` is after.
+/// A DOCUMENT-END event; `implicit`: it has no `...`.
 pub fn yaml_document_end_event_initialize(implicit: bool) -> yaml_event_t
     ensures { event_of result ≡ unplaced (event.document_end implicit) }
 {

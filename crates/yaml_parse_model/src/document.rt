@@ -60,14 +60,14 @@ impl yaml_document_t {
         &self.parts.tag_directives
     }
 
-    /// No `---` is in front.
+    /// It begins without `---`.
     pub fn start_implicit(&self) -> bool
         ensures { result ≡ self.now.start_implicit }
     {
         self.parts.start_implicit
     }
 
-    /// No `...` is after.
+    /// It ends without `...`.
     pub fn end_implicit(&self) -> bool
         ensures { result ≡ self.now.end_implicit }
     {
@@ -126,7 +126,7 @@ pub fn yaml_document_initialize(
     })
 }
 
-/// The document that stands for the end of a stream: no root, no version, no directives, false flags, zero marks.
+/// The document that marks the end of a stream: no root, no version, no directives, false flags, zero marks.
 pub fn no_document(alloc: Global) -> yaml_document_t
     ensures { result ≡ no_document }
 {
@@ -135,7 +135,7 @@ pub fn no_document(alloc: Global) -> yaml_document_t
     }
 }
 
-/// Spends the document.
+/// Drops the document.
 pub fn yaml_document_delete(document: yaml_document_t) {
     drop(document);
 }

@@ -3,11 +3,6 @@
 ghost use Rattle.std.specs.Prelude.{◌≡◌};
 ghost use Rattle.yaml_parse_model.specs.Events.{type_of, body_of, event_of, unplaced, no_event};
 
-use yaml_scan_model::{
-    yaml_encoding_t, yaml_event_type_t, yaml_mapping_style_t, yaml_mark_t, yaml_scalar_style_t,
-    yaml_sequence_style_t, yaml_tag_directive_t, yaml_version_directive_t,
-};
-
 /// The mark of what is in no text.
 pub const ZERO_MARK: yaml_mark_t = yaml_mark_t {
     index: 0,
@@ -28,11 +23,11 @@ pub enum yaml_event_body_t {
     DocumentStart {
         version_directive: Option<yaml_version_directive_t>,
         tag_directives: Vec<yaml_tag_directive_t>,
-        /// No `---` is in front.
+        /// It begins without `---`.
         implicit: bool,
     },
     DocumentEnd {
-        /// No `...` is after.
+        /// It ends without `...`.
         implicit: bool,
     },
     Alias {
@@ -66,7 +61,7 @@ pub enum yaml_event_body_t {
     MappingEnd,
 }
 
-/// An event, and where its tokens stand.
+/// An event, and the places of its tokens.
 #[derive(Drop)]
 pub struct yaml_event_t {
     pub body: yaml_event_body_t,
@@ -106,9 +101,14 @@ impl yaml_event_t {
     }
 }
 
-/// Lets the event's texts go and leaves the empty event.
+/// Drops the event's texts, and leaves the empty event.
 pub fn yaml_event_delete(event: &mut yaml_event_t)
     ensures { event_of event.new ≡ no_event }
 {
     *event = yaml_event_t::unplaced(yaml_event_body_t::No);
 }
+
+use yaml_scan_model::{
+    yaml_encoding_t, yaml_event_type_t, yaml_mapping_style_t, yaml_mark_t, yaml_scalar_style_t,
+    yaml_sequence_style_t, yaml_tag_directive_t, yaml_version_directive_t,
+};

@@ -90,7 +90,7 @@ fn put_front(bytes: &mut [u8], text: &[u8])
 }
 
 // A text of up to 24 bytes.
-// Inlined: it is built where it is to stand.
+// Inlined: it is built in its place.
 #[inline(always)]
 fn kept_short(text: &[u8]) -> yaml_node_text_t
     requires { length text.now ≤ WITHIN }

@@ -1,11 +1,9 @@
 //! Where a parser's tokens come from.
 
 ghost use Rattle.std.specs.Prelude.{List, Option, IfOk, IfErr, ⊤};
-ghost use Rattle.yaml_scan_model.specs.Tokens.{Token, token_of};
-ghost use Rattle.yaml_scan_model.specs.Faults.{Fault, fault_of};
+ghost use Rattle.yaml_scan_model.specs.scan_types.Tokens.{Token, token_of};
+ghost use Rattle.yaml_scan_model.specs.scan_types.Faults.{Fault, fault_of};
 ghost use Rattle.yaml_parse_model.specs.Source.{GivesToken, GivesFault, Answer, answer_of};
-
-use yaml_scan_model::{yaml_fault_t, yaml_token_t};
 
 /// A source of tokens. Its meaning is the finite list of tokens to come, whose texts are UTF-8, and the fault that
 /// ends the list, if any. After both it answers the empty token. Where a growth is refused it answers
@@ -28,3 +26,5 @@ pub trait yaml_token_source_t: Drop {
             (fault_of f) (to_come self.new) (fault_to_come self.new)) }
         ensures own { own_step self.old (answer_of result) self.new };
 }
+
+use yaml_scan_model::{yaml_fault_t, yaml_token_t};

@@ -2,9 +2,9 @@
 use Rattle.std.proofs.Common.{◌≡◌, ◌⊎◌, inl, inr, ◌<◌, Bool, true, false, List, [], ◌∷◌, reverse, length, Option, Some, None, refl, sym, ap, subst, ◌∙◌, arith}
 use Rattle.std.proofs.lemmas.Bool.{false≢true}
 use Rattle.yaml_parse_model.specs.declared.yaml_mark_t.{yaml_mark_t}
-use Rattle.yaml_parse_model.specs.Tokens.{Token, zero_mark}
-use Rattle.yaml_parse_model.specs.Tokens as token
-use Rattle.yaml_parse_model.specs.Faults.{Fault}
+use Rattle.yaml_parse_model.specs.scan_types.Tokens.{Token, zero_mark}
+use Rattle.yaml_parse_model.specs.scan_types.Tokens as token
+use Rattle.yaml_parse_model.specs.scan_types.Faults.{Fault}
 use Rattle.yaml_parse_model.specs.Source.{front_of, rest_of}
 use Rattle.yaml_parse_model.specs.Events as event
 use Rattle.yaml_parse_grammar.specs.declared.name.Choice.TheVariants.{Refuse, Take, Leave, Open}
@@ -18,11 +18,11 @@ use Rattle.yaml_parse_grammar.specs.Machine.{Fed, feed, given_by, with_item, cho
 use Rattle.yaml_parse_grammar.specs.Resolve.{Directives, Settled, placed, settle}
 use Rattle.yaml_parse_grammar.proofs.Complete.{fed_by, optional_takes}
 use Rattle.yaml_parse_grammar.proofs.Rules.{opens_node}
-use Rattle.yaml_scan_tokens.specs.declared.kind.Kind.{Kind}
-use Rattle.yaml_scan_tokens.specs.declared.kind.Kind.TheVariants as kind
-use Rattle.yaml_scan_tokens.specs.Kinds.{body_by, is_fault, token_by, type_by}
-use Rattle.yaml_scan_tokens.specs.Shows.{IsNext, ShowsToken, left_behind}
-use Rattle.yaml_scan_tokens.specs.declared.tokens.Tokens.{Ghosts}
+use Rattle.yaml_scan_model.specs.declared.kind.Kind.{Kind}
+use Rattle.yaml_scan_model.specs.declared.kind.Kind.TheVariants as kind
+use Rattle.yaml_scan_model.specs.Kinds.{body_by, is_fault, token_by, type_by}
+use Rattle.yaml_scan_model.specs.Shows.{IsNext, ShowsToken, left_behind}
+use Rattle.yaml_scan_model.specs.declared.tokens.Tokens.{Ghosts}
 use Rattle.yaml_parse_states.specs.declared.parser.Parser.{Parser}
 use Rattle.yaml_parse_states.specs.declared.parser.Turn.{Turn}
 use Rattle.yaml_parse_states.specs.declared.parser.Turn.TheVariants as turn

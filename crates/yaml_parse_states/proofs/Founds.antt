@@ -1,9 +1,9 @@
--- What nodes come to: the event that is given, or the fault that is told.
+-- What nodes come to: the event that is given, or the fault that is reported.
 use Rattle.std.proofs.Common.{◌≡◌, ◌⊎◌, inl, inr, ℕ, ◌≤◌, Bool, true, false, List, [], ◌∷◌, ◌++◌, reverse, length, Option, Some, None, refl, sym, ap, subst, ◌∙◌, arith}
 use Rattle.yaml_parse_model.specs.declared.yaml_mark_t.{yaml_mark_t}
 use Rattle.yaml_parse_model.specs.declared.yaml_origin_t.TheVariants.{Parser as ParserLayer}
-use Rattle.yaml_parse_model.specs.Tokens.{Token}
-use Rattle.yaml_parse_model.specs.Faults.{Fault, memory_fault}
+use Rattle.yaml_parse_model.specs.scan_types.Tokens.{Token}
+use Rattle.yaml_parse_model.specs.scan_types.Faults.{Fault, memory_fault}
 use Rattle.yaml_parse_model.specs.Source.{front_of, rest_of, MayAnswer}
 use Rattle.yaml_parse_model.specs.Events.{Event, EventBody}
 use Rattle.yaml_parse_grammar.specs.declared.name.Wants.{Wants}
@@ -18,12 +18,12 @@ use Rattle.yaml_parse_grammar.specs.Machine.{content_taken, starts_content, take
 use Rattle.yaml_parse_grammar.specs.Resolve.{node_event, placed}
 use Rattle.yaml_parse_grammar.specs.Resolve as resolve
 use Rattle.yaml_parse_grammar.specs.Remaining.{next_unasked}
-use Rattle.yaml_scan_tokens.specs.declared.kind.Kind.{Kind}
-use Rattle.yaml_scan_tokens.specs.declared.kind.Kind.TheVariants as kind
-use Rattle.yaml_scan_tokens.specs.Kinds.{body_by, is_fault, type_by}
-use Rattle.yaml_scan_tokens.specs.Shows.{Shows, ShowsToken, ShowsFault, left_behind}
-use Rattle.yaml_scan_tokens.specs.Texts.{Texts}
-use Rattle.yaml_scan_tokens.specs.declared.tokens.Tokens.{Ghosts}
+use Rattle.yaml_scan_model.specs.declared.kind.Kind.{Kind}
+use Rattle.yaml_scan_model.specs.declared.kind.Kind.TheVariants as kind
+use Rattle.yaml_scan_model.specs.Kinds.{body_by, is_fault, type_by}
+use Rattle.yaml_scan_model.specs.Shows.{Shows, ShowsToken, ShowsFault, left_behind}
+use Rattle.yaml_scan_model.specs.Texts.{Texts}
+use Rattle.yaml_scan_model.specs.declared.tokens.Tokens.{Ghosts}
 use Rattle.yaml_parse_states.specs.declared.event.EventKind.{EventKind}
 use Rattle.yaml_parse_states.specs.declared.event.EventKind.TheVariants as kind_
 use Rattle.yaml_parse_states.specs.declared.event.Slot.{Slot}
@@ -108,7 +108,7 @@ taken_unasked g old new t = t.unasked ∙ ap length t.rest
 
 -- ---- contents
 
--- where the event of a node stands
+-- where the event of a node is
 node_placed : {T P : Type 0} (g : Ghosts T P) (q : Option Properties) (shape : Shape)
     (b : EventBody) (to : yaml_mark_t) (p : Parser T P) → IsBegun g q p
     → placed b (node_at q shape (front_of (g.to_come p.tokens)).start_mark to)

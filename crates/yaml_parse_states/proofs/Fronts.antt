@@ -1,8 +1,8 @@
 -- What is to come, by the kind of the token that is next.
 use Rattle.std.proofs.Common.{◌≡◌, ◌⊎◌, inl, inr, Bool, true, false, if◌then◌else◌, List, [], ◌∷◌, ◌++◌, Option, Some, None, refl, sym, ap, ◌∙◌, arith}
 use Rattle.yaml_parse_model.specs.declared.yaml_mark_t.{yaml_mark_t}
-use Rattle.yaml_parse_model.specs.Tokens.{Token, TokenBody, type_of}
-use Rattle.yaml_parse_model.specs.Faults.{Fault}
+use Rattle.yaml_parse_model.specs.scan_types.Tokens.{Token, TokenBody, type_of}
+use Rattle.yaml_parse_model.specs.scan_types.Faults.{Fault}
 use Rattle.yaml_parse_model.specs.Source.{front_of, rest_of}
 use Rattle.yaml_parse_model.specs.Events.{EventBody}
 use Rattle.yaml_parse_grammar.specs.declared.name.Choice.{Choice}
@@ -17,10 +17,10 @@ use Rattle.yaml_parse_grammar.specs.States as state
 use Rattle.yaml_parse_grammar.specs.Machine.{Fed, stop, feed, choice_at, taken_at, left_at, context_of, given_by, taken, turn, follows, node_taken, starts_node, no_node, wants_of}
 use Rattle.yaml_parse_grammar.specs.Resolve.{Directives, gave, noted, refused, settle, placed}
 use Rattle.yaml_parse_grammar.proofs.Complete.{fed_by}
-use Rattle.yaml_scan_tokens.specs.declared.kind.Kind.{Kind}
-use Rattle.yaml_scan_tokens.specs.declared.kind.Kind.TheVariants as kind
-use Rattle.yaml_scan_tokens.specs.Kinds.{IsOf, body_by, token_by, type_by, is_fault}
-use Rattle.yaml_scan_tokens.specs.Shows.{IsNext, Shows, ShowsToken, ShowsFault, left_behind}
+use Rattle.yaml_scan_model.specs.declared.kind.Kind.{Kind}
+use Rattle.yaml_scan_model.specs.declared.kind.Kind.TheVariants as kind
+use Rattle.yaml_scan_model.specs.Kinds.{IsOf, body_by, token_by, type_by, is_fault}
+use Rattle.yaml_scan_model.specs.Shows.{IsNext, Shows, ShowsToken, ShowsFault, left_behind}
 use Rattle.yaml_parse_states.specs.Coming.{ahead, stopped, read, read_fed, read_node, node_turn}
 use Rattle.yaml_parse_states.specs.Turned.{IsLost}
 use Rattle.yaml_parse_states.proofs.Reading.{read_front, read_by, read_fails, fed_silent, fed_gives, fed_notes, fed_refused, fed_stops, fed_leaves, fed_leaves_refused}

@@ -1,3 +1,5 @@
+pub mod Asked
+pub mod Held
 pub mod Reading
 pub mod Fronts
 pub mod Stacks

@@ -1,7 +1,7 @@
 -- A node after its properties, token by token.
 use Rattle.std.proofs.Common.{◌≡◌, ◌⊎◌, ◌≤◌, true, false, [], ◌∷◌, reverse, Option, Some, None, refl, sym, ap, subst, ◌∙◌}
 use Rattle.yaml_parse_model.specs.declared.yaml_origin_t.TheVariants.{Parser as ParserLayer}
-use Rattle.yaml_parse_model.specs.Faults.{memory_fault}
+use Rattle.yaml_parse_model.specs.scan_types.Faults.{memory_fault}
 use Rattle.yaml_parse_model.specs.Source.{front_of, rest_of}
 use Rattle.yaml_parse_model.specs.Events.{alias}
 use Rattle.yaml_parse_grammar.specs.declared.name.Wants.{Wants}
@@ -15,12 +15,12 @@ use Rattle.yaml_parse_grammar.specs.Machine.{go, no_node, starts_content}
 use Rattle.yaml_parse_grammar.specs.Problems.{parser_fault}
 use Rattle.yaml_parse_grammar.specs.Trees.{event_at}
 use Rattle.yaml_parse_grammar.specs.Remaining.{next_unasked}
-use Rattle.yaml_scan_tokens.specs.declared.kind.Kind.{Kind}
-use Rattle.yaml_scan_tokens.specs.declared.kind.Kind.TheVariants as kind
-use Rattle.yaml_scan_tokens.specs.Kinds.{is_fault, type_by}
-use Rattle.yaml_scan_tokens.specs.Shows.{IsNext, Shows, ShowsToken, left_behind}
-use Rattle.yaml_scan_tokens.specs.Texts.{name_in}
-use Rattle.yaml_scan_tokens.specs.declared.tokens.Tokens.{Ghosts}
+use Rattle.yaml_scan_model.specs.declared.kind.Kind.{Kind}
+use Rattle.yaml_scan_model.specs.declared.kind.Kind.TheVariants as kind
+use Rattle.yaml_scan_model.specs.Kinds.{is_fault, type_by}
+use Rattle.yaml_scan_model.specs.Shows.{IsNext, Shows, ShowsToken, left_behind}
+use Rattle.yaml_scan_model.specs.Texts.{name_in}
+use Rattle.yaml_scan_model.specs.declared.tokens.Tokens.{Ghosts}
 use Rattle.yaml_parse_states.specs.declared.parser.Parser.{Parser}
 use Rattle.yaml_parse_states.specs.declared.parser.Turn.{Turn}
 use Rattle.yaml_parse_states.specs.declared.parser.Turn.TheVariants as turn

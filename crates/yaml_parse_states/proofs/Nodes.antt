@@ -3,8 +3,8 @@ use Rattle.std.proofs.Common.{◌≡◌, ℕ, Bool, true, false, if◌then◌els
 use Rattle.std.proofs.Math.Bool.{or-true}
 use Rattle.std.proofs.lemmas.Bool.{false≢true}
 use Rattle.yaml_parse_model.specs.declared.yaml_mark_t.{yaml_mark_t}
-use Rattle.yaml_parse_model.specs.Tokens.{Token, TokenBody}
-use Rattle.yaml_parse_model.specs.Faults.{Fault}
+use Rattle.yaml_parse_model.specs.scan_types.Tokens.{Token, TokenBody}
+use Rattle.yaml_parse_model.specs.scan_types.Faults.{Fault}
 use Rattle.yaml_parse_model.specs.Source.{front_of, rest_of}
 use Rattle.yaml_parse_model.specs.Events.{EventBody, TagDirective}
 use Rattle.yaml_parse_grammar.specs.declared.name.Choice.TheVariants.{Take, Leave}
@@ -18,11 +18,11 @@ use Rattle.yaml_parse_grammar.specs.States.{State, Taken}
 use Rattle.yaml_parse_grammar.specs.States as grammar
 use Rattle.yaml_parse_grammar.specs.Machine.{stop, given_by, joins, choice_at, taken, starts_content, starts_node, content_taken, node_taken, with_properties_taken, no_node}
 use Rattle.yaml_parse_grammar.specs.Resolve.{Directives, gave, refused, settle, settle_body, placed, node_event, resolved, with_resolved}
-use Rattle.yaml_scan_tokens.specs.declared.kind.Kind.{Kind}
-use Rattle.yaml_scan_tokens.specs.declared.kind.Kind.TheVariants as kind
-use Rattle.yaml_scan_tokens.specs.Kinds.{body_by, type_by}
-use Rattle.yaml_scan_tokens.specs.Shows.{IsNext, left_behind}
-use Rattle.yaml_scan_tokens.specs.declared.tokens.Tokens.{Ghosts}
+use Rattle.yaml_scan_model.specs.declared.kind.Kind.{Kind}
+use Rattle.yaml_scan_model.specs.declared.kind.Kind.TheVariants as kind
+use Rattle.yaml_scan_model.specs.Kinds.{body_by, type_by}
+use Rattle.yaml_scan_model.specs.Shows.{IsNext, left_behind}
+use Rattle.yaml_scan_model.specs.declared.tokens.Tokens.{Ghosts}
 use Rattle.yaml_parse_states.specs.declared.parser.Parser.{Parser}
 use Rattle.yaml_parse_states.specs.Coming.{ahead, stopped, read, read_node}
 use Rattle.yaml_parse_states.specs.Views.{directives_of, text_if}
@@ -62,7 +62,7 @@ taken_behind w q kind.Tag t h = absurd (false≢true h)
 taken_behind w q k t h = refl
 
 type_is : (k : Kind) (t : Token)
-    → Rattle.yaml_parse_model.specs.Tokens.type_of (body_by k t.body) ≡ type_by k
+    → Rattle.yaml_parse_model.specs.scan_types.Tokens.type_of (body_by k t.body) ≡ type_by k
 type_is k t = grind arith
 
 pub content_gives : (k : Kind) (w : Wants) (q : Option Properties) (i : RawEvent) (b : EventBody)

@@ -1,8 +1,8 @@
 -- What the ways through a state's function come to.
 use Rattle.std.proofs.Common.{◌≡◌, inl, inr, ℕ, Bool, true, false, if◌then◌else◌, List, [], ◌∷◌, ◌++◌, reverse, Option, Some, None, refl, sym, ap, subst, ◌∙◌}
 use Rattle.yaml_parse_model.specs.declared.yaml_mark_t.{yaml_mark_t}
-use Rattle.yaml_parse_model.specs.Tokens.{Token}
-use Rattle.yaml_parse_model.specs.Faults.{Fault, IsMemoryFault, scan_layers}
+use Rattle.yaml_parse_model.specs.scan_types.Tokens.{Token}
+use Rattle.yaml_parse_model.specs.scan_types.Faults.{Fault, IsMemoryFault, scan_layers}
 use Rattle.yaml_parse_model.specs.Source.{front_of, rest_of, MayAnswer}
 use Rattle.yaml_parse_model.specs.Events.{Event, EventBody}
 use Rattle.yaml_parse_grammar.specs.declared.name.Choice.TheVariants.{Refuse, Take, Leave}
@@ -15,10 +15,10 @@ use Rattle.yaml_parse_grammar.specs.Machine.{choice_at, taken_at, left_at, taken
 use Rattle.yaml_parse_grammar.specs.Trees.{mark_at}
 use Rattle.yaml_parse_grammar.specs.Resolve.{gave, settle, placed}
 use Rattle.yaml_parse_grammar.specs.Resolve as resolve
-use Rattle.yaml_scan_tokens.specs.declared.kind.Kind.{Kind}
-use Rattle.yaml_scan_tokens.specs.Kinds.{is_fault, type_by, token_by}
-use Rattle.yaml_scan_tokens.specs.Shows.{IsNext, Shows, ShowsToken, ShowsFault, left_behind}
-use Rattle.yaml_scan_tokens.specs.declared.tokens.Tokens.{Ghosts}
+use Rattle.yaml_scan_model.specs.declared.kind.Kind.{Kind}
+use Rattle.yaml_scan_model.specs.Kinds.{is_fault, type_by, token_by}
+use Rattle.yaml_scan_model.specs.Shows.{IsNext, Shows, ShowsToken, ShowsFault, left_behind}
+use Rattle.yaml_scan_model.specs.declared.tokens.Tokens.{Ghosts}
 use Rattle.yaml_parse_states.specs.declared.parser.Parser.{Parser}
 use Rattle.yaml_parse_states.specs.declared.parser.State.{State}
 use Rattle.yaml_parse_states.specs.declared.parser.Turn.{Turn}
@@ -50,7 +50,7 @@ gave_next g was r next e mid new n is h u w =
       next = w ∙ ap (λ e. ahead e n (coming_with g (states_in g next mid) mid)) (sym h.event) ∙ ap (ahead (event_in g new) n) (sym (gives_rest g next e mid new h));
     })
 
--- ---- an indicator, after which a node may stand
+-- ---- an indicator, after which a node may be
 
 -- the state takes that token for nothing, and the place of a node is next
 pub record IsIndicator (x : grammar.State) (k : Kind) (place : Site) (above : List grammar.State)
@@ -180,14 +180,14 @@ stepped g k t1 t2 x above s next r old new p c t states h =
 pub some_same : (e f : Fault) → ◌≡◌ {A = Option Fault} (Some e) (Some f) → e ≡ f
 some_same e f h = cc
 
--- no token is next where a fault was told
+-- no token is next where a fault was reported
 pub no_answer : (ts : List Token) (f : Option Fault) (e : Fault) → ts ≡ [] → f ≡ Some e
     → MayAnswer ts f → ⊥
 no_answer [] None e h k m = cc
 no_answer [] (Some f) e h k m = cc
 no_answer (t ∷ ts) f e h k m = cc
 
--- where memory was told to have run out
+-- where it was reported that memory ran out
 pub memory_told : {T P : Type 0} (g : Ghosts T P) (was : Coming) (e : Fault) (new : Parser T P)
     → IsMemoryFault scan_layers e → IsRefused g (stopped e 0) new → IsRefused g was new
 memory_told g was e new m h = record {
@@ -202,7 +202,7 @@ memory_told g was e new m h = record {
   ];
 }
 
--- A fault is next, and is told.
+-- A fault is next, and is reported.
 pub refused_fault : {T P : Type 0} (g : Ghosts T P) (was : Coming) (ts : List Token)
     (f : Option Fault) (p : ParseProblem) (mid new : Parser T P)
     → ShowsFault ts f (g.to_come mid.tokens) (g.fault_to_come mid.tokens)
@@ -287,7 +287,7 @@ left_here g k t1 x s b next r e old new shows unasked places f choice settles pl
     ∙ ap (λ e. ahead e n (read (g.to_come t1) (g.fault_to_come t1) s ds)) (sym placed_)
     ∙ ap (λ z. ahead e n (read (g.to_come t1) (g.fault_to_come t1) z ds)) (sym (moved_states g next old t1 s places states)))
 
--- ---- the same where it was only asked whether a fault is next
+-- ---- likewise where only the question was whether a fault is next
 
 pub failed_by : {T P : Type 0} (g : Ghosts T P) (x : grammar.State) (s : List grammar.State)
     (p : ParseProblem) (r : Turn) (old mid new : Parser T P) → LooksFor g true old mid

@@ -1,8 +1,9 @@
--- Places of nodes: where the indicator before one ends tells nothing, and nodes inside brackets.
+-- Places of nodes: where the end of the indicator before one says nothing, and nodes inside
+-- brackets.
 use Rattle.std.proofs.Common.{◌≡◌, List, [], ◌∷◌, Option, Some, None, refl, sym, ap, ◌∙◌}
 use Rattle.yaml_parse_model.specs.declared.yaml_mark_t.{yaml_mark_t}
-use Rattle.yaml_parse_model.specs.Tokens.{Token, no_token, type_of}
-use Rattle.yaml_parse_model.specs.Faults.{Fault}
+use Rattle.yaml_parse_model.specs.scan_types.Tokens.{Token, no_token, type_of}
+use Rattle.yaml_parse_model.specs.scan_types.Faults.{Fault}
 use Rattle.yaml_parse_grammar.specs.declared.name.Choice.{Choice}
 use Rattle.yaml_parse_grammar.specs.declared.name.Choice.TheVariants.{Refuse, Take, Leave, Open}
 use Rattle.yaml_parse_grammar.specs.declared.name.Brackets.{Brackets}
@@ -15,10 +16,10 @@ use Rattle.yaml_parse_grammar.specs.States as grammar
 use Rattle.yaml_parse_grammar.specs.Machine.{Fed, feed, turn, with_item, choice_at, lone_below}
 use Rattle.yaml_parse_grammar.specs.Trees.{mark_at}
 use Rattle.yaml_parse_grammar.specs.Resolve.{Directives}
-use Rattle.yaml_scan_tokens.specs.declared.kind.Kind.{Kind}
-use Rattle.yaml_scan_tokens.specs.declared.kind.Kind.TheVariants as kind
-use Rattle.yaml_scan_tokens.specs.Kinds.{token_by, type_by}
-use Rattle.yaml_scan_tokens.specs.Shows.{IsNext}
+use Rattle.yaml_scan_model.specs.declared.kind.Kind.{Kind}
+use Rattle.yaml_scan_model.specs.declared.kind.Kind.TheVariants as kind
+use Rattle.yaml_scan_model.specs.Kinds.{token_by, type_by}
+use Rattle.yaml_scan_model.specs.Shows.{IsNext}
 use Rattle.yaml_parse_states.specs.Coming.{read, read_node, node_turn}
 use Rattle.yaml_parse_states.proofs.Reading.{read_by, read_fails, read_front}
 use Rattle.yaml_parse_states.proofs.Fronts.{awaits}

@@ -3,8 +3,8 @@ use Rattle.std.proofs.Common.{◌≡◌, ◌⊎◌, inl, inr, ℕ, ◌+◌, ◌<
 use Rattle.std.proofs.lemmas.Bool.{false≢true}
 use Rattle.yaml_parse_model.specs.declared.yaml_mark_t.{yaml_mark_t}
 use Rattle.yaml_parse_model.specs.declared.yaml_token_type_t.TheVariants as type
-use Rattle.yaml_parse_model.specs.Tokens.{Token}
-use Rattle.yaml_parse_model.specs.Faults.{Fault}
+use Rattle.yaml_parse_model.specs.scan_types.Tokens.{Token}
+use Rattle.yaml_parse_model.specs.scan_types.Faults.{Fault}
 use Rattle.yaml_parse_model.specs.Source.{front_of, rest_of}
 use Rattle.yaml_parse_grammar.specs.declared.name.Choice.TheVariants.{Take, Leave}
 use Rattle.yaml_parse_grammar.specs.declared.name.Wants.{Wants}
@@ -13,11 +13,11 @@ use Rattle.yaml_parse_grammar.specs.States.{State}
 use Rattle.yaml_parse_grammar.specs.States as grammar
 use Rattle.yaml_parse_grammar.specs.Machine.{go, joins, starts_content, taken_at, taken}
 use Rattle.yaml_parse_grammar.specs.Resolve.{Directives}
-use Rattle.yaml_scan_tokens.specs.declared.kind.Kind.{Kind}
-use Rattle.yaml_scan_tokens.specs.declared.kind.Kind.TheVariants as kind
-use Rattle.yaml_scan_tokens.specs.Kinds.{token_by, type_by}
-use Rattle.yaml_scan_tokens.specs.Shows.{IsNext}
-use Rattle.yaml_scan_tokens.specs.declared.tokens.Tokens.{Ghosts}
+use Rattle.yaml_scan_model.specs.declared.kind.Kind.{Kind}
+use Rattle.yaml_scan_model.specs.declared.kind.Kind.TheVariants as kind
+use Rattle.yaml_scan_model.specs.Kinds.{token_by, type_by}
+use Rattle.yaml_scan_model.specs.Shows.{IsNext}
+use Rattle.yaml_scan_model.specs.declared.tokens.Tokens.{Ghosts}
 use Rattle.yaml_parse_states.specs.declared.event.Slot.{Slot}
 use Rattle.yaml_parse_states.specs.declared.parser.Parser.{Parser}
 use Rattle.yaml_parse_states.specs.Coming.{read, read_node}

@@ -1,7 +1,7 @@
 -- How what is to come goes on at a token.
 use Rattle.std.proofs.Common.{◌≡◌, ℕ, List, [], ◌∷◌, length, Option, Some, None, refl, ap, ◌∙◌, arith}
-use Rattle.yaml_parse_model.specs.Tokens.{Token}
-use Rattle.yaml_parse_model.specs.Faults.{Fault}
+use Rattle.yaml_parse_model.specs.scan_types.Tokens.{Token}
+use Rattle.yaml_parse_model.specs.scan_types.Faults.{Fault}
 use Rattle.yaml_parse_model.specs.Source.{front_of, rest_of, MayAnswer}
 use Rattle.yaml_parse_model.specs.Events.{EventBody}
 use Rattle.yaml_parse_grammar.specs.Items.{RawEvent}

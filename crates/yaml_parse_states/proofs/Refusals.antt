@@ -1,9 +1,9 @@
--- What is told where nothing more is given.
+-- What is reported where nothing more is given.
 use Rattle.std.proofs.Common.{◌≡◌, List, [], Some, refl, sym, ap, subst}
-use Rattle.yaml_parse_model.specs.Tokens.{Token}
-use Rattle.yaml_parse_model.specs.Faults.{Fault}
-use Rattle.yaml_scan_tokens.specs.Shows.{left_behind}
-use Rattle.yaml_scan_tokens.specs.declared.tokens.Tokens.{Ghosts}
+use Rattle.yaml_parse_model.specs.scan_types.Tokens.{Token}
+use Rattle.yaml_parse_model.specs.scan_types.Faults.{Fault}
+use Rattle.yaml_scan_model.specs.Shows.{left_behind}
+use Rattle.yaml_scan_model.specs.declared.tokens.Tokens.{Ghosts}
 use Rattle.yaml_parse_states.specs.declared.parser.Parser.{Parser}
 use Rattle.yaml_parse_states.specs.declared.parser.State.TheVariants as state
 use Rattle.yaml_parse_states.specs.declared.parser.Refusal.{Refusal}

@@ -2,8 +2,8 @@
 use Rattle.std.proofs.Common.{◌≡◌, ◌⊎◌, inl, inr, ℕ, ◌≤◌, Bool, true, List, [], ◌∷◌, reverse, Option, Some, None, refl, sym, ap, subst, ◌∙◌, arith}
 use Rattle.yaml_parse_model.specs.declared.yaml_mark_t.{yaml_mark_t}
 use Rattle.yaml_parse_model.specs.declared.yaml_origin_t.TheVariants.{Parser as ParserLayer}
-use Rattle.yaml_parse_model.specs.Tokens.{Token}
-use Rattle.yaml_parse_model.specs.Faults.{Fault, memory_fault, IsMemoryFault, parse_layers, scan_layers}
+use Rattle.yaml_parse_model.specs.scan_types.Tokens.{Token}
+use Rattle.yaml_parse_model.specs.scan_types.Faults.{Fault, memory_fault, IsMemoryFault, parse_layers, scan_layers}
 use Rattle.yaml_parse_model.specs.Source.{HasMore}
 use Rattle.yaml_parse_model.specs.Events.{Event}
 use Rattle.yaml_parse_grammar.specs.States as grammar
@@ -11,7 +11,7 @@ use Rattle.yaml_parse_grammar.specs.Machine.{Stands, run}
 use Rattle.yaml_parse_grammar.specs.Resolve.{Directives}
 use Rattle.yaml_parse_grammar.specs.Remaining.{FaultOf, is_between, next_unasked}
 use Rattle.yaml_parse_grammar.proofs.EventsToGive.{reading_speaks, speaks}
-use Rattle.yaml_scan_tokens.specs.declared.tokens.Tokens.{Ghosts}
+use Rattle.yaml_scan_model.specs.declared.tokens.Tokens.{Ghosts}
 use Rattle.yaml_parse_states.specs.declared.parser.Parser.{Parser}
 use Rattle.yaml_parse_states.specs.declared.parser.Refusal.{Refusal}
 use Rattle.yaml_parse_states.specs.declared.parser.Refusal.TheVariants as refusal
@@ -94,7 +94,7 @@ asked_there c f m e =
     let same : next_unasked c.events c.ending_unasked ≡ m = ap (λ (z : Coming). next_unasked z.events z.ending_unasked) e in
     omega (arith, same)
 
--- it was told by a step
+-- it was reported by a step
 told_step : {T P : Type 0} (g : Ghosts T P) (held : T → ℕ) (n : ℕ) (a : Fault)
     (old new : Parser T P) → (old.state ≡ state.End → ⊥)
     → (h : IsRefused g (coming_of g old) new) → ToldNext g held n a h.fault old new

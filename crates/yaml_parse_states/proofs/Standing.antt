@@ -113,7 +113,7 @@ pub turn_stood : {T P : Type 0} (x : State) (r : Turn) (old new : Parser T P) �
     → (StandsIn x (reverse old.levels.items) → StandsAfter r new) → Stands old → StandsAfter r new
 turn_stood x r old new e f h = f (subst (λ z. StandsIn z (reverse old.levels.items)) e h)
 
--- the same where the event's value is told besides
+-- likewise where the event's value is known besides
 pub valued_stood : {T P : Type 0} (r : Turn) (old mid new : Parser T P) → r ≡ turn.Given
     → StandsBehind old
     → (StandsIn old.state (reverse old.levels.items) → between_in old.state ≡ false → StandsAfter r mid)

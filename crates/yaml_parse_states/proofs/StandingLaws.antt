@@ -1,12 +1,12 @@
--- How states stand, in the words of the grammar's.
+-- How states are, in the words of the grammar's.
 use Rattle.std.proofs.Common.{◌≡◌, ◌∙◌, List, [], ◌∷◌, reverse, ℕ, refl, sym, ap, subst}
 use Rattle.yaml_parse_model.specs.declared.yaml_mark_t.{yaml_mark_t}
 use Rattle.yaml_parse_model.specs.Events.{Event}
 use Rattle.yaml_parse_grammar.specs.Remaining.{is_between}
 use Rattle.yaml_parse_grammar.specs.Resolve.{Directives}
 use Rattle.yaml_parse_grammar.specs.Stacks.{IsInside, IsStack, parts_documents_behind}
-use Rattle.yaml_scan_tokens.specs.Texts.{Texts}
-use Rattle.yaml_scan_tokens.specs.declared.tokens.Tokens.{Ghosts}
+use Rattle.yaml_scan_model.specs.Texts.{Texts}
+use Rattle.yaml_scan_model.specs.declared.tokens.Tokens.{Ghosts}
 use Rattle.yaml_parse_states.specs.declared.event.EventKind.{EventKind}
 use Rattle.yaml_parse_states.specs.declared.event.EventKind.TheVariants as kind
 use Rattle.yaml_parse_states.specs.declared.event.Slot.{Slot}
@@ -83,7 +83,7 @@ kind_between : {P : Type 0} (k : EventKind) (s : Slot P) (a t : List ℕ) (u : T
 kind_between kind.StreamStart s a t u ds = refl
 kind_between k s a t u ds = refl
 
--- it was told by the event that was given
+-- it is known by the event that was given
 pub told_stands : {T P : Type 0} (g : Ghosts T P) (e : Event) (mid new : Parser T P) → Stood mid
     → Stays g mid new → e ≡ event_in g mid → StandsTold g e new
 told_stands g e mid new h s w = record {

@@ -5,14 +5,14 @@ use Rattle.yaml_parse_model.specs.Source as source
 use Rattle.yaml_parse_model.specs.Source.{front_of}
 use Rattle.yaml_parse_model.specs.declared.yaml_mark_t.{yaml_mark_t}
 use Rattle.yaml_parse_model.specs.declared.yaml_sequence_style_t.TheVariants.{YAML_BLOCK_SEQUENCE_STYLE}
-use Rattle.yaml_parse_model.specs.Tokens.{TokenBody, zero_mark}
+use Rattle.yaml_parse_model.specs.scan_types.Tokens.{TokenBody, zero_mark}
 use Rattle.yaml_parse_model.specs.Events.{Event, TagDirective}
 use Rattle.yaml_parse_model.specs.Constructors.{HasUtf8, IsUtf8Option, AreUtf8}
-use Rattle.yaml_scan_tokens.specs.declared.kind.Kind.TheVariants as token
-use Rattle.yaml_scan_tokens.specs.Kinds.{IsOf}
-use Rattle.yaml_scan_tokens.specs.Texts.{AreTextsOf, Texts}
-use Rattle.yaml_scan_tokens.specs.declared.tokens.Tokens.{Ghosts}
-use Rattle.yaml_scan_tokens.specs.Utf8.{IsUtf8Next}
+use Rattle.yaml_scan_model.specs.declared.kind.Kind.TheVariants as token
+use Rattle.yaml_scan_model.specs.Kinds.{IsOf}
+use Rattle.yaml_scan_model.specs.Texts.{AreTextsOf, Texts}
+use Rattle.yaml_scan_model.specs.declared.tokens.Tokens.{Ghosts}
+use Rattle.yaml_scan_model.specs.Utf8.{IsUtf8Next}
 use Rattle.yaml_parse_grammar.specs.Items as item
 use Rattle.yaml_parse_grammar.specs.Resolve as resolve
 use Rattle.yaml_parse_grammar.specs.Resolve.{Settled}
@@ -102,7 +102,7 @@ on_ok : {A E : Type 0} (r : Result A E) {P Q : Type 0} → (P → Q) → OnOk r 
 on_ok (Ok a) f h = f h
 on_ok (Err e) f h = tt
 
--- a prefix and then a suffix were put where nothing stood
+-- a prefix and then a suffix were put where there was nothing
 pub put_utf8 : {A E : Type 0} (r : Result A E) (tags : List TagDirective)
     (handle prefix suffix none start text : List ℕ) → prefix_for tags handle ≡ Some prefix → none ≡ []
     → start ≡ none ++ prefix → OnOk r (text ≡ start ++ suffix)

@@ -1,6 +1,6 @@
 -- What a step comes to: the state's turn, and the node that it awaits.
 use Rattle.std.proofs.Common.{◌≡◌, ◌⊎◌, refl}
-use Rattle.yaml_scan_tokens.specs.declared.tokens.Tokens.{Ghosts}
+use Rattle.yaml_scan_model.specs.declared.tokens.Tokens.{Ghosts}
 use Rattle.yaml_parse_states.specs.declared.parser.Parser.{Parser}
 use Rattle.yaml_parse_states.specs.declared.parser.Turn.{Turn}
 use Rattle.yaml_parse_states.specs.declared.parser.Turn.TheVariants as turn

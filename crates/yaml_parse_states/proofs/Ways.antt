@@ -1,8 +1,8 @@
 -- What the parts of a state's function come to.
 use Rattle.std.proofs.Common.{◌≡◌, inr, Bool, false, List, [], ◌∷◌, ◌++◌, reverse, length, Some, sym, ap, subst, ◌∙◌}
 use Rattle.yaml_parse_model.specs.declared.yaml_mark_t.{yaml_mark_t}
-use Rattle.yaml_parse_model.specs.Tokens.{Token}
-use Rattle.yaml_parse_model.specs.Faults.{Fault}
+use Rattle.yaml_parse_model.specs.scan_types.Tokens.{Token}
+use Rattle.yaml_parse_model.specs.scan_types.Faults.{Fault}
 use Rattle.yaml_parse_model.specs.Source.{front_of, rest_of}
 use Rattle.yaml_parse_model.specs.Events.{Event, EventBody}
 use Rattle.yaml_parse_grammar.specs.declared.name.Choice.TheVariants.{Take}
@@ -14,10 +14,10 @@ use Rattle.yaml_parse_grammar.specs.Machine.{choice_at, taken_at, taken}
 use Rattle.yaml_parse_grammar.specs.Trees.{event_at}
 use Rattle.yaml_parse_grammar.specs.Resolve.{gave, settle, placed, behind_event}
 use Rattle.yaml_parse_grammar.specs.Resolve as resolve
-use Rattle.yaml_scan_tokens.specs.declared.kind.Kind.{Kind}
-use Rattle.yaml_scan_tokens.specs.Kinds.{IsOf, type_by, token_by}
-use Rattle.yaml_scan_tokens.specs.Shows.{IsNext, ShowsToken, left_behind}
-use Rattle.yaml_scan_tokens.specs.declared.tokens.Tokens.{Ghosts}
+use Rattle.yaml_scan_model.specs.declared.kind.Kind.{Kind}
+use Rattle.yaml_scan_model.specs.Kinds.{IsOf, type_by, token_by}
+use Rattle.yaml_scan_model.specs.Shows.{IsNext, ShowsToken, left_behind}
+use Rattle.yaml_scan_model.specs.declared.tokens.Tokens.{Ghosts}
 use Rattle.yaml_parse_states.specs.declared.event.EventKind.{EventKind}
 use Rattle.yaml_parse_states.specs.declared.parser.Level.{Level}
 use Rattle.yaml_parse_states.specs.declared.parser.Parser.{Parser}

@@ -1,7 +1,7 @@
 -- As the next event is given, or the fault is reported, no fewer tokens are asked for than are to come.
 use Rattle.std.proofs.Common.{◌≤◌, ◌+◌, ℕ, List, [], ◌∷◌, ◌++◌, length, map, Option, Some, None, sym, subst, arith}
-use Rattle.yaml_parse_model.specs.Tokens.{Token, no_token}
-use Rattle.yaml_parse_model.specs.Faults.{Fault}
+use Rattle.yaml_parse_model.specs.scan_types.Tokens.{Token, no_token}
+use Rattle.yaml_parse_model.specs.scan_types.Faults.{Fault}
 use Rattle.yaml_parse_model.specs.Source.{front_of, rest_of}
 use Rattle.yaml_parse_grammar.specs.Items.{RawEvent}
 use Rattle.yaml_parse_grammar.specs.States.{State}
@@ -9,13 +9,13 @@ use Rattle.yaml_parse_grammar.specs.Trees.{Given}
 use Rattle.yaml_parse_grammar.specs.Machine.{Fed, stop, go, feed, Outcome, finished, carry, ending_at, run, left_where_stopped, unasked_at_stop}
 use Rattle.yaml_parse_grammar.specs.Resolve.{Directives, Settled, noted, settle, Reading, read_on, reading, unasked_at_fault, unasked_on}
 use Rattle.yaml_parse_grammar.specs.Remaining.{next_unasked}
-use Rattle.yaml_scan_tokens.specs.declared.kind.Kind.{Kind}
-use Rattle.yaml_scan_tokens.specs.Shows.{IsNext, left_behind}
+use Rattle.yaml_scan_model.specs.declared.kind.Kind.{Kind}
+use Rattle.yaml_scan_model.specs.Shows.{IsNext, left_behind}
 use Rattle.yaml_parse_states.specs.Coming.{read}
 
 -- ---- items
 
--- none stands with more than that many
+-- none goes with more than that many
 abbrev Within : ℕ → List Given → Type 0
 Within n [] = Unit {0}
 Within n (g ∷ gs) = (g.1 ≤ n) × Within n gs
@@ -71,7 +71,7 @@ unfolding reading unasked_at_fault
 next_read [] f m n ds h l = l
 next_read (g ∷ gs) f m n ds h l = next_on (settle g.0 ds) g.0 g.1 n (λ d. reading gs f d) (λ d. unasked_at_fault gs m d) h.0 (λ d. next_read gs f m n d h.1 l)
 
--- as the next event is given, the token in front was asked for
+-- when the next event is given, the first token was asked for
 next_behind : (t : Token) (ts : List Token) (f : Option Fault) (s : List State) (ds : Directives)
     → next_unasked (read (t ∷ ts) f s ds).events (read (t ∷ ts) f s ds).ending_unasked ≤ length ts
 unfolding read

@@ -1,7 +1,7 @@
 -- What is still to come of tokens and states.
 use Rattle.std.specs.Prelude.{ℕ, if◌then◌else◌, List, [], ◌∷◌, length, Option, Some, None}
-use Rattle.yaml_parse_model.specs.Tokens.{Token, no_token, type_of}
-use Rattle.yaml_parse_model.specs.Faults.{Fault}
+use Rattle.yaml_parse_model.specs.scan_types.Tokens.{Token, no_token, type_of}
+use Rattle.yaml_parse_model.specs.scan_types.Faults.{Fault}
 use Rattle.yaml_parse_model.specs.Events.{Event}
 use Rattle.yaml_parse_grammar.specs.declared.name.Wants.{Wants}
 use Rattle.yaml_parse_grammar.specs.Problems.{parser_fault}
@@ -10,7 +10,8 @@ use Rattle.yaml_parse_grammar.specs.Machine.{Fed, stop, run, unasked_at_stop, le
 use Rattle.yaml_parse_grammar.specs.Resolve.{Directives, Reading, Told, unasked_at_fault}
 use Rattle.yaml_parse_grammar.specs.Remaining.{reading_of}
 
--- the events to come, the fault that ends them, and how many tokens are not asked for as it is told
+-- the events to come, the fault that ends them, and how many tokens are not asked for when it is
+-- reported
 pub record Coming : Type 0 where
   pub events : List Told
   pub ending : Option Fault
@@ -53,7 +54,7 @@ node_turn w t s =
     then given_by (node_taken w t.start_mark t.end_mark t.body) s
     else stop [] (parser_fault (no_node w) t.start_mark t.start_mark)
 
--- where a node has to come, of those that may be there, above the states; after the last token the empty one stands
+-- where a node has to come, of those that may be there, above the states; after the last token comes the empty one
 unfoldable pub read_node : Wants → List Token → Option Fault → List State → Directives → Coming
 read_node w [] None s ds = read_fed (node_turn w no_token s) [] None ds
 read_node w [] (Some f) s ds = stopped f 0

@@ -3,11 +3,11 @@ use Rattle.std.specs.Prelude.{◌≡◌, ◌⊎◌, ◌++◌, ℕ, false, List, 
 use Rattle.yaml_parse_model.specs.declared.yaml_mark_t.{yaml_mark_t}
 use Rattle.yaml_parse_model.specs.Source.{front_of, rest_of}
 use Rattle.yaml_parse_model.specs.Events as event
-use Rattle.yaml_parse_model.specs.Faults.{Fault, memory_fault}
+use Rattle.yaml_parse_model.specs.scan_types.Faults.{Fault, memory_fault}
 use Rattle.yaml_parse_model.specs.declared.yaml_origin_t.TheVariants.{Parser as ParserLayer}
 use Rattle.yaml_parse_grammar.specs.States as grammar
 use Rattle.yaml_parse_grammar.specs.Resolve.{Directives, Settled, noted, refused}
-use Rattle.yaml_scan_tokens.specs.declared.tokens.Tokens.{Ghosts}
+use Rattle.yaml_scan_model.specs.declared.tokens.Tokens.{Ghosts}
 use Rattle.yaml_parse_states.specs.declared.parser.Parser.{Parser}
 use Rattle.yaml_parse_states.specs.declared.parser.State.TheVariants as state
 use Rattle.yaml_parse_states.specs.declared.parser.Turn.{Turn}
@@ -23,7 +23,7 @@ with_directive handle prefix ds = record {
   tags = ds.tags ++ (record { handle = handle; prefix = prefix } ∷ []);
 }
 
--- what a directive comes to, told as a fault or as memory ran out
+-- what a directive comes to: a fault, or out of memory
 pub record IsWrong {T P : Type 0} (g : Ghosts T P) (s : Settled) (old new : Parser T P) : Type 0
   where
     pub fault : Fault

@@ -1,9 +1,9 @@
 -- What a call gives that fills a slot which is handed in.
 use Rattle.std.specs.Prelude.{◌≡◌, ℕ, Bool, true, false}
-use Rattle.yaml_parse_model.specs.Faults.{Fault}
+use Rattle.yaml_parse_model.specs.scan_types.Faults.{Fault}
 use Rattle.yaml_parse_model.specs.Events.{Event}
 use Rattle.yaml_parse_grammar.specs.Remaining.{IsFinished}
-use Rattle.yaml_scan_tokens.specs.declared.tokens.Tokens.{Ghosts}
+use Rattle.yaml_scan_model.specs.declared.tokens.Tokens.{Ghosts}
 use Rattle.yaml_parse_states.specs.declared.parser.Parser.{Parser}
 use Rattle.yaml_parse_states.specs.Coming.{ahead}
 use Rattle.yaml_parse_states.specs.Views.{coming_of}

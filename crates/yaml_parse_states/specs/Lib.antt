@@ -1,3 +1,8 @@
+pub mod SourceComing
+pub mod Counts
+pub mod Members
+pub mod List
+pub mod ListView
 pub mod Coming
 pub mod Views
 pub mod Turned

@@ -2,8 +2,8 @@
 use Rattle.std.specs.Prelude.{◌≡◌, ◌⊎◌, ℕ, Bool, true, false, if◌then◌else◌, List, [], ◌∷◌, reverse, Option, Some, None}
 use Rattle.yaml_parse_model.specs.declared.yaml_mark_t.{yaml_mark_t}
 use Rattle.yaml_parse_model.specs.declared.yaml_scalar_style_t.{yaml_scalar_style_t}
-use Rattle.yaml_parse_model.specs.Tokens.{Token, TokenBody}
-use Rattle.yaml_parse_model.specs.Faults.{Fault, memory_fault}
+use Rattle.yaml_parse_model.specs.scan_types.Tokens.{Token, TokenBody}
+use Rattle.yaml_parse_model.specs.scan_types.Faults.{Fault, memory_fault}
 use Rattle.yaml_parse_model.specs.declared.yaml_origin_t.TheVariants.{Parser as ParserLayer}
 use Rattle.yaml_parse_model.specs.Source.{front_of}
 use Rattle.yaml_parse_model.specs.Events.{Event, EventBody, TagDirective}
@@ -16,12 +16,12 @@ use Rattle.yaml_parse_grammar.specs.States as grammar
 use Rattle.yaml_parse_grammar.specs.Machine.{starts_content, tag_at}
 use Rattle.yaml_parse_grammar.specs.Resolve.{directive_for, is_missing, is_plain, node_event, or_default, resolved, scalar_event}
 use Rattle.yaml_parse_grammar.specs.Resolve as resolve
-use Rattle.yaml_scan_tokens.specs.declared.kind.Kind.{Kind}
-use Rattle.yaml_scan_tokens.specs.declared.kind.Kind.TheVariants as token
-use Rattle.yaml_scan_tokens.specs.Kinds.{type_by}
-use Rattle.yaml_scan_tokens.specs.Shows.{IsNext, left_behind}
-use Rattle.yaml_scan_tokens.specs.Texts.{name_in, handle_in, suffix_in, value_in, style_in}
-use Rattle.yaml_scan_tokens.specs.declared.tokens.Tokens.{Ghosts}
+use Rattle.yaml_scan_model.specs.declared.kind.Kind.{Kind}
+use Rattle.yaml_scan_model.specs.declared.kind.Kind.TheVariants as token
+use Rattle.yaml_scan_model.specs.Kinds.{type_by}
+use Rattle.yaml_scan_model.specs.Shows.{IsNext, left_behind}
+use Rattle.yaml_scan_model.specs.Texts.{name_in, handle_in, suffix_in, value_in, style_in}
+use Rattle.yaml_scan_model.specs.declared.tokens.Tokens.{Ghosts}
 use Rattle.yaml_parse_states.specs.declared.event.EventKind.{EventKind}
 use Rattle.yaml_parse_states.specs.declared.event.EventKind.TheVariants as kind
 use Rattle.yaml_parse_states.specs.declared.event.Slot.{Slot}
@@ -40,7 +40,7 @@ wants_by turn.FlowNode x = Flow
 wants_by turn.IndentlessNode x = Block (Some (side_of x))
 wants_by w x = Block None
 
--- an event was given, or a fault was told
+-- an event was given, or a fault was reported
 abbrev pub Found : {T P : Type 0} → Ghosts T P → Coming → Turn → Parser T P → Type 0
 Found g was turn.Given new = GaveEvent g was new
 Found g was turn.Refused new = IsRefused g was new ⊎ LacksMemory g was new
@@ -69,7 +69,7 @@ pub record Begins {T P : Type 0} (g : Ghosts T P) (old new : Parser T P) : Type 
   pub anchor : new.event.has_anchor ≡ false
   pub tag : new.event.has_tag ≡ false
 
--- the tag in full, or where one starts whose handle stands for nothing
+-- the tag in full, or where one starts whose handle is undefined
 abbrev pub IsResolved : {T P : Type 0} → Ghosts T P → Tag → Option P → Parser T P → Type 0
 IsResolved g t None p = resolved (directives_of p.directives).tags t.handle t.suffix
     ≡ Some p.tag.items
@@ -121,7 +121,7 @@ abbrev pub prefix_for : List TagDirective → List ℕ → Option (List ℕ)
 prefix_for ds [] = Some []
 prefix_for ds (c ∷ handle) = or_default (directive_for (c ∷ handle) ds) (c ∷ handle)
 
--- the tag in full is put down, or where one starts whose handle stands for nothing
+-- the tag in full is put down, or where one starts whose handle is undefined
 abbrev pub PutsTag : {T P : Type 0} → Option (List ℕ) → P → Parser T P → Parser T P → Type 0
 PutsTag None at old new = new.undefined ≡ Some at
 PutsTag (Some full) at old new = (new.tag.items ≡ full) × (new.undefined ≡ old.undefined)
@@ -197,7 +197,7 @@ pub record Implies {T P : Type 0} (plain : Bool) (old new : Parser T P) : Type 0
       → event.scalar anchor (tag_of new) value new.event.implicit new.event.quoted_implicit style
       ≡ scalar_event anchor (tag_of old) value style
 
--- the same of an alias
+-- takes an alias
 pub record TakesAlias {T P : Type 0} (g : Ghosts T P) (old new : Parser T P) : Type 0 where
   pub same : new ≡ record old { tokens = new.tokens; event = new.event }
   pub token : IsTaken g old.tokens new.tokens
@@ -254,7 +254,7 @@ Collected g k flow first old turn.Given new = Collects g k flow first old new
 Collected g k flow first old turn.Refused new = Refuses g (memory_fault ParserLayer) old new
 Collected g k flow first old r new = ⊥
 
--- the same of a sequence that isn't indented, whose first entry is next
+-- a sequence opens that isn't indented, whose first entry is next
 abbrev pub Loosely : {T P : Type 0} → Ghosts T P → Parser T P → Turn → Parser T P → Type 0
 Loosely g old turn.Given new = OpensWith g kind.SequenceStart false state.IndentlessSequenceEntry
     old new

@@ -1,6 +1,6 @@
 -- What the making of marks leaves as it is.
 use Rattle.std.specs.Prelude.{◌≡◌, false}
-use Rattle.yaml_scan_tokens.specs.declared.tokens.Tokens.{Ghosts}
+use Rattle.yaml_scan_model.specs.declared.tokens.Tokens.{Ghosts}
 use Rattle.yaml_parse_states.specs.declared.parser.Parser.{Parser}
 
 -- the tokens moved nothing

@@ -1,8 +1,8 @@
 -- What a call gives, in the words of what is still to come of a parser.
 use Rattle.std.specs.Prelude.{◌≡◌, ℕ, Bool, reverse}
-use Rattle.yaml_parse_model.specs.Faults.{Fault}
+use Rattle.yaml_parse_model.specs.scan_types.Faults.{Fault}
 use Rattle.yaml_parse_grammar.specs.Remaining.{ParserRemaining, FaultOf, is_between}
-use Rattle.yaml_scan_tokens.specs.declared.tokens.Tokens.{Ghosts}
+use Rattle.yaml_scan_model.specs.declared.tokens.Tokens.{Ghosts}
 use Rattle.yaml_parse_states.specs.declared.parser.Parser.{Parser}
 use Rattle.yaml_parse_states.specs.declared.parser.Refusal.{Refusal}
 use Rattle.yaml_parse_states.specs.Coming.{Coming}
@@ -39,7 +39,7 @@ pub record ToldNext {T P : Type 0} (g : Ghosts T P) (held : T → ℕ) (n : ℕ)
 abbrev pub Told : {T P : Type 0} → Ghosts T P → Fault → Parser T P → Parser T P → Type 0
 Told g f old new = (held : _ → ℕ) (n : ℕ) (a : Fault) → ToldNext g held n a f old new
 
--- it was told by that refusal
+-- it was reported by that refusal
 pub record ToldBy {T P : Type 0} (g : Ghosts T P) (r : Refusal) (old new : Parser T P) : Type 0
   where
     pub fault : Fault

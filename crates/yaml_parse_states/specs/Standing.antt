@@ -3,7 +3,7 @@ use Rattle.std.specs.Prelude.{◌≡◌, Bool, true, false, List, [], ◌∷◌,
 use Rattle.yaml_parse_model.specs.Events.{Event}
 use Rattle.yaml_parse_grammar.specs.Remaining.{is_between}
 use Rattle.yaml_parse_grammar.specs.Stacks.{parts_documents_behind}
-use Rattle.yaml_scan_tokens.specs.declared.tokens.Tokens.{Ghosts}
+use Rattle.yaml_scan_model.specs.declared.tokens.Tokens.{Ghosts}
 use Rattle.yaml_parse_states.specs.Views.{stack}
 use Rattle.yaml_parse_states.specs.declared.event.EventKind.{EventKind}
 use Rattle.yaml_parse_states.specs.declared.event.EventKind.TheVariants as kind
@@ -77,7 +77,7 @@ Stands p = StandsIn p.state (reverse p.levels.items)
 abbrev pub StandsBehind : {T P : Type 0} → Parser T P → Type 0
 StandsBehind p = IsBehind p.state (AreNested (reverse p.levels.items))
 
--- the state stands so, and the event says whether a document is half taken
+-- the state is such, and the event says whether a document is half taken
 pub record Stood {T P : Type 0} (p : Parser T P) : Type 0 where
   pub stands : Stands p
   pub between : between_in p.state ≡ between_behind p.event.kind

@@ -1,6 +1,6 @@
 -- What a call of the parser gives.
 use Rattle.std.specs.Prelude.{◌≡◌, ◌⊎◌}
-use Rattle.yaml_scan_tokens.specs.declared.tokens.Tokens.{Ghosts}
+use Rattle.yaml_scan_model.specs.declared.tokens.Tokens.{Ghosts}
 use Rattle.yaml_parse_states.specs.declared.parser.Parser.{Parser}
 use Rattle.yaml_parse_states.specs.declared.parser.State.TheVariants as state
 use Rattle.yaml_parse_states.specs.declared.parser.Turn.{Turn}

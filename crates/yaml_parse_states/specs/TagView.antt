@@ -15,7 +15,7 @@ tags_view t = map directive_of t.list.items
 abbrev pub entry_of : Vec ℕ Global × Vec ℕ Global → List ℕ × List ℕ
 entry_of e = (e.0.items, e.1.items)
 
--- the entries tell of every handle what the directives do
+-- the entries say of every handle what the directives do
 abbrev pub TellsAll : List TagDirective → List (Vec ℕ Global × Vec ℕ Global) → Type 0
 TellsAll tags es = (handle : List ℕ) → find (slice_cmp nat_cmp) handle (map entry_of es)
     ≡ directive_for handle tags

@@ -7,14 +7,14 @@ use Rattle.yaml_parse_grammar.specs.States as grammar
 use Rattle.yaml_parse_grammar.specs.Machine.{choice_at, taken_at, taken}
 use Rattle.yaml_parse_grammar.specs.Trees.{event_at}
 use Rattle.yaml_parse_grammar.specs.Resolve.{behind_event}
-use Rattle.yaml_scan_tokens.specs.declared.kind.Kind.{Kind}
-use Rattle.yaml_scan_tokens.specs.Kinds.{IsOf, is_fault, type_by, token_by}
-use Rattle.yaml_scan_tokens.specs.Shows.{Shows, left_behind}
-use Rattle.yaml_scan_tokens.specs.Texts.{AreTextsOf}
+use Rattle.yaml_scan_model.specs.declared.kind.Kind.{Kind}
+use Rattle.yaml_scan_model.specs.Kinds.{IsOf, is_fault, type_by, token_by}
+use Rattle.yaml_scan_model.specs.Shows.{Shows, left_behind}
+use Rattle.yaml_scan_model.specs.Texts.{AreTextsOf}
 use Rattle.yaml_parse_states.specs.declared.event.EventKind.{EventKind}
 use Rattle.yaml_parse_states.specs.declared.parser.State.{State}
-use Rattle.yaml_parse_model.specs.Tokens.{Token}
-use Rattle.yaml_parse_model.specs.Faults.{Fault, memory_fault, IsMemoryFault, scan_layers}
+use Rattle.yaml_parse_model.specs.scan_types.Tokens.{Token}
+use Rattle.yaml_parse_model.specs.scan_types.Faults.{Fault, memory_fault, IsMemoryFault, scan_layers}
 use Rattle.yaml_parse_model.specs.declared.yaml_origin_t.TheVariants.{Parser as ParserLayer}
 use Rattle.yaml_parse_grammar.specs.declared.name.Wants.{Wants}
 use Rattle.yaml_parse_grammar.specs.declared.name.Wants.TheVariants.{Flow, Block}
@@ -23,7 +23,7 @@ use Rattle.yaml_parse_grammar.specs.declared.problem.ParseProblem.TheVariants as
 use Rattle.yaml_parse_grammar.specs.Problems.{parser_fault}
 use Rattle.yaml_parse_model.specs.declared.yaml_mark_t.{yaml_mark_t}
 use Rattle.yaml_parse_grammar.specs.Remaining.{next_unasked}
-use Rattle.yaml_scan_tokens.specs.declared.tokens.Tokens.{Ghosts}
+use Rattle.yaml_scan_model.specs.declared.tokens.Tokens.{Ghosts}
 use Rattle.yaml_parse_states.specs.declared.parser.Parser.{Parser}
 use Rattle.yaml_parse_states.specs.declared.parser.Refusal.{Refusal}
 use Rattle.yaml_parse_states.specs.declared.parser.Refusal.TheVariants as refusal
@@ -97,7 +97,7 @@ pub record Refuses {T P : Type 0} (g : Ghosts T P) (f : Fault) (old new : Parser
   pub over : new.state ≡ state.End
   pub unasked : g.unasked new.tokens ≡ g.unasked old.tokens
 
--- where the context of a refusal begins: at the collection that is open, for the faults that tell it, or else at the token
+-- where the context of a refusal begins: at the collection that is open, for the faults that name it, or else at the token
 abbrev pub context_at : ParseProblem → yaml_mark_t → yaml_mark_t → yaml_mark_t
 context_at problem.NoDash o start = o
 context_at problem.NoKey o start = o
@@ -125,7 +125,8 @@ pub record GaveEvent {T P : Type 0} (g : Ghosts T P) (was : Coming) (new : Parse
     pub left : g.unasked new.tokens ≡ unasked
     pub next : was ≡ ahead (event_in g new) unasked (coming_of g new)
 
--- a fault was told, the next one or that of the memory of a layer that scans, and nothing is left
+-- a fault was reported, the next one or that of the memory of a layer that scans, and nothing is
+-- left
 pub record IsRefused {T P : Type 0} (g : Ghosts T P) (was : Coming) (new : Parser T P) : Type 0
   where
     pub fault : Fault
@@ -135,7 +136,7 @@ pub record IsRefused {T P : Type 0} (g : Ghosts T P) (was : Coming) (new : Parse
     pub left : g.unasked new.tokens ≡ unasked
     pub reason : IsMemoryFault scan_layers fault ⊎ (was ≡ stopped fault unasked)
 
--- The fault of the tokens is told, or that of the token which is next, where it is what comes.
+-- The fault of the tokens is reported, or that of the token which is next, where it is what comes.
 abbrev pub RefusesNext : {T P : Type 0} → Ghosts T P → ParseProblem → Parser T P → Parser T P
     → Type 0
 RefusesNext g p old new = (was : Coming)

@@ -2,8 +2,8 @@
 use Rattle.std.specs.Prelude.{Option, Some, None}
 use Rattle.yaml_parse_model.specs.Events.{Event}
 use Rattle.yaml_parse_model.specs.Constructors.{HasUtf8, IsUtf8Option, AreUtf8}
-use Rattle.yaml_scan_tokens.specs.declared.tokens.Tokens.{Ghosts}
-use Rattle.yaml_scan_tokens.specs.Utf8.{IsUtf8Next}
+use Rattle.yaml_scan_model.specs.declared.tokens.Tokens.{Ghosts}
+use Rattle.yaml_scan_model.specs.Utf8.{IsUtf8Next}
 use Rattle.yaml_parse_states.specs.declared.parser.Parser.{Parser}
 use Rattle.yaml_parse_states.specs.declared.parser.State.{State}
 use Rattle.yaml_parse_states.specs.declared.parser.State.TheVariants as state

@@ -6,7 +6,7 @@ use Rattle.yaml_parse_model.specs.declared.yaml_sequence_style_t.TheVariants.{YA
 use Rattle.yaml_parse_model.specs.declared.yaml_scalar_style_t.TheVariants.{YAML_PLAIN_SCALAR_STYLE}
 use Rattle.yaml_parse_model.specs.declared.yaml_mapping_style_t.{yaml_mapping_style_t}
 use Rattle.yaml_parse_model.specs.declared.yaml_mapping_style_t.TheVariants.{YAML_BLOCK_MAPPING_STYLE, YAML_FLOW_MAPPING_STYLE}
-use Rattle.yaml_parse_model.specs.Tokens.{zero_mark}
+use Rattle.yaml_parse_model.specs.scan_types.Tokens.{zero_mark}
 use Rattle.yaml_parse_model.specs.Events.{Event, EventBody, directive_of}
 use Rattle.yaml_parse_model.specs.Events as event
 use Rattle.yaml_parse_grammar.specs.declared.name.Brackets.TheVariants as brackets
@@ -15,8 +15,8 @@ use Rattle.yaml_parse_grammar.specs.declared.name.Side.TheVariants as side
 use Rattle.yaml_parse_grammar.specs.declared.name.Site.TheVariants as site
 use Rattle.yaml_parse_grammar.specs.States as grammar
 use Rattle.yaml_parse_grammar.specs.Resolve as resolve
-use Rattle.yaml_scan_tokens.specs.Texts.{Texts}
-use Rattle.yaml_scan_tokens.specs.declared.tokens.Tokens.{Ghosts}
+use Rattle.yaml_scan_model.specs.Texts.{Texts}
+use Rattle.yaml_scan_model.specs.declared.tokens.Tokens.{Ghosts}
 use Rattle.yaml_parse_states.specs.declared.event.EventKind.{EventKind}
 use Rattle.yaml_parse_states.specs.declared.event.EventKind.TheVariants as kind
 use Rattle.yaml_parse_states.specs.declared.event.Slot.{Slot}

@@ -3,8 +3,8 @@
 ghost use Rattle.std.specs.Prelude.{◌≡◌, false, None, option_map, OnOk};
 ghost use Rattle.yaml_parse_model.specs.Source.{front_of};
 ghost use Rattle.yaml_parse_grammar.specs.Resolve.{default_prefix, directive_for, no_directives, with_tag, with_version};
-ghost use Rattle.yaml_scan_tokens.specs.Shows.{IsNext};
-ghost use Rattle.yaml_scan_tokens.specs.declared.kind.Kind.TheVariants as token;
+ghost use Rattle.yaml_scan_model.specs.Shows.{IsNext};
+ghost use Rattle.yaml_scan_model.specs.declared.kind.Kind.TheVariants as token;
 ghost use Rattle.yaml_parse_states.specs.Documents.{Notes, Settles, with_directive};
 ghost use Rattle.yaml_parse_states.specs.Nodes.{prefix_for};
 ghost use Rattle.yaml_parse_states.specs.Utf8.{IsUtf8Kept, IsUtf8Noted};
@@ -15,7 +15,7 @@ use crate::parser::{Parser, Turn};
 use std::alloc::{AllocError, Global};
 use yaml_parse_grammar::ParseProblem;
 use yaml_parse_model::{SECONDARY_PREFIX, yaml_version_directive_t};
-use yaml_scan_tokens::{Kind, Tokens};
+use yaml_scan_model::{Kind, Tokens};
 
 /// The version and the tag directives of a document.
 #[derive(Drop)]
@@ -71,7 +71,8 @@ fn default_prefix(handle: &[u8]) -> Option<&'static [u8]>
 }
 
 impl<T: Tokens> Parser<T> {
-    /// Takes the `%YAML` directive that is next, or tells the refusal: a second one, or neither 1.1 nor 1.2.
+    /// Takes the `%YAML` directive that is next, or reports what is wrong: a second one, or neither
+    /// 1.1 nor 1.2.
     pub(crate) fn version_directive(&mut self) -> Turn
         requires tells { T.tells self.old.tokens false }
         requires kind { IsNext token.VersionDirective (T.to_come self.old.tokens) }
@@ -103,7 +104,8 @@ impl<T: Tokens> Parser<T> {
         }
     }
 
-    /// Takes the `%TAG` directive that is next, or tells the refusal: a handle that has one already.
+    /// Takes the `%TAG` directive that is next, or reports what is wrong: a handle that has one
+    /// already.
     pub(crate) fn tag_directive(&mut self) -> Turn
         requires tells { T.tells self.old.tokens false }
         requires kind { IsNext token.TagDirective (T.to_come self.old.tokens) }

@@ -3,8 +3,8 @@
 ghost use Rattle.std.specs.Prelude.{◌≡◌, [], ◌∷◌, false};
 ghost use Rattle.yaml_parse_model.specs.Source.{front_of};
 ghost use Rattle.yaml_parse_grammar.specs.States as grammar;
-ghost use Rattle.yaml_scan_tokens.specs.Shows.{IsNext};
-ghost use Rattle.yaml_scan_tokens.specs.declared.kind.Kind.TheVariants as token;
+ghost use Rattle.yaml_scan_model.specs.Shows.{IsNext};
+ghost use Rattle.yaml_scan_model.specs.declared.kind.Kind.TheVariants as token;
 ghost use Rattle.yaml_parse_states.specs.Documents.{TakesStart};
 ghost use Rattle.yaml_parse_states.specs.Views.{coming_in, coming_with};
 ghost use Rattle.yaml_parse_states.specs.Turned.{Turned};
@@ -16,7 +16,7 @@ ghost use Rattle.yaml_parse_states.specs.declared.parser.Turn.TheVariants as tur
 use crate::event::EventKind;
 use crate::parser::{Parser, State, Turn};
 use yaml_parse_grammar::ParseProblem;
-use yaml_scan_tokens::{Kind, Tokens};
+use yaml_scan_model::{Kind, Tokens};
 
 impl<T: Tokens> Parser<T> {
     /// stream ::= STREAM-START ..

@@ -1,7 +1,5 @@
 //! What a parser keeps of the event that it gave last.
 
-use yaml_scan_model::yaml_scalar_style_t;
-
 /// What an event is.
 #[derive(Clone, Copy, PartialEq, Eq)]
 pub(crate) enum EventKind {
@@ -33,3 +31,5 @@ pub(crate) struct Slot<P> {
     pub start: P,
     pub end: P,
 }
+
+use yaml_scan_model::yaml_scalar_style_t;

@@ -9,7 +9,7 @@ ghost use Rattle.yaml_parse_states.specs.declared.parser.State.TheVariants as st
 use crate::event::EventKind;
 use crate::parser::{Parser, State, Turn};
 use yaml_parse_grammar::ParseProblem;
-use yaml_scan_tokens::{Kind, Tokens};
+use yaml_scan_model::{Kind, Tokens};
 
 impl<T: Tokens> Parser<T> {
     /// fseq ::= FLOW-SEQUENCE-START (fent FLOW-ENTRY)* fent? FLOW-SEQUENCE-END: after an entry.

@@ -7,10 +7,10 @@ ghost use Rattle.yaml_parse_grammar.specs.Items as item;
 ghost use Rattle.yaml_parse_grammar.specs.Items.{Properties};
 ghost use Rattle.yaml_parse_grammar.specs.Machine.{no_node, starts_content};
 ghost use Rattle.yaml_parse_grammar.specs.declared.name.Wants.TheVariants.{Flow};
-ghost use Rattle.yaml_scan_tokens.specs.Kinds.{type_by};
-ghost use Rattle.yaml_scan_tokens.specs.Shows.{IsNext};
-ghost use Rattle.yaml_scan_tokens.specs.Texts.{handle_in, name_in, suffix_in};
-ghost use Rattle.yaml_scan_tokens.specs.declared.kind.Kind.TheVariants as token;
+ghost use Rattle.yaml_scan_model.specs.Kinds.{type_by};
+ghost use Rattle.yaml_scan_model.specs.Shows.{IsNext};
+ghost use Rattle.yaml_scan_model.specs.Texts.{handle_in, name_in, suffix_in};
+ghost use Rattle.yaml_scan_model.specs.declared.kind.Kind.TheVariants as token;
 ghost use Rattle.yaml_parse_states.specs.Coming.{Coming};
 ghost use Rattle.yaml_parse_states.specs.Views.{blank_event, directives_of, event_in};
 ghost use Rattle.yaml_parse_states.specs.Turned.{AwaitsNode, Gives, IsTaken};
@@ -24,8 +24,7 @@ use crate::event::EventKind;
 use crate::parser::{Parser, State, Turn};
 use std::alloc::AllocError;
 use yaml_parse_grammar::ParseProblem;
-use yaml_scan_model::yaml_scalar_style_t;
-use yaml_scan_tokens::{Kind, Tokens};
+use yaml_scan_model::{Kind, Tokens, yaml_scalar_style_t};
 
 /// The problem where no node begins, of those that may be there.
 fn no_node(wants: Turn) -> ParseProblem
@@ -190,7 +189,7 @@ impl<T: Tokens> Parser<T> {
         self.put_tag(start)
     }
 
-    /// Puts down the tag that was taken last in full, or where it starts if its handle stands for nothing.
+    /// Puts down the tag that was taken last in full, or where it starts if its handle is undefined.
     fn put_tag(&mut self, start: T::Place) -> Result<(), AllocError>
         ensures same { self.new ≡ record self.old {
           tag = self.new.tag;
@@ -356,7 +355,7 @@ impl<T: Tokens> Parser<T> {
         }
     }
 
-    /// The same of a `-`, which isn't taken: it is the first entry's.
+    /// A sequence that isn't indented, at a `-`, which isn't taken: it is the first entry's.
     fn indentless_sequence(&mut self) -> Turn
         requires { IsShown T.Tokens token.BlockEntry self.old.tokens }
         ensures loosely { Loosely T.Tokens self.old result self.new }

@@ -12,7 +12,7 @@ ghost use Rattle.yaml_parse_states.specs.Views.{event_in};
 use crate::parser::{Parser, Refusal, Step};
 use std::alloc::{AllocError, Global};
 use yaml_parse_model::{yaml_event_body_t, yaml_event_t};
-use yaml_scan_tokens::Tokens;
+use yaml_scan_model::Tokens;
 
 /// Puts a body into a slot.
 fn put(slot: &mut yaml_event_body_t, body: yaml_event_body_t)

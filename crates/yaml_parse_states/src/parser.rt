@@ -6,12 +6,12 @@ ghost use Rattle.yaml_parse_model.specs.Source.{front_of};
 ghost use Rattle.yaml_parse_grammar.specs.States.{State as GrammarState};
 ghost use Rattle.yaml_parse_grammar.specs.Machine.{choice_at, left_at};
 ghost use Rattle.yaml_parse_grammar.specs.declared.name.Choice.TheVariants.{Leave};
-ghost use Rattle.yaml_scan_tokens.specs.Kinds.{type_by};
-ghost use Rattle.yaml_scan_tokens.specs.Shows.{IsNext};
-ghost use Rattle.yaml_scan_tokens.specs.declared.kind.Kind.{Kind};
+ghost use Rattle.yaml_scan_model.specs.Kinds.{type_by};
+ghost use Rattle.yaml_scan_model.specs.Shows.{IsNext};
+ghost use Rattle.yaml_scan_model.specs.declared.kind.Kind.{Kind};
 ghost use Rattle.std.specs.Prelude.{OnOk, Some, option_map};
 ghost use Rattle.yaml_parse_model.specs.Events.{borrowed_body};
-ghost use Rattle.yaml_parse_model.specs.Faults.{memory_fault};
+ghost use Rattle.yaml_parse_model.specs.scan_types.Faults.{memory_fault};
 ghost use Rattle.yaml_parse_model.specs.declared.yaml_origin_t.TheVariants.{Parser as ParserLayer};
 ghost use Rattle.yaml_parse_grammar.specs.Problems.{parser_fault};
 ghost use Rattle.yaml_parse_states.specs.declared.parser.State.TheVariants as state;
@@ -22,7 +22,7 @@ ghost use Rattle.yaml_parse_states.specs.Coming.{read};
 ghost use Rattle.yaml_parse_states.specs.Steps.{Steps, Turns};
 ghost use Rattle.yaml_parse_states.specs.Standing.{AreOpen, IsAwaiting, IsBehind, Stands, StandsAfter, StandsBehind, StandsIn, StandsStepped, between_behind, between_in};
 ghost use Rattle.yaml_parse_states.specs.Utf8.{IsUtf8After, IsUtf8Given, IsUtf8Held, IsUtf8Kept, IsUtf8Named, IsUtf8Stepped};
-ghost use Rattle.yaml_scan_tokens.specs.Utf8.{IsUtf8Next};
+ghost use Rattle.yaml_scan_model.specs.Utf8.{IsUtf8Next};
 ghost use Rattle.yaml_parse_states.specs.Turned.{Gives, Takes, Ends, LooksFor, Opens, Refuses, RefusesNext, context_at};
 ghost use Rattle.yaml_parse_states.specs.declared.parser.Turn.TheVariants as turn;
 ghost use Rattle.yaml_parse_states.specs.declared.parser.Step.TheVariants as step;
@@ -36,9 +36,8 @@ use std::alloc::{AllocError, Global};
 use yaml_parse_grammar::{ParseFault, ParseProblem};
 use yaml_parse_model::EventRef;
 use yaml_scan_model::{
-    yaml_mapping_style_t, yaml_mark_t, yaml_scalar_style_t, yaml_sequence_style_t,
+    Kind, Tokens, yaml_mapping_style_t, yaml_mark_t, yaml_scalar_style_t, yaml_sequence_style_t,
 };
-use yaml_scan_tokens::{Kind, Tokens};
 
 /// What may come next.
 #[derive(Clone, Copy, PartialEq, Eq)]
@@ -73,7 +72,7 @@ pub enum Step {
 }
 
 /// What a state finds: it has given an event, or a node is next, of those that may be there, after which the state is the
-/// parser's; or the fault was told, or nothing is left.
+/// parser's; or the fault was reported, or nothing is left.
 #[derive(Clone, Copy, PartialEq, Eq)]
 pub(crate) enum Turn {
     Given,
@@ -152,7 +151,7 @@ impl<T: Tokens> Parser<T> {
         }
     }
 
-    /// Gives the next event in the slot, which `event` lends.
+    /// Gives the next event in the slot, which `event` borrows.
     pub fn next(&mut self) -> Step
         ensures steps { Steps T.Tokens self.old result self.new }
         ensures stands { Stands self.old → StandsStepped result self.new }
@@ -290,7 +289,7 @@ impl<T: Tokens> Parser<T> {
         (start, self.tokens.mark(self.event.end))
     }
 
-    /// Why nothing more is given, where that was told.
+    /// Why nothing more is given, once that was reported.
     pub fn refusal(&self) -> Refusal
         ensures { (r : Refusal) → self.now.refusal ≡ Some r → result ≡ r }
     {
@@ -507,7 +506,7 @@ impl<T: Tokens> Parser<T> {
         }
     }
 
-    /// The token that is next is wrong in the innermost collection, or stands for the fault of the tokens.
+    /// The token that is next is wrong in the innermost collection, or is the fault of the tokens.
     pub(crate) fn refuse(&mut self, problem: ParseProblem) -> Turn
         ensures refused { result ≡ turn.Refused }
         ensures next { RefusesNext T.Tokens problem self.old self.new }

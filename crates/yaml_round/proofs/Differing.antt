@@ -2,21 +2,21 @@
 use Rattle.std.proofs.Common.{◌≡◌, ◌∙◌, inl, inr, subst, sym, ap, refl, ℕ, Bool, true, false, List, [], ◌∷◌, ◌++◌, Option, Some, None, Result, Ok, Err}
 use Rattle.std.specs.Prelude.{◌↔◌}
 use Rattle.std.proofs.lemmas.List.{map-append}
-use Rattle.yaml_scan_model.specs.declared.yaml_encoding_t.{yaml_encoding_t}
-use Rattle.yaml_scan_model.specs.declared.yaml_fault_t.{yaml_fault_t}
-use Rattle.yaml_scan_model.specs.Faults.{fault_of}
-use Rattle.yaml_round_writing.specs.round_laws_documents.round_content.parse_laws_trees.parse_model.Documents.{Document}
-use Rattle.yaml_round_writing.specs.round_laws_documents.round_content.parse_grammar.Resolve.{Told}
-use Rattle.yaml_round_writing.specs.round_laws_documents.round_content.parse_model.Events.{EventBody}
-use Rattle.yaml_round_writing.specs.Answers.{SameContent}
-use Rattle.yaml_round_writing.specs.Reading.{contents}
-use Rattle.yaml_round_writing.specs.Reload.{AreLoaded}
-use Rattle.yaml_round_writing.proofs.Plain.{content_same, events_are}
-use Rattle.yaml_round_writing.specs.declared.yaml_side_t.{yaml_side_t}
-use Rattle.yaml_round_compare.specs.declared.difference.yaml_difference_t.{yaml_difference_t}
-use Rattle.yaml_round_compare.specs.Differences.{saying, IsParting}
-use Rattle.yaml_round_compare.specs.Loaded.{IsSideShort}
-use Rattle.yaml_round_differences.specs.Streams.{AreEqualStreams, AreStreamDifferences}
+use Rattle.yaml_scan_model.specs.declared.name.yaml_encoding_t.{yaml_encoding_t}
+use Rattle.yaml_scan_model.specs.declared.fault.yaml_fault_t.{yaml_fault_t}
+use Rattle.yaml_scan_model.specs.scan_types.Faults.{fault_of}
+use Rattle.yaml_round_engine.specs.parse_model.Documents.{Document}
+use Rattle.yaml_round_engine.specs.parse_grammar.Resolve.{Told}
+use Rattle.yaml_round_engine.specs.parse_model.Events.{EventBody}
+use Rattle.yaml_round_engine.specs.Answers.{SameContent}
+use Rattle.yaml_round_engine.specs.round_reading.Reading.{contents}
+use Rattle.yaml_round_engine.specs.Reload.{AreLoaded}
+use Rattle.yaml_round_engine.proofs.Plain.{content_same, events_are}
+use Rattle.yaml_round_engine.specs.declared.yaml_side_t.{yaml_side_t}
+use Rattle.yaml_round_engine.specs.declared.difference.yaml_difference_t.{yaml_difference_t}
+use Rattle.yaml_round_engine.specs.Differences.{saying, IsParting}
+use Rattle.yaml_round_engine.specs.Loaded.{IsSideShort}
+use Rattle.yaml_round_documents.specs.Streams.{AreEqualStreams, AreStreamDifferences}
 use Rattle.yaml_round.specs.declared.differences.yaml_differences_t.{yaml_differences_t}
 use Rattle.yaml_round.specs.AllDifferences.{AreAlike, AreContentDifferences, AreDifferences, ArePlaces, IsComparison, TellsNothing}
 
@@ -91,7 +91,7 @@ pub all_parted : (a_from : yaml_encoding_t) (a : List ℕ) (b_from : yaml_encodi
 all_parted a_from a b_from b c (Ok d) p h = subst (λ (x : Option yaml_difference_t). AreContentDifferences a_from a b_from b x d) (sym h.1) (p, h.0)
 all_parted a_from a b_from b c (Err f) p h = inr (c, p, h)
 
--- ---- nothing is told
+-- ---- nothing is listed
 
 by_content : (a_from : yaml_encoding_t) (a : List ℕ) (b_from : yaml_encoding_t) (b : List ℕ)
     (c : Option yaml_difference_t) (d : yaml_differences_t)

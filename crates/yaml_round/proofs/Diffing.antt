@@ -1,28 +1,28 @@
--- From the documents that two inputs load to where they part.
+-- From the documents that two inputs load to where they differ.
 use Rattle.std.proofs.Common.{◌≡◌, ◌⊎◌, inl, inr, refl, ap, ℕ, true, List, Ok, Err}
 use Rattle.std.specs.Prelude.{pos}
-use Rattle.yaml_scan_model.specs.declared.yaml_encoding_t.{yaml_encoding_t}
-use Rattle.yaml_scan_model.specs.declared.yaml_encoding_t.TheVariants.{YAML_UTF8_ENCODING}
-use Rattle.yaml_scan_model.specs.declared.yaml_break_t.TheVariants.{YAML_LN_BREAK}
-use Rattle.yaml_scan_model.specs.declared.yaml_fault_t.{yaml_fault_t}
-use Rattle.yaml_scan_model.specs.Faults.{fault_of, IsMemoryFault, load_layers}
-use Rattle.yaml_round_writing.specs.emit.emit_layout.declared.RequestedSettings.{RequestedSettings}
-use Rattle.yaml_round_writing.specs.round_laws_documents.round_content.parse_laws_trees.parse_model.Documents.{Document}
-use Rattle.yaml_round_writing.specs.round_laws_documents.round_content.Loads.{loads_of}
-use Rattle.yaml_round_writing.specs.round_laws_documents.round_content.Said as content
-use Rattle.yaml_round_writing.specs.round_laws_documents.round_content.Canon.{canonical_layout}
-use Rattle.yaml_round_writing.specs.round_laws_documents.round_content.Agree.{Agrees}
-use Rattle.yaml_round_writing.specs.round_laws_documents.round_content.DumpsEvents.{trees_of_dumps}
-use Rattle.yaml_round_writing.specs.Reload.{AreLoaded, IsLoaded}
-use Rattle.yaml_round_writing.proofs.Whole.{loads_are, texts_tell}
-use Rattle.yaml_round_writing.proofs.Loaded.{faulty_load}
-use Rattle.yaml_round_compare.specs.declared.difference.yaml_difference_t.{yaml_difference_t}
-use Rattle.yaml_round_compare.specs.declared.front.Front.{Front}
-use Rattle.yaml_round_compare.specs.Loaded.{SameDocuments, IsDocumentsParting, IsDocumentsDiff}
-use Rattle.yaml_round_compare.specs.Dumps.{documents_left, IsStarted, PartsBehind, TellsOfInputs}
-use Rattle.yaml_round_compare.proofs.Inputs.{loads, short, all_agree, all_part}
-use Rattle.yaml_round_writing.specs.declared.yaml_side_t.{yaml_side_t}
-use Rattle.yaml_round_writing.specs.declared.yaml_side_t.TheVariants.{First, Second}
+use Rattle.yaml_scan_model.specs.declared.name.yaml_encoding_t.{yaml_encoding_t}
+use Rattle.yaml_scan_model.specs.declared.name.yaml_encoding_t.TheVariants.{YAML_UTF8_ENCODING}
+use Rattle.yaml_scan_model.specs.declared.name.yaml_break_t.TheVariants.{YAML_LN_BREAK}
+use Rattle.yaml_scan_model.specs.declared.fault.yaml_fault_t.{yaml_fault_t}
+use Rattle.yaml_scan_model.specs.scan_types.Faults.{fault_of, IsMemoryFault, load_layers}
+use Rattle.yaml_round_engine.specs.emit_layout.declared.RequestedSettings.{RequestedSettings}
+use Rattle.yaml_round_engine.specs.parse_model.Documents.{Document}
+use Rattle.yaml_round_engine.specs.round_content.Loads.{loads_of}
+use Rattle.yaml_round_engine.specs.round_content.Said as content
+use Rattle.yaml_round_engine.specs.round_content.Canon.{canonical_layout}
+use Rattle.yaml_round_engine.specs.round_content.Agree.{Agrees}
+use Rattle.yaml_round_engine.specs.round_content.DumpsEvents.{trees_of_dumps}
+use Rattle.yaml_round_engine.specs.Reload.{AreLoaded, IsLoaded}
+use Rattle.yaml_round_engine.proofs.ReadBackWhole.{loads_are, texts_tell}
+use Rattle.yaml_round_engine.proofs.Loaded.{faulty_load}
+use Rattle.yaml_round_engine.specs.declared.difference.yaml_difference_t.{yaml_difference_t}
+use Rattle.yaml_round_engine.specs.declared.front.Front.{Front}
+use Rattle.yaml_round_engine.specs.Loaded.{SameDocuments, IsDocumentsParting, IsDocumentsDiff}
+use Rattle.yaml_round_engine.specs.Dumps.{documents_left, IsStarted, PartsBehind, TellsOfInputs}
+use Rattle.yaml_round_engine.proofs.Inputs.{loads, short, all_agree, all_part}
+use Rattle.yaml_round_engine.specs.declared.yaml_side_t.{yaml_side_t}
+use Rattle.yaml_round_engine.specs.declared.yaml_side_t.TheVariants.{First, Second}
 
 -- ---- documents with the same dumps agree
 

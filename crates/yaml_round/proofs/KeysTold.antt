@@ -1,27 +1,27 @@
--- From the documents that are loaded one after another to the keys that are told of an input.
+-- From the documents that are loaded one after another to the repeated keys of an input.
 use Rattle.std.proofs.Common.{◌≡◌, ◌⊎◌, ◌∙◌, inl, inr, refl, sym, subst, ap, ℕ, List, [], ◌∷◌, ◌++◌, append_assoc, append-nil, Option, None, Some, Result, Ok, Err, Vec}
 use Rattle.std.specs.Prelude.{◌↔◌, All}
 use Rattle.std.proofs.lemmas.List.Elements.{All-nil, All-cons, All-head, All-tail}
-use Rattle.yaml_scan_model.specs.declared.yaml_encoding_t.{yaml_encoding_t}
-use Rattle.yaml_scan_model.specs.declared.yaml_fault_t.{yaml_fault_t}
-use Rattle.yaml_scan_model.specs.Faults.{Fault, fault_of, IsMemoryFault, load_layers}
-use Rattle.yaml_round_writing.specs.round_laws_documents.round_content.parse_laws_trees.parse_model.Documents.{Document}
-use Rattle.yaml_round_writing.specs.round_laws_documents.round_content.parse_laws_trees.parse_grammar.Remaining.{ParserRemaining}
-use Rattle.yaml_round_writing.specs.round_laws_documents.round_content.Input.{ReadsInput}
-use Rattle.yaml_round_writing.specs.round_laws_documents.round_content.Loads.{Loads, no_more, loads_of}
-use Rattle.yaml_round_writing.specs.round_laws_documents.round_content.PlainLoading.{PlainLoading}
-use Rattle.yaml_round_writing.specs.round_laws_documents.Normal.{ended}
-use Rattle.yaml_round_writing.specs.Reload.{to_load, LoadsDocument}
-use Rattle.yaml_round_writing.proofs.Reloading.{reads_to_load}
-use Rattle.yaml_round_writing.proofs.Loaded.{faultless_load, faulty_load, one_loading}
-use Rattle.yaml_round_keys.specs.declared.telling.yaml_same_key_t.{yaml_same_key_t}
-use Rattle.yaml_round_keys.specs.Telling.{HaveDistinctKeys, TellsMore}
-use Rattle.yaml_round_keys.proofs.Distinct.{distinct}
+use Rattle.yaml_scan_model.specs.declared.name.yaml_encoding_t.{yaml_encoding_t}
+use Rattle.yaml_scan_model.specs.declared.fault.yaml_fault_t.{yaml_fault_t}
+use Rattle.yaml_scan_model.specs.scan_types.Faults.{Fault, fault_of, IsMemoryFault, load_layers}
+use Rattle.yaml_round_engine.specs.parse_model.Documents.{Document}
+use Rattle.yaml_round_engine.specs.parse_grammar.Remaining.{ParserRemaining}
+use Rattle.yaml_round_engine.specs.round_content.Input.{ReadsInput}
+use Rattle.yaml_round_engine.specs.round_content.Loads.{Loads, no_more, loads_of}
+use Rattle.yaml_round_engine.specs.round_content.PlainLoading.{PlainLoading}
+use Rattle.yaml_round_engine.specs.round_content.Normal.{ended}
+use Rattle.yaml_round_engine.specs.Reload.{to_load, LoadsDocument}
+use Rattle.yaml_round_engine.proofs.Reloading.{reads_to_load}
+use Rattle.yaml_round_engine.proofs.Loaded.{faultless_load, faulty_load, one_loading}
+use Rattle.yaml_round_documents.specs.declared.repeated.yaml_same_key_t.{yaml_same_key_t}
+use Rattle.yaml_round_documents.specs.Telling.{HaveDistinctKeys, TellsMore}
+use Rattle.yaml_round_documents.proofs.Distinct.{distinct}
 use Rattle.yaml_round.specs.Keys.{AreTold, HasDistinctKeys, IsKeyCheck}
 
 -- ---- one document more
 
--- whatever is told of the documents that are left, behind it that is told of all
+-- the repeated keys of the documents that are left, after what is reported of all
 abbrev pub TellsOn : List Document → List yaml_same_key_t → List Document → Type 0
 TellsOn left told all = (rest : List yaml_same_key_t) → AreTold left rest → AreTold all (told ++ rest)
 
@@ -93,7 +93,7 @@ same_documents : (ds es : List Document) (r : Result (List Document) Fault) → 
     → r ≡ Ok es → ds ≡ es
 same_documents ds es r p q = cc
 
--- None are told exactly where the keys of each mapping are distinct.
+-- The list is empty exactly where the keys of each mapping are distinct.
 pub told_none : (from : yaml_encoding_t) (input : List ℕ) (told : List yaml_same_key_t)
     → IsKeyCheck from input (Ok told) → (told ≡ []) ↔ HasDistinctKeys from input
 told_none from input told (ds, loading, t) = (

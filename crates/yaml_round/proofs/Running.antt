@@ -1,11 +1,11 @@
--- What a run has done, told by its answer.
+-- What a run has done, by its answer.
 use Rattle.std.proofs.Common.{◌≡◌, ◌⊎◌, ◌≤◌, ℕ, Bool, List, length, take, Option, Ok, Err, refl, inl, inr, rules}
 use Rattle.std.specs.Io.KnownBytes.{Appends}
 use Rattle.std.proofs.KnownBytes.{Keeps-refl}
-use Rattle.yaml_scan_model.specs.declared.yaml_encoding_t.{yaml_encoding_t}
-use Rattle.yaml_scan_model.specs.declared.yaml_fault_t.{yaml_fault_t}
-use Rattle.yaml_scan_model.specs.declared.yaml_origin_t.TheVariants.{Reader}
-use Rattle.yaml_scan_model.specs.Faults.{Fault, fault_of, memory_fault, IsMemoryFault}
+use Rattle.yaml_scan_model.specs.declared.name.yaml_encoding_t.{yaml_encoding_t}
+use Rattle.yaml_scan_model.specs.declared.fault.yaml_fault_t.{yaml_fault_t}
+use Rattle.yaml_scan_model.specs.declared.fault.yaml_origin_t.TheVariants.{Reader}
+use Rattle.yaml_scan_model.specs.scan_types.Faults.{Fault, fault_of, memory_fault, IsMemoryFault}
 use Rattle.yaml_round_device.specs.declared.yaml_settings_t.{yaml_settings_t}
 use Rattle.yaml_round_device.specs.declared.form.yaml_form_t.{yaml_form_t}
 use Rattle.yaml_round_device.specs.declared.form.yaml_command_t.{yaml_command_t}

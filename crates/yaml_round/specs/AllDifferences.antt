@@ -1,17 +1,17 @@
 -- Every place where two inputs differ.
 use Rattle.std.specs.Prelude.{◌≡◌, ◌⊎◌, ◌↔◌, ℕ, Bool, true, false, List, [], Option, Some, None, Result, Ok, Err}
-use Rattle.yaml_scan_model.specs.declared.yaml_encoding_t.{yaml_encoding_t}
-use Rattle.yaml_scan_model.specs.declared.yaml_fault_t.{yaml_fault_t}
-use Rattle.yaml_scan_model.specs.Faults.{IsMemoryFault, fault_of, load_layers}
-use Rattle.yaml_round_writing.specs.round_laws_documents.round_content.parse_laws_trees.parse_model.Documents.{Document}
-use Rattle.yaml_round_writing.specs.Answers.{SameContent}
-use Rattle.yaml_round_writing.specs.Reload.{AreLoaded}
-use Rattle.yaml_round_writing.specs.declared.yaml_side_t.{yaml_side_t}
-use Rattle.yaml_round_writing.specs.declared.yaml_side_t.TheVariants.{First}
-use Rattle.yaml_round_compare.specs.declared.difference.yaml_difference_t.{yaml_difference_t}
-use Rattle.yaml_round_compare.specs.Differences.{IsDiff, IsParting}
-use Rattle.yaml_round_compare.specs.Loaded.{IsSideShort, IsSideUnloaded}
-use Rattle.yaml_round_differences.specs.Streams.{AreEqualStreams, AreStreamDifferences}
+use Rattle.yaml_scan_model.specs.declared.name.yaml_encoding_t.{yaml_encoding_t}
+use Rattle.yaml_scan_model.specs.declared.fault.yaml_fault_t.{yaml_fault_t}
+use Rattle.yaml_scan_model.specs.scan_types.Faults.{IsMemoryFault, fault_of, load_layers}
+use Rattle.yaml_round_engine.specs.parse_model.Documents.{Document}
+use Rattle.yaml_round_engine.specs.Answers.{SameContent}
+use Rattle.yaml_round_engine.specs.Reload.{AreLoaded}
+use Rattle.yaml_round_engine.specs.declared.yaml_side_t.{yaml_side_t}
+use Rattle.yaml_round_engine.specs.declared.yaml_side_t.TheVariants.{First}
+use Rattle.yaml_round_engine.specs.declared.difference.yaml_difference_t.{yaml_difference_t}
+use Rattle.yaml_round_engine.specs.Differences.{IsDiff, IsParting}
+use Rattle.yaml_round_engine.specs.Loaded.{IsSideShort, IsSideUnloaded}
+use Rattle.yaml_round_documents.specs.Streams.{AreEqualStreams, AreStreamDifferences}
 use Rattle.yaml_round.specs.declared.differences.yaml_differences_t.{yaml_differences_t}
 
 -- The inputs load these documents, and they differ at these places.
@@ -22,7 +22,7 @@ pub record AreAllDifferences (a_from : yaml_encoding_t) (a : List ℕ) (b_from :
   pub differ : AreStreamDifferences 0 d.first.items d.second.items d.told.items
   pub equal : (d.told.items ≡ []) ↔ AreEqualStreams d.first.items d.second.items
 
--- nothing is told
+-- nothing is listed
 pub record TellsNothing (d : yaml_differences_t) : Type 0 where
   pub first : d.first.items ≡ []
   pub second : d.second.items ≡ []
@@ -42,7 +42,7 @@ abbrev pub AreAlike : yaml_encoding_t → List ℕ → yaml_encoding_t → List 
 AreAlike a_from a b_from b true = HaveEqualDocuments a_from a b_from b
 AreAlike a_from a b_from b false = SameContent a_from a b_from b
 
--- documents aren't loaded: for want of memory, or by a fault
+-- documents aren't loaded: out of memory, or by a fault
 abbrev pub AreUnloaded : yaml_encoding_t → List ℕ → yaml_encoding_t → List ℕ
     → yaml_side_t × yaml_fault_t → Type 0
 AreUnloaded a_from a b_from b f = IsSideShort a_from a f.0 (fault_of f.1)

@@ -1,8 +1,8 @@
 -- What a run of a command answers.
 use Rattle.std.specs.Prelude.{◌≡◌, ℕ, Bool, false, List, Option, None, Some, Result, Ok, Err}
-use Rattle.yaml_scan_model.specs.declared.yaml_encoding_t.{yaml_encoding_t}
-use Rattle.yaml_scan_model.specs.declared.yaml_origin_t.{yaml_origin_t}
-use Rattle.yaml_scan_model.specs.Faults.{Fault}
+use Rattle.yaml_scan_model.specs.declared.name.yaml_encoding_t.{yaml_encoding_t}
+use Rattle.yaml_scan_model.specs.declared.fault.yaml_origin_t.{yaml_origin_t}
+use Rattle.yaml_scan_model.specs.scan_types.Faults.{Fault}
 use Rattle.yaml_round_device.specs.declared.yaml_settings_t.{yaml_settings_t}
 use Rattle.yaml_round_device.specs.declared.form.yaml_form_t.{yaml_form_t}
 use Rattle.yaml_round_device.specs.declared.form.yaml_form_t.TheVariants.{Canonical}
@@ -10,9 +10,9 @@ use Rattle.yaml_round_device.specs.declared.form.yaml_command_t.{yaml_command_t}
 use Rattle.yaml_round_device.specs.declared.form.yaml_command_t.TheVariants.{Fmt, Docs, Events}
 use Rattle.yaml_round_device.specs.declared.run_fault.yaml_run_fault_t.{yaml_run_fault_t}
 use Rattle.yaml_round_device.specs.declared.run_fault.yaml_run_fault_t.TheVariants.{Read, TooLong, Yaml, Write}
-use Rattle.yaml_round_writing.specs.Answers.{IsReformatted, IsListed}
-use Rattle.yaml_round_writing.specs.Reload.{IsReloaded}
-use Rattle.yaml_round_writing.specs.Layers.{list_layers, reformat_layers, reload_layers}
+use Rattle.yaml_round_engine.specs.Answers.{IsReformatted, IsListed}
+use Rattle.yaml_round_engine.specs.Reload.{IsReloaded}
+use Rattle.yaml_round_engine.specs.Layers.{list_layers, reformat_layers, reload_layers}
 
 -- the layers in which memory may run out
 abbrev pub run_layers : yaml_command_t → List yaml_origin_t

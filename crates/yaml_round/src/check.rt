@@ -1,10 +1,10 @@
 //! Whether an input loads.
 
-ghost use Rattle.yaml_scan_model.specs.Faults.{Answers, load_layers};
-ghost use Rattle.yaml_round_writing.specs.Checking.{IsChecked};
+ghost use Rattle.yaml_scan_model.specs.scan_types.Faults.{Answers, load_layers};
+ghost use Rattle.yaml_round_engine.specs.Checking.{IsChecked};
 
 use std::alloc::Global;
-use yaml_round_writing::load_out;
+use yaml_round_engine::load_out;
 use yaml_scan_model::{yaml_encoding_t, yaml_fault_t};
 
 /// Whether the input's documents load, as `yaml_reload` loads them: accepted exactly where they do, refused with the same

@@ -1,18 +1,18 @@
 //! Keys that are in a mapping of an input more than once.
 
 ghost use Rattle.std.specs.Prelude.{◌≡◌, ◌↔◌, ℕ, List, [], true, IfOk};
-ghost use Rattle.yaml_scan_model.specs.Faults.{Answers, load_layers};
-ghost use Rattle.yaml_round_writing.specs.round_laws_documents.round_content.Input.{ReadsInput};
+ghost use Rattle.yaml_scan_model.specs.scan_types.Faults.{Answers, load_layers};
+ghost use Rattle.yaml_round_engine.specs.round_content.Input.{ReadsInput};
 ghost use Rattle.yaml_round.specs.Keys.{HasDistinctKeys, IsKeyCheck};
 
 use std::alloc::Global;
-use yaml_round_keys::{tell_document, yaml_same_key_t};
-use yaml_round_writing::{
+use yaml_round_documents::{tell_document, yaml_same_key_t};
+use yaml_round_engine::{
     ReadText, Reading, let_go, let_text_go, next_document, read_text, reading_of,
 };
 use yaml_scan_model::{yaml_encoding_t, yaml_fault_t, yaml_memory_fault, yaml_origin_t};
 
-// The keys that are told of a reading's documents.
+// The repeated keys of a reading's documents.
 fn keys_from(alloc: Global, reading: &mut Reading<'_>) -> Result<Vec<yaml_same_key_t>, yaml_fault_t>
     requires { reading.old.parser.between ≡ true }
     ensures { (from : yaml_encoding_t) (input : List ℕ) → ReadsInput from input reading.old.parser
@@ -31,7 +31,7 @@ fn keys_from(alloc: Global, reading: &mut Reading<'_>) -> Result<Vec<yaml_same_k
     }
 }
 
-// The keys that are told of the input whose text it is.
+// The repeated keys of the input whose text it is.
 fn keys_in(alloc: Global, text: &ReadText<'_>) -> Result<Vec<yaml_same_key_t>, yaml_fault_t>
     ensures { Answers load_layers (λ told. told.items) (IsKeyCheck text.now.from text.now.bytes)
         result }
@@ -47,10 +47,11 @@ fn keys_in(alloc: Global, text: &ReadText<'_>) -> Result<Vec<yaml_same_key_t>, y
 }
 
 /// The keys of the input's mappings, document by document and in order, to which an earlier key of the same mapping is the same,
-/// each with the first such one: as `yaml_document_check_keys` tells them of each document. None are told exactly where in each
-/// document the keys of each mapping are distinct; a plain `<<` may come again. The documents are those that `yaml_reload` loads,
-/// one held at a time, and the input is refused with the same fault (kinds 2 to 5), whatever was told before it, or when out of
-/// memory (kind 1).
+/// each with the first such one: as `yaml_document_check_keys` lists them for each document. The
+/// list is empty exactly where in each document the keys of each mapping are distinct; a plain `<<`
+/// may come again. The documents are those that `yaml_reload` loads, one held at a time, and the
+/// input is refused with the same fault (kinds 2 to 5), whatever was found before it, or when out
+/// of memory (kind 1).
 pub fn yaml_check_keys(
     alloc: Global,
     input: &[u8],

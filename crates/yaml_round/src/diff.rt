@@ -1,17 +1,16 @@
-//! Where two inputs part.
+//! Where two inputs differ.
 
-ghost use Rattle.yaml_round_compare.specs.Differences.{IsDiff};
-ghost use Rattle.yaml_round_compare.specs.Loaded.{IsDocumentsDiff};
+ghost use Rattle.yaml_round_engine.specs.Differences.{IsDiff};
+ghost use Rattle.yaml_round_engine.specs.Loaded.{IsDocumentsDiff};
 
 use std::alloc::Global;
-use yaml_round_compare::{Front, Trail, place_behind, same_as, same_documents, yaml_difference_t};
-use yaml_round_writing::{
-    ReadText, documents_of, let_documents_go, let_go, let_text_go, read_text, reading_of,
-    yaml_side_t,
+use yaml_round_engine::{
+    Front, ReadText, Trail, documents_of, let_documents_go, let_go, let_text_go, place_behind,
+    read_text, reading_of, same_as, same_documents, yaml_difference_t, yaml_side_t,
 };
 use yaml_scan_model::{yaml_encoding_t, yaml_fault_t, yaml_memory_fault, yaml_origin_t};
 
-// The first place at which the content of an input whose text it is and another's part.
+// The first place at which the contents of an input whose text it is and of another differ.
 fn diff_text(
     alloc: Global,
     text: &ReadText<'_>,
@@ -35,9 +34,10 @@ fn diff_text(
     }
 }
 
-/// The first place at which the contents of two inputs part: before it both say the same, event by event, and their next
-/// events don't. Nothing is answered exactly where `yaml_same` answers true. Refusals are those of `yaml_same`, with kinds 1 to
-/// 4 and the side: the first input's fault first, also where the contents part before a fault.
+/// The first place at which the contents of two inputs differ: before it both have the same
+/// content, event by event, and their next events differ. `None` exactly where `yaml_same` returns
+/// true. Refusals are those of `yaml_same`, with kinds 1 to 4 and the side: the first input's fault
+/// first, also where the contents differ before a fault.
 pub fn yaml_diff(
     alloc: Global,
     a: &[u8],
@@ -53,11 +53,13 @@ pub fn yaml_diff(
     answer
 }
 
-/// The first place at which the loaded documents of two inputs part; nothing exactly where they agree, as `yaml_reload` compares
-/// them: version and directives, and under each number the same kind, tag and value, and the same numbers of what it holds, so
-/// that names of anchors and untagged quoting don't count, but sharing and cycles do. Before the place both dumps are the
-/// same, event by event; a node that is met again has an anchor in its dump. Its marks and kinds are those of the inputs' events.
-/// Refusals are those of `yaml_reload`, with kinds 1 to 5 and the side: the first input's fault first.
+/// The first place at which the loaded documents of two inputs differ; `None` exactly where they
+/// agree, as `yaml_reload` compares them: version and directives, and under each number the same
+/// kind, tag and value, and the same numbers of what it holds, so that names of anchors and
+/// untagged quoting don't count, but sharing and cycles do. Before the place both dumps are the
+/// same, event by event; a node that is met again has an anchor in its dump. Its marks and kinds
+/// are those of the inputs' events. Refusals are those of `yaml_reload`, with kinds 1 to 5 and the
+/// side: the first input's fault first.
 pub fn yaml_diff_documents(
     alloc: Global,
     a: &[u8],

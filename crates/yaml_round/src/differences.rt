@@ -6,11 +6,8 @@ ghost use Rattle.yaml_round.specs.AllDifferences.{AreAlike, AreDifferences, AreP
 use crate::diff::yaml_diff;
 use std::alloc::Global;
 use std::collections::VecDeque;
-use yaml_round_compare::yaml_difference_t;
-use yaml_round_differences::{
-    yaml_document_difference_t, yaml_document_t, yaml_stream_differences,
-};
-use yaml_round_writing::{documents_of, let_documents_go, yaml_side_t};
+use yaml_round_documents::{yaml_document_difference_t, yaml_document_t, yaml_stream_differences};
+use yaml_round_engine::{documents_of, let_documents_go, yaml_difference_t, yaml_side_t};
 use yaml_scan_model::{yaml_encoding_t, yaml_fault_t, yaml_memory_fault, yaml_origin_t};
 
 /// Documents of two inputs, and in what the inputs differ.
@@ -151,11 +148,11 @@ fn differences_of(
     }
 }
 
-/// Every place where two inputs differ, by their contents or by their `documents` alone. Nothing is told, of documents or of
-/// contents, exactly where these are equal.
+/// Every place where two inputs differ, by their contents or by their `documents` alone. Nothing is
+/// listed, of documents or of contents, exactly where these are equal.
 ///
 /// Documents are those that `yaml_reload` loads. The k-th are compared as `yaml_document_differences` compares them, and each that
-/// one input has alone is told. Refusals are those of `yaml_diff_documents`.
+/// one input has alone is listed. Refusals are those of `yaml_diff_documents`.
 ///
 /// Contents differ where documents do, and in what documents don't keep: quotes, anchors, directives. `content` is what `yaml_diff`
 /// answers, and refusals are those of `yaml_diff`. Where the contents part, the documents are loaded and compared, and may be

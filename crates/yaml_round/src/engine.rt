@@ -1,12 +1,12 @@
 //! The calls that read a text whole and answer another.
 
-ghost use Rattle.yaml_scan_model.specs.Faults.{Answers};
-ghost use Rattle.yaml_round_writing.specs.Layers.{list_layers, reformat_layers};
-ghost use Rattle.yaml_round_writing.specs.Answers.{IsReformatted, IsInCanonicalForm, IsListed, text_and_form, bytes_of};
+ghost use Rattle.yaml_scan_model.specs.scan_types.Faults.{Answers};
+ghost use Rattle.yaml_round_engine.specs.Layers.{list_layers, reformat_layers};
+ghost use Rattle.yaml_round_engine.specs.Answers.{IsReformatted, IsInCanonicalForm, IsListed, text_and_form, bytes_of};
 
 use std::alloc::Global;
 use yaml_round_device::{yaml_form_t, yaml_settings_t};
-use yaml_round_writing::{
+use yaml_round_engine::{
     Form, ReadText, in_pretty_form, let_go, let_text_go, lines_of, read_text, reading_of, written,
 };
 use yaml_scan_model::{yaml_encoding_t, yaml_fault_t};
@@ -28,7 +28,7 @@ fn in_canonical_form(
 
 /// The text rewritten, and its form. With `settings.canonical` on the answer is in canonical form. With it off the events
 /// are laid out in pretty form, with their styles, and that text reads back; only where the input begins with nothing (its first
-/// document has no `---` and is a `!` alone) it doesn't, and the answer is in canonical form all the same.
+/// document has no `---` and is a `!` alone) it doesn't, and the answer is in canonical form.
 ///
 /// Refusals: a fault of the input (kinds 2, 3 and 4), which comes before a limit; `write error` (kind 6) where the text
 /// has more than `settings.limit` bytes; `indentation is too deep` (kind 7); out of memory (kind 1).
@@ -71,8 +71,8 @@ fn lines_in(alloc: Global, text: &ReadText<'_>) -> Result<Vec<u8>, yaml_fault_t>
     }
 }
 
-/// A line for each event of the input, as the parser gives it. Refused by a fault of the input (kinds 2, 3 and 4) or for
-/// out of memory.
+/// A line for each event of the input, as the parser gives it. Refused by a fault of the input
+/// (kinds 2, 3 and 4) or when out of memory.
 pub fn yaml_events(
     alloc: Global,
     input: &[u8],

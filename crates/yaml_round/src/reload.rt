@@ -1,13 +1,13 @@
 //! Documents loaded and written again.
 
-ghost use Rattle.yaml_scan_model.specs.Faults.{Answers};
-ghost use Rattle.yaml_round_writing.specs.Layers.{reload_layers};
-ghost use Rattle.yaml_round_writing.specs.Answers.{bytes_of};
-ghost use Rattle.yaml_round_writing.specs.Reload.{IsReloaded};
+ghost use Rattle.yaml_scan_model.specs.scan_types.Faults.{Answers};
+ghost use Rattle.yaml_round_engine.specs.Layers.{reload_layers};
+ghost use Rattle.yaml_round_engine.specs.Answers.{bytes_of};
+ghost use Rattle.yaml_round_engine.specs.Reload.{IsReloaded};
 
 use std::alloc::Global;
 use yaml_round_device::yaml_settings_t;
-use yaml_round_writing::{documents_of, let_documents_go, written_documents};
+use yaml_round_engine::{documents_of, let_documents_go, written_documents};
 use yaml_scan_model::{yaml_encoding_t, yaml_fault_t};
 
 /// The input's documents, loaded and written in canonical form: nodes with two visits or more have anchors by number, tags

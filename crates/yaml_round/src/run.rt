@@ -2,8 +2,8 @@
 
 ghost use Rattle.std.specs.Prelude.{◌≡◌, true, IfErr, OnOk};
 ghost use Rattle.yaml_round_device.specs.Run.{Runs, RunTakes, FailsBy, IsBeforeWriting};
-ghost use Rattle.yaml_scan_model.specs.Faults.{Answers};
-ghost use Rattle.yaml_round_writing.specs.Answers.{text_and_maybe_form};
+ghost use Rattle.yaml_scan_model.specs.scan_types.Faults.{Answers};
+ghost use Rattle.yaml_round_engine.specs.Answers.{text_and_maybe_form};
 ghost use Rattle.yaml_round.specs.Commands.{IsRunAnswer, run_layers, EndsUnfinished};
 
 use crate::engine::{yaml_events, yaml_reformat};
@@ -63,7 +63,7 @@ pub fn yaml_run<I: yaml_input_t, O: yaml_output_t>(
         })
         (record { to_come = I.to_come input.old; received = O.received output.old })
         (record { to_come = I.to_come input.new; received = O.received output.new }) result }
-    // No byte is taken after the one past the limit, whether or not the input tells its bytes.
+    // No byte is taken after the one past the limit, whether or not the input's bytes are known.
     ensures taken { RunTakes (I.given input.old) (I.given input.new) input_limit result }
     // After a whole answer the output is finished, and after a failed write it isn't.
     ensures finished { OnOk result (O.is_finished output.new ≡ true) }
@@ -72,7 +72,7 @@ pub fn yaml_run<I: yaml_input_t, O: yaml_output_t>(
         (record { input = I.has_failed input.old; output = O.has_failed output.old })
         (record { input = I.has_failed input.new; output = O.has_failed output.new }) result }
 
-    // Before the writing the output isn't touched, whether or not it tells its bytes.
+    // Before the writing the output isn't touched, whether or not its bytes are known.
     ensures untouched { IfErr result (λ fault. IsBeforeWriting fault → output.new ≡ output.old) }
 {
     let bytes = match yaml_read_all(alloc, input, input_limit) {

@@ -1,10 +1,11 @@
 //! The comparison of two inputs.
 
-ghost use Rattle.yaml_round_writing.specs.Answers.{IsSame};
+ghost use Rattle.yaml_round_engine.specs.Answers.{IsSame};
 
 use std::alloc::Global;
-use yaml_round_compare::{Trail, same_as};
-use yaml_round_writing::{ReadText, let_go, let_text_go, read_text, reading_of, yaml_side_t};
+use yaml_round_engine::{
+    ReadText, Trail, let_go, let_text_go, read_text, reading_of, same_as, yaml_side_t,
+};
 use yaml_scan_model::{yaml_encoding_t, yaml_fault_t};
 
 // The comparison of an input whose text it is with another.
@@ -29,7 +30,7 @@ fn same_text(
 
 /// Whether two inputs have the same content: their documents' versions, directives, nodes, anchors, tags and values, and of
 /// untagged scalars whether they are plain; styles, marks and comments aside. A refused first input is answered first, by
-/// its side and its fault (kinds 1 to 4); the second is told of only where the first is accepted.
+/// its side and its fault (kinds 1 to 4); the second is reported only where the first is accepted.
 pub fn yaml_same(
     alloc: Global,
     a: &[u8],

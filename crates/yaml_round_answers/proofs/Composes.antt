@@ -2,11 +2,11 @@
 use Rattle.std.proofs.Common.{◌≡◌, ℕ, ◌+◌, ◌<◌, ◌≤◌, length, get_or, drop, add-one, Bool, true, false, ◌&&◌, List, [], ◌∷◌, ◌++◌, refl, sym, ap, ◌∙◌, Option, None, Some, append-nil, append_assoc}
 use Rattle.std.proofs.Math.Seq.{drop-cons}
 use Rattle.std.proofs.lemmas.List.{drop_all}
-use Rattle.yaml_round_answers.specs.declared.record.yaml_c_step.{yaml_c_step}
-use Rattle.yaml_round_answers.specs.declared.record.yaml_c_spot.{yaml_c_spot}
+use Rattle.yaml_round_answers.specs.declared.graph_record.yaml_c_step.{yaml_c_step}
+use Rattle.yaml_round_answers.specs.declared.graph_record.yaml_c_spot.{yaml_c_spot}
 use Rattle.std.specs.Prelude.{Ok}
 use Rattle.yaml_round_answers.specs.Composing.{name_at, is_step, are_steps, Sketch, drawn, Draws, drawn_on, all_drawn}
-use Rattle.yaml_round_records.proofs.Checked.{none_left, some_left}
+use Rattle.yaml_round_answers.proofs.Checked.{none_left, some_left}
 
 -- ---- whether records mean events
 
@@ -39,7 +39,7 @@ steps_end bytes rs i h inv = sym (no_steps bytes) ∙ ap (are_steps bytes) (sym 
 
 -- ---- what the events come to
 
--- before what is left stand these
+-- these come before what is left
 abbrev pub put_before : List yaml_c_spot → List yaml_c_spot × Bool → List yaml_c_spot × Bool
 put_before xs r = (xs ++ r.0, r.1)
 

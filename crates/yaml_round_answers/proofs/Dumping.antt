@@ -1,9 +1,9 @@
--- What C is told of a dump.
+-- What C receives of a dump.
 use Rattle.std.proofs.Common.{◌≡◌, inl, inr, ◌∙◌, sym, subst, ℤ, pos, negsuc, Bool, true, false, List, []}
 use Rattle.yaml_parse.specs.declared.yaml_origin_t.TheVariants.{Emitter}
-use Rattle.yaml_parse.specs.Faults.{Fault, memory_fault}
-use Rattle.yaml_round_answers.specs.declared.record.yaml_c_graph.{yaml_c_graph}
-use Rattle.yaml_round_answers.specs.declared.record.yaml_c_turn.{yaml_c_turn}
+use Rattle.yaml_parse.specs.scan_types.Faults.{Fault, memory_fault}
+use Rattle.yaml_round_answers.specs.declared.graph_record.yaml_c_graph.{yaml_c_graph}
+use Rattle.yaml_round_answers.specs.declared.graph_record.yaml_c_turn.{yaml_c_turn}
 use Rattle.yaml_round_answers.specs.Graphs.{are_nodes}
 use Rattle.yaml_round_answers.specs.Turns.{turns_by}
 use Rattle.yaml_round_answers.proofs.Same.{tells_turns}

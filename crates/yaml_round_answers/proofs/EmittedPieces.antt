@@ -1,20 +1,20 @@
--- What C is told of events that are emitted piece by piece.
+-- What C receives of events that are emitted piece by piece.
 use Rattle.std.proofs.Common.{◌≡◌, inl, refl, sym, ℕ, ℤ, pos, negsuc, subst, List, Option, None, Some, Result, Ok, Err}
 use Rattle.yaml_parse.specs.Events.{EventBody}
-use Rattle.yaml_parse.specs.Faults.{Fault, emit_layers}
+use Rattle.yaml_parse.specs.scan_types.Faults.{Fault, emit_layers}
 use Rattle.yaml_parse.specs.declared.yaml_origin_t.TheVariants.{Emitter}
 use Rattle.yaml_emit.specs.emit_layout.declared.RequestedSettings.{RequestedSettings}
 use Rattle.yaml_round_answers.specs.declared.answer.yaml_c_answer.{yaml_c_answer}
-use Rattle.yaml_round_records.specs.declared.yaml_c_stand.{yaml_c_stand}
-use Rattle.yaml_round_records.specs.declared.StandRecords.{StandRecords}
-use Rattle.yaml_round_records.specs.Leading.{all_events}
-use Rattle.yaml_round_records.specs.Standing.{At}
-use Rattle.yaml_round_records.specs.Onward.{most_on, IsOnwardAt, IsOnward}
-use Rattle.yaml_round_records.specs.Written.{emitter_events}
-use Rattle.yaml_round_answers.specs.Onward.{onward_meant, TellsOnward, EmitsOn, EmitsAllOn}
+use Rattle.yaml_round_answers.specs.declared.standing.yaml_c_stand.{yaml_c_stand}
+use Rattle.yaml_round_answers.specs.declared.onward.StandRecords.{StandRecords}
+use Rattle.yaml_round_answers.specs.Leading.{all_events}
+use Rattle.yaml_round_answers.specs.Standing.{At}
+use Rattle.yaml_round_answers.specs.Onward.{most_on, IsOnwardAt, IsOnward}
+use Rattle.yaml_round_answers.specs.Written.{emitter_events}
+use Rattle.yaml_round_answers.specs.OnwardAnswers.{onward_meant, TellsOnward, EmitsOn, EmitsAllOn}
 use Rattle.yaml_round_answers.specs.Told.{AnswersMeant, IsExact, OrMemory, Refuses}
 use Rattle.yaml_round_answers.specs.declared.parsing.yaml_c_parsed.{yaml_c_parsed}
-use Rattle.yaml_round_records.specs.declared.yaml_c_settings.{yaml_c_settings}
+use Rattle.yaml_round_answers.specs.declared.record.yaml_c_settings.{yaml_c_settings}
 use Rattle.yaml_round_answers.proofs.Exact.{text_kind, fault_kind, exact}
 use Rattle.yaml_round_answers.proofs.Refusing.{refused_answer}
 
@@ -36,7 +36,7 @@ on_refused old new (Some bs) m None f a same is told = tt
 on_refused old new (Some bs) m (Some at) f a same is told =
     refused_answer emit_layers Emitter (IsOnward m.0 (most_on m.1) at (emitter_events bs)) (TellsOnward old new) f a (inl refl) (λ g t. (t, same)) is told
 
--- ---- the kind that is told
+-- ---- the kind in the answer
 
 onward_kind : (old new : yaml_c_stand) (r : Result (List ℕ × StandRecords) Fault)
     (a : yaml_c_answer)

@@ -1,19 +1,19 @@
--- The kind that is told is -1 only where a number means nothing.
+-- The kind in the answer is -1 only where a number means nothing.
 use Rattle.std.proofs.Common.{◌≡◌, inl, inr, sym, subst, ℕ, ℤ, pos, negsuc, Bool, List, [], Option, None, Some, Result, Ok, Err}
 use Rattle.yaml_parse.specs.declared.yaml_error_type_t.{yaml_error_type_t}
 use Rattle.yaml_parse.specs.declared.yaml_error_type_t.TheVariants as error
 use Rattle.yaml_parse.specs.declared.yaml_encoding_t.{yaml_encoding_t}
 use Rattle.yaml_parse.specs.declared.yaml_fault_t.{yaml_fault_t}
-use Rattle.yaml_parse.specs.Faults.{Fault, fault_of}
+use Rattle.yaml_parse.specs.scan_types.Faults.{Fault, fault_of}
 use Rattle.yaml_parse.specs.Events.{EventBody}
 use Rattle.yaml_parse.specs.Resolve.{Told}
 use Rattle.yaml_emit.specs.emit_layout.declared.RequestedSettings.{RequestedSettings}
 use Rattle.yaml_round.specs.declared.yaml_side_t.{yaml_side_t}
 use Rattle.yaml_round.specs.declared.yaml_form_t.{yaml_form_t}
-use Rattle.yaml_round_records.specs.declared.yaml_c_settings.{yaml_c_settings}
+use Rattle.yaml_round_answers.specs.declared.record.yaml_c_settings.{yaml_c_settings}
 use Rattle.yaml_round_answers.specs.declared.parsing.yaml_c_parsed.{yaml_c_parsed}
 use Rattle.yaml_round_answers.specs.declared.answer.yaml_c_answer.{yaml_c_answer}
-use Rattle.yaml_round_records.specs.Numbers.{encoding_meant, error_number}
+use Rattle.yaml_round_answers.specs.Numbers.{encoding_meant, error_number}
 use Rattle.yaml_round_answers.specs.Told.{TellsText, TellsFault, TellsFaultIn, TellsResult, TellsForm, TellsSame, AnswersMeant, IsExact, both, call_meant, form_number, same_number, side_number, Reformats, Reloads, Lists, Compares}
 use Rattle.yaml_round_answers.specs.Spelled.{spelled_text}
 use Rattle.yaml_round_answers.specs.Parses.{TellsEvents, Parses, TellsFront, Fronts, NothingUnmeant}
@@ -68,7 +68,7 @@ events_kind : (text : List ℕ) (blocks : yaml_c_parsed) (r : Result (List Told)
 events_kind text blocks (Ok es) a h = text_kind [] (pos 0) a h.0
 events_kind text blocks (Err f) a h = placed_kind text f a h.0
 
--- a call whose answers tell no -1
+-- a call none of whose answers has kind -1
 pub exact : {M : Type 0} (o : Option M) (Is : M → yaml_c_answer → Type 0) (a : yaml_c_answer)
     → ((m : M) → Is m a → ¬ (a.kind ≡ negsuc 0))
     → AnswersMeant o Is a → IsExact o a.kind

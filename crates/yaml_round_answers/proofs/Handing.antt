@@ -1,4 +1,4 @@
--- What was collected is handed out, and C is told of it.
+-- What was collected is passed to C.
 use Rattle.std.proofs.Common.{◌≡◌, ◌∙◌, ◌⊎◌, inl, inr, ap, refl, sym, subst, ℕ, ℤ, pos, Bool, true, false, List, [], ◌∷◌, ◌++◌, Some, Result, Ok, Err}
 use Rattle.std.proofs.lemmas.Bool.{false≢true}
 use Rattle.std.proofs.lemmas.List.{append-nil}
@@ -6,29 +6,29 @@ use Rattle.yaml_parse.specs.declared.yaml_encoding_t.{yaml_encoding_t}
 use Rattle.yaml_parse.specs.declared.yaml_fault_t.{yaml_fault_t}
 use Rattle.yaml_parse.specs.Events.{TagDirective}
 use Rattle.yaml_parse.specs.Resolve.{Told}
-use Rattle.yaml_parse.specs.Faults.{Fault, fault_of, memory_fault, IsMemoryFault, parse_layers}
+use Rattle.yaml_parse.specs.scan_types.Faults.{Fault, fault_of, memory_fault, IsMemoryFault, parse_layers}
 use Rattle.yaml_parse.specs.declared.yaml_origin_t.{yaml_origin_t}
 use Rattle.yaml_parse.specs.declared.yaml_origin_t.TheVariants.{Parser}
 use Rattle.yaml_parse.specs.declared.yaml_error_type_t.{yaml_error_type_t}
 use Rattle.yaml_parse.specs.declared.yaml_error_type_t.TheVariants as error
 use Rattle.yaml_parse.specs.Remaining.{ParserRemaining}
-use Rattle.yaml_round.specs.Answers.{IsFaulty}
-use Rattle.yaml_round.specs.Input.{ReadsInput, events_of, ending_of}
-use Rattle.yaml_round.proofs.Plain.{faulty, has_events}
+use Rattle.yaml_round.specs.round_engine.Answers.{IsFaulty}
+use Rattle.yaml_round.specs.round_content.Input.{ReadsInput, events_of, ending_of}
+use Rattle.yaml_round_reading.proofs.Plain.{faulty, has_events}
 use Rattle.yaml_round.specs.round_content.Reading.{HasEvents}
-use Rattle.yaml_round_records.specs.declared.Listing.{Listing}
-use Rattle.yaml_round_records.specs.declared.yaml_c_directive.{yaml_c_directive}
+use Rattle.yaml_round_answers.specs.declared.listing.Listing.{Listing}
+use Rattle.yaml_round_answers.specs.declared.record.yaml_c_directive.{yaml_c_directive}
 use Rattle.yaml_round_answers.specs.declared.parsing.yaml_c_parsed.{yaml_c_parsed}
-use Rattle.yaml_round_records.specs.Records.{all_directives}
-use Rattle.yaml_round_records.specs.Blocks.{listed_directives}
-use Rattle.yaml_round_records.specs.Listing.{Collected, Collects, AreSaid, HoldsAll, events_alone}
+use Rattle.yaml_round_answers.specs.Records.{all_directives}
+use Rattle.yaml_round_answers.specs.Blocks.{listed_directives}
+use Rattle.yaml_round_answers.specs.Listing.{Collected, Collects, AreSaid, HoldsAll, events_alone}
 use Rattle.yaml_round_answers.specs.declared.answer.yaml_c_answer.{yaml_c_answer}
 use Rattle.yaml_round_answers.specs.Told.{TellsText, TellsFaultIn, TellsMemory, TellsWant, RefusesIn}
-use Rattle.yaml_round_records.specs.Numbers.{error_number}
+use Rattle.yaml_round_answers.specs.Numbers.{error_number}
 use Rattle.yaml_round_answers.specs.Spelled.{spelled_text, is_memory, is_starved}
 use Rattle.yaml_round_answers.specs.Parses.{HasNothing, HandsOut, HandsOutUnless, SayEvents, SayFront, IsParsed, IsFront, EndsFront, TellsEvents, Parses, Fronts, is_cut_off, Gives, GivesNone}
 use Rattle.yaml_round_answers.proofs.Refusing.{refused_answer_in}
-use Rattle.yaml_round_records.proofs.Saying.{say_at}
+use Rattle.yaml_round_answers.proofs.Saying.{say_at}
 
 -- what was collected of a reading is the input's
 front_taken : (from : yaml_encoding_t) (input : List ℕ) (p : ParserRemaining) (l : Listing)
@@ -122,7 +122,7 @@ pub nothing_given : (whole : Bool) (p : yaml_c_parsed) (a : yaml_c_answer) → H
 nothing_given true p a h = inr h
 nothing_given false p a h = tt
 
--- behind a fault there is nothing where all are asked for
+-- after a fault there is nothing where all are asked for
 pub refused_none : (whole : Bool) (text : List ℕ) (r : Result (Unit {0}) yaml_fault_t)
     (f : yaml_fault_t) (l : Listing) (p : yaml_c_parsed) (a : yaml_c_answer) (b : Bool)
     → b ≡ is_cut_off whole r → r ≡ Err f → HandsOutUnless b text l p → GivesNone whole p a
@@ -165,7 +165,7 @@ front_says from input text f l p a true is e h i t = inl (tells_want text (fault
 front_says from input text f l p a false is e h (inl m) t = absurd (false≢true (is ∙ memory_kind parse_layers (fault_of f) m))
 front_says from input text f l p a false is e h (inr i) t = inr (says_in from input text l p _ e h i.1.0 i.1.1)
 
--- ---- a refused parse is told
+-- ---- a refused parse is reported
 
 refused_parse : (from : yaml_encoding_t) (input text : List ℕ) (f : yaml_fault_t)
     (p : yaml_c_parsed) (a : yaml_c_answer) → text ≡ spelled_text from input → HasNothing p
@@ -207,7 +207,7 @@ ending_alone : (from : yaml_encoding_t) (input : List ℕ) (f : yaml_fault_t) (l
 ending_alone from input f l (inl m) = inl m
 ending_alone from input f l (inr e) = inr e.0
 
--- a fault is told
+-- a fault is reported
 pub refused_gives : (whole : Bool) (from : yaml_encoding_t) (input text : List ℕ)
     (r : Result (Unit {0}) yaml_fault_t) (f : yaml_fault_t) (l : Listing) (p : yaml_c_parsed) (a : yaml_c_answer) (b : Bool)
     → b ≡ is_cut_off whole r → r ≡ Err f → text ≡ spelled_text from input

@@ -1,3 +1,21 @@
+mod Gaps
+pub mod Checked
+pub mod Characters
+pub mod Building
+pub mod Leading
+pub mod Giving
+pub mod Stands
+pub mod GoingOn
+pub mod Placing
+pub mod Directing
+pub mod Recording
+pub mod Saying
+pub mod EventOffsets
+pub mod NumberRows
+pub mod Places
+pub mod TokensAdding
+pub mod TokenOffsets
+pub mod TokensRows
 mod Refusing
 mod Telling
 mod Handing

@@ -1,11 +1,11 @@
--- What C is told of events that are composed.
+-- What C receives of events that are composed.
 use Rattle.std.proofs.Common.{◌≡◌, inl, inr, ◌∙◌, sym, subst, ap, ℕ, ℤ, pos, negsuc, Bool, true, false, List, []}
 use Rattle.yaml_parse.specs.declared.yaml_origin_t.TheVariants.{Loader}
-use Rattle.yaml_parse.specs.Faults.{Fault, memory_fault}
-use Rattle.yaml_parse.specs.Tokens.{zero_mark}
+use Rattle.yaml_parse.specs.scan_types.Faults.{Fault, memory_fault}
+use Rattle.yaml_parse.specs.scan_types.Tokens.{zero_mark}
 use Rattle.yaml_parse.specs.Numbering.{undefined_alias}
-use Rattle.yaml_round_answers.specs.declared.record.yaml_c_spot.{yaml_c_spot}
-use Rattle.yaml_round_answers.specs.declared.record.yaml_c_step.{yaml_c_step}
+use Rattle.yaml_round_answers.specs.declared.graph_record.yaml_c_spot.{yaml_c_spot}
+use Rattle.yaml_round_answers.specs.declared.graph_record.yaml_c_step.{yaml_c_step}
 use Rattle.yaml_round_answers.specs.Composing.{are_steps, fresh_sketch, all_drawn}
 use Rattle.yaml_round_answers.proofs.Sketches.{spots_are}
 use Rattle.yaml_round_answers.specs.declared.answer.yaml_c_answer.{yaml_c_answer}

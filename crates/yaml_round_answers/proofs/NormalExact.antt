@@ -1,9 +1,9 @@
--- Of a call whose number is known by another name, and of the kind that it tells.
+-- Of a call whose number is known by another name, and of the kind in its answer.
 use Rattle.std.proofs.Common.{◌≡◌, sym, subst, ℕ, ℤ, pos, negsuc, List, Result, Ok, Err}
-use Rattle.yaml_parse.specs.Faults.{Fault}
-use Rattle.yaml_round_records.specs.declared.yaml_c_settings.{yaml_c_settings}
+use Rattle.yaml_parse.specs.scan_types.Faults.{Fault}
+use Rattle.yaml_round_answers.specs.declared.record.yaml_c_settings.{yaml_c_settings}
 use Rattle.yaml_round_answers.specs.declared.answer.yaml_c_answer.{yaml_c_answer}
-use Rattle.yaml_round_records.specs.Numbers.{encoding_meant}
+use Rattle.yaml_round_answers.specs.Numbers.{encoding_meant}
 use Rattle.yaml_round_answers.specs.Told.{AnswersMeant, IsExact, call_meant}
 use Rattle.yaml_round_answers.specs.Normalizes.{Normalizes, Checks, TellsDone}
 use Rattle.yaml_round_answers.proofs.Exact.{exact, tells_kind, text_kind, fault_kind}

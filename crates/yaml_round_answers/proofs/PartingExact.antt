@@ -1,12 +1,12 @@
--- The kind of a parting's answer is -1 only where a number means nothing.
+-- The kind of the answer of a search for a difference is -1 only where a number means nothing.
 use Rattle.std.proofs.Common.{◌≡◌, ◌∙◌, inl, inr, sym, subst, ℕ, ℤ, pos, negsuc, List, [], Option, None, Some, Result, Ok, Err}
 use Rattle.yaml_parse.specs.declared.yaml_encoding_t.{yaml_encoding_t}
 use Rattle.yaml_parse.specs.declared.yaml_fault_t.{yaml_fault_t}
 use Rattle.yaml_parse.specs.declared.yaml_origin_t.TheVariants.{Parser}
-use Rattle.yaml_parse.specs.Faults.{Fault, fault_of, memory_fault}
+use Rattle.yaml_parse.specs.scan_types.Faults.{Fault, fault_of, memory_fault}
 use Rattle.yaml_round.specs.declared.yaml_side_t.{yaml_side_t}
 use Rattle.yaml_round.specs.declared.yaml_difference_t.{yaml_difference_t}
-use Rattle.yaml_round_records.specs.Numbers.{encoding_meant}
+use Rattle.yaml_round_answers.specs.Numbers.{encoding_meant}
 use Rattle.yaml_round_answers.specs.declared.answer.yaml_c_answer.{yaml_c_answer}
 use Rattle.yaml_round_answers.specs.declared.parting.yaml_c_parting.{yaml_c_parting}
 use Rattle.yaml_round_answers.specs.Told.{IsExact, Refuses, TellsMisuse, both, side_number}
@@ -65,7 +65,7 @@ parts_unmeant Is o p x e f h = subst (λ z. PartingMeant z Is x) (sym f ∙ e) h
 
 -- ---- contents
 
--- What is answered to a comparison by parting is so of the caller's own numbers.
+-- What a search for a difference answers is so of the caller's own numbers.
 pub parted_told : (m n first_from second_from : ℤ) (first second : List ℕ) (p : yaml_c_parting)
     → m ≡ first_from → n ≡ second_from
     → PartingMeant (both (encoding_meant m) (encoding_meant n)) (Parts first second) p
@@ -73,7 +73,7 @@ pub parted_told : (m n first_from second_from : ℤ) (first second : List ℕ) (
     (Parts first second) p
 parted_told m n first_from second_from first second p e f h = told_as m n first_from second_from (Parts first second) p e f h
 
--- The answer -1 of a comparison by parting comes exactly where a number means nothing.
+-- The answer -1 of a search for a difference comes exactly where a number means nothing.
 pub parted_exact : (m n first_from second_from k : ℤ) (first second : List ℕ) (p : yaml_c_parting)
     → m ≡ first_from → n ≡ second_from → k ≡ p.answer.kind
     → PartingMeant (both (encoding_meant m) (encoding_meant n)) (Parts first second) p

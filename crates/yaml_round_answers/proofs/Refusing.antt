@@ -4,24 +4,24 @@ use mir.Val.{SFits, to_z, of_z}
 use Rattle.std.proofs.Common.{◌≡◌, ◌∙◌, ◌⊎◌, inl, inr, ap, sym, subst, refl, ℕ, ℤ, pos, Bool, List, Option, None, Some, Result, Ok, Err, Vec}
 use Rattle.std.proofs.lemmas.Int.{to_z-of_z}
 use Rattle.std.specs.Global.{Global}
-use Rattle.yaml_round_records.specs.Numbers.{encoding_meant}
+use Rattle.yaml_round_answers.specs.Numbers.{encoding_meant}
 use Rattle.yaml_parse.specs.declared.yaml_origin_t.{yaml_origin_t}
 use Rattle.yaml_parse.specs.declared.yaml_origin_t.TheVariants.{Writer, Parser}
 use Rattle.yaml_parse.specs.declared.yaml_fault_t.{yaml_fault_t}
 use Rattle.yaml_parse.specs.declared.yaml_encoding_t.{yaml_encoding_t}
-use Rattle.yaml_parse.specs.Faults.{Fault, fault_of, memory_fault, IsMemoryFault, Answers, parse_layers}
-use Rattle.yaml_round.specs.Answers.{IsRight, IsSideStarved, IsSideFaulty, IsSame, text_and_form}
+use Rattle.yaml_parse.specs.scan_types.Faults.{Fault, fault_of, memory_fault, IsMemoryFault, Answers, parse_layers}
+use Rattle.yaml_round.specs.round_engine.Answers.{IsRight, IsSideStarved, IsSideFaulty, IsSame, text_and_form}
 use Rattle.yaml_round.specs.declared.yaml_form_t.{yaml_form_t}
-use Rattle.yaml_round_records.specs.Leading.{bytes_of}
+use Rattle.yaml_round_answers.specs.Leading.{bytes_of}
 use Rattle.yaml_round.specs.declared.yaml_side_t.{yaml_side_t}
 use Rattle.yaml_round.specs.declared.yaml_side_t.TheVariants.{First, Second}
 use Rattle.yaml_round_answers.specs.declared.answer.yaml_c_answer.{yaml_c_answer}
-use Rattle.yaml_round_records.specs.Characters.{characters_before}
-use Rattle.yaml_round_records.specs.declared.yaml_c_mark.{yaml_c_mark}
-use Rattle.yaml_round_records.specs.Counted.{mark_counted}
+use Rattle.yaml_round_answers.specs.Characters.{characters_before}
+use Rattle.yaml_round_answers.specs.declared.record.yaml_c_mark.{yaml_c_mark}
+use Rattle.yaml_round_answers.specs.Counted.{mark_counted}
 use Rattle.yaml_round_answers.specs.Told.{TellsFault, TellsFaultIn, TellsMemory, TellsMisuse, TellsStarved, TellsResult, TellsForm, TellsAnswer, TellsForms, TellsSides, Refuses, RefusesIn, OrMemory, IsAnswered, AnswersMeant, both, side_number, Compares}
 
--- C isn't told of the layer
+-- C doesn't learn the layer
 layered : (layer : yaml_origin_t) (whose : ℤ) (a : yaml_c_answer)
     → TellsFault (memory_fault Writer) whose a → TellsFault (memory_fault layer) whose a
 layered layer whose a t = record {
@@ -60,7 +60,7 @@ refused_answer layers layer Is TellsIt f a may tells is (inr s) = record {
   told = tells (memory_fault layer) (s.told layer);
 }
 
--- the same where it is told with the characters before its places
+-- likewise where it is reported with the characters before its places
 pub refused_answer_in : {Y : Type 0} (layers : List yaml_origin_t) (layer : yaml_origin_t)
     (Is : Result Y Fault → Type 0) (TellsIt : Result Y Fault → yaml_c_answer → Type 0)
     (text : List ℕ) (f : Fault) (a : yaml_c_answer) → IsMemoryFault layers (memory_fault layer)
@@ -135,7 +135,7 @@ pub memory_refused : (text : List ℕ) (layer : yaml_origin_t) (f : Fault) (a : 
     → f ≡ memory_fault layer → RefusesIn text f a → TellsMemory a
 memory_refused text layer f a e h = memory_told text layer a (subst (λ g. RefusesIn text g a) e h)
 
--- the same of a comparison, whose fault is reported with its side
+-- likewise for a comparison, whose fault is reported with its side
 in_layer : (refusal : yaml_fault_t) (layer : yaml_origin_t) → fault_of refusal ≡ memory_fault Writer
     → fault_of (record refusal { origin = layer }) ≡ memory_fault layer
 in_layer refusal layer e = ap (λ (f : Fault). record f { origin = layer }) e

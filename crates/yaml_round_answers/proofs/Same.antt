@@ -10,9 +10,9 @@ use Rattle.yaml_emit_graph.specs.Graph.{Met, is_met, meet, place_at, child_ids, 
 use Rattle.yaml_emit_graph.specs.emit_layout.Content.{document_start, document_end}
 use Rattle.yaml_emit_graph.proofs.Contents.{dumped_turns}
 use Rattle.yaml_emit_graph.proofs.Joining.{turns_joined}
-use Rattle.yaml_round_answers.specs.declared.record.yaml_c_node.{yaml_c_node}
-use Rattle.yaml_round_answers.specs.declared.record.yaml_c_graph.{yaml_c_graph}
-use Rattle.yaml_round_answers.specs.declared.record.yaml_c_turn.{yaml_c_turn}
+use Rattle.yaml_round_answers.specs.declared.graph_record.yaml_c_node.{yaml_c_node}
+use Rattle.yaml_round_answers.specs.declared.graph_record.yaml_c_graph.{yaml_c_graph}
+use Rattle.yaml_round_answers.specs.declared.graph_record.yaml_c_turn.{yaml_c_turn}
 use Rattle.yaml_round_answers.specs.Graphs.{holds, held_by, body_if, stand_in, stand_ins, kind_of, kind_at, kind_in, record_in, ShowsNodeRecord, ShowNodes, Shows}
 use Rattle.yaml_round_answers.specs.Turns.{turn_told, node_kind, turn_by, turns_by, TellsTurns, opening_kind, closing_kind}
 use Rattle.yaml_round_answers.proofs.Showing.{ids_held, is_held}

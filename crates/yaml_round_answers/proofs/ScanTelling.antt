@@ -1,15 +1,15 @@
--- What was listed is what C is told.
+-- What was listed is what C receives.
 use Rattle.std.proofs.Common.{◌≡◌, ◌∙◌, ◌⊎◌, inl, inr, ap, refl, sym, subst, map, pos, ℕ, Bool, true, false, List, [], Some, None, Result, Ok, Err}
 use Rattle.std.proofs.lemmas.Bool.{false≢true}
 use Rattle.yaml_parse.specs.declared.yaml_encoding_t.{yaml_encoding_t}
 use Rattle.yaml_parse.specs.declared.yaml_fault_t.{yaml_fault_t}
-use Rattle.yaml_parse.specs.Faults.{fault_of, memory_fault, IsMemoryFault, scan_layers}
+use Rattle.yaml_parse.specs.scan_types.Faults.{fault_of, memory_fault, IsMemoryFault, scan_layers}
 use Rattle.yaml_parse.specs.declared.yaml_origin_t.TheVariants.{Scanner}
-use Rattle.yaml_parse.specs.Tokens.{Token}
-use Rattle.yaml_round_records.specs.Scanned.{scanned}
-use Rattle.yaml_round_records.specs.declared.TokenListing.{TokenListing}
-use Rattle.yaml_round_records.specs.TokensListed.{ListsTokens}
-use Rattle.yaml_round_records.specs.TokensCounted.{token_counted}
+use Rattle.yaml_parse.specs.scan_types.Tokens.{Token}
+use Rattle.yaml_scan_history.specs.Scanned.{scanned}
+use Rattle.yaml_round_answers.specs.declared.token_listing.TokenListing.{TokenListing}
+use Rattle.yaml_round_answers.specs.TokensListed.{ListsTokens}
+use Rattle.yaml_round_answers.specs.TokensCounted.{token_counted}
 use Rattle.yaml_round_answers.specs.declared.answer.yaml_c_answer.{yaml_c_answer}
 use Rattle.yaml_round_answers.specs.declared.scanning.yaml_c_scanned.{yaml_c_scanned}
 use Rattle.yaml_round_answers.specs.Told.{TellsText, TellsFaultIn, TellsMemory, TellsWant, RefusesIn}

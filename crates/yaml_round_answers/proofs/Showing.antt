@@ -8,9 +8,9 @@ use Rattle.yaml_parse_model.specs.Nodes.{NodeBody}
 use Rattle.yaml_parse_model.specs.Nodes as node
 use Rattle.yaml_emit_graph.specs.Graph.{place_at, child_ids, is_collection, body_of_id, body_at}
 use Rattle.yaml_emit_graph.specs.Walk.{NextHeld}
-use Rattle.yaml_round_answers.specs.declared.record.yaml_c_node.{yaml_c_node}
+use Rattle.yaml_round_answers.specs.declared.graph_record.yaml_c_node.{yaml_c_node}
 use Rattle.yaml_round_answers.specs.Graphs.{part, holds, held_if, held_by, is_node, are_nodes, body_if, stand_in, record_in}
-use Rattle.yaml_round_records.proofs.Checked.{none_left, some_left}
+use Rattle.yaml_round_answers.proofs.Checked.{none_left, some_left}
 
 -- ---- the node under a number
 

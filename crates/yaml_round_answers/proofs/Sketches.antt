@@ -5,12 +5,12 @@ use Rattle.std.specs.FinMap as finite
 use Rattle.yaml_parse_model.specs.Events.{Event, EventBody}
 use Rattle.yaml_parse_model.specs.Events as event
 use Rattle.yaml_parse_model.specs.Nodes.{Node}
-use Rattle.yaml_parse_model.specs.Faults.{Fault}
+use Rattle.yaml_parse_model.specs.scan_types.Faults.{Fault}
 use Rattle.yaml_parse_model.specs.declared.yaml_mark_t.{yaml_mark_t}
 use Rattle.yaml_parse_loader.specs.Anchors.{Anchors}
 use Rattle.yaml_parse_loader.specs.Loading.{Open, open_sequence, open_mapping, Loading, LoadStep, goes_on, loaded, refused, step, step_body, place_of, named, next, attach, attached, closed, filled, aliased}
-use Rattle.yaml_round_answers.specs.declared.record.yaml_c_step.{yaml_c_step}
-use Rattle.yaml_round_answers.specs.declared.record.yaml_c_spot.{yaml_c_spot}
+use Rattle.yaml_round_answers.specs.declared.graph_record.yaml_c_step.{yaml_c_step}
+use Rattle.yaml_round_answers.specs.declared.graph_record.yaml_c_spot.{yaml_c_spot}
 use Rattle.yaml_round_answers.specs.Composing.{kind_number, name_in, IsWithin, name_at, ShowEvents, Sketch, fresh_sketch, innermost, outer, spot, stood_for, drawn, drawn_on, all_drawn, top_of, number_or, spot_of, spots_on, spots_of, IsFresh, is_whole, AreSpots}
 use Rattle.yaml_parse_model.proofs.Sound.{length_change, length_push}
 

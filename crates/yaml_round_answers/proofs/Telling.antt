@@ -1,14 +1,14 @@
--- What C is told of events that are emitted.
+-- What C receives of events that are emitted.
 use Rattle.std.proofs.Common.{◌≡◌, inl, refl, ℕ, subst, List, Option, None, Some, Result, Vec}
 use Rattle.std.specs.Global.{Global}
 use Rattle.yaml_parse.specs.Events.{EventBody}
-use Rattle.yaml_parse.specs.Faults.{Answers, emit_layers}
+use Rattle.yaml_parse.specs.scan_types.Faults.{Answers, emit_layers}
 use Rattle.yaml_parse.specs.declared.yaml_fault_t.{yaml_fault_t}
 use Rattle.yaml_parse.specs.declared.yaml_origin_t.TheVariants.{Emitter}
 use Rattle.yaml_emit.specs.emit_layout.declared.RequestedSettings.{RequestedSettings}
 use Rattle.yaml_round_answers.specs.declared.answer.yaml_c_answer.{yaml_c_answer}
-use Rattle.yaml_round_records.specs.Written.{IsEmitted}
-use Rattle.yaml_round_records.specs.Leading.{bytes_of, all_events}
+use Rattle.yaml_round_answers.specs.Written.{IsEmitted}
+use Rattle.yaml_round_answers.specs.Leading.{bytes_of, all_events}
 use Rattle.yaml_round_answers.specs.Emitting.{Emits, EmitsAll}
 use Rattle.yaml_round_answers.specs.Told.{AnswersMeant, both, TellsAnswer, TellsMisuse}
 use Rattle.yaml_round_answers.proofs.Refusing.{text_answered}

@@ -1,8 +1,8 @@
--- Turns that are told one after another.
+-- Turns that come one after another.
 use Rattle.std.proofs.Common.{◌≡◌, ℕ, ◌+◌, ◌<◌, ◌≤◌, List, [], ◌∷◌, ◌++◌, length, get_or, take, map, sym, ◌∙◌, ap}
 use Rattle.std.proofs.lemmas.List.{map-append, take_more, take_all}
-use Rattle.yaml_round_answers.specs.declared.record.yaml_c_graph.{yaml_c_graph}
-use Rattle.yaml_round_answers.specs.declared.record.yaml_c_turn.{yaml_c_turn}
+use Rattle.yaml_round_answers.specs.declared.graph_record.yaml_c_graph.{yaml_c_graph}
+use Rattle.yaml_round_answers.specs.declared.graph_record.yaml_c_turn.{yaml_c_turn}
 use Rattle.yaml_emit_graph.specs.declared.Turn.{Turn}
 use Rattle.yaml_round_answers.specs.Turns.{turn_by}
 

@@ -1,11 +1,11 @@
--- What C is told of events that are composed.
+-- What C receives of events that are composed.
 use Rattle.std.specs.Prelude.{◌≡◌, ◌⊎◌, pos, ℕ, Bool, true, false, List, [], Option, None, Some}
 use Rattle.yaml_parse.specs.declared.yaml_origin_t.TheVariants.{Loader}
-use Rattle.yaml_parse.specs.Faults.{memory_fault}
-use Rattle.yaml_parse.specs.Tokens.{zero_mark}
+use Rattle.yaml_parse.specs.scan_types.Faults.{memory_fault}
+use Rattle.yaml_parse.specs.scan_types.Tokens.{zero_mark}
 use Rattle.yaml_parse.specs.Numbering.{undefined_alias}
-use Rattle.yaml_round_answers.specs.declared.record.yaml_c_spot.{yaml_c_spot}
-use Rattle.yaml_round_answers.specs.declared.record.yaml_c_step.{yaml_c_step}
+use Rattle.yaml_round_answers.specs.declared.graph_record.yaml_c_spot.{yaml_c_spot}
+use Rattle.yaml_round_answers.specs.declared.graph_record.yaml_c_step.{yaml_c_step}
 use Rattle.yaml_round_answers.specs.Composing.{are_steps, fresh_sketch, all_drawn, AreSpots}
 use Rattle.yaml_round_answers.specs.declared.answer.yaml_c_answer.{yaml_c_answer}
 use Rattle.yaml_round_answers.specs.Told.{TellsText, TellsFault}
@@ -21,7 +21,7 @@ steps_if false m = None
 abbrev pub steps_meant : List ℕ → List yaml_c_step → Option Steps
 steps_meant bytes steps = steps_if (are_steps bytes steps) (bytes, steps)
 
--- C is told that all events are composed, or that the next one is an alias that no node before it has the name of
+-- C learns that all events are composed, or that the next one is an alias that no node before it has the name of
 abbrev pub TellsWhole : Bool → yaml_c_answer → Type 0
 TellsWhole true a = TellsText [] (pos 0) a
 TellsWhole false a = TellsFault (undefined_alias zero_mark) (pos 0) a
@@ -40,7 +40,7 @@ pub record TellsSpots (given : List yaml_c_spot) (m : Steps) (a : yaml_c_answer)
 abbrev pub HoldsFew : List yaml_c_spot → Steps → Type 0
 HoldsFew given m = (given ≡ []) ⊎ AreComposed m given false
 
--- C is told what the events come to, or that memory was refused.
+-- C receives what the events come to, or that memory was refused.
 abbrev pub Composes : List yaml_c_spot → Steps → yaml_c_answer → Type 0
 Composes given m a = (TellsFault (memory_fault Loader) (pos 0) a × HoldsFew given m)
     ⊎ TellsSpots given m a

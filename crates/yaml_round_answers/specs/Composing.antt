@@ -5,11 +5,11 @@ use Rattle.std.specs.FinMap as finite
 use Rattle.std.specs.Ordering.{int_eq}
 use Rattle.yaml_parse_model.specs.Events.{Event, EventBody}
 use Rattle.yaml_parse_model.specs.Events as event
-use Rattle.yaml_parse_model.specs.Faults.{Fault}
+use Rattle.yaml_parse_model.specs.scan_types.Faults.{Fault}
 use Rattle.yaml_parse_loader.specs.Anchors.{Anchors}
 use Rattle.yaml_parse_loader.specs.Loading.{Open, Loading, LoadStep, goes_on, loaded, refused, step, place_of, named, next}
-use Rattle.yaml_round_answers.specs.declared.record.yaml_c_step.{yaml_c_step}
-use Rattle.yaml_round_answers.specs.declared.record.yaml_c_spot.{yaml_c_spot}
+use Rattle.yaml_round_answers.specs.declared.graph_record.yaml_c_step.{yaml_c_step}
+use Rattle.yaml_round_answers.specs.declared.graph_record.yaml_c_spot.{yaml_c_spot}
 use Rattle.yaml_round_answers.specs.declared.steps.Sketching.{Sketching}
 use Rattle.yaml_round_answers.specs.Graphs.{part}
 use Rattle.yaml_round_answers.specs.Names.{names_of}

@@ -1,9 +1,9 @@
--- What C is told of a decoding.
+-- What C receives of a decoding.
 use Rattle.std.specs.Prelude.{◌≡◌, ℕ, List, [], ◌∷◌, Some, Result, Ok, Err}
 use Rattle.yaml_parse.specs.declared.yaml_encoding_t.{yaml_encoding_t}
 use Rattle.yaml_parse.specs.declared.yaml_origin_t.{yaml_origin_t}
 use Rattle.yaml_parse.specs.declared.yaml_origin_t.TheVariants.{Reader}
-use Rattle.yaml_parse.specs.Faults.{Fault}
+use Rattle.yaml_parse.specs.scan_types.Faults.{Fault}
 use Rattle.yaml_scan.specs.Decoding.{decoded_text}
 use Rattle.yaml_scan.specs.DecodedText.{decoding_fault}
 use Rattle.yaml_round_answers.specs.declared.answer.yaml_c_answer.{yaml_c_answer}

@@ -1,15 +1,15 @@
--- What C is told of events that are emitted.
+-- What C receives of events that are emitted.
 use Rattle.std.specs.Prelude.{ℕ, List, Option, None, Some}
 use Rattle.yaml_parse.specs.Events.{EventBody}
-use Rattle.yaml_parse.specs.Faults.{emit_layers}
+use Rattle.yaml_parse.specs.scan_types.Faults.{emit_layers}
 use Rattle.yaml_emit.specs.emit_layout.declared.RequestedSettings.{RequestedSettings}
 use Rattle.yaml_round_answers.specs.declared.answer.yaml_c_answer.{yaml_c_answer}
-use Rattle.yaml_round_records.specs.declared.yaml_c_directive.{yaml_c_directive}
-use Rattle.yaml_round_records.specs.declared.yaml_c_event.{yaml_c_event}
-use Rattle.yaml_round_records.specs.declared.yaml_c_settings.{yaml_c_settings}
-use Rattle.yaml_round_records.specs.Meaning.{events_meant, asked_meant}
+use Rattle.yaml_round_answers.specs.declared.record.yaml_c_directive.{yaml_c_directive}
+use Rattle.yaml_round_answers.specs.declared.record.yaml_c_event.{yaml_c_event}
+use Rattle.yaml_round_answers.specs.declared.record.yaml_c_settings.{yaml_c_settings}
+use Rattle.yaml_round_answers.specs.Meaning.{events_meant, asked_meant}
 use Rattle.yaml_round_answers.specs.Told.{both, IsAnswered, OrMemory, TellsResult}
-use Rattle.yaml_round_records.specs.Written.{emitter_events, IsEmitted}
+use Rattle.yaml_round_answers.specs.Written.{emitter_events, IsEmitted}
 
 -- the events, the settings and the limit of a call
 abbrev pub emit_meant : List ℕ → List yaml_c_directive → List yaml_c_event → yaml_c_settings

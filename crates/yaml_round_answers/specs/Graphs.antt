@@ -6,8 +6,8 @@ use Rattle.yaml_parse_model.specs.Nodes.{Node, NodeBody}
 use Rattle.yaml_parse_model.specs.Nodes as node
 use Rattle.yaml_parse_model.specs.Documents.{str_tag, unplaced}
 use Rattle.yaml_emit_graph.specs.Graph.{place_at, child_ids}
-use Rattle.yaml_round_answers.specs.declared.record.yaml_c_node.{yaml_c_node}
-use Rattle.yaml_round_answers.specs.declared.record.yaml_c_graph.{yaml_c_graph}
+use Rattle.yaml_round_answers.specs.declared.graph_record.yaml_c_node.{yaml_c_node}
+use Rattle.yaml_round_answers.specs.declared.graph_record.yaml_c_graph.{yaml_c_graph}
 
 -- the part of a list from a place on, where it lies within the list
 unfoldable pub part : {X : Type 0} → List X → ℕ → ℕ → Option (List X)
@@ -67,7 +67,7 @@ ShowNodes list (r ∷ rs) [] = ⊥
 abbrev pub Shows : yaml_c_graph → List Node → Type 0
 Shows g nodes = ShowNodes g.held.now g.nodes.now nodes
 
--- ---- nodes that stand for the records in a walk, which looks at no more than what they hold
+-- ---- nodes that replace the records in a walk, which looks at no more than what they hold
 
 abbrev pub body_if : Bool → List ℤ → NodeBody
 body_if true held = node.sequence held YAML_ANY_SEQUENCE_STYLE

@@ -1,11 +1,11 @@
--- What C is told of the normal form that people read, and of whether an input loads.
+-- What C receives of the normal form that people read, and of whether an input loads.
 use Rattle.std.specs.Prelude.{ℕ, pos, List, [], Result, Ok, Err}
 use Rattle.yaml_parse.specs.declared.yaml_encoding_t.{yaml_encoding_t}
-use Rattle.yaml_parse.specs.Faults.{Fault, load_layers}
+use Rattle.yaml_parse.specs.scan_types.Faults.{Fault, load_layers}
 use Rattle.yaml_round.specs.declared.yaml_settings_t.{yaml_settings_t}
-use Rattle.yaml_round.specs.Layers.{reformat_layers}
-use Rattle.yaml_round.specs.Readable.{IsReadableAnswer}
-use Rattle.yaml_round.specs.Checking.{IsChecked}
+use Rattle.yaml_round.specs.round_engine.Layers.{reformat_layers}
+use Rattle.yaml_round.specs.round_engine.Readable.{IsReadableAnswer}
+use Rattle.yaml_round.specs.round_engine.Checking.{IsChecked}
 use Rattle.yaml_round_answers.specs.declared.answer.yaml_c_answer.{yaml_c_answer}
 use Rattle.yaml_round_answers.specs.Told.{TellsText, TellsFault, TellsResult, IsAnswered, OrMemory}
 

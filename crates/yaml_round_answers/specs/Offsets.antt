@@ -1,16 +1,16 @@
--- Where the fields of what a call answers and hands out lie.
-use Rattle.yaml_round_records.specs.Offsets.{LiesAt}
+-- The offsets of the fields of what a call answers.
+use Rattle.yaml_round_answers.specs.EventOffsets.{LiesAt}
 use Rattle.yaml_round_answers.specs.contracts.answer.yaml_c_answer as answer
 use Rattle.yaml_round_answers.specs.contracts.parsing.yaml_c_parsed as parsed
 use Rattle.yaml_round_answers.specs.contracts.scanning.yaml_c_scanned as scanned
 use Rattle.yaml_round_answers.specs.contracts.parting.yaml_c_parting as parting
 use Rattle.yaml_round_answers.specs.contracts.serializing.yaml_c_turns as turns
 use Rattle.yaml_round_answers.specs.contracts.composing.yaml_c_spots as spots
-use Rattle.yaml_round_answers.specs.contracts.record.yaml_c_step as step
-use Rattle.yaml_round_answers.specs.contracts.record.yaml_c_spot as spot
-use Rattle.yaml_round_answers.specs.contracts.record.yaml_c_node as node
-use Rattle.yaml_round_answers.specs.contracts.record.yaml_c_graph as graph
-use Rattle.yaml_round_answers.specs.contracts.record.yaml_c_turn as turn
+use Rattle.yaml_round_answers.specs.contracts.graph_record.yaml_c_step as step
+use Rattle.yaml_round_answers.specs.contracts.graph_record.yaml_c_spot as spot
+use Rattle.yaml_round_answers.specs.contracts.graph_record.yaml_c_node as node
+use Rattle.yaml_round_answers.specs.contracts.graph_record.yaml_c_graph as graph
+use Rattle.yaml_round_answers.specs.contracts.graph_record.yaml_c_turn as turn
 
 -- ---- the layouts, which are those that the header asserts: a list is a pointer with its length after it
 

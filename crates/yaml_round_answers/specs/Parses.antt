@@ -1,21 +1,21 @@
--- What C is told of a parse.
+-- What C receives of a parse.
 use Rattle.std.specs.Prelude.{◌≡◌, ◌⊎◌, pos, ℕ, Bool, true, false, List, [], map, Option, None, Some, Result, Ok, Err}
 use Rattle.std.specs.Result.{is_err}
 use Rattle.yaml_parse.specs.declared.yaml_encoding_t.{yaml_encoding_t}
 use Rattle.yaml_parse.specs.declared.yaml_fault_t.{yaml_fault_t}
-use Rattle.yaml_parse.specs.Faults.{Fault, fault_of, IsMemoryFault, parse_layers}
+use Rattle.yaml_parse.specs.scan_types.Faults.{Fault, fault_of, IsMemoryFault, parse_layers}
 use Rattle.yaml_parse.specs.Resolve.{Told}
-use Rattle.yaml_round.specs.Answers.{IsFaulty}
-use Rattle.yaml_round.specs.Input.{events_of, ending_of}
+use Rattle.yaml_round.specs.round_engine.Answers.{IsFaulty}
+use Rattle.yaml_round.specs.round_content.Input.{events_of, ending_of}
 use Rattle.yaml_round.specs.round_content.Reading.{HasEvents}
 use Rattle.yaml_round_answers.specs.declared.answer.yaml_c_answer.{yaml_c_answer}
-use Rattle.yaml_round_records.specs.declared.Listing.{Listing}
+use Rattle.yaml_round_answers.specs.declared.listing.Listing.{Listing}
 use Rattle.yaml_round_answers.specs.declared.parsing.yaml_c_parsed.{yaml_c_parsed}
-use Rattle.yaml_round_records.specs.declared.yaml_c_event.{yaml_c_event}
-use Rattle.yaml_round_records.specs.Records.{AllSay, all_directives}
-use Rattle.yaml_round_records.specs.Counted.{event_counted}
-use Rattle.yaml_round_records.specs.Blocks.{all_texts, listed_directives}
-use Rattle.yaml_round_records.specs.Listing.{AreSaid, HoldsAll, events_alone}
+use Rattle.yaml_round_answers.specs.declared.record.yaml_c_event.{yaml_c_event}
+use Rattle.yaml_round_answers.specs.Records.{AllSay, all_directives}
+use Rattle.yaml_round_answers.specs.Counted.{event_counted}
+use Rattle.yaml_round_answers.specs.Blocks.{all_texts, listed_directives}
+use Rattle.yaml_round_answers.specs.Listing.{AreSaid, HoldsAll, events_alone}
 use Rattle.yaml_round_answers.specs.Told.{TellsText, TellsFaultIn, TellsWant, IsAnswered, OrMemory}
 use Rattle.yaml_round_answers.specs.Spelled.{spelled_text, is_starved}
 
@@ -30,8 +30,9 @@ pub record HasNothing (p : yaml_c_parsed) : Type 0 where
   pub directives : p.directives.now ≡ []
   pub bytes : p.bytes.now ≡ []
 
--- The records say the events, one by one, with what is counted and told of them in their text. The bytes are the texts that they
--- name, one after another, and the list of directives is of theirs; neither holds anything beside.
+-- The records say the events, one by one, with what is counted and found of them in their text. The
+-- bytes are the texts that they name, one after another, and the list of directives is of theirs;
+-- neither holds anything beside.
 pub record SayEvents (text : List ℕ) (p : yaml_c_parsed) (es : List Told) : Type 0 where
   pub said : List yaml_c_event
   pub say : AllSay p.bytes.now p.directives.now said (events_alone es)
@@ -48,14 +49,14 @@ abbrev pub Parses : List ℕ → yaml_c_parsed → yaml_encoding_t → yaml_c_an
 Parses input p from = IsAnswered (OrMemory parse_layers (IsParsed from input))
     (TellsEvents (spelled_text from input) p)
 
--- ---- what the code hands on
+-- ---- what the code passes on
 
 -- the listing says the events before what ends the input, and nothing beside
 abbrev pub IsFront : yaml_encoding_t → List ℕ → Listing → Type 0
 IsFront from input l = AreSaid l (events_alone (events_of from input))
     × HoldsAll l (events_alone (events_of from input))
 
--- the blocks are the listing's, with what is counted and told of the events in their text
+-- the blocks are the listing's, with what is counted and found of the events in their text
 pub record HandsOut (text : List ℕ) (l : Listing) (p : yaml_c_parsed) : Type 0 where
   pub events : p.events.now ≡ map (event_counted text) l.events.items
   pub directives : p.directives.now ≡ l.directives.items

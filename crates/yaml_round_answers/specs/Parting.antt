@@ -1,16 +1,16 @@
--- What C is told of where two inputs part.
+-- What C receives of where two inputs differ.
 use Rattle.std.specs.Prelude.{◌≡◌, ◌⊎◌, ℕ, ℤ, pos, List, [], Option, None, Some, Result, Ok, Err}
 use Rattle.yaml_parse.specs.declared.yaml_encoding_t.{yaml_encoding_t}
 use Rattle.yaml_parse.specs.declared.yaml_event_type_t.{yaml_event_type_t}
 use Rattle.yaml_parse.specs.declared.yaml_event_type_t.TheVariants as kind
 use Rattle.yaml_parse.specs.declared.yaml_fault_t.{yaml_fault_t}
 use Rattle.yaml_parse.specs.declared.yaml_origin_t.TheVariants.{Parser}
-use Rattle.yaml_parse.specs.Faults.{fault_of, memory_fault}
+use Rattle.yaml_parse.specs.scan_types.Faults.{fault_of, memory_fault}
 use Rattle.yaml_round.specs.declared.yaml_side_t.{yaml_side_t}
 use Rattle.yaml_round.specs.declared.yaml_difference_t.{yaml_difference_t}
-use Rattle.yaml_round.specs.Differences.{IsDiff}
-use Rattle.yaml_round.specs.Loaded.{IsDocumentsDiff}
-use Rattle.yaml_round_records.specs.Records.{mark_told}
+use Rattle.yaml_round.specs.round_engine.Differences.{IsDiff}
+use Rattle.yaml_round.specs.round_engine.Loaded.{IsDocumentsDiff}
+use Rattle.yaml_round_answers.specs.Records.{mark_told}
 use Rattle.yaml_round_answers.specs.declared.answer.yaml_c_answer.{yaml_c_answer}
 use Rattle.yaml_round_answers.specs.declared.parting.yaml_c_parting.{yaml_c_parting}
 use Rattle.yaml_round_answers.specs.Told.{no_mark, TellsText, Refuses, TellsMisuse, side_number}
@@ -29,7 +29,7 @@ kind_number kind.YAML_SEQUENCE_END_EVENT = pos 8
 kind_number kind.YAML_MAPPING_START_EVENT = pos 9
 kind_number kind.YAML_MAPPING_END_EVENT = pos 10
 
--- no place is told
+-- no place is given
 pub record TellsNoPlace (p : yaml_c_parting) : Type 0 where
   pub document : p.document ≡ 0
   pub first_kind : p.first_kind ≡ pos 0
@@ -47,7 +47,7 @@ pub record TellsPartingPlace (path : List ℕ) (d : yaml_difference_t) (p : yaml
     pub first_mark : p.first_mark ≡ mark_told d.first_mark
     pub second_mark : p.second_mark ≡ mark_told d.second_mark
 
--- the answer says that, and no place is told beside it
+-- the answer says that, and no place is given beside it
 abbrev pub NoPlaceBeside : (yaml_c_answer → Type 0) → yaml_c_parting → Type 0
 NoPlaceBeside Tells p = Tells p.answer × TellsNoPlace p
 
@@ -59,7 +59,7 @@ TellsParting (Ok (Some d)) p = TellsPartingPlace (path_spelled d.path.items) d p
     ⊎ NoPlaceBeside (Refuses (memory_fault Parser) (pos 0)) p
 TellsParting (Err f) p = NoPlaceBeside (Refuses (fault_of f.1) (side_number f.0)) p
 
--- C is told what the relation allows.
+-- C receives what the relation allows.
 pub record IsParted
     (Is : Result (Option yaml_difference_t) (yaml_side_t × yaml_fault_t) → Type 0)
     (p : yaml_c_parting) : Type 0 where

@@ -1,12 +1,12 @@
--- What C is told of a scan.
+-- What C receives of a scan.
 use Rattle.std.specs.Prelude.{◌≡◌, ◌⊎◌, pos, ℕ, Bool, true, false, List, [], map, Option, None, Some}
 use Rattle.yaml_parse.specs.declared.yaml_encoding_t.{yaml_encoding_t}
-use Rattle.yaml_parse.specs.Faults.{Fault, IsMemoryFault, scan_layers}
-use Rattle.yaml_parse.specs.Tokens.{Token}
-use Rattle.yaml_round_records.specs.Scanned.{scanned}
-use Rattle.yaml_round_records.specs.declared.TokenListing.{TokenListing}
-use Rattle.yaml_round_records.specs.TokensListed.{records_from, all_texts}
-use Rattle.yaml_round_records.specs.TokensCounted.{token_counted}
+use Rattle.yaml_parse.specs.scan_types.Faults.{Fault, IsMemoryFault, scan_layers}
+use Rattle.yaml_parse.specs.scan_types.Tokens.{Token}
+use Rattle.yaml_scan_history.specs.Scanned.{scanned}
+use Rattle.yaml_round_answers.specs.declared.token_listing.TokenListing.{TokenListing}
+use Rattle.yaml_round_answers.specs.TokensListed.{records_from, all_texts}
+use Rattle.yaml_round_answers.specs.TokensCounted.{token_counted}
 use Rattle.yaml_round_answers.specs.declared.answer.yaml_c_answer.{yaml_c_answer}
 use Rattle.yaml_round_answers.specs.declared.scanning.yaml_c_scanned.{yaml_c_scanned}
 use Rattle.yaml_round_answers.specs.Told.{TellsText, TellsFaultIn, TellsWant}
@@ -23,7 +23,7 @@ pub record AreTokens (text : List ℕ) (p : yaml_c_scanned) (ts : List Token) : 
   pub tokens : p.tokens.now ≡ map (token_counted text) (records_from 0 ts)
   pub bytes : p.bytes.now ≡ all_texts ts
 
--- C is told that the tokens end, or the fault that ends them
+-- C learns that the tokens end, or the fault that ends them
 abbrev pub TellsEnd : List ℕ → Option Fault → yaml_c_answer → Type 0
 TellsEnd text None a = TellsText [] (pos 0) a
 TellsEnd text (Some f) a = TellsFaultIn text f a
@@ -34,7 +34,7 @@ pub record TellsRefusal (text : List ℕ) (a : yaml_c_answer) : Type 0 where
   pub memory : IsMemoryFault scan_layers fault
   pub told : TellsFaultIn text fault a
 
--- that the tokens end is told, or the fault that ends them, or that memory was refused
+-- C learns that the tokens end, or the fault that ends them, or that memory was refused
 abbrev pub TellsScan : yaml_encoding_t → List ℕ → yaml_c_answer → Type 0
 TellsScan from input a = TellsRefusal (spelled_text from input) a
     ⊎ TellsEnd (spelled_text from input) (scanned from input).fault a
@@ -50,7 +50,7 @@ abbrev pub NoTokenUnmeant : {M : Type 0} → Option M → yaml_c_scanned → Typ
 NoTokenUnmeant None p = HasNoToken p
 NoTokenUnmeant (Some m) p = Unit {0}
 
--- ---- what the code hands on
+-- ---- what the code passes on
 
 -- the blocks are the listing's, with the characters counted
 pub record HandsOutTokens (text : List ℕ) (l : TokenListing) (p : yaml_c_scanned) : Type 0 where

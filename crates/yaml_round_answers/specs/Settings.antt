@@ -4,8 +4,8 @@ use Rattle.yaml_parse.specs.declared.yaml_break_t.{yaml_break_t}
 use Rattle.yaml_round.specs.declared.yaml_settings_t.{yaml_settings_t}
 use Rattle.yaml_round.specs.declared.yaml_output_encoding_t.{yaml_output_encoding_t}
 use Rattle.yaml_round.specs.declared.yaml_output_encoding_t.TheVariants as output
-use Rattle.yaml_round_records.specs.declared.yaml_c_settings.{yaml_c_settings}
-use Rattle.yaml_round_records.specs.Numbers.{is_set, break_meant, numbered}
+use Rattle.yaml_round_answers.specs.declared.record.yaml_c_settings.{yaml_c_settings}
+use Rattle.yaml_round_answers.specs.Numbers.{is_set, break_meant, numbered}
 -- the engine's own, which those of C are compared with
 pub use Rattle.yaml_round.specs.Settings.{default_settings}
 
@@ -32,7 +32,8 @@ settings_by (Some x) (Some b) given = Some
       limit = given.limit;
     })
 
--- The numbers stand for themselves; where `encoding` or `line_break` means nothing, there are none.
+-- The numbers are the settings themselves; where `encoding` or `line_break` means nothing, there
+-- are none.
 abbrev pub settings_meant : yaml_c_settings → Option yaml_settings_t
 settings_meant given = settings_by (output_meant given.encoding) (break_meant given.line_break)
     given

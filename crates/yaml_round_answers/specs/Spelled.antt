@@ -1,4 +1,4 @@
--- The text in which the places of an input's events, tokens and faults stand.
+-- The text that the places of an input's events, tokens and faults refer to.
 use Rattle.std.specs.Prelude.{ℕ, Bool, true, false, List, [], Result, Ok, Err}
 use Rattle.yaml_parse.specs.declared.yaml_encoding_t.{yaml_encoding_t}
 use Rattle.yaml_parse.specs.declared.yaml_error_type_t.{yaml_error_type_t}

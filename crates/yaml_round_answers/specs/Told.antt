@@ -1,4 +1,4 @@
--- What C is told of a call.
+-- What C receives of a call.
 use Rattle.std.specs.Prelude.{◌≡◌, ◌⊎◌, ℕ, ℤ, pos, negsuc, List, [], Bool, true, false, Option, None, Some, Result, Ok, Err, Vec, codes, unwrap_or}
 use Rattle.std.specs.Global.{Global}
 use Rattle.yaml_parse.specs.declared.yaml_encoding_t.{yaml_encoding_t}
@@ -7,31 +7,31 @@ use Rattle.yaml_parse.specs.declared.yaml_origin_t.TheVariants.{Writer}
 use Rattle.yaml_parse.specs.declared.yaml_error_type_t.TheVariants.{YAML_MEMORY_ERROR}
 use Rattle.yaml_parse.specs.declared.yaml_fault_t.{yaml_fault_t}
 use Rattle.yaml_parse.specs.declared.yaml_mark_t.{yaml_mark_t}
-use Rattle.yaml_parse.specs.Faults.{Fault, fault_of, memory_fault, IsMemoryFault}
+use Rattle.yaml_parse.specs.scan_types.Faults.{Fault, fault_of, memory_fault, IsMemoryFault}
 use Rattle.yaml_round.specs.declared.yaml_settings_t.{yaml_settings_t}
 use Rattle.yaml_round.specs.declared.yaml_side_t.{yaml_side_t}
 use Rattle.yaml_round.specs.declared.yaml_side_t.TheVariants.{First, Second}
 use Rattle.yaml_round.specs.declared.yaml_form_t.{yaml_form_t}
 use Rattle.yaml_round.specs.declared.yaml_form_t.TheVariants.{Canonical, Pretty}
-use Rattle.yaml_round.specs.Layers.{list_layers, reformat_layers, reload_layers}
-use Rattle.yaml_round.specs.Answers.{IsListed, IsReformatted, IsSame}
-use Rattle.yaml_round.specs.Reload.{IsReloaded}
+use Rattle.yaml_round.specs.round_engine.Layers.{list_layers, reformat_layers, reload_layers}
+use Rattle.yaml_round.specs.round_engine.Answers.{IsListed, IsReformatted, IsSame}
+use Rattle.yaml_round.specs.round_engine.Reload.{IsReloaded}
 use Rattle.yaml_round.specs.FaultLine.{fault_line}
 use Rattle.yaml_round_answers.specs.declared.answer.yaml_c_answer.{yaml_c_answer}
-use Rattle.yaml_round_records.specs.declared.yaml_c_mark.{yaml_c_mark}
-use Rattle.yaml_round_records.specs.declared.yaml_c_settings.{yaml_c_settings}
-use Rattle.yaml_round_records.specs.Numbers.{encoding_meant, error_number}
-use Rattle.yaml_round_records.specs.Records.{mark_told}
-use Rattle.yaml_round_records.specs.Counted.{mark_counted}
+use Rattle.yaml_round_answers.specs.declared.record.yaml_c_mark.{yaml_c_mark}
+use Rattle.yaml_round_answers.specs.declared.record.yaml_c_settings.{yaml_c_settings}
+use Rattle.yaml_round_answers.specs.Numbers.{encoding_meant, error_number}
+use Rattle.yaml_round_answers.specs.Records.{mark_told}
+use Rattle.yaml_round_answers.specs.Counted.{mark_counted}
 use Rattle.yaml_round_answers.specs.Settings.{settings_meant}
 
--- the mark where no place is told
+-- the mark where there is no place
 abbrev pub no_mark : yaml_c_mark
 no_mark = record { index = 0; line = 0; column = 0; character = 0 }
 
 -- ---- the record
 
--- Of each record every field is told.
+-- Of each record every field is specified.
 
 -- a text, and a number beside it; no other block, and nothing of a fault
 pub record TellsText (bytes : List ℕ) (number : ℤ) (a : yaml_c_answer) : Type 0 where
@@ -52,7 +52,7 @@ abbrev pub LineTold : Fault → List ℕ → Type 0
 LineTold fault line = (line ≡ fault_line fault)
     ⊎ ((fault.kind ≡ YAML_MEMORY_ERROR) × (line ≡ []))
 
--- a fault, and whose it is, with its marks told so; the one block is its line
+-- a fault, and whose it is, with its marks given so; the one block is its line
 pub record TellsFaultBy (tell : yaml_mark_t → yaml_c_mark) (fault : Fault) (whose : ℤ)
     (a : yaml_c_answer) : Type 0 where
   pub kind : a.kind ≡ error_number fault.kind
@@ -75,7 +75,8 @@ TellsFault = TellsFaultBy mark_told
 abbrev pub TellsFaultIn : List ℕ → Fault → yaml_c_answer → Type 0
 TellsFaultIn text fault = TellsFaultBy (λ m. mark_counted text (mark_told m)) fault (pos 0)
 
--- memory for a fault's line was refused, and this is told in the fault's place; C isn't told of a layer
+-- memory for a fault's line was refused, and this is reported in the fault's place; C doesn't learn
+-- the layer
 pub record TellsStarved (whose : ℤ) (a : yaml_c_answer) : Type 0 where
   pub refusal : yaml_fault_t
   pub is : fault_of refusal ≡ memory_fault Writer
@@ -88,11 +89,11 @@ Refuses fault whose a = TellsFault fault whose a ⊎ TellsStarved whose a
 abbrev pub TellsWant : yaml_c_answer → Type 0
 TellsWant a = a.kind ≡ error_number YAML_MEMORY_ERROR
 
--- out of memory is reported; C isn't told of the layer
+-- out of memory is reported; C doesn't learn the layer
 abbrev pub TellsMemory : yaml_c_answer → Type 0
 TellsMemory a = (layer : yaml_origin_t) (text : List ℕ) → TellsFaultIn text (memory_fault layer) a
 
--- the fault of a text is told, or in its place that memory for its line was refused
+-- the fault of a text is reported, or in its place that memory for its line was refused
 abbrev pub RefusesIn : List ℕ → Fault → yaml_c_answer → Type 0
 RefusesIn text fault a = TellsFaultIn text fault a
     ⊎ TellsMemory a
@@ -117,7 +118,7 @@ abbrev pub TellsResult : Result (List ℕ) Fault → yaml_c_answer → Type 0
 TellsResult (Ok text) a = TellsText text (pos 0) a
 TellsResult (Err fault) a = TellsFault fault (pos 0) a
 
--- what a call gives is told, or its fault
+-- the result of a call is given, or its fault
 abbrev pub TellsAnswer : Result (Vec ℕ Global) yaml_fault_t → yaml_c_answer → Type 0
 TellsAnswer (Ok text) a = TellsText text.items (pos 0) a
 TellsAnswer (Err fault) a = Refuses (fault_of fault) (pos 0) a
@@ -142,12 +143,12 @@ abbrev pub TellsSame : Result Bool (yaml_side_t × yaml_fault_t) → yaml_c_answ
 TellsSame (Ok same) a = TellsText [] (same_number same) a
 TellsSame (Err (side, fault)) a = TellsFault (fault_of fault) (side_number side) a
 
--- what a rewriting gives is told, or its fault
+-- the result of a rewriting is given, or its fault
 abbrev pub TellsForms : Result (Vec ℕ Global × yaml_form_t) yaml_fault_t → yaml_c_answer → Type 0
 TellsForms (Ok (text, form)) a = TellsText text.items (form_number form) a
 TellsForms (Err fault) a = Refuses (fault_of fault) (pos 0) a
 
--- the same of a comparison, whose fault is told with its side
+-- the result of a comparison, or its fault with its side
 abbrev pub TellsSides : Result Bool (yaml_side_t × yaml_fault_t) → yaml_c_answer → Type 0
 TellsSides (Ok same) a = TellsText [] (same_number same) a
 TellsSides (Err (side, fault)) a = Refuses (fault_of fault) (side_number side) a
@@ -158,14 +159,14 @@ abbrev pub OrMemory : List yaml_origin_t → {Y : Type 0} → (Result Y Fault �
 OrMemory layers Is (Ok y) = Is (Ok y)
 OrMemory layers Is (Err fault) = IsMemoryFault layers fault ⊎ Is (Err fault)
 
--- C is told an answer that the relation allows.
+-- C receives an answer that the relation allows.
 pub record IsAnswered {A : Type 0} (Is : A → Type 0) (TellsIt : A → yaml_c_answer → Type 0)
     (a : yaml_c_answer) : Type 0 where
   pub result : A
   pub is : Is result
   pub told : TellsIt result a
 
--- C is told that a number means nothing, where one does, and else what a call with their meaning answers.
+-- C learns that a number means nothing, where one does, and else what a call with their meaning answers.
 abbrev pub AnswersMeant : {M : Type 0} → Option M → (M → yaml_c_answer → Type 0) → yaml_c_answer
     → Type 0
 AnswersMeant None Is a = TellsMisuse a

@@ -7,8 +7,8 @@ use Rattle.yaml_emit_graph.specs.emit_layout.Content.{document_start, document_e
 use Rattle.yaml_emit_graph.specs.declared.Turn.{Turn}
 use Rattle.yaml_emit_graph.specs.declared.Turn.TheVariants.{First, Again, Leave}
 use Rattle.yaml_emit_graph.specs.Graph.{body_of_id, number_at, numbers, turns, turn_event, graph_opening, dumped}
-use Rattle.yaml_round_answers.specs.declared.record.yaml_c_graph.{yaml_c_graph}
-use Rattle.yaml_round_answers.specs.declared.record.yaml_c_turn.{yaml_c_turn}
+use Rattle.yaml_round_answers.specs.declared.graph_record.yaml_c_graph.{yaml_c_graph}
+use Rattle.yaml_round_answers.specs.declared.graph_record.yaml_c_turn.{yaml_c_turn}
 use Rattle.yaml_round_answers.specs.Graphs.{kind_of, kind_at, stand_ins}
 
 -- ---- numbers, which are those of libyaml's events

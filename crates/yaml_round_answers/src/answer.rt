@@ -1,12 +1,14 @@
-//! What C is told.
+//! What C receives.
 
 ghost use Rattle.std.specs.Prelude.{◌≡◌, [], pos, unwrap_or, option_map};
-ghost use Rattle.yaml_parse.specs.Faults.{fault_of};
+ghost use Rattle.yaml_parse.specs.scan_types.Faults.{fault_of};
 ghost use Rattle.yaml_round_answers.specs.Told.{TellsText, TellsFault, TellsMisuse, LineTold, Refuses, RefusesIn, TellsAnswer};
 
+use crate::counting::characters_before;
+use crate::number::error_number;
+use crate::record::{mark_told, yaml_c_mark};
 use std::alloc::Global;
 use yaml_round::{yaml_fault_line, yaml_fault_t};
-use yaml_round_records::{characters_before, error_number, mark_told, yaml_c_mark};
 
 /// An answer: a text, or a fault. `kind` is 0, the number of the fault's kind, or -1 where an argument means nothing.
 #[repr(C)]
@@ -111,7 +113,8 @@ fn fault_told(fault: &yaml_fault_t, second: i32, line: &'static [u8]) -> yaml_c_
     }
 }
 
-/// An answer that is a fault; `second` says whose. Where memory for its line is refused, that is told in its place.
+/// An answer that is a fault; `second` says whose. Where its line has no memory, out of memory is
+/// the answer instead.
 pub(crate) fn refused(alloc: Global, fault: &yaml_fault_t, second: i32) -> yaml_c_answer
     ensures { Refuses (fault_of fault.now) second result }
 {

@@ -5,7 +5,7 @@ ghost use Rattle.yaml_round_answers.specs.Told.{AnswersMeant};
 ghost use Rattle.yaml_round_answers.specs.Composes.{steps_meant, Composes, NoSpotUnmeant};
 
 use crate::answer::{handed_out, misused, refused, said, yaml_c_answer};
-use crate::record::{yaml_c_spot, yaml_c_step};
+use crate::graph_record::{yaml_c_spot, yaml_c_step};
 use crate::steps::{Composed, are_steps, compose_steps};
 use std::alloc::Global;
 use yaml_parse::{undefined_alias_fault, yaml_mark_t, yaml_memory_fault, yaml_origin_t};

@@ -1,16 +1,16 @@
 //! The text of an input.
 
 ghost use Rattle.std.specs.Prelude.{◌≡◌};
-ghost use Rattle.yaml_parse.specs.Faults.{Answers};
-ghost use Rattle.yaml_round_records.specs.Leading.{bytes_of};
-ghost use Rattle.yaml_round_records.specs.Numbers.{encoding_meant};
+ghost use Rattle.yaml_parse.specs.scan_types.Faults.{Answers};
+ghost use Rattle.yaml_round_answers.specs.Leading.{bytes_of};
+ghost use Rattle.yaml_round_answers.specs.Numbers.{encoding_meant};
 ghost use Rattle.yaml_round_answers.specs.Told.{AnswersMeant};
 ghost use Rattle.yaml_round_answers.specs.Decodes.{decode_layers, IsDecoded, Decodes};
 
 use crate::answer::{answer_told, misused, yaml_c_answer};
+use crate::number::encoding_of;
 use std::alloc::Global;
 use yaml_round::{yaml_encoding_t, yaml_fault_t};
-use yaml_round_records::encoding_of;
 use yaml_scan::{yaml_decode, yaml_memory_fault, yaml_origin_t};
 
 // The text that the bytes spell, in a block of its own.

@@ -2,15 +2,15 @@
 
 ghost use Rattle.std.specs.Prelude.{IsSome};
 ghost use Rattle.yaml_round_answers.specs.Told.{AnswersMeant};
-ghost use Rattle.yaml_round_records.specs.Meaning.{events_meant};
-ghost use Rattle.yaml_round_records.specs.Leading.{asked_for};
+ghost use Rattle.yaml_round_answers.specs.Meaning.{events_meant};
+ghost use Rattle.yaml_round_answers.specs.Leading.{asked_for};
 ghost use Rattle.yaml_round_answers.specs.Emitting.{emit_meant, Emits, EmitsAll};
 
 use crate::answer::{answer_told, misused, yaml_c_answer};
+use crate::emitter::{Asked, asked_of, emitted};
+use crate::meaning::are_meant;
+use crate::record::{yaml_c_directive, yaml_c_event, yaml_c_settings};
 use std::alloc::Global;
-use yaml_round_records::{
-    Asked, are_meant, asked_of, emitted, yaml_c_directive, yaml_c_event, yaml_c_settings,
-};
 
 fn answered(
     alloc: Global,

@@ -1,15 +1,16 @@
 //! The engine's calls.
 
-ghost use Rattle.yaml_round_records.specs.Numbers.{encoding_meant};
+ghost use Rattle.yaml_round_answers.specs.Numbers.{encoding_meant};
 ghost use Rattle.yaml_round_answers.specs.Told.{AnswersMeant, both, call_meant, TellsForms, TellsSides, Reformats, Reloads, Compares, Lists};
 
 use crate::answer::{answer_told, misused, refused, said, text_answer, yaml_c_answer};
+use crate::number::encoding_of;
+use crate::record::yaml_c_settings;
 use crate::settings::{both_of, call_of};
 use std::alloc::Global;
 use yaml_round::{
     yaml_events, yaml_fault_t, yaml_form_t, yaml_reformat, yaml_reload, yaml_same, yaml_side_t,
 };
-use yaml_round_records::{encoding_of, yaml_c_settings};
 
 // What a rewriting gives.
 fn form_told(alloc: Global, answer: Result<(Vec<u8>, yaml_form_t), yaml_fault_t>) -> yaml_c_answer

@@ -1,10 +1,10 @@
-//! What records tell of nodes.
+//! What records say of nodes.
 
 ghost use Rattle.std.specs.Prelude.{◌≡◌, option_map};
 ghost use Rattle.yaml_emit_graph.specs.Graph.{place_at};
 ghost use Rattle.yaml_round_answers.specs.Graphs.{part, held_by, holds, is_node, are_nodes, record_in};
 
-use crate::record::{yaml_c_graph, yaml_c_node};
+use crate::graph_record::{yaml_c_graph, yaml_c_node};
 use yaml_emit_graph::place_of;
 
 /// That many items of a list from a place on, where they lie within it.

@@ -1,14 +1,15 @@
 //! The normal form that people read, and whether an input loads.
 
-ghost use Rattle.yaml_round_records.specs.Numbers.{encoding_meant};
+ghost use Rattle.yaml_round_answers.specs.Numbers.{encoding_meant};
 ghost use Rattle.yaml_round_answers.specs.Told.{AnswersMeant, call_meant};
 ghost use Rattle.yaml_round_answers.specs.Normalizes.{Normalizes, Checks};
 
 use crate::answer::{answer_told, misused, refused, said, yaml_c_answer};
+use crate::number::encoding_of;
+use crate::record::yaml_c_settings;
 use crate::settings::call_of;
 use std::alloc::Global;
 use yaml_round::{yaml_check, yaml_encoding_t, yaml_normalize};
-use yaml_round_records::{encoding_of, yaml_c_settings};
 
 /// What normalizing answers, where its numbers mean something.
 pub fn normalized_by(

@@ -1,19 +1,22 @@
 //! The events of an input, as records.
 
 ghost use Rattle.std.specs.Prelude.{◌≡◌, ◌⊎◌, pos};
-ghost use Rattle.yaml_round_records.specs.Numbers.{encoding_meant};
+ghost use Rattle.yaml_round_answers.specs.Numbers.{encoding_meant};
 ghost use Rattle.yaml_round_answers.specs.Told.{AnswersMeant, TellsMemory};
 ghost use Rattle.yaml_round_answers.specs.Parses.{HasNothing, HandsOut, HandsOutUnless, Parses, EndsFront, Fronts, NothingUnmeant, is_cut_off, Gives, GivesNone};
 ghost use Rattle.yaml_round_answers.specs.Spelled.{spelled_text};
-ghost use Rattle.yaml_round_records.specs.Listing.{Collects, StartsEmpty};
+ghost use Rattle.yaml_round_answers.specs.Listing.{Collects, StartsEmpty};
 
 use crate::answer::{handed_out, misused, refused_in, said, yaml_c_answer};
+use crate::counted::count_events;
+use crate::listing::Listing;
+use crate::number::encoding_of;
+use crate::record::{yaml_c_directive, yaml_c_event};
 use crate::spelled::{is_starved, spelled_text};
 use std::alloc::Global;
 use yaml_parse::{yaml_found_t, yaml_memory_fault, yaml_origin_t};
 use yaml_round::{yaml_encoding_t, yaml_fault_t};
 use yaml_round_reading::{ReadText, Reading, let_go, let_text_go, read_text, reading_of};
-use yaml_round_records::{Listing, count_events, encoding_of, yaml_c_directive, yaml_c_event};
 
 /// The events of an input, and the bytes and directives that they speak of. All three are the caller's to free, where they
 /// have any item.
@@ -104,7 +107,7 @@ fn blocks_of(text: &[u8], listing: Listing) -> yaml_c_parsed
     }
 }
 
-// The same, or no block where memory was refused: a listing that was cut off is let go.
+// The same, or no block where memory was refused: a listing that was cut off is dropped.
 fn blocks_unless(cut_off: bool, text: &[u8], listing: Listing) -> yaml_c_parsed
     ensures { HandsOutUnless cut_off text.now listing result }
 {
@@ -170,7 +173,7 @@ fn given(
     }
 }
 
-/// What a parse answers, where its number means something, and what it hands out.
+/// What a parse answers, where its number means something, and what it returns.
 pub fn parsed_by(
     alloc: Global,
     input: &[u8],

@@ -1,17 +1,17 @@
-//! Where two inputs part, as C is told.
+//! Where two inputs differ, as C receives it.
 
 ghost use Rattle.std.specs.Prelude.{◌≡◌};
-ghost use Rattle.yaml_round_records.specs.Numbers.{encoding_meant};
+ghost use Rattle.yaml_round_answers.specs.Numbers.{encoding_meant};
 ghost use Rattle.yaml_round_answers.specs.Told.{both};
 ghost use Rattle.yaml_round_answers.specs.Parting.{TellsNoPlace, TellsPartingPlace, TellsParting, PartingMeant, Parts, PartsDocuments};
 
 use crate::answer::{misused, refused, said, text_answer, yaml_c_answer};
 use crate::path::path_text;
+use crate::record::{mark_told, yaml_c_mark};
 use crate::settings::both_of;
 use std::alloc::Global;
 use yaml_parse::{yaml_memory_fault, yaml_origin_t};
 use yaml_round::{yaml_diff, yaml_diff_documents, yaml_difference_t, yaml_fault_t, yaml_side_t};
-use yaml_round_records::{mark_told, yaml_c_mark};
 
 /// What a search for a difference answers: `is` of the answer is 1 where there is none, else 0, and then its text is the path,
 /// spelled. The other fields are 0 but where there is a difference.
@@ -65,7 +65,7 @@ fn with_place(path: Vec<u8>, difference: &yaml_difference_t) -> yaml_c_parting
     }
 }
 
-// What C is told of what a search for a difference answered. Where the path has no room, out of memory is.
+// What C receives of a search for a difference: out of memory where the path has no room.
 fn parting_told(
     alloc: Global,
     parted: &Result<Option<yaml_difference_t>, (yaml_side_t, yaml_fault_t)>,
@@ -100,7 +100,8 @@ pub fn parted_by(
     }
 }
 
-/// The same of the loaded documents of two inputs.
+/// What a search for a difference of two inputs' loaded documents answers, where its numbers mean
+/// something.
 pub fn documents_parted_by(
     alloc: Global,
     first: &[u8],

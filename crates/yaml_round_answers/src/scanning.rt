@@ -2,17 +2,20 @@
 
 ghost use Rattle.std.specs.Prelude.{◌≡◌, []};
 ghost use Rattle.yaml_scan.specs.Scanned.{scanned};
-ghost use Rattle.yaml_round_records.specs.Numbers.{encoding_meant};
-ghost use Rattle.yaml_round_records.specs.TokensListed.{ListsTokens, EndsListed};
+ghost use Rattle.yaml_round_answers.specs.Numbers.{encoding_meant};
+ghost use Rattle.yaml_round_answers.specs.TokensListed.{ListsTokens, EndsListed};
 ghost use Rattle.yaml_round_answers.specs.Spelled.{spelled_text};
 ghost use Rattle.yaml_round_answers.specs.Told.{AnswersMeant, TellsMemory};
 ghost use Rattle.yaml_round_answers.specs.Scans.{HasNoToken, HandsOutTokens, HandsOutTokensUnless, Scans, NoTokenUnmeant};
 
 use crate::answer::{handed_out, misused, refused_in, said, yaml_c_answer};
+use crate::number::encoding_of;
 use crate::spelled::{is_starved, spelled_text};
+use crate::token_counted::count_tokens;
+use crate::token_listing::{TokenListing, list_tokens};
+use crate::token_record::yaml_c_token;
 use std::alloc::Global;
 use yaml_round::yaml_encoding_t;
-use yaml_round_records::{TokenListing, count_tokens, encoding_of, list_tokens, yaml_c_token};
 use yaml_scan::{yaml_fault_t, yaml_memory_fault, yaml_origin_t, yaml_parser_t};
 
 /// The tokens of an input, and the bytes that they speak of. Both are the caller's to free, where they have any item.
@@ -46,7 +49,7 @@ fn blocks_of(text: &[u8], listing: TokenListing) -> yaml_c_scanned
     }
 }
 
-// The same, or no block where memory was refused: a listing that was cut off is let go.
+// The same, or no block where memory was refused: a listing that was cut off is dropped.
 fn blocks_unless(cut_off: bool, text: &[u8], listing: TokenListing) -> yaml_c_scanned
     ensures { HandsOutTokensUnless cut_off text.now listing result }
 {
@@ -58,8 +61,8 @@ fn blocks_unless(cut_off: bool, text: &[u8], listing: TokenListing) -> yaml_c_sc
     }
 }
 
-// Lists the tokens of an input. The session is made and let go here, where the drops of one are written out for a parser's
-// source anyway.
+// Lists the tokens of an input. The session is made and dropped here, where the drops of one are
+// written out for a parser's source anyway.
 fn list_input(
     alloc: Global,
     input: &[u8],

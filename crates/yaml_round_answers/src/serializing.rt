@@ -6,7 +6,7 @@ ghost use Rattle.yaml_round_answers.specs.Serializes.{graph_meant, Serializes};
 
 use crate::answer::{handed_out, misused, refused, said, yaml_c_answer};
 use crate::graph::is_graph;
-use crate::record::{yaml_c_graph, yaml_c_turn};
+use crate::graph_record::{yaml_c_graph, yaml_c_turn};
 use crate::turns::turns_of;
 use std::alloc::Global;
 use yaml_parse::{yaml_memory_fault, yaml_origin_t};

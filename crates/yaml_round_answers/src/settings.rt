@@ -1,12 +1,13 @@
 //! The encodings and the settings that numbers and records of C mean.
 
 ghost use Rattle.std.specs.Prelude.{◌≡◌};
-ghost use Rattle.yaml_round_records.specs.Numbers.{encoding_meant};
+ghost use Rattle.yaml_round_answers.specs.Numbers.{encoding_meant};
 ghost use Rattle.yaml_round_answers.specs.Settings.{output_meant, settings_meant};
 ghost use Rattle.yaml_round_answers.specs.Told.{both, call_meant};
 
+use crate::number::{break_of, encoding_of, is_set};
+use crate::record::yaml_c_settings;
 use yaml_round::{yaml_encoding_t, yaml_output_encoding_t, yaml_settings_t};
-use yaml_round_records::{break_of, encoding_of, is_set, yaml_c_settings};
 
 // The encoding of an answer that a number means.
 #[tactic(auto, unfolding(crate::specs::Settings::output_meant))]

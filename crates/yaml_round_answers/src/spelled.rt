@@ -1,4 +1,4 @@
-//! The text in which the places of an input's events, tokens and faults stand.
+//! The text that the places of an input's events, tokens and faults refer to.
 
 ghost use Rattle.std.specs.Prelude.{◌≡◌, IfSome};
 ghost use Rattle.yaml_scan.specs.DecodedText.{text_bytes};

@@ -6,8 +6,8 @@ ghost use Rattle.yaml_round_answers.specs.Composing.{is_named, name_at, is_step,
 ghost use Rattle.yaml_parse_loader.specs.Loading.{named};
 
 use crate::graph::part_of;
+use crate::graph_record::{yaml_c_spot, yaml_c_step};
 use crate::names::{Names, meant, note};
-use crate::record::{yaml_c_spot, yaml_c_step};
 use std::alloc::{AllocError, Global};
 use std::collections::BTreeMap;
 use yaml_parse_model::MAX_ENTRIES;
@@ -138,7 +138,7 @@ impl Sketching {
         meant(&self.names, spot_name(bytes, step)?)
     }
 
-    // An alias stands for the node that its name means.
+    // An alias means the node that has its name.
     fn stand(&self, bytes: &[u8], step: yaml_c_step) -> Option<yaml_c_spot>
         ensures { option_map (λ x. (x, sketch_of self.now)) result ≡ stood (name_at bytes.now step)
             (sketch_of self.now) }

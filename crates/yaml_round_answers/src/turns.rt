@@ -6,7 +6,7 @@ ghost use Rattle.yaml_round_answers.specs.Graphs.{kind_at};
 ghost use Rattle.yaml_round_answers.specs.Turns.{opening_kind, closing_kind, turn_by, turns_by};
 
 use crate::graph::record_at;
-use crate::record::{yaml_c_graph, yaml_c_turn};
+use crate::graph_record::{yaml_c_graph, yaml_c_turn};
 use std::alloc::{AllocError, Global};
 use yaml_emit_graph::{Turn, Walked, number_of, walk_nodes};
 

@@ -3,7 +3,7 @@
 ghost use Rattle.yaml_round_answers.specs.Graphs.{stand_ins};
 
 use crate::graph::{held_by, holds_nodes, record_at};
-use crate::record::yaml_c_graph;
+use crate::graph_record::yaml_c_graph;
 use yaml_emit_graph::{Open, Walkable, next_held};
 
 impl Walkable for yaml_c_graph {

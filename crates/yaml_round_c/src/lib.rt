@@ -1,5 +1,5 @@
 //! The engine for C: a static library. A call takes its inputs as pointers and lengths and answers through a record, which
-//! names blocks that the caller frees. `bindings/c/yaml_c.h` tells C what is here.
+//! names blocks that the caller frees. `bindings/c/yaml_c.h` declares for C what is here.
 #![tactic(auto)]
 
 mod composing;

@@ -1,4 +1,4 @@
-//! Where two inputs part.
+//! Where two inputs differ.
 
 ghost use Rattle.std.specs.Prelude.{◌≡◌};
 ghost use Rattle.yaml_round_answers.specs.Numbers.{encoding_meant};
@@ -8,7 +8,7 @@ ghost use Rattle.yaml_round_answers.specs.Parting.{PartingMeant, Parts, PartsDoc
 use std::alloc::Global;
 use yaml_round_answers::{documents_parted_by, parted_by, yaml_c_parting};
 
-/// Where the contents of two texts part: what `yaml_diff` answers.
+/// Where the contents of two texts differ: the answer of `yaml_diff`.
 #[unsafe(no_mangle)]
 pub extern "C" fn yaml_c_diff(
     alloc: Global,
@@ -27,7 +27,7 @@ pub extern "C" fn yaml_c_diff(
     parting.answer.kind
 }
 
-/// Where the loaded documents of two texts part: what `yaml_diff_documents` answers.
+/// Where the loaded documents of two texts differ: the answer of `yaml_diff_documents`.
 #[unsafe(no_mangle)]
 pub extern "C" fn yaml_c_diff_documents(
     alloc: Global,

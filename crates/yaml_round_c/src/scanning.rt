@@ -9,7 +9,8 @@ ghost use Rattle.yaml_round_answers.specs.Scans.{Scans, NoTokenUnmeant};
 use std::alloc::Global;
 use yaml_round_answers::{decoded_by, scanned_by, yaml_c_answer, yaml_c_scanned};
 
-/// The text that the input's bytes spell, in UTF-8, without a byte order mark that told the encoding.
+/// The text that the input's bytes spell, in UTF-8, without a byte order mark that showed the
+/// encoding.
 #[unsafe(no_mangle)]
 pub extern "C" fn yaml_c_decode(
     alloc: Global,

@@ -3,9 +3,7 @@
 ghost use Rattle.std.specs.Prelude.{◌≡◌, Some};
 ghost use Rattle.yaml_round_answers.specs.Settings.{settings_meant, default_record, default_settings};
 
-use yaml_round_answers::{DEFAULT_INDENT, DEFAULT_LIMIT, DEFAULT_WIDTH, yaml_c_settings};
-
-/// Sets what `yaml_settings_t::new` has.
+/// Sets the defaults, those of `yaml_settings_t::new`.
 #[unsafe(no_mangle)]
 pub extern "C" fn yaml_c_defaults(settings: &mut yaml_c_settings)
     ensures engine { settings_meant settings.new ≡ Some default_settings }
@@ -22,3 +20,5 @@ pub extern "C" fn yaml_c_defaults(settings: &mut yaml_c_settings)
         limit: DEFAULT_LIMIT,
     };
 }
+
+use yaml_round_answers::{DEFAULT_INDENT, DEFAULT_LIMIT, DEFAULT_WIDTH, yaml_c_settings};

@@ -1,9 +1,9 @@
 -- Documents that agree with loaded ones are as loading makes them.
 use Rattle.std.proofs.Common.{◌≡◌, ℕ, zero, suc, ℤ, List, [], ◌∷◌, length, map, Some, None, refl, sym, ap, subst, ◌∙◌}
 use Rattle.yaml_round_content.proofs.Words.{false, slice_get, pos, is_bang, VisitsInPreorder, again, first, events_of, ending_of, Document, Loads, loads_of, InputsAreWritable, CoreNode, Core, core_body, core_node, core_of, LoadsOfContent, IsLoadedDocument, load_each, trees_of_dumps, loaded_again, AreLoadedDocuments, ContentIsSaid, ContentIsLoaded, ContentLoadsDocuments, DumpsAreNumberedBack, done, children, Agrees, HasKind, IsLoadedNode, events_saying, DumpsLoadBack, InputsLoadDocuments}
-use Rattle.yaml_round_content.specs.parse_model.Nodes as model
-use Rattle.yaml_round_content.specs.parse_laws_trees.parse_model.Documents as documents
-use Rattle.yaml_emit_laws_dumps.specs.Dumps as dumps
+use Rattle.yaml_parse_model.specs.Nodes as model
+use Rattle.yaml_parse_model.specs.Documents as documents
+use Rattle.yaml_emit_laws.specs.Dumps as dumps
 
 -- ---- one node
 

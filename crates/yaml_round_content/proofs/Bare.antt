@@ -1,11 +1,11 @@
 -- Canonical layout looks at no style and no flag but whether an untagged scalar may be quoted.
 use Rattle.std.proofs.Common.{◌≡◌, ℕ, Bool, true, false, not, ◌&&◌, List, [], ◌∷◌, refl, sym, ap, ◌∙◌}
 use Rattle.yaml_round_content.proofs.Words.{chars, YAML_ANY_SCALAR_STYLE, TagDirective, Settings, Layout, ◌▹◌, node_layout, when, word, opener, Scalar, Start, alias_node, scalar_node, has, Context, position, key_part, deeper, checked, properties_text, page_at, style_of, scalar_layout, is_simple, is_simple_scalar, is_simple_alias, is_simple_start, before_item, before_key, before_value, items_layout, pairs_layout}
-use Rattle.yaml_round_content.specs.emit_layout.Scalars.{scalar_text}
-use Rattle.yaml_round_content.specs.emit_layout.declared.Style.TheVariants as style
-use Rattle.yaml_round_content.specs.emit_layout.declared.NodePosition.{NodePosition}
-use Rattle.yaml_round_content.specs.emit_layout.declared.Part.TheVariants as part
-use Rattle.yaml_round_content.specs.emit_layout.Content.{Node, sequence_node, mapping_node, Nodes, no_nodes, node, Pairs, no_pairs, pair}
+use Rattle.yaml_emit_laws.specs.emit_layout.Scalars.{scalar_text}
+use Rattle.yaml_emit_laws.specs.emit_layout.declared.Style.TheVariants as style
+use Rattle.yaml_emit_laws.specs.emit_layout.declared.NodePosition.{NodePosition}
+use Rattle.yaml_emit_laws.specs.emit_layout.declared.Part.TheVariants as part
+use Rattle.yaml_emit_laws.specs.emit_layout.Content.{Node, sequence_node, mapping_node, Nodes, no_nodes, node, Pairs, no_pairs, pair}
 
 -- the settings with canonical form
 abbrev pub canonical_settings : Settings → Settings

@@ -1,7 +1,7 @@
 -- What an input says is a stream in which nothing is wrong.
 use Rattle.std.proofs.Common.{◌≡◌, ◌||◌, ℕ, List, map, Bool, true, false, Option, None, refl, inl, inr}
 use Rattle.yaml_round_content.proofs.Words.{yaml_encoding_t, yaml_scalar_style_t, IsEmittable, IsNormalized, IsNormalizing, is_lone_mark, normalize_scalar, normalize_body, emitter_events, events_of, ending_of, read, InputsHaveContent, InputsSayFronts}
-use Rattle.yaml_round_content.specs.parse_model.Events as event
+use Rattle.yaml_parse_model.specs.Events as event
 use Rattle.yaml_round_content.proofs.StreamsInputs.{inputs_are_streams, inputs_are_fronts}
 use Rattle.yaml_round_content.proofs.Trees.{core, document_trees, stream_trees, front_trees}
 

@@ -3,10 +3,10 @@ use Rattle.std.proofs.Common.{◌≡◌, ◌++◌, ℕ, zero, suc, ℤ, pos, Boo
 use Rattle.yaml_round_content.proofs.Words.{map-append, length-map, nat_cmp, slice_cmp, yaml_mark_t, yaml_version_directive_t, YAML_ANY_SCALAR_STYLE, YAML_ANY_SEQUENCE_STYLE, YAML_ANY_MAPPING_STYLE, Fault, EventBody, TagDirective, str_tag, Told, loaded_tag, Open, open_sequence, open_mapping, Loading, nothing_loaded, attach, named, LoadStep, goes_on, loaded, step, Loads, in_front, load_on, load_all, CoreNode, Core, core_body, core_node, core_of, change_place, seq_tag, map_tag, filled, filled_body, place_of, closed, aliased, enter_leaf, enter_open, step_body}
 use Rattle.std.specs.FinMap as map
 use Rattle.std.specs.FinMap.{FinMap}
-use Rattle.yaml_round_content.specs.parse_model.Events as event
-use Rattle.yaml_round_content.specs.parse_model.Nodes.{Node, NodeBody}
-use Rattle.yaml_round_content.specs.parse_model.Nodes as node
-use Rattle.yaml_round_content.specs.parse_laws_trees.parse_model.Documents.{Document}
+use Rattle.yaml_parse_model.specs.Events as event
+use Rattle.yaml_parse_model.specs.Nodes.{Node, NodeBody}
+use Rattle.yaml_parse_model.specs.Nodes as node
+use Rattle.yaml_parse_model.specs.Documents.{Document}
 use Rattle.yaml_parse_loader.specs.Loading.{refused}
 
 -- ---- the machine

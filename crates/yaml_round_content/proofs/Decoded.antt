@@ -2,11 +2,11 @@
 use Rattle.std.proofs.Common.{◌≡◌, ℕ, zero, suc, ◌+◌, ◌-◌, ◌*◌, Bool, true, false, not, ◌&&◌, ◌||◌, ◌==◌, nat_lt, if◌then◌else◌, List, length, Result, Ok, Err, refl, IsUtf8, All}
 use Rattle.std.specs.Char.{IsScalar}
 use Rattle.yaml_round_content.proofs.Words.{all_scalars, All-nil, yaml_encoding_t, YAML_UTF16LE_ENCODING, YAML_UTF16BE_ENCODING, Token, scanned_in, tokens_of, adapted, Offence, encoding_of, mark_length, is_allowed, decoded_text, width_of, between, is_low_surrogate, is_high_surrogate, is_trailing, allowed_at, valued_at, least_code, sequence_of, utf8_code, utf8_of, utf16_of, character_at, led_by, characters, in_utf8, decoded_characters}
-use Rattle.yaml_round_content.specs.parse_model.Source as source
+use Rattle.yaml_parse_model.specs.Source as source
 use Rattle.yaml_round_content.proofs.AdaptedLemmas.{adapted_utf8}
-use Rattle.yaml_round_content.specs.scan_history.scan_decode.declared.offence.Character.{Character}
-use Rattle.yaml_round_content.specs.scan_history.scan_decode.Decoding.{before}
-use Rattle.yaml_round_content.proofs.SpellingLemmas.{allowed_scalar}
+use Rattle.yaml_scan_laws.specs.scan_decode.declared.offence.Character.{Character}
+use Rattle.yaml_scan_laws.specs.scan_decode.Decoding.{before}
+use Rattle.yaml_scan_laws.proofs.SpellingLemmas.{allowed_scalar}
 
 -- ---- a character
 

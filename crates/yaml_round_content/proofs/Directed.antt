@@ -1,8 +1,8 @@
 -- Handles, prefixes and versions that a parser lets pass are those that an emitter takes.
 use Rattle.std.proofs.Common.{◌≡◌, inl, inr, ℕ, suc, ◌-◌, Bool, true, false, ◌||◌, ◌==◌, if◌then◌else◌, List, [], ◌∷◌, ◌++◌, length, get_or, Option, Some, None, refl, sym, ap, subst, ◌∙◌, arith, append_assoc, append-nil}
 use Rattle.yaml_round_content.proofs.Words.{nat_tests, common_steps, list_all, list_any, bytes_eq, is_alpha_byte, IsSome, IsHandle, TagDirective, directive_for, directives_problem, AreAlphas, handle_problem, prefix_problem, has_handle, twice_problem, directive_problem, or_both}
-use Rattle.yaml_emit_laws_dumps.specs.emit_layout.Grammar.{between}
-use Rattle.yaml_emit_laws_dumps.proofs.Passing.{or_none}
+use Rattle.yaml_emit_laws.specs.emit_layout.Grammar.{between}
+use Rattle.yaml_emit_laws.proofs.Passing.{or_none}
 
 -- ---- a handle
 

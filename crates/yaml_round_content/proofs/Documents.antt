@@ -1,10 +1,10 @@
 -- The directives of a document, as they are read.
 use Rattle.std.proofs.Common.{◌≡◌, ℕ, ℤ, Bool, true, false, if◌then◌else◌, List, [], ◌∷◌, ◌++◌, Option, Some, None, refl, ap, sym, ◌∙◌}
 use Rattle.yaml_round_content.proofs.Words.{append_assoc, append-nil, yaml_mark_t, yaml_version_directive_t, Token, Fault, TagDirective, RawEvent, Given, Directive, items_directives, Directives, Reading, read_on, reading, directive_for, with_version, with_tag, is_known_version, tags_in, version_in}
-use Rattle.yaml_round_content.specs.parse_grammar.declared.ParseProblem.TheVariants as problem
-use Rattle.yaml_round_content.specs.parse_grammar.Problems.{parser_fault}
-use Rattle.yaml_round_content.specs.parse_grammar.Trees as tree
-use Rattle.yaml_round_content.specs.parse_grammar.Resolve as resolve
+use Rattle.yaml_emit_laws.specs.parse_grammar.declared.ParseProblem.TheVariants as problem
+use Rattle.yaml_emit_laws.specs.parse_grammar.Problems.{parser_fault}
+use Rattle.yaml_emit_laws.specs.parse_grammar.Trees as tree
+use Rattle.yaml_emit_laws.specs.parse_grammar.Resolve as resolve
 
 -- ---- directives
 

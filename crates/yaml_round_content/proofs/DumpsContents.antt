@@ -1,7 +1,7 @@
--- Events that say the same load the same documents, styles and marks aside.
+-- Events of the same content load the same documents, styles and marks aside.
 use Rattle.std.proofs.Common.{◌≡◌, ◌↔◌, ℕ, Bool, true, false, ◌==◌, ◌&&◌, cond, List, [], ◌∷◌, length, Option, Some, None, refl, sym, ap, ◌∙◌, arith}
 use Rattle.yaml_round_content.proofs.Words.{slice_index, nat_tests, and_parts, yaml_scalar_style_t, Fault, EventBody, str_tag, Told, is_bang, loaded_tag, nothing_loaded, is_lone_mark, normalize_scalar, normalize_body, content_of, contents, Loads, load_all, LoadsOfContent, LoadAlike}
-use Rattle.yaml_round_content.specs.parse_model.Events as event
+use Rattle.yaml_parse_model.specs.Events as event
 use Rattle.yaml_round_content.proofs.Core.{CoreLoading, CoreFed, core_goes_on, CoreLoads, core_leaf, core_scalar, core_loaded, core_refused, core_in_front, core_step, core_on, core_loads, core_nothing, is_fault, cores, bodies, load_cores}
 
 -- ---- the lone tag `!` loads as no tag

@@ -1,7 +1,7 @@
 -- The events of a content that may be written say it.
 use Rattle.std.proofs.Common.{◌≡◌, ◌==◌, ℕ, suc, Bool, true, false, ◌&&◌, List, [], ◌∷◌, length, Option, Some, refl, ap, ◌∙◌, inl, inr, codes, arith}
 use Rattle.yaml_round_content.proofs.Words.{cases_Bool, nat_tests, slice_index, and-false, YAML_ANY_SCALAR_STYLE, YAML_ANY_SEQUENCE_STYLE, YAML_ANY_MAPPING_STYLE, YAML_ANY_ENCODING, Event, EventBody, events, item_events, pair_events, is_lone_mark, normalize_scalar, content_of, contents, ScalarMark, untagged, tagged, Node, alias, scalar, sequence, mapping, Nodes, no_nodes, node, Pairs, no_pairs, pair, Document, scalar_says, node_says, items_say, pairs_say, documents_say, written_node, written_nodes, written_pairs, IsWritable, AreItemsWritable, ArePairsWritable, AreWritable, as_content, as_contents, as_pairs, content_events, told_by, ContentIsSaid, IsMark, unplaced}
-use Rattle.yaml_round_content.specs.parse_model.Events as event
+use Rattle.yaml_parse_model.specs.Events as event
 
 -- ---- a tag that isn't `!`
 

@@ -1,10 +1,10 @@
 -- What the tree of a node says is numbered as what the node says.
 use Rattle.std.proofs.Common.{◌≡◌, ℕ, suc, ℤ, pos, List, [], ◌∷◌, length, map, Option, Some, None, Result, Ok, Err, refl, ap, ◌∙◌, arith}
 use Rattle.yaml_round_content.proofs.Words.{◌+◌, ◌++◌, slice_get, YAML_ANY_SEQUENCE_STYLE, YAML_ANY_MAPPING_STYLE, yaml_node_pair_t, zero_mark, Fault, document_of, VisitsInPreorder, again, first, graph_content, tree_of, trees_of, pair_trees_of, document_tree, written_node, written_nodes, written_pairs, Loads, in_front, as_content, as_contents, as_pairs, IsLoadedDocument, loader_content, load_of, load_each, trees_of_dumps, loaded_again, DumpsAreNumberedBack, Anchored, Numbered, ◌>>=◌, and_node, number, number_items, number_pairs, sequence_node, mapping_node, head_of, core_document, DumpsNumberBack}
-use Rattle.yaml_round_content.specs.parse_model.Nodes as model
-use Rattle.yaml_round_content.specs.parse_laws_trees.parse_model.Documents as documents
-use Rattle.yaml_round_content.specs.emit_layout.Content as emit
-use Rattle.yaml_emit_laws_dumps.specs.Dumps.{core_node}
+use Rattle.yaml_parse_model.specs.Nodes as model
+use Rattle.yaml_parse_model.specs.Documents as documents
+use Rattle.yaml_emit_laws.specs.emit_layout.Content as emit
+use Rattle.yaml_emit_laws.specs.Dumps.{core_node}
 
 scalar_numbered : (x : emit.Scalar) (count : ℕ) (before : Anchored) (tag : Option (List ℕ))
     → x.tag ≡ tag

@@ -1,12 +1,12 @@
 -- An event that is expected is one that the emitter's grammar takes, normalized or not.
 use Rattle.std.proofs.Common.{◌≡◌, inl, inr, ℕ, Bool, true, false, not, ◌||◌, List, [], ◌∷◌, Option, None, refl, sym, ap, subst, ◌∙◌}
-use Rattle.yaml_emit_laws_dumps.specs.parse_model.declared.yaml_scalar_style_t.{yaml_scalar_style_t}
+use Rattle.yaml_parse_model.specs.declared.yaml_scalar_style_t.{yaml_scalar_style_t}
 use Rattle.yaml_round_content.proofs.Words.{EventBody, Expected, emitter_event, anchor_problem, tag_problem, kept_if, event_problem, last_problem, Due, item_due, key_due, Progress, inside, behind_node, outer_due, progress_after, problem_in, IsNormalized, IsNormalizing, begins_node, node_problem, place_problem, problem_by, level_due, or_both}
-use Rattle.yaml_emit_laws_dumps.specs.parse_model.Events as event
-use Rattle.yaml_emit_laws_dumps.specs.emit_layout.declared.Expected.TheVariants as at
-use Rattle.yaml_emit_laws_dumps.specs.emit_layout.Content.{Event}
+use Rattle.yaml_parse_model.specs.Events as event
+use Rattle.yaml_emit_laws.specs.emit_layout.declared.Expected.TheVariants as at
+use Rattle.yaml_emit_laws.specs.emit_layout.Content.{Event}
 use Rattle.yaml_round_content.proofs.Stacks.{between, Expects, moved_by}
-use Rattle.yaml_emit_laws_dumps.proofs.Passing.{or_none}
+use Rattle.yaml_emit_laws.proofs.Passing.{or_none}
 
 -- ---- without the flags of the place between documents
 
@@ -127,7 +127,7 @@ pub normalized_leads : (b c : EventBody) (h : Progress) → IsNormalized b c →
     → plain (progress_after h (emitter_event c)) ≡ moved_by (plain h) b
 normalized_leads b c h e x = moved_there h c (normalized_expected b c (plain h) e x) ∙ normalized_moved b c (plain h) e
 
--- ---- what is wrong with it wherever it stands
+-- ---- what is wrong with it wherever it is
 
 -- nothing is
 abbrev pub IsOwn : Bool → EventBody → Type 0

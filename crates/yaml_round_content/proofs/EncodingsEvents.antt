@@ -1,11 +1,11 @@
--- Tokens that are alike make events that say the same.
+-- Tokens that are alike make events of the same content.
 use Rattle.std.proofs.Common.{◌≡◌, ◌⊎◌, inl, inr, ℕ, true, List, [], ◌∷◌, ◌++◌, length, map, Option, Some, None, refl, sym, ap, subst}
 use Rattle.yaml_round_content.proofs.Words.{yaml_encoding_t, YAML_ANY_ENCODING, yaml_mark_t, Token, type_of, Fault, EventBody, RawEvent, State, Choice, Refuse, Take, Leave, Given, event_at, item_at, Root, Fed, stop, go, choice_at, taken_at, left_at, with_item, given_by, feed, Outcome, carry, run, Directives, Settled, refused, gave, noted, settle, Reading, read_on, reading, contents, normalize_body, content_of, Taken, taken, at_end}
-use Rattle.yaml_emit_laws_dumps.specs.parse_model.Events as event
-use Rattle.yaml_emit_laws_dumps.specs.parse_grammar.States as state
-use Rattle.yaml_emit_laws_dumps.specs.parse_grammar.declared.Choice.TheVariants.{Open}
-use Rattle.yaml_emit_laws_dumps.specs.parse_grammar.Items as item
-use Rattle.yaml_emit_laws_dumps.specs.parse_grammar.Machine.{turn}
+use Rattle.yaml_parse_model.specs.Events as event
+use Rattle.yaml_emit_laws.specs.parse_grammar.States as state
+use Rattle.yaml_emit_laws.specs.parse_grammar.declared.Choice.TheVariants.{Open}
+use Rattle.yaml_emit_laws.specs.parse_grammar.Items as item
+use Rattle.yaml_emit_laws.specs.parse_grammar.Machine.{turn}
 use Rattle.yaml_round_content.proofs.EncodingsTokens.{start, IsAlike, AreAlike}
 
 -- ---- items
@@ -77,7 +77,7 @@ taken_given : (p q : Taken) (s : List State) → IsLikeTaken p q
     → IsLikeFed (given_by p s) (given_by q s)
 taken_given p q s (h, e) = option_given p.item q.item p.above q.above s h e
 
--- what a state takes of a stream's start tells the encoding at most
+-- what a state takes of a stream's start shows the encoding at most
 taken_start : (q : State) (x y : yaml_encoding_t) (from to : yaml_mark_t)
     → IsLikeTaken (taken_at q (start x from to)) (taken_at q (start y from to))
 taken_start state.stream x y from to = (inr record { one = x; two = y; from = from; to = to; first = refl; second = refl }, refl)

@@ -1,8 +1,8 @@
 -- What bytes say is what the text says that they spell.
 use Rattle.std.proofs.Common.{◌≡◌, ℕ, List, [], Some, Result, Ok, Err, refl, sym, subst}
 use Rattle.yaml_round_content.proofs.Words.{yaml_encoding_t, Fault, Offence, encoding_of, decoded_text, Remaining, scanned_in, TokensRead, decoded_spells}
-use Rattle.yaml_round_laws_adapted.specs.scan_laws_texts.scan_history.scan_model.declared.yaml_error_type_t.TheVariants.{YAML_READER_ERROR}
-use Rattle.yaml_round_laws_adapted.specs.scan_laws_texts.scan_history.scan_decode.Offences.{reader_fault}
+use Rattle.yaml_parse_model.specs.scan_model.declared.name.yaml_error_type_t.TheVariants.{YAML_READER_ERROR}
+use Rattle.yaml_scan_laws.specs.scan_decode.Offences.{reader_fault}
 use Rattle.yaml_round_content.specs.EncodingsTexts.{NoTextHasNoToken, ReadingIsOfText}
 use Rattle.yaml_round_content.proofs.OfText.{are_small, tokens_are, plain_reading}
 

@@ -1,12 +1,12 @@
--- The tokens of one text in two encodings: those that start a stream tell the encoding, and the others are the same.
+-- The tokens of one text in two encodings: those that start a stream name the encoding, and the others are the same.
 use Rattle.std.proofs.Common.{◌≡◌, ◌⊎◌, inl, inr, ℕ, Bool, true, false, if◌then◌else◌, List, [], ◌∷◌, ◌++◌, Option, Some, refl, sym, ap, subst, ◌∙◌}
 use Rattle.yaml_round_content.proofs.Words.{flat_map, yaml_encoding_t, yaml_mark_t, Token, Fault, Remaining, offline, spells_text, cut, stream_start, SpelledText, body_by, token_in, before, start_tokens, end_tokens, own_tokens, spell, all, handed, kept_of, remaining, tag_fault, with_token}
-use Rattle.yaml_round_laws_adapted.specs.scan_laws_texts.scan_history.scan_model.Tokens as token
-use Rattle.yaml_round_laws_adapted.specs.scan_laws_texts.scan_history.declared.Kind.{Kind}
-use Rattle.yaml_round_laws_adapted.specs.scan_laws_texts.scan_history.declared.Kind.TheVariants as kinds
-use Rattle.yaml_round_laws_adapted.specs.scan_laws_texts.scan_history.declared.Lexeme.{Lexeme}
-use Rattle.yaml_round_laws_adapted.specs.scan_laws_texts.scan_history.declared.Entry.{Entry}
-use Rattle.yaml_round_laws_adapted.specs.scan_laws_texts.scan_history.Next.{next}
+use Rattle.yaml_parse_model.specs.scan_types.Tokens as token
+use Rattle.yaml_scan_laws.specs.scan_history.declared.Kind.{Kind}
+use Rattle.yaml_scan_laws.specs.scan_history.declared.Kind.TheVariants as kinds
+use Rattle.yaml_scan_laws.specs.scan_history.declared.Lexeme.{Lexeme}
+use Rattle.yaml_scan_laws.specs.scan_history.declared.Entry.{Entry}
+use Rattle.yaml_scan_laws.specs.scan_history.Next.{next}
 
 -- ---- alike
 

@@ -1,8 +1,8 @@
 -- What an input's event says may be written.
 use Rattle.std.proofs.Common.{◌≡◌, ℕ, ◌<◌, Bool, true, false, ◌==◌, if◌then◌else◌, List, [], ◌∷◌, length, Option, Some, None, IsUtf8, refl, codes, arith, sym, ◌∙◌}
 use Rattle.yaml_round_content.proofs.Words.{nat_tests, bytes_eq-Decides, list_all, true≢false, yaml_scalar_style_t, is_alpha_byte, AreUtf8, EventBody, TagDirective, Told, Problem, emitter_event, or_else, name_problem, anchor_problem, tag_problem, event_problem, last_problem, own_problem, own_problems, is_lone_mark, normalize_scalar, normalize_body, content_of, emitter_events, contents, HaveUtf8Texts, HasUtf8, IsUtf8Option, Opening, opening_problem, IsAnchor, IsTag, HavePrefixes, or_both}
-use Rattle.yaml_round_content.specs.parse_model.Events as event
-use Rattle.yaml_round_content.specs.emit_layout.declared.Problem.TheVariants as problem
+use Rattle.yaml_parse_model.specs.Events as event
+use Rattle.yaml_emit_laws.specs.emit_layout.declared.Problem.TheVariants as problem
 use Rattle.yaml_round_content.specs.Writable.{IsName}
 use Rattle.yaml_round_content.proofs.Scalars.{IsScalarRight, IsRight, AreRight}
 

@@ -1,7 +1,7 @@
 -- The flags of an input's normalized events, and layouts without a premise on them.
 use Rattle.std.proofs.Common.{ℕ, Bool, true, false, List, [], ◌∷◌, Option, Some, None, refl}
 use Rattle.yaml_round_content.proofs.Words.{yaml_scalar_style_t, EventBody, Told, emitter_event, is_lone_mark, normalize_scalar, normalize_body, emitter_events, events_of, AreFlagged, LayoutIsOfContent, ContentIsLaidOut, IsFlagged, InputsAreFlagged, LayoutIsOfInputsContent, InputsContentIsLaidOut}
-use Rattle.yaml_round_content.specs.parse_model.Events as event
+use Rattle.yaml_parse_model.specs.Events as event
 use Rattle.yaml_round_content.proofs.Scalars.{IsScalarRight, IsRight, AreRight, input_right}
 
 scalar_flagged : (lone : Bool) (anchor tag : Option (List ℕ)) (value : List ℕ) (plain quoted : Bool)

@@ -1,7 +1,7 @@
 -- A content is known by what it says.
 use Rattle.std.proofs.Common.{◌≡◌, ℕ, true, List, [], ◌∷◌, Option, Some, None, refl, sym, ap, ◌∙◌}
 use Rattle.yaml_round_content.proofs.Words.{yaml_version_directive_t, EventBody, TagDirective, untagged, tagged, Node, alias, scalar, sequence, mapping, Nodes, no_nodes, node, Pairs, no_pairs, pair, Document, node_says, items_say, pairs_say, documents_say, SaysIsInjective}
-use Rattle.yaml_round_content.specs.parse_model.Events as event
+use Rattle.yaml_parse_model.specs.Events as event
 
 abbrev Text : Type 0
 Text = Option (List ℕ)

@@ -1,12 +1,12 @@
 -- The plain reading of an input is what the machine reads.
 use Rattle.std.proofs.Common.{◌≡◌, ℕ, List, Option, Some, None, Result, Ok, Err, refl, ap, sym, subst, ◌∙◌}
 use Rattle.yaml_round_content.proofs.Words.{yaml_encoding_t, Token, Fault, Given, items, Outcome, run, initial, Reading, reading, no_directives, BeginsWithSentence, FaultOfTokens, contents, tokens_of, read, events_of, ending_of, Document, stream_says, tree_content, TokensRead, HasContent, InputsRead, ReadingIsOne, RefusedIsRead, ReadIsRefused, SaidIsRead, ReadIsSaid, EventsAreOfTree}
-use Rattle.yaml_round_content.specs.parse_grammar.Remaining.{reading_of}
-use Rattle.yaml_round_content.proofs.CompleteStream.{stream_runs}
-use Rattle.yaml_round_content.proofs.TreesEnding.{ends_in_fault, fault_ends}
-use Rattle.yaml_round_content.proofs.Turns.{items_given}
+use Rattle.yaml_emit_laws.specs.parse_grammar.Remaining.{reading_of}
+use Rattle.yaml_emit_laws.proofs.CompleteStream.{stream_runs}
+use Rattle.yaml_emit_laws.proofs.Ending.{ends_in_fault, fault_ends}
+use Rattle.yaml_emit_laws.proofs.LawsTreesTurns.{items_given}
 use Rattle.yaml_round_content.proofs.Injective.{says_injective}
-use Rattle.yaml_round_content.proofs.Spelling.{spelled_before}
+use Rattle.yaml_emit_laws.proofs.Spelling.{spelled_before}
 use Rattle.yaml_round_content.proofs.Placed.{tree_says}
 use Rattle.yaml_round_content.proofs.OfText.{plain_reading}
 

@@ -1,13 +1,13 @@
 -- The canonical layout of a stream is that of its content.
 use Rattle.std.proofs.Common.{◌≡◌, ℕ, Bool, true, false, not, List, [], ◌∷◌, Option, Some, None, refl, sym, ap, subst, ◌∙◌}
 use Rattle.yaml_round_content.proofs.Words.{or-true, yaml_encoding_t, YAML_ANY_ENCODING, yaml_scalar_style_t, YAML_ANY_SCALAR_STYLE, EventBody, Told, Settings, Layout, ◌▹◌, node_layout, IsEmittable, is_lone_mark, normalize_scalar, normalize_body, emitter_events, events_of, Document, written_node, written_nodes, written_pairs, AreFlagged, LayoutIsOfContent, ContentIsLaidOut, order_mark, written, root_position, start_layout, end_layout, documents_layout, stream_layout, written_scalar, written_documents, canon_items, IsSet, IsFlaggedScalar}
-use Rattle.yaml_round_content.specs.parse_model.Events as event
-use Rattle.yaml_round_content.specs.emit_layout.declared.Encoding.{Encoding}
-use Rattle.yaml_round_content.specs.emit_layout.declared.RequestedSettings.{RequestedSettings}
-use Rattle.yaml_round_content.specs.emit_layout.Settings.{settled, settled_encoding}
-use Rattle.yaml_round_content.specs.emit_layout.Text.{Item}
-use Rattle.yaml_round_content.specs.emit_layout.Streams.{IsStream}
-use Rattle.yaml_round_content.specs.emit_layout.Content as emit
+use Rattle.yaml_parse_model.specs.Events as event
+use Rattle.yaml_emit_laws.specs.emit_layout.declared.Encoding.{Encoding}
+use Rattle.yaml_emit_laws.specs.emit_layout.declared.RequestedSettings.{RequestedSettings}
+use Rattle.yaml_emit_laws.specs.emit_layout.Settings.{settled, settled_encoding}
+use Rattle.yaml_emit_laws.specs.emit_layout.Text.{Item}
+use Rattle.yaml_emit_laws.specs.emit_layout.Streams.{IsStream}
+use Rattle.yaml_emit_laws.specs.emit_layout.Content as emit
 use Rattle.yaml_round_content.proofs.Injective.{says_injective}
 use Rattle.yaml_round_content.proofs.Trees.{mark_of, tree_of, trees_of, pair_trees_of, document_trees, stream_trees}
 use Rattle.yaml_round_content.proofs.ContentInputs.{input_stream}

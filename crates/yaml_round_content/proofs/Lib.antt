@@ -1,3 +1,4 @@
+pub mod AdaptedLemmas
 mod Words
 pub mod Stacks
 pub mod Places
@@ -44,34 +45,48 @@ mod EncodingsEvents
 mod EncodingsJoining
 mod EncodingsSpelled
 mod EncodingsTexts
--- what it stands on, for crates that name this one alone
-pub use Rattle.yaml_emit_laws_dumps.proofs.Joining as ContentJoining
-pub use Rattle.yaml_emit_laws_dumps.proofs.Contents
-pub use Rattle.yaml_emit_laws_dumps.proofs.Loading as ContentLoading
-pub use Rattle.yaml_emit_laws_dumps.proofs.Naming
-pub use Rattle.yaml_emit_laws_dumps.proofs.Passing
-pub use Rattle.yaml_emit_laws_dumps.proofs.Sound
-pub use Rattle.yaml_emit_laws_dumps.proofs.Throughout
-pub use Rattle.yaml_emit_laws_dumps.proofs.CompleteStream
-pub use Rattle.yaml_emit_laws_dumps.proofs.Utf8 as ContentUtf8
-pub use Rattle.yaml_emit_laws_dumps.proofs.AllGiven
-pub use Rattle.yaml_emit_laws_dumps.proofs.ByStep
-pub use Rattle.yaml_emit_laws_dumps.proofs.Ending
-pub use Rattle.yaml_emit_laws_dumps.proofs.NextLoads
-pub use Rattle.yaml_emit_laws_dumps.proofs.Unique
-pub use Rattle.yaml_emit_laws_dumps.proofs.TreesEnding
-pub use Rattle.yaml_emit_laws_dumps.proofs.Spelling
-pub use Rattle.yaml_emit_laws_dumps.proofs.Turns
-pub use Rattle.yaml_emit_laws_dumps.proofs.Keeps
-pub use Rattle.yaml_emit_laws_dumps.proofs.Loads
-pub use Rattle.yaml_emit_laws_dumps.proofs.Visited
-pub use Rattle.yaml_round_laws_adapted.proofs.AdaptedLemmas
-pub use Rattle.yaml_round_laws_adapted.proofs.CompleteLemmas
-pub use Rattle.yaml_round_laws_adapted.proofs.SpellingLemmas
-pub use Rattle.yaml_round_laws_adapted.proofs.Inputs
--- the laws beneath, for crates that name this one alone
-pub use Rattle.yaml_emit_laws_dumps.proofs.Again
-pub use Rattle.yaml_emit_laws_dumps.proofs.Apart
-pub use Rattle.yaml_emit_laws_dumps.proofs.Back
-pub use Rattle.yaml_emit_laws_dumps.proofs.Loaded as DumpsLoaded
-pub use Rattle.yaml_emit_laws_dumps.proofs.Whole as DumpsWhole
+mod ReadBackWords
+pub mod ReadBackSaying
+pub mod Premises
+pub mod ReadBackJoining
+pub mod ReadBack
+mod Fronts
+pub mod Sound
+pub mod Written
+pub mod Laid
+pub mod ReadBackWhole
+pub mod Encoding
+pub mod Characters
+pub mod ReadBackLayouts
+pub mod Leaves
+pub mod Nodes
+pub mod Marks
+pub mod CanonicalJoining
+pub mod CanonicalPremises
+pub mod Growing
+pub mod ReadBackDocuments
+pub mod Passing
+mod ReadBackInjective
+mod PrettyWords
+mod PrettyNodes
+pub mod PrettyDocuments
+pub mod PrettyPassing
+pub mod Contents
+mod PrettySaying
+mod InputTexts
+pub mod PrettyJoining
+pub mod Theorem
+pub mod JsonInputs
+mod PrettyLayouts
+mod PrettyMarks
+pub mod Bytes
+mod ReadablePremises
+mod ReadableSaying
+mod ReadableStarting
+pub mod ReadableJoining
+pub mod Restyling
+-- the crates below it, for crates that name this one alone
+pub use Rattle.yaml_emit_laws.proofs.Throughout
+pub use Rattle.yaml_emit_laws.proofs.Passing as LawsPassing
+pub use Rattle.yaml_emit_laws.proofs.Contents as LawsContents
+pub use Rattle.yaml_emit_laws.proofs.Loading as LawsLoading

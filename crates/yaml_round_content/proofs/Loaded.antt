@@ -2,10 +2,10 @@
 use Rattle.std.proofs.Common.{◌≡◌, ℕ, List, Option, Some, None, Ok, Err, ap, sym, subst, ◌∙◌}
 use Rattle.std.proofs.lemmas.Option.{same_Some}
 use Rattle.yaml_round_content.proofs.Words.{yaml_encoding_t, Token, Fault, Reading, BeginsWithSentence, nothing_loaded, tokens_of, Loads, load_all, loads_of, tree_documents, loaded_documents, read_of}
-use Rattle.yaml_round_content.specs.parse_laws_trees.parse_model.Documents.{Document}
-use Rattle.yaml_round_content.specs.parse_laws_trees.Faults.{FaultOfLoading}
-use Rattle.yaml_round_content.proofs.Unique.{one_load_fault}
-use Rattle.yaml_round_content.proofs.Ending.{loads_end_in_fault}
+use Rattle.yaml_parse_model.specs.Documents.{Document}
+use Rattle.yaml_emit_laws.specs.parse_laws_trees.Faults.{FaultOfLoading}
+use Rattle.yaml_emit_laws.proofs.Unique.{one_load_fault}
+use Rattle.yaml_emit_laws.proofs.LoadingEnding.{loads_end_in_fault}
 use Rattle.yaml_round_content.specs.PlainLoading.{HaveDocuments, TokensLoad, PlainLoading, unless_faulty, result_of, SourcesLoad, SourceLoadingIsOne, InputsLoad, LoadingIsOne, LoadingIsLoads, FaultlessLoad, FaultyLoad}
 use Rattle.yaml_round_content.proofs.Joining.{read_is}
 use Rattle.yaml_round_content.proofs.OfText.{plain_loading}

@@ -1,8 +1,8 @@
 -- The events of a content load its documents as they are numbered.
 use Rattle.std.proofs.Common.{◌≡◌, List, [], ◌∷◌, Option, Some, None, Result, Ok, Err, IfOk, refl, ap, ◌∙◌}
 use Rattle.yaml_round_content.proofs.Words.{Fault, Event, DocumentContent, document_of, Loading, LoadStep, goes_on, loaded, nothing_loaded, step, load, behind, Document, Loads, no_more, in_front, load_on, load_all, IsLoadedDocument, loader_content, content_events, told_by, load_of, load_each, AreLoadedDocuments, ContentIsLoaded, ContentLoadsDocuments, document_events, turn, DocumentsAreLoaded}
-use Rattle.yaml_round_content.specs.parse_model.Nodes as model
-use Rattle.yaml_round_content.specs.parse_laws_trees.parse_model.Documents as documents
+use Rattle.yaml_parse_model.specs.Nodes as model
+use Rattle.yaml_parse_model.specs.Documents as documents
 use Rattle.yaml_parse_loader.specs.Loading.{refused}
 use Rattle.yaml_parse_loader.specs.Loading as loading
 

@@ -3,7 +3,7 @@ use Rattle.std.proofs.Common.{◌≡◌, ℕ, suc, ℤ, pos, Bool, true, false, 
 use Rattle.yaml_round_content.proofs.Words.{bytes_eq-Decides, bytes_eq, nat_cmp, eq_by_cmp, slice_cmp, nat_list_cmp_total, YAML_ANY_SEQUENCE_STYLE, YAML_ANY_MAPPING_STYLE, EventBody, Open, open_sequence, open_mapping, attach, named, nothing_loaded, contents, load_all, ScalarMark, untagged, tagged, Node, alias, scalar, sequence, mapping, Nodes, no_nodes, node, Pairs, no_pairs, pair, Document, scalar_says, node_says, items_say, pairs_say, documents_say, Core, CoreNode, LoadsOfRenamed}
 use Rattle.std.proofs.lemmas.Map.Text.{is_eq-slice_cmp}
 use Rattle.std.specs.FinMap as map
-use Rattle.yaml_round_content.specs.parse_model.Events as event
+use Rattle.yaml_parse_model.specs.Events as event
 use Rattle.yaml_round_content.specs.Renamed.{Renaming, renamed_anchor, renamed_node, renamed_items, renamed_pairs, renamed, IsAnchorName, HasName, ItemsHaveName, PairsHaveName, AreOneToOne}
 use Rattle.yaml_round_content.proofs.Core.{Anchors, CoreLoading, CoreLoads, core_leaf, core_open, core_closed, core_aliased, core_nothing, core_in_front, core_on, core_loads, is_fault}
 use Rattle.yaml_round_content.proofs.DumpsContents.{loads_said, faults_alike, alike}
@@ -28,7 +28,7 @@ same_renamed r a b one =
 -- ---- beside each other
 
 module _ (IsIn : List ℕ → Type 0) (r : Renaming) (one : (a b : List ℕ) → IsIn a → IsIn b → r a ≡ r b → a ≡ b) (f : Bool) where
-  -- the same was loaded, and a name stands for what its new name stands for
+  -- the same was loaded, and a name means what its new name means
   record Beside (l m : CoreLoading) : Type 0 where
     document : l.document ≡ m.document
     levels : l.levels ≡ m.levels

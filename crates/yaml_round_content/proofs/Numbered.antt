@@ -1,12 +1,12 @@
 -- What is loaded of events that are documents' is their numbering.
 use Rattle.std.proofs.Common.{◌≡◌, ℕ, List, [], ◌∷◌, Option, Some, None, Result, Ok, Err, refl, ap, sym, ◌∙◌}
 use Rattle.yaml_round_content.proofs.Words.{told_by, load_of, Token, Fault, Event, Span, Stream, Reading, Told, DocumentContent, document_of, Loading, LoadStep, goes_on, loaded, nothing_loaded, step, tokens_of, Loads, no_more, in_front, load_on, load_all, tree_documents, loaded_documents, placed_events, tree_events, events_told, read_of, end_of, numbered_one, EventsArePlaced, LoadsAreNumbered, InputsAreNumbered, by_next, LoadsAreOneByOne}
-use Rattle.yaml_round_content.proofs.TreesEnding.{fault_ends}
-use Rattle.yaml_round_content.specs.parse_laws_trees.parse_model.Documents as documents
+use Rattle.yaml_emit_laws.proofs.Ending.{fault_ends}
+use Rattle.yaml_parse_model.specs.Documents as documents
 use Rattle.yaml_parse_loader.specs.Loading.{refused}
-use Rattle.yaml_round_content.specs.parse_laws_trees.NextLoad.{NextLoad, next_fault}
-use Rattle.yaml_round_content.proofs.ByStep as parse
-use Rattle.yaml_round_content.proofs.NextLoads.{IsOf, load_is}
+use Rattle.yaml_emit_laws.specs.parse_laws_trees.NextLoad.{NextLoad, next_fault}
+use Rattle.yaml_emit_laws.proofs.ByStep as parse
+use Rattle.yaml_emit_laws.proofs.NextLoads.{IsOf, load_is}
 use Rattle.yaml_round_content.proofs.Joining.{tree_read, read_is}
 use Rattle.yaml_round_content.proofs.Placed.{tree_reads}
 use Rattle.yaml_round_content.proofs.Loading.{LoadsDocuments, by_number}

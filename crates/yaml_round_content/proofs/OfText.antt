@@ -2,17 +2,17 @@
 use Rattle.std.proofs.Common.{◌≡◌, ◌∙◌, ℕ, ◌<◌, List, [], Some, Result, Ok, Err, option_map, All, get_or, length, refl, sym, ap, subst, inl, inr, arith}
 use Rattle.std.specs.Result.{result_err}
 use Rattle.yaml_round_content.proofs.Words.{cases_lt, get_or_past, All-get_or, yaml_encoding_t, Fault, Offence, encoding_of, decoded_characters, in_utf8, Remaining, scanned_in, adapted, initial, run, reading, no_directives, tokens_of, Document, TokensRead, BeginsWithSentence, spells_decoded, decoded_spells, load_all, nothing_loaded}
-use Rattle.yaml_round_content.specs.parse_grammar.Remaining.{reading_of}
-use Rattle.yaml_round_content.specs.parse_laws_trees.parse_model.Documents as loaded
-use Rattle.yaml_round_content.specs.scan_history.scan_decode.Offences.{reader_fault}
-use Rattle.yaml_round_content.specs.scan_history.scan_decode.DecodedText.{decoding_fault}
-use Rattle.yaml_round_content.specs.scan_history.scan_decode.Spelling.{Spells, SpellsNothing}
+use Rattle.yaml_emit_laws.specs.parse_grammar.Remaining.{reading_of}
+use Rattle.yaml_parse_model.specs.Documents as loaded
+use Rattle.yaml_scan_laws.specs.scan_decode.Offences.{reader_fault}
+use Rattle.yaml_scan_laws.specs.scan_decode.DecodedText.{decoding_fault}
+use Rattle.yaml_scan_laws.specs.scan_decode.Spelling.{Spells, SpellsNothing}
 use Rattle.yaml_round_content.specs.EncodingsTexts.{TokensAreOfText}
 use Rattle.yaml_round_content.specs.Reading.{IsOffence, PlainReading, spelled_in, text_tokens}
 use Rattle.yaml_round_content.specs.PlainLoading.{PlainLoading, TokensLoad}
-use Rattle.yaml_scan_laws_texts.proofs.LookingBack.{offline_looks_back}
-use Rattle.yaml_round_content.proofs.TreesEnding.{fault_ends}
-use Rattle.yaml_round_content.proofs.Ending.{fault_ends_loads}
+use Rattle.yaml_scan_laws.proofs.LookingBack.{offline_looks_back}
+use Rattle.yaml_emit_laws.proofs.Ending.{fault_ends}
+use Rattle.yaml_emit_laws.proofs.LoadingEnding.{fault_ends_loads}
 
 -- ---- tokens
 
@@ -68,7 +68,7 @@ is_offence : {A : Type 0} (from : yaml_encoding_t) (input : List ℕ) (o : Offen
 is_offence from input o (Ok x) p h = h
 is_offence {A = A} from input o (Err e) p h = subst (λ (f : Fault). IsOffence {A = A} from input (Err f)) h (refl, p)
 
--- what is told of the tokens of what was decoded
+-- what is said of the tokens of what was decoded
 offended : {A : Type 0} (from : yaml_encoding_t) (input : List ℕ) (r : Result A Fault)
     (Tell : Remaining → Type 0)
     → ((f : Fault) → (let c : Remaining = record { tokens = []; fault = Some f } in Tell c) → FaultIs f r)

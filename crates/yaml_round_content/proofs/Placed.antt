@@ -1,9 +1,9 @@
 -- The events that are read of a tree: the stream's start, its documents' events, its end.
 use Rattle.std.proofs.Common.{◌≡◌, ℕ, Bool, true, false, List, [], ◌∷◌, map, Option, None, refl, ap, ◌∙◌}
 use Rattle.yaml_round_content.proofs.Words.{yaml_mark_t, Token, Fault, Event, Root, item_at, Span, Given, Documents, First, Stream, spell_documents, items_maybe, items, Directives, no_directives, Reading, reading, spanning, events, tags_in, version_in, placed_node, placed_maybe, placed_documents, placed_first, end_of, placed_events, tree_events, events_told, Told, content_of, normalize_body, contents, stream_says, tree_content, next, spell_node, spell_ends, items_ends, items_documents, items_first, ends_at, ends_implicitly}
-use Rattle.yaml_round_content.specs.parse_model.Events as event
-use Rattle.yaml_round_content.specs.parse_grammar.Items as item
-use Rattle.yaml_round_content.specs.parse_grammar.Trees as tree
+use Rattle.yaml_parse_model.specs.Events as event
+use Rattle.yaml_emit_laws.specs.parse_grammar.Items as item
+use Rattle.yaml_emit_laws.specs.parse_grammar.Trees as tree
 use Rattle.yaml_round_content.proofs.Documents.{directives, directives_read, right_behind}
 use Rattle.yaml_round_content.proofs.Placing.{ReadsAs, both, node_reads, maybe_reads}
 use Rattle.yaml_round_content.proofs.Saying.{tree_said}

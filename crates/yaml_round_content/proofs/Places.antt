@@ -1,17 +1,18 @@
--- A step of the machine gives items in their right places, and leaves a stack that stands for what has come.
+-- A step of the machine gives items in their right places, and leaves a stack that agrees with what
+-- has come.
 use Rattle.std.proofs.Common.{◌≡◌, true, List, [], ◌∷◌, ◌++◌, Option, Some, None, refl, sym, ap, subst, ◌∙◌, append_assoc}
-use Rattle.yaml_emit_laws_dumps.specs.parse_model.declared.yaml_mark_t.{yaml_mark_t}
-use Rattle.yaml_emit_laws_dumps.specs.parse_model.declared.yaml_token_type_t.{yaml_token_type_t}
+use Rattle.yaml_parse_model.specs.declared.yaml_mark_t.{yaml_mark_t}
+use Rattle.yaml_parse_model.specs.declared.yaml_token_type_t.{yaml_token_type_t}
 use Rattle.yaml_round_content.proofs.Words.{value_due, Token, type_of, Wants, Root, Choice, Refuse, Take, Leave, RawEvent, Properties, Shape, item_at, node_at, State, choice_at, taken_at, left_at, Fed, stop, go, with_item, given_by, feed, Due, item_due, key_due, Progress, at_place, inside, behind_node, TokenBody, IndentlessEntry, documents_taken, content_taken, node_taken, wants_of}
-use Rattle.yaml_emit_laws_dumps.specs.parse_model.Tokens as token
-use Rattle.yaml_emit_laws_dumps.specs.parse_grammar.declared.Wants.TheVariants.{Flow, Block}
-use Rattle.yaml_emit_laws_dumps.specs.parse_grammar.declared.Brackets.TheVariants as brackets
-use Rattle.yaml_emit_laws_dumps.specs.parse_grammar.declared.Choice.TheVariants.{Open}
-use Rattle.yaml_emit_laws_dumps.specs.parse_grammar.Items as item
-use Rattle.yaml_emit_laws_dumps.specs.parse_grammar.States as state
-use Rattle.yaml_emit_laws_dumps.specs.parse_grammar.Machine.{turn}
-use Rattle.yaml_emit_laws_dumps.specs.emit_layout.declared.Expected.TheVariants as at
-use Rattle.yaml_emit_laws_dumps.proofs.Rules.{MayLeave, leave_rule, opens_first, was_take}
+use Rattle.yaml_emit_laws.specs.scan_types.Tokens as token
+use Rattle.yaml_emit_laws.specs.parse_grammar.declared.Wants.TheVariants.{Flow, Block}
+use Rattle.yaml_emit_laws.specs.parse_grammar.declared.Brackets.TheVariants as brackets
+use Rattle.yaml_emit_laws.specs.parse_grammar.declared.Choice.TheVariants.{Open}
+use Rattle.yaml_emit_laws.specs.parse_grammar.Items as item
+use Rattle.yaml_emit_laws.specs.parse_grammar.States as state
+use Rattle.yaml_emit_laws.specs.parse_grammar.Machine.{turn}
+use Rattle.yaml_emit_laws.specs.emit_layout.declared.Expected.TheVariants as at
+use Rattle.yaml_emit_laws.proofs.Rules.{MayLeave, leave_rule, opens_first, was_take}
 use Rattle.yaml_round_content.proofs.Stacks.{between, dues, shape_of, node_shape, AreRight, IsPlaced, moved_kind, moved, Leads}
 
 -- ---- taking a token
@@ -22,7 +23,7 @@ twice (item_due ∷ ds) = refl
 twice (key_due ∷ ds) = refl
 twice (value_due ∷ ds) = refl
 
--- after a node stands what is expected below
+-- after a node comes what is expected below
 behind : (s : List State) → shape_of s ≡ inside (dues s)
     → inside (behind_node (behind_node (dues s))) ≡ shape_of s
 behind s e = ap inside (twice (dues s)) ∙ sym e

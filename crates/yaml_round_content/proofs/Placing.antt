@@ -1,13 +1,13 @@
 -- The events that are read of a tree's nodes are those of its content with marks, styles and flags.
 use Rattle.std.proofs.Common.{◌≡◌, ℕ, Bool, true, false, if◌then◌else◌, List, ◌∷◌, Option, Some, None, codes, refl, ap, ◌∙◌}
 use Rattle.yaml_round_content.proofs.Words.{bytes_eq, yaml_mark_t, yaml_scalar_style_t, YAML_PLAIN_SCALAR_STYLE, Token, Fault, Event, Wants, Side, Site, Properties, Tag, Shape, item_at, node_at, Given, properties_of, items_maybe, Directives, Reading, read_on, reading, resolved, with_resolved, node_event, spanning, events, item_events, pair_events, in_full, tag_of, anchor_of, is_plain, begins, placed_scalar, placed_empty, placed_node, placed_content, placed_maybe, placed_colon, placed_items, placed_more_items, placed_parts, placed_more_parts, placed_entries, placed_others, placed_pairs, events_told, YAML_FLOW_MAPPING_STYLE, items_node, items_content, items_colon, items_items, items_more, items_entries, items_others, items_pairs, full_tag, is_untagged, ends_before, nothing_at, items_end, more_end, entries_end, pairs_end}
-use Rattle.yaml_round_content.specs.scan_model.declared.yaml_sequence_style_t.{yaml_sequence_style_t}
-use Rattle.yaml_round_content.specs.scan_model.declared.yaml_mapping_style_t.{yaml_mapping_style_t}
-use Rattle.yaml_round_content.specs.parse_model.Events as event
-use Rattle.yaml_round_content.specs.parse_grammar.declared.Brackets.TheVariants as brackets
-use Rattle.yaml_round_content.specs.parse_grammar.Items as item
-use Rattle.yaml_round_content.specs.parse_grammar.Trees as tree
-use Rattle.yaml_round_content.specs.parse_grammar.Resolve as resolve
+use Rattle.yaml_parse_model.specs.scan_model.declared.name.yaml_sequence_style_t.{yaml_sequence_style_t}
+use Rattle.yaml_parse_model.specs.scan_model.declared.name.yaml_mapping_style_t.{yaml_mapping_style_t}
+use Rattle.yaml_parse_model.specs.Events as event
+use Rattle.yaml_emit_laws.specs.parse_grammar.declared.Brackets.TheVariants as brackets
+use Rattle.yaml_emit_laws.specs.parse_grammar.Items as item
+use Rattle.yaml_emit_laws.specs.parse_grammar.Trees as tree
+use Rattle.yaml_emit_laws.specs.parse_grammar.Resolve as resolve
 use Rattle.yaml_round_content.proofs.Saying.{full_is, not_none}
 
 -- where the first reading has no fault, the second one has none, and the events of the first are those before the second's

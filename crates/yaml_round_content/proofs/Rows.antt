@@ -1,7 +1,7 @@
 -- The rows, by running the machine.
 use Rattle.std.proofs.Common.{◌≡◌, List, [], ◌∷◌, Option, None, refl, sym, subst, ◌∙◌}
 use Rattle.yaml_round_content.proofs.Words.{Token, Fault, feed, run, reading, directive_for, BeginsWithSentence, FaultOfTokens, contents, Document, node_says, items_say, pairs_say, documents_say, stream_says, tree_content, HaveContent}
-use Rattle.yaml_round_content.proofs.TreesEnding.{ends_in_fault}
+use Rattle.yaml_emit_laws.proofs.Ending.{ends_in_fault}
 use Rattle.yaml_round_content.proofs.Injective.{says_injective}
 use Rattle.yaml_round_content.specs.Rows.{Row, rows, AllHold, RowsHold}
 use Rattle.yaml_round_content.proofs.Joining.{reads, tokens_say}

@@ -1,8 +1,8 @@
 -- Over a list of tokens: the items come in their right places and are well spelled, and after the last the stream has ended.
 use Rattle.std.proofs.Common.{◌≡◌, ℕ, List, [], ◌∷◌, ◌++◌, length, map, Option, Some, None, refl, sym, ap, subst, ◌∙◌}
 use Rattle.yaml_round_content.proofs.Words.{Token, Fault, RawEvent, State, Given, Fed, stop, go, feed, Outcome, carry, run, initial, Progress, at_place, first_progress, IsSpelled, AreSpelled, no_token, finished, GivenAre, Each, run_are}
-use Rattle.yaml_emit_laws_dumps.proofs.Single.{Emptied, emptied}
-use Rattle.yaml_emit_laws_dumps.specs.emit_layout.declared.Expected.TheVariants as at
+use Rattle.yaml_emit_laws.proofs.GrammarSingle.{Emptied, emptied}
+use Rattle.yaml_emit_laws.specs.emit_layout.declared.Expected.TheVariants as at
 use Rattle.yaml_round_content.proofs.Stacks.{shape_of, AreRight, IsPlaced, moved}
 use Rattle.yaml_round_content.proofs.Places.{AllPlaced, moved_all, FedLeads, feed_leads}
 use Rattle.yaml_round_content.proofs.Spellings.{IsSpelledItem, spelled_rules}

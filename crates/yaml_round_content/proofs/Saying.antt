@@ -1,9 +1,9 @@
 -- The events of a tree say its content.
 use Rattle.std.proofs.Common.{◌≡◌, ◌⊎◌, inl, inr, ℕ, Bool, true, false, if◌then◌else◌, ◌&&◌, ◌==◌, List, [], ◌∷◌, ◌++◌, length, map, Option, Some, None, option_map, codes, arith, refl, ap, sym, subst, ◌∙◌}
 use Rattle.yaml_round_content.proofs.Words.{bytes_eq, cases_Bool, eqb-true, and_parts, true≢false, bytes_eq-Decides, yaml_mark_t, yaml_scalar_style_t, YAML_PLAIN_SCALAR_STYLE, Token, Fault, Event, EventBody, TagDirective, Wants, Side, Site, Properties, properties_of, spell_documents, resolved, directive_for, or_default, is_lone_mark, normalize_scalar, normalize_body, content_of, scalar_says, node_says, items_say, pairs_say, documents_say, stream_says, untagged, tagged, in_full, tag_of, anchor_of, is_plain, tags_in, tree_content, begins, placed_scalar, placed_empty, placed_node, placed_content, placed_maybe, placed_colon, placed_items, placed_more_items, placed_parts, placed_more_parts, placed_entries, placed_others, placed_pairs, placed_documents, placed_first, end_of, placed_events, tree_events, spanning, events, item_events, pair_events, default_prefix, prefix_of, mark_of, empty, node_of, with_content, maybe_of, colon_of, items_of, more_items_of, parts_of, more_parts_of, entries_of, others_of, pairs_of, documents_of, behind_first, head}
-use Rattle.yaml_round_content.specs.parse_model.Events as event
-use Rattle.yaml_round_content.specs.parse_grammar.declared.Brackets.TheVariants as brackets
-use Rattle.yaml_round_content.specs.parse_grammar.Trees as tree
+use Rattle.yaml_parse_model.specs.Events as event
+use Rattle.yaml_emit_laws.specs.parse_grammar.declared.Brackets.TheVariants as brackets
+use Rattle.yaml_emit_laws.specs.parse_grammar.Trees as tree
 use Rattle.yaml_parse_loader.specs.Numbering.{scalar}
 
 -- those events say that

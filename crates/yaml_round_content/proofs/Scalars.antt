@@ -1,10 +1,10 @@
 -- The flags of a scalar that an item settles to, and its tag: it is `!` only where the scalar is empty.
 use Rattle.std.proofs.Common.{◌≡◌, ℕ, Bool, true, false, not, if◌then◌else◌, List, [], Option, Some, None, codes, refl, inl, inr, sym, ◌∙◌}
 use Rattle.yaml_round_content.proofs.Words.{bytes_eq, cases_Bool, true≢false, bytes_eq-Decides, yaml_encoding_t, yaml_scalar_style_t, EventBody, Shape, run, initial, no_directives, node_event, Told, is_lone_mark, tokens_of, events_of, read}
-use Rattle.yaml_round_content.specs.parse_model.Events as event
-use Rattle.yaml_round_content.specs.parse_grammar.Items as item
-use Rattle.yaml_round_content.specs.parse_grammar.Resolve.{is_plain}
-use Rattle.yaml_round_content.proofs.Throughout.{EventsAre, reading_is}
+use Rattle.yaml_parse_model.specs.Events as event
+use Rattle.yaml_emit_laws.specs.parse_grammar.Items as item
+use Rattle.yaml_emit_laws.specs.parse_grammar.Resolve.{is_plain}
+use Rattle.yaml_emit_laws.proofs.Throughout.{EventsAre, reading_is}
 use Rattle.yaml_round_content.proofs.Spellings.{IsWhole, IsSpelledItem}
 use Rattle.yaml_round_content.proofs.Runs.{stream_spelled}
 use Rattle.yaml_round_content.proofs.Tokens.{tokens_spelled}

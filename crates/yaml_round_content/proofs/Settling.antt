@@ -1,19 +1,19 @@
 -- What an item settles to: an event in its place in which nothing is wrong, or directives.
 use Rattle.std.proofs.Common.{◌≡◌, ℕ, ◌+◌, ℤ, Bool, true, false, not, ◌||◌, ◌==◌, if◌then◌else◌, List, [], ◌∷◌, ◌++◌, length, Option, Some, None, option_map, codes, refl, ap, ◌∙◌, arith, length-append}
 use Rattle.yaml_round_content.proofs.Words.{nat_tests, bytes_eq, IsSome, IsName, IsHandle, EventBody, TagDirective, RawEventBody, Kind, Directives, no_directives, Settled, refused, gave, noted, settle_body, resolved, directive_for, or_default, with_resolved, with_tag, with_version, is_known_version, behind_event, node_event, Problem, emitter_event, or_else, name_problem, anchor_problem, tag_problem, kept_if, event_problem, directives_problem, last_problem, Progress, progress_after, IsNormalizing, version_problem}
-use Rattle.yaml_emit_laws_dumps.specs.parse_model.declared.yaml_mark_t.{yaml_mark_t}
-use Rattle.yaml_emit_laws_dumps.specs.parse_model.declared.yaml_scalar_style_t.{yaml_scalar_style_t}
-use Rattle.yaml_emit_laws_dumps.specs.parse_model.declared.yaml_version_directive_t.{yaml_version_directive_t}
-use Rattle.yaml_emit_laws_dumps.specs.parse_model.Events as event
-use Rattle.yaml_emit_laws_dumps.specs.parse_grammar.Items as item
-use Rattle.yaml_emit_laws_dumps.specs.parse_grammar.Resolve.{is_plain}
-use Rattle.yaml_emit_laws_dumps.specs.emit_layout.declared.Problem.TheVariants as problem
-use Rattle.yaml_emit_laws_dumps.specs.emit_layout.declared.Expected.TheVariants as at
+use Rattle.yaml_parse_model.specs.declared.yaml_mark_t.{yaml_mark_t}
+use Rattle.yaml_parse_model.specs.declared.yaml_scalar_style_t.{yaml_scalar_style_t}
+use Rattle.yaml_parse_model.specs.declared.yaml_version_directive_t.{yaml_version_directive_t}
+use Rattle.yaml_parse_model.specs.Events as event
+use Rattle.yaml_emit_laws.specs.parse_grammar.Items as item
+use Rattle.yaml_emit_laws.specs.parse_grammar.Resolve.{is_plain}
+use Rattle.yaml_emit_laws.specs.emit_layout.declared.Problem.TheVariants as problem
+use Rattle.yaml_emit_laws.specs.emit_layout.declared.Expected.TheVariants as at
 use Rattle.yaml_round_content.proofs.Stacks.{Expects, moved_by, moved_kind, IsPlaced, moved}
 use Rattle.yaml_round_content.proofs.Spellings.{IsNamed, IsWhole, IsSpelledItem}
 use Rattle.yaml_round_content.proofs.Emitted.{plain, IsTaken, IsOwn, normalized_taken, normalized_leads}
 use Rattle.yaml_round_content.proofs.Directed.{more_directives}
-use Rattle.yaml_emit_laws_dumps.proofs.Passing.{or_none}
+use Rattle.yaml_emit_laws.proofs.Passing.{or_none}
 
 -- ---- in its place
 

@@ -1,9 +1,9 @@
 -- Names and tags of well spelled tokens, in the items and states that a machine makes of them.
 use Rattle.std.proofs.Common.{ℕ, List, Option, Some, None}
 use Rattle.yaml_round_content.proofs.Words.{IsSome, IsName, IsHandle, IsSpelled, EventBody, RawEventBody, Tag, State, IsTextless, bare_textless, Outer}
-use Rattle.yaml_emit_laws_dumps.specs.parse_model.Events as event
-use Rattle.yaml_emit_laws_dumps.specs.parse_grammar.Items as item
-use Rattle.yaml_emit_laws_dumps.specs.parse_grammar.States as state
+use Rattle.yaml_parse_model.specs.Events as event
+use Rattle.yaml_emit_laws.specs.parse_grammar.Items as item
+use Rattle.yaml_emit_laws.specs.parse_grammar.States as state
 
 -- ---- items and states
 

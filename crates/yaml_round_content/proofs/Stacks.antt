@@ -1,15 +1,15 @@
--- What a stack of states stands for in an emitter's eyes, and how an item moves it.
+-- What a stack of states means to an emitter, and how an item moves it.
 use Rattle.std.proofs.Common.{◌≡◌, true, false, List, [], ◌∷◌, Option, Some, None}
 use Rattle.yaml_round_content.proofs.Words.{EventBody, RawEvent, RawEventBody, Kind, State, Expected, Due, item_due, key_due, Progress, at_place, inside, behind_node, outer_due}
-use Rattle.yaml_emit_laws_dumps.specs.parse_model.Events as event
-use Rattle.yaml_emit_laws_dumps.specs.parse_grammar.declared.Brackets.TheVariants as brackets
-use Rattle.yaml_emit_laws_dumps.specs.parse_grammar.Items as item
-use Rattle.yaml_emit_laws_dumps.specs.parse_grammar.States as state
-use Rattle.yaml_emit_laws_dumps.specs.emit_layout.declared.Expected.TheVariants as at
+use Rattle.yaml_parse_model.specs.Events as event
+use Rattle.yaml_emit_laws.specs.parse_grammar.declared.Brackets.TheVariants as brackets
+use Rattle.yaml_emit_laws.specs.parse_grammar.Items as item
+use Rattle.yaml_emit_laws.specs.parse_grammar.States as state
+use Rattle.yaml_emit_laws.specs.emit_layout.declared.Expected.TheVariants as at
 
 -- ---- a stack
 
--- Where documents may come; the flags of that place tell nothing of what may come.
+-- Where documents may come; the flags of that place say nothing of what may come.
 abbrev pub between : Expected
 between = at.Documents true false
 
@@ -97,7 +97,7 @@ moved_kind h (item.sequence style) = inside (item_due ∷ behind_node h.due)
 moved_kind h (item.mapping style) = inside (key_due ∷ behind_node h.due)
 moved_kind h _ = inside (behind_node h.due)
 
--- the same of an item; a directive gives no event, and moves nothing
+-- whether an item is in place; a directive gives no event, and moves nothing
 abbrev pub IsPlaced : Progress → RawEventBody → Type 0
 IsPlaced h (item.event body) = Expects h body
 IsPlaced h (item.version_directive major minor) = Unit {0}

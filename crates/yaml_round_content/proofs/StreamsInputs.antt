@@ -1,9 +1,9 @@
 -- The events of an input.
 use Rattle.std.proofs.Common.{◌≡◌, ℕ, Bool, true, List, [], ◌∷◌, None}
-use Rattle.yaml_emit_laws_dumps.specs.parse_model.declared.yaml_encoding_t.{yaml_encoding_t}
+use Rattle.yaml_parse_model.specs.declared.yaml_encoding_t.{yaml_encoding_t}
 use Rattle.yaml_round_content.proofs.Words.{scanned, EventBody, Told, emitter_event, own_problem, own_problems, first_progress, adapted, IsNormalizing, emitter_events_by, AreRightTold, streams, fronts, own_right, or_both, IsRightReading, parsed_input, InputsAreStreams, InputsAreFronts, InputsLoadRight}
-use Rattle.yaml_round_laws_adapted.proofs.Inputs.{scanned_spelled}
-use Rattle.yaml_emit_laws_dumps.proofs.Loading.{taken}
+use Rattle.yaml_scan_laws.proofs.Inputs.{scanned_spelled}
+use Rattle.yaml_emit_laws.proofs.Loading.{taken}
 use Rattle.yaml_round_content.proofs.Tokens.{cut_spelled}
 use Rattle.yaml_round_content.proofs.Emitted.{unchanged}
 use Rattle.yaml_round_content.proofs.Whole.{parsed_is_right}

@@ -1,7 +1,7 @@
 -- The tokens of an input that a parser takes: they are well spelled.
 use Rattle.std.proofs.Common.{ℕ, List, [], ◌∷◌, Option, inl, inr}
 use Rattle.yaml_round_content.proofs.Words.{cases_Bool, yaml_encoding_t, Token, Fault, scanned, tokens_of, spells_text, cut, AreSpelled}
-use Rattle.yaml_round_content.proofs.Inputs.{scanned_spelled}
+use Rattle.yaml_scan_laws.proofs.Inputs.{scanned_spelled}
 
 -- What is cut stays well spelled.
 pub cut_spelled : (fault : Option Fault) (ts : List Token) → AreSpelled ts

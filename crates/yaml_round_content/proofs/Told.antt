@@ -1,20 +1,20 @@
--- The events that are read of a tree are those that it tells.
+-- The events that are read of a tree are those that it gives.
 use Rattle.std.proofs.Common.{◌≡◌, ℕ, true, false, List, [], ◌∷◌, ◌++◌, length, map, zip, Option, Some, None, refl, ap, sym, subst, ◌∙◌, arith}
 use Rattle.yaml_round_content.proofs.Words.{flat_map-append, append_assoc, yaml_encoding_t, BeginsWithSentence, yaml_mark_t, yaml_version_directive_t, Token, Fault, Event, EventBody, TagDirective, Wants, Side, Site, Root, RawEvent, RawEventBody, Properties, Shape, item_at, Span, Given, Directive, Documents, First, Stream, event_at, items_directives, Directives, no_directives, Settled, refused, gave, noted, settle, settle_body, behind_event, with_resolved, resolved, node_event, Told, Reading, read_on, reading, tokens_of, in_full, tags_in, version_in, start_of, placed}
-use Rattle.yaml_round_content.specs.parse_model.Events as event
-use Rattle.yaml_round_content.specs.parse_grammar.declared.Brackets.{Brackets}
-use Rattle.yaml_round_content.specs.parse_grammar.declared.Brackets.TheVariants as brackets
-use Rattle.yaml_round_content.specs.parse_grammar.Items as item
-use Rattle.yaml_round_content.specs.parse_grammar.Trees as tree
-use Rattle.yaml_round_content.specs.parse_grammar.TreeEvents.{node_events, content_events, maybe_events, colon_events, items_events, more_events, entries_events, others_events, pairs_events, pair_opens, pair_closes, lone_value, directives_events, ends_events, documents_events, first_events, tree_events, tree_turns, unasked, given_of, ends_start, documents_start, node_start}
-use Rattle.yaml_round_content.proofs.Turns.{turns_fit, items_given}
+use Rattle.yaml_parse_model.specs.Events as event
+use Rattle.yaml_emit_laws.specs.parse_grammar.declared.Brackets.{Brackets}
+use Rattle.yaml_emit_laws.specs.parse_grammar.declared.Brackets.TheVariants as brackets
+use Rattle.yaml_emit_laws.specs.parse_grammar.Items as item
+use Rattle.yaml_emit_laws.specs.parse_grammar.Trees as tree
+use Rattle.yaml_emit_laws.specs.parse_grammar.TreeEvents.{node_events, content_events, maybe_events, colon_events, items_events, more_events, entries_events, others_events, pairs_events, pair_opens, pair_closes, lone_value, directives_events, ends_events, documents_events, first_events, tree_events, tree_turns, unasked, given_of, ends_start, documents_start, node_start}
+use Rattle.yaml_emit_laws.proofs.LawsTreesTurns.{turns_fit, items_given}
 use Rattle.yaml_round_content.specs.TreeTold.{said_under, told_under, documents_told, stream_told, events_in}
 use Rattle.yaml_round_content.proofs.Saying.{full_is, not_none}
 use Rattle.yaml_round_content.proofs.Documents.{directives, directives_read}
 use Rattle.yaml_round_content.specs.Reading.{HasEvents, EventsAreTold}
 use Rattle.yaml_round_content.proofs.Joining.{tree_read}
 use Rattle.yaml_round_content.proofs.OfText.{tokens_are}
-use Rattle.yaml_round_content.proofs.TreesEnding.{fault_ends}
+use Rattle.yaml_emit_laws.proofs.Ending.{fault_ends}
 
 -- ---- readings without numbers
 

@@ -1,8 +1,8 @@
 -- The trees of what an emitter is given.
 use Rattle.std.proofs.Common.{◌≡◌, ◌++◌, ℕ, Bool, true, false, List, [], ◌∷◌, map, Option, Some, None, refl, sym, ap, ◌∙◌}
 use Rattle.yaml_round_content.proofs.Words.{map-append, yaml_encoding_t, YAML_ANY_ENCODING, YAML_ANY_SCALAR_STYLE, YAML_ANY_SEQUENCE_STYLE, YAML_ANY_MAPPING_STYLE, EventBody, Told, normalize_body, content_of, emitter_events, contents, scalar_says, node_says, items_say, pairs_say, documents_say, stream_says, counts_as_plain}
-use Rattle.yaml_round_content.specs.parse_model.Events as event
-use Rattle.yaml_round_content.specs.emit_layout.Content as emit
+use Rattle.yaml_parse_model.specs.Events as event
+use Rattle.yaml_emit_laws.specs.emit_layout.Content as emit
 pub use Rattle.yaml_round_content.specs.Trees.{mark_of, tree_of, trees_of, pair_trees_of, document_tree, document_trees}
 
 -- ---- what an emitter's event says

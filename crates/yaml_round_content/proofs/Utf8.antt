@@ -1,9 +1,9 @@
 -- The texts of an input's events are UTF-8, as those of its tokens are.
 use Rattle.std.proofs.Common.{List, [], ◌∷◌, Option, All}
 use Rattle.yaml_round_content.proofs.Words.{All-head, All-tail, Token, Fault, AreUtf8, Given, run, initial, Directives, no_directives, Settled, refused, gave, noted, settle, Reading, read_on, reading, tokens_of, read, HaveUtf8Texts, GivenAre, Each, run_are, InputsHaveUtf8}
-use Rattle.yaml_round_content.specs.parse_model.Source as source
-use Rattle.yaml_round_content.specs.parse_grammar.Texts.{IsUtf8Item}
-use Rattle.yaml_round_content.proofs.ContentUtf8.{utf8_rules, IsUtf8Settled, settled_utf8}
+use Rattle.yaml_parse_model.specs.Source as source
+use Rattle.yaml_emit_laws.specs.parse_grammar.Texts.{IsUtf8Item}
+use Rattle.yaml_emit_laws.proofs.Utf8.{utf8_rules, IsUtf8Settled, settled_utf8}
 use Rattle.yaml_round_content.proofs.Decoded.{tokens_utf8}
 
 -- ---- tokens

@@ -2,16 +2,16 @@
 use Rattle.std.proofs.Common.{◌≡◌, ℕ, zero, suc, ℤ, pos, Bool, true, false, List, [], ◌∷◌, length, map, replicate, Option, Some, refl, sym, ap, ◌∙◌}
 use Rattle.yaml_round_content.proofs.Words.{slice_get, if◌then◌else◌, length-map, yaml_node_pair_t, zero_mark, graph_content, Node, Nodes, Pairs, Document, node, pair, sequence, mapping, tree_of, trees_of, pair_trees_of, document_tree, CoreNode, Core, core_body, core_node, core_of, Met, is_met, meet, body_at, tag_at, body_of_id, tag_of_id, none_met, turns, none_numbered, numbers, number_at, document_trees, AgreeingSayTheSame}
 use Rattle.std.proofs.Math.Path.{fun_ext}
-use Rattle.yaml_round_content.specs.parse_model.Nodes as model
-use Rattle.yaml_round_content.specs.parse_laws_trees.parse_model.Documents as documents
-use Rattle.yaml_round_content.specs.emit_layout.Content as emit
-use Rattle.yaml_round_content.specs.emit_laws_dumps.emit_graph.declared.Turn.{Turn}
-use Rattle.yaml_round_content.specs.emit_laws_dumps.emit_graph.declared.Turn.TheVariants.{First, Again}
-use Rattle.yaml_round_content.specs.emit_laws_dumps.emit_graph.Graph.{numbered, anchor_of}
-use Rattle.yaml_round_content.specs.emit_laws_dumps.emit_graph.Onward.{Rest, inside, visits, nothing_left, items_by, pairs_by, node_by, content_by, itself, turns_onward, root_onward}
-use Rattle.yaml_round_content.proofs.ContentJoining.{turns_joined, root_joined}
+use Rattle.yaml_parse_model.specs.Nodes as model
+use Rattle.yaml_parse_model.specs.Documents as documents
+use Rattle.yaml_emit_laws.specs.emit_layout.Content as emit
+use Rattle.yaml_emit_laws.specs.emit_graph.declared.Turn.{Turn}
+use Rattle.yaml_emit_laws.specs.emit_graph.declared.Turn.TheVariants.{First, Again}
+use Rattle.yaml_emit_laws.specs.emit_graph.Graph.{numbered, anchor_of}
+use Rattle.yaml_emit_laws.specs.emit_graph.Onward.{Rest, inside, visits, nothing_left, items_by, pairs_by, node_by, content_by, itself, turns_onward, root_onward}
+use Rattle.yaml_emit_laws.proofs.GraphJoining.{turns_joined, root_joined}
 
--- ---- a document of its core: the styles are the ones that stand for any, and the marks are zero
+-- ---- a document of its core: the styles are the ones that mean any, and the marks are zero
 
 abbrev dressed_node : CoreNode → model.Node
 dressed_node n = record { body = n.body; tag = n.tag; start_mark = zero_mark; end_mark = zero_mark }
@@ -84,7 +84,7 @@ numbers_same ns =
     ap (λ (k : ℕ). (numbered (none_numbered k) (turns ns)).table) (length_bare ns)
     ∙ ap (λ (ts : List Turn). (numbered (none_numbered (length (bare ns))) ts).table) (sym (turns_joined ns) ∙ onward_same ns ∙ turns_joined (bare ns))
 
--- ---- what is made of a walk: rests that say the same of what has the same content
+-- ---- what is made of a walk: rests that agree on what has the same content
 
 record SameNode (r s : emit.Node → Met → emit.Node) : Type 0 where
   goes : (v w : emit.Node) (m : Met) → tree_of v ≡ tree_of w → tree_of (r v m) ≡ tree_of (s w m)

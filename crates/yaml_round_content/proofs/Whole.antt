@@ -1,12 +1,12 @@
 -- The events of a list of well spelled tokens, from the first to the last.
 use Rattle.std.proofs.Common.{◌≡◌, Bool, List, [], ◌∷◌, Option, None, refl, sym, ap, subst, ◌∙◌}
 use Rattle.yaml_round_content.proofs.Words.{Fault, EventBody, Given, run, initial, Directives, no_directives, Settled, refused, gave, noted, settle, Reading, read_on, reading, emitter_event, Progress, first_progress, progress_after, problem_in, IsNormalizing, emitter_events_by, first_refusal, progress_behind, ParsedIsRight}
-use Rattle.yaml_emit_laws_dumps.specs.emit_layout.declared.Expected.TheVariants as at
+use Rattle.yaml_emit_laws.specs.emit_layout.declared.Expected.TheVariants as at
 use Rattle.yaml_round_content.proofs.Stacks.{moved}
 use Rattle.yaml_round_content.proofs.Runs.{GivenPlaced, moved_given, GivenSpelled, stream_places, stream_spelled}
 use Rattle.yaml_round_content.proofs.Emitted.{plain, plain_same, not_end, normalized_own, no_problem}
 use Rattle.yaml_round_content.proofs.Settling.{PlacedSettled, OwnSettled, AreDirectives, none_right, settled_placed, settled_own}
-use Rattle.yaml_emit_laws_dumps.proofs.Passing.{or_none}
+use Rattle.yaml_emit_laws.proofs.Passing.{or_none}
 
 -- None of the events is refused; where no fault ends them, none has ended the items either, and they lead to that shape.
 abbrev Passes : (EventBody → EventBody) → Bool → Progress → Option Fault → Progress → Reading

@@ -1,7 +1,7 @@
 -- The content of an input may be written.
 use Rattle.std.proofs.Common.{ℕ, true, List, [], ◌∷◌, Option, subst}
 use Rattle.yaml_round_content.proofs.Words.{EventBody, events_of, ScalarMark, untagged, tagged, Node, alias, scalar, sequence, mapping, Nodes, no_nodes, node, Pairs, no_pairs, pair, Document, scalar_says, node_says, items_say, pairs_say, documents_say, IsWritable, AreItemsWritable, ArePairsWritable, AreWritable, InputsAreWritable}
-use Rattle.yaml_round_content.specs.parse_model.Events as event
+use Rattle.yaml_parse_model.specs.Events as event
 use Rattle.yaml_round_content.proofs.ContentInputs.{input_stream}
 use Rattle.yaml_round_content.proofs.Scalars.{input_right}
 use Rattle.yaml_round_content.proofs.Utf8.{input_utf8}

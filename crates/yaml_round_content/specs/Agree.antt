@@ -1,13 +1,13 @@
 -- Documents that agree: the data is the same. Styles, marks and flags are no part of it.
 use Rattle.std.specs.Prelude.{◌≡◌, ◌↔◌, ℕ, List, map, Option, None}
-use Rattle.yaml_round_content.specs.scan_model.declared.yaml_version_directive_t.{yaml_version_directive_t}
-use Rattle.yaml_round_content.specs.scan_model.declared.yaml_scalar_style_t.TheVariants.{YAML_ANY_SCALAR_STYLE}
-use Rattle.yaml_round_content.specs.scan_model.declared.yaml_sequence_style_t.TheVariants.{YAML_ANY_SEQUENCE_STYLE}
-use Rattle.yaml_round_content.specs.scan_model.declared.yaml_mapping_style_t.TheVariants.{YAML_ANY_MAPPING_STYLE}
-use Rattle.yaml_round_content.specs.parse_model.Events.{TagDirective}
-use Rattle.yaml_round_content.specs.parse_model.Nodes.{Node, NodeBody}
-use Rattle.yaml_round_content.specs.parse_model.Nodes as node
-use Rattle.yaml_round_content.specs.parse_laws_trees.parse_model.Documents.{Document}
+use Rattle.yaml_parse_model.specs.scan_model.declared.record.yaml_version_directive_t.{yaml_version_directive_t}
+use Rattle.yaml_parse_model.specs.scan_model.declared.name.yaml_scalar_style_t.TheVariants.{YAML_ANY_SCALAR_STYLE}
+use Rattle.yaml_parse_model.specs.scan_model.declared.name.yaml_sequence_style_t.TheVariants.{YAML_ANY_SEQUENCE_STYLE}
+use Rattle.yaml_parse_model.specs.scan_model.declared.name.yaml_mapping_style_t.TheVariants.{YAML_ANY_MAPPING_STYLE}
+use Rattle.yaml_parse_model.specs.Events.{TagDirective}
+use Rattle.yaml_parse_model.specs.Nodes.{Node, NodeBody}
+use Rattle.yaml_parse_model.specs.Nodes as node
+use Rattle.yaml_parse_model.specs.Documents.{Document}
 use Rattle.yaml_round_content.specs.Loads.{Loads}
 
 -- a node without style and marks
@@ -21,7 +21,7 @@ pub record Core : Type 0 where
   pub directives : List TagDirective
   pub nodes : List CoreNode
 
--- the style is the one that stands for any
+-- the style is the one that means any
 abbrev pub core_body : NodeBody → NodeBody
 core_body node.no = node.no
 core_body (node.scalar value style) = node.scalar value YAML_ANY_SCALAR_STYLE

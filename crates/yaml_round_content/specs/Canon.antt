@@ -1,14 +1,14 @@
 -- The canonical text of a content.
 use Rattle.std.specs.Prelude.{ℕ, true, false, not, List, map, Option, Some, None}
-use Rattle.yaml_round_content.specs.scan_model.declared.yaml_encoding_t.TheVariants.{YAML_ANY_ENCODING}
-use Rattle.yaml_round_content.specs.scan_model.declared.yaml_scalar_style_t.TheVariants.{YAML_ANY_SCALAR_STYLE}
-use Rattle.yaml_round_content.specs.emit_layout.declared.Encoding.{Encoding}
-use Rattle.yaml_round_content.specs.emit_layout.declared.RequestedSettings.{RequestedSettings}
-use Rattle.yaml_round_content.specs.emit_layout.Settings.{settled, settled_encoding}
-use Rattle.yaml_round_content.specs.emit_layout.Text.{Item, encode}
-use Rattle.yaml_round_content.specs.emit_layout.Layout.{written}
-use Rattle.yaml_round_content.specs.emit_layout.Content as emit
-use Rattle.yaml_round_content.specs.emit_layout.Nodes.{stream_layout}
+use Rattle.yaml_parse_model.specs.scan_model.declared.name.yaml_encoding_t.TheVariants.{YAML_ANY_ENCODING}
+use Rattle.yaml_parse_model.specs.scan_model.declared.name.yaml_scalar_style_t.TheVariants.{YAML_ANY_SCALAR_STYLE}
+use Rattle.yaml_emit_laws.specs.emit_layout.declared.Encoding.{Encoding}
+use Rattle.yaml_emit_laws.specs.emit_layout.declared.RequestedSettings.{RequestedSettings}
+use Rattle.yaml_emit_laws.specs.emit_layout.Settings.{settled, settled_encoding}
+use Rattle.yaml_emit_laws.specs.emit_layout.Text.{Item, encode}
+use Rattle.yaml_emit_laws.specs.emit_layout.Layout.{written}
+use Rattle.yaml_emit_laws.specs.emit_layout.Content as emit
+use Rattle.yaml_emit_laws.specs.emit_layout.Nodes.{stream_layout}
 use Rattle.yaml_round_content.specs.Said as content
 use Rattle.yaml_round_content.specs.Said.{ScalarMark, untagged, tagged, Node, Nodes, Pairs, Document}
 

@@ -1,14 +1,14 @@
 -- An input has one content, and what is laid out for it in canonical form is the content's text.
 use Rattle.std.specs.Prelude.{◌≡◌, ℕ, true, not, List, [], ◌∷◌, ◌++◌, None}
-use Rattle.yaml_round_content.specs.scan_model.declared.yaml_encoding_t.{yaml_encoding_t}
-use Rattle.yaml_round_content.specs.scan_model.declared.yaml_encoding_t.TheVariants.{YAML_ANY_ENCODING, YAML_UTF8_ENCODING, YAML_UTF16LE_ENCODING, YAML_UTF16BE_ENCODING}
-use Rattle.yaml_round_content.specs.parse_model.Events.{EventBody}
-use Rattle.yaml_round_content.specs.parse_grammar.Resolve.{Told}
-use Rattle.yaml_round_content.specs.emit_layout.Content as emit
-use Rattle.yaml_round_content.specs.emit_layout.Streams.{IsStream}
-use Rattle.yaml_round_content.specs.emit_layout.Text.{Item}
-use Rattle.yaml_round_content.specs.emit_layout.declared.Encoding.{Encoding}
-use Rattle.yaml_round_content.specs.emit_layout.declared.RequestedSettings.{RequestedSettings}
+use Rattle.yaml_parse_model.specs.scan_model.declared.name.yaml_encoding_t.{yaml_encoding_t}
+use Rattle.yaml_parse_model.specs.scan_model.declared.name.yaml_encoding_t.TheVariants.{YAML_ANY_ENCODING, YAML_UTF8_ENCODING, YAML_UTF16LE_ENCODING, YAML_UTF16BE_ENCODING}
+use Rattle.yaml_parse_model.specs.Events.{EventBody}
+use Rattle.yaml_emit_laws.specs.parse_grammar.Resolve.{Told}
+use Rattle.yaml_emit_laws.specs.emit_layout.Content as emit
+use Rattle.yaml_emit_laws.specs.emit_layout.Streams.{IsStream}
+use Rattle.yaml_emit_laws.specs.emit_layout.Text.{Item}
+use Rattle.yaml_emit_laws.specs.emit_layout.declared.Encoding.{Encoding}
+use Rattle.yaml_emit_laws.specs.emit_layout.declared.RequestedSettings.{RequestedSettings}
 use Rattle.yaml_round_content.specs.Events.{emitter_events, contents}
 use Rattle.yaml_round_content.specs.Input.{events_of, ending_of}
 use Rattle.yaml_round_content.specs.Said.{Document, stream_says, HasContent}

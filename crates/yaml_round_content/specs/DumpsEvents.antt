@@ -1,19 +1,19 @@
 -- The events of a content, as a loader is fed them without styles and marks, and what they load.
 use Rattle.std.specs.Prelude.{◌<◌, ◌^◌, true, List, [], ◌∷◌, length, map, Some, None, Result, Ok, Err}
-use Rattle.yaml_round_content.specs.scan_model.declared.yaml_encoding_t.TheVariants.{YAML_ANY_ENCODING}
-use Rattle.yaml_round_content.specs.scan_model.Tokens.{zero_mark}
-use Rattle.yaml_round_content.specs.scan_model.Faults.{Fault}
-use Rattle.yaml_round_content.specs.parse_model.Events.{Event, EventBody}
-use Rattle.yaml_round_content.specs.parse_model.Events as event
-use Rattle.yaml_round_content.specs.parse_laws_trees.parse_model.Documents as documents
-use Rattle.yaml_round_content.specs.parse_grammar.Resolve.{Told}
+use Rattle.yaml_parse_model.specs.scan_model.declared.name.yaml_encoding_t.TheVariants.{YAML_ANY_ENCODING}
+use Rattle.yaml_parse_model.specs.scan_types.Tokens.{zero_mark}
+use Rattle.yaml_parse_model.specs.scan_types.Faults.{Fault}
+use Rattle.yaml_parse_model.specs.Events.{Event, EventBody}
+use Rattle.yaml_parse_model.specs.Events as event
+use Rattle.yaml_parse_model.specs.Documents as documents
+use Rattle.yaml_emit_laws.specs.parse_grammar.Resolve.{Told}
 use Rattle.yaml_parse_loader.specs.Numbering.{DocumentContent, spanning, document_events, document_of}
-use Rattle.yaml_round_content.specs.emit_laws_dumps.emit_graph.Graph.{graph_content}
+use Rattle.yaml_emit_laws.specs.emit_graph.Graph.{graph_content}
 use Rattle.yaml_round_content.specs.Said.{Document}
 use Rattle.yaml_round_content.specs.Canon.{written_document}
 use Rattle.yaml_round_content.specs.Trees.{document_trees}
 use Rattle.yaml_round_content.specs.Loads.{Loads, no_more, in_front}
-use Rattle.yaml_emit_laws_dumps.specs.Dumps.{as_document, core_document, IsLoadedDocument}
+use Rattle.yaml_emit_laws.specs.Dumps.{as_document, core_document, IsLoadedDocument}
 
 -- ---- events
 

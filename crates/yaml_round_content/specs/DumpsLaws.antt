@@ -1,9 +1,9 @@
 -- What dumps say loads the documents again.
 use Rattle.std.specs.Prelude.{◌≡◌, ℕ, List, map, None}
-use Rattle.yaml_round_content.specs.scan_model.declared.yaml_encoding_t.{yaml_encoding_t}
-use Rattle.yaml_round_content.specs.parse_laws_trees.parse_model.Documents as documents
+use Rattle.yaml_parse_model.specs.scan_model.declared.name.yaml_encoding_t.{yaml_encoding_t}
+use Rattle.yaml_parse_model.specs.Documents as documents
 use Rattle.yaml_parse_loader.specs.Loading.{nothing_loaded}
-use Rattle.yaml_round_content.specs.parse_grammar.Resolve.{Told}
+use Rattle.yaml_emit_laws.specs.parse_grammar.Resolve.{Told}
 use Rattle.yaml_round_content.specs.Events.{contents}
 use Rattle.yaml_round_content.specs.Said.{Document, stream_says, HasContent}
 use Rattle.yaml_round_content.specs.Loads.{load_all, loads_of}

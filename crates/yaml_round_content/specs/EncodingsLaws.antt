@@ -1,16 +1,17 @@
 -- How a text is spelled in bytes is no part of what it says.
 use Rattle.std.specs.Prelude.{◌≡◌, ℕ, List, [], ◌++◌}
 use Rattle.std.specs.List.{AllPass}
-use Rattle.yaml_round_laws_adapted.specs.scan_laws_texts.scan_history.scan_model.Points as points
-use Rattle.yaml_round_laws_adapted.specs.scan_laws_texts.scan_history.scan_model.declared.yaml_encoding_t.{yaml_encoding_t}
-use Rattle.yaml_round_laws_adapted.specs.scan_laws_texts.scan_history.scan_model.declared.yaml_encoding_t.TheVariants.{YAML_ANY_ENCODING, YAML_UTF8_ENCODING, YAML_UTF16LE_ENCODING, YAML_UTF16BE_ENCODING}
-use Rattle.yaml_round_laws_adapted.specs.scan_laws_texts.scan_history.scan_decode.Characters.{is_allowed}
-use Rattle.yaml_round_laws_adapted.specs.scan_laws_texts.scan_history.scan_decode.Encodings.{mark_length}
-use Rattle.yaml_round_laws_adapted.specs.scan_laws_texts.scan_history.scan_decode.Spelling.{Spells, spellings}
+use Rattle.yaml_parse_model.specs.scan_types.Points as points
+use Rattle.yaml_parse_model.specs.scan_model.declared.name.yaml_encoding_t.{yaml_encoding_t}
+use Rattle.yaml_parse_model.specs.scan_model.declared.name.yaml_encoding_t.TheVariants.{YAML_ANY_ENCODING, YAML_UTF8_ENCODING, YAML_UTF16LE_ENCODING, YAML_UTF16BE_ENCODING}
+use Rattle.yaml_scan_laws.specs.scan_decode.Characters.{is_allowed}
+use Rattle.yaml_scan_laws.specs.scan_decode.Encodings.{mark_length}
+use Rattle.yaml_scan_laws.specs.scan_decode.Spelling.{Spells, spellings}
 use Rattle.yaml_round_content.specs.Events.{contents}
 use Rattle.yaml_round_content.specs.Input.{events_of, ending_of}
 
--- Both say the same, as far as they are read, and both are accepted, or refused by the same fault.
+-- Both have the same content, as far as they are read, and both are accepted, or refused by the
+-- same fault.
 abbrev pub AreReadAlike : yaml_encoding_t → List ℕ → yaml_encoding_t → List ℕ → Type 0
 AreReadAlike a_from a b_from b = (contents (events_of a_from a) ≡ contents (events_of b_from b))
     × (ending_of a_from a ≡ ending_of b_from b)

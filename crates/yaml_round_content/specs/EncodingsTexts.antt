@@ -1,11 +1,11 @@
 -- What bytes say is what the text says that they spell.
 use Rattle.std.specs.Prelude.{◌≡◌, ◌↔◌, ◌<◌, ℕ, List, [], Some, Result, All}
-use Rattle.yaml_round_laws_adapted.specs.scan_laws_texts.scan_history.scan_model.declared.yaml_encoding_t.{yaml_encoding_t}
-use Rattle.yaml_round_laws_adapted.specs.scan_laws_texts.scan_history.scan_model.declared.yaml_error_type_t.TheVariants.{YAML_READER_ERROR}
-use Rattle.yaml_round_laws_adapted.specs.scan_laws_texts.scan_history.scan_model.Faults.{Fault}
-use Rattle.yaml_round_laws_adapted.specs.scan_laws_texts.scan_history.scan_decode.Spelling.{Spells, SpellsNothing}
-use Rattle.yaml_round_laws_adapted.specs.scan_laws_texts.scan_history.Remaining.{offline}
-use Rattle.yaml_round_laws_adapted.specs.scan_laws_texts.scan_history.Scanned.{scanned}
+use Rattle.yaml_parse_model.specs.scan_model.declared.name.yaml_encoding_t.{yaml_encoding_t}
+use Rattle.yaml_parse_model.specs.scan_model.declared.name.yaml_error_type_t.TheVariants.{YAML_READER_ERROR}
+use Rattle.yaml_parse_model.specs.scan_types.Faults.{Fault}
+use Rattle.yaml_scan_laws.specs.scan_decode.Spelling.{Spells, SpellsNothing}
+use Rattle.yaml_scan_laws.specs.scan_history.Remaining.{offline}
+use Rattle.yaml_scan_laws.specs.scan_history.Scanned.{scanned}
 use Rattle.yaml_round_content.specs.Said.{Document}
 use Rattle.yaml_round_content.specs.Reading.{spelled_in, TextReads, PlainReading}
 

@@ -1,9 +1,9 @@
 -- The events of an input, as an emitter sees them, and what they say.
 use Rattle.std.specs.Prelude.{Bool, true, List, map}
-use Rattle.yaml_round_content.specs.parse_model.Events.{EventBody}
-use Rattle.yaml_round_content.specs.parse_grammar.Resolve.{Told}
-use Rattle.yaml_round_content.specs.emit_layout.Content.{emitter_event}
-use Rattle.yaml_round_content.specs.emit_layout.Content as emit
+use Rattle.yaml_parse_model.specs.Events.{EventBody}
+use Rattle.yaml_emit_laws.specs.parse_grammar.Resolve.{Told}
+use Rattle.yaml_emit_laws.specs.emit_layout.Content.{emitter_event}
+use Rattle.yaml_emit_laws.specs.emit_layout.Content as emit
 use Rattle.yaml_round_content.specs.Normalize.{normalize_body}
 use Rattle.yaml_round_content.specs.Content.{content_of}
 

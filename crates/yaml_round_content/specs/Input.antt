@@ -1,13 +1,13 @@
 -- What an input says: its tokens as a parser takes them, the events that those make, and the fault that ends them.
 use Rattle.std.specs.Prelude.{◌≡◌, ℕ, List, Option}
-use Rattle.yaml_round_content.specs.scan_model.declared.yaml_encoding_t.{yaml_encoding_t}
-use Rattle.yaml_round_content.specs.scan_model.Faults.{Fault}
-use Rattle.yaml_round_content.specs.scan_history.Remaining as scan
-use Rattle.yaml_round_content.specs.scan_history.Scanned.{scanned}
-use Rattle.yaml_round_content.specs.parse_grammar.Remaining.{ParserRemaining, reading_of}
-use Rattle.yaml_round_content.specs.parse_grammar.Machine.{run, initial}
-use Rattle.yaml_round_content.specs.parse_grammar.Resolve.{Reading, Told, no_directives}
-use Rattle.yaml_round_content.specs.round_laws_adapted.Adapted.{adapted}
+use Rattle.yaml_parse_model.specs.scan_model.declared.name.yaml_encoding_t.{yaml_encoding_t}
+use Rattle.yaml_parse_model.specs.scan_types.Faults.{Fault}
+use Rattle.yaml_scan_laws.specs.scan_history.Remaining as scan
+use Rattle.yaml_scan_laws.specs.scan_history.Scanned.{scanned}
+use Rattle.yaml_emit_laws.specs.parse_grammar.Remaining.{ParserRemaining, reading_of}
+use Rattle.yaml_emit_laws.specs.parse_grammar.Machine.{run, initial}
+use Rattle.yaml_emit_laws.specs.parse_grammar.Resolve.{Reading, Told, no_directives}
+use Rattle.yaml_round_content.specs.Adapted.{adapted}
 
 -- the scanner's tokens, up to the first tag that isn't UTF-8
 abbrev pub tokens_of : yaml_encoding_t → List ℕ → scan.Remaining

@@ -1,3 +1,5 @@
+pub mod Adapted
+pub mod AdaptedLaws
 pub mod Normalized
 pub mod StreamsLaws
 pub mod Normalize
@@ -26,13 +28,27 @@ pub mod DumpsEvents
 pub mod DumpsLaws
 pub mod EncodingsLaws
 pub mod EncodingsTexts
--- what it stands on, for crates that name this one alone
-pub use Rattle.yaml_emit_laws_dumps.specs as emit_laws_dumps
-pub use Rattle.yaml_round_laws_adapted.specs as round_laws_adapted
-pub use Rattle.yaml_round_laws_adapted.specs.scan_laws_texts as scan_laws_texts
-pub use Rattle.yaml_round_laws_adapted.specs.scan_laws_texts.scan_history
-pub use Rattle.yaml_emit_laws_dumps.specs.emit_layout.scan_model
-pub use Rattle.yaml_emit_laws_dumps.specs.parse_model
-pub use Rattle.yaml_emit_laws_dumps.specs.parse_grammar
-pub use Rattle.yaml_emit_laws_dumps.specs.parse_laws_trees
-pub use Rattle.yaml_emit_laws_dumps.specs.emit_layout
+pub mod CanonicalTokens
+pub mod Back
+pub mod CanonicalLaws
+pub mod Normal
+pub mod BytesLaws
+pub mod Reads
+pub mod TreeLaws
+pub mod Adapting
+pub mod Stays
+pub mod KeptLaws
+pub mod PrettyReads
+pub mod Flags
+pub mod TokenLaws
+pub mod InputLaws
+pub mod PrettyLaws
+pub mod Readable
+pub mod ReadableLaws
+pub mod Restyled
+-- the crates below it, for crates that name this one alone
+pub use Rattle.yaml_scan_laws.specs.scan_history
+pub use Rattle.yaml_emit_laws.specs as emit_laws
+pub use Rattle.yaml_parse_model.specs.scan_model
+pub use Rattle.yaml_parse_model.specs.scan_types
+pub use Rattle.yaml_parse_model.specs as parse_model

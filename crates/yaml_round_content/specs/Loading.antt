@@ -1,17 +1,17 @@
 -- What a parser's tokens load is the numbering of their tree's documents.
 use Rattle.std.specs.Prelude.{◌≡◌, ℕ, List, [], ◌∷◌, map, Option, Some, None}
-use Rattle.yaml_round_content.specs.scan_model.declared.yaml_encoding_t.{yaml_encoding_t}
-use Rattle.yaml_round_content.specs.scan_model.Tokens.{Token}
-use Rattle.yaml_round_content.specs.scan_model.Faults.{Fault}
-use Rattle.yaml_round_content.specs.parse_model.Events.{Event}
-use Rattle.yaml_round_content.specs.parse_model.Events as event
-use Rattle.yaml_round_content.specs.parse_grammar.Trees as tree
-use Rattle.yaml_round_content.specs.parse_grammar.Machine.{run, initial}
-use Rattle.yaml_round_content.specs.parse_grammar.Resolve.{Reading, Told, no_directives}
-use Rattle.yaml_round_content.specs.parse_grammar.Remaining.{reading_of}
-use Rattle.yaml_round_content.specs.parse_laws_trees.Places.{BeginsWithSentence}
+use Rattle.yaml_parse_model.specs.scan_model.declared.name.yaml_encoding_t.{yaml_encoding_t}
+use Rattle.yaml_parse_model.specs.scan_types.Tokens.{Token}
+use Rattle.yaml_parse_model.specs.scan_types.Faults.{Fault}
+use Rattle.yaml_parse_model.specs.Events.{Event}
+use Rattle.yaml_parse_model.specs.Events as event
+use Rattle.yaml_emit_laws.specs.parse_grammar.Trees as tree
+use Rattle.yaml_emit_laws.specs.parse_grammar.Machine.{run, initial}
+use Rattle.yaml_emit_laws.specs.parse_grammar.Resolve.{Reading, Told, no_directives}
+use Rattle.yaml_emit_laws.specs.parse_grammar.Remaining.{reading_of}
+use Rattle.yaml_emit_laws.specs.parse_laws_trees.Places.{BeginsWithSentence}
 use Rattle.yaml_parse_loader.specs.Loading.{nothing_loaded}
-use Rattle.yaml_round_content.specs.parse_laws_trees.NextLoad.{NextLoad, next_document, next_fault, next_none, IsLoadOf}
+use Rattle.yaml_emit_laws.specs.parse_laws_trees.NextLoad.{NextLoad, next_document, next_fault, next_none, IsLoadOf}
 use Rattle.yaml_parse_loader.specs.Numbering.{DocumentContent, spanning, document_events}
 use Rattle.yaml_round_content.specs.Input.{tokens_of}
 use Rattle.yaml_round_content.specs.Loads.{Loads, no_more, in_front, load_all, loads_of}

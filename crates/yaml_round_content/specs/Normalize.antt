@@ -1,9 +1,9 @@
 -- Events normalized for writing.
 use Rattle.std.specs.Prelude.{ℕ, Bool, true, false, ◌&&◌, ◌||◌, ◌==◌, List, length, slice_index, Option, Some, None}
-use Rattle.yaml_round_laws_adapted.specs.scan_laws_texts.scan_history.scan_model.Ascii as ascii
-use Rattle.yaml_round_content.specs.scan_model.declared.yaml_scalar_style_t.{yaml_scalar_style_t}
-use Rattle.yaml_round_content.specs.parse_model.Events.{EventBody}
-use Rattle.yaml_round_content.specs.parse_model.Events as event
+use Rattle.yaml_parse_model.specs.scan_types.Ascii as ascii
+use Rattle.yaml_parse_model.specs.scan_model.declared.name.yaml_scalar_style_t.{yaml_scalar_style_t}
+use Rattle.yaml_parse_model.specs.Events.{EventBody}
+use Rattle.yaml_parse_model.specs.Events as event
 
 -- an empty scalar with the tag `!`
 abbrev pub is_lone_mark : Option (List ℕ) → List ℕ → Bool

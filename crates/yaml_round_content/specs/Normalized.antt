@@ -1,7 +1,7 @@
 -- How a parser's events may be changed on their way to an emitter.
 use Rattle.std.specs.Prelude.{◌≡◌, ◌⊎◌, Bool, true, false, None}
-use Rattle.yaml_emit_laws_dumps.specs.parse_model.Events.{EventBody}
-use Rattle.yaml_emit_laws_dumps.specs.parse_model.Events as event
+use Rattle.yaml_parse_model.specs.Events.{EventBody}
+use Rattle.yaml_parse_model.specs.Events as event
 
 -- Another mark for a document's end, or a scalar that gives up its tag and is plain-implicit; nothing else is changed.
 abbrev pub IsNormalized : EventBody → EventBody → Type 0

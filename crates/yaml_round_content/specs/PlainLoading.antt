@@ -1,13 +1,13 @@
 -- The plain loading of an input: its tree's documents, numbered, or the fault of loading its tokens.
 use Rattle.std.specs.Prelude.{◌≡◌, ◌<◌, ℕ, List, [], Option, Some, None, Result, Ok, Err, All}
-use Rattle.yaml_round_content.specs.scan_model.declared.yaml_encoding_t.{yaml_encoding_t}
-use Rattle.yaml_round_content.specs.scan_model.Tokens.{Token}
-use Rattle.yaml_round_content.specs.scan_model.Faults.{Fault}
-use Rattle.yaml_round_content.specs.parse_grammar.Trees.{spell}
-use Rattle.yaml_round_content.specs.parse_laws_trees.Places.{BeginsWithSentence}
-use Rattle.yaml_round_content.specs.parse_laws_trees.parse_model.Documents.{Document}
-use Rattle.yaml_round_content.specs.parse_laws_trees.Faults.{IsLoadable, FaultOfLoading}
-use Rattle.yaml_round_content.specs.scan_history.scan_decode.Spelling.{Spells, SpellsNothing}
+use Rattle.yaml_parse_model.specs.scan_model.declared.name.yaml_encoding_t.{yaml_encoding_t}
+use Rattle.yaml_parse_model.specs.scan_types.Tokens.{Token}
+use Rattle.yaml_parse_model.specs.scan_types.Faults.{Fault}
+use Rattle.yaml_emit_laws.specs.parse_grammar.Trees.{spell}
+use Rattle.yaml_emit_laws.specs.parse_laws_trees.Places.{BeginsWithSentence}
+use Rattle.yaml_parse_model.specs.Documents.{Document}
+use Rattle.yaml_emit_laws.specs.parse_laws_trees.Faults.{IsLoadable, FaultOfLoading}
+use Rattle.yaml_scan_laws.specs.scan_decode.Spelling.{Spells, SpellsNothing}
 use Rattle.yaml_round_content.specs.Input.{tokens_of}
 use Rattle.yaml_round_content.specs.Reading.{spelled_in, text_tokens, IsOffence}
 use Rattle.yaml_parse_loader.specs.Loading.{nothing_loaded}
@@ -34,7 +34,7 @@ pub record PlainLoading (from : yaml_encoding_t) (input : List ℕ)
       (text_tokens (spelled_in from input text)).fault r
   -- bytes that spell none are refused
   pub of_none : All (λ b. b < 256) input → SpellsNothing from input → IsOffence from input r
-  -- the same of the tokens that decoding computes, also of numbers that are no bytes
+  -- likewise for the tokens that decoding computes, also of numbers that are no bytes
   pub of_tokens : TokensLoad (tokens_of from input).tokens (tokens_of from input).fault r
 
 -- ---- laws

@@ -1,18 +1,18 @@
 -- The plain reading of an input: the content of the tree that its tokens are, or the fault of those.
 use Rattle.std.specs.Prelude.{◌≡◌, ◌<◌, ℕ, List, length, Option, Some, None, Result, Ok, Err, All}
-use Rattle.yaml_round_content.specs.scan_model.declared.yaml_encoding_t.{yaml_encoding_t}
-use Rattle.yaml_round_content.specs.scan_model.Tokens.{Token}
-use Rattle.yaml_round_content.specs.scan_model.declared.yaml_error_type_t.TheVariants.{YAML_READER_ERROR}
-use Rattle.yaml_round_content.specs.scan_model.Faults.{Fault}
-use Rattle.yaml_round_content.specs.scan_history.scan_decode.DecodedText.{decoding_fault}
-use Rattle.yaml_round_content.specs.scan_history.scan_decode.Encodings.{encoding_of}
-use Rattle.yaml_round_content.specs.scan_history.scan_decode.Spelling.{Spells, SpellsNothing}
-use Rattle.yaml_round_content.specs.scan_history.Remaining.{Remaining, SpelledText}
-use Rattle.yaml_round_content.specs.scan_laws_texts.LookBack.{looked_back}
-use Rattle.yaml_round_content.specs.round_laws_adapted.Adapted.{adapted}
-use Rattle.yaml_round_content.specs.parse_grammar.TreeEvents.{given_of}
-use Rattle.yaml_round_content.specs.parse_grammar.Resolve.{Told, reading, no_directives}
-use Rattle.yaml_round_content.specs.parse_laws_trees.Places.{BeginsWithSentence, FaultOfTokens}
+use Rattle.yaml_parse_model.specs.scan_model.declared.name.yaml_encoding_t.{yaml_encoding_t}
+use Rattle.yaml_parse_model.specs.scan_types.Tokens.{Token}
+use Rattle.yaml_parse_model.specs.scan_model.declared.name.yaml_error_type_t.TheVariants.{YAML_READER_ERROR}
+use Rattle.yaml_parse_model.specs.scan_types.Faults.{Fault}
+use Rattle.yaml_scan_laws.specs.scan_decode.DecodedText.{decoding_fault}
+use Rattle.yaml_scan_laws.specs.scan_decode.Encodings.{encoding_of}
+use Rattle.yaml_scan_laws.specs.scan_decode.Spelling.{Spells, SpellsNothing}
+use Rattle.yaml_scan_laws.specs.scan_history.Remaining.{Remaining, SpelledText}
+use Rattle.yaml_scan_laws.specs.LookBack.{looked_back}
+use Rattle.yaml_round_content.specs.Adapted.{adapted}
+use Rattle.yaml_emit_laws.specs.parse_grammar.TreeEvents.{given_of}
+use Rattle.yaml_emit_laws.specs.parse_grammar.Resolve.{Told, reading, no_directives}
+use Rattle.yaml_emit_laws.specs.parse_laws_trees.Places.{BeginsWithSentence, FaultOfTokens}
 use Rattle.yaml_round_content.specs.Input.{tokens_of, events_of, ending_of}
 use Rattle.yaml_round_content.specs.Said.{Document, HasContent}
 use Rattle.yaml_round_content.specs.TreeContent.{tree_content}
@@ -51,7 +51,7 @@ pub record PlainReading (from : yaml_encoding_t) (input : List ℕ)
   pub of_text : (text : List ℕ) → Spells from input text → TextReads (spelled_in from input text) r
   -- bytes that spell none are refused
   pub of_none : All (λ b. b < 256) input → SpellsNothing from input → IsOffence from input r
-  -- the same of the tokens that decoding computes, also of numbers that are no bytes
+  -- likewise for the tokens that decoding computes, also of numbers that are no bytes
   pub of_tokens : TokensRead (tokens_of from input).tokens (tokens_of from input).fault r
 
 -- The events of an input that is accepted: those of its tree, each tag in full by the directives of its own document.
@@ -101,7 +101,7 @@ EventsAreOfTree = (from : yaml_encoding_t) (input : List ℕ)
     → events_of from input
     ≡ (reading (given_of b.tree (length b.rest)) None no_directives).events
 
--- The events that an input has are those that its tree tells.
+-- The events that an input has are those that its tree gives.
 abbrev pub EventsAreTold : Type 0
 EventsAreTold = (from : yaml_encoding_t) (input : List ℕ) (es : List Told)
     → (h : HasEvents from input es) → events_in es ≡ stream_told h.sentence.tree

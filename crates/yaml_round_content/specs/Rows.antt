@@ -1,9 +1,9 @@
 -- Lists of tokens with their contents, by hand.
 use Rattle.std.specs.Prelude.{pos, true, false, List, [], ◌∷◌, Some, None, Ok, codes}
-use Rattle.yaml_round_content.specs.scan_model.declared.yaml_scalar_style_t.TheVariants.{YAML_DOUBLE_QUOTED_SCALAR_STYLE}
-use Rattle.yaml_round_content.specs.scan_model.Tokens.{Token, TokenBody}
-use Rattle.yaml_round_content.specs.scan_model.Tokens as token
-use Rattle.yaml_round_content.specs.parse_laws_trees.FaultsRows.{in_column, stream, word, handle_e, tag_e, version}
+use Rattle.yaml_parse_model.specs.scan_model.declared.name.yaml_scalar_style_t.TheVariants.{YAML_DOUBLE_QUOTED_SCALAR_STYLE}
+use Rattle.yaml_parse_model.specs.scan_types.Tokens.{Token, TokenBody}
+use Rattle.yaml_parse_model.specs.scan_types.Tokens as token
+use Rattle.yaml_emit_laws.specs.parse_laws_trees.FaultsRows.{in_column, stream, word, handle_e, tag_e, version}
 use Rattle.yaml_round_content.specs.Said.{Node, Document, untagged, tagged, alias, scalar, sequence, mapping, no_nodes, node, no_pairs, pair}
 use Rattle.yaml_round_content.specs.Reading.{TokensRead}
 
@@ -11,7 +11,7 @@ pub record Row : Type 0 where
   pub tokens : List Token
   pub content : List Document
 
--- tokens up to the stream's end; where they stand says nothing
+-- tokens up to the stream's end; their places say nothing
 abbrev pub to_end : List TokenBody → List Token
 to_end [] = in_column 0 token.stream_end ∷ []
 to_end (b ∷ bs) = in_column 0 b ∷ to_end bs

@@ -1,19 +1,19 @@
 -- What a parser gives is what an emitter takes.
 use Rattle.std.specs.Prelude.{◌≡◌, ℕ, Bool, List, map, Option, None}
-use Rattle.yaml_emit_laws_dumps.specs.parse_model.declared.yaml_encoding_t.{yaml_encoding_t}
-use Rattle.yaml_emit_laws_dumps.specs.parse_model.Tokens.{Token}
-use Rattle.yaml_emit_laws_dumps.specs.parse_model.Faults.{Fault}
-use Rattle.yaml_round_laws_adapted.specs.scan_laws_texts.scan_history.Scanned.{scanned}
-use Rattle.yaml_round_laws_adapted.specs.scan_laws_texts.Spelled.{AreSpelled}
-use Rattle.yaml_emit_laws_dumps.specs.parse_model.Events.{EventBody}
-use Rattle.yaml_emit_laws_dumps.specs.parse_grammar.Machine.{run, initial}
-use Rattle.yaml_emit_laws_dumps.specs.parse_grammar.Resolve.{Told, Reading, no_directives}
-use Rattle.yaml_emit_laws_dumps.specs.parse_grammar.Remaining.{reading_of}
-use Rattle.yaml_emit_laws_dumps.specs.emit_layout.declared.Expected.TheVariants as at
-use Rattle.yaml_emit_laws_dumps.specs.emit_layout.Content.{Event, emitter_event}
-use Rattle.yaml_emit_laws_dumps.specs.emit_layout.Progress.{first_progress, first_refusal}
-use Rattle.yaml_emit_laws_dumps.specs.StreamsLaws.{progress_behind, IsEmittable, RightFront, AreRightTold}
-use Rattle.yaml_round_laws_adapted.specs.Adapted.{adapted}
+use Rattle.yaml_parse_model.specs.declared.yaml_encoding_t.{yaml_encoding_t}
+use Rattle.yaml_emit_laws.specs.scan_types.Tokens.{Token}
+use Rattle.yaml_emit_laws.specs.scan_types.Faults.{Fault}
+use Rattle.yaml_scan_laws.specs.scan_history.Scanned.{scanned}
+use Rattle.yaml_scan_laws.specs.Spelled.{AreSpelled}
+use Rattle.yaml_parse_model.specs.Events.{EventBody}
+use Rattle.yaml_emit_laws.specs.parse_grammar.Machine.{run, initial}
+use Rattle.yaml_emit_laws.specs.parse_grammar.Resolve.{Told, Reading, no_directives}
+use Rattle.yaml_emit_laws.specs.parse_grammar.Remaining.{reading_of}
+use Rattle.yaml_emit_laws.specs.emit_layout.declared.Expected.TheVariants as at
+use Rattle.yaml_emit_laws.specs.emit_layout.Content.{Event, emitter_event}
+use Rattle.yaml_emit_laws.specs.emit_layout.Progress.{first_progress, first_refusal}
+use Rattle.yaml_emit_laws.specs.StreamsLaws.{progress_behind, IsEmittable, RightFront, AreRightTold}
+use Rattle.yaml_round_content.specs.Adapted.{adapted}
 use Rattle.yaml_round_content.specs.Normalized.{IsNormalizing}
 
 -- the events, each changed so, as an emitter sees them

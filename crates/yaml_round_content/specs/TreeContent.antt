@@ -1,16 +1,16 @@
 -- The content of a tree: each document's version, tag directives and node, its tags in full.
 use Rattle.std.specs.Prelude.{ℕ, Bool, true, false, if◌then◌else◌, List, [], ◌∷◌, ◌++◌, Option, Some, None, codes}
 use Rattle.std.specs.Str.{bytes_eq}
-use Rattle.yaml_round_content.specs.scan_model.declared.yaml_version_directive_t.{yaml_version_directive_t}
-use Rattle.yaml_round_content.specs.scan_model.declared.yaml_scalar_style_t.{yaml_scalar_style_t}
-use Rattle.yaml_round_content.specs.scan_model.declared.yaml_scalar_style_t.TheVariants.{YAML_PLAIN_SCALAR_STYLE}
-use Rattle.yaml_round_content.specs.parse_model.Events.{TagDirective}
-use Rattle.yaml_round_content.specs.parse_model.Nodes.{secondary_prefix}
-use Rattle.yaml_round_content.specs.parse_grammar.declared.Wants.{Wants}
-use Rattle.yaml_round_content.specs.parse_grammar.declared.Brackets.TheVariants as brackets
-use Rattle.yaml_round_content.specs.parse_grammar.Items.{Properties, Tag}
-use Rattle.yaml_round_content.specs.parse_grammar.Trees.{properties_of}
-use Rattle.yaml_round_content.specs.parse_grammar.Trees as tree
+use Rattle.yaml_parse_model.specs.scan_model.declared.record.yaml_version_directive_t.{yaml_version_directive_t}
+use Rattle.yaml_parse_model.specs.scan_model.declared.name.yaml_scalar_style_t.{yaml_scalar_style_t}
+use Rattle.yaml_parse_model.specs.scan_model.declared.name.yaml_scalar_style_t.TheVariants.{YAML_PLAIN_SCALAR_STYLE}
+use Rattle.yaml_parse_model.specs.Events.{TagDirective}
+use Rattle.yaml_parse_model.specs.Nodes.{secondary_prefix}
+use Rattle.yaml_emit_laws.specs.parse_grammar.declared.Wants.{Wants}
+use Rattle.yaml_emit_laws.specs.parse_grammar.declared.Brackets.TheVariants as brackets
+use Rattle.yaml_emit_laws.specs.parse_grammar.Items.{Properties, Tag}
+use Rattle.yaml_emit_laws.specs.parse_grammar.Trees.{properties_of}
+use Rattle.yaml_emit_laws.specs.parse_grammar.Trees as tree
 use Rattle.yaml_round_content.specs.Said.{ScalarMark, untagged, tagged, Node, Nodes, Pairs, Document, no_nodes, node, no_pairs, pair}
 use Rattle.yaml_round_content.specs.Said as content
 

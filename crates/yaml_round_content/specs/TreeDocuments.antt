@@ -1,26 +1,26 @@
 -- The documents of a tree with their marks, styles and flags, as a loader is given them, and what they load.
 use Rattle.std.specs.Prelude.{ℕ, Bool, true, false, not, if◌then◌else◌, List, [], ◌∷◌, Option, Some, None, Result, Ok, Err, codes}
 use Rattle.std.specs.Str.{bytes_eq}
-use Rattle.yaml_round_content.specs.scan_model.declared.yaml_mark_t.{yaml_mark_t}
-use Rattle.yaml_round_content.specs.scan_model.declared.yaml_scalar_style_t.{yaml_scalar_style_t}
-use Rattle.yaml_round_content.specs.scan_model.declared.yaml_scalar_style_t.TheVariants.{YAML_PLAIN_SCALAR_STYLE}
-use Rattle.yaml_round_content.specs.scan_model.declared.yaml_sequence_style_t.{yaml_sequence_style_t}
-use Rattle.yaml_round_content.specs.scan_model.declared.yaml_sequence_style_t.TheVariants.{YAML_BLOCK_SEQUENCE_STYLE, YAML_FLOW_SEQUENCE_STYLE}
-use Rattle.yaml_round_content.specs.scan_model.declared.yaml_mapping_style_t.{yaml_mapping_style_t}
-use Rattle.yaml_round_content.specs.scan_model.declared.yaml_mapping_style_t.TheVariants.{YAML_BLOCK_MAPPING_STYLE, YAML_FLOW_MAPPING_STYLE}
-use Rattle.yaml_round_content.specs.scan_model.Tokens.{Token}
-use Rattle.yaml_round_content.specs.scan_model.Faults.{Fault}
-use Rattle.yaml_round_content.specs.parse_model.Events.{TagDirective}
-use Rattle.yaml_round_content.specs.parse_grammar.declared.Wants.{Wants}
-use Rattle.yaml_round_content.specs.parse_grammar.declared.Side.{Side}
-use Rattle.yaml_round_content.specs.parse_grammar.declared.Side.TheVariants.{Key, Value}
-use Rattle.yaml_round_content.specs.parse_grammar.declared.Brackets.TheVariants as brackets
-use Rattle.yaml_round_content.specs.parse_grammar.declared.Site.{Site}
-use Rattle.yaml_round_content.specs.parse_grammar.declared.Site.TheVariants.{Root, Entry, IndentlessEntry, BlockPair, FlowPair}
-use Rattle.yaml_round_content.specs.parse_grammar.Items.{Properties}
-use Rattle.yaml_round_content.specs.parse_grammar.Trees.{next, mark_at, start_of, properties_of, spell_node, spell_colon, spell_more, spell_entries, spell_others, spell_pairs, spell_ends, spell_documents}
-use Rattle.yaml_round_content.specs.parse_grammar.Trees as tree
-use Rattle.yaml_round_content.specs.parse_laws_trees.parse_model.Documents as documents
+use Rattle.yaml_parse_model.specs.scan_model.declared.record.yaml_mark_t.{yaml_mark_t}
+use Rattle.yaml_parse_model.specs.scan_model.declared.name.yaml_scalar_style_t.{yaml_scalar_style_t}
+use Rattle.yaml_parse_model.specs.scan_model.declared.name.yaml_scalar_style_t.TheVariants.{YAML_PLAIN_SCALAR_STYLE}
+use Rattle.yaml_parse_model.specs.scan_model.declared.name.yaml_sequence_style_t.{yaml_sequence_style_t}
+use Rattle.yaml_parse_model.specs.scan_model.declared.name.yaml_sequence_style_t.TheVariants.{YAML_BLOCK_SEQUENCE_STYLE, YAML_FLOW_SEQUENCE_STYLE}
+use Rattle.yaml_parse_model.specs.scan_model.declared.name.yaml_mapping_style_t.{yaml_mapping_style_t}
+use Rattle.yaml_parse_model.specs.scan_model.declared.name.yaml_mapping_style_t.TheVariants.{YAML_BLOCK_MAPPING_STYLE, YAML_FLOW_MAPPING_STYLE}
+use Rattle.yaml_parse_model.specs.scan_types.Tokens.{Token}
+use Rattle.yaml_parse_model.specs.scan_types.Faults.{Fault}
+use Rattle.yaml_parse_model.specs.Events.{TagDirective}
+use Rattle.yaml_emit_laws.specs.parse_grammar.declared.Wants.{Wants}
+use Rattle.yaml_emit_laws.specs.parse_grammar.declared.Side.{Side}
+use Rattle.yaml_emit_laws.specs.parse_grammar.declared.Side.TheVariants.{Key, Value}
+use Rattle.yaml_emit_laws.specs.parse_grammar.declared.Brackets.TheVariants as brackets
+use Rattle.yaml_emit_laws.specs.parse_grammar.declared.Site.{Site}
+use Rattle.yaml_emit_laws.specs.parse_grammar.declared.Site.TheVariants.{Root, Entry, IndentlessEntry, BlockPair, FlowPair}
+use Rattle.yaml_emit_laws.specs.parse_grammar.Items.{Properties}
+use Rattle.yaml_emit_laws.specs.parse_grammar.Trees.{next, mark_at, start_of, properties_of, spell_node, spell_colon, spell_more, spell_entries, spell_others, spell_pairs, spell_ends, spell_documents}
+use Rattle.yaml_emit_laws.specs.parse_grammar.Trees as tree
+use Rattle.yaml_parse_model.specs.Documents as documents
 use Rattle.yaml_parse_loader.specs.Numbering.{Head, Span, Content, Contents, Pairs, DocumentContent, alias, scalar, sequence, mapping, no_items, item, no_pairs, pair, document_of}
 use Rattle.yaml_round_content.specs.Loads.{Loads, no_more, in_front}
 use Rattle.yaml_round_content.specs.TreeContent.{full_tag, tag_of, anchor_of, is_plain, version_in, tags_in}

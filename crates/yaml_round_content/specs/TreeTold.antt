@@ -1,16 +1,16 @@
 -- The events of a tree, each tag in full by the directives of its own document.
 use Rattle.std.specs.Prelude.{false, List, [], ◌∷◌, ◌++◌, map, Option, None}
 use Rattle.std.specs.List.{flat_map}
-use Rattle.yaml_round_content.specs.scan_model.declared.yaml_version_directive_t.{yaml_version_directive_t}
-use Rattle.yaml_round_content.specs.parse_model.Events.{Event, EventBody, TagDirective}
-use Rattle.yaml_round_content.specs.parse_model.Events as event
-use Rattle.yaml_round_content.specs.parse_grammar.declared.Site.TheVariants.{Root}
-use Rattle.yaml_round_content.specs.parse_grammar.Items.{RawEvent, RawEventBody, item_at}
-use Rattle.yaml_round_content.specs.parse_grammar.Items as item
-use Rattle.yaml_round_content.specs.parse_grammar.Trees.{Documents, Stream, event_at, start_of}
-use Rattle.yaml_round_content.specs.parse_grammar.Trees as tree
-use Rattle.yaml_round_content.specs.parse_grammar.TreeEvents.{maybe_events, ends_events, first_events, ends_start, documents_start}
-use Rattle.yaml_round_content.specs.parse_grammar.Resolve.{Told, node_event, placed}
+use Rattle.yaml_parse_model.specs.scan_model.declared.record.yaml_version_directive_t.{yaml_version_directive_t}
+use Rattle.yaml_parse_model.specs.Events.{Event, EventBody, TagDirective}
+use Rattle.yaml_parse_model.specs.Events as event
+use Rattle.yaml_emit_laws.specs.parse_grammar.declared.Site.TheVariants.{Root}
+use Rattle.yaml_emit_laws.specs.parse_grammar.Items.{RawEvent, RawEventBody, item_at}
+use Rattle.yaml_emit_laws.specs.parse_grammar.Items as item
+use Rattle.yaml_emit_laws.specs.parse_grammar.Trees.{Documents, Stream, event_at, start_of}
+use Rattle.yaml_emit_laws.specs.parse_grammar.Trees as tree
+use Rattle.yaml_emit_laws.specs.parse_grammar.TreeEvents.{maybe_events, ends_events, first_events, ends_start, documents_start}
+use Rattle.yaml_emit_laws.specs.parse_grammar.Resolve.{Told, node_event, placed}
 use Rattle.yaml_round_content.specs.TreeContent.{full_tag, tags_in, version_in}
 
 -- what an item says under a document's version and directives; a directive is no event of its own

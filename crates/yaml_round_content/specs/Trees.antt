@@ -1,6 +1,6 @@
 -- The trees of what an emitter is given: what a stream says, where its documents are written.
 use Rattle.std.specs.Prelude.{ℕ, Bool, List, map, Option, Some, None}
-use Rattle.yaml_round_content.specs.emit_layout.Content as emit
+use Rattle.yaml_emit_laws.specs.emit_layout.Content as emit
 use Rattle.yaml_round_content.specs.Said.{ScalarMark, untagged, tagged, Node, alias, scalar, sequence, mapping, Nodes, no_nodes, node, Pairs, no_pairs, pair, Document}
 
 abbrev pub mark_of : Option (List ℕ) → Bool → ScalarMark

@@ -1,12 +1,12 @@
 -- What an input says may be written, and how its events are flagged.
 use Rattle.std.specs.Prelude.{◌≡◌, ℕ, true, List, [], ◌∷◌}
-use Rattle.yaml_round_content.specs.scan_model.declared.yaml_encoding_t.{yaml_encoding_t}
-use Rattle.yaml_round_content.specs.parse_model.Constructors.{HasUtf8}
-use Rattle.yaml_round_content.specs.parse_grammar.Resolve.{Told}
-use Rattle.yaml_round_content.specs.emit_layout.Streams.{IsStream}
-use Rattle.yaml_round_content.specs.emit_layout.Text.{Item}
-use Rattle.yaml_round_content.specs.emit_layout.declared.Encoding.{Encoding}
-use Rattle.yaml_round_content.specs.emit_layout.declared.RequestedSettings.{RequestedSettings}
+use Rattle.yaml_parse_model.specs.scan_model.declared.name.yaml_encoding_t.{yaml_encoding_t}
+use Rattle.yaml_parse_model.specs.Constructors.{HasUtf8}
+use Rattle.yaml_emit_laws.specs.parse_grammar.Resolve.{Told}
+use Rattle.yaml_emit_laws.specs.emit_layout.Streams.{IsStream}
+use Rattle.yaml_emit_laws.specs.emit_layout.Text.{Item}
+use Rattle.yaml_emit_laws.specs.emit_layout.declared.Encoding.{Encoding}
+use Rattle.yaml_emit_laws.specs.emit_layout.declared.RequestedSettings.{RequestedSettings}
 use Rattle.yaml_round_content.specs.Events.{emitter_events}
 use Rattle.yaml_round_content.specs.Input.{events_of}
 use Rattle.yaml_round_content.specs.Said.{Document, HasContent}

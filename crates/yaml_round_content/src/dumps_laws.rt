@@ -2,9 +2,9 @@
 
 ghost use Rattle.yaml_round_content.specs.DumpsLaws.{ContentIsLoaded, ContentIsSaid, ContentLoadsDocuments, DumpsAreNumberedBack, DumpsLoadBack, InputsLoadDocuments};
 
-use crate::inputs_are_writable;
 use crate::loads::loads_of_content;
-use yaml_emit_laws_dumps::documents_are_loaded;
+use crate::writable_laws::inputs_are_writable;
+use yaml_emit_laws::documents_are_loaded;
 
 /// The events of a content that may be written say it.
 pub fn content_is_said()

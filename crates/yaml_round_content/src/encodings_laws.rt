@@ -5,11 +5,12 @@ ghost use Rattle.yaml_round_content.specs.EncodingsTexts.{NoTextHasNoToken, Read
 
 /// Texts in each encoding.
 pub fn laws_of_encodings()
-    // Bytes that spell the same text, in UTF-8 or UTF-16, after a byte order mark or without one, say the same, and where they are
-    // refused, they are so by the same fault at the same place.
+    // Bytes that spell the same text, in UTF-8 or UTF-16, after a byte order mark or without one,
+    // have the same content, and where they are refused, they are so by the same fault at the same
+    // place.
     ensures encodings_do_not_matter { EncodingsDoNotMatter }
-    // So it is of characters that a stream may hold, spelled in any two encodings: named, told by their byte order marks, or UTF-8
-    // where none is named and no mark is first.
+    // So it is of characters that a stream may hold, spelled in any two encodings: named, shown by
+    // their byte order marks, or UTF-8 where none is named and no mark is first.
     ensures characters_are_enough { CharactersAreEnough }
 {}
 

@@ -24,7 +24,7 @@ pub fn laws_of_readings()
     ensures read_is_said { ReadIsSaid }
     // The events of an accepted input are those of its tree, their tags resolved.
     ensures events_are_of_the_tree { EventsAreOfTree }
-    // They are those that the tree tells: each tag in full by the directives of its own document.
+    // They are those that the tree gives: each tag in full by the directives of its own document.
     ensures events_are_told { EventsAreTold }
     // Lists of tokens with their contents.
     ensures rows_of_contents_hold { RowsHold }

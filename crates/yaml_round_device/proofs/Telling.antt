@@ -1,4 +1,4 @@
--- What a cause says is said of the fault that it is told as.
+-- What a cause says is said of the fault that reports it.
 use Rattle.std.proofs.Common.{ℕ, List, Option, Bool}
 use Rattle.yaml_round_device.specs.declared.reading.Cause.{Cause}
 use Rattle.yaml_round_device.specs.declared.reading.Cause.TheVariants as cause
@@ -15,7 +15,7 @@ told_cause to_come before after limit cause.TooLong TooLong t h = h
 told_cause to_come before after limit cause.NoMemory (Yaml fault) t h = (h, t)
 told_cause to_come before after limit _ _ t h = absurd t
 
--- the same of how many bytes were taken
+-- likewise for how many bytes were taken
 pub told_few : (before after limit : ℕ) (why : Cause) (fault : yaml_run_fault_t) → Tells why fault
     → CausedBy before after limit why → TakesFew before after limit fault
 told_few before after limit cause.Failed Read t h = h

@@ -1,4 +1,4 @@
--- What a run over devices does, told by its answer.
+-- What a run over devices does, by its answer.
 use Rattle.std.specs.Prelude.{◌≡◌, ◌⊎◌, ℕ, ◌+◌, ◌<◌, ◌≤◌, Bool, true, List, take, length, Option, IfSome, Result, Ok, Err}
 use Rattle.std.specs.Io.KnownBytes.{Keeps, Appends, Consumes, IsAtEnd}
 use Rattle.yaml_scan_types.specs.declared.fault.yaml_origin_t.{yaml_origin_t}
@@ -17,14 +17,15 @@ pub record GivesWholeInput (to_come rest : Option (List ℕ)) (limit : ℕ) (byt
     pub ended : IsAtEnd rest
     pub within : length bytes ≤ limit
 
--- why the bytes of an input were not read to the end, before it is told as a fault
+-- why the bytes of an input were not read to the end, before it is reported as a fault
 abbrev pub IsCause : Option (List ℕ) → (failed_before failed_after : Bool) → ℕ → Cause → Type 0
 IsCause to_come before after limit cause.Failed = after ≡ true
 IsCause to_come before after limit cause.TooLong = (after ≡ before)
     × IfSome to_come (λ bytes. limit < length bytes)
 IsCause to_come before after limit cause.NoMemory = after ≡ before
 
--- why the bytes of an input were not read to the end; unless it is told, the input has not failed by it
+-- why the bytes of an input were not read to the end; unless it is reported, the input has not
+-- failed by it
 abbrev pub IsReadFault : Option (List ℕ) → (failed_before failed_after : Bool) → ℕ
     → yaml_run_fault_t → Type 0
 IsReadFault to_come before after limit Read = after ≡ true
@@ -45,7 +46,7 @@ Tells why fault = ⊥
 abbrev pub TakesAtMost : (before after : ℕ) → ℕ → Type 0
 TakesAtMost before after limit = (n : ℕ) × (n ≤ limit) × (after ≡ counted before n)
 
--- how many bytes were taken, before it is told as a fault
+-- how many bytes were taken, before it is reported as a fault
 abbrev pub CausedBy : (before after : ℕ) → ℕ → Cause → Type 0
 CausedBy before after limit cause.TooLong = after ≡ counted before (limit + 1)
 CausedBy before after limit cause.Failed = TakesAtMost before after limit
@@ -59,7 +60,7 @@ TakesFew before after limit Read = TakesAtMost before after limit
 TakesFew before after limit (Yaml fault) = TakesAtMost before after limit
 TakesFew before after limit (Write written) = TakesAtMost before after limit
 
--- The same of a run, told by its answer.
+-- How many bytes a run took, by its answer.
 abbrev pub RunTakes : {F : Type 0} → (before after : ℕ) → ℕ → Result F yaml_run_fault_t → Type 0
 RunTakes before after limit (Err TooLong) = after ≡ counted before (limit + 1)
 RunTakes before after limit (Err Read) = TakesAtMost before after limit
@@ -73,7 +74,8 @@ pub record Work (F : Type 0) : Type 1 where
   pub layers : List yaml_origin_t
   pub IsAnswer : List ℕ → Result (List ℕ × F) Fault → Type 0
 
--- the bytes at a run's devices, where they are told: those that the input is to give, and those that the output received
+-- the bytes at a run's devices, where they are known: those that the input is to give, and those
+-- that the output received
 pub record Bytes : Type 0 where
   pub to_come : Option (List ℕ)
   pub received : Option (List ℕ)
@@ -90,7 +92,7 @@ pub record AnswersAll {F : Type 0} (work : Work F) (before after : Bytes)
   pub all : GivesWholeInput before.to_come after.to_come work.limit input
   pub answered : work.IsAnswer input said
 
--- what the output received, and why, told by a run's answer; memory may run out in the layers of the work
+-- what the output received, and why, by a run's answer; memory may run out in the layers of the work
 abbrev pub Runs : {F : Type 0} → Work F → (before after : Bytes) → Result F yaml_run_fault_t
     → Type 0
 Runs work before after (Ok form) = (text : List ℕ)
@@ -106,7 +108,7 @@ Runs work before after (Err TooLong) = Keeps before.received after.received
     × IfSome before.to_come (λ bytes. work.limit < length bytes)
 Runs work before after (Err Read) = Keeps before.received after.received
 
--- which device has failed, told by a run's answer: the one that it names, and no other
+-- which device has failed, by a run's answer: the one that it names, and no other
 abbrev pub FailsBy : {F : Type 0} → (before after : Failures) → Result F yaml_run_fault_t → Type 0
 FailsBy before after (Ok form) = (after.input ≡ before.input) × (after.output ≡ before.output)
 FailsBy before after (Err Read) = (after.input ≡ true) × (after.output ≡ before.output)

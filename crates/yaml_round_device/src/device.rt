@@ -4,13 +4,14 @@ ghost use Rattle.std.specs.Prelude.{◌≡◌, ℕ, List, Option, Bool, true, fa
 ghost use Rattle.std.specs.Io.KnownBytes.{Keeps, ReadConsumes, WriteAppends};
 ghost use Rattle.yaml_round_device.specs.Counts.{counted};
 
-/// A device has failed. What it was isn't told.
+/// A device has failed. Why isn't known.
 #[derive(Clone, Copy, PartialEq, Eq, Debug)]
 pub struct yaml_device_fault_t;
 
-/// What gives bytes. It means the bytes to come, where they are told, how many it has given, and whether it has failed.
+/// A source of bytes. Its meaning is the bytes to come, where they are known, how many it has
+/// given, and whether it has failed.
 pub trait yaml_input_t {
-    // The bytes to come, where they are told.
+    // The bytes to come, where they are known.
     ghost to_come: { Self → Option (List ℕ) };
 
     // How many bytes it has given, of which 2^64 - 1 are counted.
@@ -30,10 +31,10 @@ pub trait yaml_input_t {
             (λ _. has_failed self.new ≡ true) };
 }
 
-/// What takes bytes. It means the bytes received, where they are told, whether it has failed, and whether what it
-/// received was passed on.
+/// A sink of bytes. Its meaning is the bytes received, where they are known, whether it has failed,
+/// and whether what it received was passed on.
 pub trait yaml_output_t {
-    // The bytes received, where they are told.
+    // The bytes received, where they are known.
     ghost received: { Self → Option (List ℕ) };
 
     // Whether it has failed.

@@ -1,4 +1,4 @@
-//! What stands round the engine: its settings, the devices of a run, the reading of an input to its end, the writing of
+//! What is round the engine: its settings, the devices of a run, the reading of an input to its end, the writing of
 //! a text, and the line that reports a fault.
 #![tactic(auto)]
 

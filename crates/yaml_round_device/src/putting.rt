@@ -5,7 +5,7 @@ ghost use Rattle.std.specs.Io.KnownBytes.{Appends};
 
 use crate::device::yaml_output_t;
 
-/// Hands the text over; answers how many of its bytes the output took where it failed.
+/// Writes the text; returns how many of its bytes the output took where it failed.
 pub fn put_all<O: yaml_output_t>(output: &mut O, text: &[u8]) -> Result<(), u64>
     ensures ok { OnOk result (Appends (O.received output.old) (O.received output.new) text.now) }
     ensures sound { OnOk result (O.has_failed output.new ≡ O.has_failed output.old) }

@@ -19,7 +19,7 @@ pub fn yaml_read_all<I: yaml_input_t>(
     ensures sound { OnOk result (I.has_failed input.new ≡ I.has_failed input.old) }
     ensures cause { IfErr result (IsReadFault (I.to_come input.old) (I.has_failed input.old)
         (I.has_failed input.new) input_limit) }
-    // No byte is taken after the one past the limit, whether or not the input tells its bytes.
+    // No byte is taken after the one past the limit, whether or not the input's bytes are known.
     ensures count { IfOk result (λ bytes. I.given input.new
         ≡ counted (I.given input.old) (length bytes.items)) }
     ensures few { IfErr result (TakesFew (I.given input.old) (I.given input.new) input_limit) }

@@ -57,7 +57,7 @@ pub fn read_to_end<I: yaml_input_t>(
     }
 }
 
-/// The fault that a cause is told as: out of memory has origin `Reader`.
+/// The fault that reports a cause: out of memory has origin `Reader`.
 pub fn told(cause: Cause) -> yaml_run_fault_t
     ensures { Tells cause result }
 {

@@ -1,11 +1,11 @@
-//! What a caller of the engine sets, and what it is told besides a text.
+//! What a caller of the engine sets, and what it receives besides a text.
 
 ghost use Rattle.std.specs.Prelude.{◌≡◌};
 
 use crate::yaml_output_encoding_t;
 use yaml_scan_types::{DEFAULT_INDENT, DEFAULT_WIDTH, yaml_break_t};
 
-/// How many bytes an answer may have, where nobody set another number: 2 to the power of 40.
+/// How many bytes an answer may have, if no limit is set: 2 to the power of 40.
 pub const DEFAULT_LIMIT: u64 = 1_099_511_627_776;
 
 /// How a text is written.

@@ -1,7 +1,7 @@
 -- What the machine reads of an input is its plain reading.
 use Rattle.std.proofs.Common.{◌≡◌, ◌⊎◌, ◌∙◌, inl, inr, sym, refl, ℕ, List, Some, None, Ok}
 use Rattle.yaml_parse.specs.declared.yaml_encoding_t.{yaml_encoding_t}
-use Rattle.yaml_parse.specs.Faults.{Fault, IsMemoryFault, parse_layers}
+use Rattle.yaml_parse.specs.scan_types.Faults.{Fault, IsMemoryFault, parse_layers}
 use Rattle.yaml_parse.specs.Remaining.{ParserRemaining}
 use Rattle.yaml_parse.specs.Resolve.{Told}
 use Rattle.yaml_round_reading.specs.Reading.{contents, IsFaultOf}

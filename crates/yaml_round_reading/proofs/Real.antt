@@ -3,8 +3,8 @@ use Rattle.std.proofs.Common.{◌≡◌, ℕ, List, [], ◌∷◌, Option, Some,
 use Rattle.std.specs.Prelude.{if◌then◌else◌, codes}
 use Rattle.std.specs.Str.{bytes_eq}
 use Rattle.yaml_parse.specs.declared.yaml_scalar_style_t.{yaml_scalar_style_t}
-use Rattle.yaml_parse.specs.Tokens.{Token}
-use Rattle.yaml_parse.specs.Faults.{Fault}
+use Rattle.yaml_parse.specs.scan_types.Tokens.{Token}
+use Rattle.yaml_parse.specs.scan_types.Faults.{Fault}
 use Rattle.yaml_parse.specs.Events as event
 use Rattle.yaml_parse.specs.parse_grammar.Items.{RawEventBody, Shape}
 use Rattle.yaml_parse.specs.parse_grammar.Items as item

@@ -3,7 +3,7 @@ use Rattle.std.specs.Prelude.{◌⊎◌, ◌↔◌, IsTrue, ℕ, Bool, List, Res
 use Rattle.yaml_parse.specs.declared.yaml_encoding_t.{yaml_encoding_t}
 use Rattle.yaml_parse.specs.declared.yaml_encoding_t.TheVariants.{YAML_ANY_ENCODING}
 use Rattle.yaml_parse.specs.declared.yaml_fault_t.{yaml_fault_t}
-use Rattle.yaml_parse.specs.Faults.{Fault, fault_of, IsMemoryFault, parse_layers}
+use Rattle.yaml_parse.specs.scan_types.Faults.{Fault, fault_of, IsMemoryFault, parse_layers}
 use Rattle.yaml_round_content.specs.Said.{Document}
 use Rattle.yaml_round_content.specs.Reading.{PlainReading}
 use Rattle.yaml_round_reading.specs.declared.side.yaml_side_t.{yaml_side_t}
@@ -41,7 +41,7 @@ abbrev pub IsSideFaulty : yaml_encoding_t → List ℕ → yaml_encoding_t → L
 IsSideFaulty a_from a b_from b First fault = IsFaulty a_from a fault
 IsSideFaulty a_from a b_from b Second fault = IsRight a_from a × IsFaulty b_from b fault
 
--- memory ran out: told of the second input only where the first is accepted
+-- memory ran out: reported of the second input only where the first is accepted
 abbrev pub IsSideStarved : yaml_encoding_t → List ℕ → yaml_side_t → Fault → Type 0
 IsSideStarved a_from a First fault = IsMemoryFault parse_layers fault
 IsSideStarved a_from a Second fault = IsRight a_from a × IsMemoryFault parse_layers fault

@@ -1,7 +1,7 @@
 -- What is read of an input, and what a reader of its events is given.
 use Rattle.std.specs.Prelude.{◌≡◌, ◌⊎◌, Bool, true, false, List, [], ◌∷◌, Option, Some, None, Result, Ok, Err}
 use Rattle.yaml_parse.specs.declared.yaml_fault_t.{yaml_fault_t}
-use Rattle.yaml_parse.specs.Faults.{Fault, fault_of, IsMemoryFault, parse_layers}
+use Rattle.yaml_parse.specs.scan_types.Faults.{Fault, fault_of, IsMemoryFault, parse_layers}
 use Rattle.yaml_parse.specs.declared.yaml_found_t.{yaml_found_t}
 use Rattle.yaml_parse.specs.declared.yaml_found_t.TheVariants as found
 use Rattle.yaml_parse.specs.Events.{Event, EventBody}

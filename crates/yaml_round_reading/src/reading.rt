@@ -1,20 +1,21 @@
 //! The events of an input.
 
 ghost use Rattle.std.specs.Prelude.{◌≡◌, true, IfOk, IfErr};
-ghost use Rattle.yaml_parse.specs.Faults.{fault_of, memory_fault};
+ghost use Rattle.yaml_parse.specs.scan_types.Faults.{fault_of, memory_fault};
 ghost use Rattle.yaml_parse.specs.Events.{borrowed_body};
 ghost use Rattle.yaml_parse.specs.Finds.{Finds};
 ghost use Rattle.yaml_parse.specs.NextLoad.{AreLoadsByContent, LoadIsNext, RefusalIsNext};
 ghost use Rattle.yaml_round_content.specs.Input.{ReadsInput};
 ghost use Rattle.yaml_round_reading.specs.Reading.{AreReal, FindsNextEvent, EndsWith};
 
+use crate::scanned::ScannedTokens;
+use crate::text::ReadText;
 use std::alloc::Global;
 use std::marker::Model;
 use yaml_parse::{
     EventRef, TokenParser, yaml_document_t, yaml_fault_t, yaml_found_t, yaml_mark_t,
     yaml_memory_fault, yaml_origin_t,
 };
-use yaml_round_adapter::{ReadText, ScannedTokens};
 
 /// A parser of an input's tokens. Its calls are calls of their own, so that no proof above writes out the drops of all that a parser
 /// holds.
@@ -60,7 +61,7 @@ impl Reading<'_> {
         self.parser.next()
     }
 
-    /// The same of a reading whose events may be any.
+    /// The next event of a reading whose events may be any.
     pub fn find(&mut self) -> yaml_found_t
         ensures finds { Finds self.old.parser result self.new.given self.new.parser.answered
             self.new.parser }
@@ -114,7 +115,7 @@ impl Reading<'_> {
     }
 }
 
-/// Lets a reading go. It is a call, so that no owner's proof writes out the drop of all that a parser holds.
+/// Drops a reading. It is a call, so that no owner's proof writes out the drop of all that a parser holds.
 pub fn let_go(reading: Reading<'_>) {
     let Reading { parser } = reading;
     drop(parser);

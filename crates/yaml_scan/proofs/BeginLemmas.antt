@@ -6,7 +6,7 @@ use Rattle.yaml_scan_model.specs.declared.fault.yaml_origin_t.TheVariants.{Reade
 use Rattle.yaml_scan_model.specs.declared.name.yaml_encoding_t.{yaml_encoding_t}
 use Rattle.yaml_scan_model.specs.declared.name.yaml_encoding_t.TheVariants.{YAML_UTF8_ENCODING}
 use Rattle.yaml_scan_model.specs.declared.name.yaml_error_type_t.TheVariants.{YAML_MEMORY_ERROR, YAML_READER_ERROR}
-use Rattle.yaml_scan_model.specs.Faults.{Fault, memory_fault}
+use Rattle.yaml_scan_types.specs.Faults.{Fault, memory_fault}
 use Rattle.yaml_scan_decode.specs.declared.offence.Offence.{Offence}
 use Rattle.yaml_scan_decode.specs.Decoding.{decoded_characters, decoded_text, in_utf8}
 use Rattle.yaml_scan_decode.specs.DecodedText.{decoding_fault, text_bytes}

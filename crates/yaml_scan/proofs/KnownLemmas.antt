@@ -7,8 +7,8 @@ use Rattle.yaml_scan_model.specs.declared.fault.yaml_origin_t.TheVariants.{Scann
 use Rattle.yaml_scan_model.specs.declared.fault.yaml_fault_t.{yaml_fault_t}
 use Rattle.yaml_scan_model.specs.declared.token.yaml_token_t.{yaml_token_t}
 use Rattle.yaml_scan_model.specs.Coming.{MayAnswer, front_of, rest_of}
-use Rattle.yaml_scan_model.specs.Faults.{Fault, fault_of, memory_fault}
-use Rattle.yaml_scan_model.specs.Tokens.{Token, token_of}
+use Rattle.yaml_scan_types.specs.Faults.{Fault, fault_of, memory_fault}
+use Rattle.yaml_scan_types.specs.Tokens.{Token, token_of}
 use Rattle.yaml_scan_history.specs.History.{most_waiting}
 use Rattle.yaml_scan_history.specs.Remaining.{Remaining, SpelledText}
 use Rattle.yaml_scan_core.specs.declared.scanner.Scanner.{Scanner}
@@ -203,7 +203,7 @@ pub more_there : (s : Scanner) → IsReady s → s.ended ≡ false
     → HasMore (to_come s).tokens (to_come s).fault
 more_there s r going = elim r.read [ inl g ↦ going_has_more s g | inr o ↦ absurd (true≢false (sym o.over ∙ going)) ]
 
--- what `may_read_on` tells
+-- what `may_read_on` says
 pub goes_on : (b e : Bool) → b ≡ not e → b ≡ true → e ≡ false
 goes_on b false is on = refl
 goes_on b true is on = cc

@@ -9,9 +9,9 @@ use Rattle.yaml_scan_model.specs.declared.fault.yaml_fault_t.{yaml_fault_t}
 use Rattle.yaml_scan_model.specs.declared.fault.yaml_origin_t.TheVariants.{Reader}
 use Rattle.yaml_scan_model.specs.declared.name.yaml_encoding_t.{yaml_encoding_t}
 use Rattle.yaml_scan_model.specs.declared.name.yaml_error_type_t.TheVariants.{YAML_MEMORY_ERROR, YAML_SCANNER_ERROR}
-use Rattle.yaml_scan_model.specs.Faults.{Fault, fault_of, memory_fault}
+use Rattle.yaml_scan_types.specs.Faults.{Fault, fault_of, memory_fault}
 use Rattle.yaml_scan_model.specs.Problems.{scanner_fault}
-use Rattle.yaml_scan_model.specs.Tokens.{Token, no_token, token_of}
+use Rattle.yaml_scan_types.specs.Tokens.{Token, no_token, token_of}
 use Rattle.yaml_scan_decode.specs.Decoding.{decoded_text}
 use Rattle.yaml_scan_decode.specs.DecodedText.{text_bytes}
 use Rattle.yaml_scan_decode.specs.Encodings.{encoding_of}
@@ -75,7 +75,7 @@ settled_known setting bytes z k ks h =
     settles_is setting bytes z h (comes_behind (k ∷ ks) (to_come s)).tokens (read_by s)
     ∙ longer (open_in (stream_of s) (read_by s)) (token_of k.token) (tokens_of ks) (to_come s).tokens (tells s h.ready.read).few
 
--- ---- before reading on: what stands is ahead of the session
+-- ---- before reading on: what rests is ahead of the session
 
 pub record Ahead (setting : yaml_encoding_t) (bytes : List ℕ) (o : Option ScannedText) (taken : ℕ)
     (z : ScannedText) : Type 0 where
@@ -149,7 +149,7 @@ told_there : (r : Remaining) (f : Fault) → IsRefused r f → IsTold r f
 told_there r f (inl memory) = inl (inl memory)
 told_there r f (inr fault) = inr fault
 
--- no token is given, by what stands
+-- no token is given, by what rests
 pub denies : (setting : yaml_encoding_t) (bytes : List ℕ) (o : Option ScannedText) (taken : ℕ)
     (z : ScannedText) (f : Fault) → Ahead setting bytes o taken z → Fails (scanner_of z) f
     → Denies (view_by setting bytes o [] taken None) f

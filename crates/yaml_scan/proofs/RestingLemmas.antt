@@ -1,7 +1,7 @@
--- A scanner that stands without its text.
+-- A scanner that rests without its text.
 use Rattle.std.proofs.Common.{◌≡◌, ℕ, true, false, List, Result, Ok, Err, sym, ap, subst, ◌∙◌}
 use Rattle.yaml_scan_model.specs.declared.fault.yaml_fault_t.{yaml_fault_t}
-use Rattle.yaml_scan_model.specs.Faults.{Fault, fault_of}
+use Rattle.yaml_scan_types.specs.Faults.{Fault, fault_of}
 use Rattle.yaml_scan_core.specs.declared.scanner.Scanner.{Scanner}
 use Rattle.std.specs.Prelude.{IfOk}
 use Rattle.yaml_scan_history.specs.Remaining.{SpelledText}

@@ -3,8 +3,8 @@ use Rattle.std.proofs.Common.{ℕ, List, IsUtf8}
 use Rattle.yaml_scan_model.specs.declared.name.yaml_encoding_t.{yaml_encoding_t}
 use Rattle.yaml_scan_decode.specs.Spelling.{Spells as IsSpelledBy}
 use Rattle.yaml_scan_history.specs.Remaining.{SpelledText}
-use Rattle.yaml_scan_laws_texts.proofs.Characters.{characters_begin}
-use Rattle.yaml_scan_laws_texts.proofs.Decoded.{spelled_has_none, spelled_utf8}
+use Rattle.yaml_scan_laws.proofs.Characters.{characters_begin}
+use Rattle.yaml_scan_laws.proofs.Decoded.{spelled_has_none, spelled_utf8}
 use Rattle.yaml_scan_core.specs.Scanning.{IsDecoded}
 unfoldable use Rattle.yaml_scan_core.specs.Scanning.{Spells}
 

@@ -1,11 +1,11 @@
--- The tokens that are known, and the scanner that told them.
+-- The tokens that are known, and the scanner that found them.
 use Rattle.std.specs.Prelude.{ℕ, ◌+◌, ◌^◌, ◌<◌, length, ◌≡◌, ◌≢◌, ◌≤◌, Bool, true, false, List, [], ◌∷◌, ◌++◌, map, All, Some, Result, Ok, Err, IfOk}
 use Rattle.yaml_scan_model.specs.declared.fault.yaml_fault_t.{yaml_fault_t}
 use Rattle.yaml_scan_model.specs.declared.fault.yaml_origin_t.TheVariants.{Reader}
 use Rattle.yaml_scan_model.specs.declared.name.yaml_encoding_t.{yaml_encoding_t}
 use Rattle.yaml_scan_model.specs.declared.name.yaml_encoding_t.TheVariants.{YAML_UTF8_ENCODING}
-use Rattle.yaml_scan_model.specs.Faults.{Fault, fault_of, memory_fault}
-use Rattle.yaml_scan_model.specs.Tokens.{Token, token_of, no_token}
+use Rattle.yaml_scan_types.specs.Faults.{Fault, fault_of, memory_fault}
+use Rattle.yaml_scan_types.specs.Tokens.{Token, token_of, no_token}
 use Rattle.yaml_scan_decode.specs.Decoding.{decoded_text}
 use Rattle.yaml_scan_decode.specs.DecodedText.{decoding_fault, text_bytes}
 use Rattle.yaml_scan_decode.specs.Encodings.{encoding_of}
@@ -64,7 +64,7 @@ pub record IsReady (s : Scanner) : Type 0 where
   pub short : IsShort s
   pub long : length s.text.now < 2 ^ 63
 
--- A token is refused: the fault that is to come is told, where none is, or memory ran out.
+-- A token is refused: the fault that is to come is reported, where none is, or memory ran out.
 pub record Fails (s : Scanner) (f : Fault) : Type 0 where
   pub more : HasMore (to_come s).tokens (to_come s).fault
   pub told : IsRefused (to_come s) f
@@ -103,7 +103,7 @@ abbrev pub Fills : Scanner → Scanner → List Known → Result (Unit {0}) yaml
 Fills old new ks (Ok done) = GivesAll old new ks
 Fills old new ks (Err f) = Fails old (fault_of f)
 
--- ---- a scanner that stands without its text
+-- ---- a scanner that rests without its text
 
 -- the same over a text
 abbrev pub over : List ℕ → Scanner → Scanner

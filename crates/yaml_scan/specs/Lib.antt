@@ -1,7 +1,7 @@
-pub use Rattle.yaml_scan_model.specs.Tokens
-pub use Rattle.yaml_scan_model.specs.Faults
-pub use Rattle.yaml_scan_model.specs.Classes
-pub use Rattle.yaml_scan_model.specs.Marks
+pub use Rattle.yaml_scan_types.specs.Tokens
+pub use Rattle.yaml_scan_types.specs.Faults
+pub use Rattle.yaml_scan_types.specs.Classes
+pub use Rattle.yaml_scan_types.specs.Marks
 pub mod Session
 pub mod Known
 pub mod SessionView
@@ -20,3 +20,4 @@ pub use Rattle.yaml_scan_decode.specs.DecodedText
 pub use Rattle.yaml_scan_model.specs as scan_model
 pub use Rattle.yaml_scan_decode.specs as scan_decode
 pub use Rattle.yaml_scan_history.specs as scan_history
+pub use Rattle.yaml_scan_types.specs as scan_types

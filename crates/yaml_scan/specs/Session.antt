@@ -1,10 +1,10 @@
--- What a session stands for, and what its calls answer.
+-- What a session means, and what its calls answer.
 use Rattle.std.specs.Prelude.{ℕ, ◌≡◌, ◌≢◌, ◌<◌, ◌≤◌, Bool, true, false, List, [], ◌∷◌, Option, Some, None, Result, Ok, Err, ◌⊎◌}
 use denote.Bor.{Bor}
 use Rattle.yaml_scan_model.specs.declared.token.yaml_token_t.{yaml_token_t}
 use Rattle.yaml_scan_model.specs.declared.fault.yaml_fault_t.{yaml_fault_t}
-use Rattle.yaml_scan_model.specs.Tokens.{Token, token_of, no_token}
-use Rattle.yaml_scan_model.specs.Faults.{Fault, fault_of, memory_fault}
+use Rattle.yaml_scan_types.specs.Tokens.{Token, token_of, no_token}
+use Rattle.yaml_scan_types.specs.Faults.{Fault, fault_of, memory_fault}
 use Rattle.yaml_scan_model.specs.declared.fault.yaml_origin_t.TheVariants.{Reader}
 use Rattle.yaml_scan_model.specs.declared.name.yaml_encoding_t.{yaml_encoding_t}
 use Rattle.yaml_scan_model.specs.declared.name.yaml_encoding_t.TheVariants.{YAML_UTF8_ENCODING}
@@ -18,7 +18,7 @@ use Rattle.yaml_scan_core.specs.Settled.{settles}
 
 -- An input and the encoding that is set, and how many lexemes of its text were read; the tokens that are still to come and the fault
 -- that ends them; the fault that was answered; and how many lexemes wait: they were read, and not all their tokens are taken. A fault
--- that is answered lets go what was read.
+-- that is answered drops what was read.
 pub record View : Type 0 where
   pub setting : yaml_encoding_t
   pub bytes : List ℕ
@@ -94,13 +94,14 @@ abbrev pub ReaderMayLack : View → Fault → Type 0
 ReaderMayLack v f = f ≡ memory_fault Reader
     → (v.read ≡ 0) × (encoding_of v.setting v.bytes ≢ YAML_UTF8_ENCODING)
 
--- What UTF-8 that spells no text has wrong takes no memory: it is told.
+-- What UTF-8 that spells no text has wrong takes no memory: it is reported.
 abbrev pub PlainIsTold : View → Fault → Type 0
 PlainIsTold v f = (g : Fault) → encoding_of v.setting v.bytes ≡ YAML_UTF8_ENCODING
     → decoding_fault v.setting v.bytes ≡ Some g → f ≡ g
 
--- A refusal tells the fault that is to come, where no token is, or that memory ran out; a token that is settled isn't refused, nor
--- is the empty token after the end. It is answered once, and ends the session.
+-- A refusal reports the fault that is to come, where no token is, or that memory ran out; a token
+-- that is settled isn't refused, nor is the empty token after the end. It is answered once, and
+-- ends the session.
 pub record Refuses (old : View) (f : Fault) (new : View) : Type 0 where
   pub sought : is_settled old ≡ false
   pub more : HasMore old.remaining.tokens old.remaining.fault
@@ -121,7 +122,8 @@ pub record Takes (old : View) (t : Token) (new : View) : Type 0 where
   pub over : EndsAnswered old
   pub still : (f : Fault) → old.answered ≡ Some f → new ≡ old
 
--- a session that this fault ended: it is kept as the one that was answered, nothing comes after it, and what was read is let go
+-- a session that this fault ended: it is kept as the one that was answered, nothing comes after it,
+-- and what was read is dropped
 abbrev pub ended : View → Fault → View
 ended v f = record v { read = 0; remaining = nothing; answered = Some f; waiting = 0 }
 

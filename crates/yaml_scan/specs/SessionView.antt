@@ -2,8 +2,8 @@
 use Rattle.std.specs.Prelude.{ℕ, ◌+◌, ◌-◌, ◌≡◌, ◌≤◌, false, List, [], All, Option, Some, None, option_map, Result, Ok, Err}
 use Rattle.yaml_scan_model.specs.declared.fault.yaml_fault_t.{yaml_fault_t}
 use Rattle.yaml_scan_model.specs.declared.name.yaml_encoding_t.{yaml_encoding_t}
-use Rattle.yaml_scan_model.specs.Faults.{Fault, fault_of}
-use Rattle.yaml_scan_model.specs.Tokens.{no_token, token_of}
+use Rattle.yaml_scan_types.specs.Faults.{Fault, fault_of}
+use Rattle.yaml_scan_types.specs.Tokens.{no_token, token_of}
 use Rattle.yaml_scan_history.specs.History.{most_waiting}
 use Rattle.yaml_scan_history.specs.Remaining.{Remaining, nothing}
 use Rattle.yaml_scan_history.specs.Scanned.{scanned}
@@ -65,7 +65,7 @@ pub record IsReading (r : Reading) : Type 0 where
   pub few : read_in r.standing ≤ r.queue.taken + most_waiting
   pub empty : token_of r.none ≡ no_token
 
--- the scanner that stands, or a new one
+-- the scanner that rests, or a new one
 abbrev pub Stood : Option ScannedText → yaml_encoding_t → List ℕ
     → Result ScannedText yaml_fault_t → Type 0
 Stood (Some z) setting bytes r = r ≡ Ok z
@@ -85,7 +85,7 @@ ReadsOn old new (Ok done) = IsReading new
     × Lends (view_of old) (first_known new.queue.known.items) (view_of new)
 ReadsOn old new (Err f) = Denies (view_of old) (fault_of f)
 
--- the same except what stands and the queue
+-- nothing changes except the scanner that rests and the queue
 abbrev pub Keeps : Reading → Reading → Type 0
 Keeps old new = new ≡ record old { standing = new.standing; queue = new.queue }
 

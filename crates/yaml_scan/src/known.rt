@@ -1,9 +1,9 @@
-//! The tokens that are known next, and the scanner that tells them.
+//! The tokens that are known next, and the scanner that finds them.
 
 ghost use Rattle.std.specs.Prelude.{◌≡◌, ◌++◌, ◌∷◌, [], true, false, Ok, IfErr, IfOk, OnOk};
 ghost use Rattle.yaml_scan_model.specs.declared.fault.yaml_origin_t.TheVariants.{Scanner as OfScanner};
-ghost use Rattle.yaml_scan_model.specs.Faults.{fault_of, memory_fault};
-ghost use Rattle.yaml_scan_model.specs.Tokens.{token_of};
+ghost use Rattle.yaml_scan_types.specs.Faults.{fault_of, memory_fault};
+ghost use Rattle.yaml_scan_types.specs.Tokens.{token_of};
 ghost use Rattle.yaml_scan_decode.specs.DecodedText.{text_bytes};
 ghost use Rattle.yaml_scan_core.specs.Found.{HasMore};
 ghost use Rattle.yaml_scan_core.specs.Handed.{to_come};
@@ -116,7 +116,7 @@ fn take_known(
     Ok(())
 }
 
-/// A decoded text, and a scanner of it, which holds no text while it stands.
+/// A decoded text, and a scanner of it that rests, in which it holds no text.
 #[derive(Drop)]
 pub(crate) struct ScannedText<'a> {
     pub text: yaml_text_t<'a>,

@@ -3,8 +3,8 @@
 ghost use Rattle.yaml_scan.specs.Looking.{TokensLookBack};
 ghost use Rattle.yaml_scan_core.specs.Settled.{WhateverFollows};
 
-/// What is settled is told, whatever follows: the tokens that as many lexemes of a text settle are the first ones of every text
-/// that has these lexemes too.
+/// What is settled stays so, whatever follows: the tokens that as many lexemes of a text settle are
+/// the first ones of every text that has these lexemes too.
 pub fn settled_is_told()
     ensures { WhateverFollows }
 {}

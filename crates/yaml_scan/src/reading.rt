@@ -1,8 +1,8 @@
 //! An input that is read token by token.
 
 ghost use Rattle.std.specs.Prelude.{◌≡◌, [], true, false, Some, None};
-ghost use Rattle.yaml_scan_model.specs.Tokens.{token_of, no_token};
-ghost use Rattle.yaml_scan_model.specs.Faults.{fault_of};
+ghost use Rattle.yaml_scan_types.specs.Tokens.{token_of, no_token};
+ghost use Rattle.yaml_scan_types.specs.Faults.{fault_of};
 ghost use Rattle.yaml_scan_decode.specs.DecodedText.{text_bytes};
 ghost use Rattle.yaml_scan_core.specs.Told.{Locates};
 ghost use Rattle.yaml_scan_core.specs.Waiting.{knows};
@@ -26,7 +26,7 @@ pub(crate) struct Reading<'a> {
     pub queue: Queue,
     /// The fault that was answered: nothing comes after it.
     pub fault: Option<yaml_fault_t>,
-    /// What a peek lends where no token is to come: the empty one.
+    /// What a peek returns where no token is to come: the empty one.
     pub none: yaml_token_t,
 }
 
@@ -106,7 +106,7 @@ impl<'a> Reading<'a> {
         }
     }
 
-    /// A fault is answered, and what was read is let go.
+    /// A fault is answered, and what was read is dropped.
     pub(crate) fn end(&mut self, fault: yaml_fault_t)
         ensures same { self.new ≡ record self.old {
           standing = None;

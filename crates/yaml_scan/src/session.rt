@@ -4,7 +4,7 @@ ghost use Rattle.std.specs.Prelude.{◌≡◌, ⊤, [], option_map, true};
 ghost use Rattle.std.specs.Borrow.{sem, follows_so};
 ghost use mir.Syntax.{named};
 ghost use mathlib.Core.Option.{none};
-ghost use Rattle.yaml_scan_model.specs.Faults.{fault_of};
+ghost use Rattle.yaml_scan_types.specs.Faults.{fault_of};
 ghost use Rattle.yaml_scan.specs.contracts.session.yaml_parser_t.{the_row};
 ghost use Rattle.yaml_scan.specs.Session.{HasFirst, HoldsLittle, Peeks, ReadsNeeded, Scans, Shows, begun, behind_first, ended, is_settled};
 
@@ -77,7 +77,7 @@ pub fn yaml_parser_scan(parser: &mut yaml_parser_t) -> Result<yaml_token_t, yaml
     }
 }
 
-/// Lends the token that the next scan gives, and takes nothing. Refused as a scan is.
+/// The token that the next scan gives, by reference; nothing is taken. Refused as a scan is.
 pub fn yaml_parser_peek<'p>(parser: &'p mut yaml_parser_t) -> Result<&'p yaml_token_t, yaml_fault_t>
     ensures shows { Shows parser.old result }
     // What the session becomes, once the token is given back.

@@ -1,19 +1,19 @@
--- What is asked of a scanner: the next token, told and taken.
+-- What is asked of a scanner: the next token, shown and taken.
 use Rattle.std.proofs.Common.{◌≡◌, ◌≢◌, ℕ, ◌+◌, ◌-◌, ◌<◌, ◌≤◌, true, false, ltb, List, [], ◌∷◌, ◌++◌, get_or, length, length-append, Option, refl, sym, ap, subst, ◌∙◌, inl, inr, arith}
 use Rattle.std.proofs.lemmas.Bool.{true≢false}
 use Rattle.std.proofs.lemmas.List.{get_or_read_under}
 use Rattle.yaml_scan_core.proofs.Words.{cases_Bool, cases_Option, cases_lt, nat_tests, Entry, Lexeme as Read, Remaining, SpelledText, all, ended, finished_tokens, entry_of, first_lexeme, history, length-entries, open_levels, next, offline, remaining}
 use Rattle.yaml_scan_model.specs.Coming.{front_of, rest_of}
-use Rattle.yaml_scan_model.specs.Faults.{Fault as PublicFault}
-use Rattle.yaml_scan_model.specs.Tokens.{Token}
+use Rattle.yaml_scan_model.specs.scan_types.Faults.{Fault as PublicFault}
+use Rattle.yaml_scan_model.specs.scan_types.Tokens.{Token}
 use Rattle.yaml_scan_model.specs.declared.name.yaml_encoding_t.{yaml_encoding_t}
 use Rattle.yaml_scan_history.specs.Next.{Fails}
 use Rattle.yaml_scan_history.specs.Remaining.{nothing}
-use Rattle.yaml_scan_laws_order.proofs.HistoryForward.{history_grows, last_is_all}
-use Rattle.yaml_scan_laws_order.proofs.RemainingForward.{end_comes}
-use Rattle.yaml_scan_laws_order.specs.Fronts.{GivesFirst}
-use Rattle.yaml_scan_tokens.specs.declared.kind.Kind.{Kind}
-use Rattle.yaml_scan_tokens.specs.declared.kind.Kind.TheVariants as kinds
+use Rattle.yaml_scan_laws.proofs.HistoryForward.{history_grows, last_is_all}
+use Rattle.yaml_scan_laws.proofs.RemainingForward.{end_comes}
+use Rattle.yaml_scan_laws.specs.Fronts.{GivesFirst}
+use Rattle.yaml_scan_model.specs.declared.kind.Kind.{Kind}
+use Rattle.yaml_scan_model.specs.declared.kind.Kind.TheVariants as kinds
 use Rattle.yaml_scan_core.specs.declared.lexeme.Lexeme.{Lexeme}
 use Rattle.yaml_scan_core.specs.declared.row.Row.{Row}
 use Rattle.yaml_scan_core.specs.declared.scanner.Scanner.{Scanner}

@@ -3,8 +3,8 @@ use Rattle.std.proofs.Common.{◌≡◌, ℕ, ◌+◌, ◌-◌, ◌<◌, ◌≤�
 use Rattle.std.proofs.lemmas.List.{get_or-take, length-take-le}
 use Rattle.yaml_scan_core.proofs.Words.{cases_Bool, cases_lt, nat_tests, get_or_append_left, get_or_at, Lexeme as Read, finished_tokens, first_open, first_open-le, length-entries, history}
 use Rattle.yaml_scan_history.specs.Remaining.{all}
-use Rattle.yaml_scan_laws_order.proofs.HistoryForward.{history_grows, stays_all}
-use Rattle.yaml_scan_laws_order.proofs.RemainingForward.{entries_ends}
+use Rattle.yaml_scan_laws.proofs.HistoryForward.{history_grows, stays_all}
+use Rattle.yaml_scan_laws.proofs.RemainingForward.{entries_ends}
 use Rattle.yaml_scan_core.specs.declared.keys.Keys.{Keys}
 use Rattle.yaml_scan_core.specs.declared.row.Row.{Row}
 use Rattle.yaml_scan_core.specs.declared.scanner.Scanner.{Scanner}

@@ -257,7 +257,7 @@ closed_turns n text s l h p a u at some =
 
 -- ---- what the keys answer
 
--- the candidate whose number a key tells
+-- the candidate whose number a key gives
 pub found_candidate : (text : List ℕ) (k : SimpleKey) (o : Option Candidate) (p : yaml_mark_t)
     (n : ℕ)
     → fresh_key text k p ≡ view_of (fresh o p) → Some n ≡ number_in (fresh_key text k p)
@@ -322,7 +322,7 @@ none_settles text t n a last =
           ] in cc
     ]
 
--- the number that the keys tell, or how many lexemes there are
+-- the number that the keys give, or how many lexemes there are
 abbrev pub told_first : Option ℕ → ℕ → ℕ
 told_first None n = n
 told_first (Some m) n = m

@@ -5,7 +5,7 @@ use Rattle.yaml_scan_core.specs.declared.scanner.Scanner.{Scanner}
 use Rattle.yaml_scan_history.specs.declared.kind.Kind.TheVariants as reads
 use Rattle.yaml_scan_core.specs.Shown.{place_mark}
 use Rattle.yaml_scan_core.specs.Scanning.{StandsAs, read_by}
-use Rattle.yaml_scan_model.specs.Tokens as tokens
+use Rattle.yaml_scan_model.specs.scan_types.Tokens as tokens
 use Rattle.yaml_scan_core.specs.Scanning.{Falls, IsTold, Takes, no_colon, stream_of}
 use Rattle.yaml_scan_core.proofs.CandidatesLemmas.{cancelled_turns, inner_is, lower, top_cancelled, upto_on}
 use Rattle.yaml_scan_core.proofs.ComesLemmas.{comes_lost, comes_word, lost_at, word_here}
@@ -15,7 +15,7 @@ use Rattle.yaml_scan_core.proofs.StandLemmas.{IsStart, colon_told, required_stan
 use Rattle.yaml_scan_core.proofs.TakesLemmas.{falls_same, keeps_pushed, takes}
 use Rattle.yaml_scan_core.specs.declared.row.Row.{Row}
 use Rattle.yaml_scan_core.specs.declared.keys.Keys.{Keys}
-use Rattle.yaml_scan_tokens.specs.declared.kind.Kind.TheVariants as kinds
+use Rattle.yaml_scan_model.specs.declared.kind.Kind.TheVariants as kinds
 use Rattle.yaml_scan_core.specs.declared.lexeme.Lexeme.{Lexeme as Held}
 use Rattle.yaml_scan_core.specs.Margins.{AreLevels}
 use Rattle.yaml_scan_core.specs.Rows.{HasRoom, RowView, row_of, pushed, bare}
@@ -34,7 +34,7 @@ end_at_end s h n a =
       | inl before ↦ absurd (omega (arith, zero_byte, a.behind.holds.bytes.some s.at before))
     ]
 
--- the place that the code tells
+-- the place that the code gives
 abbrev pub end_place : Scanner → ℕ
 end_place s = cond (ltb 0 (s.at - s.line - s.wide)) (s.at + 1) s.at
 

@@ -1,4 +1,4 @@
--- What is settled is told, whatever follows.
+-- What is settled stays so, whatever follows.
 use Rattle.std.proofs.Common.{◌≡◌, ℕ, zero, suc, ◌+◌, ◌-◌, ◌<◌, ◌≤◌, List, [], ◌∷◌, ◌++◌, length, take, drop, get_or, refl, sym, ap, ◌∙◌, inl, inr, arith, append_assoc}
 use Rattle.yaml_scan_core.proofs.Words.{cases_lt, flat_map, Token, block_end, Entry, finished_tokens, next, history, SpelledText, all, handed, before, body_in, end_tokens, spell, front_ends, remaining, offline, length-entries, tokens_is, ends_token}
 use Rattle.std.proofs.lemmas.List.{take-append-drop, drop_more}
@@ -28,7 +28,7 @@ ends_first s n (suc j) low most =
     let (tokens, fault) = ends_token s n f (x.ends - suc j) no_entry (omega (arith, opens)) low (omega (arith, most)) in
     tokens ∙ ap (λ g. before block_end x.lexeme ∷ (remaining s f g).tokens) {x = x.ends - suc j + 1} {y = x.ends - j} (omega (arith, most)) ∙ ap (λ ts. before block_end x.lexeme ∷ ts) (ends_first s n j low (omega (arith, most)))
 
--- so what is told before the first lexeme that isn't settled does
+-- so what comes before the first lexeme that isn't settled does
 fronts_first : (s : SpelledText) (n : ℕ) → let h = history s.text n in let f = settled_in h in
     (rest : List Token) × ((remaining s f 0).tokens ≡ front_ends (drop f (finished_tokens h)) ++ rest)
 fronts_first s n =
@@ -67,7 +67,7 @@ spelled_same : (s t : SpelledText) (es : List Entry)
 spelled_same s t [] h = refl
 spelled_same s t (e ∷ es) h = rw (All-head (λ e. body_in t e.lexeme ≡ body_in s e.lexeme) e es h, spelled_same s t es (All-tail (λ e. body_in t e.lexeme ≡ body_in s e.lexeme) e es h)) refl
 
--- whatever follows, what that many lexemes settle is told first
+-- whatever follows, what that many lexemes settle comes first
 pub whatever_follows : (s t : SpelledText) (n : ℕ) → history t.text n ≡ history s.text n
     → All (λ e. body_in t e.lexeme ≡ body_in s e.lexeme) (finished_tokens (history s.text n))
     → (rest : List Token) × ((offline t).tokens ≡ settled_tokens s n ++ rest)

@@ -1,8 +1,8 @@
 -- What the lexeme is of which a `:` makes a key.
 use Rattle.std.proofs.Common.{◌≡◌, ◌≢◌, ℕ, zero, suc, ◌-◌, ◌<◌, true, false, cond, ltb, inl, inr, List, [], ◌∷◌, length, get_or, Some, Result, Ok, Err, refl, sym, ap, ◌∙◌, arith}
 use Rattle.yaml_scan_core.proofs.Words.{and_parts, cases_Bool, cases_Option, nat_tests, get_or_append_left, get_or-append_right, Kind, Lexeme, Entry, Candidate, candidate, candidate_below, fresh_is, found_by, inside, finished_tokens, entry_of, keyed, mark_key, is_start, is_value, cancels, may_be_key, allowed_behind, length-entries, length-keyed, Wrong, lexeme_at, Read, next, history, SpelledText}
-use Rattle.yaml_scan_model.specs.Tokens as tokens
-use Rattle.yaml_scan_model.specs.Tokens.{TokenBody}
+use Rattle.yaml_scan_model.specs.scan_types.Tokens as tokens
+use Rattle.yaml_scan_model.specs.scan_types.Tokens.{TokenBody}
 use Rattle.yaml_scan_history.specs.Tags.{TagText, tag_at}
 use Rattle.yaml_scan_history.specs.Anchors.{anchor_at}
 use Rattle.yaml_scan_history.specs.Quoted.{double_quoted_at, single_quoted_at}

@@ -2,14 +2,14 @@
 use Rattle.std.proofs.Common.{◌≡◌, ◌≢◌, ℕ, ◌+◌, ◌<◌, ◌≤◌, Bool, true, false, List, [], ◌∷◌, ◌++◌, length, get_or, length-append, refl, sym, ap, subst, ◌∙◌, inl, inr, arith}
 use Rattle.std.proofs.lemmas.List.{get_or-replicate, length-replicate}
 use Rattle.yaml_scan_core.proofs.Words.{cases_Bool, get_or_append_left, get_or-append_right, get_or_at, Entry, Lexeme as Read, finished_tokens, first_open, history, next, Ends, SpelledText, Opens}
-use Rattle.yaml_scan_model.specs.Tokens.{Token, TokenBody, block_end, block_mapping_start, block_sequence_start, key, no_token}
+use Rattle.yaml_scan_model.specs.scan_types.Tokens.{Token, TokenBody, block_end, block_mapping_start, block_sequence_start, key, no_token}
 use Rattle.yaml_scan_history.specs.declared.lexeme.Opens.TheVariants as opening
 use Rattle.yaml_scan_history.specs.Remaining.{Remaining, before, body_in, end_tokens, own_tokens, remaining, spell, start_tokens, token_in}
-use Rattle.yaml_scan_laws_order.specs.Fronts.{GivesFirst}
-use Rattle.yaml_scan_laws_order.proofs.RemainingForward.{ends_token, last_comes, settled_comes}
-use Rattle.yaml_scan_tokens.specs.declared.kind.Kind.{Kind}
-use Rattle.yaml_scan_tokens.specs.declared.kind.Kind.TheVariants as kinds
-use Rattle.yaml_scan_tokens.specs.Kinds.{IsOf}
+use Rattle.yaml_scan_laws.specs.Fronts.{GivesFirst}
+use Rattle.yaml_scan_laws.proofs.RemainingForward.{ends_token, last_comes, settled_comes}
+use Rattle.yaml_scan_model.specs.declared.kind.Kind.{Kind}
+use Rattle.yaml_scan_model.specs.declared.kind.Kind.TheVariants as kinds
+use Rattle.yaml_scan_model.specs.Kinds.{IsOf}
 use Rattle.yaml_scan_core.specs.declared.lexeme.Lexeme.{Lexeme}
 use Rattle.yaml_scan_core.specs.Rows.{RowView, is_set, row_lexeme}
 use Rattle.yaml_scan_core.specs.Shown.{Carries, ShowsEntry, ShowsFront, Store, end_at, entry_at, no_entry, opens_in, place_mark, store_of}
@@ -70,7 +70,7 @@ left_some _ x = omega arith
 pub given_less : (n : ℕ) (x : Lexeme) → given_of n x < n + starts_in x + keys_in x + 1
 given_less n x = let some = left_some x.front x in omega (arith, some)
 
--- ---- the token that a lexeme's front stands for
+-- ---- the token that a lexeme's front means
 
 -- It is that token: one that is before the lexeme's own, or that one, with what it carries.
 pub record ShowsToken (s : Store) (t : SpelledText) (x : Lexeme) (it : Token) : Type 0 where

@@ -5,8 +5,8 @@ use Rattle.yaml_scan_model.specs.Runs.{past, columns_over, is_space_there, is_te
 use Rattle.yaml_scan_model.proofs.RunsLemmas.{past-le, past-inside, past_some, text_parts}
 use Rattle.yaml_scan_model.proofs.PrintedLemmas.{behind}
 use Rattle.yaml_scan_history.specs.Between.{Gap, gap_at, step_at, with_break}
-use Rattle.yaml_scan_model.specs.Marks.{break_width, starts}
-use Rattle.yaml_scan_model.specs.Classes.{is_bom}
+use Rattle.yaml_scan_model.specs.scan_types.Marks.{break_width, starts}
+use Rattle.yaml_scan_model.specs.scan_types.Classes.{is_bom}
 use Rattle.yaml_scan_model.proofs.MarksLemmas.{column_same, end_next, line_more, no_break, split_next, within}
 use Rattle.std.proofs.lemmas.Bool.{eqb-true}
 use Rattle.std.proofs.lemmas.List.{get_or-drop, length-drop}

@@ -2,12 +2,12 @@
 use Rattle.std.proofs.Common.{◌≡◌, ◌≢◌, ◌⊎◌, ℕ, ◌+◌, ◌-◌, ◌<◌, ◌≤◌, true, false, not, ltb, [], length, take, drop, get_or, Some, refl, sym, ap, subst, ◌∙◌, inl, inr, arith}
 use Rattle.std.proofs.lemmas.List.{get_or-take, length-take-le}
 use Rattle.yaml_scan_core.proofs.Words.{cases_lt, nat_tests, get_or_past, Entry, Fails, ScanFault, SpelledText, finished_tokens, first_open, first_open-le, front_ends, front_none, history, length-entries, next, remaining, scanner_fault}
-use Rattle.yaml_scan_model.specs.Tokens.{Token, block_end, no_token}
+use Rattle.yaml_scan_model.specs.scan_types.Tokens.{Token, block_end, no_token}
 use Rattle.yaml_scan_history.specs.Remaining.{before, body_in, spell}
-use Rattle.yaml_scan_laws_order.proofs.RemainingForward.{fault_comes, front_count}
-use Rattle.yaml_scan_laws_order.specs.Fronts.{GivesFirst}
-use Rattle.yaml_scan_tokens.specs.declared.kind.Kind.TheVariants as kinds
-use Rattle.yaml_scan_tokens.specs.Kinds.{IsOf}
+use Rattle.yaml_scan_laws.proofs.RemainingForward.{fault_comes, front_count}
+use Rattle.yaml_scan_laws.specs.Fronts.{GivesFirst}
+use Rattle.yaml_scan_model.specs.declared.kind.Kind.TheVariants as kinds
+use Rattle.yaml_scan_model.specs.Kinds.{IsOf}
 use Rattle.yaml_scan_core.specs.declared.lexeme.Lexeme.{Lexeme}
 use Rattle.yaml_scan_core.specs.declared.scanner.Scanner.{Scanner}
 use Rattle.yaml_scan_core.specs.Rows.{RowView, first_kind, is_set, led, row_lexeme, may_lead, no_lexeme, row_of}
@@ -26,7 +26,7 @@ pub record TakesFront (r q : RowView) : Type 0 where
       → q ≡ record r { next = r.next + 1 }
   pub lead : (row_lexeme r r.next).front ≢ (row_lexeme r r.next).kind → q ≡ led r
 
--- The token that the front stands for comes first, and what is to come after it is what is to come where it is taken.
+-- The token that the front means comes first, and what is to come after it is what is to come where it is taken.
 pub record First (t : SpelledText) (r : RowView) : Type 0 where
   pub token : Token
   pub shown : ShowsToken (store_of t.text r) t (row_lexeme r r.next) token
@@ -302,7 +302,7 @@ first_lost s n f end front ends =
     ] in
     first_end t n r (omega (arith, end, f.all)) (omega (arith, here)) inside front ends fewer known own (lost.start ends ∙ ap (λ (d : Entry). d.lexeme.start) e)
 
--- after what is told the fault comes
+-- after what is settled the fault comes
 pub fault_next : (s : Scanner) (n : ℕ) (p : ScanFault) → HasFailed s (history s.text.now n)
     → s.row.next + 1 ≡ s.row.settled → (row_lexeme (row_of s.row) s.row.next).front ≡ kinds.Failed
     → (row_lexeme (row_of s.row) s.row.next).ends ≡ 0

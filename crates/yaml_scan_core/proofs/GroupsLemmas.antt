@@ -2,22 +2,22 @@
 use Rattle.std.proofs.Common.{◌≡◌, ℕ, ◌+◌, ◌-◌, ◌<◌, ◌≤◌, ◌^◌, Bool, true, false, cond, ltb, eqb, ◌&&◌, ◌||◌, inl, inr, List, ◌∷◌, length, Option, None, Result, Ok, Err, refl, sym, ap, subst, ◌∙◌, arith}
 use Rattle.yaml_scan_core.proofs.Words.{cases_lt, nat_tests, yaml_mark_t, column_at, byte, Kind, Lexeme, candidate, reached, flow_depth, depth_after, key_allowed, is_value, is_start, is_end, has, found_by, cancels, allows_key, may_be_key, lexeme_at, Upto, SpelledText, AreKeys, AreKeysTo, KeyStack, inner, key_at, stack_of, given_up, key_closed, no_key, index_in, length-entries}
 use Rattle.std.proofs.lemmas.List.{get_or-take}
-use Rattle.yaml_scan_model.specs.Tokens as tokens
-use Rattle.yaml_scan_model.specs.Marks.{is_blank_or_end}
+use Rattle.yaml_scan_model.specs.scan_types.Tokens as tokens
+use Rattle.yaml_scan_model.specs.scan_types.Marks.{is_blank_or_end}
 use Rattle.yaml_scan_history.specs.Indicators.{is_document_start, is_document_end}
 use Rattle.std.specs.Prelude.{◌==◌}
-use Rattle.yaml_scan_model.specs.Tokens.{TokenBody}
+use Rattle.yaml_scan_model.specs.scan_types.Tokens.{TokenBody}
 use Rattle.yaml_scan_history.specs.declared.kind.Kind.TheVariants as reads
-use Rattle.yaml_scan_laws_order.proofs.WordForward.{Tells}
-use Rattle.yaml_scan_laws_order.proofs.HistoryForward.{are_few}
+use Rattle.yaml_scan_laws.proofs.WordForward.{Tells}
+use Rattle.yaml_scan_laws.proofs.HistoryForward.{are_few}
 use Rattle.yaml_scan_core.proofs.ReadLemmas.{begun_at}
 use Rattle.yaml_scan_core.specs.declared.fault.Fault.{Fault}
 use Rattle.yaml_scan_core.specs.declared.fault.Refused.{Refused}
 use Rattle.yaml_scan_core.specs.declared.row.Row.{Row}
 use Rattle.yaml_scan_core.specs.declared.keys.Keys.{Keys}
 use Rattle.yaml_scan_core.specs.declared.scanner.Scanner.{Scanner}
-use Rattle.yaml_scan_tokens.specs.declared.kind.Kind.{Kind as Token}
-use Rattle.yaml_scan_tokens.specs.declared.kind.Kind.TheVariants as kinds
+use Rattle.yaml_scan_model.specs.declared.kind.Kind.{Kind as Token}
+use Rattle.yaml_scan_model.specs.declared.kind.Kind.TheVariants as kinds
 use Rattle.yaml_scan_core.specs.declared.lexeme.Lexeme.{Lexeme as Held}
 use Rattle.yaml_scan_core.specs.Candidates.{cancelled_at, left}
 use Rattle.yaml_scan_core.specs.Rows.{HasRoom, row_of, pushed, bare}

@@ -2,14 +2,14 @@
 use Rattle.std.proofs.Common.{◌≡◌, ◌≢◌, ℕ, ◌+◌, ◌-◌, ◌<◌, ◌≤◌, ◌⊎◌, ◌^◌, Bool, true, false, cond, ltb, eqb, ◌&&◌, ◌||◌, not, inl, inr, List, [], ◌∷◌, ◌++◌, length, get_or, Option, Some, refl, sym, ap, subst, ◌∙◌, arith}
 use Rattle.std.proofs.lemmas.List.{get_or-set_other, get_or-set_same, length-set, set-append_left}
 use Rattle.yaml_scan_core.proofs.Words.{set, cases_lt, get_or_append_left, yaml_mark_t, mark_at, indent, Lexeme, Entry, Candidate, candidate, fresh, fresh_is, found_by, inside, has, finished_tokens, entry_of, mark_key, open_levels, opened, opens_at, flow_depth, allowed_behind, history, SpelledText, body_in, SimpleKey, inner, stack_of, given_up}
-use Rattle.yaml_scan_model.specs.Tokens as tokens
+use Rattle.yaml_scan_model.specs.scan_types.Tokens as tokens
 use Rattle.yaml_scan_history.specs.History.{marked, opens_of, start_of}
 use Rattle.yaml_scan_history.specs.declared.kind.Kind.TheVariants as reads
 use Rattle.yaml_scan_history.specs.declared.lexeme.Opens.TheVariants as opening
 use Rattle.yaml_scan_core.specs.declared.row.Row.{Row}
 use Rattle.yaml_scan_core.specs.declared.keys.Keys.{Keys}
 use Rattle.yaml_scan_core.specs.declared.scanner.Scanner.{Scanner}
-use Rattle.yaml_scan_tokens.specs.declared.kind.Kind.TheVariants as kinds
+use Rattle.yaml_scan_model.specs.declared.kind.Kind.TheVariants as kinds
 use Rattle.yaml_scan_core.specs.declared.lexeme.Lexeme.{Lexeme as Held}
 use Rattle.yaml_scan_core.specs.Margins.{AreLevels}
 use Rattle.yaml_scan_core.specs.Rows.{HasRoom, RowView, row_of, pushed, bare, key_marked, keyed as held_keyed, row_lexeme, no_lexeme}

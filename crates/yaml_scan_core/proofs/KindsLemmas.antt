@@ -3,7 +3,7 @@ use Rattle.std.proofs.Common.{◌≡◌, ℕ, ◌+◌, ◌<◌, ◌≤◌, ◌�
 use Rattle.yaml_scan_core.proofs.Words.{cases_Bool, cases_lt, yaml_mark_t, mark_at, Kind, Lexeme, candidate, reached, flow_depth, open_levels, key_allowed, finished_tokens, entry_of, is_value, is_start, is_end, found_by, inside, left_by, opened, opens_at, cancels, may_be_key, WordText, lexeme_at, kind_at, Upto, Fails, missed, next, allowed_behind, SpelledText, body_in, required_in, AreKeys, AreKeysTo, KeyStack, depth_after, inner, key_at, stack_of, given_up}
 use Rattle.yaml_scan_core.specs.Candidates.{cancelled_at, index_in}
 use Rattle.yaml_scan_history.specs.Next.{begun, colon_missing}
-use Rattle.yaml_scan_model.specs.Tokens.{TokenBody}
+use Rattle.yaml_scan_model.specs.scan_types.Tokens.{TokenBody}
 use Rattle.yaml_scan_history.specs.History.{marked, opens_of}
 use Rattle.yaml_scan_history.specs.Stepwise.{tested}
 use Rattle.yaml_scan_history.specs.Remaining.{body_by, body_of_word}
@@ -12,12 +12,12 @@ use Rattle.yaml_scan_history.specs.declared.lexeme.Opens.TheVariants as opening
 use Rattle.yaml_scan_core.specs.declared.fault.Fault.{Fault}
 use Rattle.yaml_scan_core.specs.declared.fault.Refused.{Refused}
 use Rattle.yaml_scan_core.specs.declared.scanner.Scanner.{Scanner}
-use Rattle.yaml_scan_laws_order.proofs.WordForward.{Tells, kind_told}
-use Rattle.yaml_scan_model.specs.Tokens as tokens
+use Rattle.yaml_scan_laws.proofs.WordForward.{Tells, kind_told}
+use Rattle.yaml_scan_model.specs.scan_types.Tokens as tokens
 use Rattle.yaml_scan_core.specs.declared.row.Row.{Row}
 use Rattle.yaml_scan_core.specs.declared.keys.Keys.{Keys}
 use Rattle.yaml_scan_core.specs.declared.levels.Levels.{Levels}
-use Rattle.yaml_scan_tokens.specs.declared.kind.Kind.{Kind as Token}
+use Rattle.yaml_scan_model.specs.declared.kind.Kind.{Kind as Token}
 use Rattle.yaml_scan_core.specs.declared.lexeme.Lexeme.{Lexeme as Held}
 use Rattle.yaml_scan_core.specs.Margins.{AreLevels}
 use Rattle.yaml_scan_core.specs.Rows.{HasRoom, RowView, row_of, pushed, bare, is_set}
@@ -32,7 +32,7 @@ use Rattle.yaml_scan_core.proofs.CandidatesLemmas.{cancelled_turns, cond_zero, i
 use Rattle.yaml_scan_core.proofs.NextLemmas.{upto_later}
 use Rattle.yaml_scan_core.proofs.TakesLemmas.{Leaves, keeps_pushed, takes}
 
--- ---- where a lexeme stands, by the history
+-- ---- where a lexeme is, by the history
 
 -- the place is the one after the gap
 pub stands_here : (k : Kind) (s : Scanner) (h : List Lexeme) (n : ℕ) → StandsAs k s h n
@@ -273,7 +273,7 @@ pub levels_plain : (l : Lexeme) (h : List Lexeme) → is_start l.kind ≡ false
 unfolding open_levels
 levels_plain l h e = ap (λ b. opened (b && not (ltb 0 l.depth)) (opens_at (found_by l h) l.kind l.start.column) (inside l h)) e
 
--- the levels after which it stands are those that were left open
+-- the levels that it is after are those that were left open
 pub inside_put : (k : Kind) (w : WordText) (s : Scanner) (h : List Lexeme) (n : ℕ)
     → StandsAs k s h n → inside (put_at k w s.text.now h) h ≡ left_behind k s h
 inside_put k w s h n a = ap (λ (m : yaml_mark_t). left_by k (flow_depth h) m.column (open_levels h)) (stands_here k s h n a)

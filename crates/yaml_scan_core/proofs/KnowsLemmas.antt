@@ -2,7 +2,7 @@
 use Rattle.std.proofs.Common.{◌≡◌, ℕ, zero, suc, ◌+◌, ◌-◌, ◌<◌, ◌≤◌, Bool, true, false, ltb, List, [], ◌∷◌, ◌++◌, length, take, drop, get_or, refl, sym, ap, ◌∙◌, inl, inr, arith, length-append}
 use Rattle.yaml_scan_core.proofs.Words.{cases_lt, nat_tests, length-drop, flat_map, Token, Lexeme as Read, Entry, ended, finished_tokens, first_open, history, next, SpelledText, all, handed, spell, front_ends, remaining, length-entries, tokens_is, front_none, ends_token}
 use Rattle.yaml_scan_history.specs.Remaining.{kept_of}
-use Rattle.yaml_scan_laws_order.proofs.RemainingForward.{Known, front_count, known_ended, known_next, known_settled}
+use Rattle.yaml_scan_laws.proofs.RemainingForward.{Known, front_count, known_ended, known_next, known_settled}
 use Rattle.yaml_scan_core.specs.declared.scanner.Scanner.{Scanner}
 use Rattle.yaml_scan_core.specs.Rows.{row_lexeme, row_of}
 use Rattle.yaml_scan_core.specs.Shown.{ShowsRow, entry_at, no_entry, store_of}
@@ -55,7 +55,7 @@ pub settled_open : (h : List Read) → settled_in h < length h → settled_in h 
 unfolding settled_in
 settled_open h low = grind arith
 
--- how many BLOCK-END tokens are told before the first lexeme that isn't settled
+-- how many BLOCK-END tokens come before the first lexeme that isn't settled
 abbrev fronts : List Read → ℕ
 fronts h = length (front_ends (drop (settled_in h) (finished_tokens h)))
 

@@ -2,7 +2,7 @@
 use Rattle.std.proofs.Common.{◌≡◌, ℕ, zero, suc, ◌+◌, ◌-◌, ◌≤◌, ◌&&◌, leb, List, ap, subst, inl, inr, arith}
 use Rattle.std.proofs.lemmas.Bool.{cases_lt}
 use Rattle.std.proofs.lemmas.Bool.Decides.{nat_tests}
-use Rattle.yaml_scan_model.specs.Marks.{line_at, mark_at}
+use Rattle.yaml_scan_model.specs.scan_types.Marks.{line_at, mark_at}
 use Rattle.yaml_scan_history.specs.History.{is_fresh}
 use Rattle.yaml_scan_core.specs.Lines.{IsLineStart}
 use Rattle.yaml_scan_core.specs.declared.keys.SimpleKey.{SimpleKey}

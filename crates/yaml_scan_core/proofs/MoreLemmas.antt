@@ -5,8 +5,8 @@ use Rattle.yaml_scan_core.proofs.Words.{cases_lt, yaml_encoding_t, Fault, scanne
 use Rattle.yaml_scan_decode.specs.declared.offence.Offence.{Offence}
 use Rattle.yaml_scan_history.specs.Next.{place_behind, lexeme_behind, stale_before, faults, first_fault_or}
 use Rattle.yaml_scan_history.specs.Remaining.{fault_in, own_tokens, token_in, nothing}
-use Rattle.yaml_scan_laws_order.proofs.HistoryForward.{all_ends, stays_all, history_grows, are_few}
-use Rattle.yaml_scan_laws_order.proofs.RemainingForward.{fault_is, last_comes}
+use Rattle.yaml_scan_laws.proofs.HistoryForward.{all_ends, stays_all, history_grows, are_few}
+use Rattle.yaml_scan_laws.proofs.RemainingForward.{fault_is, last_comes}
 use Rattle.yaml_scan_core.specs.Found.{HasMore}
 use Rattle.yaml_scan_core.specs.Shown.{no_entry, entry_at}
 use Rattle.std.proofs.lemmas.Bool.{true≢false}

@@ -1,7 +1,7 @@
 -- The numbers of a version, of nine digits at most, are such as an i32 holds.
 use Rattle.std.proofs.Common.{◌≡◌, ℕ, zero, suc, ◌+◌, ◌-◌, ◌*◌, ◌^◌, ◌<◌, ◌≤◌, eqb, ltb, List, length, Result, Ok, Err, inl, inr, arith, pow-suc}
 use Rattle.yaml_scan_core.proofs.Words.{cases_Bool, nat_tests, byte, Wrong}
-use Rattle.yaml_scan_model.specs.Ascii as ascii
+use Rattle.yaml_scan_model.specs.scan_types.Ascii as ascii
 use Rattle.yaml_scan_history.specs.Directives as directives
 use Rattle.yaml_scan_history.specs.Directives.{DirectiveText, Said, ValueText, decimal, directive_at, finished, line_end_at, minor_at, named_value_at, name_at, number_at, number_between, tag_directive_at, then_at, value_at, version_at, with_line, with_major, with_prefix}
 use Rattle.yaml_scan_history.specs.declared.directives.DirectiveName.{DirectiveName}

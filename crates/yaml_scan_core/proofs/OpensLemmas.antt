@@ -1,12 +1,12 @@
 -- Brackets that open.
 use Rattle.std.proofs.Common.{◌≡◌, ℕ, ◌+◌, true, false, cond, ltb, eqb, ◌&&◌, not, inl, inr, List, [], ◌∷◌, length, Option, None, Ok, refl, sym, ap, subst, ◌∙◌, arith}
 use Rattle.yaml_scan_core.proofs.Words.{cases_lt, nat_tests, mark_at, line_at, Kind, Lexeme, reached, flow_depth, depth_after, is_fresh, Upto, AreKeys, AreKeysTo, KeyStack, SimpleKey, inner, key_at, stack_of, saved, key_opened, index_in, no_key, get_or_append_left, get_or_past, get_or_at}
-use Rattle.yaml_scan_model.specs.Tokens.{TokenBody}
+use Rattle.yaml_scan_model.specs.scan_types.Tokens.{TokenBody}
 use Rattle.yaml_scan_core.specs.declared.fault.Fault.{Fault}
 use Rattle.yaml_scan_core.specs.declared.row.Row.{Row}
 use Rattle.yaml_scan_core.specs.declared.keys.Keys.{Keys}
 use Rattle.yaml_scan_core.specs.declared.scanner.Scanner.{Scanner}
-use Rattle.yaml_scan_tokens.specs.declared.kind.Kind.{Kind as Token}
+use Rattle.yaml_scan_model.specs.declared.kind.Kind.{Kind as Token}
 use Rattle.yaml_scan_core.specs.declared.lexeme.Lexeme.{Lexeme as Held}
 use Rattle.yaml_scan_core.specs.Candidates.{cancelled_at}
 use Rattle.yaml_scan_core.specs.Rows.{HasRoom, row_of, pushed, bare}

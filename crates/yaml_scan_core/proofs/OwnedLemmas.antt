@@ -4,17 +4,17 @@ use Rattle.std.specs.Prelude.{ℕ, pos, IfOk, Result, Ok, Err}
 use Rattle.yaml_scan_core.proofs.Words.{cases_Bool, Remaining, SpelledText, yaml_mark_t}
 use Rattle.yaml_scan_model.specs.Coming.{MayAnswer, front_of}
 use Rattle.yaml_scan_model.specs.declared.fault.yaml_origin_t.TheVariants.{Scanner as OfScanner}
-use Rattle.yaml_scan_model.specs.Faults.{memory_fault}
+use Rattle.yaml_scan_model.specs.scan_types.Faults.{memory_fault}
 use Rattle.yaml_scan_model.specs.Problems.{scanner_fault}
 use Rattle.yaml_scan_model.specs.declared.fault.yaml_fault_t.{yaml_fault_t}
 use Rattle.yaml_scan_model.specs.declared.name.yaml_scalar_style_t.{yaml_scalar_style_t}
 use Rattle.yaml_scan_model.specs.declared.token.yaml_token_t.{yaml_token_t}
-use Rattle.yaml_scan_model.specs.Tokens.{Token, TokenBody}
-use Rattle.yaml_scan_model.specs.Tokens as tokens
-use Rattle.yaml_scan_tokens.specs.Kinds.{IsOf}
-use Rattle.yaml_scan_tokens.specs.Texts.{AreTextsOf, Texts}
-use Rattle.yaml_scan_tokens.specs.declared.kind.Kind.{Kind}
-use Rattle.yaml_scan_tokens.specs.declared.kind.Kind.TheVariants as kinds
+use Rattle.yaml_scan_model.specs.scan_types.Tokens.{Token, TokenBody}
+use Rattle.yaml_scan_model.specs.scan_types.Tokens as tokens
+use Rattle.yaml_scan_model.specs.Kinds.{IsOf}
+use Rattle.yaml_scan_model.specs.Texts.{AreTextsOf, Texts}
+use Rattle.yaml_scan_model.specs.declared.kind.Kind.{Kind}
+use Rattle.yaml_scan_model.specs.declared.kind.Kind.TheVariants as kinds
 use Rattle.yaml_scan_core.specs.declared.lexeme.Lexeme.{Lexeme}
 use Rattle.yaml_scan_core.specs.declared.scanner.Scanner.{Scanner}
 use Rattle.yaml_scan_core.specs.Asked.{HasTaken, IsFront, ShowsKind, TellsFault, Waits, behind_first, front_lexeme, store_in}
@@ -77,7 +77,7 @@ lead_spelled kinds.BlockMappingStart b lead is = is
 lead_spelled kinds.Key b lead is = is
 lead_spelled _ b lead is = cc
 
--- the fault that is told where one is next
+-- the fault that is reported where one is next
 pub told_refused : (r : Remaining) (s : Scanner) → TellsFault r s
     → IsRefused r (fault_told s.text.now s.fault)
 told_refused r s (inl none) = let is : fault_told s.text.now s.fault ≡ memory_fault OfScanner = ap (λ o. fault_told s.text.now o) none in inl is
@@ -92,7 +92,7 @@ front_shown kinds.Failed r s a b h = absurd (a refl)
 front_shown kinds.Nothing r s a b h = absurd (b refl)
 front_shown _ r s a b h = h
 
--- what was taken after its kind was told
+-- what was taken after its kind was shown
 pub owned_needed : (old mid new : Scanner) (k : Kind) → k ≢ kinds.Failed → TellsNeeded k old mid
     → TakesNeeded mid new → OwnedNeeded old new
 owned_needed old mid new k other t n =

@@ -1,7 +1,7 @@
 -- Places of a text, and the starts of their lines.
 use Rattle.std.proofs.Common.{◌≡◌, ℕ, ◌+◌, ◌-◌, ◌<◌, ◌≤◌, true, false, ltb, List, length, refl, sym, ◌∙◌, inl, inr, arith}
 use Rattle.yaml_scan_core.proofs.Words.{cases_lt, nat_tests, mark_at, starts, line_at, column_at, byte}
-use Rattle.yaml_scan_model.specs.Marks.{break_width, ends_break}
+use Rattle.yaml_scan_model.specs.scan_types.Marks.{break_width, ends_break}
 use Rattle.yaml_scan_model.proofs.MarksLemmas.{line_more, column_more, end_next, split_next, past_break, widths, two, three, no_break, within}
 use Rattle.yaml_scan_core.specs.Scanning.{IsPlace}
 use Rattle.yaml_scan_core.specs.Shown.{place_mark}

@@ -7,13 +7,13 @@ use Rattle.yaml_scan_core.specs.declared.keys.Keys.{Keys}
 use Rattle.yaml_scan_core.specs.declared.row.Row.{Row}
 use Rattle.yaml_scan_core.specs.declared.fault.Refused.{Refused}
 use Rattle.yaml_scan_core.specs.declared.scanner.Scanner.{Scanner}
-use Rattle.yaml_scan_laws_order.proofs.HeldForward.{outer_is_first}
-use Rattle.yaml_scan_laws_order.proofs.HistoryForward.{are_few, last_is_all}
+use Rattle.yaml_scan_laws.proofs.HeldForward.{outer_is_first}
+use Rattle.yaml_scan_laws.proofs.HistoryForward.{are_few, last_is_all}
 use Rattle.yaml_scan_history.specs.Remaining.{all, handed, handed_out}
 use Rattle.yaml_scan_core.specs.declared.lexeme.Lexeme.{Lexeme}
-use Rattle.yaml_scan_tokens.specs.declared.kind.Kind.TheVariants as kinds
+use Rattle.yaml_scan_model.specs.declared.kind.Kind.TheVariants as kinds
 use Rattle.yaml_scan_core.specs.Margins.{AreLevels}
-use Rattle.yaml_scan_model.specs.Marks.{splits_of}
+use Rattle.yaml_scan_model.specs.scan_types.Marks.{splits_of}
 use Rattle.yaml_scan_core.specs.Rows.{RowView, HasRoom, IsThere, bare, row_of, failed, lost_at, row_lexeme, loses_none, no_lexeme}
 use Rattle.yaml_scan_core.specs.Handed.{Drops}
 use Rattle.yaml_scan_core.specs.Shown.{Store, ShowsRow, ShowsWhole, ShowsFront, store_of, entry_at, no_entry, place_mark}

@@ -42,7 +42,7 @@ saves s = cond s.key_allowed
 flat_test : (d : ℕ) → eqb d 0 ≡ not (ltb 0 d)
 flat_test d = grind (arith, nat_tests)
 
--- it is required as the code tells
+-- it is required as the code says
 pub required_is : (k : Kind) (w : WordText) (s : Scanner) (h : List Lexeme) (n : ℕ)
     → StandsAs k s h n → may_be_key k ≡ true → s.key_allowed ≡ true
     → (put_at k w s.text.now h).required ≡ required_in_column (candidate_in s).column s

@@ -1,7 +1,7 @@
 -- Where a place's line starts, and how many bytes of it continue a character.
 use Rattle.std.proofs.Common.{◌≡◌, ℕ, zero, suc, ◌+◌, ◌-◌, ◌<◌, ◌≤◌, true, false, cond, List, length, refl, sym, ap, subst, ◌∙◌, inl, inr, arith}
 use Rattle.yaml_scan_core.proofs.Words.{cases_Bool, cases_lt, nat_tests, splits_break, starts, line_at, column_at, byte}
-use Rattle.yaml_scan_model.specs.Marks.{break_width, ends_break}
+use Rattle.yaml_scan_model.specs.scan_types.Marks.{break_width, ends_break}
 use Rattle.yaml_scan_model.specs.Runs.{columns_over}
 use Rattle.yaml_scan_text.specs.Lines.{line_start}
 use Rattle.yaml_scan_text.specs.QuotedRead.{ArePlain}

@@ -1,4 +1,4 @@
--- Settling: what the keys tell is the earliest open candidate.
+-- Settling: what the keys give is the earliest open candidate.
 use Rattle.std.proofs.Common.{◌≡◌, ℕ, ◌+◌, ◌-◌, ◌≤◌, ◌^◌, inl, inr, length, Option, Some, None, refl, sym, ap, subst, ◌∙◌, arith}
 use Rattle.yaml_scan_core.proofs.Words.{cases_lt, cases_Option, mark_at, Candidate, candidate, fresh, reached, first_open, history, KeyStack, AreStale, AreWithin, fresh_key, key_at, number_in, stack_of, view_of}
 use Rattle.yaml_scan_core.specs.declared.scanner.Scanner.{Scanner}
@@ -31,7 +31,7 @@ stale_there s at line n m = elim m.keys [
   | inr (agrees, (some, stale)) ↦ subst (λ q. AreStale s.text.now (stack_of s.keys) q) m.mark stale
 ]
 
--- what the first key that isn't stale tells, or else how many lexemes there are
+-- what the first key that isn't stale gives, or else how many lexemes there are
 pub tells : (s : Scanner) (at line n : ℕ) (t : KeyStack) (r : Option ℕ) → MaySettle s at line n
     → t ≡ record (stack_of s.keys) { passed = t.passed } → t.passed ≤ length t.levels
     → AreStale s.text.now t (mark_at s.text.now at)
@@ -53,7 +53,7 @@ tells s at line n t r m same few stale is last =
       ]
     ]
 
--- the number that is told is after what is dropped
+-- the number that is given is after what is dropped
 pub told_late : (s : Scanner) (n m : ℕ) (r : Option ℕ) → r ≡ Some m
     → told_first r (read_by s) ≡ first_open (history s.text.now n) (history s.text.now n)
     → s.row.dropped + s.row.settled ≤ first_open (history s.text.now n) (history s.text.now n)
@@ -62,7 +62,7 @@ told_late s n m r is told low =
     let same : m ≡ first_open (history s.text.now n) (history s.text.now n) = ap (λ x. told_first x (read_by s)) (sym is) ∙ told in
     omega (arith, same, low)
 
--- so much is settled, where a number is told
+-- so much is settled, where a number is given
 pub settled_some : (s : Scanner) (n m k : ℕ) (r : Option ℕ) → r ≡ Some m
     → told_first r (read_by s) ≡ first_open (history s.text.now n) (history s.text.now n)
     → s.row.dropped + s.row.settled ≤ first_open (history s.text.now n) (history s.text.now n)

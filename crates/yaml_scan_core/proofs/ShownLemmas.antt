@@ -6,12 +6,12 @@ use Rattle.yaml_scan_core.proofs.Words.{cases_Bool, cases_lt, cases_order, set, 
 use Rattle.std.proofs.lemmas.List.{length-set, get_or-set_same, get_or-set_other, take-append-le, drop-append-le}
 use Rattle.std.proofs.lemmas.Nat.{and_or_apart, and_or_self}
 use Rattle.std.specs.Prelude.{bit_and, bit_or, slice_range}
-use Rattle.yaml_scan_model.specs.Tokens.{TokenBody}
+use Rattle.yaml_scan_model.specs.scan_types.Tokens.{TokenBody}
 use Rattle.yaml_scan_history.specs.Remaining.{SpelledText, body_in}
 use Rattle.yaml_scan_history.specs.declared.lexeme.Entry.{Entry}
 use Rattle.yaml_scan_history.specs.declared.lexeme.Opens.TheVariants as opening
-use Rattle.yaml_scan_tokens.specs.declared.kind.Kind.{Kind}
-use Rattle.yaml_scan_tokens.specs.declared.kind.Kind.TheVariants as kinds
+use Rattle.yaml_scan_model.specs.declared.kind.Kind.{Kind}
+use Rattle.yaml_scan_model.specs.declared.kind.Kind.TheVariants as kinds
 use Rattle.yaml_scan_core.specs.declared.lexeme.Lexeme.{Lexeme}
 use Rattle.yaml_scan_core.specs.declared.lexeme.Note.{Note}
 use Rattle.yaml_scan_core.specs.declared.lexeme.Span.{Span}
@@ -20,7 +20,7 @@ use Rattle.yaml_scan_core.specs.Shown.{Store, store_of, note_at, SpanHolds, Note
 
 -- ---- texts that move
 
--- what lies in one store lies in the other, for a lexeme that is told where
+-- what lies in one store lies in the other, for a lexeme whose place is known
 pub record Moved (s u : Store) (x y : Lexeme) : Type 0 where
   pub text : u.text ≡ s.text
   pub kind : y.kind ≡ x.kind

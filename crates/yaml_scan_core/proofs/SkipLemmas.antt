@@ -3,7 +3,7 @@ use Rattle.std.proofs.Common.{◌≡◌, ℕ, ◌+◌, ◌-◌, ◌<◌, ◌≤�
 use Rattle.std.proofs.Math.Seq.{take-set-lt}
 use Rattle.std.proofs.lemmas.List.{get_or-set_other, get_or-set_same, get_or-take, length-set, take-set-le}
 use Rattle.yaml_scan_core.proofs.Words.{cases_lt, nat_tests, set, Entry, SpelledText, ended, finished_tokens, first_open, history}
-use Rattle.yaml_scan_tokens.specs.declared.kind.Kind.TheVariants as kinds
+use Rattle.yaml_scan_model.specs.declared.kind.Kind.TheVariants as kinds
 use Rattle.yaml_scan_core.specs.declared.lexeme.Lexeme.{Lexeme}
 use Rattle.yaml_scan_core.specs.declared.row.Row.{Row}
 use Rattle.yaml_scan_core.specs.declared.scanner.Scanner.{Scanner}
@@ -123,7 +123,7 @@ cut_last r high =
     ap (λ xs. record r { lexemes = xs; settled = r.settled - 1 })
     (ap (λ k. take (k - 1) (set r.lexemes r.next y)) (length-set r.lexemes r.next y) ∙ take-set-le n r.lexemes r.next y high)
 
--- the state, told of the row after the token
+-- the state, said of the row after the token
 failed_by : (s : Scanner) (n : ℕ) (row : Row) (v : RowView) → HasFailed s (history s.text.now n)
     → row_of row ≡ v
     → let h = history s.text.now n in

@@ -1,7 +1,7 @@
--- What is known where a lexeme with a text stands.
+-- What is known where there is a lexeme with a text.
 use Rattle.std.proofs.Common.{◌≡◌, ℕ, ◌+◌, ◌<◌, ◌≤◌, Bool, true, false, cond, ltb, leb, eqb, ◌&&◌, ◌||◌, not, inl, inr, List, [], ◌∷◌, length, Option, Some, None, Result, Ok, Err, refl, sym, ap, subst, ◌∙◌, arith}
 use Rattle.yaml_scan_core.proofs.Words.{cases_Bool, nat_tests, byte, mark_at, starts, splits_break, column_at, is_blank_or_end, indent, Kind, Lexeme, flow_depth, open_levels, kind_at, indicator_of, inner, stack_of, Wrong, WordText, lexeme_at}
-use Rattle.yaml_scan_model.specs.Marks.{break_of, break_width, is_blank}
+use Rattle.yaml_scan_model.specs.scan_types.Marks.{break_of, break_width, is_blank}
 use Rattle.yaml_scan_model.proofs.MarksLemmas.{within}
 use Rattle.yaml_scan_model.specs.Wrong.{scan_fault}
 use Rattle.yaml_scan_history.specs.Plain.{is_bracket, is_indicator_byte, plain_at, starts_plain}
@@ -10,11 +10,11 @@ use Rattle.yaml_scan_history.specs.History.{keeps}
 use Rattle.yaml_scan_history.specs.Next.{gap_behind}
 use Rattle.yaml_scan_history.specs.Words.{blocked, directed, or_plain, plainly, tagged, valued}
 use Rattle.yaml_scan_history.specs.declared.kind.Kind.TheVariants as reads
-use Rattle.yaml_scan_laws_order.proofs.WordForward.{LandsWord, OfAny, Tells, kind_told, word_lands}
+use Rattle.yaml_scan_laws.proofs.WordForward.{LandsWord, OfAny, Tells, kind_told, word_lands}
 use Rattle.yaml_scan_model.specs.declared.name.yaml_scalar_style_t.{yaml_scalar_style_t}
 use Rattle.yaml_scan_model.specs.declared.name.yaml_scalar_style_t.TheVariants as styles
 use Rattle.yaml_scan_model.specs.declared.problem.Context.TheVariants as contexts
-use Rattle.yaml_scan_model.specs.Tokens as tokens
+use Rattle.yaml_scan_model.specs.scan_types.Tokens as tokens
 use Rattle.yaml_scan_history.specs.Block.{BlockText, block_at, style_at}
 use Rattle.yaml_scan_history.specs.Quoted.{quoted_at}
 use Rattle.yaml_scan_history.specs.Anchors.{anchor_at}
@@ -113,7 +113,7 @@ letter_kind flow text p h =
     let starts = letter_starts flow text p h in
     rw (none, starts) (grind (arith, nat_tests, h))
 
--- where a plain scalar stands a character does
+-- where there is a plain scalar there is a character
 not_ended : (blank : Bool) (b w : ℕ) (rest : Bool)
     → (not ((blank || eqb b 0) || ltb 0 w) && rest) ≡ true
     → (blank ≡ false) × (0 < b) × (w ≡ 0)
@@ -283,7 +283,7 @@ pub told : (k : Kind) (flow : Bool) (level : ℕ) (text : List ℕ) (spot : Spot
     → StandsThere k flow level text spot → Tells text spot.at k
 told k flow level text spot s = kind_told flow text spot.at k s.kind
 
--- the same of a kind that it was found to be
+-- likewise for a kind that it was found to be
 pub at_kind : (k m : Kind) (flow : Bool) (level : ℕ) (text : List ℕ) (spot : Spot) → m ≡ k
     → StandsThere m flow level text spot → Tells text spot.at k
 at_kind k m flow level text spot e s = told k flow level text spot (subst (λ x. StandsThere x flow level text spot) e s)

@@ -1,8 +1,8 @@
--- Where candidates stand, and what the scanner's tests tell of them.
+-- Where candidates are, and what the scanner's tests say of them.
 use Rattle.std.proofs.Common.{◌≡◌, ℕ, zero, suc, ◌≤◌, Bool, true, false, cond, ltb, ◌&&◌, ◌||◌, not, inl, inr, List, [], ◌∷◌, length, Option, Some, None, Ok, Err, refl, sym, ap, ◌∙◌, arith}
 use Rattle.yaml_scan_core.proofs.Words.{and_parts, cases_Bool, cases_lt, nat_tests, yaml_mark_t, mark_at, Kind, Lexeme, Candidate, candidate, fresh, flow_depth, is_end, is_value, cancels, may_be_key, allowed_behind, missed, lost_by, Read, colon_missing, next, history, required_in, required_at, late, index_in, KeyStack, AreKeys, inner, fresh_is}
 use Rattle.yaml_scan_history.specs.declared.kind.Kind.TheVariants as kinds
-use Rattle.yaml_scan_laws_order.proofs.HistoryForward.{history_stands, stand_in, takes_bytes}
+use Rattle.yaml_scan_laws.proofs.HistoryForward.{history_stands, stand_in, takes_bytes}
 use Rattle.yaml_scan_core.specs.declared.fault.Fault.{Fault}
 use Rattle.yaml_scan_core.specs.declared.fault.Refused.{Refused}
 use Rattle.yaml_scan_core.specs.Candidates.{cancelled_at}
@@ -13,7 +13,7 @@ use Rattle.yaml_scan_core.proofs.StepLemmas.{candidate_top, extends}
 use Rattle.yaml_scan_core.proofs.NextLemmas.{late_same, shallow}
 use Rattle.yaml_scan_core.proofs.PlacesLemmas.{mark_of_place}
 
--- ---- where a candidate stands
+-- ---- where a candidate is
 
 -- the mark of a place of the text
 pub record IsStart (text : List ℕ) (m : yaml_mark_t) : Type 0 where
@@ -80,7 +80,7 @@ required_stands text n start (Some c) is e =
     let same : c.lexeme.start ≡ start = grind (arith, e) in
     rw (← same) it
 
--- the fault of a required candidate is told
+-- the fault of a required candidate is reported
 pub colon_told : (text : List ℕ) (n at : ℕ) (start : yaml_mark_t)
     → required_in (candidate 0 (history text n)) ≡ Some start
     → fault_in text (no_colon start.index at) ≡ colon_missing start (place_mark text at)

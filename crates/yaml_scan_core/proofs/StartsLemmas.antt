@@ -1,8 +1,8 @@
 -- A `-`, a `?` and a `:`, which may open a block level.
 use Rattle.std.proofs.Common.{◌≡◌, ℕ, ◌+◌, ◌-◌, ◌<◌, ◌^◌, Bool, true, false, cond, ltb, eqb, ◌&&◌, ◌||◌, not, inl, inr, List, [], ◌∷◌, ◌++◌, length, Option, Some, None, Result, Ok, Err, refl, sym, ap, subst, ◌∙◌, arith}
 use Rattle.yaml_scan_core.proofs.Words.{cases_Bool, cases_lt, nat_tests, yaml_mark_t, mark_at, column_at, indent, Kind, Lexeme, Entry, Candidate, candidate, fresh, reached, flow_depth, depth_after, open_levels, finished_tokens, entry_of, found_by, has, inside, opened, opens_at, is_value, is_start, is_end, cancels, key_allowed, may_be_key, lexeme_at, Upto, Fails, missed, next, allowed_behind, AreKeys, KeyStack, inner, key_at, stack_of, given_up, index_in, fresh_key, view_of, required_in, required_at}
-use Rattle.yaml_scan_model.specs.Tokens as tokens
-use Rattle.yaml_scan_model.specs.Tokens.{TokenBody}
+use Rattle.yaml_scan_model.specs.scan_types.Tokens as tokens
+use Rattle.yaml_scan_model.specs.scan_types.Tokens.{TokenBody}
 use Rattle.yaml_scan_history.specs.History.{marked, opens_of, level_of, start_of}
 use Rattle.yaml_scan_history.specs.Next.{not_allowed_by, not_allowed_there}
 use Rattle.yaml_scan_history.specs.declared.kind.Kind.TheVariants as reads
@@ -13,8 +13,8 @@ use Rattle.yaml_scan_core.specs.declared.row.Row.{Row}
 use Rattle.yaml_scan_core.specs.declared.keys.Keys.{Keys}
 use Rattle.yaml_scan_core.specs.declared.levels.Levels.{Levels}
 use Rattle.yaml_scan_core.specs.declared.scanner.Scanner.{Scanner}
-use Rattle.yaml_scan_tokens.specs.declared.kind.Kind.{Kind as Token}
-use Rattle.yaml_scan_tokens.specs.declared.kind.Kind.TheVariants as kinds
+use Rattle.yaml_scan_model.specs.declared.kind.Kind.{Kind as Token}
+use Rattle.yaml_scan_model.specs.declared.kind.Kind.TheVariants as kinds
 use Rattle.yaml_scan_core.specs.declared.lexeme.Lexeme.{Lexeme as Held}
 use Rattle.yaml_scan_core.specs.Candidates.{cancelled_at}
 use Rattle.yaml_scan_core.specs.Margins.{AreLevels}
@@ -30,7 +30,7 @@ use Rattle.yaml_scan_core.proofs.ShownLemmas.{shown_pushed}
 use Rattle.yaml_scan_core.proofs.TakesLemmas.{falls_same, keeps_pushed, reads_err}
 use Rattle.yaml_scan_core.proofs.KindsLemmas.{Goes, Puts, bare_entry, bare_word, cancelling_takes, goes_leaves, goes_takes, goes_upto, inside_put, lost_there, keeps_all, place_cancels, put_at, stands_at, stands_here, stands_told}
 
--- ---- where they may stand
+-- ---- where they may be
 
 -- a lexeme of that kind may open a level, and finds no key
 pub record Starts (k : Kind) (s : Scanner) (h : List Lexeme) : Type 0 where

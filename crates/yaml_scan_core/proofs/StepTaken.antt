@@ -181,7 +181,7 @@ pub steps_err : (old new : Scanner) (h : List Lexeme) (r : Result (Unit {0}) Ref
     → r ≡ Err e → Falls old new h → Steps old new h r
 steps_err old new h r e is f = rw is f
 
--- a line starts where the code tells
+-- a line starts where the code says
 line_there : (mid taken : Scanner) (h : List Lexeme) → Shows taken h → taken.text.now ≡ mid.text.now
     → IsLineStart mid.text.now taken.at taken.line
 line_there mid taken h s text = subst (λ t. IsLineStart t taken.at taken.line) text s.place.begins

@@ -3,8 +3,8 @@ use Rattle.std.proofs.Common.{◌≡◌, ℕ, suc, ◌+◌, ◌-◌, ◌<◌, �
 use Rattle.yaml_scan_core.proofs.Words.{get_or_append_left, get_or-append_right, length-keyed, cases_Bool, cases_lt, yaml_mark_t, mark_at, Lexeme, Entry, Candidate, candidate, fresh, reached, open_levels, key_allowed, finished_tokens, entry_of, first_open, is_end, keyed, Upto, Read, missed, next, history, SpelledText, candidate_below, fresh_is, length-entries, AreKeys, AreWithin, key_at, stack_of, fresh_key, view_of}
 use Rattle.yaml_scan_history.specs.Stepwise.{tested}
 use Rattle.yaml_scan_history.proofs.HistoryLemmas.{first_open-grows, take-entries}
-use Rattle.yaml_scan_laws_order.proofs.RemainingForward.{entries_ends}
-use Rattle.yaml_scan_laws_order.proofs.HeldForward.{outer_is_first}
+use Rattle.yaml_scan_laws.proofs.RemainingForward.{entries_ends}
+use Rattle.yaml_scan_laws.proofs.HeldForward.{outer_is_first}
 use Rattle.yaml_scan_history.specs.Next.{extended}
 use Rattle.yaml_scan_core.specs.declared.fault.Refused.{Refused}
 use Rattle.yaml_scan_core.specs.declared.row.Row.{Row}

@@ -3,7 +3,7 @@ use Rattle.std.proofs.Common.{◌≡◌, ℕ, ◌≤◌, Bool, false, ltb, List,
 use Rattle.yaml_scan_core.proofs.Words.{yaml_mark_t, mark_at, Wrong, indent, Kind, Lexeme, Entry, flow_depth, open_levels, finished_tokens, entry_of, is_value, is_start, is_end, key_allowed, left_by, WordText, lexeme_at, Fails, next, SpelledText, inner, stack_of}
 use Rattle.yaml_scan_model.specs.Wrong.{scan_fault}
 use Rattle.yaml_scan_history.specs.declared.kind.Kind.TheVariants as reads
-use Rattle.yaml_scan_laws_order.proofs.WordForward.{LandsWord, IsWordFrom, kind_fits, word_lands, FitsAny, Fits}
+use Rattle.yaml_scan_laws.proofs.WordForward.{LandsWord, IsWordFrom, kind_fits, word_lands, FitsAny, Fits}
 use Rattle.yaml_scan_core.specs.declared.fault.Fault.{Fault}
 use Rattle.yaml_scan_core.specs.declared.row.Row.{Row}
 use Rattle.yaml_scan_core.specs.declared.keys.Keys.{Keys}

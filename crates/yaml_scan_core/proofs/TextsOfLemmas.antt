@@ -1,10 +1,10 @@
 -- The texts of the token that was taken last are those that its lexeme carries.
 use Rattle.std.proofs.Common.{◌≡◌, ℕ, inl, inr, List, refl}
-use Rattle.yaml_scan_model.specs.Tokens.{TokenBody}
+use Rattle.yaml_scan_model.specs.scan_types.Tokens.{TokenBody}
 use Rattle.yaml_scan_history.specs.Remaining.{SpelledText}
-use Rattle.yaml_scan_tokens.specs.Texts.{AreTextsOf}
-use Rattle.yaml_scan_tokens.specs.declared.kind.Kind.{Kind}
-use Rattle.yaml_scan_tokens.specs.declared.kind.Kind.TheVariants as kinds
+use Rattle.yaml_scan_model.specs.Texts.{AreTextsOf}
+use Rattle.yaml_scan_model.specs.declared.kind.Kind.{Kind}
+use Rattle.yaml_scan_model.specs.declared.kind.Kind.TheVariants as kinds
 use Rattle.yaml_scan_core.specs.declared.lexeme.Lexeme.{Lexeme}
 use Rattle.yaml_scan_core.specs.declared.scanner.Scanner.{Scanner}
 use Rattle.yaml_scan_core.specs.Asked.{HasTaken, last_lexeme, store_in}
@@ -45,6 +45,6 @@ texts_carried kinds.BlockEntry o t x b (bare, is) = rw is tt
 texts_carried kinds.FlowEntry o t x b (bare, is) = rw is tt
 texts_carried kinds.Value o t x b (bare, is) = rw is tt
 
--- the texts of the token that was taken last are told
+-- the texts of the token that was taken last are given
 pub texts_are : (s : Scanner) (b : TokenBody) → HasTaken s b → AreTextsOf b (texts_of s)
 texts_are s b h = texts_carried (last_lexeme s).kind (store_in s) (stream_of s) (last_lexeme s) b h.carries

@@ -3,10 +3,10 @@ use Rattle.std.proofs.Common.{◌≡◌, ◌≢◌, ◌⊎◌, ℕ, ◌+◌, ◌
 use Rattle.std.proofs.lemmas.Bool.{true≢false}
 use Rattle.std.proofs.lemmas.List.{get_or-set_same, length-set}
 use Rattle.yaml_scan_core.proofs.Words.{cases_Bool, cases_lt, nat_tests, Entry, SpelledText}
-use Rattle.yaml_scan_model.specs.Tokens.{TokenBody}
+use Rattle.yaml_scan_model.specs.scan_types.Tokens.{TokenBody}
 use Rattle.yaml_scan_history.specs.Remaining.{body_in}
-use Rattle.yaml_scan_tokens.specs.declared.kind.Kind.{Kind}
-use Rattle.yaml_scan_tokens.specs.declared.kind.Kind.TheVariants as kinds
+use Rattle.yaml_scan_model.specs.declared.kind.Kind.{Kind}
+use Rattle.yaml_scan_model.specs.declared.kind.Kind.TheVariants as kinds
 use Rattle.yaml_scan_core.specs.declared.lexeme.Lexeme.{Lexeme}
 use Rattle.yaml_scan_core.specs.Rows.{RowView, behind_lead, behind_start, first_kind, is_set, led, row_lexeme, loses_none, may_lead, no_lexeme}
 use Rattle.yaml_scan_core.specs.Shown.{Carries, IsFront, ShowsFront, ShowsRow, Store, entry_at, store_of}
@@ -131,7 +131,7 @@ key_plain : (s : Store) (t : SpelledText) (x : Lexeme) (b : TokenBody) → Carri
     → is_set 4 x ≡ false
 key_plain s t x b (plain, is, unset) = unset
 
--- a KEY that is a lexeme's own stands for no simple key
+-- a KEY that is a lexeme's own comes of no simple key
 pub own_plain : (s : Store) (t : SpelledText) (x : Lexeme) (b : TokenBody) → Carries s t x x.kind b
     → x.kind ≡ kinds.Key → is_set 4 x ≡ false
 own_plain s t x b h e = key_plain s t x b (subst (λ k. Carries s t x k b) e h)
@@ -145,7 +145,7 @@ own_or_lead s t x b (lead_mapping e u a) h = inr (λ same. (own_kind s t x x.kin
 own_or_lead s t x b (lead_key e a) h = inr (λ same. true≢false (sym a ∙ own_plain s t x b h (sym same ∙ e)))
 own_or_lead s t x b (lead_own e) h = inl e
 
--- it stands for no fault, and for some token
+-- it means no fault, and some token
 pub real_front : (s : Store) (t : SpelledText) (x : Lexeme) (b : TokenBody) → LeadKind x
     → Carries s t x x.kind b → (x.front ≢ kinds.Failed) × (x.front ≢ kinds.Nothing)
 real_front s t x b (lead_ends e more) h = (λ f. (let bad = sym e ∙ f in cc), λ f. (let bad = sym e ∙ f in cc))

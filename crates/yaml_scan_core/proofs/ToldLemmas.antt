@@ -3,7 +3,7 @@ use mir.Val.{bool_byte}
 use Rattle.std.proofs.Common.{◌≡◌, ◌≢◌, ◌∙◌, ℕ, zero, suc, ◌+◌, ◌-◌, ◌*◌, ◌^◌, ◌<◌, ◌≤◌, ◌⊎◌, Bool, true, false, cond, eqb, not, inl, inr, List, [], ◌∷◌, length, drop, refl, sym, ap, arith}
 use Rattle.std.proofs.lemmas.List.{drop_more, drop_all}
 use Rattle.yaml_scan_core.proofs.Words.{cases_Bool, cases_lt, nat_tests, byte, column_at, line_at, mark_at, starts, yaml_mark_t}
-use Rattle.yaml_scan_model.specs.Marks.{ends_break, ends_of}
+use Rattle.yaml_scan_model.specs.scan_types.Marks.{ends_break, ends_of}
 use Rattle.yaml_scan_model.specs.Runs.{columns_over}
 use Rattle.yaml_scan_model.proofs.MarksLemmas.{column_at-le, column_end, column_more, column_same, line_at-le, line_end, line_more, start_column, start_line}
 use Rattle.yaml_scan_runs.specs.Runs.{IsNarrow, is_stop}

@@ -6,9 +6,9 @@ use Rattle.std.proofs.lemmas.List.{length-take-le}
 use Rattle.yaml_scan_core.proofs.Words.{cases_Bool, cases_lt, nat_tests, get_or_at, get_or_past, Entry, Lexeme as Read, finished_tokens, first_open, first_open-le, length-entries, history, next, Next, Fails, Ends, Read as IsNext, Remaining, SpelledText}
 use Rattle.yaml_scan_history.specs.Next.{extended}
 use Rattle.yaml_scan_history.specs.Remaining.{body_in}
-use Rattle.yaml_scan_laws_order.proofs.HeldForward.{few_are_held, few_wait}
-use Rattle.yaml_scan_tokens.specs.declared.kind.Kind.{Kind}
-use Rattle.yaml_scan_tokens.specs.declared.kind.Kind.TheVariants as kinds
+use Rattle.yaml_scan_laws.proofs.HeldForward.{few_are_held, few_wait}
+use Rattle.yaml_scan_model.specs.declared.kind.Kind.{Kind}
+use Rattle.yaml_scan_model.specs.declared.kind.Kind.TheVariants as kinds
 use Rattle.yaml_scan_core.specs.declared.keys.Keys.{Keys}
 use Rattle.yaml_scan_core.specs.declared.row.Row.{Row}
 use Rattle.yaml_scan_core.specs.declared.scanner.Scanner.{Scanner}
@@ -211,7 +211,7 @@ by_lead x (lead_mapping e unset set) own bad = let no_start = sym e ∙ bad in c
 by_lead x (lead_key e set) own bad = let no_key = sym e ∙ bad in cc
 by_lead x (lead_own e) own bad = own (sym e ∙ bad)
 
--- no lexeme that shows an entry stands for a fault
+-- no lexeme that shows an entry means a fault
 pub not_failed : (s : Scanner) → IsRead s → s.row.next < length s.row.lexemes.items
     → (front_lexeme s).front ≢ kinds.Failed
 not_failed s i some =

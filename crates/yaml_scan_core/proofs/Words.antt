@@ -24,15 +24,15 @@ pub use Rattle.yaml_scan_history.specs.declared.kind.Kind.{Kind}
 pub use Rattle.yaml_scan_history.specs.declared.lexeme.Entry.{Entry}
 pub use Rattle.yaml_scan_history.specs.declared.lexeme.Lexeme.{Lexeme}
 pub use Rattle.yaml_scan_history.specs.declared.lexeme.Opens.{Opens}
-pub use Rattle.yaml_scan_laws_order.proofs.RemainingForward.{ends_token, entries_ends, front_none, tokens_is}
-pub use Rattle.yaml_scan_laws_order.specs.Fronts.{GivesFirst}
+pub use Rattle.yaml_scan_laws.proofs.RemainingForward.{ends_token, entries_ends, front_none, tokens_is}
+pub use Rattle.yaml_scan_laws.specs.Fronts.{GivesFirst}
 pub use Rattle.yaml_scan_model.proofs.MarksLemmas.{within}
-pub use Rattle.yaml_scan_model.specs.Faults.{Fault, fault_of, memory_fault}
-pub use Rattle.yaml_scan_model.specs.Marks.{Place, byte, is_blank_or_end, mark_at, splits_break, starts}
-unfoldable pub use Rattle.yaml_scan_model.specs.Marks.{column_at, line_at}
+pub use Rattle.yaml_scan_model.specs.scan_types.Faults.{Fault, fault_of, memory_fault}
+pub use Rattle.yaml_scan_model.specs.scan_types.Marks.{Place, byte, is_blank_or_end, mark_at, splits_break, starts}
+unfoldable pub use Rattle.yaml_scan_model.specs.scan_types.Marks.{column_at, line_at}
 pub use Rattle.yaml_scan_model.specs.Problems.{scanner_fault}
 pub use Rattle.yaml_scan_model.specs.Runs.{past_spaces}
-pub use Rattle.yaml_scan_model.specs.Tokens.{Token, TokenBody, block_end, body_of, key, no_token, zero_mark}
+pub use Rattle.yaml_scan_model.specs.scan_types.Tokens.{Token, TokenBody, block_end, body_of, key, no_token, zero_mark}
 pub use Rattle.yaml_scan_model.specs.Wrong.{Wrong}
 pub use Rattle.yaml_scan_model.specs.declared.fault.yaml_origin_t.TheVariants.{Reader}
 pub use Rattle.yaml_scan_model.specs.declared.name.yaml_encoding_t.{yaml_encoding_t}

@@ -5,7 +5,7 @@ use Rattle.yaml_scan_core.proofs.Words.{get_or_at, byte, starts, splits_break, W
 use Rattle.yaml_scan_model.specs.declared.name.yaml_scalar_style_t.{yaml_scalar_style_t}
 use Rattle.yaml_scan_model.specs.declared.name.yaml_scalar_style_t.TheVariants as styles
 use Rattle.yaml_scan_model.specs.declared.problem.Context.{Context}
-use Rattle.yaml_scan_model.specs.Tokens as tokens
+use Rattle.yaml_scan_model.specs.scan_types.Tokens as tokens
 use Rattle.yaml_scan_history.specs.Pieces.{bytes_at}
 use Rattle.yaml_scan_history.proofs.RunLemmas.{slice_bytes}
 use Rattle.yaml_scan_history.specs.Plain.{PlainText}
@@ -14,7 +14,7 @@ use Rattle.yaml_scan_history.specs.Tags.{TagText}
 use Rattle.yaml_scan_history.specs.Directives as directives
 use Rattle.yaml_scan_history.specs.Directives.{DirectiveText, Said, decimal}
 use Rattle.yaml_scan_history.specs.Words.{blocked, body_said, directed, plainly, tagged, valued}
-use Rattle.yaml_scan_laws_order.proofs.WordForward.{LandsWord}
+use Rattle.yaml_scan_laws.proofs.WordForward.{LandsWord}
 use Rattle.yaml_scan_text.specs.Lines.{AtLine, line_start}
 use Rattle.yaml_scan_text.specs.BlockRead.{ReadsBlock}
 use Rattle.yaml_scan_text.specs.DirectivesRead.{AreParts, IsSaid, ReadsDirective}
@@ -33,8 +33,8 @@ use Rattle.yaml_scan_text.specs.declared.tag.Tag.{Tag}
 use Rattle.yaml_scan_text.specs.declared.refusal.Refusal.{Refusal}
 use Rattle.yaml_scan_text.specs.declared.refusal.Refusal.TheVariants as refusals
 use Rattle.yaml_scan_text.specs.declared.refusal.Wrong.{Wrong as Told}
-use Rattle.yaml_scan_tokens.specs.declared.kind.Kind.{Kind}
-use Rattle.yaml_scan_tokens.specs.declared.kind.Kind.TheVariants as kinds
+use Rattle.yaml_scan_model.specs.declared.kind.Kind.{Kind}
+use Rattle.yaml_scan_model.specs.declared.kind.Kind.TheVariants as kinds
 use Rattle.yaml_scan_core.specs.declared.lexeme.Lexeme.{Lexeme}
 use Rattle.yaml_scan_core.specs.declared.lexeme.Note.{Note}
 use Rattle.yaml_scan_core.specs.declared.lexeme.Span.{Span}
@@ -213,12 +213,12 @@ unreadable : (b : Bool) (t : List ℕ) → b ≡ is_utf8 t → (IsUtf8 t → ⊥
 unreadable true t is h = absurd (h (IsUtf8-from_is_utf8 t (sym is)))
 unreadable false t is h = refl
 
--- a test that tells UTF-8
+-- a test for UTF-8
 pub readable : (b : Bool) (t : List ℕ) → (IsTrue b ↔ IsUtf8 t) → b ≡ is_utf8 t
 readable true t h = sym (is_utf8-from_IsUtf8 t (h.0 refl))
 readable false t h = unreadable (is_utf8 t) t refl (λ u. false≢true (h.1 u))
 
--- a test that tells ASCII
+-- a test for ASCII
 pub ascii_read : (b : Bool) (t : List ℕ) → MatchBool b (IsAscii t) (IsNotAscii t) → b ≡ true
     → b ≡ is_utf8 t
 ascii_read true t h is = sym (is_utf8-from_IsUtf8 t (IsUtf8-from_ascii t h))
@@ -233,7 +233,7 @@ pub tag_kind_is : (good : Bool) (k : Kind) (v : List ℕ) → k ≡ cond good ki
 tag_kind_is true k v e g = inl (e, sym g)
 tag_kind_is false k v e g = inr (e, sym g)
 
--- the suffix of a tag is where it is told
+-- the suffix of a tag is where it is said to be
 pub tag_fits : (text old new : List ℕ) (p : ℕ) (g : Tag) (r : Result TagText Wrong)
     → ReadsTag text p old new (Ok g) r
     → SpanFits (bare_store text new) (value_span g.joined g.from g.to (length old) (length new))
@@ -421,7 +421,7 @@ plain_on text old new p s (Ok x) lands is = record {
   wide = is.wide;
 }
 
--- one that stands on a line
+-- one that is on one line
 pub one_given : (flow : Bool) (text old : List ℕ) (spot : Spot) (l : PlainLine) (wide : ℕ)
     (r : Result PlainText Wrong)
     → IsPlainLine flow text spot.at l → is_bad_colon flow text l.next ≡ false → r ≡ one_line flow text spot.at l
@@ -529,7 +529,7 @@ said_word good text old new spot v at line wide e (directives.tag h p) small tol
     (told ∙ ap is_utf8 second.are) (span_text text new v.first v.first_end h parts.first (omega (arith, parts.between, parts.second, inside)) handle)
     second ends fits place)
 
--- the second part of a directive is where it is told
+-- the second part of a directive is where it is said to be
 pub directive_fits : (text old new : List ℕ) (d : Directive) (r : Result DirectiveText Wrong)
     → ReadsDirective text old new (Ok d) r
     → SpanFits (bare_store text new) (directive_note d.value (length old) (length new)).second

@@ -1,13 +1,13 @@
 -- What is asked of a scanner: which token is next, and what the one carries that was taken last.
 use Rattle.std.specs.Prelude.{ℕ, ◌-◌, ◌≡◌, ◌≢◌, ◌<◌, ◌≤◌, ◌⊎◌, List, [], ◌∷◌, length, Some, None}
 use Rattle.yaml_scan_model.specs.declared.name.yaml_encoding_t.{yaml_encoding_t}
-use Rattle.yaml_scan_model.specs.Tokens.{Token, TokenBody}
+use Rattle.yaml_scan_model.specs.scan_types.Tokens.{Token, TokenBody}
 use Rattle.yaml_scan_model.specs.Problems.{scanner_fault}
 use Rattle.yaml_scan_model.specs.Coming.{rest_of}
 use Rattle.yaml_scan_history.specs.Remaining.{Remaining, nothing, offline}
-use Rattle.yaml_scan_tokens.specs.declared.kind.Kind.{Kind}
-use Rattle.yaml_scan_tokens.specs.declared.kind.Kind.TheVariants as kinds
-use Rattle.yaml_scan_tokens.specs.Kinds.{IsOf}
+use Rattle.yaml_scan_model.specs.declared.kind.Kind.{Kind}
+use Rattle.yaml_scan_model.specs.declared.kind.Kind.TheVariants as kinds
+use Rattle.yaml_scan_model.specs.Kinds.{IsOf}
 use Rattle.yaml_scan_core.specs.declared.fault.Fault.{Fault}
 use Rattle.yaml_scan_core.specs.declared.lexeme.Lexeme.{Lexeme}
 use Rattle.yaml_scan_core.specs.declared.scanner.Scanner.{Scanner}
@@ -66,7 +66,7 @@ abbrev pub TellsFault : Remaining → Scanner → Type 0
 TellsFault r s = (s.fault ≡ None) ⊎ ((r.tokens ≡ []) × ((f : Fault) × (s.fault ≡ Some f)
     × (r.fault ≡ Some (scanner_fault (fault_in s.text.now f)))))
 
--- That kind was told of the next token; a fault is there like a token.
+-- That kind was answered for the next token; a fault is there like a token.
 abbrev pub ShowsKind : Kind → Remaining → Scanner → Type 0
 ShowsKind kinds.Failed r s = TellsFault r s × (s.row.next < s.row.settled)
     × ((front_lexeme s).front ≡ kinds.Failed)

@@ -1,7 +1,7 @@
 -- Keys as the candidates of a history.
 use Rattle.std.specs.Prelude.{ℕ, ◌+◌, ◌-◌, ◌≡◌, ◌≤◌, ◌<◌, ◌==◌, nat_lt, min, Bool, false, ◌&&◌, ◌++◌, if◌then◌else◌, List, [], ◌∷◌, length, take, vec_capacity, slice_index_or, slice_set, Option, Some, None}
 use Rattle.yaml_scan_model.specs.declared.record.yaml_mark_t.{yaml_mark_t}
-use Rattle.yaml_scan_model.specs.Marks.{line_at}
+use Rattle.yaml_scan_model.specs.scan_types.Marks.{line_at}
 use Rattle.yaml_scan_history.specs.declared.lexeme.Lexeme.{Lexeme}
 use Rattle.yaml_scan_history.specs.History.{Candidate, candidate, flow_depth, fresh, is_fresh}
 use Rattle.yaml_scan_history.specs.Laws.{Upto}
@@ -31,7 +31,8 @@ key_at s d = slice_index_or s.levels d no_key
 abbrev pub inner : KeyStack → ℕ
 inner s = length s.levels - 1
 
--- another key is that of the innermost level; whether one is required is told of the block level's
+-- another key is that of the innermost level; of the block level's it is kept whether one is
+-- required
 abbrev pub saved : SimpleKey → Bool → KeyStack → KeyStack
 saved k required s = record {
   levels = slice_set s.levels (inner s) k;

@@ -3,8 +3,8 @@ use Rattle.std.specs.Prelude.{ℕ, ◌+◌, ◌-◌, ◌≡◌, ◌<◌, ◌||�
 use Rattle.yaml_scan_history.specs.History.{finished_tokens}
 use Rattle.yaml_scan_history.specs.declared.lexeme.Entry.{Entry}
 use Rattle.yaml_scan_history.specs.Remaining.{Remaining, SpelledText, all, remaining}
-use Rattle.yaml_scan_tokens.specs.declared.kind.Kind.{Kind}
-use Rattle.yaml_scan_tokens.specs.declared.kind.Kind.TheVariants as kinds
+use Rattle.yaml_scan_model.specs.declared.kind.Kind.{Kind}
+use Rattle.yaml_scan_model.specs.declared.kind.Kind.TheVariants as kinds
 use Rattle.yaml_scan_core.specs.declared.lexeme.Lexeme.{Lexeme}
 use Rattle.yaml_scan_core.specs.declared.row.Row.{Row}
 use Rattle.yaml_scan_core.specs.declared.scanner.Scanner.{Scanner}
@@ -12,7 +12,7 @@ use Rattle.yaml_scan_core.specs.Rows.{HasRoom, RowView, is_set, row_lexeme, lose
 use Rattle.yaml_scan_core.specs.Scanning.{fixed_of, stream_of}
 use Rattle.yaml_scan_core.specs.Shown.{ShowsRow, entry_at}
 
--- how many tokens stand for the level that opens before a lexeme, and for its KEY
+-- how many tokens a lexeme has for the level that opens before it, and for its KEY
 abbrev pub starts_in : Lexeme → ℕ
 starts_in x = if is_set 1 x || is_set 2 x then 1 else 0
 

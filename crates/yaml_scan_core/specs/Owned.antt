@@ -5,14 +5,14 @@ use Rattle.yaml_scan_model.specs.declared.fault.yaml_origin_t.TheVariants.{Scann
 use Rattle.yaml_scan_model.specs.declared.name.yaml_scalar_style_t.{yaml_scalar_style_t}
 use Rattle.yaml_scan_model.specs.declared.token.yaml_token_t.{yaml_token_t}
 use Rattle.yaml_scan_model.specs.Coming.{MayAnswer, front_of}
-use Rattle.yaml_scan_model.specs.Faults.{Fault, fault_of, memory_fault}
-use Rattle.yaml_scan_model.specs.Tokens.{TokenBody, token_of}
-use Rattle.yaml_scan_model.specs.Tokens as tokens
+use Rattle.yaml_scan_model.specs.scan_types.Faults.{Fault, fault_of, memory_fault}
+use Rattle.yaml_scan_model.specs.scan_types.Tokens.{TokenBody, token_of}
+use Rattle.yaml_scan_model.specs.scan_types.Tokens as tokens
 use Rattle.yaml_scan_history.specs.History.{most_waiting}
 use Rattle.yaml_scan_history.specs.Remaining.{Remaining}
-use Rattle.yaml_scan_tokens.specs.Texts.{Texts}
-use Rattle.yaml_scan_tokens.specs.declared.kind.Kind.{Kind}
-use Rattle.yaml_scan_tokens.specs.declared.kind.Kind.TheVariants as kinds
+use Rattle.yaml_scan_model.specs.Texts.{Texts}
+use Rattle.yaml_scan_model.specs.declared.kind.Kind.{Kind}
+use Rattle.yaml_scan_model.specs.declared.kind.Kind.TheVariants as kinds
 use Rattle.yaml_scan_core.specs.declared.scanner.Scanner.{Scanner}
 use Rattle.yaml_scan_core.specs.Asked.{behind_first}
 use Rattle.yaml_scan_core.specs.Handed.{to_come}

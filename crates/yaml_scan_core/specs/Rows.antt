@@ -1,8 +1,8 @@
 -- What the code does to a row of lexemes.
 use Rattle.std.specs.Prelude.{ℕ, ◌+◌, ◌-◌, ◌==◌, ◌<◌, ◌⊎◌, Bool, true, false, not, if◌then◌else◌, List, [], ◌∷◌, ◌++◌, length, nat_lt, bit_and, bit_or, slice_index_or, slice_set, vec_capacity, take}
 use Rattle.yaml_scan_model.specs.declared.name.yaml_scalar_style_t.TheVariants as styles
-use Rattle.yaml_scan_tokens.specs.declared.kind.Kind.{Kind}
-use Rattle.yaml_scan_tokens.specs.declared.kind.Kind.TheVariants as kinds
+use Rattle.yaml_scan_model.specs.declared.kind.Kind.{Kind}
+use Rattle.yaml_scan_model.specs.declared.kind.Kind.TheVariants as kinds
 use Rattle.yaml_scan_core.specs.declared.lexeme.Lexeme.{Lexeme}
 use Rattle.yaml_scan_core.specs.declared.lexeme.Note.{Note}
 use Rattle.yaml_scan_core.specs.declared.row.Row.{Row}
@@ -115,7 +115,7 @@ lost_at r = if nat_lt r.settled (length r.lexemes)
     (row_lexeme r r.settled).start 0
     else bare kinds.Failed 0 0 1 0
 
--- it stands for a fault after which no lexeme is lost
+-- it means a fault after which no lexeme is lost
 abbrev pub loses_none_by : Kind → ℕ → ℕ → Bool
 loses_none_by kinds.Failed start end = nat_lt start end
 loses_none_by _ start end = false

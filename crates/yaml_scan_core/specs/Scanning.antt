@@ -5,8 +5,8 @@ use Rattle.yaml_scan_model.specs.declared.problem.ScanFault.{ScanFault}
 use Rattle.yaml_scan_model.specs.declared.problem.Problem.{Problem}
 use Rattle.yaml_scan_model.specs.declared.problem.Problem.TheVariants as problems
 use Rattle.yaml_scan_model.specs.declared.problem.Context.TheVariants as contexts
-use Rattle.yaml_scan_model.specs.Ascii as ascii
-use Rattle.yaml_scan_model.specs.Marks.{byte, column_at, mark_at, splits_break, starts}
+use Rattle.yaml_scan_model.specs.scan_types.Ascii as ascii
+use Rattle.yaml_scan_model.specs.scan_types.Marks.{byte, column_at, mark_at, splits_break, starts}
 use Rattle.yaml_scan_history.specs.Between.{Gap, gap_at, with_break}
 use Rattle.yaml_scan_history.specs.declared.kind.Kind.{Kind as ReadKind}
 use Rattle.yaml_scan_history.specs.declared.kind.Kind.TheVariants as reads
@@ -24,8 +24,8 @@ use Rattle.yaml_scan_core.specs.declared.fault.Fault.{Fault}
 use Rattle.yaml_scan_core.specs.declared.fault.Refused.{Refused}
 use Rattle.yaml_scan_core.specs.declared.scanner.Scanner.{Scanner}
 use Rattle.yaml_scan_core.specs.declared.keys.SimpleKey.{SimpleKey}
-use Rattle.yaml_scan_tokens.specs.declared.kind.Kind.{Kind}
-use Rattle.yaml_scan_tokens.specs.declared.kind.Kind.TheVariants as kinds
+use Rattle.yaml_scan_model.specs.declared.kind.Kind.{Kind}
+use Rattle.yaml_scan_model.specs.declared.kind.Kind.TheVariants as kinds
 use Rattle.yaml_scan_core.specs.declared.lexeme.Lexeme.{Lexeme}
 use Rattle.yaml_scan_core.specs.Lines.{IsLineStart}
 use Rattle.yaml_scan_core.specs.Candidates.{AreKeys, AreStale, AreWithin, KeyStack, fresh_key, inner, key_at, key_view, stack_of, view_of}
@@ -323,7 +323,7 @@ pub record Takes (old new : Scanner) (h : List Read) : Type 0 where
 
 -- ---- where no lexeme is read
 
--- The earliest open candidate is told by the keys: they are the candidates of that many lexemes, or the block level's is open.
+-- The keys give the earliest open candidate: they are the candidates of that many lexemes, or the block level's is open.
 abbrev pub TellsFirst : List ℕ → KeyStack → ℕ → List Read → Type 0
 TellsFirst text s n h = (AreKeys text s h (reached h) × (n ≡ length h))
     ⊎ ((fresh_key text (key_at s 0) (reached h) ≡ view_of (fresh (candidate 0 h) (reached h)))
@@ -374,7 +374,7 @@ abbrev pub Reads : Scanner → Scanner → List Read → Result (Unit {0}) Refus
 Reads old new h (Ok u) = Takes old new h ⊎ TakesBoth old new h
 Reads old new h (Err e) = Falls old new h
 
--- where a lexeme of that kind stands, so that no required candidate is stale, and its levels are closed; or none was read
+-- where a lexeme of that kind is, so that no required candidate is stale, and its levels are closed; or none was read
 abbrev pub Finds : Scanner → Scanner → List Read → Result ReadKind Refused → Type 0
 Finds old new h (Ok k) = StandsAt k new h × (new.text.now ≡ old.text.now) × (new.row ≡ old.row)
     × (fixed_of new ≡ fixed_of old)
@@ -395,7 +395,7 @@ Steps old new h (Err e) = Falls old new h
 
 -- ---- settling
 
--- The keys tell the earliest open candidate of the first n lexemes, after which that place is reached, in a line that starts there.
+-- The keys give the earliest open candidate of the first n lexemes, after which that place is reached, in a line that starts there.
 pub record MaySettle (s : Scanner) (at line n : ℕ) : Type 0 where
   pub long : length s.text.now < 2 ^ 63
   pub mark : reached (history s.text.now n) ≡ mark_at s.text.now at
@@ -433,7 +433,7 @@ pub record IsOver (s : Scanner) : Type 0 where
 abbrev pub but_last : RowView → RowView
 but_last r = record r { lexemes = take (length r.lexemes - 1) r.lexemes; settled = r.settled - 1 }
 
--- A lexeme stands for the fault, and for the BLOCK-ENDs of the entry that is lost, of which some are taken or none.
+-- A lexeme means the fault, and the BLOCK-ENDs of the entry that is lost, of which some are taken or none.
 pub record IsLost (text : List ℕ) (none : Bool) (x : Lexeme) (e : Entry) : Type 0 where
   pub kind : x.kind ≡ kinds.Failed
   pub plain : x.flags ≡ 0

@@ -1,8 +1,8 @@
--- Which tokens the lexemes that were read settle: whatever follows, they are told.
+-- Which tokens the lexemes that were read settle: whatever follows, they stay.
 use Rattle.std.specs.Prelude.{ℕ, ◌-◌, ◌≡◌, nat_lt, if◌then◌else◌, All, Bool, List, [], ◌++◌, length, take, drop, Result, Ok, Err}
 use Rattle.std.specs.List.{flat_map}
 use Rattle.yaml_scan_model.specs.declared.name.yaml_encoding_t.{yaml_encoding_t}
-use Rattle.yaml_scan_model.specs.Tokens.{Token}
+use Rattle.yaml_scan_model.specs.scan_types.Tokens.{Token}
 use Rattle.yaml_scan_decode.specs.declared.offence.Offence.{Offence}
 use Rattle.yaml_scan_decode.specs.Encodings.{encoding_of}
 use Rattle.yaml_scan_decode.specs.Decoding.{decoded_text}
@@ -38,11 +38,11 @@ abbrev pub settled_of : yaml_encoding_t → Result (List ℕ) Offence → ℕ �
 settled_of encoding (Ok text) n = settled_tokens record { encoding = encoding; text = text } n
 settled_of encoding (Err o) n = []
 
--- the same of a decoded text
+-- how many tokens of a decoded text these lexemes leave open
 abbrev pub open_of : yaml_encoding_t → Result (List ℕ) Offence → ℕ → ℕ
 open_of encoding r n = length (scanned_in encoding r).tokens - length (settled_of encoding r n)
 
--- the same of an input
+-- how many tokens of an input these lexemes leave open
 abbrev pub open_count : yaml_encoding_t → List ℕ → ℕ → ℕ
 open_count setting bytes n = open_of (encoding_of setting bytes) (decoded_text setting bytes) n
 

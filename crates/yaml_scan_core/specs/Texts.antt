@@ -1,7 +1,7 @@
 -- What reading a lexeme's text answers.
 use Rattle.std.specs.Prelude.{ℕ, ◌≡◌, ◌≤◌, Bool, true, false, nat_lt, List, [], ◌∷◌, ◌++◌, length, Option, Some, None, Result, Ok, Err, OnOk, OnErr}
 use Rattle.std.specs.declared.alloc.AllocError.{AllocError}
-use Rattle.yaml_scan_model.specs.Marks.{mark_at}
+use Rattle.yaml_scan_model.specs.scan_types.Marks.{mark_at}
 use Rattle.yaml_scan_model.specs.Wrong.{Wrong, scan_fault}
 use Rattle.yaml_scan_history.specs.declared.kind.Kind.{Kind as ReadKind}
 use Rattle.yaml_scan_history.specs.declared.kind.Kind.TheVariants as reads

@@ -1,14 +1,14 @@
 -- What a scanner says of its tokens: the texts of the one taken last, whether the next one is known, and the marks of places.
 use Rattle.std.specs.Prelude.{ℕ, pos, ◌+◌, ◌-◌, ◌≡◌, ◌≢◌, ◌≤◌, ◌<◌, ◌⊎◌, Bool, ◌==◌, ◌||◌, true, false, if◌then◌else◌, List, [], length, slice_range, Option, Some, None}
 use Rattle.yaml_scan_model.specs.declared.fault.yaml_origin_t.TheVariants as origins
-use Rattle.yaml_scan_model.specs.Faults.{Fault as Told, memory_fault}
-use Rattle.yaml_scan_model.specs.Marks.{byte, mark_at}
+use Rattle.yaml_scan_model.specs.scan_types.Faults.{Fault as Told, memory_fault}
+use Rattle.yaml_scan_model.specs.scan_types.Marks.{byte, mark_at}
 use Rattle.yaml_scan_runs.specs.Runs.{is_stop}
 use Rattle.yaml_scan_model.specs.Problems.{scanner_fault}
 use Rattle.yaml_scan_history.specs.Remaining.{SpelledText}
-use Rattle.yaml_scan_tokens.specs.Texts.{Texts}
-use Rattle.yaml_scan_tokens.specs.declared.kind.Kind.{Kind}
-use Rattle.yaml_scan_tokens.specs.declared.kind.Kind.TheVariants as kinds
+use Rattle.yaml_scan_model.specs.Texts.{Texts}
+use Rattle.yaml_scan_model.specs.declared.kind.Kind.{Kind}
+use Rattle.yaml_scan_model.specs.declared.kind.Kind.TheVariants as kinds
 use Rattle.yaml_scan_core.specs.declared.fault.Fault.{Fault}
 use Rattle.yaml_scan_core.specs.declared.lexeme.Lexeme.{Lexeme}
 use Rattle.yaml_scan_core.specs.declared.lexeme.Span.{Span}
@@ -85,7 +85,7 @@ pub record KnowsNext (s : Scanner) : Type 0 where
       ⊎ ((s.row.next < length s.row.lexemes.items) × (0 < (front_lexeme s).ends))
   pub token : (front_lexeme s).front ≢ kinds.Failed
 
--- what is told of a fault that is kept; where none is, memory ran out
+-- what is reported of a fault that is kept; where none is, memory ran out
 abbrev pub fault_told : List ℕ → Option Fault → Told
 fault_told text (Some f) = scanner_fault (fault_in text f)
 fault_told text None = memory_fault origins.Scanner

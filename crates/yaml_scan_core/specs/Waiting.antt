@@ -1,8 +1,8 @@
 -- How many of the lexemes that were read wait, and that none is read before it is needed.
 use Rattle.std.specs.Prelude.{ℕ, ◌+◌, ◌≡◌, ◌≢◌, ◌≤◌, ◌<◌, ◌⊎◌, Bool, false, ◌&&◌, ◌||◌, nat_lt, length}
 use Rattle.yaml_scan_history.specs.History.{most_waiting}
-use Rattle.yaml_scan_tokens.specs.declared.kind.Kind.{Kind}
-use Rattle.yaml_scan_tokens.specs.declared.kind.Kind.TheVariants as kinds
+use Rattle.yaml_scan_model.specs.declared.kind.Kind.{Kind}
+use Rattle.yaml_scan_model.specs.declared.kind.Kind.TheVariants as kinds
 use Rattle.yaml_scan_core.specs.declared.scanner.Scanner.{Scanner}
 use Rattle.yaml_scan_core.specs.Asked.{front_lexeme}
 use Rattle.yaml_scan_core.specs.Handed.{to_come}
@@ -23,7 +23,7 @@ IsShort s = length s.row.lexemes.items ≤ s.row.next + most_waiting
 abbrev pub IsRead : Scanner → Type 0
 IsRead s = IsGoing s ⊎ IsOver s
 
--- no token is left before the fault, or before what stands when out of memory
+-- no token is left before the fault, or before what comes when out of memory
 pub record IsAtFault (s : Scanner) : Type 0 where
   pub last : s.row.settled ≡ s.row.next + 1
   pub all : s.row.settled ≡ length s.row.lexemes.items
@@ -51,7 +51,7 @@ pub record Needs (old new : Scanner) : Type 0 where
   pub short : IsShort old → IsShort new
   pub reads : ReadsNeeded old new ⊎ FailsNeeded old new
 
--- What telling the next token's kind came to, where one is read at once.
+-- What asking for the next token's kind came to, where one is read at once.
 pub record TellsNeeded (k : Kind) (old new : Scanner) : Type 0 where
   pub fixed : fixed_of new ≡ fixed_of old
   pub taken : taken_by new ≡ taken_by old

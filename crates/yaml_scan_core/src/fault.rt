@@ -1,7 +1,7 @@
 //! Why there is no further lexeme.
 
 ghost use Rattle.std.specs.Prelude.{◌≡◌};
-ghost use Rattle.yaml_scan_model.specs.Faults.{fault_of};
+ghost use Rattle.yaml_scan_model.specs.scan_types.Faults.{fault_of};
 ghost use Rattle.yaml_scan_model.specs.Problems.{scanner_fault};
 ghost use Rattle.yaml_scan_core.specs.Scanning.{fault_in};
 

@@ -14,8 +14,7 @@ use crate::lexeme::{Lexeme, MAPPING, SEQUENCE};
 use crate::scanner::Scanner;
 use std::alloc::AllocError;
 use yaml_scan_history::Kind as LexemeKind;
-use yaml_scan_model::{Context, Problem, yaml_scalar_style_t};
-use yaml_scan_tokens::Kind;
+use yaml_scan_model::{Context, Kind, Problem, yaml_scalar_style_t};
 
 impl Lexeme {
     /// A lexeme that carries nothing.
@@ -226,7 +225,7 @@ impl Scanner<'_> {
         Ok(())
     }
 
-    /// The end, which stands on a line of its own: no required key is left.
+    /// The end, which is on a line of its own: no required key is left.
     pub(crate) fn stream_end(&mut self) -> Result<(), Refused>
         requires { StandsAt kinds.StreamEnd self.old (history_of self.old) }
         ensures { Reads self.old self.new (history_of self.old) result }

@@ -2,7 +2,7 @@
 
 ghost use Rattle.std.specs.Prelude.{ℕ, ◌≡◌, ◌+◌, ◌-◌, ◌<◌, ◌≤◌, ◌^◌, ◌&&◌, ◌==◌, if◌then◌else◌, false, List, length, OnOk, OnErr, IfSome, Some, None, option_map};
 ghost use Rattle.yaml_scan_history.specs.History as history;
-ghost use Rattle.yaml_scan_model.specs.Marks.{mark_at};
+ghost use Rattle.yaml_scan_model.specs.scan_types.Marks.{mark_at};
 ghost use Rattle.yaml_scan_core.specs.Lines.{IsLineStart};
 ghost use Rattle.yaml_scan_core.specs.Scanning.{HasSettled, MaySettle, Tests, candidate_in, no_colon, required_in_column};
 ghost use Rattle.yaml_scan_core.specs.Candidates.{AreStale, AreWithin, cancelled_at, closed, fresh_key, HasRoom, given_up, index_in, inner, key_at, key_mark, key_view, late, left, number_in, opened, required_at, saved, stack_of};
@@ -12,7 +12,7 @@ use crate::scanner::Scanner;
 use std::alloc::AllocError;
 use yaml_scan_model::{Context, Problem};
 
-/// That many bytes after its start a key's `:` may stand.
+/// At most that many bytes after its start a key's `:` may come.
 pub(crate) const KEY_BYTES: usize = 1024;
 
 /// A lexeme that may be a key: its number among all lexemes, and where it starts.
@@ -99,7 +99,8 @@ impl Keys {
         self.levels[self.levels.len() - 1]
     }
 
-    /// The candidate of the innermost level is another. Of the block level's it is told whether its `:` must come.
+    /// The candidate of the innermost level is another. At a block level, `required` says whether
+    /// its `:` must come.
     pub(crate) fn save(&mut self, key: SimpleKey, required: bool)
         requires { 0 < length self.old.levels.items }
         ensures value { stack_of self.new ≡ saved key required (stack_of self.old) }
@@ -205,7 +206,8 @@ impl Keys {
         Some(key)
     }
 
-    /// Passes candidates that are stale at a place of that line, and tells the number of the first of the others.
+    /// Passes candidates that are stale at a place of that line, and returns the number of the
+    /// first of the others.
     pub(crate) fn earliest(&mut self, at: usize, line: usize) -> Option<usize>
         requires few { self.old.passed ≤ length self.old.levels.items }
         requires within { AreWithin (2 ^ 63 - 1) (stack_of self.old) }

@@ -3,8 +3,7 @@
 ghost use Rattle.std.specs.Prelude.{◌≡◌, ◌&&◌, ◌<◌, false, if◌then◌else◌};
 ghost use Rattle.yaml_scan_core.specs.Rows.{behind_start, first_kind, keyed, may_lead};
 
-use yaml_scan_model::yaml_scalar_style_t;
-use yaml_scan_tokens::Kind;
+use yaml_scan_model::{Kind, yaml_scalar_style_t};
 
 /// Whether a token of that kind may be before a lexeme's own one.
 pub(crate) fn may_lead(kind: Kind) -> bool
@@ -18,7 +17,7 @@ pub(crate) fn may_lead(kind: Kind) -> bool
 
 /// A lexeme, and the tokens that it is spelled as: that many BLOCK-ENDs, a block's start, KEY, its own.
 ///
-/// Its own token stands from `start` to `end` in the text. One with a note has the note's number in place of its end.
+/// Its own token is from `start` to `end` in the text. One with a note has the note's number in place of its end.
 #[derive(Clone, Copy)]
 pub struct Lexeme {
     pub start: usize,

@@ -1,7 +1,7 @@
 //! Tokens with texts of their own.
 
 ghost use Rattle.std.specs.Prelude.{IfOk, ◌≡◌, false};
-ghost use Rattle.yaml_scan_model.specs.Tokens.{TokenBody, body_of};
+ghost use Rattle.yaml_scan_model.specs.scan_types.Tokens.{TokenBody, body_of};
 ghost use Rattle.yaml_scan_core.specs.Asked.{HasTaken, IsFront, Waits, behind_first};
 ghost use Rattle.yaml_scan_core.specs.Handed.{to_come};
 ghost use Rattle.yaml_scan_core.specs.Owned.{GivesOwned, OwnedNeeded, TellsOwned, bare_with, body_with};
@@ -14,10 +14,9 @@ use crate::place::Locator;
 use crate::scanner::Scanner;
 use std::alloc::{AllocError, Global};
 use yaml_scan_model::{
-    yaml_fault_t, yaml_memory_fault, yaml_origin_t, yaml_scalar_style_t, yaml_token_body_t,
+    Kind, yaml_fault_t, yaml_memory_fault, yaml_origin_t, yaml_scalar_style_t, yaml_token_body_t,
     yaml_token_t,
 };
-use yaml_scan_tokens::Kind;
 
 /// The next token with texts of its own, which is taken; after the last the empty one. The error is the fault that ends the tokens,
 /// or out of memory.

@@ -1,8 +1,8 @@
-//! The marks of places: an index into the text stands for its mark, and each index after the text's end for that of the stream's
+//! The marks of places: an index into the text means its mark, and each index after the text's end that of the stream's
 //! end, on a line of its own.
 
 ghost use Rattle.std.specs.Prelude.{ℕ, List, ◌≡◌, ◌+◌, ◌<◌, ◌≤◌, ◌⊎◌, length};
-ghost use Rattle.yaml_scan_model.specs.Marks.{byte, ends_break, mark_at};
+ghost use Rattle.yaml_scan_model.specs.scan_types.Marks.{byte, ends_break, mark_at};
 ghost use Rattle.yaml_scan_core.specs.Shown.{place_mark};
 ghost use Rattle.yaml_scan_core.specs.Told.{IsRun, Locates, may_split};
 

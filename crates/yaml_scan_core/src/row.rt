@@ -6,12 +6,12 @@ ghost use Rattle.yaml_scan_history.specs.Remaining.{SpelledText};
 ghost use Rattle.yaml_scan_core.specs.Handed.{Drops};
 ghost use Rattle.yaml_scan_core.specs.Shown.{ShowsRow, store_of};
 ghost use Rattle.yaml_scan_core.specs.Told.{SpanFits, span_in};
-ghost use Rattle.yaml_scan_tokens.specs.declared.kind.Kind.TheVariants.{BlockEnd};
+ghost use Rattle.yaml_scan_model.specs.declared.kind.Kind.TheVariants.{BlockEnd};
 ghost use Rattle.yaml_scan_core.specs.Rows.{HasRoom, failed, is_set, led, key_marked, row_lexeme, may_lead, pushed, pushed_noted, row_of};
 
 use crate::lexeme::{Lexeme, NOTED, Note, Span, may_lead};
 use std::alloc::{AllocError, Global};
-use yaml_scan_tokens::Kind;
+use yaml_scan_model::Kind;
 
 /// The lexemes that were read and aren't dropped, the first of which are taken.
 #[derive(Drop)]
@@ -21,7 +21,7 @@ pub(crate) struct Row {
     pub next: usize,
     /// How many of them no later one changes.
     pub settled: usize,
-    /// How many lexemes stood before them.
+    /// How many lexemes were before them.
     pub dropped: usize,
     pub notes: Vec<Note>,
     pub arena: Vec<u8>,
@@ -221,7 +221,7 @@ impl Row {
         }
     }
 
-    /// After the settled lexemes stands the fault. The BLOCK-ENDs before the first of the others were settled with them. Where
+    /// After the settled lexemes comes the fault. The BLOCK-ENDs before the first of the others were settled with them. Where
     /// there is no other it ends after its start.
     pub(crate) fn fail(&mut self)
         requires settled { self.old.settled ≤ length self.old.lexemes.items }

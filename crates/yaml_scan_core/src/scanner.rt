@@ -1,10 +1,10 @@
 //! The scanner's state, and one step of it.
 
 ghost use Rattle.std.specs.Prelude.{IfOk, ℕ, ◌≡◌, ◌+◌, ◌-◌, ◌<◌, ◌≤◌, ◌^◌, ◌&&◌, ◌||◌, ◌==◌, not, true, false, length, nat_lt, Some, None, List};
-ghost use Rattle.yaml_scan_model.specs.Ascii as ascii;
-ghost use Rattle.yaml_scan_model.specs.Marks.{byte, column_at, is_blank_or_end};
+ghost use Rattle.yaml_scan_model.specs.scan_types.Ascii as ascii;
+ghost use Rattle.yaml_scan_model.specs.scan_types.Marks.{byte, column_at, is_blank_or_end};
 ghost use Rattle.yaml_scan_history.specs.Plain.{is_indicator_byte, starts_plain};
-ghost use Rattle.yaml_scan_model.specs.Classes.{is_bom};
+ghost use Rattle.yaml_scan_model.specs.scan_types.Classes.{is_bom};
 ghost use Rattle.yaml_scan_history.specs.History.{keeps};
 ghost use Rattle.yaml_scan_history.specs.Words.{indicator_of, kind_at};
 ghost use Rattle.yaml_scan_text.specs.White.{is_thrice};
@@ -25,8 +25,7 @@ use crate::text::{
 };
 use std::alloc::{AllocError, Global};
 use yaml_scan_history::Kind as LexemeKind;
-use yaml_scan_model::{Context, Problem, yaml_encoding_t};
-use yaml_scan_tokens::Kind;
+use yaml_scan_model::{Context, Kind, Problem, yaml_encoding_t};
 
 /// After that many bytes of joined texts no more are read at once.
 const LONG_TEXT: usize = 4096;
@@ -207,7 +206,7 @@ impl<'a> Scanner<'a> {
         self.check_required()
     }
 
-    /// Past the gap here, up to a lexeme, whose kind it tells.
+    /// Past the gap here, up to a lexeme, whose kind it returns.
     fn stand(&mut self) -> Result<LexemeKind, Refused>
         requires shows { Shows self.old (history_of self.old) }
         requires some { 0 < read_by self.old }
@@ -255,7 +254,7 @@ impl<'a> Scanner<'a> {
     }
 
     /// Reads the lexeme of that kind, which is here.
-    // Each kind closes levels for itself: so what tells the kind leads to its arm.
+    // Each kind closes levels for itself: so what shows the kind leads to its arm.
     fn lexeme(&mut self, kind: LexemeKind) -> Result<(), Refused>
         requires { StandsAt kind self.old (history_of self.old) }
         ensures { Reads self.old self.new (history_of self.old) result }
@@ -454,7 +453,7 @@ impl<'a> Scanner<'a> {
         true
     }
 
-    /// Past the break here, if one stands here: in block context it allows a key.
+    /// Past the break here, if there is one: in block context it allows a key.
     fn pass_break(&mut self) -> bool
         requires some { 0 < length self.old.keys.levels.items }
         requires long { length self.old.text.now < 2 ^ 63 }

@@ -1,4 +1,4 @@
-//! Looks at a text. After its end stands a byte 0, which it doesn't hold.
+//! Looks at a text. After its end is a byte 0, which it doesn't hold.
 
 ghost use Rattle.std.specs.Prelude.{◌≡◌, ◌+◌, ◌-◌, ◌≤◌, length};
 ghost use Rattle.yaml_scan_model.specs.Runs.{columns_over};

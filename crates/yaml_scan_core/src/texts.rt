@@ -1,8 +1,8 @@
-//! What is told of the next token, and the texts of the one that was taken last.
+//! What is known of the next token, and the texts of the one that was taken last.
 
 ghost use Rattle.std.specs.Prelude.{true, pos, ◌≡◌, ◌≢◌, ◌<◌, ◌^◌, length};
-ghost use Rattle.yaml_scan_model.specs.Faults.{fault_of};
-ghost use Rattle.yaml_scan_model.specs.Tokens.{TokenBody};
+ghost use Rattle.yaml_scan_model.specs.scan_types.Faults.{fault_of};
+ghost use Rattle.yaml_scan_model.specs.scan_types.Tokens.{TokenBody};
 ghost use Rattle.yaml_scan_core.specs.Asked.{HasTaken, IsFront, Waits, front_lexeme, store_in};
 ghost use Rattle.yaml_scan_core.specs.Shown.{end_at, number_of, quotes};
 ghost use Rattle.yaml_scan_core.specs.Told.{KnowsNext, fault_told, has_parts, has_value, texts_of};
@@ -10,9 +10,8 @@ ghost use Rattle.yaml_scan_core.specs.Told.{KnowsNext, fault_told, has_parts, ha
 use crate::lexeme::NOTED;
 use crate::scanner::Scanner;
 use yaml_scan_model::{
-    yaml_encoding_t, yaml_fault_t, yaml_memory_fault, yaml_origin_t, yaml_scalar_style_t,
+    Kind, yaml_encoding_t, yaml_fault_t, yaml_memory_fault, yaml_origin_t, yaml_scalar_style_t,
 };
-use yaml_scan_tokens::Kind;
 
 impl Scanner<'_> {
     /// Whether the next token is known, whatever follows.

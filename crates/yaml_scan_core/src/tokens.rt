@@ -8,17 +8,17 @@ ghost use Rattle.yaml_scan_core.specs.Scanning.{stream_of};
 ghost use Rattle.yaml_scan_core.specs.Waiting.{IsRead, TakesNeeded, TellsNeeded};
 
 use crate::scanner::Scanner;
-use yaml_scan_tokens::Kind;
+use yaml_scan_model::Kind;
 
 impl Scanner<'_> {
-    /// The kind of the next token. Where none is known, more is read. `Failed` stands for the fault, or when out of memory, and
+    /// The kind of the next token. Where none is known, more is read. `Failed` means the fault, or out of memory, and
     /// `Nothing` after the stream's end.
     pub fn kind(&mut self) -> Kind
         requires { Waits self.old }
         ensures waits { Waits self.new }
         ensures stream { stream_of self.new ≡ stream_of self.old }
         ensures shows { ShowsKind result (to_come self.old) self.new }
-        // A token that is settled is told again, and nothing is read.
+        // A token that is settled is returned again, and nothing is read.
         ensures known { self.old.row.next < self.old.row.settled
             → (self.new ≡ self.old) × (result ≡ (front_lexeme self.old).front) }
         ensures needs { self.old.batch ≡ 1 → IsRead self.old

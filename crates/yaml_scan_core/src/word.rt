@@ -2,8 +2,8 @@
 
 ghost use Rattle.std.specs.Prelude.{ℕ, ◌≡◌, ◌+◌, ◌-◌, ◌<◌, ◌≤◌, true, false, List, [], Some, None, length, if◌then◌else◌};
 ghost use Rattle.std.specs.Str.{is_utf8};
-ghost use Rattle.yaml_scan_model.specs.Ascii as ascii;
-ghost use Rattle.yaml_scan_model.specs.Marks.{break_width, byte, splits_break, starts};
+ghost use Rattle.yaml_scan_model.specs.scan_types.Ascii as ascii;
+ghost use Rattle.yaml_scan_model.specs.scan_types.Marks.{break_width, byte, splits_break, starts};
 ghost use Rattle.yaml_scan_model.specs.Runs.{columns_over};
 ghost use Rattle.yaml_scan_history.specs.Block as blocks;
 ghost use Rattle.yaml_scan_history.specs.Plain as plain;
@@ -15,7 +15,7 @@ ghost use Rattle.yaml_scan_history.specs.Words.{blocked, directed, plainly, tagg
 ghost use Rattle.yaml_scan_text.specs.Lines.{line_start};
 ghost use Rattle.yaml_scan_text.specs.PlainRead as plainly_read;
 ghost use Rattle.yaml_scan_text.specs.Refused.{Keeps};
-ghost use Rattle.yaml_scan_tokens.specs.declared.kind.Kind.TheVariants as kinds;
+ghost use Rattle.yaml_scan_model.specs.declared.kind.Kind.TheVariants as kinds;
 ghost use Rattle.yaml_scan_core.specs.Rows.{bare};
 ghost use Rattle.yaml_scan_core.specs.Scanning.{IsPlace, Reads, StandsAs, StandsAt, history_of};
 ghost use Rattle.yaml_scan_core.specs.Texts.{PutsWord, ReadsWord, StoresMore, is_key_word, is_line_word, is_scalar};
@@ -29,12 +29,11 @@ use crate::text::{break_width, continuing};
 use simdutf8::is_utf8;
 use std::alloc::AllocError;
 use yaml_scan_history::Kind as LexemeKind;
-use yaml_scan_model::{Context, Problem, yaml_scalar_style_t};
+use yaml_scan_model::{Context, Kind, Problem, yaml_scalar_style_t};
 use yaml_scan_text::{
     PlainLine, Refusal, Wrong, block_scalar, is_bad_colon, name, plain_line, plain_lines,
     quoted_scalar, read_directive, read_tag,
 };
-use yaml_scan_tokens::Kind;
 
 /// A lexeme's text as it was read: the lexeme, its note, if it has one, the place that is reached after it, where the line of that
 /// starts, how many bytes between these continue a character, and whether the blanks after a plain scalar hold a break.
@@ -48,7 +47,7 @@ pub(crate) struct Word {
     pub broke: bool,
 }
 
-/// Where a lexeme's text stands: its place, where the line of that starts, how many bytes between these continue a character, and
+/// Where a lexeme's text is: its place, where the line of that starts, how many bytes between these continue a character, and
 /// how many levels end before the lexeme.
 #[derive(Clone, Copy)]
 pub(crate) struct Spot {
@@ -150,7 +149,7 @@ fn is_scalar(kind: LexemeKind) -> bool
     matches!(kind, LexemeKind::Literal | LexemeKind::Folded)
 }
 
-/// The fault that a refusal tells, of what starts there, unless memory ran out.
+/// The fault that a refusal means, of what starts there, unless memory ran out.
 // No place lies after the text's end: the test goes once that is a law of the definitions.
 fn fault_told(refusal: Refusal, start: usize, end: usize) -> Option<Fault>
     ensures { result ≡ told_by refusal start end }
@@ -456,7 +455,7 @@ fn block_word(
     })
 }
 
-/// A plain scalar. Its value is a part of the text where it stands on one line, else joined from its lines.
+/// A plain scalar. Its value is a part of the text where it is on one line, else joined from its lines.
 fn plain_word(
     arena: &mut Vec<u8>,
     text: &[u8],

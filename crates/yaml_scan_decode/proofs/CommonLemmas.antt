@@ -1,8 +1,8 @@
 -- The characters that are judged by their first byte: those of U+00C0 to U+07FF, and of U+1000 to U+CFFF.
 use Rattle.std.proofs.Common.{◌≡◌, ℕ, ◌+◌, ◌-◌, ◌*◌, ◌≤◌, true, not, List, length, Ok, ◌∙◌, arith}
 use Rattle.std.proofs.lemmas.Bool.Decides.{nat_tests}
-use Rattle.yaml_scan_model.specs.Marks.{byte}
-use Rattle.yaml_scan_model.specs.Classes.{width_of}
+use Rattle.yaml_scan_types.specs.Marks.{byte}
+use Rattle.yaml_scan_types.specs.Classes.{width_of}
 use Rattle.yaml_scan_decode.specs.Characters.{is_trailing, is_allowed, allowed_at, valued_at, least_code, sequence_of, utf8_code, leading_bits, utf8_of}
 use Rattle.yaml_scan_decode.specs.Steps.{is_plain, HasCharacter}
 use Rattle.yaml_scan_runs.specs.Runs.{is_unplain}

@@ -10,8 +10,8 @@ use Rattle.std.specs.Char.Escape.{encode_utf16}
 use Rattle.std.specs.Prelude.{take, Some}
 use Rattle.yaml_scan_model.specs.declared.name.yaml_encoding_t.{yaml_encoding_t}
 use Rattle.yaml_scan_model.specs.declared.name.yaml_encoding_t.TheVariants.{YAML_UTF8_ENCODING, YAML_UTF16LE_ENCODING, YAML_UTF16BE_ENCODING}
-use Rattle.yaml_scan_model.specs.Marks.{byte}
-use Rattle.yaml_scan_model.specs.Classes.{width_of}
+use Rattle.yaml_scan_types.specs.Marks.{byte}
+use Rattle.yaml_scan_types.specs.Classes.{width_of}
 use Rattle.yaml_scan_decode.specs.declared.offence.Offence.{Offence}
 use Rattle.yaml_scan_decode.specs.declared.utf16.ByteOrder.{ByteOrder}
 use Rattle.yaml_scan_decode.specs.declared.utf16.ByteOrder.TheVariants.{LowFirst, HighFirst}
@@ -73,7 +73,7 @@ pub valued_good : (p width code : ℕ) → least_code width ≤ code → is_allo
 unfolding valued_at allowed_at is_allowed
 valued_good p width code low allowed = grind (arith, nat_tests)
 
--- enough bytes are left, and the sequence stands for the code
+-- enough bytes are left, and the sequence spells the code
 utf8_good : (left p b c d e width code : ℕ) → width_of b ≡ width → 0 < width → width ≤ left
     → (nat_lt 1 width && not (is_trailing c)) ≡ false
     → (nat_lt 2 width && not (is_trailing d)) ≡ false

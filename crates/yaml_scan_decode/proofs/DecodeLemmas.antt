@@ -1,12 +1,12 @@
--- Decoding, a character at a time: what a character that is at a place tells.
+-- Decoding, a character at a time: what a character that is at a place shows.
 use Rattle.std.proofs.Common.{◌≡◌, ℕ, ◌+◌, ◌-◌, ◌*◌, ◌<◌, ◌≤◌, Bool, true, false, not, ◌&&◌, ◌==◌, nat_lt, cond, List, [], ◌∷◌, ◌++◌, take, drop, length, Result, Ok, Err, refl, arith, add-one, add-zero, drop-cons, rules}
 use Rattle.std.proofs.lemmas.Bool.Decides.{nat_tests}
 use Rattle.std.specs.Char.{encode_utf8}
 use Rattle.std.specs.Char.Escape.{encode_utf16}
 use Rattle.yaml_scan_model.specs.declared.name.yaml_encoding_t.{yaml_encoding_t}
 use Rattle.yaml_scan_model.specs.declared.name.yaml_encoding_t.TheVariants.{YAML_UTF16LE_ENCODING, YAML_UTF16BE_ENCODING}
-use Rattle.yaml_scan_model.specs.Marks.{byte}
-use Rattle.yaml_scan_model.specs.Classes.{width_of}
+use Rattle.yaml_scan_types.specs.Marks.{byte}
+use Rattle.yaml_scan_types.specs.Classes.{width_of}
 use Rattle.yaml_scan_decode.specs.declared.offence.Offence.{Offence}
 use Rattle.yaml_scan_decode.specs.declared.offence.Character.{Character}
 use Rattle.yaml_scan_decode.specs.declared.utf16.ByteOrder.{ByteOrder}
@@ -19,7 +19,7 @@ pub width_small : (b : ℕ) → width_of b ≤ 4
 unfolding width_of
 width_small b = grind (arith, nat_tests)
 
--- a test whose success is an offence failed where a character stands
+-- a test whose success is an offence failed where there is a character
 passed : (t : Bool) (o : Offence) (r : Result Character Offence) (ch : Character)
     → cond t (Err o) r ≡ Ok ch → (t ≡ false) × (r ≡ Ok ch)
 passed t o r ch h = grind arith

@@ -9,8 +9,8 @@ use Rattle.std.specs.Prelude.{encode_utf8, encode_utf8_all}
 use Rattle.std.proofs.lemmas.Bool.{cond_both, ltb-true, ltb-false, lt-ltb}
 use Rattle.yaml_scan_model.specs.declared.name.yaml_encoding_t.{yaml_encoding_t}
 use Rattle.yaml_scan_model.specs.declared.name.yaml_encoding_t.TheVariants.{YAML_UTF8_ENCODING}
-use Rattle.yaml_scan_model.specs.Marks.{byte}
-use Rattle.yaml_scan_model.specs.Classes.{width_of}
+use Rattle.yaml_scan_types.specs.Marks.{byte}
+use Rattle.yaml_scan_types.specs.Classes.{width_of}
 use Rattle.yaml_scan_decode.specs.declared.offence.Offence.{Offence}
 use Rattle.yaml_scan_decode.specs.declared.offence.Character.{Character}
 use Rattle.yaml_scan_decode.specs.declared.utf16.ByteOrder.{ByteOrder}
@@ -29,7 +29,7 @@ pub character_by : (order : ByteOrder) (bytes : List ℕ) (p : ℕ)
     → character_at (encoding_by order) bytes p ≡ utf16_at order bytes p
 character_by order bytes p = grind arith
 
--- past the end nothing stands
+-- past the end there is nothing
 pub ended : (n : ℕ) (e : yaml_encoding_t) (bytes : List ℕ) (p : ℕ) → length bytes ≤ p
     → characters n e bytes p ≡ Ok []
 unfolding characters

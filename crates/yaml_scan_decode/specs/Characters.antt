@@ -1,11 +1,11 @@
 -- What is at a place of the bytes: a character, or an offence.
 use Rattle.std.specs.Prelude.{ℕ, ℤ, pos, negsuc, ◌+◌, ◌-◌, ◌*◌, Bool, not, ◌&&◌, ◌||◌, ◌==◌, nat_lt, nat_le, if◌then◌else◌, List, length, Result, Ok, Err}
-use Rattle.yaml_scan_model.specs.Ascii as ascii
-use Rattle.yaml_scan_model.specs.Points as points
+use Rattle.yaml_scan_types.specs.Ascii as ascii
+use Rattle.yaml_scan_types.specs.Points as points
 use Rattle.yaml_scan_model.specs.declared.name.yaml_encoding_t.{yaml_encoding_t}
 use Rattle.yaml_scan_model.specs.declared.name.yaml_encoding_t.TheVariants.{YAML_ANY_ENCODING, YAML_UTF8_ENCODING, YAML_UTF16LE_ENCODING, YAML_UTF16BE_ENCODING}
-use Rattle.yaml_scan_model.specs.Marks.{byte}
-use Rattle.yaml_scan_model.specs.Classes.{width_of}
+use Rattle.yaml_scan_types.specs.Marks.{byte}
+use Rattle.yaml_scan_types.specs.Classes.{width_of}
 use Rattle.yaml_scan_decode.specs.declared.offence.ReaderProblem.{ReaderProblem}
 use Rattle.yaml_scan_decode.specs.declared.offence.ReaderProblem.TheVariants as problems
 use Rattle.yaml_scan_decode.specs.declared.offence.Offence.{Offence}
@@ -35,7 +35,7 @@ is_high_surrogate c = between 0xD800 0xDBFF c
 abbrev pub offends : ReaderProblem → ℕ → ℤ → Result Character Offence
 offends problem place number = Err record { problem = problem; offset = place; value = number }
 
--- no byte, unit or character is told
+-- no byte, unit or character is named
 abbrev pub no_value : ℤ
 no_value = negsuc 0
 
@@ -50,7 +50,7 @@ unfoldable pub least_code : ℕ → ℕ
 least_code width = if width == 1 then 0 else if width == 2 then 0x80 else if width == 3 then 0x800
     else 0x1_0000
 
--- those bytes there stand for the code: a shorter form, a surrogate and a number above 10FFFF spell no character
+-- the code of those bytes there: a shorter form, a surrogate and a number above 10FFFF spell no character
 unfoldable pub valued_at : ℕ → ℕ → ℕ → Result Character Offence
 valued_at p width code =
     if nat_lt code (least_code width) then offends problems.InvalidLength p no_value
@@ -67,7 +67,7 @@ unfoldable pub leading_bits : ℕ → ℕ → ℕ
 leading_bits width b = if width == 1 then b else if width == 2 then b - 0xC0 else if width == 3
     then b - 0xE0 else b - 0xF0
 
--- the code that as many of these bytes stand for
+-- the code of as many of these bytes
 unfoldable pub utf8_code : ℕ → ℕ → ℕ → ℕ → ℕ → ℕ
 utf8_code width b c d e =
     let lead = leading_bits width b in

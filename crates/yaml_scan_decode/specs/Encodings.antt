@@ -1,7 +1,7 @@
 -- The encoding of a stream, and the byte order mark that is removed (YAML 1.1, 5.2).
 use Rattle.std.specs.Prelude.{ℕ, Bool, ◌||◌, if◌then◌else◌, List, nat_eq}
 use Rattle.std.specs.List.{starts_with}
-use Rattle.yaml_scan_model.specs.Points as points
+use Rattle.yaml_scan_types.specs.Points as points
 use Rattle.yaml_scan_model.specs.declared.name.yaml_encoding_t.{yaml_encoding_t}
 use Rattle.yaml_scan_model.specs.declared.name.yaml_encoding_t.TheVariants.{YAML_ANY_ENCODING, YAML_UTF8_ENCODING, YAML_UTF16LE_ENCODING, YAML_UTF16BE_ENCODING}
 

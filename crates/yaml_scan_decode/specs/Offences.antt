@@ -2,8 +2,8 @@
 use Rattle.std.specs.Prelude.{ℕ, List, None, codes}
 use Rattle.yaml_scan_model.specs.declared.name.yaml_error_type_t.TheVariants.{YAML_READER_ERROR}
 use Rattle.yaml_scan_model.specs.declared.fault.yaml_origin_t.TheVariants.{Reader}
-use Rattle.yaml_scan_model.specs.Tokens.{zero_mark}
-use Rattle.yaml_scan_model.specs.Faults.{Fault}
+use Rattle.yaml_scan_types.specs.Tokens.{zero_mark}
+use Rattle.yaml_scan_types.specs.Faults.{Fault}
 use Rattle.yaml_scan_decode.specs.declared.offence.ReaderProblem.{ReaderProblem}
 use Rattle.yaml_scan_decode.specs.declared.offence.ReaderProblem.TheVariants as problems
 use Rattle.yaml_scan_decode.specs.declared.offence.Offence.{Offence}

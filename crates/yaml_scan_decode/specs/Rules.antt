@@ -1,7 +1,7 @@
 -- What is wrong with bytes, rule by rule: what is there, and what the fault says, in its own words.
 use Rattle.std.specs.Prelude.{◌≡◌, ◌<◌, ◌≤◌, ℕ, ℤ, pos, negsuc, ◌+◌, ◌-◌, false, true, List, length, Result, Ok, Err, codes}
-use Rattle.yaml_scan_model.specs.Marks.{byte}
-use Rattle.yaml_scan_model.specs.Classes.{width_of}
+use Rattle.yaml_scan_types.specs.Marks.{byte}
+use Rattle.yaml_scan_types.specs.Classes.{width_of}
 use Rattle.yaml_scan_decode.specs.declared.offence.Offence.{Offence}
 use Rattle.yaml_scan_decode.specs.declared.offence.Character.{Character}
 use Rattle.yaml_scan_decode.specs.declared.utf16.ByteOrder.{ByteOrder}
@@ -14,7 +14,7 @@ IsOffence (Ok c) what p number = ⊥
 IsOffence (Err o) what p number = (problem_text_of o.problem ≡ what) × (o.offset ≡ p)
     × (o.value ≡ number)
 
--- no number is told
+-- no number is named
 abbrev pub nothing : ℤ
 nothing = negsuc 0
 

@@ -9,7 +9,7 @@ use Rattle.yaml_scan_decode.specs.declared.utf16.DecodeError.TheVariants.{Memory
 use Rattle.yaml_scan_decode.specs.Characters.{is_allowed, is_trailing, utf8_at}
 use Rattle.yaml_scan_decode.specs.Decoding.{characters}
 
--- what the byte b, which stands that many places after the first of its character, adds to the code; 0 where the character has no such byte
+-- what the byte b, which is that many places after the first of its character, adds to the code; 0 where the character has no such byte
 unfoldable pub trailing_bits : ℕ → ℕ → ℕ → ℕ → Result ℕ Offence
 trailing_bits p width ahead b =
     if nat_lt ahead width && not (is_trailing b)
@@ -39,7 +39,7 @@ abbrev pub HasCharacter : List ℕ → ℕ → ℕ → Type 0
 HasCharacter bytes p width =
     (code : ℕ) × (utf8_at bytes p ≡ Ok record { code = code; width = width })
 
--- characters stand from the place p on up to that later one, or the offence is the first there
+-- there are characters from the place p on up to that later one, or the offence is the first there
 abbrev pub GoesTo : List ℕ → ℕ → Result ℕ Offence → Type 0
 GoesTo bytes p (Ok q) = (p < q) × (outcome_at bytes p ≡ outcome_at bytes q)
 GoesTo bytes p (Err o) = outcome_at bytes p ≡ Err o

@@ -3,7 +3,7 @@
 ghost use Rattle.std.specs.Prelude.{◌≡◌, ◌≤◌, length, Some, Ok, false, IfOk, IfErr, ◌⊎◌};
 ghost use Rattle.yaml_scan_model.specs.declared.name.yaml_encoding_t.TheVariants.{YAML_UTF8_ENCODING};
 ghost use Rattle.yaml_scan_model.specs.declared.fault.yaml_origin_t.TheVariants.{Reader};
-ghost use Rattle.yaml_scan_model.specs.Faults.{fault_of, memory_fault};
+ghost use Rattle.yaml_scan_types.specs.Faults.{fault_of, memory_fault};
 ghost use Rattle.yaml_scan_decode.specs.Encodings.{encoding_of};
 ghost use Rattle.yaml_scan_decode.specs.Characters.{encoding_by};
 ghost use Rattle.yaml_scan_decode.specs.Decoding.{characters, in_utf8, decoded_text};
@@ -60,7 +60,7 @@ fn decode_units<'a>(
 
 /// The text that the bytes of a stream spell, in UTF-8 (YAML 1.1, 5.1 and 5.2). With `YAML_ANY_ENCODING` a leading
 /// byte order mark shows the encoding, UTF-8 where there is none, and is removed; with a set encoding nothing is.
-/// UTF-8 is passed by reference as it stands and takes no memory; UTF-16 is written anew.
+/// UTF-8 is passed by reference as it is and takes no memory; UTF-16 is written anew.
 ///
 /// Errors: kind 2 where the bytes spell no text, for the first character that they don't spell or that a stream may
 /// not hold, with its byte, counted with a removed mark; kind 1 where a growth was refused, for UTF-16 alone.
@@ -73,7 +73,7 @@ pub fn yaml_decode<'a>(
     ensures fault { IfErr result (λ f. (fault_of f ≡ memory_fault Reader)
         ⊎ (decoding_fault encoding input.now ≡ Some (fault_of f))) }
 
-    // UTF-8 is passed by reference as it stands, and takes no memory.
+    // UTF-8 is passed by reference as it is, and takes no memory.
     ensures held { IfOk result (λ t. is_borrowed t ≡ is_utf8 (encoding_of encoding input.now)) }
     ensures no_memory { encoding_of encoding input.now ≡ YAML_UTF8_ENCODING
         → IfErr result (λ f. decoding_fault encoding input.now ≡ Some (fault_of f)) }

@@ -3,8 +3,6 @@
 ghost use Rattle.std.specs.Prelude.{◌≡◌, ◌≤◌, length};
 ghost use Rattle.yaml_scan_decode.specs.Encodings.{encoding_of, mark_length};
 
-use yaml_scan_model::yaml_encoding_t;
-
 // FF FE: the low byte of each unit comes first.
 const LOW_FIRST: [u8; 2] = [0xFF, 0xFE];
 
@@ -53,3 +51,5 @@ pub fn removed_mark_length(input: &[u8], setting: yaml_encoding_t) -> usize
         _ => 0,
     }
 }
+
+use yaml_scan_model::yaml_encoding_t;

@@ -1,11 +1,9 @@
 //! Characters, and the first offence of bytes that spell none.
 
 ghost use Rattle.std.specs.Prelude.{◌≡◌, ◌<◌, ◌^◌};
-ghost use Rattle.yaml_scan_model.specs.Faults.{fault_of};
+ghost use Rattle.yaml_scan_types.specs.Faults.{fault_of};
 ghost use Rattle.yaml_scan_decode.specs.Characters.{is_allowed, allowed_at};
 ghost use Rattle.yaml_scan_decode.specs.Offences.{problem_text_of, reader_fault};
-
-use yaml_scan_model::{yaml_error_type_t, yaml_fault_t, yaml_mark_t, yaml_origin_t};
 
 /// What is wrong with the bytes.
 #[derive(Clone, Copy)]
@@ -26,7 +24,7 @@ pub enum ReaderProblem {
 #[derive(Clone, Copy)]
 pub struct Offence {
     pub problem: ReaderProblem,
-    /// The byte of the whole input at which it stands, a removed mark counted.
+    /// The byte of the whole input where it is, a removed mark counted.
     pub offset: u64,
     /// The byte, unit or character that is wrong, or -1.
     pub value: i32,
@@ -61,7 +59,8 @@ impl ReaderProblem {
 }
 
 impl Offence {
-    /// The offence of that byte, unit or character at that place, or of -1 with none to tell.
+    /// The offence of that byte, unit or character at that place, or of -1 where there is none to
+    /// name.
     pub(crate) fn of(problem: ReaderProblem, place: usize, value: i32) -> Offence
         ensures { result ≡ record { problem = problem; offset = place; value = value } }
     {
@@ -118,3 +117,5 @@ pub fn allowed_character(place: usize, width: usize, code: u32) -> Result<Charac
         Err(Offence::of(ReaderProblem::ControlCharacter, place, code as i32))
     }
 }
+
+use yaml_scan_model::{yaml_error_type_t, yaml_fault_t, yaml_mark_t, yaml_origin_t};

@@ -2,8 +2,8 @@
 
 ghost use Rattle.std.specs.Prelude.{◌≡◌, ◌+◌, ◌<◌, ◌≤◌, ◌^◌, ℕ, true, IfOk, length};
 ghost use Rattle.yaml_scan_model.specs.declared.name.yaml_encoding_t.TheVariants.{YAML_UTF8_ENCODING};
-ghost use Rattle.yaml_scan_model.specs.Marks.{byte};
-ghost use Rattle.yaml_scan_model.specs.Classes.{width_of};
+ghost use Rattle.yaml_scan_types.specs.Marks.{byte};
+ghost use Rattle.yaml_scan_types.specs.Classes.{width_of};
 ghost use Rattle.yaml_scan_decode.specs.Characters.{utf8_at, valued_at, sequence_of, least_code, leading_bits, is_trailing};
 ghost use Rattle.yaml_scan_decode.specs.Steps.{is_plain, trailing_bits, outcome, GoesTo, HasCharacter};
 ghost use Rattle.yaml_scan_decode.specs.Decoding.{characters};

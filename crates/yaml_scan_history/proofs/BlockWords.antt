@@ -16,7 +16,7 @@ pub use Rattle.yaml_scan_model.proofs.BreaksLemmas.{no_end-blank}
 pub use Rattle.yaml_scan_model.proofs.MarksLemmas.{column_more, no_break, past_break, within}
 pub use Rattle.yaml_scan_model.proofs.RunsLemmas.{past-le, past_more, past_some, past_stop, text_parts}
 pub use Rattle.yaml_scan_model.specs.Breaks.{break_value, feed_at}
-pub use Rattle.yaml_scan_model.specs.Marks.{break_width, byte, column_at}
-unfoldable pub use Rattle.yaml_scan_model.specs.Marks.{break_of}
+pub use Rattle.yaml_scan_model.specs.scan_types.Marks.{break_width, byte, column_at}
+unfoldable pub use Rattle.yaml_scan_model.specs.scan_types.Marks.{break_of}
 pub use Rattle.yaml_scan_model.specs.Runs.{is_space_there, is_text, line_end, past, past_spaces}
 pub use Rattle.yaml_scan_model.specs.Wrong.{Wrong}

@@ -53,7 +53,8 @@ pub column_given : (level : ℕ) (text : List ℕ) (digit p : ℕ) → 0 < digit
 unfolding column_of
 column_given level text digit p h = let f : (digit == 0) ≡ false = grind (arith, nat_tests) in rw f refl
 
--- Without a digit a block scalar's column is the deepest indentation of the empty lines in front, and more than its parent's.
+-- Without a digit a block scalar's column is the deepest indentation of the empty lines before it,
+-- and more than its parent's.
 pub column_found : (level : ℕ) (text : List ℕ) (digit p : ℕ) → digit ≡ 0
     → column_of level text digit p ≡ larger_of (larger level 1) (deepest (suc (length text)) text p)
 unfolding column_of

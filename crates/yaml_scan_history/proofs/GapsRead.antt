@@ -23,7 +23,7 @@ crlf_width : (d : ℕ) → break_of 13 10 d ≡ 2
 unfolding break_of
 crlf_width d = refl
 
--- where no break begins stands no LF
+-- where no break begins there is no LF
 pub some_width : (b c d : ℕ) → nat_lt 0 (break_of b c d) ≡ false → b ≢ 10
 unfolding break_of
 some_width b c d h = grind (arith, nat_tests)

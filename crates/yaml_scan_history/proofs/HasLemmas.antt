@@ -7,7 +7,7 @@ abbrev pub Has : List ℕ → ℕ → List ℕ → Type 0
 Has text p [] = Unit {0}
 Has text p (x ∷ xs) = (byte text p ≡ x) × Has text (p + 1) xs
 
--- What is at a place one by one stands there as a text.
+-- What is at a place one by one is there as a text.
 pub has : (text : List ℕ) (p : ℕ) (xs : List ℕ) → HasAt text p xs → Has text p xs
 has text p [] h = tt
 has text p (x ∷ xs) h =
@@ -19,7 +19,7 @@ pub has_front : (text : List ℕ) (p : ℕ) (xs ys : List ℕ) → Has text p (x
 has_front text p [] ys h = tt
 has_front text p (x ∷ xs) ys (e, h) = (e, has_front text (p + 1) xs ys h)
 
--- After the front of what is at a place stands the rest.
+-- After the front of what is at a place comes the rest.
 pub has_rest : (text : List ℕ) (p : ℕ) (xs ys : List ℕ) → Has text p (xs ++ ys)
     → Has text (p + length xs) ys
 has_rest text p [] ys h = rw add-zero h

@@ -2,7 +2,7 @@
 use Rattle.std.proofs.Common.{◌≡◌, ◌≢◌, ℕ, ◌+◌, ◌<◌, true, false, List, Ok, Err, refl, arith}
 use Rattle.yaml_scan_history.proofs.BlockWords.{nat_tests, eq-eqb, ne_eqb, byte, break_of, break_width, is_text, no_break, in_block, is_chomping, indicators, digit_place, chomping_place, digit_of, chomp_of, header_end, header_at}
 use Rattle.yaml_scan_model.specs.declared.problem.Problem.TheVariants as problems
-use Rattle.yaml_scan_model.specs.Classes.{is_digit_byte}
+use Rattle.yaml_scan_model.specs.scan_types.Classes.{is_digit_byte}
 
 between : (b c d : ℕ) → (42 < b) × (b < 58) → (0 < b) × (break_of b c d ≡ 0)
 between b c d (h, k) = (omega arith, no_break b c d (omega arith) (omega arith) (omega arith) (omega arith))

@@ -247,7 +247,7 @@ take-handed_out : (x : Next) (h : List Lexeme) (m : ℕ) → m ≤ first_open h 
     → take m (handed_out x h) ≡ take m (finished_tokens h)
 take-handed_out x h m room = grind (arith, take-take)
 
--- What is before the earliest open candidate is handed out as it stands.
+-- What is before the earliest open candidate is handed out as it is.
 pub take-handed : (text : List ℕ) → GoesForward text → (n m : ℕ) → n ≤ length text + 2
     → m ≤ first_open (history text n) (history text n)
     → take m (handed text) ≡ take m (finished_tokens (history text n))

@@ -1,4 +1,4 @@
--- Where runs end, and the deepest indentation of the lines in front.
+-- Where runs end, and the deepest indentation of the next lines.
 use Rattle.std.proofs.Common.{◌≡◌, ◌≢◌, ℕ, zero, suc, ◌+◌, ◌<◌, ◌≤◌, Bool, true, false, List, length, Result, Ok, Err, refl, sym, ap, subst, ◌∙◌, inl, inr, ◌⊎◌, arith, rules}
 use Rattle.std.proofs.lemmas.Bool.{cases_eq, cases_order}
 use Rattle.yaml_scan_history.proofs.BlockWords.{nat_tests, byte, break_width, past, past_spaces, Wrong, within, past_break, no_break, past_more, past_stop, text_parts, in_block, larger, larger_of, deepest, EndsBlockRun, RunsEnd, RunEndsOnce, LeadsTo, at_once, behind_blank, indent_at, Deepest, DeepestIs, DeepestIsOne}
@@ -15,7 +15,7 @@ empty_run : (kind : List ℕ → ℕ → Bool) (text : List ℕ) (p : ℕ) → k
     → EndsBlockRun kind text p p
 empty_run kind text p e = record { after = omega arith; each = λ k a b. absurd (omega (arith, a, b)); stops = e }
 
--- nothing of the kind stands past the end
+-- nothing of the kind is past the end
 abbrev Inside : (List ℕ → ℕ → Bool) → Type 0
 Inside kind = (text : List ℕ) (p : ℕ) → kind text p ≡ true → p < length text
 

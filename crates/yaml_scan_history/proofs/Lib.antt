@@ -30,7 +30,7 @@ pub mod DepthLemmas
 pub mod ScalarLemmas
 mod UnboundingBlocks
 mod Indents
--- what it stands on, for crates of laws that name this one alone
+-- the crates below it, for crates of laws that name this one alone
 pub use Rattle.yaml_scan_decode.proofs.CompleteLemmas
 pub use Rattle.yaml_scan_decode.proofs.SpellingLemmas
 pub use Rattle.yaml_scan_model.proofs.MarksLemmas

@@ -63,7 +63,7 @@ lands_further : {Y : Type 0} (end : Y → ℕ) (text : List ℕ) (o p : ℕ) (r 
 lands_further end text o p (Ok y) l h = further text o p (end y) l h
 lands_further end text o p (Err w) l h = tt
 
--- what is read and then looked at by f, which hands on what is wrong
+-- what is read and then looked at by f, which passes on what is wrong
 lands_by : {X Y : Type 0} (from : X → ℕ) (end : Y → ℕ) (text : List ℕ) (p : ℕ)
     (f : Result X Wrong → Result Y Wrong) (r : Result X Wrong)
     → ((x : X) → IsFrom text p (from x) → Lands end text p (f (Ok x)))

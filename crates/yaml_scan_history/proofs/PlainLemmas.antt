@@ -80,7 +80,7 @@ pub spot_kept : (flow : Bool) (level : ℕ) (text : List ℕ) (p : ℕ) → brea
 unfolding spot_at
 spot_kept flow level text p z h t k = rw (z, h, t, k) refl
 
--- Where a plain scalar doesn't end, a byte stands.
+-- Where a plain scalar doesn't end, there is a byte.
 pub not_ended : (flow : Bool) (level : ℕ) (text : List ℕ) (p : ℕ)
     → ends_at flow level text p ≡ false → 0 < byte text p
 unfolding ends_at

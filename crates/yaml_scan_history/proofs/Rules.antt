@@ -7,9 +7,9 @@ use Rattle.yaml_scan_model.specs.declared.problem.Context.TheVariants as context
 use Rattle.yaml_scan_model.specs.declared.problem.Problem.{Problem}
 use Rattle.yaml_scan_model.specs.declared.problem.Problem.TheVariants as problems
 use Rattle.yaml_scan_model.specs.Problems.{problem_text_of, context_text_of}
-use Rattle.yaml_scan_model.specs.Marks.{byte, break_width, is_blank_or_end}
+use Rattle.yaml_scan_model.specs.scan_types.Marks.{byte, break_width, is_blank_or_end}
 use Rattle.yaml_scan_model.specs.Breaks.{is_document_indicator}
-use Rattle.yaml_scan_model.specs.Classes.{is_alpha, is_digit, is_blank}
+use Rattle.yaml_scan_model.specs.scan_types.Classes.{is_alpha, is_digit, is_blank}
 use Rattle.yaml_scan_model.specs.Wrong.{Wrong}
 use Rattle.yaml_scan_history.specs.Runs.{belongs, run_end}
 use Rattle.yaml_scan_history.specs.UnboundedBlocks.{EndsBlockRun}

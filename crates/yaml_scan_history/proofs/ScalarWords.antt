@@ -6,8 +6,8 @@ pub use Rattle.yaml_scan_model.proofs.BreaksLemmas.{end_not_blank, last_of}
 pub use Rattle.yaml_scan_model.proofs.MarksLemmas.{past_break, within}
 pub use Rattle.yaml_scan_model.specs.Breaks.{feed_at, is_feed}
 unfoldable pub use Rattle.yaml_scan_model.specs.Breaks.{is_document_indicator}
-pub use Rattle.yaml_scan_model.specs.Marks.{break_width, byte, column_at, ends_break, is_blank}
-unfoldable pub use Rattle.yaml_scan_model.specs.Marks.{ends_of}
+pub use Rattle.yaml_scan_model.specs.scan_types.Marks.{break_width, byte, column_at, ends_break, is_blank}
+unfoldable pub use Rattle.yaml_scan_model.specs.scan_types.Marks.{ends_of}
 pub use Rattle.yaml_scan_model.specs.Wrong.{Wrong}
 unfoldable pub use Rattle.yaml_scan_history.specs.Pieces.{bytes_at}
 pub use Rattle.yaml_scan_history.specs.Pieces.{Blank, Break, Kept, Line, Piece, folded, gap, is_empty, lines, rest_of, text, trim_end, value}

@@ -18,13 +18,13 @@ pub stack_line : (folded : Bool) (done : List ℕ) (blank : Bool)
 unfolding stacked_with
 stack_line folded done blank feed empties words next chomp ls = grind (arith, append-nil, append_assoc)
 
--- With no text in front, nothing but the empty lines is before the first one.
+-- With no text before it, nothing but the empty lines is before the first one.
 pub stack_start : (folded : Bool) (chomp : Chomp) (lead : List ℕ) (lines : List TextLine)
     → behind_text folded chomp false [] lead lines ≡ value_with folded chomp lead lines
 unfolding between
 stack_start folded chomp lead lines = grind arith
 
--- After the last line stands what stays of its break and of the empty lines.
+-- After the last line comes what stays of its break and of the empty lines.
 pub stack_done : (folded blank : Bool) (done feed empties : List ℕ) (chomp : Chomp)
     → done ++ at_end chomp feed empties
     ≡ stacked_with folded done true blank feed empties chomp (texts_of [])

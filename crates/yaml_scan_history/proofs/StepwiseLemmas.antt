@@ -2,7 +2,7 @@
 use Rattle.std.proofs.Common.{◌≡◌, ℕ, Bool, cond, List, [], ◌∷◌, Option, Some, None, Result, refl, arith}
 use Rattle.yaml_scan_model.specs.declared.record.yaml_mark_t.{yaml_mark_t}
 use Rattle.yaml_scan_model.specs.declared.problem.ScanFault.{ScanFault}
-use Rattle.yaml_scan_model.specs.Marks.{mark_at}
+use Rattle.yaml_scan_model.specs.scan_types.Marks.{mark_at}
 use Rattle.yaml_scan_model.specs.Wrong.{Wrong}
 use Rattle.yaml_scan_history.specs.Between.{Gap}
 use Rattle.yaml_scan_history.specs.declared.kind.Kind.{Kind}

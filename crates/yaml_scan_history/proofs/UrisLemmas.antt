@@ -26,7 +26,7 @@ pub uri_inside : (wide : Bool) (text : List ℕ) (p : ℕ) → is_uri wide text 
     → p < length text
 uri_inside wide text p h = let (low, high) = uri_range wide text p h in within text p (omega arith)
 
--- nothing of a URI stands past the end
+-- nothing of a URI is past the end
 pub past_uri : (wide : Bool) (text : List ℕ) (p : ℕ) → length text ≤ p → is_uri wide text p ≡ false
 past_uri wide text p past = false_from_ne_true _ (λ h. let inside = uri_inside wide text p h in omega arith)
 
@@ -85,7 +85,7 @@ spot_ends wide text p mark kept = rw (mark, kept) refl
 
 -- ---- URIs
 
--- Bytes before bytes are both in front.
+-- Bytes before bytes both come first.
 pub bytes_twice : (xs ys : List ℕ) (r : Result (List ℕ × ℕ) Wrong)
     → with_bytes xs (with_bytes ys r) ≡ with_bytes (xs ++ ys) r
 bytes_twice xs ys (Ok u) = rw (append_assoc xs ys u.0) refl

@@ -4,10 +4,10 @@ pub use Rattle.std.proofs.lemmas.Bool.Decides.{nat_tests}
 pub use Rattle.std.proofs.lemmas.List.{drop_more}
 pub use Rattle.yaml_scan_model.proofs.MarksLemmas.{no_break_between, past_break, within}
 pub use Rattle.yaml_scan_model.proofs.RunsLemmas.{past-inside, past-le, past_some, text_parts}
-pub use Rattle.yaml_scan_model.specs.Classes.{is_bom}
-unfoldable pub use Rattle.yaml_scan_model.specs.Classes.{is_alpha_byte, is_digit_byte}
-pub use Rattle.yaml_scan_model.specs.Marks.{break_width, byte, is_blank}
-unfoldable pub use Rattle.yaml_scan_model.specs.Marks.{break_of}
+pub use Rattle.yaml_scan_model.specs.scan_types.Classes.{is_bom}
+unfoldable pub use Rattle.yaml_scan_model.specs.scan_types.Classes.{is_alpha_byte, is_digit_byte}
+pub use Rattle.yaml_scan_model.specs.scan_types.Marks.{break_width, byte, is_blank}
+unfoldable pub use Rattle.yaml_scan_model.specs.scan_types.Marks.{break_of}
 pub use Rattle.yaml_scan_model.specs.Runs.{is_text}
 pub use Rattle.yaml_scan_model.specs.Wrong.{Wrong}
 pub use Rattle.yaml_scan_model.specs.declared.problem.Context.{Context}

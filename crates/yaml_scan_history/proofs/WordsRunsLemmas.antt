@@ -34,7 +34,7 @@ pub belongs_inside : (run : Run) (text : List ℕ) (p : ℕ) → belongs run tex
     → p < length text
 belongs_inside run text p h = within text p (belongs_here run text p h).0
 
--- Nothing of a run stands past the end.
+-- Nothing of a run is past the end.
 pub past_run : (run : Run) (text : List ℕ) (p : ℕ) → length text ≤ p → belongs run text p ≡ false
 past_run run text p past = false_from_ne_true _ (λ h. let inside = belongs_inside run text p h in omega arith)
 

@@ -1,11 +1,11 @@
 -- Anchors and aliases.
 use Rattle.std.specs.Prelude.{ℕ, ◌+◌, Bool, not, ◌||◌, ◌==◌, if◌then◌else◌, List, slice_range, Result, Ok, Err}
-use Rattle.yaml_scan_model.specs.Ascii as ascii
+use Rattle.yaml_scan_model.specs.scan_types.Ascii as ascii
 use Rattle.yaml_scan_history.specs.declared.run.Run.TheVariants as runs
 use Rattle.yaml_scan_history.specs.Runs.{run_end}
 use Rattle.yaml_scan_model.specs.declared.problem.Context.{Context}
 use Rattle.yaml_scan_model.specs.declared.problem.Problem.TheVariants as problems
-use Rattle.yaml_scan_model.specs.Marks.{byte, is_blank_or_end}
+use Rattle.yaml_scan_model.specs.scan_types.Marks.{byte, is_blank_or_end}
 use Rattle.yaml_scan_model.specs.Wrong.{Wrong}
 
 -- one of ``? : , ] } % @ ` ``

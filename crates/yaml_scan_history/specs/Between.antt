@@ -1,11 +1,11 @@
 -- What is between lexemes.
 use Rattle.std.specs.Prelude.{ℕ, zero, suc, ◌+◌, Bool, true, false, not, ◌&&◌, ◌||◌, ◌==◌, nat_lt, if◌then◌else◌, List, length}
-use Rattle.yaml_scan_model.specs.Ascii as ascii
+use Rattle.yaml_scan_model.specs.scan_types.Ascii as ascii
 use Rattle.yaml_scan_history.specs.declared.between.GapSpot.{GapSpot}
 use Rattle.yaml_scan_history.specs.declared.between.GapSpot.TheVariants as gap_spots
-use Rattle.yaml_scan_model.specs.Marks.{byte, break_width}
+use Rattle.yaml_scan_model.specs.scan_types.Marks.{byte, break_width}
 use Rattle.yaml_scan_model.specs.Runs.{line_end}
-use Rattle.yaml_scan_model.specs.Classes.{is_bom}
+use Rattle.yaml_scan_model.specs.scan_types.Classes.{is_bom}
 
 -- what is at a place between lexemes, and the place after it
 pub record GapStep : Type 0 where

@@ -1,13 +1,13 @@
 -- Directives.
 use Rattle.std.specs.Prelude.{ℕ, zero, suc, ◌+◌, ◌-◌, ◌*◌, Bool, true, not, ◌&&◌, ◌==◌, nat_lt, if◌then◌else◌, List, slice_range, Result, Ok, Err}
-use Rattle.yaml_scan_model.specs.Ascii as ascii
+use Rattle.yaml_scan_model.specs.scan_types.Ascii as ascii
 use Rattle.yaml_scan_history.specs.declared.run.Run.TheVariants as runs
 use Rattle.yaml_scan_history.specs.declared.directives.DirectiveName.{DirectiveName}
 use Rattle.yaml_scan_history.specs.declared.directives.DirectiveName.TheVariants as names
 use Rattle.yaml_scan_model.specs.declared.problem.Context.TheVariants as contexts
 use Rattle.yaml_scan_model.specs.declared.problem.Problem.{Problem}
 use Rattle.yaml_scan_model.specs.declared.problem.Problem.TheVariants as problems
-use Rattle.yaml_scan_model.specs.Marks.{byte, break_width, is_blank_or_end}
+use Rattle.yaml_scan_model.specs.scan_types.Marks.{byte, break_width, is_blank_or_end}
 use Rattle.yaml_scan_model.specs.Runs.{line_end}
 use Rattle.yaml_scan_model.specs.Wrong.{Wrong}
 use Rattle.yaml_scan_history.specs.Runs.{belongs, run_end}

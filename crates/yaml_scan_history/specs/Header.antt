@@ -1,9 +1,9 @@
 -- The header of a block scalar.
 use Rattle.std.specs.Prelude.{ℕ, ◌+◌, ◌-◌, Bool, ◌||◌, ◌==◌, if◌then◌else◌, List, Result, Ok, Err}
-use Rattle.yaml_scan_model.specs.Ascii as ascii
+use Rattle.yaml_scan_model.specs.scan_types.Ascii as ascii
 use Rattle.yaml_scan_model.specs.declared.problem.Problem.TheVariants as problems
-use Rattle.yaml_scan_model.specs.Marks.{byte, break_width}
-use Rattle.yaml_scan_model.specs.Classes.{is_digit_byte}
+use Rattle.yaml_scan_model.specs.scan_types.Marks.{byte, break_width}
+use Rattle.yaml_scan_model.specs.scan_types.Classes.{is_digit_byte}
 use Rattle.yaml_scan_model.specs.Runs.{is_text, past_blanks, line_end}
 use Rattle.yaml_scan_model.specs.Wrong.{Wrong}
 use Rattle.yaml_scan_history.specs.declared.header.Chomp.{Chomp}
@@ -28,11 +28,11 @@ chomp_of b =
 unfoldable pub digit_of : ℕ → ℕ
 digit_of b = if is_digit_byte b then b - ascii.digit_zero else 0
 
--- the place where a digit can stand, after a chomping indicator there
+-- the place where a digit can be, after a chomping indicator there
 abbrev pub digit_place : List ℕ → ℕ → ℕ
 digit_place text p = if is_chomping (byte text p) then p + 1 else p
 
--- the place where a chomping indicator can stand, after a digit there
+-- the place where a chomping indicator can be, after a digit there
 abbrev pub chomping_place : List ℕ → ℕ → ℕ
 chomping_place text p = if is_digit_byte (byte text p) then p + 1 else p
 

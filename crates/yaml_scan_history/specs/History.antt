@@ -2,7 +2,7 @@
 -- down the list.
 use Rattle.std.specs.Prelude.{ℕ, zero, suc, ◌+◌, ◌-◌, Bool, true, false, not, ◌&&◌, ◌||◌, ◌==◌, nat_lt, nat_le, if◌then◌else◌, List, [], ◌∷◌, ◌++◌, length, filter, Option, Some, None}
 use Rattle.yaml_scan_model.specs.declared.record.yaml_mark_t.{yaml_mark_t}
-use Rattle.yaml_scan_model.specs.Tokens.{zero_mark}
+use Rattle.yaml_scan_model.specs.scan_types.Tokens.{zero_mark}
 use Rattle.yaml_scan_history.specs.declared.kind.Kind.{Kind}
 use Rattle.yaml_scan_history.specs.declared.kind.Kind.TheVariants as kinds
 use Rattle.yaml_scan_history.specs.declared.lexeme.Lexeme.{Lexeme}
@@ -44,7 +44,7 @@ candidate d (l ∷ h) =
     else if nat_lt l.depth d then None
     else candidate d h
 
--- how many bytes after its start a key's `:` may stand
+-- how many bytes after its start a key's `:` may be
 abbrev pub key_bytes : ℕ
 key_bytes = 1024
 
@@ -87,7 +87,8 @@ abbrev pub has : Option Candidate → Bool
 has None = false
 has (Some c) = true
 
--- A block level is told by its margin: the first column right of its own, at which what is in it may begin.
+-- A block level is known by its margin: the first column right of its own, at which what is in it
+-- may begin.
 abbrev pub margin_at : ℕ → ℕ
 margin_at column = column + 1
 
@@ -141,7 +142,7 @@ opens_of found l levels =
     else if is_value l.kind && has found then opening.Nothing
     else start_of l.depth (margin_at l.start.column) levels (level_of l.kind)
 
--- the levels after which a lexeme stands
+-- the levels that a lexeme is after
 abbrev pub inside : Lexeme → List Lexeme → List ℕ
 inside l h = left_by l.kind l.depth l.start.column (open_levels h)
 
@@ -173,7 +174,7 @@ abbrev pub marked : Option Candidate → List ℕ → List Entry → List Entry
 marked None levels es = es
 marked (Some c) levels es = mark_key levels es c.number
 
--- A `:` makes a key of the candidate that is open where it stands.
+-- A `:` makes a key of the candidate that is open at its place.
 abbrev pub keyed : Lexeme → List Lexeme → List Entry → List Entry
 keyed l h es = if is_value l.kind then marked (found_by l h) (inside l h) es else es
 

@@ -1,7 +1,7 @@
 -- Which indicator is at a place.
 use Rattle.std.specs.Prelude.{ℕ, ◌+◌, Bool, ◌&&◌, ◌==◌, List}
-use Rattle.yaml_scan_model.specs.Ascii as ascii
-use Rattle.yaml_scan_model.specs.Marks.{byte, column_at, is_blank_or_end}
+use Rattle.yaml_scan_model.specs.scan_types.Ascii as ascii
+use Rattle.yaml_scan_model.specs.scan_types.Marks.{byte, column_at, is_blank_or_end}
 
 -- the byte is there three times
 abbrev pub is_thrice : ℕ → List ℕ → ℕ → Bool

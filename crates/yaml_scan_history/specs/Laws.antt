@@ -15,7 +15,7 @@ abbrev pub GoesForward : List ℕ → Type 0
 GoesForward text = (n : ℕ) (l : Lexeme) → next text (history text n) ≡ Read l
     → Upto (reached (history text n)) l.start × Upto l.start l.reached
 
--- Of the lexemes of n steps, those before the earliest open candidate are handed out as they stand, whatever follows.
+-- Of the lexemes of n steps, those before the earliest open candidate are handed out as they are, whatever follows.
 abbrev pub SettledStays : Type 0
 SettledStays = (text : List ℕ) → GoesForward text → (n m : ℕ) → n ≤ length text + 2
     → m ≤ first_open (history text n) (history text n)

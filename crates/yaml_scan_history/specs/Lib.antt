@@ -27,6 +27,7 @@ pub mod Lines
 pub mod Header
 pub mod Block
 pub mod UnboundedBlocks
--- what it stands on, for crates of laws that name this one alone
+-- the crates below it, for crates of laws that name this one alone
 pub use Rattle.yaml_scan_model.specs as scan_model
 pub use Rattle.yaml_scan_decode.specs as scan_decode
+pub use Rattle.yaml_scan_model.specs.scan_types

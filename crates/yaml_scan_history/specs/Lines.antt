@@ -1,10 +1,10 @@
 -- The lines of a block scalar whose text is at a column.
 use Rattle.std.specs.Prelude.{ℕ, zero, suc, ◌+◌, ◌-◌, not, ◌&&◌, ◌||◌, ◌==◌, nat_lt, if◌then◌else◌, List, [], ◌∷◌, Result, Ok, Err, slice_range}
-use Rattle.yaml_scan_model.specs.Ascii as ascii
+use Rattle.yaml_scan_model.specs.scan_types.Ascii as ascii
 use Rattle.yaml_scan_model.specs.declared.problem.Problem.{Problem}
 use Rattle.yaml_scan_model.specs.declared.problem.Problem.TheVariants as problems
 use Rattle.yaml_scan_model.specs.declared.problem.Context.TheVariants as contexts
-use Rattle.yaml_scan_model.specs.Marks.{byte, break_width, column_at}
+use Rattle.yaml_scan_model.specs.scan_types.Marks.{byte, break_width, column_at}
 use Rattle.yaml_scan_model.specs.Breaks.{break_value, feed_at}
 use Rattle.yaml_scan_model.specs.Runs.{line_end}
 use Rattle.yaml_scan_model.specs.Wrong.{Wrong}

@@ -1,4 +1,4 @@
--- The lexeme that comes after a history: which one stands after the gap, and then what can be wrong, in the order of
+-- The lexeme that comes after a history: which one is after the gap, and then what can be wrong, in the order of
 -- places. The first fault comes in the lexeme's place.
 use Rattle.std.specs.Prelude.{ℕ, zero, suc, Bool, false, not, ◌&&◌, ◌||◌, ◌==◌, if◌then◌else◌, List, [], ◌∷◌, Option, Some, None, Result, Ok, Err}
 use Rattle.yaml_scan_model.specs.declared.record.yaml_mark_t.{yaml_mark_t}
@@ -6,8 +6,8 @@ use Rattle.yaml_scan_model.specs.declared.problem.ScanFault.{ScanFault}
 use Rattle.yaml_scan_model.specs.declared.problem.Problem.{Problem}
 use Rattle.yaml_scan_model.specs.declared.problem.Problem.TheVariants as problems
 use Rattle.yaml_scan_model.specs.declared.problem.Context.TheVariants as contexts
-use Rattle.yaml_scan_model.specs.Tokens.{zero_mark}
-use Rattle.yaml_scan_model.specs.Marks.{mark_at}
+use Rattle.yaml_scan_model.specs.scan_types.Tokens.{zero_mark}
+use Rattle.yaml_scan_model.specs.scan_types.Marks.{mark_at}
 use Rattle.yaml_scan_model.specs.Wrong.{Wrong, scan_fault}
 use Rattle.yaml_scan_history.specs.declared.kind.Kind.{Kind}
 use Rattle.yaml_scan_history.specs.declared.kind.Kind.TheVariants as kinds
@@ -113,7 +113,7 @@ lost_by l None = None
 lost_by l (Some c) = if c.lexeme.required && (l.saved || (cancels l.kind && not (is_value l.kind)))
     then Some c.lexeme.start else None
 
--- a `-`, a `?` and a `:` without candidate stand only where a key may begin, in block context
+-- a `-`, a `?` and a `:` without candidate are only where a key may begin, in block context
 abbrev pub misplaced : Kind → yaml_mark_t → Bool → List Lexeme → Bool
 misplaced k m allowed h = (not (in_flow h) && not allowed)
     && (is_start k && not (is_value k && has (fresh (candidate (flow_depth h) h) m)))

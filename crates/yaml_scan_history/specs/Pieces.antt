@@ -1,7 +1,7 @@
 -- The value of a plain or quoted scalar, from its lines.
 use Rattle.std.specs.Prelude.{ℕ, zero, suc, ◌+◌, Bool, true, false, if◌then◌else◌, List, [], ◌∷◌, ◌++◌}
-use Rattle.yaml_scan_model.specs.Ascii as ascii
-use Rattle.yaml_scan_model.specs.Marks.{byte}
+use Rattle.yaml_scan_model.specs.scan_types.Ascii as ascii
+use Rattle.yaml_scan_model.specs.scan_types.Marks.{byte}
 use Rattle.yaml_scan_model.specs.Breaks.{is_feed}
 
 -- A piece of the text: bytes that stay, a blank, or a break by what it reads as. An escaped break is
@@ -35,7 +35,7 @@ is_empty (Blank byte ∷ l) = is_empty l
 is_empty (Kept bytes ∷ l) = false
 is_empty (Break bytes ∷ l) = false
 
--- the line as it stands
+-- the line as it is
 abbrev pub text : Line → List ℕ
 text [] = []
 text (Kept bytes ∷ l) = bytes ++ text l

@@ -1,10 +1,10 @@
 -- Plain scalars.
 use Rattle.std.specs.Prelude.{ℕ, zero, suc, ◌+◌, ◌-◌, Bool, true, false, not, ◌&&◌, ◌||◌, ◌==◌, nat_lt, if◌then◌else◌, List, [], ◌∷◌, length, Result, Ok, Err}
-use Rattle.yaml_scan_model.specs.Ascii as ascii
+use Rattle.yaml_scan_model.specs.scan_types.Ascii as ascii
 use Rattle.yaml_scan_model.specs.declared.problem.Problem.{Problem}
 use Rattle.yaml_scan_model.specs.declared.problem.Problem.TheVariants as problems
 use Rattle.yaml_scan_model.specs.declared.problem.Context.TheVariants as contexts
-use Rattle.yaml_scan_model.specs.Marks.{byte, break_width, ends_break, column_at, is_blank, is_blank_or_end}
+use Rattle.yaml_scan_model.specs.scan_types.Marks.{byte, break_width, ends_break, column_at, is_blank, is_blank_or_end}
 use Rattle.yaml_scan_model.specs.Breaks.{break_value, is_document_indicator}
 use Rattle.yaml_scan_model.specs.Wrong.{Wrong}
 use Rattle.yaml_scan_history.specs.Pieces.{Piece, Kept, Blank, Break, value}

@@ -1,11 +1,11 @@
 -- Double and single quoted scalars.
 use Rattle.std.specs.Prelude.{ℕ, zero, suc, ◌+◌, ◌*◌, ◌-◌, Bool, ◌&&◌, ◌||◌, ◌==◌, nat_lt, nat_le, if◌then◌else◌, List, [], ◌∷◌, ◌++◌, length, Option, Some, None, option_and_then, option_map, Result, Ok, Err, encode_utf8}
-use Rattle.yaml_scan_model.specs.Ascii as ascii
-use Rattle.yaml_scan_model.specs.Points as points
+use Rattle.yaml_scan_model.specs.scan_types.Ascii as ascii
+use Rattle.yaml_scan_model.specs.scan_types.Points as points
 use Rattle.yaml_scan_model.specs.declared.problem.Problem.{Problem}
 use Rattle.yaml_scan_model.specs.declared.problem.Problem.TheVariants as problems
 use Rattle.yaml_scan_model.specs.declared.problem.Context.TheVariants as contexts
-use Rattle.yaml_scan_model.specs.Marks.{byte, break_width, is_blank}
+use Rattle.yaml_scan_model.specs.scan_types.Marks.{byte, break_width, is_blank}
 use Rattle.yaml_scan_model.specs.Breaks.{break_value, is_document_indicator}
 use Rattle.yaml_scan_model.specs.Wrong.{Wrong}
 use Rattle.yaml_scan_history.specs.Pieces.{Piece, Kept, Blank, Break, value}
@@ -54,7 +54,7 @@ unfoldable pub hex_len : ℕ → ℕ
 hex_len b = if b == ascii.small_x then 2 else if b == ascii.small_u then 4
     else if b == ascii.capital_u then 8 else 0
 
--- the bytes that a letter stands for after a backslash
+-- the bytes that a letter spells after a backslash
 unfoldable pub simple_escape : ℕ → Option (List ℕ)
 simple_escape b =
     if b == ascii.digit_zero then Some (ascii.null ∷ [])
@@ -88,7 +88,7 @@ escape_at text p =
     (hex_value text (p + 2) (hex_len (byte text (p + 1))))
     else escaped p (simple_escape (byte text (p + 1)))
 
--- the quote there closes the scalar, or is the first of two that stand for one
+-- the quote there closes the scalar, or is the first of two that spell one
 unfoldable pub quote_at : ℕ → List ℕ → ℕ → QuotedSpot
 quote_at quote text p =
     if quote == ascii.apostrophe && byte text (p + 1) == ascii.apostrophe
@@ -130,7 +130,7 @@ abbrev pub valued : (List Piece → List ℕ) → Result (List Piece × ℕ) Wro
 valued f (Ok x) = Ok (f x.0, x.1)
 valued f (Err w) = Err w
 
--- the scalar between quotes of that byte whose opening one stands there: its value and the place after it, or what is wrong
+-- the scalar between quotes of that byte whose opening one is there: its value and the place after it, or what is wrong
 abbrev pub quoted_at : ℕ → List ℕ → ℕ → Result (List ℕ × ℕ) Wrong
 quoted_at quote text p = valued value (pieces (length text) quote text (p + 1))
 

@@ -2,8 +2,8 @@
 use Rattle.std.specs.Prelude.{ℕ, ◌+◌, nat_lt, if◌then◌else◌, List, [], ◌∷◌, ◌++◌, length, take, drop, replicate, Option, Some, None, Result, Ok, Err}
 use Rattle.std.specs.List.{flat_map}
 use Rattle.yaml_scan_model.specs.declared.name.yaml_encoding_t.{yaml_encoding_t}
-use Rattle.yaml_scan_model.specs.Tokens.{Token, TokenBody, no, stream_start, block_end, block_sequence_start, block_mapping_start, key}
-use Rattle.yaml_scan_model.specs.Faults.{Fault}
+use Rattle.yaml_scan_model.specs.scan_types.Tokens.{Token, TokenBody, no, stream_start, block_end, block_sequence_start, block_mapping_start, key}
+use Rattle.yaml_scan_model.specs.scan_types.Faults.{Fault}
 use Rattle.yaml_scan_model.specs.Problems.{scanner_fault}
 use Rattle.yaml_scan_model.specs.Wrong.{Wrong}
 use Rattle.yaml_scan_history.specs.declared.kind.Kind.{Kind}
@@ -25,7 +25,7 @@ abbrev pub body_of_word : Result WordText Wrong → TokenBody
 body_of_word (Ok w) = w.body
 body_of_word (Err w) = no
 
--- what a lexeme carries, read where it stands
+-- what a lexeme carries, read at its place
 abbrev pub body_by : Kind → SpelledText → Lexeme → TokenBody
 body_by kinds.StreamStart s l = stream_start s.encoding
 body_by k s l = body_of_word (lexeme_at k (nat_lt 0 l.depth) l.level s.text l.start.index)

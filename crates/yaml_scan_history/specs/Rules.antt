@@ -1,13 +1,13 @@
 -- What is wrong with a text, rule by rule: what is there, and what the fault says, in its own words.
 use Rattle.std.specs.Prelude.{◌≡◌, ◌≢◌, ◌<◌, ◌≤◌, ◌⊎◌, ◌&&◌, ◌||◌, ◌==◌, ℕ, suc, ◌+◌, ◌-◌, Bool, true, false, List, [], length, Option, Some, None, Result, Ok, Err, codes}
-use Rattle.yaml_scan_model.specs.Ascii as ascii
+use Rattle.yaml_scan_model.specs.scan_types.Ascii as ascii
 use Rattle.yaml_scan_model.specs.declared.record.yaml_mark_t.{yaml_mark_t}
 use Rattle.yaml_scan_model.specs.declared.problem.ScanFault.{ScanFault}
 use Rattle.yaml_scan_model.specs.declared.problem.Context.TheVariants as contexts
 use Rattle.yaml_scan_model.specs.Problems.{problem_text_of, context_text_of}
-use Rattle.yaml_scan_model.specs.Marks.{byte, break_width, column_at, is_blank_or_end}
+use Rattle.yaml_scan_model.specs.scan_types.Marks.{byte, break_width, column_at, is_blank_or_end}
 use Rattle.yaml_scan_model.specs.Breaks.{is_document_indicator}
-use Rattle.yaml_scan_model.specs.Classes.{is_alpha, is_digit, is_blank}
+use Rattle.yaml_scan_model.specs.scan_types.Classes.{is_alpha, is_digit, is_blank}
 use Rattle.yaml_scan_model.specs.Runs.{is_text, past_spaces}
 use Rattle.yaml_scan_model.specs.Wrong.{Wrong}
 use Rattle.yaml_scan_history.specs.UnboundedBlocks.{EndsBlockRun, IsTabbed}
@@ -36,7 +36,7 @@ IsTold (Err w) context problem q = TellsAll w context problem q
 
 -- ---- names
 
--- After `&` or `*` no character of a name stands up to q, or what is there can't end one.
+-- After `&` or `*` there is no character of a name up to q, or what is there can't end one.
 abbrev pub NoName : List ℕ → ℕ → ℕ → Type 0
 NoName text p q = EndsBlockRun is_alpha text (p + 1) q
     × ((q ≡ p + 1) ⊎ (may_end_name text q ≡ false))
@@ -87,7 +87,7 @@ pub record TagsAreTold : Type 0 where
   pub trailing : (wide : Bool) (due : ℕ) (text : List ℕ) (p b : ℕ) → byte text p ≡ ascii.percent
       → octet_at text p ≡ Some b → 0 < due → (b < 0x80) ⊎ (0xC0 ≤ b)
       → IsSpotTold (spot_at wide due text p) (codes "found an incorrect trailing UTF-8 octet") p
-  -- where such a URI stands
+  -- where such a URI is
   pub in_tag : context_text_of contexts.TagUri ≡ Some (codes "while parsing a tag")
   pub in_directive : context_text_of contexts.TagDirectiveUri
       ≡ Some (codes "while parsing a %TAG directive")

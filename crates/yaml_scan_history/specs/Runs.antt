@@ -2,7 +2,7 @@
 use Rattle.std.specs.Prelude.{ℕ, zero, suc, ◌+◌, Bool, if◌then◌else◌, List, length}
 use Rattle.yaml_scan_history.specs.declared.run.Run.{Run}
 use Rattle.yaml_scan_history.specs.declared.run.Run.TheVariants as runs
-use Rattle.yaml_scan_model.specs.Classes.{is_alpha, is_digit, is_blank}
+use Rattle.yaml_scan_model.specs.scan_types.Classes.{is_alpha, is_digit, is_blank}
 
 -- what is there belongs to the run
 unfoldable pub belongs : Run → List ℕ → ℕ → Bool

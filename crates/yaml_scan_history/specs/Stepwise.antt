@@ -1,7 +1,7 @@
 -- What comes after a history, a test at a time, as the code looks for it: what proofs go by.
 use Rattle.std.specs.Prelude.{ℕ, nat_lt, if◌then◌else◌, List, ◌∷◌, Option, Some, None, Result, Ok, Err}
 use Rattle.yaml_scan_model.specs.declared.record.yaml_mark_t.{yaml_mark_t}
-use Rattle.yaml_scan_model.specs.Marks.{mark_at}
+use Rattle.yaml_scan_model.specs.scan_types.Marks.{mark_at}
 use Rattle.yaml_scan_model.specs.Wrong.{Wrong, scan_fault}
 use Rattle.yaml_scan_history.specs.declared.kind.Kind.{Kind}
 use Rattle.yaml_scan_history.specs.declared.lexeme.Lexeme.{Lexeme}

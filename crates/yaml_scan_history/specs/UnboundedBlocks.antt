@@ -1,7 +1,7 @@
 -- Runs, indentation and the lines of a block scalar as relations, with no bound on their steps.
 use Rattle.std.specs.Prelude.{◌≡◌, ◌≢◌, ◌<◌, ◌≤◌, ℕ, suc, ◌+◌, Bool, true, false, List, [], length, Result, Ok, Err}
-use Rattle.yaml_scan_model.specs.Ascii as ascii
-use Rattle.yaml_scan_model.specs.Marks.{byte, break_width, column_at}
+use Rattle.yaml_scan_model.specs.scan_types.Ascii as ascii
+use Rattle.yaml_scan_model.specs.scan_types.Marks.{byte, break_width, column_at}
 use Rattle.yaml_scan_model.specs.Runs.{is_blank_there, is_space_there, is_text, past_blanks, past_spaces, line_end}
 use Rattle.yaml_scan_model.specs.declared.problem.Problem.TheVariants as problems
 use Rattle.yaml_scan_model.specs.Wrong.{Wrong}
@@ -40,7 +40,7 @@ pub data LeadsTo (text : List ℕ) : ℕ → ℕ → Type 0 where
 abbrev pub indent_at : List ℕ → ℕ → ℕ
 indent_at text p = column_at text (past_spaces text p)
 
--- The column is the deepest indentation of the lines in front, blank ones and the first that isn't; none has a tab after its spaces.
+-- The column is the deepest indentation of the next lines, blank ones and the first that isn't; none has a tab after its spaces.
 pub record IsDeepest (text : List ℕ) (p c : ℕ) : Type 0 where
   pub line : ℕ
   pub led : LeadsTo text p line

@@ -1,12 +1,12 @@
 -- Quoted and plain scalars as relations, with no bound on their steps.
 use Rattle.std.specs.Prelude.{◌≡◌, ◌<◌, ℕ, ◌+◌, ◌*◌, ◌^◌, Bool, false, List, [], ◌∷◌, length, Some, None, Result, Ok, Err}
-use Rattle.yaml_scan_model.specs.Marks.{byte}
+use Rattle.yaml_scan_model.specs.scan_types.Marks.{byte}
 use Rattle.yaml_scan_model.specs.Wrong.{Wrong}
 use Rattle.yaml_scan_history.specs.Pieces.{Piece, Kept, value}
 use Rattle.yaml_scan_history.specs.Quoted.{hex_digit, hex_value, Closing, Pieces, Bad, standing_at, with_front, valued, quoted_at}
 use Rattle.yaml_scan_history.specs.Plain.{Ends, Takes, Faulty, spot_at, Words, words_from, plain_with, plain_text, plain_at}
 
--- From a place on stand these hexadecimal digits, by their values.
+-- From a place on there are these hexadecimal digits, by their values.
 pub data AreDigits (text : List ℕ) : ℕ → List ℕ → Type 0 where
   no_digits : (p : ℕ) → AreDigits text p []
   digit : (p d : ℕ) (ds : List ℕ) → hex_digit (byte text p) ≡ Some d → AreDigits text (p + 1) ds

@@ -1,11 +1,11 @@
 -- The URIs of tags and prefixes, with their escapes.
 use Rattle.std.specs.Prelude.{ℕ, zero, suc, ◌+◌, ◌-◌, ◌*◌, ◌<◌, ◌≤◌, ◌≡◌, Bool, true, false, ◌&&◌, ◌||◌, ◌==◌, nat_lt, nat_le, if◌then◌else◌, List, [], ◌∷◌, ◌++◌, length, Option, Some, None, Result, Ok, Err}
-use Rattle.yaml_scan_model.specs.Ascii as ascii
+use Rattle.yaml_scan_model.specs.scan_types.Ascii as ascii
 use Rattle.yaml_scan_model.specs.declared.problem.Context.{Context}
 use Rattle.yaml_scan_model.specs.declared.problem.Problem.{Problem}
 use Rattle.yaml_scan_model.specs.declared.problem.Problem.TheVariants as problems
-use Rattle.yaml_scan_model.specs.Marks.{byte}
-use Rattle.yaml_scan_model.specs.Classes.{is_alpha}
+use Rattle.yaml_scan_model.specs.scan_types.Marks.{byte}
+use Rattle.yaml_scan_model.specs.scan_types.Classes.{is_alpha}
 use Rattle.yaml_scan_model.specs.Wrong.{Wrong}
 
 -- one of `; / ? : @ & = + $ . ! ~ * ' ( )`
@@ -27,7 +27,7 @@ abbrev pub is_uri : Bool → List ℕ → ℕ → Bool
 is_uri wide text p = is_alpha text p
     || (is_punctuation (byte text p) || (wide && is_wide_punctuation (byte text p)))
 
--- characters that a URI holds as they are stand from one place to another, and none after
+-- characters that a URI holds as they are, from one place to another, and none after
 pub record IsKept (wide : Bool) (text : List ℕ) (p q : ℕ) : Type 0 where
   pub forward : p ≤ q
   pub kept : (k : ℕ) → p ≤ k → k < q → is_uri wide text k ≡ true

@@ -1,7 +1,7 @@
 -- The value of a block scalar, from its lines.
 use Rattle.std.specs.Prelude.{ℕ, Bool, false, not, ◌&&◌, if◌then◌else◌, List, [], ◌∷◌, ◌++◌}
-use Rattle.yaml_scan_model.specs.Ascii as ascii
-use Rattle.yaml_scan_model.specs.Marks.{is_blank}
+use Rattle.yaml_scan_model.specs.scan_types.Ascii as ascii
+use Rattle.yaml_scan_model.specs.scan_types.Marks.{is_blank}
 use Rattle.yaml_scan_model.specs.Breaks.{is_feed}
 use Rattle.yaml_scan_history.specs.declared.header.Chomp.{Chomp}
 use Rattle.yaml_scan_history.specs.declared.header.Chomp.TheVariants as chomps

@@ -1,12 +1,12 @@
 -- Which lexeme is at a place, and what it carries.
 use Rattle.std.specs.Prelude.{ℕ, pos, ◌+◌, Bool, false, not, ◌&&◌, ◌||◌, ◌==◌, if◌then◌else◌, List, Option, Some, None, Result, Ok, Err}
-use Rattle.yaml_scan_model.specs.Ascii as ascii
+use Rattle.yaml_scan_model.specs.scan_types.Ascii as ascii
 use Rattle.yaml_scan_model.specs.declared.name.yaml_scalar_style_t.{yaml_scalar_style_t}
 use Rattle.yaml_scan_model.specs.declared.name.yaml_scalar_style_t.TheVariants as styles
 use Rattle.yaml_scan_model.specs.declared.problem.Context.TheVariants as contexts
-use Rattle.yaml_scan_model.specs.Tokens as tokens
-use Rattle.yaml_scan_model.specs.Tokens.{TokenBody}
-use Rattle.yaml_scan_model.specs.Marks.{byte, column_at, is_blank_or_end}
+use Rattle.yaml_scan_model.specs.scan_types.Tokens as tokens
+use Rattle.yaml_scan_model.specs.scan_types.Tokens.{TokenBody}
+use Rattle.yaml_scan_model.specs.scan_types.Marks.{byte, column_at, is_blank_or_end}
 use Rattle.yaml_scan_model.specs.Wrong.{Wrong}
 use Rattle.yaml_scan_history.specs.Indicators.{is_document_start, is_document_end}
 use Rattle.yaml_scan_history.specs.Anchors.{anchor_at}

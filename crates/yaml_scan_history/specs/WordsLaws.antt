@@ -1,8 +1,8 @@
 -- What is written is read back, wherever a text has it and whatever follows.
 use Rattle.std.specs.Prelude.{ℕ, ◌+◌, ◌<◌, ◌==◌, ◌||◌, Bool, true, false, List, [], ◌∷◌, ◌++◌, ◌≡◌, length, Ok}
-use Rattle.yaml_scan_model.specs.Ascii as ascii
+use Rattle.yaml_scan_model.specs.scan_types.Ascii as ascii
 use Rattle.yaml_scan_model.specs.declared.problem.Context.{Context}
-use Rattle.yaml_scan_model.specs.Marks.{byte}
+use Rattle.yaml_scan_model.specs.scan_types.Marks.{byte}
 use Rattle.yaml_scan_history.specs.Between.{gap_at}
 use Rattle.yaml_scan_history.specs.Anchors.{anchor_at, may_end_name}
 use Rattle.yaml_scan_history.specs.Uris.{uri_at, is_uri}

@@ -1,8 +1,8 @@
 -- Texts that are written.
 use Rattle.std.specs.Prelude.{ℕ, ◌+◌, ◌<◌, ◌/◌, ◌%◌, Bool, true, false, not, ◌&&◌, ◌||◌, ◌==◌, nat_lt, if◌then◌else◌, List, [], ◌∷◌, ◌++◌, ◌≡◌, length, get_or, Ok}
-use Rattle.yaml_scan_model.specs.Ascii as ascii
-use Rattle.yaml_scan_model.specs.Marks.{byte, break_width}
-use Rattle.yaml_scan_model.specs.Classes.{is_alpha_byte, is_bom}
+use Rattle.yaml_scan_model.specs.scan_types.Ascii as ascii
+use Rattle.yaml_scan_model.specs.scan_types.Marks.{byte, break_width}
+use Rattle.yaml_scan_model.specs.scan_types.Classes.{is_alpha_byte, is_bom}
 use Rattle.yaml_scan_history.specs.Uris.{is_punctuation, is_wide_punctuation, due_behind}
 
 -- the text has these bytes from the place on

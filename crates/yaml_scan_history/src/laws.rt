@@ -15,7 +15,7 @@ pub fn kinds_have_roles()
     ensures { KindsHaveRoles }
 {}
 
-/// What a fault of the scanner tells, rule by rule: what is there, and the fault's words and places.
+/// What a fault of the scanner says, rule by rule: what is there, and the fault's words and places.
 pub fn faults_are_told()
     ensures names { NamesAreTold }
     ensures tags { TagsAreTold }

@@ -3,7 +3,7 @@
 use crate::kind::Kind;
 use yaml_scan_model::yaml_mark_t;
 
-/// Where a lexeme stands, and what the lexemes before it decide.
+/// Where a lexeme is, and what the lexemes before it decide.
 #[derive(Clone, Copy)]
 pub struct Lexeme {
     pub kind: Kind,

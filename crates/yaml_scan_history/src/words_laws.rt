@@ -49,7 +49,7 @@ pub fn scalars_are_unbounded()
     ensures no_digit { OneIsNoDigit }
 {}
 
-/// The end of a run, the deepest indentation of the lines in front and the lines at a place are those of relations that know no bound
+/// The end of a run, the deepest indentation of the next lines and the lines at a place are those of relations that know no bound
 /// on steps, and the only ones.
 pub fn lines_are_unbounded()
     ensures lines { LinesAre }

@@ -3,7 +3,7 @@ use Rattle.std.proofs.Common.{◌≡◌, ◌≢◌, ℕ, zero, suc, ◌+◌, ◌
 use Rattle.std.proofs.lemmas.Bool.{cases_Bool, cases_lt}
 use Rattle.std.proofs.lemmas.Bool.Decides.{nat_tests}
 use Rattle.std.proofs.lemmas.List.{get_or_past}
-use Rattle.yaml_scan_model.specs.Marks.{byte, break_of, ends_of, splits_of, break_width, ends_break, splits_break, starts, line_at, column_at}
+use Rattle.yaml_scan_types.specs.Marks.{byte, break_of, ends_of, splits_of, break_width, ends_break, splits_break, starts, line_at, column_at}
 
 -- a byte with no break at it ends none
 pub no_end : (x y b c d : ℕ) → splits_of x y b c ≡ false → break_of b c d ≡ 0

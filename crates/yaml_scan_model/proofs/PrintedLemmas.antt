@@ -1,7 +1,7 @@
 -- Runs of text: of printed ASCII, the space too, and of bytes that are text whatever follows.
 use Rattle.std.proofs.Common.{◌≡◌, ◌≢◌, ℕ, zero, suc, ◌+◌, ◌-◌, ◌<◌, ◌≤◌, ◌==◌, ◌||◌, nat_lt, not, Bool, true, false, List, length, refl, arith, rules}
 use Rattle.std.proofs.lemmas.Bool.{cases_Bool}
-use Rattle.yaml_scan_model.specs.Marks.{byte, break_of, ends_break, splits_break, starts, line_at, column_at}
+use Rattle.yaml_scan_types.specs.Marks.{byte, break_of, ends_break, splits_break, starts, line_at, column_at}
 use Rattle.yaml_scan_model.specs.Runs.{is_text, passes, ArePassed, columns_over}
 use Rattle.yaml_scan_model.proofs.MarksLemmas.{no_break, within, end_next, split_next, line_more, column_more, column_same}
 use Rattle.yaml_scan_model.proofs.RunsLemmas.{InRun, run_more, text_parts}
@@ -24,7 +24,7 @@ more_columns : (n : ℕ) (text : List ℕ) (p : ℕ)
 unfolding columns_over
 more_columns n text p before ends = search (rules, cases_Bool, column_more, column_same, starts)
 
--- After so many bytes of text the line is the same, and each byte is a column.
+-- After that many bytes of text the line is the same, and each byte is a column.
 pub behind : (n : ℕ) (text : List ℕ) (p : ℕ) → p ≤ length text → splits_break text p ≡ false
     → ((k : ℕ) → p ≤ k → k < p + n → is_text text k ≡ true) → IsBehind text p n
 behind zero text p room whole each =

@@ -2,7 +2,7 @@
 use Rattle.std.proofs.Common.{if◌then◌else◌, ◌-◌, ◌≡◌, ◌≢◌, ℕ, zero, suc, ◌+◌, ◌<◌, ◌≤◌, ◌==◌, ◌||◌, nat_lt, Bool, true, false, not, List, length, refl, ◌∙◌, inl, inr, arith, rules}
 use Rattle.std.proofs.lemmas.Bool.{cases_Bool}
 use Rattle.std.proofs.lemmas.Bool.Decides.{nat_tests}
-use Rattle.yaml_scan_model.specs.Marks.{byte, break_of, break_width, is_blank}
+use Rattle.yaml_scan_types.specs.Marks.{byte, break_of, break_width, is_blank}
 use Rattle.yaml_scan_model.specs.Runs.{past, is_text}
 use Rattle.yaml_scan_model.proofs.MarksLemmas.{within, no_break}
 

@@ -1,7 +1,7 @@
 -- What breaks read as, and the indicators of documents.
 use Rattle.std.specs.Prelude.{ℕ, ◌+◌, Bool, ◌&&◌, ◌||◌, ◌==◌, nat_lt, if◌then◌else◌, List, [], ◌∷◌, slice_index}
-use Rattle.yaml_scan_model.specs.Ascii as ascii
-use Rattle.yaml_scan_model.specs.Marks.{byte, break_width, column_at, is_blank_or_end}
+use Rattle.yaml_scan_types.specs.Ascii as ascii
+use Rattle.yaml_scan_types.specs.Marks.{byte, break_width, column_at, is_blank_or_end}
 
 -- what the break there reads as: LS and PS as themselves, every other one as a line feed
 unfoldable pub break_value : List ℕ → ℕ → List ℕ

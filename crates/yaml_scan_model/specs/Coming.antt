@@ -1,9 +1,9 @@
 -- Tokens that are to come, the first of them and the others.
 use Rattle.std.specs.Prelude.{◌≡◌, Bool, true, List, [], ◌∷◌, Option, None, IsUtf8}
 use Rattle.std.specs.Str.{is_utf8}
-use Rattle.yaml_scan_model.specs.Tokens.{Token, TokenBody, no_token}
-use Rattle.yaml_scan_model.specs.Tokens as token
-use Rattle.yaml_scan_model.specs.Faults.{Fault}
+use Rattle.yaml_scan_types.specs.Tokens.{Token, TokenBody, no_token}
+use Rattle.yaml_scan_types.specs.Tokens as token
+use Rattle.yaml_scan_types.specs.Faults.{Fault}
 
 -- the first token to come, and the others; after the last the empty token
 abbrev pub front_of : List Token → Token

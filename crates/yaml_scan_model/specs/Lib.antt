@@ -1,13 +1,11 @@
-pub use Rattle.yaml_scan_types.specs.Marks
-pub use Rattle.yaml_scan_types.specs.Classes
-pub use Rattle.yaml_scan_types.specs.Tokens
-pub use Rattle.yaml_scan_types.specs.Faults
-pub use Rattle.yaml_scan_types.specs.Widths
-pub use Rattle.yaml_scan_types.specs.Ascii
-pub use Rattle.yaml_scan_types.specs.Points
-pub use Rattle.yaml_scan_types.specs.Indents
 pub mod Problems
 pub mod Breaks
 pub mod Runs
 pub mod Wrong
 pub mod Coming
+pub mod Kinds
+pub mod Texts
+pub mod Shows
+pub mod Utf8
+-- the crates below it, for crates that name this one alone
+pub use Rattle.yaml_scan_types.specs as scan_types

@@ -7,7 +7,7 @@ use Rattle.yaml_scan_model.specs.declared.problem.Problem.TheVariants as problem
 use Rattle.yaml_scan_model.specs.declared.problem.Context.{Context}
 use Rattle.yaml_scan_model.specs.declared.problem.Context.TheVariants as context
 use Rattle.yaml_scan_model.specs.declared.problem.ScanFault.{ScanFault}
-use Rattle.yaml_scan_model.specs.Faults.{Fault}
+use Rattle.yaml_scan_types.specs.Faults.{Fault}
 
 unfoldable pub problem_text_of : Problem → List ℕ
 problem_text_of problem.NoTokenStart = codes "found character that cannot start any token"

@@ -1,7 +1,7 @@
 -- Runs of bytes of one kind.
 use Rattle.std.specs.Prelude.{ℕ, zero, suc, ◌+◌, ◌<◌, ◌≤◌, ◌≡◌, Bool, true, false, not, ◌&&◌, ◌||◌, ◌==◌, nat_lt, if◌then◌else◌, List, length}
-use Rattle.yaml_scan_model.specs.Ascii as ascii
-use Rattle.yaml_scan_model.specs.Marks.{byte, break_width, is_blank, starts}
+use Rattle.yaml_scan_types.specs.Ascii as ascii
+use Rattle.yaml_scan_types.specs.Marks.{byte, break_width, is_blank, starts}
 
 -- the first place from there on that is not of the kind, at most n bytes on
 unfoldable pub past : (List ℕ → ℕ → Bool) → ℕ → List ℕ → ℕ → ℕ
@@ -36,7 +36,7 @@ abbrev pub passes : Bool → ℕ → Bool
 passes false b = nat_lt ascii.unit_separator b && nat_lt b ascii.delete
 passes true b = nat_lt ascii.unit_separator b && (not (b == 0xC2) && not (b == 0xE2))
 
--- such bytes stand from one place to another
+-- there are such bytes from one place to another
 pub record ArePassed (wide : Bool) (text : List ℕ) (p q : ℕ) : Type 0 where
   pub forward : p ≤ q
   pub each : (k : ℕ) → p ≤ k → k < q → passes wide (byte text k) ≡ true

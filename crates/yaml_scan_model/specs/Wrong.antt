@@ -4,7 +4,7 @@ use Rattle.yaml_scan_types.specs.declared.record.yaml_mark_t.{yaml_mark_t}
 use Rattle.yaml_scan_model.specs.declared.problem.Problem.{Problem}
 use Rattle.yaml_scan_model.specs.declared.problem.Context.{Context}
 use Rattle.yaml_scan_model.specs.declared.problem.ScanFault.{ScanFault}
-use Rattle.yaml_scan_model.specs.Marks.{mark_at}
+use Rattle.yaml_scan_types.specs.Marks.{mark_at}
 
 -- a problem, what was being read, and the place of the first character that doesn't fit
 pub record Wrong : Type 0 where

@@ -1,7 +1,7 @@
 //! Where characters begin.
 
 ghost use Rattle.std.specs.Prelude.{◌≡◌};
-ghost use Rattle.yaml_scan_model.specs.Marks.{starts as starts_of};
+ghost use Rattle.yaml_scan_types.specs.Marks.{starts as starts_of};
 
 /// Whether a character begins with the byte.
 // Inlined: a comparison, so that the bytes of a text are looked at side by side.

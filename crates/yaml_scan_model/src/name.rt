@@ -1,4 +1,4 @@
-//! The enums, passed on.
+//! The enums, re-exported.
 
 pub use yaml_scan_types::{
     yaml_break_t, yaml_encoding_t, yaml_error_type_t, yaml_event_type_t, yaml_mapping_style_t,

@@ -1,7 +1,7 @@
-//! Why a text can't be scanned, and the texts that tell it.
+//! Why a text can't be scanned, and the texts that report it.
 
 ghost use Rattle.std.specs.Prelude.{◌≡◌, option_map};
-ghost use Rattle.yaml_scan_model.specs.Faults.{fault_of};
+ghost use Rattle.yaml_scan_types.specs.Faults.{fault_of};
 ghost use Rattle.yaml_scan_model.specs.Problems.{problem_text_of, context_text_of, scanner_fault};
 
 use crate::fault::{yaml_fault_t, yaml_origin_t};
@@ -46,7 +46,7 @@ pub enum Problem {
 /// What was being scanned.
 #[derive(Clone, Copy)]
 pub enum Context {
-    /// Nothing is told, and the context's place is the problem's.
+    /// Nothing is named, and the context's place is the problem's.
     Nothing,
     NextToken,
     SimpleKey,
@@ -66,7 +66,7 @@ pub enum Context {
     TagDirective,
 }
 
-/// A problem in its context, and where both stand.
+/// A problem in its context, and where both are.
 #[derive(Clone, Copy)]
 pub struct ScanFault {
     pub problem: Problem,

@@ -33,7 +33,7 @@ pub const ESCAPES: [u8; 1] = *b"\\";
 /// What is escaped between double quotes as they are written: DEL and U+FEFF, too.
 pub const QUOTED: [u8; 4] = *b"\"\\\x7F\xEF";
 
-/// What may tell that a value can't be written in each style.
+/// What may show that a value can't be written in each style.
 pub const TELLING: [u8; 10] = *b":#,[]{}?\x7F\xEF";
 
 /// Those of writing, and the space, at which a line may be cut.

@@ -38,7 +38,7 @@ pub header_wrong : (text : List ℕ) (p digit end : ℕ) (w : Told) → digit �
     → wrong_of w ≡ in_block problems.NoCommentOrBreak end → ReadsHeader text (Err w) (header_at text p)
 header_wrong text p digit end w e h at t same = rw (headers.wrong_header text p (rw e at h) (rw at at t)) (same ∙ rw at refl)
 
--- what stands up to the end of the header is no break
+-- what is there up to the end of the header is no break
 indicators_none : (text : List ℕ) (p k : ℕ) → p ≤ k
     → k < p + indicators (byte text p) (byte text (p + 1))
     → (0 < byte text k) × (break_width text k ≡ 0)
@@ -284,7 +284,7 @@ spaces_column text p q s =
     let over = spaces_column_over (q - p) text p (λ k a b. s.each k a (rw at at b)) in
     (rw at at over.0, line_same text p q forward (λ k a b. over.1 k a (rw at b)))
 
--- a place after spaces is whole, as the one in front is
+-- a place after spaces is whole, as the one before them is
 pub spaces_whole : (text : List ℕ) (p q : ℕ) → AreSpaces text p q → splits_break text p ≡ false
     → splits_break text q ≡ false
 spaces_whole text p q s whole = (unbroken text p q s.forward whole (λ k a b. (blank_parts (byte text k) (byte text (k + 1)) (byte text (k + 2)) (rw (s.each k a b) refl)).1)).whole

@@ -1,7 +1,7 @@
 -- Directives.
 use Rattle.std.proofs.Common.{◌≡◌, ◌≢◌, ℕ, zero, suc, ◌+◌, ◌-◌, ◌<◌, ◌≤◌, ◌==◌, ◌||◌, ◌⊎◌, nat_lt, not, Bool, true, false, List, length, slice_range, Result, Ok, Err, refl, sym, ◌∙◌, inl, inr, arith}
 use Rattle.yaml_scan_text.proofs.Words.{nat_tests, cases_Bool, cases_lt, eq-eqb, ne_eqb, byte, break_width, splits_break, is_blank, is_blank_or_end, within, no_break, past, past-le, past_blanks, is_blank_there, blank_parts, text_parts, Wrong, wrong_of, line_start}
-use Rattle.yaml_scan_model.specs.Classes.{is_digit_byte}
+use Rattle.yaml_scan_types.specs.Classes.{is_digit_byte}
 use Rattle.yaml_scan_model.specs.Runs.{is_text}
 use Rattle.yaml_scan_model.proofs.RunsLemmas.{past-inside}
 use Rattle.yaml_scan_model.specs.declared.problem.Problem.{Problem}

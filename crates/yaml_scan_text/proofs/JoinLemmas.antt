@@ -222,7 +222,7 @@ answer_ended flow level text start old new last from part line h r broke head en
       wide = λ w k a b. head_starts text h.line h.at k head.head a b;
     })
 
--- it ends on its first line, after which a break stands
+-- it ends on its first line, after which there is a break
 pub answer_first : (flow : Bool) (level : ℕ) (text : List ℕ) (start : ℕ) (old : List ℕ)
     (part : PlainLine) (h : Head)
     → start < length text → IsPlainLine flow text start part → 0 < break_width text part.next → IsHead level text part.next h
@@ -274,7 +274,7 @@ answer_memory text start old new e (Ok x) h = h
 answer_memory text start old new refusals.Memory (Err w) h = tt
 answer_memory text start old new (refusals.Wrong told) (Err w) h = absurd h
 
--- it ends on a line after which no break stands
+-- it ends on a line after which there is no break
 pub answer_last : (flow : Bool) (level : ℕ) (text : List ℕ) (start : ℕ) (old new last : List ℕ)
     (from : ℕ) (part : PlainLine) (line : ℕ)
     → Reached flow level text start old new from part line → break_width text part.next ≡ 0 → (r : Result PlainScalar Refusal)

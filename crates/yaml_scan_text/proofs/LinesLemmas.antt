@@ -112,7 +112,7 @@ line_next text p w e h =
     let last = last_of text p some in
     rw (e, last.next) (sym (line_behind text last.byte_at last.ends))
 
--- ---- places between which no break stands
+-- ---- places between which there is no break
 
 pub record IsUnbroken (text : List ℕ) (p q : ℕ) : Type 0 where
   pub whole : splits_break text q ≡ false
@@ -164,7 +164,7 @@ line_start-le text (suc p) = elim (cases_Bool (ends_break text p)) [
   | inr n ↦ rw n (omega (arith, line_start-le text p))
 ]
 
--- where a run ends nothing of its kind stands
+-- where a run ends there is nothing of its kind
 pub past_stops : (kind : List ℕ → ℕ → Bool) (n : ℕ) (text : List ℕ) (p : ℕ)
     → ((q : ℕ) → kind text q ≡ true → 0 < byte text q)
     → length text ≤ p + n → kind text (past kind n text p) ≡ false

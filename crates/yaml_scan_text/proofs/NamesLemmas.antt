@@ -3,7 +3,7 @@ use Rattle.std.proofs.Common.{◌≡◌, ◌≢◌, ℕ, ◌+◌, ◌-◌, ◌<�
 use Rattle.yaml_scan_text.proofs.Words.{nat_tests, cases_Bool, cases_lt, lt-ltb, ne_eqb, true≢false, false≢true, byte, break_width, within, no_break, slice_bytes, bytes_long, Wrong, wrong_of, IsMemory}
 use Rattle.yaml_scan_model.specs.declared.problem.Context.{Context}
 use Rattle.yaml_scan_model.specs.declared.problem.Problem.TheVariants as problems
-use Rattle.yaml_scan_model.specs.Classes.{is_alpha_byte}
+use Rattle.yaml_scan_types.specs.Classes.{is_alpha_byte}
 use Rattle.yaml_scan_history.specs.declared.run.Run.TheVariants as runs
 use Rattle.yaml_scan_history.specs.Anchors.{anchor_at, may_end_name, name_between}
 use Rattle.yaml_scan_history.specs.Runs.{belongs, run_end}

@@ -190,7 +190,7 @@ blanks_within (suc n) text p row = elim (cases_Bool (is_blank (byte text p))) [
 pub blanks_there : (text : List ℕ) (p : ℕ) → InRow text p → AreBlanks text p (past_blanks text p)
 blanks_there text p row = blanks_within (length text) text p row
 
--- after blanks none stands
+-- after blanks there is none
 past_ends : (n : ℕ) (text : List ℕ) (p : ℕ) → length text ≤ p + n
     → is_blank (byte text (past is_blank_there n text p)) ≡ false
 unfolding past
@@ -354,7 +354,7 @@ front_false a b h = grind arith
 last_false : (a b : Bool) → (a || b) ≡ false → b ≡ false
 last_false a b h = grind arith
 
--- before the place a blank stands, where blanks follow the part
+-- before the place there is a blank, where blanks follow the part
 pub behind_part : (flow : Bool) (text : List ℕ) (p q : ℕ) (s : IsSeen flow text p q)
     → is_blank (byte text (q - 1)) ≡ nat_lt s.end q
 behind_part flow text p q s = elim (cases_lt s.end q) [

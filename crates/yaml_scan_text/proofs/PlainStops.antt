@@ -59,7 +59,7 @@ spot_stop flow level text q p row white none blank h = elim (cases_Bool (is_bad_
   | inr fine ↦ rw fine (spot_ends flow level text p none blank (ends_true flow level text q p white none fine h))
 ]
 
--- where a line ends no blank stands
+-- where a line ends there is no blank
 stop_dark : (flow : Bool) (text : List ℕ) (p : ℕ) (blank : Bool)
     → (is_colon text p ≡ false → stops flow blank text p ≡ true) → is_blank (byte text p) ≡ false
 unfolding is_bracket

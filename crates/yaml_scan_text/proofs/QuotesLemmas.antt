@@ -1,4 +1,4 @@
--- Quoted scalars: bytes that stand for themselves, white space and folds.
+-- Quoted scalars: bytes that spell themselves, white space and folds.
 use Rattle.std.proofs.Common.{◌≡◌, ◌≢◌, ℕ, zero, suc, ◌+◌, ◌*◌, ◌-◌, ◌<◌, ◌≤◌, ◌==◌, ◌&&◌, ◌||◌, ◌⊎◌, nat_lt, Bool, true, false, List, [], ◌∷◌, ◌++◌, length, slice_range, Option, Some, None, option_and_then, option_map, Result, Ok, Err, refl, sym, ap, ◌∙◌, inl, inr, append_assoc, arith}
 use Rattle.std.specs.Prelude.{encode_utf8}
 use Rattle.std.specs.Char.{IsScalar}
@@ -15,7 +15,7 @@ use Rattle.yaml_scan_text.proofs.LinesLemmas.{blank_starts, column_on, line_on, 
 use Rattle.yaml_scan_text.proofs.WhiteLemmas.{breaks_of, fold_white, rest_after, text_after, white_le}
 use Rattle.yaml_scan_text.proofs.JoinLemmas.{feeds_white, kept_rest}
 
--- ---- bytes that stand for themselves
+-- ---- bytes that spell themselves
 
 pub raw_none : (text : List ℕ) (p : ℕ) → raw_at text p 0 ≡ []
 unfolding raw_at
@@ -135,7 +135,7 @@ pub come_closing : (f : List Piece → List ℕ) (quote : ℕ) (text : List ℕ)
     → valued f (pieces_on quote text p) ≡ Ok (f [], p + 1)
 come_closing f quote text p h = rw (pieces_here quote text p, h) refl
 
--- a byte that stands for itself
+-- a byte that spells itself
 pub come_raw : (quote : ℕ) (text done : List ℕ) (from p : ℕ) → from ≤ p
     → standing_at quote text p ≡ Pieces (raw_piece (byte text p) ∷ []) (p + 1)
     → to_come quote text done from p ≡ to_come quote text done from (p + 1)

@@ -44,7 +44,7 @@ spaces_run text p q run =
     run_is is_space_there text p q run.ordered (λ k low high. space (byte text k) (run.passed k low high))
     (other_space (byte text q) (ended is_no_space text p q run refl))
 
--- where no space stands
+-- where there is no space
 pub spaces_none : (text : List ℕ) (p : ℕ) → byte text p ≢ 32 → p ≡ past_spaces text p
 spaces_none text p n = run_is is_space_there text p p (omega arith) (λ k low high. absurd (omega arith)) (ne_eqb (byte text p) 32 n)
 
@@ -60,7 +60,7 @@ blanks_run text p q run =
     run_is is_blank_there text p q run.ordered (λ k low high. blank (byte text k) (run.passed k low high))
     (other_blank (byte text q) (ended is_no_blank text p q run refl))
 
--- where no blank stands
+-- where there is no blank
 pub blanks_none : (text : List ℕ) (p : ℕ) → is_blank (byte text p) ≡ false → p ≡ past_blanks text p
 blanks_none text p n = run_is is_blank_there text p p (omega arith) (λ k low high. absurd (omega arith)) n
 

@@ -90,7 +90,7 @@ line_tab : (f : List BlockLine → List ℕ) (m c : ℕ) (text : List ℕ) (p q 
 unfolding lines_from
 line_tab f m c text p q h = rw h refl
 
--- where the column in front is 0, or the text ends, as many spaces count as the column has
+-- where the column before is 0, or the text ends, as many spaces count as the column has
 indent_same : (c : ℕ) (text : List ℕ) (p : ℕ) → (0 < byte text p → column_at text p ≡ 0)
     → spaces (c - column_at text p) text p ≡ spaces c text p
 indent_same c text p first = elim (cases_lt 0 (byte text p)) [

@@ -31,7 +31,8 @@ is_mark text p h = rw h (parted (is_blank_or_end text (p + 3)) _ _)
     parted : (last a b : Bool) → ((a || b) && last) ≡ ((a && last) || (b && last))
     parted last a b = grind arith
 
--- the place after a break, or the one where none stands, is no further than the text or the place
+-- the place after a break, or that place where there is none, is no further than the text or the
+-- place
 pub break_within : (text : List ℕ) (p : ℕ) → (break_width text p ≡ 0)
     ⊎ (p + break_width text p ≤ length text)
 break_within text p = elim (cases_lt 0 (break_width text p)) [

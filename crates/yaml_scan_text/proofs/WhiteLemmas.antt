@@ -15,7 +15,7 @@ white_le level text p q ps (no_white s) = omega arith
 white_le level text p q ps (white_blank s t rest b tab v) = let more = white_le level text (s + 1) q rest v in omega arith
 white_le level text p q ps (white_break s t rest b v) = let more = white_le level text (s + break_width text s) q rest v in omega arith
 
--- ---- what the words are before which it stands
+-- ---- the words with white before them
 
 abbrev pub with_white : List Piece → Words → Words
 with_white [] w = w

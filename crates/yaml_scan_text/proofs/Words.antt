@@ -2,8 +2,8 @@
 pub use Rattle.std.proofs.lemmas.Bool.{agree_below_at, eq-eqb, eqb-false, eqb-true, and_parts, cases_Bool, cases_lt, cond_both, lt-ltb, ltb-true, ne_eqb, not-true, false≢true, or_cases, or_from, or_parts, or_right, true≢false}
 pub use Rattle.std.proofs.lemmas.Bool.Decides.{nat_tests}
 pub use Rattle.yaml_scan_model.proofs.MarksLemmas.{within, no_break}
-pub use Rattle.yaml_scan_model.specs.Marks.{Place, break_width, byte, column_at, ends_break, is_blank, is_blank_or_end, mark_at, splits_break, starts}
-unfoldable pub use Rattle.yaml_scan_model.specs.Marks.{break_of, ends_of}
+pub use Rattle.yaml_scan_types.specs.Marks.{Place, break_width, byte, column_at, ends_break, is_blank, is_blank_or_end, mark_at, splits_break, starts}
+unfoldable pub use Rattle.yaml_scan_types.specs.Marks.{break_of, ends_of}
 unfoldable pub use Rattle.yaml_scan_history.specs.Plain.{is_bracket}
 pub use Rattle.yaml_scan_text.specs.declared.class.TheConstants.{NAMES}
 pub use Rattle.yaml_scan_model.proofs.BreaksLemmas.{end_not_blank, no_end-blank, feed_some, feed_other, last_of, value_long, value_three, value_other}

@@ -1,8 +1,8 @@
 -- What the readers of block scalars answer.
 use Rattle.std.specs.Prelude.{ℕ, suc, ◌+◌, ◌<◌, ◌≤◌, ◌≡◌, Bool, List, ◌++◌, length, slice_range, Result, Ok, Err}
-use Rattle.yaml_scan_model.specs.Ascii as ascii
+use Rattle.yaml_scan_types.specs.Ascii as ascii
 use Rattle.yaml_scan_model.specs.Wrong.{Wrong}
-use Rattle.yaml_scan_model.specs.Marks.{byte, break_width, column_at, is_blank}
+use Rattle.yaml_scan_types.specs.Marks.{byte, break_width, column_at, is_blank}
 use Rattle.yaml_scan_model.specs.Breaks.{break_value, feed_at}
 use Rattle.yaml_scan_model.specs.Runs.{line_end}
 use Rattle.yaml_scan_model.specs.declared.problem.Problem.TheVariants as problems
@@ -21,7 +21,7 @@ use Rattle.yaml_scan_text.specs.declared.refusal.Wrong.{Wrong as Told}
 use Rattle.yaml_scan_text.specs.Lines.{AtLine, line_start}
 use Rattle.yaml_scan_text.specs.Refused.{IsMemory, Refuses, wrong_of}
 
--- A header is that one, and the place after it is in the line that is told.
+-- A header is that one, and the place after it is in the line that is given.
 pub record IsHeader (text : List ℕ) (h : Header) (x : HeaderText) : Type 0 where
   pub chomp : h.chomp ≡ x.chomp
   pub digit : h.digit ≡ x.digit
@@ -43,7 +43,7 @@ FindsColumn text p (Ok c) (Err w) = ⊥
 FindsColumn text p (Err e) (Ok d) = ⊥
 FindsColumn text p (Err e) (Err w) = wrong_of e ≡ w
 
--- spaces stand from one place to another
+-- there are spaces from one place to another
 pub record AreSpaces (text : List ℕ) (p q : ℕ) : Type 0 where
   pub forward : p ≤ q
   pub each : (k : ℕ) → p ≤ k → k < q → byte text k ≡ ascii.space

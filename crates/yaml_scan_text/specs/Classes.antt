@@ -1,7 +1,7 @@
 -- Runs of alphas.
 use Rattle.std.specs.Prelude.{ℕ, ◌<◌, ◌≤◌, ◌≡◌, true, List, length}
-use Rattle.yaml_scan_model.specs.Marks.{byte}
-use Rattle.yaml_scan_model.specs.Classes.{is_alpha_byte}
+use Rattle.yaml_scan_types.specs.Marks.{byte}
+use Rattle.yaml_scan_types.specs.Classes.{is_alpha_byte}
 use Rattle.yaml_scan_history.specs.Runs.{run_end}
 use Rattle.yaml_scan_history.specs.declared.run.Run.TheVariants as runs
 

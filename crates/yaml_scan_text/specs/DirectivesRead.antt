@@ -1,6 +1,6 @@
 -- What the readers of directives answer.
 use Rattle.std.specs.Prelude.{ℕ, ◌+◌, ◌-◌, ◌<◌, ◌≤◌, ◌≡◌, true, false, List, ◌++◌, length, slice_range, Result, Ok, Err}
-use Rattle.yaml_scan_model.specs.Marks.{byte, column_at}
+use Rattle.yaml_scan_types.specs.Marks.{byte, column_at}
 use Rattle.yaml_scan_model.specs.Wrong.{Wrong}
 use Rattle.yaml_scan_history.specs.Directives.{DirectiveText, Said, ValueText, decimal, tag, version}
 use Rattle.yaml_scan_history.specs.declared.directives.DirectiveName.{DirectiveName}

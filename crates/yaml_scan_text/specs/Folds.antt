@@ -1,7 +1,7 @@
 -- White between texts, and what it reads as.
 use Rattle.std.specs.Prelude.{ℕ, zero, suc, ◌+◌, ◌-◌, ◌≡◌, ◌<◌, true, false, ◌&&◌, ◌==◌, max, nat_lt, if◌then◌else◌, List, [], ◌∷◌, ◌++◌}
-use Rattle.yaml_scan_model.specs.Ascii as ascii
-use Rattle.yaml_scan_model.specs.Marks.{byte, break_width, column_at, is_blank}
+use Rattle.yaml_scan_types.specs.Ascii as ascii
+use Rattle.yaml_scan_types.specs.Marks.{byte, break_width, column_at, is_blank}
 use Rattle.yaml_scan_model.specs.Breaks.{feed_at}
 use Rattle.yaml_scan_model.specs.Runs.{past_blanks}
 use Rattle.yaml_scan_history.specs.Pieces.{Piece, Blank, Break, gap}
@@ -28,7 +28,7 @@ fold_of text p q =
     let first = past_blanks text p in
     gap (feed_at text first) (feeds text (first + break_width text first) q)
 
--- From one place to another stands white, of these pieces, with no tab in the indentation.
+-- From one place to another there is white, of these pieces, with no tab in the indentation.
 pub data White (level : ℕ) (text : List ℕ) : ℕ → ℕ → List Piece → Type 0 where
   no_white : (p : ℕ) → White level text p p []
   white_blank : (p q : ℕ) (ps : List Piece) → is_blank (byte text p) ≡ true

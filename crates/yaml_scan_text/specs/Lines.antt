@@ -1,7 +1,7 @@
 -- Where lines start, and where characters do.
 use Rattle.std.specs.Prelude.{ℕ, zero, suc, ◌+◌, ◌-◌, ◌<◌, ◌≤◌, ◌≡◌, true, false, if◌then◌else◌, List, length}
 use Rattle.yaml_scan_history.specs.Plain.{leads, after_white}
-use Rattle.yaml_scan_model.specs.Marks.{byte, break_width, ends_break, splits_break, column_at, is_blank, starts}
+use Rattle.yaml_scan_types.specs.Marks.{byte, break_width, ends_break, splits_break, column_at, is_blank, starts}
 
 -- where the line starts in which the place is
 unfoldable pub line_start : List ℕ → ℕ → ℕ

@@ -1,9 +1,9 @@
 -- What the readers of plain scalars answer.
 use Rattle.std.specs.Prelude.{ℕ, suc, ◌+◌, ◌-◌, ◌<◌, ◌≤◌, ◌≡◌, ◌==◌, Bool, true, false, ◌&&◌, ◌||◌, nat_lt, if◌then◌else◌, List, [], ◌∷◌, ◌++◌, length, slice_range, Result, Ok, Err}
-use Rattle.yaml_scan_model.specs.Ascii as ascii
+use Rattle.yaml_scan_types.specs.Ascii as ascii
 use Rattle.yaml_scan_model.specs.declared.problem.Problem.TheVariants as problems
 use Rattle.yaml_scan_model.specs.declared.problem.Context.TheVariants as contexts
-use Rattle.yaml_scan_model.specs.Marks.{byte, break_width, splits_break, column_at, starts, is_blank, is_blank_or_end}
+use Rattle.yaml_scan_types.specs.Marks.{byte, break_width, splits_break, column_at, starts, is_blank, is_blank_or_end}
 use Rattle.yaml_scan_model.specs.Runs.{past_blanks}
 use Rattle.yaml_scan_model.specs.Wrong.{Wrong}
 use Rattle.yaml_scan_history.specs.Pieces.{Piece, value}
@@ -115,14 +115,14 @@ may_stop true = is_stop (ascii.colon ∷ ascii.hash ∷ ascii.comma ∷ ascii.op
     ∷ ascii.open_brace ∷ ascii.close_brace ∷ [])
 may_stop false = is_stop (ascii.colon ∷ ascii.hash ∷ [])
 
--- a line of a plain scalar ends at that place, before which a blank stands or not, `:` as a mapping has it aside
+-- a line of a plain scalar ends at that place, after a blank or not, `:` as a mapping has it aside
 abbrev pub stops : Bool → Bool → List ℕ → ℕ → Bool
 stops flow blank text p =
     (byte text p == 0 || nat_lt 0 (break_width text p))
     || ((byte text p == ascii.hash && blank)
     || (is_bad_colon flow text p || (flow && is_bracket (byte text p))))
 
--- From a line's start to a place blanks stand, and no tab left of the margin.
+-- From a line's start to a place there are blanks, and no tab left of the margin.
 pub record InIndent (level : ℕ) (text : List ℕ) (line p : ℕ) : Type 0 where
   pub forward : line ≤ p
   pub blanks : (k : ℕ) → line ≤ k → k < p → is_blank (byte text k) ≡ true

@@ -1,8 +1,8 @@
 -- What the readers of quoted scalars answer.
 use Rattle.std.specs.Prelude.{ℕ, zero, suc, ◌+◌, ◌-◌, ◌<◌, ◌≤◌, ◌≡◌, ◌==◌, ◌⊎◌, Bool, true, false, not, ◌&&◌, if◌then◌else◌, List, [], ◌∷◌, ◌++◌, length, slice_range, Result, Ok, Err}
-use Rattle.yaml_scan_model.specs.Ascii as ascii
+use Rattle.yaml_scan_types.specs.Ascii as ascii
 use Rattle.yaml_scan_model.specs.Wrong.{Wrong}
-use Rattle.yaml_scan_model.specs.Marks.{byte, break_width, column_at, is_blank, splits_break, starts}
+use Rattle.yaml_scan_types.specs.Marks.{byte, break_width, column_at, is_blank, splits_break, starts}
 use Rattle.yaml_scan_model.specs.Breaks.{is_document_indicator}
 use Rattle.yaml_scan_model.specs.declared.problem.Problem.TheVariants as problems
 use Rattle.yaml_scan_model.specs.declared.problem.Context.TheVariants as contexts
@@ -27,7 +27,7 @@ abbrev pub closes : ℕ → List ℕ → ℕ → Bool
 closes quote text p = byte text p == quote && not
     (quote == ascii.apostrophe && byte text (p + 1) == ascii.apostrophe)
 
--- a byte at which what stands for itself between those quotes may end
+-- a byte at which what spells itself between those quotes may end
 abbrev pub may_stop : ℕ → ℕ → Bool
 may_stop quote = if quote == ascii.quote then is_stop (ascii.quote ∷ ascii.backslash ∷ []) else
     is_stop (ascii.apostrophe ∷ [])
@@ -40,7 +40,7 @@ pub record InQuotes (text : List ℕ) (line p : ℕ) : Type 0 where
   pub column : (0 < column_at text p) ⊎ (starts (byte text p) ≡ true)
   pub own : line ≡ line_start text p
 
--- a byte that stands for itself
+-- a byte that spells itself
 abbrev pub raw_piece : ℕ → Piece
 raw_piece b = if is_blank b then Blank b else Kept (b ∷ [])
 
@@ -49,7 +49,7 @@ unfoldable pub raw_at : List ℕ → ℕ → ℕ → List Piece
 raw_at text p zero = []
 raw_at text p (suc d) = raw_piece (byte text p) ∷ raw_at text (p + 1) d
 
--- What the scalar comes to, where these bytes of it are done, those from one place to another stand for themselves, and the text
+-- What the scalar comes to, where these bytes of it are done, those from one place to another spell themselves, and the text
 -- goes on at the other.
 abbrev pub to_come : ℕ → List ℕ → List ℕ → ℕ → ℕ → Result (List ℕ × ℕ) Wrong
 to_come quote text done from p =
@@ -109,7 +109,7 @@ PassesLines text p (Ok h) = IsHead 0 text p h × (is_document_indicator text h.a
 PassesLines text p (Err e) = (h : Head) × IsHead 0 text p h
     × (is_document_indicator text h.at ≡ true) × (wrong_of e ≡ marked h.at)
 
--- bytes of ASCII that are no breaks stand from one place to another
+-- there are bytes of ASCII that are no breaks from one place to another
 pub record ArePlain (text : List ℕ) (p q : ℕ) : Type 0 where
   pub forward : p ≤ q
   pub each : (k : ℕ) → p ≤ k → k < q
@@ -123,7 +123,7 @@ pub record IsTaken (text : List ℕ) (p : ℕ) (old new : List ℕ) (q : ℕ) (s
     pub is : new ≡ old ++ bytes
     pub plain : ArePlain text p q
 
--- what is wrong there is told, unless memory ran out
+-- what is wrong there is reported, unless memory ran out
 abbrev pub RefusesSpot : Refusal → QuotedSpot → Type 0
 RefusesSpot e (Bad w) = Refuses e w
 RefusesSpot e s = IsMemory e
@@ -136,7 +136,7 @@ abbrev pub Codes : List ℕ → ℕ → List ℕ → List ℕ → Result ℕ Ref
 Codes text p old new (Ok q) s = IsTaken text p old new q s
 Codes text p old new (Err e) s = RefusesSpot e s
 
--- the scalar is told as it was read
+-- the scalar is answered as it was read
 abbrev pub IsClosed : ℕ → Quoted → Result QuotedScalar Refusal → Type 0
 IsClosed start r (Ok s) = s ≡ record
     { end = r.at + 1; line = r.line; wide = r.wide; joined = not (r.from == start + 1) }

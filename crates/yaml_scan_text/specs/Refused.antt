@@ -5,7 +5,7 @@ use Rattle.yaml_scan_text.specs.declared.refusal.Wrong.{Wrong as Told}
 use Rattle.yaml_scan_text.specs.declared.refusal.Refusal.{Refusal}
 use Rattle.yaml_scan_text.specs.declared.refusal.Refusal.TheVariants as refusals
 
--- what is told of the problem
+-- what is said of the problem
 abbrev pub wrong_of : Told → Wrong
 wrong_of w = record { problem = w.problem; context = w.context; place = w.place }
 
@@ -19,7 +19,7 @@ abbrev pub IsMemory : Refusal → Type 0
 IsMemory refusals.Memory = Unit {0}
 IsMemory (refusals.Wrong told) = ⊥
 
--- what was there stays in front
+-- what was there stays first
 pub record Keeps (old new : List ℕ) : Type 0 where
   pub rest : List ℕ
   pub is : new ≡ old ++ rest

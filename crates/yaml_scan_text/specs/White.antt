@@ -1,8 +1,9 @@
 -- White, and documents' marks.
 use Rattle.std.specs.Prelude.{ℕ, ◌+◌, ◌-◌, ◌<◌, ◌≤◌, ◌≡◌, Bool, true, false, ◌&&◌, ◌==◌, List}
-use Rattle.yaml_scan_model.specs.Marks.{byte, is_blank, is_blank_or_end}
+use Rattle.yaml_scan_types.specs.Marks.{byte, is_blank, is_blank_or_end}
 
--- blanks stand from one place to another, and none that isn't before `least` is before the first one
+-- there are blanks from one place to another, and none that isn't before `least` is before the
+-- first one
 pub record IsTrimmed (text : List ℕ) (least end q : ℕ) : Type 0 where
   pub after : least ≤ q
   pub before : q ≤ end

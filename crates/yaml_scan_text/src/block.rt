@@ -1,9 +1,9 @@
 //! Block scalars.
 
 ghost use Rattle.std.specs.Prelude.{◌≡◌, ◌<◌, ◌≤◌, ◌+◌, ◌-◌, ◌++◌, ◌&&◌, ◌||◌, ◌⊎◌, ◌==◌, ◌^◌, nat_lt, ℕ, suc, true, false, not, length, slice_range, OnOk, if◌then◌else◌};
-ghost use Rattle.yaml_scan_model.specs.Ascii as ascii;
-ghost use Rattle.yaml_scan_model.specs.Marks.{byte, break_width, column_at, is_blank, splits_break};
-ghost use Rattle.yaml_scan_model.specs.Classes.{is_digit_byte};
+ghost use Rattle.yaml_scan_types.specs.Ascii as ascii;
+ghost use Rattle.yaml_scan_types.specs.Marks.{byte, break_width, column_at, is_blank, splits_break};
+ghost use Rattle.yaml_scan_types.specs.Classes.{is_digit_byte};
 ghost use Rattle.yaml_scan_model.specs.Breaks.{feed_at, is_feed};
 ghost use Rattle.yaml_scan_model.specs.Runs.{line_end};
 ghost use Rattle.yaml_scan_history.specs.Header as headers;

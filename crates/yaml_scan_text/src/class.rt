@@ -1,7 +1,7 @@
 //! Bytes of names, tags and URIs, and brackets.
 
 ghost use Rattle.std.specs.Prelude.{◌≡◌, ◌≤◌, length};
-ghost use Rattle.yaml_scan_model.specs.Classes.{is_alpha_byte};
+ghost use Rattle.yaml_scan_types.specs.Classes.{is_alpha_byte};
 ghost use Rattle.yaml_scan_history.specs.Plain.{is_bracket};
 ghost use Rattle.yaml_scan_history.specs.Uris.{IsKept};
 ghost use Rattle.yaml_scan_history.specs.Written.{is_kept};

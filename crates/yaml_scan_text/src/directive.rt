@@ -1,9 +1,9 @@
 //! Directives.
 
 ghost use Rattle.std.specs.Prelude.{◌≡◌, ◌<◌, ◌≤◌, ◌+◌, ◌-◌, ◌&&◌, ◌||◌, ◌==◌, false, length};
-ghost use Rattle.yaml_scan_model.specs.Ascii as ascii;
-ghost use Rattle.yaml_scan_model.specs.Marks.{byte, column_at, splits_break};
-ghost use Rattle.yaml_scan_model.specs.Classes.{is_digit_byte};
+ghost use Rattle.yaml_scan_types.specs.Ascii as ascii;
+ghost use Rattle.yaml_scan_types.specs.Marks.{byte, column_at, splits_break};
+ghost use Rattle.yaml_scan_types.specs.Classes.{is_digit_byte};
 ghost use Rattle.yaml_scan_history.specs.Directives as directives;
 ghost use Rattle.yaml_scan_history.specs.Directives.{name_of};
 ghost use Rattle.yaml_scan_text.specs.DirectivesRead as spec;
@@ -20,7 +20,7 @@ use crate::uri::some_uri;
 use yaml_scan_history::DirectiveName;
 use yaml_scan_model::{Context, Problem};
 
-/// A directive's value: whether it is a tag's handle and prefix, or else a version's two numbers; where both parts stand; and whether
+/// A directive's value: whether it is a tag's handle and prefix, or else a version's two numbers; where both parts are; and whether
 /// the second one was spelled out.
 #[derive(Clone, Copy, Drop)]
 pub struct Value {
@@ -128,7 +128,7 @@ fn read_name(text: &[u8], start: usize) -> Result<Name, Wrong>
     }
 }
 
-/// What the name says that stands from one place to another.
+/// What the name between two places means.
 fn name_told(text: &[u8], from: usize, end: usize) -> Result<DirectiveName, Problem>
     requires order { from ≤ end }
     requires inside { end ≤ length text.now }

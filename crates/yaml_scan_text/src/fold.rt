@@ -1,7 +1,7 @@
 //! White between texts, and what it reads as.
 
 ghost use Rattle.std.specs.Prelude.{◌≡◌, ◌<◌, ◌≤◌, ◌+◌, ◌++◌, length, slice_range, OnOk};
-ghost use Rattle.yaml_scan_model.specs.Marks.{break_width};
+ghost use Rattle.yaml_scan_types.specs.Marks.{break_width};
 ghost use Rattle.yaml_scan_model.specs.Breaks.{is_document_indicator};
 ghost use Rattle.yaml_scan_model.specs.Runs.{past_blanks};
 ghost use Rattle.yaml_scan_text.specs.Folds as spec;
@@ -40,7 +40,8 @@ pub(crate) fn fold(out: &mut Vec<u8>, text: &[u8], from: usize, to: usize) -> Re
     Ok(())
 }
 
-/// Appends what the breaks between two places read as, between which nothing but blanks and breaks stand.
+/// Appends what the breaks between two places read as, between which there is nothing but blanks
+/// and breaks.
 pub(crate) fn push_breaks(
     out: &mut Vec<u8>,
     text: &[u8],

@@ -1,8 +1,8 @@
 //! Plain scalars.
 
 ghost use Rattle.std.specs.Prelude.{◌≡◌, ◌<◌, ◌≤◌, ◌+◌, ◌-◌, ◌++◌, ◌&&◌, ◌||◌, ◌==◌, nat_lt, Bool, ℕ, true, false, length, slice_range, OnOk, if◌then◌else◌};
-ghost use Rattle.yaml_scan_model.specs.Ascii as ascii;
-ghost use Rattle.yaml_scan_model.specs.Marks.{byte, break_width, is_blank, is_blank_or_end};
+ghost use Rattle.yaml_scan_types.specs.Ascii as ascii;
+ghost use Rattle.yaml_scan_types.specs.Marks.{byte, break_width, is_blank, is_blank_or_end};
 ghost use Rattle.yaml_scan_history.specs.Plain as plain;
 ghost use Rattle.yaml_scan_text.specs.Lines.{InHead, IsSpelled};
 ghost use Rattle.yaml_scan_text.specs.Refused.{Keeps, wrong_of};
@@ -18,7 +18,7 @@ use crate::text::{
 use yaml_scan_model::{Context, Problem};
 use yaml_scan_runs::{BLOCK, FLOW, Run, run_to};
 
-/// The part of a plain scalar that stands on a line: where it ends, where the blanks after it end, whether characters beyond
+/// The part of a plain scalar on a line: where it ends, where the blanks after it end, whether characters beyond
 /// ASCII are among it, and whether a `:` is after it as a mapping has it.
 #[derive(Clone, Copy, Drop)]
 pub struct PlainLine {
@@ -40,7 +40,7 @@ pub struct PlainScalar {
     pub joined: bool,
 }
 
-/// What of a plain scalar stands on the line whose first character is there.
+/// What part of a plain scalar is on the line whose first character is there.
 // Inlined with its runs: most scalars end here.
 #[inline(always)]
 pub fn plain_line(text: &[u8], first: usize, flow: bool) -> PlainLine
@@ -199,7 +199,7 @@ fn is_apart(text: &[u8], head: Head, flow: bool, margin: usize) -> bool
     head.at - head.line < margin
 }
 
-/// The plain scalar that starts there, where such a part of it stands on the first line, and a break after. Its value is a part of
+/// The plain scalar that starts there, where such a part of it is on the first line, and a break after. Its value is a part of
 /// the text, where the scalar ends on that line, else joined from its lines.
 // In line: mostly the scalar ends there.
 #[inline(always)]

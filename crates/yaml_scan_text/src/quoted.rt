@@ -1,8 +1,8 @@
 //! Quoted scalars.
 
 ghost use Rattle.std.specs.Prelude.{◌≡◌, ◌<◌, ◌≤◌, ◌+◌, ◌-◌, ◌++◌, ◌&&◌, ◌⊎◌, ◌==◌, ◌^◌, ℕ, true, false, not, length, slice_range, option_map, IfSome, OnOk, if◌then◌else◌};
-ghost use Rattle.yaml_scan_model.specs.Ascii as ascii;
-ghost use Rattle.yaml_scan_model.specs.Marks.{byte, break_width, splits_break};
+ghost use Rattle.yaml_scan_types.specs.Ascii as ascii;
+ghost use Rattle.yaml_scan_types.specs.Marks.{byte, break_width, splits_break};
 ghost use Rattle.yaml_scan_history.specs.Quoted as quoted;
 ghost use Rattle.yaml_scan_history.specs.Uris as uris;
 ghost use Rattle.yaml_scan_runs.specs.Runs.{RunsTo};

@@ -1,8 +1,8 @@
 //! Tags.
 
 ghost use Rattle.std.specs.Prelude.{◌≡◌, ◌≤◌, ◌<◌, ◌+◌, ◌&&◌, ◌||◌, ◌==◌, length};
-ghost use Rattle.yaml_scan_model.specs.Ascii as ascii;
-ghost use Rattle.yaml_scan_model.specs.Marks.{byte};
+ghost use Rattle.yaml_scan_types.specs.Ascii as ascii;
+ghost use Rattle.yaml_scan_types.specs.Marks.{byte};
 ghost use Rattle.yaml_scan_history.specs.Tags as tags;
 ghost use Rattle.yaml_scan_text.specs.Classes.{AreAlphas};
 ghost use Rattle.yaml_scan_text.specs.TagsRead as spec;
@@ -14,7 +14,7 @@ use crate::text::{byte, is_blank_or_end};
 use crate::uri::{some_uri, uri_at};
 use yaml_scan_model::{Context, Problem};
 
-/// A tag: where its handle ends, which starts with the tag; where its suffix stands, unless that was spelled out; and the place
+/// A tag: where its handle ends, which starts with the tag; where its suffix is, unless that was spelled out; and the place
 /// after it.
 #[derive(Clone, Copy, Drop)]
 pub struct Tag {

@@ -1,9 +1,9 @@
-//! Looks at a text. After its end stands a byte 0, which it doesn't hold.
+//! Looks at a text. After its end is a byte 0, which it doesn't hold.
 
 ghost use Rattle.std.specs.Prelude.{◌≡◌, ◌≤◌, ◌<◌, ◌+◌, ◌-◌, ◌&&◌, ◌==◌, nat_lt, ℕ, true, false, length};
-ghost use Rattle.yaml_scan_model.specs.Ascii as ascii;
-ghost use Rattle.yaml_scan_model.specs.Marks.{byte, break_width, column_at, is_blank, is_blank_or_end};
-ghost use Rattle.yaml_scan_model.specs.Classes.{is_digit_byte};
+ghost use Rattle.yaml_scan_types.specs.Ascii as ascii;
+ghost use Rattle.yaml_scan_types.specs.Marks.{byte, break_width, column_at, is_blank, is_blank_or_end};
+ghost use Rattle.yaml_scan_types.specs.Classes.{is_digit_byte};
 ghost use Rattle.yaml_scan_model.specs.Breaks.{feed_at, is_document_indicator};
 ghost use Rattle.yaml_scan_model.specs.Runs as runs;
 ghost use Rattle.yaml_scan_text.specs.White as white;
@@ -36,7 +36,8 @@ pub fn break_width(text: &[u8], at: usize) -> usize
     }
 }
 
-/// What the break there reads as: LS and PS as themselves, others as a line feed; nothing where no break stands.
+/// What the break there reads as: LS and PS as themselves, others as a line feed; nothing where
+/// there is no break.
 #[tactic(auto, using(crate::proofs::TextLemmas::three_inside, crate::proofs::TextLemmas::three_value, crate::proofs::Words::feed_other))]
 pub fn feed(text: &[u8], at: usize) -> &[u8]
     ensures { result.now ≡ feed_at text.now at }

@@ -1,8 +1,8 @@
 //! The URIs of tags and prefixes, with their escapes.
 
 ghost use Rattle.std.specs.Prelude.{◌≡◌, ◌<◌, ◌≤◌, ◌+◌, ◌++◌, true, false, length, IfOk};
-ghost use Rattle.yaml_scan_model.specs.Ascii as ascii;
-ghost use Rattle.yaml_scan_model.specs.Marks.{byte};
+ghost use Rattle.yaml_scan_types.specs.Ascii as ascii;
+ghost use Rattle.yaml_scan_types.specs.Marks.{byte};
 ghost use Rattle.yaml_scan_history.specs.Uris as uris;
 ghost use Rattle.yaml_scan_text.specs.NamesRead as spec;
 ghost use Rattle.yaml_scan_text.specs.Refused.{Keeps};

@@ -20,7 +20,7 @@ fn tells_none(text: &[u8], place: usize) -> bool
     (b'\r' < byte) & (byte < 0xC2)
 }
 
-// Whether that many bytes are there, and all tell it.
+// Whether that many bytes are there, and all show it.
 // Inlined into the loop over such rows; without an early exit, so that the bytes are looked at side by side.
 #[inline(always)]
 fn row_tells_none(text: &[u8], at: usize) -> bool
@@ -40,7 +40,7 @@ fn row_tells_none(text: &[u8], at: usize) -> bool
     all
 }
 
-// How many bytes are in front in rows that tell it.
+// How many bytes come first in rows that show it.
 fn rows_without(text: &[u8]) -> usize
     ensures inside { result ≤ length text.now }
     ensures none { any_below result (is_break text.now) ≡ false }
@@ -52,7 +52,7 @@ fn rows_without(text: &[u8]) -> usize
     end
 }
 
-// Whether a break begins there. Most bytes tell by themselves that none does.
+// Whether a break begins there. Most bytes show by themselves that none does.
 // Inlined: two comparisons a byte.
 #[inline(always)]
 fn begins_break(text: &[u8], place: usize) -> bool

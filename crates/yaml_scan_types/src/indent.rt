@@ -1,4 +1,4 @@
 //! How far the lines of a collection are indented.
 
-/// The columns of a level's indentation, where nobody set another number.
+/// The columns of a level's indentation, if none are set.
 pub const DEFAULT_INDENT: i32 = 2;

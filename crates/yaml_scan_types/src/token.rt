@@ -53,7 +53,7 @@ pub enum yaml_token_body_t {
     },
 }
 
-/// A token, and where it stands.
+/// A token, and where it is.
 #[derive(Drop)]
 pub struct yaml_token_t {
     pub body: yaml_token_body_t,
@@ -113,7 +113,7 @@ impl yaml_token_t {
     }
 }
 
-/// Lets the token's texts go and leaves the empty token.
+/// Drops the token's texts, and leaves the empty token.
 pub fn yaml_token_delete(token: &mut yaml_token_t)
     ensures { token_of token.new ≡ no_token }
 {

@@ -9,7 +9,7 @@ use yaml_emit::{
 use yaml_parse::{yaml_event_body_t, yaml_event_t};
 use yaml_scan::yaml_sequence_style_t;
 
-// Gives the start of a flow sequence, and tells the number of the kind of the fault that is answered; 0 where there is none.
+// Gives the start of a flow sequence; returns the number of the kind of the fault, 0 where there is none.
 fn give_start(emitter: &mut yaml_emitter_t) -> u64 {
     let event = yaml_event_t::unplaced(yaml_event_body_t::SequenceStart {
         anchor: None,

@@ -5,9 +5,9 @@ use crate::lines::{Part, Reply};
 use yaml_parse::{
     yaml_event_body_t as Body, yaml_event_t, yaml_tag_directive_t, yaml_version_directive_t,
 };
-use yaml_round_lines::yaml_push_event_line;
+use yaml_round_reading::yaml_push_event_line;
 
-// The line that tells the event, without its end.
+// The line of the event, without its end.
 fn put_event_line(reply: &mut Reply, event: &yaml_event_t) {
     let mut line = Vec::new(reply.alloc);
     let pushed = yaml_push_event_line(&mut line, event);
@@ -46,7 +46,7 @@ fn put_start(reply: &mut Reply, implicit: bool, style: &'static str) {
     reply.put_all(&[Part::Flag(implicit), Part::Word(style)]);
 }
 
-// What the event carries that its line doesn't tell: of a scalar whether its tag may be left out in plain style, and in
+// What the event has that its line doesn't show: for a scalar whether its tag may be left out in plain style, and in
 // every other.
 fn put_carried(reply: &mut Reply, body: &Body) {
     match body {

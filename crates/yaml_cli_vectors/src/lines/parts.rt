@@ -5,8 +5,8 @@ use json::Writer;
 use std::str;
 use yaml_scan::yaml_mark_t;
 
-/// A part of an answer that isn't a text of the input: a value of a type with a lifetime is dear to prove, in each function that
-/// makes one.
+/// A part of an answer that isn't a text of the input: a value of a type with a lifetime is
+/// expensive to prove, in each function that makes one.
 #[derive(Clone, Copy)]
 pub enum Part {
     /// A list begins.

@@ -9,15 +9,15 @@ use yaml_scan::yaml_fault_t;
 /// Why a line has no answer: what is wrong, and of what.
 pub type Wrong = (&'static str, &'static str);
 
-/// What is told where memory ran out.
+/// What is reported where memory ran out.
 pub const MEMORY: &'static str = "out of memory";
 
-// What is told of a field.
+// What is reported of a field.
 const NO_FIELD: &'static str = "no such field, or not of its form: ";
 
 /// Reads fields of a line one after another, and writes the answer, an object, as JSON. The first error is kept, and `finish` answers it:
-/// what is read of a field that is missing, and all that is written after it, stand for nothing, so that the calls in between
-/// have no exits, which are dear to prove.
+/// what is read of a field that is missing, and all that is written after it, is ignored, so that the calls in between
+/// have no exits, which are expensive to prove.
 #[derive(Drop)]
 pub struct Reply {
     /// Where memory comes from.

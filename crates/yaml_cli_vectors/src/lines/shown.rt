@@ -5,7 +5,7 @@ use crate::lines::{Part, Reply};
 use serde_json::Value;
 use yaml_scan::{yaml_error_type_t, yaml_fault_t};
 
-/// The problem of a fault that a line gives to its source. A fault's texts are the program's own, so this one stands for those
+/// The problem of a fault that a line gives to its source. A fault's texts are the program's own, so this one replaces those
 /// of the line.
 pub const OWN: &str = "the source's own fault";
 
@@ -20,7 +20,7 @@ const KINDS: [yaml_error_type_t; 7] = [
     yaml_error_type_t::YAML_EMITTER_ERROR,
 ];
 
-/// The fault with those fields; `OWN` stands for its texts.
+/// The fault with those fields; `OWN` replaces its texts.
 pub fn own_fault(reply: &mut Reply, fields: &Value) -> yaml_fault_t {
     let number = reply.count(fields, "/kind").wrapping_sub(1);
     let kind = KINDS.get(number as usize).copied();

@@ -9,7 +9,7 @@ use yaml_scan::{
     yaml_scalar_style_t as Style, yaml_sequence_style_t,
 };
 
-/// A word, and what it stands for.
+/// A word, and its meaning.
 pub type Row<T> = (&'static str, T);
 
 /// Encodings.

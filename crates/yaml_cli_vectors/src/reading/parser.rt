@@ -11,11 +11,11 @@ use yaml_parse::{
     yaml_parser_parse, yaml_parser_parse_into, yaml_parser_prefix, yaml_parser_t,
     yaml_parser_t_prefix, yaml_token_source_t,
 };
-use yaml_parse_source::{yaml_token_list_t, yaml_token_utf8};
-use yaml_round_adapter::yaml_adapter_t;
+use yaml_parse_states::{yaml_token_list_t, yaml_token_utf8};
+use yaml_round_reading::yaml_adapter_t;
 
-// Puts the event, unless all are asked for and it is the empty one after the last, or the fault. The event is kept anyway: to let go
-// each by itself is dearer to prove. Whether there may be more.
+// Puts the event, unless all are asked for and it is the empty one after the last, or the fault. The event is kept anyway: to drop
+// each by itself is harder to prove. Whether there may be more.
 fn put_event(reply: &mut Reply, line: &Value, found: Found<yaml_event_t>) -> bool {
     match found {
         Ok(event) => {
@@ -77,7 +77,7 @@ fn put_prefix(reply: &mut Reply, line: &Value, prefix: &yaml_parser_t_prefix) {
 }
 
 // What the call of that number answers: an event by its value, or in a slot; a document; whether the parser is between documents;
-// the fault that its fields tell. Whether there may be more.
+// the fault that its fields report. Whether there may be more.
 fn put_call<S: yaml_token_source_t>(
     reply: &mut Reply,
     line: &Value,
@@ -99,7 +99,7 @@ fn put_call<S: yaml_token_source_t>(
 }
 
 // Puts in that field what a parser of the source's tokens answers. One function owns the parser of all that is asked of one, since an
-// owner of a parser is dear to prove.
+// owner of a parser is expensive to prove.
 fn parse<S: yaml_token_source_t>(reply: &mut Reply, line: &Value, name: &str, source: S) {
     reply.field(name, Part::List);
     match yaml_parser_initialize(reply.alloc, source) {

@@ -5,13 +5,13 @@ use crate::call::Input;
 use crate::lines::{Part, Reply, show_token};
 use serde_json::Value;
 use yaml_parse::yaml_token_source_t;
-use yaml_round_adapter::yaml_adapter_t;
+use yaml_round_reading::yaml_adapter_t;
 use yaml_scan::{
     yaml_parser_fault, yaml_parser_has_token, yaml_parser_peek, yaml_parser_scan, yaml_parser_skip,
     yaml_parser_t, yaml_token_t, yaml_token_type_t,
 };
 
-// Puts the token, and lets it go, or the fault. Whether there may be more.
+// Puts the token, and drops it, or the fault. Whether there may be more.
 fn put_token(reply: &mut Reply, line: &Value, found: Found<yaml_token_t>) -> bool {
     match found {
         Ok(token) => {

@@ -46,8 +46,8 @@ fn wrong_size(reply: &mut Reply, line: &Value, whole: &Pieces) -> Option<u64> {
 
 /// The text, or the fault, of the line's events; else how many limits or sizes of pieces are right before one isn't. Under any
 /// lesser limit an emitter is to write the front that fits, and to answer that its output is full; the line's own limit isn't to
-/// be passed then. Pieces of 1, 2 and more events, each given to an emitter that goes on where the one before it stood, are to have
-/// the same text and fault.
+/// be passed then. Pieces of 1, 2 and more events, each given to an emitter that continues where
+/// the one before it stopped, must have the same text and fault.
 pub fn emit_again(reply: &mut Reply, line: &Value, call: &str) {
     let settings = settings_of(reply, line);
     let whole = written(reply, line, settings, usize::MAX);

@@ -6,7 +6,7 @@ use serde_json::Value;
 use yaml_emit::{yaml_emitter_dump, yaml_emitter_opened, yaml_emitter_output, yaml_emitter_t};
 use yaml_scan::yaml_fault_t;
 
-// Dumps the document that the fields describe, and tells the fault that is answered.
+// Dumps the document that the fields describe; returns its fault.
 fn dumped(reply: &mut Reply, fields: &Value, emitter: &mut yaml_emitter_t) -> Option<yaml_fault_t> {
     match document_of(reply, fields) {
         Ok(document) => yaml_emitter_dump(emitter, document).err(),

@@ -27,7 +27,7 @@ pub fn emitter_under(alloc: Global, asked: &RequestedSettings, limit: u64) -> Ma
     Ok(emitter)
 }
 
-/// Gives the event that the line writes so, whose texts are to be UTF-8, and tells the fault that is answered.
+/// Gives the event that the line writes so, whose texts have to be UTF-8; returns its fault.
 pub fn give(reply: &mut Reply, it: &Value, emitter: &mut yaml_emitter_t) -> Option<yaml_fault_t> {
     match event_of(reply, it) {
         Ok(event) if yaml_event_utf8(&event) => return yaml_emitter_emit(emitter, event).err(),
@@ -48,7 +48,7 @@ pub fn flush(emitter: &mut yaml_emitter_t) -> Option<yaml_fault_t> {
     yaml_emitter_flush(emitter).err()
 }
 
-/// Opens the stream, or closes it where it was opened, and tells the fault that is answered.
+/// Opens the stream, or closes it where it was opened; returns its fault.
 pub fn turn(emitter: &mut yaml_emitter_t) -> Option<yaml_fault_t> {
     if yaml_emitter_opened(emitter) {
         return yaml_emitter_close(emitter).err();

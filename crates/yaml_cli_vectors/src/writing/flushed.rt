@@ -5,16 +5,17 @@ use crate::lines::{Part, Reply};
 use serde_json::Value;
 use yaml_emit::{yaml_emitter_output, yaml_emitter_t};
 
-// Whether the text is the front and, after it, only what is between nodes: blanks, breaks, and the indicators that part
-// nodes or open a collection; in UTF-16 their other byte.
+// Whether the text is the front and, after it, only what is between nodes: blanks, breaks, and the
+// indicators that separate nodes or open a collection; in UTF-16 their other byte.
 fn is_close(text: &[u8], front: &[u8]) -> bool {
     let rest = text.strip_prefix(front);
     rest.is_some_and(|rest| rest.iter().all(|byte| b"\0 \r\n,:?-[{".contains(byte)))
 }
 
-// Whether the text is what the line wants of a flush: those bytes at least and a front of the line's answer, where it says so,
-// else those bytes except for what is between nodes. How much of that a flush shows is open: in canonical form what parts two
-// nodes is written with the second, and a collection's opener with the collection.
+// Whether the text is what the line expects of a flush: those bytes at least and a front of the
+// line's answer, where it says so, else those bytes except for what is between nodes. How much of
+// that a flush shows is open: in canonical form what separates two nodes is written with the
+// second, and a collection's opener with the collection.
 fn is_wanted(reply: &mut Reply, line: &Value, wanted: &Value, text: &[u8]) -> bool {
     let want = reply.bytes(wanted, "/1");
     if wanted.get(2).is_some() {

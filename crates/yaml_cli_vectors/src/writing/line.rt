@@ -1,5 +1,5 @@
 //! The calls `dump`, `emit_events`, `emit_calls` and `emit`. One function owns the emitter of all four, since an owner of an emitter is
-//! dear to prove.
+//! expensive to prove.
 
 use super::emit_calls::{put_calls, put_dump};
 use super::emit_events::put_events;
@@ -10,7 +10,7 @@ use std::mem;
 use yaml_emit::{yaml_emitter_delete, yaml_emitter_emit_ref, yaml_emitter_output, yaml_emitter_t};
 use yaml_parse::{yaml_event_type_t, yaml_event_utf8};
 
-// What the emitter writes of the events that a parser gave, whose texts are UTF-8, each from where it stands, up to the empty one.
+// What the emitter writes of the events that a parser gave, whose texts are UTF-8, each where it is held, up to the empty one.
 // What is refused of them is answered by the flush.
 fn put_kept(reply: &mut Reply, emitter: &mut yaml_emitter_t) {
     let mut kept = mem::replace(&mut reply.kept, Vec::new(reply.alloc));

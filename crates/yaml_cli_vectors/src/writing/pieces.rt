@@ -18,7 +18,7 @@ use yaml_scan::{yaml_error_type_t, yaml_fault_t};
 // No emitter goes on with a larger limit, nor in a line of more columns.
 const MOST: u64 = 4_611_686_018_427_387_904;
 
-/// What was written in pieces under the settings, and where the last of their emitters stands.
+/// What was written in pieces under the settings, and the checkpoint of the last of their emitters.
 #[derive(Drop)]
 pub struct Pieces {
     pub settings: Settings,
@@ -33,7 +33,8 @@ pub struct Pieces {
     directives: Vec<yaml_tag_directive_t>,
 }
 
-// Where the last emitter stands, if one may go on there: no event was refused, and the line isn't too long.
+// The last emitter's checkpoint, if one may continue from it: no event was refused, and the line
+// isn't too long.
 fn right_stand(pieces: &Pieces) -> Option<yaml_emitter_stand_t>
     ensures right { IfSome result (λ s. refused_at s.place ≡ None) }
     ensures column { IfSome result (λ s. s.cursor.column < 2 ^ 62) }
@@ -55,7 +56,7 @@ fn rest_of(limit: u64, text: &[u8]) -> u64
     limit.saturating_sub(text.len() as u64).min(MOST)
 }
 
-// An emitter that goes on where the last one stood, or that begins.
+// An emitter that continues where the last one stopped, or that begins.
 fn next_emitter(alloc: Global, pieces: &mut Pieces) -> Made {
     let Settings { asked, limit } = pieces.settings;
     let limit = rest_of(limit, pieces.text.as_slice());
@@ -69,8 +70,8 @@ fn next_emitter(alloc: Global, pieces: &mut Pieces) -> Made {
     }
 }
 
-// Keeps where an emitter stands that was given the line's events up to there, with copies of the open collections and the
-// directives.
+// Keeps the checkpoint of an emitter that was given the line's events up to there, with copies of
+// the open collections and the directives.
 fn keep_stand(reply: &mut Reply, emitter: &yaml_emitter_t, upto: usize, pieces: &mut Pieces) {
     let stand = yaml_emitter_stand(emitter);
     pieces.taken = upto.saturating_sub(stand.waiting as usize);

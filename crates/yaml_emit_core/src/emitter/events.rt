@@ -1,4 +1,4 @@
-//! Events of nodes: judged, laid out, settled.
+//! Events of nodes: validated, laid out, settled.
 
 ghost use Rattle.std.specs.Prelude.{◌≡◌, Bool, true, IsUtf8};
 ghost use Rattle.yaml_parse_model.specs.Events.{borrowed_body};

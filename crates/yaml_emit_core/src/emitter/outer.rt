@@ -1,4 +1,4 @@
-//! Events of the stream and of its documents: judged, laid out, settled.
+//! Events of the stream and of its documents: validated, laid out, settled.
 
 ghost use Rattle.std.specs.Prelude.{◌≡◌, Bool, true, false, map, IfOk};
 ghost use Rattle.yaml_parse_model.specs.Events.{borrowed_body, directive_of};

@@ -1,4 +1,4 @@
-//! Where an emitter stands, and an emitter that goes on from there.
+//! An emitter's checkpoint, and an emitter that continues from it.
 
 ghost use Rattle.std.specs.Prelude.{◌≡◌, ◌<◌, ◌^◌, map, IfOk};
 ghost use Rattle.yaml_parse_model.specs.Events.{directive_of};
@@ -14,7 +14,7 @@ use yaml_emit_layout::{Cursor, Encoding, Expected, Level, Problem, Settings};
 use yaml_emit_output::{Draft, Output};
 use yaml_scan_model::yaml_tag_directive_t;
 
-/// Where an emitter stands, except for the collections round the innermost one and the document's directives.
+/// An emitter's checkpoint, except for the collections round the innermost one and the document's directives.
 #[derive(Clone, Copy)]
 pub struct yaml_emitter_stand_t {
     /// The encoding of the text.
@@ -23,7 +23,7 @@ pub struct yaml_emitter_stand_t {
     pub place: Expected,
     /// The innermost open collection.
     pub innermost: Option<Level>,
-    /// Where the next character stands.
+    /// The place of the next character.
     pub cursor: Cursor,
     /// How many events wait for later ones.
     pub waiting: u64,
@@ -65,8 +65,9 @@ fn refused_in(place: Expected) -> Option<Problem>
 }
 
 impl Core {
-    /// It goes on where an emitter stood, with an output of its own: there the collections round the innermost one were open, the
-    /// outermost first, and the document had these directives. Refused only when out of memory.
+    /// Continues from an emitter's checkpoint, with an output of its own: there the collections
+    /// round the innermost one were open, the outermost first, and the document had these
+    /// directives. Refused only when out of memory.
     pub fn resumed(
         alloc: Global,
         settings: Settings,
@@ -98,7 +99,7 @@ impl Core {
         })
     }
 
-    /// Where it stands; that as many events wait is handed in.
+    /// Its checkpoint; the caller passes how many events wait.
     pub fn stand(&self, waiting: u64) -> yaml_emitter_stand_t
         ensures { IsStandOfCore self.now waiting result }
     {

@@ -1,4 +1,4 @@
-//! An emitter that goes on from where another one stood.
+//! An emitter that continues from another one's checkpoint.
 
 ghost use Rattle.std.specs.Prelude.{◌≡◌, ◌≤◌, ◌<◌, ◌^◌, map, None, Option, true, IfOk};
 ghost use Rattle.std.specs.List.{list_all};
@@ -52,7 +52,8 @@ fn is_stand(stand: &yaml_emitter_stand_t, outer: &[Level]) -> bool
 }
 
 /// An emitter that goes on from there, with no event held, and a text of its own of at most `limit` bytes. Refused when out of memory,
-/// and where no emitter stands: a collection is open where no node comes, or is indented by more than 2,147,483,647 columns.
+/// and for no emitter's checkpoint: a collection is open where no node comes, or is indented by
+/// more than 2,147,483,647 columns.
 #[tactic(auto, using(yaml_emit_core::proofs::Fresh::settled_step))]
 pub fn resumed(
     alloc: Global,
@@ -86,7 +87,7 @@ pub fn resumed(
     })
 }
 
-/// Where it stands.
+/// Its checkpoint.
 pub fn stand(emitter: &yaml_emitter_t) -> yaml_emitter_stand_t
     ensures { StandsWhere emitter.now result }
 {

@@ -19,7 +19,7 @@ use std::alloc::Global;
 pub const MAX_ENTRIES: usize = 2_147_483_647;
 
 /// One entry more at the end of a list of a document; `Memory` where a growth was refused or the list is full.
-// Inlined: the entry is built where it is to stand. Room is made first, so that it isn't handed back.
+// Inlined: the entry is built in its place. Room is made first, so that it isn't handed back.
 #[inline(always)]
 pub fn push_entry<T: Drop>(entries: &mut Vec<T>, entry: T) -> Result<(), yaml_text_fault_t>
     ensures { MatchResult result

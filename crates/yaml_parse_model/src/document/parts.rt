@@ -1,4 +1,4 @@
-//! A document in the making: its parts, as the loader fills them.
+//! The parts of a document that the loader is filling.
 
 ghost use Rattle.std.specs.Prelude.{◌≡◌};
 ghost use Rattle.yaml_parse_model.specs.Documents.{IsDocument, no_document};

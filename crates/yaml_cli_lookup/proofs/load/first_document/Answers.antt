@@ -1,5 +1,5 @@
 -- A new parser's first load is that of the input.
-use Rattle.yaml_round_adapter.specs.Adapter.{remaining_of}
+use Rattle.yaml_round_reading.specs.Adapter.{remaining_of}
 use Rattle.yaml_cli_lookup.proofs.Loading.{first_answers}
 use Rattle.yaml_cli_lookup.proofs.load.first_document.Goals as goal
 

@@ -1,6 +1,6 @@
 -- After a fault a dump counts for nothing. All is answered, so that nothing is searched for.
 use Rattle.std.proofs.Common.{[], refl}
-use Rattle.yaml_emit_machine.specs.scan_model.Faults.{fault_of}
+use Rattle.yaml_emit_machine.specs.scan_types.Faults.{fault_of}
 use Rattle.yaml_emit.proofs.Told.{on_ok, on_err, never, opens_nothing}
 use Rattle.yaml_emit.proofs.dump.yaml_emitter_dump.Goals as goal
 

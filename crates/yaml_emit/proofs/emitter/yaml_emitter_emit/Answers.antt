@@ -1,5 +1,5 @@
 use Rattle.std.proofs.Common.{Option, subst}
-use Rattle.yaml_emit_machine.specs.scan_model.Faults.{Fault}
+use Rattle.yaml_emit_machine.specs.scan_types.Faults.{Fault}
 use Rattle.yaml_emit_machine.specs.Emitter.{Answers}
 use Rattle.yaml_emit.proofs.emitter.yaml_emitter_emit.Goals as goal
 

@@ -1,5 +1,5 @@
 use Rattle.std.proofs.Common.{[], ap, option_map}
-use Rattle.yaml_scan_model.specs.Faults.{fault_of}
+use Rattle.yaml_scan_model.specs.scan_types.Faults.{fault_of}
 use Rattle.yaml_emit_machine.proofs.Taking.{inside_stuck}
 use Rattle.yaml_emit_machine.proofs.emitter.take_event.Goals as goal
 

@@ -1,5 +1,5 @@
 use Rattle.std.proofs.Common.{Ok, Err, refl, rules}
-use Rattle.yaml_scan_model.specs.Faults.{fault_of}
+use Rattle.yaml_scan_model.specs.scan_types.Faults.{fault_of}
 use Rattle.yaml_parse_model.specs.Events.{event_of}
 use Rattle.yaml_parse.proofs.Loading.{fed_in_parts, keeps_on, loads_document, loads_nothing, load_faulty, load_refused, load_more, load_asked, fed_more, fed_asked}
 use Rattle.yaml_parse_laws_trees.proofs.NextLoads.{load_is_next, refusal_is_next}

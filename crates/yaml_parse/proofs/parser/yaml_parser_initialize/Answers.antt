@@ -1,4 +1,4 @@
-use Rattle.yaml_parse_source.specs.Members.{members_of}
+use Rattle.yaml_parse_states.specs.Members.{members_of}
 use Rattle.yaml_parse_states.specs.Coming.{Coming}
 use Rattle.yaml_parse_states.specs.Views.{coming_of}
 use Rattle.yaml_parse_laws_trees.proofs.LoadsCome.{loads_come}

@@ -1,7 +1,7 @@
 -- What the call into slots finds is handed out. Where a wrong body changes the flow, the search looks for it, without suggestions: for the
 -- whole of a fault, and else for what was handed out alone.
 use Rattle.std.proofs.Common.{rules}
-use Rattle.yaml_scan_model.specs.Faults.{fault_of}
+use Rattle.yaml_scan_model.specs.scan_types.Faults.{fault_of}
 use Rattle.yaml_parse_model.specs.Events.{event_of}
 use Rattle.yaml_parse.proofs.Handed.{handed_event, handed_fault, handed_utf8, handed_between}
 use Rattle.yaml_parse.proofs.parser.yaml_parser_parse.Goals as goal

@@ -1,9 +1,9 @@
 -- What the states give, in the words of what is still to come.
 use Rattle.std.proofs.Common.{sym, subst}
-use Rattle.yaml_scan_model.specs.Faults.{Fault, fault_of}
+use Rattle.yaml_scan_model.specs.scan_types.Faults.{Fault, fault_of}
 use Rattle.yaml_parse_model.specs.Prefix.{prefix_of}
 use Rattle.yaml_parse_grammar.specs.Remaining.{FaultOf, ParserRemaining}
-use Rattle.yaml_parse_source.specs.Members.{members_of}
+use Rattle.yaml_parse_states.specs.Members.{members_of}
 use Rattle.yaml_parse_states.specs.Turned.{Means}
 use Rattle.yaml_parse.proofs.Gives.{gives_end, remains, told_fault}
 use Rattle.yaml_parse.specs.Finds.{GivesEnd}

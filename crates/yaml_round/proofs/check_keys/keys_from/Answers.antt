@@ -1,6 +1,6 @@
--- The keys of the next document are told, and the others are left.
+-- The repeated keys of the next document are listed, and the others are left.
 use Rattle.std.proofs.Common.{refl}
-use Rattle.yaml_round_writing.proofs.Reloading.{fault_on}
+use Rattle.yaml_round_engine.proofs.Reloading.{fault_on}
 use Rattle.yaml_round.proofs.KeysTold.{told_first, told_on, told_all, told_refused}
 use Rattle.yaml_round.proofs.check_keys.keys_from.Goals as goal
 

@@ -1,6 +1,6 @@
--- The keys of the documents in front were told, and the others are left.
+-- The repeated keys of the first documents are listed, and the others are left.
 use Rattle.std.proofs.Common.{◌≡◌, length, true}
-use Rattle.yaml_round_writing.specs.Reload.{to_load}
+use Rattle.yaml_round_engine.specs.Reload.{to_load}
 use Rattle.yaml_round.proofs.KeysTold.{TellsOn}
 use Rattle.yaml_round.proofs.check_keys.keys_from.Given as goal
 

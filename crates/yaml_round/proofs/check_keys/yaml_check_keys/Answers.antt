@@ -1,6 +1,6 @@
--- What the answer of the input's text tells, by its own clause.
+-- What the answer of the input's text says, by its own clause.
 use Rattle.std.proofs.Common.{subst, Ok}
-use Rattle.yaml_round_writing.specs.Input.{Input}
+use Rattle.yaml_round_engine.specs.round_reading.Input.{Input}
 use Rattle.yaml_round.specs.Keys.{IsKeyCheck}
 use Rattle.yaml_round.proofs.KeysTold.{told_none}
 use Rattle.yaml_round.proofs.check_keys.yaml_check_keys.Goals as goal

@@ -1,7 +1,7 @@
 -- The place is that of the first input's reading. Not searched for, so that a wrong value fails by its type, at once.
 use Rattle.std.proofs.Common.{inl, subst, refl, Bool, Ok}
-use Rattle.yaml_round_compare.specs.Compare.{WhereDifferent}
-use Rattle.yaml_round_compare.specs.Differences.{IsParting}
+use Rattle.yaml_round_engine.specs.Compare.{WhereDifferent}
+use Rattle.yaml_round_engine.specs.Differences.{IsParting}
 use Rattle.yaml_round.proofs.diff.diff_text.Goals as goal
 
 pub returns-in-Err : goal.returns-in-Err

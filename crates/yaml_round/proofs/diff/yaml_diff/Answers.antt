@@ -1,7 +1,7 @@
 -- The answer is that of the input's text.
 use Rattle.std.proofs.Common.{subst}
-use Rattle.yaml_round_writing.specs.Input.{Input}
-use Rattle.yaml_round_compare.specs.Differences.{IsDiff}
+use Rattle.yaml_round_engine.specs.round_reading.Input.{Input}
+use Rattle.yaml_round_engine.specs.Differences.{IsDiff}
 use Rattle.yaml_round.proofs.diff.yaml_diff.Goals as goal
 
 pub returns : goal.returns

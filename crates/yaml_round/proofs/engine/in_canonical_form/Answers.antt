@@ -1,7 +1,7 @@
 -- What is laid out in canonical form is a normal form.
 use Rattle.std.proofs.lemmas.Result.{err_from_is_err_and}
-use Rattle.yaml_round_writing.proofs.Laying.{refused_in_canonical}
-use Rattle.yaml_round_writing.proofs.Normal.{in_normal_form}
+use Rattle.yaml_round_engine.proofs.Laying.{refused_in_canonical}
+use Rattle.yaml_round_engine.proofs.Normal.{in_normal_form}
 use Rattle.yaml_round.proofs.engine.in_canonical_form.Goals as goal
 
 pub returns-in_err-text : goal.returns-in_err-text

@@ -1,7 +1,7 @@
 -- What follows isn't searched for, so that a wrong value fails by its type, at once.
 use Rattle.std.proofs.Common.{Bool, Ok, subst}
-use Rattle.yaml_round_writing.specs.Answers.{IsInPrettyForm}
-use Rattle.yaml_round_writing.proofs.Forms.{asked_for, fallen_back, pretty_answered, pretty_refused}
+use Rattle.yaml_round_engine.specs.Answers.{IsInPrettyForm}
+use Rattle.yaml_round_engine.proofs.Forms.{asked_for, fallen_back, pretty_answered, pretty_refused}
 use Rattle.yaml_round.proofs.engine.yaml_reformat.Goals as goal
 
 pub returns-then-settings : goal.returns-then-settings

@@ -1,6 +1,6 @@
 -- What is laid out with the styles that the content decides is its normal form. Not searched for, so that a wrong value fails by its
 -- type, at once.
-use Rattle.yaml_round_writing.proofs.Readably.{in_readable_form, not_readable}
+use Rattle.yaml_round_engine.proofs.Readably.{in_readable_form, not_readable}
 use Rattle.yaml_round.proofs.normalize.yaml_normalize.Goals as goal
 
 pub returns-in-Ok : goal.returns-in-Ok

@@ -1,4 +1,4 @@
-use Rattle.yaml_round_writing.proofs.Reloading.{reloaded, all_rooted, not_loaded}
+use Rattle.yaml_round_engine.proofs.Reloading.{reloaded, all_rooted, not_loaded}
 use Rattle.yaml_round.proofs.reload.yaml_reload.Goals as goal
 
 pub returns-in-Ok : goal.returns-in-Ok

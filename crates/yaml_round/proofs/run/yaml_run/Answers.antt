@@ -1,7 +1,7 @@
 -- What was read, answered and written. Not searched for, so that a wrong value fails by its type, at once.
 use Rattle.std.proofs.Common.{◌⊎◌, ◌≤◌, subst, refl, length, take, ℕ, List, Ok, Err}
 use Rattle.std.specs.Io.KnownBytes.{Appends}
-use Rattle.yaml_scan_model.specs.Faults.{fault_of, IsMemoryFault}
+use Rattle.yaml_scan_model.specs.scan_types.Faults.{fault_of, IsMemoryFault}
 use Rattle.yaml_round.specs.Commands.{IsRunAnswer, run_layers}
 use Rattle.yaml_round.proofs.Running.{unread, unread_failures, unread_taken, unread_unfinished, refused, told, told_in_part}
 use Rattle.yaml_round.proofs.run.yaml_run.Goals as goal

@@ -1,7 +1,7 @@
 -- The answer is that of the input's text.
 use Rattle.std.proofs.Common.{subst}
-use Rattle.yaml_round_writing.specs.Input.{Input}
-use Rattle.yaml_round_writing.specs.Answers.{IsSame}
+use Rattle.yaml_round_engine.specs.round_reading.Input.{Input}
+use Rattle.yaml_round_engine.specs.Answers.{IsSame}
 use Rattle.yaml_round.proofs.same.yaml_same.Goals as goal
 
 pub returns : goal.returns

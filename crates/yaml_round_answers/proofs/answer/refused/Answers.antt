@@ -3,7 +3,7 @@ use mir.Syntax.{w32}
 use mir.Val.{SFits}
 use Rattle.std.proofs.Common.{inl, inr, subst, rules}
 use Rattle.std.proofs.lemmas.Int.{to_z-of_z}
-use Rattle.yaml_parse.specs.Faults.{fault_of}
+use Rattle.yaml_parse.specs.scan_types.Faults.{fault_of}
 use Rattle.yaml_round_answers.specs.Told.{TellsFault, TellsStarved}
 use Rattle.yaml_round_answers.proofs.Refusing.{starved}
 use Rattle.yaml_round_answers.proofs.answer.refused.Goals as goal

@@ -1,11 +1,11 @@
--- What the call answers is what C is told.
+-- What the call answers is what C receives.
 use mir.Syntax.{w32}
 use mir.Val.{SFits}
 use Rattle.std.proofs.lemmas.Int.{to_z-of_z}
 use Rattle.std.proofs.Common.{◌∙◌, rules, ap, refl}
 use Rattle.yaml_parse.specs.declared.yaml_origin_t.TheVariants.{Reader}
 use Rattle.yaml_round_answers.specs.Decodes.{decode_layers, IsDecoded}
-use Rattle.yaml_round_records.specs.Numbers.{encoding_meant}
+use Rattle.yaml_round_answers.specs.Numbers.{encoding_meant}
 use Rattle.yaml_round_answers.proofs.Refusing.{text_answered, meant_so, unmeant}
 use Rattle.yaml_round_answers.proofs.decoding.decoded_by.Goals as goal
 

@@ -1,4 +1,4 @@
--- What the call answers is what C is told.
+-- What the call answers is what C receives.
 use Rattle.yaml_round_answers.proofs.Telling.{all_answered}
 use Rattle.yaml_round_answers.proofs.emitting.answered.Goals as goal
 

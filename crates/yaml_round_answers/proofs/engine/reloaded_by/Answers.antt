@@ -1,11 +1,11 @@
--- What the call answers is what C is told.
+-- What the call answers is what C receives.
 use mir.Syntax.{w32}
 use mir.Val.{SFits}
 use Rattle.std.proofs.lemmas.Int.{to_z-of_z}
 use Rattle.std.proofs.Common.{◌∙◌, rules, ap, inl, refl}
 use Rattle.yaml_parse.specs.declared.yaml_origin_t.TheVariants.{Emitter}
-use Rattle.yaml_round.specs.Layers.{reload_layers}
-use Rattle.yaml_round.specs.Reload.{IsReloaded}
+use Rattle.yaml_round.specs.round_engine.Layers.{reload_layers}
+use Rattle.yaml_round.specs.round_engine.Reload.{IsReloaded}
 use Rattle.yaml_round_answers.specs.Told.{call_meant}
 use Rattle.yaml_round_answers.proofs.Refusing.{text_answered, meant_so, unmeant}
 use Rattle.yaml_round_answers.proofs.engine.reloaded_by.Goals as goal

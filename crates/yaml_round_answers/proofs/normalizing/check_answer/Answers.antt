@@ -1,9 +1,9 @@
--- What the call answers is what C is told.
+-- What the call answers is what C receives.
 use Rattle.std.proofs.Common.{inl, refl}
 use Rattle.std.specs.Prelude.{Ok}
-use Rattle.yaml_parse.specs.Faults.{fault_of, load_layers}
+use Rattle.yaml_parse.specs.scan_types.Faults.{fault_of, load_layers}
 use Rattle.yaml_parse.specs.declared.yaml_origin_t.TheVariants.{Loader}
-use Rattle.yaml_round.specs.Checking.{IsChecked}
+use Rattle.yaml_round.specs.round_engine.Checking.{IsChecked}
 use Rattle.yaml_round_answers.specs.Normalizes.{TellsDone}
 use Rattle.yaml_round_answers.proofs.Refusing.{refused_answer}
 use Rattle.yaml_round_answers.proofs.normalizing.check_answer.Goals as goal

@@ -3,8 +3,8 @@ use Rattle.std.proofs.Common.{◌≡◌, ◌∙◌, ap, sym, subst, refl}
 use Rattle.yaml_parse.specs.Events.{Event, EventBody}
 use Rattle.yaml_parse.specs.declared.yaml_mark_t.{yaml_mark_t}
 use Rattle.yaml_round_reading.specs.ReadingView.{ReadingView}
-use Rattle.yaml_round_records.specs.Listing.{Collected, AddsRecord, placed}
-use Rattle.yaml_round_records.proofs.Saying.{none_collected, one_collected, it_holds}
+use Rattle.yaml_round_answers.specs.Listing.{Collected, AddsRecord, placed}
+use Rattle.yaml_round_answers.proofs.Saying.{none_collected, one_collected, it_holds}
 use Rattle.yaml_round_answers.proofs.parsing.collect.Goals as goal
 
 same_event : (g : Event) (b : EventBody) (s e : yaml_mark_t) → b ≡ g.body → s ≡ g.start_mark

@@ -1,6 +1,6 @@
 -- The events that were given are said, and the others follow.
 use Rattle.std.proofs.Common.{◌≡◌, length}
-use Rattle.yaml_round_records.specs.Listing.{Collected}
+use Rattle.yaml_round_answers.specs.Listing.{Collected}
 use Rattle.yaml_round_answers.proofs.parsing.collect.Given as goal
 
 abbrev pub invariant-events : goal.invariant-events

@@ -1,4 +1,4 @@
--- Where there is no memory for the text, that is told.
+-- Where there is no memory for the text, that is reported.
 use Rattle.yaml_round_answers.proofs.Handing.{starved_gives, nothing_given}
 use Rattle.yaml_round_answers.proofs.parsing.given.Goals as goal
 

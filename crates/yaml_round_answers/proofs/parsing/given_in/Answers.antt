@@ -1,4 +1,4 @@
--- What is before the end is what C is told.
+-- What is before the end is what C receives.
 use Rattle.yaml_round_answers.proofs.Handing.{all_given, refused_gives, kind_given, refused_none}
 use Rattle.yaml_round_answers.proofs.parsing.given_in.Goals as goal
 

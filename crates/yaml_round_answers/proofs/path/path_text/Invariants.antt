@@ -1,4 +1,4 @@
--- The steps in front are spelled, and the others are left.
+-- The first steps are spelled, and the others are left.
 use Rattle.std.proofs.Common.{◌≡◌, ◌++◌, drop}
 use Rattle.yaml_round_answers.specs.Path.{path_spelled}
 use Rattle.yaml_round_answers.proofs.path.path_text.Given as goal

@@ -1,4 +1,4 @@
--- Where there is no memory for the text, that is told.
+-- Where there is no memory for the text, that is reported.
 use Rattle.yaml_round_answers.proofs.ScanTelling.{scan_starves}
 use Rattle.yaml_round_answers.proofs.scanning.scanned.Goals as goal
 

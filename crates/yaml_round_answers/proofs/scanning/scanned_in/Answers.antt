@@ -1,4 +1,4 @@
--- What was listed is what C is told.
+-- What was listed is what C receives.
 use Rattle.yaml_round_answers.proofs.ScanTelling.{scan_ends, scan_fails}
 use Rattle.yaml_round_answers.proofs.scanning.scanned_in.Goals as goal
 

@@ -1,4 +1,4 @@
--- What the call answers is what C is told.
+-- What the call answers is what C receives.
 use mir.Syntax.{w32}
 use mir.Val.{SFits}
 use Rattle.std.proofs.Common.{rules}

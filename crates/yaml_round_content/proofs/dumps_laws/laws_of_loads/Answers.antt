@@ -1,8 +1,8 @@
 use Rattle.yaml_round_content.proofs.DumpsTrees.{numbered_back}
-use Rattle.yaml_emit_laws_dumps.proofs.Whole.{number_back, numbers_found}
-use Rattle.yaml_emit_laws_dumps.proofs.Again.{again_turns}
-use Rattle.yaml_emit_laws_dumps.proofs.Apart.{again_all, apart_all}
-use Rattle.yaml_emit_laws_dumps.proofs.Back.{numbered_back as numbered_back-dumps_number_back}
+use Rattle.yaml_emit_laws.proofs.DumpsWhole.{number_back, numbers_found}
+use Rattle.yaml_emit_laws.proofs.Again.{again_turns}
+use Rattle.yaml_emit_laws.proofs.Apart.{again_all, apart_all}
+use Rattle.yaml_emit_laws.proofs.DumpsBack.{numbered_back as numbered_back-dumps_number_back}
 use Rattle.yaml_round_content.proofs.Agreeing.{dumps_loaded}
 use Rattle.yaml_round_content.proofs.Loading.{content_loaded}
 use Rattle.yaml_parse_loader.proofs.Loads.{loads_document}

@@ -14,7 +14,7 @@ is_read : (from : yaml_encoding_t) (input : List ℕ) (c : scan.Remaining) → c
 unfolding read
 is_read from input c e = ap parsed e
 
--- no token was told of
+-- no token was shown
 pub new-parser-requires : goal.new-parser-requires
 new-parser-requires c = λ told. absurd (let bad : None ≡ Some false = sym c.in-Ok.ensures.unasked ∙ told in cc)
 

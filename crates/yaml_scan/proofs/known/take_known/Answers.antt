@@ -1,7 +1,7 @@
 use Rattle.std.proofs.Common.{rules, sym, ◌∙◌, subst}
 use Rattle.yaml_scan_core.proofs.MoreLemmas.{knows_more, token_known}
 use Rattle.yaml_scan.specs.Known.{Fails, GivesAll}
-use Rattle.yaml_scan_model.specs.Faults.{fault_of}
+use Rattle.yaml_scan_types.specs.Faults.{fault_of}
 use Rattle.yaml_scan.proofs.KnownLemmas.{fails_more, fewer_left, gives_none, goes_no_more, goes_on, goes_with, more_there, some_with, starts_with}
 use Rattle.yaml_scan.proofs.known.take_known.Goals as goal
 

@@ -3,7 +3,7 @@ use Rattle.yaml_scan_decode.specs.declared.offence.Offence.{Offence}
 use Rattle.yaml_scan_decode.specs.Encodings.{encoding_of}
 use Rattle.yaml_scan_decode.proofs.CompleteLemmas.{spells_decoded}
 use Rattle.yaml_scan_history.specs.Scanned.{scanned_in}
-use Rattle.yaml_scan_laws_texts.proofs.LookingBack.{offline_looks_back}
+use Rattle.yaml_scan_laws.proofs.LookingBack.{offline_looks_back}
 use Rattle.yaml_scan.proofs.laws.tokens_look_back.Goals as goal
 
 pub returns : goal.returns

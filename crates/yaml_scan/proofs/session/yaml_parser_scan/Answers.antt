@@ -1,4 +1,4 @@
-use Rattle.yaml_scan_model.specs.Tokens.{token_of}
+use Rattle.yaml_scan_types.specs.Tokens.{token_of}
 use Rattle.yaml_scan.specs.SessionView.{view_of}
 use Rattle.yaml_scan.proofs.ReadingLemmas.{few_wait, takes, whole_popped}
 use Rattle.yaml_scan.proofs.session.yaml_parser_scan.Goals as goal

@@ -1,6 +1,6 @@
 use Rattle.std.proofs.Common.{◌≢◌, ◌∙◌, subst, sym}
 use Rattle.yaml_scan_core.proofs.Words.{SpelledText}
-use Rattle.yaml_scan_tokens.specs.declared.kind.Kind.TheVariants as kinds
+use Rattle.yaml_scan_model.specs.declared.kind.Kind.TheVariants as kinds
 use Rattle.yaml_scan_core.specs.declared.scanner.Scanner.{Scanner}
 use Rattle.yaml_scan_core.specs.Handed.{to_come}
 use Rattle.yaml_scan_core.specs.Told.{Locates}

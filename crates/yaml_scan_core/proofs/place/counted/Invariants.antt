@@ -1,5 +1,5 @@
 use Rattle.std.proofs.Common.{◌≡◌, ◌≤◌, ◌-◌}
-use Rattle.yaml_scan_model.specs.Marks.{mark_at}
+use Rattle.yaml_scan_model.specs.scan_types.Marks.{mark_at}
 use Rattle.yaml_scan_core.proofs.place.counted.Given as goal
 
 abbrev pub invariant-runs : goal.invariant-runs

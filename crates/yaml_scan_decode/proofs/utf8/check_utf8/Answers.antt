@@ -1,7 +1,7 @@
 use Rattle.std.proofs.Common.{◌≡◌, ◌+◌, ◌-◌, ◌<◌, ap, sym, ◌∙◌, arith, inl, inr}
 use Rattle.std.proofs.lemmas.Bool.{not-false, not-true, false≢true}
 use Rattle.std.proofs.Math.Nat.{eq-or-lt_of_le}
-use Rattle.yaml_scan_model.specs.Marks.{byte}
+use Rattle.yaml_scan_types.specs.Marks.{byte}
 use Rattle.yaml_scan_decode.specs.Steps.{is_plain, outcome_at}
 use Rattle.yaml_scan_decode.proofs.CommonLemmas.{unplain_is}
 use Rattle.yaml_scan_decode.proofs.SpellingLemmas.{checks_run}
@@ -16,7 +16,7 @@ others-init c =
     (λ j low high. not-false _ (sym (unplain_is (byte bytes j)) ∙ run.passed j low (omega (arith, high, end)))) in
     (c.runs.invariant ∙ plain ∙ ap (outcome_at bytes) end, omega arith)
 
--- where the run of plain characters ends at once, another stands there, and that is passed
+-- where the run of plain characters ends at once, there is another one, and that is passed
 pub runs-smaller-else-not-is_plain : goal.runs-smaller-else-not-is_plain
 runs-smaller-else-not-is_plain c =
     let bytes = c.args.bytes.now in

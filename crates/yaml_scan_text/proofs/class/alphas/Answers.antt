@@ -1,6 +1,6 @@
 use Rattle.std.proofs.Common.{◌≡◌, ◌∙◌, false, sym, arith}
 use Rattle.yaml_scan_text.proofs.Words.{byte}
-use Rattle.yaml_scan_model.specs.Classes.{is_alpha_byte}
+use Rattle.yaml_scan_types.specs.Classes.{is_alpha_byte}
 use Rattle.yaml_scan_text.proofs.NamesLemmas.{alphas_done, alphas_none, alphas_stop}
 use Rattle.yaml_scan_text.proofs.class.alphas.Goals as goal
 

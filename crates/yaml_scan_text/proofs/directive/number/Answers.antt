@@ -1,6 +1,6 @@
 use Rattle.std.proofs.Common.{◌≡◌, ◌∙◌, true, false, sym, arith}
 use Rattle.yaml_scan_text.proofs.Words.{byte}
-use Rattle.yaml_scan_model.specs.Classes.{is_digit_byte}
+use Rattle.yaml_scan_types.specs.Classes.{is_digit_byte}
 use Rattle.yaml_scan_text.proofs.DirectiveLemmas.{digits_first, digits_next, number_empty, number_far, number_read}
 use Rattle.yaml_scan_text.proofs.directive.number.Goals as goal
 

@@ -1,5 +1,5 @@
 use Rattle.std.proofs.Common.{◌≡◌, ◌≤◌, ◌<◌, ℕ, true}
-use Rattle.yaml_scan_model.specs.Marks.{byte, is_blank}
+use Rattle.yaml_scan_types.specs.Marks.{byte, is_blank}
 use Rattle.yaml_scan_text.proofs.text.trim_blanks.Given as goal
 
 abbrev pub invariant-bytes : goal.invariant-bytes

@@ -1,6 +1,6 @@
 -- Between documents one state is alone, as the invariant says: what it gives is documents.
 use Rattle.yaml_parse_model.specs.Prefix.{prefix_of}
-use Rattle.yaml_parse_source.specs.Members.{members_of}
+use Rattle.yaml_parse_states.specs.Members.{members_of}
 use Rattle.yaml_parse.proofs.Gives.{parser_falls, parser_loads}
 use Rattle.yaml_parse.proofs.parser.yaml_parser_t.allocator.Goals as goal
 

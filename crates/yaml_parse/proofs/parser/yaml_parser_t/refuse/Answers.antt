@@ -2,7 +2,7 @@
 use Rattle.std.proofs.Common.{ap}
 use Rattle.yaml_parse_model.specs.Prefix.{prefix_of}
 use Rattle.yaml_parse_states.specs.declared.parser.Parser.{Parser}
-use Rattle.yaml_parse_source.specs.Members.{members_of}
+use Rattle.yaml_parse_states.specs.Members.{members_of}
 use Rattle.yaml_parse.proofs.Gives.{one_held, parser_stops, stopped_stands, stopped_utf8}
 use Rattle.yaml_parse.proofs.parser.yaml_parser_t.refuse.Goals as goal
 

@@ -1,5 +1,5 @@
 -- Between documents one state is alone, as the invariant says: what it gives is documents.
-use Rattle.yaml_scan_model.specs.Faults.{fault_of}
+use Rattle.yaml_scan_model.specs.scan_types.Faults.{fault_of}
 use Rattle.yaml_parse.proofs.Gives.{parser_falls, parser_loads}
 use Rattle.yaml_parse.proofs.token_parser.TokenParser.allocator.Goals as goal
 

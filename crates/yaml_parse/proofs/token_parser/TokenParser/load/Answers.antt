@@ -1,5 +1,5 @@
 use Rattle.std.proofs.Common.{Ok, Err, ap, sym, subst, ◌∙◌}
-use Rattle.yaml_scan_model.specs.Faults.{fault_of}
+use Rattle.yaml_scan_model.specs.scan_types.Faults.{fault_of}
 use Rattle.yaml_parse_model.specs.Constructors.{HasUtf8}
 use Rattle.yaml_parse_model.specs.Events.{Event, borrowed_body}
 use Rattle.yaml_parse.specs.Finds.{GivesNext}

@@ -1,6 +1,6 @@
 -- Nothing comes of a parser that is stopped.
 use Rattle.std.proofs.Common.{ap}
-use Rattle.yaml_scan_model.specs.Faults.{fault_of}
+use Rattle.yaml_scan_model.specs.scan_types.Faults.{fault_of}
 use Rattle.yaml_parse_states.specs.declared.parser.Parser.{Parser}
 use Rattle.yaml_parse.proofs.Gives.{holds_as_tokens, parser_stops, stopped_stands, stopped_utf8}
 use Rattle.yaml_parse.proofs.token_parser.TokenParser.refuse.Goals as goal

@@ -1,5 +1,5 @@
 use Rattle.std.proofs.Common.{Some}
-use Rattle.yaml_scan_tokens.specs.Shows.{left_behind}
+use Rattle.yaml_scan_model.specs.Shows.{left_behind}
 use Rattle.yaml_parse_states.specs.Nodes.{wants_by}
 use Rattle.yaml_parse_states.proofs.Founds.{refused_with, empty_found}
 use Rattle.yaml_parse_states.proofs.Nodes.{undefined_read}

@@ -3,8 +3,8 @@ use Rattle.yaml_parse_grammar.specs.Machine.{follows}
 use Rattle.yaml_parse_grammar.specs.declared.name.Site.TheVariants.{BlockPair}
 use Rattle.yaml_parse_grammar.specs.declared.name.Side.TheVariants.{Key}
 use Rattle.yaml_parse_grammar.specs.declared.problem.ParseProblem.TheVariants as problem
-use Rattle.yaml_scan_tokens.specs.declared.kind.Kind.TheVariants as kind
-use Rattle.yaml_scan_tokens.specs.Kinds.{is_fault, type_by}
+use Rattle.yaml_scan_model.specs.declared.kind.Kind.TheVariants as kind
+use Rattle.yaml_scan_model.specs.Kinds.{is_fault, type_by}
 use Rattle.yaml_parse_states.specs.declared.parser.State.TheVariants as state
 use Rattle.yaml_parse_states.specs.declared.parser.Turn.TheVariants as turn
 use Rattle.yaml_parse_states.specs.Views.{below_of, blank_event}

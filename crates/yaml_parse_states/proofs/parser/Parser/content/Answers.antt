@@ -4,7 +4,7 @@ use Rattle.yaml_parse_model.specs.declared.yaml_mapping_style_t.TheVariants.{YAM
 use Rattle.yaml_parse_grammar.specs.States as grammar
 use Rattle.yaml_parse_grammar.specs.Items.{sequence, mapping}
 use Rattle.yaml_parse_grammar.specs.declared.name.Brackets.TheVariants as brackets
-use Rattle.yaml_scan_tokens.specs.declared.kind.Kind.TheVariants as kind
+use Rattle.yaml_scan_model.specs.declared.kind.Kind.TheVariants as kind
 use Rattle.yaml_parse_states.specs.declared.parser.State.TheVariants as state
 use Rattle.yaml_parse_states.specs.declared.event.EventKind.TheVariants as event
 use Rattle.yaml_parse_states.specs.Nodes.{IsShown, wants_by}

@@ -1,7 +1,7 @@
 use Rattle.std.proofs.Common.{◌∙◌, ◌∷◌, [], refl, sym, ap, subst, None}
 use Rattle.yaml_parse_grammar.specs.States as grammar
 use Rattle.yaml_parse_grammar.specs.declared.problem.ParseProblem.TheVariants as problem
-use Rattle.yaml_scan_tokens.specs.declared.kind.Kind.TheVariants as kind
+use Rattle.yaml_scan_model.specs.declared.kind.Kind.TheVariants as kind
 use Rattle.yaml_parse_states.specs.Views.{coming_with, directives_of}
 use Rattle.yaml_parse_states.specs.Turned.{Turned}
 use Rattle.yaml_parse_states.proofs.Fronts.{shown_same}

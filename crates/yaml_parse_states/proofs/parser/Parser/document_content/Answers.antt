@@ -1,5 +1,5 @@
 use Rattle.std.proofs.Common.{refl, None}
-use Rattle.yaml_parse_model.specs.Tokens.{zero_mark}
+use Rattle.yaml_parse_model.specs.scan_types.Tokens.{zero_mark}
 use Rattle.yaml_parse_grammar.specs.declared.name.Site.TheVariants.{Root}
 use Rattle.yaml_parse_grammar.specs.declared.name.Wants.TheVariants.{Block}
 use Rattle.yaml_parse_states.specs.declared.parser.State.TheVariants as state

@@ -1,11 +1,11 @@
 use Rattle.std.proofs.Common.{◌∙◌, ◌∷◌, [], refl, sym, ap, subst, None}
 use Rattle.yaml_parse_model.specs.Source.{front_of}
-use Rattle.yaml_parse_model.specs.Tokens.{Token}
+use Rattle.yaml_parse_model.specs.scan_types.Tokens.{Token}
 use Rattle.yaml_parse_model.specs.Events as events
 use Rattle.yaml_parse_grammar.specs.States as grammar
 use Rattle.yaml_parse_grammar.specs.Trees.{event_at}
 use Rattle.yaml_parse_grammar.specs.declared.problem.ParseProblem.TheVariants as problem
-use Rattle.yaml_scan_tokens.specs.declared.kind.Kind.TheVariants as kind
+use Rattle.yaml_scan_model.specs.declared.kind.Kind.TheVariants as kind
 use Rattle.yaml_parse_states.specs.declared.parser.State.TheVariants as state
 use Rattle.yaml_parse_states.specs.declared.event.EventKind.TheVariants as event
 use Rattle.yaml_parse_states.specs.Coming.{read}

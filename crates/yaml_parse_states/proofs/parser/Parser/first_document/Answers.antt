@@ -1,7 +1,7 @@
 use Rattle.std.proofs.Common.{◌∙◌, ◌∷◌, [], true, refl, sym, subst}
 use Rattle.yaml_parse_grammar.specs.States as grammar
 use Rattle.yaml_parse_grammar.specs.declared.problem.ParseProblem.TheVariants as problem
-use Rattle.yaml_scan_tokens.specs.Shows.{left_behind}
+use Rattle.yaml_scan_model.specs.Shows.{left_behind}
 use Rattle.yaml_parse_states.specs.declared.parser.State.TheVariants as state
 use Rattle.yaml_parse_states.specs.Views.{directives_of}
 use Rattle.yaml_parse_states.specs.Turned.{Turned}

@@ -2,7 +2,7 @@ use Rattle.std.proofs.Common.{◌∙◌, ◌∷◌, [], refl}
 use Rattle.yaml_parse_grammar.specs.States as grammar
 use Rattle.yaml_parse_grammar.specs.declared.name.Brackets.TheVariants as brackets
 use Rattle.yaml_parse_grammar.specs.declared.problem.ParseProblem.TheVariants as problem
-use Rattle.yaml_scan_tokens.specs.declared.kind.Kind.TheVariants as kind
+use Rattle.yaml_scan_model.specs.declared.kind.Kind.TheVariants as kind
 use Rattle.yaml_parse_states.specs.declared.parser.State.TheVariants as state
 use Rattle.yaml_parse_states.specs.Views.{below_of}
 use Rattle.yaml_parse_states.proofs.Parts.{Skipped, refused_here, stepped}

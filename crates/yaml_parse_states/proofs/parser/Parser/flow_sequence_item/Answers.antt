@@ -1,6 +1,6 @@
 use Rattle.std.proofs.Common.{◌∙◌, ◌∷◌, [], true, refl, sym, ap, subst, reverse, None}
 use Rattle.yaml_parse_model.specs.Source.{front_of, rest_of}
-use Rattle.yaml_parse_model.specs.Tokens.{Token, zero_mark}
+use Rattle.yaml_parse_model.specs.scan_types.Tokens.{Token, zero_mark}
 use Rattle.yaml_parse_model.specs.Events.{mapping_start}
 use Rattle.yaml_parse_model.specs.declared.yaml_mapping_style_t.TheVariants.{YAML_FLOW_MAPPING_STYLE}
 use Rattle.yaml_parse_grammar.specs.Resolve.{Directives}
@@ -13,7 +13,7 @@ use Rattle.yaml_parse_grammar.specs.declared.name.Brackets.TheVariants as bracke
 use Rattle.yaml_parse_grammar.specs.declared.name.Wants.TheVariants.{Flow}
 use Rattle.yaml_parse_grammar.specs.declared.name.Site.TheVariants.{FlowPair}
 use Rattle.yaml_parse_grammar.specs.declared.name.Side.TheVariants.{Key, Value}
-use Rattle.yaml_scan_tokens.specs.declared.kind.Kind.TheVariants as kind
+use Rattle.yaml_scan_model.specs.declared.kind.Kind.TheVariants as kind
 use Rattle.yaml_parse_states.specs.declared.parser.State.TheVariants as state
 use Rattle.yaml_parse_states.specs.declared.parser.Turn.TheVariants as turn
 use Rattle.yaml_parse_states.specs.declared.event.EventKind.TheVariants as event

@@ -1,5 +1,5 @@
 use Rattle.std.proofs.Common.{◌≡◌, ◌∙◌, false, refl, sym, subst, Some}
-use Rattle.yaml_scan_tokens.specs.Kinds.{is_fault}
+use Rattle.yaml_scan_model.specs.Kinds.{is_fault}
 use Rattle.yaml_parse_states.specs.Nodes.{Found, begun, wants_by}
 use Rattle.yaml_parse_states.proofs.Named.{Joined, begins_joined, goes_on, is_shown, joined_shown, named_fails, named_lacks}
 use Rattle.yaml_parse_states.proofs.Parts.{with_tokens}

@@ -2,8 +2,8 @@ use Rattle.std.proofs.Common.{◌≡◌, ◌∙◌, false, refl, sym, ap, subst,
 use Rattle.yaml_parse_model.specs.Source.{front_of}
 use Rattle.yaml_parse_grammar.specs.Machine.{starts_content}
 use Rattle.yaml_parse_grammar.specs.declared.problem.ParseProblem.TheVariants as problem
-use Rattle.yaml_scan_tokens.specs.declared.kind.Kind.TheVariants as kind
-use Rattle.yaml_scan_tokens.specs.Kinds.{is_fault, type_by}
+use Rattle.yaml_scan_model.specs.declared.kind.Kind.TheVariants as kind
+use Rattle.yaml_scan_model.specs.Kinds.{is_fault, type_by}
 use Rattle.yaml_parse_states.proofs.Parts.{with_tokens}
 use Rattle.yaml_parse_states.specs.declared.parser.Parser.{Parser}
 use Rattle.yaml_parse_states.specs.Nodes.{Found, IsShown, begun, wants_by}

@@ -4,7 +4,7 @@ use Rattle.yaml_parse_grammar.specs.declared.problem.ParseProblem.TheVariants as
 use Rattle.yaml_parse_states.specs.Views.{directives_of}
 use Rattle.yaml_parse_grammar.specs.Resolve.{directive_for, with_tag}
 use Rattle.yaml_parse_grammar.specs.Problems.{parser_fault}
-use Rattle.yaml_parse_model.specs.Faults.{memory_fault}
+use Rattle.yaml_parse_model.specs.scan_types.Faults.{memory_fault}
 use Rattle.yaml_parse_model.specs.declared.yaml_origin_t.TheVariants.{Parser as ParserLayer}
 use Rattle.yaml_parse_states.specs.declared.parser.Parser.{Parser}
 use Rattle.yaml_parse_states.specs.Documents.{Settles}

@@ -3,12 +3,12 @@ use mir.Val.{SFits, to_z, of_z}
 use Rattle.std.proofs.lemmas.Int.{to_z-of_z}
 use Rattle.std.proofs.Common.{rules, ◌∙◌, refl, sym, ap, subst}
 use Rattle.yaml_parse_model.specs.Source.{front_of}
-use Rattle.yaml_parse_model.specs.Tokens.{Token}
+use Rattle.yaml_parse_model.specs.scan_types.Tokens.{Token}
 use Rattle.yaml_parse_grammar.specs.Items.{item_at}
 use Rattle.yaml_parse_grammar.specs.Items as item
 use Rattle.yaml_parse_grammar.specs.Resolve.{Directives}
-use Rattle.yaml_scan_tokens.specs.declared.kind.Kind.TheVariants as kind
-use Rattle.yaml_scan_tokens.specs.Texts.{AreTextsOf, major_in, minor_in}
+use Rattle.yaml_scan_model.specs.declared.kind.Kind.TheVariants as kind
+use Rattle.yaml_scan_model.specs.Texts.{AreTextsOf, major_in, minor_in}
 use Rattle.yaml_parse_states.specs.Views.{directives_of}
 use Rattle.yaml_parse_states.specs.Turned.{IsTaken}
 use Rattle.yaml_parse_states.proofs.Parts.{with_tokens}

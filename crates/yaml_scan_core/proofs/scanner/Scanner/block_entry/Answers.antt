@@ -1,8 +1,8 @@
 use Rattle.std.proofs.Common.{◌+◌, true, refl, ◌∙◌, ap, subst, inl, Ok, Err, arith}
 use Rattle.std.proofs.lemmas.Result.{err_from_is_err_and}
 use Rattle.yaml_scan_history.specs.declared.kind.Kind.TheVariants as reads
-use Rattle.yaml_scan_model.specs.Tokens as tokens
-use Rattle.yaml_scan_tokens.specs.declared.kind.Kind.TheVariants as kinds
+use Rattle.yaml_scan_model.specs.scan_types.Tokens as tokens
+use Rattle.yaml_scan_model.specs.declared.kind.Kind.TheVariants as kinds
 use Rattle.yaml_scan_core.specs.declared.scanner.Scanner.{Scanner}
 use Rattle.yaml_scan_core.specs.Candidates.{cancelled_at, index_in, stack_of}
 use Rattle.yaml_scan_core.specs.Scanning.{Tests, history_of}

@@ -1,8 +1,8 @@
 use Rattle.std.proofs.Common.{true, refl, inl}
 use Rattle.std.proofs.lemmas.Result.{err_from_is_err_and}
 use Rattle.yaml_scan_history.specs.declared.kind.Kind.TheVariants as reads
-use Rattle.yaml_scan_tokens.specs.declared.kind.Kind.TheVariants as kinds
-use Rattle.yaml_scan_model.specs.Tokens as tokens
+use Rattle.yaml_scan_model.specs.declared.kind.Kind.TheVariants as kinds
+use Rattle.yaml_scan_model.specs.scan_types.Tokens as tokens
 use Rattle.yaml_scan_core.specs.Scanning.{history_of}
 use Rattle.yaml_scan_core.proofs.GroupsLemmas.{comma, plain_falls, plain_takes, put_falls}
 use Rattle.yaml_scan_core.proofs.StandTaken.{reads_closed, takes_closed}

@@ -4,8 +4,8 @@ use Rattle.std.proofs.lemmas.List.{length-set}
 use Rattle.yaml_scan_core.proofs.Words.{KeyStack, inner, reached}
 use Rattle.yaml_scan_core.proofs.GapsLemmas.{or_false}
 use Rattle.yaml_scan_history.specs.declared.kind.Kind.TheVariants as reads
-use Rattle.yaml_scan_model.specs.Tokens as tokens
-use Rattle.yaml_scan_tokens.specs.declared.kind.Kind.TheVariants as kinds
+use Rattle.yaml_scan_model.specs.scan_types.Tokens as tokens
+use Rattle.yaml_scan_model.specs.declared.kind.Kind.TheVariants as kinds
 use Rattle.yaml_scan_core.specs.declared.scanner.Scanner.{Scanner}
 use Rattle.yaml_scan_core.specs.Candidates.{cancelled_at, index_in, stack_of}
 use Rattle.yaml_scan_core.specs.Scanning.{Tests, history_of}

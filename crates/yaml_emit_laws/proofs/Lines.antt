@@ -1,0 +1,142 @@
+-- Lines and breaks that a layout writes inside a scalar.
+use Rattle.std.proofs.Common.{◌≡◌, ℕ, zero, suc, ◌+◌, ◌-◌, Bool, true, false, not, ◌&&◌, ◌||◌, ◌==◌, nat_lt, List, [], ◌∷◌, ◌++◌, replicate, refl, sym, ap, subst, ◌∙◌, inl, inr, ◌⊎◌, arith, append-nil, encode_utf8, encode_utf8_all, true≢false, eqb-true, ne_eqb}
+use Rattle.yaml_emit_laws.proofs.ScalarWords.{nat_tests, and-false, Cursor, LineBreak, Lf, Cr, CrLf, is_break, Rest, blanks, new_line, line, indent_to, must_break, is_printable, value_break, in_front, break_text, LineEnd, line_separator, paragraph_separator, end_bytes, end_means, is_return, is_feed_end, encode_1, encode_3, cond_false, low_encodes, end_of, spaced_by, new_line_is, blanks_are, bool_cases, after_blanks, line_start}
+use Rattle.yaml_scan_history.specs.Pieces.{gap}
+
+-- ---- lines
+
+-- Each blank moves the column on by one.
+pub blanks_column : (n : ℕ) (c : Cursor) → (after_blanks n c).column ≡ c.column + n
+blanks_column zero c = omega arith
+blanks_column (suc n) c =
+    let more = blanks_column n (spaced_by c) in
+    let far : c.column + 1 + n ≡ c.column + suc n = omega arith in
+    more ∙ far
+
+-- White space leaves a block scalar's kept breaks as they were.
+pub blanks_kept : (n : ℕ) (c : Cursor) → (after_blanks n c).kept ≡ c.kept
+blanks_kept zero c = refl
+blanks_kept (suc n) c = blanks_kept n (spaced_by c)
+
+indent_is : (n : ℕ) (c : Cursor) (rest : Rest) → c.column ≡ 0
+    → indent_to n c rest ≡ in_front (replicate n 32) (rest (after_blanks n c))
+indent_is n c rest e =
+    let z : n - c.column ≡ n = omega (arith, e) in
+    ap (λ k. blanks k c rest) z ∙ blanks_are n c rest
+
+-- where a line starts
+pub record Starts (c : Cursor) : Type 0 where
+  pub column : c.column ≡ 0
+  pub white : c.white ≡ true
+  pub bare : c.bare ≡ true
+
+unbroken : (a b w x : Bool) → a ≡ true → b ≡ false → w ≡ true → (not a || b || (x && not w)) ≡ false
+unbroken true false true true e f g = refl
+unbroken true false true false e f g = refl
+unbroken true false false x e f g = absurd (true≢false (sym g))
+unbroken true true w x e f g = absurd (true≢false f)
+unbroken false b w x e f g = absurd (true≢false (sym e))
+
+-- there it is spaces alone
+pub start_is : (b : LineBreak) (n : ℕ) (c : Cursor) (rest : Rest) → Starts c
+    → line b n c rest ≡ in_front (replicate n 32) (rest (after_blanks n c))
+unfolding line
+start_is b n c rest s =
+    let none : must_break n c ≡ false = unbroken c.bare (nat_lt n c.column) c.white (c.column == n) s.bare (grind (arith, nat_tests)) s.white in
+    cond_false (must_break n c) (new_line b c (λ d. indent_to n d rest)) (indent_to n c rest) none ∙ indent_is n c rest s.column
+
+-- ---- breaks of a value
+
+-- a break that is printable: LF, LS or PS
+pub record BreakOf (b : LineBreak) (x : ℕ) : Type 0 where
+  pub end : LineEnd
+  pub letters : List ℕ
+  pub writes : (c : Cursor) (rest : Rest)
+      → value_break b x c rest ≡ in_front letters (rest (line_start c))
+  pub bytes : encode_utf8_all letters ≡ end_bytes end
+  pub means : end_means end ≡ encode_utf8 x
+  pub fits : (is_return end && is_feed_end (end_of b)) ≡ false
+  pub apart : (e : LineEnd) → (is_return e && is_feed_end (end_of b)) ≡ false
+      → (is_return e && is_feed_end end) ≡ false
+  -- one that doesn't read as LF stays before others
+  pub stays : (x == 10) ≡ false → (ts : List ℕ) → gap (end_means end) ts ≡ end_means end ++ ts
+
+pub own_fits : (b : LineBreak) → (is_return (end_of b) && is_feed_end (end_of b)) ≡ false
+own_fits Lf = refl
+own_fits _ = refl
+
+pub own_means : (b : LineBreak) → end_means (end_of b) ≡ 10 ∷ []
+own_means Lf = refl
+own_means _ = refl
+
+pub own_bytes : (b : LineBreak) → encode_utf8_all (break_text b) ≡ end_bytes (end_of b)
+own_bytes Lf = low_encodes (10 ∷ []) (omega arith, tt)
+own_bytes Cr = low_encodes (13 ∷ []) (omega arith, tt)
+own_bytes CrLf = low_encodes (13 ∷ 10 ∷ []) (omega arith, (omega arith, tt))
+
+lf_is : (b : LineBreak) → BreakOf b 10
+lf_is b = record {
+  end = end_of b;
+  letters = break_text b;
+  writes = λ c rest. new_line_is b c rest;
+  bytes = own_bytes b;
+  means = own_means b ∙ sym (encode_1 10 (omega arith));
+  fits = own_fits b;
+  apart = λ e f. f;
+  stays = λ e ts. absurd (true≢false e);
+}
+
+ls_encodes : encode_utf8 0x2028 ≡ 0xE2 ∷ 0x80 ∷ 0xA8 ∷ []
+ls_encodes = encode_3 0x2028 (omega arith) (omega arith)
+
+ps_encodes : encode_utf8 0x2029 ≡ 0xE2 ∷ 0x80 ∷ 0xA9 ∷ []
+ps_encodes = encode_3 0x2029 (omega arith) (omega arith)
+
+gap_stays : (d : ℕ) (ts : List ℕ) → gap (0xE2 ∷ 0x80 ∷ d ∷ []) ts ≡ (0xE2 ∷ 0x80 ∷ d ∷ []) ++ ts
+gap_stays d [] = refl
+gap_stays d (t ∷ ts) = refl
+
+ls_is : (b : LineBreak) → BreakOf b 0x2028
+unfolding in_front
+ls_is b = record {
+  end = line_separator;
+  letters = 0x2028 ∷ [];
+  writes = λ c rest. refl;
+  bytes = append-nil (encode_utf8 0x2028) ∙ ls_encodes;
+  means = sym ls_encodes;
+  fits = refl;
+  apart = λ e f. and-false (is_return e);
+  stays = λ e ts. gap_stays 0xA8 ts;
+}
+
+ps_is : (b : LineBreak) → BreakOf b 0x2029
+unfolding in_front
+ps_is b = record {
+  end = paragraph_separator;
+  letters = 0x2029 ∷ [];
+  writes = λ c rest. refl;
+  bytes = append-nil (encode_utf8 0x2029) ∙ ps_encodes;
+  means = sym ps_encodes;
+  fits = refl;
+  apart = λ e f. and-false (is_return e);
+  stays = λ e ts. gap_stays 0xA9 ts;
+}
+
+which_break : (x : ℕ) → is_break x ≡ true → is_printable x ≡ true
+    → (x ≡ 10) ⊎ ((x ≡ 0x2028) ⊎ (x ≡ 0x2029))
+which_break x h p =
+    bool_cases (x == 10) (λ e. inl (eqb-true x 10 e)) (λ a.
+    bool_cases (x == 0x2028) (λ e. inr (inl (eqb-true x 0x2028 e))) (λ b.
+    bool_cases (x == 0x2029) (λ e. inr (inr (eqb-true x 0x2029 e))) (λ c.
+    let no13 : (x == 13) ≡ false = ne_eqb x 13 (λ e. true≢false (sym p ∙ ap (λ k. is_printable k) e)) in
+    let no85 : (x == 0x85) ≡ false = ne_eqb x 0x85 (λ e. true≢false (sym p ∙ ap (λ k. is_printable k) e)) in
+    let none : is_break x ≡ false = rw (a, no13, no85, b, c) refl in
+    absurd (true≢false (sym h ∙ none)))))
+
+pub break_is : (b : LineBreak) (x : ℕ) → is_break x ≡ true → is_printable x ≡ true → BreakOf b x
+break_is b x h p =
+    elim (which_break x h p) [
+      | inl e ↦ subst (λ k. BreakOf b k) (sym e) (lf_is b)
+      | inr (inl e) ↦ subst (λ k. BreakOf b k) (sym e) (ls_is b)
+      | inr (inr e) ↦ subst (λ k. BreakOf b k) (sym e) (ps_is b)
+    ]

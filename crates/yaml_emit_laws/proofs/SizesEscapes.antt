@@ -1,0 +1,113 @@
+-- How long an escape is.
+use Rattle.std.proofs.Common.{◌≡◌, ℕ, ◌+◌, ◌*◌, ◌/◌, ◌%◌, ◌<◌, ◌≤◌, Bool, true, false, ◌&&◌, ◌==◌, nat_lt, if◌then◌else◌, List, [], ◌∷◌, ◌++◌, length, refl, arith, inl, inr, le_refl, mul-le-mul_left}
+use Rattle.yaml_emit_laws.proofs.Shared.{cases_Bool, ltb-true, lt-ltb, and_from, Encoding, Utf8, Utf16Le, Utf16Be, char_bytes, needs_escape, escape_letter, escape_text, hex_4, hex_8, hex_2, unit, text_bytes, most_of_escape, EscapesAreShort}
+use Rattle.yaml_emit_layout.specs.Hex.{hex_digit}
+use Rattle.yaml_emit_laws.proofs.SizesCounting.{all_ascii, ascii_bytes}
+
+-- No character takes more than four units of its encoding.
+pub raw_most : (x : Encoding) (c : ℕ) → length (char_bytes x c) ≤ unit x * 4
+unfolding char_bytes
+raw_most Utf8 c =
+    elim (cases_Bool (nat_lt c 0x80)) [
+      | inl e ↦ rw e (omega arith)
+      | inr e ↦ rw e (elim (cases_Bool (nat_lt c 0x800)) [
+        | inl f ↦ rw f (omega arith)
+        | inr f ↦ rw f (elim (cases_Bool (nat_lt c 0x1_0000)) [
+          | inl g ↦ rw g (omega arith)
+          | inr g ↦ rw g (omega arith)
+        ])
+      ])
+    ]
+raw_most Utf16Le c =
+    elim (cases_Bool (nat_lt c 0x1_0000)) [
+      | inl g ↦ rw g (omega arith)
+      | inr g ↦ rw g (omega arith)
+    ]
+raw_most Utf16Be c =
+    elim (cases_Bool (nat_lt c 0x1_0000)) [
+      | inl g ↦ rw g (omega arith)
+      | inr g ↦ rw g (omega arith)
+    ]
+
+-- ---- letters and digits
+
+small_if : (b : Bool) (x y : ℕ) → nat_lt x 128 ≡ true → nat_lt y 128 ≡ true
+    → nat_lt (if b then x else y) 128 ≡ true
+small_if true x y e f = e
+small_if false x y e f = f
+
+letter_small : (c : ℕ) → nat_lt (escape_letter c) 128 ≡ true
+unfolding escape_letter
+letter_small c =
+    small_if (c == 0x00) _ _ refl (small_if (c == 0x07) _ _ refl (small_if (c == 0x08) _ _ refl (small_if (c == 0x09) _ _ refl (small_if (c == 0x0A) _ _ refl (small_if (c == 0x0B) _ _ refl
+    (small_if (c == 0x0C) _ _ refl (small_if (c == 0x0D) _ _ refl (small_if (c == 0x1B) _ _ refl (small_if (c == 34) _ _ refl (small_if (c == 92) _ _ refl (small_if (c == 0x85) _ _ refl
+    (small_if (c == 0xA0) _ _ refl (small_if (c == 0x2028) _ _ refl (small_if (c == 0x2029) _ _ refl refl))))))))))))))
+
+all_append : (xs ys : List ℕ) → all_ascii xs ≡ true → all_ascii ys ≡ true
+    → all_ascii (xs ++ ys) ≡ true
+all_append [] ys e f = f
+all_append (x ∷ xs) ys e f = let s = parts (nat_lt x 128) (all_ascii xs) e in and_from (nat_lt x 128) (all_ascii (xs ++ ys)) s.0 (all_append xs ys s.1 f)
+  where
+    parts : (a b : Bool) → (a && b) ≡ true → (a ≡ true) × (b ≡ true)
+    parts true b e = (refl, e)
+    parts false b e = cc
+
+digit_small : (d : ℕ) → d < 16 → nat_lt (hex_digit d) 128 ≡ true
+unfolding hex_digit
+digit_small d w = small_if (nat_lt d 10) (48 + d) (55 + d) (lt-ltb (48 + d) 128 (omega arith)) (lt-ltb (55 + d) 128 (omega arith))
+
+-- Two hexadecimal digits are ASCII.
+pub two_small : (n : ℕ) → n < 256 → all_ascii (hex_2 n) ≡ true
+two_small n w =
+    let h : n / 16 < 16 = omega arith in
+    let l : n % 16 < 16 = omega arith in
+    and_from (nat_lt (hex_digit (n / 16)) 128) (nat_lt (hex_digit (n % 16)) 128 && true) (digit_small (n / 16) h) (and_from (nat_lt (hex_digit (n % 16)) 128) true (digit_small (n % 16) l) refl)
+
+four_small : (n : ℕ) → n < 65536 → all_ascii (hex_4 n) ≡ true
+four_small n w =
+    let h : n / 0x100 < 256 = omega arith in
+    let l : n % 0x100 < 256 = omega arith in
+    all_append (hex_2 (n / 0x100)) (hex_2 (n % 0x100)) (two_small (n / 0x100) h) (two_small (n % 0x100) l)
+
+eight_small : (n : ℕ) → n < 0x1_0000_0000 → all_ascii (hex_8 n) ≡ true
+eight_small n w =
+    let h : n / 0x1_0000 < 65536 = omega arith in
+    let l : n % 0x1_0000 < 65536 = omega arith in
+    all_append (hex_4 (n / 0x1_0000)) (hex_4 (n % 0x1_0000)) (four_small (n / 0x1_0000) h) (four_small (n % 0x1_0000) l)
+
+-- ---- escapes
+
+least : (c : ℕ) → 4 ≤ most_of_escape c
+least c =
+    elim (cases_Bool (nat_lt c 0x100)) [
+      | inl e ↦ rw e (le_refl _)
+      | inr e ↦ rw e (elim (cases_Bool (nat_lt c 0x1_0000)) [
+        | inl f ↦ rw f (omega arith)
+        | inr f ↦ rw f (omega arith)
+      ])
+    ]
+
+four_most : (x : Encoding) (n c : ℕ) → n ≤ unit x * 4 → n ≤ unit x * most_of_escape c
+four_most x n c w = let k : unit x * 4 ≤ unit x * most_of_escape c = mul-le-mul_left (unit x) (least c) in omega arith
+
+escape_most : (x : Encoding) (c : ℕ) → c < 0x1_0000_0000
+    → text_bytes x (escape_text c) ≤ unit x * most_of_escape c
+unfolding escape_text
+escape_most x c w =
+    elim (cases_Bool (escape_letter c == 0)) [
+      | inr e ↦ rw e (four_most x (text_bytes x (92 ∷ escape_letter c ∷ [])) c (let k = ascii_bytes x (92 ∷ escape_letter c ∷ []) (and_from (nat_lt (escape_letter c) 128) true (letter_small c) refl) in omega (arith, k)))
+      | inl e ↦ rw e (elim (cases_Bool (nat_lt c 0x100)) [
+        | inl f ↦ rw f (ascii_bytes x (92 ∷ 120 ∷ hex_2 c) (two_small c (ltb-true c 0x100 f)))
+        | inr f ↦ rw f (elim (cases_Bool (nat_lt c 0x1_0000)) [
+          | inl g ↦ rw g (ascii_bytes x (92 ∷ 117 ∷ hex_4 c) (four_small c (ltb-true c 0x1_0000 g)))
+          | inr g ↦ rw g (ascii_bytes x (92 ∷ 85 ∷ hex_8 c) (eight_small c w))
+        ])
+      ])
+    ]
+
+pub short : EscapesAreShort
+short s n c w e =
+    rw e (elim (cases_Bool (needs_escape s.unicode c)) [
+      | inl f ↦ rw f (escape_most s.encoding c w)
+      | inr f ↦ rw f (four_most s.encoding (length (char_bytes s.encoding c)) c (raw_most s.encoding c))
+    ])

@@ -1,0 +1,75 @@
+-- A style that is taken is allowed.
+use Rattle.std.proofs.Common.{◌≡◌, Bool, true, false, not, ◌&&◌, ◌||◌, ◌==◌, length, sym, subst, ℕ, ◌<◌, ◌≤◌, Option, Some, None, arith, if◌then◌else◌, chars}
+use Rattle.yaml_emit_laws.proofs.ScalarWords.{and_parts, not-true, or_parts, yaml_scalar_style_t, Allowed, Style, allowed, taken, plain_fits, single_or, block_or, plain_or, NodePosition, Scalar, scalar_tag, Context, is_simple_part, style_of, deeper, Settings, bool_cases}
+use Rattle.yaml_emit_layout.specs.scan_model.declared.name.yaml_scalar_style_t.TheVariants as asked
+use Rattle.yaml_emit_layout.specs.declared.Style.TheVariants as style
+use Rattle.yaml_emit_layout.specs.Grammar.{has}
+use Rattle.yaml_emit_laws.specs.StylesLaws.{StylesAreAllowed, level_of, PagesIndent}
+
+-- what a style has to be allowed
+abbrev Fits : Allowed → Bool → Bool → Style → Type 0
+Fits a flow simple style.Plain = (if flow then a.flow_plain else a.plain) ≡ true
+Fits a flow simple style.Single = a.single ≡ true
+Fits a flow simple style.Double = Unit {0}
+Fits a flow simple style.Literal = (a.block ≡ true) × (flow ≡ false) × (simple ≡ false)
+Fits a flow simple style.Folded = (a.block ≡ true) × (flow ≡ false) × (simple ≡ false)
+
+single_fits : (a : Allowed) (flow simple : Bool) → Fits a flow simple (single_or a)
+single_fits a flow simple = bool_cases a.single (λ e. subst (λ b. Fits a flow simple (if b then style.Single else style.Double)) (sym e) e) (λ e. subst (λ b. Fits a flow simple (if b then style.Single else style.Double)) (sym e) tt)
+
+plain_is : (a : Allowed) (untagged flow simple empty : Bool)
+    → Fits a flow simple (plain_or a untagged flow simple empty)
+plain_is a untagged flow simple empty =
+    bool_cases (plain_fits a untagged flow simple empty)
+    (λ e. subst (λ b. Fits a flow simple (if b then style.Plain else single_or a)) (sym e) (and_parts (if flow then a.flow_plain else a.plain) (not (empty && simple) && untagged) e).0)
+    (λ e. subst (λ b. Fits a flow simple (if b then style.Plain else single_or a)) (sym e) (single_fits a flow simple))
+
+block_is : (a : Allowed) (flow simple : Bool) (s : Style)
+    → ((a.block ≡ true) × (flow ≡ false) × (simple ≡ false) → Fits a flow simple s)
+    → Fits a flow simple (block_or a flow simple s)
+block_is a flow simple s f =
+    bool_cases (a.block && not (flow || simple))
+    (λ e.
+    let n = not-true (flow || simple) (and_parts a.block (not (flow || simple)) e).1 in
+    subst (λ b. Fits a flow simple (if b then s else style.Double)) (sym e) (f ((and_parts a.block (not (flow || simple)) e).0, (or_parts flow simple n).0, (or_parts flow simple n).1)))
+    (λ e. subst (λ b. Fits a flow simple (if b then s else style.Double)) (sym e) tt)
+
+taken_fits : (a : Allowed) (s : yaml_scalar_style_t) (untagged flow simple empty : Bool)
+    → Fits a flow simple (taken a s untagged flow simple empty)
+unfolding taken
+taken_fits a asked.YAML_SINGLE_QUOTED_SCALAR_STYLE untagged flow simple empty = single_fits a flow simple
+taken_fits a asked.YAML_DOUBLE_QUOTED_SCALAR_STYLE untagged flow simple empty = tt
+taken_fits a asked.YAML_LITERAL_SCALAR_STYLE untagged flow simple empty = block_is a flow simple style.Literal (λ h. h)
+taken_fits a asked.YAML_FOLDED_SCALAR_STYLE untagged flow simple empty = block_is a flow simple style.Folded (λ h. h)
+taken_fits a _ untagged flow simple empty = plain_is a untagged flow simple empty
+
+style_fits : (p : Context) (at : NodePosition) (x : Scalar)
+    → Fits (allowed p.settings.unicode (chars x.value)) at.flow (is_simple_part at.part)
+    (style_of p at x)
+unfolding style_of
+style_fits p at x =
+    let a = allowed p.settings.unicode (chars x.value) in
+    let other = taken a x.style (has (scalar_tag false x) || x.plain) at.flow (is_simple_part at.part) (length x.value == 0) in
+    bool_cases p.settings.canonical
+    (λ e. subst (λ b. Fits a at.flow (is_simple_part at.part) (if b then style.Double else other)) (sym e) tt)
+    (λ e. subst (λ b. Fits a at.flow (is_simple_part at.part) (if b then style.Double else other)) (sym e) (taken_fits a x.style (has (scalar_tag false x) || x.plain) at.flow (is_simple_part at.part) (length x.value == 0)))
+
+pub styles_allowed : StylesAreAllowed
+styles_allowed p at x =
+    let a = allowed p.settings.unicode (chars x.value) in
+    let f = style_fits p at x in (
+      λ e. subst (λ s. Fits a at.flow (is_simple_part at.part) s) e f,
+      λ e. subst (λ s. Fits a at.flow (is_simple_part at.part) s) e f,
+      λ e. subst (λ s. Fits a at.flow (is_simple_part at.part) s) e f,
+      λ e. subst (λ s. Fits a at.flow (is_simple_part at.part) s) e f,
+    )
+
+-- ---- pages
+
+deep_by : (s : Settings) → 0 < s.indent → (around : Option ℕ) (level : ℕ) → level ≤ level_of around
+    → (0 < deeper s around) × (level ≤ deeper s around)
+deep_by s some None level h = (some, omega (arith, h))
+deep_by s some (Some n) level h = (omega (arith, some), omega (arith, some, h))
+
+pub pages_indent : PagesIndent
+pages_indent s some at level h = deep_by s some at.around level h

@@ -1,4 +1,0 @@
-pub mod AdapterLemmas
-mod Asking
-mod Spelling
-mod Telling

@@ -1,5 +1,0 @@
-use Rattle.yaml_round_adapter.proofs.Asking.{origin_mark}
-use Rattle.yaml_round_adapter.proofs.scanned.ScannedTokensTokens.origin.Goals as goal
-
-pub returns : goal.returns
-returns c = origin_mark c.args.self.now.text

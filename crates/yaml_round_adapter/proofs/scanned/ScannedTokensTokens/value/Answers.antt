@@ -1,6 +1,0 @@
-use Rattle.yaml_round_adapter.specs.Input.{scanned_of}
-use Rattle.yaml_round_adapter.proofs.Asking.{taken_held}
-use Rattle.yaml_round_adapter.proofs.scanned.ScannedTokensTokens.value.Goals as goal
-
-pub value-requires : goal.value-requires
-value-requires c = taken_held c.self.inside.refusal c.self.inside.standing (scanned_of c.self.inside.source.now) c.self.inside.scanner c.self.invariant.stands c.in-Taken.is

@@ -1,5 +1,0 @@
-use Rattle.yaml_round_differences.proofs.Walking.{PushedTo}
-use Rattle.yaml_round_differences.proofs.walk.Walk.push_held.Given as goal
-
-abbrev pub invariant-loop-at : goal.invariant-loop-at
-invariant-loop-at l = PushedTo l.labels l.own l.others l.partners l.at l.initial.self l.self

@@ -1,0 +1,7 @@
+use Rattle.std.proofs.Common.{◌≡◌, drop}
+use Rattle.yaml_round_documents.specs.Ranks.{all_ranked}
+use Rattle.yaml_round_documents.proofs.shape.all_ranked.Given as goal
+
+-- what is left decides
+abbrev pub invariant-loop-at : goal.invariant-loop-at
+invariant-loop-at l = all_ranked l.ranks l.ids ≡ all_ranked l.ranks (drop l.at l.ids)

@@ -1,0 +1,7 @@
+use Rattle.std.proofs.Common.{ap, ◌∙◌}
+use Rattle.std.specs.FinMap as map
+use Rattle.yaml_parse_loader.proofs.Found.{found}
+use Rattle.yaml_round_documents.proofs.shapes.ShapeTable.get.Goals as goal
+
+pub returns : goal.returns
+returns c = c.copied.ensures ∙ c.get.ensures.value ∙ found c.args.shape.now c.self.inside.entries.entries ∙ ap (λ m. map.get m c.args.shape.now) c.self.view_is

@@ -1,0 +1,155 @@
+//! The pairs of nodes that are compared, each once.
+
+ghost use Rattle.std.specs.Prelude.{◌≡◌, ◌<◌, ◌≤ℤ◌, ◌∷◌, [], pos, IfOk, OnOk, length, get_or, slice_get};
+ghost use Rattle.yaml_round_documents.specs.Pairs.{listed, pair_at, pairs_by};
+ghost use Rattle.yaml_round_documents.specs.Steps.{AreNumbered, AreNumbers, IsWalk, Meets, PushesOn, pair_name};
+
+use crate::ranks::BothLabels;
+use crate::shape::rank_of;
+use crate::shapes::ShapeTable;
+use std::alloc::{AllocError, Global};
+
+/// A node of the first document, and one of the second.
+#[derive(Clone, Copy)]
+pub struct Pair {
+    pub first: i32,
+    pub second: i32,
+}
+
+/// The pairs that are compared, and which were met.
+#[derive(Drop)]
+pub struct Walk {
+    pub pairs: Vec<Pair>,
+    pub met: ShapeTable,
+    pub alloc: Global,
+}
+
+// A pair as a list.
+fn pair_name(alloc: Global, pair: Pair) -> Result<Vec<u32>, AllocError>
+    requires first { pos 1 ≤ℤ pair.first }
+    requires second { pos 1 ≤ℤ pair.second }
+    ensures { IfOk result (λ n. n.items ≡ pair_name pair.first pair.second) }
+{
+    let mut name = Vec::new(alloc);
+    name.push(pair.first as u32)?;
+    name.push(pair.second as u32)?;
+    Ok(name)
+}
+
+// What is at a place, with the one with which it is matched.
+#[tactic(auto, using(crate::proofs::Walking::partner_got, crate::proofs::Walking::partner_not_got))]
+fn partner_of(own: &[i32], at: usize, others: &[i32], partner: Option<u32>) -> Option<Pair>
+    requires { at < length own.now }
+    ensures { listed result ≡ pair_at (get_or own.now at (pos 0)) others.now partner }
+{
+    match partner {
+        None => None,
+        Some(place) => {
+            let place = place as usize;
+            if place < others.len() {
+                Some(Pair {
+                    first: own[at],
+                    second: others[place],
+                })
+            } else {
+                None
+            }
+        }
+    }
+}
+
+impl Walk {
+    /// No pairs.
+    #[tactic(auto, using(crate::proofs::Walking::no_walk))]
+    pub fn new(alloc: Global) -> Walk
+        ensures none { result.pairs.items ≡ [] }
+        ensures walk { IsWalk result }
+    {
+        Walk {
+            pairs: Vec::new(alloc),
+            met: ShapeTable::new(alloc),
+            alloc,
+        }
+    }
+
+    /// A pair is met; the first time it is to be compared.
+    #[tactic(auto, using(crate::proofs::Walking::met_again, crate::proofs::Walking::met_first))]
+    pub fn meet(&mut self, pair: Pair) -> Result<(), AllocError>
+        requires walk { IsWalk self.old }
+        requires first { pos 1 ≤ℤ pair.first }
+        requires second { pos 1 ≤ℤ pair.second }
+        ensures { OnOk result (Meets pair self.old self.new) }
+    {
+        let name = pair_name(self.alloc, pair)?;
+        match self.met.get(&name) {
+            Some(_) => Ok(()),
+            None => {
+                self.met.insert(name, 1)?;
+                self.pairs.push(pair)?;
+                Ok(())
+            }
+        }
+    }
+
+    // A pair that differs is to be compared.
+    #[tactic(auto, using(crate::proofs::Walking::pushes_same, crate::proofs::Walking::pushes_met))]
+    fn push(&mut self, labels: &BothLabels, pair: Pair) -> Result<(), AllocError>
+        requires walk { IsWalk self.old }
+        requires first { pos 1 ≤ℤ pair.first }
+        requires second { pos 1 ≤ℤ pair.second }
+        ensures { OnOk result (PushesOn labels.now (pair ∷ []) self.old self.new) }
+    {
+        if rank_of(&labels.first, pair.first) == rank_of(&labels.second, pair.second) {
+            return Ok(());
+        }
+        self.meet(pair)
+    }
+
+    // A pair, if there is one, is to be compared where it differs.
+    #[tactic(auto, using(crate::proofs::Walking::pushes_none))]
+    fn push_some(&mut self, labels: &BothLabels, pair: Option<Pair>) -> Result<(), AllocError>
+        requires walk { IsWalk self.old }
+        requires numbers { AreNumbered (listed pair) }
+        ensures { OnOk result (PushesOn labels.now (listed pair) self.old self.new) }
+    {
+        match pair {
+            None => Ok(()),
+            Some(pair) => self.push(labels, pair),
+        }
+    }
+
+    /// Each value is to be compared with its match, where they differ.
+    #[tactic(auto, using(crate::proofs::Walking::pushed_none, crate::proofs::Walking::pushed_all))]
+    pub fn push_held(
+        &mut self,
+        labels: &BothLabels,
+        own: &[i32],
+        others: &[i32],
+        partners: &[Option<u32>],
+    ) -> Result<(), AllocError>
+        requires walk { IsWalk self.old }
+        requires own { AreNumbers own.now }
+        requires others { AreNumbers others.now }
+        requires sized { length partners.now ≡ length own.now }
+        ensures { OnOk result (PushesOn labels.now (pairs_by own.now others.now partners.now)
+            self.old self.new) }
+    {
+        for at in 0..own.len() {
+            let pair = partner_of(own, at, others, partners[at]);
+            self.push_some(labels, pair)?;
+        }
+        Ok(())
+    }
+
+    /// The pair at a place.
+    #[tactic(auto, using(crate::proofs::Walking::got, crate::proofs::Walking::not_got))]
+    pub fn pair_at(&self, at: usize) -> Option<Pair>
+        ensures { result ≡ slice_get self.now.pairs.items at }
+    {
+        if at < self.pairs.len() {
+            Some(self.pairs[at])
+        } else {
+            None
+        }
+    }
+}

@@ -1,0 +1,9 @@
+use Rattle.yaml_round_engine.proofs.Judging.{listed, not_listed}
+use Rattle.yaml_round_engine.proofs.lines.lines_of.Goals as goal
+
+pub returns-in-Err : goal.returns-in-Err
+returns-in-Err c = λ from input h. not_listed from input c.args.reading.now.parser c.in-Err.fault h c.in-Err.ensures
+
+pub returns-in-Ok : goal.returns-in-Ok
+returns-in-Ok c = λ from input h.
+    listed from input c.args.reading.now.parser c.push_lines.new.lines.items c.empty_lines-lines.result.items h c.empty_lines-lines.ensures c.in-Ok.ensures.0 c.in-Ok.ensures.1

@@ -1,5 +1,0 @@
-use Rattle.yaml_round_keys.specs.Ranks.{RanksOn}
-use Rattle.yaml_round_keys.proofs.ranks.Ranks.rank_walked.Given as goal
-
-abbrev pub invariant-loop-turn : goal.invariant-loop-turn
-invariant-loop-turn l = RanksOn l.document.nodes l.initial.self l.self

@@ -1,5 +1,0 @@
-use Rattle.yaml_round_keys.proofs.Settling.{SettledTo}
-use Rattle.yaml_round_keys.proofs.ranks.settle.Given as goal
-
-abbrev pub invariant-loop-at : goal.invariant-loop-at
-invariant-loop-at l = SettledTo l.initial.table l.floor l.at l.table

@@ -1,7 +1,0 @@
-use Rattle.std.proofs.Common.{◌≡◌, drop}
-use Rattle.yaml_round_keys.specs.Ranks.{all_ranked}
-use Rattle.yaml_round_keys.proofs.shape.all_ranked.Given as goal
-
--- what is left decides
-abbrev pub invariant-loop-at : goal.invariant-loop-at
-invariant-loop-at l = all_ranked l.ranks l.ids ≡ all_ranked l.ranks (drop l.at l.ids)

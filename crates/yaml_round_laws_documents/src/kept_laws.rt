@@ -1,8 +1,0 @@
-//! Each function's contract is a law.
-
-ghost use Rattle.yaml_round_laws_documents.specs.KeptLaws.{StreamsAreKnown};
-
-/// The events of a stream are those of one list of documents.
-pub fn streams_are_known()
-    ensures { StreamsAreKnown }
-{}

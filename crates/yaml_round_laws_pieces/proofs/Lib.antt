@@ -1,9 +1,0 @@
-mod Words
-mod Regular
-mod Events
-mod Leading
-mod Joining
-mod Blocks
-mod Between
-mod Layouts
-mod Calling

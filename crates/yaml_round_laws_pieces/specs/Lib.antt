@@ -1,4 +1,0 @@
-pub mod Pieces
-pub mod Laws
-pub mod Layouts
-pub mod Calls

@@ -1,5 +1,0 @@
-use Rattle.yaml_round_laws_users.proofs.Limits.{keeps}
-use Rattle.yaml_round_laws_users.proofs.column.canonical_answers_keep_columns.Goals as goal
-
-pub returns : goal.returns
-returns c = keeps

@@ -1,5 +1,0 @@
-use Rattle.yaml_round_laws_users.proofs.Rewriting.{answer_reads_back}
-use Rattle.yaml_round_laws_users.proofs.laws.answers_read_back.Goals as goal
-
-pub returns : goal.returns
-returns c = answer_reads_back

@@ -1,5 +1,0 @@
-use Rattle.yaml_round_laws_users.proofs.Rewriting.{shaped_stay}
-use Rattle.yaml_round_laws_users.proofs.laws.json_stays_pretty.Goals as goal
-
-pub returns : goal.returns
-returns c = shaped_stay

@@ -1,5 +1,0 @@
-use Rattle.yaml_round_laws_users.proofs.Rewriting.{no_matter}
-use Rattle.yaml_round_laws_users.proofs.laws.settings_do_not_matter.Goals as goal
-
-pub returns : goal.returns
-returns c = no_matter

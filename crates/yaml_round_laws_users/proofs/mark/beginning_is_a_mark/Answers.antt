@@ -1,5 +1,0 @@
-use Rattle.yaml_round_laws_users.proofs.MarkRoots.{mark}
-use Rattle.yaml_round_laws_users.proofs.mark.beginning_is_a_mark.Goals as goal
-
-pub returns : goal.returns
-returns c = mark

@@ -1,5 +1,0 @@
-use Rattle.yaml_round_laws_users.proofs.NormalForms.{tell}
-use Rattle.yaml_round_laws_users.proofs.normalizing.normal_forms_tell_contents.Goals as goal
-
-pub returns : goal.returns
-returns c = tell

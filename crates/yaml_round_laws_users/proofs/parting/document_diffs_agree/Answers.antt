@@ -1,5 +1,0 @@
-use Rattle.yaml_round_laws_users.proofs.DocumentPartings.{agree}
-use Rattle.yaml_round_laws_users.proofs.parting.document_diffs_agree.Goals as goal
-
-pub returns : goal.returns
-returns c = agree

@@ -1,5 +1,0 @@
-use Rattle.yaml_round_laws_users.proofs.Loads.{names}
-use Rattle.yaml_round_laws_users.proofs.reload.names_leave_reloads.Goals as goal
-
-pub returns : goal.returns
-returns c = names

@@ -1,5 +1,0 @@
-use Rattle.yaml_round_laws_users.proofs.Loads.{normal_of_loads}
-use Rattle.yaml_round_laws_users.proofs.reload.reloads_are_normal_of_loads.Goals as goal
-
-pub returns : goal.returns
-returns c = normal_of_loads

@@ -1,5 +1,0 @@
-use Rattle.yaml_round_laws_users.proofs.Loads.{of_loads}
-use Rattle.yaml_round_laws_users.proofs.reload.reloads_are_of_loads.Goals as goal
-
-pub returns : goal.returns
-returns c = of_loads

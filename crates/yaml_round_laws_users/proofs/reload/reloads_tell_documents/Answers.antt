@@ -1,5 +1,0 @@
-use Rattle.yaml_round_laws_users.proofs.Loads.{tell}
-use Rattle.yaml_round_laws_users.proofs.reload.reloads_tell_documents.Goals as goal
-
-pub returns : goal.returns
-returns c = tell

@@ -1,5 +1,0 @@
-use Rattle.yaml_round_laws_users.proofs.Fitting.{normal_forms}
-use Rattle.yaml_round_laws_users.proofs.size.normal_forms_fit.Goals as goal
-
-pub returns : goal.returns
-returns c = normal_forms

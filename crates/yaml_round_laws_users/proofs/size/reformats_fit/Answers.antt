@@ -1,5 +1,0 @@
-use Rattle.yaml_round_laws_users.proofs.Fitting.{reformats}
-use Rattle.yaml_round_laws_users.proofs.size.reformats_fit.Goals as goal
-
-pub returns : goal.returns
-returns c = reformats

@@ -1,5 +1,0 @@
-use Rattle.yaml_round_laws_users.proofs.Fitting.{reloads_fit}
-use Rattle.yaml_round_laws_users.proofs.size.reloads_fit_documents.Goals as goal
-
-pub returns : goal.returns
-returns c = reloads_fit

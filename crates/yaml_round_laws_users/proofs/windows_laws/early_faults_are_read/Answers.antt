@@ -1,5 +1,0 @@
-use Rattle.yaml_round_laws_users.proofs.Early.{early_faults_are_read}
-use Rattle.yaml_round_laws_users.proofs.windows_laws.early_faults_are_read.Goals as goal
-
-pub returns : goal.returns
-returns c = early_faults_are_read

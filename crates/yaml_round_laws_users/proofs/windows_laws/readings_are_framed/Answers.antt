@@ -1,5 +1,0 @@
-use Rattle.yaml_round_laws_users.proofs.WindowsJoining.{readings_are_framed}
-use Rattle.yaml_round_laws_users.proofs.windows_laws.readings_are_framed.Goals as goal
-
-pub returns : goal.returns
-returns c = readings_are_framed

@@ -1,2 +1,0 @@
-pub mod EventLine
-pub mod Escapes

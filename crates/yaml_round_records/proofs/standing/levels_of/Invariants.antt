@@ -1,6 +1,0 @@
-use Rattle.std.proofs.Common.{drop}
-use Rattle.yaml_round_records.proofs.Stands.{FrontLevels}
-use Rattle.yaml_round_records.proofs.standing.levels_of.Given as goal
-
-abbrev pub invariant-loop-level : goal.invariant-loop-level
-invariant-loop-level l = FrontLevels l.levels l.listed.items (drop l.level-index l.levels)

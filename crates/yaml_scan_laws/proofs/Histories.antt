@@ -1,0 +1,104 @@
+-- What lexemes decide, after others that decide the same.
+use Rattle.std.proofs.Common.{◌≡◌, ℕ, ◌+◌, ◌==◌, ◌&&◌, ◌||◌, nat_lt, nat_le, not, List, [], ◌∷◌, ◌++◌, map, length, Option, Some, None, refl, ap, ◌∙◌, inl, inr, arith}
+use Rattle.yaml_scan_laws.proofs.Shared.{cases_Bool, nat_tests, length-append, length-map, yaml_mark_t, Kind, Lexeme, cancels, is_start, allows_key, flow_depth, Candidate, candidate, is_fresh, fresh, found_by, has, opens_at, opened, left_by, open_levels, key_allowed, moved_mark, moved_lexeme}
+
+-- Two lists of lexemes that decide the same of what comes after them and another one: no candidate is open in either, and the
+-- second one has k more.
+pub record Bases (d n k : ℕ) (b c : List Lexeme) : Type 0 where
+  pub depth : flow_depth c ≡ flow_depth b
+  pub mine : (e : ℕ) → candidate e b ≡ None
+  pub others : (e : ℕ) → candidate e c ≡ None
+  pub levels : open_levels c ≡ open_levels b
+  pub count : length c ≡ k + length b
+
+abbrev pub moved_lexemes : ℕ → ℕ → List Lexeme → List Lexeme
+moved_lexemes d n h = map (moved_lexeme d n) h
+
+abbrev pub moved_candidate : ℕ → ℕ → ℕ → Candidate → Candidate
+moved_candidate d n k c = record { number = k + c.number; lexeme = moved_lexeme d n c.lexeme }
+
+abbrev pub moved_found : ℕ → ℕ → ℕ → Option Candidate → Option Candidate
+moved_found d n k None = None
+moved_found d n k (Some c) = Some (moved_candidate d n k c)
+
+pub depth_on : (d n k : ℕ) (h b c : List Lexeme) → Bases d n k b c
+    → flow_depth (moved_lexemes d n h ++ c) ≡ flow_depth (h ++ b)
+depth_on d n k [] b c s = s.depth
+depth_on d n k (l ∷ h) b c s = refl
+
+pub length_on : (d n k : ℕ) (h b c : List Lexeme) → Bases d n k b c
+    → length (moved_lexemes d n h ++ c) ≡ k + length (h ++ b)
+length_on d n k h b c s =
+    omega (arith, s.count, length-append h b, length-append (moved_lexemes d n h) c, length-map h (moved_lexeme d n))
+
+-- one lexeme more
+pub candidate_moved : (d n k e : ℕ) (l : Lexeme) (H G : List Lexeme) → length G ≡ k + length H
+    → candidate e G ≡ moved_found d n k (candidate e H)
+    → candidate e (moved_lexeme d n l ∷ G) ≡ moved_found d n k (candidate e (l ∷ H))
+unfolding candidate
+candidate_moved d n k e l H G count same =
+    elim (cases_Bool (l.depth == e)) [
+      | inl i ↦ elim (cases_Bool l.saved) [
+        | inl j ↦ rw (i, j, count) refl
+        | inr j ↦ elim (cases_Bool (cancels l.kind)) [
+          | inl x ↦ rw (i, j, x) refl
+          | inr x ↦ rw (i, j, x) same
+        ]
+      ]
+      | inr i ↦ elim (cases_Bool (nat_lt l.depth e)) [
+        | inl j ↦ rw (i, j) refl
+        | inr j ↦ rw (i, j) same
+      ]
+    ]
+
+pub candidate_on : (d n k e : ℕ) (h b c : List Lexeme) → Bases d n k b c
+    → candidate e (moved_lexemes d n h ++ c) ≡ moved_found d n k (candidate e (h ++ b))
+candidate_on d n k e [] b c s = rw (s.mine e, s.others e) refl
+candidate_on d n k e (l ∷ h) b c s = candidate_moved d n k e l (h ++ b) (moved_lexemes d n h ++ c) (length_on d n k h b c s) (candidate_on d n k e h b c s)
+
+pub near_moved : (d n : ℕ) (start place : yaml_mark_t)
+    → is_fresh (moved_mark d n start) (moved_mark d n place) ≡ is_fresh start place
+near_moved d n start place =
+    let line : nat_le (n + place.line) (n + start.line) ≡ nat_le place.line start.line = grind (arith, nat_tests) in
+    let far : nat_le (d + place.index) (d + start.index + 1024) ≡ nat_le place.index (start.index + 1024) = grind (arith, nat_tests) in
+    rw (line, far) refl
+
+pub fresh_moved : (d n k : ℕ) (o : Option Candidate) (place : yaml_mark_t)
+    → fresh (moved_found d n k o) (moved_mark d n place) ≡ moved_found d n k (fresh o place)
+fresh_moved d n k None place = refl
+fresh_moved d n k (Some c) place =
+    let same = near_moved d n c.lexeme.start place in
+    elim (cases_Bool (is_fresh c.lexeme.start place)) [
+      | inl h ↦ rw (same ∙ h, h) refl
+      | inr h ↦ rw (same ∙ h, h) refl
+    ]
+
+pub found_on : (d n k : ℕ) (l : Lexeme) (h b c : List Lexeme) → Bases d n k b c
+    → found_by (moved_lexeme d n l) (moved_lexemes d n h ++ c) ≡ moved_found d n k (found_by l (h ++ b))
+found_on d n k l h b c s =
+    ap (λ o. fresh o (moved_mark d n l.start)) (candidate_on d n k l.depth h b c s) ∙ fresh_moved d n k (candidate l.depth (h ++ b)) l.start
+
+pub has_moved : (d n k : ℕ) (o : Option Candidate) → has (moved_found d n k o) ≡ has o
+has_moved d n k None = refl
+has_moved d n k (Some c) = refl
+
+opens_moved : (d n k : ℕ) (o : Option Candidate) (x : Kind) (column : ℕ)
+    → opens_at (moved_found d n k o) x column ≡ opens_at o x column
+opens_moved d n k None x column = refl
+opens_moved d n k (Some c) x column = refl
+
+pub levels_on : (d n k : ℕ) (h b c : List Lexeme) → Bases d n k b c
+    → open_levels (moved_lexemes d n h ++ c) ≡ open_levels (h ++ b)
+unfolding open_levels
+levels_on d n k [] b c s = s.levels
+levels_on d n k (l ∷ h) b c s =
+    let opens = ap (λ o. opens_at o l.kind l.start.column) (found_on d n k l h b c s) ∙ opens_moved d n k (found_by l (h ++ b)) l.kind l.start.column in
+    let before = levels_on d n k h b c s in
+    let may = is_start l.kind && not (nat_lt 0 l.depth) in
+    ap (λ x. opened may x (left_by l.kind l.depth l.start.column (open_levels (moved_lexemes d n h ++ c)))) opens
+    ∙ ap (λ x. opened may (opens_at (found_by l (h ++ b)) l.kind l.start.column) (left_by l.kind l.depth l.start.column x)) before
+
+pub allowed_on : (d n k : ℕ) (l : Lexeme) (h b c : List Lexeme) → Bases d n k b c
+    → key_allowed (moved_lexemes d n (l ∷ h) ++ c) ≡ key_allowed (l ∷ h ++ b)
+allowed_on d n k l h b c s =
+    ap (λ x. allows_key l.kind (l.depth == 0) x || l.broke) (ap has (found_on d n k l h b c s) ∙ has_moved d n k (found_by l (h ++ b)))

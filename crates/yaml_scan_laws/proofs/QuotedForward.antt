@@ -1,0 +1,153 @@
+-- Quoted scalars end after their start, inside the text.
+use Rattle.std.proofs.Common.{◌≡◌, ℕ, zero, suc, ◌+◌, ◌*◌, ◌<◌, ◌≤◌, ◌==◌, ◌&&◌, nat_lt, false, List, length, Option, Some, None, option_and_then, option_map, Result, Ok, Err, inl, inr, arith}
+use Rattle.yaml_scan_laws.proofs.Words.{cases_Bool, ltb-true, eqb-true, and_parts, nat_tests, byte, break_width, is_blank, Wrong, within, past_break, behind_bytes, Lands, Piece, value, QuotedSpot, Closing, Pieces, Bad, hex_digit, hex_value, is_scalar, coded, hex_len, simple_escape, escaped, escape_at, quote_at, standing_at, with_front, followed, pieces, quoted_at}
+use Rattle.yaml_scan_history.specs.scan_model.Breaks.{is_document_indicator}
+use Rattle.yaml_scan_history.specs.Quoted.{valued}
+
+-- what is not 0 is more
+pub some_of : (b : ℕ) → (b == 0) ≡ false → 0 < b
+some_of b h = grind (arith, nat_tests)
+
+-- there is a value
+abbrev pub IsThere : {A : Type 0} → Option A → Type 0
+IsThere (Some x) = Unit {0}
+IsThere None = ⊥
+
+digit_some : (b : ℕ) → IsThere (hex_digit b) → 0 < b
+unfolding hex_digit
+digit_some zero h = absurd h
+digit_some (suc b) h = omega arith
+
+simple_some : (b : ℕ) → IsThere (simple_escape b) → 0 < b
+unfolding simple_escape
+simple_some zero h = absurd h
+simple_some (suc b) h = omega arith
+
+-- a number of two digits has the last one
+pub last_digit : (a b : Option ℕ)
+    → IsThere (option_and_then (λ high. option_map (λ low. high * 16 + low) b) a) → IsThere b
+last_digit None b h = absurd h
+last_digit (Some a) None h = h
+last_digit (Some a) (Some b) h = tt
+
+hex_inside : (n : ℕ) (text : List ℕ) (p : ℕ) → 0 < n → IsThere (hex_value text p n)
+    → p + n ≤ length text
+unfolding hex_value
+hex_inside zero text p h s = absurd (omega arith)
+hex_inside (suc n) text p h s =
+    let digit = last_digit (hex_value text p n) (hex_digit (byte text (p + n))) s in
+    omega (arith, within text (p + n) (digit_some (byte text (p + n)) digit))
+
+-- what is at the place ends after it, inside the text
+abbrev Fits : List ℕ → ℕ → QuotedSpot → Type 0
+Fits text p Closing = p < length text
+Fits text p (Pieces qs q) = (p < q) × (q ≤ length text)
+Fits text p (Bad w) = Unit {0}
+
+coded_fits : (text : List ℕ) (p spot q : ℕ) (o : Option ℕ)
+    → (IsThere o → (p < q) × (q ≤ length text)) → Fits text p (coded spot q o)
+coded_fits text p spot q None h = tt
+coded_fits text p spot q (Some c) h =
+    elim (cases_Bool (is_scalar c)) [
+      | inl e ↦ rw e (h tt)
+      | inr e ↦ rw e tt
+    ]
+
+escaped_fits : (text : List ℕ) (p : ℕ) (o : Option (List ℕ)) → (IsThere o → p + 2 ≤ length text)
+    → Fits text p (escaped p o)
+escaped_fits text p None h = tt
+escaped_fits text p (Some bytes) h = (omega arith, h tt)
+
+simple_inside : (text : List ℕ) (p : ℕ) → IsThere (simple_escape (byte text (p + 1)))
+    → p + 2 ≤ length text
+simple_inside text p h = let here = within text (p + 1) (simple_some (byte text (p + 1)) h) in omega (arith, here)
+
+escape_fits : (text : List ℕ) (p : ℕ) → Fits text p (escape_at text p)
+unfolding escape_at
+escape_fits text p =
+    elim (cases_Bool (nat_lt 0 (break_width text (p + 1)))) [
+      | inl h ↦ let past = past_break text (p + 1) (ltb-true _ _ h) in rw h (omega arith, past.inside)
+      | inr h ↦ elim (cases_Bool (nat_lt 0 (hex_len (byte text (p + 1))))) [
+        | inl i ↦
+            let n = hex_len (byte text (p + 1)) in
+            rw (h, i) (coded_fits text p (p + 2) (p + 2 + n) (hex_value text (p + 2) n) (λ s. (omega arith, hex_inside n text (p + 2) (ltb-true _ _ i) s)))
+        | inr i ↦ rw (h, i) (escaped_fits text p (simple_escape (byte text (p + 1))) (simple_inside text p))
+      ]
+    ]
+
+quote_fits : (quote : ℕ) (text : List ℕ) (p : ℕ) → p < length text
+    → Fits text p (quote_at quote text p)
+unfolding quote_at
+quote_fits quote text p l =
+    elim (cases_Bool (quote == 39 && byte text (p + 1) == 39)) [
+      | inl h ↦
+          let b : byte text (p + 1) ≡ 39 = eqb-true _ _ (and_parts (quote == 39) (byte text (p + 1) == 39) h).1 in
+          rw h (omega arith, omega (arith, within text (p + 1) (omega (arith, b))))
+      | inr h ↦ rw h l
+    ]
+
+standing_fits : (quote : ℕ) (text : List ℕ) (p : ℕ) → Fits text p (standing_at quote text p)
+unfolding standing_at
+standing_fits quote text p =
+    elim (cases_Bool (is_document_indicator text p)) [
+      | inl h ↦ rw h tt
+      | inr h ↦ elim (cases_Bool (byte text p == 0)) [
+        | inl i ↦ rw (h, i) tt
+        | inr i ↦
+            let here = within text p (some_of (byte text p) i) in
+            elim (cases_Bool (byte text p == quote)) [
+              | inl j ↦ rw (h, i, j) (quote_fits quote text p here)
+              | inr j ↦ elim (cases_Bool (nat_lt 0 (break_width text p))) [
+                | inl k ↦
+                    let some = ltb-true _ _ k in
+                    rw (h, i, j, k) (omega (arith, some), (past_break text p some).inside)
+                | inr k ↦ elim (cases_Bool (is_blank (byte text p))) [
+                  | inl l ↦ rw (h, i, j, k, l) (omega arith, omega (arith, here))
+                  | inr l ↦ elim (cases_Bool (quote == 34 && byte text p == 92)) [
+                    | inl m ↦ rw (h, i, j, k, l, m) (escape_fits text p)
+                    | inr m ↦ rw (h, i, j, k, l, m) (omega arith, omega (arith, here))
+                  ]
+                ]
+              ]
+            ]
+      ]
+    ]
+
+abbrev behind_pieces : List Piece × ℕ → ℕ
+behind_pieces x = x.1
+
+front_lands : (text : List ℕ) (p : ℕ) (qs : List Piece) (r : Result (List Piece × ℕ) Wrong)
+    → Lands behind_pieces text p r → Lands behind_pieces text p (with_front qs r)
+front_lands text p qs (Ok x) h = h
+front_lands text p qs (Err w) h = tt
+
+lands_further : {Y : Type 0} (end : Y → ℕ) (text : List ℕ) (o p : ℕ) (r : Result Y Wrong) → o ≤ p
+    → Lands end text p r → Lands end text o r
+lands_further end text o p (Ok y) l h = record { forward = omega (arith, l, h.forward); inside = h.inside }
+lands_further end text o p (Err w) l h = tt
+
+followed_lands : (more : ℕ → Result (List Piece × ℕ) Wrong) (text : List ℕ) (p : ℕ) (s : QuotedSpot)
+    → ((q : ℕ) → Lands behind_pieces text (q + 1) (more q)) → Fits text p s
+    → Lands behind_pieces text (p + 1) (followed more p s)
+followed_lands more text p Closing rest f = record { forward = omega arith; inside = omega (arith, f) }
+followed_lands more text p (Pieces qs q) rest f =
+    front_lands text (p + 1) qs (more q) (lands_further behind_pieces text (p + 1) (q + 1) (more q) (omega (arith, f.0)) (rest q))
+followed_lands more text p (Bad w) rest f = tt
+
+pieces_land : (n quote : ℕ) (text : List ℕ) (p : ℕ)
+    → Lands behind_pieces text (p + 1) (pieces n quote text p)
+unfolding pieces
+pieces_land zero quote text p = tt
+pieces_land (suc n) quote text p = followed_lands (pieces n quote text) text p (standing_at quote text p) (pieces_land n quote text) (standing_fits quote text p)
+
+valued_lands : (text : List ℕ) (p : ℕ) (f : List Piece → List ℕ) (r : Result (List Piece × ℕ) Wrong)
+    → Lands behind_pieces text p r → Lands behind_bytes text p (valued f r)
+valued_lands text p f (Ok x) h = h
+valued_lands text p f (Err w) h = tt
+
+-- a quoted scalar ends after both quotes, inside the text
+pub quoted_place : (quote : ℕ) (text : List ℕ) (p : ℕ)
+    → Lands behind_bytes text (p + 1) (quoted_at quote text p)
+quoted_place quote text p =
+    lands_further behind_bytes text (p + 1) (p + 1 + 1) (quoted_at quote text p) (omega arith)
+    (valued_lands text (p + 1 + 1) value (pieces (length text) quote text (p + 1)) (pieces_land (length text) quote text (p + 1)))

@@ -1,0 +1,231 @@
+-- The white after lexemes.
+use Rattle.std.proofs.Common.{◌≡◌, ℕ, zero, suc, ◌+◌, ◌-◌, ◌<◌, ◌≤◌, ◌==◌, ◌&&◌, ◌||◌, not, nat_lt, Bool, true, false, List, [], ◌∷◌, ◌++◌, length, get_or, refl, sym, ap, subst, ◌∙◌, inl, inr, ◌⊎◌, arith}
+use Rattle.yaml_scan_laws.proofs.LevelWords.{cases_Bool, and_parts, not-true, nat_tests, append-nil, byte, break_of, break_width, mark_at, is_bom, Gap, gap_at, HasAt, are_gap, has_break, begins_lexeme, Kind, Lexeme, allows_key, is_value, reached, flow_depth, in_flow, candidate, fresh, has, key_allowed, gap_behind, allowed_behind, gap_is_read, IsGap, WhiteBegins, WhiteGoesOn, WhiteIsTaken, WhiteIsOver, WhiteIsPassed, WhiteMeets, KeyIsAllowed}
+use Rattle.yaml_scan_history.specs.declared.kind.Kind.TheVariants as kinds
+
+-- ---- gaps of several parts
+
+gap_more : (xs ys : List ℕ) → are_gap xs ≡ true → are_gap ys ≡ true → are_gap (xs ++ ys) ≡ true
+gap_more [] ys e f = f
+gap_more (x ∷ xs) ys e f = let (here, rest) = and_parts (x == 32 || (x == 10 || x == 13)) (are_gap xs) e in rw here (gap_more xs ys rest f)
+
+or_more : (a b c : Bool) → ((a || b) || c) ≡ (a || (b || c))
+or_more true b c = refl
+or_more false b c = refl
+
+break_more : (xs ys : List ℕ) → has_break (xs ++ ys) ≡ (has_break xs || has_break ys)
+break_more [] ys = refl
+break_more (x ∷ xs) ys = ap (λ (b : Bool). (x == 10 || x == 13) || b) (break_more xs ys) ∙ sym (or_more (x == 10 || x == 13) (has_break xs) (has_break ys))
+
+length_more : (xs ys : List ℕ) → length (xs ++ ys) ≡ length xs + length ys
+length_more [] ys = omega arith
+length_more (x ∷ xs) ys = let e = length_more xs ys in omega (arith, e)
+
+nth_front : (xs ys : List ℕ) (k : ℕ) → k < length xs → get_or (xs ++ ys) k 0 ≡ get_or xs k 0
+nth_front [] ys k e = absurd (omega (arith, e))
+nth_front (x ∷ xs) ys zero e = refl
+nth_front (x ∷ xs) ys (suc k) e = nth_front xs ys k (omega (arith, e))
+
+nth_back : (xs ys : List ℕ) (k : ℕ) → get_or (xs ++ ys) (length xs + k) 0 ≡ get_or ys k 0
+nth_back [] ys k = let e : 0 + k ≡ k = omega arith in rw e refl
+nth_back (x ∷ xs) ys k = let e : suc (length xs) + k ≡ suc (length xs + k) = omega arith in rw e (nth_back xs ys k)
+
+has_more : (text : List ℕ) (p : ℕ) (xs ys : List ℕ) → HasAt text p xs
+    → HasAt text (p + length xs) ys → HasAt text p (xs ++ ys)
+has_more text p xs ys f g = λ k few. elim (cases_Bool (nat_lt k (length xs))) [
+  | inl e ↦ let less : k < length xs = grind (arith, nat_tests) in f k less ∙ sym (nth_front xs ys k less)
+  | inr e ↦
+      let more : length xs ≤ k = grind (arith, nat_tests) in
+      let size = length_more xs ys in
+      let far : p + length xs + (k - length xs) ≡ p + k = omega (arith, more) in
+      let there : length xs + (k - length xs) ≡ k = omega (arith, more) in
+      sym (ap (λ (n : ℕ). byte text n) far) ∙ g (k - length xs) (omega (arith, few, size, more)) ∙ sym (nth_back xs ys (k - length xs)) ∙ ap (λ (n : ℕ). get_or (xs ++ ys) n 0) there
+]
+
+-- ---- where the last lexeme ends before the white
+
+gap_there : (text : List ℕ) (h : List Lexeme) (p : ℕ) (gap : List ℕ) → (reached h).index ≡ p
+    → IsGap text p gap
+    → gap_behind text h ≡ record { place = p + length gap; broke = has_break gap }
+gap_there text h p gap e g = ap (λ (i : ℕ). gap_at (in_flow h) (key_allowed h) text i) e ∙ gap_is_read (in_flow h) (key_allowed h) text p gap g.has g.blank g.ends
+
+pub white_begins : WhiteBegins
+white_begins text h p now e k = record {
+  place = λ gap g. ap (λ (x : Gap). x.place) (gap_there text h p gap e g);
+  allowed = λ gap g. ap (λ (x : Gap). key_allowed h || (x.broke && not (in_flow h))) (gap_there text h p gap e g) ∙ ap (λ (b : Bool). b || (has_break gap && not (nat_lt 0 (flow_depth h)))) k;
+}
+
+-- ---- further white
+
+gap_front : (text : List ℕ) (p : ℕ) (white gap : List ℕ) → HasAt text p white → are_gap white ≡ true
+    → IsGap text (p + length white) gap → IsGap text p (white ++ gap)
+gap_front text p white gap f e g =
+    let size = length_more white gap in
+    let there : p + length (white ++ gap) ≡ p + length white + length gap = omega (arith, size) in
+    record {
+      has = has_more text p white gap f g.has;
+      blank = gap_more white gap e g.blank;
+      ends = ap (λ (n : ℕ). begins_lexeme text n) there ∙ g.ends;
+    }
+
+both_breaks : (now x y broken : Bool)
+    → (now || ((x || y) && broken)) ≡ ((now || (x && broken)) || (y && broken))
+both_breaks true x y broken = refl
+both_breaks false true true true = refl
+both_breaks false true true false = refl
+both_breaks false true false true = refl
+both_breaks false true false false = refl
+both_breaks false false y broken = refl
+
+pub white_goes_on : WhiteGoesOn
+white_goes_on text h p now broken white w f e = record {
+  place = λ gap g. let size = length_more white gap in w.place (white ++ gap) (gap_front text p white gap f e g) ∙ omega (arith, size);
+  allowed = λ gap g. w.allowed (white ++ gap) (gap_front text p white gap f e g) ∙ ap (λ (b : Bool). now || (b && broken)) (break_more white gap) ∙ both_breaks now (has_break white) (has_break gap) broken;
+}
+
+-- ---- white that was taken
+
+feeds : (b c d : ℕ) → (b == 32 || (b == 10 || b == 13)) ≡ true
+    → ((b == 32) ≡ true) ⊎ (nat_lt 0 (break_of b c d) ≡ true)
+unfolding break_of
+feeds b c d h =
+    elim (cases_Bool (b == 32)) [
+      | inl e ↦ inl e
+      | inr e ↦ elim (cases_Bool (b == 13)) [
+        | inl f ↦ elim (cases_Bool (c == 10)) [ inl g ↦ inr (rw (f, g) refl) | inr g ↦ inr (rw (f, g) refl) ]
+        | inr f ↦ let g : (b == 10) ≡ true = grind (arith, nat_tests) in inr (rw (f, g) refl)
+      ]
+    ]
+
+-- No lexeme begins at white space.
+pub no_white : (text : List ℕ) (p b : ℕ) → byte text p ≡ b
+    → (b == 32 || (b == 10 || b == 13)) ≡ true → begins_lexeme text p ≡ true → ⊥
+no_white text p b e f g =
+    let (space, more) = and_parts (not (byte text p == 32)) (not (byte text p == 9) && (not (byte text p == 35) && (not (nat_lt 0 (break_width text p)) && not (p == 0 && is_bom text p)))) g in
+    let (tab, rest) = and_parts (not (byte text p == 9)) (not (byte text p == 35) && (not (nat_lt 0 (break_width text p)) && not (p == 0 && is_bom text p))) more in
+    let (hash, last) = and_parts (not (byte text p == 35)) (not (nat_lt 0 (break_width text p)) && not (p == 0 && is_bom text p)) rest in
+    let (wide, bom) = and_parts (not (nat_lt 0 (break_width text p))) (not (p == 0 && is_bom text p)) last in
+    elim (feeds (byte text p) (byte text (p + 1)) (byte text (p + 2)) (ap (λ (x : ℕ). x == 32 || (x == 10 || x == 13)) e ∙ f)) [
+      | inl x ↦ let y = not-true (byte text p == 32) space in cc
+      | inr x ↦ let y = not-true (nat_lt 0 (break_width text p)) wide in cc
+    ]
+
+-- what is left of a gap after its first part
+record Parts (text : List ℕ) (p : ℕ) (white gap : List ℕ) : Type 0 where
+  more : List ℕ
+  same : gap ≡ white ++ more
+  is : IsGap text (p + length white) more
+
+-- The first of bytes that are at a place is there.
+pub has_first : (text : List ℕ) (p b : ℕ) (bs : List ℕ) → HasAt text p (b ∷ bs) → byte text p ≡ b
+has_first text p b bs h = let e : p + 0 ≡ p = omega arith in sym (ap (λ (n : ℕ). byte text n) e) ∙ h 0 (omega arith)
+
+-- the bytes after the first
+pub has_rest : (text : List ℕ) (p b : ℕ) (bs : List ℕ) → HasAt text p (b ∷ bs)
+    → HasAt text (p + 1) bs
+has_rest text p b bs h = λ k few. let e : p + suc k ≡ p + 1 + k = omega arith in sym (ap (λ (n : ℕ). byte text n) e) ∙ h (suc k) (omega (arith, few))
+
+parted : (text : List ℕ) (p : ℕ) (white gap : List ℕ) → HasAt text p white → are_gap white ≡ true
+    → IsGap text p gap → Parts text p white gap
+parted text p [] gap f e g =
+    let z : p + 0 ≡ p = omega arith in
+    let P : ℕ → Type 0 = λ n. IsGap text n gap in
+    record { more = gap; same = refl; is = subst P (sym z) g }
+parted text p (x ∷ white) [] f e g =
+    let (here, rest) = and_parts (x == 32 || (x == 10 || x == 13)) (are_gap white) e in
+    let z : p + 0 ≡ p = omega arith in
+    absurd (no_white text p x (has_first text p x white f) here (sym (ap (λ (n : ℕ). begins_lexeme text n) z) ∙ g.ends))
+parted text p (x ∷ white) (y ∷ gap) f e g =
+    let (here, rest) = and_parts (x == 32 || (x == 10 || x == 13)) (are_gap white) e in
+    let (there, left) = and_parts (y == 32 || (y == 10 || y == 13)) (are_gap gap) g.blank in
+    let same : y ≡ x = sym (has_first text p y gap g.has) ∙ has_first text p x white f in
+    let z : p + suc (length gap) ≡ p + 1 + length gap = omega arith in
+    let far : p + 1 + length white ≡ p + suc (length white) = omega arith in
+    let one : IsGap text (p + 1) gap = record { has = has_rest text p y gap g.has; blank = left; ends = sym (ap (λ (n : ℕ). begins_lexeme text n) z) ∙ g.ends } in
+    let parts = parted text (p + 1) white gap (has_rest text p x white f) rest one in
+    let P : ℕ → Type 0 = λ n. IsGap text n parts.more in
+    record { more = parts.more; same = ap (λ (b : ℕ). b ∷ gap) same ∙ ap (λ (bs : List ℕ). x ∷ bs) parts.same; is = subst P far parts.is }
+
+passed_place : (text : List ℕ) (h : List Lexeme) (p : ℕ) (white gap : List ℕ)
+    → (reached h).index ≡ p + length white → Parts text p white gap
+    → (gap_behind text h).place ≡ p + length gap
+passed_place text h p white gap e parts =
+    let size = length_more white parts.more in
+    let whole = ap (λ (bs : List ℕ). length bs) parts.same in
+    ap (λ (x : Gap). x.place) (gap_there text h (p + length white) parts.more e parts.is) ∙ omega (arith, size, whole)
+
+pub white_is_passed : WhiteIsPassed
+white_is_passed text h p white broken f e there key = record {
+  place = λ gap g. passed_place text h p white gap there (parted text p white gap f e g);
+  allowed = λ gap g. ap (λ (b : Bool). b || ((gap_behind text h).broke && not (in_flow h))) key;
+}
+
+-- no white is where a lexeme begins
+pub nothing_more : (text : List ℕ) (p : ℕ) (more : List ℕ) → begins_lexeme text p ≡ true
+    → IsGap text p more → more ≡ []
+nothing_more text p [] e g = refl
+nothing_more text p (x ∷ more) e g =
+    let (here, rest) = and_parts (x == 32 || (x == 10 || x == 13)) (are_gap more) g.blank in
+    absurd (no_white text p x (has_first text p x more g.has) here e)
+
+-- the first of two where the second fails
+pub or_none : (a b : Bool) → (a || (false && b)) ≡ a
+or_none true b = refl
+or_none false b = refl
+
+and_true : (a : Bool) → a ≡ (a && true)
+and_true true = refl
+and_true false = refl
+
+taken_allowed : (text : List ℕ) (h : List Lexeme) (p : ℕ) (white gap : List ℕ)
+    → begins_lexeme text (p + length white) ≡ true → (reached h).index ≡ p + length white
+    → key_allowed h ≡ has_break white → Parts text p white gap
+    → allowed_behind h (gap_behind text h) ≡ (false || (has_break gap && true))
+taken_allowed text h p white gap ends there key parts =
+    let none = nothing_more text (p + length white) parts.more ends parts.is in
+    let whole : gap ≡ white = parts.same ∙ ap (λ (bs : List ℕ). white ++ bs) none ∙ append-nil white in
+    ap (λ (x : Gap). key_allowed h || (x.broke && not (in_flow h))) (gap_there text h (p + length white) parts.more there parts.is)
+    ∙ ap (λ (bs : List ℕ). key_allowed h || (has_break bs && not (in_flow h))) none
+    ∙ or_none (key_allowed h) (not (in_flow h)) ∙ key ∙ sym (ap (λ (bs : List ℕ). has_break bs) whole) ∙ and_true (has_break gap)
+
+pub white_is_taken : WhiteIsTaken
+white_is_taken text h p white g there key = record {
+  place = λ gap f. passed_place text h p white gap there (parted text p white gap g.has g.blank f);
+  allowed = λ gap f. taken_allowed text h p white gap g.ends there key (parted text p white gap g.has g.blank f);
+}
+
+over_allowed : (text : List ℕ) (h : List Lexeme) (p : ℕ) (now : Bool) (white gap : List ℕ)
+    → begins_lexeme text (p + length white) ≡ true → (reached h).index ≡ p + length white
+    → key_allowed h ≡ now → Parts text p white gap
+    → allowed_behind h (gap_behind text h) ≡ (now || (has_break gap && false))
+over_allowed text h p now white gap ends there key parts =
+    let none = nothing_more text (p + length white) parts.more ends parts.is in
+    ap (λ (x : Gap). key_allowed h || (x.broke && not (in_flow h))) (gap_there text h (p + length white) parts.more there parts.is)
+    ∙ ap (λ (bs : List ℕ). key_allowed h || (has_break bs && not (in_flow h))) none
+    ∙ or_none (key_allowed h) (not (in_flow h)) ∙ key ∙ or_off now (has_break gap)
+  where
+    or_off : (a b : Bool) → a ≡ (a || (b && false))
+    or_off true b = refl
+    or_off false true = refl
+    or_off false false = refl
+
+pub white_is_over : WhiteIsOver
+white_is_over text h p now white g there key = record {
+  place = λ gap f. passed_place text h p white gap there (parted text p white gap g.has g.blank f);
+  allowed = λ gap f. over_allowed text h p now white gap g.ends there key (parted text p white gap g.has g.blank f);
+}
+
+pub white_meets : WhiteMeets
+white_meets text h p d level now broken gap k w white g kind word = record { place = white.place gap g; allowed = white.allowed gap g; kind = kind; word = word }
+
+allows_found : (k : Kind) (block x y : Bool) → (is_value k ≡ true → x ≡ y)
+    → allows_key k block x ≡ allows_key k block y
+allows_found kinds.ValueMark block x y f = ap (λ (b : Bool). block && not b) (f refl)
+allows_found k block x y f = refl
+
+pub key_is_allowed : KeyIsAllowed
+key_is_allowed text h d k q a found w deep f = (
+  refl,
+  ap (λ (n : ℕ). allows_key k (n == 0) (has (fresh (candidate n h) (mark_at text q))) || w.broke) deep
+      ∙ ap (λ (b : Bool). b || w.broke) (allows_found k (d == 0) (has (fresh (candidate d h) (mark_at text q))) found f),
+)

@@ -1,0 +1,34 @@
+pub mod Standing
+pub mod Laws
+pub mod Fronts
+pub mod Streams
+pub mod KeyFree
+pub mod KeysLaws
+pub mod KeysTexts
+pub mod Spelled
+pub mod NamesLaws
+pub mod Utf8Texts
+pub mod Utf8Laws
+pub mod Values
+pub mod PlainLaws
+pub mod WordsLaws
+pub mod TextFronts
+pub mod Pushes
+pub mod Keys
+pub mod Tokens
+pub mod Ends
+pub mod White
+pub mod Slots
+pub mod Steps
+pub mod Walks
+pub mod Rows
+pub mod Signs
+pub mod LookBack
+pub mod Alike
+pub mod Cuts
+pub mod Moved
+pub mod CutsLaws
+-- the crates below it, for crates that name this one alone
+pub use Rattle.yaml_scan_history.specs as scan_history
+pub use Rattle.yaml_scan_history.specs.scan_decode
+pub use Rattle.yaml_scan_history.specs.scan_types

@@ -1,9 +1,0 @@
-use Rattle.yaml_scan_laws_texts.proofs.TokensSpelled.{remaining_spelled}
-use Rattle.yaml_scan_laws_texts.proofs.Inputs.{scanned_spelled}
-use Rattle.yaml_scan_laws_texts.proofs.names_laws.laws_of_names.Goals as goal
-
-pub returns-clause-tokens_are_spelled : goal.returns-clause-tokens_are_spelled
-returns-clause-tokens_are_spelled c = remaining_spelled
-
-pub returns-clause-scanned_are_spelled : goal.returns-clause-scanned_are_spelled
-returns-clause-scanned_are_spelled c = scanned_spelled

@@ -39,6 +39,7 @@ import re
 import subprocess
 import sys
 import tempfile
+import threading
 import time
 from concurrent.futures import ThreadPoolExecutor
 
@@ -337,7 +338,11 @@ def judge_fault(vector, got):
     line, rest = vector.line, dict(got)
     fault, front, told, side = (rest.pop(it, None) for it in ("fault", "answer", "fault_line", "side"))
     # the second input's comes only where the first is accepted
-    sides = [None] if vector.call not in ("same", "diff", "diff_documents", "differences") else ["First"] if line.get("side") == "First" else ["First", "Second"]
+    sides = [None]
+    if vector.call in ("same", "diff", "diff_documents", "differences"):
+        # of contents both are read before the first one's documents are loaded
+        first_alone = line.get("side") == "First" and line.get("documents", True)
+        sides = ["First"] if first_alone else ["First", "Second"]
     is_listed = front is None or vector.call in ("scan", "load", "load_tokens") and is_front(front, line["answer"])
     return fault if not rest and is_listed and told in (None, LINE) and side in sides else None, vector.call
 
@@ -379,13 +384,16 @@ class Replay:
     def __init__(self, folder, program):
         self.bench = faults.Bench(folder, program)
         self.shorter = {}
+        # a folder is there whole before another run looks for it
+        self.placing = threading.Lock()
 
     def run(self, vector, at=0):
         """A run of a line with the request of that number refused; of 0, with none."""
         case = faults.Case(vector.name, [], json.dumps(vector.line).encode() + b"\n")
         place = f"{self.bench.folder}/{vector.number}"
-        if not os.path.isdir(place):
-            self.bench.place(vector.number, case)
+        with self.placing:
+            if not os.path.isdir(place):
+                self.bench.place(vector.number, case)
         return self.bench.run(place, case, faults.Wrong("memory", "fail", at, 1) if at else None)
 
     def extended(self, vector):

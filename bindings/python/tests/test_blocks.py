@@ -18,8 +18,8 @@ CRATES = os.path.join(HERE, "..", "..", "..", "crates")
 PROVED = [
     os.path.join(CRATES, crate, "specs", name)
     for crate, name in (
-        ("yaml_round_answers", "Offsets.antt"),
-        ("yaml_round_answers", "TokensOffsets.antt"),
+        ("yaml_round_answers", "EventOffsets.antt"),
+        ("yaml_round_answers", "TokenOffsets.antt"),
         ("yaml_round_answers", "Offsets.antt"),
     )
 ]

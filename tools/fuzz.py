@@ -319,7 +319,8 @@ class Judge:
         self.normalized(number, path, again, settings)
 
     def normalized(self, number, path, canonical, settings):
-        """The normal form of an input that is accepted."""
+        """The normal form of an input that is accepted; an indent that fmt takes as 2 is none of norm's."""
+        settings = [it for it in settings if it not in ("--indent=1", "--indent=10")]
         ran = self.ours("norm", *settings, path)
         wrong_unless((ran.status, ran.errors) == (0, b""), f"norm refuses what events accepts: {ran.errors!r}")
         normal = self.file(number, "norm", ran.output)

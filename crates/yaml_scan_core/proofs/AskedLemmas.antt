@@ -243,9 +243,6 @@ shows_read old new w going h =
     subst (λ r. ShowsKind (front_lexeme new).front r new) (come_same old new h.hands h.text)
     (shows_front new h.rests (read_there old new w going h) (λ over. waits_ended old new (going_of old w.rests going) h.hands h.text h.rests over))
 
-pub waits_read : (old new : Scanner) → Waits old → HasRead old new → Waits new
-waits_read old new w h = record { rests = h.rests; some = omega (arith, w.some, batch_same old new h.hands) }
-
 -- where a settled lexeme waits
 pub shows_settled : (s : Scanner) → Waits s → s.row.next < s.row.settled
     → ShowsKind (front_lexeme s).front (to_come s) s

@@ -41,10 +41,6 @@ upto_on p q r u v = (omega (arith, u.0, v.0), omega (arith, u.1, v.1))
 
 -- ---- the keys
 
-pub no_view : (text : List ℕ) (k : SimpleKey) (p : yaml_mark_t) → k.possible ≡ false
-    → fresh_key text k p ≡ None
-no_view text k p e = rw e refl
-
 -- a key that is stale stays so
 pub stays_stale : (text : List ℕ) (k : SimpleKey) (p q : yaml_mark_t) → fresh_key text k p ≡ None
     → Upto p q → fresh_key text k q ≡ None

@@ -1,5 +1,5 @@
 -- Lexemes, notes and joined texts that are dropped.
-use Rattle.std.proofs.Common.{◌≡◌, ◌≢◌, ◌∙◌, ℕ, ◌+◌, ◌-◌, ◌<◌, ◌≤◌, Bool, true, false, ltb, inl, inr, List, [], length, take, get_or, Global, refl, sym, ap, subst, arith}
+use Rattle.std.proofs.Common.{◌≡◌, ◌≢◌, ◌∙◌, ℕ, ◌+◌, ◌-◌, ◌<◌, ◌≤◌, Bool, true, false, ltb, inl, inr, List, length, take, get_or, Global, refl, sym, ap, subst, arith}
 use Rattle.std.specs.Prelude.{Vec, vec_capacity}
 use Rattle.std.proofs.lemmas.List.{get_or-set_other, get_or-set_same, get_or-take, length-set, length-take-le}
 use Rattle.yaml_scan_core.proofs.Words.{cases_lt, nat_tests, Entry, SpelledText}
@@ -7,11 +7,11 @@ use Rattle.yaml_scan_model.specs.declared.kind.Kind.{Kind}
 use Rattle.yaml_scan_model.specs.declared.kind.Kind.TheVariants as kinds
 use Rattle.yaml_scan_core.specs.declared.lexeme.Lexeme.{Lexeme}
 use Rattle.yaml_scan_core.specs.declared.row.Row.{Row}
-use Rattle.yaml_scan_core.specs.Rows.{HasRoom, RowView, behind_lead, behind_start, first_kind, led, is_set, row_lexeme, no_lexeme, row_of}
-use Rattle.yaml_scan_core.specs.Handed.{Drops, given_in}
+use Rattle.yaml_scan_core.specs.Rows.{RowView, behind_lead, behind_start, first_kind, led, is_set, row_lexeme, no_lexeme, row_of}
+use Rattle.yaml_scan_core.specs.Handed.{Drops}
 use Rattle.yaml_scan_core.proofs.HandedLemmas.{given_moved}
 use Rattle.yaml_scan_core.specs.Shown.{IsFront, ShowsEntry, Store, ShowsRow, ShowsWhole, ShowsFront, entry_at, store_of}
-use Rattle.yaml_scan_core.proofs.ShownLemmas.{Moved, front_moved, shows_moved, whole_front, whole_moved}
+use Rattle.yaml_scan_core.proofs.ShownLemmas.{Moved, shows_moved, whole_front}
 
 -- a lexeme without note needs none
 moved_plain : (s u : Store) (x : Lexeme) → u.text ≡ s.text → is_set 8 x ≡ false → Moved s u x x
@@ -25,37 +25,6 @@ moved_plain s u x same plain = record {
   note = λ a b h. let bad = sym plain ∙ h.noted in cc;
   value = λ v h. record { plain = h.plain; order = h.order; inside = rw same h.inside; are = rw same h.are };
 }
-
-pub shown_plain : (t : SpelledText) (r : RowView) (es : List Entry)
-    → ((i : ℕ) → i < length r.lexemes → is_set 8 (row_lexeme r i) ≡ false) → ShowsRow t r es
-    → ShowsRow t (record r { notes = []; arena = [] }) es
-shown_plain t r es plain h =
-    let s = store_of t.text r in
-    let u = store_of t.text (record r { notes = []; arena = [] }) in
-    record {
-      count = h.count;
-      taken = h.taken;
-      few = h.few;
-      front = λ lt. front_moved _ s u t (row_lexeme r r.next) _ (moved_plain s u (row_lexeme r r.next) refl (plain r.next lt)) (h.front lt);
-      others = λ i gt lt. whole_moved s u t (row_lexeme r i) _ (moved_plain s u (row_lexeme r i) refl (plain i lt)) (h.others i gt lt);
-    }
-
--- the notes of a row are dropped
-pub drops_plain : (old new : Row)
-    → ((i : ℕ) → i < length old.lexemes.items → is_set 8 (row_lexeme (row_of old) i) ≡ false)
-    → row_of new ≡ record (row_of old) { notes = []; arena = [] } → (HasRoom old → HasRoom new)
-    → Drops old new
-drops_plain old new plain is room = record {
-  shows = λ t es h. subst (λ r. ShowsRow t r es) (sym is) (shown_plain t (row_of old) es plain h);
-  count = ap (λ (r : RowView). r.dropped + length r.lexemes) is;
-  taken = ap (λ (r : RowView). r.dropped + r.next) is;
-  settled = ap (λ (r : RowView). r.dropped + r.settled) is;
-  room = room;
-  given = λ text. ap (λ (r : RowView). given_in text r) is;
-}
-
-pub drops_none : (old : Row) → Drops old old
-drops_none old = record { shows = λ t es h. h; count = refl; taken = refl; settled = refl; room = λ r. r; given = λ text. refl }
 
 pub drops_on : (a b c : Row) → Drops a b → Drops b c → Drops a c
 drops_on a b c d e = record {

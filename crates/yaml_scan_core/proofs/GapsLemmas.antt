@@ -304,6 +304,17 @@ pub one_calm : (s : Scanner) (b : ℕ) → IsPlace s.text.now s.at s.line s.wide
 one_calm s b p e x y z w c =
     one_other s p (λ h. x (e ∙ h)) (λ h. y (e ∙ h)) (λ h. z (e ∙ h)) (λ h. w (e ∙ h)) (calm s.text.now s.at b (sym e) c.return c.feed c.next c.wide)
 
+pub one_inside : (s : Scanner) (b : ℕ) → IsPlace s.text.now s.at s.line s.wide
+    → b ≡ byte s.text.now s.at → (35 < b) × (b < 0xC2) → PassesOne s s false
+one_inside s b p e (low, high) =
+    one_calm s b p e (λ h. absurd (omega (arith, h, low))) (λ h. absurd (omega (arith, h, low))) (λ h. absurd (omega (arith, h, low))) (λ h. absurd (omega (arith, h, high)))
+    record {
+      feed = λ h. absurd (omega (arith, h, low));
+      return = λ h. absurd (omega (arith, h, low));
+      next = λ h. absurd (omega (arith, h, high));
+      wide = λ h. absurd (omega (arith, h, high));
+    }
+
 -- ---- a comment
 
 each_past : (n : ℕ) (text : List ℕ) (p k : ℕ) → p ≤ k → k < past is_text n text p

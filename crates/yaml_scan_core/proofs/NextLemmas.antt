@@ -1,17 +1,11 @@
 -- What comes next.
-use Rattle.std.proofs.Common.{get_or, ◌≡◌, ℕ, zero, suc, ◌<◌, ◌≤◌, Bool, true, false, ltb, eqb, ◌&&◌, List, [], ◌∷◌, length, Option, Some, None, refl, sym, ap, subst, ◌∙◌, inl, inr, arith}
-use Rattle.yaml_scan_core.proofs.Words.{cases_Bool, nat_tests, set, yaml_mark_t, mark_at, Lexeme, Entry, may_be_key, Candidate, candidate, fresh, reached, flow_depth, key_allowed, ended, mark_key, Read, Ends, next, history, first_lexeme, allowed_behind, missed, behind, Upto, stepwise, required_in}
+use Rattle.std.proofs.Common.{get_or, ◌≡◌, ℕ, zero, suc, ◌<◌, ◌≤◌, Bool, true, false, eqb, ◌&&◌, List, [], ◌∷◌, length, Option, Some, None, refl, sym, ap, subst, ◌∙◌, inl, inr, arith}
+use Rattle.yaml_scan_core.proofs.Words.{cases_Bool, nat_tests, set, yaml_mark_t, mark_at, Lexeme, Entry, may_be_key, Candidate, candidate, fresh, reached, flow_depth, ended, mark_key, Read, Ends, next, history, first_lexeme, allowed_behind, missed, behind, Upto, stepwise, required_in}
 use Rattle.yaml_scan_history.specs.History.{as_key}
 use Rattle.yaml_scan_core.specs.Candidates.{late}
 use Rattle.yaml_scan_core.proofs.LinesLemmas.{line_upto}
-use Rattle.yaml_scan_history.proofs.PlacesLemmas.{gap_place}
 use Rattle.yaml_scan_core.proofs.ReadLemmas.{next_is, first_is, begun_at, gap_of, finished_same}
 use Rattle.yaml_scan_core.proofs.StepLemmas.{candidate_top, each_history}
-
-pub next_first : (text : List ℕ) (h : List Lexeme) → length h ≡ 0 → next text h ≡ Read first_lexeme
-unfolding next
-next_first text [] none = refl
-next_first text (l ∷ h) none = absurd (omega arith)
 
 pub next_at : (text : List ℕ) (h : List Lexeme) → 0 < length h → ended h ≡ false
     → next text h ≡ behind text (gap_of text h) h
@@ -23,12 +17,6 @@ next_at text (l ∷ h) some more = rw more (stepwise text (l ∷ h))
 pub upto_later : (text : List ℕ) (p q : ℕ) → p ≤ q → Upto (mark_at text p) (mark_at text q)
 upto_later text p q le =
     (le, line_upto text p q le)
-
-pub upto_gap : (text : List ℕ) (h : List Lexeme) → reached h ≡ mark_at text (reached h).index
-    → (reached h).index ≤ length text → Upto (reached h) (mark_at text (gap_of text h).place)
-upto_gap text h is le =
-    let from = gap_place (ltb 0 (flow_depth h)) (key_allowed h) text (reached h).index le in
-    subst (λ (m : yaml_mark_t). Upto m (mark_at text (gap_of text h).place)) (sym is) (upto_later text (reached h).index (gap_of text h).place from.forward)
 
 pub late_same : (o : Option Candidate) (p : yaml_mark_t) → late (required_in o) p ≡ missed o p
 late_same None p = refl
@@ -102,12 +90,6 @@ next_ended text (l ∷ h) e = rw e refl
 pub not_ended : (text : List ℕ) (h : List Lexeme) (l : Lexeme) → next text h ≡ Read l
     → ended h ≡ false
 not_ended text h l e = elim (cases_Bool (ended h)) [ inr more ↦ more | inl over ↦ let bad = next_ended text h over in cc ]
-
-pub depth_of : (text : List ℕ) (h : List Lexeme) (l : Lexeme) → next text h ≡ Read l
-    → l.depth ≡ flow_depth h
-unfolding next
-depth_of text [] l e = ap (λ (x : Lexeme). x.depth) (first_is text l e)
-depth_of text (x ∷ h) l e = let r = next_is text x h l e in ap (λ (y : Lexeme). y.depth) r.is ∙ (finished_same text (begun_at text (x ∷ h) l.kind) r.word).depth
 
 pub as_key_set : (ls : List ℕ) (es : List Entry) (i : ℕ) (e : Entry) → i < length es
     → e ≡ get_or es i e → mark_key ls es i ≡ set es i (as_key ls e)

@@ -78,9 +78,6 @@ pub place_column : (text : List ℕ) (at line wide : ℕ) → IsPlace text at li
     → at - line - wide ≡ column_at text at
 place_column text at line wide p = omega (arith, p.column)
 
-pub place_room : (text : List ℕ) (at line wide : ℕ) → IsPlace text at line wide → line + wide ≤ at
-place_room text at line wide p = omega (arith, p.column)
-
 -- after a byte of ASCII that is no control
 pub byte_place : (text : List ℕ) (at line wide b : ℕ) → IsPlace text at line wide
     → byte text at ≡ b → 13 < b → b < 128 → IsPlace text (at + 1) line wide

@@ -2,14 +2,14 @@
 use Rattle.std.proofs.Common.{◌≡◌, ℕ, zero, suc, ◌+◌, ◌-◌, ◌<◌, ◌≤◌, ◌^◌, ◌++◌, ◌∷◌, Bool, true, false, not, cond, ltb, inl, inr, List, [], length, take, None, Result, Ok, Err, refl, sym, ap, subst, ◌∙◌, arith, length-append}
 use Rattle.std.specs.Prelude.{is_err, max}
 use Rattle.std.proofs.lemmas.List.{get_or-take, length-take-le, take-append-le}
-use Rattle.yaml_scan_core.proofs.Words.{cases_Bool, cases_lt, cases_Option, candidate_below, fresh, fresh_is, nat_tests, get_or_at, get_or_past, take_all, mark_at, Lexeme as Read, Entry, reached, ended, finished_tokens, first_open, first_open-le, length-entries, history, next, Fails, Ends, ScanFault, open_levels, candidate, entry_of, first_lexeme, line_at, column_at, byte, zero_mark, KeyStack, key_at, no_key, SpelledText, AreKeys, IsLineStart, stack_of}
+use Rattle.yaml_scan_core.proofs.Words.{cases_Bool, cases_lt, cases_Option, candidate_below, fresh, fresh_is, nat_tests, get_or_at, get_or_past, take_all, mark_at, Lexeme as Read, Entry, reached, ended, finished_tokens, first_open, first_open-le, length-entries, history, next, Ends, open_levels, candidate, entry_of, first_lexeme, line_at, column_at, byte, zero_mark, KeyStack, key_at, no_key, SpelledText, AreKeys, IsLineStart, stack_of}
 use Rattle.yaml_scan_core.specs.declared.keys.Keys.{Keys}
 use Rattle.yaml_scan_core.specs.declared.row.Row.{Row}
 use Rattle.yaml_scan_core.specs.declared.fault.Refused.{Refused}
 use Rattle.yaml_scan_core.specs.declared.scanner.Scanner.{Scanner}
 use Rattle.yaml_scan_laws.proofs.HeldForward.{outer_is_first}
-use Rattle.yaml_scan_laws.proofs.HistoryForward.{are_few, last_is_all}
-use Rattle.yaml_scan_history.specs.Remaining.{all, handed, handed_out}
+use Rattle.yaml_scan_laws.proofs.HistoryForward.{are_few}
+use Rattle.yaml_scan_history.specs.Remaining.{all, handed}
 use Rattle.yaml_scan_core.specs.declared.lexeme.Lexeme.{Lexeme}
 use Rattle.yaml_scan_model.specs.declared.kind.Kind.TheVariants as kinds
 use Rattle.yaml_scan_core.specs.Margins.{AreLevels}
@@ -544,25 +544,7 @@ one_waits r batch waiting taken some many there none = elim (cases_lt r.next r.s
 
 -- ---- what is handed out
 
--- the lexemes before a fault
-pub handed_failed : (text : List ℕ) (n : ℕ) (p : ScanFault) → let h = history text n in
-    next text h ≡ Fails p → handed text ≡ take (first_open h h) (finished_tokens h)
-unfolding handed
-handed_failed text n p e =
-    let h = history text n in
-    let whole : all text ≡ h = last_is_all text n (λ l r. (let bad = sym r ∙ e in cc)) in
-    ap (λ x. handed_out (next text x) x) whole ∙ ap (λ y. handed_out y h) e
-
 pub ends_after : (text : List ℕ) (h : List Read) → ended h ≡ true → next text h ≡ Ends
 unfolding next
 ends_after text [] e = cc
 ends_after text (l ∷ h) e = rw e refl
-
--- and all up to the stream's end
-pub handed_over : (s : Scanner) → IsOver s → handed s.text.now ≡ finished_tokens (history_of s)
-unfolding handed
-handed_over s o =
-    let h = history_of s in
-    let e = ends_after s.text.now h o.end in
-    let whole : all s.text.now ≡ h = last_is_all s.text.now (read_by s) (λ l r. (let bad = sym r ∙ e in cc)) in
-    ap (λ x. handed_out (next s.text.now x) x) whole ∙ ap (λ y. handed_out y h) e

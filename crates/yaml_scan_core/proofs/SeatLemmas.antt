@@ -167,7 +167,3 @@ plain_place text p q line wide place inside plain =
     let on = plain.forward in
     let e : p + (q - p) ≡ q = omega arith in
     subst (λ x. IsPlace text x line wide) e (plain_over (q - p) text p line wide place (omega arith) (λ k a b. plain.each k a (omega (arith, b, e))))
-
-pub plain_starts : (text : List ℕ) (p q : ℕ) → ArePlain text p q → (k : ℕ) → p ≤ k → k < q
-    → starts (byte text k) ≡ true
-plain_starts text p q plain k a b = let (some, ascii, none) = plain.each k a b in grind (arith, nat_tests)

@@ -1,28 +1,9 @@
 -- Settling: what the keys give is the earliest open candidate.
-use Rattle.std.proofs.Common.{◌≡◌, ℕ, ◌+◌, ◌-◌, ◌≤◌, ◌^◌, inl, inr, length, Option, Some, None, refl, sym, ap, subst, ◌∙◌, arith}
-use Rattle.yaml_scan_core.proofs.Words.{cases_lt, cases_Option, mark_at, Candidate, candidate, fresh, reached, first_open, history, KeyStack, AreStale, AreWithin, fresh_key, key_at, number_in, stack_of, view_of}
+use Rattle.std.proofs.Common.{◌≡◌, ℕ, ◌+◌, ◌-◌, ◌≤◌, inl, inr, length, Option, Some, None, sym, ap, subst, ◌∙◌, arith}
+use Rattle.yaml_scan_core.proofs.Words.{cases_Option, mark_at, candidate, fresh, reached, first_open, history, KeyStack, AreStale, fresh_key, key_at, number_in, stack_of, view_of}
 use Rattle.yaml_scan_core.specs.declared.scanner.Scanner.{Scanner}
 use Rattle.yaml_scan_core.specs.Scanning.{MaySettle, read_by}
 use Rattle.yaml_scan_core.proofs.CandidatesLemmas.{outer_settles, passed_keys, settles, told_first}
-
-gone_view : (o : Option Candidate) → view_of o ≡ None → o ≡ None
-gone_view None e = refl
-gone_view (Some c) e = cc
-
--- no more keys are passed than there are
-pub passed_few : (s : Scanner) (at line n : ℕ) → MaySettle s at line n
-    → s.keys.passed ≤ length s.keys.levels.items
-passed_few s at line n m = elim m.keys [
-  | inl (a, count) ↦ a.few
-  | inr (agrees, (some, stale)) ↦ elim (cases_lt 0 s.keys.passed) [
-    | inr flat ↦ omega (arith, flat)
-    | inl low ↦ absurd (some (gone_view (fresh (candidate 0 (history s.text.now n)) (reached (history s.text.now n))) (sym agrees ∙ stale 0 low)))
-  ]
-]
-
-pub within_few : (s : Scanner) (at line n : ℕ) → MaySettle s at line n
-    → AreWithin (2 ^ 63 - 1) (stack_of s.keys)
-within_few s at line n m = λ d. omega (arith, m.within d, m.long)
 
 pub stale_there : (s : Scanner) (at line n : ℕ) → MaySettle s at line n
     → AreStale s.text.now (stack_of s.keys) (mark_at s.text.now at)

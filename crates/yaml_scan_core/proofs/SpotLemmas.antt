@@ -1,6 +1,7 @@
 -- What is known where there is a lexeme with a text.
 use Rattle.std.proofs.Common.{◌≡◌, ℕ, ◌+◌, ◌<◌, ◌≤◌, Bool, true, false, cond, ltb, leb, eqb, ◌&&◌, ◌||◌, not, inl, inr, List, [], ◌∷◌, length, Option, Some, None, Result, Ok, Err, refl, sym, ap, subst, ◌∙◌, arith}
-use Rattle.yaml_scan_core.proofs.Words.{cases_Bool, nat_tests, byte, mark_at, starts, splits_break, column_at, is_blank_or_end, indent, Kind, Lexeme, flow_depth, open_levels, kind_at, indicator_of, inner, stack_of, Wrong, WordText, lexeme_at}
+use Rattle.std.proofs.lemmas.Bool.{eqb-true, false≢true}
+use Rattle.yaml_scan_core.proofs.Words.{is_some, cases_Bool, nat_tests, byte, mark_at, starts, splits_break, column_at, is_blank_or_end, indent, Kind, Lexeme, flow_depth, open_levels, kind_at, indicator_of, inner, stack_of, Wrong, WordText, lexeme_at}
 use Rattle.yaml_scan_model.specs.scan_types.Marks.{break_of, break_width, is_blank}
 use Rattle.yaml_scan_model.proofs.MarksLemmas.{within}
 use Rattle.yaml_scan_model.specs.Wrong.{scan_fault}
@@ -112,6 +113,63 @@ letter_kind flow text p h =
     let none = letter_none flow (is_blank_or_end text (p + 1)) (byte text p) h in
     let starts = letter_starts flow text p h in
     rw (none, starts) (grind (arith, nat_tests, h))
+
+-- what shows a kind is no end, no directive and no mark of a document
+shows_none : (flow alone : Bool) → (indicator_of flow alone 0 ≡ None)
+    × (indicator_of flow alone 37 ≡ None) × (indicator_of flow alone 46 ≡ None)
+unfolding indicator_of
+shows_none flow alone = (refl, refl, refl)
+
+shows_alone : (flow : Bool) → indicator_of flow false 45 ≡ None
+unfolding indicator_of
+shows_alone flow = refl
+
+shown_not : (flow alone : Bool) (b c : ℕ) → is_some (indicator_of flow alone b) ≡ true
+    → indicator_of flow alone c ≡ None → eqb b c ≡ false
+shown_not flow alone b c some none = elim (cases_Bool (eqb b c)) [
+  | inr n ↦ n
+  | inl y ↦
+      let same : indicator_of flow alone b ≡ None = ap (λ x. indicator_of flow alone x) (eqb-true b c y) ∙ none in
+      absurd (false≢true (sym (ap (λ (o : Option Kind). is_some o) same) ∙ some))
+]
+
+alone_not : (b c d : ℕ) → ((is_blank b || eqb b 0) || ltb 0 (break_of b c d)) ≡ true
+    → eqb b 45 ≡ false
+unfolding break_of
+alone_not b c d h = grind (arith, nat_tests, h)
+
+hyphen_once : (flow : Bool) (text : List ℕ) (p : ℕ)
+    → is_some (indicator_of flow (is_blank_or_end text (p + 1)) (byte text p)) ≡ true
+    → (eqb (byte text p) 45 && eqb (byte text (p + 1)) 45) ≡ false
+hyphen_once flow text p some = elim (cases_Bool (is_blank_or_end text (p + 1))) [
+  | inl y ↦ rw (alone_not (byte text (p + 1)) (byte text (p + 1 + 1)) (byte text (p + 1 + 2)) y) (no_and (eqb (byte text p) 45))
+  | inr n ↦
+      let bare = subst (λ a. is_some (indicator_of flow a (byte text p)) ≡ true) n some in
+      rw (shown_not flow false (byte text p) 45 bare (shows_alone flow)) refl
+]
+  where
+    no_and : (b : Bool) → (b && false) ≡ false
+    no_and true = refl
+    no_and false = refl
+
+pub shown_kind : (flow : Bool) (text : List ℕ) (p : ℕ)
+    → is_some (indicator_of flow (is_blank_or_end text (p + 1)) (byte text p)) ≡ true
+    → indicator_of flow (is_blank_or_end text (p + 1)) (byte text p) ≡ kind_at flow text p
+unfolding kind_at is_document_start is_document_end
+shown_kind flow text p some =
+    let alone = is_blank_or_end text (p + 1) in
+    let (end, percent, dot) = shows_none flow alone in
+    let a = shown_not flow alone (byte text p) 0 some end in
+    let b = shown_not flow alone (byte text p) 37 some percent in
+    let c = shown_not flow alone (byte text p) 46 some dot in
+    let d = hyphen_once flow text p some in
+    let e = or_some (indicator_of flow alone (byte text p)) (starts_plain flow text p) some in
+    let same : kind_at flow text p ≡ or_plain (indicator_of flow alone (byte text p)) (starts_plain flow text p) = grind (arith, nat_tests, a, b, c, d) in
+    e ∙ sym same
+  where
+    or_some : (o : Option Kind) (s : Bool) → is_some o ≡ true → o ≡ or_plain o s
+    or_some (Some k) s h = refl
+    or_some None s h = cc
 
 -- where there is a plain scalar there is a character
 not_ended : (blank : Bool) (b w : ℕ) (rest : Bool)

@@ -6,7 +6,7 @@ use Rattle.std.proofs.lemmas.List.{length-take-le}
 use Rattle.yaml_scan_core.proofs.Words.{cases_Bool, cases_lt, nat_tests, get_or_at, get_or_past, Entry, Lexeme as Read, finished_tokens, first_open, first_open-le, length-entries, history, next, Next, Fails, Ends, Read as IsNext, Remaining, SpelledText}
 use Rattle.yaml_scan_history.specs.Next.{extended}
 use Rattle.yaml_scan_history.specs.Remaining.{body_in}
-use Rattle.yaml_scan_laws.proofs.HeldForward.{few_are_held, few_wait}
+use Rattle.yaml_scan_laws.proofs.HeldForward.{few_wait}
 use Rattle.yaml_scan_model.specs.declared.kind.Kind.{Kind}
 use Rattle.yaml_scan_model.specs.declared.kind.Kind.TheVariants as kinds
 use Rattle.yaml_scan_core.specs.declared.keys.Keys.{Keys}
@@ -14,7 +14,7 @@ use Rattle.yaml_scan_core.specs.declared.row.Row.{Row}
 use Rattle.yaml_scan_core.specs.declared.scanner.Scanner.{Scanner}
 use Rattle.yaml_scan_core.specs.declared.lexeme.Lexeme.{Lexeme}
 use Rattle.yaml_scan_core.specs.Rows.{RowView, failed, row_lexeme, lost_at, no_lexeme, row_of}
-use Rattle.yaml_scan_core.specs.Scanning.{Advances, Falls, IsGoing, Rests, history_of, read_by, stream_of}
+use Rattle.yaml_scan_core.specs.Scanning.{Advances, Falls, IsGoing, history_of, read_by, stream_of}
 use Rattle.yaml_scan_core.specs.Handed.{Drops, HandsOn, to_come}
 use Rattle.yaml_scan_core.specs.Shown.{Carries, ShowsRow, entry_at, no_entry, store_of}
 use Rattle.yaml_scan_core.specs.Settled.{settles_in}
@@ -28,16 +28,6 @@ use Rattle.yaml_scan_core.proofs.SkipLemmas.{going_taken, over_taken, stays}
 use Rattle.yaml_scan_core.proofs.TokensLemmas.{LeadKind, lead_ends, lead_key, lead_kinds, lead_mapping, lead_own, lead_sequence}
 
 -- ---- few lexemes wait
-
--- at most 1,025 of them aren't settled
-pub few_unsettled : (s : Scanner) → Rests s
-    → length s.row.lexemes.items ≤ s.row.settled + 1025
-few_unsettled s (inl g) =
-    let h = history_of s in
-    let few = few_are_held s.text.now (read_by s) in
-    omega (arith, few, g.first, g.shows.holds.row.count, length-entries h)
-few_unsettled s (inr (inl o)) = omega (arith, o.all)
-few_unsettled s (inr (inr (n, f))) = omega (arith, f.all)
 
 -- where n lexemes and one more are the first, one comes after n
 reads_by : (text : List ℕ) (n : ℕ) (h : List Read) (x : Next) → next text h ≡ x

@@ -22,7 +22,7 @@ use Rattle.yaml_scan_text.specs.NamesRead.{ReadsName}
 use Rattle.yaml_scan_text.specs.PlainRead.{IsPlainLine, ReadsPlain, one_line, is_bad_colon, bad_colon}
 use Rattle.yaml_scan_text.specs.QuotedRead.{ReadsQuoted}
 use Rattle.yaml_scan_text.specs.TagsRead.{ReadsTag}
-use Rattle.yaml_scan_text.specs.Refused.{IsMemory, wrong_of}
+use Rattle.yaml_scan_text.specs.Refused.{wrong_of}
 use Rattle.yaml_scan_text.specs.declared.block.BlockScalar.{BlockScalar}
 use Rattle.yaml_scan_text.specs.declared.directive.Directive.{Directive}
 use Rattle.yaml_scan_text.specs.declared.directive.Value.{Value}
@@ -201,12 +201,6 @@ names_given text arena spot k c q (Ok x) named place next is =
           (λ o t same. (x.0, inr (rw anchor at (stands o same)), refl)) is.end fits is.end refl behind)
     ]
 
-pub names_refused : (text arena : List ℕ) (spot : Spot) (k : Kind) (told : Told)
-    (r : Result (List ℕ × ℕ) Wrong)
-    → ReadsName text spot.at (Err told) r → GivesWord text arena spot (Err (refusals.Wrong told)) (valued (name_body k) r)
-names_refused text arena spot k told (Err w) is = is
-names_refused text arena spot k told (Ok x) is = absurd is
-
 -- ---- tags
 
 unreadable : (b : Bool) (t : List ℕ) → b ≡ is_utf8 t → (IsUtf8 t → ⊥) → false ≡ b
@@ -276,12 +270,6 @@ tag_given text old new spot k g (Ok x) kind place is =
           (λ o t z style holds. (x.handle, x.suffix, holds, refl, good)) is.end fits is.end refl behind g.end)
     ]
 
-memory_given : (text arena : List ℕ) (spot : Spot) (e : Refusal) (r : Result WordText Wrong)
-    → IsMemory e → GivesWord text arena spot (Err e) r
-memory_given text arena spot e (Ok x) h = h
-memory_given text arena spot refusals.Memory (Err w) h = tt
-memory_given text arena spot (refusals.Wrong told) (Err w) h = absurd h
-
 pub tag_refused : (text old new : List ℕ) (spot : Spot) (e : Refusal) (r : Result TagText Wrong)
     → ReadsTag text spot.at old new (Err e) r → GivesWord text new spot (Err e) (tagged r)
 tag_refused text old new spot e (Ok x) is = is
@@ -344,12 +332,6 @@ quoted_given style text old new spot s wide (Ok x) quote is place =
     rw (← is.end) (scalar_word s.joined style text old new spot s.end s.end s.line wide false x.0 s.end is.joined
     (λ j. rw one (omega (arith, is.some), (is.stands j).1)) refl is.inside place)
 
-pub quoted_refused : (style : yaml_scalar_style_t) (text old new : List ℕ) (spot : Spot)
-    (e : Refusal)
-    (r : Result (List ℕ × ℕ) Wrong) → ReadsQuoted text spot.at old new (Err e) r → GivesWord text new spot (Err e) (valued (scalar_body style) r)
-quoted_refused style text old new spot e (Ok x) is = is
-quoted_refused style text old new spot e (Err w) is = is
-
 pub block_given : (style : yaml_scalar_style_t) (text old new : List ℕ) (spot : Spot)
     (b : BlockScalar) (wide : ℕ)
     (r : Result BlockText Wrong) → LandsWord text spot.at (blocked style r) → ReadsBlock text old new (Ok b) r
@@ -366,12 +348,6 @@ block_given style text old new spot b wide (Err w) lands is place = absurd is
 block_given style text old new spot b wide (Ok x) lands is place =
     rw (← is.place) (scalar_word true style text old new spot b.end b.place b.line wide false x.value x.end (λ j. is.value)
     (λ j. cc) is.end (omega (arith, lands.place, lands.inside)) place)
-
-pub block_refused : (style : yaml_scalar_style_t) (text old new : List ℕ) (spot : Spot)
-    (e : Refusal)
-    (r : Result BlockText Wrong) → ReadsBlock text old new (Err e) r → GivesWord text new spot (Err e) (blocked style r)
-block_refused style text old new spot e (Ok x) is = is
-block_refused style text old new spot e (Err w) is = is
 
 pub block_on : (style : yaml_scalar_style_t) (text old new : List ℕ) (p : ℕ) (b : BlockScalar)
     (r : Result BlockText Wrong)
@@ -396,11 +372,6 @@ plain_given text old new spot s wide (Ok x) lands is place =
     let zero_more : spot.at + 0 ≡ spot.at = omega arith in
     rw (← is.place, ← is.broke) (scalar_word s.joined styles.YAML_PLAIN_SCALAR_STYLE text old new spot s.end s.place s.line wide s.broke x.value x.end is.joined
     (λ j. rw (none, zero_more) (omega (arith, lands.end, is.end), (is.stands j).1)) is.end (omega (arith, lands.place, lands.inside)) place)
-
-pub plain_refused : (text old new : List ℕ) (spot : Spot) (e : Refusal) (r : Result PlainText Wrong)
-    → ReadsPlain text spot.at old new (Err e) r → GivesWord text new spot (Err e) (plainly r)
-plain_refused text old new spot e (Ok x) is = is
-plain_refused text old new spot e (Err w) is = is
 
 -- the place after a plain scalar
 pub record PlainSeat (text : List ℕ) (p : ℕ) (s : PlainScalar) : Type 0 where

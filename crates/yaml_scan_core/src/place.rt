@@ -48,20 +48,8 @@ impl Locator {
         self.mark
     }
 
-    /// Goes to a place in the text, unless it is there.
-    fn reach(&mut self, text: &[u8], place: usize)
-        requires locates { Locates text.now self.old }
-        requires inside { place ≤ length text.now }
-        ensures mark { self.new.mark ≡ mark_at text.now place }
-        ensures locates { Locates text.now self.new }
-    {
-        if self.mark.index != place as u64 {
-            self.go_to(text, place);
-        }
-    }
-
     /// Goes to a place in the text.
-    fn go_to(&mut self, text: &[u8], place: usize)
+    fn reach(&mut self, text: &[u8], place: usize)
         requires locates { Locates text.now self.old }
         requires inside { place ≤ length text.now }
         ensures mark { self.new.mark ≡ mark_at text.now place }

@@ -285,7 +285,7 @@ impl<'a> Scanner<'a> {
     }
 
     /// The kind of what is here.
-    #[tactic(auto, using(crate::proofs::SpotLemmas::letter_kind), unfolding(yaml_scan_history::specs::Words::kind_at, yaml_scan_history::specs::Indicators::is_document_start, yaml_scan_history::specs::Indicators::is_document_end))]
+    #[tactic(auto, using(crate::proofs::SpotLemmas::letter_kind, crate::proofs::SpotLemmas::shown_kind), unfolding(yaml_scan_history::specs::Words::kind_at, yaml_scan_history::specs::Indicators::is_document_start, yaml_scan_history::specs::Indicators::is_document_end))]
     fn kind_here(&self) -> Option<LexemeKind>
         requires some { 0 < length self.now.keys.levels.items }
         requires long { length self.now.text.now < 2 ^ 63 }
@@ -294,7 +294,12 @@ impl<'a> Scanner<'a> {
             self.now.at }
     {
         let byte = byte(self.text, self.at);
-        // Most lexemes begin so, and no indicator is one.
+        // First: so one table leads to most kinds.
+        let kind = indicator(byte, self.in_flow(), self.text, self.at + 1);
+        if kind.is_some() {
+            return kind;
+        }
+        // Most other lexemes begin so.
         if is_letter(byte) {
             return Some(LexemeKind::Plain);
         }
@@ -309,10 +314,6 @@ impl<'a> Scanner<'a> {
         }
         if byte == b'.' && self.is_mark(b'.') {
             return Some(LexemeKind::DocumentEnd);
-        }
-        let kind = indicator(byte, self.in_flow(), self.text, self.at + 1);
-        if kind.is_some() {
-            return kind;
         }
         if self.starts_plain() {
             return Some(LexemeKind::Plain);
@@ -377,6 +378,10 @@ impl<'a> Scanner<'a> {
         ensures { PassesOne self.old self.new result }
     {
         let first = byte(self.text, self.at);
+        // Most lexemes begin so.
+        if is_inside(first) {
+            return false;
+        }
         if first == b' ' {
             return self.pass_spaces();
         }
@@ -553,4 +558,11 @@ fn may_break(byte: u8) -> bool
     ensures none { result ≡ false → IsCalm byte }
 {
     byte == b'\n' || byte == b'\r' || byte == 0xC2 || byte == 0xE2
+}
+
+/// Whether nothing between lexemes begins with the byte.
+fn is_inside(byte: u8) -> bool
+    ensures { result ≡ true → (ascii.hash < byte) × (byte < 0xC2) }
+{
+    byte > b'#' && byte < 0xC2
 }

@@ -12,29 +12,6 @@ use Rattle.yaml_scan_text.proofs.WhiteLemmas.{with_white, words_with, white_word
 nothing_is : (ps : List Piece) → is_nothing ps ≡ true → ps ≡ []
 nothing_is ps e = grind arith
 
-so_far_kept : (done bytes : List ℕ) (p q : ℕ) (w : Words)
-    → so_far done p (with_piece (Kept bytes) q w) ≡ so_far (done ++ bytes) q w
-unfolding so_far
-so_far_kept done bytes p q w = elim (cases_Bool (is_nothing w.pieces)) [
-  | inl n ↦
-      let same : w.pieces ≡ [] = nothing_is w.pieces n in
-      rw (n, same, value-kept [] bytes []) (rw append-nil refl)
-  | inr s ↦ rw (s, value-kept [] bytes w.pieces) (rw append_assoc refl)
-]
-
--- a character that is taken is done
-kept_from : (done bytes : List ℕ) (p q : ℕ) (r : Result Words Wrong)
-    → plain_with (so_far done p) (words_from (Kept bytes) q r) ≡ plain_with (so_far (done ++ bytes) q) r
-kept_from done bytes p q (Ok w) = ap (λ (t : PlainText). Ok t) (so_far_kept done bytes p q w)
-kept_from done bytes p q (Err e) = refl
-
-pub coming_kept : (flow : Bool) (level : ℕ) (text done bytes : List ℕ) (p q : ℕ)
-    → spot_at flow level text p ≡ Takes (Kept bytes) q
-    → coming flow level text done p ≡ coming flow level text (done ++ bytes) q
-coming_kept flow level text done bytes p q h =
-    let here = rw h at (words_here flow level text p) in
-    ap (λ r. plain_with (so_far done p) r) here ∙ kept_from done bytes p q (words_on flow level text q)
-
 -- from the first character on
 first_far : (bytes : List ℕ) (q : ℕ) (w : Words)
     → plain_text (with_piece (Kept bytes) q w) ≡ so_far bytes q w

@@ -12,11 +12,11 @@ ghost use Rattle.yaml_scan_history.specs.Lines as lines;
 ghost use Rattle.yaml_scan_history.specs.Value.{at_end, between, space_or};
 ghost use Rattle.yaml_scan_text.specs.Folds.{feeds};
 ghost use Rattle.yaml_scan_text.specs.Lines.{AtLine, line_start};
-ghost use Rattle.yaml_scan_text.specs.Refused.{Keeps, wrong_of};
+ghost use Rattle.yaml_scan_text.specs.Refused.{Keeps};
 ghost use Rattle.yaml_scan_text.specs.BlockRead as spec;
 
 use crate::fold::push_breaks;
-use crate::refusal::{Refusal, Wrong};
+use crate::refusal::{Refusal, Wrong, wrong_at};
 use crate::text::{
     break_width, byte, feed, is_bad_tab, is_blank, is_digit, is_text, line_end, skip_blanks,
     skip_spaces,
@@ -35,18 +35,6 @@ pub(crate) struct Header {
     pub line: usize,
 }
 
-/// What is wrong in a block scalar, at that place.
-fn wrong_block(problem: Problem, place: usize) -> Wrong
-    ensures { wrong_of result
-        ≡ record { problem = problem; context = Context.BlockScalar; place = place } }
-{
-    Wrong {
-        problem,
-        context: Context::BlockScalar,
-        place,
-    }
-}
-
 /// The header whose indicator is before that place, in a line that starts there.
 fn read_header(text: &[u8], at: usize, line: usize) -> Result<Header, Wrong>
     requires inside { at ≤ length text.now }
@@ -56,11 +44,11 @@ fn read_header(text: &[u8], at: usize, line: usize) -> Result<Header, Wrong>
 {
     let digit = behind_if(at, is_chomping(byte(text, at)));
     if byte(text, digit) == b'0' {
-        return Err(wrong_block(Problem::ZeroIndentation, digit));
+        return Err(wrong_at(Problem::ZeroIndentation, Context::BlockScalar, digit));
     }
     let end = header_end(text, at);
     if is_text(text, end) {
-        return Err(wrong_block(Problem::NoCommentOrBreak, end));
+        return Err(wrong_at(Problem::NoCommentOrBreak, Context::BlockScalar, end));
     }
     let chomp = behind_if(at, is_digit(byte(text, at)));
     Ok(Header {
@@ -176,7 +164,7 @@ fn deepest(text: &[u8], from: usize, least: usize) -> Result<usize, Wrong>
     'lines: loop {
         let end = skip_spaces(text, at);
         if byte(text, end) == b'\t' {
-            return Err(wrong_block(Problem::TabForSpace, end));
+            return Err(wrong_at(Problem::TabForSpace, Context::BlockScalar, end));
         }
         column = column.max(end - at);
         let width = break_width(text, end);
@@ -213,7 +201,7 @@ fn seen_at(text: &[u8], line: usize, at: usize, column: usize) -> Result<Seen, W
     ensures { spec.IsSeen text.now at result (lines.spot_behind column text.now at) }
 {
     if is_bad_tab(text, at, line, column) {
-        return Err(wrong_block(Problem::TabForSpace, at));
+        return Err(wrong_at(Problem::TabForSpace, Context::BlockScalar, at));
     }
     if break_width(text, at) > 0 {
         return Ok(Seen::Empty);

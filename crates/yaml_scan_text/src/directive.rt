@@ -8,11 +8,11 @@ ghost use Rattle.yaml_scan_history.specs.Directives as directives;
 ghost use Rattle.yaml_scan_history.specs.Directives.{name_of};
 ghost use Rattle.yaml_scan_text.specs.DirectivesRead as spec;
 ghost use Rattle.yaml_scan_text.specs.Lines.{line_start};
-ghost use Rattle.yaml_scan_text.specs.Refused.{Keeps, wrong_of};
+ghost use Rattle.yaml_scan_text.specs.Refused.{Keeps};
 
 use crate::block::line_behind;
 use crate::class::alphas;
-use crate::refusal::{Refusal, Wrong};
+use crate::refusal::{Refusal, Wrong, wrong_at};
 use crate::text::{
     break_width, byte, is_blank, is_blank_or_end, is_digit, is_text, line_end, skip_blanks,
 };
@@ -64,17 +64,6 @@ pub fn read_directive(
     })
 }
 
-/// What is wrong in a directive, in that part of it.
-fn wrong(problem: Problem, context: Context, place: usize) -> Wrong
-    ensures { wrong_of result ≡ record { problem = problem; context = context; place = place } }
-{
-    Wrong {
-        problem,
-        context,
-        place,
-    }
-}
-
 /// The place after a line, and where the line starts that it is in.
 #[derive(Clone, Copy)]
 pub(crate) struct LineEnd {
@@ -91,7 +80,7 @@ fn finish_line(text: &[u8], from: usize, line: usize) -> Result<LineEnd, Wrong>
 {
     let end = comment_end(text, skip_blanks(text, from));
     if is_text(text, end) {
-        return Err(wrong(Problem::NoCommentOrBreak, Context::Directive, end));
+        return Err(wrong_at(Problem::NoCommentOrBreak, Context::Directive, end));
     }
     Ok(LineEnd {
         place: end + break_width(text, end),
@@ -124,7 +113,7 @@ fn read_name(text: &[u8], start: usize) -> Result<Name, Wrong>
     let end = alphas(text, start + 1);
     match name_told(text, start + 1, end) {
         Ok(told) => Ok(Name { told, end }),
-        Err(problem) => Err(wrong(problem, Context::Directive, end)),
+        Err(problem) => Err(wrong_at(problem, Context::Directive, end)),
     }
 }
 
@@ -192,7 +181,7 @@ fn version(text: &[u8], from: usize) -> Result<Value, Wrong>
     let first = skip_blanks(text, from);
     let first_end = number(text, first)?;
     if byte(text, first_end) != b'.' {
-        return Err(wrong(Problem::NoDigitOrDot, Context::VersionDirective, first_end));
+        return Err(wrong_at(Problem::NoDigitOrDot, Context::VersionDirective, first_end));
     }
     let second = first_end + 1;
     let second_end = number(text, second)?;
@@ -214,12 +203,12 @@ fn number(text: &[u8], from: usize) -> Result<usize, Wrong>
     let mut at = from;
     'digits: while is_digit(byte(text, at)) {
         if at - from == DIGITS {
-            return Err(wrong(Problem::LongVersionNumber, Context::VersionDirective, at));
+            return Err(wrong_at(Problem::LongVersionNumber, Context::VersionDirective, at));
         }
         at += 1;
     }
     if at == from {
-        return Err(wrong(Problem::NoVersionNumber, Context::VersionDirective, at));
+        return Err(wrong_at(Problem::NoVersionNumber, Context::VersionDirective, at));
     }
     Ok(at)
 }
@@ -234,12 +223,16 @@ fn tag_value(arena: &mut Vec<u8>, text: &[u8], from: usize) -> Result<Value, Ref
     let first = skip_blanks(text, from);
     let first_end = handle(text, first)?;
     if !is_blank(byte(text, first_end)) {
-        return Err(Refusal::Wrong(wrong(Problem::NoWhitespace, Context::TagDirective, first_end)));
+        return Err(Refusal::Wrong(wrong_at(
+            Problem::NoWhitespace,
+            Context::TagDirective,
+            first_end,
+        )));
     }
     let second = skip_blanks(text, first_end);
     let prefix = some_uri(arena, text, second, Context::TagDirectiveUri, true)?;
     if !is_blank_or_end(text, prefix.end) {
-        return Err(Refusal::Wrong(wrong(
+        return Err(Refusal::Wrong(wrong_at(
             Problem::NoWhitespaceOrBreak,
             Context::TagDirective,
             prefix.end,
@@ -261,14 +254,14 @@ fn handle(text: &[u8], from: usize) -> Result<usize, Wrong>
 {
     let problem = Problem::NoExclamationMark;
     if byte(text, from) != b'!' {
-        return Err(wrong(problem, Context::TagDirectiveStart, from));
+        return Err(wrong_at(problem, Context::TagDirectiveStart, from));
     }
     let end = alphas(text, from + 1);
     if byte(text, end) == b'!' {
         return Ok(end + 1);
     }
     if end != from + 1 {
-        return Err(wrong(problem, Context::TagDirectiveHandle, end));
+        return Err(wrong_at(problem, Context::TagDirectiveHandle, end));
     }
     Ok(end)
 }

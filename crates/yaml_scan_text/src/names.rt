@@ -5,7 +5,7 @@ ghost use Rattle.yaml_scan_history.specs.Anchors as anchors;
 ghost use Rattle.yaml_scan_text.specs.NamesRead as spec;
 
 use crate::class::alphas;
-use crate::refusal::Wrong;
+use crate::refusal::{Wrong, wrong_at};
 use crate::text::{byte, is_blank_or_end};
 use yaml_scan_model::{Context, Problem};
 
@@ -16,11 +16,7 @@ pub fn name(text: &[u8], start: usize, context: Context) -> Result<usize, Wrong>
 {
     let end = alphas(text, start + 1);
     if !is_name(text, start + 1, end) {
-        return Err(Wrong {
-            problem: Problem::NoAlphanumeric,
-            context,
-            place: end,
-        });
+        return Err(wrong_at(Problem::NoAlphanumeric, context, end));
     }
     Ok(end)
 }

@@ -5,13 +5,13 @@ ghost use Rattle.yaml_scan_types.specs.Ascii as ascii;
 ghost use Rattle.yaml_scan_types.specs.Marks.{byte, break_width, is_blank, is_blank_or_end};
 ghost use Rattle.yaml_scan_history.specs.Plain as plain;
 ghost use Rattle.yaml_scan_text.specs.Lines.{InHead, IsSpelled};
-ghost use Rattle.yaml_scan_text.specs.Refused.{Keeps, wrong_of};
+ghost use Rattle.yaml_scan_text.specs.Refused.{Keeps};
 ghost use Rattle.yaml_scan_text.specs.PlainRead as spec;
 ghost use Rattle.yaml_scan_runs.specs.Runs.{IsNarrow, RunsTo};
 
 use crate::class::is_bracket;
 use crate::fold::{Head, is_marked, take_line};
-use crate::refusal::{Refusal, Wrong};
+use crate::refusal::{Refusal, Wrong, wrong_at};
 use crate::text::{
     break_width, byte, is_bad_tab, is_blank, is_blank_or_end, skip_blanks, skip_spaces, trim_blanks,
 };
@@ -146,21 +146,9 @@ fn pass_indent(text: &[u8], line: usize, margin: usize) -> Result<usize, Wrong>
 {
     let at = skip_spaces(text, line);
     if is_bad_tab(text, at, line, margin) {
-        return Err(wrong_plain(Problem::TabInIndentation, at));
+        return Err(wrong_at(Problem::TabInIndentation, Context::PlainScalar, at));
     }
     Ok(skip_blanks(text, at))
-}
-
-/// What is wrong in a plain scalar, at that place.
-fn wrong_plain(problem: Problem, place: usize) -> Wrong
-    ensures { wrong_of result
-        ≡ record { problem = problem; context = Context.PlainScalar; place = place } }
-{
-    Wrong {
-        problem,
-        context: Context::PlainScalar,
-        place,
-    }
 }
 
 /// Whether a plain scalar ends before what is after such white.
@@ -272,7 +260,11 @@ fn join_lines(
     let mut head = behind;
     'lines: loop {
         if is_bad_colon(text, head.at, flow) {
-            return Err(Refusal::Wrong(wrong_plain(Problem::UnexpectedColon, head.at)));
+            return Err(Refusal::Wrong(wrong_at(
+                Problem::UnexpectedColon,
+                Context::PlainScalar,
+                head.at,
+            )));
         }
         take_line(arena, text, from, part.end, head.at)?;
         from = head.at;
@@ -305,7 +297,11 @@ fn last_line(
     ensures kept { Keeps arena.old.items arena.new.items }
 {
     if is_bad_colon(text, part.next, flow) {
-        return Err(Refusal::Wrong(wrong_plain(Problem::UnexpectedColon, part.next)));
+        return Err(Refusal::Wrong(wrong_at(
+            Problem::UnexpectedColon,
+            Context::PlainScalar,
+            part.next,
+        )));
     }
     arena.extend_from_slice(&text[from..part.end])?;
     Ok(PlainScalar {

@@ -10,10 +10,10 @@ ghost use Rattle.yaml_scan_runs.specs.Runs as runs;
 ghost use Rattle.yaml_scan_text.specs.Lines.{IsSpelled, line_start};
 ghost use Rattle.yaml_scan_text.specs.PlainRead.{IsHead};
 ghost use Rattle.yaml_scan_text.specs.QuotedRead as spec;
-ghost use Rattle.yaml_scan_text.specs.Refused.{Keeps, wrong_of};
+ghost use Rattle.yaml_scan_text.specs.Refused.{Keeps};
 
 use crate::fold::{Head, is_marked, push_breaks, take_line};
-use crate::refusal::{Refusal, Wrong};
+use crate::refusal::{Refusal, Wrong, wrong_at};
 use crate::text::{break_width, byte, skip_blanks, trim_blanks};
 use yaml_scan_model::{Context, Problem};
 use yaml_scan_runs::{DOUBLE, Run, SINGLE, run_to};
@@ -171,18 +171,6 @@ fn closed(
     })
 }
 
-/// What is wrong in a quoted scalar, at that place.
-fn wrong_quoted(problem: Problem, place: usize) -> Wrong
-    ensures { wrong_of result
-        ≡ record { problem = problem; context = Context.QuotedScalar; place = place } }
-{
-    Wrong {
-        problem,
-        context: Context::QuotedScalar,
-        place,
-    }
-}
-
 /// Takes what is after a run between those quotes, which isn't the closing one.
 fn piece(arena: &mut Vec<u8>, text: &[u8], quote: u8, read: Quoted) -> Result<Quoted, Refusal>
     requires text { IsSpelled text.now }
@@ -195,7 +183,7 @@ fn piece(arena: &mut Vec<u8>, text: &[u8], quote: u8, read: Quoted) -> Result<Qu
 {
     let first = byte(text, read.at);
     if first == 0 {
-        return Err(Refusal::Wrong(wrong_quoted(Problem::EndOfStream, read.at)));
+        return Err(Refusal::Wrong(wrong_at(Problem::EndOfStream, Context::QuotedScalar, read.at)));
     }
     if first == quote {
         return doubled(arena, text, quote, read);
@@ -261,7 +249,7 @@ fn pass_lines(text: &[u8], from: usize) -> Result<Head, Wrong>
 {
     let head = skip_lines(text, from);
     if is_marked(text, head) {
-        return Err(wrong_quoted(Problem::DocumentIndicator, head.at));
+        return Err(wrong_at(Problem::DocumentIndicator, Context::QuotedScalar, head.at));
     }
     Ok(head)
 }
@@ -355,22 +343,14 @@ fn put_escaped(arena: &mut Vec<u8>, text: &[u8], at: usize) -> Result<usize, Ref
         return put_coded(arena, text, at + 2, digits);
     }
     let Some(bytes) = simple_escape(letter) else {
-        return Err(Refusal::Wrong(wrong_escape(Problem::UnknownEscape, at)));
+        return Err(Refusal::Wrong(wrong_at(
+            Problem::UnknownEscape,
+            Context::QuotedScalarEscape,
+            at,
+        )));
     };
     arena.extend_from_slice(bytes)?;
     Ok(at + 2)
-}
-
-/// What is wrong in an escape, at that place.
-fn wrong_escape(problem: Problem, place: usize) -> Wrong
-    ensures { wrong_of result
-        ≡ record { problem = problem; context = Context.QuotedScalarEscape; place = place } }
-{
-    Wrong {
-        problem,
-        context: Context::QuotedScalarEscape,
-        place,
-    }
 }
 
 /// Appends the character whose number that many hexadecimal digits spell there, and answers the place after.
@@ -382,10 +362,18 @@ fn put_coded(arena: &mut Vec<u8>, text: &[u8], from: usize, digits: usize) -> Re
     ensures kept { Keeps arena.old.items arena.new.items }
 {
     let Some(value) = hex_value(text, from, digits) else {
-        return Err(Refusal::Wrong(wrong_escape(Problem::NoHexNumber, from)));
+        return Err(Refusal::Wrong(wrong_at(
+            Problem::NoHexNumber,
+            Context::QuotedScalarEscape,
+            from,
+        )));
     };
     let Some(c) = char::from_u32(value) else {
-        return Err(Refusal::Wrong(wrong_escape(Problem::InvalidCode, from)));
+        return Err(Refusal::Wrong(wrong_at(
+            Problem::InvalidCode,
+            Context::QuotedScalarEscape,
+            from,
+        )));
     };
     let mut bytes = [0; 4];
     arena.extend_from_slice(c.encode_utf8(&mut bytes).as_bytes())?;

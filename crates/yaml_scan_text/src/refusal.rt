@@ -1,6 +1,7 @@
 //! Why no lexeme was read.
 
 ghost use Rattle.std.specs.Prelude.{◌≡◌};
+ghost use Rattle.yaml_scan_text.specs.Refused.{wrong_of};
 ghost use Rattle.yaml_scan_text.specs.declared.refusal.Refusal.TheVariants as refusals;
 
 use std::alloc::{AllocError, AllocFailed};
@@ -12,6 +13,17 @@ pub struct Wrong {
     pub problem: Problem,
     pub context: Context,
     pub place: usize,
+}
+
+/// What is wrong as that is read, at that place.
+pub(crate) fn wrong_at(problem: Problem, context: Context, place: usize) -> Wrong
+    ensures { wrong_of result ≡ record { problem = problem; context = context; place = place } }
+{
+    Wrong {
+        problem,
+        context,
+        place,
+    }
 }
 
 /// What is wrong; or memory ran out.

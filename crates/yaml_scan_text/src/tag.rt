@@ -6,10 +6,10 @@ ghost use Rattle.yaml_scan_types.specs.Marks.{byte};
 ghost use Rattle.yaml_scan_history.specs.Tags as tags;
 ghost use Rattle.yaml_scan_text.specs.Classes.{AreAlphas};
 ghost use Rattle.yaml_scan_text.specs.TagsRead as spec;
-ghost use Rattle.yaml_scan_text.specs.Refused.{Keeps, wrong_of};
+ghost use Rattle.yaml_scan_text.specs.Refused.{Keeps};
 
 use crate::class::alphas;
-use crate::refusal::{Refusal, Wrong};
+use crate::refusal::{Refusal, wrong_at};
 use crate::text::{byte, is_blank_or_end};
 use crate::uri::{some_uri, uri_at};
 use yaml_scan_model::{Context, Problem};
@@ -35,7 +35,7 @@ pub fn read_tag(arena: &mut Vec<u8>, text: &[u8], start: usize, flow: bool) -> R
 {
     let tag = parts(arena, text, start)?;
     if !may_end_tag(text, tag.end, flow) {
-        return Err(Refusal::Wrong(wrong_tag(Problem::NoWhitespaceOrBreak, tag.end)));
+        return Err(Refusal::Wrong(wrong_at(Problem::NoWhitespaceOrBreak, Context::Tag, tag.end)));
     }
     Ok(tag)
 }
@@ -45,18 +45,6 @@ fn may_end_tag(text: &[u8], at: usize, flow: bool) -> bool
     ensures { result ≡ tags.may_end_tag flow text.now at }
 {
     is_blank_or_end(text, at) || flow && byte(text, at) == b','
-}
-
-/// What is wrong in a tag, at that place.
-fn wrong_tag(problem: Problem, place: usize) -> Wrong
-    ensures { wrong_of result
-        ≡ record { problem = problem; context = Context.Tag; place = place } }
-{
-    Wrong {
-        problem,
-        context: Context::Tag,
-        place,
-    }
 }
 
 /// The tag whose `!` is there, whatever follows it.
@@ -86,7 +74,7 @@ fn verbatim(arena: &mut Vec<u8>, text: &[u8], start: usize) -> Result<Tag, Refus
 {
     let suffix = some_uri(arena, text, start + 2, Context::TagUri, true)?;
     if byte(text, suffix.end) != b'>' {
-        return Err(Refusal::Wrong(wrong_tag(Problem::NoClosingBracket, suffix.end)));
+        return Err(Refusal::Wrong(wrong_at(Problem::NoClosingBracket, Context::Tag, suffix.end)));
     }
     Ok(Tag {
         handle: start,

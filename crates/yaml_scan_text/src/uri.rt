@@ -9,7 +9,7 @@ ghost use Rattle.yaml_scan_text.specs.Refused.{Keeps};
 
 use crate::class::uri_run;
 use crate::quoted::hex_digit;
-use crate::refusal::{Refusal, Wrong};
+use crate::refusal::{Refusal, wrong_at};
 use crate::text::byte;
 use std::alloc::AllocError;
 use yaml_scan_model::{Context, Problem};
@@ -56,11 +56,7 @@ pub fn some_uri(
 {
     let uri = uri_at(arena, text, from, context, wide)?;
     if uri.end == from {
-        return Err(Refusal::Wrong(Wrong {
-            problem: Problem::NoTagUri,
-            context,
-            place: from,
-        }));
+        return Err(Refusal::Wrong(wrong_at(Problem::NoTagUri, context, from)));
     }
     Ok(uri)
 }
@@ -89,11 +85,7 @@ fn spell_uri(
         at = put_kept(arena, text, at + 3, due, wide)?;
     }
     if due > 0 {
-        return Err(Refusal::Wrong(Wrong {
-            problem: Problem::NoEscapedOctet,
-            context,
-            place: at,
-        }));
+        return Err(Refusal::Wrong(wrong_at(Problem::NoEscapedOctet, context, at)));
     }
     Ok(Uri {
         end: at,
@@ -136,11 +128,7 @@ fn put_octet(
     ensures kept { Keeps arena.old.items arena.new.items }
 {
     match octet_behind(text, at, due) {
-        Err(problem) => Err(Refusal::Wrong(Wrong {
-            problem,
-            context,
-            place: at,
-        })),
+        Err(problem) => Err(Refusal::Wrong(wrong_at(problem, context, at))),
         Ok(octet) => {
             arena.push(octet.byte)?;
             Ok(octet.due)

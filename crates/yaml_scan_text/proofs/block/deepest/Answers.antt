@@ -8,7 +8,7 @@ lines-init c = depth_first c.args.text.now c.args.from c.args.least c.requires
 
 pub returns-then-byte-eq9 : goal.returns-then-byte-eq9
 returns-then-byte-eq9 c =
-    depth_bad c.args.text.now c.args.from c.args.least c.lines.at c.lines.column c.skip_spaces-end.result c.wrong_block.result c.lines.invariant c.skip_spaces-end.ensures (sym c.byte.ensures ∙ c.if-byte-eq9.true) c.wrong_block.ensures
+    depth_bad c.args.text.now c.args.from c.args.least c.lines.at c.lines.column c.skip_spaces-end.result c.wrong_at.result c.lines.invariant c.skip_spaces-end.ensures (sym c.byte.ensures ∙ c.if-byte-eq9.true) c.wrong_at.ensures
 
 pub overflow_sub-end : goal.overflow_sub-end
 overflow_sub-end c = rw c.skip_spaces-end.ensures (past_spaces-le c.args.text.now c.lines.at)

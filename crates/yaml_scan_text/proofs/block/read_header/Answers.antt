@@ -8,13 +8,13 @@ use Rattle.yaml_scan_text.proofs.block.read_header.Goals as goal
 pub returns-then-byte-eq48 : goal.returns-then-byte-eq48
 returns-then-byte-eq48 c =
     let digit = rw (c.is_chomping.ensures, c.byte.ensures) at c.behind_if-digit.ensures in
-    header_zero c.args.text.now c.args.at c.behind_if-digit.result c.wrong_block.result digit (sym c.byte-2.ensures ∙ c.if-byte-eq48.true) c.wrong_block.ensures
+    header_zero c.args.text.now c.args.at c.behind_if-digit.result c.wrong_at.result digit (sym c.byte-2.ensures ∙ c.if-byte-eq48.true) c.wrong_at.ensures
 
 pub returns-then-is_text : goal.returns-then-is_text
 returns-then-is_text c =
     let digit = rw (c.is_chomping.ensures, c.byte.ensures) at c.behind_if-digit.ensures in
     let some = rw c.byte-2.ensures at c.if-byte-eq48.false in
-    header_wrong c.args.text.now c.args.at c.behind_if-digit.result c.header_end-end.result c.wrong_block-then-is_text.result digit some c.header_end-end.ensures (sym c.is_text.ensures ∙ c.if-is_text.true) c.wrong_block-then-is_text.ensures
+    header_wrong c.args.text.now c.args.at c.behind_if-digit.result c.header_end-end.result c.wrong_at-then-is_text.result digit some c.header_end-end.ensures (sym c.is_text.ensures ∙ c.if-is_text.true) c.wrong_at-then-is_text.ensures
 
 pub overflow_add-result : goal.overflow_add-result
 overflow_add-result c =

@@ -4,7 +4,7 @@ use Rattle.yaml_scan_text.proofs.BlockLemmas.{seen_tab, seen_empty, seen_other, 
 use Rattle.yaml_scan_text.proofs.block.seen_at.Goals as goal
 
 pub returns-then-is_bad_tab : goal.returns-then-is_bad_tab
-returns-then-is_bad_tab c = seen_tab c.args.text.now c.args.at c.args.line c.args.column c.wrong_block.result c.requires.column (sym c.is_bad_tab.ensures ∙ c.if-is_bad_tab.true) c.wrong_block.ensures
+returns-then-is_bad_tab c = seen_tab c.args.text.now c.args.at c.args.line c.args.column c.wrong_at.result c.requires.column (sym c.is_bad_tab.ensures ∙ c.if-is_bad_tab.true) c.wrong_at.ensures
 
 pub returns-then-break_width-gt0 : goal.returns-then-break_width-gt0
 returns-then-break_width-gt0 c = seen_empty c.args.text.now c.args.at c.args.line c.args.column c.requires.column (sym c.is_bad_tab.ensures ∙ c.if-is_bad_tab.false) (omega arith)

@@ -4,7 +4,7 @@ use Rattle.yaml_scan_text.proofs.DirectiveLemmas.{line_read, line_same_there, li
 use Rattle.yaml_scan_text.proofs.directive.finish_line.Goals as goal
 
 pub returns-then-is_text : goal.returns-then-is_text
-returns-then-is_text c = line_wrong c.args.text.now c.args.from c.comment_end-end.result c.wrong.result (rw c.skip_blanks.ensures at c.comment_end-end.ensures) (sym c.is_text.ensures ∙ c.if-is_text.true) c.wrong.ensures
+returns-then-is_text c = line_wrong c.args.text.now c.args.from c.comment_end-end.result c.wrong_at.result (rw c.skip_blanks.ensures at c.comment_end-end.ensures) (sym c.is_text.ensures ∙ c.if-is_text.true) c.wrong_at.ensures
 
 pub overflow_add-result : goal.overflow_add-result
 overflow_add-result c =

@@ -10,7 +10,7 @@ digits-init c = digits_first c.args.text.now c.args.from c.requires
 pub returns-then-at-from-eq-DIGITS : goal.returns-then-at-from-eq-DIGITS
 returns-then-at-from-eq-DIGITS c =
     let h : is_digit_byte (byte c.args.text.now c.digits.at) ≡ true = rw c.byte.ensures at (sym c.is_digit.ensures ∙ c.digits-test.true) in
-    number_far c.args.text.now c.args.from c.digits.at c.wrong.result c.digits.invariant h c.if-at-from-eq-DIGITS.true c.wrong.ensures
+    number_far c.args.text.now c.args.from c.digits.at c.wrong_at.result c.digits.invariant h c.if-at-from-eq-DIGITS.true c.wrong_at.ensures
 
 pub digits-preserved : goal.digits-preserved
 digits-preserved c =
@@ -27,7 +27,7 @@ digits-smaller c =
 pub returns-then-at-from : goal.returns-then-at-from
 returns-then-at-from c =
     let h : is_digit_byte (byte c.args.text.now c.digits.at) ≡ false = rw c.byte.ensures at (sym c.is_digit.ensures ∙ c.digits-test.false) in
-    number_empty c.args.text.now c.args.from c.digits.at c.wrong-then-at-from.result h c.if-at-from.true c.wrong-then-at-from.ensures
+    number_empty c.args.text.now c.args.from c.digits.at c.wrong_at-then-at-from.result h c.if-at-from.true c.wrong_at-then-at-from.ensures
 
 pub returns : goal.returns
 returns c =

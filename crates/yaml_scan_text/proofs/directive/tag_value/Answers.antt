@@ -12,7 +12,7 @@ returns-in_err-first_end-clause-value c =
 pub returns-then-not-is_blank-clause-value : goal.returns-then-not-is_blank-clause-value
 returns-then-not-is_blank-clause-value c =
     let blank : is_blank (byte c.args.text.now c.in_ok-first_end.first_end) ≡ false = rw c.byte.ensures at (sym c.is_blank.ensures ∙ c.if-not-is_blank.true) in
-    blank_wrong c.args.text.now c.args.from c.skip_blanks-first.result c.in_ok-first_end.first_end c.args.arena.now.items c.args.arena.now.items c.wrong.result c.skip_blanks-first.ensures c.in_ok-first_end.ensures blank c.wrong.ensures
+    blank_wrong c.args.text.now c.args.from c.skip_blanks-first.result c.in_ok-first_end.first_end c.args.arena.now.items c.args.arena.now.items c.wrong_at.result c.skip_blanks-first.ensures c.in_ok-first_end.ensures blank c.wrong_at.ensures
 
 pub some_uri-requires : goal.some_uri-requires
 some_uri-requires c =
@@ -28,7 +28,7 @@ pub returns-then-not-is_blank_or_end-clause-value
     : goal.returns-then-not-is_blank_or_end-clause-value
 returns-then-not-is_blank_or_end-clause-value c =
     let blank : is_blank (byte c.args.text.now c.in_ok-first_end.first_end) ≡ true = rw c.byte.ensures at (sym c.is_blank.ensures ∙ c.if-not-is_blank.false) in
-    end_wrong c.args.text.now c.args.from c.skip_blanks-first.result c.in_ok-first_end.first_end c.skip_blanks-second.result c.args.arena.now.items c.some_uri.new.arena.items c.in_ok-prefix.prefix c.wrong-then-not-is_blank_or_end.result c.skip_blanks-first.ensures c.in_ok-first_end.ensures blank c.skip_blanks-second.ensures c.in_ok-prefix.ensures.value (sym c.is_blank_or_end.ensures ∙ c.if-not-is_blank_or_end.true) c.wrong-then-not-is_blank_or_end.ensures
+    end_wrong c.args.text.now c.args.from c.skip_blanks-first.result c.in_ok-first_end.first_end c.skip_blanks-second.result c.args.arena.now.items c.some_uri.new.arena.items c.in_ok-prefix.prefix c.wrong_at-then-not-is_blank_or_end.result c.skip_blanks-first.ensures c.in_ok-first_end.ensures blank c.skip_blanks-second.ensures c.in_ok-prefix.ensures.value (sym c.is_blank_or_end.ensures ∙ c.if-not-is_blank_or_end.true) c.wrong_at-then-not-is_blank_or_end.ensures
 
 pub returns-clause-value : goal.returns-clause-value
 returns-clause-value c =

@@ -15,7 +15,7 @@ returns-in_err-first_end c =
 pub returns-then-byte-ne46 : goal.returns-then-byte-ne46
 returns-then-byte-ne46 c =
     let other : byte c.args.text.now c.in_ok-first_end.first_end ≢ 46 = rw c.byte.ensures at c.if-byte-ne46.true in
-    dot_wrong c.args.text.now c.args.from c.skip_blanks-first.result c.in_ok-first_end.first_end c.wrong.result c.skip_blanks-first.ensures c.in_ok-first_end.ensures other c.wrong.ensures
+    dot_wrong c.args.text.now c.args.from c.skip_blanks-first.result c.in_ok-first_end.first_end c.wrong_at.result c.skip_blanks-first.ensures c.in_ok-first_end.ensures other c.wrong_at.ensures
 
 pub returns-in_err-second_end : goal.returns-in_err-second_end
 returns-in_err-second_end c =

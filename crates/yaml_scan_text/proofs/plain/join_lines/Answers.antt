@@ -11,7 +11,7 @@ lines-init c = joins_first c.args.flow c.args.margin c.args.text.now c.args.star
 
 pub returns-then-is_bad_colon-clause-value : goal.returns-then-is_bad_colon-clause-value
 returns-then-is_bad_colon-clause-value c =
-    answer_colon c.args.flow c.args.margin c.args.text.now c.args.start c.args.arena.now.items c.lines.arena.items c.lines.from c.lines.part c.lines.head (refusals.Wrong c.wrong_plain.result) c.lines.invariant (sym c.is_bad_colon.ensures ∙ c.if-is_bad_colon.true) c.wrong_plain.ensures
+    answer_colon c.args.flow c.args.margin c.args.text.now c.args.start c.args.arena.now.items c.lines.arena.items c.lines.from c.lines.part c.lines.head (refusals.Wrong c.wrong_at.result) c.lines.invariant (sym c.is_bad_colon.ensures ∙ c.if-is_bad_colon.true) c.wrong_at.ensures
 
 pub returns-in_err-take_line-clause-kept : goal.returns-in_err-take_line-clause-kept
 returns-in_err-take_line-clause-kept c = keeps_on _ _ _ (joins_keep _ _ _ _ _ _ _ _ _ c.lines.invariant) c.in_err-take_line.ensures.kept

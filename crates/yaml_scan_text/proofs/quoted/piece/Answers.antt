@@ -5,7 +5,7 @@ use Rattle.yaml_scan_text.proofs.quoted.piece.Goals as goal
 use Rattle.yaml_scan_text.proofs.quoted.piece.Goals.{else-quote-eq34-via-then-quote-eq34+else-first-eq92, else-quote-eq34-via-else-quote-eq34}
 
 pub returns-then-first-eq0-clause-value : goal.returns-then-first-eq0-clause-value
-returns-then-first-eq0-clause-value c = end_refused c.args.quote c.args.text.now c.args.arena.now.items c.args.arena.now.items c.args.read c.wrong_quoted.result c.requires.seat (sym c.byte-first.ensures ∙ c.if-first-eq0.true) c.wrong_quoted.ensures
+returns-then-first-eq0-clause-value c = end_refused c.args.quote c.args.text.now c.args.arena.now.items c.args.arena.now.items c.args.read c.wrong_at.result c.requires.seat (sym c.byte-first.ensures ∙ c.if-first-eq0.true) c.wrong_at.ensures
 
 pub returns-clause-value : goal.returns-clause-value
 returns-clause-value c =

@@ -1,4 +1,4 @@
-use Rattle.std.proofs.Common.{◌≡◌, ◌≢◌, ◌∙◌, sym, refl, arith}
+use Rattle.std.proofs.Common.{◌≡◌, ◌≢◌, ◌∙◌, sym, arith}
 use Rattle.std.proofs.lemmas.Result.{err_from_is_err_and}
 use Rattle.yaml_scan_text.proofs.Words.{byte}
 use Rattle.yaml_scan_text.proofs.NamesLemmas.{octet_put, spelled_due, spelled_end, spelled_first, spelled_next, spelled_refused}
@@ -27,7 +27,7 @@ escapes-preserved c =
 pub returns-then-due-gt0-clause-value : goal.returns-then-due-gt0-clause-value
 returns-then-due-gt0-clause-value c =
     let mark : byte c.args.text.now c.escapes.at ≢ 37 = rw c.byte.ensures at c.escapes-test.false in
-    spelled_due c.args.context c.args.wide c.args.text.now c.args.from c.args.arena.now.items c.escapes.arena.items c.escapes.at c.escapes.due _ c.escapes.invariant mark (omega arith) refl
+    spelled_due c.args.context c.args.wide c.args.text.now c.args.from c.args.arena.now.items c.escapes.arena.items c.escapes.at c.escapes.due _ c.escapes.invariant mark (omega arith) c.wrong_at.ensures
 
 pub returns-clause-value : goal.returns-clause-value
 returns-clause-value c =

@@ -1,5 +1,5 @@
 -- What a call gives, in the words of what is still to come.
-use Rattle.std.proofs.Common.{◌≡◌, ◌⊎◌, ◌≤◌, ◌∙◌, ℕ, true, List, ◌∷◌, Option, Some, reverse, refl, sym, ap, subst}
+use Rattle.std.proofs.Common.{◌≡◌, ◌⊎◌, inl, inr, ◌≤◌, ◌∙◌, ℕ, true, List, ◌∷◌, Option, Some, reverse, refl, sym, ap, subst}
 use Rattle.yaml_scan_model.specs.declared.record.yaml_mark_t.{yaml_mark_t}
 use Rattle.yaml_scan_model.specs.scan_types.Tokens.{Token}
 use Rattle.yaml_scan_model.specs.scan_types.Faults.{Fault, fault_of}
@@ -24,7 +24,7 @@ use Rattle.yaml_parse_states.specs.Coming.{Coming, read}
 use Rattle.yaml_parse_states.specs.Filled.{GaveFront, GaveNone}
 use Rattle.yaml_parse_states.specs.Owned.{Stays}
 use Rattle.yaml_parse_states.specs.Standing.{Stands, StandsIn, Stood}
-use Rattle.yaml_parse_states.specs.Turned.{GaveEvent, IsRefused, LacksMemory, Means}
+use Rattle.yaml_parse_states.specs.Turned.{GaveEvent, IsRefused, Keeps, LacksMemory, Means}
 use Rattle.yaml_parse_states.specs.Views.{body_in, coming_of, directives_of, event_in, stack}
 use Rattle.yaml_parse_states.specs.Utf8.{IsUtf8Held, IsUtf8In, IsUtf8Kept}
 use Rattle.yaml_parse_states.proofs.Remaining.{gave_front, gave_none, over_coming, stays_self, told_by}
@@ -90,6 +90,15 @@ pub step_told : {T P : Type 0} (g : Ghosts T P) (r : Refusal) (old new : Parser 
     → IsRefused g (coming_of g old) new ⊎ LacksMemory g (coming_of g old) new
     → ToldBy g r old new
 step_told g r old new open_ is h = told_by g r old new (λ e. refused_ends (open_ e)) is h
+
+-- it keeps why it refused
+pub step_kept : {T P : Type 0} (g : Ghosts T P) (was : Coming) (new : Parser T P)
+    → IsRefused g was new ⊎ LacksMemory g was new → (f : Fault) × Keeps g f new
+step_kept g was new (inl h) = (h.fault, h.told)
+step_kept g was new (inr h) = (h.fault, h.told)
+
+pub same_refusal : (r s : Refusal) → ◌≡◌ {A = Option Refusal} (Some r) (Some s) → r ≡ s
+same_refusal r s e = cc
 
 -- ---- marks
 

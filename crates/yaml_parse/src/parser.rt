@@ -23,6 +23,7 @@ ghost use Rattle.yaml_parse.specs.Finds.{Finds, IsUtf8Found, IsStackFound};
 ghost use Rattle.yaml_parse.specs.HandsOut.{HandsOut};
 
 use crate::found::yaml_found_t;
+use crate::token_parser::no_fault;
 use std::alloc::Global;
 use std::marker::Model;
 use yaml_parse_model::{
@@ -116,7 +117,7 @@ pub fn yaml_parser_initialize<S: yaml_token_source_t>(
     Ok(yaml_parser_t {
         alloc,
         parser: Parser::new(alloc, SourceTokens::new(source)),
-        prefix: yaml_parser_t_prefix::quiet(),
+        prefix: yaml_parser_t_prefix::of(&no_fault()),
     })
 }
 

@@ -2,10 +2,10 @@
 //! own, since the kit's borrow checker covers no call from there: `SourceTokens<S>` has
 //! several lifetimes, those of `S` and `'static`, and the calls here name `'static`.
 
-ghost use Rattle.std.specs.Prelude.{◌≡◌, true, IfOk, IfErr};
+ghost use Rattle.std.specs.Prelude.{◌≡◌, true, Some, IfOk, IfErr};
 ghost use Rattle.yaml_scan_model.specs.scan_types.Faults.{Fault, fault_of};
 ghost use Rattle.yaml_scan_model.specs.Utf8.{IsUtf8Next};
-ghost use Rattle.yaml_parse_model.specs.Events.{borrowed_body, event_of};
+ghost use Rattle.yaml_parse_model.specs.Events.{borrowed_body};
 ghost use Rattle.yaml_parse_model.specs.Prefix.{no_fault};
 ghost use Rattle.yaml_parse_grammar.specs.Machine.{initial, run};
 ghost use Rattle.yaml_parse_grammar.specs.Resolve.{no_directives};
@@ -14,13 +14,14 @@ ghost use Rattle.yaml_parse_model.specs.Sizes.{IsSized};
 ghost use Rattle.yaml_parse_laws_trees.specs.NextLoad.{AreLoadsByContent, LoadIsNext, RefusalIsNext};
 ghost use Rattle.yaml_parse_laws_trees.specs.Falling.{AreFalling};
 ghost use Rattle.yaml_parse_states.specs.Turned.{Means};
+ghost use Rattle.yaml_parse_states.specs.declared.parser.Refusal.{Refusal};
 ghost use Rattle.yaml_parse.specs.Finds.{Finds, IsHeldBy, IsUtf8Found, IsStackFound};
 
 use crate::found::yaml_found_t;
 use std::alloc::Global;
 use std::marker::Model;
 use yaml_parse_loader::Loader;
-use yaml_parse_model::{EventRef, ZERO_MARK, no_document, yaml_document_t, yaml_event_t};
+use yaml_parse_model::{EventRef, ZERO_MARK, no_document, yaml_document_t};
 use yaml_parse_states::{Parser, Refusal, Step};
 use yaml_scan_model::{
     Tokens, yaml_error_type_t, yaml_fault_t, yaml_mark_t, yaml_memory_fault, yaml_origin_t,
@@ -87,8 +88,7 @@ impl<T: Tokens> TokenParser<T> {
             Step::Event => yaml_found_t::Event,
             Step::End => yaml_found_t::End,
             Step::Refused => {
-                let refusal = self.parser.refusal();
-                self.fault = told_fault(self.parser.tokens(), refusal);
+                tell_fault(&mut self.fault, &self.parser);
                 yaml_found_t::Refused
             }
         }
@@ -118,26 +118,6 @@ impl<T: Tokens> TokenParser<T> {
         ensures same { self.new ≡ self.old }
     {
         self.parser.marks()
-    }
-
-    /// The next event in a slot that is passed by reference, or a fault in another, or neither after the last
-    /// event and after a fault. A slot that isn't filled may hold anything afterwards.
-    pub fn parse_into(&mut self, event: &mut yaml_event_t, fault: &mut yaml_fault_t) -> yaml_found_t
-        ensures finds { Finds self.old.remaining result (event_of event.new) (fault_of fault.new)
-            self.new.remaining }
-        ensures utf8 { IsUtf8Found result (event_of event.new) }
-        ensures between { IsStackFound result (event_of event.new) self.new.remaining.between }
-        ensures held { IsHeldBy T.held self.new.remaining.held }
-    {
-        match self.parser.parse_into(self.alloc, event) {
-            Ok(true) => yaml_found_t::Event,
-            Ok(false) => yaml_found_t::End,
-            Err(refusal) => {
-                *fault = told_fault(self.parser.tokens(), refusal);
-                self.fault = *fault;
-                yaml_found_t::Refused
-            }
-        }
     }
 
     /// The next document, its nodes numbered from 1 in preorder; after the last one a document
@@ -221,8 +201,8 @@ impl<T: Tokens> TokenParser<T> {
     }
 }
 
-// What is reported before any fault.
-fn no_fault() -> yaml_fault_t
+/// What is reported before any fault.
+pub(crate) fn no_fault() -> yaml_fault_t
     ensures { fault_of result ≡ no_fault }
 {
     yaml_fault_t {
@@ -247,4 +227,17 @@ fn told_fault<T: Tokens>(tokens: &T, refusal: Refusal) -> yaml_fault_t
         Refusal::LackOfMemory => yaml_memory_fault(yaml_origin_t::Parser),
         Refusal::Wrong(fault) => fault.located(),
     }
+}
+
+// The fault of a parser's refusal, in its slot.
+// Out of line: else each event sets the room of a fault to zero.
+#[inline(never)]
+fn tell_fault<T: Tokens>(slot: &mut yaml_fault_t, parser: &Parser<T>)
+    requires { (r : Refusal) × (parser.now.refusal ≡ Some r) × (f : Fault)
+        × Means T.Tokens parser.now.tokens r f }
+    ensures { (r : Refusal) (f : Fault) → parser.now.refusal ≡ Some r
+        → Means T.Tokens parser.now.tokens r f → fault_of slot.new ≡ f }
+{
+    let refusal = parser.refusal();
+    *slot = told_fault(parser.tokens(), refusal);
 }

@@ -1,6 +1,6 @@
 -- A stack that isn't empty still has an event to give, or a fault.
 use Rattle.std.proofs.Common.{◌≡◌, ℕ, List, [], ◌∷◌, ◌++◌, length, map, Option, Some, None, refl, subst, arith}
-use Rattle.yaml_parse_grammar.proofs.Words.{yaml_mark_t, Token, type_of, no_token, Fault, Choice, RawEvent, RawEventBody, State, Given, choice_at, taken_at, left_at, Fed, stop, go, turn, feed, Stands, Outcome, finished, carry, run, Directives, Settled, noted, settle, settle_body, reading, read_on}
+use Rattle.yaml_parse_grammar.proofs.Words.{Token, type_of, no_token, Fault, Choice, RawEvent, State, Given, choice_at, Fed, stop, go, turn, feed, Stands, Outcome, finished, carry, run, Directives, Settled, settle, reading, read_on}
 use Rattle.yaml_parse_grammar.specs.Items.{IsDirective}
 pub use Rattle.yaml_parse_grammar.proofs.Rules.{takes_a_token}
 use Rattle.yaml_parse_grammar.proofs.Single.{Emptied, emptied}
@@ -13,22 +13,6 @@ IsSome (Some f) = Unit {0}
 abbrev pub HasVoice : List Given → Option Fault → Type 0
 HasVoice [] f = IsSome f
 HasVoice (g ∷ gs) f = IsDirective g.0.body → HasVoice gs f
-
-abbrev pub TakenSpeaks : Option RawEvent → List State → Type 0
-TakenSpeaks None above = Stands above
-TakenSpeaks (Some i) above = IsDirective i.body → Stands above
-
--- sound levels are sound above others too
-pub stands_above : (xs ys : List State) → Stands xs → Stands (xs ++ ys)
-stands_above xs ys h = grind arith
-
--- what takes a token without an event leaves something open
-pub taken_speaks : (x : State) (t : Token) → TakenSpeaks (taken_at x t).item (taken_at x t).above
-taken_speaks x t = grind arith
-
--- leaving a state gives no directive
-pub left_voiced : (x : State) (start : yaml_mark_t) → IsDirective (left_at x start).body → ⊥
-left_voiced x start d = grind arith
 
 -- ---- a turn
 
@@ -83,11 +67,6 @@ speaks [] None (x ∷ s) h = ended_speaks (feed (x ∷ s) no_token) (feed_speaks
 speaks (t ∷ ts) f (x ∷ s) h = carried_speaks (length ts) (feed (x ∷ s) t) (λ s'. run ts s' f) (feed_speaks x s t) (λ s' h'. speaks ts f s' h')
 
 -- ---- resolved
-
--- What settles as noted is a directive.
-pub noted_directive : (b : RawEventBody) (from : yaml_mark_t) (ds ds' : Directives)
-    → settle_body b from ds ≡ noted ds' → IsDirective b
-noted_directive b from ds ds' e = grind arith
 
 read_on_speaks : (c : Settled) (g : Given) (gs : List Given) (f : Option Fault) (ds : Directives)
     → settle g.0 ds ≡ c → (IsDirective g.0.body → HasVoice gs f)

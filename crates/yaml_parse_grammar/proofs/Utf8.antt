@@ -3,13 +3,13 @@ use Rattle.std.proofs.Common.{ℕ, List, [], ◌∷◌, ◌++◌, Option, Some, 
 use Rattle.std.proofs.lemmas.Bool.{cond_both}
 use Rattle.std.proofs.lemmas.Str.{IsUtf8-append}
 use Rattle.std.specs.Str.{bytes_eq}
-use Rattle.yaml_parse_grammar.proofs.Words.{yaml_mark_t, Token, EventBody, TagDirective, RawEventBody, Shape, State, Directives, Settled, refused, gave, noted, settle_body, resolved, directive_for, node_event}
+use Rattle.yaml_parse_grammar.proofs.Words.{yaml_mark_t, EventBody, TagDirective, RawEventBody, Shape, Directives, Settled, refused, gave, noted, settle_body, resolved, directive_for, node_event}
 use Rattle.yaml_parse_model.specs.Source as source
 use Rattle.yaml_parse_model.specs.Constructors.{HasUtf8, IsUtf8Option, AreUtf8}
 use Rattle.yaml_parse_grammar.specs.Items as item
 use Rattle.yaml_parse_grammar.specs.Resolve.{or_default, behind_event}
 use Rattle.yaml_parse_grammar.proofs.Throughout.{Settles, settled_by, Outer}
-use Rattle.yaml_parse_grammar.specs.Texts.{IsUtf8Tag, IsUtf8Shape, IsUtf8Item, IsUtf8State, AreUtf8States, IsUtf8Token, IsUtf8Held}
+use Rattle.yaml_parse_grammar.specs.Texts.{IsUtf8Tag, IsUtf8Shape, IsUtf8Item, IsUtf8State}
 
 -- ---- the machine
 
@@ -74,10 +74,3 @@ settled_utf8 b from ds h d = settled_by IsUtf8Settled (λ f. tt) b from ds (case
     cases (item.document implicit) h = (d, d)
     cases (item.node a None s) h = (node_event_utf8 a None s h.0 tt h.1.1, d)
     cases (item.node a (Some tag) s) h = λ g e. (node_event_utf8 a (Some g) s h.0 (subst IsUtf8Option e (resolved_utf8 ds.tags tag.handle tag.suffix d h.1.0.1)) h.1.1, d)
-
--- ---- all that a parser holds
-
--- What a parser holds is UTF-8 where its parts are.
-pub held_utf8 : (peeked : Option Token) (s : List State) (ds : Directives) → IsUtf8Token peeked
-    → AreUtf8States s → AreUtf8 ds.tags → IsUtf8Held peeked s ds
-held_utf8 peeked s ds p h d = grind arith

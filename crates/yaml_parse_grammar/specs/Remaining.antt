@@ -1,5 +1,5 @@
 -- What is still to come of a parser, and what its calls give.
-use Rattle.std.specs.Prelude.{◌≡◌, ◌⊎◌, ◌≤◌, ℕ, Bool, true, false, List, [], ◌∷◌, length, Option, Some, None}
+use Rattle.std.specs.Prelude.{◌≡◌, ◌⊎◌, ◌≤◌, ℕ, Bool, true, false, List, [], ◌∷◌, Option, Some, None}
 use Rattle.yaml_parse_model.specs.scan_types.Tokens.{Token}
 use Rattle.yaml_parse_model.specs.scan_types.Faults.{Fault, IsMemoryFault, parse_layers, scan_layers}
 use Rattle.yaml_parse_model.specs.Source.{HasMore}
@@ -12,10 +12,6 @@ use Rattle.yaml_parse_grammar.specs.Resolve.{Directives, Reading, Told, reading,
 abbrev pub waiting : Option Token → List Token → List Token
 waiting None ts = ts
 waiting (Some t) ts = t ∷ ts
-
-abbrev pub held_of : Option Token → ℕ
-held_of None = 0
-held_of (Some t) = 1
 
 -- no document is half taken
 abbrev pub is_between : List State → Bool
@@ -43,18 +39,6 @@ reading_of o ds = reading o.items o.ending ds
 -- how many tokens are not asked for as the fault is reported
 abbrev pub unasked_of : List Token → Option Fault → List State → Directives → ℕ
 unasked_of ts f s ds = unasked_at_fault (run ts s f).items (unasked_at_stop ts s) ds
-
-abbrev pub parser_remaining : Option Token → List Token → Option Fault → List State → Directives
-    → Fault → ParserRemaining
-parser_remaining peeked ts f s ds answered = record {
-  events = (reading_of (run (waiting peeked ts) s f) ds).events;
-  ending = (reading_of (run (waiting peeked ts) s f) ds).ending;
-  ending_unasked = unasked_of (waiting peeked ts) f s ds;
-  unasked = length ts;
-  held = held_of peeked;
-  between = is_between s;
-  answered = answered;
-}
 
 -- nothing is to come
 pub record IsFinished (c : ParserRemaining) : Type 0 where

@@ -2,8 +2,6 @@
 use Rattle.std.specs.Prelude.{◌≡◌, Bool, true, false, List, [], ◌∷◌}
 use Rattle.yaml_parse_model.specs.Events.{EventBody}
 use Rattle.yaml_parse_model.specs.Events as event
-use Rattle.yaml_parse_grammar.specs.Items.{RawEventBody}
-use Rattle.yaml_parse_grammar.specs.Items as item
 use Rattle.yaml_parse_grammar.specs.States.{State}
 use Rattle.yaml_parse_grammar.specs.States as state
 
@@ -14,13 +12,6 @@ parts_documents_behind (event.stream_start encoding) = true
 parts_documents_behind event.stream_end = true
 parts_documents_behind (event.document_end implicit) = true
 parts_documents_behind _ = false
-
--- how the state is after an item; a directive gives no event
-abbrev pub StandsBehind : RawEventBody → Bool → Type 0
-StandsBehind (item.event body) between = between ≡ parts_documents_behind body
-StandsBehind (item.document implicit) between = between ≡ false
-StandsBehind (item.node anchor tag shape) between = between ≡ false
-StandsBehind _ between = Unit {0}
 
 -- a state of a node
 abbrev pub IsInner : State → Type 0

@@ -33,8 +33,5 @@ no_fault = record {
   origin = Parser;
 }
 
-abbrev pub IsQuiet : yaml_parser_t_prefix → Type 0
-IsQuiet p = prefix_of p ≡ no_fault
-
 abbrev pub IsPrefixOf : yaml_parser_t_prefix → yaml_fault_t → Type 0
 IsPrefixOf p f = prefix_of p ≡ fault_of f

@@ -10,7 +10,7 @@ ghost use Rattle.yaml_parse_model.specs.Constructors.{HasUtf8, IsUtf8Option, Con
 
 use crate::event::{yaml_event_body_t, yaml_event_t};
 use crate::prefix::yaml_text_fault_t;
-use crate::text::{are_utf8, copy_directives, copy_text, copy_text_option, is_utf8_option};
+use crate::text::{are_utf8, copy_directives, copy_text_option, is_utf8_option};
 use simdutf8::is_utf8;
 use std::alloc::Global;
 use yaml_scan_model::{
@@ -72,7 +72,7 @@ pub fn yaml_alias_event_initialize(
     if !is_utf8(anchor) {
         return Err(yaml_text_fault_t::NotUtf8);
     }
-    let anchor = copy_text(alloc, anchor)?;
+    let anchor = Vec::from_slice(alloc, anchor)?;
     Ok(yaml_event_t::unplaced(yaml_event_body_t::Alias { anchor }))
 }
 
@@ -94,7 +94,7 @@ pub fn yaml_scalar_event_initialize(
         return Err(yaml_text_fault_t::NotUtf8);
     }
     let named = node_texts(alloc, anchor, tag)?;
-    let value = copy_text(alloc, value)?;
+    let value = Vec::from_slice(alloc, value)?;
     Ok(yaml_event_t::unplaced(yaml_event_body_t::Scalar {
         anchor: named.anchor,
         tag: named.tag,

@@ -1,10 +1,10 @@
 //! Events whose texts are borrowed.
 
-ghost use Rattle.std.specs.Prelude.{◌≡◌, IfOk, map, option_map};
-ghost use Rattle.yaml_parse_model.specs.Events.{body_of, borrowed_body, directive_of, start_or_no, text_of};
+ghost use Rattle.std.specs.Prelude.{◌≡◌, IfOk};
+ghost use Rattle.yaml_parse_model.specs.Events.{body_of, borrowed_body, start_or_no};
 
 use crate::event::yaml_event_body_t;
-use crate::text::copy_directives;
+use crate::text::{copy_directives, copy_text_option};
 use std::alloc::{AllocError, Global};
 use yaml_scan_model::{
     yaml_encoding_t, yaml_mapping_style_t, yaml_scalar_style_t, yaml_sequence_style_t,
@@ -139,33 +139,6 @@ impl yaml_event_body_t {
     }
 }
 
-// A copy of a text, where there is one.
-fn copy_if(alloc: Global, text: Option<&[u8]>) -> Result<Option<Vec<u8>>, AllocError>
-    ensures { IfOk result (λ copy. text_of copy ≡ option_map (λ t. t.now) text.entry) }
-{
-    match text {
-        None => Ok(None),
-        Some(text) => match Vec::from_slice(alloc, text) {
-            Ok(copy) => Ok(Some(copy)),
-            Err(fault) => Err(fault),
-        },
-    }
-}
-
-// Copies of directives, in order.
-fn directives_copied(
-    alloc: Global,
-    directives: &[yaml_tag_directive_t],
-) -> Result<Vec<yaml_tag_directive_t>, AllocError>
-    ensures { IfOk result (λ copies. map directive_of copies.items
-        ≡ map directive_of directives.now) }
-{
-    match copy_directives(alloc, directives) {
-        Ok(copies) => Ok(copies),
-        Err(_) => Err(AllocError),
-    }
-}
-
 impl<'e> EventRef<'e> {
     /// A copy with texts of its own. The error is out of memory.
     pub fn copied(self, alloc: Global) -> Result<yaml_event_body_t, AllocError>
@@ -188,8 +161,8 @@ impl<'e> EventRef<'e> {
                 quoted_implicit,
                 style,
             } => Ok(yaml_event_body_t::Scalar {
-                anchor: copy_if(alloc, anchor)?,
-                tag: copy_if(alloc, tag)?,
+                anchor: copy_text_option(alloc, anchor)?,
+                tag: copy_text_option(alloc, tag)?,
                 value: Vec::from_slice(alloc, value)?,
                 plain_implicit,
                 quoted_implicit,
@@ -213,7 +186,7 @@ impl<'e> EventRef<'e> {
                 implicit,
             } => Ok(yaml_event_body_t::DocumentStart {
                 version_directive,
-                tag_directives: directives_copied(alloc, tag_directives)?,
+                tag_directives: copy_directives(alloc, tag_directives)?,
                 implicit,
             }),
             EventRef::SequenceStart {
@@ -222,8 +195,8 @@ impl<'e> EventRef<'e> {
                 implicit,
                 style,
             } => Ok(yaml_event_body_t::SequenceStart {
-                anchor: copy_if(alloc, anchor)?,
-                tag: copy_if(alloc, tag)?,
+                anchor: copy_text_option(alloc, anchor)?,
+                tag: copy_text_option(alloc, tag)?,
                 implicit,
                 style,
             }),
@@ -233,8 +206,8 @@ impl<'e> EventRef<'e> {
                 implicit,
                 style,
             } => Ok(yaml_event_body_t::MappingStart {
-                anchor: copy_if(alloc, anchor)?,
-                tag: copy_if(alloc, tag)?,
+                anchor: copy_text_option(alloc, anchor)?,
+                tag: copy_text_option(alloc, tag)?,
                 implicit,
                 style,
             }),

@@ -36,7 +36,7 @@ pub use node_text::yaml_node_text_t;
 pub use prefix::{yaml_parser_t_prefix, yaml_text_fault_t};
 pub use source::yaml_token_source_t;
 pub use tags::{SECONDARY_PREFIX, YAML_MAP_TAG, YAML_SEQ_TAG, YAML_STR_TAG};
-pub use text::{are_utf8, copy_directives, copy_text, copy_text_option, is_utf8_option};
+pub use text::{are_utf8, copy_directives, is_utf8_option};
 pub use yaml_scan_model::{
     yaml_encoding_t, yaml_error_type_t, yaml_fault_t, yaml_mapping_style_t, yaml_mark_t,
     yaml_memory_fault, yaml_origin_t, yaml_parser_state_t, yaml_scalar_style_t,

@@ -4,7 +4,6 @@ ghost use Rattle.std.specs.Prelude.{◌≡◌, ◌+◌, ◌≤◌, List, ℕ, le
 ghost use Rattle.yaml_parse_model.specs.NodeTexts.{bytes_of, IsKept};
 
 use crate::prefix::yaml_text_fault_t;
-use crate::text::copy_text;
 use std::alloc::Global;
 use std::marker::Model;
 
@@ -124,7 +123,7 @@ impl yaml_node_text_t {
         if text.len() <= WITHIN {
             return Ok(kept_short(text));
         }
-        let text = copy_text(alloc, text)?;
+        let text = Vec::from_slice(alloc, text)?;
         Ok(yaml_node_text_t {
             kept: Kept::Long { text },
         })

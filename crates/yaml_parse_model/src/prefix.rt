@@ -1,9 +1,9 @@
 //! What a parser and the constructors answer when they refuse.
 
 ghost use Rattle.std.specs.Prelude.{◌≡◌};
-ghost use Rattle.yaml_parse_model.specs.Prefix.{IsPrefixOf, IsQuiet};
+ghost use Rattle.yaml_parse_model.specs.Prefix.{IsPrefixOf};
 
-use crate::event::ZERO_MARK;
+use std::alloc::AllocError;
 use yaml_scan_model::{yaml_error_type_t, yaml_fault_t, yaml_mark_t, yaml_origin_t};
 
 /// The fault that a parser has answered, field by field; before one the kind is `YAML_NO_ERROR`.
@@ -20,22 +20,6 @@ pub struct yaml_parser_t_prefix {
 }
 
 impl yaml_parser_t_prefix {
-    /// No fault: kind `YAML_NO_ERROR`, an empty problem, no context, zero numbers and marks, origin `Parser`.
-    pub fn quiet() -> yaml_parser_t_prefix
-        ensures { IsQuiet result }
-    {
-        yaml_parser_t_prefix {
-            kind: yaml_error_type_t::YAML_NO_ERROR,
-            problem: "",
-            offset: 0,
-            value: 0,
-            problem_mark: ZERO_MARK,
-            context: None,
-            context_mark: ZERO_MARK,
-            origin: yaml_origin_t::Parser,
-        }
-    }
-
     /// The fields of that fault.
     pub fn of(fault: &yaml_fault_t) -> yaml_parser_t_prefix
         ensures { IsPrefixOf result fault.now }
@@ -60,4 +44,14 @@ pub enum yaml_text_fault_t {
     NotUtf8,
     /// A growth was refused.
     Memory,
+}
+
+impl From<AllocError> for yaml_text_fault_t {
+    ghost use Rattle.yaml_parse_model.specs.declared.prefix.yaml_text_fault_t.TheVariants.{Memory};
+
+    ghost from_gives = { λ _ f. f ≡ Memory };
+
+    fn from(_refused: AllocError) -> yaml_text_fault_t {
+        yaml_text_fault_t::Memory
+    }
 }

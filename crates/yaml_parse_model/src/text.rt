@@ -1,12 +1,11 @@
 //! Texts of callers: whether they are UTF-8, and copies of them.
 
-ghost use Rattle.std.specs.Prelude.{◌≡◌, ◌↔◌, IsTrue, IsUtf8, MatchResult, map, option_map};
+ghost use Rattle.std.specs.Prelude.{◌≡◌, ◌↔◌, IsTrue, IsUtf8, IfOk, map, option_map};
 ghost use Rattle.yaml_parse_model.specs.Events.{directive_of, text_of};
 ghost use Rattle.yaml_parse_model.specs.Constructors.{IsUtf8Option, AreUtf8};
 
-use crate::prefix::yaml_text_fault_t;
 use simdutf8::is_utf8;
-use std::alloc::Global;
+use std::alloc::{AllocError, Global};
 use yaml_scan_model::yaml_tag_directive_t;
 
 /// Whether a text that may be left out is UTF-8.
@@ -31,28 +30,13 @@ pub fn are_utf8(directives: &[yaml_tag_directive_t]) -> bool
     true
 }
 
-/// A copy of a text.
-pub fn copy_text(alloc: Global, text: &[u8]) -> Result<Vec<u8>, yaml_text_fault_t>
-    ensures { MatchResult result (λ copy. copy.items ≡ text.now)
-        (λ f. f ≡ yaml_text_fault_t.Memory) }
-{
-    match Vec::from_slice(alloc, text) {
-        Ok(copy) => Ok(copy),
-        Err(_) => Err(yaml_text_fault_t::Memory),
-    }
-}
-
 /// A copy of a text that may be left out.
-pub fn copy_text_option(
-    alloc: Global,
-    text: Option<&[u8]>,
-) -> Result<Option<Vec<u8>>, yaml_text_fault_t>
-    ensures { MatchResult result (λ copy. text_of copy ≡ option_map (λ t. t.now) text.entry)
-        (λ f. f ≡ yaml_text_fault_t.Memory) }
+pub fn copy_text_option(alloc: Global, text: Option<&[u8]>) -> Result<Option<Vec<u8>>, AllocError>
+    ensures { IfOk result (λ copy. text_of copy ≡ option_map (λ t. t.now) text.entry) }
 {
     match text {
         None => Ok(None),
-        Some(text) => Ok(Some(copy_text(alloc, text)?)),
+        Some(text) => Ok(Some(Vec::from_slice(alloc, text)?)),
     }
 }
 
@@ -60,12 +44,11 @@ pub fn copy_text_option(
 fn copy_directive(
     alloc: Global,
     directive: &yaml_tag_directive_t,
-) -> Result<yaml_tag_directive_t, yaml_text_fault_t>
-    ensures { MatchResult result (λ copy. directive_of copy ≡ directive_of directive.now)
-        (λ f. f ≡ yaml_text_fault_t.Memory) }
+) -> Result<yaml_tag_directive_t, AllocError>
+    ensures { IfOk result (λ copy. directive_of copy ≡ directive_of directive.now) }
 {
-    let handle = copy_text(alloc, &directive.handle)?;
-    let prefix = copy_text(alloc, &directive.prefix)?;
+    let handle = Vec::from_slice(alloc, &directive.handle)?;
+    let prefix = Vec::from_slice(alloc, &directive.prefix)?;
     Ok(yaml_tag_directive_t { handle, prefix })
 }
 
@@ -73,16 +56,14 @@ fn copy_directive(
 pub fn copy_directives(
     alloc: Global,
     directives: &[yaml_tag_directive_t],
-) -> Result<Vec<yaml_tag_directive_t>, yaml_text_fault_t>
-    ensures { MatchResult result (λ copies. map directive_of copies.items ≡ map directive_of
-        directives.now) (λ f. f ≡ yaml_text_fault_t.Memory) }
+) -> Result<Vec<yaml_tag_directive_t>, AllocError>
+    ensures { IfOk result (λ copies. map directive_of copies.items
+        ≡ map directive_of directives.now) }
 {
     let mut copies = Vec::new(alloc);
     for directive in directives {
         let copy = copy_directive(alloc, directive)?;
-        if copies.push(copy).is_err() {
-            return Err(yaml_text_fault_t::Memory);
-        }
+        copies.push(copy)?;
     }
     Ok(copies)
 }

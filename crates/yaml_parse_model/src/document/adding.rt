@@ -8,7 +8,7 @@ ghost use Rattle.yaml_parse_model.specs.Sizes.{IsSizedBody};
 
 use super::{node_place, yaml_document_t};
 use crate::{
-    ZERO_MARK, copy_text, is_utf8_option, yaml_mapping_style_t, yaml_node_body_t, yaml_node_item_t,
+    ZERO_MARK, is_utf8_option, yaml_mapping_style_t, yaml_node_body_t, yaml_node_item_t,
     yaml_node_pair_t, yaml_node_t, yaml_node_tag_t, yaml_node_text_t, yaml_scalar_style_t,
     yaml_sequence_style_t, yaml_text_fault_t,
 };
@@ -30,13 +30,9 @@ pub fn push_entry<T: Drop>(entries: &mut Vec<T>, entry: T) -> Result<(), yaml_te
     if entries.len() >= MAX_ENTRIES {
         return Err(yaml_text_fault_t::Memory);
     }
-    match entries.reserve(1) {
-        Ok(()) => {
-            entries.push_reserved(entry);
-            Ok(())
-        }
-        Err(_) => Err(yaml_text_fault_t::Memory),
-    }
+    entries.reserve(1)?;
+    entries.push_reserved(entry);
+    Ok(())
 }
 
 // A copy of the tag that is given, else the default tag.
@@ -51,7 +47,7 @@ fn copied_tag_or_default(
     match tag {
         None => Ok(default),
         Some(tag) => {
-            let text = copy_text(alloc, tag)?;
+            let text = Vec::from_slice(alloc, tag)?;
             Ok(yaml_node_tag_t::Spelled { text })
         }
     }

@@ -2,9 +2,8 @@
 use Rattle.std.proofs.Common.{◌∙◌, refl, sym, subst}
 use Rattle.yaml_scan_model.specs.scan_types.Faults.{Fault, fault_of}
 use Rattle.yaml_parse_grammar.specs.Remaining.{FaultOf, ParserRemaining}
-use Rattle.yaml_parse_states.specs.Turned.{Means}
 use Rattle.yaml_parse_states.specs.Views.{event_in}
-use Rattle.yaml_parse.proofs.Gives.{remains, step_between, step_ends, step_gives, step_told, told_fault}
+use Rattle.yaml_parse.proofs.Gives.{remains, same_refusal, step_between, step_ends, step_gives, step_kept, step_told, told_fault}
 use Rattle.yaml_parse.specs.Finds.{GivesEnd, GivesNext}
 use Rattle.yaml_parse.specs.View.{ParserView}
 use Rattle.yaml_parse.proofs.token_parser.TokenParser.next.Goals as goal
@@ -30,13 +29,19 @@ returns-in-End-clause-finds g c =
     subst (λ (z : ParserView). GivesEnd z.remaining (remains t c.next.new.self a)) c.self.view_is
     (step_ends t a c.self.inside.parser c.next.new.self c.in-End.ensures.steps)
 
+pub tell_fault-requires : goal.tell_fault-requires
+tell_fault-requires g c =
+    let k = step_kept g.T.Tokens _ c.next.new.self c.in-Refused.ensures.steps in
+    (k.1.refusal, k.1.kept, k.0, k.1.means)
+
 pub returns-in-Refused-clause-finds : goal.returns-in-Refused-clause-finds
 returns-in-Refused-clause-finds g c =
     let t = g.T.Tokens in
-    let f : Fault = fault_of c.told_fault-self-inside.result in
+    let f : Fault = fault_of c.tell_fault.new.slot in
     let new : ParserRemaining = remains t c.next.new.self f in
+    let k = (step_kept t _ c.next.new.self c.in-Refused.ensures.steps).1 in
     subst (λ (z : ParserView). FaultOf z.remaining f new) c.self.view_is
-    (told_fault t (fault_of c.self.inside.fault) f f c.refusal-refusal.result c.self.inside.parser c.next.new.self
-    (step_told t c.refusal-refusal.result c.self.inside.parser c.next.new.self (λ e. sym c.in-Refused.is ∙ c.next.ensures.over e) c.refusal-refusal.ensures c.in-Refused.ensures.steps)
-    (λ e m. c.told_fault-self-inside.ensures e (subst (λ ts. Means t ts c.refusal-refusal.result e) (sym c.tokens.ensures) m))
+    (told_fault t (fault_of c.self.inside.fault) f f k.refusal c.self.inside.parser c.next.new.self
+    (step_told t k.refusal c.self.inside.parser c.next.new.self (λ e. sym c.in-Refused.is ∙ c.next.ensures.over e) (λ s e. same_refusal k.refusal s (sym k.kept ∙ e)) c.in-Refused.ensures.steps)
+    (λ e m. c.tell_fault.ensures k.refusal e k.kept m)
     refl)

@@ -219,8 +219,8 @@ pub fn yaml_emitter_emit_ref(emitter: &mut yaml_emitter_t, event: EventRef<'_>)
 }
 
 /// Takes an event and lays it out, for a caller that asks for the text or the fault at the end of its events alone. A collection's
-/// start waits for the next event, unless the form is canonical; what was held before is laid out. So the text, and the first event
-/// that is wrong, are those of `yaml_emitter_emit`, but come sooner. The fault, if there is one, is the emitter's
+/// start waits for the next event where it is written otherwise if that ends it; what was held before is laid out. So the text, and
+/// the first event that is wrong, are those of `yaml_emitter_emit`, but come sooner. The fault, if there is one, is the emitter's
 /// (`yaml_emitter_fault`).
 pub fn yaml_emitter_emit_soon(emitter: &mut yaml_emitter_t, event: &EventRef<'_>)
     requires { HasUtf8 (borrowed_body event.now) }

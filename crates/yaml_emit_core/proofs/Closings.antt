@@ -121,31 +121,3 @@ pub end_next : (st : State) (u : Bool) (ls : List Open) (s : Settings) (ds : Lis
 unfolding next_at
 end_next st u ls s ds true empty behind new l p = λ i. record { place = (p ∙ ap (λ z. place_at (top_of z)) l) i; levels = l i; directives = ds }
 end_next st u ls s ds false empty behind new l p = λ i. record { place = (p ∙ ap (λ z. place_at (top_of z)) l) i; levels = l i; directives = ds }
-
--- there is one to end
-pub end_open : (st : State) (sequence flow : Bool) (n : ℕ) (ls : List Open)
-    → may_end sequence st ≡ true → level_by (phase_of st) flow n ≡ top_of ls → ls ≢ []
-end_open state.StreamStart true flow n ls w e = absurd (cc)
-end_open state.FirstDocumentStart true flow n ls w e = absurd (cc)
-end_open state.DocumentStart true flow n ls w e = absurd (cc)
-end_open state.DocumentContent true flow n ls w e = absurd (cc)
-end_open state.FirstItem true flow n ls w e = λ k. absurd (cc (e ∙ ap top_of k))
-end_open state.Item true flow n ls w e = λ k. absurd (cc (e ∙ ap top_of k))
-end_open state.FirstKey true flow n ls w e = absurd (cc)
-end_open state.Key true flow n ls w e = absurd (cc)
-end_open state.SimpleValue true flow n ls w e = absurd (cc)
-end_open state.Value true flow n ls w e = absurd (cc)
-end_open state.DocumentEnd true flow n ls w e = absurd (cc)
-end_open state.End true flow n ls w e = absurd (cc)
-end_open state.StreamStart false flow n ls w e = absurd (cc)
-end_open state.FirstDocumentStart false flow n ls w e = absurd (cc)
-end_open state.DocumentStart false flow n ls w e = absurd (cc)
-end_open state.DocumentContent false flow n ls w e = absurd (cc)
-end_open state.FirstItem false flow n ls w e = absurd (cc)
-end_open state.Item false flow n ls w e = absurd (cc)
-end_open state.FirstKey false flow n ls w e = λ k. absurd (cc (e ∙ ap top_of k))
-end_open state.Key false flow n ls w e = λ k. absurd (cc (e ∙ ap top_of k))
-end_open state.SimpleValue false flow n ls w e = absurd (cc)
-end_open state.Value false flow n ls w e = absurd (cc)
-end_open state.DocumentEnd false flow n ls w e = absurd (cc)
-end_open state.End false flow n ls w e = absurd (cc)

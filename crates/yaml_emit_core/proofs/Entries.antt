@@ -18,12 +18,6 @@ use Rattle.yaml_emit_core.specs.declared.level.State.{State}
 use Rattle.yaml_emit_core.specs.declared.level.State.TheVariants as state
 use Rattle.yaml_emit_core.specs.Levels.{phase_of, level_by, is_further, is_entry, is_behind_simple}
 
--- past the width
-pub past_is : (comma : Bool) (width left : ℕ) (c : Cursor) → comma ≡ true → left ≡ width - c.column
-    → (left == 0) ≡ is_past width (behind_comma comma c)
-past_is true width left c e l = rw l (grind (arith, nat_tests))
-past_is false width left c e l = absurd (cc)
-
 pub past_here : (comma : Bool) (width : ℕ) (c : Cursor) → comma ≡ false
     → is_past width c ≡ is_past width (behind_comma comma c)
 past_here true width c e = absurd (cc)

@@ -81,10 +81,6 @@ fresh_core s d o l u ds r t limit k h e p f =
       holds = λ _. subst R (sym e) (subst S (sym f) (holds_none s.encoding limit));
     }
 
-pub fresh_bytes : (x : Encoding) (d : Paper) (o : Sheet) (limit : ℕ) (k : Cursor)
-    → d.output ≡ empty_text k → o ≡ empty_sheet x limit → (output_of o d.output).bytes ≡ []
-fresh_bytes x d o limit k e f = ap (λ (z : Output). (output_of o z).bytes) e ∙ (ap (λ (z : Sheet). (output_of z (empty_text k)).bytes) f ∙ nothing_at x (empty_sheet x limit) refl)
-
 -- the settings that were settled
 indent_small : (z : ℤ) → settled_indent z < 2 ^ 31
 indent_small (pos n) = grind (arith, nat_tests)

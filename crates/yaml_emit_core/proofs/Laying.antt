@@ -1,7 +1,6 @@
 -- An event that was judged, laid out and settled.
 use Rattle.std.proofs.Common.{◌≡◌, ◌≢◌, List, Bool, true, false, refl, sym, subst, ◌∙◌, ap}
 use Rattle.std.specs.Prelude.{Option, Some, None, ◌||◌}
-use Rattle.std.proofs.lemmas.Bool.{false≢true}
 use Rattle.yaml_emit_layout.specs.declared.cursor.Cursor.{Cursor}
 use Rattle.yaml_emit_layout.specs.declared.cursor.Status.{Status}
 use Rattle.yaml_emit_layout.specs.declared.cursor.Status.TheVariants.{Going, Full, Deep, Starved}
@@ -15,9 +14,7 @@ use Rattle.yaml_emit_layout.specs.declared.level.Expected.TheVariants as at
 use Rattle.yaml_emit_layout.specs.declared.problem.Problem.{Problem}
 use Rattle.yaml_parse_model.specs.Events.{TagDirective}
 use Rattle.yaml_emit_layout.specs.Content.{Event, Start}
-use Rattle.yaml_emit_layout.specs.declared.level.Level.{Level as Open}
-use Rattle.yaml_emit_layout.specs.Grammar.{or_else, event_problem, place_problem, last_problem, problem_by}
-use Rattle.yaml_emit_layout.specs.State.{State, top_of, problem_at, piece, next}
+use Rattle.yaml_emit_layout.specs.State.{State, problem_at, piece, next}
 use Rattle.yaml_emit_output.specs.Draft.{Page as Paper, Lays}
 use Rattle.yaml_emit_output.specs.Sheet.{Sheet, Settles, Keeps, Holds, IsText, output_of}
 use Rattle.yaml_emit_output.proofs.Settling.{holds_on}
@@ -217,36 +214,6 @@ goes_some r q s p e = sym (ap (λ (z : Option Problem). goes_on s (place_by z p)
 pub goes_none : (b : Bool) (r : Option Problem) (s : Status) (st : Stage) (u : Bool) → r ≡ None
     → (b ≡ true → s ≡ Going) → (b ≡ false → s ≢ Going) → b ≡ goes_on s (place_by r (place_of st u))
 goes_none b r s st u e p q = is_by b s p q ∙ (sym (goes_at st u s) ∙ sym (ap (λ (z : Option Problem). goes_on s (place_by z (place_of st u))) e))
-
-refused_of : (s : Status) (r : Option Problem) (st : Stage) (u : Bool)
-    → goes_on s (place_by r (place_of st u)) ≡ false → s ≡ Going → (q : Problem) × (r ≡ Some q)
-refused_of s (Some q) st u e g = (q, refl)
-refused_of s None st u e g = absurd (false≢true (sym e ∙ (goes_at st u s ∙ ap is_going g)))
-
-late_named : (canonical : Bool) (place : Expected) (top : Option Open) (e : Event) (q : Problem)
-    → event_problem canonical e ≡ Some q → problem_by canonical place top e ≡ Some q
-unfolding problem_by
-late_named canonical place top e q h = ap (λ z. or_else z (or_else (place_problem place top e) (last_problem e))) h
-
-late_other : (canonical : Bool) (p : Problem) (top : Option Open) (e : Event)
-    → event_problem canonical e ≡ None → problem_by canonical (at.Refused p) top e ≡ Some p
-unfolding problem_by place_problem
-late_other canonical p top e h = ap (λ z. or_else z (or_else (place_problem (at.Refused p) top e) (last_problem e))) h
-
-pub late_wrong : (c : Inside) (e : Event) (empty : Bool) (p : Problem)
-    → event_problem c.settings.canonical e ≡ Some p
-    → LaysOut (core_of c) (core_of (refusing c p)) e empty
-late_wrong c e empty p h = refused_by (core_of c) (core_of (refusing c p)) e empty p (late_named c.settings.canonical (core_of c).place (top_of (core_of c).levels) e p h) refl
-
-pub late_again : (c : Inside) (e : Event) (empty : Bool)
-    → goes_on (core_of c).sink.status (core_of c).place ≡ false → (core_of c).sink.status ≡ Going
-    → event_problem c.settings.canonical e ≡ None → LaysOut (core_of c) (core_of c) e empty
-late_again c e empty f g h =
-    let r = refused_of (core_of c).sink.status c.refused c.levels.state c.unended f g in
-    let place : (core_of c).place ≡ at.Refused r.0 = ap (λ (z : Option Problem). place_by z (place_of c.levels.state c.unended)) r.1 in
-    refused_by (core_of c) (core_of c) e empty r.0
-    (ap (λ z. problem_by c.settings.canonical z (top_of (core_of c).levels) e) place ∙ late_other c.settings.canonical r.0 (top_of (core_of c).levels) e h)
-    (ap (λ (z : Expected). record { settings = c.settings; sink = (core_of c).sink; place = z; levels = c.levels.levels; directives = c.directives; starved = c.starved }) place)
 
 -- ---- memory was refused outside the output
 

@@ -8,6 +8,7 @@ pub mod Values
 pub mod Broken
 pub mod Spellings
 pub mod Opened
+pub mod Emptiness
 pub mod Texts
 pub mod Heads
 pub mod Problems
@@ -20,7 +21,6 @@ pub mod Lending
 pub mod Finishing
 pub mod Directing
 pub mod TableLemmas
-pub mod Fronts
 pub mod Known
 pub mod Narrowing
 pub mod Numbering

@@ -192,13 +192,3 @@ starves_stopped core n = record {
   text = λ x. puts_stopped core.sink x n;
   stopped = n;
 }
-
-pub stopped_lays : (core : Core) (e : Event) (empty : Bool) → core.sink.status ≢ Going
-    → LaysOut core core e empty
-stopped_lays core e empty n = record {
-  settings = refl;
-  state = λ g. absurd (n g);
-  text = puts_stopped core.sink _ n;
-  memory = λ _. refl;
-  blames = record { levels = λ g _ _. absurd (n g) };
-}

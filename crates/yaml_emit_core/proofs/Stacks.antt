@@ -216,10 +216,6 @@ pub resumed_narrow : (o : Open) (ls : List Open) → AreNarrow (stack (Some o) l
     → (o.indent < 2 ^ 31) × AreNarrow (reverse ls)
 resumed_narrow o ls n = narrow_less (reverse ls) o n
 
-pub resumed_some : (o : Open) (ls : List Open)
-    → stack (level_by (phase_of (state_in o.phase)) o.flow o.indent) ls ≡ stack (Some o) ls
-resumed_some o ls = ap (λ z. stack z ls) (in_is o)
-
 -- inside a collection an entry comes, or the value of a simple key
 pub inside_is : (s : State) → (is_entry s || is_behind_simple s) ≡ is_open (phase_of s)
 inside_is state.StreamStart = refl

@@ -53,11 +53,11 @@ fn mark_of(state: State, flow: bool, simple: bool) -> u8
 }
 
 // The same for an entry of any collection.
-fn put_lead(draft: &mut Draft, settings: &Settings, level: Level, simple: bool)
+fn put_lead(draft: &mut Draft, settings: &Settings, level: &Level, simple: bool)
     requires on { IsOf settings.now draft.old }
-    requires narrow { level.indent < 2 ^ 31 }
-    requires entry { is_entry level.state ≡ true }
-    ensures { Lays draft.old draft.new (before_node settings.now (level_of level) simple) stay }
+    requires narrow { level.now.indent < 2 ^ 31 }
+    requires entry { is_entry level.now.state ≡ true }
+    ensures { Lays draft.old draft.new (before_node settings.now (level_of level.now) simple) stay }
 {
     let mark = mark_of(level.state, level.flow, simple);
     if level.flow {
@@ -76,10 +76,10 @@ fn put_lead(draft: &mut Draft, settings: &Settings, level: Level, simple: bool)
 /// What comes before a node in its collection, by whether the node is a simple key.
 // Inlined: the node's level stays in registers.
 #[inline(always)]
-pub fn put_before(draft: &mut Draft, settings: &Settings, level: Level, simple: bool)
+pub fn put_before(draft: &mut Draft, settings: &Settings, level: &Level, simple: bool)
     requires on { IsOf settings.now draft.old }
-    requires narrow { level.indent < 2 ^ 31 }
-    ensures { Lays draft.old draft.new (before_node settings.now (level_of level) simple) stay }
+    requires narrow { level.now.indent < 2 ^ 31 }
+    ensures { Lays draft.old draft.new (before_node settings.now (level_of level.now) simple) stay }
 {
     if level.state.is_entry() {
         put_lead(draft, settings, level, simple);

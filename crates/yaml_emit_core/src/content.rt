@@ -151,6 +151,8 @@ pub fn lay_scalar(draft: &mut Draft, settings: &Settings, levels: &mut Levels, s
 {
     let level = levels.top();
     let simple = is_simple(settings, level.state, scalar);
+    put_before(draft, settings, level, simple);
+    put_properties(draft, &scalar.properties);
     let flow = is_in_flow(level);
     let style = style_of(settings, scalar, flow, simple);
     let manner = Manner {
@@ -160,8 +162,6 @@ pub fn lay_scalar(draft: &mut Draft, settings: &Settings, levels: &mut Levels, s
         marked: is_marked(scalar, style),
     };
     let page = page_of(settings, deeper(settings, level), simple);
-    put_before(draft, settings, level, simple);
-    put_properties(draft, &scalar.properties);
     put_inside(draft, page, manner, scalar);
     levels.step(simple);
 }

@@ -1,9 +1,6 @@
 //! An emitter: one event after another is laid out.
 
-ghost use Rattle.std.specs.Prelude.{◌≡◌, ◌<◌, ◌^◌, Bool, true, false};
-ghost use Rattle.yaml_parse_model.specs.Events.{borrowed_body};
-ghost use Rattle.yaml_parse_model.specs.Constructors.{HasUtf8};
-ghost use Rattle.yaml_emit_layout.specs.Content.{emitter_event};
+ghost use Rattle.std.specs.Prelude.{◌≡◌, ◌<◌, ◌^◌, false};
 
 mod events;
 mod outer;
@@ -17,7 +14,6 @@ use std::alloc::Global;
 use std::marker::Model;
 use yaml_emit_layout::{Expected, Problem, Settings, Status};
 use yaml_emit_output::{Draft, Output};
-use yaml_parse_model::EventRef;
 
 /// An emitter: the settings in force, the text that is laid out, what the output has of it, what comes next, and the directives of the
 /// document.
@@ -48,7 +44,7 @@ impl Model for Core {
 }
 
 impl Core {
-    ghost use Rattle.yaml_emit_core.specs.Steps.{LaysOut, IsFreshCore};
+    ghost use Rattle.yaml_emit_core.specs.Steps.{IsFreshCore};
 
     /// Nothing was laid out.
     pub fn new(alloc: Global, settings: Settings, limit: u64) -> Core
@@ -105,18 +101,5 @@ impl Core {
         ensures { result ≡ self.now.starved }
     {
         self.starved
-    }
-
-    /// Lays out an event, by whether it opens a collection that the next event closes; or refuses it. For out of memory the output
-    /// stops.
-    pub fn lay_out(&mut self, event: &EventRef, empty: bool)
-        requires { HasUtf8 (borrowed_body event.now) }
-        ensures { LaysOut self.old self.new (emitter_event (borrowed_body event.now)) empty }
-    {
-        if self.is_going() {
-            self.lay_next(event, empty);
-        } else {
-            self.lay_late(event);
-        }
     }
 }

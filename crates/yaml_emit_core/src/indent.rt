@@ -10,18 +10,18 @@ use yaml_emit_layout::Settings;
 use yaml_emit_output::Draft;
 
 /// Whether a node is in a flow collection.
-pub fn is_in_flow(level: Level) -> bool
-    ensures { (simple : Bool) → result ≡ (position_of (level_of level) simple).flow }
+pub fn is_in_flow(level: &Level) -> bool
+    ensures { (simple : Bool) → result ≡ (position_of (level_of level.now) simple).flow }
 {
     level.state.is_inside() & level.flow
 }
 
 /// One indent deeper than the innermost collection.
-pub fn deeper(settings: &Settings, level: Level) -> u64
+pub fn deeper(settings: &Settings, level: &Level) -> u64
     requires step { settings.now.indent < 2 ^ 31 }
-    requires narrow { level.indent < 2 ^ 31 }
+    requires narrow { level.now.indent < 2 ^ 31 }
     ensures value { (simple : Bool) → result ≡ deeper settings.now (position_of
-        (level_of level) simple).around }
+        (level_of level.now) simple).around }
     ensures few { result < 2 ^ 32 }
 {
     if level.state.is_inside() {
@@ -32,12 +32,12 @@ pub fn deeper(settings: &Settings, level: Level) -> u64
 }
 
 // Of a block collection: a sequence that is a key or a value keeps the indentation round it where the line isn't bare.
-fn block_indent(draft: &Draft, settings: &Settings, level: Level, sequence: bool) -> u64
+fn block_indent(draft: &Draft, settings: &Settings, level: &Level, sequence: bool) -> u64
     requires step { settings.now.indent < 2 ^ 31 }
-    requires narrow { level.indent < 2 ^ 31 }
+    requires narrow { level.now.indent < 2 ^ 31 }
     ensures value { (simple : Bool) → result
         ≡ indent_of settings.now (position_of
-        (level_of level) simple) sequence false draft.now.output.cursor }
+        (level_of level.now) simple) sequence false draft.now.output.cursor }
     ensures few { result < 2 ^ 32 }
 {
     if !level.state.is_inside() {
@@ -53,15 +53,15 @@ fn block_indent(draft: &Draft, settings: &Settings, level: Level, sequence: bool
 pub fn indent_of(
     draft: &Draft,
     settings: &Settings,
-    level: Level,
+    level: &Level,
     sequence: bool,
     flow: bool,
 ) -> u64
     requires step { settings.now.indent < 2 ^ 31 }
-    requires narrow { level.indent < 2 ^ 31 }
+    requires narrow { level.now.indent < 2 ^ 31 }
     ensures value { (simple : Bool) → result
         ≡ indent_of settings.now (position_of
-        (level_of level) simple) sequence flow draft.now.output.cursor }
+        (level_of level.now) simple) sequence flow draft.now.output.cursor }
     ensures few { result < 2 ^ 32 }
 {
     if flow {

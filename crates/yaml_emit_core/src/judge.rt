@@ -5,14 +5,13 @@ ghost use Rattle.yaml_emit_layout.specs.declared.Settings.{Settings};
 ghost use Rattle.yaml_emit_layout.specs.Content as said;
 ghost use Rattle.yaml_parse_model.specs.Events.{borrowed_body, TagDirective};
 ghost use Rattle.yaml_emit_layout.specs.Content.{emitter_event};
-ghost use Rattle.yaml_emit_layout.specs.Grammar.{event_problem, kept_tag, or_else, name_problem, anchor_problem, tag_problem, start_tag, scalar_tag, has};
+ghost use Rattle.yaml_emit_layout.specs.Grammar.{or_else, name_problem, anchor_problem, tag_problem, start_tag, scalar_tag, has};
 ghost use Rattle.yaml_emit_layout.specs.State.{problem_at};
 ghost use Rattle.yaml_emit_core.specs.Judged.{misplaced, is_start, is_over, fits_at};
 ghost use Rattle.yaml_emit_core.specs.Steps.{is_outer, is_document_start};
 ghost use Rattle.yaml_emit_core.specs.Levels.{awaits_node, may_end, opening, ending, state_at, Stands};
 
 use crate::alphas::are_alphas;
-use crate::given::kept_tag;
 use crate::level::{Levels, State};
 use yaml_emit_layout::Problem;
 use yaml_parse_model::EventRef;
@@ -202,53 +201,4 @@ pub fn outer_problem(levels: &Levels, event: &EventRef) -> Option<Problem>
 {
     let state = levels.top().state;
     place_if(fits(event, state), state)
-}
-
-fn names_problem(
-    canonical: bool,
-    left_out: bool,
-    anchor: Option<&[u8]>,
-    tag: Option<&[u8]>,
-) -> Option<Problem>
-    ensures { result ≡ or_else (anchor_problem (option_map (λ n. n.now) anchor.entry))
-        (tag_problem (kept_tag canonical left_out (option_map (λ t. t.now) tag.entry))) }
-{
-    or_else(
-        anchor_problem(anchor),
-        tag_problem(kept_tag(canonical, left_out, tag)),
-    )
-}
-
-/// What is wrong with the names in an event, in canonical form or not, wherever it is.
-#[tactic(auto, unfolding(yaml_emit_layout::specs::Grammar::event_problem))]
-pub fn event_problem(canonical: bool, event: &EventRef) -> Option<Problem>
-    ensures { result ≡ event_problem canonical (emitter_event (borrowed_body event.now)) }
-{
-    match *event {
-        EventRef::Alias { anchor } => name_problem(
-            Problem::AliasEmpty,
-            Problem::AliasCharacters,
-            anchor,
-        ),
-        EventRef::Scalar {
-            anchor,
-            tag,
-            plain_implicit,
-            quoted_implicit,
-            ..
-        } => names_problem(canonical, plain_implicit | quoted_implicit, anchor, tag),
-        EventRef::SequenceStart {
-            anchor,
-            tag,
-            implicit,
-            ..
-        }
-        | EventRef::MappingStart {
-            anchor,
-            tag,
-            implicit,
-            ..
-        } => names_problem(canonical, implicit, anchor, tag),
-        _ => None,
-    }
 }

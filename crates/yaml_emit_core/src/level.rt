@@ -192,12 +192,12 @@ impl Levels {
     }
 
     /// The innermost level.
-    pub fn top(&self) -> Level
-        ensures state { result.state ≡ self.now.state }
-        ensures level { level_of result ≡ top_of self.now.levels }
-        ensures narrow { result.indent < 2 ^ 31 }
+    pub fn top(&self) -> &Level
+        ensures state { result.now.state ≡ self.now.state }
+        ensures level { level_of result.now ≡ top_of self.now.levels }
+        ensures narrow { result.now.indent < 2 ^ 31 }
     {
-        self.top
+        &self.top
     }
 
     /// What is expected, by whether the last document ended implicitly.

@@ -29,12 +29,12 @@ fn space_behind(simple: bool) -> u8
 
 // What ends a collection: of a flow collection in canonical form a comma in the line before, and the bracket at the indentation round
 // it.
-fn put_end(draft: &mut Draft, settings: &Settings, level: Level, bracket: u8)
+fn put_end(draft: &mut Draft, settings: &Settings, level: &Level, bracket: u8)
     requires on { IsOf settings.now draft.old }
-    requires narrow { level.indent < 2 ^ 31 }
+    requires narrow { level.now.indent < 2 ^ 31 }
     requires bracket { (0 < bracket) × (bracket < 0x80) }
-    ensures { Lays draft.old draft.new (when level.flow (closer_by settings.now level.indent
-        (is_further level.state) bracket)) stay }
+    ensures { Lays draft.old draft.new (when level.now.flow (closer_by settings.now
+        level.now.indent (is_further level.now.state) bracket)) stay }
 {
     if level.flow {
         if settings.canonical & level.state.is_further() {

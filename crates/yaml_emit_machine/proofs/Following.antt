@@ -5,15 +5,12 @@ use Rattle.yaml_emit_layout.specs.declared.Status.TheVariants.{Going}
 use Rattle.yaml_emit_layout.specs.declared.Cursor.{Cursor}
 use Rattle.yaml_emit_layout.specs.Layout.{stay}
 use Rattle.yaml_emit_layout.proofs.Sinks.{grows_none, grows_both}
-use Rattle.yaml_emit_layout.specs.declared.Settings.{Settings}
-use Rattle.yaml_emit_layout.specs.declared.level.NodePosition.{NodePosition}
-use Rattle.yaml_emit_layout.specs.Nodes.{Context, context_of, is_simple_start, is_flow}
-use Rattle.yaml_emit_layout.specs.Content.{Event, Start, sequence_start, mapping_start}
-use Rattle.yaml_emit_layout.specs.State.{State, piece, next, problem_at, opens_empty, text_at, depth_at, next_at, is_simple_event, position_of, top_of}
+use Rattle.yaml_emit_layout.specs.Content.{Event, sequence_start, mapping_start}
+use Rattle.yaml_emit_layout.specs.State.{piece, next, problem_at, opens_empty}
 use Rattle.yaml_emit_core.specs.Steps.{Core, state_of, settings_of, next_state, next_piece, LaysOut, IsPut, IsSame, takes_memory, is_document_start, goes_on}
 use Rattle.yaml_emit_core.proofs.Finishing.{finishes_on}
 use Rattle.yaml_emit_core.proofs.Noting.{notes_both, notes_within}
-use Rattle.yaml_emit_machine.specs.Held.{is_ready, passes, asks_next}
+use Rattle.yaml_emit_machine.specs.Held.{is_ready, passes}
 use Rattle.yaml_emit_machine.specs.Judged.{refused_at, take_memory, first_takes, first_starts, RefusesHeld}
 use Rattle.yaml_emit_machine.specs.Laying.{HasLaid, LaysOn, LaysEvents}
 use Rattle.yaml_emit_machine.proofs.Opening.{opens_none}
@@ -170,56 +167,13 @@ pub on_oldest : (a b c : Core) (h held new z : List Event) (e f : Event)
 on_oldest a b c h held new z e f p same n goes l =
     rw n (on_more a b c h (z ++ f ∷ []) e _ (rw same at p) goes (settles_by b e _ (z ++ f ∷ []) (λ es. told e z f es)) l)
 
-simple_off : (p : Context) (q : Start) (v : Bool) → p.settings.canonical ≡ true
-    → is_simple_start p q v ≡ false
-unfolding is_simple_start
-simple_off p q v c = rw c refl
-
-flow_on : (s : Settings) (at : NodePosition) (q : Start) (v : Bool) → s.canonical ≡ true
-    → is_flow s at q v ≡ true
-flow_on s at q v c = rw c refl
-
--- canonical form doesn't ask whether a collection is empty
-pub same_canonical : (s : Settings) (st : State) (e : Event) (v w : Bool) → s.canonical ≡ true
-    → IsSame s st e v w
-unfolding text_at depth_at next_at is_simple_event
-same_canonical s st (sequence_start q) v w c =
-    let p : Context = context_of s st.directives in
-    let a = simple_off p q v c in
-    let b = simple_off p q w c in
-    let m = flow_on s (position_of (top_of st.levels) false) q v c in
-    let n = flow_on s (position_of (top_of st.levels) false) q w c in
-    rw (a, b, m, n) (refl, λ d. refl)
-same_canonical s st (mapping_start q) v w c =
-    let p : Context = context_of s st.directives in
-    let a = simple_off p q v c in
-    let b = simple_off p q w c in
-    let m = flow_on s (position_of (top_of st.levels) false) q v c in
-    let n = flow_on s (position_of (top_of st.levels) false) q w c in
-    rw (a, b, m, n) (refl, λ d. refl)
-same_canonical s st _ v w c = (refl, λ d. refl)
-
-asked : (canonical : Bool) (e : Event) (es : List Event) → canonical ≡ false
-    → asks_next canonical e ≡ false → false ≡ opens_empty e es
-unfolding opens_empty
-asked true e es c h = absurd (cc)
-asked false (sequence_start q) es c h = absurd (cc)
-asked false (mapping_start q) es c h = absurd (cc)
-asked false _ es c h = refl
-
--- what needn't wait for the next event is laid out the same whatever that is
-settles_alone : (canonical : Bool) (b : Core) (e : Event) → canonical ≡ b.settings.canonical
-    → asks_next canonical e ≡ false → Settles b e false []
-settles_alone true b e c h = λ es. same_canonical (settings_of b) (state_of b) e false (opens_empty e es) (sym c)
-settles_alone false b e c h = settles_by b e false [] (λ es. asked false e es refl h)
-
 -- an event that needn't wait
-pub on_alone : (canonical : Bool) (a b c : Core) (x h : List Event) (e : Event)
+pub on_alone : (a b c : Core) (x h : List Event) (e : Event)
     → LaysOn a x b (h ++ e ∷ []) → h ≡ [] → goes_on b.sink.status b.place ≡ true
-    → canonical ≡ b.settings.canonical → asks_next canonical e ≡ false
+    → ((v w : Bool) → IsSame (settings_of b) (state_of b) e v w)
     → LaysOut b c e false → LaysOn a x c []
-on_alone canonical a b c x h e j none goes is off l =
-    on_more a b c x [] e false (rw none at j) goes (settles_alone canonical b e is off) l
+on_alone a b c x h e j none goes same l =
+    on_more a b c x [] e false (rw none at j) goes (λ es. same false (opens_empty e es)) l
 
 -- ---- memory
 

@@ -35,21 +35,6 @@ use Rattle.yaml_emit_machine.proofs.Judging.{or_some, unless_some}
 
 -- ---- one call after another
 
--- nothing was taken
-pub takes_none : (e : Emitter) (es : List Event) → TakesEvents e es e es
-takes_none e es = record {
-  completes = λ x more whole h. h;
-  refuses = λ g more. refl;
-  writes = λ x more whole h. h;
-  first = λ g more. refl;
-  lays = λ x more whole h. h;
-  grows = grows_none e.output;
-  going = λ g. g;
-  requested_settings = refl;
-  limit = refl;
-  begun = λ f. (f, refl);
-}
-
 pub takes_on : (a b c : Emitter) (es fs gs : List Event) → TakesEvents a es b fs
     → TakesEvents b fs c gs → TakesEvents a es c gs
 takes_on a b c es fs gs p q = record {

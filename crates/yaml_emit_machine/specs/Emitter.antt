@@ -135,10 +135,6 @@ fault_by Starved levels p = stopped Starved levels
 abbrev pub refusal_by : Expected → Status → Bool → Option Fault
 refusal_by place s levels = fault_by s levels (refused_at place)
 
--- the fault of what has stopped an emitter
-abbrev pub stop_of : Emitter → Option Fault
-stop_of e = refusal_by e.course.state.place e.status e.starved
-
 -- the encoding of a stream that begins so
 abbrev pub stream_encoding : Event → yaml_encoding_t
 stream_encoding (stream_start x) = x

@@ -105,10 +105,10 @@ abbrev pub releases : List Event → Event → Bool
 releases [] e = false
 releases (f ∷ fs) e = is_ready (f ∷ fs ++ e ∷ [])
 
--- an event is to wait for the next one: it opens a collection, and the form, which isn't canonical, asks whether that is empty
+-- an event may have to wait for the next one: it opens a collection, and the form, which isn't canonical, may ask whether that is empty
 abbrev pub asks_next : Bool → Event → Bool
 asks_next canonical e = not canonical && opens e
 
--- where events are laid out as they come, nothing is held, or the last event alone, which is to wait for the next one
+-- where events are laid out as they come, nothing is held, or the last event alone, which may have to wait for the next one
 abbrev pub IsWaiting : Bool → Event → List Event → Type 0
 IsWaiting canonical e held = (held ≡ []) ⊎ ((held ≡ e ∷ []) × (asks_next canonical e ≡ true))

@@ -233,13 +233,7 @@ impl yaml_emitter_t {
         requires begun { self.old.fresh ≡ false }
         ensures { TakesSoon self.old (emitter_event (borrowed_body event.now)) self.new }
     {
-        lay_soon(
-            self.alloc,
-            self.requested_settings.canonical,
-            &mut self.core,
-            &mut self.held,
-            event,
-        );
+        lay_soon(self.alloc, &mut self.core, &mut self.held, event);
         note(&self.core, &mut self.fault);
     }
 

@@ -5,7 +5,7 @@ ghost use Rattle.yaml_parse_model.specs.Events.{body_of, borrowed_body};
 ghost use Rattle.yaml_parse_model.specs.Constructors.{HasUtf8};
 ghost use Rattle.yaml_emit_layout.specs.Content.{emitter_event};
 ghost use Rattle.yaml_emit_layout.specs.State.{opens_empty, closes_by};
-ghost use Rattle.yaml_emit_core.specs.Steps.{LaysOut};
+ghost use Rattle.yaml_emit_core.specs.Steps.{LaysOut, goes_on};
 
 use std::alloc::{AllocError, Global};
 use std::mem;
@@ -237,6 +237,7 @@ impl Held {
     #[inline(never)]
     pub fn lay_oldest(&mut self, core: &mut Core, event: &EventRef)
         requires ready { are_some (held_events self.old) ≡ true }
+        requires going { goes_on core.old.sink.status core.old.place ≡ true }
         requires utf8 { HeldUtf8 self.old }
         ensures events { held_events self.new ≡ later_events self.old }
         ensures utf8 { HeldUtf8 self.new }

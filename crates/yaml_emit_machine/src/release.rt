@@ -5,7 +5,7 @@ ghost use Rattle.yaml_parse_model.specs.Events.{borrowed_body};
 ghost use Rattle.yaml_parse_model.specs.Constructors.{HasUtf8};
 ghost use Rattle.yaml_emit_layout.specs.Content.{emitter_event};
 ghost use Rattle.yaml_emit_core.specs.Steps.{goes_on};
-ghost use Rattle.yaml_emit_machine.specs.Held.{held_events, HeldUtf8, is_ready, releases, asks_next, are_some, AreLast};
+ghost use Rattle.yaml_emit_machine.specs.Held.{held_events, HeldUtf8, is_ready, releases, AreLast};
 ghost use Rattle.yaml_emit_machine.specs.Laying.{LaysOn, LaysEvents, HoldsOrLays, LaysSoon};
 
 use crate::held::Held;
@@ -64,55 +64,39 @@ pub fn hold_or_lay(alloc: Global, core: &mut Core, held: &mut Held, event: &Even
     }
 }
 
-// Whether any is held, and is to be laid out.
-fn is_left(core: &Core, held: &Held) -> bool
-    ensures is { result ≡ (are_some (held_events held.now)
-        && goes_on core.now.sink.status core.now.place) }
-    ensures none { result ≡ false → goes_on core.now.sink.status core.now.place ≡ true
-        → held_events held.now ≡ [] }
-{
-    held.holds_any() && core.is_going()
-}
-
-// All that are held are laid out, with an event after them, up to the first one that is refused. That event isn't held yet.
-fn release_all(core: &mut Core, held: &mut Held, event: &EventRef)
+// All that are held are laid out, with an event after them, up to the first one that is refused. That event isn't held yet. Answers
+// whether nothing has stopped the output.
+fn release_all(core: &mut Core, held: &mut Held, event: &EventRef) -> bool
     requires utf8 { HeldUtf8 held.old }
     requires going { goes_on core.old.sink.status core.old.place ≡ true }
     ensures lays { LaysOn core.old (held_events held.old
         ++ emitter_event (borrowed_body event.now) ∷ []) core.new (held_events held.new
         ++ emitter_event (borrowed_body event.now) ∷ []) }
     ensures utf8 { HeldUtf8 held.new }
-    ensures none { goes_on core.new.sink.status core.new.place ≡ true → held_events held.new ≡ [] }
+    ensures goes { result ≡ goes_on core.new.sink.status core.new.place }
+    ensures none { result ≡ true → held_events held.new ≡ [] }
     ensures settings { core.new.settings ≡ core.old.settings }
 {
-    while is_left(core, held) {
+    while held.holds_any() {
         held.lay_oldest(core, event);
+        if !core.is_going() {
+            return false;
+        }
     }
-}
-
-// Whether an event is to wait for the next one, by whether the form is canonical.
-fn asks_next(canonical: bool, event: &EventRef) -> bool
-    ensures { result ≡ asks_next canonical (emitter_event (borrowed_body event.now)) }
-{
-    match event {
-        EventRef::SequenceStart { .. } | EventRef::MappingStart { .. } => !canonical,
-        _ => false,
-    }
+    true
 }
 
 /// An event is given after the held ones, which are laid out, and it too, unless it has to wait for the next one: then a copy of it is
 /// held. Where memory is refused for that, nothing more is laid out. Once nothing more is, none is held.
-pub fn lay_soon(alloc: Global, canonical: bool, core: &mut Core, held: &mut Held, event: &EventRef)
-    requires form { canonical ≡ core.old.settings.canonical }
+pub fn lay_soon(alloc: Global, core: &mut Core, held: &mut Held, event: &EventRef)
     requires going { goes_on core.old.sink.status core.old.place ≡ true }
     requires utf8 { HeldUtf8 held.old × HasUtf8 (borrowed_body event.now) }
     ensures { LaysSoon core.old held.old (emitter_event (borrowed_body event.now)) core.new
         held.new }
 {
-    release_all(core, held, event);
-    if !core.is_going() {
+    if !release_all(core, held, event) {
         held.clear();
-    } else if asks_next(canonical, event) {
+    } else if core.asks_empty(event) {
         match held.hold(alloc, event) {
             Ok(()) => (),
             Err(_) => core.starve(),

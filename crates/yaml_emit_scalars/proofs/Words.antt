@@ -1,9 +1,9 @@
 -- Scalars that are one word.
 use Rattle.std.proofs.Common.{◌≡◌, ◌≢◌, ℕ, zero, suc, ◌+◌, ◌-◌, ◌<◌, ◌≤◌, List, [], ◌∷◌, ◌++◌, length, get_or, bit_and, Bool, true, false, refl, sym, subst, ◌∙◌, ap, arith, append-nil, inl, inr}
-use Rattle.std.specs.Prelude.{not, ◌==◌, ◌||◌}
+use Rattle.std.specs.Prelude.{not, ◌==◌, ◌||◌, ◌&&◌, nat_le}
 use Rattle.std.specs.Str.{chars, IsAscii}
 use Rattle.std.proofs.Math.Seq.{take-length}
-use Rattle.std.proofs.lemmas.Bool.{and_parts, false≢true, eqb-true, cases_lt}
+use Rattle.std.proofs.lemmas.Bool.{and_parts, false≢true, eqb-true, eq-eqb, ne_eqb, cases_lt}
 use Rattle.std.proofs.lemmas.List.{get_or_past}
 use Rattle.std.proofs.lemmas.Str.{chars-IsAscii}
 use Rattle.yaml_emit_layout.specs.declared.cursor.Cursor.{Cursor}
@@ -20,7 +20,7 @@ use Rattle.yaml_emit_layout.specs.Style.{last_or}
 use Rattle.yaml_emit_output.specs.Draft.{Page as Paper, Lays}
 use Rattle.yaml_emit_output.specs.Placed.{sign_bytes, mark_bytes}
 use Rattle.yaml_emit_scalars.specs.Classes.{Covers}
-use Rattle.yaml_emit_scalars.specs.Runs.{IsRun, stands, stops, goes_on, quoted_in, flow_in, quote_of}
+use Rattle.yaml_emit_scalars.specs.Runs.{IsRun, is_word, stands, stops, goes_on, quoted_in, flow_in, quote_of}
 use Rattle.yaml_emit_scalars.specs.declared.run.Body.{Body}
 use Rattle.yaml_emit_scalars.specs.declared.run.Body.TheVariants.{Open}
 use Rattle.yaml_emit_scalars.proofs.ClassLemmas.{covers_none}
@@ -66,6 +66,33 @@ pub run_fits : (body : Body) (cuts : Bool) (width column classes : ℕ) (text : 
     → Covers classes text 0 (length text) → bit_and classes (stops body) ≡ 0
     → length text + 8 ≤ width - column → IsRun body cuts width column text
 run_fits body cuts width column classes text h n f = class_run body cuts width column classes text h n (λ i k u l t c. omega (arith, f, l, u))
+
+-- what is put as one word
+pub word_ended : (body : Body) (cuts : Bool) (classes count left : ℕ)
+    → bit_and classes (stops body) ≢ 0 → false ≡ is_word body cuts classes count left
+word_ended body cuts classes count left h = sym (ap (λ z. z && (not cuts || (bit_and classes 1 == 0 || nat_le (count + 8) left))) (ne_eqb (bit_and classes (stops body)) 0 h))
+
+word_unended : (body : Body) (cuts : Bool) (classes count left : ℕ)
+    → bit_and classes (stops body) ≡ 0 → is_word body cuts classes count left
+    ≡ (not cuts || (bit_and classes 1 == 0 || nat_le (count + 8) left))
+word_unended body cuts classes count left h = ap (λ z. z && (not cuts || (bit_and classes 1 == 0 || nat_le (count + 8) left))) (eq-eqb (bit_and classes (stops body)) 0 h)
+
+pub word_uncut : (body : Body) (cuts : Bool) (classes count left : ℕ)
+    → bit_and classes (stops body) ≡ 0
+    → cuts ≡ false → true ≡ is_word body cuts classes count left
+word_uncut body cuts classes count left h e = sym (word_unended body cuts classes count left h ∙ ap (λ z. not z || (bit_and classes 1 == 0 || nat_le (count + 8) left)) e)
+
+pub word_unspaced : (body : Body) (cuts : Bool) (classes count left : ℕ)
+    → bit_and classes (stops body) ≡ 0
+    → cuts ≡ true → bit_and classes 1 ≡ 0 → true ≡ is_word body cuts classes count left
+word_unspaced body cuts classes count left h e s = sym (word_unended body cuts classes count left h ∙ (ap (λ z. not z || (bit_and classes 1 == 0 || nat_le (count + 8) left)) e
+    ∙ ap (λ z. z || nat_le (count + 8) left) (eq-eqb (bit_and classes 1) 0 s)))
+
+pub word_spaced : (body : Body) (cuts : Bool) (classes count left : ℕ)
+    → bit_and classes (stops body) ≡ 0
+    → cuts ≡ true → bit_and classes 1 ≢ 0 → nat_le (count + 8) left ≡ is_word body cuts classes count left
+word_spaced body cuts classes count left h e s = sym (word_unended body cuts classes count left h ∙ (ap (λ z. not z || (bit_and classes 1 == 0 || nat_le (count + 8) left)) e
+    ∙ ap (λ z. z || nat_le (count + 8) left) (ne_eqb (bit_and classes 1) 0 s)))
 
 run_ends : (body : Body) (cuts : Bool) (width k before : ℕ) (bs : List ℕ) → is_break before ≡ false
     → all_pass (goes_on body cuts width) k bs ≡ true

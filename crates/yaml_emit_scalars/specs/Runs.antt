@@ -1,9 +1,11 @@
 -- Runs of a value that are put as they are.
-use Rattle.std.specs.Prelude.{◌≡◌, ℕ, ◌+◌, ◌≤◌, Bool, true, false, not, ◌&&◌, ◌||◌, ◌==◌, nat_le, List, [], ◌∷◌, ◌++◌, take}
+use Rattle.std.specs.Prelude.{◌≡◌, ℕ, ◌+◌, ◌≤◌, Bool, true, false, not, ◌&&◌, ◌||◌, ◌==◌, nat_le, bit_and, List, [], ◌∷◌, ◌++◌, take}
 use Rattle.std.specs.Str.{chars, IsAscii, IsCharBoundary}
 use Rattle.yaml_scan_types.specs.Ascii as ascii
 use Rattle.yaml_scan_runs.specs.Runs.{is_stop}
 use Rattle.yaml_emit_layout.specs.declared.cursor.Cursor.{Cursor}
+use Rattle.yaml_emit_layout.specs.declared.page.Style.{Style}
+use Rattle.yaml_emit_layout.specs.declared.page.Style.TheVariants as style
 use Rattle.yaml_emit_layout.specs.Text.{is_break}
 use Rattle.yaml_emit_layout.specs.Layout.{Layout, Rest, ◌▹◌, letters}
 use Rattle.yaml_emit_layout.specs.Quoted.{needs_escape}
@@ -66,6 +68,21 @@ pub record Begins (body : Body) (cuts : Bool) (width column : ℕ) (text : List 
 pub record IsRun (body : Body) (cuts : Bool) (width column : ℕ) (text : List ℕ) : Type 0 where
   pub ascii : IsAscii text
   pub pass : (k : ℕ) → k ≤ column + 8 → all_pass (goes_on body cuts width) k text ≡ true
+
+-- a text of that many bytes, of these classes, is put as one word where that many columns are left: none of its bytes ends a run,
+-- and no space in it may be past the width, wherever it begins after a space, `! ` and a quote
+abbrev pub is_word : Body → Bool → ℕ → ℕ → ℕ → Bool
+is_word body cuts classes count left = bit_and classes (stops body) == 0
+    && (not cuts || (bit_and classes 0x001 == 0 || nat_le (count + 8) left))
+
+-- a scalar of that style is: none that is a block
+abbrev pub puts_word : Style → Bool → Bool → ℕ → ℕ → ℕ → Bool
+puts_word style.Plain unicode cuts classes count left = is_word Open cuts classes count left
+puts_word style.Single unicode cuts classes count left = is_word Single cuts classes count left
+puts_word style.Double unicode cuts classes count left =
+    is_word (quoted_in unicode) cuts classes count left
+puts_word style.Literal unicode cuts classes count left = false
+puts_word style.Folded unicode cuts classes count left = false
 
 -- after a character, what is written for a value has each run of it as it is
 abbrev pub KeepsRuns : (ℕ → ℕ → Bool) → (ℕ → List ℕ → Layout) → ℕ → Type 0

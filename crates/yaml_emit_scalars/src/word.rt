@@ -1,6 +1,6 @@
 //! Scalars that are one word: most are.
 
-ghost use Rattle.std.specs.Prelude.{◌≡◌, ◌≢◌, ◌<◌, ◌≤◌, ◌+◌, ◌∷◌, [], true, false, length};
+ghost use Rattle.std.specs.Prelude.{◌≡◌, ◌≢◌, ◌<◌, ◌≤◌, ◌+◌, ◌-◌, ◌∷◌, [], true, false, length};
 ghost use Rattle.yaml_scan_types.specs.Ascii as ascii;
 ghost use Rattle.std.specs.Str.{chars};
 ghost use Rattle.yaml_emit_layout.specs.Layout.{◌▹◌, stay, when, char, letters, gap, word};
@@ -8,7 +8,8 @@ ghost use Rattle.yaml_emit_layout.specs.Scalars.{plain, scalar_text};
 ghost use Rattle.yaml_emit_scalars.specs.Classes.{Covers};
 ghost use Rattle.yaml_emit_output.specs.Draft.{Lays};
 ghost use Rattle.yaml_emit_scalars.specs.On.{IsOn};
-ghost use Rattle.yaml_emit_scalars.specs.Runs.{IsRun, quote_of};
+ghost use Rattle.yaml_emit_scalars.specs.Runs.{IsRun, is_word, puts_word, quote_of};
+ghost use Rattle.yaml_emit_scalars.specs.declared.run.Body.TheVariants.{Open};
 
 use crate::class::SPACE;
 use crate::run::{Body, quoted_in, stops_of};
@@ -19,7 +20,9 @@ use yaml_emit_output::Draft;
 // Whether a text is a run: no byte of its classes ends one, and no space in it may be past the width.
 fn is_run(draft: &Draft, body: Body, cuts: bool, text: &[u8], classes: u16) -> bool
     requires { Covers classes text.now 0 (length text.now) }
-    ensures { result ≡ true
+    ensures is { result ≡ is_word body cuts classes (length text.now)
+        (draft.now.width - draft.now.output.cursor.column) }
+    ensures run { result ≡ true
         → IsRun body cuts draft.now.width draft.now.output.cursor.column text.now }
 {
     if classes & stops_of(body) != 0 {
@@ -38,6 +41,8 @@ fn is_run(draft: &Draft, body: Body, cuts: bool, text: &[u8], classes: u16) -> b
 fn put_plain_word(draft: &mut Draft, page: Page, flow: bool, value: &str, classes: u16) -> bool
     requires on { IsOn page draft.old }
     requires classes { Covers classes value.now 0 (length value.now) }
+    ensures is { result ≡ is_word Open page.cuts classes (length value.now)
+        (draft.old.width - draft.old.output.cursor.column) }
     ensures whole { result ≡ true → Lays draft.old draft.new
         (plain page flow (chars value.now)) stay }
     ensures none { result ≡ false → draft.new ≡ draft.old }
@@ -75,6 +80,8 @@ fn put_quoted(
     classes: u16,
 ) -> bool
     requires { Covers classes value.now 0 (length value.now) }
+    ensures is { result ≡ is_word body page.cuts classes (length value.now)
+        (draft.old.width - draft.old.output.cursor.column) }
     ensures run { result ≡ true
         → IsRun body page.cuts draft.old.width draft.old.output.cursor.column value.now }
     ensures whole { result ≡ true → Lays draft.old draft.new
@@ -97,6 +104,8 @@ pub fn put_word(draft: &mut Draft, page: Page, manner: Manner, value: &str, clas
     requires on { IsOn page draft.old }
     requires marked { manner.marked ≡ true → manner.style ≢ Style.Plain }
     requires classes { Covers classes value.now 0 (length value.now) }
+    ensures is { result ≡ puts_word manner.style page.unicode page.cuts classes
+        (length value.now) (draft.old.width - draft.old.output.cursor.column) }
     ensures whole { result ≡ true → Lays draft.old draft.new
         (when manner.marked (word (ascii.exclamation ∷ []))
         ▹ scalar_text page manner.digit manner.flow manner.style (chars value.now)) stay }

@@ -1,13 +1,13 @@
 //! Events of nodes: validated, laid out, settled.
 
-ghost use Rattle.std.specs.Prelude.{◌≡◌, Bool, true, IsUtf8};
+ghost use Rattle.std.specs.Prelude.{◌≡◌, ◌&&◌, Bool, true, false, not, IsUtf8};
 ghost use Rattle.yaml_parse_model.specs.Events.{borrowed_body};
 ghost use Rattle.yaml_parse_model.specs.Constructors.{HasUtf8};
 ghost use Rattle.yaml_emit_layout.specs.Content as said;
 ghost use Rattle.yaml_emit_layout.specs.Content.{emitter_event};
 ghost use Rattle.yaml_emit_core.specs.Given.{scalar_in, start_in};
 ghost use Rattle.yaml_emit_core.specs.Levels.{opening, ending};
-ghost use Rattle.yaml_emit_core.specs.Steps.{LaysOut, goes_on, opens};
+ghost use Rattle.yaml_emit_core.specs.Steps.{IsSame, LaysOut, goes_on, opens, settings_of, state_of};
 
 use super::Core;
 use crate::content::{Scalar, lay_scalar};
@@ -17,13 +17,24 @@ use crate::given::{
 use crate::judge::{alias_problem, end_problem, scalar_problem, start_problem};
 use crate::names::Properties;
 use crate::nodes::{lay_alias, lay_end};
-use crate::starts::{Opener, lay_start};
+use crate::starts::{Opener, asks_empty, lay_start};
 use yaml_emit_scalars::classes_of;
 use yaml_parse_model::EventRef;
 
 impl Core {
-    // An event is laid out, or refused.
-    pub(super) fn lay_next(&mut self, event: &EventRef, empty: bool)
+    /// Whether what is written for an event depends on whether it opens a collection that the next event closes.
+    pub fn asks_empty(&self, event: &EventRef) -> bool
+        ensures some { result ≡ true → (not self.now.settings.canonical && opens (emitter_event
+            (borrowed_body event.now))) ≡ true }
+        ensures same { result ≡ false → (v w : Bool) → IsSame (settings_of self.now)
+            (state_of self.now) (emitter_event (borrowed_body event.now)) v w }
+    {
+        asks_empty(&self.settings, self.levels.top(), event)
+    }
+
+    /// Lays out an event, by whether it opens a collection that the next event closes; or refuses it. For out of memory the output
+    /// stops.
+    pub fn lay_out(&mut self, event: &EventRef, empty: bool)
         requires utf8 { HasUtf8 (borrowed_body event.now) }
         requires going { goes_on self.old.sink.status self.old.place ≡ true }
         ensures { LaysOut self.old self.new (emitter_event (borrowed_body event.now)) empty }

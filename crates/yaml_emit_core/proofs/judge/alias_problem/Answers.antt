@@ -8,11 +8,11 @@ use Rattle.yaml_emit_core.proofs.judge.alias_problem.Goals as goal
 
 pub returns-clause-problem : goal.returns-clause-problem
 returns-clause-problem c = λ s unended directives.
-    let top = c.top-state.result in
+    let top = c.top.result.now in
     let ls = c.args.levels.now.levels in
     let name = c.args.name.now in
     let P : State → Type 0 = λ z. c.or_else.result ≡ problem_at s (state_at (record { state = z; levels = ls }) unended directives) (said.alias name) in
-    subst P c.top-state.ensures.state (rw (c.place_if.ensures, c.awaits_node.ensures, c.name_problem.ensures) at c.or_else.ensures ∙ alias_judged top.state unended top.flow top.indent ls s directives name c.top-state.ensures.level)
+    subst P c.top.ensures.state (rw (c.place_if.ensures, c.awaits_node.ensures, c.name_problem.ensures) at c.or_else.ensures ∙ alias_judged top.state unended top.flow top.indent ls s directives name c.top.ensures.level)
 
 pub returns-clause-stands : goal.returns-clause-stands
-returns-clause-stands c = stands_on c.top-state.result.state c.top-state.result.flow c.top-state.result.indent c.args.levels.now c.top-state.ensures.state c.top-state.ensures.level
+returns-clause-stands c = stands_on c.top.result.now.state c.top.result.now.flow c.top.result.now.indent c.args.levels.now c.top.ensures.state c.top.ensures.level

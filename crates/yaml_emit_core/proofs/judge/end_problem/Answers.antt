@@ -9,10 +9,10 @@ use Rattle.yaml_emit_core.proofs.judge.end_problem.Goals as goal
 
 pub returns-clause-problem : goal.returns-clause-problem
 returns-clause-problem c = λ s unended directives.
-    let top = c.top-state.result in
+    let top = c.top.result.now in
     let ls = c.args.levels.now.levels in
     let P : State → Type 0 = λ z. c.place_if.result ≡ problem_at s (state_at (record { state = z; levels = ls }) unended directives) (ending c.args.sequence) in
-    subst P c.top-state.ensures.state (c.place_if.ensures ∙ (ap (λ z. if z then None else Some (misplaced top.state)) c.may_end.ensures ∙ end_judged top.state unended top.flow c.args.sequence top.indent ls s directives c.top-state.ensures.level))
+    subst P c.top.ensures.state (c.place_if.ensures ∙ (ap (λ z. if z then None else Some (misplaced top.state)) c.may_end.ensures ∙ end_judged top.state unended top.flow c.args.sequence top.indent ls s directives c.top.ensures.level))
 
 pub returns-clause-stands : goal.returns-clause-stands
-returns-clause-stands c = stands_on c.top-state.result.state c.top-state.result.flow c.top-state.result.indent c.args.levels.now c.top-state.ensures.state c.top-state.ensures.level
+returns-clause-stands c = stands_on c.top.result.now.state c.top.result.now.flow c.top.result.now.indent c.args.levels.now c.top.ensures.state c.top.ensures.level

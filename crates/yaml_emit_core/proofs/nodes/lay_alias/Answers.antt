@@ -15,7 +15,7 @@ returns-clause-text c = λ unended empty directives.
     let s = c.args.settings.now in
     let name = c.args.name.now in
     let ls = c.args.levels.now.levels in
-    let top = c.top-level.result in
+    let top = c.top-level.result.now in
     let simple = ap (λ z. z && (not s.canonical && nat_le (length name) 128)) c.awaits_key.ensures in
     let P : State → Type 0 = λ z. Lays c.args.draft.now c.put_word.new.self (piece s (state_at (record { state = z; levels = ls }) unended directives) (said.alias name) empty) stay in
     subst P c.top-level.ensures.state (alias_piece top.state unended ls top.flow top.indent s directives name empty _ _ _ (ap awaits_node c.top-level.ensures.state ∙ c.requires.due) c.top-level.ensures.level simple
@@ -26,7 +26,7 @@ returns-clause-state c = λ unended empty directives behind.
     let s = c.args.settings.now in
     let name = c.args.name.now in
     let now = c.args.levels.now in
-    let top = c.top-level.result in
+    let top = c.top-level.result.now in
     let test = c.awaits_key.result && (not s.canonical && nat_le (length name) 128) in
     let simple = ap (λ z. z && (not s.canonical && nat_le (length name) 128)) c.awaits_key.ensures in
     let P : State → Type 0 = λ z. state_at c.step.new.self unended directives ≡ next s (state_at (record { state = z; levels = now.levels }) unended directives) (said.alias name) empty behind in

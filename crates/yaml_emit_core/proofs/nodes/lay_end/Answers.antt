@@ -11,7 +11,7 @@ pub returns-clause-text : goal.returns-clause-text
 returns-clause-text c = λ unended empty directives.
     let s = c.args.settings.now in
     let ls = c.args.levels.now.levels in
-    let top = c.top-level.result in
+    let top = c.top-level.result.now in
     let P : State → Type 0 = λ z. Lays c.args.draft.now c.put_end.new.draft (piece s (state_at (record { state = z; levels = ls }) unended directives) (ending c.args.sequence) empty) stay in
     subst P c.top-level.ensures.state (end_piece top.state unended ls top.flow top.indent c.bracket_of.result s directives c.args.sequence empty _ _ (ap (may_end c.args.sequence) c.top-level.ensures.state ∙ c.requires.due) c.top-level.ensures.level c.bracket_of.ensures.bracket c.put_end.ensures)
 

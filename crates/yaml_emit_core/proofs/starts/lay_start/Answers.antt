@@ -14,7 +14,7 @@ returns-clause-text c = λ unended directives q h.
     let s = c.args.settings.now in
     let o = c.args.start.now in
     let ls = c.args.levels.now.levels in
-    let top = c.top-level.result in
+    let top = c.top-level.result.now in
     let simple = c.is_simple-simple.result in
     let P : State → Type 0 = λ z. Lays c.args.draft.now c.open.new.draft (piece s (state_at (record { state = z; levels = ls }) unended directives) (opening o.sequence q) o.empty) stay in
     subst P c.top-level.ensures.state (start_piece top.state unended ls top.flow top.indent _ _ s directives o q simple _ _ _ _ _ _ h c.top-level.ensures.level c.is_simple-simple.ensures
@@ -26,7 +26,7 @@ returns-clause-state c = on_ok_weaker c.open.result (λ opens unended directives
     let s = c.args.settings.now in
     let o = c.args.start.now in
     let now = c.args.levels.now in
-    let top = c.top-level.result in
+    let top = c.top-level.result.now in
     let simple = c.is_simple-simple.result in
     let P : State → Type 0 = λ z. state_at c.open.new.levels unended directives ≡ next s (state_at (record { state = z; levels = now.levels }) unended directives) (opening o.sequence q) o.empty c.open.new.draft.output.cursor in
     subst P c.top-level.ensures.state (start_next top.state _ unended now.levels top.flow top.indent _ s directives o q simple _ _ _ c.open.new.levels h

@@ -48,3 +48,6 @@ returns-in-Err c =
       last = last_none _ _ none;
       settings = c.starve.ensures.settings ∙ c.release.ensures.settings;
     }
+
+pub lay_out-requires-clause-going : goal.lay_out-requires-clause-going
+lay_out-requires-clause-going c = sym c.is_going.ensures ∙ c.if-not-is_going.false

@@ -17,3 +17,6 @@ loop-held-preserved c =
       settings = c.lay_oldest.ensures.laid.settings ∙ c.loop-held.invariant.settings;
       short = λ off. one_less c.loop-held.held _ _ behind;
     }
+
+pub lay_oldest-requires-clause-going : goal.lay_oldest-requires-clause-going
+lay_oldest-requires-clause-going c = (and_parts _ _ (sym c.is_due.ensures.is ∙ c.loop-held-test.true)).1

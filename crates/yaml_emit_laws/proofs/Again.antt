@@ -1,6 +1,6 @@
 -- What a derivation of visits meets again is met again by the walk of a dump.
-use Rattle.std.proofs.Common.{◌≡◌, ◌<◌, ◌≤◌, ◌+◌, ℕ, zero, suc, ℤ, pos, Bool, true, false, List, [], ◌∷◌, length, Some, refl, ap, subst, ◌∙◌, inl, inr, arith, slice_get, if◌then◌else◌, Option}
-use Rattle.yaml_emit_laws.proofs.DumpsWords.{slice_get_within, yaml_node_pair_t, Node, NodeBody, VisitsInPreorder, IsInPreorder, done, again, first, children, pair_numbers, Turn, First, Again, Leave, Met, is_met, meet, pair_ids, is_collection, body_at, Rest, over, visits, nothing_left, turns_onward, turns_joined, AgainsAre, MeetsAgain, met_so, AgainsAreTurns}
+use Rattle.std.proofs.Common.{◌≡◌, ◌<◌, ◌≤◌, ◌+◌, ℕ, zero, suc, ℤ, pos, Bool, true, false, List, [], ◌∷◌, length, Some, refl, ap, subst, ◌∙◌, inl, inr, arith, slice_get}
+use Rattle.yaml_emit_laws.proofs.DumpsWords.{slice_get_within, yaml_node_pair_t, Node, NodeBody, VisitsInPreorder, IsInPreorder, done, again, first, children, pair_numbers, Turn, First, Again, Leave, Met, is_met, pair_ids, is_collection, Rest, over, visits, nothing_left, turns_onward, turns_joined, AgainsAre, MeetsAgain, met_so, AgainsAreTurns}
 use Rattle.yaml_emit_graph.specs.emit_layout.parse_model.Nodes as model
 use Rattle.yaml_emit_graph.specs.Onward.{inside}
 use Rattle.yaml_emit_laws.proofs.Marks.{met_old, met_new, meets, none_yet}
@@ -35,11 +35,7 @@ first_turn : (f : ℕ) (nodes : List Node) (seen : ℕ) (n : Node) (rest : Rest)
     → visits (suc f) nodes (pos (suc seen)) rest (met_so nodes seen) ≡ First (pos (suc seen))
     ∷ inside (visits f nodes) (pos (suc seen)) n.body rest (met_so nodes (suc seen))
 unfolding visits
-first_turn f nodes seen n rest at h =
-    let id : ℤ = pos (suc seen) in
-    ap (λ (b : Bool). if b then Again id ∷ rest (met_so nodes seen) else First id ∷ inside (visits f nodes) id (body_at (slice_get nodes seen)) rest (meet (met_so nodes seen) id)) (met_new nodes seen h)
-    ∙ ap (λ (o : Option Node). First id ∷ inside (visits f nodes) id (body_at o) rest (meet (met_so nodes seen) id)) at
-    ∙ ap (λ (m : Met). First id ∷ inside (visits f nodes) id n.body rest m) (meets nodes seen h)
+first_turn f nodes seen n rest at h = grind (arith, slice_get, met_new, meets)
 
 -- what follows the nodes that a node holds
 abbrev left : Bool → ℤ → Rest → Rest

@@ -1,8 +1,6 @@
 -- The numbers of a dump are apart.
-use Rattle.std.proofs.Common.{◌≡◌, ◌≢◌, ◌<◌, ◌≤◌, ◌==◌, ℕ, zero, suc, Bool, true, false, List, [], ◌∷◌, length, get_or, Option, Some, None, refl, sym, ap, subst, ◌∙◌, inl, inr, arith, set, replicate}
-use Rattle.yaml_emit_laws.proofs.DumpsWords.{cases_Bool, cases_eq, nat_tests, Turn, Again, place_at, Numbering, next_number, again_at, numbered_by, numbered, none_numbered, AreApart, MeetsAgain, NumbersAreApart, MetAgainAreNumbered}
-use Rattle.yaml_emit_graph.specs.Numbers.{counted}
-use Rattle.yaml_emit_graph.proofs.Counting.{counted_set, none_counted}
+use Rattle.std.proofs.Common.{◌≡◌, ◌≢◌, ◌<◌, ◌==◌, ℕ, zero, suc, Bool, true, false, List, [], ◌∷◌, length, get_or, Option, Some, None, refl, sym, ap, subst, ◌∙◌, inl, inr, arith, set, replicate}
+use Rattle.yaml_emit_laws.proofs.DumpsWords.{cases_Bool, nat_tests, Turn, Again, place_at, Numbering, next_number, again_at, numbered_by, numbered, none_numbered, AreApart, MeetsAgain, NumbersAreApart, MetAgainAreNumbered}
 
 -- ---- a list with one number set
 
@@ -32,37 +30,7 @@ within (x ∷ t) (suc k) h = let w = within t k h in omega (arith, w)
 
 more_apart : (s : Numbering) (k : ℕ) → get_or s.table k 1 ≡ 0 → AreApart s
     → AreApart (record { given = suc s.given; table = set s.table k (suc s.given) })
-more_apart s k free a =
-    let inside = within s.table k free in
-    let own = set_same s.table k (suc s.given) 0 inside in
-    record {
-      bound = λ j.
-          elim (cases_eq j k) [
-            | inl e ↦ let b = ap (λ n. get_or (set s.table k (suc s.given)) n 0) e in omega (arith, b, own)
-            | inr e ↦ let o = set_other s.table k j (suc s.given) 0 e in let b = a.bound j in omega (arith, o, b)
-          ];
-      apart = λ i j same some.
-          elim (cases_eq i k) [
-            | inl e ↦
-                elim (cases_eq j k) [
-                  | inl f ↦ e ∙ sym f
-                  | inr f ↦
-                      let x = ap (λ n. get_or (set s.table k (suc s.given)) n 0) e in
-                      let o = set_other s.table k j (suc s.given) 0 f in
-                      let b = a.bound j in
-                      absurd (omega (arith, x, own, o, b, same))
-                ]
-            | inr e ↦
-                let o = set_other s.table k i (suc s.given) 0 e in
-                elim (cases_eq j k) [
-                  | inl f ↦
-                      let x = ap (λ n. get_or (set s.table k (suc s.given)) n 0) f in
-                      let b = a.bound i in
-                      absurd (omega (arith, x, own, o, b, same))
-                  | inr f ↦ let p = set_other s.table k j (suc s.given) 0 f in a.apart i j (sym o ∙ same ∙ p) (λ z. some (o ∙ z))
-                ]
-          ];
-    }
+more_apart s k free a = grind (arith, nat_tests, within, set_same, get_or, set_other)
 
 abbrev next_by : Bool → Numbering → ℕ → Numbering
 next_by true s k = record { given = suc s.given; table = set s.table k (suc s.given) }
@@ -118,14 +86,7 @@ default_same (x ∷ t) (suc k) h = default_same t k (omega (arith, h))
 
 next_keeps_by : (b : Bool) (s : Numbering) (j k : ℕ) → (get_or s.table j 1 == 0) ≡ b → Has k s
     → Has k (next_by b s j)
-next_keeps_by false s j k h has = has
-next_keeps_by true s j k h has =
-    elim (cases_eq k j) [
-      | inl e ↦
-          let own = set_same s.table j (suc s.given) 0 (within s.table j (is_zero (get_or s.table j 1) h)) in
-          λ z. let x = ap (λ n. get_or (set s.table j (suc s.given)) n 0) e in omega (arith, x, own, z)
-      | inr e ↦ λ z. has (sym (set_other s.table j k (suc s.given) 0 e) ∙ z)
-    ]
+next_keeps_by b s j k h has = grind (arith, nat_tests, set_same, within, is_zero, get_or, set_other)
 
 next_keeps : (s : Numbering) (j k : ℕ) → Has k s → Has k (next_number s j)
 next_keeps s j k has = let P : Numbering → Type 0 = λ x. Has k x in subst P (sym (next_is s j)) (next_keeps_by (get_or s.table j 1 == 0) s j k refl has)
@@ -176,45 +137,3 @@ none_length (suc n) = ap (λ k. suc k) (none_length n)
 
 pub again_all : MetAgainAreNumbered
 again_all count ts k w m = again_numbered ts (none_numbered count) k (let l = none_length count in omega (arith, l, w)) m
-
--- ---- no more numbers are given than there are nodes
-
-counted_most : (t : List ℕ) → counted t ≤ length t
-counted_most [] = omega arith
-counted_most (zero ∷ t) = let e = counted_most t in omega (arith, e)
-counted_most (suc n ∷ t) = let e = counted_most t in omega (arith, e)
-
-abbrev Counts : Numbering → Type 0
-Counts s = s.given ≡ counted s.table
-
-next_counts_by : (b : Bool) (s : Numbering) (k : ℕ) → (get_or s.table k 1 == 0) ≡ b → Counts s
-    → Counts (next_by b s k)
-next_counts_by true s k h c = ap (λ i. suc i) c ∙ sym (counted_set s.table k s.given (is_zero (get_or s.table k 1) h))
-next_counts_by false s k h c = c
-
-again_counts : (o : Option ℕ) (s : Numbering) → Counts s → Counts (again_at o s)
-again_counts None s c = c
-again_counts (Some k) s c = let P : Numbering → Type 0 = λ x. Counts x in subst P (sym (next_is s k)) (next_counts_by (get_or s.table k 1 == 0) s k refl c)
-
-turn_counts : (t : Turn) (s : Numbering) → Counts s → Counts (numbered_by t s)
-turn_counts (Again id) s c = again_counts (place_at id) s c
-turn_counts _ s c = c
-
-turns_count : (ts : List Turn) (s : Numbering) → Counts s → Counts (numbered s ts)
-unfolding numbered
-turns_count [] s c = c
-turns_count (t ∷ ts) s c = turns_count ts (numbered_by t s) (turn_counts t s c)
-
-turns_length : (ts : List Turn) (s : Numbering) → length (numbered s ts).table ≡ length s.table
-unfolding numbered
-turns_length [] s = refl
-turns_length (t ∷ ts) s = turns_length ts (numbered_by t s) ∙ turn_length t s
-
-pub given_most : (count : ℕ) (ts : List Turn) → (numbered (none_numbered count) ts).given ≤ count
-given_most count ts =
-    let s = numbered (none_numbered count) ts in
-    let c = turns_count ts (none_numbered count) (sym (none_counted count)) in
-    let m = counted_most s.table in
-    let l = turns_length ts (none_numbered count) in
-    let n = none_length count in
-    omega (arith, c, m, l, n)

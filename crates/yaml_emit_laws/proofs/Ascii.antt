@@ -1,5 +1,5 @@
 -- What is written for tags and directives is ASCII.
-use Rattle.std.proofs.Common.{◌≡◌, inl, inr, ℕ, ◌/◌, ◌%◌, ◌<◌, Bool, true, false, nat_lt, List, [], ◌∷◌, ◌++◌, refl, ap, subst, arith, IsUtf8}
+use Rattle.std.proofs.Common.{◌≡◌, inl, inr, ℕ, ◌<◌, Bool, true, false, nat_lt, List, [], ◌∷◌, ◌++◌, refl, ap, subst, arith, IsUtf8}
 use Rattle.yaml_emit_laws.proofs.Shared.{nat_tests, is_alpha_byte, is_digit_byte, is_punctuation, is_wide_punctuation, are_alphas, UriPiece, escape, capital, is_kept, IsUri, and_from, and_parts, TagDirective, Split, shorthand, verbatim, spelled, uri_text, IsShaped, IsReadable, are_ascii, IsMarked, IsReadableDirective}
 use Rattle.yaml_scan_history.specs.Written as written
 use Rattle.yaml_scan_history.specs.Written.{raw}
@@ -23,10 +23,7 @@ pieces_ascii : (wide : Bool) (due : ℕ) (pieces : List UriPiece) → IsUri wide
     → are_ascii (written.uri_text pieces) ≡ true
 pieces_ascii wide due [] is = refl
 pieces_ascii wide due (raw b ∷ pieces) (none, kept, is) = and_from (nat_lt b 128) (are_ascii (written.uri_text pieces)) (kept_ascii wide b kept) (pieces_ascii wide 0 pieces is)
-pieces_ascii wide due (escape b ∷ pieces) (small, (next, due_is, is)) =
-    let high = capital_ascii (b / 16) (omega (arith, small)) in
-    let low = capital_ascii (b % 16) (omega arith) in
-    rw (high, low) (pieces_ascii wide next pieces is)
+pieces_ascii wide due (escape b ∷ pieces) (small, (next, due_is, is)) = grind (arith, nat_tests, capital_ascii, pieces_ascii wide next pieces is)
 
 pub uri_ascii : (wide : Bool) (bs : List ℕ) → IsUtf8 bs → are_ascii (uri_text wide bs) ≡ true
 uri_ascii wide bs u = subst (λ (t : List ℕ). are_ascii t ≡ true) (text_is wide bs) (pieces_ascii wide 0 (pieces_of wide bs) (text_uri wide bs u))

@@ -115,11 +115,7 @@ quoted_back law page c value u deep =
 read_white : (a : Layout) (c : Cursor) (value text : List ℕ) (p : ℕ)
     → ValueIsReadBack double_quoted_at a c value → HasAt text p (encode Utf8 (a c nothing_more))
     → double_quoted_at text (p + 0) ≡ Ok (value, p + length (encode Utf8 (a c nothing_more)))
-read_white a c value text p b h =
-    let all : encode Utf8 (a c nothing_more) ≡ encode_utf8_all b.letters = ap (encode Utf8) (b.written nothing_more) ∙ alone_encodes b.letters in
-    let here : p + 0 ≡ p = omega arith in
-    ap (λ q. double_quoted_at text q) here
-    ∙ reads_as value value (double_quoted_at text p) p _ _ (b.read text p (subst (λ (t : List ℕ). HasAt text p t) all h)) refl (ap (λ (t : List ℕ). length t) (sym all))
+read_white a c value text p b h = grind (arith, encode_utf8_all, alone_encodes, reads_as)
 
 read_spaced : (a : Layout) (c d : Cursor) (value text : List ℕ) (p : ℕ)
     → ValueIsReadBack double_quoted_at a d value

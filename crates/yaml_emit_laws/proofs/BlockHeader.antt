@@ -1,6 +1,6 @@
 -- Breaks at the ends of lines, and characters between them.
 use Rattle.std.proofs.Common.{◌≡◌, ◌≢◌, ℕ, ◌+◌, ◌<◌, ◌≤◌, true, false, ◌||◌, ◌==◌, List, [], ◌∷◌, ◌++◌, length, refl, sym, ap, ◌∙◌, inl, inr, arith, encode_utf8, encode_utf8_all, Bool, not, nat_lt, Ok, subst, add-zero, ◌-◌, get_or}
-use Rattle.yaml_emit_laws.proofs.ScalarWords.{cases_lt, cases_eq, ne_eqb, or_parts, eqb-false, byte, break_of, break_width, is_blank, column_at, break_value, is_feed, starts_blank, Has, has_front, has_at, LineBreak, Lf, Cr, CrLf, is_break, Item, is_printable, encode_1, encode_2, encode_3, encode_4, high_blank, LineMark, own, separator, paragraph, mark_char, mark_text, mark_bytes, mark_means, NoWhite, nat_tests, past_break, is_text, is_blank_there, past_blanks, is_digit_byte, past_stop, is_chomping, chomp_at, digit_of, digit_place, chomping_place, indicators, past_comment, header_end, header_at, break_text, cond_true, cond_false, Chomping, get_or_past, Cursor, Rest, page_at, Left, bytes, margin_round, BlockAndLineRead, BlockAtPosition, left_rest, front_encodes}
+use Rattle.yaml_emit_laws.proofs.ScalarWords.{cases_lt, cases_eq, ne_eqb, or_parts, eqb-false, byte, break_of, break_width, is_blank, column_at, break_value, is_feed, starts_blank, Has, has_front, has_at, LineBreak, Lf, Cr, CrLf, is_break, Item, is_printable, encode_1, encode_2, encode_3, encode_4, high_blank, LineMark, own, separator, paragraph, mark_char, mark_text, mark_bytes, mark_means, NoWhite, nat_tests, past_break, is_text, is_digit_byte, past_stop, is_chomping, chomp_at, digit_of, digit_place, chomping_place, indicators, past_comment, header_end, header_at, break_text, cond_true, cond_false, Chomping, get_or_past, Cursor, Rest, page_at, Left, bytes, margin_round, BlockAndLineRead, BlockAtPosition, left_rest, front_encodes}
 use lib.Utf8.{encode}
 use Rattle.yaml_scan_history.proofs.HeaderLemmas.{whole_header}
 use Rattle.yaml_emit_layout.specs.declared.page.Chomp.TheVariants as chomping
@@ -103,12 +103,7 @@ wide_breaks : (text : List ℕ) (p d : ℕ) (m : LineMark) → mark_means m ≡ 
     → (d == 0xA8 || d == 0xA9) ≡ true → byte text p ≡ 0xE2 → byte text (p + 1) ≡ 0x80
     → byte text (p + 1 + 1) ≡ d → Breaks text p m 3
 unfolding break_of break_value
-wide_breaks text p d m means t e f g =
-    let two : p + 1 + 1 ≡ p + 2 = omega arith in
-    let h : byte text (p + 2) ≡ d = ap (λ q. byte text q) (sym two) ∙ g in
-    let w : break_width text p ≡ 3 =
-    ap (λ b. break_of b (byte text (p + 1)) (byte text (p + 2))) e ∙ ap (λ c. break_of 0xE2 c (byte text (p + 2))) f ∙ ap (λ c. break_of 0xE2 0x80 c) h ∙ (rw t refl) in
-    record { width = w; value = (rw w refl) ∙ ap (λ c. 0xE2 ∷ 0x80 ∷ c ∷ []) h ∙ sym means; some = omega (arith, e); no_space = λ i. omega (arith, e, i); no_tab = λ i. omega (arith, e, i) }
+wide_breaks text p d m means t e f g = grind (arith, nat_tests)
 
 own_breaks : (b : LineBreak) (text : List ℕ) (p : ℕ) → Has text p (mark_bytes b own)
     → NoFeed b (byte text (p + length (mark_bytes b own)))
@@ -134,17 +129,7 @@ high : (x a : ℕ) (bs cs t : List ℕ) → 128 ≤ x → 128 ≤ a → bs ≡ a
 high x a bs cs t h k e = front_blank bs cs a t e ∙ high_blank a k ∙ sym (high_blank x h)
 
 pub text_blank : (x : ℕ) (xs : List ℕ) → starts_blank (encode_utf8_all (x ∷ xs)) ≡ is_blank x
-text_blank x xs =
-    elim (cases_lt x 128) [
-      | inl u ↦ front_blank (encode_utf8 x) (encode_utf8_all xs) x [] (encode_1 x u)
-      | inr u ↦ elim (cases_lt x 2048) [
-        | inl v ↦ high x _ (encode_utf8 x) (encode_utf8_all xs) _ u (omega arith) (encode_2 x u v)
-        | inr v ↦ elim (cases_lt x 65536) [
-          | inl w ↦ high x _ (encode_utf8 x) (encode_utf8_all xs) _ u (omega arith) (encode_3 x v w)
-          | inr w ↦ high x _ (encode_utf8 x) (encode_utf8_all xs) _ u (omega arith) (encode_4 x w)
-        ]
-      ]
-    ]
+text_blank x xs = grind (arith, nat_tests, front_blank, encode_utf8, encode_utf8_all, encode_1, high, encode_2, encode_3, encode_4)
 
 -- ==== The header of a block scalar is read.
 
@@ -193,10 +178,7 @@ digit_is b d e h k = record { digit = grind (arith, nat_tests); no_chomp = grind
 end_is : (text : List ℕ) (p n q : ℕ) → indicators (byte text p) (byte text (p + 1)) ≡ n → p + n ≡ q
     → Begins text q → header_end text p ≡ q
 unfolding past_comment
-end_is text p n q e s g =
-    ap (λ k. past_comment text (past_blanks text (p + k))) e ∙ ap (λ r. past_comment text (past_blanks text r)) s
-    ∙ ap (λ r. past_comment text r) (past_stop is_blank_there (length text) text q g.no_blank)
-    ∙ cond_false (byte text q == 35) _ q g.no_comment
+end_is text p n q e s g = grind (arith, nat_tests, past_stop, cond_false)
 
 -- by where digit and chomping indicator are looked for
 header_by : (text : List ℕ) (p n q w d k x y : ℕ) → indicators (byte text p) (byte text (p + 1)) ≡ n
@@ -204,15 +186,7 @@ header_by : (text : List ℕ) (p n q w d k x y : ℕ) → indicators (byte text 
     → byte text x ≢ 48 → digit_of (byte text x) ≡ d → chomp_at (byte text y) ≡ chomp_at k
     → break_width text q ≡ w
     → header_at text p ≡ Ok record { chomp = chomp_at k; digit = d; place = q + w }
-header_by text p n q w d k x y e s g dx cy z f h i =
-    let end = end_is text p n q e s g in
-    whole_header text p (subst (λ r. byte text r ≢ 48) (sym dx) z) (subst (λ r. is_text text r ≡ false) (sym end) g.no_text)
-    ∙ ap (λ r. Ok record { chomp = chomp_at (byte text (chomping_place text p)); digit = digit_of (byte text (digit_place text p)); place = r + break_width text r }) end
-    ∙ ap (λ r. Ok record { chomp = chomp_at (byte text (chomping_place text p)); digit = digit_of (byte text r); place = q + break_width text q }) dx
-    ∙ ap (λ r. Ok record { chomp = chomp_at (byte text r); digit = digit_of (byte text x); place = q + break_width text q }) cy
-    ∙ ap (λ j. Ok record { chomp = chomp_at (byte text y); digit = digit_of (byte text x); place = q + j }) i
-    ∙ ap (λ j. Ok record { chomp = chomp_at (byte text y); digit = j; place = q + w }) f
-    ∙ ap (λ c. Ok record { chomp = c; digit = d; place = q + w }) h
+header_by text p n q w d k x y e s g dx cy z f h i = grind (arith, nat_tests, end_is, whole_header)
 
 -- `-` or `+`, by its byte
 record IsChomp (b k : ℕ) : Type 0 where
@@ -302,10 +276,7 @@ pub record HeaderReads (text : List ℕ) (p d q : ℕ) (k : ℕ) : Type 0 where
 header_is : (text : List ℕ) (p d k q w e : ℕ) → Behind text q w → q + w ≡ e
     → header_at text p ≡ Ok record { chomp = chomp_at k; digit = d; place = q + w }
     → HeaderReads text p d e k
-header_is text p d k q w e h s r =
-    let past = past_break text q h.some in
-    let far : q + break_width text q ≡ e = ap (λ j. q + j) h.width ∙ s in
-    record { header = r ∙ ap (λ j. Ok record { chomp = chomp_at k; digit = d; place = j }) s; column = subst (λ j. column_at text j ≡ 0) far past.column; inside = subst (λ j. j ≤ length text) far past.inside }
+header_is text p d k q w e h s r = grind (arith, nat_tests, past_break)
 
 pub header_reads : (b : LineBreak) (shown : Bool) (d : ℕ) (c : Chomping) (text : List ℕ) (p e : ℕ)
     → 0 < d → d < 10 → e ≡ p + length (digit_text shown d ++ (chomp_text c ++ break_text b))

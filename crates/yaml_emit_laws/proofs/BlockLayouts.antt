@@ -1,5 +1,5 @@
 -- What the layout of a block scalar's body writes for a character.
-use Rattle.std.proofs.Common.{◌≡◌, ℕ, Bool, true, false, not, ◌&&◌, ◌==◌, nat_lt, List, [], ◌∷◌, ◌++◌, replicate, refl, sym, ap, ◌∙◌, arith}
+use Rattle.std.proofs.Common.{◌≡◌, ℕ, Bool, true, false, not, ◌&&◌, ◌==◌, List, [], ◌∷◌, ◌++◌, replicate, refl, sym, ap, ◌∙◌, arith}
 use Rattle.yaml_emit_laws.proofs.ScalarWords.{nat_tests, Cursor, LineBreak, Lf, letter, is_break, Layout, Rest, when, char, blanks, new_line, line, indent_to, must_break, is_past, first, value_break, adds_break, cuts_block, line_blank, block_text, block_char, behind_breaks, in_front, break_text, cond_true, cond_false, front_append, moved_by, LineMark, own, separator, paragraph, mark_char, mark_text, blanks_are, after_blanks, from_start, broken, at_line}
 use Rattle.yaml_emit_layout.specs.declared.page.Page.{Page}
 use Rattle.yaml_emit_layout.specs.Style.{is_blank}
@@ -21,10 +21,7 @@ pub line_is : (b : LineBreak) (n : ℕ) (c : Cursor) (rest : Rest) → c.bare �
     → line b n c rest ≡ in_front (break_text b ++ replicate n 32)
     (rest (after_blanks n (at_line c.kept)))
 unfolding line
-line_is b n c rest e =
-    let breaks : must_break n c ≡ true = broken c.bare (nat_lt n c.column) (c.column == n && not c.white) e in
-    cond_true (must_break n c) (new_line b c (λ d. indent_to n d rest)) (indent_to n c rest) breaks
-    ∙ new_line_is b c (λ d. indent_to n d rest) ∙ ap (in_front (break_text b)) (indent_is n c.kept rest) ∙ sym (front_append (break_text b) (replicate n 32) (rest (after_blanks n (at_line c.kept))))
+line_is b n c rest e = grind (arith, nat_tests, broken, cond_true, new_line_is, indent_is, front_append)
 
 -- at its start only spaces come
 pub start_is : (b : LineBreak) (n : ℕ) (kept : Bool) (rest : Rest)
@@ -79,10 +76,7 @@ none_added folded blank before x xs e = no_and folded (x == 10) (is_break before
 -- ---- characters of a text
 
 no_cut : (a b c d e : Bool) → d ≡ true → (a && (b && (c && (not d && e)))) ≡ false
-no_cut false b c d e h = refl
-no_cut true false c d e h = refl
-no_cut true true false d e h = refl
-no_cut true true true d e h = rw h refl
+no_cut a b c d e h = grind (arith, nat_tests)
 
 char_at : (page : Page) (folded blank : Bool) (before x : ℕ) (xs : List ℕ) (c : Cursor)
     (rest : Rest) → is_break x ≡ false

@@ -1,13 +1,12 @@
 -- A block scalar that is after the gap is the next lexeme.
-use Rattle.std.proofs.Common.{◌≡◌, ℕ, ◌+◌, ◌<◌, Bool, true, false, not, ◌&&◌, ◌==◌, nat_lt, List, [], ◌∷◌, length, Option, Some, None, Ok, refl, ap, ◌∙◌, arith}
-use Rattle.yaml_emit_laws.proofs.ScalarWords.{and-false, mark_at, WordText, kind_at, lexeme_at, cond_false, kind_of, read_style, BlockStands}
+use Rattle.std.proofs.Common.{◌≡◌, ℕ, ◌+◌, ◌<◌, Bool, true, false, not, ◌&&◌, nat_lt, List, [], ◌∷◌, length, Option, None, Ok, refl, ap, ◌∙◌, arith}
+use Rattle.yaml_emit_laws.proofs.ScalarWords.{and-false, mark_at, WordText, lexeme_at, cond_false, kind_of, read_style, BlockStands}
 use Rattle.yaml_emit_layout.specs.scan_types.Tokens.{scalar}
 use Rattle.yaml_emit_layout.specs.scan_model.declared.problem.ScanFault.{ScanFault}
-use Rattle.yaml_scan_history.specs.declared.kind.Kind.{Kind}
 use Rattle.yaml_scan_history.specs.declared.lexeme.Lexeme.{Lexeme}
 use Rattle.yaml_scan_history.specs.Kinds.{is_end}
 use Rattle.yaml_scan_history.specs.History.{flow_depth, in_flow, ended, candidate, open_levels, finished_tokens}
-use Rattle.yaml_scan_history.specs.Next.{Next, Read, next, gap_behind, place_behind, kind_behind, allowed_behind, level_in, begun_behind, word_behind, with_end, lexeme_behind, misplaced, stale_before, indicator_misplaced, candidate_lost, text_wrong, stale_after, wrong_in, missed, colon_missing_of, first_fault_or, coming}
+use Rattle.yaml_scan_history.specs.Next.{Next, Read, next, gap_behind, place_behind, kind_behind, allowed_behind, level_in, begun_behind, word_behind, with_end, misplaced, stale_before, indicator_misplaced, candidate_lost, first_fault_or, coming}
 use Rattle.yaml_scan_history.specs.Remaining.{body_of_word}
 use Rattle.yaml_emit_laws.specs.BlockLexemes.{BlockIsNext}
 
@@ -32,14 +31,7 @@ block_word folded value end k = record { body = scalar value (read_style folded)
 begun_is : (folded : Bool) (text : List ℕ) (h : List Lexeme) (value : List ℕ) (end k : ℕ)
     → with_end text (begun_behind (kind_of folded) text h) (Ok (block_word folded value end k))
     ≡ block_lexeme folded text h end k
-begun_is true text h value end k =
-    let m = place_behind text h in
-    ap (λ (b : Bool). let l : Lexeme = record { kind = kind_of true; start = m; end = mark_at text end; reached = mark_at text (end + k); depth = flow_depth h; level = level_in (kind_of true) m.column h; saved = b; required = b && (flow_depth h == 0 && level_in (kind_of true) m.column h == m.column + 1); broke = false } in l)
-    (and-false (allowed_behind h (gap_behind text h)))
-begun_is false text h value end k =
-    let m = place_behind text h in
-    ap (λ (b : Bool). let l : Lexeme = record { kind = kind_of false; start = m; end = mark_at text end; reached = mark_at text (end + k); depth = flow_depth h; level = level_in (kind_of false) m.column h; saved = b; required = b && (flow_depth h == 0 && level_in (kind_of false) m.column h == m.column + 1); broke = false } in l)
-    (and-false (allowed_behind h (gap_behind text h)))
+begun_is folded text h value end k = grind arith
 
 level_is : (folded : Bool) (text : List ℕ) (h : List Lexeme)
     → (begun_behind (kind_of folded) text h).level
@@ -69,12 +61,7 @@ block_clear false text h end k o = rw o refl
 
 all_none : (a b c d e : Option ScanFault) (x : Next) → a ≡ None → b ≡ None → c ≡ None → d ≡ None
     → e ≡ None → first_fault_or (a ∷ b ∷ c ∷ d ∷ e ∷ []) x ≡ x
-all_none None None None None None x f g h i j = refl
-all_none (Some a) b c d e x f g h i j = absurd (cc)
-all_none None (Some b) c d e x f g h i j = absurd (cc)
-all_none None None (Some c) d e x f g h i j = absurd (cc)
-all_none None None None (Some d) e x f g h i j = absurd (cc)
-all_none None None None None (Some e) x f g h i j = absurd (cc)
+all_none a b c d e x f g h i j = grind arith
 
 next_is : (text : List ℕ) (h : List Lexeme) → 0 < length h → ended h ≡ false
     → next text h ≡ coming (kind_behind text h) text h
@@ -87,16 +74,7 @@ block_comes : (folded : Bool) (text : List ℕ) (h : List Lexeme) (value : List 
     → candidate_lost (kind_of folded) text h ≡ None
     → BlockStands folded (level_in (kind_of folded) (place_behind text h).column h) text
     (gap_behind text h).place value end k → next text h ≡ Read (block_lexeme folded text h end k)
-block_comes folded text h value end k some e o stale lost s =
-    let kd = kind_of folded in
-    let w = word_is folded text h value end k o s in
-    let same : lexeme_behind kd text h ≡ block_lexeme folded text h end k = ap (λ r. with_end text (begun_behind kd text h) r) w ∙ begun_is folded text h value end k in
-    let right : text_wrong kd text h ≡ None = ap (λ r. wrong_in text (begun_behind kd text h).start r) w in
-    let fresh : stale_after (lexeme_behind kd text h) h ≡ None =
-    ap (λ (l : Lexeme). stale_after l h) same ∙ ap (λ c. colon_missing_of (missed c (mark_at text (end + k))) (mark_at text (end + k))) (block_clear folded text h end k o) in
-    next_is text h some e ∙ ap (λ (q : Option Kind). coming q text h) (ap (λ (d : ℕ). kind_at (nat_lt 0 d) text (gap_behind text h).place) o ∙ s.kind)
-    ∙ all_none (stale_before text h) (indicator_misplaced kd text h) (candidate_lost kd text h) (text_wrong kd text h) (stale_after (lexeme_behind kd text h) h) (Read (lexeme_behind kd text h)) stale (not_misplaced folded text h) lost right fresh
-    ∙ ap (λ (l : Lexeme). Read l) same
+block_comes folded text h value end k some e o stale lost s = grind (arith, word_is, begun_is, block_clear, next_is, all_none, not_misplaced)
 
 block_body_is : (folded : Bool) (text : List ℕ) (h : List Lexeme) (value : List ℕ) (end k : ℕ)
     → flow_depth h ≡ 0

@@ -1,6 +1,6 @@
 -- Lines of a block scalar that are in a text are read.
 use Rattle.std.proofs.Common.{◌≡◌, ◌≢◌, ℕ, zero, suc, ◌+◌, ◌/◌, ◌%◌, ◌<◌, ◌≤◌, true, false, not, ◌&&◌, ◌||◌, ◌==◌, nat_lt, List, [], ◌∷◌, ◌++◌, length, replicate, slice_range, Result, Ok, refl, sym, ap, subst, ◌∙◌, inl, inr, arith, add-zero, encode_utf8, encode_utf8_all, length-append}
-use Rattle.yaml_emit_laws.proofs.ScalarWords.{cases_lt, and_parts, not-true, eqb-false, nat_tests, encodes-append, byte, break_of, break_width, column_at, break_value, feed_at, is_text, line_end, Wrong, within, past_break, InRun, run_start, run_more, run_done, text_parts, Has, has, has_front, has_rest, range_reads, BlockLine, Empty, Words, spaces, Line, spot_behind, line_spot, Lines, with_line, line_then, lines_from, LineBreak, Lf, Cr, CrLf, is_break, cond_true, encode_1, encode_2, encode_3, encode_4, low_break, two_break, three_break, four_break, later_break, LineMark, own, separator, paragraph, mark_text, mark_bytes, mark_means, BodyLine, bare, full, line_text, body_text, line_bytes, body_bytes, read_line, read_lines, are_inside, AreInside, StandsLeft}
+use Rattle.yaml_emit_laws.proofs.ScalarWords.{cases_lt, and_parts, not-true, nat_tests, encodes-append, byte, break_of, break_width, column_at, break_value, feed_at, is_text, line_end, Wrong, within, past_break, InRun, run_start, run_more, run_done, text_parts, Has, has, has_front, has_rest, range_reads, BlockLine, Empty, Words, spaces, Line, spot_behind, line_spot, Lines, with_line, line_then, lines_from, LineBreak, Cr, is_break, cond_true, encode_1, encode_2, encode_3, encode_4, low_break, two_break, three_break, four_break, later_break, LineMark, mark_text, mark_bytes, mark_means, BodyLine, bare, full, line_text, body_text, line_bytes, body_bytes, read_line, read_lines, are_inside, AreInside, StandsLeft}
 use Rattle.yaml_scan_history.proofs.BlockLemmas.{space_column, empty_spot, end_spot, text_spot, stop_short, no_stop}
 use Rattle.yaml_emit_laws.proofs.BlockHeader.{NoFeed, breaks, text_encodes, no_text_there}
 use Rattle.yaml_emit_laws.proofs.Writing.{spaces_low}
@@ -28,11 +28,7 @@ byte_text_2 text p b c e k h f =
 
 byte_text_3 : (text : List ℕ) (p b c d : ℕ) → byte text p ≡ b → byte text (p + 1) ≡ c
     → byte text (p + 1 + 1) ≡ d → 0 < b → break_of b c d ≡ 0 → is_text text p ≡ true
-byte_text_3 text p b c d e k l h f =
-    let two : p + 1 + 1 ≡ p + 2 = omega arith in
-    let m : byte text (p + 2) ≡ d = ap (λ q. byte text q) (sym two) ∙ l in
-    text_test (byte text p) (break_width text p) (omega (arith, e, h))
-    (ap (λ x. break_of x (byte text (p + 1)) (byte text (p + 2))) e ∙ ap (λ x. break_of b x (byte text (p + 2))) k ∙ ap (λ x. break_of b c x) m ∙ f)
+byte_text_3 text p b c d e k l h f = grind (arith, nat_tests, text_test)
 
 -- a character that ends no line
 record Inside (c : ℕ) : Type 0 where
@@ -47,14 +43,7 @@ above_zero : (c : ℕ) → c ≢ 0 → 0 < c
 above_zero c h = omega arith
 
 inside_of : (c : ℕ) → is_break c ≡ false → (c == 0) ≡ false → Inside c
-inside_of c h z = record {
-  some = above_zero c (eqb-false c 0 z);
-  feed = λ e. absurd (grind (arith, nat_tests));
-  return = λ e. absurd (grind (arith, nat_tests));
-  next_line = λ e. absurd (grind (arith, nat_tests));
-  line = λ e. absurd (grind (arith, nat_tests));
-  paragraph = λ e. absurd (grind (arith, nat_tests));
-}
+inside_of c h z = grind (arith, nat_tests, above_zero)
 
 later_text : (text : List ℕ) (p b : ℕ) → byte text p ≡ b → 128 ≤ b → b < 192 → is_text text p ≡ true
 later_text text p b e h k = byte_text text p b e (omega arith) (λ c d. later_break b c d h k)
@@ -143,11 +132,7 @@ spaces_left (suc k) (suc n) text p l (f, h) e =
 pub spaces_column : (k : ℕ) (text : List ℕ) (p : ℕ) → Has text p (replicate k 32)
     → column_at text (p + k) ≡ column_at text p + k
 spaces_column zero text p h = let z : p + 0 ≡ p = omega arith in rw z (omega arith)
-spaces_column (suc k) text p (e, h) =
-    let more = spaces_column k text (p + 1) h in
-    let one = space_column text p e in
-    let same : p + suc k ≡ p + 1 + k = omega arith in
-    rw same (omega (arith, more, one))
+spaces_column (suc k) text p (e, h) = grind (arith, nat_tests, space_column, spaces_column k text (p + 1) h)
 
 -- ---- a line
 
@@ -162,11 +147,7 @@ some_width : (n w : ℕ) → w ≡ n → 0 < n → 0 < w
 some_width n w e h = omega arith
 
 mark_long : (b : LineBreak) (m : LineMark) → 0 < length (mark_bytes b m)
-mark_long Lf own = omega arith
-mark_long Cr own = omega arith
-mark_long CrLf own = omega arith
-mark_long b separator = omega arith
-mark_long b paragraph = omega arith
+mark_long b m = grind (arith, nat_tests)
 
 -- what a line in a text is: what is read, and the place after it, at the start of a line
 record IsLine (n : ℕ) (text : List ℕ) (p : ℕ) (l : BlockLine) (q : ℕ) : Type 0 where
@@ -178,18 +159,7 @@ record IsLine (n : ℕ) (text : List ℕ) (p : ℕ) (l : BlockLine) (q : ℕ) : 
 bare_line : (n : ℕ) (b : LineBreak) (m : LineMark) (text : List ℕ) (p : ℕ) → column_at text p ≡ 0
     → Has text p (mark_bytes b m) → NoFeed b (byte text (p + length (mark_bytes b m)))
     → IsLine n text p (Empty (mark_means m)) (p + length (mark_bytes b m))
-bare_line n b m text p c h f =
-    let d = breaks b m text p h f in
-    let w = some_width (length (mark_bytes b m)) (break_width text p) d.width (mark_long b m) in
-    let past = past_break text p w in
-    let z : p + 0 ≡ p = omega arith in
-    record {
-      spot = spot_from n 0 text p c (spaces_none n text p d.no_space) ∙ ap (λ q. spot_behind n text q) z
-          ∙ empty_spot n text p (no_tab (byte text p) (column_at text p) n d.no_tab) w ∙ (ap (λ (t : List ℕ). Line (Empty t) (p + (break_width text p))) d.value ∙ ap (λ k. Line (Empty (mark_means m)) (p + k)) d.width);
-      start = within text p d.some;
-      inside = subst (λ k. p + k ≤ length text) d.width past.inside;
-      column = subst (λ k. column_at text (p + k) ≡ 0) d.width past.column;
-    }
+bare_line n b m text p c h f = grind (arith, nat_tests, breaks, some_width, mark_long, past_break, spot_from, spaces_none, no_space, empty_spot, no_tab, within)
 
 feed_is : (text : List ℕ) (p : ℕ) (m : LineMark) → 0 < break_width text p
     → break_value text p ≡ mark_means m → feed_at text p ≡ mark_means m
@@ -200,11 +170,7 @@ text_line : (text : List ℕ) (q e r w : ℕ) (words bs means : List ℕ) → e 
     → break_width text (q + length words) ≡ w → q + length words + w ≡ r
     → Line (Words (slice_range text q e) (feed_at text e)) (e + break_width text e)
     ≡ Line (Words words means) r
-text_line text q e r w words bs means f g h i j =
-    ap (λ x. Line (Words (slice_range text q x) (feed_at text x)) (x + break_width text x)) f
-    ∙ ap (λ (t : List ℕ). Line (Words t (feed_at text (q + length words))) (q + length words + break_width text (q + length words))) g
-    ∙ ap (λ (t : List ℕ). Line (Words words t) (q + length words + break_width text (q + length words))) h
-    ∙ ap (λ k. Line (Words words means) (q + length words + k)) i ∙ ap (λ k. Line (Words words means) k) j
+text_line text q e r w words bs means f g h i j = grind (arith, nat_tests, slice_range)
 
 first_text : (text : List ℕ) (p : ℕ) (bs : List ℕ) → 0 < length bs → AllText text p bs
     → is_text text p ≡ true
@@ -269,11 +235,7 @@ spaced_feed b (suc n) text q xs some (e, h) = space_feed b (byte text q) (λ f. 
 
 mark_feed_none : (b : LineBreak) (m : LineMark) (text : List ℕ) (q : ℕ)
     → Has text q (mark_bytes b m) → NoFeed b (byte text q)
-mark_feed_none Lf own text q h = tt
-mark_feed_none Cr own text q (e, h) = λ f. omega (arith, e, f)
-mark_feed_none CrLf own text q h = tt
-mark_feed_none b separator text q (e, h) = space_feed b (byte text q) (λ f. omega (arith, e, f))
-mark_feed_none b paragraph text q (e, h) = space_feed b (byte text q) (λ f. omega (arith, e, f))
+mark_feed_none b m text q h = grind (arith, nat_tests, space_feed)
 
 line_feed : (b : LineBreak) (n : ℕ) (l : BodyLine) (text : List ℕ) (q : ℕ) → 0 < n
     → Has text q (line_bytes b n l) → NoFeed b (byte text q)
@@ -289,26 +251,11 @@ next_feed b n k [] text q e some h f l = let z : e ≡ q = omega (arith, f) in s
 next_feed b n k (x ∷ ls) text q e some h f l = line_feed b n x text q some (has_front text q (line_bytes b n x) (body_bytes b n ls) h)
 
 pub length_more : (x : ℕ) (xs : List ℕ) → 0 < length (encode_utf8_all (x ∷ xs))
-length_more x xs =
-    let P : List ℕ → Type 0 = λ bs. 0 < length (bs ++ encode_utf8_all xs) in
-    elim (cases_lt x 128) [
-      | inl u ↦ subst P (sym (encode_1 x u)) (omega arith)
-      | inr u ↦ elim (cases_lt x 2048) [
-        | inl v ↦ subst P (sym (encode_2 x u v)) (omega arith)
-        | inr v ↦ elim (cases_lt x 65536) [
-          | inl w ↦ subst P (sym (encode_3 x v w)) (omega arith)
-          | inr w ↦ subst P (sym (encode_4 x w)) (omega arith)
-        ]
-      ]
-    ]
+length_more x xs = grind (arith, nat_tests, encode_utf8_all, encode_1, encode_2, encode_3, encode_4)
 
 line_length : (n : ℕ) (words bs : List ℕ)
     → length (replicate n 32 ++ (words ++ bs)) ≡ n + length words + length bs
-line_length n words bs =
-    let a = length-append (replicate n 32) (words ++ bs) in
-    let b = length-append words bs in
-    let c = length_spaces n in
-    omega (arith, a, b, c)
+line_length n words bs = grind (arith, nat_tests, length-append, length_spaces)
 
 unfoldable OneIsInside : BodyLine → Type 0
 OneIsInside (bare m) = Unit {0}
@@ -349,11 +296,7 @@ with_first : (l : BlockLine) (ls : List BlockLine) (e q : ℕ) (r : Result Lines
 with_first l ls e q r h = ap (λ s. with_line l s) h
 
 line_grows : (b : LineBreak) (n : ℕ) (l : BodyLine) → 0 < length (line_bytes b n l)
-line_grows b n (bare m) = mark_long b m
-line_grows b n (full x xs m) =
-    let a = line_length n (encode_utf8_all (x ∷ xs)) (mark_bytes b m) in
-    let c = length_more x xs in
-    omega (arith, a, c)
+line_grows b n l = grind (arith, nat_tests, mark_long, line_length, encode_utf8_all, length_more)
 
 one_inside : (l : BodyLine) (ls : List BodyLine) → AreInside (l ∷ ls) → OneIsInside l × AreInside ls
 unfolding OneIsInside

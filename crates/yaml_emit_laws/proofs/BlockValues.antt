@@ -1,6 +1,6 @@
 -- The body of a block scalar is lines, and they are read as the value: by its characters.
 use Rattle.std.proofs.Common.{◌≡◌, ℕ, Bool, true, false, not, ◌&&◌, ◌==◌, List, [], ◌∷◌, ◌++◌, replicate, refl, sym, ap, subst, ◌∙◌, arith, append-nil, append_assoc, encode_utf8, encode_utf8_all}
-use Rattle.yaml_emit_laws.proofs.ScalarWords.{encode_ascii, false≢true, true≢false, eqb-true, and_from, and_parts, not-true, ne_eqb, and-false, chomp_at, BlockLine, Words, texts_of, starts_blank, between, at_end, behind_text, stacked_with, stack_empty, Cursor, letter, is_break, Rest, is_past, is_printable, first, last_or, behind_breaks, adds_break, cuts_block, line_blank, block_body, chomp, in_front, break_text, front_append, moved_by, LineMark, own, mark_char, mark_text, mark_means, BodyLine, bare, full, body_text, read_lines, are_inside, AreInside, closing, bool_cases, after_blanks, at_line}
+use Rattle.yaml_emit_laws.proofs.ScalarWords.{encode_ascii, false≢true, true≢false, and_from, and_parts, ne_eqb, chomp_at, BlockLine, Words, texts_of, starts_blank, between, at_end, behind_text, stacked_with, stack_empty, Cursor, letter, is_break, Rest, is_past, is_printable, first, last_or, adds_break, cuts_block, line_blank, block_body, chomp, in_front, break_text, front_append, moved_by, LineMark, own, mark_char, mark_text, mark_means, BodyLine, bare, full, body_text, read_lines, are_inside, AreInside, closing, bool_cases, after_blanks, at_line}
 use Rattle.yaml_emit_layout.specs.declared.page.Page.{Page}
 use Rattle.yaml_emit_layout.specs.Style.{is_blank}
 use Rattle.yaml_emit_laws.proofs.BlockHeader.{mark_breaks, mark_encodes, mark_some, mark_feed, mark_of, text_blank}
@@ -262,11 +262,7 @@ record Cuts (folded blank : Bool) (x : ℕ) (xs : List ℕ) : Type 0 where
 
 cuts_need : (folded blank : Bool) (before x : ℕ) (xs : List ℕ)
     → cuts_block folded blank before x xs ≡ true → Cuts folded blank x xs
-cuts_need folded blank before x xs e =
-    let a = (and_parts folded _ e).1 in
-    let b = (and_parts (x == 32) _ a).1 in
-    let d = (and_parts (not blank) _ b).1 in
-    record { folds = (and_parts folded _ e).0; space = eqb-true x 32 (and_parts (x == 32) _ a).0; text = not-true blank (and_parts (not blank) _ b).0; next = not-true (first xs == 32) (and_parts (not (is_break before)) _ d).1 }
+cuts_need folded blank before x xs e = grind arith
 
 no_cuts : (a b c d e p : Bool) → b ≡ false → ((a && (b && (c && (d && e)))) && p) ≡ false
 no_cuts false b c d e p h = refl
@@ -297,13 +293,7 @@ cut_rest : (page : Page) (folded blank : Bool) (before x y : ℕ) (ys : List ℕ
     → block_body page folded (line_blank blank before x) x (y ∷ ys) (behind_cut page was) rest
     ≡ letter y ∷ block_body page folded blank y ys (moved_by (behind_cut page kept)) rest
 unfolding block_body
-cut_rest page folded blank before x y ys was kept rest e f g h i =
-    let d = behind_cut page kept in
-    ap (λ t. block_body page folded t x (y ∷ ys) (behind_cut page was) rest) (blank_in blank before x e f)
-    ∙ ap (λ u. block_body page folded blank x (y ∷ ys) (behind_cut page u) rest) i
-    ∙ char_is page folded blank x y ys d (λ r. block_body page folded (line_blank blank x y) y ys r rest) g e
-    (no_cuts folded (y == 32) (not blank) (not (is_break x)) (not (first ys == 32)) (is_past page.width d) h)
-    ∙ ap (λ t. letter y ∷ block_body page folded t y ys (moved_by d) rest) (blank_in blank x y g e)
+cut_rest page folded blank before x y ys was kept rest e f g h i = grind (arith, blank_in, char_is, no_cuts)
 
 goes_cut : (page : Page) (folded blank : Bool) (k before x y : ℕ) (ys : List ℕ) (kept : Bool)
     (c : Cursor) → is_break x ≡ false → is_break before ≡ false → is_printable y ≡ true
@@ -349,38 +339,16 @@ goes_cut page folded blank k before x y ys kept c e f s i t p bar same g =
 adds_waits : (folded blank : Bool) (before : ℕ) (m : LineMark) (xs : List ℕ)
     → adds_break folded blank before (mark_char m) xs ≡ true
     → Waits folded true blank true (10 ∷ []) (mark_means m) false xs
-adds_waits folded blank before m xs e =
-    let a = (and_parts folded _ e).1 in
-    let b = (and_parts (mark_char m == 10) _ a).1 in
-    let d = (and_parts (not (is_break before)) _ b).1 in
-    record {
-      first = λ t. absurd (true≢false t);
-      folds = λ t. ((and_parts folded _ e).0, not-true blank (and_parts (not blank) _ d).0, refl, mark_some m, not-true (is_blank (behind_breaks xs)) (and_parts (not blank) _ d).1);
-      stays = λ t. absurd (true≢false t);
-      alone = λ t u. absurd (true≢false u);
-    }
+adds_waits folded blank before m xs e = grind (arith, mark_some)
 
 stays_by : (f t b p q : Bool) → b ≡ false → (f && (t && (not b && (p && q)))) ≡ false
     → (f && ((p && q) && t)) ≡ false
-stays_by false t b p q h e = refl
-stays_by true true false p q h e = and_so (p && q) e
-  where
-    and_so : (a : Bool) → a ≡ false → (a && true) ≡ false
-    and_so false k = refl
-    and_so true k = k
-stays_by true false b p q h e = and-false (p && q)
-stays_by true true true p q h e = absurd (true≢false h)
+stays_by f t b p q h e = grind arith
 
 plain_waits : (folded blank : Bool) (before : ℕ) (m : LineMark) (xs : List ℕ)
     → is_break before ≡ false → adds_break folded blank before (mark_char m) xs ≡ false
     → Waits folded true blank false (mark_means m) [] false xs
-plain_waits folded blank before m xs f e = record {
-  first = λ t. absurd (true≢false t);
-  folds = λ t. absurd (false≢true t);
-  stays = λ t u. ap (λ (b : Bool). folded && ((not blank && not (is_blank (behind_breaks xs))) && b)) (mark_feed m)
-      ∙ stays_by folded (mark_char m == 10) (is_break before) (not blank) (not (is_blank (behind_breaks xs))) f e;
-  alone = λ t u. refl;
-}
+plain_waits folded blank before m xs f e = grind (arith, mark_feed, stays_by)
 
 -- ---- all characters
 

@@ -1,6 +1,6 @@
 -- What a reader owes at the start of a line, where the emitter has written breaks and no text yet.
 use Rattle.std.proofs.Common.{◌≡◌, ℕ, ◌<◌, Bool, true, false, not, ◌&&◌, List, [], ◌∷◌, ◌++◌, length, refl, sym, ap, ◌∙◌, arith, append-nil, append_assoc, if◌then◌else◌, true≢false}
-use Rattle.yaml_emit_laws.proofs.ScalarWords.{is_feed, chomp_at, BlockLine, Words, texts_of, starts_blank, space_or, between, behind_text, value_with, stacked_with, space_or_some, Chomping, is_break, behind_breaks, chomp_of, cond_true, cond_false}
+use Rattle.yaml_emit_laws.proofs.ScalarWords.{is_feed, chomp_at, BlockLine, Words, texts_of, starts_blank, between, behind_text, value_with, stacked_with, space_or_some, Chomping, is_break, behind_breaks, chomp_of, cond_true, cond_false}
 use Rattle.yaml_emit_layout.specs.declared.page.Chomp.TheVariants as chomping
 use Rattle.yaml_emit_layout.specs.Style.{is_blank}
 
@@ -76,18 +76,7 @@ text_owed : (folded any blank more after : Bool) (feed empties words behind : Li
     → from_text folded any blank after feed empties words behind ≡ owed more feed empties
     ++ (words ++ behind)
 unfolding between
-text_owed folded false blank true after feed empties words behind broken value w e = let (none, b, n) = w.first refl in absurd (true≢false n)
-text_owed folded false blank false after feed empties words behind broken value w e =
-    let (none, b, n) = w.first refl in
-    ap (λ (t : List ℕ). t ++ (words ++ behind)) (append-nil empties ∙ ap (λ (f : List ℕ). f ++ empties) (sym none))
-text_owed folded true blank false after feed empties words behind broken value w e =
-    let stays : (folded && ((not blank && not after) && is_feed feed)) ≡ false = ap (λ (b : Bool). folded && ((not blank && not b) && is_feed feed)) (sym e) ∙ w.stays refl refl in
-    ap (λ (t : List ℕ). between folded (not blank && not after) feed t ++ (words ++ behind)) (append-nil empties)
-    ∙ ap (λ (t : List ℕ). t ++ (words ++ behind)) (cond_false (folded && ((not blank && not after) && is_feed feed)) (space_or empties) (feed ++ empties) stays)
-text_owed folded true blank true after feed empties words behind broken value w e =
-    let (a, b, c, d, f) = w.folds refl in
-    ap (λ (t : List ℕ). between folded (not blank && not after) feed t ++ (words ++ behind)) (append-nil empties)
-    ∙ ap (λ (t : List ℕ). t ++ (words ++ behind)) ((rw (a, b, (sym e ∙ f), c) refl) ∙ sym (space_or_some empties d))
+text_owed folded any blank more after feed empties words behind broken value w e = grind (arith, append-nil, cond_false, space_or_some)
 
 pub waits_text : (folded any blank more : Bool) (feed empties : List ℕ) (broken : Bool) (x : ℕ)
     (xs : List ℕ) (k : ℕ) (words next : List ℕ) (ls : List BlockLine)
@@ -112,14 +101,7 @@ pub waits_break : (folded any blank more : Bool) (feed empties e : List ℕ) (br
     (xs : List ℕ) → is_break x ≡ true → Waits folded any blank more feed empties broken (x ∷ xs)
     → Waits folded any blank more feed (empties ++ e) true xs
 unfolding behind_breaks
-waits_break folded any blank more feed empties e broken x xs h w =
-    let same = cond_true (is_break x) _ _ h in
-    record {
-      first = λ a. let (n, b, m) = w.first a in (n, refl, m);
-      folds = λ m. let (a, b, c, d, f) = w.folds m in (a, b, c, longer empties e d, ap (λ (y : ℕ). is_blank y) (sym same) ∙ f);
-      stays = λ m a. ap (λ (y : ℕ). folded && ((not blank && not (is_blank y)) && is_feed feed)) (sym same) ∙ w.stays m a;
-      alone = λ b m. absurd (true≢false b);
-    }
+waits_break folded any blank more feed empties e broken x xs h w = grind (arith, cond_true, longer)
 
 owed_break : (more : Bool) (feed empties e : List ℕ)
     → owed more feed (empties ++ e) ≡ owed more feed empties ++ e

@@ -1,10 +1,9 @@
 -- A block scalar and the line after it, and both at a position of a layout.
-use Rattle.std.proofs.Common.{◌≡◌, ℕ, zero, suc, ◌+◌, ◌-◌, ◌<◌, ◌≤◌, Bool, true, false, not, ◌&&◌, ◌||◌, ◌==◌, List, ◌++◌, length, replicate, Option, Some, None, refl, sym, ap, subst, ◌∙◌, arith, append_assoc, encode_utf8_all, if◌then◌else◌, chars, length-append, ◌≢◌, Ok, add-zero, nat_lt, [], ◌∷◌, Result, encode_utf8}
-use Rattle.yaml_emit_laws.proofs.ScalarWords.{encodes-append, encode_ascii, encodes-chars, HasAt, has, has_front, has_rest, has_at, Has, Cursor, LineBreak, Style, Rest, line, when, char, new_line, after_block, allowed, plain_fits, single_or, block_or, plain_or, taken, somewhere, is_special, ends_in_space, last_or, chomp, ends_in_break, digit_char, chomp_mark, block_body, scalar_text, in_front, break_text, yaml_scalar_style_t, NodePosition, Scalar, is_some, scalar_tag, Context, is_simple_part, deeper, style_of, page_at, front_append, moved_by, closing, NoWhite, own, mark_bytes, BodyLine, bare, full, body_text, body_bytes, read_lines, AreInside, StandsLeft, is_keep, BlockStands, BlockReads, BlockIsReadBack, BlockBeforeLine, margin_round, block_style, BlockIsChosen, BlockAtPosition, from_indicator, kind_of, read_style, BlockIsLaidOut, after_blanks, special_left, at_line, nat_tests, byte, break_width, column_at, is_blank, is_space_there, InRun, run_start, run_more, run_done, no_space, text_parts, false≢true, true≢false, not-true, or_parts, eqb-false, Wrong, is_document_start, is_document_end, indicator_of, kind_at, blocked, lexeme_at, starts_blank, block_value, stacked_with, chomp_at, Lines, lines_from, Chomp, letter, is_break, is_printable, first, cond_true}
+use Rattle.std.proofs.Common.{◌≡◌, ℕ, zero, suc, ◌+◌, ◌-◌, ◌<◌, ◌≤◌, Bool, true, false, ◌&&◌, ◌||◌, ◌==◌, List, ◌++◌, length, replicate, Option, Some, None, refl, sym, ap, subst, ◌∙◌, arith, append_assoc, encode_utf8_all, if◌then◌else◌, chars, length-append, ◌≢◌, Ok, add-zero, nat_lt, [], ◌∷◌, Result, encode_utf8}
+use Rattle.yaml_emit_laws.proofs.ScalarWords.{encodes-append, encode_ascii, encodes-chars, HasAt, has, has_front, has_rest, has_at, Has, Cursor, LineBreak, Style, Rest, line, when, char, new_line, allowed, single_or, block_or, plain_or, taken, somewhere, is_special, ends_in_space, last_or, chomp, ends_in_break, digit_char, chomp_mark, scalar_text, in_front, break_text, yaml_scalar_style_t, NodePosition, Scalar, is_some, scalar_tag, Context, is_simple_part, deeper, style_of, page_at, front_append, moved_by, closing, NoWhite, own, mark_bytes, BodyLine, full, body_text, body_bytes, read_lines, AreInside, StandsLeft, is_keep, BlockStands, BlockReads, BlockIsReadBack, BlockBeforeLine, margin_round, block_style, BlockIsChosen, BlockAtPosition, from_indicator, kind_of, read_style, BlockIsLaidOut, after_blanks, special_left, at_line, nat_tests, byte, break_width, column_at, is_blank, is_space_there, InRun, run_start, run_more, run_done, no_space, text_parts, not-true, or_parts, eqb-false, Wrong, is_document_start, is_document_end, indicator_of, kind_at, blocked, lexeme_at, starts_blank, block_value, stacked_with, chomp_at, Lines, lines_from, Chomp, letter, is_break, is_printable, first, cond_true}
 use Rattle.yaml_emit_layout.specs.declared.page.Page.{Page}
 use Rattle.yaml_emit_layout.specs.declared.page.Allowed.{Allowed}
 use Rattle.yaml_emit_layout.specs.declared.Style.TheVariants as style
-use Rattle.yaml_emit_layout.specs.scan_model.declared.name.yaml_scalar_style_t.TheVariants as asked
 use Rattle.yaml_emit_laws.proofs.BlockLayouts.{line_is, start_is, new_line_is}
 use Rattle.yaml_emit_laws.proofs.BlockReading.{spaces_column, left_of, next_feed, length_more, AllText, chars_text, body_reads, body_column, body_encodes}
 use Rattle.yaml_scan_history.specs.Block.{larger, column_of, BlockText, block_with, block_at, style_at}
@@ -38,11 +37,7 @@ line_cursor m kept = record { column = m; white = true; bare = true; kept = kept
 line_behind : (b : LineBreak) (ended : Bool) (kept : Bool) (d : Cursor) (m : ℕ) (rest : Rest)
     → (ended ≡ true → d ≡ at_line kept) → (ended ≡ false → d.bare ≡ false) → d.kept ≡ kept
     → line b m d rest ≡ in_front (closing b ended ++ replicate m 32) (rest (line_cursor m kept))
-line_behind b true kept d m rest f g h =
-    ap (λ e. line b m e rest) (f refl) ∙ start_is b m kept rest ∙ ap (λ e. in_front (replicate m 32) (rest e)) (spaced_start m kept)
-line_behind b false kept d m rest f g h =
-    line_is b m d rest (g refl) ∙ ap (λ e. in_front (break_text b ++ replicate m 32) (rest (after_blanks m (at_line e)))) h
-    ∙ ap (λ e. in_front (break_text b ++ replicate m 32) (rest e)) (spaced_start m kept)
+line_behind b ended kept d m rest f g h = grind (arith, nat_tests, start_is, spaced_start, line_is)
 
 line_bytes_are : (letters close : List ℕ) (m : ℕ)
     → encode_utf8_all (letters ++ (close ++ replicate m 32)) ≡ encode_utf8_all (letters ++ close)
@@ -73,10 +68,7 @@ read_line_behind page digit folded level c value m r left text p end h n e =
     (record { fewer = left; spaces = has_at text (p + length bs) (replicate m 32) (has_rest text p bs (replicate m 32) all); behind = subst (λ q. NoWhite text q) far n }))
 
 longer_than : (bs : List ℕ) (m : ℕ) → m ≤ length (bs ++ replicate m 32)
-longer_than bs m =
-    let size = length-append bs (replicate m 32) in
-    let wide = length_spaces m in
-    omega (arith, size, wide)
+longer_than bs m = grind (arith, nat_tests, length-append, length_spaces)
 
 pub block_before_line : BlockIsReadBack → BlockBeforeLine
 unfolding in_front
@@ -114,40 +106,21 @@ block_is true = tt
 block_is false = tt
 
 single_not : (a : Allowed) → IsBlock (single_or a) → ⊥
-single_not a h = by a.single h
-  where
-    by : (b : Bool) → IsBlock (if b then style.Single else style.Double) → ⊥
-    by true f = f
-    by false f = f
+single_not a h = grind (arith, nat_tests)
 
 plain_not : (a : Allowed) (untagged flow simple empty : Bool)
     → IsBlock (plain_or a untagged flow simple empty) → ⊥
-plain_not a untagged flow simple empty = by (plain_fits a untagged flow simple empty)
-  where
-    by : (b : Bool) → IsBlock (if b then style.Plain else single_or a) → ⊥
-    by true f = f
-    by false f = single_not a f
+plain_not a untagged flow simple empty = grind (arith, nat_tests, single_not)
 
 block_by : (a : Allowed) (flow simple : Bool) (s : Style) → IsBlock (block_or a flow simple s)
     → (a.block ≡ true) × (flow ≡ false) × (simple ≡ false)
-block_by a flow simple s h = by a.block flow simple h
-  where
-    by : (b f g : Bool) → IsBlock (if b && not (f || g) then s else style.Double)
-        → (b ≡ true) × (f ≡ false) × (g ≡ false)
-    by true false false i = (refl, refl, refl)
-    by true true g i = absurd i
-    by true false true i = absurd i
-    by false f g i = absurd i
+block_by a flow simple s h = grind (arith, nat_tests)
 
 taken_block : (a : Allowed) (s : yaml_scalar_style_t) (untagged flow simple empty : Bool)
     → IsBlock (taken a s untagged flow simple empty)
     → (a.block ≡ true) × (flow ≡ false) × (simple ≡ false)
 unfolding taken
-taken_block a asked.YAML_SINGLE_QUOTED_SCALAR_STYLE untagged flow simple empty h = absurd (single_not a h)
-taken_block a asked.YAML_DOUBLE_QUOTED_SCALAR_STYLE untagged flow simple empty h = absurd h
-taken_block a asked.YAML_LITERAL_SCALAR_STYLE untagged flow simple empty h = block_by a flow simple style.Literal h
-taken_block a asked.YAML_FOLDED_SCALAR_STYLE untagged flow simple empty h = block_by a flow simple style.Folded h
-taken_block a _ untagged flow simple empty h = absurd (plain_not a untagged flow simple empty h)
+taken_block a s untagged flow simple empty h = grind (arith, nat_tests, single_not, block_by, plain_not)
 
 pretty_block : (canonical : Bool) (s : Style) → IsBlock (if canonical then style.Double else s)
     → (canonical ≡ false) × IsBlock s
@@ -222,12 +195,7 @@ allows unicode (x ∷ xs) e =
     record { first = x; others = xs; is = refl; good = all_good unicode 32 (x ∷ xs) (or_parts _ (ends_in_space (x ∷ xs)) none).0; last = (or_parts (somewhere (is_special unicode) 32 (x ∷ xs)) _ none).1 }
 
 nothing_waits : (folded : Bool) (cs : List ℕ) → Waits folded false true false [] [] true cs
-nothing_waits folded cs = record {
-  first = λ a. (refl, refl, refl);
-  folds = λ t. absurd (false≢true t);
-  stays = λ m a. absurd (false≢true a);
-  alone = λ b m. absurd (true≢false b);
-}
+nothing_waits folded cs = grind (arith, nat_tests)
 
 -- ---- the header is written
 
@@ -270,15 +238,7 @@ header_text shown d k b = digit_text shown d ++ (chomp_text k ++ break_text b)
 header_is : (shown : Bool) (d : ℕ) (k : Chomp) (b : LineBreak) (c : Cursor) (rest : Rest) → d < 10
     → when shown (char (digit_char d)) c (λ e. chomp_mark k e (λ f. new_line b f rest))
     ≡ in_front (header_text shown d k b) (rest (at_line (is_keep k)))
-header_is shown d k b c rest h =
-    let e = after_digit shown c in
-    let f = after_chomp k e in
-    digit_is shown d c (λ x. chomp_mark k x (λ y. new_line b y rest)) h
-    ∙ ap (in_front (digit_text shown d))
-    (chomp_is k e (λ y. new_line b y rest)
-    ∙ ap (in_front (chomp_text k)) (new_line_is b f rest ∙ ap (λ x. in_front (break_text b) (rest (at_line x))) (chomp_kept k e))
-    ∙ sym (front_append (chomp_text k) (break_text b) (rest (at_line (is_keep k)))))
-    ∙ sym (front_append (digit_text shown d) (chomp_text k ++ break_text b) (rest (at_line (is_keep k))))
+header_is shown d k b c rest h = grind (arith, nat_tests, digit_is, chomp_is, new_line_is, chomp_kept, front_append)
 
 -- ---- its bytes
 
@@ -466,11 +426,7 @@ written_by : (page : Page) (digit : ℕ) (folded : Bool) (cs : List ℕ) (c : Cu
     ≡ in_front (sign folded ∷ (header_text (is_shown cs) digit (chomp true true cs) page.line_break
     ++ s.letters)) (rest (behind_block s.behind))
 unfolding in_front
-written_by page digit folded cs c rest s small =
-    let header = header_text (is_shown cs) digit (chomp true true cs) page.line_break in
-    ap (λ t. letter (sign folded) ∷ t)
-    (header_is (is_shown cs) digit (chomp true true cs) page.line_break (moved_by c) (λ d. block_body page folded true 10 cs d (λ e. after_block e rest)) small
-    ∙ ap (in_front header) (s.text (λ e. after_block e rest)) ∙ sym (front_append header s.letters (rest (behind_block s.behind))))
+written_by page digit folded cs c rest s small = grind (arith, nat_tests, header_is, front_append)
 
 pub block_back : BlockIsReadBack
 unfolding stacked_with

@@ -1,6 +1,6 @@
 -- Bytes of quoted text: which end no line, and which digits spell a number.
 use Rattle.std.proofs.Common.{◌≡◌, ◌≢◌, ℕ, suc, ◌+◌, ◌*◌, ◌<◌, ◌≤◌, true, false, ◌&&◌, ◌==◌, List, [], ◌∷◌, length, Option, Some, None, refl, sym, ap, subst, ◌∙◌, inl, inr, ◌⊎◌, arith, add-zero, option_and_then}
-use Rattle.yaml_emit_laws.proofs.Shared.{cases_lt, cases_eq, ne_eqb, nat_tests, and-false, byte, break_of, ends_of, is_blank, hex_digit, hex_value, hex_len, simple_escape, number_behind}
+use Rattle.yaml_emit_laws.proofs.Shared.{cases_lt, ne_eqb, nat_tests, and-false, byte, break_of, ends_of, is_blank, hex_digit, hex_value, hex_len, simple_escape, number_behind}
 use Rattle.yaml_scan_history.proofs.HasLemmas.{Has}
 use Rattle.yaml_scan_laws.proofs.Pushing.{passes, stops}
 
@@ -71,11 +71,7 @@ none_some r x e f = cc (sym e ∙ f)
 
 pub digit_calm : (d v : ℕ) → hex_digit d ≡ Some v → Calm d
 unfolding hex_digit
-digit_calm d v h = record {
-  low = elim (cases_lt d 128) [ inl l ↦ l | inr l ↦ absurd (none_some (hex_digit d) v (no_high_digit d l) h) ];
-  no_feed = λ e. none_some (hex_digit d) v (ap (λ k. hex_digit k) e) h;
-  no_return = λ e. none_some (hex_digit d) v (ap (λ k. hex_digit k) e) h;
-}
+digit_calm d v h = grind (arith, nat_tests, none_some, no_high_digit)
 
 pub hex_start : (text : List ℕ) (p : ℕ) → hex_value text p 0 ≡ Some 0
 unfolding hex_value
@@ -92,10 +88,7 @@ next_digit text p k ds h = let e : p + k + 1 ≡ p + suc k = omega arith in subs
 
 more_digits : (text : List ℕ) (p k w d : ℕ) (ds : List ℕ) → Calm d → Digits text p (suc k) w ds
     → Digits text p k w (d ∷ ds)
-more_digits text p k w d ds c r = record {
-  calm = (c, r.calm);
-  value = let e : k + suc (length ds) ≡ suc k + length ds = omega arith in ap (λ n. hex_value text p n) e ∙ r.value;
-}
+more_digits text p k w d ds c r = grind (arith, nat_tests)
 
 -- the first digit of a number, and the rest of it
 record FirstDigit (v w d : ℕ) (ds : List ℕ) : Type 0 where
@@ -149,20 +142,7 @@ named_is b bs h = record {
 }
 
 pub number_calm : (b : ℕ) → 0 < hex_len b → Calm b
-number_calm b h =
-    elim (cases_eq b 0x78) [
-      | inl e ↦ calm_from b (omega arith) (omega arith)
-      | inr x ↦
-          elim (cases_eq b 0x75) [
-            | inl e ↦ calm_from b (omega arith) (omega arith)
-            | inr u ↦
-                elim (cases_eq b 0x55) [
-                  | inl e ↦ calm_from b (omega arith) (omega arith)
-                  | inr v ↦
-                      let z = no_number b x u v in absurd (omega (arith, h, z))
-                ]
-          ]
-    ]
+number_calm b h = grind (arith, nat_tests, calm_from, no_number)
 
 -- ---- bytes of a character past ASCII
 
@@ -175,34 +155,14 @@ first_end x y b c h = grind (arith, nat_tests)
 pub second_end : (x y b c : ℕ) → 128 ≤ b → b < 192 → 192 ≤ y → (b ≡ 0x85 → y ≡ 0xC2 → ⊥)
     → ends_of x y b c ≡ false
 unfolding ends_of
-second_end x y b c h k l m =
-    elim (cases_eq b 0x85) [
-      | inl e ↦ elim (cases_eq y 0xC2) [
-        | inl f ↦ absurd (m e f)
-        | inr f ↦ grind (arith, nat_tests)
-      ]
-      | inr e ↦ grind (arith, nat_tests)
-    ]
+second_end x y b c h k l m = grind (arith, nat_tests)
 
 -- A third byte ends a break only in LINE SEPARATOR and PARAGRAPH SEPARATOR.
 pub third_end : (x y b c : ℕ) → 128 ≤ b → b < 192 → 128 ≤ y → y < 192
     → (b ≡ 0xA8 → y ≡ 0x80 → x ≡ 0xE2 → ⊥) → (b ≡ 0xA9 → y ≡ 0x80 → x ≡ 0xE2 → ⊥)
     → ends_of x y b c ≡ false
 unfolding ends_of
-third_end x y b c h k l m n o =
-    elim (cases_eq y 0x80) [
-      | inr f ↦ grind (arith, nat_tests)
-      | inl f ↦ elim (cases_eq x 0xE2) [
-        | inr g ↦ grind (arith, nat_tests)
-        | inl g ↦ elim (cases_eq b 0xA8) [
-          | inl e ↦ absurd (n e f g)
-          | inr d ↦ elim (cases_eq b 0xA9) [
-            | inl e ↦ absurd (o e f g)
-            | inr e ↦ grind (arith, nat_tests)
-          ]
-        ]
-      ]
-    ]
+third_end x y b c h k l m n o = grind (arith, nat_tests)
 
 -- A later byte of a character begins no break.
 pub later_break : (b c d : ℕ) → 128 ≤ b → b < 192 → break_of b c d ≡ 0
@@ -212,27 +172,13 @@ later_break b c d h k = grind (arith, nat_tests)
 -- Of characters of two bytes only NEXT LINE is a break.
 pub two_break : (b c d : ℕ) → 192 ≤ b → b < 224 → (b ≡ 0xC2 → c ≡ 0x85 → ⊥) → break_of b c d ≡ 0
 unfolding break_of
-two_break b c d h k m =
-    elim (cases_eq b 0xC2) [
-      | inr e ↦ grind (arith, nat_tests)
-      | inl e ↦ elim (cases_eq c 0x85) [ inl f ↦ absurd (m e f) | inr f ↦ grind (arith, nat_tests) ]
-    ]
+two_break b c d h k m = grind (arith, nat_tests)
 
 -- Of characters of three bytes only LINE SEPARATOR and PARAGRAPH SEPARATOR are breaks.
 pub three_break : (b c d : ℕ) → 224 ≤ b → b < 240 → (b ≡ 0xE2 → c ≡ 0x80 → d ≡ 0xA8 → ⊥)
     → (b ≡ 0xE2 → c ≡ 0x80 → d ≡ 0xA9 → ⊥) → break_of b c d ≡ 0
 unfolding break_of
-three_break b c d h k n o =
-    elim (cases_eq b 0xE2) [
-      | inr e ↦ grind (arith, nat_tests)
-      | inl e ↦ elim (cases_eq c 0x80) [
-        | inr f ↦ grind (arith, nat_tests)
-        | inl f ↦ elim (cases_eq d 0xA8) [
-          | inl g ↦ absurd (n e f g)
-          | inr g ↦ elim (cases_eq d 0xA9) [ inl i ↦ absurd (o e f i) | inr i ↦ grind (arith, nat_tests) ]
-        ]
-      ]
-    ]
+three_break b c d h k n o = grind (arith, nat_tests)
 
 -- The first byte of a character of four begins no break.
 pub four_break : (b c d : ℕ) → 240 ≤ b → break_of b c d ≡ 0

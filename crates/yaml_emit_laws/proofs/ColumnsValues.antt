@@ -1,6 +1,6 @@
 -- Whether a line is bare after a layout, by whether it was before it.
-use Rattle.std.proofs.Common.{◌≡◌, ℕ, zero, suc, ◌-◌, Bool, true, false, not, List, [], ◌∷◌, Option, Some, None, refl, ap, inl, inr}
-use Rattle.yaml_emit_laws.proofs.Shared.{cases_Bool, Cursor, LineBreak, Lf, Cr, CrLf, letter, Rest, Layout, ◌▹◌, stay, choose, char, letters, blank, blanks, is_white, gap, word, indicator, new_line, must_break, indent_to, line, tag_spelling, Start, Nodes, sequence_node, start_tag, Context, position, is_flow, are_none, anchor_text, tag_text, properties_text, checked, block_indent_in, before_value, node_layout, items_layout, ValuesStandByKeys}
+use Rattle.std.proofs.Common.{◌≡◌, ℕ, zero, suc, ◌-◌, Bool, true, false, not, List, [], ◌∷◌, Option, Some, None, refl, ap, arith}
+use Rattle.yaml_emit_laws.proofs.Shared.{Cursor, LineBreak, Lf, Cr, CrLf, letter, Rest, Layout, ◌▹◌, stay, choose, char, letters, blank, blanks, is_white, gap, word, indicator, new_line, must_break, indent_to, line, tag_spelling, Start, Nodes, sequence_node, start_tag, Context, position, is_flow, are_none, anchor_text, tag_text, properties_text, checked, block_indent_in, before_value, node_layout, items_layout, ValuesStandByKeys}
 use Rattle.yaml_emit_layout.specs.declared.level.Part.TheVariants as part
 
 -- from lines that are bare or not, to such
@@ -26,11 +26,7 @@ blanks_lead x (suc n) = leads_on x x x blank (blanks n) (blank_leads x) (blanks_
 
 choose_leads : (x y : Bool) (test : Cursor → Bool) (a b : Layout) → Leads x y a → Leads x y b
     → Leads x y (choose test a b)
-choose_leads x y test a b f g k l h c w =
-    elim (cases_Bool (test c)) [
-      | inl e ↦ rw e (f k l h c w)
-      | inr e ↦ rw e (g k l h c w)
-    ]
+choose_leads x y test a b f g k l h c w = grind arith
 
 first_leads : (x y : Bool) (test : Cursor → Bool) (a b : Layout)
     → ((c : Cursor) → c.bare ≡ x → test c ≡ true) → Leads x y a → Leads x y (choose test a b)

@@ -1,7 +1,7 @@
 -- The lines of directives are words.
 use Rattle.std.proofs.Common.{◌≡◌, ℕ, ◌+◌, ◌<◌, ◌||◌, nat_lt, Bool, true, false, List, [], ◌∷◌, ◌++◌, length, Option, Some, None, Result, Ok, refl, sym, ap, subst, ◌∙◌, inl, inr, arith, append_assoc, ℤ, pos, codes, if◌then◌else◌, int_eq}
 use Rattle.std.specs.Cmp.{signed_Decides}
-use Rattle.yaml_emit_laws.proofs.Shared.{cases_Bool, and_parts, byte, break_of, break_width, column_at, is_break, Wrong, Said, DirectiveText, directive_at, begins_lexeme, GapReads, Kind, WordText, kind_at, lexeme_at, body_said, directed, yaml_version_directive_t, TagDirective, Cursor, Settings, LineBreak, encode, char_bytes, Layout, Rest, ◌▹◌, blank, letters, word, line, uri_text, Opening, is_version, version_problem, directives_problem, version_word, version_text, directive_text, directives_text, version_kinds, directives_kinds, version_bodies, directives_bodies, VersionReads, are_ascii, IsMarked, IsReadableDirective, AreReadable, WrittenDirectivesAreReadable, ReadableDirectivesAreAscii, DirectivesAreRead, IsWritableOpening, Has, Left, bytes, first}
+use Rattle.yaml_emit_laws.proofs.Shared.{cases_Bool, and_parts, byte, break_of, break_width, column_at, is_break, Wrong, Said, DirectiveText, directive_at, begins_lexeme, GapReads, Kind, WordText, kind_at, lexeme_at, body_said, directed, yaml_version_directive_t, TagDirective, Cursor, Settings, LineBreak, encode, char_bytes, Layout, Rest, ◌▹◌, blank, letters, word, line, uri_text, Opening, is_version, version_problem, directives_problem, version_word, version_text, directive_text, directives_text, version_kinds, directives_kinds, version_bodies, directives_bodies, VersionReads, are_ascii, IsMarked, IsReadableDirective, AreReadable, WrittenDirectivesAreReadable, ReadableDirectivesAreAscii, DirectivesAreRead, IsWritableOpening, Has, Left, bytes}
 use Rattle.yaml_scan_history.specs.Directives as directives
 use Rattle.yaml_scan_history.specs.declared.kind.Kind.TheVariants as kinds
 use Rattle.yaml_emit_layout.specs.scan_types.Tokens as tokens
@@ -218,10 +218,7 @@ tag_lands law reads ascii s d may rest calm =
 
 tag_first : (s : Settings) (d : TagDirective) (rest : Rest)
     → NoFeed (λ c. directive_text s d c rest)
-tag_first s d rest kept e = differs _ e (ap (λ (bs : List ℕ). first bs) (tag_front kept (λ c. (word d.handle ▹ (word (uri_text true d.prefix) ▹ line s.line_break 0)) c rest)))
-  where
-    differs : (n : ℕ) → n ≡ 10 → n ≡ 37 → ⊥
-    differs n e f = omega (arith, e, f)
+tag_first s d rest kept e = grind (arith, tag_front)
 
 tags_first : (s : Settings) (ds : List TagDirective) (rest : Rest) → NoFeed rest
     → NoFeed (λ c. directives_text s ds c rest)

@@ -1,7 +1,7 @@
 -- The lines of directives are walked.
 use Rattle.std.proofs.Common.{◌≡◌, ◌⊎◌, ℕ, ◌+◌, ◌<◌, ◌||◌, nat_lt, Bool, true, false, List, [], ◌∷◌, ◌++◌, length, Option, Some, None, refl, sym, ap, subst, ◌∙◌, inl, inr, arith, ℤ, pos, codes, if◌then◌else◌, int_eq, ◌&&◌, not}
 use Rattle.std.specs.Cmp.{signed_Decides}
-use Rattle.yaml_emit_laws.proofs.NodeWords.{cases_Bool, lt-ltb, and_parts, true≢false, false≢true, yaml_encoding_t, byte, break_width, column_at, is_break, HasAt, are_gap, begins_lexeme, WordText, kind_at, lexeme_at, body_said, TokenBody, yaml_version_directive_t, TagDirective, Cursor, Settings, LineBreak, Lf, Cr, CrLf, letter, encode, char_bytes, Layout, Rest, ◌▹◌, letters, word, line, blanks, must_break, new_line, indent_to, keep, when, nothing_more, uri_text, Opening, Document, Node, alias_node, is_version, version_problem, directives_problem, version_word, version_text, directive_text, directives_text, is_directed, is_marked, dots, dashes, start_layout, Context, context_of, root_position, node_layout, end_layout, stop_layout, documents_layout, version_bodies, directives_bodies, end_bodies, VersionReads, IsReadableDirective, AreReadable, WrittenDirectivesAreReadable, ReadableDirectivesAreAscii, DirectivesAreRead, IsWritableOpening, AreWritable, Left, bytes, first, has_front, has_at, left_first, left_more, left_rest, left_letter, behind_feed, behind_return, IsGap, Comes, behind, WalkState, Done, printed_begins, marks_come, words_leave, walk_white, walk_outer, walk_starts, walk_stops, walk_says, return_width, both_width, feed_width, left_byte, none_all, at_line, behind_three, end_zero, end_begins, has_all, pretty, same_settings, begins_white, opening_bodies, node_bodies, node_kept, root_bodies, is_root_kept, documents_bodies, stream_bodies, NodeStage, NoFeed, indent, DocumentsAreRead}
+use Rattle.yaml_emit_laws.proofs.NodeWords.{cases_Bool, lt-ltb, and_parts, true≢false, false≢true, yaml_encoding_t, byte, break_width, column_at, is_break, HasAt, are_gap, begins_lexeme, WordText, kind_at, lexeme_at, body_said, TokenBody, yaml_version_directive_t, TagDirective, Cursor, Settings, LineBreak, Lf, Cr, CrLf, letter, encode, char_bytes, Layout, Rest, ◌▹◌, letters, word, line, blanks, new_line, keep, when, nothing_more, uri_text, Opening, Document, Node, alias_node, is_version, version_problem, directives_problem, version_word, version_text, directive_text, directives_text, is_directed, is_marked, dots, dashes, start_layout, Context, context_of, root_position, node_layout, end_layout, stop_layout, documents_layout, version_bodies, directives_bodies, end_bodies, VersionReads, IsReadableDirective, AreReadable, WrittenDirectivesAreReadable, ReadableDirectivesAreAscii, DirectivesAreRead, IsWritableOpening, AreWritable, Left, bytes, first, has_front, has_at, left_first, left_more, left_rest, left_letter, behind_feed, behind_return, IsGap, Comes, behind, WalkState, Done, printed_begins, marks_come, words_leave, walk_white, walk_outer, walk_starts, walk_stops, walk_says, return_width, both_width, feed_width, left_byte, none_all, at_line, behind_three, end_zero, end_begins, has_all, pretty, same_settings, begins_white, opening_bodies, node_bodies, node_kept, root_bodies, is_root_kept, documents_bodies, stream_bodies, NodeStage, NoFeed, indent, DocumentsAreRead}
 use Rattle.yaml_scan_history.specs.Directives as directives
 use Rattle.yaml_scan_history.specs.Directives.{Said, directive_at}
 use Rattle.yaml_scan_history.specs.declared.kind.Kind.TheVariants as kinds
@@ -76,11 +76,7 @@ line_broken : (b : LineBreak) (text : List ℕ) (c : Cursor) (q : ℕ) (rest : R
     → IsNext (first (bytes (rest (at_line c.kept)))) → Left text q (bytes (line b 0 c rest))
     → Broken text q rest c.kept
 unfolding line blanks
-line_broken b text c q rest e next l =
-    let must : must_break 0 c ≡ true = rw e refl in
-    let k : Rest = λ x. indent_to 0 x rest in
-    let h = new_line_broken b text c q k next (subst (λ (t : Bool). Left text q (bytes (if t then new_line b c k else k c))) must l) in
-    record { white = h.white; has = h.has; blank = h.blank; width = h.width; some = h.some; column = h.column; left = h.left }
+line_broken b text c q rest e next l = grind (arith, new_line_broken)
 
 -- ---- a directive and its line
 
@@ -314,19 +310,7 @@ plain_opens : (s : Settings) (fresh : Bool) (version : Option yaml_version_direc
     → Opens x text rest (λ bs. T (opening_bodies (pretty s) fresh
     (record { version = version; directives = directives; implicit = implicit }) bs))
 unfolding start_layout directives_text directives_bodies
-plain_opens s false version directives implicit e x text rest kept T place st l = absurd (true≢false e)
-plain_opens s true (Some v) directives true e x text rest kept T place st l = absurd (true≢false e)
-plain_opens s true (Some v) directives false e x text rest kept T place st l = absurd (true≢false e)
-plain_opens s true None (d ∷ ds) true e x text rest kept T place st l = absurd (true≢false e)
-plain_opens s true None (d ∷ ds) false e x text rest kept T place st l = absurd (true≢false e)
-plain_opens s true None [] false e x text rest kept T place st l = absurd (true≢false e)
-plain_opens s true None [] true e x text rest kept T place st l = record {
-  cursor = at_line false;
-  kept = refl;
-  place = place;
-  stage = record { reads = st.reads; flat = st.flat; broken = st.broken; bare = st.bare; line = st.line };
-  left = l;
-}
+plain_opens s fresh version directives implicit e x text rest kept T place st l = grind arith
 
 -- ---- either
 
@@ -402,14 +386,7 @@ item_bodies_same p flow bare _ bs = refl
 says_as : (x : yaml_encoding_t) (text : List ℕ) (after : Rest) (kept : Bool)
     (T U : List TokenBody → List TokenBody) → ((bs : List TokenBody) → T bs ≡ U bs)
     → AtLine x text after kept T → AtLine x text after kept U
-says_as x text after kept T U e a =
-    let s = a.stage in
-    record {
-      place = a.place;
-      more = a.more;
-      stage = record { reads = walk_says.other x text a.place [] [] a.more T U s.reads e; flat = s.flat; broken = s.broken; bare = s.bare; line = s.line };
-      left = a.left;
-    }
+says_as x text after kept T U e a = grind (arith, walk_says)
 
 -- its root and the line after it
 root_walks : (s : Settings) → RootsWalk (pretty s) → (d : Document) (ds : List Document)

@@ -1,6 +1,6 @@
 -- The start of a line outside of all levels, and what may be there after a root.
-use Rattle.std.proofs.Common.{◌≡◌, ◌⊎◌, ℕ, ◌==◌, ◌&&◌, ◌||◌, Bool, true, false, List, [], ◌∷◌, ◌++◌, Some, None, refl, sym, ap, subst, ◌∙◌, inl, inr, arith, if◌then◌else◌, not, Option, ◌+◌, nat_lt}
-use Rattle.yaml_emit_laws.proofs.NodeWords.{false≢true, eqb-true, and_parts, yaml_encoding_t, TokenBody, column_at, break_of, byte, is_blank_or_end, Cursor, LineBreak, Lf, Cr, CrLf, Rest, line, blanks, must_break, new_line, indent_to, when, nothing_more, word, break_text, Left, bytes, first, letter_low, WalkState, WalkReads, behind, begins_white, begins_mark, stops_plain_at, begins_blank, NodeStage, Lined, NoFeed, no_comment, Ending, NodeWalks, at_line, yaml_version_directive_t, TagDirective, Settings, encode, Opening, Document, Node, dots, dashes, context_of, root_position, node_layout, directives_text, start_layout, end_layout, stop_layout, documents_layout, IsWritable, IsWritableOpening, AreWritable, three, behind_three, Thrice, thrice_dash, thrice_dot, line_blank, pretty, Kind, allows_key, is_outside, is_end, WordText, kind_at, lexeme_at, left_first, left_more, line_at-grows, Comes, words_leave, walk_outer}
+use Rattle.std.proofs.Common.{◌≡◌, ◌⊎◌, ℕ, ◌&&◌, ◌||◌, Bool, true, false, List, [], ◌∷◌, ◌++◌, Some, None, refl, sym, ap, subst, ◌∙◌, inl, inr, arith, if◌then◌else◌, not, Option, ◌+◌, nat_lt}
+use Rattle.yaml_emit_laws.proofs.NodeWords.{false≢true, yaml_encoding_t, TokenBody, column_at, break_of, byte, is_blank_or_end, Cursor, LineBreak, Lf, Cr, CrLf, Rest, line, blanks, must_break, new_line, indent_to, when, nothing_more, word, break_text, Left, bytes, first, letter_low, WalkState, WalkReads, behind, begins_white, begins_mark, stops_plain_at, begins_blank, NodeStage, Lined, NoFeed, no_comment, Ending, NodeWalks, at_line, yaml_version_directive_t, TagDirective, Settings, encode, Opening, Document, Node, dots, dashes, context_of, root_position, node_layout, directives_text, start_layout, end_layout, stop_layout, documents_layout, IsWritable, IsWritableOpening, AreWritable, three, behind_three, Thrice, thrice_dash, thrice_dot, line_blank, pretty, Kind, allows_key, is_outside, is_end, WordText, kind_at, lexeme_at, left_first, left_more, line_at-grows, Comes, words_leave, walk_outer}
 use Rattle.yaml_emit_laws.proofs.Lining.{line_on, no_gap}
 use Rattle.yaml_emit_layout.specs.declared.level.Part.TheVariants as part
 use Rattle.yaml_emit_layout.specs.scan_types.Tokens as tokens
@@ -8,11 +8,7 @@ use Rattle.yaml_scan_history.specs.declared.kind.Kind.TheVariants as kinds
 
 pub at_start : (e : Cursor) (kept : Bool) → e.bare ≡ true → e.white ≡ true → e.column ≡ 0
     → e.kept ≡ kept → e ≡ at_line kept
-at_start e kept bare white column same =
-    ap (λ (b : Bool). let c : Cursor = record { column = e.column; white = e.white; bare = b; kept = e.kept } in c) bare
-    ∙ ap (λ (w : Bool). let c : Cursor = record { column = e.column; white = w; bare = true; kept = e.kept } in c) white
-    ∙ ap (λ (n : ℕ). let c : Cursor = record { column = n; white = true; bare = true; kept = e.kept } in c) column
-    ∙ ap (λ (k : Bool). at_line k) same
+at_start e kept bare white column same = grind arith
 
 -- At the start of a line outside of all levels but those that are left to whoever closes them.
 pub record AtLine (x : yaml_encoding_t) (text : List ℕ) (after : Rest) (kept : Bool) (T : List TokenBody → List TokenBody) : Type 0 where
@@ -24,14 +20,7 @@ pub record AtLine (x : yaml_encoding_t) (text : List ℕ) (after : Rest) (kept :
 pub from_lined : (x : yaml_encoding_t) (text : List ℕ) (after : Rest) (kept : Bool) (more : List ℕ)
     (T : List TokenBody → List TokenBody) → Lined x text after 0 kept [] more T
     → AtLine x text after kept T
-from_lined x text after kept more T h =
-    let same = at_start h.cursor kept h.bare h.white h.column h.same in
-    record {
-      place = h.place;
-      more = more;
-      stage = subst (λ (c : Cursor). NodeStage x text c h.place [] more T) same h.stage;
-      left = subst (λ (c : Cursor). Left text h.place.at (bytes (after c))) same h.left;
-    }
+from_lined x text after kept more T h = grind (arith, at_start)
 
 -- the same, whatever broke the line
 pub record OnLine (x : yaml_encoding_t) (text : List ℕ) (rest : Rest) (kept : Bool) (T : List TokenBody → List TokenBody) : Type 0 where
@@ -65,18 +54,10 @@ pick false q r true v w h = inr refl
 pick false q r false v w h = absurd (false≢true h)
 
 pub mark_first : (a : ℕ) (bs : List ℕ) → begins_mark a bs ≡ true → (a ≡ 45) ⊎ (a ≡ 46)
-mark_first a (b ∷ c ∷ bs) h = elim (pick (a == 45) (b == 45) (c == 45) (a == 46) (b == 46) (c == 46) (and_parts (((a == 45 && b == 45) && c == 45) || ((a == 46 && b == 46) && c == 46)) (begins_white bs) h).0) [
-  | inl e ↦ inl (eqb-true a 45 e)
-  | inr e ↦ inr (eqb-true a 46 e)
-]
-mark_first a _ h = absurd (false≢true h)
+mark_first a bs h = grind (arith, pick)
 
 pub outer_calm : (bs : List ℕ) → is_outer bs ≡ true → first bs ≡ 10 → ⊥
-outer_calm [] h e = omega (arith, e)
-outer_calm (b ∷ bs) h e = elim (mark_first b bs h) [
-  | inl f ↦ omega (arith, e, f)
-  | inr f ↦ omega (arith, e, f)
-]
+outer_calm bs h e = grind (arith, mark_first)
 
 -- ---- what such a line does to what is before it
 
@@ -94,19 +75,11 @@ outer_stops level (b ∷ bs) h = stops_so level b bs (mark_first b bs h) h
 
 outer_no_comment : (bs : List ℕ) → is_outer bs ≡ true → no_comment bs ≡ true
 unfolding no_comment
-outer_no_comment [] h = refl
-outer_no_comment (b ∷ bs) h = elim (mark_first b bs h) [
-  | inl e ↦ subst (λ x. no_comment (x ∷ bs) ≡ true) (sym e) refl
-  | inr e ↦ subst (λ x. no_comment (x ∷ bs) ≡ true) (sym e) refl
-]
+outer_no_comment bs h = grind (arith, mark_first)
 
 outer_solid : (bs : List ℕ) → is_outer bs ≡ true → begins_blank bs ≡ false
 unfolding break_of
-outer_solid [] h = refl
-outer_solid (b ∷ bs) h = elim (mark_first b bs h) [
-  | inl e ↦ subst (λ x. begins_blank (x ∷ bs) ≡ false) (sym e) refl
-  | inr e ↦ subst (λ x. begins_blank (x ∷ bs) ≡ false) (sym e) refl
-]
+outer_solid bs h = grind (arith, mark_first)
 
 -- a line after text, in bytes
 new_line_bytes : (b : LineBreak) (c : Cursor) (rest : Rest)
@@ -246,18 +219,7 @@ record Threes (text : List ℕ) (p x : ℕ) (kept : Bool) (rest : Rest) : Type 0
 
 threes : (text : List ℕ) (p x : ℕ) → nat_lt x 128 ≡ true → (kept : Bool) (rest : Rest)
     → Left text p (bytes (word (x ∷ x ∷ x ∷ []) (at_line kept) rest)) → Threes text p x kept rest
-threes text p x low kept rest l =
-    let m = subst (λ (bs : List ℕ). Left text p bs) (three x low kept rest) l in
-    let m1 = left_more text p x _ m in
-    let m2 = left_more text (p + 1) x _ m1 in
-    let two : p + 1 + 1 ≡ p + 2 = omega arith in
-    let far : p + 1 + 1 + 1 ≡ p + 3 = omega arith in
-    record {
-      first = left_first text p x _ m;
-      second = left_first text (p + 1) x _ m1;
-      third = ap (λ q. byte text q) (sym two) ∙ left_first text (p + 1 + 1) x _ m2;
-      left = subst (λ (q : ℕ). Left text q (bytes (rest (behind_three kept)))) far (left_more text (p + 1 + 1) x _ m2);
-    }
+threes text p x low kept rest l = grind (arith, three, left_more, left_first)
 
 -- After a document's mark.
 pub record Marked (x : yaml_encoding_t) (text : List ℕ) (rest : Rest) (kept : Bool) (T : List TokenBody → List TokenBody) : Type 0 where

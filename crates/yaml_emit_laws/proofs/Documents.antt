@@ -1,6 +1,6 @@
 -- The words of documents.
 use Rattle.std.proofs.Common.{◌≡◌, ℕ, ◌+◌, ◌<◌, ◌&&◌, not, nat_lt, Bool, true, false, List, [], ◌∷◌, ◌++◌, length, map, reverse, Some, Ok, refl, sym, ap, subst, ◌∙◌, arith, get_or, append_assoc, append-nil, if◌then◌else◌}
-use Rattle.yaml_emit_laws.proofs.Shared.{get_or_past, reverse-append, yaml_encoding_t, Token, TokenBody, byte, break_of, column_at, is_blank_or_end, Gap, is_document_start, is_document_end, begins_lexeme, GapReads, AnchorReads, Kind, depth_after, is_end, reached, flow_depth, key_allowed, WordText, kind_at, lexeme_at, SpelledText, Word, lexemes, WordsStand, word_kinds, token_of, first_token, Cursor, Settings, LineBreak, Lf, Cr, CrLf, letter, encode, char_bytes, Layout, Rest, ◌▹◌, keep, when, letters, word, line, blanks, new_line, must_break, indent_to, nothing_more, Opening, Document, Node, is_directed, dots, dashes, root_position, context_of, version_text, directives_text, start_layout, end_layout, stop_layout, documents_layout, node_layout, QuotedIsReadBack, put_if, node_kinds, version_kinds, directives_kinds, opening_kinds, documents_kinds, node_bodies, version_bodies, directives_bodies, end_bodies, opening_bodies, documents_bodies, Has, Left, WordStage, told, bytes, first, IsWritable, IsWritableOpening, AreWritable, text_of_documents, IsReadAs}
+use Rattle.yaml_emit_laws.proofs.Shared.{get_or_past, reverse-append, yaml_encoding_t, Token, TokenBody, byte, break_of, column_at, is_blank_or_end, Gap, is_document_start, is_document_end, begins_lexeme, GapReads, AnchorReads, Kind, depth_after, is_end, reached, flow_depth, key_allowed, WordText, kind_at, lexeme_at, SpelledText, Word, lexemes, WordsStand, word_kinds, token_of, first_token, Cursor, Settings, LineBreak, Lf, Cr, CrLf, letter, encode, char_bytes, Layout, Rest, ◌▹◌, keep, when, letters, word, line, blanks, new_line, must_break, indent_to, nothing_more, Opening, Document, Node, is_directed, dots, dashes, root_position, context_of, version_text, directives_text, start_layout, end_layout, stop_layout, documents_layout, node_layout, QuotedIsReadBack, put_if, node_kinds, version_kinds, directives_kinds, opening_kinds, documents_kinds, node_bodies, version_bodies, directives_bodies, end_bodies, opening_bodies, documents_bodies, Has, Left, WordStage, told, bytes, IsWritable, IsWritableOpening, AreWritable, text_of_documents, IsReadAs}
 use Rattle.yaml_emit_layout.specs.scan_types.Tokens as tokens
 use Rattle.yaml_scan_history.specs.declared.kind.Kind.TheVariants as kinds
 use Rattle.yaml_emit_laws.specs.CanonicalLaws.{CanonicalWordsAreRead}
@@ -74,10 +74,7 @@ broken_blank CrLf text c q k l = return_blank text q (left_first text q 13 _ (le
 pub line_blank : (b : LineBreak) (text : List ℕ) (c : Cursor) (q : ℕ) (rest : Rest) → c.bare ≡ false
     → Left text q (bytes (line b 0 c rest)) → is_blank_or_end text q ≡ true
 unfolding line
-line_blank b text c q rest e l =
-    let must : must_break 0 c ≡ true = rw e refl in
-    let k : Rest = λ x. indent_to 0 x rest in
-    broken_blank b text c q k (subst (λ (t : Bool). Left text q (bytes (if t then new_line b c k else k c))) must l)
+line_blank b text c q rest e l = grind (arith, broken_blank)
 
 -- a word of three equal signs at the start of a line
 pub record Thrice (x : ℕ) (k : Kind) (body : TokenBody) : Type 0 where
@@ -96,28 +93,12 @@ pub record Thrice (x : ℕ) (k : Kind) (body : TokenBody) : Type 0 where
 -- `---` at a line's start is DOCUMENT-START.
 pub thrice_dash : Thrice 45 kinds.DocumentStart tokens.document_start
 unfolding break_of lexeme_at kind_at is_document_start
-thrice_dash = record {
-  low = refl;
-  begins = λ text p h. sign_starts text p 45 h refl refl refl refl (λ c d. refl);
-  kind = λ text p a b c e z. rw (a, b, c, e, z) refl;
-  said = λ text p. refl;
-  more = refl;
-  flat = refl;
-  no_feed = λ e. omega arith;
-}
+thrice_dash = grind (arith, sign_starts)
 
 -- `...` at a line's start is DOCUMENT-END.
 pub thrice_dot : Thrice 46 kinds.DocumentEnd tokens.document_end
 unfolding break_of lexeme_at kind_at is_document_start is_document_end
-thrice_dot = record {
-  low = refl;
-  begins = λ text p h. sign_starts text p 46 h refl refl refl refl (λ c d. refl);
-  kind = λ text p a b c e z. rw (a, b, c, e, z) refl;
-  said = λ text p. refl;
-  more = refl;
-  flat = refl;
-  no_feed = λ e. omega arith;
-}
+thrice_dot = grind (arith, sign_starts)
 
 thrice_lands : GapReads → (x : ℕ) (k : Kind) (body : TokenBody) → Thrice x k body → (b : LineBreak)
     → LinesWalk (word (x ∷ x ∷ x ∷ []) ▹ line b 0) (λ ks. k ∷ ks) (λ bs. body ∷ bs)
@@ -168,12 +149,7 @@ dashes_land law s =
 
 dash_first : (s : Settings) (rest : Rest) → NoFeed (λ c. dashes (canonical_settings s) c rest)
 unfolding line blanks
-dash_first s rest kept e =
-    let x = ap (λ (bs : List ℕ). first bs) (three 45 refl kept (λ c. line s.line_break 0 c rest)) in
-    differs _ e x
-  where
-    differs : (n : ℕ) → n ≡ 10 → n ≡ 45 → ⊥
-    differs n e f = omega (arith, e, f)
+dash_first s rest kept e = grind (arith, three, line_break)
 
 unkept : (a : Layout) (K : List Kind → List Kind) (B : List TokenBody → List TokenBody)
     → LinesWalk a K B → LinesWalk (keep false ▹ a) K B

@@ -1,6 +1,6 @@
 -- Visits, written and numbered again.
-use Rattle.std.proofs.Common.{◌≡◌, ◌<◌, ◌≤◌, ◌+◌, ℕ, zero, suc, ℤ, pos, Bool, true, false, List, [], ◌∷◌, ◌++◌, length, map, take, Option, Some, Ok, refl, sym, ap, subst, ◌∙◌, arith, append_assoc, append-nil, length-append, slice_get, if◌then◌else◌}
-use Rattle.yaml_emit_laws.proofs.DumpsWords.{slice_get_within, map-append, yaml_sequence_style_t, yaml_mapping_style_t, yaml_node_pair_t, Node, NodeBody, map_tag, seq_tag, str_tag, Head, Content, Contents, Numbered, Anchored, and_node, alias_number, number, number_items, number_pairs, is_bang, loaded_tag, VisitsInPreorder, done, again, first, children, pair_numbers, is_flow_sequence, is_flow_mapping, Met, is_met, meet, number_at, name_of, anchor_of, body_at, tag_at, graph_scalar, graph_start, node_by, items_by, content_by, core_body, core_node, nowhere, head_of, as_content, as_contents, as_pairs, met_so, before_at, AgainsAre, IsNumbered, HasKind, AreLoadedNodes, NumbersBack, NamesAreFound, VisitsNumberBack}
+use Rattle.std.proofs.Common.{◌≡◌, ◌<◌, ◌≤◌, ◌+◌, ℕ, zero, suc, ℤ, pos, Bool, true, false, List, [], ◌∷◌, ◌++◌, length, map, take, Option, Some, Ok, refl, sym, ap, subst, ◌∙◌, arith, append_assoc, append-nil, length-append, slice_get}
+use Rattle.yaml_emit_laws.proofs.DumpsWords.{slice_get_within, map-append, yaml_sequence_style_t, yaml_mapping_style_t, yaml_node_pair_t, Node, NodeBody, map_tag, seq_tag, str_tag, Head, Content, Contents, Numbered, Anchored, and_node, alias_number, number, number_items, number_pairs, is_bang, loaded_tag, VisitsInPreorder, done, again, first, children, pair_numbers, is_flow_sequence, is_flow_mapping, Met, is_met, number_at, name_of, anchor_of, graph_scalar, graph_start, node_by, items_by, content_by, core_body, core_node, nowhere, head_of, as_content, as_contents, as_pairs, met_so, before_at, AgainsAre, IsNumbered, HasKind, AreLoadedNodes, NumbersBack, NamesAreFound, VisitsNumberBack}
 use Rattle.yaml_emit_graph.specs.emit_layout.parse_model.declared.yaml_scalar_style_t.{yaml_scalar_style_t}
 use Rattle.yaml_emit_graph.specs.emit_layout.parse_model.declared.yaml_scalar_style_t.TheVariants.{YAML_ANY_SCALAR_STYLE}
 use Rattle.yaml_emit_graph.specs.emit_layout.parse_model.declared.yaml_sequence_style_t.TheVariants.{YAML_ANY_SEQUENCE_STYLE}
@@ -28,16 +28,7 @@ content_first : (f : ℕ) (table : List ℕ) (nodes : List Node) (seen : ℕ) (n
     ≡ node_by (content_by f table nodes) (anchor_of (number_at table (pos (suc seen)))) n.tag n.body
     rest (met_so nodes (suc seen))
 unfolding content_by
-content_first f table nodes seen n rest at h =
-    let visit = content_by f table nodes in
-    let anchor = anchor_of (number_at table (pos (suc seen))) in
-    ap
-    (λ (b : Bool).
-    if b then rest (emit.alias_node (name_of (number_at table (pos (suc seen))))) (met_so nodes seen)
-    else node_by visit anchor (tag_at (slice_get nodes seen)) (body_at (slice_get nodes seen)) rest (meet (met_so nodes seen) (pos (suc seen))))
-    (met_new nodes seen h)
-    ∙ ap (λ (o : Option Node). node_by visit anchor (tag_at o) (body_at o) rest (meet (met_so nodes seen) (pos (suc seen)))) at
-    ∙ ap (λ (m : Met). node_by visit anchor n.tag n.body rest m) (meets nodes seen h)
+content_first f table nodes seen n rest at h = grind (arith, slice_get, met_new, meets)
 
 -- a node that is visited first, as it is written and numbered
 record One (nodes : List Node) (table : List ℕ) (f seen between : ℕ) (n : Node) : Type 0 where

@@ -1,6 +1,6 @@
 -- The parts of what an emitter writes between double quotes, as a reader's parts.
-use Rattle.std.proofs.Common.{◌≡◌, ◌≢◌, ℕ, zero, suc, ◌+◌, ◌*◌, ◌/◌, ◌%◌, ◌<◌, Bool, true, false, not, ◌&&◌, ◌||◌, ◌==◌, nat_lt, nat_le, List, [], ◌∷◌, ◌++◌, length, replicate, Some, refl, sym, ap, subst, ◌∙◌, inl, inr, arith, append-nil, encode_utf8, encode_utf8_all}
-use Rattle.yaml_emit_laws.proofs.Shared.{cases_lt, cases_eq, and_parts, not-true, or_parts, ne_eqb, nat_tests, encode_ascii, encodes-append, hex_digit, hex_len, simple_escape, LineBreak, Lf, Cr, CrLf, escape_letter, escape_text, hex_4, hex_8, hex_2, digit_of, LineEnd, feed, return, return_feed, turn_bytes, turn_means, may_turn, QuotedPart, raw, named, numbered, meant, spelling, meaning, number_behind, may_be_raw, MayStand, is_raw_blank, is_fold, is_turn, may_be_next, IsSpelling}
+use Rattle.std.proofs.Common.{◌≡◌, ◌≢◌, ℕ, zero, suc, ◌+◌, ◌*◌, ◌/◌, ◌%◌, ◌<◌, Bool, true, not, ◌&&◌, ◌||◌, List, [], ◌∷◌, ◌++◌, length, replicate, Some, refl, sym, ap, subst, ◌∙◌, inl, inr, arith, append-nil, encode_utf8, encode_utf8_all}
+use Rattle.yaml_emit_laws.proofs.Shared.{cases_lt, cases_eq, ne_eqb, nat_tests, encode_ascii, encodes-append, hex_digit, hex_len, simple_escape, LineBreak, Lf, Cr, CrLf, escape_letter, escape_text, hex_4, hex_8, hex_2, digit_of, LineEnd, feed, return, return_feed, turn_bytes, turn_means, may_turn, QuotedPart, raw, named, numbered, meant, spelling, meaning, number_behind, may_be_raw, MayStand, is_raw_blank, is_fold, is_turn, may_be_next, IsSpelling}
 use lib.Utf8.{scalar, encode}
 use Rattle.yaml_emit_layout.specs.Spelling as emitted
 use Rattle.yaml_emit_laws.specs.Spelling.{fold, spelled}
@@ -12,19 +12,7 @@ pub use Rattle.yaml_emit_layout.proofs.Escapes.{escape_by_letter, escape_by_2, e
 
 digit_back : (d : ℕ) → d < 16 → hex_digit (digit_of d) ≡ Some d
 unfolding hex_digit digit_of
-digit_back d h =
-    elim (cases_lt d 10) [
-      | inl l ↦ let e : nat_lt d 10 ≡ true = grind (arith, nat_tests) in
-          let a : nat_le 48 (48 + d) ≡ true = grind (arith, nat_tests) in
-          let b : nat_le (48 + d) 57 ≡ true = grind (arith, nat_tests) in
-          rw (e, a, b) (ap (λ k. Some k) (omega arith))
-      | inr l ↦ let e : nat_lt d 10 ≡ false = grind (arith, nat_tests) in
-          let a : nat_le (55 + d) 57 ≡ false = grind (arith, nat_tests) in
-          let b : nat_le 65 (55 + d) ≡ true = grind (arith, nat_tests) in
-          let f : nat_le (55 + d) 70 ≡ true = grind (arith, nat_tests) in
-          let g : nat_le 48 (55 + d) ≡ true = grind (arith, nat_tests) in
-          rw (e, a, b, f, g) (ap (λ k. Some k) (omega arith))
-    ]
+digit_back d h = grind (arith, nat_tests)
 
 high_digit : (n : ℕ) → n < 256 → n / 16 < 16
 high_digit n h = omega arith
@@ -61,12 +49,7 @@ four_is c h =
     number_2 0 (c / 256) (hex_2 (c % 256)) (omega arith) ∙ number_2 (0 * 256 + c / 256) (c % 256) [] (omega arith) ∙ number_end _ ∙ ap (λ k. Some k) e
 
 eight_is : (c : ℕ) → c < 1114112 → number_behind 0 (hex_8 c) ≡ Some c
-eight_is c h =
-    number_2 0 (c / 65536 / 256) (hex_2 (c / 65536 % 256) ++ hex_4 (c % 65536)) (omega arith)
-    ∙ number_2 (0 * 256 + c / 65536 / 256) (c / 65536 % 256) (hex_4 (c % 65536)) (omega arith)
-    ∙ number_2 ((0 * 256 + c / 65536 / 256) * 256 + c / 65536 % 256) (c % 65536 / 256) (hex_2 (c % 65536 % 256)) (omega arith)
-    ∙ number_2 (((0 * 256 + c / 65536 / 256) * 256 + c / 65536 % 256) * 256 + c % 65536 / 256) (c % 65536 % 256) [] (omega arith)
-    ∙ number_end _ ∙ ap (λ k. Some k) (omega arith)
+eight_is c h = grind (arith, nat_tests, number_2, number_end)
 
 two_calm : (n : ℕ) (xs : List ℕ) → n < 256 → AreCalm xs → AreCalm (hex_2 n ++ xs)
 two_calm n xs h a =
@@ -89,68 +72,7 @@ names_at c k h e = subst (λ (x : ℕ). Names x) (sym e) h
 
 letter_names : (c : ℕ) → escape_letter c ≢ 0 → Names c
 unfolding escape_letter simple_escape encode
-letter_names c n =
-    elim (cases_eq c 0) [
-      | inl e ↦ names_at c 0 refl e
-      | inr e0 ↦
-          elim (cases_eq c 7) [
-            | inl e ↦ names_at c 7 refl e
-            | inr e1 ↦
-                elim (cases_eq c 8) [
-                  | inl e ↦ names_at c 8 refl e
-                  | inr e2 ↦
-                      elim (cases_eq c 9) [
-                        | inl e ↦ names_at c 9 refl e
-                        | inr e3 ↦
-                            elim (cases_eq c 10) [
-                              | inl e ↦ names_at c 10 refl e
-                              | inr e4 ↦
-                                  elim (cases_eq c 11) [
-                                    | inl e ↦ names_at c 11 refl e
-                                    | inr e5 ↦
-                                        elim (cases_eq c 12) [
-                                          | inl e ↦ names_at c 12 refl e
-                                          | inr e6 ↦
-                                              elim (cases_eq c 13) [
-                                                | inl e ↦ names_at c 13 refl e
-                                                | inr e7 ↦
-                                                    elim (cases_eq c 27) [
-                                                      | inl e ↦ names_at c 27 refl e
-                                                      | inr e8 ↦
-                                                          elim (cases_eq c 34) [
-                                                            | inl e ↦ names_at c 34 refl e
-                                                            | inr e9 ↦
-                                                                elim (cases_eq c 92) [
-                                                                  | inl e ↦ names_at c 92 refl e
-                                                                  | inr ea ↦
-                                                                      elim (cases_eq c 0x85) [
-                                                                        | inl e ↦ names_at c 0x85 refl e
-                                                                        | inr eb ↦
-                                                                            elim (cases_eq c 0xA0) [
-                                                                              | inl e ↦ names_at c 0xA0 refl e
-                                                                              | inr ec ↦
-                                                                                  elim (cases_eq c 0x2028) [
-                                                                                    | inl e ↦ names_at c 0x2028 refl e
-                                                                                    | inr ed ↦
-                                                                                        elim (cases_eq c 0x2029) [
-                                                                                          | inl e ↦ names_at c 0x2029 refl e
-                                                                                          | inr ee ↦
-                                                                                              absurd (n (no_letter c e0 e1 e2 e3 e4 e5 e6 e7 e8 e9 ea eb ec ed ee))
-                                                                                        ]
-                                                                                  ]
-                                                                            ]
-                                                                      ]
-                                                                ]
-                                                          ]
-                                                    ]
-                                              ]
-                                        ]
-                                  ]
-                            ]
-                      ]
-                ]
-          ]
-    ]
+letter_names c n = grind (arith, nat_tests, names_at, no_letter)
 
 -- ---- ASCII
 
@@ -188,22 +110,7 @@ record PartOf (x : emitted.SpelledPart) : Type 0 where
   blank : is_raw_blank part ≡ emitted.is_raw_blank x
 
 raw_may : (c : ℕ) → emitted.may_stand (emitted.raw c) ≡ true → may_be_raw 34 c ≡ true
-raw_may c h =
-    let s = (and_parts (scalar c) _ h).0 in
-    let all = not-true _ (and_parts (scalar c) _ h).1 in
-    let z = (or_parts _ (c == 0) all).1 in
-    let x = (or_parts _ (c == 0) all).0 in
-    let k = (or_parts _ (c == 92) x).1 in
-    let y = (or_parts _ (c == 92) x).0 in
-    let q = (or_parts _ (c == 34) y).1 in
-    let ends = (or_parts _ (c == 34) y).0 in
-    let p29 = (or_parts _ (c == 0x2029) ends).1 in
-    let t29 = (or_parts _ (c == 0x2029) ends).0 in
-    let p28 = (or_parts _ (c == 0x2028) t29).1 in
-    let t28 = (or_parts _ (c == 0x2028) t29).0 in
-    let p85 = (or_parts _ (c == 0x85) t28).1 in
-    let t85 = (or_parts _ (c == 0x85) t28).0 in
-    (rw (s, ((or_parts (c == 10) _ t85).0), ((or_parts _ (c == 13) t85).1), p85, p28, p29, z, q, k) refl)
+raw_may c h = grind (arith, nat_tests)
 
 escape_named : (c : ℕ) → escape_letter c ≢ 0 → PartOf (emitted.escape c)
 escape_named c n =
@@ -347,10 +254,7 @@ pub record PartsOf (before : emitted.SpelledPart) (xs : List emitted.SpelledPart
 
 follow_test : (fq bp fp bq : Bool) → (not (fq && (bp || fp)) && not (fp && bq)) ≡ true
     → (not (fq && (bp || fp)) && not (bq && fp)) ≡ true
-follow_test fq bp true true h = h
-follow_test fq bp true false h = h
-follow_test fq bp false true h = h
-follow_test fq bp false false h = h
+follow_test fq bp fp bq h = grind (arith, nat_tests)
 
 pub parts_of : (before : emitted.SpelledPart) (xs : List emitted.SpelledPart)
     → emitted.IsSpelling before xs → PartsOf before xs

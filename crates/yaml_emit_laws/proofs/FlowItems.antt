@@ -435,11 +435,7 @@ filled unicode [] e = absurd (cc)
 filled unicode (b ∷ bs) e = omega arith
 
 quote_unlike : (bs : List ℕ) → ends_name bs ≡ true → first bs ≡ 39 → ⊥
-quote_unlike [] h e = omega (arith, e)
-quote_unlike (b ∷ bs) h e = let k : ends_name (39 ∷ bs) ≡ true = subst (λ (x : ℕ). ends_name (x ∷ bs) ≡ true) e h in absurd (never k)
-  where
-    never : false ≡ true → ⊥
-    never e = cc
+quote_unlike bs h e = grind (arith, nat_tests)
 
 -- the text of a scalar, by its style
 text_in : WordLaws → (p : Context) (n : ℕ) (q : Part) (x : Scalar) → IsUtf8 x.value

@@ -25,10 +25,7 @@ pub record Bracketed (rest : Rest) : Type 0 where
 bracket_calm : (b : ℕ) (bs : List ℕ) → (b == 44 || (b == 93 || b == 125)) ≡ true
     → no_comment (b ∷ bs) ≡ true
 unfolding no_comment
-bracket_calm b bs e =
-    let a : (b == 32 || (b == 10 || b == 13)) ≡ false = grind (arith, nat_tests) in
-    let c : (b == 35) ≡ false = grind (arith, nat_tests) in
-    rw (a, c) refl
+bracket_calm b bs e = grind (arith, nat_tests)
 
 pub bracket_follows : (rest : Rest) → Bracketed rest → FollowsIn rest
 unfolding is_bracket

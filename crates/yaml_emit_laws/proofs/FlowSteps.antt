@@ -1,6 +1,6 @@
 -- White and words in brackets.
 use Rattle.std.proofs.Common.{◌≡◌, ℕ, ◌+◌, ◌≤◌, ◌==◌, ◌&&◌, ◌||◌, nat_lt, Bool, true, false, List, [], ◌∷◌, ◌++◌, length, Some, Ok, refl, sym, ap, subst, ◌∙◌, inl, inr, arith, append_assoc, if◌then◌else◌}
-use Rattle.yaml_emit_laws.proofs.NodeWords.{false≢true, or_right, yaml_encoding_t, TokenBody, column_at, indent, depth_after, allows_key, cancels, is_value, may_be_key, WordText, kind_at, lexeme_at, Kind, Cursor, Layout, Rest, ◌▹◌, Left, bytes, has_at, left_first, left_more, left_rest, stays_level, Comes, WordLeaves, WalkState, WalkReads, LeaveClear, Outside, behind, letter_columns, walk_white, walk_word, deeper_leaves, is_text, Fits, Spoken, SaysTokens, IsClear, WalksIn}
+use Rattle.yaml_emit_laws.proofs.NodeWords.{false≢true, yaml_encoding_t, TokenBody, column_at, indent, depth_after, allows_key, cancels, is_value, may_be_key, WordText, kind_at, lexeme_at, Kind, Cursor, Layout, Rest, ◌▹◌, Left, bytes, has_at, left_first, left_more, left_rest, stays_level, Comes, WordLeaves, WalkState, WalkReads, LeaveClear, Outside, behind, letter_columns, walk_white, walk_word, deeper_leaves, is_text, Fits, Spoken, SaysTokens, IsClear, WalksIn}
 use Rattle.yaml_scan_history.specs.declared.kind.Kind.TheVariants as kinds
 use Rattle.yaml_emit_laws.proofs.Lining.{no_gap}
 use Rattle.yaml_scan_laws.proofs.Whites.{or_none}
@@ -8,40 +8,16 @@ use Rattle.yaml_scan_laws.proofs.Whites.{or_none}
 -- ---- kinds
 
 text_flat : (k : Kind) (d : ℕ) → is_text k ≡ true → depth_after k d ≡ d
-text_flat kinds.Anchor d e = refl
-text_flat kinds.Tag d e = refl
-text_flat kinds.Alias d e = refl
-text_flat kinds.SingleQuoted d e = refl
-text_flat kinds.DoubleQuoted d e = refl
-text_flat kinds.Plain d e = refl
-text_flat k d e = absurd (cc)
+text_flat k d e = grind arith
 
 text_bars : (k : Kind) (block : Bool) → is_text k ≡ true → allows_key k block false ≡ false
-text_bars kinds.Anchor block e = refl
-text_bars kinds.Tag block e = refl
-text_bars kinds.Alias block e = refl
-text_bars kinds.SingleQuoted block e = refl
-text_bars kinds.DoubleQuoted block e = refl
-text_bars kinds.Plain block e = refl
-text_bars k block e = absurd (cc)
+text_bars k block e = grind arith
 
 text_keeps : (k : Kind) → is_text k ≡ true → cancels k ≡ false
-text_keeps kinds.Anchor e = refl
-text_keeps kinds.Tag e = refl
-text_keeps kinds.Alias e = refl
-text_keeps kinds.SingleQuoted e = refl
-text_keeps kinds.DoubleQuoted e = refl
-text_keeps kinds.Plain e = refl
-text_keeps k e = absurd (cc)
+text_keeps k e = grind arith
 
 text_stays : (k : Kind) (d : ℕ) → is_text k ≡ true → stays_level k d ≡ true
-text_stays kinds.Anchor d e = or_right (nat_lt 0 d) true refl
-text_stays kinds.Tag d e = or_right (nat_lt 0 d) true refl
-text_stays kinds.Alias d e = or_right (nat_lt 0 d) true refl
-text_stays kinds.SingleQuoted d e = or_right (nat_lt 0 d) true refl
-text_stays kinds.DoubleQuoted d e = or_right (nat_lt 0 d) true refl
-text_stays kinds.Plain d e = or_right (nat_lt 0 d) true refl
-text_stays k d e = absurd (cc)
+text_stays k d e = grind arith
 
 text_no_value : (k : Kind) → is_text k ≡ true → is_value k ≡ true → ⊥
 text_no_value kinds.ValueMark e v = false≢true e

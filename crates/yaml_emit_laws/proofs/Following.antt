@@ -1,5 +1,5 @@
 -- What follows a node: a line, and something that is neither white nor a comment.
-use Rattle.std.proofs.Common.{◌≡◌, ℕ, ◌+◌, ◌≤◌, ◌==◌, ◌&&◌, ◌||◌, not, nat_lt, true, false, List, [], ◌∷◌, ◌++◌, zero, suc, refl, ap, subst, ◌∙◌, arith, replicate, append_assoc, None}
+use Rattle.std.proofs.Common.{◌≡◌, ℕ, ◌+◌, ◌≤◌, ◌==◌, ◌&&◌, ◌||◌, not, nat_lt, true, false, List, ◌++◌, zero, suc, refl, ap, ◌∙◌, arith, replicate, append_assoc, None}
 use Rattle.yaml_emit_laws.proofs.NodeWords.{nat_tests, Cursor, LineBreak, Lf, Rest, line, break_text, bytes, first, front_encodes, stops_plain_at, begins_white, begins_solid, behind_lines, what_stops, break_low, blanks_bare, blanks_white, break_of, begins_blank, Follows, NoFeed, no_comment, ShowsNode, Ending, ShownEnds, blanks_column, line_is, after_blanks, line_start}
 use Rattle.yaml_emit_laws.proofs.Escapes.{low_encodes}
 use Rattle.yaml_emit_laws.proofs.DocStarts.{break_white}
@@ -21,10 +21,7 @@ start_column n e = let z = blanks_column n (line_start e) in omega (arith, z)
 pub line_bytes : (b : LineBreak) (n : ℕ) (c : Cursor) (rest : Rest) → c.bare ≡ false
     → bytes (line b n c rest) ≡ break_text b
     ++ (replicate n 32 ++ bytes (rest (after_blanks n (line_start c))))
-line_bytes b n c rest bare =
-    let e = after_blanks n (line_start c) in
-    ap (λ t. bytes t) (line_is b n c rest bare) ∙ front_encodes (break_text b ++ replicate n 32) (rest e)
-    ∙ ap (λ (bs : List ℕ). bs ++ bytes (rest e)) (low_encodes (break_text b ++ replicate n 32) (break_low b n)) ∙ append_assoc (break_text b) (replicate n 32) (bytes (rest e))
+line_bytes b n c rest bare = grind (arith, nat_tests, line_is, front_encodes, low_encodes, break_low, append_assoc)
 
 pub follows_line : (b : LineBreak) (n : ℕ) (rest : Rest) → ShowsNode n rest
     → Follows (n + 1) (λ e. line b n e rest)
@@ -39,13 +36,7 @@ follows_line b n rest shows = record {
 }
 
 solid_no_feed : (bs : List ℕ) → begins_solid bs ≡ true → first bs ≡ 10 → ⊥
-solid_no_feed [] h e = absurd (cc)
-solid_no_feed (b ∷ bs) h e =
-    let k : begins_solid (10 ∷ bs) ≡ true = subst (λ x. begins_solid (x ∷ bs) ≡ true) e h in
-    absurd (never k)
-  where
-    never : false ≡ true → ⊥
-    never e = cc
+solid_no_feed bs h e = grind (arith, nat_tests)
 
 pub shows_no_feed : (n : ℕ) (rest : Rest) → ShowsNode n rest → NoFeed n rest
 shows_no_feed n rest shows e bare white column f = solid_no_feed (bytes (rest e)) (shows.solid e bare white column) f
@@ -62,17 +53,10 @@ unfolding break_of
 no_blank b c d h = grind (arith, nat_tests)
 
 solid_blank : (bs : List ℕ) → begins_solid bs ≡ true → begins_blank bs ≡ false
-solid_blank [] h = absurd (cc)
-solid_blank (b ∷ []) h = no_blank b 0 0 h
-solid_blank (b ∷ c ∷ []) h = no_blank b c 0 h
-solid_blank (b ∷ c ∷ d ∷ ds) h = no_blank b c d h
+solid_blank bs h = grind (arith, nat_tests, no_blank)
 
 pub shown_ends : ShownEnds
-shown_ends b n after shows = record {
-  follows = follows_line b n after shows;
-  feed = shows_no_feed n after shows;
-  solid = λ e bare white column. solid_blank (bytes (after e)) (shows.solid e bare white column);
-}
+shown_ends b n after shows = grind (arith, nat_tests, follows_line, shows_no_feed, solid_blank)
 
 -- in deeper levels too
 pub ending_up : (b : LineBreak) (m level deeper : ℕ) (after : Rest) → level ≤ deeper

@@ -1,6 +1,6 @@
 -- Canonical words are key-free.
-use Rattle.std.proofs.Common.{◌≡◌, ℕ, Bool, true, false, not, ◌&&◌, List, [], ◌∷◌, map, reverse, Option, Some, None, refl, ap, ◌∙◌}
-use Rattle.yaml_emit_laws.proofs.Shared.{list_all, and_from, Kind, is_end, SpelledText, offline, yaml_version_directive_t, TagDirective, Word, WordsStand, word_kinds, token_of, first_token, ReachEnd, Scalar, Node, alias_node, scalar_node, sequence_node, mapping_node, Nodes, no_nodes, node, Pairs, no_pairs, pair, Opening, Document, has, scalar_tag, start_tag, is_directed, put_if, properties_kinds, node_kinds, items_kinds, pairs_kinds, version_kinds, directives_kinds, opening_kinds, documents_kinds, stream_kinds}
+use Rattle.std.proofs.Common.{◌≡◌, ℕ, Bool, true, false, not, ◌&&◌, List, [], ◌∷◌, map, reverse, Option, Some, None, refl, ap, ◌∙◌, arith}
+use Rattle.yaml_emit_laws.proofs.Shared.{list_all, Kind, is_end, SpelledText, offline, yaml_version_directive_t, TagDirective, Word, WordsStand, word_kinds, token_of, first_token, ReachEnd, Scalar, Node, alias_node, scalar_node, sequence_node, mapping_node, Nodes, no_nodes, node, Pairs, no_pairs, pair, Opening, Document, has, scalar_tag, start_tag, is_directed, put_if, properties_kinds, node_kinds, items_kinds, pairs_kinds, version_kinds, directives_kinds, opening_kinds, documents_kinds, stream_kinds}
 use Rattle.yaml_scan_history.specs.declared.kind.Kind.TheVariants as kinds
 use Rattle.yaml_scan_laws.specs.KeyFree.{asked_after, asked, fits, is_key_free}
 use Rattle.yaml_scan_laws.proofs.TextLemmas.{words_read}
@@ -17,11 +17,7 @@ record Grows (old now : List Bool) (ks ms : List Kind) : Type 0 where
 
 both : (a b c : List Bool) (ks ls ms : List Kind) → Grows a b ks ls → Grows b c ls ms
     → Grows a c ks ms
-both a b c ks ls ms g h = record {
-  free = λ e f. h.free (g.at e) (g.free e f);
-  at = λ e. h.at (g.at e);
-  on = λ x. h.on (g.on x);
-}
+both a b c ks ls ms g h = grind arith
 
 nothing : (a : List Bool) (ks : List Kind) → Grows a a ks ks
 nothing a ks = record { free = λ e f. f; at = λ e. e; on = λ x. x }
@@ -29,11 +25,7 @@ nothing a ks = record { free = λ e f. f; at = λ e. e; on = λ x. x }
 one : (k : Kind) (a : List Bool) (ks : List Kind) → fits k a ≡ true → not (is_end k) ≡ true
     → Grows a (asked_after k a) ks (k ∷ ks)
 unfolding asked is_key_free
-one k a ks fit more = record {
-  free = λ e f. and_from (fits k (asked ks)) (is_key_free ks) (ap (λ (qs : List Bool). fits k qs) e ∙ fit) f;
-  at = λ e. ap (λ (qs : List Bool). asked_after k qs) e;
-  on = λ x. and_from (not (is_end k)) (list_all (λ (k : Kind). not (is_end k)) ks) more x;
-}
+one k a ks fit more = grind arith
 
 tag_if : (b : Bool) (a : List Bool) (ks : List Kind) → Grows a a ks (put_if b kinds.Tag ks)
 tag_if true a ks = one kinds.Tag a ks refl refl

@@ -1,6 +1,6 @@
 -- What is written for a tag is read and resolved to it.
-use Rattle.std.proofs.Common.{◌≡◌, inl, inr, ℕ, suc, ◌+◌, ◌-◌, ◌<◌, Bool, true, false, not, ◌==◌, nat_lt, if◌then◌else◌, List, [], ◌∷◌, ◌++◌, length, take, drop, get_or, Option, Some, None, refl, sym, ap, subst, ◌∙◌, arith, rules, length-drop, take-suc, encode_utf8_all, codes, IsUtf8, chars, bytes_eq}
-use Rattle.yaml_emit_laws.proofs.Shared.{cases_Bool, not-false, eqb-true, and_parts, ltb-true, nat_tests, take_all, append_cancel_left, IsUtf8-from_ascii, IsUtf8-append, chars-append, scalars-chars, encodes-chars, encodes-append, list_all, is_alpha_byte, may_end_tag, HasAt, are_alphas, TagDirective, resolved, has_shorter_prefix, directive_for, defines, primary, secondary, unless_defined, defaults, in_force, Split, shorthand, verbatim, split_by, split_tag, spelled, tag_spelling, Problem, Opening, or_else, between, inner_problem, ends_problem, handle_problem, prefix_problem, twice_problem, directive_problem, directives_problem, version_problem, opening_problem, resolved_split, IsShaped, IsReadable, HaveUtf8, IsTagReadBack, AreReadable}
+use Rattle.std.proofs.Common.{◌≡◌, inl, inr, ℕ, suc, ◌+◌, ◌-◌, ◌<◌, Bool, true, false, ◌==◌, nat_lt, if◌then◌else◌, List, [], ◌∷◌, ◌++◌, length, take, drop, get_or, Option, Some, None, refl, sym, ap, subst, ◌∙◌, arith, rules, length-drop, take-suc, encode_utf8_all, codes, IsUtf8, chars, bytes_eq}
+use Rattle.yaml_emit_laws.proofs.Shared.{cases_Bool, and_parts, ltb-true, nat_tests, take_all, append_cancel_left, IsUtf8-from_ascii, IsUtf8-append, chars-append, scalars-chars, encodes-chars, encodes-append, list_all, is_alpha_byte, may_end_tag, HasAt, are_alphas, TagDirective, resolved, has_shorter_prefix, directive_for, defines, primary, secondary, unless_defined, defaults, in_force, Split, shorthand, verbatim, split_by, split_tag, tag_spelling, Problem, Opening, or_else, between, handle_problem, prefix_problem, twice_problem, directive_problem, directives_problem, version_problem, opening_problem, resolved_split, IsShaped, IsReadable, HaveUtf8, IsTagReadBack, AreReadable}
 use lib.Utf8.{scalar, scalars}
 use Rattle.yaml_emit_laws.specs.TagsLaws.{tag_text}
 use Rattle.yaml_emit_laws.proofs.Resolving.{or_first, or_second, whole, tags_resolve, some_is}
@@ -36,16 +36,7 @@ record Held (h : List ℕ) : Type 0 where
 
 held : (h : List ℕ) → handle_problem h ≡ None → Held h
 unfolding handle_problem
-held h e =
-    let (some, ends) = if_none (length h == 0) _ (ends_problem h) e in
-    let (start, behind) = if_none (not (get_or h 0 0 == 33)) _ _ ends in
-    let (stop, inner) = if_none (not (get_or h (length h - 1) 0 == 33)) _ (inner_problem h) behind in
-    record {
-      some = some;
-      first = eqb-true (get_or h 0 0) 33 (not-false (get_or h 0 0 == 33) start);
-      last = eqb-true (get_or h (length h - 1) 0) 33 (not-false (get_or h (length h - 1) 0 == 33) stop);
-      inner = alphas_of (between h) (none_all (list_all is_alpha_byte (between h)) _ inner);
-    }
+held h e = grind (arith, nat_tests, if_none, get_or, alphas_of, none_all)
 
 -- and how many after the second
 pub long_rest : (c r : ℕ) (rs : List ℕ) → length (c ∷ r ∷ rs) - 1 - 1 ≡ length rs
@@ -80,10 +71,7 @@ fine_directives : (before ds : List TagDirective) → directives_problem before 
     → HaveUtf8 ds → AllFine ds
 unfolding directives_problem
 fine_directives before [] e u = tt
-fine_directives before (d ∷ ds) e (own, u) =
-    let here = or_first (directive_problem before d) (directives_problem (before ++ d ∷ []) ds) e in
-    let handle = or_first (handle_problem d.handle) (or_else (prefix_problem d.prefix) (twice_problem before d.handle)) here in
-    ((handle, own), fine_directives (before ++ d ∷ []) ds (or_second (directive_problem before d) (directives_problem (before ++ d ∷ []) ds) e) u)
+fine_directives before (d ∷ ds) e (own, u) = grind (arith, nat_tests, or_first, or_second, fine_directives (before ++ d ∷ []) ds (or_second (directive_problem before d) (directives_problem (before ++ d ∷ []) ds) e) u)
 
 fine_append : (xs ys : List TagDirective) → AllFine xs → AllFine ys → AllFine (xs ++ ys)
 fine_append [] ys a b = b
@@ -168,14 +156,7 @@ written_readable o e u tag utf8 some =
 
 readable_prefix : (before : List TagDirective) (d : TagDirective)
     → directive_problem before d ≡ None → 0 < length d.prefix
-readable_prefix before d e =
-    let behind = or_second (handle_problem d.handle) (or_else (prefix_problem d.prefix) (twice_problem before d.handle)) e in
-    let here = or_first (prefix_problem d.prefix) (twice_problem before d.handle) behind in
-    let (some, none) = if_none (length d.prefix == 0) _ None here in
-    above_none (length d.prefix) some
-  where
-    above_none : (n : ℕ) → (n == 0) ≡ false → 0 < n
-    above_none n e = grind (arith, nat_tests)
+readable_prefix before d e = grind (arith, nat_tests, or_second, or_first, if_none)
 
 readable_directives : (before ds : List TagDirective) → directives_problem before ds ≡ None
     → HaveUtf8 ds → AreReadable ds
@@ -198,13 +179,4 @@ pub read_back : (o : Opening) → opening_problem o ≡ None → HaveUtf8 o.dire
     → HasAt text p (tag_spelling o.directives tag)
     → may_end_tag flow text (p + length (tag_spelling o.directives tag)) ≡ true
     → IsTagReadBack o.directives tag flow text p
-read_back o e u tag utf8 some flow text p h stop =
-    let ds = o.directives in
-    let split = split_tag ds tag in
-    let ready = written_readable o e u tag utf8 some in
-    record {
-      said = tag_text split (p + length (spelled split));
-      read = split_read split ready flow text p h stop;
-      ends = text_ends split (p + length (spelled split));
-      resolves = text_resolves ds split (p + length (spelled split)) ∙ tags_resolve o e tag;
-    }
+read_back o e u tag utf8 some flow text p h stop = grind (arith, nat_tests, written_readable, split_read, text_ends, text_resolves, tags_resolve)

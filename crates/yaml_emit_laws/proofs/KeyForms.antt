@@ -161,34 +161,7 @@ key_starts : {flow : Bool} {level : ℕ} (words : List (Spoken flow level)) (k :
     → LeadsKey words k b → (tail text : List ℕ) (o : ℕ)
     → Left text o (all_bytes words ++ (end_bytes k ++ tail))
     → KeyBegins text o b (all_bytes words ++ end_bytes k)
-key_starts [] at_once b none tail text o l = absurd none
-key_starts [] spaced b none tail text o l = absurd none
-key_starts [] (squares s) b same tail text o l = subst (λ t. KeyBegins text o t (end_bytes (squares s))) same (by s l)
-  where
-    by : (s : Bool) → Left text o (end_bytes (squares s) ++ tail)
-        → KeyBegins text o s (end_bytes (squares s))
-    by true l = record { starts = ap (λ n. starts n) (left_first text (o + 1) 91 (93 ∷ tail) (left_more text o 32 (91 ∷ 93 ∷ tail) l)); some = omega arith }
-    by false l = let z : o + 0 ≡ o = omega arith in record { starts = ap (λ i. starts (byte text i)) z ∙ ap (λ n. starts n) (left_first text o 91 (93 ∷ tail) l); some = omega arith }
-key_starts [] (curlies s) b same tail text o l = subst (λ t. KeyBegins text o t (end_bytes (curlies s))) same (by s l)
-  where
-    by : (s : Bool) → Left text o (end_bytes (curlies s) ++ tail)
-        → KeyBegins text o s (end_bytes (curlies s))
-    by true l = record { starts = ap (λ n. starts n) (left_first text (o + 1) 123 (125 ∷ tail) (left_more text o 32 (123 ∷ 125 ∷ tail) l)); some = omega arith }
-    by false l = let z : o + 0 ≡ o = omega arith in record { starts = ap (λ i. starts (byte text i)) z ∙ ap (λ n. starts n) (left_first text o 123 (125 ∷ tail) l); some = omega arith }
-key_starts (w ∷ ws) k b (same, some, starts_by) tail text o l =
-    let m = subst (λ ys. Left text o ys) (append_assoc (spoken_bytes w) (all_bytes ws) (end_bytes k ++ tail)) l in
-    let here = by w.spaced w.own some starts_by m in
-    let s = here.some in
-    let e1 = length-append (spoken_bytes w) (all_bytes ws) in
-    let e2 = length-append (spoken_bytes w ++ all_bytes ws) (end_bytes k) in
-    subst (λ t. KeyBegins text o t (all_bytes (w ∷ ws) ++ end_bytes k)) same (record { starts = here.starts; some = omega (arith, s, e1, e2) })
-  where
-    by : (s : Bool) (own : List ℕ) → 0 < length own
-        → ((text : List ℕ) (p : ℕ) → Has text p own → starts (byte text p) ≡ true)
-        → Left text o ((if s then 32 ∷ own else own) ++ (all_bytes ws ++ (end_bytes k ++ tail)))
-        → KeyBegins text o s (if s then 32 ∷ own else own)
-    by true own some f l = let m = left_more text o 32 (own ++ (all_bytes ws ++ (end_bytes k ++ tail))) l in record { starts = f text (o + 1) (has_front text (o + 1) own (all_bytes ws ++ (end_bytes k ++ tail)) m.has); some = omega (arith, some) }
-    by false own some f l = let z : o + 0 ≡ o = omega arith in record { starts = ap (λ i. starts (byte text i)) z ∙ f text o (has_front text o own (all_bytes ws ++ (end_bytes k ++ tail)) l.has); some = omega (arith, some) }
+key_starts words k b none tail text o l = grind (arith, nat_tests, left_first, left_more, append_assoc, length-append, has_front)
 
 -- ---- the key and its `:`
 
@@ -359,14 +332,4 @@ form_words flow level a b c has marked B r w last =
 pub form_as : (flow : Bool) (level : ℕ) (a b : Layout) (c : Cursor)
     (B C : List TokenBody → List TokenBody) → a ≡ b → ((bs : List TokenBody) → B bs ≡ C bs)
     → KeyForm flow level b c B → KeyForm flow level a c C
-form_as flow level a b c B C same e f = record {
-  words = f.words;
-  end = f.end;
-  behind = f.behind;
-  written = λ rest. ap (λ (l : Layout). bytes (l c rest)) same ∙ f.written rest;
-  bodies = λ bs. f.bodies bs ∙ e bs;
-  fits = f.fits;
-  plains = f.plains;
-  leads = f.leads;
-  kept = f.kept;
-}
+form_as flow level a b c B C same e f = grind (arith, nat_tests)

@@ -1,9 +1,8 @@
 -- Simple keys of every kind: scalars in the three styles that a key can have, aliases, and empty collections, with their properties.
 use Rattle.std.proofs.Common.{◌≡◌, ◌⊎◌, ℕ, ◌+◌, ◌-◌, ◌<◌, ◌≤◌, ◌==◌, ◌&&◌, ◌||◌, not, nat_lt, Bool, true, false, List, [], ◌∷◌, ◌++◌, length, Some, None, refl, sym, ap, subst, ◌∙◌, inl, inr, arith, encode_utf8_all, IsUtf8, if◌then◌else◌, chars}
-use Rattle.yaml_emit_laws.proofs.NodeWords.{cases_Bool, false≢true, encode_ascii, and-false, TokenBody, starts, kind_at, Cursor, Settings, Style, Layout, Rest, ◌▹◌, when, char, word, blank, opener, line, letter, scalar_text, allowed, taken, plain_fits, single_or, Part, Opening, Scalar, Start, Node, alias_node, scalar_node, sequence_node, mapping_node, Nodes, no_nodes, node, Pairs, no_pairs, pair, has, scalar_tag, start_tag, Context, context_of, position, style_of, is_plain, is_flow, is_simple, is_simple_start, anchor_text, tag_text, properties_text, page_at, deeper, checked, MOST, indented, indent_of, scalar_layout, alias_layout, closer, node_layout, items_layout, pairs_layout, anchor_bodies, tag_bodies, mark_bodies, Left, bytes, first, IsWritable, IsWritableAnchor, IsWritableTag, quoted_is_back, letter_low, deep_bytes, anchor_is_read, begins_white, may_be_plain, SingleLinesAreReadBack, PlainHasGap, ScalarsAreWords, StylesAreAllowed, plain_back, what_stops, IsGap, signs_come, printed_begins, place, style_at, is_empty, is_nothing, style_named, takes_mark, value_bodies, scalar_bodies, node_bodies, sequence_opens, sequence_closes, mapping_opens, mapping_closes, items_bodies, pairs_bodies, keeps, IsPretty, Spoken, Fits, all_bytes, kept_writable, low_starts}
+use Rattle.yaml_emit_laws.proofs.NodeWords.{cases_Bool, false≢true, encode_ascii, and-false, TokenBody, starts, kind_at, Cursor, Settings, Style, Layout, Rest, ◌▹◌, when, char, word, blank, opener, line, letter, scalar_text, allowed, taken, plain_fits, single_or, Part, Opening, Scalar, Start, Node, alias_node, scalar_node, sequence_node, mapping_node, Nodes, no_nodes, node, Pairs, no_pairs, pair, has, scalar_tag, start_tag, Context, context_of, position, style_of, is_plain, is_flow, is_simple, is_simple_start, anchor_text, tag_text, properties_text, page_at, deeper, checked, MOST, indented, indent_of, scalar_layout, alias_layout, closer, node_layout, items_layout, pairs_layout, anchor_bodies, tag_bodies, mark_bodies, Left, bytes, first, IsWritable, IsWritableAnchor, IsWritableTag, quoted_is_back, letter_low, deep_bytes, anchor_is_read, begins_white, may_be_plain, SingleLinesAreReadBack, PlainHasGap, ScalarsAreWords, StylesAreAllowed, plain_back, what_stops, IsGap, signs_come, printed_begins, style_at, is_empty, is_nothing, style_named, takes_mark, value_bodies, scalar_bodies, node_bodies, items_bodies, pairs_bodies, IsPretty, Spoken, Fits, all_bytes, kept_writable, low_starts}
 use Rattle.yaml_emit_layout.specs.scan_types.Tokens as tokens
 use Rattle.yaml_emit_layout.specs.scan_model.declared.name.yaml_scalar_style_t.{yaml_scalar_style_t}
-use Rattle.yaml_emit_layout.specs.scan_model.declared.name.yaml_scalar_style_t.TheVariants as asked
 use Rattle.yaml_scan_history.specs.declared.kind.Kind.TheVariants as kinds
 use Rattle.yaml_emit_layout.specs.declared.Allowed.{Allowed}
 use Rattle.yaml_emit_layout.specs.declared.Style.TheVariants as style
@@ -46,13 +45,7 @@ scalar_says p flow q bare x chosen same bs =
 
 last_checked : (flow : Bool) (level n : ℕ) (a : Layout) (c : Cursor) (w : Spoken flow level)
     → LastWord flow level a c w → LastWord flow level (checked n ▹ a) c w
-last_checked flow level n a c w l = record {
-  says = record { behind = l.says.behind; written = λ rest. deep_bytes (nat_lt MOST n) (a c rest) ∙ l.says.written rest; bare = l.says.bare; white = l.says.white; kept = l.says.kept };
-  spaced = l.spaced;
-  some = l.some;
-  starts = l.starts;
-  fits = l.fits;
-}
+last_checked flow level n a c w l = grind (arith, deep_bytes)
 
 quote_some : (q : ℕ) (letters inside : List ℕ) → q < 128 → letters ≡ q ∷ inside
     → 0 < length (encode_utf8_all letters)
@@ -177,11 +170,7 @@ block_empty false flow s e = refl
 taken_empty : (a : Allowed) (s : yaml_scalar_style_t) (untagged flow : Bool)
     → is_plain (taken a s untagged flow true true) ≡ false
 unfolding taken
-taken_empty a asked.YAML_SINGLE_QUOTED_SCALAR_STYLE untagged flow = is_plain_single a
-taken_empty a asked.YAML_DOUBLE_QUOTED_SCALAR_STYLE untagged flow = refl
-taken_empty a asked.YAML_LITERAL_SCALAR_STYLE untagged flow = block_empty a.block flow style.Literal refl
-taken_empty a asked.YAML_FOLDED_SCALAR_STYLE untagged flow = block_empty a.block flow style.Folded refl
-taken_empty a _ untagged flow = plain_empty a untagged flow
+taken_empty a s untagged flow = grind (arith, is_plain_single, block_empty, plain_empty)
 
 empty_style : (p : Context) (flow : Bool) (n : ℕ) (x : Scalar) → p.settings.canonical ≡ false
     → x.value ≡ [] → style_of p (position flow n part.SimpleKey) x ≡ style.Plain → ⊥
@@ -302,13 +291,7 @@ form_ends flow level a b c has B r k same s = record {
 }
 
 empty_flow : (s : Settings) (at : NodePosition) (q : Start) → is_flow s at q true ≡ true
-empty_flow s at q = all s.canonical at.flow q.flow
-  where
-    all : (a b d : Bool) → (a || (b || (d || true))) ≡ true
-    all true b d = refl
-    all false true d = refl
-    all false false true = refl
-    all false false false = refl
+empty_flow s at q = grind arith
 
 -- an opener and a closer directly after it
 closed_by : (first last : ℕ) → nat_lt first 128 ≡ true → (body : Layout)
@@ -399,11 +382,7 @@ empty_tokens : (mapping : Bool) (p : Context) (flow : Bool) (q : Start) (bs : Li
     ≡ anchor_bodies q.anchor (tag_bodies p.directives (start_tag false q)
     (end_bodies (ends_of mapping false) bs))
 unfolding node_bodies items_bodies pairs_bodies
-empty_tokens true p flow q bs =
-    ap (λ (b : Bool). anchor_bodies q.anchor (tag_bodies p.directives (start_tag false q) (mapping_opens b (pairs_bodies p b true no_pairs (mapping_closes b bs))))) (empty_flow p.settings (place flow part.Item) q)
-empty_tokens false p flow q bs =
-    ap (λ (b : Bool). anchor_bodies q.anchor (tag_bodies p.directives (start_tag false q) (sequence_opens b (keeps part.SimpleKey false q) (items_bodies p b true no_nodes (sequence_closes b (keeps part.SimpleKey false q) bs)))))
-    (empty_flow p.settings (place flow part.Item) q)
+empty_tokens mapping p flow q bs = grind (arith, empty_flow)
 
 end_same : (mapping b : Bool) (bs : List TokenBody)
     → end_bodies (ends_of mapping false) bs ≡ end_bodies (ends_of mapping b) bs

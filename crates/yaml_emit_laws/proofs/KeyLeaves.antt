@@ -29,12 +29,7 @@ solid_by : (b c d : ℕ) (rest : Bool)
     && (not (b == 35) && (not (nat_lt 0 (break_of b c d)) && rest)))) ≡ true
     → (not (b == 32 || (b == 10 || b == 13)) && (not (b == 9) && break_of b c d == 0)) ≡ true
 unfolding break_of
-solid_by b c d rest h =
-    let (s, h1) = and_parts (not (b == 32)) (not (b == 9) && (not (b == 35) && (not (nat_lt 0 (break_of b c d)) && rest))) h in
-    let (t, h2) = and_parts (not (b == 9)) (not (b == 35) && (not (nat_lt 0 (break_of b c d)) && rest)) h1 in
-    let (k, h3) = and_parts (not (b == 35)) (not (nat_lt 0 (break_of b c d)) && rest) h2 in
-    let (w, h4) = and_parts (not (nat_lt 0 (break_of b c d))) rest h3 in
-    (grind (arith, nat_tests))
+solid_by b c d rest h = grind (arith, nat_tests)
 
 -- bytes with which a lexeme begins are solid
 pub lexeme_solid : (b : ℕ) (bs : List ℕ) → begins_lexeme (b ∷ bs) 0 ≡ true

@@ -1,6 +1,6 @@
 -- Columns don't fall in a line, and rise after text.
 use Rattle.std.proofs.Common.{◌≡◌, ℕ, ◌+◌, ◌-◌, ◌<◌, ◌≤◌, Bool, true, false, List, [], ◌∷◌, length, zero, suc, refl, sym, ap, subst, ◌∙◌, inl, inr, arith, encode_utf8, encode_utf8_all, add-zero, if◌then◌else◌, ◌==◌, ◌&&◌, ◌||◌, not, nat_lt, ◌++◌, append_assoc, length-append}
-use Rattle.yaml_emit_laws.proofs.NodeWords.{cases_Bool, cases_lt, false≢true, or_right, byte, column_at, line_at, starts, ends_break, ends_of, mark_at, Has, Left, AreCalm, calm_end, line_more, has_front, has_at, left_first, left_more, left_rest, line_at-grows, high_starts, low_starts, nat_tests, yaml_encoding_t, TokenBody, indent, is_fresh, margin_at, opened, start_of, depth_after, may_be_key, cancels, is_value, allows_key, WordText, kind_at, lexeme_at, Kind, Opens, IsRight, stays_level, Comes, WordLeaves, SignComes, sign, start_bodies, WalkState, WalkReads, ReadsKey, ClosesAt, Outside, behind, signs_come, words_leave, walk_white, walk_key_starts, walk_key_goes, walk_key_stops, walk_says, deeper_leaves, begins_white, white_of, is_text, Fits, WordStands, Spoken, spoken_bytes, all_bytes, all_bodies, AllFit}
+use Rattle.yaml_emit_laws.proofs.NodeWords.{false≢true, or_right, byte, column_at, line_at, starts, mark_at, Has, Left, AreCalm, calm_end, line_more, has_front, has_at, left_first, left_more, left_rest, line_at-grows, high_starts, low_starts, nat_tests, yaml_encoding_t, TokenBody, indent, is_fresh, margin_at, opened, start_of, depth_after, may_be_key, cancels, is_value, allows_key, WordText, kind_at, lexeme_at, Kind, Opens, IsRight, stays_level, Comes, WordLeaves, SignComes, sign, start_bodies, WalkState, WalkReads, ReadsKey, ClosesAt, Outside, behind, signs_come, words_leave, walk_white, walk_key_starts, walk_key_goes, walk_key_stops, walk_says, deeper_leaves, begins_white, white_of, is_text, Fits, WordStands, Spoken, spoken_bytes, all_bytes, all_bodies, AllFit}
 use Rattle.yaml_emit_laws.proofs.Chars.{encode_1, encode_2, encode_3, encode_4}
 use Rattle.yaml_emit_layout.specs.scan_types.Tokens as tokens
 use Rattle.yaml_scan_history.specs.declared.kind.Kind.TheVariants as kinds
@@ -11,10 +11,7 @@ use Rattle.yaml_emit_laws.proofs.Stopping.{white_next}
 column_step : (text : List ℕ) (q : ℕ) → line_at text (suc q) ≤ line_at text q
     → column_at text q ≤ column_at text (suc q)
 unfolding column_at line_at
-column_step text q h = elim (cases_Bool (ends_break text q)) [
-  | inl e ↦ let k : line_at text q + 1 ≤ line_at text q = subst (λ (b : Bool). line_at text q + (if b then 1 else 0) ≤ line_at text q) e h in absurd (omega (arith, k))
-  | inr e ↦ subst (λ (b : Bool). column_at text q ≤ (if b then 0 else column_at text q + (if starts (byte text q) then 1 else 0))) (sym e) (omega arith)
-]
+column_step text q h = grind (arith, nat_tests)
 
 pub columns_rise : (text : List ℕ) (p k : ℕ) → line_at text (p + k) ≤ line_at text p
     → column_at text p ≤ column_at text (p + k)
@@ -31,10 +28,7 @@ columns_rise text p (suc k) h =
 column_first : (text : List ℕ) (q : ℕ) → line_at text (suc q) ≤ line_at text q
     → starts (byte text q) ≡ true → column_at text (suc q) ≡ column_at text q + 1
 unfolding column_at line_at
-column_first text q h s = elim (cases_Bool (ends_break text q)) [
-  | inl e ↦ let k : line_at text q + 1 ≤ line_at text q = subst (λ (b : Bool). line_at text q + (if b then 1 else 0) ≤ line_at text q) e h in absurd (omega (arith, k))
-  | inr e ↦ rw (e, s) refl
-]
+column_first text q h s = grind (arith, nat_tests)
 
 -- after what begins with a character's first byte the column is greater
 pub columns_grow : (text : List ℕ) (p k : ℕ) → line_at text (p + suc k) ≤ line_at text p
@@ -49,16 +43,7 @@ columns_grow text p k h s =
     subst (λ q. column_at text p + 1 ≤ column_at text q) (sym far) (omega (arith, one, rest))
 
 char_starts : (text : List ℕ) (p x : ℕ) → Has text p (encode_utf8 x) → starts (byte text p) ≡ true
-char_starts text p x h = elim (cases_lt x 128) [
-  | inl u ↦ let k = (subst (λ (bs : List ℕ). Has text p bs) (encode_1 x u) h).0 in low_starts (byte text p) (omega (arith, k, u))
-  | inr u ↦ elim (cases_lt x 2048) [
-    | inl v ↦ let k = (subst (λ (bs : List ℕ). Has text p bs) (encode_2 x u v) h).0 in high_starts (byte text p) (omega (arith, k))
-    | inr v ↦ elim (cases_lt x 65536) [
-      | inl w ↦ let k = (subst (λ (bs : List ℕ). Has text p bs) (encode_3 x v w) h).0 in high_starts (byte text p) (omega (arith, k))
-      | inr w ↦ let k = (subst (λ (bs : List ℕ). Has text p bs) (encode_4 x w) h).0 in high_starts (byte text p) (omega (arith, k))
-    ]
-  ]
-]
+char_starts text p x h = grind (arith, nat_tests, encode_1, low_starts, encode_2, high_starts, encode_3, encode_4)
 
 -- text begins with a character's first byte
 pub letters_start : (text : List ℕ) (p : ℕ) (cs : List ℕ) → 0 < length (encode_utf8_all cs)
@@ -70,10 +55,7 @@ letters_start text p (x ∷ xs) some h = char_starts text p x (has_front text p 
 pub calm_line : (text : List ℕ) (p : ℕ) (xs : List ℕ) → AreCalm xs → Has text p xs
     → line_at text (p + length xs) ≡ line_at text p
 calm_line text p [] a h = rw add-zero refl
-calm_line text p (x ∷ xs) (c, a) (e, h) =
-    let far : p + suc (length xs) ≡ p + 1 + length xs = omega arith in
-    let ends : ends_break text p ≡ false = ap (λ (b : ℕ). ends_of (byte text (p - 2)) (byte text (p - 1)) b (byte text (p + 1))) e ∙ calm_end (byte text (p - 2)) (byte text (p - 1)) x (byte text (p + 1)) c in
-    ap (λ q. line_at text q) far ∙ calm_line text (p + 1) xs a h ∙ line_more text p ends
+calm_line text p (x ∷ xs) (c, a) (e, h) = grind (arith, nat_tests, calm_end, line_more, calm_line text (p + 1) xs a h)
 
 -- up to their end the columns are those of their start or right of it
 pub calm_columns : (text : List ℕ) (p : ℕ) (xs : List ℕ) → AreCalm xs → Has text p xs → (q : ℕ)
@@ -106,13 +88,7 @@ stay : (d : ℕ) → (true && (nat_lt 0 d || true)) ≡ true
 stay d = or_right (nat_lt 0 d) true refl
 
 pub texty : (k : Kind) → is_text k ≡ true → Texty k
-texty kinds.Anchor e = record { begins = refl; stays = stay; calm = refl; lone = refl; same = λ d. refl; quiet = λ b. refl }
-texty kinds.Tag e = record { begins = refl; stays = stay; calm = refl; lone = refl; same = λ d. refl; quiet = λ b. refl }
-texty kinds.Alias e = record { begins = refl; stays = stay; calm = refl; lone = refl; same = λ d. refl; quiet = λ b. refl }
-texty kinds.SingleQuoted e = record { begins = refl; stays = stay; calm = refl; lone = refl; same = λ d. refl; quiet = λ b. refl }
-texty kinds.DoubleQuoted e = record { begins = refl; stays = stay; calm = refl; lone = refl; same = λ d. refl; quiet = λ b. refl }
-texty kinds.Plain e = record { begins = refl; stays = stay; calm = refl; lone = refl; same = λ d. refl; quiet = λ b. refl }
-texty _ e = absurd (false≢true e)
+texty k e = grind (arith, nat_tests, stay)
 
 -- ---- places
 
@@ -364,39 +340,11 @@ pub record Brackets (first last : ℕ) (k l : Kind) (opens closes : TokenBody) :
 
 pub square : Brackets 91 93 kinds.FlowSequenceStart kinds.FlowSequenceEnd tokens.flow_sequence_start
     tokens.flow_sequence_end
-square = record {
-  opening = signs_come.sequence;
-  closing = signs_come.sequence_end;
-  begins = refl;
-  stays = stay;
-  stays_last = stay;
-  calm = refl;
-  lone = refl;
-  lone_last = refl;
-  up = λ d. refl;
-  down = λ d. refl;
-  quiet = λ b. refl;
-  shown = (omega arith, omega arith, λ h. omega (arith, h));
-  shown_last = (omega arith, omega arith, λ h. omega (arith, h));
-}
+square = grind (arith, nat_tests, signs_come, stay)
 
 pub curly : Brackets 123 125 kinds.FlowMappingStart kinds.FlowMappingEnd tokens.flow_mapping_start
     tokens.flow_mapping_end
-curly = record {
-  opening = signs_come.mapping;
-  closing = signs_come.mapping_end;
-  begins = refl;
-  stays = stay;
-  stays_last = stay;
-  calm = refl;
-  lone = refl;
-  lone_last = refl;
-  up = λ d. refl;
-  down = λ d. refl;
-  quiet = λ b. refl;
-  shown = (omega arith, omega arith, λ h. omega (arith, h));
-  shown_last = (omega arith, omega arith, λ h. omega (arith, h));
-}
+curly = grind (arith, nat_tests, signs_come, stay)
 
 -- after the opener
 record Opened (x : yaml_encoding_t) (text : List ℕ) (e d p : ℕ) (cs ls : List ℕ) (T K : List TokenBody → List TokenBody) : Type 0 where

@@ -1,13 +1,13 @@
 -- A block scalar and the line after it.
-use Rattle.std.proofs.Common.{◌≡◌, ℕ, ◌+◌, ◌-◌, ◌<◌, ◌≤◌, ◌&&◌, ◌||◌, not, nat_lt, Bool, true, false, List, [], ◌∷◌, length, suc, Option, Some, None, Result, Ok, refl, sym, ap, subst, ◌∙◌, inl, inr, arith, if◌then◌else◌, IsUtf8, chars}
-use Rattle.yaml_emit_laws.proofs.NodeWords.{cases_Bool, cases_lt, false≢true, or_left, yaml_encoding_t, TokenBody, byte, line_at, column_at, Wrong, indent, depth_after, allows_key, is_end, is_value, WordText, kind_at, lexeme_at, Kind, Cursor, Page, Rest, ◌▹◌, gap, blank, line, Layout, when, word, char, chomp, scalar_text, Part, Scalar, Opening, alias_node, scalar_node, Context, style_of, deeper, page_at, context_of, MOST, checked, is_plain, is_simple_part, properties_text, anchor_text, tag_text, alias_layout, scalar_layout, node_layout, Left, bytes, first, has_at, left_first, left_more, left_letter, letter_low, deep_bytes, from_indicator, keeps_all, read_style, margin_round, block_style, behind_line, BlockPassed, line_at-grows, stays_level, Comes, WordLeaves, WalkState, WalkReads, LeaveClear, behind, printed_begins, letter_columns, words_leave, walk_white, walk_word, is_keep, style_at, takes_mark, scalar_bodies, scalar_kept, node_bodies, node_kept, NodeStage, LinedUp, PlainIsWalked, SingleIsWalked, Ending, block_position, column_round, NodeWalks, IsPretty, LeavesAreWalked, BlockScalarsAreWalked, is_block, low_starts, LineBreak, Settings, Style, quoted_text, has, scalar_tag, anchor_bodies, tag_bodies, mark_bodies, QuotedIsReadBack, between_quotes, between_single, IsWritable, anchor_is_read, begins_white, PlainHasGap, StylesAreAllowed, kept_writable}
+use Rattle.std.proofs.Common.{◌≡◌, ℕ, ◌+◌, ◌-◌, ◌<◌, ◌≤◌, ◌&&◌, ◌||◌, not, nat_lt, Bool, true, false, List, [], ◌∷◌, length, suc, Option, Some, None, Ok, refl, sym, ap, subst, ◌∙◌, inl, inr, arith, if◌then◌else◌, IsUtf8, chars}
+use Rattle.yaml_emit_laws.proofs.NodeWords.{cases_Bool, cases_lt, false≢true, or_left, yaml_encoding_t, TokenBody, byte, line_at, column_at, indent, depth_after, allows_key, is_end, is_value, WordText, kind_at, lexeme_at, Kind, Cursor, Page, Rest, ◌▹◌, gap, blank, line, Layout, when, word, char, chomp, scalar_text, Part, Scalar, Opening, alias_node, scalar_node, Context, style_of, deeper, page_at, context_of, MOST, checked, is_plain, is_simple_part, properties_text, anchor_text, tag_text, alias_layout, scalar_layout, node_layout, Left, bytes, first, has_at, left_first, left_more, left_letter, letter_low, deep_bytes, from_indicator, keeps_all, read_style, margin_round, block_style, behind_line, BlockPassed, line_at-grows, stays_level, Comes, WordLeaves, WalkState, WalkReads, LeaveClear, behind, printed_begins, letter_columns, words_leave, walk_white, walk_word, is_keep, style_at, takes_mark, scalar_bodies, scalar_kept, node_bodies, node_kept, NodeStage, LinedUp, PlainIsWalked, SingleIsWalked, Ending, block_position, column_round, NodeWalks, IsPretty, LeavesAreWalked, BlockScalarsAreWalked, is_block, low_starts, LineBreak, Settings, Style, quoted_text, has, scalar_tag, anchor_bodies, tag_bodies, mark_bodies, QuotedIsReadBack, between_quotes, between_single, IsWritable, anchor_is_read, begins_white, PlainHasGap, StylesAreAllowed, kept_writable}
 use Rattle.yaml_emit_layout.specs.scan_types.Tokens as tokens
 use Rattle.yaml_scan_history.specs.declared.kind.Kind.TheVariants as kinds
 use Rattle.yaml_emit_layout.specs.declared.Chomp.{Chomp}
 use Rattle.yaml_emit_layout.specs.declared.Chomp.TheVariants as chomping
 use Rattle.yaml_emit_laws.proofs.BlockWhole.{block_back, block_at_position}
 use Rattle.yaml_emit_laws.proofs.BlockHeader.{block_is_passed}
-use Rattle.yaml_scan_laws.proofs.WordForward.{Fits, LandsWord, IsWordFrom, word_lands}
+use Rattle.yaml_scan_laws.proofs.WordForward.{Fits, word_lands}
 use Rattle.yaml_emit_laws.proofs.Lining.{no_gap, line_ends, up_says, word_begins_white}
 use Rattle.yaml_emit_laws.proofs.KeySteps.{columns_grow}
 use Rattle.yaml_emit_layout.specs.declared.Style.TheVariants as style
@@ -154,11 +154,7 @@ inside text p b bs l = let e = l.ends in omega (arith, e)
 -- it is after its start
 lands : (k : Kind) (text : List ℕ) (p level : ℕ) (w : WordText) → is_end k ≡ false → Fits k text p
     → lexeme_at k false level text p ≡ Ok w → p < w.reached
-lands k text p level w no_end fits e =
-    let h : IsWordFrom text p w = subst (λ (r : Result WordText Wrong). LandsWord text p r) e (word_lands k false level text p no_end fits) in
-    let far = h.end in
-    let more = h.place in
-    omega (arith, far, more)
+lands k text p level w no_end fits e = grind (arith, word_lands)
 
 block_from : (folded : Bool) (page : Page) (digit : ℕ) (x : yaml_encoding_t) (text : List ℕ)
     (c : Cursor) (o : WalkState) (ls : List ℕ) (T : List TokenBody → List TokenBody)
@@ -337,22 +333,13 @@ block_lines s o pretty around q v u _ some is ls c m after level up ending x tex
 
 mark_plain : (a b : Bool) (st : Style) → (a && (b && not (is_plain st))) ≡ true
     → is_plain st ≡ false
-mark_plain a b style.Plain e = absurd (false≢true (sym (off a b) ∙ e))
-  where
-    off : (a b : Bool) → (a && (b && false)) ≡ false
-    off true true = refl
-    off true false = refl
-    off false b = refl
-mark_plain a b _ e = refl
+mark_plain a b st e = grind arith
 
 dress_white : (p : Context) (a t : Option (List ℕ)) (m : Bool) (c : Cursor) (rest : Rest)
     → c.white ≡ false → begins_white (bytes (rest c)) ≡ true
     → begins_white (bytes ((anchor_text a ▹ (tag_text p t ▹ when m (word (33 ∷ [])))) c rest))
     ≡ true
-dress_white p (Some a) t m c rest white next = word_begins_white (38 ∷ a) c (λ e. (tag_text p t ▹ when m (word (33 ∷ []))) e rest) white
-dress_white p None (Some t) m c rest white next = word_begins_white _ c (λ e. when m (word (33 ∷ [])) e rest) white
-dress_white p None None true c rest white next = word_begins_white (33 ∷ []) c rest white
-dress_white p None None false c rest white next = next
+dress_white p a t m c rest white next = grind (arith, word_begins_white)
 
 scalar_walks : PlainHasGap → (s : Settings) (o : Opening) → IsPretty s o
     → (around : Option ℕ) (q : Part) (bare : Bool) (v : Scalar) → IsWritable (scalar_node v)

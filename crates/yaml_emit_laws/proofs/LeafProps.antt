@@ -1,10 +1,9 @@
 -- Words as content, one after the other: at any depth.
-use Rattle.std.proofs.Common.{◌≡◌, ℕ, ◌+◌, ◌≤◌, ◌&&◌, ◌||◌, nat_lt, Bool, true, false, List, [], ◌∷◌, ◌++◌, length, suc, refl, sym, subst, ◌∙◌, arith, append_assoc, length-append, if◌then◌else◌, ◌/◌, ◌%◌, ◌<◌, not, Option, Some, None, ap, inl, inr, append-nil}
-use Rattle.yaml_emit_laws.proofs.NodeWords.{false≢true, cases_Bool, yaml_encoding_t, TokenBody, column_at, line_at, indent, WordText, Kind, Left, bytes, first, has_at, left_first, left_more, left_rest, has_front, line_at-grows, IsRight, WalkReads, LeaveClear, Outside, WalkState, walk_white, walk_word, deeper_leaves, walk_says, is_text, Fits, Spoken, spoken_bytes, all_bytes, all_bodies, AllFit, SaysTokens, nat_tests, Cursor, Settings, Layout, Rest, ◌▹◌, stay, when, letters, word, blank, keeps_byte, uri_byte, uri_text, Split, shorthand, verbatim, spelled, split_tag, Opening, context_of, anchor_text, tag_text, anchor_bodies, tag_bodies, mark_bodies, IsReadable, IsWritableAnchor, IsWritableTag, IsWritableOpening, spelled_ascii, AreCalm, calm_from, written_readable, letter_low, split_read, lettered_on, lone_mark_is_read, anchor_is_read, begins_white, kept_above, calm_all, Above, above_append, alphas_calm, digit_above, handle_above, marked_ascii, has, letter_columns, NodeStage, Walks, IsPretty, PropertiesAreWalked}
+use Rattle.std.proofs.Common.{◌≡◌, ℕ, ◌+◌, ◌≤◌, ◌&&◌, ◌||◌, nat_lt, Bool, true, false, List, [], ◌∷◌, ◌++◌, length, suc, refl, sym, subst, ◌∙◌, arith, append_assoc, length-append, if◌then◌else◌, ◌<◌, not, Option, Some, None, ap, inl, inr, append-nil}
+use Rattle.yaml_emit_laws.proofs.NodeWords.{false≢true, cases_Bool, yaml_encoding_t, TokenBody, column_at, line_at, indent, WordText, Kind, Left, bytes, first, has_at, left_first, left_more, left_rest, has_front, line_at-grows, IsRight, WalkReads, LeaveClear, Outside, WalkState, walk_white, walk_word, deeper_leaves, walk_says, is_text, Fits, Spoken, spoken_bytes, all_bytes, all_bodies, AllFit, SaysTokens, nat_tests, Cursor, Settings, Layout, Rest, ◌▹◌, stay, when, letters, word, blank, uri_byte, uri_text, Split, shorthand, verbatim, spelled, split_tag, Opening, context_of, anchor_text, tag_text, anchor_bodies, tag_bodies, mark_bodies, IsReadable, IsWritableAnchor, IsWritableTag, IsWritableOpening, spelled_ascii, AreCalm, calm_from, written_readable, letter_low, split_read, lettered_on, lone_mark_is_read, anchor_is_read, begins_white, kept_above, calm_all, Above, above_append, alphas_calm, digit_above, handle_above, marked_ascii, has, letter_columns, NodeStage, Walks, IsPretty, PropertiesAreWalked}
 use Rattle.yaml_emit_laws.proofs.KeySteps.{texty, stands_comes, stands_leaves, spot_at, front, calm_columns}
 use Rattle.yaml_emit_laws.proofs.FlowSteps.{off_or}
 use Rattle.yaml_scan_history.specs.declared.kind.Kind.TheVariants as kinds
-use Rattle.yaml_emit_layout.specs.Hex.{hex_2}
 use Rattle.yaml_emit_laws.proofs.SpokenWords.{anchor_word, tag_word, mark_word, bare_off}
 use Rattle.yaml_emit_layout.proofs.Sinks.{cond_true, cond_false}
 
@@ -122,11 +121,7 @@ low : (x : ℕ) → x < 128 → nat_lt x 128 ≡ true
 low x h = grind (arith, nat_tests)
 
 byte_above : (flow : Bool) (b : ℕ) → Above (uri_byte flow b)
-byte_above flow b =
-    elim (cases_Bool (keeps_byte flow b)) [
-      | inl e ↦ subst (λ (xs : List ℕ). Above xs) (sym (cond_true (keeps_byte flow b) (b ∷ []) (37 ∷ hex_2 b) e)) (kept_above flow b e, tt)
-      | inr e ↦ subst (λ (xs : List ℕ). Above xs) (sym (cond_false (keeps_byte flow b) (b ∷ []) (37 ∷ hex_2 b) e)) (omega arith, (digit_above (b / 16), (digit_above (b % 16), tt)))
-    ]
+byte_above flow b = grind (arith, nat_tests, cond_true, kept_above, cond_false, digit_above)
 
 uri_above : (flow : Bool) (bs : List ℕ) → Above (uri_text flow bs)
 unfolding uri_text
@@ -140,10 +135,7 @@ split_above (verbatim tag) u = (omega arith, (omega arith, above_append (uri_tex
 
 tag_calm : (o : Opening) → IsWritableOpening o → (t : List ℕ) → IsWritableTag (Some t)
     → AreCalm (spelled (split_tag o.directives t))
-tag_calm o (fine, u) t (some, utf8) =
-    let split = split_tag o.directives t in
-    let readable = written_readable o fine u t utf8 some in
-    calm_all (spelled split) (split_above split readable) (marked_ascii (spelled split) (spelled_ascii split readable))
+tag_calm o (fine, u) t (some, utf8) = grind (arith, nat_tests, written_readable, calm_all, split_above, marked_ascii, spelled_ascii)
 
 tag_some : (o : Opening) → IsWritableOpening o → (t : List ℕ) → IsWritableTag (Some t)
     → 0 < length (spelled (split_tag o.directives t))
@@ -167,16 +159,7 @@ record Lettered (xs : List ℕ) (c : Cursor) : Type 0 where
 letters_are : (xs : List ℕ) → AreCalm xs → (c : Cursor) → Lettered xs c
 unfolding letters
 letters_are [] are c = record { behind = c; written = λ rest. refl; bare = λ h. absurd (omega (arith, h)); white = λ h. absurd (omega (arith, h)); stays = λ h. h; kept = refl }
-letters_are (x ∷ xs) (a, are) c =
-    let r = letters_are xs are (lettered_on c) in
-    record {
-      behind = r.behind;
-      written = λ rest. letter_low x (letters xs (lettered_on c) rest) (low x a.low) ∙ ap (λ (t : List ℕ). x ∷ t) (r.written rest);
-      bare = λ h. (r.stays (refl, refl)).0;
-      white = λ h. (r.stays (refl, refl)).1;
-      stays = λ h. r.stays (refl, refl);
-      kept = r.kept;
-    }
+letters_are (x ∷ xs) (a, are) c = grind (arith, nat_tests, letter_low, low, letters_are xs are (lettered_on c))
 
 -- a word, with the space that is due
 pub record Wrote (xs : List ℕ) (c : Cursor) : Type 0 where
@@ -448,16 +431,7 @@ dress_run ls (w ∷ ws) c e some (bare, white) is calm kept rest fits x text o T
 dressing_says : (x : yaml_encoding_t) (text : List ℕ) (rest : Rest) (c : Cursor) (some : Bool)
     (ls : List ℕ) (T U : List TokenBody → List TokenBody) → Dressing x text rest c some ls T
     → ((bs : List TokenBody) → T bs ≡ U bs) → Dressing x text rest c some ls U
-dressing_says x text rest c some ls T U d e = record {
-  cursor = d.cursor;
-  place = d.place;
-  stage = record { reads = walk_says.other x text d.place [] ls [] T U d.stage.reads e; flat = d.stage.flat; broken = d.stage.broken; bare = d.stage.bare; line = d.stage.line };
-  left = d.left;
-  right = d.right;
-  same = d.same;
-  none = d.none;
-  text_before = d.text_before;
-}
+dressing_says x text rest c some ls T U d e = grind (arith, nat_tests, walk_says)
 
 pub dressed : (s : Settings) (o : Opening) → IsPretty s o → (a t : Option (List ℕ)) (m : Bool)
     → IsWritableAnchor a → IsWritableTag t → (ls : List ℕ) (c : Cursor) (rest : Rest)

@@ -1,6 +1,6 @@
 -- What is written for a character inside a plain or single quoted scalar is a part of a spelling.
 use Rattle.std.proofs.Common.{◌≡◌, ℕ, ◌+◌, ◌<◌, Bool, true, false, ◌&&◌, ◌==◌, List, [], ◌∷◌, ◌++◌, replicate, refl, sym, ap, ◌∙◌, inl, inr, ◌⊎◌, arith, append-nil, encode_utf8, encode_utf8_all}
-use Rattle.yaml_emit_laws.proofs.ScalarWords.{true≢false, lt-ltb, eqb-true, and_parts, or_parts, eqb-false, encode_ascii, Cursor, LineBreak, Lf, letter, is_break, Layout, Rest, when, char, line, is_past, Page, is_printable, first, cuts_at, text_char, in_front, break_text, may_turn, QuotedPart, raw, doubled, fold, may_be_raw, MayStand, spelled, meant, is_raw_blank, is_turn, may_follow, cond_true, cond_false, low_encodes, end_of, fold_bytes, fold_means, space_encodes, moved_by, blank_follows, fold_follows, other_follows, line_is, bool_cases, after_blanks, line_start, cut_needs, not_start}
+use Rattle.yaml_emit_laws.proofs.ScalarWords.{true≢false, lt-ltb, eqb-true, and_parts, eqb-false, encode_ascii, Cursor, LineBreak, Lf, letter, is_break, Layout, Rest, when, char, line, is_past, Page, is_printable, first, cuts_at, text_char, in_front, break_text, may_turn, QuotedPart, raw, doubled, fold, may_be_raw, MayStand, spelled, meant, is_raw_blank, is_turn, may_follow, cond_true, cond_false, low_encodes, end_of, fold_bytes, fold_means, space_encodes, moved_by, blank_follows, fold_follows, other_follows, line_is, bool_cases, after_blanks, line_start, cut_needs, not_start}
 use lib.Utf8.{scalar}
 use Rattle.yaml_emit_laws.proofs.Lines.{blanks_column, blanks_kept}
 use Rattle.yaml_emit_laws.proofs.PlainParts.{IsOne, is_plain_end}
@@ -27,22 +27,7 @@ quote_byte false = 0
 
 raw_may : (quote : Bool) (x : ℕ) → scalar x ≡ true → is_printable x ≡ true → is_break x ≡ false
     → (quote && x == 39) ≡ false → may_be_raw (quote_byte quote) x ≡ true
-raw_may quote x s p inside q =
-    let p29 = (or_parts _ (x == 0x2029) inside).1 in
-    let t29 = (or_parts _ (x == 0x2029) inside).0 in
-    let p28 = (or_parts _ (x == 0x2028) t29).1 in
-    let t28 = (or_parts _ (x == 0x2028) t29).0 in
-    let p85 = (or_parts _ (x == 0x85) t28).1 in
-    let t85 = (or_parts _ (x == 0x85) t28).0 in
-    (rw (s, ((or_parts (x == 10) _ t85).0), ((or_parts _ (x == 13) t85).1), p85, p28, p29, (not_printed x 0 p refl), (no_quote quote q), (no_double quote)) refl)
-  where
-    no_quote : (quote : Bool) → (quote && x == 39) ≡ false → (x == quote_byte quote) ≡ false
-    no_quote true h = h
-    no_quote false h = not_printed x 0 p refl
-
-    no_double : (quote : Bool) → (quote_byte quote == 34) ≡ false
-    no_double true = refl
-    no_double false = refl
+raw_may quote x s p inside q = grind (arith, not_printed)
 
 -- ---- a character is written as a part
 
@@ -177,10 +162,7 @@ step_raw page quote before x xs c last s inside h q m = record {
 
 quote_uncut : (page : Page) (quote : Bool) (before x : ℕ) (xs : List ℕ) → (quote && x == 39) ≡ true
     → cuts_at page before x xs ≡ false
-quote_uncut page quote before x xs q =
-    bool_cases (cuts_at page before x xs)
-    (λ t. let needs = cut_needs page before x xs t in absurd (true≢false (sym (and_parts quote (x == 39) q).1 ∙ ap (λ k. k == 39) needs.space)))
-    (λ f. f)
+quote_uncut page quote before x xs q = grind (arith, cut_needs)
 
 pub step : (page : Page) (quote : Bool) (before x : ℕ) (xs : List ℕ) (c : Cursor)
     (last : QuotedPart) → (page.cuts ≡ true → 0 < page.indentation) → Shows x (first xs)

@@ -1,6 +1,6 @@
 -- Lines and breaks that a layout writes inside a scalar.
 use Rattle.std.proofs.Common.{◌≡◌, ℕ, zero, suc, ◌+◌, ◌-◌, Bool, true, false, not, ◌&&◌, ◌||◌, ◌==◌, nat_lt, List, [], ◌∷◌, ◌++◌, replicate, refl, sym, ap, subst, ◌∙◌, inl, inr, ◌⊎◌, arith, append-nil, encode_utf8, encode_utf8_all, true≢false, eqb-true, ne_eqb}
-use Rattle.yaml_emit_laws.proofs.ScalarWords.{nat_tests, and-false, Cursor, LineBreak, Lf, Cr, CrLf, is_break, Rest, blanks, new_line, line, indent_to, must_break, is_printable, value_break, in_front, break_text, LineEnd, line_separator, paragraph_separator, end_bytes, end_means, is_return, is_feed_end, encode_1, encode_3, cond_false, low_encodes, end_of, spaced_by, new_line_is, blanks_are, bool_cases, after_blanks, line_start}
+use Rattle.yaml_emit_laws.proofs.ScalarWords.{nat_tests, and-false, Cursor, LineBreak, Lf, Cr, CrLf, is_break, Rest, blanks, new_line, line, indent_to, must_break, is_printable, value_break, in_front, break_text, LineEnd, line_separator, paragraph_separator, end_bytes, end_means, is_return, is_feed_end, encode_1, encode_3, cond_false, low_encodes, end_of, spaced_by, new_line_is, blanks_are, after_blanks, line_start}
 use Rattle.yaml_scan_history.specs.Pieces.{gap}
 
 -- ---- lines
@@ -8,10 +8,7 @@ use Rattle.yaml_scan_history.specs.Pieces.{gap}
 -- Each blank moves the column on by one.
 pub blanks_column : (n : ℕ) (c : Cursor) → (after_blanks n c).column ≡ c.column + n
 blanks_column zero c = omega arith
-blanks_column (suc n) c =
-    let more = blanks_column n (spaced_by c) in
-    let far : c.column + 1 + n ≡ c.column + suc n = omega arith in
-    more ∙ far
+blanks_column (suc n) c = grind (arith, nat_tests, blanks_column n (spaced_by c))
 
 -- White space leaves a block scalar's kept breaks as they were.
 pub blanks_kept : (n : ℕ) (c : Cursor) → (after_blanks n c).kept ≡ c.kept
@@ -31,11 +28,7 @@ pub record Starts (c : Cursor) : Type 0 where
   pub bare : c.bare ≡ true
 
 unbroken : (a b w x : Bool) → a ≡ true → b ≡ false → w ≡ true → (not a || b || (x && not w)) ≡ false
-unbroken true false true true e f g = refl
-unbroken true false true false e f g = refl
-unbroken true false false x e f g = absurd (true≢false (sym g))
-unbroken true true w x e f g = absurd (true≢false f)
-unbroken false b w x e f g = absurd (true≢false (sym e))
+unbroken a b w x e f g = grind (arith, nat_tests)
 
 -- there it is spaces alone
 pub start_is : (b : LineBreak) (n : ℕ) (c : Cursor) (rest : Rest) → Starts c
@@ -124,14 +117,7 @@ ps_is b = record {
 
 which_break : (x : ℕ) → is_break x ≡ true → is_printable x ≡ true
     → (x ≡ 10) ⊎ ((x ≡ 0x2028) ⊎ (x ≡ 0x2029))
-which_break x h p =
-    bool_cases (x == 10) (λ e. inl (eqb-true x 10 e)) (λ a.
-    bool_cases (x == 0x2028) (λ e. inr (inl (eqb-true x 0x2028 e))) (λ b.
-    bool_cases (x == 0x2029) (λ e. inr (inr (eqb-true x 0x2029 e))) (λ c.
-    let no13 : (x == 13) ≡ false = ne_eqb x 13 (λ e. true≢false (sym p ∙ ap (λ k. is_printable k) e)) in
-    let no85 : (x == 0x85) ≡ false = ne_eqb x 0x85 (λ e. true≢false (sym p ∙ ap (λ k. is_printable k) e)) in
-    let none : is_break x ≡ false = rw (a, no13, no85, b, c) refl in
-    absurd (true≢false (sym h ∙ none)))))
+which_break x h p = grind (arith, nat_tests, eqb-true, ne_eqb)
 
 pub break_is : (b : LineBreak) (x : ℕ) → is_break x ≡ true → is_printable x ≡ true → BreakOf b x
 break_is b x h p =

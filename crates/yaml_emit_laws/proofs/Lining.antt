@@ -1,6 +1,6 @@
 -- Lines between nodes, and the indicators after them.
 use Rattle.std.proofs.Common.{◌≡◌, ℕ, ◌-◌, ◌+◌, ◌<◌, ◌==◌, ◌&&◌, ◌||◌, not, nat_lt, Bool, true, false, List, [], ◌∷◌, ◌++◌, zero, suc, refl, ap, ◌∙◌, inl, inr, arith, if◌then◌else◌, sym, subst, ◌≤◌}
-use Rattle.yaml_emit_laws.proofs.NodeWords.{cases_Bool, false≢true, or_left, or_right, not-false, ltb-false, eq-eqb, nat_tests, yaml_encoding_t, TokenBody, break_of, byte, column_at, line_at, ends_of, ends_break, Cursor, LineBreak, Lf, Cr, CrLf, Rest, blank, blanks, line, letters, indicator, must_break, new_line, indent_to, word, letter, Item, bytes, Left, first, letter_low, left_letter, behind_return, walk_ends, walk_says, walk_mark, walk_white, begins_white, begins_solid, LinedUp, BareIndicator, Entry, Question, Answer, mark_byte, no_comment, mark_body, mark_level, IsLone, MarkIsWalked, NodeStage, NoFeed, Lined, LineIsWalked, LineEndsNode, ShowsNode, indent, margin_at, opened, start_of, level_of, is_start, is_value, allows_key, Kind, begins_lexeme, left_first, left_more, has_at, line_at-grows, Rises, IsGap, WalkState, ClosesAt, behind, sign, MarkComes, WordLeaves, signs_come, printed_begins, letter_columns, feed_line, words_leave, left_byte, column_end, line_end, line_start}
+use Rattle.yaml_emit_laws.proofs.NodeWords.{cases_Bool, false≢true, or_left, or_right, not-false, ltb-false, eq-eqb, nat_tests, yaml_encoding_t, TokenBody, break_of, byte, column_at, line_at, ends_of, ends_break, Cursor, LineBreak, Lf, Cr, CrLf, Rest, blank, blanks, line, indicator, must_break, new_line, indent_to, word, letter, bytes, Left, first, letter_low, left_letter, behind_return, walk_ends, walk_says, walk_mark, walk_white, begins_white, begins_solid, LinedUp, BareIndicator, Entry, Question, Answer, mark_byte, no_comment, mark_body, mark_level, IsLone, MarkIsWalked, NodeStage, NoFeed, Lined, LineIsWalked, LineEndsNode, ShowsNode, indent, margin_at, opened, start_of, level_of, is_start, is_value, allows_key, Kind, begins_lexeme, left_first, left_more, has_at, line_at-grows, Rises, IsGap, WalkState, ClosesAt, behind, sign, MarkComes, WordLeaves, signs_come, printed_begins, letter_columns, feed_line, words_leave, left_byte, column_end, line_end, line_start}
 use Rattle.yaml_emit_layout.specs.scan_types.Tokens as tokens
 use Rattle.yaml_scan_history.specs.declared.kind.Kind.TheVariants as kinds
 use Rattle.yaml_emit_laws.proofs.Single.{broken}
@@ -32,20 +32,12 @@ space_due column n true false w e = grind (arith, nat_tests)
 pub line_begins_white : (b : LineBreak) (n : ℕ) (c : Cursor) (rest : Rest) → c.white ≡ false
     → begins_white (bytes (line b n c rest)) ≡ true
 unfolding line
-line_begins_white b n c rest white =
-    let after : Rest = λ k. indent_to n k rest in
-    elim (cases_Bool (must_break n c)) [
-      | inl e ↦ ap (λ (t : Bool). begins_white (bytes (if t then new_line b c after else after c))) e ∙ break_white b c after
-      | inr e ↦ ap (λ (t : Bool). begins_white (bytes (if t then new_line b c after else after c))) e ∙ spaces_some (n - c.column) c rest (space_due c.column n c.bare c.white white e)
-    ]
+line_begins_white b n c rest white = grind (arith, nat_tests, break_white, spaces_some, space_due)
 
 -- so does a word
 pub word_begins_white : (t : List ℕ) (c : Cursor) (rest : Rest) → c.white ≡ false
     → begins_white (bytes (word t c rest)) ≡ true
-word_begins_white t c rest white =
-    let k : Rest = λ d. letters t d rest in
-    ap (λ (b : Bool). begins_white (bytes (if b then k c else blank c k))) white
-    ∙ ap (λ xs. begins_white xs) (letter_low 32 (k (record { column = c.column + 1; white = true; bare = c.bare; kept = c.kept })) refl)
+word_begins_white t c rest white = grind (arith, nat_tests, letter_low)
 
 -- ---- indicators show
 
@@ -72,10 +64,7 @@ mark_small _ = refl
 
 pub mark_shows : (k : BareIndicator) (n : ℕ) (rest : Rest)
     → ShowsNode n (λ e. indicator (mark_byte k) e rest)
-mark_shows k n rest = record {
-  solid = λ e bare white column. ap (λ bs. begins_solid bs) (indicator_bytes (mark_byte k) rest e (mark_small k) white) ∙ mark_solid k (bytes (rest (record { column = e.column + 1; white = false; bare = e.bare; kept = e.kept })));
-  calm = λ e bare white column. ap (λ bs. no_comment bs) (indicator_bytes (mark_byte k) rest e (mark_small k) white) ∙ mark_calm k (bytes (rest (record { column = e.column + 1; white = false; bare = e.bare; kept = e.kept })));
-}
+mark_shows k n rest = grind (arith, nat_tests, indicator_bytes, mark_small, mark_solid, mark_calm)
 
 -- ---- after a line
 
@@ -106,23 +95,7 @@ up_ends x text rest n kept l ls T up =
 pub up_says : (x : yaml_encoding_t) (text : List ℕ) (rest : Rest) (n : ℕ) (kept : Bool)
     (ls : List ℕ) (T U : List TokenBody → List TokenBody) → LinedUp x text rest n kept ls T
     → ((bs : List TokenBody) → T bs ≡ U bs) → LinedUp x text rest n kept ls U
-up_says x text rest n kept ls T U up e =
-    let h = up.lined in
-    let s = h.stage in
-    record {
-      more = up.more;
-      lined = record {
-        cursor = h.cursor;
-        place = h.place;
-        stage = record { reads = walk_says.other x text h.place [] ls up.more T U s.reads e; flat = s.flat; broken = s.broken; bare = s.bare; line = s.line };
-        left = h.left;
-        bare = h.bare;
-        white = h.white;
-        column = h.column;
-        same = h.same;
-      };
-      later = up.later;
-    }
+up_says x text rest n kept ls T U up e = grind (arith, nat_tests, walk_says, broken)
 
 -- ==== The indicators of a bare line.
 
@@ -139,10 +112,7 @@ pub record SignNext (text : List ℕ) (p b : ℕ) (bs : List ℕ) : Type 0 where
 -- A printable byte that begins no comment may be one.
 pub sign_next : (text : List ℕ) (p b : ℕ) (bs : List ℕ) → 32 < b → b < 127 → (b ≡ 35 → ⊥)
     → Left text p (b ∷ bs) → SignNext text p b bs
-sign_next text p b bs low high hash l =
-    let here = left_first text p b bs l in
-    let z : p + 0 ≡ p = omega arith in
-    record { none = no_gap text p (printed_begins text p b here low high hash); at = ap (λ n. byte text n) z ∙ here; left = subst (λ (n : ℕ). Left text (n + 1) bs) (sym z) (left_more text p b bs l) }
+sign_next text p b bs low high hash l = grind (arith, nat_tests, left_first, no_gap, printed_begins, left_more)
 
 -- ---- white in bytes is white in the text
 
@@ -254,12 +224,7 @@ blanks_later (suc n) x text c o ls more T rest s bare white l late = blanks_late
 first_blank : (n : ℕ) (c : Cursor) (m : ℕ) (rest : Rest) → NoFeed m rest → c.bare ≡ true
     → c.white ≡ true → c.column + n ≡ m → first (bytes (blanks n c rest)) ≡ 10 → ⊥
 unfolding blanks
-first_blank zero c m rest none bare white column e = none c bare white (omega (arith, column)) e
-first_blank (suc n) c m rest none bare white column e =
-    let k : Rest = λ d. blanks n d rest in
-    let t : List Item = k (record { column = c.column + 1; white = true; bare = c.bare; kept = c.kept }) in
-    let f : first (32 ∷ bytes t) ≡ 10 = ap (λ (bs : List ℕ). first bs) (sym (letter_low 32 t refl)) ∙ e in
-    omega (arith, f)
+first_blank n c m rest none bare white column e = grind (arith, nat_tests, letter_low)
 
 -- ---- the break that is set
 
@@ -322,10 +287,7 @@ break_on CrLf x text c o ls more T rest s none l =
 -- ---- a line
 
 all_false : (a b d : Bool) → (a || b || d) ≡ false → (a ≡ false) × (b ≡ false) × (d ≡ false)
-all_false true b d e = absurd (cc)
-all_false false true d e = absurd (cc)
-all_false false false true e = absurd (cc)
-all_false false false false e = (refl, refl, refl)
+all_false a b d e = grind (arith, nat_tests)
 
 white_so : (a w : Bool) → a ≡ true → (a && not w) ≡ false → w ≡ true
 white_so true true e f = refl

@@ -27,18 +27,11 @@ may_tag (Some t) h = tag_some t (length t == 0) refl h
 -- the tag of an event with properties
 may_head : (anchor tag : Option (List ℕ)) (q : Option Problem)
     → or_else (or_else (anchor_problem anchor) (tag_problem tag)) q ≡ None → MayTag tag
-may_head anchor tag q h =
-    let a = or_both (or_else (anchor_problem anchor) (tag_problem tag)) q h in
-    let b = or_both (anchor_problem anchor) (tag_problem tag) a.0 in
-    may_tag tag b.1
+may_head anchor tag q h = grind (arith, nat_tests, or_both, may_tag)
 
 pub taken : TakenAreRight
 unfolding event_problem last_problem
-taken (event.document_start version directives implicit) h = h
-taken (event.scalar anchor tag value plain quoted style) h = may_head anchor tag _ h
-taken (event.sequence_start anchor tag implicit style) h = may_head anchor tag _ h
-taken (event.mapping_start anchor tag implicit style) h = may_head anchor tag _ h
-taken _ h = tt
+taken v0 h = grind (arith, nat_tests, may_head)
 
 -- ---- one event
 
@@ -62,11 +55,7 @@ with_one d n r k = record { tags = one_more d.nodes n r.tags k; opening = r.open
 
 aliased_right : (name : List ℕ) (at : yaml_mark_t) (l : Loading) → RightDocument l.document
     → RightFed (aliased (map.get l.anchors name) at l)
-aliased_right name at l r =
-    elim (map.get l.anchors name) as (λ x. RightFed (aliased x at l)) [
-      | None ↦ tt
-      | Some a ↦ record { tags = r.tags; opening = r.opening }
-    ]
+aliased_right name at l r = grind (arith, nat_tests)
 
 changed : (o : Open) (to : yaml_mark_t) (k : ℕ) (ns : List model.Node) → AreTagged ns
     → AreTagged (change_place (filled o to) k ns)

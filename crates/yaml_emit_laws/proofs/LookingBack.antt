@@ -1,6 +1,6 @@
 -- What is expected depends on the events that came.
-use Rattle.std.proofs.Common.{◌≡◌, ℕ, zero, suc, Bool, true, false, not, ◌||◌, List, [], ◌∷◌, Option, Some, None, refl, sym, ap, ◌∙◌}
-use Rattle.yaml_emit_laws.proofs.DumpsWords.{Problem, Expected, Event, no_event, stream_start, stream_end, document_start, document_end, alias, scalar, sequence_start, sequence_end, mapping_start, mapping_end, or_else, event_problem, last_problem, ends_phase, node_problem, place_problem, problem_by, Due, item_due, key_due, value_due, Progress, at_place, first_progress, inside, behind_node, outer_due, progress_after, level_due, problem_in, first_refusal}
+use Rattle.std.proofs.Common.{◌≡◌, ℕ, zero, suc, Bool, true, false, not, ◌||◌, List, [], ◌∷◌, Option, Some, None, refl, ap, ◌∙◌, arith}
+use Rattle.yaml_emit_laws.proofs.DumpsWords.{Problem, Expected, Event, no_event, stream_start, stream_end, document_start, document_end, sequence_start, sequence_end, mapping_start, mapping_end, or_else, event_problem, last_problem, ends_phase, place_problem, problem_by, Due, item_due, key_due, value_due, Progress, at_place, first_progress, inside, behind_node, outer_due, progress_after, level_due, problem_in, first_refusal}
 use Rattle.yaml_emit_graph.specs.emit_layout.declared.Expected.TheVariants as at
 use Rattle.yaml_emit_graph.specs.emit_layout.declared.Problem.TheVariants as problem
 use Rattle.yaml_emit_graph.specs.emit_layout.declared.Level.{Level}
@@ -22,13 +22,7 @@ not_twice false = refl
 
 node_met : (n : ℕ) (even : Bool) (ds : List Due)
     → due_at n (met n even) ds ≡ due_at n even (behind_node ds)
-node_met n even [] = refl
-node_met zero even (item_due ∷ ds) = refl
-node_met zero even (key_due ∷ ds) = refl
-node_met zero even (value_due ∷ ds) = ap (λ (b : Bool). Some (in_mapping b)) (not_twice even)
-node_met (suc n) even (item_due ∷ ds) = refl
-node_met (suc n) even (key_due ∷ ds) = refl
-node_met (suc n) even (value_due ∷ ds) = refl
+node_met n even ds = grind (arith, not_twice)
 
 end_met : (n : ℕ) (even : Bool) (ds : List Due)
     → due_at (suc n) even ds ≡ due_at n even (outer_due ds)
@@ -50,62 +44,7 @@ HasDue h past = (n : ℕ) (even : Bool) → innermost n even past ≡ due_at n e
 inside_place : (ds : List Due) (e : Event)
     → place_problem (inside ds).place (level_due (inside ds).due) e ≡ wrong_in (due_at 0 true ds) e
 unfolding place_problem
-inside_place [] no_event = refl
-inside_place [] (stream_start x) = refl
-inside_place [] stream_end = refl
-inside_place [] (document_start o) = refl
-inside_place [] (document_end implicit) = refl
-inside_place [] (alias name) = refl
-inside_place [] (scalar x) = refl
-inside_place [] (sequence_start p) = refl
-inside_place [] sequence_end = refl
-inside_place [] (mapping_start p) = refl
-inside_place [] mapping_end = refl
-inside_place (item_due ∷ ds) e = in_items e
-  where
-    in_items : (x : Event)
-        → node_problem (level_due (item_due ∷ ds)) x ≡ wrong_in (Some in_sequence) x
-    in_items no_event = refl
-    in_items (stream_start x) = refl
-    in_items stream_end = refl
-    in_items (document_start o) = refl
-    in_items (document_end implicit) = refl
-    in_items (alias name) = refl
-    in_items (scalar x) = refl
-    in_items (sequence_start p) = refl
-    in_items sequence_end = refl
-    in_items (mapping_start p) = refl
-    in_items mapping_end = refl
-inside_place (key_due ∷ ds) e = at_key e
-  where
-    at_key : (x : Event)
-        → node_problem (level_due (key_due ∷ ds)) x ≡ wrong_in (Some (in_mapping true)) x
-    at_key no_event = refl
-    at_key (stream_start x) = refl
-    at_key stream_end = refl
-    at_key (document_start o) = refl
-    at_key (document_end implicit) = refl
-    at_key (alias name) = refl
-    at_key (scalar x) = refl
-    at_key (sequence_start p) = refl
-    at_key sequence_end = refl
-    at_key (mapping_start p) = refl
-    at_key mapping_end = refl
-inside_place (value_due ∷ ds) e = at_value e
-  where
-    at_value : (x : Event)
-        → node_problem (level_due (value_due ∷ ds)) x ≡ wrong_in (Some (in_mapping false)) x
-    at_value no_event = refl
-    at_value (stream_start x) = refl
-    at_value stream_end = refl
-    at_value (document_start o) = refl
-    at_value (document_end implicit) = refl
-    at_value (alias name) = refl
-    at_value (scalar x) = refl
-    at_value (sequence_start p) = refl
-    at_value sequence_end = refl
-    at_value (mapping_start p) = refl
-    at_value mapping_end = refl
+inside_place ds e = grind arith
 
 start_place : HasPlace first_progress []
 unfolding place_problem
@@ -145,10 +84,7 @@ inside_fits : (ds : List Due) (last : Event) (past : List Event)
     → ((n : ℕ) (even : Bool) → innermost n even (last ∷ past) ≡ due_at n even ds)
     → ((e : Event) → wrong_place (last ∷ past) e ≡ wrong_in (innermost 0 true (last ∷ past)) e)
     → Fits (inside ds) (last ∷ past)
-inside_fits ds last past due place = record {
-  place = λ e. inside_place ds e ∙ ap (λ (o : Option Collection). wrong_in o e) (sym (due 0 true)) ∙ sym (place e);
-  due = λ n even. due n even ∙ ap (λ (xs : List Due). due_at n even xs) (sym (due_inside ds));
-}
+inside_fits ds last past due place = grind (arith, inside_place, due_inside)
 
 node_fits : (h : Progress) (past : List Event) → Fits h past → (last : Event)
     → ((n : ℕ) (even : Bool) → innermost n even (last ∷ past) ≡ innermost n (met n even) past)

@@ -1,6 +1,6 @@
 -- Layouts that stay in their line, by how many bytes they write.
-use Rattle.std.proofs.Common.{◌≡◌, ℕ, suc, ◌+◌, ◌*◌, ◌<◌, ◌≤◌, Bool, true, false, not, ◌&&◌, ◌==◌, nat_lt, List, [], ◌∷◌, ◌++◌, length, refl, sym, ap, subst, ◌∙◌, inl, inr, arith, append-nil, append_assoc, encode_utf8, encode_utf8_all, length-append}
-use Rattle.yaml_emit_laws.proofs.ScalarWords.{cases_Bool, cases_lt, cases_eq, true≢false, and_parts, not-true, and_from, encodes-append, all_scalars, Cursor, Page, letter, is_break, Layout, Rest, ◌▹◌, stay, when, char, letters, blank, gap, word, opener, after_text, line, needs_escape, escape_letter, escape_text, escaped, quoted_char, quoted_body, first, is_empty, cuts_at, quote_char, text_char, flow_char, flow_body, in_front, MOST, checked, is_one_line, bytes, encode_1, encode_2, encode_3, encode_4, cond_true, cond_false, AreCalm, escape_by_letter, escape_by_2, escape_by_4, escape_by_8, escape_calm, front_one, char_escaped, moved_by, spaced_by, deep_bytes, front_encodes, StaysNear}
+use Rattle.std.proofs.Common.{◌≡◌, ℕ, ◌+◌, ◌*◌, ◌<◌, ◌≤◌, Bool, true, false, not, ◌&&◌, ◌==◌, nat_lt, List, [], ◌∷◌, ◌++◌, length, refl, sym, ap, subst, ◌∙◌, inl, inr, arith, append-nil, append_assoc, encode_utf8, encode_utf8_all, length-append}
+use Rattle.yaml_emit_laws.proofs.ScalarWords.{cases_Bool, true≢false, and_parts, not-true, and_from, encodes-append, all_scalars, Cursor, Page, letter, is_break, Layout, Rest, ◌▹◌, stay, when, char, letters, blank, gap, word, opener, after_text, line, needs_escape, escape_text, escaped, quoted_char, quoted_body, quote_char, flow_char, flow_body, in_front, MOST, checked, is_one_line, bytes, encode_1, encode_2, encode_3, encode_4, cond_true, cond_false, AreCalm, escape_by_letter, escape_by_2, escape_by_4, escape_by_8, escape_calm, front_one, char_escaped, moved_by, spaced_by, deep_bytes, front_encodes, StaysNear}
 use lib.Utf8.{scalar}
 use Rattle.yaml_emit_laws.proofs.Keys.{line_append, calm_line, raw_inside}
 
@@ -51,10 +51,7 @@ low_size x l = one_size x ∙ ap (λ (bs : List ℕ). length bs) (encode_1 x l)
 
 calm_size : (xs : List ℕ) → AreCalm xs → size xs ≡ length xs
 calm_size [] a = refl
-calm_size (x ∷ xs) (a, b) =
-    let one = encode_1 x a.low in
-    let more = calm_size xs b in
-    ap (λ (bs : List ℕ). length (bs ++ encode_utf8_all xs)) one ∙ ap (λ n. suc n) more
+calm_size (x ∷ xs) (a, b) = grind (arith, encode_1, encode_utf8_all, calm_size xs b)
 
 -- a character
 pub near_char : (x : ℕ) (c : Cursor) → is_break x ≡ false
@@ -107,27 +104,13 @@ near_opener x c e l =
 -- ---- between single quotes, and plain
 
 some_bytes : (c : ℕ) → 1 ≤ length (encode_utf8 c)
-some_bytes c =
-    let P : List ℕ → Type 0 = λ bs. 1 ≤ length bs in
-    elim (cases_lt c 128) [
-      | inl u ↦ subst P (sym (encode_1 c u)) (omega arith)
-      | inr u ↦ elim (cases_lt c 2048) [
-        | inl v ↦ subst P (sym (encode_2 c u v)) (omega arith)
-        | inr v ↦ elim (cases_lt c 65536) [
-          | inl w ↦ subst P (sym (encode_3 c v w)) (omega arith)
-          | inr w ↦ subst P (sym (encode_4 c w)) (omega arith)
-        ]
-      ]
-    ]
+some_bytes c = grind (arith, encode_1, encode_2, encode_3, encode_4)
 
 flow_is : (page : Page) (quote : Bool) (before x : ℕ) (xs : List ℕ) → is_break x ≡ false
     → is_break before ≡ false → page.cuts ≡ false
     → flow_char page quote before x xs ≡ (stay ▹ quote_char quote x)
 unfolding flow_char
-flow_is page quote before x xs e f g =
-    cond_false (is_break x) _ _ e
-    ∙ ap (λ t. when t (line page.line_break page.indentation) ▹ text_char page quote (cuts_at page before x xs) x) f
-    ∙ ap (λ t. stay ▹ text_char page quote t x) (ap (λ t. t && (x == 32 && (not (before == 32) && (not (first xs == 32) && not (is_empty xs))))) g)
+flow_is page quote before x xs e f g = grind (arith, cond_false)
 
 near_quoted : (quote : Bool) (x : ℕ) (c : Cursor) → is_break x ≡ false
     → StaysNear (stay ▹ quote_char quote x) c (2 * length (encode_utf8 x))
@@ -156,30 +139,10 @@ near_flow page quote before (x ∷ xs) c g f l =
 -- ---- between double quotes
 
 two_bytes : (c : ℕ) → 128 ≤ c → 2 ≤ length (encode_utf8 c)
-two_bytes c u =
-    let P : List ℕ → Type 0 = λ bs. 2 ≤ length bs in
-    elim (cases_lt c 2048) [
-      | inl v ↦ subst P (sym (encode_2 c u v)) (omega arith)
-      | inr v ↦ elim (cases_lt c 65536) [
-        | inl w ↦ subst P (sym (encode_3 c v w)) (omega arith)
-        | inr w ↦ subst P (sym (encode_4 c w)) (omega arith)
-      ]
-    ]
+two_bytes c u = grind (arith, encode_2, encode_3, encode_4)
 
 escape_length : (c : ℕ) → length (escape_text c) ≤ 4 * length (encode_utf8 c)
-escape_length c =
-    let P : List ℕ → Type 0 = λ bs. length bs ≤ 4 * length (encode_utf8 c) in
-    let some = some_bytes c in
-    elim (cases_eq (escape_letter c) 0) [
-      | inr n ↦ subst P (sym (escape_by_letter c n)) (omega (arith, some))
-      | inl n ↦ elim (cases_lt c 256) [
-        | inl a ↦ subst P (sym (escape_by_2 c n a)) (omega (arith, some))
-        | inr a ↦ elim (cases_lt c 65536) [
-          | inl b ↦ let t = two_bytes c (omega (arith, a)) in subst P (sym (escape_by_4 c n a b)) (omega (arith, t))
-          | inr b ↦ let f = (subst (λ (bs : List ℕ). 4 ≤ length bs) (sym (encode_4 c b)) (omega arith)) in subst P (sym (escape_by_8 c n a b)) (omega (arith, f))
-        ]
-      ]
-    ]
+escape_length c = grind (arith, encode_utf8, some_bytes, escape_by_letter, escape_by_2, two_bytes, escape_by_4, encode_4, escape_by_8)
 
 near_escaped : (unicode : Bool) (x : ℕ) (c : Cursor) → scalar x ≡ true
     → StaysNear (escaped unicode x) c (4 * length (encode_utf8 x))

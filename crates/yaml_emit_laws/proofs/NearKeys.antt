@@ -1,11 +1,10 @@
 -- Simple keys, with their properties, stay in their line.
-use Rattle.std.proofs.Common.{◌≡◌, ℕ, suc, ◌+◌, ◌-◌, ◌*◌, ◌/◌, ◌%◌, ◌<◌, ◌≤◌, Bool, true, false, not, ◌&&◌, ◌||◌, ◌==◌, nat_le, nat_lt, List, [], ◌∷◌, ◌++◌, length, Option, Some, None, refl, sym, ap, subst, ◌∙◌, inl, inr, arith, encode_utf8_all, IsUtf8, if◌then◌else◌, length-append, chars}
+use Rattle.std.proofs.Common.{◌≡◌, ℕ, suc, ◌+◌, ◌-◌, ◌*◌, ◌<◌, ◌≤◌, Bool, true, false, not, ◌&&◌, ◌||◌, ◌==◌, nat_le, nat_lt, List, [], ◌∷◌, ◌++◌, length, Option, Some, None, refl, sym, ap, subst, ◌∙◌, inl, inr, arith, encode_utf8_all, IsUtf8, if◌then◌else◌, length-append, chars}
 use Rattle.yaml_emit_laws.proofs.ScalarWords.{cases_Bool, true≢false, and_parts, not-true, ne_eqb, nat_tests, scalars-chars, encodes-chars, and-false, is_alpha_byte, is_digit_byte, are_alphas, yaml_scalar_style_t, Cursor, Page, Settings, Allowed, Style, is_break, Layout, ◌▹◌, stay, when, char, gap, word, opener, after_text, line, is_empty, quoted_body, flow_body, scalar_text, allowed, taken, plain_fits, single_or, Scalar, Start, alias_node, scalar_node, sequence_node, mapping_node, no_nodes, node, no_pairs, pair, Opening, kept_if, scalar_tag, start_tag, Context, context_of, position, deeper, checked, anchor_text, tag_text, properties_text, is_plain, style_of, page_at, scalar_layout, alias_layout, text_size, written_size, properties_size, is_simple_scalar, is_simple_alias, is_simple_start, is_simple, is_flow, indent_of, indented, closer, node_layout, items_layout, pairs_layout, is_one_line, cond_true, cond_false, AreCalm, calm_from, StaysNear, SimpleKeysAreNear, bool_cases}
 use Rattle.yaml_emit_layout.specs.scan_types.Classes.{has_break}
-use Rattle.yaml_emit_layout.specs.scan_model.declared.name.yaml_scalar_style_t.TheVariants as asked
 use Rattle.yaml_emit_layout.specs.declared.Style.TheVariants as style
-use Rattle.yaml_emit_layout.specs.Hex.{hex_2, hex_digit}
-use Rattle.yaml_emit_layout.specs.Tags.{suffix_keeps, keeps_byte, uri_byte, uri_text, Split, shorthand, verbatim, spelled, split_tag, tag_spelling, split_size}
+use Rattle.yaml_emit_layout.specs.Hex.{hex_digit}
+use Rattle.yaml_emit_layout.specs.Tags.{suffix_keeps, keeps_byte, uri_byte, uri_text, Split, spelled, split_tag, tag_spelling, split_size}
 use Rattle.yaml_emit_layout.specs.declared.level.Part.TheVariants as part
 use Rattle.yaml_emit_layout.specs.Grammar.{has}
 use Rattle.yaml_emit_layout.specs.Nodes.{mark_text}
@@ -30,10 +29,7 @@ above_append (x ∷ xs) ys (a, h) k = (a, above_append xs ys h k)
 -- Bytes in ASCII above the control characters are calm.
 pub calm_all : (xs : List ℕ) → Above xs → are_ascii xs ≡ true → AreCalm xs
 calm_all [] h a = tt
-calm_all (x ∷ xs) (b, h) a = (calm_from x b (less x (and_parts (nat_lt x 128) (are_ascii xs) a).0), calm_all xs h (and_parts (nat_lt x 128) (are_ascii xs) a).1)
-  where
-    less : (x : ℕ) → nat_lt x 128 ≡ true → x < 128
-    less x h = grind (arith, nat_tests)
+calm_all (x ∷ xs) (b, h) a = grind (arith, nat_tests, calm_from, calm_all xs h (and_parts (nat_lt x 128) (are_ascii xs) a).1)
 
 pub alpha_above : (b : ℕ) → is_alpha_byte b ≡ true → (13 < b) × (b < 128)
 unfolding is_alpha_byte is_digit_byte
@@ -60,23 +56,13 @@ unfolding hex_digit
 digit_above d = bool_cases (nat_lt d 10) (λ e. rw e (omega arith)) (λ e. rw e (omega arith))
 
 byte_above : (flow : Bool) (b : ℕ) → Above (uri_byte flow b) × (length (uri_byte flow b) ≤ 3)
-byte_above flow b =
-    elim (cases_Bool (keeps_byte flow b)) [
-      | inl e ↦ subst (λ (xs : List ℕ). Above xs × (length xs ≤ 3)) (sym (cond_true (keeps_byte flow b) (b ∷ []) (37 ∷ hex_2 b) e)) ((kept_above flow b e, tt), omega arith)
-      | inr e ↦ subst (λ (xs : List ℕ). Above xs × (length xs ≤ 3)) (sym (cond_false (keeps_byte flow b) (b ∷ []) (37 ∷ hex_2 b) e)) ((omega arith, (digit_above (b / 16), (digit_above (b % 16), tt))), omega arith)
-    ]
+byte_above flow b = grind (arith, nat_tests, cond_true, kept_above, cond_false, digit_above)
 
 uri_above : (flow : Bool) (bs : List ℕ)
     → Above (uri_text flow bs) × (length (uri_text flow bs) ≤ 3 * length bs)
 unfolding uri_text
 uri_above flow [] = (tt, omega arith)
-uri_above flow (b ∷ bs) =
-    let one = byte_above flow b in
-    let more = uri_above flow bs in
-    let l = one.1 in
-    let m = more.1 in
-    let e : length (uri_byte flow b ++ uri_text flow bs) ≡ length (uri_byte flow b) + length (uri_text flow bs) = length-append (uri_byte flow b) (uri_text flow bs) in
-    (above_append (uri_byte flow b) (uri_text flow bs) one.0 more.0, omega (arith, e, l, m))
+uri_above flow (b ∷ bs) = grind (arith, nat_tests, byte_above, length-append, above_append, uri_above flow bs)
 
 -- No control character is in a handle.
 pub handle_above : (handle : List ℕ) → IsShaped handle → Above handle
@@ -86,16 +72,7 @@ handle_above handle (inr (name, e, are)) = subst (λ (xs : List ℕ). Above xs) 
 split_above : (split : Split) → IsReadable split
     → Above (spelled split) × (length (spelled split) ≤ 3 * split_size split + 3)
 unfolding spelled
-split_above (shorthand handle suffix) (shaped, u, some) =
-    let uri = uri_above false suffix in
-    let l = uri.1 in
-    let e : length (handle ++ uri_text false suffix) ≡ length handle + length (uri_text false suffix) = length-append handle (uri_text false suffix) in
-    (above_append handle (uri_text false suffix) (handle_above handle shaped) uri.0, omega (arith, e, l))
-split_above (verbatim tag) u =
-    let uri = uri_above true tag in
-    let l = uri.1 in
-    let e : length (uri_text true tag ++ 62 ∷ []) ≡ length (uri_text true tag) + 1 = length-append (uri_text true tag) (62 ∷ []) in
-    ((omega arith, (omega arith, above_append (uri_text true tag) (62 ∷ []) uri.0 (omega arith, tt))), omega (arith, e, l))
+split_above split u = grind (arith, nat_tests, uri_above, length-append, above_append, handle_above)
 
 -- A handle is in ASCII.
 pub marked_ascii : (xs : List ℕ) → IsMarked xs → are_ascii xs ≡ true
@@ -159,11 +136,7 @@ block_key false flow s = refl
 taken_key : (a : Allowed) (s : yaml_scalar_style_t) (untagged flow empty : Bool)
     → is_key_style (taken a s untagged flow true empty) ≡ true
 unfolding taken
-taken_key a asked.YAML_SINGLE_QUOTED_SCALAR_STYLE untagged flow empty = single_key a
-taken_key a asked.YAML_DOUBLE_QUOTED_SCALAR_STYLE untagged flow empty = refl
-taken_key a asked.YAML_LITERAL_SCALAR_STYLE untagged flow empty = block_key a.block flow style.Literal
-taken_key a asked.YAML_FOLDED_SCALAR_STYLE untagged flow empty = block_key a.block flow style.Folded
-taken_key a _ untagged flow empty = plain_key a untagged flow empty
+taken_key a s untagged flow empty = grind (arith, nat_tests, single_key, block_key, plain_key)
 
 style_key : (p : Context) (flow : Bool) (n : ℕ) (x : Scalar)
     → is_key_style (style_of p (position flow n part.SimpleKey) x) ≡ true
@@ -221,13 +194,7 @@ at_most a b h = grind (arith, nat_tests)
 
 simply : (p : Context) (x : Scalar) → is_simple_scalar p x ≡ true → Simply p x
 unfolding is_simple_scalar
-simply p x h =
-    let more = (and_parts (not p.settings.canonical) _ h).1 in
-    record {
-      canonical = not-true p.settings.canonical (and_parts (not p.settings.canonical) _ h).0;
-      breaks = not-true (has_break x.value) (and_parts (not (has_break x.value)) _ more).0;
-      few = at_most _ 128 (and_parts (not (has_break x.value)) (nat_le (properties_size p x.anchor (scalar_tag false x) + length x.value) 128) more).1;
-    }
+simply p x h = grind (arith, nat_tests, at_most)
 
 near_scalar : (s : Settings) (o : Opening) → IsWritableOpening o → (x : Scalar)
     → IsWritableAnchor x.anchor → IsWritableTag x.tag → IsUtf8 x.value
@@ -315,13 +282,7 @@ near_close s n x c sign =
 
 empty_flow : (s : Settings) (flow : Bool) (n : ℕ) (q : Start)
     → is_flow s (position flow n part.SimpleKey) q true ≡ true
-empty_flow s flow n q = all s.canonical flow q.flow
-  where
-    all : (a b d : Bool) → (a || (b || (d || true))) ≡ true
-    all true b d = refl
-    all false true d = refl
-    all false false true = refl
-    all false false false = refl
+empty_flow s flow n q = grind (arith, nat_tests)
 
 in_brackets : (b : Bool) (P : Bool → Type 0) → b ≡ true → P true → P b
 in_brackets true P e h = h

@@ -231,18 +231,10 @@ record Parts : Type 0 where
 
 -- what is walked as a node is no simple key
 place_whole : (around : Option ℕ) (q : Part) → is_place around q ≡ true → is_simple_part q ≡ false
-place_whole None part.SimpleKey e = absurd (cc)
-place_whole (Some n) part.Item e = refl
-place_whole (Some n) part.Key e = refl
-place_whole (Some n) part.SimpleKey e = absurd (cc)
-place_whole (Some n) part.Value e = refl
-place_whole None _ e = refl
+place_whole around q e = grind arith
 
 none_flows : (a b c : Bool) → (a || (b || (c || true))) ≡ false → ⊥
-none_flows true b c e = absurd (cc)
-none_flows false true c e = absurd (cc)
-none_flows false false true e = absurd (cc)
-none_flows false false false e = absurd (cc)
+none_flows a b c e = grind arith
 
 mutual
   node_on : Parts → (s : Settings) (d : Opening) → IsPretty s d → (y : Node) → IsWritable y

@@ -1,6 +1,6 @@
 -- The words of a node, and of what it holds.
 use Rattle.std.proofs.Common.{◌≡◌, ℕ, suc, ◌+◌, ◌-◌, ◌<◌, ◌&&◌, not, nat_lt, Bool, true, false, List, [], ◌∷◌, Option, Some, None, refl, sym, ap, subst, ◌∙◌, arith, if◌then◌else◌, chars}
-use Rattle.yaml_emit_laws.proofs.Shared.{GapReads, AnchorReads, Kind, YAML_DOUBLE_QUOTED_SCALAR_STYLE, TokenBody, TagDirective, Cursor, Settings, LineBreak, Lf, Cr, CrLf, Layout, Rest, ◌▹◌, gap, blank, char, letters, word, when, stay, opener, line, new_line, must_break, indent_to, tag_spelling, quoted_text, scalar_text, NodePosition, Opening, Scalar, Start, Node, alias_node, scalar_node, sequence_node, mapping_node, Nodes, no_nodes, node, Pairs, no_pairs, pair, has, Context, context_of, is_simple_part, position, key_part, deeper, checked, MOST, anchor_text, tag_text, page_at, style_of, scalar_layout, alias_layout, is_simple, is_simple_scalar, is_simple_alias, is_simple_start, turned, before_item, before_key, before_value, closer, node_layout, items_layout, pairs_layout, put_if, properties_kinds, node_kinds, items_kinds, pairs_kinds, anchor_bodies, tag_bodies, mark_bodies, node_bodies, items_bodies, pairs_bodies, bytes, Walks, first, parts, Parts, IsWritableOpening, IsWritableAnchor, IsWritableTag, IsWritable, AreItemsWritable, ArePairsWritable, QuotedIsReadBack, NodesAreWords}
+use Rattle.yaml_emit_laws.proofs.Shared.{GapReads, AnchorReads, Kind, YAML_DOUBLE_QUOTED_SCALAR_STYLE, TokenBody, TagDirective, Cursor, Settings, LineBreak, Layout, Rest, ◌▹◌, gap, blank, char, letters, word, when, stay, opener, line, tag_spelling, quoted_text, scalar_text, NodePosition, Opening, Scalar, Start, Node, alias_node, scalar_node, sequence_node, mapping_node, Nodes, no_nodes, node, Pairs, no_pairs, pair, has, Context, context_of, is_simple_part, position, key_part, deeper, checked, MOST, anchor_text, tag_text, page_at, style_of, scalar_layout, alias_layout, is_simple, is_simple_scalar, is_simple_alias, is_simple_start, turned, before_item, before_key, before_value, closer, node_layout, items_layout, pairs_layout, put_if, properties_kinds, node_kinds, items_kinds, pairs_kinds, anchor_bodies, tag_bodies, mark_bodies, node_bodies, items_bodies, pairs_bodies, bytes, Walks, first, parts, Parts, IsWritableOpening, IsWritableAnchor, IsWritableTag, IsWritable, AreItemsWritable, ArePairsWritable, QuotedIsReadBack, NodesAreWords}
 use Rattle.yaml_scan_history.specs.declared.kind.Kind.TheVariants as kinds
 use Rattle.yaml_emit_layout.specs.scan_types.Tokens as tokens
 use Rattle.yaml_emit_layout.specs.declared.level.Part.TheVariants as part
@@ -122,15 +122,7 @@ alias_goes law names name (some, are) at off d c rest ends =
 pub line_parts : (b : LineBreak) (n : ℕ) (a : Layout) (rest : Rest)
     → Parts (λ c. (line b n ▹ a) c rest)
 unfolding line
-line_parts b n a rest e bare =
-    let must : must_break n e ≡ true = rw bare refl in
-    let k : Rest = λ c. indent_to n c (λ x. a x rest) in
-    subst (λ (t : Bool). parts (first (bytes (if t then new_line b e k else k e))) ≡ true) (sym must) (broken b e k)
-  where
-    broken : (b : LineBreak) (e : Cursor) (k : Rest) → parts (first (bytes (new_line b e k))) ≡ true
-    broken Lf e k = ap (λ (bs : List ℕ). parts (first bs)) (letter_low 10 _ refl)
-    broken Cr e k = ap (λ (bs : List ℕ). parts (first bs)) (letter_low 13 _ refl)
-    broken CrLf e k = ap (λ (bs : List ℕ). parts (first bs)) (letter_low 13 _ refl)
+line_parts b n a rest e bare = grind (arith, letter_low)
 
 comma_parts : (a : Layout) (rest : Rest) → Parts (λ c. (char 44 ▹ a) c rest)
 comma_parts a rest e bare = ap (λ (bs : List ℕ). parts (first bs)) (letter_low 44 _ refl)

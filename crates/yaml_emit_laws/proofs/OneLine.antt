@@ -1,6 +1,6 @@
 -- Texts without breaks: characters of a value that has none, and places on one line.
-use Rattle.std.proofs.Common.{◌≡◌, ℕ, zero, suc, ◌+◌, ◌/◌, ◌%◌, ◌<◌, ◌≤◌, Bool, true, false, not, ◌==◌, nat_le, nat_lt, List, [], ◌∷◌, ◌++◌, length, refl, sym, ap, subst, ◌∙◌, inl, inr, arith, add-one, add-zero, encode_utf8, encode_utf8_all, IsUtf8, length-append, chars}
-use Rattle.yaml_emit_laws.proofs.ScalarWords.{cases_lt, true≢false, eqb-true, and_parts, not-true, or_parts, nat_tests, encodes-chars, byte, break_of, line_at, breaks_at, any_below, line_more, Has, has, has_front, has_rest, is_break, is_one_line, encode_1, encode_2, encode_3, encode_4, low_end, first_end, second_end, third_end, NearIsFresh, ends_2, ends_1, bool_cases}
+use Rattle.std.proofs.Common.{◌≡◌, ℕ, zero, suc, ◌+◌, ◌/◌, ◌%◌, ◌<◌, ◌≤◌, Bool, true, false, not, nat_lt, List, [], ◌∷◌, ◌++◌, length, refl, sym, ap, subst, ◌∙◌, inl, inr, arith, add-one, add-zero, encode_utf8, encode_utf8_all, IsUtf8, length-append, chars}
+use Rattle.yaml_emit_laws.proofs.ScalarWords.{cases_lt, true≢false, and_parts, not-true, or_parts, nat_tests, encodes-chars, byte, break_of, line_at, breaks_at, any_below, line_more, Has, has, has_front, has_rest, is_break, is_one_line, encode_1, encode_2, encode_3, encode_4, low_end, first_end, second_end, third_end, NearIsFresh, ends_2, ends_1, bool_cases}
 use Rattle.yaml_emit_layout.specs.scan_types.Classes.{has_break}
 use Rattle.yaml_scan_laws.proofs.CutsWords.{break_byte}
 use Rattle.yaml_emit_laws.proofs.Values.{encoded_front}
@@ -37,14 +37,7 @@ wide_here text p d h (a, (b, (e, u))) =
 -- where there is such a character, there is a break
 break_here : (text : List ℕ) (p x : ℕ) → is_break x ≡ true → Has text p (encode_utf8 x)
     → breaks_at text p ≡ true
-break_here text p x h at =
-    bool_cases (x == 10) (λ e. let k = (subst (λ (bs : List ℕ). Has text p bs) (encode_1 x (let f = eqb-true x 10 e in omega (arith, f))) at).0 in break_byte (byte text p) _ _ (inl (k ∙ eqb-true x 10 e))) (λ a.
-    bool_cases (x == 13) (λ e. let k = (subst (λ (bs : List ℕ). Has text p bs) (encode_1 x (let f = eqb-true x 13 e in omega (arith, f))) at).0 in break_byte (byte text p) _ _ (inr (k ∙ eqb-true x 13 e))) (λ b.
-    bool_cases (x == 0x85) (λ e. nel_here text p (subst (λ (bs : List ℕ). Has text p bs) (ap (λ k. encode_utf8 k) (eqb-true x 0x85 e) ∙ encode_2 0x85 (omega arith) (omega arith)) at)) (λ c.
-    bool_cases (x == 0x2028) (λ e. wide_here text p 0xA8 ls_break (subst (λ (bs : List ℕ). Has text p bs) (ap (λ k. encode_utf8 k) (eqb-true x 0x2028 e) ∙ encode_3 0x2028 (omega arith) (omega arith)) at)) (λ d.
-    bool_cases (x == 0x2029) (λ e. wide_here text p 0xA9 ps_break (subst (λ (bs : List ℕ). Has text p bs) (ap (λ k. encode_utf8 k) (eqb-true x 0x2029 e) ∙ encode_3 0x2029 (omega arith) (omega arith)) at)) (λ f.
-    let none : is_break x ≡ false = rw (a, b, c, d, f) refl in
-    absurd (true≢false (sym h ∙ none)))))))
+break_here text p x h at = grind (arith, nat_tests, encode_1, break_byte, nel_here, encode_utf8, encode_2, wide_here, ls_break, encode_3, ps_break)
 
 some_bytes : (c : ℕ) → 0 < length (encode_utf8 c)
 some_bytes c = let s = encoded_front c in subst (λ (bs : List ℕ). 0 < length bs) (sym s.is) (omega arith)
@@ -139,21 +132,7 @@ line_step text p = rw add-one (omega arith)
 
 line_grows : (text : List ℕ) (p k : ℕ) → line_at text p ≤ line_at text (p + k)
 line_grows text p zero = let z : p + 0 ≡ p = omega arith in rw z (omega arith)
-line_grows text p (suc k) =
-    let far : p + suc k ≡ p + k + 1 = omega arith in
-    let more = line_grows text p k in
-    let one = line_step text (p + k) in
-    rw far (omega (arith, more, one))
+line_grows text p (suc k) = grind (arith, nat_tests, line_step, line_grows text p k)
 
 pub near_fresh : NearIsFresh
-near_fresh a c n most near text p h k =
-    let m = length (encode_utf8_all near.shown) in
-    let same = line_chars text p near.shown near.inside (has text p (encode_utf8_all near.shown) h) in
-    let up = line_grows text p k in
-    let few = near.few in
-    let on : nat_le (line_at text (p + m)) (line_at text (p + k)) ≡ true = at_most (line_at text (p + m)) (line_at text (p + k)) (omega (arith, same, up)) in
-    let close : nat_le (p + m) (p + k + 1024) ≡ true = at_most (p + m) (p + k + 1024) (omega (arith, few, most)) in
-    rw (on, close) refl
-  where
-    at_most : (a b : ℕ) → a ≤ b → nat_le a b ≡ true
-    at_most a b h = grind (arith, nat_tests)
+near_fresh a c n most near text p h k = grind (arith, nat_tests, encode_utf8_all, line_chars, has, line_grows)

@@ -1,5 +1,5 @@
 -- A mapping's keys and values, two by two: what is said of the items that they are together holds of the pairs.
-use Rattle.std.proofs.Common.{◌≡◌, ◌+◌, ℕ, ℤ, List, [], ◌∷◌, ◌++◌, length, Result, Ok, Err, refl, ap, ◌∙◌}
+use Rattle.std.proofs.Common.{◌≡◌, ◌+◌, ℕ, ℤ, List, [], ◌∷◌, ◌++◌, length, Result, Ok, Err, refl, ap, ◌∙◌, arith}
 use Rattle.yaml_emit_laws.proofs.DumpsWords.{yaml_node_pair_t, Fault, Node, Anchored, Numbered, ◌>>=◌, number, number_items, number_pairs, pair_numbers, Met, items_by, pairs_by, as_content, as_contents, as_pairs, AreAsMany}
 use Rattle.yaml_emit_graph.specs.emit_layout.Content as emit
 
@@ -88,7 +88,4 @@ pub paired_numbers : (ps : List yaml_node_pair_t) (vs : emit.Nodes) (count : ℕ
     ≡ Ok (record { number = pair_numbers ps; nodes = nodes; before = after })
     → number_pairs (as_pairs (paired vs)) count before
     ≡ Ok (record { number = ps; nodes = nodes; before = after })
-paired_numbers ps vs count before nodes after h e =
-    numbered_by_two vs count before (are_even vs ps h)
-    ∙ ap (λ r. r >>= two) e
-    ∙ ap (λ (qs : List yaml_node_pair_t). Ok (record { number = qs; nodes = nodes; before = after })) (numbers_paired ps)
+paired_numbers ps vs count before nodes after h e = grind (arith, numbered_by_two, are_even, numbers_paired)

@@ -1,7 +1,6 @@
 -- All parts of a spelling are read, and what they mean.
-use Rattle.std.proofs.Common.{◌≡◌, ℕ, zero, suc, ◌+◌, ◌<◌, ◌≤◌, true, false, ◌==◌, List, [], ◌∷◌, ◌++◌, length, Result, Ok, Err, refl, sym, ap, subst, ◌∙◌, inl, inr, arith, append_assoc, encode_utf8, length-append}
-use Rattle.yaml_emit_laws.proofs.Shared.{cases_Bool, and_parts, not-true, or_parts, ne_eqb, eqb-false, nat_tests, byte, starts, column_at, is_blank, is_document_indicator, Wrong, Piece, Kept, Blank, value, QuotedSpot, Closing, Pieces, Bad, quote_at, standing_at, with_front, followed, pieces, valued, quoted_at, double_quoted_at, single_quoted_at, QuotedPart, raw, doubled, named, numbered, joint, spelling, meaning, is_line_end, may_be_raw, MayStand, IsSpelling, quoted, within, has_rest, has_front}
-use lib.Utf8.{scalar}
+use Rattle.std.proofs.Common.{◌≡◌, ℕ, zero, suc, ◌+◌, ◌<◌, ◌≤◌, true, false, List, [], ◌∷◌, ◌++◌, length, Result, Ok, Err, refl, sym, ap, subst, ◌∙◌, inl, inr, arith, append_assoc, encode_utf8, length-append}
+use Rattle.yaml_emit_laws.proofs.Shared.{cases_Bool, ne_eqb, nat_tests, byte, starts, column_at, is_blank, is_document_indicator, Wrong, Piece, Kept, Blank, value, QuotedSpot, Closing, Pieces, Bad, quote_at, standing_at, with_front, followed, pieces, valued, quoted_at, double_quoted_at, single_quoted_at, QuotedPart, raw, doubled, named, numbered, joint, spelling, meaning, may_be_raw, MayStand, IsSpelling, quoted, within, has_rest, has_front}
 use Rattle.yaml_emit_laws.specs.Stands.{HasAt}
 use Rattle.yaml_emit_laws.specs.Spelling.{fold, spelled}
 use Rattle.yaml_emit_laws.proofs.Chars.{encode_1}
@@ -15,26 +14,7 @@ use Rattle.yaml_emit_laws.proofs.Pieces.{top_of}
 -- ---- characters
 
 raw_is : (quote c : ℕ) → may_be_raw quote c ≡ true → Raw quote c
-raw_is quote c h =
-    let s = (and_parts (scalar c) _ h).0 in
-    let all = not-true _ (and_parts (scalar c) _ h).1 in
-    let ends = (or_parts (is_line_end c) _ all).0 in
-    let more = (or_parts (is_line_end c) _ all).1 in
-    let e13 = (or_parts (c == 10) _ ends).1 in
-    let e85 = (or_parts (c == 13) _ e13).1 in
-    let e28 = (or_parts (c == 0x85) _ e85).1 in
-    let past_end = (or_parts (c == 0) _ more).1 in
-    record {
-      no_feed = eqb-false c 10 (or_parts (c == 10) _ ends).0;
-      no_return = eqb-false c 13 (or_parts (c == 13) _ e13).0;
-      no_next_line = eqb-false c 0x85 (or_parts (c == 0x85) _ e85).0;
-      no_line = eqb-false c 0x2028 (or_parts (c == 0x2028) _ e28).0;
-      no_paragraph = eqb-false c 0x2029 (or_parts (c == 0x2028) _ e28).1;
-      no_end = (or_parts (c == 0) _ more).0;
-      no_quote = (or_parts (c == quote) _ past_end).0;
-      no_slash = (or_parts (c == quote) _ past_end).1;
-      top = top_of c s;
-    }
+raw_is quote c h = grind (arith, nat_tests, top_of)
 
 raw_part : (quote : ℕ) (text : List ℕ) (p c : ℕ) → IsQuote quote → may_be_raw quote c ≡ true
     → 0 < column_at text p → Has text p (encode_utf8 c)

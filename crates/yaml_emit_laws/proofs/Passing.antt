@@ -1,5 +1,5 @@
 -- A list of events of which none is refused goes on to the end of a stream.
-use Rattle.std.proofs.Common.{◌≡◌, Bool, true, false, List, [], ◌∷◌, ◌++◌, Option, Some, None, refl, sym, ap, ◌∙◌, subst, append-nil}
+use Rattle.std.proofs.Common.{◌≡◌, Bool, true, false, List, [], ◌∷◌, ◌++◌, Option, Some, None, refl, sym, ap, ◌∙◌, subst, append-nil, arith}
 use Rattle.yaml_emit_graph.specs.scan_model.declared.name.yaml_encoding_t.{yaml_encoding_t}
 use Rattle.yaml_emit_graph.specs.scan_model.declared.name.yaml_encoding_t.TheVariants.{YAML_ANY_ENCODING}
 use Rattle.yaml_emit_laws.proofs.DumpsWords.{YAML_ANY_SCALAR_STYLE, Problem, Expected, Scalar, alias_node, scalar_node, sequence_node, mapping_node, Nodes, no_nodes, node, Pairs, no_pairs, pair, Event, stream_start, stream_end, document_start, document_end, alias, scalar, sequence_start, sequence_end, mapping_start, mapping_end, node_events, items_events, pairs_events, documents_events, stream_events, or_else, event_problem, last_problem, node_problem, place_problem, problem_by, own_problem, own_problems, Due, item_due, key_due, value_due, Progress, inside, behind_node, first_progress, progress_after, level_due, problem_in, first_refusal, progress_behind, IsEmittable, PassedAreStreams, PassedAreFronts, RightStreamsHaveTexts}
@@ -196,10 +196,7 @@ inside_right false (value_due ∷ due) = inside_right false due
 closing_right : (canonical : Bool) (p : Expected) (due : List Due)
     → own_problems canonical (closing p due) ≡ None
 unfolding own_problems event_problem last_problem
-closing_right true at.Node [] = refl
-closing_right false at.Node [] = refl
-closing_right canonical at.Node (d ∷ due) = inside_right canonical (d ∷ due)
-closing_right canonical _ due = refl
+closing_right canonical p due = grind (arith, inside_right)
 
 -- ---- a whole list
 
@@ -221,10 +218,7 @@ record Passes (canonical : Bool) (h : Progress) (e : Event) : Type 0 where
 passes : (canonical : Bool) (h : Progress) (e : Event) → problem_in canonical h e ≡ None
     → Passes canonical h e
 unfolding problem_by
-passes canonical h e r =
-    let a = or_both (event_problem canonical e) _ r in
-    let b = or_both (place_problem h.place (level_due h.due) e) (last_problem e) a.1 in
-    record { there = b.0; right = or_none _ _ a.0 b.1 }
+passes canonical h e r = grind (arith, or_both, or_none)
 
 abbrev closing_behind : Progress → List Event → List Event
 closing_behind h es = closing (progress_behind h es).place (progress_behind h es).due

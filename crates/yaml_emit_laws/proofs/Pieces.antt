@@ -1,6 +1,6 @@
 -- The URIs that an emitter writes, as pieces.
-use Rattle.std.proofs.Common.{◌≡◌, inl, inr, ℕ, suc, ◌+◌, ◌-◌, ◌/◌, ◌%◌, ◌<◌, ◌≤◌, Bool, true, false, ◌&&◌, ◌||◌, ◌==◌, nat_lt, nat_le, if◌then◌else◌, List, [], ◌∷◌, ◌++◌, length, Ok, refl, sym, ap, subst, ◌∙◌, arith, encode_utf8, encode_utf8_all, IsUtf8}
-use Rattle.yaml_emit_laws.proofs.Shared.{cases_Bool, cases_lt, and_parts, nat_tests, scalar_cases, is_alpha_byte, is_digit_byte, is_punctuation, is_wide_punctuation, due_behind, UriPiece, escape, capital, piece_text, piece_byte, uri_bytes, is_kept, IsUri, has_no_mark, hex_2, suffix_keeps, keeps_byte, uri_byte, uri_text}
+use Rattle.std.proofs.Common.{◌≡◌, inl, inr, ℕ, suc, ◌+◌, ◌-◌, ◌/◌, ◌%◌, ◌<◌, ◌≤◌, Bool, true, false, ◌&&◌, ◌||◌, ◌==◌, nat_le, if◌then◌else◌, List, [], ◌∷◌, ◌++◌, length, Ok, refl, sym, ap, subst, ◌∙◌, arith, encode_utf8, encode_utf8_all, IsUtf8}
+use Rattle.yaml_emit_laws.proofs.Shared.{cases_lt, and_parts, nat_tests, scalar_cases, is_alpha_byte, is_digit_byte, is_punctuation, is_wide_punctuation, due_behind, UriPiece, escape, capital, piece_text, piece_byte, uri_bytes, is_kept, IsUri, has_no_mark, hex_2, suffix_keeps, keeps_byte, uri_byte, uri_text}
 use lib.Utf8.{scalar, scalars}
 use Rattle.yaml_scan_history.specs.Written as written
 use Rattle.yaml_scan_history.specs.Written.{raw}
@@ -19,11 +19,7 @@ pieces_of wide (b ∷ bs) = piece_by (keeps_byte wide b) b ∷ pieces_of wide bs
 
 digit_same : (d : ℕ) → capital d ≡ hex_digit d
 unfolding capital hex_digit
-digit_same d =
-    elim (cases_Bool (nat_lt d 10)) [
-      | inl t ↦ rw t (omega arith)
-      | inr t ↦ rw t (omega arith)
-    ]
+digit_same d = grind (arith, nat_tests)
 
 text_by : (kept : Bool) (b : ℕ)
     → piece_text (piece_by kept b) ≡ (if kept then b ∷ [] else 37 ∷ hex_2 b)
@@ -56,14 +52,7 @@ unfolding suffix_keeps
 mark_unkept e = cc
 
 mark_not : (b : ℕ) → suffix_keeps b ≡ true → (b == 33) ≡ false
-mark_not b e =
-    elim (cases_Bool (b == 33)) [
-      | inr t ↦ t
-      | inl t ↦
-          let same : b ≡ 33 = grind (arith, nat_tests) in
-          let P : ℕ → Type 0 = λ x. suffix_keeps x ≡ true in
-          absurd (mark_unkept (subst P same e))
-    ]
+mark_not b e = grind (arith, nat_tests, mark_unkept)
 
 unmarked_by : (kept : Bool) (b : ℕ) (pieces : List UriPiece) → (kept ≡ true → (b == 33) ≡ false)
     → has_no_mark pieces ≡ true → has_no_mark (piece_by kept b ∷ pieces) ≡ true
@@ -97,41 +86,19 @@ due_low b h = let t : nat_le b 0x7F ≡ true = grind (arith, nat_tests) in rw t 
 
 due_two : (b : ℕ) → 192 ≤ b → b ≤ 223 → due_behind b 0 ≡ Ok 1
 unfolding due_behind
-due_two b h g =
-    let t : nat_le b 0x7F ≡ false = grind (arith, nat_tests) in
-    let u : nat_le 0xC0 b ≡ true = grind (arith, nat_tests) in
-    let v : nat_le b 0xDF ≡ true = grind (arith, nat_tests) in
-    rw (t, u, v) refl
+due_two b h g = grind (arith, nat_tests)
 
 due_three : (b : ℕ) → 224 ≤ b → b ≤ 239 → due_behind b 0 ≡ Ok 2
 unfolding due_behind
-due_three b h g =
-    let t : nat_le b 0x7F ≡ false = grind (arith, nat_tests) in
-    let u : nat_le b 0xDF ≡ false = grind (arith, nat_tests) in
-    let x : nat_le 0xC0 b ≡ true = grind (arith, nat_tests) in
-    let v : nat_le 0xE0 b ≡ true = grind (arith, nat_tests) in
-    let w : nat_le b 0xEF ≡ true = grind (arith, nat_tests) in
-    rw (t, x, u, v, w) refl
+due_three b h g = grind (arith, nat_tests)
 
 due_four : (b : ℕ) → 240 ≤ b → b ≤ 247 → due_behind b 0 ≡ Ok 3
 unfolding due_behind
-due_four b h g =
-    let t : nat_le b 0x7F ≡ false = grind (arith, nat_tests) in
-    let u : nat_le b 0xDF ≡ false = grind (arith, nat_tests) in
-    let x : nat_le 0xC0 b ≡ true = grind (arith, nat_tests) in
-    let v : nat_le 0xE0 b ≡ true = grind (arith, nat_tests) in
-    let w : nat_le b 0xEF ≡ false = grind (arith, nat_tests) in
-    let y : nat_le 0xF0 b ≡ true = grind (arith, nat_tests) in
-    let z : nat_le b 0xF7 ≡ true = grind (arith, nat_tests) in
-    rw (t, x, u, v, w, y, z) refl
+due_four b h g = grind (arith, nat_tests)
 
 due_trail : (b due : ℕ) → 128 ≤ b → b ≤ 191 → 0 < due → due_behind b due ≡ Ok (due - 1)
 unfolding due_behind
-due_trail b due h g some =
-    let t : nat_lt 0 due ≡ true = grind (arith, nat_tests) in
-    let u : nat_le 0x80 b ≡ true = grind (arith, nat_tests) in
-    let v : nat_le b 0xBF ≡ true = grind (arith, nat_tests) in
-    rw (t, u, v) refl
+due_trail b due h g some = grind (arith, nat_tests)
 
 low_by : (wide kept : Bool) (b : ℕ) (pieces : List UriPiece) → b < 128
     → (kept ≡ true → is_kept wide b ≡ true) → IsUri wide 0 pieces

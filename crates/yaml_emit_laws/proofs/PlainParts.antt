@@ -1,8 +1,7 @@
 -- How a plain scalar's parts are read: characters, single spaces and folds.
 use Rattle.std.proofs.Common.{◌≡◌, ◌≢◌, ℕ, zero, suc, ◌+◌, ◌<◌, ◌≤◌, Bool, true, false, ◌&&◌, ◌==◌, nat_lt, List, [], ◌∷◌, ◌++◌, length, replicate, refl, sym, ap, subst, ◌∙◌, inl, inr, arith, add-zero, encode_utf8, ◌||◌, Result, Ok, append-nil, length-append}
-use Rattle.yaml_emit_laws.proofs.ScalarWords.{cases_Bool, cases_lt, true≢false, le-ltb, ne_eqb, and_parts, nat_tests, and-false, byte, break_of, break_width, ends_break, column_at, is_blank, is_blank_or_end, starts, break_value, feed_at, Piece, Kept, Blank, Break, value_of, is_bracket, after_white, leads, Takes, spot_at, is_nothing, with_piece, words_from, PlainText, plain_with, plain_text, plain_at, leads-blank, white-blank, spot_blank, spot_break, lead_break, blank_inside, past_break, column_more, within, Has, has_front, has_rest, first, last_or, LineEnd, feed, return, return_feed, next_line, line_separator, paragraph_separator, end_bytes, end_means, QuotedPart, raw, doubled, named, numbered, fold, joint, spelling, LineTurn, turn_bytes, meaning, IsSpelling, encode_1, keeps, blanks_of, read_as, all_read_as, raw_kept, raw_blank, turns_read, spelling_value, calm_end, calm_break, calm_from, column_on, column_start, Wrong, are_gap, has_break, space_encodes}
-use Rattle.yaml_scan_history.specs.Plain.{Words}
-use Rattle.yaml_emit_laws.proofs.Standing.{Read, read_blank, read_break, InLine, Stays, Through, CharAt, Plainly, char_at, through_byte, through_both, no_tab, space_blank, sealed, stand_behind, kept_sealed, positive, Stops, gap_words}
+use Rattle.yaml_emit_laws.proofs.ScalarWords.{cases_Bool, true≢false, le-ltb, ne_eqb, and_parts, nat_tests, and-false, byte, break_of, break_width, ends_break, column_at, is_blank, is_blank_or_end, starts, break_value, feed_at, Piece, Kept, Blank, Break, value_of, is_bracket, after_white, leads, Takes, spot_at, is_nothing, PlainText, plain_at, leads-blank, white-blank, spot_blank, spot_break, lead_break, blank_inside, past_break, column_more, within, Has, has_front, has_rest, first, last_or, LineEnd, feed, return, return_feed, next_line, line_separator, paragraph_separator, end_bytes, end_means, QuotedPart, raw, doubled, named, numbered, fold, joint, spelling, LineTurn, turn_bytes, meaning, IsSpelling, encode_1, keeps, blanks_of, read_as, all_read_as, raw_kept, raw_blank, turns_read, spelling_value, calm_end, calm_break, calm_from, column_on, column_start, Wrong, are_gap, has_break, space_encodes}
+use Rattle.yaml_emit_laws.proofs.Standing.{Read, read_blank, read_break, InLine, Stays, Through, CharAt, Plainly, char_at, through_byte, through_both, no_tab, space_blank, stand_behind, kept_sealed, positive, Stops, gap_words}
 use Rattle.yaml_emit_laws.proofs.Turns.{length_spaces}
 use Rattle.yaml_emit_laws.proofs.Values.{encoded_front}
 
@@ -58,37 +57,14 @@ pub record Firm (text : List ℕ) (p x : ℕ) : Type 0 where
 
 pub firm : (flow : Bool) (level : ℕ) (text : List ℕ) (p x : ℕ) (bytes : List ℕ)
     → CharAt flow level text p x bytes → Firm text p x
-firm flow level text p x bytes c =
-    let here = c.here in
-    elim (cases_lt x 128) [
-      | inl l ↦
-          let e : byte text p ≡ x = here ∙ c.low l in
-          record {
-            blank = λ m n. ap (λ k. is_blank k) e ∙ (rw (ne_eqb x 32 m, ne_eqb x 9 n) refl);
-            some = λ m. ap (λ k. k == 0) e ∙ ne_eqb x 0 m;
-            same = λ k small f. sym e ∙ f;
-          }
-      | inr l ↦
-          let big = c.high l in
-          record {
-            blank = λ m n. ap (λ k. is_blank k) here ∙ (grind (arith, nat_tests));
-            some = λ m. ap (λ k. k == 0) here ∙ ne_eqb c.first 0 (λ f. omega arith);
-            same = λ k small f. absurd (omega (arith, here, big, f, small));
-          }
-    ]
+firm flow level text p x bytes c = grind (arith, nat_tests)
 
 -- after a colon there is something
 abbrev pub FirmNext : List ℕ → ℕ → ℕ → Type 0
 FirmNext text p x = x ≡ 58 → is_blank_or_end text (p + 1) ≡ false
 
 pub when_is : (b : ℕ) (k : ℕ) (t : Bool) → (b ≡ k → t ≡ false) → (b == k && t) ≡ false
-when_is b k t f = elim (cases_Bool (b == k)) [
-  | inl e ↦ rw e (f (equal b k e))
-  | inr e ↦ rw e refl
-]
-  where
-    equal : (b k : ℕ) → (b == k) ≡ true → b ≡ k
-    equal b k e = grind (arith, nat_tests)
+when_is b k t f = grind (arith, nat_tests)
 
 bracket_is : (flow : Bool) (text : List ℕ) (p x : ℕ) → Firm text p x
     → (flow && is_bracket x) ≡ false → (flow && is_bracket (byte text p)) ≡ false
@@ -133,10 +109,7 @@ char_through flow level text p before x next g space n s h =
 
 pub space_spot : (flow : Bool) (level : ℕ) (text : List ℕ) (p : ℕ) → byte text p ≡ 32
     → spot_at flow level text p ≡ Takes (Blank 32) (p + 1)
-space_spot flow level text p h =
-    let calm = calm_from 32 (omega arith) (omega arith) in
-    spot_blank flow level text p (rw h (calm_break 32 _ _ calm)) (space_blank (byte text p) h) (no_tab (byte text p) (leads text p && nat_lt (column_at text p) level) h)
-    ∙ ap (λ b. Takes (Blank b) (p + 1)) h
+space_spot flow level text p h = grind (arith, nat_tests, calm_from, spot_blank, calm_break, space_blank, no_tab)
 
 -- columns and lines after a space
 pub record Spaced (text : List ℕ) (p : ℕ) : Type 0 where
@@ -160,22 +133,13 @@ further true m n level e h = grind (arith, nat_tests)
 
 pub stand_space : (level : ℕ) (text : List ℕ) (p before : ℕ) → byte text p ≡ 32
     → InLine level text p before → InLine level text (p + 1) 32
-stand_space level text p before h s =
-    let d = spaced text p h in
-    record {
-      column = column_on text p d.ends s.column;
-      inner = ap (λ b. b && nat_lt (column_at text (p + 1)) level) d.leading ∙ further (leads text p) (column_at text p) (column_at text (p + 1)) level d.column s.inner;
-      white = λ e. refl;
-    }
+stand_space level text p before h s = grind (arith, nat_tests, spaced, column_on, further)
 
 -- ---- a fold
 
 lined_up : (text : List ℕ) (q k n : ℕ) → Has text q (replicate n 32) → column_at text q ≡ k
     → leads text q ≡ true → (column_at text (q + n) ≡ k + n) × (leads text (q + n) ≡ true)
-lined_up text q k zero h c l =
-    let z : q + 0 ≡ q = omega arith in
-    let y : k + 0 ≡ k = omega arith in
-    rw (z, y) (c, l)
+lined_up text q k zero h c l = grind (arith, nat_tests)
 lined_up text q k (suc n) (e, h) c l =
     let d = spaced text q e in
     let far : q + suc n ≡ q + 1 + n = omega arith in
@@ -332,10 +296,7 @@ append_long : (p : ℕ) (xs ys : List ℕ) → p + length xs + length ys ≡ p +
 append_long p xs ys = let e : length (xs ++ ys) ≡ length xs + length ys = length-append xs ys in omega (arith, e)
 
 same_space : (c x : ℕ) → c ≡ x → (x == 32) ≡ true → c ≡ 32
-same_space c x e h = e ∙ equal x 32 h
-  where
-    equal : (b k : ℕ) → (b == k) ≡ true → b ≡ k
-    equal b k e = grind (arith, nat_tests)
+same_space c x e h = grind (arith, nat_tests)
 
 no_space : (x : ℕ) → (x == 32) ≡ false → x ≢ 32
 no_space x h e = true≢false (sym (ap (λ k. k == 32) e) ∙ h)
@@ -395,10 +356,7 @@ parts_read flow level m text p before (fold t [] ∷ ps) (x ∷ xs) deep (e, s) 
     (subst (λ (rs : List Piece). ReadsOn flow level text p (p + length ((end_bytes t.end ++ replicate n 32) ++ spelling ps)) (rs ++ all_read_as ps)) (sym pieces)
     (subst (λ k. ReadsOn flow level text p k ((Break (end_means t.end) ∷ blanks_of n) ++ all_read_as ps)) (ap (λ k. k + length (spelling ps)) far ∙ append_long p (end_bytes t.end ++ replicate n 32) (spelling ps))
     (λ place broke r. f.reads (all_read_as ps) (q + length (spelling ps)) place broke some (more place broke r))))
-parts_read flow level m text p before (fold t (u ∷ us) ∷ ps) (x ∷ xs) deep (e, s) g l st h = absurd (no_more u us e.2)
-  where
-    no_more : (u : LineTurn) (us : List LineTurn) → u ∷ us ≡ [] → ⊥
-    no_more u us e = cc
+parts_read flow level m text p before (fold t (u ∷ us) ∷ ps) (x ∷ xs) deep (e, s) g l st h = grind (arith, nat_tests)
 parts_read flow level m text p before _ (x ∷ xs) deep (e, s) g l st h = absurd e
 
 -- ---- the gap after
@@ -419,12 +377,7 @@ gap_inside text p (b ∷ bs) l (e, h) are =
 pub gap_read : (flow : Bool) (level : ℕ) (text : List ℕ) (p : ℕ) (gap : List ℕ) → Has text p gap
     → are_gap gap ≡ true → Stops flow level text (p + length gap)
     → Read flow level text p [] p (p + length gap) (has_break gap)
-gap_read flow level text p gap h are stop = record {
-  here = λ e. refl;
-  at = omega arith;
-  inside = λ l. gap_inside text p gap l h are;
-  gives = λ n room. gap_words n flow level text p gap (omega (arith, room)) h are stop;
-}
+gap_read flow level text p gap h are stop = grind (arith, nat_tests, gap_inside, gap_words)
 
 -- ---- the first character
 
@@ -435,12 +388,7 @@ begun : (flow : Bool) (level : ℕ) (text : List ℕ) (p b : ℕ) (ps : List Pie
     (broke : Bool) → byte text p ≡ b → p < length text
     → Read flow level text (p + 1) ps e place broke
     → plain_at flow level text p ≡ Ok (said (value_of (Kept (b ∷ []) ∷ ps)) e place broke)
-begun flow level text p b ps e place broke h i r =
-    let inside = r.inside (omega (arith, i)) in
-    let kept : with_piece (Kept (b ∷ [])) (p + 1) (sealed ps e place broke) ≡ sealed (Kept (b ∷ []) ∷ ps) e place broke = kept_sealed (b ∷ []) (p + 1) e place broke ps r.here in
-    ap (λ (w : Result Words Wrong). plain_with plain_text (words_from (Kept (byte text p ∷ [])) (p + 1) w)) (r.gives (length text) (omega (arith, inside)))
-    ∙ ap (λ x. let y : Result PlainText Wrong = Ok (plain_text (with_piece (Kept (x ∷ [])) (p + 1) (sealed ps e place broke))) in y) h
-    ∙ ap (λ (w : Words). let y : Result PlainText Wrong = Ok (plain_text w) in y) kept
+begun flow level text p b ps e place broke h i r = grind (arith, nat_tests, kept_sealed)
 
 -- a character, which isn't white, and parts after it
 pub scalar_read : (flow : Bool) (level m quote : ℕ) (text : List ℕ) (p c : ℕ) (ps : List QuotedPart)

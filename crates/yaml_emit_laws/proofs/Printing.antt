@@ -1,5 +1,5 @@
 -- The bytes of a character are printable where its code point is.
-use Rattle.std.proofs.Common.{◌≡◌, ℕ, ◌+◌, ◌*◌, ◌/◌, ◌%◌, ◌<◌, ◌≤◌, List, ◌++◌, sym, ap, subst, ◌∙◌, inl, inr, ◌⊎◌, arith, encode_utf8}
+use Rattle.std.proofs.Common.{◌≡◌, ℕ, ◌+◌, ◌*◌, ◌<◌, ◌≤◌, List, ◌++◌, inl, inr, ◌⊎◌, arith, encode_utf8}
 use Rattle.yaml_emit_laws.proofs.Shared.{cases_lt, nat_tests, scalar_cases, is_printable_by, is_special, is_printable}
 use Rattle.std.specs.Char.{IsScalar}
 use Rattle.yaml_scan_history.specs.scan_types.Classes as bytes
@@ -32,21 +32,11 @@ bounds c e = elim (scalar_cases c e) [ inl low ↦ (inl low, omega (arith, low))
 two_bytes : (c : ℕ) (rest : List ℕ) → 128 ≤ c → c < 2048
     → bytes.is_printable (encode_utf8 c ++ rest) 0 ≡ is_printable c
 unfolding is_printable_by
-two_bytes c rest a b =
-    let q : ℕ = c / 64 in
-    let s : ℕ = c % 64 in
-    let same : 64 * q + s ≡ c = omega arith in
-    rw (encode_2 c a b) ((grind (arith, nat_tests)) ∙ ap is_printable same)
+two_bytes c rest a b = grind (arith, nat_tests, encode_2)
 
 three_bytes : (c : ℕ) (rest : List ℕ) → 2048 ≤ c → c < 65536 → (c < 55296) ⊎ (57344 ≤ c)
     → bytes.is_printable (encode_utf8 c ++ rest) 0 ≡ is_printable c
-three_bytes c rest a b scalar =
-    let q : ℕ = c / 4096 in
-    let r : ℕ = c / 64 % 64 in
-    let s : ℕ = c % 64 in
-    let same : 4096 * q + 64 * r + s ≡ c = omega arith in
-    let is : (4096 * q + 64 * r + s < 55296) ⊎ (57344 ≤ 4096 * q + 64 * r + s) = subst (λ (n : ℕ). (n < 55296) ⊎ (57344 ≤ n)) (sym same) scalar in
-    rw (encode_3 c a b) (three q r s (omega arith) (omega arith) (omega arith) (omega (arith, same)) is ∙ ap is_printable same)
+three_bytes c rest a b scalar = grind (arith, nat_tests, encode_3, three)
 
 pub printable : PrintableIsOfCharacters
 unfolding is_printable_by

@@ -21,10 +21,7 @@ pub record Through (quote : ℕ) (text : List ℕ) (p : ℕ) (qs : List Piece) (
 
 pub through_both : (quote : ℕ) (text : List ℕ) (p q r : ℕ) (qs rs : List Piece)
     → Through quote text p qs q → Through quote text q rs r → Through quote text p (qs ++ rs) r
-through_both quote text p q r qs rs a b = record {
-  reads = λ ps e x. subst (λ (t : List Piece). Read quote text p t e) (sym (append_assoc qs rs ps)) (a.reads (rs ++ ps) e (b.reads ps e x));
-  column = b.column;
-}
+through_both quote text p q r qs rs a b = grind (arith, nat_tests, append_assoc)
 
 pub read_step : (quote : ℕ) (text : List ℕ) (p q e : ℕ) (qs rs : List Piece)
     → standing_at quote text p ≡ Pieces qs q → p < q → Read quote text q rs e
@@ -133,18 +130,10 @@ ends_1 text p y b h k f =
 pub ends_2 : (text : List ℕ) (p x y b : ℕ) → byte text p ≡ x → byte text (p + 1) ≡ y
     → byte text (p + 1 + 1) ≡ b → ((c : ℕ) → ends_of x y b c ≡ false)
     → ends_break text (p + 1 + 1) ≡ false
-ends_2 text p x y b g h k f =
-    let e : p + 1 + 1 - 1 ≡ p + 1 = omega arith in
-    let d : p + 1 + 1 - 2 ≡ p = omega arith in
-    rw (e, d, g, h, k) (f (byte text (p + 1 + 1 + 1)))
+ends_2 text p x y b g h k f = grind (arith, nat_tests)
 
 high_ordinary : (quote b : ℕ) → IsQuote quote → 128 ≤ b → Ordinary quote b
-high_ordinary quote b q h = record {
-  no_end = ne_eqb b 0 (λ e. omega arith);
-  no_quote = no_quote quote b q (λ e. omega arith) (λ e. omega arith);
-  no_slash = no_slash quote b (λ e. omega arith);
-  no_blank = high_blank b h;
-}
+high_ordinary quote b q h = grind (arith, nat_tests, no_quote, no_slash, high_blank)
 
 high : (quote : ℕ) (text : List ℕ) (p b : ℕ) → IsQuote quote → 0 < column_at text p
     → byte text p ≡ b → 128 ≤ b → ends_break text p ≡ false → break_width text p ≡ 0

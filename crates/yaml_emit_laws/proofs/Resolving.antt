@@ -1,6 +1,6 @@
 -- Handles and suffixes resolve to their tags.
-use Rattle.std.proofs.Common.{◌≡◌, inl, inr, ℕ, Bool, true, false, ◌||◌, ◌==◌, nat_lt, cond, if◌then◌else◌, List, [], ◌∷◌, ◌++◌, length, take, drop, Option, Some, None, refl, sym, ap, subst, ◌∙◌, take-append-drop, option_map, bytes_eq}
-use Rattle.yaml_emit_laws.proofs.Shared.{cases_Bool, or_cases, true≢false, and_parts, list_any, TagDirective, resolved, or_default, default_prefix, has_shorter_prefix, directive_for, defines, primary, secondary, unless_defined, defaults, in_force, split_by, split_tag, Problem, Opening, or_else, handle_problem, prefix_problem, has_handle, twice_problem, directive_problem, directives_problem, version_problem, opening_problem, resolved_split}
+use Rattle.std.proofs.Common.{◌≡◌, inl, inr, ℕ, Bool, true, false, ◌||◌, ◌==◌, nat_lt, cond, if◌then◌else◌, List, [], ◌∷◌, ◌++◌, length, take, drop, Option, Some, None, refl, sym, ap, subst, ◌∙◌, take-append-drop, option_map, bytes_eq, arith}
+use Rattle.yaml_emit_laws.proofs.Shared.{cases_Bool, or_cases, true≢false, and_parts, list_any, TagDirective, resolved, or_default, default_prefix, has_shorter_prefix, directive_for, defines, primary, secondary, unless_defined, defaults, in_force, split_by, split_tag, Problem, Opening, or_else, handle_problem, has_handle, directive_problem, directives_problem, version_problem, opening_problem, resolved_split}
 use Rattle.std.proofs.lemmas.Slice.Eq.{bytes_eq-Decides}
 use Rattle.yaml_parse_grammar.specs.Resolve as reader
 
@@ -51,10 +51,7 @@ defines_one d ds h = refl
 twice_none : (before : List TagDirective) (d : TagDirective) (ds : List TagDirective)
     → directives_problem before (d ∷ ds) ≡ None → list_any (has_handle d.handle) before ≡ false
 unfolding directives_problem
-twice_none before d ds e =
-    let own = or_first (directive_problem before d) (directives_problem (before ++ d ∷ []) ds) e in
-    let rest = or_second (handle_problem d.handle) (or_else (prefix_problem d.prefix) (twice_problem before d.handle)) own in
-    none_true (list_any (has_handle d.handle) before) _ (or_second (prefix_problem d.prefix) (twice_problem before d.handle) rest)
+twice_none before d ds e = grind (arith, or_first, or_second, none_true)
 
 rest_none : (before : List TagDirective) (d : TagDirective) (ds : List TagDirective)
     → directives_problem before (d ∷ ds) ≡ None → directives_problem (before ++ d ∷ []) ds ≡ None
@@ -64,13 +61,7 @@ rest_none before d ds e = or_second (directive_problem before d) (directives_pro
 handle_none : (before : List TagDirective) (d : TagDirective) (ds : List TagDirective)
     → directives_problem before (d ∷ ds) ≡ None → (length d.handle == 0) ≡ false
 unfolding directives_problem handle_problem
-handle_none before d ds e =
-    let own = or_first (directive_problem before d) (directives_problem (before ++ d ∷ []) ds) e in
-    let handle = or_first (handle_problem d.handle) (or_else (prefix_problem d.prefix) (twice_problem before d.handle)) own in
-    elim (cases_Bool (length d.handle == 0)) [
-      | inr t ↦ t
-      | inl t ↦ let bad = rw t at handle in absurd (cc)
-    ]
+handle_none before d ds e = grind (arith, or_first)
 
 -- a handle of the directives before is none of those that follow
 apart : (before ds : List TagDirective) (h : List ℕ) → directives_problem before ds ≡ None
@@ -113,14 +104,7 @@ record Own (ds : List TagDirective) (tag : List ℕ) (d : TagDirective) : Type 0
 own_first : (before : List TagDirective) (x : TagDirective) (ds : List TagDirective) (tag : List ℕ)
     → directives_problem before (x ∷ ds) ≡ None → has_shorter_prefix x.prefix tag ≡ true
     → Own (x ∷ ds) tag x
-own_first before x ds tag e t =
-    let self = same_self x.handle in
-    record {
-      begins = t;
-      named = handle_none before x ds e;
-      defined = defines_one x ds x.handle ∙ ap (λ b. b || defines ds x.handle) self;
-      reads = reads_one x ds x.handle ∙ ap (λ b. cond b (Some x.prefix) (reader.directive_for x.handle ds)) self;
-    }
+own_first before x ds tag e t = grind (arith, same_self, handle_none, defines_one, reads_one)
 
 own_more : (before : List TagDirective) (x : TagDirective) (ds : List TagDirective) (tag : List ℕ)
     (d : TagDirective) → directives_problem before (x ∷ ds) ≡ None → Own ds tag d

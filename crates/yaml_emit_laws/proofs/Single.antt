@@ -1,6 +1,6 @@
 -- What an emitter writes between single quotes in one line, or cuts at spaces, is read back.
-use Rattle.std.proofs.Common.{◌≡◌, ℕ, ◌+◌, ◌-◌, Bool, true, false, not, ◌&&◌, ◌||◌, ◌==◌, nat_lt, nat_le, List, [], ◌∷◌, ◌++◌, replicate, refl, sym, ap, ◌∙◌, arith, encode_utf8_all}
-use Rattle.yaml_emit_laws.proofs.Shared.{encode_ascii, encodes-append, and_parts, not-true, or_parts, eqb-true, Cursor, LineBreak, Rest, blanks, new_line, line, indent_to, must_break, Page, is_printable, cuts_at, in_front, break_text, QuotedPart, is_raw_blank, is_fold, is_turn, may_follow}
+use Rattle.std.proofs.Common.{◌≡◌, ℕ, ◌-◌, Bool, true, false, not, ◌&&◌, ◌||◌, ◌==◌, nat_le, List, [], ◌∷◌, ◌++◌, replicate, refl, ap, ◌∙◌, arith, encode_utf8_all}
+use Rattle.yaml_emit_laws.proofs.Shared.{encode_ascii, encodes-append, or_parts, Cursor, LineBreak, Rest, blanks, line, indent_to, Page, is_printable, cuts_at, in_front, break_text, QuotedPart, is_raw_blank, is_fold, is_turn, may_follow}
 use Rattle.yaml_emit_layout.specs.Text.{is_break}
 use Rattle.yaml_emit_layout.specs.Quoted.{first}
 use Rattle.yaml_emit_layout.specs.Style.{is_special}
@@ -31,10 +31,7 @@ pub line_is : (b : LineBreak) (n : ℕ) (c : Cursor) (rest : Rest) → c.bare �
     → line b n c rest ≡ in_front (break_text b ++ replicate n 32)
     (rest (after_blanks n (line_start c)))
 unfolding line
-line_is b n c rest e =
-    let due : must_break n c ≡ true = broken c.bare (nat_lt n c.column) (c.column == n && not c.white) e in
-    cond_true (must_break n c) (new_line b c (λ d. indent_to n d rest)) (indent_to n c rest) due
-    ∙ new_line_is b c (λ d. indent_to n d rest) ∙ ap (in_front (break_text b)) (indent_is n c rest) ∙ sym (front_append (break_text b) (replicate n 32) (rest (after_blanks n (line_start c))))
+line_is b n c rest e = grind (arith, broken, cond_true, new_line_is, indent_is, front_append)
 
 -- ---- characters
 
@@ -48,11 +45,7 @@ pub record CutNeeds (page : Page) (before x : ℕ) (xs : List ℕ) : Type 0 wher
 -- what is where a line is cut
 pub cut_needs : (page : Page) (before x : ℕ) (xs : List ℕ) → cuts_at page before x xs ≡ true
     → CutNeeds page before x xs
-cut_needs page before x xs e =
-    let a = (and_parts page.cuts _ e).1 in
-    let b = (and_parts (x == 32) _ a).1 in
-    let d = (and_parts (not (before == 32)) _ b).1 in
-    record { cuts = (and_parts page.cuts _ e).0; space = eqb-true x 32 (and_parts (x == 32) _ a).0; behind = not-true (before == 32) (and_parts (not (before == 32)) _ b).0; next = not-true (first xs == 32) (and_parts (not (first xs == 32)) _ d).0 }
+cut_needs page before x xs e = grind arith
 
 -- A fold may follow what is neither a blank nor turns the line.
 pub fold_follows : (last q : QuotedPart) → is_fold q ≡ true → is_raw_blank q ≡ false
@@ -67,11 +60,7 @@ other_follows last q a b = rw (a, b) refl
 -- After what turns no line anything but a fold may follow.
 pub blank_follows : (last q : QuotedPart) → is_fold q ≡ false → is_turn last ≡ false
     → may_follow last q ≡ true
-blank_follows last q a e = rw (a, e) (no_and (is_raw_blank q))
-  where
-    no_and : (b : Bool) → not (b && false) ≡ true
-    no_and true = refl
-    no_and false = refl
+blank_follows last q a e = grind arith
 
 -- Where a disjunction with a negation is false, what is negated holds.
 pub special_left : (p b : Bool) → (not p || b) ≡ false → p ≡ true

@@ -1,6 +1,6 @@
 -- Layouts of at most that many bytes, whatever follows.
 use Rattle.std.proofs.Common.{◌≡◌, ℕ, zero, suc, ◌+◌, ◌-◌, ◌*◌, ◌<◌, ◌≤◌, Bool, true, false, ◌&&◌, nat_lt, List, [], ◌∷◌, length, refl, arith, length-append, inl, inr, le_refl, mul-suc, mul-le-mul_left, sub-le}
-use Rattle.yaml_emit_laws.proofs.Shared.{cases_Bool, ltb-true, lt-ltb, and_parts, Cursor, Encoding, Utf8, LineBreak, Lf, Cr, CrLf, Item, letter, char_bytes, encode, Rest, Layout, ◌▹◌, stay, choose, when, char, letters, blank, blanks, break, new_line, is_white, gap, word, opener, must_break, indent_to, line, keep, order_mark, MOST, deep_if, checked, unit, text_bytes}
+use Rattle.yaml_emit_laws.proofs.Shared.{cases_Bool, ltb-true, lt-ltb, and_parts, Cursor, Encoding, Utf8, LineBreak, Lf, Cr, CrLf, Item, letter, char_bytes, encode, Rest, Layout, ◌▹◌, stay, choose, when, char, letters, blank, blanks, break, new_line, is_white, gap, word, opener, must_break, indent_to, line, keep, order_mark, deep_if, checked, unit, text_bytes}
 
 abbrev pub size : Encoding → List Item → ℕ
 size x t = length (encode x t)
@@ -100,10 +100,7 @@ pub ascii_word_most : (x : Encoding) (t : List ℕ) (n : ℕ) → all_ascii t �
 ascii_word_most x t n e w = widened x (unit x + text_bytes x t) n (word t) (word_most x t) (let j : text_bytes x t ≤ unit x * length t = ascii_bytes x t e in omega arith)
 
 pub opener_most : (x : Encoding) (i : ℕ) → nat_lt i 128 ≡ true → AtMost x (unit x * 2) (opener i)
-opener_most x i e =
-    joined x (unit x) (unit x) (unit x * 2) gap (λ c rest. letter i ∷ rest (record { column = c.column + 1; white = true; bare = false; kept = c.kept })) (gap_most x)
-    (λ m rest h c. put_most x i (unit x) m (rest (record { column = c.column + 1; white = true; bare = false; kept = c.kept })) (unit_size x i e) (h (record { column = c.column + 1; white = true; bare = false; kept = c.kept })))
-    (omega arith)
+opener_most x i e = grind (arith, joined, gap_most, put_most, unit_size)
 
 pub new_line_most : (x : Encoding) (b : LineBreak) → AtMost x (unit x * 2) (new_line b)
 new_line_most x Lf = widened x (unit x) (unit x * 2) (break 10) (break_most x 10 (unit x) (unit_size x 10 refl)) (omega arith)
@@ -134,7 +131,4 @@ marked_size x true t = (le_refl _)
 marked_size x false t = (le_refl _)
 
 pub checked_most : (x : Encoding) (n k : ℕ) → AtMost x n (checked k)
-checked_most x n k m rest h c =
-    let i : size x (deep_if (nat_lt MOST k) (rest c)) ≤ size x (rest c) = marked_size x (nat_lt MOST k) (rest c) in
-    let j : size x (rest c) ≤ m = h c in
-    omega arith
+checked_most x n k m rest h c = grind (arith, marked_size)

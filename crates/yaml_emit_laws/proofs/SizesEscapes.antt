@@ -1,33 +1,13 @@
 -- How long an escape is.
-use Rattle.std.proofs.Common.{◌≡◌, ℕ, ◌+◌, ◌*◌, ◌/◌, ◌%◌, ◌<◌, ◌≤◌, Bool, true, false, ◌&&◌, ◌==◌, nat_lt, if◌then◌else◌, List, [], ◌∷◌, ◌++◌, length, refl, arith, inl, inr, le_refl, mul-le-mul_left}
-use Rattle.yaml_emit_laws.proofs.Shared.{cases_Bool, ltb-true, lt-ltb, and_from, Encoding, Utf8, Utf16Le, Utf16Be, char_bytes, needs_escape, escape_letter, escape_text, hex_4, hex_8, hex_2, unit, text_bytes, most_of_escape, EscapesAreShort}
+use Rattle.std.proofs.Common.{◌≡◌, ℕ, ◌+◌, ◌*◌, ◌<◌, ◌≤◌, Bool, true, false, ◌&&◌, ◌==◌, nat_lt, if◌then◌else◌, List, [], ◌∷◌, ◌++◌, length, refl, arith, inl, inr, le_refl, mul-le-mul_left}
+use Rattle.yaml_emit_laws.proofs.Shared.{cases_Bool, ltb-true, lt-ltb, and_from, Encoding, char_bytes, escape_letter, escape_text, hex_4, hex_8, hex_2, unit, text_bytes, most_of_escape, EscapesAreShort}
 use Rattle.yaml_emit_layout.specs.Hex.{hex_digit}
 use Rattle.yaml_emit_laws.proofs.SizesCounting.{all_ascii, ascii_bytes}
 
 -- No character takes more than four units of its encoding.
 pub raw_most : (x : Encoding) (c : ℕ) → length (char_bytes x c) ≤ unit x * 4
 unfolding char_bytes
-raw_most Utf8 c =
-    elim (cases_Bool (nat_lt c 0x80)) [
-      | inl e ↦ rw e (omega arith)
-      | inr e ↦ rw e (elim (cases_Bool (nat_lt c 0x800)) [
-        | inl f ↦ rw f (omega arith)
-        | inr f ↦ rw f (elim (cases_Bool (nat_lt c 0x1_0000)) [
-          | inl g ↦ rw g (omega arith)
-          | inr g ↦ rw g (omega arith)
-        ])
-      ])
-    ]
-raw_most Utf16Le c =
-    elim (cases_Bool (nat_lt c 0x1_0000)) [
-      | inl g ↦ rw g (omega arith)
-      | inr g ↦ rw g (omega arith)
-    ]
-raw_most Utf16Be c =
-    elim (cases_Bool (nat_lt c 0x1_0000)) [
-      | inl g ↦ rw g (omega arith)
-      | inr g ↦ rw g (omega arith)
-    ]
+raw_most x c = grind arith
 
 -- ---- letters and digits
 
@@ -38,10 +18,7 @@ small_if false x y e f = f
 
 letter_small : (c : ℕ) → nat_lt (escape_letter c) 128 ≡ true
 unfolding escape_letter
-letter_small c =
-    small_if (c == 0x00) _ _ refl (small_if (c == 0x07) _ _ refl (small_if (c == 0x08) _ _ refl (small_if (c == 0x09) _ _ refl (small_if (c == 0x0A) _ _ refl (small_if (c == 0x0B) _ _ refl
-    (small_if (c == 0x0C) _ _ refl (small_if (c == 0x0D) _ _ refl (small_if (c == 0x1B) _ _ refl (small_if (c == 34) _ _ refl (small_if (c == 92) _ _ refl (small_if (c == 0x85) _ _ refl
-    (small_if (c == 0xA0) _ _ refl (small_if (c == 0x2028) _ _ refl (small_if (c == 0x2029) _ _ refl refl))))))))))))))
+letter_small c = grind (arith, small_if)
 
 all_append : (xs ys : List ℕ) → all_ascii xs ≡ true → all_ascii ys ≡ true
     → all_ascii (xs ++ ys) ≡ true
@@ -58,34 +35,18 @@ digit_small d w = small_if (nat_lt d 10) (48 + d) (55 + d) (lt-ltb (48 + d) 128 
 
 -- Two hexadecimal digits are ASCII.
 pub two_small : (n : ℕ) → n < 256 → all_ascii (hex_2 n) ≡ true
-two_small n w =
-    let h : n / 16 < 16 = omega arith in
-    let l : n % 16 < 16 = omega arith in
-    and_from (nat_lt (hex_digit (n / 16)) 128) (nat_lt (hex_digit (n % 16)) 128 && true) (digit_small (n / 16) h) (and_from (nat_lt (hex_digit (n % 16)) 128) true (digit_small (n % 16) l) refl)
+two_small n w = grind (arith, digit_small)
 
 four_small : (n : ℕ) → n < 65536 → all_ascii (hex_4 n) ≡ true
-four_small n w =
-    let h : n / 0x100 < 256 = omega arith in
-    let l : n % 0x100 < 256 = omega arith in
-    all_append (hex_2 (n / 0x100)) (hex_2 (n % 0x100)) (two_small (n / 0x100) h) (two_small (n % 0x100) l)
+four_small n w = grind (arith, all_append, two_small)
 
 eight_small : (n : ℕ) → n < 0x1_0000_0000 → all_ascii (hex_8 n) ≡ true
-eight_small n w =
-    let h : n / 0x1_0000 < 65536 = omega arith in
-    let l : n % 0x1_0000 < 65536 = omega arith in
-    all_append (hex_4 (n / 0x1_0000)) (hex_4 (n % 0x1_0000)) (four_small (n / 0x1_0000) h) (four_small (n % 0x1_0000) l)
+eight_small n w = grind (arith, all_append, four_small)
 
 -- ---- escapes
 
 least : (c : ℕ) → 4 ≤ most_of_escape c
-least c =
-    elim (cases_Bool (nat_lt c 0x100)) [
-      | inl e ↦ rw e (le_refl _)
-      | inr e ↦ rw e (elim (cases_Bool (nat_lt c 0x1_0000)) [
-        | inl f ↦ rw f (omega arith)
-        | inr f ↦ rw f (omega arith)
-      ])
-    ]
+least c = grind (arith, le_refl)
 
 four_most : (x : Encoding) (n c : ℕ) → n ≤ unit x * 4 → n ≤ unit x * most_of_escape c
 four_most x n c w = let k : unit x * 4 ≤ unit x * most_of_escape c = mul-le-mul_left (unit x) (least c) in omega arith
@@ -106,8 +67,4 @@ escape_most x c w =
     ]
 
 pub short : EscapesAreShort
-short s n c w e =
-    rw e (elim (cases_Bool (needs_escape s.unicode c)) [
-      | inl f ↦ rw f (escape_most s.encoding c w)
-      | inr f ↦ rw f (four_most s.encoding (length (char_bytes s.encoding c)) c (raw_most s.encoding c))
-    ])
+short s n c w e = grind (arith, escape_most, four_most, raw_most)

@@ -1,14 +1,13 @@
 -- The length of pretty text is bounded by its nodes, lines and texts too.
-use Rattle.std.proofs.Common.{◌≡◌, ℕ, ◌+◌, ◌*◌, ◌<◌, ◌≤◌, Bool, true, false, true≢false, not, ◌&&◌, ◌||◌, ◌==◌, nat_lt, nat_le, if◌then◌else◌, List, [], ◌∷◌, length, Option, Some, None, refl, sym, arith, inl, inr, le_refl, mul-le-mul_left, mul-le-mul_right, ◌∙◌, chars}
-use Rattle.yaml_emit_laws.proofs.Shared.{cases_Bool, lt-ltb, leb-true, leb-false, ltb-true, and_parts, TagDirective, Encoding, LineBreak, Settings, Cursor, encode, is_empty, value_break, cuts_at, cut, text_char, flow_char, flow_body, plain, single_quoted, adds_break, cuts_block, line_blank, block_text, block_char, block_body, chomp, chomp_mark, digit_char, block_header, block, scalar_text, Layout, ◌▹◌, stay, when, char, new_line, gap, word, opener, line, keep, is_past, after_text, after_block, order_mark, nothing_more, start, written, NodePosition, Scalar, Start, Node, alias_node, scalar_node, sequence_node, mapping_node, Nodes, no_nodes, node, Pairs, no_pairs, pair, Document, has, kept_if, scalar_tag, start_tag, Context, context_of, root_position, position, deeper, checked, properties_text, is_plain, style_of, mark_text, page_at, scalar_layout, is_simple, is_flow, are_none, are_no_pairs, block_indent_in, indent_of, indented, is_of_mapping, before_item, before_key, before_value, closer, key_part, node_layout, items_layout, pairs_layout, start_layout, end_layout, stop_layout, documents_layout, stream_layout, unit, ascii, larger, properties_bytes, tag_bytes, most_of_quoted, most_of_char, most_of_value, most_of_line, most_of_node, most_of_items, most_of_pairs, directives_bytes, most_of_documents, most_bytes, SizesAreByContent}
+use Rattle.std.proofs.Common.{◌≡◌, ℕ, ◌+◌, ◌*◌, ◌<◌, ◌≤◌, Bool, true, false, true≢false, not, ◌&&◌, ◌||◌, ◌==◌, nat_lt, if◌then◌else◌, List, [], ◌∷◌, length, Option, Some, None, refl, sym, arith, inl, inr, le_refl, mul-le-mul_left, mul-le-mul_right, ◌∙◌, chars}
+use Rattle.yaml_emit_laws.proofs.Shared.{cases_Bool, and_parts, TagDirective, Encoding, LineBreak, Settings, Cursor, encode, is_empty, value_break, cuts_at, cut, text_char, flow_char, flow_body, plain, single_quoted, adds_break, cuts_block, line_blank, block_text, block_char, block_body, chomp, chomp_mark, digit_char, block_header, block, scalar_text, Layout, ◌▹◌, stay, when, char, new_line, gap, word, opener, line, keep, is_past, after_text, after_block, order_mark, nothing_more, start, written, NodePosition, Scalar, Start, Node, alias_node, scalar_node, sequence_node, mapping_node, Nodes, no_nodes, node, Pairs, no_pairs, pair, Document, has, kept_if, scalar_tag, start_tag, Context, context_of, root_position, position, deeper, checked, properties_text, is_plain, style_of, mark_text, page_at, scalar_layout, is_simple, is_flow, are_none, are_no_pairs, block_indent_in, indent_of, indented, is_of_mapping, before_item, before_key, before_value, closer, key_part, node_layout, items_layout, pairs_layout, start_layout, end_layout, stop_layout, documents_layout, stream_layout, unit, ascii, larger, properties_bytes, tag_bytes, most_of_quoted, most_of_char, most_of_value, most_of_line, most_of_node, most_of_items, most_of_pairs, directives_bytes, most_of_documents, most_bytes, SizesAreByContent}
 use Rattle.yaml_emit_layout.specs.scan_model.declared.name.yaml_scalar_style_t.{yaml_scalar_style_t}
-use Rattle.yaml_emit_layout.specs.scan_model.declared.name.yaml_scalar_style_t.TheVariants as asked
 use Rattle.yaml_emit_layout.specs.declared.page.Chomp.{Chomp}
 use Rattle.yaml_emit_layout.specs.declared.page.Chomp.TheVariants as chomping
 use Rattle.yaml_emit_layout.specs.declared.Style.{Style}
 use Rattle.yaml_emit_layout.specs.declared.Style.TheVariants as style
 use Rattle.yaml_emit_layout.specs.Text.{is_break}
-use Rattle.yaml_emit_layout.specs.Style.{allowed, plain_fits, taken}
+use Rattle.yaml_emit_layout.specs.Style.{allowed, taken}
 use Rattle.yaml_emit_layout.specs.Quoted.{first}
 use Rattle.yaml_emit_layout.specs.declared.level.Part.TheVariants as part
 use Rattle.yaml_emit_laws.proofs.SizesCounting.{size, AtMost, joined, widened, stay_most, when_most, choose_most, keep_most, char_most, break_most, ascii_most, gap_most, ascii_word_most, opener_most, new_line_most, mark_most, checked_most}
@@ -24,43 +23,23 @@ at_easy s ds = context_of (easy s) ds
 -- ---- characters
 
 larger_left : (a b : ℕ) → a ≤ larger a b
-larger_left a b =
-    elim (cases_Bool (nat_le a b)) [
-      | inl e ↦ rw e (leb-true a b e)
-      | inr e ↦ rw e (le_refl _)
-    ]
+larger_left a b = grind (arith, le_refl)
 
 larger_right : (a b : ℕ) → b ≤ larger a b
-larger_right a b =
-    elim (cases_Bool (nat_le a b)) [
-      | inl e ↦ rw e (le_refl _)
-      | inr e ↦ rw e (let w = leb-false a b e in omega (arith, w))
-    ]
+larger_right a b = grind (arith, le_refl)
 
 larger_grows : (a b c d : ℕ) → a ≤ c → b ≤ d → larger a b ≤ larger c d
-larger_grows a b c d w v =
-    elim (cases_Bool (nat_le a b)) [
-      | inl e ↦ rw e (let k = larger_right c d in omega (arith, k, v))
-      | inr e ↦ rw e (let k = larger_left c d in omega (arith, k, w))
-    ]
+larger_grows a b c d w v = grind (arith, larger_right, larger_left)
 
 -- more characters have no fewer bytes
 pub ascii_grows : (s : Settings) (n m : ℕ) → n ≤ m → ascii s n ≤ ascii s m
 ascii_grows s n m w = mul-le-mul_left (unit s.encoding) w
 
 quoted_grows : (s : Settings) (n m c : ℕ) → n ≤ m → most_of_quoted s n c ≤ most_of_quoted s m c
-quoted_grows s n m c w =
-    elim (cases_Bool (c == 32)) [
-      | inl e ↦ rw e (ascii_grows s (n + 3) (m + 3) (omega (arith, w)))
-      | inr e ↦ rw e (le_refl _)
-    ]
+quoted_grows s n m c w = grind (arith, ascii_grows, le_refl)
 
 char_grows : (s : Settings) (n m c : ℕ) → n ≤ m → most_of_char s n c ≤ most_of_char s m c
-char_grows s n m c w =
-    elim (cases_Bool s.canonical) [
-      | inl e ↦ rw e (quoted_grows s n m c w)
-      | inr e ↦ rw e (larger_grows (most_of_quoted s n c) (ascii s (n + 10)) (most_of_quoted s m c) (ascii s (m + 10)) (quoted_grows s n m c w) (ascii_grows s (n + 10) (m + 10) (omega (arith, w))))
-    ]
+char_grows s n m c w = grind (arith, quoted_grows, larger_grows, ascii_grows)
 
 -- a value in lines that are indented more
 pub value_grows : (s : Settings) (n m : ℕ) (v : List ℕ) → n ≤ m
@@ -198,10 +177,7 @@ single_most s at v =
 -- ---- blocks
 
 not_cut : (f b : Bool) (c d : Bool) → (f && (b && (c && (false && d)))) ≡ false
-not_cut false b c d = refl
-not_cut true false c d = refl
-not_cut true true false d = refl
-not_cut true true true d = refl
+not_cut f b c d = grind arith
 
 -- a character after a break has a line before it, and isn't cut
 spoken_most : (s : Settings) (at : NodePosition) (folded blank : Bool) (before x : ℕ)
@@ -251,11 +227,7 @@ mark_most_of s chomping.Keep =
     joined s.encoding (unit s.encoding) 0 (ascii s 1) (char 43) (keep true) (ascii_most s.encoding 43 refl) (keep_most s.encoding 0 true) (omega arith)
 
 digit_small : (n : ℕ) → nat_lt (digit_char n) 128 ≡ true
-digit_small n =
-    elim (cases_Bool (nat_lt n 10)) [
-      | inl e ↦ rw e (lt-ltb (48 + n) 128 (let w = ltb-true n 10 e in omega (arith, w)))
-      | inr e ↦ rw e refl
-    ]
+digit_small n = grind arith
 
 sign_small : (folded : Bool) → nat_lt (if folded then 62 else 124) 128 ≡ true
 sign_small true = refl
@@ -295,15 +267,7 @@ is_block _ = false
 none_in_blocks : (unicode : Bool) (a : yaml_scalar_style_t) (untagged flow simple empty : Bool)
     → is_block (taken (allowed unicode []) a untagged flow simple empty) ≡ false
 unfolding taken allowed
-none_in_blocks unicode asked.YAML_SINGLE_QUOTED_SCALAR_STYLE untagged flow simple empty = refl
-none_in_blocks unicode asked.YAML_DOUBLE_QUOTED_SCALAR_STYLE untagged flow simple empty = refl
-none_in_blocks unicode asked.YAML_LITERAL_SCALAR_STYLE untagged flow simple empty = refl
-none_in_blocks unicode asked.YAML_FOLDED_SCALAR_STYLE untagged flow simple empty = refl
-none_in_blocks unicode _ untagged flow simple empty =
-    elim (cases_Bool (plain_fits (allowed unicode []) untagged flow simple empty)) [
-      | inl e ↦ rw e refl
-      | inr e ↦ rw e refl
-    ]
+none_in_blocks unicode a untagged flow simple empty = grind arith
 
 abbrev HasText : Style → List ℕ → Type 0
 HasText t v = is_block t ≡ true → 0 < length v

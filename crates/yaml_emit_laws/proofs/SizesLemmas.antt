@@ -1,7 +1,7 @@
 -- The length of canonical text is bounded by its nodes, lines and texts; what pretty text shares of
 -- this.
 use Rattle.std.proofs.Common.{◌≡◌, ℕ, ◌+◌, ◌-◌, ◌*◌, ◌≤◌, Bool, true, false, not, ◌&&◌, ◌==◌, nat_lt, List, [], ◌∷◌, length, Option, Some, None, pos, refl, sym, subst, codes, arith, inl, inr, le_refl, mul-le-mul_left, sub-le, int_eq, chars}
-use Rattle.yaml_emit_laws.proofs.Shared.{cases_Bool, eqb-true, yaml_version_directive_t, TagDirective, Settings, scalar_text, tag_spelling, uri_text, needs_escape, escape_text, is_empty, may_fold, fold, escaped, quoted_char, quoted_body, quoted_text, char_bytes, letter, Layout, ◌▹◌, stay, choose, when, char, letters, blanks, new_line, gap, word, keep, is_past, indicator, line, NodePosition, Scalar, scalar_node, Opening, has, scalar_tag, Context, context_of, is_simple_part, deeper, checked, line_at, anchor_text, tag_text, properties_text, mark_text, style_of, page_at, scalar_layout, alias_layout, comma, turned, before_item, question, before_key, before_value, closer, dots, version_word, version_text, directive_text, directives_text, is_directed, dashes, is_marked, start_layout, end_layout, stop_layout, unit, ascii, text_bytes, anchor_bytes, tag_bytes, properties_bytes, most_of_quoted, most_of_char, most_of_value, most_of_line, most_of_node, directives_bytes, Encoding}
+use Rattle.yaml_emit_laws.proofs.Shared.{cases_Bool, eqb-true, yaml_version_directive_t, TagDirective, Settings, scalar_text, tag_spelling, uri_text, needs_escape, escape_text, is_empty, may_fold, fold, escaped, quoted_char, quoted_body, quoted_text, char_bytes, Layout, ◌▹◌, stay, choose, when, char, letters, blanks, new_line, gap, word, keep, is_past, indicator, line, NodePosition, Scalar, scalar_node, Opening, has, scalar_tag, Context, context_of, is_simple_part, deeper, checked, line_at, anchor_text, tag_text, properties_text, mark_text, style_of, page_at, scalar_layout, alias_layout, comma, turned, before_item, question, before_key, before_value, closer, dots, version_word, version_text, directive_text, directives_text, is_directed, dashes, is_marked, start_layout, end_layout, stop_layout, unit, ascii, text_bytes, anchor_bytes, tag_bytes, properties_bytes, most_of_quoted, most_of_char, most_of_value, most_of_line, most_of_node, directives_bytes, Encoding}
 use Rattle.yaml_emit_layout.specs.declared.Style.TheVariants as style
 use Rattle.yaml_emit_layout.specs.Quoted.{first}
 use Rattle.yaml_emit_layout.specs.Nodes.{is_kept}
@@ -168,10 +168,7 @@ quoted_scalar_most s ds at x =
 -- ---- what is between nodes
 
 indicator_most : (x : Encoding) (i : ℕ) → nat_lt i 128 ≡ true → AtMost x (unit x * 2) (indicator i)
-indicator_most x i e =
-    joined x (unit x) (unit x) (unit x * 2) gap (λ c rest. letter i ∷ rest (record { column = c.column + 1; white = false; bare = c.bare; kept = c.kept })) (gap_most x)
-    (λ m rest h c. put_most x i (unit x) m (rest (record { column = c.column + 1; white = false; bare = c.bare; kept = c.kept })) (unit_size x i e) (h (record { column = c.column + 1; white = false; bare = c.bare; kept = c.kept })))
-    (omega arith)
+indicator_most x i e = grind (arith, joined, gap_most, put_most, unit_size)
 
 turned_most : (canonical : Bool) (s : Settings) (n : ℕ) → Takes s (ascii s (n + 2))
     (turned (set canonical s) n)

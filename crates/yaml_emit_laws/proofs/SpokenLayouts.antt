@@ -1,5 +1,5 @@
 -- What layouts of single words say: names, tags, and scalars in the three styles of a line.
-use Rattle.std.proofs.Common.{◌≡◌, ℕ, ◌+◌, ◌<◌, ◌≤◌, not, nat_lt, Bool, true, false, List, [], ◌∷◌, ◌++◌, length, Some, refl, sym, ap, subst, ◌∙◌, encode_utf8_all, if◌then◌else◌, IsUtf8, chars, append-nil}
+use Rattle.std.proofs.Common.{◌≡◌, ℕ, ◌<◌, ◌≤◌, not, nat_lt, Bool, true, false, List, [], ◌∷◌, ◌++◌, length, Some, refl, sym, ap, subst, ◌∙◌, encode_utf8_all, if◌then◌else◌, IsUtf8, chars, append-nil, arith}
 use Rattle.yaml_emit_laws.proofs.NodeWords.{and_parts, AnchorReads, double_quoted_at, Cursor, Page, Item, letter, Layout, Rest, ◌▹◌, letters, word, gap, blank, after_text, quoted_text, flow_body, plain, single_quoted, allowed, in_front, tag_spelling, split_tag, Opening, ValueIsReadBack, between_quotes, between_single, QuotedIsReadBack, SplitTagsAreRead, WrittenTagsAreReadable, ReadableTagsAreAscii, are_ascii, LoneMarkReads, bytes, IsWritableName, IsWritableOpening, IsWritableTag, letter_low, front_encodes, lettered_on, PlainIsReadBack, may_be_plain, SingleLinesAreReadBack, PlainHasGap, ScalarsAreWords, Spoken, SaysTokens, letters_are, alphas_ascii}
 use Rattle.yaml_emit_laws.proofs.SpokenWords.{anchor_word, alias_word, tag_word, mark_word, double_word, single_word, plain_word}
 use Rattle.yaml_emit_laws.proofs.FlowSigns.{behind_gap}
@@ -19,29 +19,7 @@ gap_case : (flow : Bool) (level : ℕ) (a : Layout) (make : Bool → Cursor → 
     → ((b : Bool) (d : Cursor) → Wrote a d (make b d).own) → (c : Cursor) (b : Bool)
     → SaysTokens flow level (λ e rest. if b then a e rest else blank e (λ d. a d rest)) c
     (make (not b) (behind_gap b c) ∷ [])
-gap_case flow level a make spaced wrote c true =
-    let w = make false c in
-    let r = wrote false c in
-    let none : (if w.spaced then 32 ∷ w.own else w.own) ≡ w.own = ap (λ (s : Bool). if s then 32 ∷ w.own else w.own) (spaced false c) in
-    record {
-      behind = r.behind;
-      written = λ rest. r.written rest ∙ sym (ap (λ (xs : List ℕ). xs ++ bytes (rest r.behind)) (append-nil _ ∙ none));
-      bare = r.bare;
-      white = r.white;
-      kept = r.kept;
-    }
-gap_case flow level a make spaced wrote c false =
-    let d = behind_gap false c in
-    let w = make true d in
-    let r = wrote true d in
-    let one : (if w.spaced then 32 ∷ w.own else w.own) ≡ 32 ∷ w.own = ap (λ (s : Bool). if s then 32 ∷ w.own else w.own) (spaced true d) in
-    record {
-      behind = r.behind;
-      written = λ rest. letter_low 32 (a d rest) refl ∙ ap (λ (xs : List ℕ). 32 ∷ xs) (r.written rest) ∙ sym (ap (λ (xs : List ℕ). xs ++ bytes (rest r.behind)) (append-nil _ ∙ one));
-      bare = r.bare;
-      white = r.white;
-      kept = r.kept;
-    }
+gap_case flow level a make spaced wrote c b = grind (arith, append-nil, letter_low)
 
 -- a word after the space that is due
 pub gap_says : (flow : Bool) (level : ℕ) (a : Layout) (make : Bool → Cursor → Spoken flow level)

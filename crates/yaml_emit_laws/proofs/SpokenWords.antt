@@ -1,6 +1,6 @@
 -- Plain scalars as content, empty ones too.
-use Rattle.std.proofs.Common.{◌≡◌, ℕ, ◌+◌, ◌<◌, ◌≤◌, Bool, true, false, List, [], ◌∷◌, refl, ap, subst, ◌∙◌, arith, if◌then◌else◌, IsUtf8, ◌==◌, ◌&&◌, ◌||◌, not, nat_lt, length, zero, suc, sym, inl, inr, ◌++◌, Some, Result, Ok, encode_utf8, encode_utf8_all}
-use Rattle.yaml_emit_laws.proofs.NodeWords.{chars, false≢true, cases_Bool, or_left, or_right, and_parts, or_cases, yaml_encoding_t, TokenBody, indent, Cursor, Page, Layout, Rest, ◌▹◌, blank, after_text, gap, Item, flow_body, plain, Left, bytes, first, letter_low, left_letter, Sign, sign_begins, sign_kind, walk_says, walk_white, walk_word, begins_white, white_of, is_gap_byte, PlainHasGap, PlainStands, ScalarsAreWords, SingleStands, may_be_plain, PlainIsBack, scalar_bodies, GoesBehindNode, Walks, Follows, PlainIsWalked, NodeStage, no_comment, SingleIsWalked, byte, column_at, is_blank, break_width, is_blank_or_end, depth_after, WordText, kind_at, lexeme_at, indicator_of, valued, tagged, has_break, begins_lexeme, has_at, left_first, left_more, has_front, left_rest, nat_tests, ends_at, is_bom, line_at-grows, Comes, WordLeaves, WalkState, LeaveClear, behind, WalkReads, letter_columns, words_leave, stops_end, goes_on, single_kind, left_byte, encode_ascii, AnchorReads, double_quoted_at, Kind, ValueIsReadBack, between_quotes, between_single, Wrong, Split, spelled, split_tag, Opening, tag_body, SplitTagsAreRead, WrittenTagsAreReadable, IsReadable, ReadableTagsAreAscii, LoneMarkReads, IsWritableName, IsWritableOpening, IsWritableTag, named, quote_sign, quote_kind, quote_first, alias_kind, anchor_kind, SingleIsBack, Spoken, Behind, WordStands, Fits, is_text, ends_name, mark_kind, said_tag, text_is, allowed}
+use Rattle.std.proofs.Common.{◌≡◌, ℕ, ◌+◌, ◌<◌, ◌≤◌, Bool, true, false, List, [], ◌∷◌, refl, ap, subst, ◌∙◌, arith, if◌then◌else◌, IsUtf8, ◌==◌, ◌&&◌, ◌||◌, not, nat_lt, length, suc, sym, inl, inr, ◌++◌, Some, Result, Ok, encode_utf8, encode_utf8_all}
+use Rattle.yaml_emit_laws.proofs.NodeWords.{chars, false≢true, cases_Bool, or_left, or_right, yaml_encoding_t, TokenBody, indent, Cursor, Page, Layout, Rest, ◌▹◌, blank, after_text, gap, Item, flow_body, plain, Left, bytes, first, letter_low, left_letter, Sign, sign_begins, sign_kind, walk_says, walk_white, walk_word, begins_white, white_of, is_gap_byte, PlainHasGap, PlainStands, ScalarsAreWords, SingleStands, may_be_plain, PlainIsBack, scalar_bodies, GoesBehindNode, Walks, Follows, PlainIsWalked, NodeStage, no_comment, SingleIsWalked, byte, column_at, is_blank, break_width, is_blank_or_end, depth_after, WordText, kind_at, lexeme_at, indicator_of, valued, tagged, has_break, begins_lexeme, has_at, left_first, left_more, has_front, left_rest, nat_tests, is_bom, line_at-grows, Comes, WordLeaves, WalkState, LeaveClear, behind, WalkReads, letter_columns, words_leave, stops_end, goes_on, single_kind, left_byte, encode_ascii, AnchorReads, double_quoted_at, Kind, ValueIsReadBack, between_quotes, between_single, Wrong, Split, spelled, split_tag, Opening, tag_body, SplitTagsAreRead, WrittenTagsAreReadable, IsReadable, ReadableTagsAreAscii, LoneMarkReads, IsWritableName, IsWritableOpening, IsWritableTag, named, quote_sign, quote_kind, quote_first, alias_kind, anchor_kind, SingleIsBack, Spoken, Behind, WordStands, Fits, is_text, ends_name, mark_kind, said_tag, text_is, allowed}
 use Rattle.yaml_emit_layout.specs.declared.Style.TheVariants as style
 use Rattle.yaml_emit_layout.specs.scan_model.declared.name.yaml_scalar_style_t.TheVariants.{YAML_PLAIN_SCALAR_STYLE, YAML_SINGLE_QUOTED_SCALAR_STYLE, YAML_DOUBLE_QUOTED_SCALAR_STYLE}
 use Rattle.yaml_emit_layout.specs.scan_types.Tokens as tokens
@@ -19,15 +19,7 @@ use Rattle.yaml_emit_laws.proofs.Stopping.{white_next}
 says_as : (x : yaml_encoding_t) (text : List ℕ) (rest : Rest) (kept : Bool) (ls : List ℕ)
     (T U : List TokenBody → List TokenBody) → GoesBehindNode x text rest kept ls T
     → ((bs : List TokenBody) → T bs ≡ U bs) → GoesBehindNode x text rest kept ls U
-says_as x text rest kept ls T U g e = record {
-  behind = g.behind;
-  place = g.place;
-  more = g.more;
-  stage = record { reads = walk_says.other x text g.place [] ls g.more T U g.stage.reads e; flat = g.stage.flat; broken = g.stage.broken; bare = g.stage.bare; line = g.stage.line };
-  left = g.left;
-  bare = g.bare;
-  same = g.same;
-}
+says_as x text rest kept ls T U g e = grind (arith, nat_tests, walk_says)
 
 walks_as : (a b : Layout) (B C : List TokenBody → List TokenBody) (ls : List ℕ) (c : Cursor)
     (rest : Rest) → a c rest ≡ b c rest → ((bs : List TokenBody) → B bs ≡ C bs)
@@ -44,15 +36,7 @@ unfolding flow_body chars
 empty_layout page c rest = refl
 
 empty_walks : (ls : List ℕ) (c : Cursor) (rest : Rest) → Walks after_text (λ bs. bs) ls c rest
-empty_walks ls c rest x text o T s right l = record {
-  behind = record { column = c.column; white = false; bare = false; kept = c.kept };
-  place = o;
-  more = [];
-  stage = record { reads = s.reads; flat = s.flat; broken = s.broken; bare = λ b. absurd (false≢true b); line = s.line };
-  left = l;
-  bare = refl;
-  same = refl;
-}
+empty_walks ls c rest x text o T s right l = grind (arith, nat_tests)
 
 -- any one, empty or not
 pub plain_walks : PlainIsWalked
@@ -124,34 +108,14 @@ no_hash text p (b ∷ bs) l h e = elim (cases_Bool (is_gap_byte b)) [
 pub begins_by : (text : List ℕ) (q : ℕ) → (is_blank (byte text q)) ≡ false
     → nat_lt 0 (break_width text q) ≡ false → (byte text q == 35) ≡ false
     → (q == 0 && is_bom text q) ≡ false → begins_lexeme text q ≡ true
-begins_by text q blank wide hash bom = let (space, tab) = either (byte text q == 32) (byte text q == 9) blank in rw (space, tab, hash, wide, bom) refl
-  where
-    either : (a b : Bool) → (a || b) ≡ false → (a ≡ false) × (b ≡ false)
-    either true b e = absurd (cc)
-    either false true e = absurd (cc)
-    either false false e = (refl, refl)
+begins_by text q blank wide hash bom = grind (arith, nat_tests)
 
 -- What may end a plain scalar begins a lexeme, where the scalar begins one.
 pub ends_begins : (flow : Bool) (level : ℕ) (text : List ℕ) (p q : ℕ)
     → ends_plain flow level text q ≡ true → begins_lexeme text p ≡ true → (byte text q ≡ 35 → ⊥)
     → p ≤ q → begins_lexeme text q ≡ true
 unfolding ends_plain
-ends_begins flow level text p zero h begins hash up = let z : p ≡ 0 = omega (arith, up) in subst (λ n. begins_lexeme text n ≡ true) z begins
-ends_begins flow level text p (suc q) h begins hash up =
-    let n = suc q in
-    let (blank, more) = and_parts (not (is_blank (byte text n))) (not (nat_lt 0 (break_width text n)) && ends_at flow level text n) h in
-    let (wide, ends) = and_parts (not (nat_lt 0 (break_width text n))) (ends_at flow level text n) more in
-    begins_by text n (off (is_blank (byte text n)) blank) (off (nat_lt 0 (break_width text n)) wide) (apart (byte text n) hash) (ap (λ b. b && is_bom text n) (positive q))
-  where
-    positive : (q : ℕ) → (suc q == 0) ≡ false
-    positive q = grind (arith, nat_tests)
-
-    off : (a : Bool) → not a ≡ true → a ≡ false
-    off true e = absurd (cc)
-    off false e = refl
-
-    apart : (b : ℕ) → (b ≡ 35 → ⊥) → (b == 35) ≡ false
-    apart b f = grind (arith, nat_tests)
+ends_begins flow level text p q h begins hash up = grind (arith, nat_tests, begins_by)
 
 body_walks : PlainStands → ScalarsAreWords
     → (page : Page) (ls : List ℕ) (value : List ℕ) (rest : Rest) → IsUtf8 value → 0 < length value
@@ -255,20 +219,11 @@ white_ends text p bs l e = or_left (is_blank_or_end text p) _ (white_next text p
 bracket_ends : (text : List ℕ) (p b : ℕ) → byte text p ≡ b
     → (b == 44 || (b == 93 || b == 125)) ≡ true → may_end_name text p ≡ true
 unfolding may_end_name
-bracket_ends text p b h e = or_right (is_blank_or_end text p) _ (ends (byte text p) (subst (λ (n : ℕ). (n == 44 || (n == 93 || n == 125)) ≡ true) (sym h) e))
-  where
-    ends : (b : ℕ) → (b == 44 || (b == 93 || b == 125)) ≡ true
-        → (b == 63 || (b == 58 || (b == 44
-        || (b == 93 || (b == 125 || (b == 37 || (b == 64 || b == 96))))))) ≡ true
-    ends b e = grind (arith, nat_tests)
+bracket_ends text p b h e = grind (arith, nat_tests)
 
 name_ends : (text : List ℕ) (p : ℕ) (bs : List ℕ) → Left text p bs → ends_name bs ≡ true
     → may_end_name text p ≡ true
-name_ends text p [] l e = white_ends text p [] l refl
-name_ends text p (b ∷ bs) l e = elim (or_cases (begins_white (b ∷ bs)) (b == 44 || (b == 93 || b == 125)) e) [
-  | inl h ↦ white_ends text p (b ∷ bs) l h
-  | inr h ↦ bracket_ends text p b (left_first text p b bs l) h
-]
+name_ends text p bs l e = grind (arith, nat_tests, white_ends, bracket_ends, left_first)
 
 -- an anchor or an alias, before what ends its name
 name_stands : AnchorReads → (flow : Bool) (level b : ℕ) → Sign b → (k : Kind) (x : Context)

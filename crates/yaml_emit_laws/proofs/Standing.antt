@@ -1,6 +1,6 @@
 -- How the bytes of a plain scalar are read, one by one.
-use Rattle.std.proofs.Common.{◌≡◌, ◌≢◌, ℕ, zero, suc, ◌+◌, ◌/◌, ◌%◌, ◌<◌, ◌≤◌, Bool, true, false, ◌&&◌, ◌==◌, nat_lt, List, [], ◌∷◌, ◌++◌, length, Result, Ok, refl, sym, ap, subst, ◌∙◌, inl, inr, arith, append_assoc, encode_utf8, ◌||◌, ◌⊎◌, not}
-use Rattle.yaml_emit_laws.proofs.ScalarWords.{cases_Bool, cases_lt, true≢false, ne_eqb, not-true, and_parts, nat_tests, and-false, byte, break_width, ends_break, starts, column_at, is_blank, is_blank_or_end, break_of, Wrong, Piece, Kept, Blank, Break, is_bracket, after_white, leads, PlainSpot, Takes, spot_at, ends_at, is_nothing, with_piece, words_from, follows, words, Ends, leads-text, white-text, spot_kept, spot_break, spot_blank, spot_ends, within, Has, encode_1, encode_2, encode_3, encode_4, keeps, low_end, low_break, first_end, second_end, third_end, later_break, two_break, three_break, four_break, high_blank, ends_2, ends_1, in_line, feed_at, are_gap, has_break, space_parts, ends_plain}
+use Rattle.std.proofs.Common.{◌≡◌, ◌≢◌, ℕ, zero, suc, ◌+◌, ◌/◌, ◌%◌, ◌<◌, ◌≤◌, Bool, true, false, ◌&&◌, ◌==◌, nat_lt, List, [], ◌∷◌, ◌++◌, length, Result, Ok, refl, sym, ap, subst, ◌∙◌, inl, inr, arith, append_assoc, encode_utf8, ◌||◌, ◌⊎◌}
+use Rattle.yaml_emit_laws.proofs.ScalarWords.{cases_Bool, cases_lt, true≢false, ne_eqb, and_parts, nat_tests, byte, break_width, ends_break, starts, column_at, is_blank, is_blank_or_end, break_of, Wrong, Piece, Kept, Blank, Break, is_bracket, after_white, leads, PlainSpot, Takes, spot_at, ends_at, is_nothing, with_piece, words_from, follows, words, Ends, leads-text, white-text, spot_kept, spot_break, spot_blank, spot_ends, within, Has, encode_1, encode_2, encode_3, encode_4, keeps, low_end, low_break, first_end, second_end, third_end, later_break, two_break, three_break, four_break, high_blank, ends_2, ends_1, in_line, feed_at, are_gap, has_break, space_parts, ends_plain}
 use Rattle.yaml_scan_history.specs.Plain.{Words}
 use Rattle.yaml_emit_laws.proofs.QuotedReading.{column_more}
 use Rattle.yaml_scan_history.proofs.GapsRead.{cr_width, byte_cases}
@@ -95,11 +95,7 @@ pub record InLine (level : ℕ) (text : List ℕ) (p before : ℕ) : Type 0 wher
 -- after a byte that isn't white
 pub stand_behind : (level : ℕ) (text : List ℕ) (p x : ℕ) → is_blank (byte text p) ≡ false
     → ends_break text p ≡ false → 0 < column_at text (p + 1) → InLine level text (p + 1) x
-stand_behind level text p x b e c = record {
-  column = c;
-  inner = ap (λ t. t && nat_lt (column_at text (p + 1)) level) (leads-text text p b e);
-  white = λ h. absurd (true≢false (sym h ∙ white-text text p b e));
-}
+stand_behind level text p x b e c = grind (arith, nat_tests, leads-text, white-text)
 
 -- a byte that doesn't end the scalar
 pub record Stays (flow : Bool) (text : List ℕ) (p : ℕ) : Type 0 where
@@ -166,13 +162,7 @@ unfolding is_bracket
 high_bracket b h = rw (ne_eqb b 44 (λ e. omega arith), ne_eqb b 91 (λ e. omega arith), ne_eqb b 93 (λ e. omega arith), ne_eqb b 123 (λ e. omega arith), ne_eqb b 125 (λ e. omega arith)) refl
 
 high_stays : (flow : Bool) (text : List ℕ) (p : ℕ) → 128 ≤ byte text p → Stays flow text p
-high_stays flow text p h = record {
-  some = ne_eqb (byte text p) 0 (λ e. omega arith);
-  hash = ap (λ t. t && after_white text p) (ne_eqb (byte text p) 35 (λ e. omega arith));
-  colon = ap (λ t. t && is_blank_or_end text (p + 1)) (ne_eqb (byte text p) 58 (λ e. omega arith));
-  bracket = ap (λ t. flow && t) (high_bracket (byte text p) h) ∙ and-false flow;
-  odd = ap (λ t. flow && t) (ne_eqb (byte text p) 58 (λ e. omega arith)) ∙ and-false flow;
-}
+high_stays flow text p h = grind (arith, nat_tests, high_bracket)
 
 high : (flow : Bool) (level : ℕ) (text : List ℕ) (p b before : ℕ) → InLine level text p before
     → byte text p ≡ b → 128 ≤ b → ends_break text p ≡ false → break_width text p ≡ 0
@@ -324,10 +314,7 @@ pub record Stops (flow : Bool) (level : ℕ) (text : List ℕ) (p : ℕ) : Type 
 pub stops : (flow : Bool) (level : ℕ) (text : List ℕ) (p : ℕ) → ends_plain flow level text p ≡ true
     → Stops flow level text p
 unfolding ends_plain
-stops flow level text p h =
-    let (blank, more) = and_parts (not (is_blank (byte text p))) (not (nat_lt 0 (break_width text p)) && ends_at flow level text p) h in
-    let (width, ends) = and_parts (not (nat_lt 0 (break_width text p))) (ends_at flow level text p) more in
-    record { blank = not-true (is_blank (byte text p)) blank; width = (grind (arith, nat_tests)); ends = ends }
+stops flow level text p h = grind (arith, nat_tests)
 
 pub no_tab : (b : ℕ) (x : Bool) → b ≡ 32 → (b == 9 && x) ≡ false
 no_tab b x h = grind (arith, nat_tests)

@@ -1,6 +1,6 @@
 -- Gaps, lines and words, one after another.
-use Rattle.std.proofs.Common.{◌≡◌, ◌≢◌, ℕ, zero, suc, ◌+◌, ◌-◌, ◌==◌, ◌&&◌, ◌||◌, nat_lt, Bool, true, false, List, [], ◌∷◌, ◌++◌, length, Some, Ok, refl, ap, subst, ◌∙◌, inl, inr, arith, add-zero, if◌then◌else◌}
-use Rattle.yaml_emit_laws.proofs.Shared.{cases_Bool, nat_tests, and-false, byte, break_of, ends_of, Gap, is_document_start, is_document_end, are_gap, begins_lexeme, GapReads, Kind, depth_after, is_end, reached, flow_depth, key_allowed, WordText, indicator_of, kind_at, lexeme_at, Word, lexemes, WordsStand, word_kinds, TokenBody, Cursor, LineBreak, Lf, Cr, CrLf, Item, letter, encode, char_bytes, Layout, Rest, ◌▹◌, gap, blank, line, blanks, new_line, indent_to, must_break, checked, deep_if, MOST, Left, Starts, WordStage, bytes, GoesBehindWords, Walks, column_end}
+use Rattle.std.proofs.Common.{◌≡◌, ◌≢◌, ℕ, zero, suc, ◌+◌, ◌-◌, ◌==◌, ◌&&◌, ◌||◌, nat_lt, Bool, true, false, List, [], ◌∷◌, ◌++◌, length, Some, Ok, refl, ap, subst, ◌∙◌, arith, add-zero, if◌then◌else◌}
+use Rattle.yaml_emit_laws.proofs.Shared.{nat_tests, and-false, byte, break_of, ends_of, Gap, is_document_start, is_document_end, are_gap, begins_lexeme, GapReads, Kind, depth_after, is_end, reached, flow_depth, key_allowed, WordText, indicator_of, kind_at, lexeme_at, Word, lexemes, WordsStand, word_kinds, TokenBody, Cursor, LineBreak, Lf, Cr, CrLf, Item, letter, encode, char_bytes, Layout, Rest, ◌▹◌, gap, line, blanks, new_line, indent_to, must_break, checked, deep_if, MOST, Left, Starts, WordStage, bytes, GoesBehindWords, Walks, column_end}
 use Rattle.yaml_scan_laws.specs.KeysLaws.{gap_in, end_in}
 use Rattle.yaml_emit_laws.proofs.Places.{has_at, left_first, left_more}
 use Rattle.yaml_scan_laws.proofs.NamesWords.{has_both}
@@ -72,18 +72,7 @@ not_start n e = omega arith
 -- a space, where one is due
 pub gap_here : (text : List ℕ) (c : Cursor) (p : ℕ) (ws : List Word) (d : ℕ) (rest : Rest)
     → WordStage text c p ws d → Left text p (bytes (gap c rest)) → Here text rest ws d
-gap_here text c p ws d rest s l =
-    elim (cases_Bool c.white) [
-      | inl e ↦ record { cursor = c; place = p; stage = s; left = subst (λ (b : Bool). Left text p (bytes (if b then rest c else blank c rest))) e l }
-      | inr e ↦
-          let m = left_letter text p 32 (rest (record { column = c.column + 1; white = true; bare = c.bare; kept = c.kept })) refl (subst (λ (b : Bool). Left text p (bytes (if b then rest c else blank c rest))) e l) in
-          record {
-            cursor = record { column = c.column + 1; white = true; bare = c.bare; kept = c.kept };
-            place = p + 1;
-            stage = gap_byte text c _ p 32 ws d refl (left_first text p 32 _ m) (λ z. absurd (not_start c.column z)) refl s;
-            left = left_more text p 32 _ m;
-          }
-    ]
+gap_here text c p ws d rest s l = grind (arith, nat_tests, left_letter, gap_byte, left_first, not_start, left_more)
 
 -- spaces
 pub blanks_here : (n : ℕ) (text : List ℕ) (c : Cursor) (p : ℕ) (ws : List Word) (d : ℕ)

@@ -35,14 +35,7 @@ by_return b c d e = rw e (bool_cases (c == 10) (λ f. rw f refl) (λ f. rw f ref
 
 gap_white : (text : List ℕ) (p : ℕ) → is_gap_byte (byte text p) ≡ true
     → is_blank_or_end text p ≡ true
-gap_white text p h =
-    elim (or_cases (byte text p == 32) _ h) [
-      | inl e ↦ rw e refl
-      | inr e ↦ or_right ((is_blank (byte text p)) || byte text p == 0) (nat_lt 0 (break_width text p)) (some_break (byte text p) (byte text (p + 1)) (byte text (p + 2)) e)
-    ]
-  where
-    some_break : (b c d : ℕ) → (b == 10 || b == 13) ≡ true → nat_lt 0 (break_of b c d) ≡ true
-    some_break b c d h = elim (or_cases (b == 10) (b == 13) h) [ inl e ↦ by_feed b c d (eqb-true b 10 e) | inr e ↦ by_return b c d (eqb-true b 13 e) ]
+gap_white text p h = grind (arith, nat_tests, by_feed, by_return)
 
 pub white_next : (text : List ℕ) (p : ℕ) (bs : List ℕ) → Left text p bs → begins_white bs ≡ true
     → is_blank_or_end text p ≡ true
@@ -108,14 +101,7 @@ ends_by flow level text p b w e = rw (b, w, e) refl
 line_ends : (flow : Bool) (level : ℕ) (at : Option ℕ) (text : List ℕ) (p b : ℕ) (bs : List ℕ)
     → Left text p (b ∷ bs) → (b == 10) ≡ false → At text p at → stops_line flow level at b bs ≡ true
     → ends_at flow level text p ≡ true
-line_ends flow level None text p b bs l not_feed here h = absurd (true≢false (sym h))
-line_ends flow level (Some n) text p b bs l not_feed here h =
-    let e = left_first text p b bs l in
-    let a = here (λ f. true≢false (sym (ap (λ k. k == 10) (sym e ∙ f)) ∙ not_feed)) in
-    elim (or_cases (n == 0 && begins_mark b bs) (not flow && nat_lt n level) h) [
-      | inl m ↦ mark_ends flow level text p (mark_here text p b bs l (a.0 ∙ eqb-true n 0 (and_parts (n == 0) (begins_mark b bs) m).0) (and_parts (n == 0) (begins_mark b bs) m).1)
-      | inr m ↦ left_ends flow level n text p (not-true flow (and_parts (not flow) (nat_lt n level) m).0) a.0 a.1 (and_parts (not flow) (nat_lt n level) m).1
-    ]
+line_ends flow level at text p b bs l not_feed here h = grind (arith, nat_tests, left_first, mark_ends, mark_here, left_ends)
 
 here_ends : (flow : Bool) (level : ℕ) (at : Option ℕ) (text : List ℕ) (p b : ℕ) (bs : List ℕ)
     → Left text p (b ∷ bs) → is_gap_byte b ≡ false → At text p at
@@ -146,12 +132,7 @@ here_ends flow level at text p b bs l gap here h =
 
 line_begins : (text : List ℕ) (p : ℕ) → break_width text p ≡ 1
     → (column_at text (p + 1) ≡ 0) × (leads text (p + 1) ≡ true)
-line_begins text p w =
-    let some : 0 < break_width text p = omega (arith, w) in
-    let same : p + break_width text p ≡ p + 1 = ap (λ k. p + k) w in
-    let past = past_break text p some in
-    let seat = lead_break text p some in
-    (subst (λ q. column_at text q ≡ 0) same past.column, subst (λ q. leads text q ≡ true) same (sym seat.leading))
+line_begins text p w = grind (arith, nat_tests, past_break, lead_break)
 
 at_space : (text : List ℕ) (p : ℕ) (at : Option ℕ) → byte text p ≡ 32 → At text p at
     → At text (p + 1) (one_more at)
@@ -164,14 +145,7 @@ at_space text p (Some n) e h =
 at_next : (text : List ℕ) (p b : ℕ) (at : Option ℕ) → byte text p ≡ b → is_gap_byte b ≡ true
     → At text p at → At text (p + 1) (column_behind b at)
 unfolding break_of
-at_next text p b at e h here =
-    bool_cases (b == 32)
-    (λ s. subst (λ o. At text (p + 1) o) (sym (cond_true (b == 32) (one_more at) (Some 0) s)) (at_space text p at (e ∙ eqb-true b 32 s) here))
-    (λ s. subst (λ o. At text (p + 1) o) (sym (cond_false (b == 32) (one_more at) (Some 0) s))
-    (λ g. elim (or_cases (b == 10) (b == 13) (sym (ap (λ t. t || (b == 10 || b == 13)) s) ∙ h)) [
-      | inl f ↦ line_begins text p (rw (e ∙ eqb-true b 10 f) refl)
-      | inr f ↦ line_begins text p (rw ((e ∙ eqb-true b 13 f), (ne_eqb (byte text (p + 1)) 10 g)) refl)
-    ]))
+at_next text p b at e h here = grind (arith, nat_tests, cond_true, at_space, cond_false, line_begins)
 
 -- the white, and what is known of it
 record Parted (flow : Bool) (level : ℕ) (text : List ℕ) (p : ℕ) (bs : List ℕ) : Type 0 where
@@ -196,25 +170,12 @@ stop_other flow level at b bs e = cond_false (is_gap_byte b) (stops_plain_at flo
 
 part_none : (flow : Bool) (level : ℕ) (text : List ℕ) (p : ℕ) (bs : List ℕ) → white_of bs ≡ []
     → ends_plain flow level text p ≡ true → Parted flow level text p bs
-part_none flow level text p bs e h =
-    let z : p + 0 ≡ p = omega arith in
-    record {
-      has = subst (λ (xs : List ℕ). Has text p xs) (sym e) tt;
-      are = subst (λ (xs : List ℕ). are_gap xs ≡ true) (sym e) refl;
-      ends = subst (λ (xs : List ℕ). ends_plain flow level text (p + length xs) ≡ true) (sym e) (subst (λ q. ends_plain flow level text q ≡ true) (sym z) h);
-    }
+part_none flow level text p bs e h = grind (arith, nat_tests)
 
 part_more : (flow : Bool) (level : ℕ) (text : List ℕ) (p b : ℕ) (bs : List ℕ) → is_gap_byte b ≡ true
     → byte text p ≡ b → Parted flow level text (p + 1) bs → Parted flow level text p (b ∷ bs)
 unfolding white_of
-part_more flow level text p b bs g e r =
-    let w = cond_true (is_gap_byte b) (b ∷ white_of bs) [] g in
-    let far : p + 1 + length (white_of bs) ≡ p + suc (length (white_of bs)) = omega arith in
-    record {
-      has = subst (λ (xs : List ℕ). Has text p xs) (sym w) (e, r.has);
-      are = subst (λ (xs : List ℕ). are_gap xs ≡ true) (sym w) (rw g r.are);
-      ends = subst (λ (xs : List ℕ). ends_plain flow level text (p + length xs) ≡ true) (sym w) (subst (λ q. ends_plain flow level text q ≡ true) far r.ends);
-    }
+part_more flow level text p b bs g e r = grind (arith, nat_tests, cond_true)
 
 parted : (flow : Bool) (level : ℕ) (at : Option ℕ) (text : List ℕ) (p : ℕ) (bs : List ℕ)
     → Left text p bs → At text p at → stops_plain_at flow level at bs ≡ true
@@ -284,10 +245,7 @@ bracket b h = record { gap = grind (arith, nat_tests); tab = grind (arith, nat_t
 
 bracket_stops : (level : ℕ) (at : Option ℕ) (b : ℕ) (bs : List ℕ) → is_bracket b ≡ true
     → stops_plain_at true level at (b ∷ bs) ≡ true
-bracket_stops level at b bs h =
-    let k = bracket b h in
-    let here : stops_here true level at b bs ≡ true = rw (k.tab, k.width (first bs) (first (behind bs)), h) (or-true (b == 58 && begins_white bs)) in
-    stop_other true level at b bs k.gap ∙ here
+bracket_stops level at b bs h = grind (arith, nat_tests, bracket, stop_other)
 
 colon_width : (c d : ℕ) → break_of 58 c d ≡ 0
 unfolding break_of
@@ -321,28 +279,11 @@ dots_stop flow level bs h =
 
 solid_stops : (level n : ℕ) (bs : List ℕ) → n < level → begins_solid bs ≡ true
     → stops_plain_at false level (Some n) bs ≡ true
-solid_stops level n [] l h = absurd (true≢false (sym h))
-solid_stops level n (b ∷ bs) l h =
-    let gap = not-true (is_gap_byte b) (and_parts (not (is_gap_byte b)) _ h).0 in
-    let front = (and_parts (not (is_gap_byte b)) _ h).1 in
-    let less : nat_lt n level ≡ true = grind (arith, nat_tests) in
-    let here : stops_here false level (Some n) b bs ≡ true = rw (front, less) (ends (b == 58 && begins_white bs) (n == 0 && begins_mark b bs)) in
-    stop_other false level (Some n) b bs gap ∙ here
-  where
-    ends : (a c : Bool) → (true && (a || (false || (c || true)))) ≡ true
-    ends true c = refl
-    ends false true = refl
-    ends false false = refl
+solid_stops level n bs l h = grind (arith, nat_tests, stop_other)
 
 pub what_stops : WhatStopsPlain
 unfolding stops_plain_at
-what_stops flow level at = (
-  refl,
-  λ b bs h. bracket_stops level at b bs h,
-  λ bs h. colon_stops flow level at bs h,
-  λ bs h. (dashes_stop flow level bs h, dots_stop flow level bs h),
-  λ n bs l h. solid_stops level n bs l h,
-)
+what_stops flow level at = grind (arith, nat_tests, bracket_stops, colon_stops, dashes_stop, dots_stop, solid_stops)
 
 -- ---- characters
 

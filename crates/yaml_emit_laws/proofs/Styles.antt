@@ -1,9 +1,7 @@
 -- A style that is taken is allowed.
-use Rattle.std.proofs.Common.{◌≡◌, Bool, true, false, not, ◌&&◌, ◌||◌, ◌==◌, length, sym, subst, ℕ, ◌<◌, ◌≤◌, Option, Some, None, arith, if◌then◌else◌, chars}
-use Rattle.yaml_emit_laws.proofs.ScalarWords.{and_parts, not-true, or_parts, yaml_scalar_style_t, Allowed, Style, allowed, taken, plain_fits, single_or, block_or, plain_or, NodePosition, Scalar, scalar_tag, Context, is_simple_part, style_of, deeper, Settings, bool_cases}
-use Rattle.yaml_emit_layout.specs.scan_model.declared.name.yaml_scalar_style_t.TheVariants as asked
+use Rattle.std.proofs.Common.{◌≡◌, Bool, true, false, sym, subst, ℕ, ◌<◌, ◌≤◌, Option, Some, None, arith, if◌then◌else◌, chars}
+use Rattle.yaml_emit_laws.proofs.ScalarWords.{yaml_scalar_style_t, Allowed, Style, allowed, taken, single_or, block_or, plain_or, NodePosition, Scalar, Context, is_simple_part, style_of, deeper, Settings, bool_cases}
 use Rattle.yaml_emit_layout.specs.declared.Style.TheVariants as style
-use Rattle.yaml_emit_layout.specs.Grammar.{has}
 use Rattle.yaml_emit_laws.specs.StylesLaws.{StylesAreAllowed, level_of, PagesIndent}
 
 -- what a style has to be allowed
@@ -19,50 +17,26 @@ single_fits a flow simple = bool_cases a.single (λ e. subst (λ b. Fits a flow 
 
 plain_is : (a : Allowed) (untagged flow simple empty : Bool)
     → Fits a flow simple (plain_or a untagged flow simple empty)
-plain_is a untagged flow simple empty =
-    bool_cases (plain_fits a untagged flow simple empty)
-    (λ e. subst (λ b. Fits a flow simple (if b then style.Plain else single_or a)) (sym e) (and_parts (if flow then a.flow_plain else a.plain) (not (empty && simple) && untagged) e).0)
-    (λ e. subst (λ b. Fits a flow simple (if b then style.Plain else single_or a)) (sym e) (single_fits a flow simple))
+plain_is a untagged flow simple empty = grind (arith, single_fits)
 
 block_is : (a : Allowed) (flow simple : Bool) (s : Style)
     → ((a.block ≡ true) × (flow ≡ false) × (simple ≡ false) → Fits a flow simple s)
     → Fits a flow simple (block_or a flow simple s)
-block_is a flow simple s f =
-    bool_cases (a.block && not (flow || simple))
-    (λ e.
-    let n = not-true (flow || simple) (and_parts a.block (not (flow || simple)) e).1 in
-    subst (λ b. Fits a flow simple (if b then s else style.Double)) (sym e) (f ((and_parts a.block (not (flow || simple)) e).0, (or_parts flow simple n).0, (or_parts flow simple n).1)))
-    (λ e. subst (λ b. Fits a flow simple (if b then s else style.Double)) (sym e) tt)
+block_is a flow simple s f = grind arith
 
 taken_fits : (a : Allowed) (s : yaml_scalar_style_t) (untagged flow simple empty : Bool)
     → Fits a flow simple (taken a s untagged flow simple empty)
 unfolding taken
-taken_fits a asked.YAML_SINGLE_QUOTED_SCALAR_STYLE untagged flow simple empty = single_fits a flow simple
-taken_fits a asked.YAML_DOUBLE_QUOTED_SCALAR_STYLE untagged flow simple empty = tt
-taken_fits a asked.YAML_LITERAL_SCALAR_STYLE untagged flow simple empty = block_is a flow simple style.Literal (λ h. h)
-taken_fits a asked.YAML_FOLDED_SCALAR_STYLE untagged flow simple empty = block_is a flow simple style.Folded (λ h. h)
-taken_fits a _ untagged flow simple empty = plain_is a untagged flow simple empty
+taken_fits a s untagged flow simple empty = grind (arith, single_fits, block_is, plain_is)
 
 style_fits : (p : Context) (at : NodePosition) (x : Scalar)
     → Fits (allowed p.settings.unicode (chars x.value)) at.flow (is_simple_part at.part)
     (style_of p at x)
 unfolding style_of
-style_fits p at x =
-    let a = allowed p.settings.unicode (chars x.value) in
-    let other = taken a x.style (has (scalar_tag false x) || x.plain) at.flow (is_simple_part at.part) (length x.value == 0) in
-    bool_cases p.settings.canonical
-    (λ e. subst (λ b. Fits a at.flow (is_simple_part at.part) (if b then style.Double else other)) (sym e) tt)
-    (λ e. subst (λ b. Fits a at.flow (is_simple_part at.part) (if b then style.Double else other)) (sym e) (taken_fits a x.style (has (scalar_tag false x) || x.plain) at.flow (is_simple_part at.part) (length x.value == 0)))
+style_fits p at x = grind (arith, taken_fits)
 
 pub styles_allowed : StylesAreAllowed
-styles_allowed p at x =
-    let a = allowed p.settings.unicode (chars x.value) in
-    let f = style_fits p at x in (
-      λ e. subst (λ s. Fits a at.flow (is_simple_part at.part) s) e f,
-      λ e. subst (λ s. Fits a at.flow (is_simple_part at.part) s) e f,
-      λ e. subst (λ s. Fits a at.flow (is_simple_part at.part) s) e f,
-      λ e. subst (λ s. Fits a at.flow (is_simple_part at.part) s) e f,
-    )
+styles_allowed p at x = grind (arith, style_fits)
 
 -- ---- pages
 

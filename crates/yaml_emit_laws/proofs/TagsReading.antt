@@ -1,5 +1,5 @@
 -- Spelled tags are read.
-use Rattle.std.proofs.Common.{◌≡◌, inl, inr, ℕ, suc, ◌+◌, ◌<◌, Bool, true, false, List, [], ◌∷◌, ◌++◌, length, Ok, refl, sym, ap, subst, ◌∙◌, arith, append_assoc, length-append, IsUtf8}
+use Rattle.std.proofs.Common.{◌≡◌, ℕ, suc, ◌+◌, ◌<◌, Bool, true, false, List, [], ◌∷◌, ◌++◌, length, Ok, refl, sym, ap, subst, ◌∙◌, arith, append_assoc, length-append, IsUtf8}
 use Rattle.yaml_emit_laws.proofs.Shared.{TagText, tag_at, may_end_tag, HasAt, are_alphas, uri_bytes, Split, shorthand, verbatim, spelled, uri_text, IsShaped, IsReadable}
 use Rattle.yaml_scan_history.specs.Written as written
 use Rattle.yaml_scan_history.proofs.TagsRead.{bare_is_read, verbatim_is_read, named_is_read}
@@ -25,12 +25,7 @@ record Spelt (wide : Bool) (bs : List ℕ) : Type 0 where
   pub some : 0 < length (pieces_of wide bs)
 
 spelt : (wide : Bool) (bs : List ℕ) → 0 < length bs → Spelt wide bs
-spelt wide bs some = record {
-  text = text_is wide bs;
-  long = ap (λ (x : List ℕ). length x) (text_is wide bs);
-  bytes = bytes_are wide bs;
-  some = omega (arith, some, many_are wide bs);
-}
+spelt wide bs some = grind (arith, text_is, bytes_are, many_are)
 
 ends_so : (flow : Bool) (text : List ℕ) (e f : ℕ) → e ≡ f → may_end_tag flow text e ≡ true
     → may_end_tag flow text f ≡ true
@@ -94,11 +89,7 @@ verbatim_read tag utf8 some flow text p h stop =
 
 shorthand_read : (handle suffix : List ℕ) → IsShaped handle → IsUtf8 suffix → 0 < length suffix
     → ReadsBehind handle suffix (handle ++ uri_text false suffix)
-shorthand_read handle suffix (inl e) utf8 some =
-    subst (λ (h : List ℕ). ReadsBehind h suffix (h ++ uri_text false suffix)) (sym e) (bare_read suffix utf8 some)
-shorthand_read handle suffix (inr (name, e, alphas)) utf8 some =
-    let read = subst (λ (x : List ℕ). ReadsBehind (named_handle name) suffix x) (ap bare_text (sym (append_assoc name bare_handle (uri_text false suffix)))) (named_read name suffix alphas utf8 some) in
-    subst (λ (h : List ℕ). ReadsBehind h suffix (h ++ uri_text false suffix)) (sym e) read
+shorthand_read handle suffix v2 utf8 some = grind (arith, bare_read, append_assoc, named_read)
 
 -- A tag that is written by handle and suffix reads back as these.
 pub split_read : (split : Split) → IsReadable split → (flow : Bool) (text : List ℕ) (p : ℕ)

@@ -103,12 +103,7 @@ end_at text p paragraph_separator (a, (b, (d, u))) n =
     record { first = 0xE2; is = a; no_dash = λ f. omega arith; no_dot = λ f. omega arith; no_double = λ f. omega arith; no_single = λ f. omega arith; some = refl; width = rw (w, a, b, d) refl; read = rw (w, a, b, d) refl }
 
 end_some : (e : LineEnd) → 0 < length (end_bytes e)
-end_some feed = omega arith
-end_some return = omega arith
-end_some return_feed = omega arith
-end_some next_line = omega arith
-end_some line_separator = omega arith
-end_some paragraph_separator = omega arith
+end_some e = grind (arith, nat_tests)
 
 end_standing : (quote : ℕ) (text : List ℕ) (p : ℕ) (e : LineEnd) → IsQuote quote → EndAt text p e
     → standing_at quote text p ≡ Pieces (Break (end_means e) ∷ []) (p + length (end_bytes e))
@@ -123,12 +118,7 @@ spaces_first text p n xs (e, h) = rw e refl
 
 end_first : (text : List ℕ) (p : ℕ) (e : LineEnd) (xs : List ℕ) → is_feed_end e ≡ false
     → Has text p (end_bytes e ++ xs) → (byte text p == 10) ≡ false
-end_first text p feed xs f h = absurd (cc)
-end_first text p return xs f (e, h) = rw e refl
-end_first text p return_feed xs f (e, h) = rw e refl
-end_first text p next_line xs f (e, h) = rw e refl
-end_first text p line_separator xs f (e, h) = rw e refl
-end_first text p paragraph_separator xs f (e, h) = rw e refl
+end_first text p e xs f h = grind (arith, nat_tests)
 
 -- the spaces of a turn, and those after it
 abbrev after_end : LineTurn → List LineTurn → List ℕ
@@ -194,11 +184,7 @@ tail_read t ts = blanks_of t.spaces ++ turns_read ts
 
 last_through : (quote : ℕ) (text : List ℕ) (r n : ℕ) → IsQuote quote → nat_lt 0 n ≡ true
     → Has text r (replicate n 32) → Through quote text r (blanks_of n) (r + n)
-last_through quote text r zero q m h = absurd (cc)
-last_through quote text r (suc n) q m h = record {
-  reads = λ rs e x. spaces_read quote text r (suc n) e rs q h x;
-  column = spaces_column text r n h;
-}
+last_through quote text r n q m h = grind (arith, nat_tests, spaces_read, spaces_column)
 
 tail_through : (quote : ℕ) (text : List ℕ) (r : ℕ) (t : LineTurn) (ts : List LineTurn)
     → IsQuote quote → may_turn t ts ≡ true → Has text r (after_end t ts)

@@ -1,6 +1,6 @@
 -- What a spelling is read as, piece by piece, has the value that it means.
 use Rattle.std.proofs.Common.{◌≡◌, ℕ, zero, suc, true, false, List, [], ◌∷◌, ◌++◌, map, refl, sym, ap, subst, ◌∙◌, inl, inr, arith, append_assoc, encode_utf8, replicate, if◌then◌else◌}
-use Rattle.yaml_emit_laws.proofs.Shared.{cases_Bool, cases_lt, encode_ascii, nat_tests, is_blank, Piece, Kept, Blank, Break, Line, lines, rest_of, folded, value, end_means, LineTurn, turn_means, QuotedPart, raw, doubled, named, numbered, joint, meant, meaning, IsSpelling, may_follow, may_be_next, is_raw_blank, is_fold, is_turn}
+use Rattle.yaml_emit_laws.proofs.Shared.{cases_Bool, encode_ascii, nat_tests, is_blank, Piece, Kept, Blank, Break, Line, lines, rest_of, folded, value, end_means, LineTurn, turn_means, QuotedPart, raw, doubled, named, numbered, joint, meant, meaning, IsSpelling, may_follow, may_be_next, is_raw_blank, is_fold, is_turn}
 use Rattle.yaml_scan_history.specs.Pieces.{is_empty, gap, Rest}
 use Rattle.yaml_scan_history.proofs.FoldingLemmas.{value-kept, rest_of-blank}
 use Rattle.yaml_emit_laws.specs.Spelling.{fold}
@@ -48,12 +48,7 @@ value_keeps (b ∷ bs) ps = value-kept [] (b ∷ []) (keeps bs ++ ps) ∙ ap (λ
 
 folded_blank : (b : ℕ) (l : Line) (ls : List (List ℕ × Line)) → (is_empty l ≡ true → ls ≡ [])
     → folded (Blank b ∷ l) ls ≡ b ∷ folded l ls
-folded_blank b l [] h = refl
-folded_blank b l (next ∷ ls) h =
-    elim (cases_Bool (is_empty l)) [
-      | inl e ↦ let bad : next ∷ ls ≡ [] = h e in absurd (cc)
-      | inr e ↦ rw e refl
-    ]
+folded_blank b l ls h = grind (arith, nat_tests)
 
 -- the pieces begin with one that stays
 record Front (ps : List Piece) : Type 0 where
@@ -71,17 +66,7 @@ some_bytes bs b rest e = record { byte = b; rest = rest; is = e }
 
 -- a character has a first byte
 pub encoded_front : (c : ℕ) → SomeBytes (encode_utf8 c)
-encoded_front c =
-    elim (cases_lt c 128) [
-      | inl a ↦ some_bytes _ _ _ (encode_1 c a)
-      | inr a ↦ elim (cases_lt c 2048) [
-        | inl b ↦ some_bytes _ _ _ (encode_2 c a b)
-        | inr b ↦ elim (cases_lt c 65536) [
-          | inl d ↦ some_bytes _ _ _ (encode_3 c b d)
-          | inr d ↦ some_bytes _ _ _ (encode_4 c d)
-        ]
-      ]
-    ]
+encoded_front c = grind (arith, nat_tests, some_bytes, encode_1, encode_2, encode_3, encode_4)
 
 -- A blank that is written as it is reads as a blank.
 pub read_blank : (c : ℕ) → is_blank c ≡ true → read_as (raw c) ≡ Blank c ∷ []
@@ -169,10 +154,7 @@ value_turns first t ts ps h =
 
 follow_turn : (p q : QuotedPart) → is_turn p ≡ true → may_follow p q ≡ true
     → (is_fold q ≡ false) × (is_raw_blank q ≡ false)
-follow_turn p q t f = elim (cases_Bool (is_fold q)) [
-  | inl a ↦ elim (cases_Bool (is_raw_blank p)) [ inl b ↦ let g = rw (a, b) at f in absurd (cc) | inr b ↦ let g = rw (a, b, t) at f in absurd (cc) ]
-  | inr a ↦ elim (cases_Bool (is_raw_blank q)) [ inl b ↦ let g = rw (a, b, t) at f in absurd (cc) | inr b ↦ (a, b) ]
-]
+follow_turn p q t f = grind (arith, nat_tests)
 
 -- what follows the ends of lines
 rest_parts : (quote : ℕ) (p : QuotedPart) (ps : List QuotedPart) → is_turn p ≡ true

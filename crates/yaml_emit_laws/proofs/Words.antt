@@ -1,6 +1,6 @@
 -- The words of canonical layout.
 use Rattle.std.proofs.Common.{◌≡◌, ℕ, suc, ◌+◌, ◌-◌, ◌<◌, ◌==◌, nat_lt, Bool, true, false, List, [], ◌∷◌, ◌++◌, length, Some, Result, Ok, refl, sym, ap, subst, ◌∙◌, inl, inr, ◌⊎◌, arith, append_assoc, IsUtf8, encode_utf8, encode_utf8_all, chars}
-use Rattle.yaml_emit_laws.proofs.Shared.{cases_Bool, and_parts, nat_tests, encode_ascii, or-true, byte, break_of, Wrong, are_alphas, GapReads, AnchorReads, double_quoted_at, Kind, depth_after, is_end, WordText, indicator_of, lexeme_at, YAML_DOUBLE_QUOTED_SCALAR_STYLE, TokenBody, Cursor, Item, letter, encode, char_bytes, Layout, Rest, ◌▹◌, char, letters, word, opener, quoted_text, in_front, are_ascii, between_quotes, QuotedIsReadBack, Has, Left, WordStage, bytes, Walks, first, parts, Parts}
+use Rattle.yaml_emit_laws.proofs.Shared.{cases_Bool, and_parts, nat_tests, encode_ascii, byte, break_of, Wrong, are_alphas, GapReads, AnchorReads, double_quoted_at, Kind, depth_after, is_end, WordText, indicator_of, lexeme_at, YAML_DOUBLE_QUOTED_SCALAR_STYLE, TokenBody, Cursor, Item, letter, encode, char_bytes, Layout, Rest, ◌▹◌, char, letters, word, opener, quoted_text, in_front, are_ascii, between_quotes, QuotedIsReadBack, Has, Left, WordStage, bytes, Walks, first, parts, Parts}
 use lib.Utf8.{encode as encode_char}
 use Rattle.yaml_emit_layout.specs.scan_model.declared.problem.Context.TheVariants as contexts
 use Rattle.yaml_scan_history.specs.Anchors.{anchor_at, may_end_name}
@@ -21,18 +21,7 @@ pub sign : (b : ℕ) → nat_lt b 128 ≡ true → (b == 0) ≡ false → (b == 
     → (b == 35) ≡ false → (b == 37) ≡ false → (b == 45) ≡ false → (b == 46) ≡ false
     → (b == 10) ≡ false → (b == 13) ≡ false → Sign b
 unfolding break_of
-sign b low some tab space hash percent dash dot feed return = record {
-  low = low;
-  some = some;
-  tab = tab;
-  space = space;
-  hash = hash;
-  percent = percent;
-  dash = dash;
-  dot = dot;
-  order = grind (arith, nat_tests);
-  calm = λ c d. let x : (b == 0xC2) ≡ false = grind (arith, nat_tests) in let y : (b == 0xE2) ≡ false = grind (arith, nat_tests) in rw (feed, return, x, y) refl;
-}
+sign b low some tab space hash percent dash dot feed return = grind (arith, nat_tests)
 
 abbrev one_byte : TokenBody → ℕ → WordText
 one_byte body p = record { body = body; end = p + 1; reached = p + 1; broke = false }
@@ -151,16 +140,7 @@ pub record Letters (xs : List ℕ) (c : Cursor) : Type 0 where
 pub letters_are : (xs : List ℕ) → are_ascii xs ≡ true → (c : Cursor) → Letters xs c
 unfolding letters
 letters_are [] are c = record { behind = c; same = λ rest. refl; white = λ e. e; bare = λ e. e; column = λ h z. h z; kept = refl }
-letters_are (x ∷ xs) are c =
-    let r = letters_are xs (and_parts (nat_lt x 128) (are_ascii xs) are).1 (lettered_on c) in
-    record {
-      behind = r.behind;
-      same = λ rest. letter_low x (letters xs (lettered_on c) rest) (and_parts (nat_lt x 128) (are_ascii xs) are).0 ∙ ap (λ (t : List ℕ). x ∷ t) (r.same rest);
-      white = λ e. r.white refl;
-      bare = λ e. r.bare refl;
-      column = λ h. r.column (λ z. more_than c.column z);
-      kept = r.kept;
-    }
+letters_are (x ∷ xs) are c = grind (arith, nat_tests, letter_low, more_than, letters_are xs (and_parts (nat_lt x 128) (are_ascii xs) are).1 (lettered_on c))
 
 part_cases : (b : ℕ) → parts b ≡ true → (b ≡ 44) ⊎ ((b ≡ 10) ⊎ (b ≡ 13))
 part_cases b h = grind (arith, nat_tests)
@@ -177,12 +157,7 @@ line_break c d = refl
 parts_end : (text : List ℕ) (p b : ℕ) → byte text p ≡ b → parts b ≡ true
     → may_end_name text p ≡ true
 unfolding may_end_name
-parts_end text p b h e =
-    elim (part_cases b e) [
-      | inl f ↦ rw (h, f, or-true) refl
-      | inr (inl f) ↦ rw (h, f, line_break) refl
-      | inr (inr f) ↦ rw (h, f, some_break) refl
-    ]
+parts_end text p b h e = grind (arith, nat_tests, part_cases, line_break, some_break)
 
 left_zero : (text : List ℕ) (p : ℕ) (bs : List ℕ) → Left text p bs → parts (first bs) ≡ true
     → byte text p ≡ first bs

@@ -72,10 +72,7 @@ one_more : (page : Page) (quote : Bool) (before x : ℕ) (xs : List ℕ) (c : Cu
     → is_break x ≡ true → is_break before ≡ false → (x == 10) ≡ true
     → flow_char page quote before x xs c rest
     ≡ new_line page.line_break c (λ d. value_break page.line_break x d rest)
-one_more page quote before x xs c rest e f g = break_char page quote before x xs c rest e ∙ ap (λ t. when t (new_line page.line_break) c (λ d. value_break page.line_break x d rest)) (both (x == 10) (is_break before) g f)
-  where
-    both : (a b : Bool) → a ≡ true → b ≡ false → (a && not b) ≡ true
-    both a b p q = rw (p, q) refl
+one_more page quote before x xs c rest e f g = grind (arith, break_char)
 
 none_more : (page : Page) (quote : Bool) (before x : ℕ) (xs : List ℕ) (c : Cursor) (rest : Rest)
     → is_break x ≡ true → (x == 10 && not (is_break before)) ≡ false
@@ -111,11 +108,7 @@ turn_two : (e : LineEnd) (u : LineTurn) (ts : List LineTurn) (ps : List QuotedPa
     → spelling (fold (record { end = e; spaces = 0 }) (u ∷ ts) ∷ ps) ≡ end_bytes e
     ++ (end_bytes u.end ++ (replicate u.spaces 32 ++ (turn_bytes ts ++ spelling ps)))
 unfolding turn_bytes
-turn_two e u ts ps =
-    turn_one (record { end = e; spaces = 0 }) (u ∷ ts) ps
-    ∙ ap (λ (xs : List ℕ). end_bytes e ++ xs)
-    (append_assoc (end_bytes u.end) (replicate u.spaces 32 ++ turn_bytes ts) (spelling ps)
-    ∙ ap (λ (xs : List ℕ). end_bytes u.end ++ xs) (append_assoc (replicate u.spaces 32) (turn_bytes ts) (spelling ps)))
+turn_two e u ts ps = grind (arith, turn_one, append_assoc)
 
 turns_more : (u : LineTurn) (ts : List LineTurn) (ps : List QuotedPart)
     → turn_bytes (u ∷ ts) ++ spelling ps ≡ end_bytes u.end
@@ -163,12 +156,7 @@ may_more : (e : LineEnd) (n : ℕ) (u : LineTurn) (us : List LineTurn)
     → (is_return e && is_feed_end u.end) ≡ false → may_turn u us ≡ true
     → may_turn (record { end = e; spaces = n }) (u ∷ us) ≡ true
 unfolding may_turn
-may_more e n u us a b = both (is_return e) (n == 0) (is_feed_end u.end) (may_turn u us) a b
-  where
-    both : (r z f m : Bool) → (r && f) ≡ false → m ≡ true → (not (r && (z && f)) && m) ≡ true
-    both false z f m p q = q
-    both true false f m p q = q
-    both true true f m p q = rw (p, q) refl
+may_more e n u us a b = grind arith
 
 no_spellings : (quote : Bool) → spelling [] ≡ []
 unfolding spelling
@@ -428,11 +416,7 @@ Free last value = is_break (first value) ≡ true → (is_raw_blank last ≡ fal
 free_step : (page : Page) (quote : Bool) (before x : ℕ) (xs : List ℕ) (c : Cursor)
     (last : QuotedPart) → (s : Step page quote before x xs c last)
     → (x == 32 && is_break (first xs)) ≡ false → Free s.part xs
-free_step page quote before x xs c last s eqb-false ends =
-    let no32 : x ≡ 32 → ⊥ = λ e. true≢false (sym (rw (ends, e) refl) ∙ eqb-false) in (
-      bool_cases (is_raw_blank s.part) (λ t. absurd (no32 (s.blank t))) (λ f. f),
-      bool_cases (is_turn s.part) (λ t. absurd (no32 (s.turn t).0)) (λ f. f),
-    )
+free_step page quote before x xs c last s eqb-false ends = grind arith
 
 mutual
   -- the character before ends no line, and is no space where a break follows

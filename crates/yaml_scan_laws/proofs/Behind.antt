@@ -307,13 +307,7 @@ outer_levels l H K k out start deep = rw (k, start, deep, out) (none_left H)
 
 no_closings : (l : Lexeme) (H : List Lexeme) (K : Kind) → l.kind ≡ K → is_outside K ≡ true
     → is_start K ≡ false → (m : yaml_mark_t) → closings l.depth (l ∷ H) m ≡ []
-no_closings l H K k out start m =
-    elim (cases_Bool (nat_lt 0 l.depth)) [
-      | inl deep ↦
-          let none : length (open_levels (l ∷ H)) - length (open_levels (l ∷ H)) ≡ 0 = omega arith in
-          rw (deep, none) refl
-      | inr flat ↦ rw (flat, outer_levels l H K k out start flat) refl
-    ]
+no_closings l H K k out start m = grind (arith, outer_levels)
 
 -- what is after the dots: the end, or a fault
 abbrev pub TailSo : List ℕ → List Token → Option Fault → Type 0

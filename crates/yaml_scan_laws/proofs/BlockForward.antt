@@ -12,35 +12,21 @@ blank_some : (b : ℕ) → is_blank b ≡ true → 0 < b
 blank_some b h = grind (arith, nat_tests)
 
 blanks_place : (text : List ℕ) (p : ℕ) → p ≤ length text → IsFrom text p (past_blanks text p)
-blanks_place text p l = record {
-  forward = past-le is_blank_there (length text) text p;
-  inside = past-inside is_blank_there (length text) text p (λ q h. blank_some (byte text q) h) l;
-}
+blanks_place text p l = grind (arith, nat_tests, past-le, past-inside, blank_some)
 
 line_place : (text : List ℕ) (p : ℕ) → p ≤ length text → IsFrom text p (line_end text p)
-line_place text p l = record {
-  forward = past-le is_text (length text) text p;
-  inside = past-inside is_text (length text) text p (λ q h. (text_parts text q h).0) l;
-}
+line_place text p l = grind (arith, nat_tests, past-le, past-inside, text_parts)
 
 further : (text : List ℕ) (o p q : ℕ) → o ≤ p → IsFrom text p q → IsFrom text o q
 further text o p q h f = record { forward = omega (arith, h, f.forward); inside = f.inside }
 
 -- a break there, if one is there, ends inside the text
 break_place : (text : List ℕ) (p : ℕ) → p ≤ length text → IsFrom text p (p + break_width text p)
-break_place text p l =
-    elim (cases_lt 0 (break_width text p)) [
-      | inl some ↦ let past = past_break text p some in record { forward = omega arith; inside = past.inside }
-      | inr none ↦ let e : p + break_width text p ≡ p = omega (arith, none) in rw e record { forward = omega arith; inside = l }
-    ]
+break_place text p l = grind (arith, nat_tests, past_break)
 
 comment_place : (text : List ℕ) (p : ℕ) → p ≤ length text → IsFrom text p (past_comment text p)
 unfolding past_comment
-comment_place text p l =
-    elim (cases_Bool (byte text p == 35)) [
-      | inl h ↦ rw h (line_place text p l)
-      | inr h ↦ rw h record { forward = omega arith; inside = l }
-    ]
+comment_place text p l = grind (arith, nat_tests, line_place)
 
 -- how many indicators are there, by what they are
 indicators_are : (b c : ℕ)
@@ -50,19 +36,10 @@ indicators_are b c = grind (arith, nat_tests)
 
 indicators_place : (text : List ℕ) (p : ℕ) → p ≤ length text
     → IsFrom text p (p + indicators (byte text p) (byte text (p + 1)))
-indicators_place text p l =
-    elim (indicators_are (byte text p) (byte text (p + 1))) [
-      | inl none ↦ rw none record { forward = omega arith; inside = omega (arith, l) }
-      | inr (inl (one, some)) ↦ let here = within text p some in rw one record { forward = omega arith; inside = omega (arith, here) }
-      | inr (inr (two, some)) ↦ let here = within text (p + 1) some in rw two record { forward = omega arith; inside = omega (arith, here) }
-    ]
+indicators_place text p l = grind (arith, nat_tests, indicators_are, within)
 
 header_end_place : (text : List ℕ) (p : ℕ) → p ≤ length text → IsFrom text p (header_end text p)
-header_end_place text p l =
-    let a = indicators_place text p l in
-    let b = blanks_place text (p + indicators (byte text p) (byte text (p + 1))) a.inside in
-    let c = comment_place text (past_blanks text (p + indicators (byte text p) (byte text (p + 1)))) b.inside in
-    record { forward = omega (arith, a.forward, b.forward, c.forward); inside = c.inside }
+header_end_place text p l = grind (arith, nat_tests, indicators_place, blanks_place, comment_place)
 
 abbrev header_place : HeaderText → ℕ
 header_place h = h.place
@@ -70,15 +47,7 @@ header_place h = h.place
 header_lands : (text : List ℕ) (p : ℕ) → p ≤ length text
     → Lands header_place text p (header_at text p)
 unfolding header_at
-header_lands text p l =
-    let end = header_end_place text p l in
-    elim (cases_Bool (byte text (digit_place text p) == 48)) [
-      | inl h ↦ rw h tt
-      | inr h ↦ elim (cases_Bool (is_text text (header_end text p))) [
-        | inl i ↦ rw (h, i) tt
-        | inr i ↦ rw (h, i) (further text p (header_end text p) (header_end text p + break_width text (header_end text p)) end.forward (break_place text (header_end text p) end.inside))
-      ]
-    ]
+header_lands text p l = grind (arith, nat_tests, header_end_place, further, break_place)
 
 spaces-inside : (n : ℕ) (text : List ℕ) (p : ℕ) → p ≤ length text
     → p + spaces n text p ≤ length text
@@ -101,19 +70,7 @@ Fits text p (Tab q) = Unit {0}
 
 behind_fits : (c : ℕ) (text : List ℕ) (q : ℕ) → q ≤ length text → Fits text q (spot_behind c text q)
 unfolding spot_behind
-behind_fits c text q l =
-    elim (cases_Bool (byte text q == 9 && nat_lt (column_at text q) c)) [
-      | inl h ↦ rw h tt
-      | inr h ↦ elim (cases_Bool (nat_lt 0 (break_width text q))) [
-        | inl i ↦ rw (h, i) (break_place text q l)
-        | inr i ↦ elim (cases_Bool (byte text q == 0 || not (column_at text q == c))) [
-          | inl j ↦ rw (h, i, j) record { forward = omega arith; inside = l }
-          | inr j ↦
-              let end = line_place text q l in
-              rw (h, i, j) (further text q (line_end text q) (line_end text q + break_width text (line_end text q)) end.forward (break_place text (line_end text q) end.inside))
-        ]
-      ]
-    ]
+behind_fits c text q l = grind (arith, nat_tests, break_place, line_place, further)
 
 fits_further : (text : List ℕ) (o p : ℕ) (s : LineSpot) → o ≤ p → Fits text p s → Fits text o s
 fits_further text o p (Stops q) h f = further text o p q h f
@@ -121,10 +78,7 @@ fits_further text o p (Line l q) h f = further text o p q h f
 fits_further text o p (Tab q) h f = tt
 
 spot_fits : (c : ℕ) (text : List ℕ) (p : ℕ) → p ≤ length text → Fits text p (line_spot c text p)
-spot_fits c text p l =
-    let q = p + spaces (c - column_at text p) text p in
-    let inside = spaces-inside (c - column_at text p) text p l in
-    fits_further text p q (spot_behind c text q) (omega arith) (behind_fits c text q inside)
+spot_fits c text p l = grind (arith, nat_tests, spaces-inside, fits_further, behind_fits)
 
 -- lines whose last one ends at a place or after it, and that stop there or after, inside the text
 record AreLines (text : List ℕ) (end : ℕ) (ls : Lines) : Type 0 where

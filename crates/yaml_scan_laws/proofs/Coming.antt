@@ -19,22 +19,11 @@ moved_fault d n (Some f) = Some (moved_scan_fault d n f)
 
 missed_moved : (d n k : ℕ) (o : Option Candidate) (place : yaml_mark_t)
     → missed (moved_found d n k o) (moved_mark d n place) ≡ moved_option d n (missed o place)
-missed_moved d n k None place = refl
-missed_moved d n k (Some c) place =
-    let same = near_moved d n c.lexeme.start place in
-    elim (cases_Bool (c.lexeme.required && not (is_fresh c.lexeme.start place))) [
-      | inl h ↦ rw (same, h) refl
-      | inr h ↦ rw (same, h) refl
-    ]
+missed_moved d n k o place = grind (arith, near_moved)
 
 lost_moved : (d n k : ℕ) (l : Lexeme) (o : Option Candidate)
     → lost_by (moved_lexeme d n l) (moved_found d n k o) ≡ moved_option d n (lost_by l o)
-lost_moved d n k l None = refl
-lost_moved d n k l (Some c) =
-    elim (cases_Bool (c.lexeme.required && (l.saved || (cancels l.kind && not (is_value l.kind))))) [
-      | inl h ↦ rw h refl
-      | inr h ↦ rw h refl
-    ]
+lost_moved d n k l o = grind arith
 
 colon_moved : (d n : ℕ) (o : Option yaml_mark_t) (place : yaml_mark_t)
     → colon_missing_of (moved_option d n o) (moved_mark d n place)
@@ -47,12 +36,7 @@ first_moved : (d n : ℕ) (a b c e f : Option ScanFault) (l : Lexeme) (v w x y z
     → y ≡ moved_fault d n e → z ≡ moved_fault d n f → k ≡ moved_lexeme d n l
     → first_fault_or (v ∷ w ∷ x ∷ y ∷ z ∷ []) (Read k)
     ≡ moved_next d n (first_fault_or (a ∷ b ∷ c ∷ e ∷ f ∷ []) (Read l))
-first_moved d n (Some g) b c e f l v w x y z k h i j o p q = rw h refl
-first_moved d n None (Some g) c e f l v w x y z k h i j o p q = rw (h, i) refl
-first_moved d n None None (Some g) e f l v w x y z k h i j o p q = rw (h, i, j) refl
-first_moved d n None None None (Some g) f l v w x y z k h i j o p q = rw (h, i, j, o) refl
-first_moved d n None None None None (Some g) l v w x y z k h i j o p q = rw (h, i, j, o, p) refl
-first_moved d n None None None None None l v w x y z k h i j o p q = rw (h, i, j, o, p, q) refl
+first_moved d n a b c e f l v w x y z k h i j o p q = grind arith
 
 only_moved : (d n : ℕ) (a : Option ScanFault) (m : yaml_mark_t)
     → first_fault_or (moved_fault d n a ∷ []) (Fails (no_start (moved_mark d n m)))
@@ -62,11 +46,7 @@ only_moved d n (Some x) m = refl
 
 placed_moved : (d n : ℕ) (k : Kind) (m : yaml_mark_t)
     → placed k (moved_mark d n m) ≡ moved_mark d n (placed k m)
-placed_moved d n k m =
-    elim (cases_Bool (is_end k && nat_lt 0 m.column)) [
-      | inl h ↦ let e : n + m.line + 1 ≡ n + (m.line + 1) = omega arith in rw (h, e) refl
-      | inr h ↦ rw h refl
-    ]
+placed_moved d n k m = grind arith
 
 -- ---- where the next lexeme is
 
@@ -216,13 +196,7 @@ stale_there t u d m n k H G p =
 misplaced_moved : (d n k : ℕ) (x : Kind) (m : yaml_mark_t) (a : Bool) (H G : List Lexeme)
     → flow_depth G ≡ flow_depth H → ((e : ℕ) → candidate e G ≡ moved_found d n k (candidate e H))
     → misplaced x (moved_mark d n m) a G ≡ misplaced x m a H
-misplaced_moved d n k x m a H G e f =
-    let found = ap (λ (z : ℕ). has (fresh (candidate z G) (moved_mark d n m))) e
-    ∙ ap (λ o. has (fresh o (moved_mark d n m))) (f (flow_depth H))
-    ∙ ap has (fresh_moved d n k (candidate (flow_depth H) H) m)
-    ∙ has_moved d n k (fresh (candidate (flow_depth H) H) m) in
-    ap (λ (z : ℕ). (not (nat_lt 0 z) && not a) && (is_start x && not (is_value x && has (fresh (candidate (flow_depth G) G) (moved_mark d n m))))) e
-    ∙ ap (λ (z : Bool). (not (in_flow H) && not a) && (is_start x && not (is_value x && z))) found
+misplaced_moved d n k x m a H G e f = grind (arith, fresh_moved, has_moved)
 
 pub misplaced_there : (t u : List ℕ) (d m n k : ℕ) (H G : List Lexeme) → Pair t u d m n k H G
     → (x : Kind) → indicator_misplaced x u G ≡ moved_fault d n (indicator_misplaced x t H)

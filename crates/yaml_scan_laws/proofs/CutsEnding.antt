@@ -60,11 +60,7 @@ line_long line e =
     ]
 
 white_end : (t : List ℕ) (p : ℕ) → is_white (byte t p) ≡ true → is_blank_or_end t p ≡ true
-white_end t p h =
-    elim (white_cases (byte t p) h) [
-      | inl blank ↦ rw blank refl
-      | inr z ↦ rw (break_byte (byte t p) (byte t (p + 1)) (byte t (p + 2)) z) (or-true (is_blank (byte t p) || byte t p == 0))
-    ]
+white_end t p h = grind (arith, nat_tests, white_cases, break_byte)
 
 -- the whole begins with it too
 pub whole_end : (line b : List ℕ) → IsEndLine line → is_document_end (line ++ b) 0 ≡ true
@@ -106,10 +102,7 @@ white_hash : (b : ℕ) → is_white b ≡ true → (b == 35) ≡ false
 white_hash b h = grind (arith, nat_tests)
 
 break_skipped : (b : ℕ) (tabs : Bool) → (b ≡ 10) ⊎ (b ≡ 13) → (b == 32 || (tabs && b == 9)) ≡ false
-break_skipped b true (inl z) = rw z refl
-break_skipped b false (inl z) = rw z refl
-break_skipped b true (inr z) = rw z refl
-break_skipped b false (inr z) = rw z refl
+break_skipped b tabs v2 = grind (arith, nat_tests)
 
 -- a break is as wide in the whole
 whole_width : (line b : List ℕ) (p : ℕ) → EndsIn line 10 → p < length line
@@ -130,16 +123,7 @@ whole_width line b p feed l (inr z) =
 over_blank : (line b : List ℕ) (allowed : Bool) (p x y : ℕ) → 3 ≤ p → p < length line
     → (byte line p == 32 || ((false || not allowed) && byte line p == 9)) ≡ true
     → Crossed line b allowed (p + 1) y → Crossed line b allowed p (suc y)
-over_blank line b allowed p x y far l h rest =
-    let U = line ++ b in
-    let same : byte U p ≡ byte line p = byte_left line b p l in
-    let there : (byte U p == 32 || ((false || not allowed) && byte U p == 9)) ≡ true = ap (λ c. c == 32 || ((false || not allowed) && c == 9)) same ∙ h in
-    let (passed, place) = passed_blank U p (false || not allowed) far there in
-    record {
-      left = rest.left;
-      room = rest.room;
-      crossed = gap_passes y false allowed U p passed ∙ ap (λ q. gap_within y false allowed U q) place ∙ rest.crossed;
-    }
+over_blank line b allowed p x y far l h rest = grind (arith, nat_tests, byte_left, passed_blank, gap_passes)
 
 -- a step over a break
 over_break : (line b : List ℕ) (allowed : Bool) (p y : ℕ) → 3 ≤ p → p < length line

@@ -167,25 +167,11 @@ none_open all (l ∷ h) high =
 
 number_moved : (d n k : ℕ) (o : Option Candidate) (m : ℕ)
     → has_number (moved_found d n k o) (k + m) ≡ has_number o m
-number_moved d n k None m = refl
-number_moved d n k (Some c) m = same k c.number m
-  where
-    same : (k a m : ℕ) → (k + a == k + m) ≡ (a == m)
-    same k a m = grind (arith, nat_tests)
+number_moved d n k o m = grind (arith, nat_tests)
 
 first_moved : (k first n : ℕ) (is_open : Bool)
     → first_or (k + first) is_open (k + n) ≡ k + first_or first is_open n
-first_moved k first n is_open =
-    elim (cases_Bool (nat_lt first n)) [
-      | inl h ↦ rw (less k first n ∙ h, h) refl
-      | inr h ↦ elim (cases_Bool is_open) [
-        | inl i ↦ rw (less k first n ∙ h, h, i) refl
-        | inr i ↦ rw (less k first n ∙ h, h, i) (omega arith)
-      ]
-    ]
-  where
-    less : (k a m : ℕ) → nat_lt (k + a) (k + m) ≡ nat_lt a m
-    less k a m = grind (arith, nat_tests)
+first_moved k first n is_open = grind (arith, nat_tests)
 
 open_on : (d n k e : ℕ) (h b c : List Lexeme) → Bases d n k b c
     → open_at e (moved_lexemes d n h ++ c) ≡ moved_found d n k (open_at e (h ++ b))
@@ -232,20 +218,7 @@ first_high : (d n k : ℕ) (g h b c : List Lexeme) → Bases d n k b c
 unfolding first_open
 first_high d n k [] h b c s =
     let e = none_open (h ++ b) b (λ e f is. above h b e f s.mine is) in omega (arith, e)
-first_high d n k (l ∷ g) h b c s =
-    let before = first_high d n k g h b c s in
-    let low = first_open-le (h ++ b) (g ++ b) in
-    least (first_open (h ++ b) (g ++ b)) (length (g ++ b)) (length b) (has_number (open_at l.depth (h ++ b)) (length (g ++ b))) before low
-  where
-    least : (first m b : ℕ) (is_open : Bool) → b ≤ first → first ≤ m → b ≤ first_or first is_open m
-    least first m b is_open x y =
-        elim (cases_Bool (nat_lt first m)) [
-          | inl h ↦ rw h x
-          | inr h ↦ elim (cases_Bool is_open) [
-            | inl i ↦ rw (h, i) (omega (arith, x, y))
-            | inr i ↦ rw (h, i) (omega (arith, x, y))
-          ]
-        ]
+first_high d n k (l ∷ g) h b c s = grind (arith, nat_tests, first_open-le, first_high d n k g h b c s)
 
 pub first_above : (d n k : ℕ) (h b c : List Lexeme) → Bases d n k b c
     → length b ≤ first_open (h ++ b) (h ++ b)
@@ -267,12 +240,7 @@ starts_moved d n opening.Mapping l = refl
 own_moved : (d n : ℕ) (s v : SpelledText) (e : Entry)
     → body_in v (moved_lexeme d n e.lexeme) ≡ body_in s e.lexeme
     → own_tokens v (moved_entry d n e) ≡ map (moved_token d n) (own_tokens s e)
-own_moved d n s v e h =
-    let same : token_in v (moved_lexeme d n e.lexeme) ≡ moved_token d n (token_in s e.lexeme) = rw h refl in
-    elim (cases_Bool e.key) [
-      | inl k ↦ rw (k, same) refl
-      | inr k ↦ rw (k, same) refl
-    ]
+own_moved d n s v e h = grind (arith, nat_tests)
 
 spell_moved : (d n : ℕ) (s v : SpelledText) (e : Entry)
     → body_in v (moved_lexeme d n e.lexeme) ≡ body_in s e.lexeme

@@ -18,18 +18,7 @@ use Rattle.yaml_scan_laws.proofs.Blocks.{moved_block, block_alike}
 
 no_indicator : (flow alone : Bool) (b : ℕ) → is_onward b ≡ false → indicator_of flow alone b ≡ None
 unfolding indicator_of
-no_indicator true alone b h =
-    elim (off_cases b h) [
-      | inl z ↦ rw z refl
-      | inr (inl z) ↦ rw z refl
-      | inr (inr z) ↦ rw z refl
-    ]
-no_indicator false alone b h =
-    elim (off_cases b h) [
-      | inl z ↦ rw z refl
-      | inr (inl z) ↦ rw z refl
-      | inr (inr z) ↦ rw z refl
-    ]
+no_indicator flow alone b h = grind (arith, off_cases)
 
 indicators_alike : (flow alone other : Bool) (b : ℕ) → (is_onward b ≡ true → other ≡ alone)
     → indicator_of flow other b ≡ indicator_of flow alone b
@@ -62,10 +51,7 @@ break_byte b c e (inr z) = elim (cases_Bool (c == 10)) [ inl f ↦ rw (z, f) ref
 no_plain : (flow : Bool) (t : List ℕ) (p : ℕ) → (byte t p ≡ 10) ⊎ (byte t p ≡ 13)
     → starts_plain flow t p ≡ false
 unfolding starts_plain
-no_plain flow t p h =
-    let some : nat_lt 0 (break_width t p) ≡ true = break_byte (byte t p) (byte t (p + 1)) (byte t (p + 2)) h in
-    let white : is_blank_or_end t p ≡ true = rw some (or-true _) in
-    rw white refl
+no_plain flow t p h = grind (arith, break_byte)
 
 no_thrice : (c z : Bool) (b x y n : ℕ) → (b == n) ≡ false
     → ((c && (b == n && (x == n && y == n))) && z) ≡ false
@@ -83,17 +69,7 @@ not_finish t p h = no_thrice (column_at t p == 0) (is_blank_or_end t (p + 3)) (b
 pub break_kind : (flow : Bool) (t : List ℕ) (p : ℕ) → (byte t p ≡ 10) ⊎ (byte t p ≡ 13)
     → kind_at flow t p ≡ None
 unfolding kind_at
-break_kind flow t p h =
-    let off : is_onward (byte t p) ≡ false = off_break (byte t p) h in
-    let zero : (byte t p == 0) ≡ false = other (byte t p) 0 h refl refl in
-    let percent : (byte t p == 37) ≡ false = other (byte t p) 37 h refl refl in
-    let dash : (byte t p == 45) ≡ false = other (byte t p) 45 h refl refl in
-    let dot : (byte t p == 46) ≡ false = other (byte t p) 46 h refl refl in
-    rw (zero, percent, not_start t p dash, not_finish t p dot, no_indicator flow (is_blank_or_end t (p + 1)) (byte t p) off, no_plain flow t p h) refl
-  where
-    other : (b n : ℕ) → (b ≡ 10) ⊎ (b ≡ 13) → (10 == n) ≡ false → (13 == n) ≡ false → (b == n) ≡ false
-    other b n (inl z) x y = rw z x
-    other b n (inr z) x y = rw z y
+break_kind flow t p h = grind (arith, off_break, not_start, not_finish, no_indicator, no_plain)
 
 pub end_kind : (flow : Bool) (t : List ℕ) (p : ℕ) → byte t p ≡ 0
     → kind_at flow t p ≡ Some kinds.StreamEnd
@@ -102,19 +78,7 @@ end_kind flow t p h = rw h refl
 
 blank_indicator : (flow alone : Bool) (b : ℕ) → is_blank b ≡ true → indicator_of flow alone b ≡ None
 unfolding indicator_of
-blank_indicator flow alone b h =
-    elim (blank_cases b h) [
-      | inl z ↦ rw z (by flow)
-      | inr z ↦ rw z (by_tab flow)
-    ]
-  where
-    by : (flow : Bool) → indicator_of flow alone 32 ≡ None
-    by true = refl
-    by false = refl
-
-    by_tab : (flow : Bool) → indicator_of flow alone 9 ≡ None
-    by_tab true = refl
-    by_tab false = refl
+blank_indicator flow alone b h = grind (arith, blank_cases)
 
 -- no lexeme starts at a blank
 pub blank_kind : (flow : Bool) (t : List ℕ) (p : ℕ) → is_blank (byte t p) ≡ true
@@ -137,16 +101,7 @@ blank_kind flow t p h =
 -- at a lexeme other than the stream's end, the byte goes on
 pub kind_onward : (flow : Bool) (t : List ℕ) (p : ℕ) (k : Kind) → kind_at flow t p ≡ Some k
     → is_end k ≡ false → is_onward (byte t p) ≡ true
-kind_onward flow t p k e go =
-    elim (cases_Bool (is_onward (byte t p))) [
-      | inl on ↦ on
-      | inr off ↦ elim (off_cases (byte t p) off) [
-        | inl z ↦
-            let same : kinds.StreamEnd ≡ k = same_Some kinds.StreamEnd k (sym (end_kind flow t p z) ∙ e) in
-            absurd (true≢false (ap is_end same ∙ go))
-        | inr z ↦ absurd (none-some k (sym (break_kind flow t p z) ∙ e))
-      ]
-    ]
+kind_onward flow t p k e go = grind (arith, off_cases, end_kind, break_kind)
 
 -- and is no blank
 pub kind_text : (flow : Bool) (t : List ℕ) (p : ℕ) (k : Kind) → kind_at flow t p ≡ Some k
@@ -167,13 +122,7 @@ WordCarried u d m r s = Carried u d m (moved_word d) r s
 
 carry_valued : (u : List ℕ) (d m : ℕ) (f : List ℕ → TokenBody) (r s : Result (List ℕ × ℕ) Wrong)
     → Carried u d m (moved_pair d) r s → WordCarried u d m (valued f r) (valued f s)
-carry_valued u d m f r s (inl e) = inl (ap (valued f) e ∙ moves r)
-  where
-    moves : (r : Result (List ℕ × ℕ) Wrong)
-        → valued f (moved_by (moved_pair d) d r) ≡ moved_by (moved_word d) d (valued f r)
-    moves (Ok x) = refl
-    moves (Err w) = refl
-carry_valued u d m f r s (inr t) = inr (torn_by (valued f) u d m r s (λ w. refl) t)
+carry_valued u d m f r s v6 = grind (arith, torn_by)
 
 tagged_moves : (d : ℕ) (r : Result TagText Wrong)
     → tagged (moved_by (moved_tag d) d r) ≡ moved_by (moved_word d) d (tagged r)

@@ -144,12 +144,7 @@ bom_by a b h (suc p) =
 
 rest_bom : (a b : List ℕ) → IsCut a b
     → (length a + 0 == 0 && is_bom (a ++ b) (length a + 0)) ≡ is_bom b 0
-rest_bom a b cut =
-    let mark = first_mark b cut.mark in
-    let here : byte (a ++ b) (length a + 0) ≡ byte b 0 = byte_right a b 0 in
-    let mine : is_bom b 0 ≡ false = not_bom (byte b 0) (byte b 1) (byte b 2) mark in
-    let others : is_bom (a ++ b) (length a + 0) ≡ false = rw here (not_bom (byte b 0) (byte (a ++ b) (length a + 0 + 1)) (byte (a ++ b) (length a + 0 + 2)) mark) in
-    rw (mine, others) (and-false (length a + 0 == 0))
+rest_bom a b cut = grind (arith, nat_tests, first_mark, byte_right, not_bom)
 
 -- What is after a column 0 is so in the whole, where its line ends and U+FEFF do.
 pub behind_alike : (a b : List ℕ) → column_at (a ++ b) (length a) ≡ 0

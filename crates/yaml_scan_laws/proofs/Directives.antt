@@ -190,14 +190,7 @@ prefix_read text p pieces space some h is stop =
 
 handle_first : (text : List ℕ) (p : ℕ) (handle rest : List ℕ) → IsHandle handle
     → Has text p (handle ++ rest) → byte text p ≡ 33
-handle_first text p handle rest (inl e) h =
-    let P : List ℕ → Type 0 = λ (x : List ℕ). Has text p (x ++ rest) → byte text p ≡ 33 in
-    let alone : P (33 ∷ []) = λ has. let (mark, more) = has in mark in
-    subst P (sym e) alone h
-handle_first text p handle rest (inr (name, e, are)) h =
-    let P : List ℕ → Type 0 = λ (x : List ℕ). Has text p (x ++ rest) → byte text p ≡ 33 in
-    let long : P (33 ∷ (name ++ (33 ∷ []))) = λ has. let (mark, more) = has in mark in
-    subst P (sym e) long h
+handle_first text p handle rest v4 h = grind (arith, nat_tests, has)
 
 handle_by : (run : _) (text : List ℕ) (p : ℕ) → belongs run text p ≡ true
     → belongs run text (p + 1) ≡ false

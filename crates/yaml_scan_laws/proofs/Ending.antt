@@ -30,46 +30,26 @@ key_said false bs = bs
 start_say : (s : SpelledText) (l : Lexeme) (n : ℕ) (what : Opens) (k : Bool) (bs : List TokenBody)
     → let e : Entry = record { lexeme = l; ends = n; opens = what; key = k } in
     said (start_tokens what l) ++ (said (own_tokens s e) ++ bs) ≡ start_bodies what (key_said k (body_in s l ∷ bs))
-start_say s l n opening.Nothing true bs = refl
-start_say s l n opening.Nothing false bs = refl
-start_say s l n opening.Sequence true bs = refl
-start_say s l n opening.Sequence false bs = refl
-start_say s l n opening.Mapping true bs = refl
-start_say s l n opening.Mapping false bs = refl
+start_say s l n what k bs = grind arith
 
 spell_says : (s : SpelledText) (l : Lexeme) (n : ℕ) (what : Opens) (k : Bool) (bs : List TokenBody)
     → let e : Entry = record { lexeme = l; ends = n; opens = what; key = k } in
     said (spell s e) ++ bs ≡ replicate n block_end ++ start_bodies what (key_said k (body_in s l ∷ bs))
-spell_says s l n what k bs =
-    let e : Entry = record { lexeme = l; ends = n; opens = what; key = k } in
-    let ends = replicate n (before block_end l) in
-    ap (λ (xs : List TokenBody). xs ++ bs) (said_more (ends ++ start_tokens what l) (own_tokens s e) ∙ ap (λ (xs : List TokenBody). xs ++ said (own_tokens s e)) (said_more ends (start_tokens what l)))
-    ∙ append_assoc (said ends ++ said (start_tokens what l)) (said (own_tokens s e)) bs
-    ∙ append_assoc (said ends) (said (start_tokens what l)) (said (own_tokens s e) ++ bs)
-    ∙ ap (λ (xs : List TokenBody). xs ++ (said (start_tokens what l) ++ (said (own_tokens s e) ++ bs))) (ends_say n l)
-    ∙ ap (λ (xs : List TokenBody). replicate n block_end ++ xs) (start_say s l n what k bs)
+spell_says s l n what k bs = grind (arith, said_more, append_assoc, ends_say, start_say)
 
 -- one entry before others
 entry_says : (s : SpelledText) (l : Lexeme) (n : ℕ) (what : Opens) (k : Bool) (rest : List Entry)
     (bs : List TokenBody)
     → let e : Entry = record { lexeme = l; ends = n; opens = what; key = k } in
     bodies_of s (e ∷ rest) ++ bs ≡ replicate n block_end ++ start_bodies what (key_said k (body_in s l ∷ (bodies_of s rest ++ bs)))
-entry_says s l n what k rest bs =
-    let e : Entry = record { lexeme = l; ends = n; opens = what; key = k } in
-    ap (λ (xs : List TokenBody). xs ++ bs) (said_more (spell s e) (flat_map (spell s) rest))
-    ∙ append_assoc (said (spell s e)) (bodies_of s rest) bs
-    ∙ spell_says s l n what k (bodies_of s rest ++ bs)
+entry_says s l n what k rest bs = grind (arith, said_more, flat_map, append_assoc, spell_says)
 
 -- what is after entries
 behind_says : (s : SpelledText) (done : List Entry) (l : Lexeme) (n : ℕ) (what : Opens) (k : Bool)
     (rest : List Entry) (bs : List TokenBody)
     → let e : Entry = record { lexeme = l; ends = n; opens = what; key = k } in
     told s (done ++ e ∷ rest) 0 bs ≡ told s done n (start_bodies what (key_said k (body_in s l ∷ (bodies_of s rest ++ bs))))
-behind_says s done l n what k rest bs =
-    let e : Entry = record { lexeme = l; ends = n; opens = what; key = k } in
-    ap (λ (xs : List TokenBody). xs ++ bs) (bodies_more s done (e ∷ rest))
-    ∙ append_assoc (bodies_of s done) (bodies_of s (e ∷ rest)) bs
-    ∙ ap (λ (xs : List TokenBody). bodies_of s done ++ xs) (entry_says s l n what k rest bs)
+behind_says s done l n what k rest bs = grind (arith, bodies_more, append_assoc, entry_says)
 
 pub word_tells : WordTells
 word_tells s es l n what bs = behind_says s es l n what false [] bs
@@ -91,11 +71,7 @@ key_says s done l n rest K bs e =
     append_cancel_left (replicate n block_end) _ (K bs) (append_cancel_left (bodies_of s done) _ (replicate n block_end ++ K bs) (sym (behind_says s done l n opening.Nothing false rest bs) ∙ e))
 
 pub key_tells : KeyTells
-key_tells s ms done l n rest v K says bs =
-    let what = start_of l.depth (margin_at l.start.column) ms opening.Mapping in
-    word_tells s (done ++ as_key ms (entry l n opening.Nothing) ∷ rest) v 0 opening.Nothing bs
-    ∙ behind_says s done l n what true rest (body_in s v ∷ bs)
-    ∙ ap (λ (xs : List TokenBody). told s done n (start_bodies what (key ∷ xs))) (key_says s done l n rest K (body_in s v ∷ bs) (says (body_in s v ∷ bs)))
+key_tells s ms done l n rest v K says bs = grind (arith, word_tells, behind_says, key_says)
 
 -- ---- the start
 
@@ -122,22 +98,7 @@ end_read : (text : List ℕ) (gap : Gap) (h : List Lexeme) (q : ℕ) (a : Bool) 
     → lost_by l (fresh (candidate (flow_depth h) h) m) ≡ None
     → InTime (candidate 0 (l ∷ h)) l.reached
     → behind text gap h ≡ Read l
-end_read text gap h q a w place allowed kind said none lost time =
-    let flow = nat_lt 0 (flow_depth h) in
-    let m = mark_at text q in
-    let k = kinds.StreamEnd in
-    let l = end_at text h q a in
-    ap (λ (p : ℕ). unless_missed (missed (fresh (candidate 0 h) (reached h)) (mark_at text p)) text gap h) place
-    ∙ ap (λ (o : Option yaml_mark_t). unless_missed o text gap h) none
-    ∙ ap (λ (p : ℕ). of_kind (kind_at flow text p) text gap h) place
-    ∙ ap (λ (o : Option Kind). of_kind o text gap h) kind
-    ∙ ap (λ (p : ℕ). cond (misplaced k (mark_at text p) (allowed_behind h gap) h) (not_allowed k (mark_at text p))
-    (unless_lost (lost_by (begun k (placed k (mark_at text p)) (allowed_behind h gap) h) (fresh (candidate (flow_depth h) h) (mark_at text p))) text p (begun k (placed k (mark_at text p)) (allowed_behind h gap) h) h)) place
-    ∙ ap (λ (x : Bool). cond (misplaced k m x h) (not_allowed k m) (unless_lost (lost_by (begun k (placed k m) x h) (fresh (candidate (flow_depth h) h) m)) text q (begun k (placed k m) x h) h)) allowed
-    ∙ unless_so (misplaced k m a h) (not_allowed k m) _ (and-false (not flow && not a))
-    ∙ ap (λ (o : Option yaml_mark_t). unless_lost o text q l h) lost
-    ∙ ap (λ (r : Result WordText Wrong). unless_wrong r text l h) said
-    ∙ tested_read l h time
+end_read text gap h q a w place allowed kind said none lost time = grind (arith, unless_so, tested_read)
 
 nothing_more : (text : List ℕ) (l : Lexeme) (h : List Lexeme) → l.kind ≡ kinds.StreamEnd
     → next text (l ∷ h) ≡ Ends
@@ -174,15 +135,7 @@ end_entries : (text : List ℕ) (h : List Lexeme) (ms : List ℕ) (es : List Ent
     → Front text h 0 ms es → let l = end_at text h q a in
     finished_tokens (l ∷ h) ≡ es ++ entry l (length ms) opening.Nothing ∷ []
 unfolding finished_tokens
-end_entries text h ms es q a f =
-    let l = end_at text h q a in
-    let k = kinds.StreamEnd in
-    let c = l.start.column in
-    ap (λ (n : ℕ). finished_tokens h ++ entry l (length (open_levels h) - length (left_by k n c (open_levels h))) opening.Nothing ∷ []) f.depth
-    ∙ ap (λ (x : List ℕ). finished_tokens h ++ entry l (length x - length (left_by k 0 c x)) opening.Nothing ∷ []) f.levels
-    ∙ ap (λ (x : List ℕ). finished_tokens h ++ entry l (length ms - length x) opening.Nothing ∷ []) (left_outside k c ms refl f.rises)
-    ∙ ap (λ (n : ℕ). finished_tokens h ++ entry l n opening.Nothing ∷ []) (all_less (length ms))
-    ∙ ap (λ (zs : List Entry). zs ++ entry l (length ms) opening.Nothing ∷ []) f.entries
+end_entries text h ms es q a f = grind (arith, left_outside, all_less)
 
 no_key : (a more : Bool) → ((a && false) && more) ≡ false
 no_key true more = refl

@@ -14,12 +14,7 @@ use Rattle.yaml_scan_laws.specs.TextFronts.{IsFree}
 
 pub after_none : (a b c e f : Option ScanFault) (y l : Lexeme)
     → first_fault_or (a ∷ b ∷ c ∷ e ∷ f ∷ []) (Read y) ≡ Read l → f ≡ None
-after_none (Some g) b c e f y l r = cc
-after_none None (Some g) c e f y l r = cc
-after_none None None (Some g) e f y l r = cc
-after_none None None None (Some g) f y l r = cc
-after_none None None None None (Some g) y l r = cc
-after_none None None None None None y l r = refl
+after_none a b c e f y l r = grind (arith, nat_tests)
 
 near_before : (required : Bool) (x y p q s t : ℕ) → p ≤ x → q ≤ y
     → (required && not (nat_le x s && nat_le y (t + 1024))) ≡ false
@@ -33,12 +28,7 @@ some_none e = cc
 -- what isn't missed at a place isn't missed before it
 missed_before : (o : Option Candidate) (m n : yaml_mark_t) → m.line ≤ n.line → m.index ≤ n.index
     → missed o n ≡ None → missed o m ≡ None
-missed_before None m n l k h = refl
-missed_before (Some c) m n l k h =
-    elim (cases_Bool (c.lexeme.required && not (is_fresh c.lexeme.start n))) [
-      | inl due ↦ absurd (some_none (rw due at h))
-      | inr free ↦ rw (near_before c.lexeme.required n.line n.index m.line m.index c.lexeme.start.line c.lexeme.start.index l k free) refl
-    ]
+missed_before o m n l k h = grind (arith, nat_tests, some_none, near_before)
 
 -- the candidate of depth 0 after a lexeme that is deeper
 pub outer_same : (l : Lexeme) (H : List Lexeme) → (l.depth == 0) ≡ false

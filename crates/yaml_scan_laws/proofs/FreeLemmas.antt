@@ -54,69 +54,32 @@ whole_blocked style (Err w) = tt
 pub whole_word : (k : Kind) (flow : Bool) (level : ℕ) (text : List ℕ) (p : ℕ) → is_plain k ≡ false
     → Whole (lexeme_at k flow level text p)
 unfolding lexeme_at
-whole_word kinds.Alias flow level text p e = whole_valued _ _
-whole_word kinds.Anchor flow level text p e = whole_valued _ _
-whole_word kinds.SingleQuoted flow level text p e = whole_valued _ _
-whole_word kinds.DoubleQuoted flow level text p e = whole_valued _ _
-whole_word kinds.Tag flow level text p e = whole_tagged (tag_at flow text p)
-whole_word kinds.Directive flow level text p e = whole_directed (directive_at text p)
-whole_word kinds.Literal flow level text p e = whole_blocked (style_at text p) (block_at level text p)
-whole_word kinds.Folded flow level text p e = whole_blocked (style_at text p) (block_at level text p)
-whole_word kinds.Plain flow level text p e = absurd (cc)
-whole_word k flow level text p e = refl
+whole_word k flow level text p e = grind (arith, nat_tests, whole_valued, whole_tagged, whole_directed, whole_blocked)
 
 -- what is allowed is a key that may be one, in brackets one after which a key is allowed
 saved_allowed : (allowed broke may flow : Bool) → flow ≡ true
     → ((allowed || (broke && not flow)) && may) ≡ true → allowed ≡ true
-saved_allowed true broke may flow f e = refl
-saved_allowed false true may true f e = absurd (cc)
-saved_allowed false false may true f e = absurd (cc)
-saved_allowed false broke may false f e = absurd (cc)
+saved_allowed allowed broke may flow f e = grind (arith, nat_tests)
 
 no_level : (k : Kind) (d column : ℕ) (ls : List ℕ) → ls ≡ [] → indent (left_by k d column ls) ≡ 0
 unfolding indent
-no_level k d column [] e =
-    elim (cases_Bool (nat_lt 0 d)) [
-      | inl x ↦ rw x refl
-      | inr x ↦ rw x refl
-    ]
-no_level k d column (c ∷ cs) e = absurd (cc)
+no_level k d column ls e = grind (arith, nat_tests)
 
 not_level : (saved outside : Bool) (n column : ℕ) → n ≡ 0
     → (saved && (outside && n == column + 1)) ≡ false
-not_level saved outside n column e =
-    let x : (n == column + 1) ≡ false = grind (arith, nat_tests) in
-    elim (cases_Bool saved) [
-      | inr s ↦ rw s refl
-      | inl s ↦ elim (cases_Bool outside) [ inr o ↦ rw (s, o) refl | inl o ↦ rw (s, o) x ]
-    ]
+not_level saved outside n column e = grind (arith, nat_tests)
 
 pub begun_made : (k : Kind) (start : yaml_mark_t) (gap : Gap) (h : List Lexeme)
     → MadeBehind h (begun k start (allowed_behind h gap) h)
-begun_made k start gap h = record {
-  at = refl;
-  kind = λ s. (and_parts (allowed_behind h gap) (may_be_key k) s).1;
-  allowed = λ f s. saved_allowed (key_allowed h) gap.broke (may_be_key k) (nat_lt 0 (flow_depth h)) f s;
-  level = λ e. no_level k (flow_depth h) start.column (open_levels h) e;
-  required = λ e. not_level (allowed_behind h gap && may_be_key k) (flow_depth h == 0) (level_in k start.column h) start.column (no_level k (flow_depth h) start.column (open_levels h) e);
-  broke = λ e. refl;
-}
+begun_made k start gap h = grind (arith, nat_tests, saved_allowed, no_level, not_level)
 
 pub finished_made : (text : List ℕ) (l : Lexeme) (h : List Lexeme) (w : WordText)
     → (is_plain l.kind ≡ false → w.broke ≡ false) → MadeBehind h l
     → MadeBehind h (finished text l w)
-finished_made text l h w b m =
-    elim (cases_Bool (is_end l.kind)) [
-      | inl e ↦ rw e m
-      | inr e ↦ rw e (record { at = m.at; kind = m.kind; allowed = m.allowed; level = m.level; required = m.required; broke = b })
-    ]
+finished_made text l h w b m = grind (arith, nat_tests)
 
 tested_made : (l : Lexeme) (h : List Lexeme) → MadeBehind h l → MadeAny h (tested l h)
-tested_made l h m =
-    elim (missed (candidate 0 (l ∷ h)) l.reached) as (λ o. MadeAny h (elim o as (λ _. Next) [ Some start ↦ no_colon start l.reached | None ↦ Read l ])) [
-      | Some start ↦ tt
-      | None ↦ m
-    ]
+tested_made l h m = grind (arith, nat_tests)
 
 wrong_made : (text : List ℕ) (r : Result WordText Wrong) (l : Lexeme) (h : List Lexeme)
     → (is_plain l.kind ≡ false → Whole r) → MadeBehind h l → MadeAny h (unless_wrong r text l h)
@@ -130,14 +93,7 @@ lost_made None text p l h m = wrong_made text (lexeme_at l.kind (nat_lt 0 l.dept
 
 kind_made : (o : Option Kind) (text : List ℕ) (gap : Gap) (h : List Lexeme)
     → MadeAny h (of_kind o text gap h)
-kind_made None text gap h = tt
-kind_made (Some k) text gap h =
-    let start = mark_at text gap.place in
-    let l = begun k (placed k start) (allowed_behind h gap) h in
-    elim (cases_Bool (misplaced k start (allowed_behind h gap) h)) [
-      | inl e ↦ rw e tt
-      | inr e ↦ rw e (lost_made (lost_by l (fresh (candidate (flow_depth h) h) start)) text gap.place l h (begun_made k (placed k start) gap h))
-    ]
+kind_made o text gap h = grind (arith, nat_tests, lost_made, begun_made)
 
 missed_made : (o : Option yaml_mark_t) (text : List ℕ) (gap : Gap) (h : List Lexeme)
     → MadeAny h (unless_missed o text gap h)
@@ -202,17 +158,7 @@ more_length qs = omega arith
 
 pub depth_after_is : (k : Kind) (qs : List Bool)
     → depth_after k (length qs) ≡ length (asked_after k qs)
-depth_after_is kinds.FlowSequenceStart qs = more_length qs
-depth_after_is kinds.FlowMappingStart qs = more_length qs
-depth_after_is kinds.FlowSequenceEnd qs = around_length qs
-depth_after_is kinds.FlowMappingEnd qs = around_length qs
-depth_after_is kinds.Alias qs = refl
-depth_after_is kinds.Anchor qs = refl
-depth_after_is kinds.Tag qs = refl
-depth_after_is kinds.SingleQuoted qs = refl
-depth_after_is kinds.DoubleQuoted qs = refl
-depth_after_is kinds.KeyMark qs = sym (marked_length true qs)
-depth_after_is k qs = sym (marked_length false qs)
+depth_after_is k qs = grind (arith, nat_tests, more_length, around_length, marked_length)
 
 -- the depth after lexemes is how many brackets their kinds leave open
 pub depth_is : (h : List Lexeme) → AllMade h → flow_depth h ≡ length (asked (kinds_of h))
@@ -234,20 +180,12 @@ Quiet qs h = innermost qs ≡ true → key_allowed h ≡ false
 pub candidate_lower : (d : ℕ) (l : Lexeme) (h : List Lexeme) → d < l.depth
     → candidate d (l ∷ h) ≡ candidate d h
 unfolding candidate
-candidate_lower d l h e =
-    let a : (l.depth == d) ≡ false = grind (arith, nat_tests) in
-    let b : nat_lt l.depth d ≡ false = grind (arith, nat_tests) in
-    rw (a, b) refl
+candidate_lower d l h e = grind (arith, nat_tests)
 
 pub candidate_own : (d : ℕ) (l : Lexeme) (h : List Lexeme) → l.depth ≡ d → l.saved ≡ false
     → (cancels l.kind ≡ false → candidate d h ≡ None) → candidate d (l ∷ h) ≡ None
 unfolding candidate
-candidate_own d l h e s none =
-    let a : (l.depth == d) ≡ true = grind (arith, nat_tests) in
-    elim (cases_Bool (cancels l.kind)) [
-      | inl c ↦ rw (a, s, c) refl
-      | inr c ↦ rw (a, s, c) (none c)
-    ]
+candidate_own d l h e s none = grind (arith, nat_tests)
 
 clear_outer : (qs : List Bool) (l : Lexeme) (h : List Lexeme) → length qs < l.depth → Clear qs h
     → Clear qs (l ∷ h)
@@ -312,17 +250,7 @@ deep_zero (q ∷ qs) n i e = grind (arith, nat_tests)
 
 quiet_after : (k : Kind) (qs : List Bool) (n : ℕ) (found : Bool) → fits k qs ≡ true → n ≡ length qs
     → innermost (asked_after k qs) ≡ true → allows_key k (n == 0) found ≡ false
-quiet_after kinds.FlowSequenceStart qs n found f e t = absurd (cc)
-quiet_after kinds.FlowMappingStart qs n found f e t = absurd (cc)
-quiet_after kinds.FlowSequenceEnd qs n found f e t = refl
-quiet_after kinds.FlowMappingEnd qs n found f e t = refl
-quiet_after kinds.KeyMark qs n found f e t = deep_zero qs n f e
-quiet_after kinds.Alias qs n found f e t = refl
-quiet_after kinds.Anchor qs n found f e t = refl
-quiet_after kinds.Tag qs n found f e t = refl
-quiet_after kinds.SingleQuoted qs n found f e t = refl
-quiet_after kinds.DoubleQuoted qs n found f e t = refl
-quiet_after k qs n found f e t = absurd (off_never qs t)
+quiet_after k qs n found f e t = grind (arith, nat_tests, deep_zero, off_never)
 
 not_plain : (k : Kind) (qs : List Bool) → fits k qs ≡ true → is_plain k ≡ false
 not_plain kinds.Plain qs f = absurd (cc)
@@ -376,10 +304,7 @@ deep_inside (q ∷ qs) n i e = let x : nat_lt 0 n ≡ true = positive n (length 
 
 -- what fits keeps the level
 fits_keeps : (k : Kind) (qs : List Bool) → fits k qs ≡ true → keeps_level k qs ≡ true
-fits_keeps kinds.BlockEntry qs f = absurd (cc)
-fits_keeps kinds.KeyMark qs f = f
-fits_keeps kinds.ValueMark qs f = inside_of_top qs f
-fits_keeps k qs f = refl
+fits_keeps k qs f = grind (arith, nat_tests, inside_of_top)
 
 pub level_free : (ks : List Kind) → is_key_free ks ≡ true → is_level_free ks ≡ true
 unfolding is_key_free is_level_free
@@ -400,17 +325,10 @@ level_rest k ks e = (and_parts (keeps_level k (asked ks)) (is_level_free ks) e).
 
 pub starts_none : (k : Kind) (qs : List Bool) (n : ℕ) → keeps_level k qs ≡ true → n ≡ length qs
     → (is_start k && not (nat_lt 0 n)) ≡ false
-starts_none kinds.BlockEntry qs n f e = deep_inside qs n f e
-starts_none kinds.KeyMark qs n f e = deep_inside qs n f e
-starts_none kinds.ValueMark qs n f e = deep_inside qs n f e
-starts_none k qs n f e = refl
+starts_none k qs n f e = grind (arith, nat_tests, deep_inside)
 
 left_none : (k : Kind) (d column : ℕ) → left_by k d column [] ≡ []
-left_none k d column =
-    elim (cases_Bool (nat_lt 0 d)) [
-      | inl x ↦ rw x refl
-      | inr x ↦ rw x refl
-    ]
+left_none k d column = grind (arith, nat_tests)
 
 opened_none : (may : Bool) (column : ℕ) (ls : List ℕ) → may ≡ false → ls ≡ []
     → opened may column ls ≡ []

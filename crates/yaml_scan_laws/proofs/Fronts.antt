@@ -77,24 +77,14 @@ clean_of : (t : List ℕ) (H : List Lexeme) (x : Kind) (l y : Lexeme) (a b c e f
     → stale_before t H ≡ a → indicator_misplaced x t H ≡ b → candidate_lost x t H ≡ c
     → text_wrong x t H ≡ e → lexeme_behind x t H ≡ y
     → first_fault_or (a ∷ b ∷ c ∷ e ∷ f ∷ []) (Read y) ≡ Read l → IsClean t H x l
-clean_of t H x l y (Some g) b c e f h i j o q r = absurd (fails_not g l r)
-clean_of t H x l y None (Some g) c e f h i j o q r = absurd (fails_not g l r)
-clean_of t H x l y None None (Some g) e f h i j o q r = absurd (fails_not g l r)
-clean_of t H x l y None None None (Some g) f h i j o q r = absurd (fails_not g l r)
-clean_of t H x l y None None None None (Some g) h i j o q r = absurd (fails_not g l r)
-clean_of t H x l y None None None None None h i j o q r =
-    record { stale = h; misplaced = i; lost = j; text = o; is = q ∙ reads_same y l r }
+clean_of t H x l y a b c e f h i j o q r = grind (arith, fails_not, reads_same)
 
 pub clean : (t : List ℕ) (H : List Lexeme) (x : Kind) (l : Lexeme)
     → coming (Some x) t H ≡ Read l → IsClean t H x l
 clean t H x l r = clean_of t H x l (lexeme_behind x t H) (stale_before t H) (indicator_misplaced x t H) (candidate_lost x t H) (text_wrong x t H) (stale_after (lexeme_behind x t H) H) refl refl refl refl refl r
 
 pub none_reads : (t : List ℕ) (H : List Lexeme) (l : Lexeme) → coming None t H ≢ Read l
-none_reads t H l e = go (stale_before t H) e
-  where
-    go : (o : Option ScanFault) → first_fault_or (o ∷ []) (Fails (no_start (place_behind t H))) ≡ Read l → ⊥
-    go None e = fails_not (no_start (place_behind t H)) l e
-    go (Some f) e = fails_not f l e
+none_reads t H l e = grind (arith, fails_not)
 
 -- what is read has a kind, and a text
 pub record HasRead (t : List ℕ) (H : List Lexeme) (l : Lexeme) : Type 0 where

@@ -203,20 +203,10 @@ pub gap_passes : (n : ℕ) (flow allowed : Bool) (text : List ℕ) (p : ℕ)
     → gap_within (suc n) flow allowed text p
     ≡ gap_within n flow allowed text (step_at (flow || not allowed) text p).place
 unfolding gap_within step_at
-gap_passes n flow allowed text p h =
-    elim (cases_Bool (p == 0 && is_bom text p)) [
-      | inl i ↦ rw i refl
-      | inr i ↦ elim (cases_Bool (is_skipped (flow || not allowed) text p)) [
-        | inl j ↦ rw (i, j) refl
-        | inr j ↦ let k : (byte text p == 35) ≡ true = rw (i, j) at h in rw (i, j, k) refl
-      ]
-    ]
+gap_passes n flow allowed text p h = grind (arith, nat_tests)
 
 none_passed : (a b c : Bool) → (a || (b || c)) ≡ false → (a ≡ false) × (b ≡ false) × (c ≡ false)
-none_passed false false false h = (refl, refl, refl)
-none_passed true b c h = absurd (true≢false h)
-none_passed false true c h = absurd (true≢false h)
-none_passed false false true h = absurd (true≢false h)
+none_passed a b c h = grind (arith, nat_tests)
 
 pub gap_breaks : (n : ℕ) (flow allowed : Bool) (text : List ℕ) (p : ℕ)
     → is_passed (flow || not allowed) text p ≡ false → nat_lt 0 (break_width text p) ≡ true
@@ -267,10 +257,7 @@ gap_over t u d m flow allowed p n o l e f = rw (e, f) record { same = refl; insi
 
 gap_edge : (t u : List ℕ) (d m : ℕ) (flow allowed : Bool) (p n o : ℕ) → Alike t u d m → p ≡ m
     → Gaps t u d m flow allowed p n o
-gap_edge t u d m flow allowed p n o a e =
-    let here : byte t p ≡ 0 = rw e a.edge in
-    let there : IsQuiet (byte u (d + p)) = rw e (quiet_edge t u d m a) in
-    gap_over t u d m flow allowed p n o (omega (arith, e)) (quiet_gap n flow allowed t p (inl here)) (quiet_gap o flow allowed u (d + p) there)
+gap_edge t u d m flow allowed p n o a e = grind (arith, nat_tests, quiet_edge, gap_over, quiet_gap)
 
 -- a step is left
 pub left_step : (p n x : ℕ) → x ≤ p + n → p < x → (k : ℕ) × (n ≡ suc k) × (x ≤ p + 1 + k)

@@ -39,20 +39,7 @@ outer_least h c e =
 -- An open candidate outside of brackets is the first open one.
 pub outer_is_first : (h : List Lexeme) (c : Candidate) → fresh (candidate 0 h) (reached h) ≡ Some c
     → first_open h h ≡ c.number
-outer_is_first h c e =
-    let (least, low) = outer_least h c e in
-    let (d, (x, f, m)) = first_open-is h h (omega (arith, least, low)) in
-    elim (cases_lt 0 d) [
-      | inl deep ↦
-          let before = outer_before d h c x deep (fresh_is (candidate 0 h) (reached h) c e) (fresh_is (candidate d h) (reached h) x f) in
-          absurd (omega (arith, before, m, least))
-      | inr outer ↦
-          let zero_depth : d ≡ 0 = omega (arith, outer) in
-          let there : fresh (candidate 0 h) (reached h) ≡ Some x = rw zero_depth at f in
-          let same : Some x ≡ Some c = sym there ∙ e in
-          let is : x ≡ c = cc in
-          sym m ∙ ap (λ (y : Candidate). y.number) is
-    ]
+outer_is_first h c e = grind (arith, nat_tests, outer_least, first_open-is, outer_before, fresh_is)
 
 -- a lexeme is after a history
 pub record IsBehind (text : List ℕ) (h : List Lexeme) (l : Lexeme) : Type 0 where
@@ -110,26 +97,13 @@ own_bytes text l t = ((reached_inside text l (is_end l.kind) t).1, λ n. let b =
 
 some_before : (text : List ℕ) (h : List Lexeme) (l : Lexeme) → IsBehind text h l → l.saved ≡ true
     → 0 < length h
-some_before text h l b s =
-    elim (cases_lt 0 (length h)) [
-      | inl some ↦ some
-      | inr none ↦ absurd (true≢false (sym s ∙ b.first (omega (arith, none))))
-    ]
+some_before text h l b s = grind (arith, nat_tests)
 
 has_bytes : (text : List ℕ) (newer : List Lexeme) (c : Lexeme) (older : List Lexeme)
     → Chain text (newer ++ c ∷ older) → c.saved ≡ true
     → HasBytes c (length newer) (newer ++ c ∷ older)
-has_bytes text [] c older (b, rest) s =
-    let (low, high) = own_bytes text c (b.stands (some_before text older c b s)) in
-    record { all_but_one = omega (arith, low); each = λ n. let more = high n in omega (arith, more); lines = b.lines.1 }
-has_bytes text (l ∷ newer) c older (b, rest) s =
-    let h = newer ++ c ∷ older in
-    let before = has_bytes text newer c older rest s in
-    let each = before.each b.open_end in
-    let behind = b.behind in
-    let some : 0 < length h = omega (arith, length-append newer (c ∷ older)) in
-    let (low, high) = own_bytes text l (b.stands some) in
-    record { all_but_one = omega (arith, each, behind, low); each = λ n. let more = high n in omega (arith, each, behind, more); lines = omega (arith, before.lines, b.lines) }
+has_bytes text [] c older (b, rest) s = grind (arith, nat_tests, own_bytes, some_before)
+has_bytes text (l ∷ newer) c older (b, rest) s = grind (arith, nat_tests, length-append, own_bytes, has_bytes text newer c older rest s)
 
 -- where a candidate is in its history
 record IsFound (d : ℕ) (h : List Lexeme) (c : Candidate) : Type 0 where
@@ -176,12 +150,7 @@ candidate_found d (l ∷ h) c e =
 
 fresh_near : (o : Option Candidate) (m : yaml_mark_t) (c : Candidate) → fresh o m ≡ Some c
     → is_fresh c.lexeme.start m ≡ true
-fresh_near None m c e = let bad : None ≡ Some c = e in absurd cc
-fresh_near (Some x) m c e =
-    elim (cases_Bool (is_fresh x.lexeme.start m)) [
-      | inl near ↦ let same : Some x ≡ Some c = rw near at e in let is : x ≡ c = cc in rw (← is) near
-      | inr far ↦ let bad : None ≡ Some c = rw far at e in absurd cc
-    ]
+fresh_near o m c e = grind (arith, nat_tests)
 
 near_by : (s m : yaml_mark_t) → is_fresh s m ≡ true → (m.line ≤ s.line) × (m.index ≤ s.index + 1024)
 near_by s m h = (grind (arith, nat_tests), grind (arith, nat_tests))

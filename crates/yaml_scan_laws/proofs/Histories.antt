@@ -36,20 +36,7 @@ pub candidate_moved : (d n k e : ℕ) (l : Lexeme) (H G : List Lexeme) → lengt
     → candidate e G ≡ moved_found d n k (candidate e H)
     → candidate e (moved_lexeme d n l ∷ G) ≡ moved_found d n k (candidate e (l ∷ H))
 unfolding candidate
-candidate_moved d n k e l H G count same =
-    elim (cases_Bool (l.depth == e)) [
-      | inl i ↦ elim (cases_Bool l.saved) [
-        | inl j ↦ rw (i, j, count) refl
-        | inr j ↦ elim (cases_Bool (cancels l.kind)) [
-          | inl x ↦ rw (i, j, x) refl
-          | inr x ↦ rw (i, j, x) same
-        ]
-      ]
-      | inr i ↦ elim (cases_Bool (nat_lt l.depth e)) [
-        | inl j ↦ rw (i, j) refl
-        | inr j ↦ rw (i, j) same
-      ]
-    ]
+candidate_moved d n k e l H G count same = grind (arith, nat_tests)
 
 pub candidate_on : (d n k e : ℕ) (h b c : List Lexeme) → Bases d n k b c
     → candidate e (moved_lexemes d n h ++ c) ≡ moved_found d n k (candidate e (h ++ b))
@@ -58,20 +45,11 @@ candidate_on d n k e (l ∷ h) b c s = candidate_moved d n k e l (h ++ b) (moved
 
 pub near_moved : (d n : ℕ) (start place : yaml_mark_t)
     → is_fresh (moved_mark d n start) (moved_mark d n place) ≡ is_fresh start place
-near_moved d n start place =
-    let line : nat_le (n + place.line) (n + start.line) ≡ nat_le place.line start.line = grind (arith, nat_tests) in
-    let far : nat_le (d + place.index) (d + start.index + 1024) ≡ nat_le place.index (start.index + 1024) = grind (arith, nat_tests) in
-    rw (line, far) refl
+near_moved d n start place = grind (arith, nat_tests)
 
 pub fresh_moved : (d n k : ℕ) (o : Option Candidate) (place : yaml_mark_t)
     → fresh (moved_found d n k o) (moved_mark d n place) ≡ moved_found d n k (fresh o place)
-fresh_moved d n k None place = refl
-fresh_moved d n k (Some c) place =
-    let same = near_moved d n c.lexeme.start place in
-    elim (cases_Bool (is_fresh c.lexeme.start place)) [
-      | inl h ↦ rw (same ∙ h, h) refl
-      | inr h ↦ rw (same ∙ h, h) refl
-    ]
+fresh_moved d n k o place = grind (arith, nat_tests, near_moved)
 
 pub found_on : (d n k : ℕ) (l : Lexeme) (h b c : List Lexeme) → Bases d n k b c
     → found_by (moved_lexeme d n l) (moved_lexemes d n h ++ c) ≡ moved_found d n k (found_by l (h ++ b))

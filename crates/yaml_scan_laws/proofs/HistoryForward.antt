@@ -36,11 +36,7 @@ first_is text l e = reads_same first_lexeme l e
 pub not_ended : (text : List ℕ) (x : Lexeme) (h : List Lexeme) (l : Lexeme)
     → next text (x ∷ h) ≡ Read l → is_end x.kind ≡ false
 unfolding next
-not_ended text x h l e =
-    elim (cases_Bool (is_end x.kind)) [
-      | inl y ↦ let bad : Ends ≡ Read l = rw y at e in cc
-      | inr n ↦ n
-    ]
+not_ended text x h l e = grind arith
 
 read_follows : (text : List ℕ) (x : Lexeme) (h : List Lexeme) (l : Lexeme)
     → x.reached.index ≤ length text → next text (x ∷ h) ≡ Read l → Follows text x.reached.index l
@@ -86,11 +82,7 @@ history_stands text zero = tt
 history_stands text (suc n) = extended_stands text (history text n) (next text (history text n)) (history_stands text n) refl
 
 moved_line : (k : Kind) (m : yaml_mark_t) → m.line ≤ (placed k m).line
-moved_line k m =
-    elim (cases_Bool (is_end k && nat_lt 0 m.column)) [
-      | inl e ↦ rw e (omega arith)
-      | inr e ↦ rw e (omega arith)
-    ]
+moved_line k m = grind arith
 
 placed_line : (text : List ℕ) (l : Lexeme) (ended : Bool) → Takes ended text l
     → line_at text l.start.index ≤ l.start.line
@@ -101,12 +93,7 @@ placed_line text l true t =
 
 placed_reached : (text : List ℕ) (l : Lexeme) (ended : Bool) → Takes ended text l
     → Upto l.start l.reached
-placed_reached text l true t = rw t.reached (omega arith, omega arith)
-placed_reached text l false t =
-    let forward : l.start.index ≤ l.reached.index = omega (arith, t.some, t.order) in
-    let first = ap (λ (m : yaml_mark_t). m.line) t.start in
-    let last = ap (λ (m : yaml_mark_t). m.line) t.reached in
-    (forward, omega (arith, line_at-grows text l.start.index l.reached.index forward, first, last))
+placed_reached text l ended t = grind (arith, line_at-grows)
 
 pub read_forward : (text : List ℕ) (h : List Lexeme) (l : Lexeme) → Stands text h
     → next text h ≡ Read l → Upto (reached h) l.start × Upto l.start l.reached
@@ -185,11 +172,7 @@ unfolding all
 stays_all text n le = stays_upto text (length text + 2) n (all_ends text) le
 
 cases_le : (a b : ℕ) → (a ≤ b) ⊎ (b ≤ a)
-cases_le a b =
-    elim (cases_lt a b) [
-      | inl l ↦ inl (omega arith)
-      | inr l ↦ inr (omega arith)
-    ]
+cases_le a b = grind arith
 
 -- where nothing more is read, the lexemes are all
 pub last_is_all : (text : List ℕ) (n : ℕ) → ((l : Lexeme) → next text (history text n) ≢ Read l)

@@ -64,15 +64,7 @@ record IsKeyKind (k : Kind) : Type 0 where
   value : is_value k ≡ false
 
 key_kind : (k : Kind) → may_be_key k ≡ true → IsKeyKind k
-key_kind kinds.FlowSequenceStart e = record { inside = refl; start = refl; value = refl }
-key_kind kinds.FlowMappingStart e = record { inside = refl; start = refl; value = refl }
-key_kind kinds.Alias e = record { inside = refl; start = refl; value = refl }
-key_kind kinds.Anchor e = record { inside = refl; start = refl; value = refl }
-key_kind kinds.Tag e = record { inside = refl; start = refl; value = refl }
-key_kind kinds.SingleQuoted e = record { inside = refl; start = refl; value = refl }
-key_kind kinds.DoubleQuoted e = record { inside = refl; start = refl; value = refl }
-key_kind kinds.Plain e = record { inside = refl; start = refl; value = refl }
-key_kind k e = absurd (cc)
+key_kind k e = grind (arith, nat_tests)
 
 flag_off : (x y : Bool) → x ≡ false → (x && y) ≡ false
 flag_off false y e = refl
@@ -189,10 +181,7 @@ gone o e = let P : Option Candidate → Type 0 = λ x. IsFree x in subst P (sym 
 
 idle_behind : (l : Lexeme) (h : List Lexeme) (d : ℕ) (c : Candidate) → Holds h d c → l.depth ≡ d
     → candidate d (l ∷ h) ≡ None → Idle (l ∷ h)
-idle_behind l h d c holds deep none = λ e. elim (cases_Bool (d == e)) [
-  | inl x ↦ let same : d ≡ e = grind (arith, nat_tests) in let P : ℕ → Type 0 = λ i. IsFree (candidate i (l ∷ h)) in subst P same (gone (candidate d (l ∷ h)) none)
-  | inr x ↦ let far : d ≡ e → ⊥ = λ y. let z = eq-eqb d e y in cc in other_slot l h e (λ y. far (sym (y ∙ deep))) (holds.others e far)
-]
+idle_behind l h d c holds deep none = grind (arith, nat_tests, gone, other_slot)
 
 pub key_ends : KeyEnds
 key_ends text h d ms done first rest q a w f holds meets right near =

@@ -33,14 +33,7 @@ said_directive (directives.tag h p) = tt
 
 directed_body : (r : Result DirectiveText Wrong) (w : WordText) → directed r ≡ Ok w
     → IsDirective w.body
-directed_body (Ok d) w e = subst IsDirective (ap (λ (y : WordText). y.body) (inner refl e)) (said_directive d.said)
-  where
-    inner : {v w : WordText} {r : Result WordText Wrong} → r ≡ Ok v → r ≡ Ok w → v ≡ w
-    inner e f = cc
-directed_body (Err x) w e = absurd (err_ok refl e)
-  where
-    err_ok : {w : WordText} {x : Wrong} {r : Result WordText Wrong} → r ≡ Err x → r ≡ Ok w → ⊥
-    err_ok e f = cc
+directed_body r w e = grind (arith, said_directive)
 
 lead_kind : (b : List ℕ) → LeadsToDirective b
     → kind_behind b (first_lexeme ∷ []) ≡ Some kinds.Directive

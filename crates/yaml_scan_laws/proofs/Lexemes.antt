@@ -70,19 +70,11 @@ ended_texts k s l w h = h
 finished_carries : (s : SpelledText) (q : ℕ) (l : Lexeme) (w : WordText) → IsBegun q l
     → IsWhole s.text q → HasTexts (body_in s l) → IsWhole s.text w.reached
     → Carries s (finished s.text l w)
-finished_carries s q l w b here texts place =
-    elim (cases_Bool (is_end l.kind)) [
-      | inl e ↦ rw e record { texts = texts; place = subst (IsWhole s.text) (sym b.reached) here }
-      | inr e ↦ rw e record { texts = ended_texts l.kind s l w texts; place = place }
-    ]
+finished_carries s q l w b here texts place = grind (arith, nat_tests, ended_texts)
 
 tested_carries : (s : SpelledText) (l : Lexeme) (h : List Lexeme) → Carries s l
     → CarriesAny s (tested l h)
-tested_carries s l h c =
-    elim (missed (candidate 0 (l ∷ h)) l.reached) as (λ o. CarriesAny s (elim o as (λ _. Next) [ Some start ↦ no_colon start l.reached | None ↦ Read l ])) [
-      | Some start ↦ tt
-      | None ↦ c
-    ]
+tested_carries s l h c = grind (arith, nat_tests)
 
 wrong_carries : (s : SpelledText) (q : ℕ) (r : Result WordText Wrong) (l : Lexeme) (h : List Lexeme)
     → IsBegun q l → IsWhole s.text q → HasTexts (body_in s l) → HasWord s.text r

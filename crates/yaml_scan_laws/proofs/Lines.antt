@@ -24,10 +24,7 @@ blank_is text p h = rw h refl
 
 pub no_blank : (text : List ℕ) (p b : ℕ) → byte text p ≡ b → b ≢ 32 → b ≢ 9
     → is_blank text p ≡ false
-no_blank text p b h space tab =
-    let s : (b == 32) ≡ false = grind (arith, nat_tests) in
-    let t : (b == 9) ≡ false = grind (arith, nat_tests) in
-    rw (h, s, t) refl
+no_blank text p b h space tab = grind (arith, nat_tests)
 
 pub digit_is : (text : List ℕ) (p b : ℕ) → byte text p ≡ b → 48 ≤ b → b ≤ 57
     → is_digit text p ≡ true
@@ -65,22 +62,14 @@ unfolding break_of
 blank_calm b c d h = grind (arith, nat_tests)
 
 pub break_no_blank : (text : List ℕ) (p : ℕ) → is_break text p ≡ true → is_blank text p ≡ false
-break_no_blank text p h =
-    elim (cases_Bool (is_blank text p)) [
-      | inl e ↦ absurd (broken (break_width text p) (blank_calm (byte text p) (byte text (p + 1)) (byte text (p + 2)) e) h)
-      | inr e ↦ e
-    ]
+break_no_blank text p h = grind (arith, nat_tests, broken, blank_calm)
 
 digit_range : (b : ℕ) → is_digit_byte b ≡ true → (32 < b) × (b < 127)
 unfolding is_digit_byte
 digit_range b h = (grind (arith, nat_tests), grind (arith, nat_tests))
 
 pub break_no_digit : (text : List ℕ) (p : ℕ) → is_break text p ≡ true → is_digit text p ≡ false
-break_no_digit text p h =
-    elim (cases_Bool (is_digit text p)) [
-      | inl e ↦ let (low, high) = digit_range (byte text p) e in absurd (break_no_printed text p (byte text p) h refl low high)
-      | inr e ↦ e
-    ]
+break_no_digit text p h = grind (arith, nat_tests, digit_range, break_no_printed)
 
 pub break_no_uri : (text : List ℕ) (p : ℕ) → is_break text p ≡ true
     → (byte text p == 37 || is_uri true text p) ≡ false
@@ -94,11 +83,7 @@ break_no_uri text p h =
     ]
 
 no_hash : (text : List ℕ) (p : ℕ) → is_break text p ≡ true → (byte text p == 35) ≡ false
-no_hash text p h =
-    elim (cases_Bool (byte text p == 35)) [
-      | inl e ↦ absurd (break_no_printed text p 35 h (eqb-true _ _ e) (omega arith) (omega arith))
-      | inr e ↦ e
-    ]
+no_hash text p h = grind (arith, nat_tests, break_no_printed)
 
 -- the line of a directive ends after its break
 pub line_ends : (text : List ℕ) (p : ℕ) → is_break text p ≡ true

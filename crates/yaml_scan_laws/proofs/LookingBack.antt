@@ -29,12 +29,7 @@ first_may (None ∷ ps) x m = first_may ps x m
 
 word_may : (text : List ℕ) (l : Lexeme) (r : Result WordText Wrong) → MayBeKey l
     → MayBeKey (with_end text l r)
-word_may text l (Err w) m = m
-word_may text l (Ok w) m =
-    elim (cases_Bool (is_end l.kind)) [
-      | inl e ↦ rw e m
-      | inr e ↦ rw e m
-    ]
+word_may text l r m = grind (arith, nat_tests)
 
 coming_may : (o : Option Kind) (text : List ℕ) (h : List Lexeme) → NextMay (coming o text h)
 coming_may None text h = first_may (stale_before text h ∷ []) (Fails (no_start (place_behind text h))) tt
@@ -44,12 +39,7 @@ coming_may (Some k) text h =
 
 next_may : (text : List ℕ) (h : List Lexeme) → NextMay (next text h)
 unfolding next
-next_may text [] = λ s. absurd (cc)
-next_may text (l ∷ h) =
-    elim (cases_Bool (is_end l.kind)) [
-      | inl e ↦ rw e tt
-      | inr e ↦ rw e (coming_may (kind_behind text (l ∷ h)) text (l ∷ h))
-    ]
+next_may text h = grind (arith, nat_tests, coming_may)
 
 extended_may : (x : Next) (h : List Lexeme) → NextMay x → AllMay h → AllMay (extended x h)
 extended_may (Read l) h m a = (m, a)
@@ -89,11 +79,7 @@ or_below None n f = omega arith
 or_below (Some c) n f = let low = f c refl in omega (arith, low)
 
 begins_below : (l : Lexeme) (h : List Lexeme) → begins_with l h ≤ length h
-begins_below l h =
-    elim (cases_Bool (is_value l.kind)) [
-      | inl e ↦ rw e (or_below (found_by l h) (length h) (found_below l h))
-      | inr e ↦ rw e (omega arith)
-    ]
+begins_below l h = grind (arith, nat_tests, or_below, found_below)
 
 -- a lexeme that opens no level there
 other_level : (n : ℕ) (l : Lexeme) (h : List Lexeme)
@@ -116,34 +102,7 @@ own_by : (o : Option Candidate) (l : Lexeme) (ls : List ℕ) (n : ℕ)
     && nat_lt (indent ls) (opens_at o l.kind l.start.column))
     && cond (is_value l.kind) (number_or o n) n == n) (level_of l.kind) opening.Nothing
     ≡ opens_of o l ls
-own_by None l ls n f =
-    let here = eq-eqb n n refl in
-    elim (cases_Bool (is_start l.kind)) [
-      | inr s ↦ rw s refl
-      | inl s ↦ elim (cases_Bool (is_value l.kind)) [
-        | inl v ↦ elim (cases_Bool (not (nat_lt 0 l.depth) && nat_lt (indent ls) (margin_at l.start.column))) [
-          | inl r ↦ rw (s, v, here, r) refl
-          | inr r ↦ rw (s, v, here, r) refl
-        ]
-        | inr v ↦ elim (cases_Bool (not (nat_lt 0 l.depth) && nat_lt (indent ls) (margin_at l.start.column))) [
-          | inl r ↦ rw (s, v, here, r) refl
-          | inr r ↦ rw (s, v, here, r) refl
-        ]
-      ]
-    ]
-own_by (Some c) l ls n f =
-    let here = eq-eqb n n refl in
-    let far : (c.number == n) ≡ false = grind (arith, nat_tests, f c refl) in
-    elim (cases_Bool (is_start l.kind)) [
-      | inr s ↦ rw s refl
-      | inl s ↦ elim (cases_Bool (is_value l.kind)) [
-        | inl v ↦ rw (s, v, far, and-false (not (nat_lt 0 l.depth) && nat_lt (indent ls) (margin_at c.lexeme.start.column))) refl
-        | inr v ↦ elim (cases_Bool (not (nat_lt 0 l.depth) && nat_lt (indent ls) (margin_at l.start.column))) [
-          | inl r ↦ rw (s, v, here, r) refl
-          | inr r ↦ rw (s, v, here, r) refl
-        ]
-      ]
-    ]
+own_by o l ls n f = grind (arith, nat_tests)
 
 own_level : (l : Lexeme) (h : List Lexeme)
     → level_at (length h) (l ∷ h) ≡ opens_of (found_by l h) l (inside l h)
@@ -160,17 +119,10 @@ own_key l h =
 -- ---- the lexeme that a `:` finds
 
 start_cancels : (k : Kind) → cancels k ≡ false → is_start k ≡ false
-start_cancels kinds.BlockEntry e = absurd (cc)
-start_cancels kinds.KeyMark e = absurd (cc)
-start_cancels kinds.ValueMark e = absurd (cc)
-start_cancels _ e = refl
+start_cancels k e = grind (arith, nat_tests)
 
 key_no_start : (k : Kind) → may_be_key k ≡ true → is_start k ≡ false
-key_no_start k m =
-    elim (cases_Bool (is_start k)) [
-      | inl s ↦ let no = start_no_key k s in absurd (cc)
-      | inr s ↦ s
-    ]
+key_no_start k m = grind (arith, nat_tests, start_no_key)
 
 value_starts : (k : Kind) → is_value k ≡ true → (is_start k ≡ true) × (level_of k ≡ opening.Mapping)
 value_starts kinds.ValueMark e = (refl, refl)
@@ -180,10 +132,7 @@ saved_found : (d : ℕ) (y : Lexeme) (t : List Lexeme) (c : Candidate) → (y.de
     → y.saved ≡ true → candidate d (y ∷ t) ≡ Some c
     → let own : Candidate = record { number = length t; lexeme = y } in own ≡ c
 unfolding candidate
-saved_found d y t c same saved e =
-    let own : Candidate = record { number = length t; lexeme = y } in
-    let is : Some own ≡ Some c = sym (rw (same, saved) refl) ∙ e in
-    cc
+saved_found d y t c same saved e = grind (arith, nat_tests)
 
 -- no other level begins with it
 unlevelled : (d : ℕ) (h : List Lexeme) (c : Candidate) → candidate d h ≡ Some c → AllMay h
@@ -216,22 +165,7 @@ unlevelled d (y ∷ t) c e (m, a) =
 found_is : (d : ℕ) (newer : List Lexeme) (x : Lexeme) (t : List Lexeme) (c : Candidate)
     → candidate d (newer ++ x ∷ t) ≡ Some c → c.number ≡ length t → (c.lexeme ≡ x) × (x.depth ≡ d)
 unfolding candidate
-found_is d [] x t c e n =
-    let low = candidate_below d t c in
-    elim (cases_Bool (x.depth == d)) [
-      | inl same ↦ elim (cases_Bool x.saved) [
-        | inl saved ↦
-            (sym (ap (λ (y : Candidate). y.lexeme) (saved_found d x t c same saved e)), grind (arith, nat_tests))
-        | inr unsaved ↦ elim (cases_Bool (cancels x.kind)) [
-          | inl stops ↦ let bad = rw (same, unsaved, stops) at e in absurd (cc)
-          | inr goes ↦ let before : candidate d t ≡ Some c = rw (same, unsaved, goes) at e in absurd (omega (arith, low before))
-        ]
-      ]
-      | inr other ↦ elim (cases_Bool (nat_lt x.depth d)) [
-        | inl outer ↦ let bad = rw (other, outer) at e in absurd (cc)
-        | inr inner ↦ let before : candidate d t ≡ Some c = rw (other, inner) at e in absurd (omega (arith, low before))
-      ]
-    ]
+found_is d [] x t c e n = grind (arith, nat_tests, candidate_below, saved_found)
 found_is d (y ∷ newer) x t c e n =
     elim (candidate-more d y (newer ++ x ∷ t) c e) [
       | inl top ↦ absurd (omega (arith, top, n, length-append newer (x ∷ t)))
@@ -298,25 +232,14 @@ opens_there : (l : Lexeme) (h : List Lexeme) (c : Candidate) (o : Option Candida
     && cond (is_value l.kind) (number_or o (length h)) (length h) == c.number) (level_of l.kind)
     opening.Nothing
     ≡ start_of c.lexeme.depth (margin_at c.lexeme.start.column) ls opening.Mapping
-opens_there l h c None ls v e d = absurd (cc)
-opens_there l h c (Some x) ls v e d =
-    let same : x ≡ c = cc in
-    let (starts, maps) = value_starts l.kind v in
-    let here = eq-eqb c.number c.number refl in
-    elim (cases_Bool (not (nat_lt 0 l.depth) && nat_lt (indent ls) (margin_at c.lexeme.start.column))) [
-      | inl r ↦ rw (same, starts, maps, v, here, d, r) refl
-      | inr r ↦ rw (same, starts, maps, v, here, d, r) refl
-    ]
+opens_there l h c o ls v e d = grind (arith, nat_tests, value_starts)
 
 key_there : (l : Lexeme) (h : List Lexeme) (c : Candidate) → is_value l.kind ≡ true
     → found_by l h ≡ Some c → AllMay h → c.lexeme.depth ≡ l.depth
     → (level_at c.number (l ∷ h) ≡ start_of c.lexeme.depth (margin_at c.lexeme.start.column)
     (inside l h) opening.Mapping) × (is_key c.number (l ∷ h) ≡ true)
 unfolding level_at is_key
-key_there l h c v f a d =
-    let none = unlevelled l.depth h c (fresh_is _ _ c f) a in
-    let here = eq-eqb c.number c.number refl in
-    (rw none (opens_there l h c (found_by l h) (inside l h) v f d), rw (v, f, here) refl)
+key_there l h c v f a d = grind (arith, nat_tests, unlevelled, fresh_is, opens_there)
 
 -- a `:` marks the one that it finds
 one_marked : (l : Lexeme) (h : List Lexeme) (c : Candidate) → is_value l.kind ≡ true

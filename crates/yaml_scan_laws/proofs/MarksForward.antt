@@ -4,11 +4,7 @@ use Rattle.yaml_scan_laws.proofs.Words.{cases_Bool, line_at, ends_break}
 
 line_next : (text : List ℕ) (p : ℕ) → line_at text p ≤ line_at text (suc p)
 unfolding line_at
-line_next text p =
-    elim (cases_Bool (ends_break text p)) [
-      | inl e ↦ rw e (omega arith)
-      | inr e ↦ rw e (omega arith)
-    ]
+line_next text p = grind arith
 
 line_further : (text : List ℕ) (p k : ℕ) → line_at text p ≤ line_at text (k + p)
 line_further text p zero = let z : 0 + p ≡ p = omega arith in rw z (omega arith)

@@ -97,12 +97,7 @@ record SpotAlike (t u : List ℕ) (d m p : ℕ) (s r : UriSpot) : Type 0 where
 
 no_digit : (b : ℕ) → is_onward b ≡ false → hex_digit b ≡ None
 unfolding hex_digit
-no_digit b h =
-    elim (off_cases b h) [
-      | inl z ↦ rw z refl
-      | inr (inl z) ↦ rw z refl
-      | inr (inr z) ↦ rw z refl
-    ]
+no_digit b h = grind (arith, nat_tests, off_cases)
 
 none_first : (o : Option ℕ) → octet_of None o ≡ None
 none_first None = refl
@@ -149,13 +144,7 @@ octet_spots : (t u : List ℕ) (d m p due : ℕ) (o : Option ℕ) → OctetIn m 
     → d + p < length u
     → SpotAlike t u d m p (octet_spot due p o) (octet_spot due (d + p) o)
 unfolding OctetIn
-octet_spots t u d m p due None h x y = record { same = refl; lies = tt }
-octet_spots t u d m p due (Some b) h x y = go (due_behind b due)
-  where
-    go : (r : Result ℕ Problem)
-        → SpotAlike t u d m p (escape_spot b p r) (escape_spot b (d + p) r)
-    go (Ok next) = let e : d + p + 3 ≡ d + (p + 3) = omega arith in rw e record { same = refl; lies = (h, omega arith, x, y) }
-    go (Err problem) = record { same = refl; lies = tt }
+octet_spots t u d m p due o h x y = grind (arith, nat_tests)
 
 pub letter_onward : (b : ℕ) → 32 < b → is_onward b ≡ true
 unfolding is_onward
@@ -241,12 +230,7 @@ uri_alike context wide t u d m p a l = uri_by (length t) context wide t u d m 0 
 
 filled_alike : (context : Context) (d m : ℕ) (r s : Result (List ℕ × ℕ) Wrong) → PairAlike d m r s
     → PairAlike d m (filled context r) (filled context s)
-filled_alike context d m (Err w) s h = let same = h.same in rw same record { same = refl; ends = tt }
-filled_alike context d m (Ok x) s h =
-    elim (cases_Bool (length x.0 == 0)) [
-      | inl e ↦ rw (h.same, e) record { same = refl; ends = tt }
-      | inr e ↦ rw (h.same, e) record { same = refl; ends = h.ends }
-    ]
+filled_alike context d m r s h = grind (arith, nat_tests)
 
 pub some_uri_alike : (context : Context) (wide : Bool) (t u : List ℕ) (d m p : ℕ) → Alike t u d m
     → p < m → PairAlike d m (some_uri_at context wide t p) (some_uri_at context wide u (d + p))
@@ -281,12 +265,7 @@ handled_alike d m h (Ok x) s k = let same = k.same in rw same record { same = re
 
 bare_alike : (d m : ℕ) (r s : Result (List ℕ × ℕ) Wrong) → PairAlike d m r s
     → TagAlike d m (bare r) (bare s)
-bare_alike d m (Err w) s k = let same = k.same in rw same record { same = refl; ends = tt }
-bare_alike d m (Ok x) s k =
-    elim (cases_Bool (length x.0 == 0)) [
-      | inl e ↦ rw (k.same, e) record { same = refl; ends = k.ends }
-      | inr e ↦ rw (k.same, e) record { same = refl; ends = k.ends }
-    ]
+bare_alike d m r s k = grind (arith, nat_tests)
 
 named_alike : (t u : List ℕ) (d m p q r : ℕ) → Alike t u d m → p < m → p ≤ q
     → Run_in t u d m (p + 1) q r → byte t q ≡ 33

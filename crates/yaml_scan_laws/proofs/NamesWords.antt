@@ -161,12 +161,7 @@ HasSome (Ok x) = IsSome x.0
 HasSome (Err w) = Unit {0}
 
 filled_good : (context : Context) (r : Result (List ℕ × ℕ) Wrong) → HasSome (filled context r)
-filled_good context (Ok u) =
-    elim (cases_Bool (length u.0 == 0)) [
-      | inl e ↦ rw e tt
-      | inr e ↦ rw e e
-    ]
-filled_good context (Err w) = tt
+filled_good context r = grind (arith, nat_tests)
 
 uri_good : (context : Context) (wide : Bool) (text : List ℕ) (p : ℕ)
     → HasSome (some_uri_at context wide text p)
@@ -183,12 +178,7 @@ HasTag (Err w) = Unit {0}
 
 bracketed_good : (text : List ℕ) (r : Result (List ℕ × ℕ) Wrong) → HasSome r
     → HasTag (bracketed text r)
-bracketed_good text (Ok u) some =
-    elim (cases_Bool (byte text u.1 == 62)) [
-      | inl e ↦ rw e (inl refl, some)
-      | inr e ↦ rw e tt
-    ]
-bracketed_good text (Err w) some = tt
+bracketed_good text r some = grind (arith, nat_tests)
 
 handle_tag : (handle : List ℕ) (r : Result (List ℕ × ℕ) Wrong) → IsHandle handle → HasSome r
     → HasTag (with_handle handle r)
@@ -196,12 +186,7 @@ handle_tag handle (Ok u) h some = (inr h, some)
 handle_tag handle (Err w) h some = tt
 
 bare_good : (r : Result (List ℕ × ℕ) Wrong) → HasTag (bare r)
-bare_good (Ok u) =
-    elim (cases_Bool (length u.0 == 0)) [
-      | inl e ↦ rw e (inl refl, refl)
-      | inr e ↦ rw e (inr (inl refl), e)
-    ]
-bare_good (Err w) = tt
+bare_good r = grind (arith, nat_tests)
 
 parts_good : (text : List ℕ) (p : ℕ) → byte text p ≡ 33 → HasTag (parts_at text p)
 unfolding parts_at
@@ -219,12 +204,7 @@ parts_good text p mark =
 
 tag_word : (flow : Bool) (text : List ℕ) (r : Result TagText Wrong) → HasTag r
     → HasWord (tagged (ended flow text r))
-tag_word flow text (Ok t) h =
-    elim (cases_Bool (may_end_tag flow text t.end)) [
-      | inl e ↦ rw e h
-      | inr e ↦ rw e tt
-    ]
-tag_word flow text (Err w) h = tt
+tag_word flow text r h = grind (arith, nat_tests)
 
 -- Directives.
 
@@ -271,22 +251,13 @@ module _ (Q : TokenBody → Type 0) (version : (a b : ℕ) → Q (body_said (dir
 
 ended_good : (text : List ℕ) (r : Result (List ℕ × ℕ) Wrong) → HasSome r
     → HasSome (prefix_ended text r)
-ended_good text (Ok x) some =
-    elim (cases_Bool (is_blank_or_end text x.1)) [
-      | inl e ↦ rw e some
-      | inr e ↦ rw e tt
-    ]
-ended_good text (Err w) some = tt
+ended_good text r some = grind (arith, nat_tests)
 
 prefix_behind : (run : _) (text : List ℕ) (p : ℕ)
     → HasSome (if belongs run text p then prefix_ended text
     (some_uri_at contexts.TagDirectiveUri true text (run_end run text p))
     else Err record { problem = problems.NoWhitespace; context = contexts.TagDirective; place = p })
-prefix_behind run text p =
-    elim (cases_Bool (belongs run text p)) [
-      | inl e ↦ rw e (ended_good text (some_uri_at contexts.TagDirectiveUri true text (run_end run text p)) (uri_good contexts.TagDirectiveUri true text (run_end run text p)))
-      | inr e ↦ rw e tt
-    ]
+prefix_behind run text p = grind (arith, nat_tests, ended_good, uri_good)
 
 prefix_good : (text : List ℕ) (p : ℕ) → HasSome (prefix_at text p)
 prefix_good text p = prefix_behind _ text p

@@ -18,11 +18,7 @@ ReadsBehind text p Ends = ⊥
 
 -- a lexeme's mark keeps the place
 pub placed_index : (k : Kind) (m : yaml_mark_t) → (placed k m).index ≡ m.index
-placed_index k m =
-    elim (cases_Bool (is_end k && nat_lt 0 m.column)) [
-      | inl e ↦ rw e refl
-      | inr e ↦ rw e refl
-    ]
+placed_index k m = grind arith
 
 -- except for the end's, a lexeme's mark is its place's
 pub placed_same : (k : Kind) (m : yaml_mark_t) → is_end k ≡ false → placed k m ≡ m
@@ -49,27 +45,16 @@ with_end text l w = record l { end = mark_at text w.end; reached = mark_at text 
 
 word_follows : (text : List ℕ) (p q : ℕ) (l : Lexeme) (w : WordText) → IsBegun text q l → p ≤ q
     → is_end l.kind ≡ false → IsWordFrom text q w → Follows text p (with_end text l w)
-word_follows text p q l w b f e h =
-    let same = start_index text q l b in
-    let start = b.start ∙ placed_same l.kind (mark_at text q) e in
-    rw e (omega (arith, same), record { start = start ∙ ap (λ i. mark_at text i) (sym same); end = refl; reached = refl; some = omega (arith, same, h.end); order = h.place; inside = h.inside })
+word_follows text p q l w b f e h = grind (arith, start_index, placed_same)
 
 finished_follows : (text : List ℕ) (p q : ℕ) (l : Lexeme) (w : WordText) → IsBegun text q l → p ≤ q
     → q ≤ length text → (is_end l.kind ≡ false → IsWordFrom text q w)
     → Follows text p (finished text l w)
-finished_follows text p q l w b f i h =
-    elim (cases_Bool (is_end l.kind)) [
-      | inl e ↦ rw e (ended_follows text p q l b f i e)
-      | inr e ↦ rw e (word_follows text p q l w b f e (h e))
-    ]
+finished_follows text p q l w b f i h = grind (arith, ended_follows, word_follows)
 
 tested_reads : (text : List ℕ) (p : ℕ) (l : Lexeme) (h : List Lexeme) → Follows text p l
     → ReadsBehind text p (tested l h)
-tested_reads text p l h f =
-    elim (missed (candidate 0 (l ∷ h)) l.reached) as (λ o. ReadsBehind text p (elim o as (λ _. Next) [ Some start ↦ no_colon start l.reached | None ↦ Read l ])) [
-      | Some start ↦ tt
-      | None ↦ f
-    ]
+tested_reads text p l h f = grind arith
 
 wrong_reads : (text : List ℕ) (p q : ℕ) (r : Result WordText Wrong) (l : Lexeme) (h : List Lexeme)
     → IsBegun text q l → p ≤ q → q ≤ length text → (is_end l.kind ≡ false → LandsWord text q r)

@@ -18,12 +18,7 @@ use Rattle.yaml_scan_laws.specs.TextFronts.{IsFree}
 
 never_ends : (a b c e f : Option ScanFault) (l : Lexeme)
     → first_fault_or (a ∷ b ∷ c ∷ e ∷ f ∷ []) (Read l) ≡ Ends → ⊥
-never_ends (Some x) b c e f l is = cc
-never_ends None (Some x) c e f l is = cc
-never_ends None None (Some x) e f l is = cc
-never_ends None None None (Some x) f l is = cc
-never_ends None None None None (Some x) l is = cc
-never_ends None None None None None l is = cc
+never_ends a b c e f l is = grind (arith, nat_tests)
 
 never_over : (a : Option ScanFault) (f : ScanFault) → first_fault_or (a ∷ []) (Fails f) ≡ Ends → ⊥
 never_over (Some x) f is = cc
@@ -39,12 +34,7 @@ unfolding next
 first_goes t e = let reads : Read first_lexeme ≡ Ends = e in cc
 
 pub ends_ended : (t : List ℕ) (h : List Lexeme) → next t h ≡ Ends → ended h ≡ true
-ends_ended t [] e = absurd (first_goes t e)
-ends_ended t (x ∷ h) e =
-    elim (cases_Bool (is_end x.kind)) [
-      | inl over ↦ over
-      | inr more ↦ absurd (coming_goes (kind_behind t (x ∷ h)) t (x ∷ h) (sym (next_open t x h more) ∙ e))
-    ]
+ends_ended t h e = grind (arith, nat_tests, first_goes, coming_goes, next_open)
 
 pub all_is : (t : List ℕ) → all t ≡ history t (suc (suc (length t)))
 unfolding all
@@ -87,13 +77,7 @@ tokens_zero ts = map_same (moved_token 0 0) (λ t. rw (mark_zero t.start_mark, m
 
 pub no_bases : Bases 0 0 0 [] []
 unfolding candidate open_levels
-no_bases = record {
-  depth = refl;
-  mine = λ e. refl;
-  others = λ e. refl;
-  levels = refl;
-  count = refl;
-}
+no_bases = grind (arith, nat_tests)
 
 pub no_entries : finished_tokens [] ≡ []
 unfolding finished_tokens
@@ -194,14 +178,7 @@ none_fresh line (Some c) m l h =
 -- and what isn't missed there isn't required
 none_missed : (line : ℕ) (o : Option Candidate) (m n : yaml_mark_t) → line ≤ m.line
     → ((c : Candidate) → o ≡ Some c → c.lexeme.start.line < line) → missed o m ≡ None → missed o n ≡ None
-none_missed line None m n l h e = refl
-none_missed line (Some c) m n l h e =
-    let low = h c refl in
-    let stale : is_fresh c.lexeme.start m ≡ false = late_line m.line c.lexeme.start.line m.index (c.lexeme.start.index + 1024) (omega (arith, l, low)) in
-    elim (cases_Bool c.lexeme.required) [
-      | inl due ↦ absurd (some_none (rw (due, stale) at e))
-      | inr free ↦ rw free refl
-    ]
+none_missed line o m n l h e = grind (arith, nat_tests, late_line, some_none)
 
 pub none_open : (H h : List Lexeme) → ((e : ℕ) → open_at e H ≡ None) → first_open H h ≡ length h
 unfolding first_open

@@ -43,21 +43,7 @@ record AreWords (text : List ℕ) (p : ℕ) (w : Words) : Type 0 where
 
 piece_words : (text : List ℕ) (q : ℕ) (x : Piece) (w : Words) → AreWords text q w
     → AreWords text q (with_piece x q w)
-piece_words text q (Kept bytes) w h =
-    elim (cases_Bool (is_nothing w.pieces)) [
-      | inl e ↦ rw e record { end = omega arith; place = omega (arith, h.end, h.place); inside = h.inside }
-      | inr e ↦ rw e record { end = h.end; place = h.place; inside = h.inside }
-    ]
-piece_words text q (Blank b) w h =
-    elim (cases_Bool (is_nothing w.pieces)) [
-      | inl e ↦ rw e h
-      | inr e ↦ rw e record { end = h.end; place = h.place; inside = h.inside }
-    ]
-piece_words text q (Break b) w h =
-    elim (cases_Bool (is_nothing w.pieces)) [
-      | inl e ↦ rw e record { end = h.end; place = h.place; inside = h.inside }
-      | inr e ↦ rw e record { end = h.end; place = h.place; inside = h.inside }
-    ]
+piece_words text q x w h = grind arith
 
 abbrev Land : List ℕ → ℕ → Result Words Wrong → Type 0
 Land text p (Ok w) = AreWords text p w

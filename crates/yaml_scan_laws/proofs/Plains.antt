@@ -37,13 +37,7 @@ later t p q k l = let order = k.order in record { start = k.start; order = omega
 
 -- it doesn't are there where a blank does
 sooner : (t : List ℕ) (p : ℕ) → Led t (suc p) → is_blank (byte t (suc p)) ≡ true → Led t p
-sooner t p k h =
-    elim (cases_lt k.start (suc p)) [
-      | inl l ↦ record { start = k.start; order = omega (arith, l); text = k.text }
-      | inr l ↦
-          let e : k.start ≡ suc p = omega (arith, l, k.order) in
-          absurd (true≢false (sym h ∙ ap (λ q. is_blank (byte t q)) (sym e) ∙ k.text))
-    ]
+sooner t p k h = grind (arith, nat_tests)
 
 leads_alike : (t u : List ℕ) (d m p : ℕ) → Alike t u d m → Led t p → p < m
     → leads u (d + p + 1) ≡ leads t (p + 1)
@@ -191,12 +185,7 @@ spot_alike t u d m flow level x a k l =
 quiet_indicator_ends : (u : List ℕ) (p : ℕ) (flow : Bool) (level : ℕ)
     → (byte u p ≡ 0) ⊎ (is_document_indicator u p ≡ true) → ends_at flow level u p ≡ true
 unfolding ends_at
-quiet_indicator_ends u p flow level (inl z) = rw z refl
-quiet_indicator_ends u p flow level (inr i) = rw i (or_true (byte u p == 0) _)
-  where
-    or_true : (b x : Bool) → ((b || true) || x) ≡ true
-    or_true true x = refl
-    or_true false x = refl
+quiet_indicator_ends u p flow level v4 = grind (arith, nat_tests)
 
 quiet_not_blank : (b : ℕ) → IsQuiet b → is_blank b ≡ false
 quiet_not_blank b (inl z) = rw z refl
@@ -206,10 +195,7 @@ quiet_not_blank b (inr (inr z)) = rw z refl
 edge_ends : (u : List ℕ) (p : ℕ) (flow : Bool) (level : ℕ) → IsQuiet (byte u p)
     → (byte u p ≡ 0) ⊎ (is_document_indicator u p ≡ true) → spot_at flow level u p ≡ Ends
 unfolding spot_at
-edge_ends u p flow level q i =
-    let none = quiet_break (byte u p) 0 (byte u (p + 1)) (byte u (p + 2)) q in
-    let off : nat_lt 0 (break_width u p) ≡ false = rw none refl in
-    rw (off, quiet_not_blank (byte u p) q, quiet_indicator_ends u p flow level i) refl
+edge_ends u p flow level q i = grind (arith, nat_tests, quiet_break, quiet_not_blank, quiet_indicator_ends)
 
 -- ---- the words of a scalar
 
@@ -218,21 +204,7 @@ moved_words d w = record { pieces = w.pieces; end = d + w.end; place = d + w.pla
 
 piece_moved : (d q : ℕ) (x : Piece) (w : Words)
     → with_piece x (d + q) (moved_words d w) ≡ moved_words d (with_piece x q w)
-piece_moved d q (Kept bytes) w =
-    elim (cases_Bool (is_nothing w.pieces)) [
-      | inl e ↦ rw e refl
-      | inr e ↦ rw e refl
-    ]
-piece_moved d q (Blank b) w =
-    elim (cases_Bool (is_nothing w.pieces)) [
-      | inl e ↦ rw e refl
-      | inr e ↦ rw e refl
-    ]
-piece_moved d q (Break b) w =
-    elim (cases_Bool (is_nothing w.pieces)) [
-      | inl e ↦ rw e refl
-      | inr e ↦ rw e refl
-    ]
+piece_moved d q x w = grind (arith, nat_tests)
 
 from_moved : (d q : ℕ) (x : Piece) (r : Result Words Wrong)
     → words_from x (d + q) (moved_by (moved_words d) d r)
@@ -246,18 +218,7 @@ PlacedIn m r = OkIs (λ (w : Words). w.place ≤ m) r
 
 from_placed : (m q : ℕ) (x : Piece) (r : Result Words Wrong) → PlacedIn m r
     → PlacedIn m (words_from x q r)
-from_placed m q (Kept bytes) (Ok w) h = h
-from_placed m q (Blank b) (Ok w) h =
-    elim (cases_Bool (is_nothing w.pieces)) [
-      | inl e ↦ rw e h
-      | inr e ↦ rw e h
-    ]
-from_placed m q (Break b) (Ok w) h =
-    elim (cases_Bool (is_nothing w.pieces)) [
-      | inl e ↦ rw e h
-      | inr e ↦ rw e h
-    ]
-from_placed m q x (Err e) h = tt
+from_placed m q x r h = grind (arith, nat_tests)
 
 abbrev WordsAlike : ℕ → ℕ → Result Words Wrong → Result Words Wrong → Type 0
 WordsAlike d m r s = ReadAlike (λ (w : Words). w.place ≤ m) (moved_words d) d r s

@@ -73,11 +73,7 @@ pub right_leaves : RightLeaves
 right_leaves c ms r e = record { left = λ k out. left_block k c ms out ∙ rises_all (margin_at c) 0 ms r e; closed = omega arith; rises = r }
 
 pub left_closes : LeftCloses
-left_closes c ls more r e above = record {
-  left = λ k out. left_block k c (ls ++ more) out ∙ cuts (margin_at c) 0 ls more r e above;
-  closed = more_length ls more;
-  rises = rises_front 0 ls more r;
-}
+left_closes c ls more r e above = grind (arith, nat_tests, left_block, cuts, more_length, rises_front)
 
 push_rises : (b : ℕ) (ls : List ℕ) (m : ℕ) → Rises b ls → b < m → indent ls < m
     → Rises b (ls ++ m ∷ [])
@@ -88,11 +84,7 @@ push_rises b (c ∷ d ∷ ls) m (g, r) e f =
     (g, push_rises c (d ∷ ls) m r (omega (arith, low b c (d ∷ ls) (g, r), f)) f)
 
 pub opened_rises : (may : Bool) (m : ℕ) (ls : List ℕ) → Rises 0 ls → Rises 0 (opened may m ls)
-opened_rises false m ls r = r
-opened_rises true m ls r = elim (cases_Bool (nat_lt (indent ls) m)) [
-  | inl e ↦ rw e (let f = ltb-true (indent ls) m e in push_rises 0 ls m r (omega (arith, f)) f)
-  | inr e ↦ rw e r
-]
+opened_rises may m ls r = grind (arith, nat_tests, push_rises)
 
 right_by : (deep out : Bool) (k : Kind) (c : ℕ) (ms : List ℕ) → out ≡ false → Rises 0 ms
     → (deep ≡ true) ⊎ (indent ms ≤ c)
@@ -136,26 +128,14 @@ lost_free saved cancel required start f = elim (cases_Bool (saved || cancel)) [ 
 pub lost_none : (l : Lexeme) (o : Option Candidate) (at : yaml_mark_t)
     → ((l.saved || (cancels l.kind && not (is_value l.kind))) ≡ true → IsFree o)
     → lost_by l (fresh o at) ≡ None
-lost_none l None at f = refl
-lost_none l (Some c) at f =
-    elim (cases_Bool (is_fresh c.lexeme.start at)) [
-      | inl x ↦ rw x (lost_free l.saved (cancels l.kind && not (is_value l.kind)) c.lexeme.required c.lexeme.start f)
-      | inr x ↦ rw x refl
-    ]
+lost_none l o at f = grind (arith, nat_tests, lost_free)
 
 -- ---- places
 
 in_place : (flow a start taken : Bool)
     → (start ≡ false) ⊎ ((flow ≡ true) ⊎ ((a ≡ true) ⊎ (taken ≡ true)))
     → ((not flow && not a) && (start && not taken)) ≡ false
-in_place flow a false taken p = elim (cases_Bool (not flow && not a)) [ inl x ↦ rw x refl | inr x ↦ rw x refl ]
-in_place true a true taken p = refl
-in_place false true true taken p = refl
-in_place false false true true p = refl
-in_place false false true false (inl e) = absurd (cc)
-in_place false false true false (inr (inl e)) = absurd (cc)
-in_place false false true false (inr (inr (inl e))) = absurd (cc)
-in_place false false true false (inr (inr (inr e))) = absurd (cc)
+in_place flow a start taken p = grind (arith, nat_tests)
 
 -- ---- the step
 
@@ -183,22 +163,7 @@ of_place : (text : List ℕ) (gap : Gap) (h : List Lexeme) (k : Kind) (q : ℕ) 
     → lost_by b (fresh (candidate (flow_depth h) h) m) ≡ None
     → InTime (candidate 0 (l ∷ h)) l.reached
     → behind text gap h ≡ Read l
-of_place text gap h k q a w place allowed goes kind said placed_so none lost time =
-    let m = mark_at text q in
-    let b = begun k m a h in
-    ap (λ (p : ℕ). unless_missed (missed (fresh (candidate 0 h) (reached h)) (mark_at text p)) text gap h) place
-    ∙ ap (λ (o : Option yaml_mark_t). unless_missed o text gap h) none
-    ∙ ap (λ (p : ℕ). of_kind (kind_at (nat_lt 0 (flow_depth h)) text p) text gap h) place
-    ∙ ap (λ (o : Option Kind). of_kind o text gap h) kind
-    ∙ ap (λ (p : ℕ). cond (misplaced k (mark_at text p) (allowed_behind h gap) h) (not_allowed k (mark_at text p))
-    (unless_lost (lost_by (begun k (placed k (mark_at text p)) (allowed_behind h gap) h) (fresh (candidate (flow_depth h) h) (mark_at text p))) text p (begun k (placed k (mark_at text p)) (allowed_behind h gap) h) h)) place
-    ∙ ap (λ (x : Bool). cond (misplaced k m x h) (not_allowed k m) (unless_lost (lost_by (begun k (placed k m) x h) (fresh (candidate (flow_depth h) h) m)) text q (begun k (placed k m) x h) h)) allowed
-    ∙ unless_so (misplaced k m a h) (not_allowed k m) _ placed_so
-    ∙ ap (λ (s : yaml_mark_t). unless_lost (lost_by (begun k s a h) (fresh (candidate (flow_depth h) h) m)) text q (begun k s a h) h) (placed_same k m goes)
-    ∙ ap (λ (o : Option yaml_mark_t). unless_lost o text q b h) lost
-    ∙ ap (λ (r : Result WordText Wrong). unless_wrong r text b h) said
-    ∙ ap (λ (x : Lexeme). tested x h) (finished_is text b w goes)
-    ∙ tested_read (read_at text h k q a w) h time
+of_place text gap h k q a w place allowed goes kind said placed_so none lost time = grind (arith, nat_tests, unless_so, placed_same, finished_is, tested_read)
 
 pub came_some : (text : List ℕ) (h : List Lexeme) → Came text h → ended h ≡ false
     → next text h ≡ behind text (gap_behind text h) h
@@ -207,20 +172,7 @@ came_some text [] came e = absurd came
 came_some text (l ∷ h) came e = unless_so (is_end l.kind) Ends (coming (kind_behind text (l ∷ h)) text (l ∷ h)) e ∙ stepwise text (l ∷ h)
 
 pub met_is_read : MetIsRead
-met_is_read text h d ms es k q a w f goes meets is_placed due free time =
-    let m = mark_at text q in
-    let b = begun k m a h in
-    let kind : kind_at (nat_lt 0 (flow_depth h)) text q ≡ Some k = ap (λ (n : ℕ). kind_at (nat_lt 0 n) text q) f.depth ∙ meets.kind in
-    let word : lexeme_at k (nat_lt 0 (flow_depth h)) (level_in k (column_at text q) h) text q ≡ Ok w =
-    ap (λ (n : ℕ). lexeme_at k (nat_lt 0 n) (indent (left_by k n (column_at text q) (open_levels h))) text q) f.depth
-    ∙ ap (λ (x : List ℕ). lexeme_at k (nat_lt 0 d) (indent (left_by k d (column_at text q) x)) text q) f.levels ∙ meets.word in
-    let stands : misplaced k m a h ≡ false =
-    ap (λ (n : ℕ). (not (nat_lt 0 n) && not a) && (is_start k && not (is_value k && has (fresh (candidate n h) m)))) f.depth
-    ∙ in_place (nat_lt 0 d) a (is_start k) (is_value k && has (fresh (candidate d h) m)) is_placed in
-    let lost : lost_by b (fresh (candidate (flow_depth h) h) m) ≡ None =
-    ap (λ (n : ℕ). lost_by b (fresh (candidate n h) m)) f.depth ∙ lost_none b (candidate d h) m free in
-    came_some text h f.came f.going
-    ∙ of_place text (gap_behind text h) h k q a w meets.place meets.allowed goes kind word stands (fresh_in_time (candidate 0 h) (reached h) m due) lost time
+met_is_read text h d ms es k q a w f goes meets is_placed due free time = grind (arith, nat_tests, in_place, lost_none, came_some, of_place, fresh_in_time)
 
 -- ---- kinds
 
@@ -229,22 +181,13 @@ goes_on kinds.StreamEnd e = absurd (cc)
 goes_on k e = refl
 
 pub start_no_key : (k : Kind) → is_start k ≡ true → may_be_key k ≡ false
-start_no_key kinds.BlockEntry e = refl
-start_no_key kinds.KeyMark e = refl
-start_no_key kinds.ValueMark e = refl
-start_no_key k e = absurd (cc)
+start_no_key k e = grind (arith, nat_tests)
 
 pub start_inside : (k : Kind) → is_start k ≡ true → is_outside k ≡ false
-start_inside kinds.BlockEntry e = refl
-start_inside kinds.KeyMark e = refl
-start_inside kinds.ValueMark e = refl
-start_inside k e = absurd (cc)
+start_inside k e = grind (arith, nat_tests)
 
 pub start_flat : (k : Kind) (d : ℕ) → is_start k ≡ true → depth_after k d ≡ d
-start_flat kinds.BlockEntry d e = refl
-start_flat kinds.KeyMark d e = refl
-start_flat kinds.ValueMark d e = refl
-start_flat k d e = absurd (cc)
+start_flat k d e = grind (arith, nat_tests)
 
 record IsOuter (k : Kind) : Type 0 where
   out : is_outside k ≡ true
@@ -255,10 +198,7 @@ record IsOuter (k : Kind) : Type 0 where
   flat : depth_after k 0 ≡ 0
 
 outer_kind : (k : Kind) → (is_outside k && not (is_end k)) ≡ true → IsOuter k
-outer_kind kinds.Directive e = record { out = refl; goes = refl; start = refl; value = refl; key = refl; flat = refl }
-outer_kind kinds.DocumentStart e = record { out = refl; goes = refl; start = refl; value = refl; key = refl; flat = refl }
-outer_kind kinds.DocumentEnd e = record { out = refl; goes = refl; start = refl; value = refl; key = refl; flat = refl }
-outer_kind k e = absurd (cc)
+outer_kind k e = grind (arith, nat_tests)
 
 -- ---- candidates
 
@@ -266,11 +206,7 @@ free_more : (same saved cancel below : Bool) (l : Lexeme) (n : ℕ) (rest : Opti
     → l.required ≡ false → IsFree rest
     → let one : Option Candidate = Some record { number = n; lexeme = l } in
     IsFree (cond same (cond saved one (cond cancel None rest)) (cond below None rest))
-free_more true true cancel below l n rest e r = e
-free_more true false true below l n rest e r = tt
-free_more true false false below l n rest e r = r
-free_more false saved cancel true l n rest e r = tt
-free_more false saved cancel false l n rest e r = r
+free_more same saved cancel below l n rest e r = grind (arith, nat_tests)
 
 -- a lexeme more that requires none
 pub free_push : (l : Lexeme) (h : List Lexeme) (d : ℕ) → IsFree (candidate d h) → l.required ≡ false
@@ -316,40 +252,12 @@ pub front_push : (text : List ℕ) (h : List Lexeme) (d : ℕ) (ms : List ℕ) (
     Rises 0 new
     → Front text (l ∷ h) (depth_after k d) new (cond (is_value k) (marked found left es) es ++ entry l (length ms - length left) (opens_by found k d (margin_at c) left) ∷ [])
 unfolding open_levels finished_tokens
-front_push text h d ms es k q a w f goes read found found_is left left_is rises =
-    let m = mark_at text q in
-    let c = column_at text q in
-    let l = read_at text h k q a w in
-    let N : Bool → Option Candidate → List ℕ → List ℕ = λ b o x. opened (is_start k && not b) (opens_at o k c) x in
-    let E : ℕ → Option Candidate → List ℕ → List ℕ → List Entry → List Entry =
-    λ n o xs x zs. cond (is_value k) (marked o x zs) zs ++ entry l (length xs - length x) (opens_by o k n (margin_at c) x) ∷ [] in
-    record {
-      came = came_push text l h f.came read;
-      going = goes;
-      depth = ap (λ (n : ℕ). depth_after k n) f.depth;
-      levels = ap (λ (n : ℕ). N (nat_lt 0 n) (fresh (candidate n h) m) (left_by k n c (open_levels h))) f.depth
-          ∙ ap (λ (o : Option Candidate). N (nat_lt 0 d) o (left_by k d c (open_levels h))) found_is
-          ∙ ap (λ (x : List ℕ). N (nat_lt 0 d) found (left_by k d c x)) f.levels
-          ∙ ap (λ (x : List ℕ). N (nat_lt 0 d) found x) left_is;
-      rises = rises;
-      entries = ap (λ (n : ℕ). E n (fresh (candidate n h) m) (open_levels h) (left_by k n c (open_levels h)) (finished_tokens h)) f.depth
-          ∙ ap (λ (o : Option Candidate). E d o (open_levels h) (left_by k d c (open_levels h)) (finished_tokens h)) found_is
-          ∙ ap (λ (x : List ℕ). E d found x (left_by k d c x) (finished_tokens h)) f.levels
-          ∙ ap (λ (x : List ℕ). E d found ms x (finished_tokens h)) left_is
-          ∙ ap (λ (zs : List Entry). E d found ms left zs) f.entries;
-    }
+front_push text h d ms es k q a w f goes read found found_is left left_is rises = grind (arith, nat_tests, came_push)
 
 -- what is equal may replace it
 pub front_same : (text : List ℕ) (h : List Lexeme) (d e : ℕ) (ms ns : List ℕ) (es fs : List Entry)
     → Front text h d ms es → d ≡ e → ms ≡ ns → es ≡ fs → Front text h e ns fs
-front_same text h d e ms ns es fs f x y z = record {
-  came = f.came;
-  going = f.going;
-  depth = f.depth ∙ x;
-  levels = f.levels ∙ y;
-  rises = let P : List ℕ → Type 0 = λ xs. Rises 0 xs in subst P y f.rises;
-  entries = f.entries ∙ z;
-}
+front_same text h d e ms ns es fs f x y z = grind (arith, nat_tests)
 
 pub meets_level : (text : List ℕ) (h : List Lexeme) (d n : ℕ) (k : Kind) (q : ℕ) (a : Bool)
     (w : WordText) (i : ℕ) → Meets text h d n k q a w → n ≡ i → Meets text h d i k q a w
@@ -374,10 +282,7 @@ calm_levels false m ls e = refl
 calm_levels true m ls e = absurd (cc)
 
 calm_flag : (deep start : Bool) → (deep || not start) ≡ true → (start && not deep) ≡ false
-calm_flag true true e = refl
-calm_flag true false e = refl
-calm_flag false false e = refl
-calm_flag false true e = absurd (cc)
+calm_flag deep start e = grind (arith, nat_tests)
 
 pub stays_inside : (k : Kind) (d : ℕ) → stays_level k d ≡ true → is_outside k ≡ false
 stays_inside k d e = not-true (is_outside k) (and_parts (not (is_outside k)) (nat_lt 0 d || not (is_start k)) e).0
@@ -464,10 +369,7 @@ lone_at (Some x) k c f = elim (cases_Bool (is_value k)) [ inl e ↦ let g = f e 
 mark_opens : (start value : Bool) (o : Option Candidate) (what : Opens) → start ≡ true
     → (value ≡ true → o ≡ None)
     → cond (not start) opening.Nothing (cond (value && has o) opening.Nothing what) ≡ what
-mark_opens true false o what e f = refl
-mark_opens true true None what e f = refl
-mark_opens true true (Some x) what e f = let g = f refl in absurd (cc)
-mark_opens false value o what e f = absurd (cc)
+mark_opens start value o what e f = grind (arith, nat_tests)
 
 mark_new : (start : Bool) (m : ℕ) (ls : List ℕ) → start ≡ true
     → opened (start && not (nat_lt 0 0)) m ls ≡ opened true m ls

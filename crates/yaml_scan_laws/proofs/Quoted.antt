@@ -68,11 +68,7 @@ unfolding hex_digit
 no_digit b h = grind (arith, nat_tests)
 
 digit_small : (b : ℕ) → IsThere (hex_digit b) → b < 128
-digit_small b h =
-    elim (cases_Bool (nat_lt b 128)) [
-      | inl e ↦ ltb-true b 128 e
-      | inr e ↦ absurd (rw (no_digit b e) at h)
-    ]
+digit_small b h = grind (arith, nat_tests, no_digit)
 
 hex_whole : (n : ℕ) (text : List ℕ) (p : ℕ) → IsUtf8 text → 0 < n → IsThere (hex_value text p n)
     → IsWhole text (p + n)

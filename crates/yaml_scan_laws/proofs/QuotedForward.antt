@@ -46,12 +46,7 @@ Fits text p (Bad w) = Unit {0}
 
 coded_fits : (text : List ℕ) (p spot q : ℕ) (o : Option ℕ)
     → (IsThere o → (p < q) × (q ≤ length text)) → Fits text p (coded spot q o)
-coded_fits text p spot q None h = tt
-coded_fits text p spot q (Some c) h =
-    elim (cases_Bool (is_scalar c)) [
-      | inl e ↦ rw e (h tt)
-      | inr e ↦ rw e tt
-    ]
+coded_fits text p spot q o h = grind (arith, nat_tests)
 
 escaped_fits : (text : List ℕ) (p : ℕ) (o : Option (List ℕ)) → (IsThere o → p + 2 ≤ length text)
     → Fits text p (escaped p o)
@@ -64,54 +59,16 @@ simple_inside text p h = let here = within text (p + 1) (simple_some (byte text 
 
 escape_fits : (text : List ℕ) (p : ℕ) → Fits text p (escape_at text p)
 unfolding escape_at
-escape_fits text p =
-    elim (cases_Bool (nat_lt 0 (break_width text (p + 1)))) [
-      | inl h ↦ let past = past_break text (p + 1) (ltb-true _ _ h) in rw h (omega arith, past.inside)
-      | inr h ↦ elim (cases_Bool (nat_lt 0 (hex_len (byte text (p + 1))))) [
-        | inl i ↦
-            let n = hex_len (byte text (p + 1)) in
-            rw (h, i) (coded_fits text p (p + 2) (p + 2 + n) (hex_value text (p + 2) n) (λ s. (omega arith, hex_inside n text (p + 2) (ltb-true _ _ i) s)))
-        | inr i ↦ rw (h, i) (escaped_fits text p (simple_escape (byte text (p + 1))) (simple_inside text p))
-      ]
-    ]
+escape_fits text p = grind (arith, nat_tests, past_break, coded_fits, hex_inside, escaped_fits, simple_inside)
 
 quote_fits : (quote : ℕ) (text : List ℕ) (p : ℕ) → p < length text
     → Fits text p (quote_at quote text p)
 unfolding quote_at
-quote_fits quote text p l =
-    elim (cases_Bool (quote == 39 && byte text (p + 1) == 39)) [
-      | inl h ↦
-          let b : byte text (p + 1) ≡ 39 = eqb-true _ _ (and_parts (quote == 39) (byte text (p + 1) == 39) h).1 in
-          rw h (omega arith, omega (arith, within text (p + 1) (omega (arith, b))))
-      | inr h ↦ rw h l
-    ]
+quote_fits quote text p l = grind (arith, nat_tests, within)
 
 standing_fits : (quote : ℕ) (text : List ℕ) (p : ℕ) → Fits text p (standing_at quote text p)
 unfolding standing_at
-standing_fits quote text p =
-    elim (cases_Bool (is_document_indicator text p)) [
-      | inl h ↦ rw h tt
-      | inr h ↦ elim (cases_Bool (byte text p == 0)) [
-        | inl i ↦ rw (h, i) tt
-        | inr i ↦
-            let here = within text p (some_of (byte text p) i) in
-            elim (cases_Bool (byte text p == quote)) [
-              | inl j ↦ rw (h, i, j) (quote_fits quote text p here)
-              | inr j ↦ elim (cases_Bool (nat_lt 0 (break_width text p))) [
-                | inl k ↦
-                    let some = ltb-true _ _ k in
-                    rw (h, i, j, k) (omega (arith, some), (past_break text p some).inside)
-                | inr k ↦ elim (cases_Bool (is_blank (byte text p))) [
-                  | inl l ↦ rw (h, i, j, k, l) (omega arith, omega (arith, here))
-                  | inr l ↦ elim (cases_Bool (quote == 34 && byte text p == 92)) [
-                    | inl m ↦ rw (h, i, j, k, l, m) (escape_fits text p)
-                    | inr m ↦ rw (h, i, j, k, l, m) (omega arith, omega (arith, here))
-                  ]
-                ]
-              ]
-            ]
-      ]
-    ]
+standing_fits quote text p = grind (arith, nat_tests, within, some_of, quote_fits, past_break, escape_fits)
 
 abbrev behind_pieces : List Piece × ℕ → ℕ
 behind_pieces x = x.1

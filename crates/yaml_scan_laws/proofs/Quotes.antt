@@ -27,12 +27,7 @@ record StandsAlike (t u : List ℕ) (d m p : ℕ) (s r : QuotedSpot) : Type 0 wh
 
 no_digit : (b : ℕ) → is_onward b ≡ false → hex_digit b ≡ None
 unfolding hex_digit
-no_digit b h =
-    elim (off_cases b h) [
-      | inl z ↦ rw z refl
-      | inr (inl z) ↦ rw z refl
-      | inr (inr z) ↦ rw z refl
-    ]
+no_digit b h = grind (arith, nat_tests, off_cases)
 
 -- a number lies in both texts
 abbrev HexIn : List ℕ → List ℕ → ℕ → ℕ → ℕ → Option ℕ → Type 0
@@ -73,21 +68,12 @@ hex_alike (suc n) t u d m p a l at =
 coded_alike : (t u : List ℕ) (d m o p q : ℕ) (v : Option ℕ) → o < q → o < length t
     → d + o < length u → HexIn t u d m q v
     → StandsAlike t u d m o (coded p q v) (coded (d + p) (d + q) v)
-coded_alike t u d m o p q None f x y h = record { same = refl; lies = tt }
-coded_alike t u d m o p q (Some c) f x y (l, at) =
-    elim (cases_Bool (is_scalar c)) [
-      | inl e ↦ rw e record { same = refl; lies = (at, f, x, y) }
-      | inr e ↦ rw e record { same = refl; lies = tt }
-    ]
+coded_alike t u d m o p q v f x y h = grind (arith, nat_tests)
 
 escaped_alike : (t u : List ℕ) (d m p : ℕ) (v : Option (List ℕ)) → p < length t
     → d + p < length u → (v ≢ None → At t u d m (p + 2))
     → StandsAlike t u d m p (escaped p v) (escaped (d + p) v)
-escaped_alike t u d m p None x y h = record { same = refl; lies = tt }
-escaped_alike t u d m p (Some bytes) x y h =
-    let e : d + p + 2 ≡ d + (p + 2) = omega arith in
-    let some : Some bytes ≢ None = λ e. cc in
-    rw e record { same = refl; lies = (h some, omega arith, x, y) }
+escaped_alike t u d m p v x y h = grind (arith, nat_tests)
 
 no_escape : (b : ℕ) → is_onward b ≡ false → simple_escape b ≡ None
 unfolding simple_escape
@@ -148,10 +134,7 @@ IsQuote q = (q ≡ 34) ⊎ (q ≡ 39)
 
 quote_onward : (q b : ℕ) → IsQuote q → (b == q) ≡ true → is_onward b ≡ true
 unfolding is_onward
-quote_onward q b h e = let same = eqb-true _ _ e in elim h [
-  | inl z ↦ let f : b ≡ 34 = same ∙ z in rw f refl
-  | inr z ↦ let f : b ≡ 39 = same ∙ z in rw f refl
-]
+quote_onward q b h e = grind (arith, nat_tests)
 
 closes_alike : (t u : List ℕ) (d m p quote : ℕ) → Alike t u d m → p < m
     → is_onward (byte t p) ≡ true
@@ -225,15 +208,7 @@ Carried u d m f r s = (s ≡ moved_by f d r) ⊎ IsTorn u d m r s
 pub torn_by : {A B : Type 0} (f : Result A Wrong → Result B Wrong) (u : List ℕ) (d m : ℕ)
     (r s : Result A Wrong) → ((w : Wrong) → f (Err w) ≡ Err w) → IsTorn u d m r s
     → IsTorn u d m (f r) (f s)
-torn_by f u d m r s errs t = record {
-  mark = t.mark;
-  wrong = t.wrong;
-  mine = ap f t.mine ∙ errs t.wrong;
-  place = t.place;
-  other = t.other;
-  others = ap f t.others ∙ errs t.other;
-  there = t.there;
-}
+torn_by f u d m r s errs t = grind (arith, nat_tests)
 
 abbrev pub PairIn : {A : Type 0} → ℕ → Result (A × ℕ) Wrong → Type 0
 PairIn m r = OkIs (λ x. x.1 ≤ m) r
@@ -244,22 +219,7 @@ record PiecesAlike (u : List ℕ) (d m : ℕ) (r s : Result (List Piece × ℕ) 
 
 front_alike : (u : List ℕ) (d m : ℕ) (ps : List Piece) (r s : Result (List Piece × ℕ) Wrong)
     → PiecesAlike u d m r s → PiecesAlike u d m (with_front ps r) (with_front ps s)
-front_alike u d m ps r s h = record { carried = carry ps r s h.carried; placed = placed ps r h.placed }
-  where
-    moves : (ps : List Piece) (r : Result (List Piece × ℕ) Wrong)
-        → with_front ps (moved_by (moved_pair d) d r) ≡ moved_by (moved_pair d) d (with_front ps r)
-    moves ps (Ok x) = refl
-    moves ps (Err w) = refl
-
-    carry : (ps : List Piece) (r s : Result (List Piece × ℕ) Wrong)
-        → Carried u d m (moved_pair d) r s
-        → Carried u d m (moved_pair d) (with_front ps r) (with_front ps s)
-    carry ps r s (inl e) = inl (ap (with_front ps) e ∙ moves ps r)
-    carry ps r s (inr t) = inr (torn_by (with_front ps) u d m r s (λ w. refl) t)
-
-    placed : (ps : List Piece) (r : Result (List Piece × ℕ) Wrong) → PairIn m r → PairIn m (with_front ps r)
-    placed ps (Ok x) h = h
-    placed ps (Err w) h = tt
+front_alike u d m ps r s h = grind (arith, nat_tests, torn_by)
 
 no_mark : (c z : Bool) (b x y : ℕ) → b ≡ 0
     → ((c && (((b == 45 && x == 45) && y == 45) || ((b == 46 && x == 46) && y == 46))) && z) ≡ false
@@ -372,21 +332,7 @@ pub record QuotedAlike (u : List ℕ) (d m : ℕ) (r s : Result (List ℕ × ℕ
 
 valued_alike : (u : List ℕ) (d m : ℕ) (r s : Result (List Piece × ℕ) Wrong)
     → PiecesAlike u d m r s → QuotedAlike u d m (valued value r) (valued value s)
-valued_alike u d m r s h = record { carried = carry r s h.carried; placed = placed r h.placed }
-  where
-    moves : (r : Result (List Piece × ℕ) Wrong)
-        → valued value (moved_by (moved_pair d) d r) ≡ moved_by (moved_pair d) d (valued value r)
-    moves (Ok x) = refl
-    moves (Err w) = refl
-
-    carry : (r s : Result (List Piece × ℕ) Wrong) → Carried u d m (moved_pair d) r s
-        → Carried u d m (moved_pair d) (valued value r) (valued value s)
-    carry r s (inl e) = inl (ap (valued value) e ∙ moves r)
-    carry r s (inr t) = inr (torn_by (valued value) u d m r s (λ w. refl) t)
-
-    placed : (r : Result (List Piece × ℕ) Wrong) → PairIn m r → PairIn m (valued value r)
-    placed (Ok x) h = h
-    placed (Err w) h = tt
+valued_alike u d m r s h = grind (arith, nat_tests, torn_by)
 
 -- a quoted scalar is the same, moved, and ends within
 pub quoted_alike : (t u : List ℕ) (d m quote p : ℕ) → Alike t u d m → p < m → IsQuote quote

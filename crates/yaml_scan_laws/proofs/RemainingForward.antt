@@ -137,11 +137,7 @@ mark_ends ls (x ∷ es) (suc n) (suc k) e = mark_ends ls es n k e
 
 keyed_ends : (l : Lexeme) (h : List Lexeme) (es : List Entry) (k : ℕ) (e : Entry)
     → SameEnds (get_or (keyed l h es) k e) (get_or es k e)
-keyed_ends l h es k e =
-    elim (is_value l.kind) as (λ b. SameEnds (get_or (cond b (marked (found_by l h) (inside l h) es) es) k e) (get_or es k e)) [
-      | true ↦ elim (found_by l h) as (λ o. SameEnds (get_or (marked o (inside l h) es) k e) (get_or es k e)) [ Some c ↦ mark_ends (inside l h) es c.number k e | None ↦ (refl, refl) ]
-      | false ↦ (refl, refl)
-    ]
+keyed_ends l h es k e = grind (arith, get_or, mark_ends)
 
 same_ends : (a b c : Entry) → SameEnds a b → SameEnds b c → SameEnds a c
 same_ends a b c (e, f) (g, h) = (e ∙ g, f ∙ h)
@@ -150,11 +146,7 @@ same_ends a b c (e, f) (g, h) = (e ∙ g, f ∙ h)
 pub entries_ends : (l : Lexeme) (h : List Lexeme) (k : ℕ) (e : Entry) → k < length h
     → SameEnds (get_or (finished_tokens (l ∷ h)) k e) (get_or (finished_tokens h) k e)
 unfolding finished_tokens
-entries_ends l h k e low =
-    let es = keyed l h (finished_tokens h) in
-    let fits : k < length es = omega (arith, low, length-keyed l h (finished_tokens h), length-entries h) in
-    let first = get_or_append_left es (entry_of l h ∷ []) e k fits in
-    same_ends (get_or (finished_tokens (l ∷ h)) k e) (get_or es k e) (get_or (finished_tokens h) k e) (ap (λ (x : Entry). x.ends) first, ap (λ (x : Entry). x.lexeme) first) (keyed_ends l h (finished_tokens h) k e)
+entries_ends l h k e low = grind (arith, length-keyed, length-entries, get_or_append_left, same_ends, get_or, keyed_ends)
 
 -- further lexemes leave how many levels a lexeme closes
 newer_ends : (newer h : List Lexeme) (k : ℕ) (e : Entry) → k < length h
@@ -272,12 +264,7 @@ fault_of_all : (s : SpelledText) (h : List Lexeme) (p : ScanFault) (given : ℕ)
     → length (front_ends (drop (first_open h h) (finished_tokens h))) ≤ given
     → remaining s (first_open h h) given ≡ record { tokens = []; fault = Some (scanner_fault p) }
 unfolding remaining handed
-fault_of_all s h p given e whole few =
-    let none = drop_take (first_open h h) (finished_tokens h) in
-    let kept = front_ends (drop (first_open h h) (finished_tokens h)) in
-    let gone : drop given kept ≡ [] = drop_of_length-le kept few in
-    let all_gone : drop given (pool s (drop (first_open h h) (take (first_open h h) (finished_tokens h))) kept) ≡ [] = ap (λ xs. drop given (pool s xs kept)) none ∙ gone in
-    rw (whole, e, all_gone) refl
+fault_of_all s h p given e whole few = grind (arith, drop_take, drop_of_length-le)
 
 -- After what is settled the fault comes.
 pub fault_comes : (s : SpelledText) (n : ℕ) (p : ScanFault) (given : ℕ)
@@ -290,11 +277,7 @@ fault_comes s n p given e few =
 end_of_all : (s : SpelledText) (h : List Lexeme) (k given : ℕ) → next s.text h ≡ Ends
     → all s.text ≡ h → length h ≤ k → remaining s k given ≡ nothing
 unfolding remaining handed
-end_of_all s h k given e whole past =
-    let none : drop k (finished_tokens h) ≡ [] = drop_of_length-le (finished_tokens h) (omega (arith, past, length-entries h)) in
-    let empty : drop given (pool s [] []) ≡ [] = drop_of_length-le (pool s [] []) (omega arith) in
-    let all_gone : drop given (pool s (drop k (finished_tokens h)) []) ≡ [] = ap (λ xs. drop given (pool s xs [])) none ∙ empty in
-    rw (whole, e, all_gone) refl
+end_of_all s h k given e whole past = grind (arith, drop_of_length-le, length-entries)
 
 -- After the last lexeme nothing comes.
 pub end_comes : (s : SpelledText) (n k given : ℕ) → next s.text (history s.text n) ≡ Ends

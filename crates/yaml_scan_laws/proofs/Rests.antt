@@ -23,22 +23,12 @@ body_same _ s v l y e h = h
 
 start_index : (x : Kind) (t : List ℕ) (H : List Lexeme)
     → (begun_behind x t H).start.index ≡ (gap_behind t H).place
-start_index x t H =
-    elim (cases_Bool (is_end x && nat_lt 0 (column_at t (gap_behind t H).place))) [
-      | inl e ↦ rw e refl
-      | inr e ↦ rw e refl
-    ]
+start_index x t H = grind arith
 
 -- the word of a lexeme that is there
 pub word_of : (x : Kind) (t : List ℕ) (H : List Lexeme) (l : Lexeme) → lexeme_behind x t H ≡ l
     → lexeme_at x (nat_lt 0 l.depth) l.level t l.start.index ≡ word_behind x t H
-word_of x t H l e =
-    let y = begun_behind x t H in
-    let same = kept t y (word_behind x t H) in
-    let flow_depth : l.depth ≡ flow_depth H = ap (λ (z : Lexeme). z.depth) (sym e) ∙ same.deep in
-    let level : l.level ≡ y.level = ap (λ (z : Lexeme). z.level) (sym e) ∙ same.level in
-    let at : l.start.index ≡ (gap_behind t H).place = ap (λ (z : Lexeme). z.start.index) (sym e) ∙ ap (λ (m : yaml_mark_t). m.index) same.start ∙ start_index x t H in
-    rw (flow_depth, level, at) refl
+word_of x t H l e = grind (arith, kept, start_index)
 
 same_word : (d : ℕ) (r : Result WordText Wrong)
     → body_of_word (moved_by (moved_word d) d r) ≡ body_of_word r

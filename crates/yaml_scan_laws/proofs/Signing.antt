@@ -122,19 +122,10 @@ unfolding break_of
 calm b c d low high = grind (arith, nat_tests)
 
 pub printed_begins : PrintedBegins
-printed_begins text p b h low high hash =
-    let none = calm b (byte text (p + 1)) (byte text (p + 2)) low high in
-    let space : (b == 32) ≡ false = grind (arith, nat_tests) in
-    let tab : (b == 9) ≡ false = grind (arith, nat_tests) in
-    let sign : (b == 35) ≡ false = ne_eqb b 35 hash in
-    let order : (b == 0xEF) ≡ false = grind (arith, nat_tests) in
-    rw (h, none, space, tab, sign, order, and-false (p == 0)) refl
+printed_begins text p b h low high hash = grind (arith, nat_tests, calm)
 
 -- ---- levels
 
 pub level_is_out : LevelIsOut
 unfolding lexeme_at
-level_is_out kinds.Plain flow n m text p e = absurd (cc)
-level_is_out kinds.Literal flow n m text p e = absurd (cc)
-level_is_out kinds.Folded flow n m text p e = absurd (cc)
-level_is_out k flow n m text p e = refl
+level_is_out k flow n m text p e = grind (arith, nat_tests)

@@ -12,13 +12,7 @@ use Rattle.yaml_scan_laws.proofs.Whites.{has_first, has_rest, no_white}
 starts_more : (same saved cancel below : Bool) (c : Candidate) (rest : Option Candidate) (n m : ℕ)
     → c.lexeme.start.line ≤ m → n ≤ m → StartsBy rest n
     → StartsBy (cond same (cond saved (Some c) (cond cancel None rest)) (cond below None rest)) m
-starts_more true true cancel below c rest n m e f s = e
-starts_more true false true below c rest n m e f s = tt
-starts_more true false false below c None n m e f s = tt
-starts_more true false false below c (Some x) n m e f s = omega (arith, f, s)
-starts_more false saved cancel true c rest n m e f s = tt
-starts_more false saved cancel false c None n m e f s = tt
-starts_more false saved cancel false c (Some x) n m e f s = omega (arith, f, s)
+starts_more same saved cancel below c rest n m e f s = grind (arith, nat_tests)
 
 started_more : (l : Lexeme) (h : List Lexeme) (n m : ℕ) → Started h n → n ≤ m → l.start.line ≤ m
     → Started (l ∷ h) m
@@ -99,10 +93,7 @@ ended_line text p bs e = let one = line_end text p e in let more = grown text p 
 later_line : (text : List ℕ) (p : ℕ) (bs : List ℕ)
     → line_at text (p + 1) < line_at text (p + 1 + length bs)
     → line_at text p < line_at text (p + suc (length bs))
-later_line text p bs e =
-    let z : p + 1 + length bs ≡ p + suc (length bs) = omega arith in
-    let same : line_at text (p + 1 + length bs) ≡ line_at text (p + suc (length bs)) = ap (λ (n : ℕ). line_at text n) z in
-    omega (arith, e, same, line_at-grows text p (p + 1) (omega arith))
+later_line text p bs e = grind (arith, nat_tests, line_at-grows)
 
 breaks_line : (text : List ℕ) (p : ℕ) (gap : List ℕ) → IsGap text p gap → has_break gap ≡ true
     → line_at text p < line_at text (p + length gap)
@@ -127,12 +118,7 @@ pub break_ends_line : BreakEndsLine
 break_ends_line text p gap g e = breaks_line text p gap g e
 
 pub near_before : NearBefore
-near_before text start p q e f =
-    let (line, index) = and_parts (nat_le (line_at text q) start.line) (nat_le q (start.index + 1024)) f in
-    let low = line_at-grows text p q e in
-    let first : nat_le (line_at text p) start.line ≡ true = grind (arith, nat_tests) in
-    let second : nat_le p (start.index + 1024) ≡ true = grind (arith, nat_tests) in
-    rw (first, second) refl
+near_before text start p q e f = grind (arith, nat_tests, line_at-grows)
 
 -- a gap that begins with LF: the column before it doesn't matter
 white_column : (text : List ℕ) (p : ℕ) (gap : List ℕ) (c : ℕ) → IsGap text p gap
@@ -164,10 +150,7 @@ white_columns text p gap g = white_column text p gap (column_at text p) g (inl r
 
 opened_slot : (l : Lexeme) (h : List Lexeme) (e : ℕ) → l.depth < e → candidate e (l ∷ h) ≡ None
 unfolding candidate
-opened_slot l h e f =
-    let below : nat_lt l.depth e ≡ true = grind (arith, nat_tests) in
-    let apart : (l.depth == e) ≡ false = grind (arith, nat_tests) in
-    rw (below, apart) refl
+opened_slot l h e f = grind (arith, nat_tests)
 
 pub slots_go_on : SlotsGoOn
 slots_go_on = record {

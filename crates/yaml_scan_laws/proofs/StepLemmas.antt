@@ -1,5 +1,5 @@
 -- A step after key-free lexemes, and what comes of them.
-use Rattle.std.proofs.Common.{◌≡◌, ℕ, zero, suc, ◌+◌, ◌&&◌, not, nat_lt, if◌then◌else◌, Bool, true, false, List, [], ◌∷◌, ◌++◌, length, map, reverse, drop, flat_map, Option, Some, None, Result, Ok, Err, refl, sym, ap, subst, ◌∙◌, inl, inr}
+use Rattle.std.proofs.Common.{◌≡◌, ℕ, zero, suc, ◌+◌, ◌&&◌, not, nat_lt, if◌then◌else◌, Bool, true, false, List, [], ◌∷◌, ◌++◌, length, map, reverse, drop, flat_map, Option, Some, None, Result, Ok, Err, refl, sym, ap, subst, ◌∙◌, inl, inr, arith}
 use Rattle.yaml_scan_laws.proofs.TextWords.{cases_Bool, append-nil, drop-map, yaml_mark_t, Token, mark_at, Wrong, Gap, Kind, Lexeme, Entry, is_value, is_start, is_end, flow_depth, reached, ended, Candidate, candidate, fresh, is_fresh, has, placed, finished_tokens, WordText, kind_at, lexeme_at, Next, Read, Fails, Ends, first_lexeme, begun, finished, allowed_behind, misplaced, missed, lost_by, kind_behind, coming, next, extended, history, no_colon, not_allowed, tested, unless_wrong, unless_lost, of_kind, unless_missed, behind, stepwise, SpelledText, token_in, spell, all, handed_out, handed, kept_of, fault_in, Remaining, remaining, asked, is_key_free, is_level_free, kinds_of, gap_in, lexeme_of}
 use Rattle.yaml_scan_history.specs.scan_types.Faults.{Fault}
 use Rattle.yaml_scan_history.specs.declared.kind.Kind.TheVariants as kinds
@@ -51,12 +51,7 @@ unrequired d (l ∷ h) (m, made) free =
 
 fresh_unrequired : (o : Option Candidate) (at : yaml_mark_t) → IsFree o
     → IsFree (fresh o at)
-fresh_unrequired None at u = tt
-fresh_unrequired (Some c) at u =
-    elim (cases_Bool (is_fresh c.lexeme.start at)) [
-      | inl x ↦ rw x u
-      | inr x ↦ rw x tt
-    ]
+fresh_unrequired o at u = grind arith
 
 unmissed : (o : Option Candidate) (at : yaml_mark_t) → IsFree o → missed o at ≡ None
 unmissed o at u = missed_none o at (free_in_time o at u)
@@ -72,10 +67,7 @@ none_required h d l at to made free =
 
 in_place : (block allowed start found : Bool) → (start && block) ≡ false
     → ((block && not allowed) && (start && not found)) ≡ false
-in_place false allowed start found e = refl
-in_place true true start found e = refl
-in_place true false false found e = refl
-in_place true false true found e = absurd (cc)
+in_place block allowed start found e = grind arith
 
 tested_read : (l : Lexeme) (h : List Lexeme) → IsFree (candidate 0 (l ∷ h))
     → tested l h ≡ Read l
@@ -112,11 +104,7 @@ finished_plain : (text : List ℕ) (k : Kind) (start : yaml_mark_t) (d level : �
       required = false;
       broke = w.broke;
     }
-finished_plain text k start d level saved required w e f g =
-    elim (cases_Bool (is_end k)) [
-      | inl x ↦ let calm = g x in rw (x, e, f, calm) refl
-      | inr x ↦ rw (x, e, f) refl
-    ]
+finished_plain text k start d level saved required w e f g = grind arith
 
 -- a lexeme that begins so, with its end
 finished_is : (text : List ℕ) (h : List Lexeme) (gap : Gap) (k : Kind) (w : WordText)

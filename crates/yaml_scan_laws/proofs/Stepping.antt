@@ -35,16 +35,7 @@ stands_of : (text : List ℕ) (p : ℕ) (h : List Lexeme) (d f : ℕ) (k : Kind)
     → let q = p + length gap in let l = read_at text h k q a w in
     Front text (l ∷ h) f ms es → (is_value k ≡ true → has (fresh (candidate d h) (mark_at text q)) ≡ found)
     → WordLeaves text f (allows_key k (d == 0) found) w e then wide → Stands text e (line_at text q) (l ∷ h) f ms es then wide
-stands_of text p h d f k gap a found w e ms es then wide i deep started line up front is leaves =
-    let q = p + length gap in
-    let l = read_at text h k q a w in
-    let (place, key) = key_is_allowed text h d k q a found w deep is in
-    record {
-      front = front;
-      white = leaves (l ∷ h) place key front.depth;
-      started = let grows = line_at-grows text p q (omega arith) in started_goes_on.more l h i (line_at text q) started (omega (arith, line, grows)) (omega arith);
-      line = line_at-grows text q e up;
-    }
+stands_of text p h d f k gap a found w e ms es then wide i deep started line up front is leaves = grind (arith, key_is_allowed, line_at-grows, started_goes_on)
 
 lone_has : (text : List ℕ) (h : List Lexeme) (d : ℕ) (k : Kind) (q : ℕ) → IsLone text h d k q
     → is_value k ≡ true → has (fresh (candidate d h) (mark_at text q)) ≡ false

@@ -59,29 +59,7 @@ plainly_other (Err w) = tt
 -- only the stream's end carries it
 body_other : (k : Kind) (s : SpelledText) (l : Lexeme) → is_end k ≡ false → IsOther (body_by k s l)
 unfolding lexeme_at
-body_other kinds.StreamStart s l e = tt
-body_other kinds.StreamEnd s l e = absurd (true≢false e)
-body_other kinds.Directive s l e = directed_other (directive_at s.text l.start.index)
-body_other kinds.DocumentStart s l e = tt
-body_other kinds.DocumentEnd s l e = tt
-body_other kinds.FlowSequenceStart s l e = tt
-body_other kinds.FlowMappingStart s l e = tt
-body_other kinds.FlowSequenceEnd s l e = tt
-body_other kinds.FlowMappingEnd s l e = tt
-body_other kinds.FlowEntry s l e = tt
-body_other kinds.BlockEntry s l e = tt
-body_other kinds.KeyMark s l e = tt
-body_other kinds.ValueMark s l e = tt
-body_other kinds.Alias s l e = valued_other tokens.alias (anchor_at contexts.Alias s.text l.start.index) (λ v. tt)
-body_other kinds.Anchor s l e = valued_other tokens.anchor (anchor_at contexts.Anchor s.text l.start.index) (λ v. tt)
-body_other kinds.Tag s l e = tagged_other (tag_at (nat_lt 0 l.depth) s.text l.start.index)
-body_other kinds.Literal s l e = blocked_other (style_at s.text l.start.index) (block_at l.level s.text l.start.index)
-body_other kinds.Folded s l e = blocked_other (style_at s.text l.start.index) (block_at l.level s.text l.start.index)
-body_other kinds.SingleQuoted s l e =
-    valued_other (λ v. tokens.scalar v styles.YAML_SINGLE_QUOTED_SCALAR_STYLE) (single_quoted_at s.text l.start.index) (λ v. tt)
-body_other kinds.DoubleQuoted s l e =
-    valued_other (λ v. tokens.scalar v styles.YAML_DOUBLE_QUOTED_SCALAR_STYLE) (double_quoted_at s.text l.start.index) (λ v. tt)
-body_other kinds.Plain s l e = plainly_other (plain_at (nat_lt 0 l.depth) l.level s.text l.start.index)
+body_other k s l e = grind (arith, directed_other, valued_other, tagged_other, blocked_other, plainly_other)
 
 end_body : (k : Kind) (s : SpelledText) (l : Lexeme) → is_end k ≡ true → body_by k s l ≡ stream_end
 unfolding lexeme_at
@@ -128,11 +106,7 @@ mark_no_end ls (e ∷ es) zero (h, more) = (h, more)
 mark_no_end ls (e ∷ es) (suc n) (h, more) = (h, mark_no_end ls es n more)
 
 keyed_no_end : (l : Lexeme) (h : List Lexeme) (es : List Entry) → NoEnd es → NoEnd (keyed l h es)
-keyed_no_end l h es n =
-    elim (is_value l.kind) as (λ b. NoEnd (cond b (marked (found_by l h) (inside l h) es) es)) [
-      | true ↦ elim (found_by l h) as (λ o. NoEnd (marked o (inside l h) es)) [ Some c ↦ mark_no_end (inside l h) es c.number n | None ↦ n ]
-      | false ↦ n
-    ]
+keyed_no_end l h es n = grind (arith, mark_no_end)
 
 push_no_end : (es : List Entry) (e : Entry) → NoEnd es → is_end e.lexeme.kind ≡ false
     → NoEnd (es ++ e ∷ [])
@@ -171,12 +145,7 @@ ends_ended text (x ∷ h) s e =
 fails_open : (text : List ℕ) (h : List Lexeme) (p : ScanFault) → next text h ≡ Fails p
     → ended h ≡ false
 unfolding next
-fails_open text [] p e = refl
-fails_open text (x ∷ h) p e =
-    elim (cases_Bool (is_end x.kind)) [
-      | inl over ↦ let bad : Ends ≡ Fails p = rw over at e in absurd cc
-      | inr more ↦ more
-    ]
+fails_open text h p e = grind arith
 
 -- tokens that end in STREAM-END, and have none before
 record IsWhole (ts : List Token) : Type 0 where

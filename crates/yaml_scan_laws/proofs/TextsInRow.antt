@@ -26,11 +26,7 @@ at_once text p f = record { has = λ k few. absurd (omega (arith, few)); blank =
 -- one byte of it
 pub behind_one : (text : List ℕ) (p b : ℕ) → byte text p ≡ b → are_gap (b ∷ []) ≡ true
     → begins_lexeme text (p + 1) ≡ true → IsGap text p (b ∷ [])
-behind_one text p b e blank f = record { has = has; blank = blank; ends = f }
-  where
-    has : HasAt text p (b ∷ [])
-    has zero few = let z : p + 0 ≡ p = omega arith in ap (λ (n : ℕ). byte text n) z ∙ e
-    has (suc k) few = absurd (omega (arith, few))
+behind_one text p b e blank f = grind arith
 
 -- a word is after it
 pub there : {text : List ℕ} {p d level e : ℕ} {k : Kind} {gap : List ℕ} {w : WordText}

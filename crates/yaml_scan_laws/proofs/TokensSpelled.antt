@@ -1,5 +1,5 @@
 -- Each tag of a text starts with `!`; the tokens that are handed out are well spelled.
-use Rattle.std.proofs.Common.{ℕ, zero, suc, nat_lt, Bool, List, [], ◌∷◌, Option, Some, None, Result, Ok, Err, sym, subst, inl, inr}
+use Rattle.std.proofs.Common.{ℕ, zero, suc, nat_lt, Bool, List, [], ◌∷◌, Option, Some, None, Result, Ok, Err, sym, subst, inl, inr, arith}
 use Rattle.yaml_scan_laws.proofs.TextWords.{cases_Bool, mark_at, Wrong, gap_at, is_end, placed, flow_depth, key_allowed, candidate, fresh, kind_at, WordText, lexeme_at, Next, Read, Fails, Ends, begun, finished, allowed_behind, misplaced, missed, lost_by, next, extended, history, no_colon, tested, unless_wrong, unless_lost, of_kind, unless_missed, stepwise, placed_index, Token, SpelledText, body_of_word, body_by, remaining, IsSpelled, AreSpelled}
 use Rattle.yaml_scan_history.specs.scan_model.declared.record.yaml_mark_t.{yaml_mark_t}
 use Rattle.yaml_scan_history.specs.Between.{Gap}
@@ -35,19 +35,11 @@ StartsAny text Ends = Unit {0}
 
 finished_starts : (text : List ℕ) (l : Lexeme) (w : WordText) → Starts text l
     → Starts text (finished text l w)
-finished_starts text l w s =
-    elim (cases_Bool (is_end l.kind)) [
-      | inl e ↦ rw e s
-      | inr e ↦ rw e s
-    ]
+finished_starts text l w s = grind arith
 
 tested_starts : (text : List ℕ) (l : Lexeme) (h : List Lexeme) → Starts text l
     → StartsAny text (tested l h)
-tested_starts text l h s =
-    elim (missed (candidate 0 (l ∷ h)) l.reached) as (λ o. StartsAny text (elim o as (λ _. Next) [ Some start ↦ no_colon start l.reached | None ↦ Read l ])) [
-      | Some start ↦ tt
-      | None ↦ s
-    ]
+tested_starts text l h s = grind arith
 
 wrong_starts : (text : List ℕ) (r : Result WordText Wrong) (l : Lexeme) (h : List Lexeme)
     → Starts text l → StartsAny text (unless_wrong r text l h)

@@ -27,33 +27,11 @@ pub record IsMark (K : Kind) (body : TokenBody) : Type 0 where
 
 pub start_mark : IsMark kinds.DocumentStart tokens.document_start
 unfolding lexeme_at
-start_mark = record {
-  outside = refl;
-  cancels = refl;
-  key = refl;
-  start = refl;
-  value = refl;
-  end = refl;
-  deep = λ d. refl;
-  allows = λ x y. refl;
-  told = λ s l. refl;
-  word = λ flow level text p. refl;
-}
+start_mark = grind (arith, nat_tests)
 
 pub end_mark : IsMark kinds.DocumentEnd tokens.document_end
 unfolding lexeme_at
-end_mark = record {
-  outside = refl;
-  cancels = refl;
-  key = refl;
-  start = refl;
-  value = refl;
-  end = refl;
-  deep = λ d. refl;
-  allows = λ x y. refl;
-  told = λ s l. refl;
-  word = λ flow level text p. refl;
-}
+end_mark = grind (arith, nat_tests)
 
 -- ---- no level is left by what is outside
 
@@ -80,28 +58,12 @@ over : (c : ℕ) → nat_le (c + 1) 0 ≡ false
 over c = grind (arith, nat_tests)
 
 margin_left : (o : Option Candidate) (k : Kind) (column : ℕ) → is_left (opens_at o k column) ≡ false
-margin_left None k column = over column
-margin_left (Some c) k column =
-    elim (cases_Bool (is_value k)) [
-      | inl h ↦ rw h (over c.lexeme.start.column)
-      | inr h ↦ rw h (over column)
-    ]
+margin_left o k column = grind (arith, nat_tests, over)
 
 pub none_left : (h : List Lexeme) → filter is_left (open_levels h) ≡ []
 unfolding open_levels
 none_left [] = refl
-none_left (l ∷ h) =
-    let before = none_left h in
-    let xs = left_by l.kind l.depth l.start.column (open_levels h) in
-    let kept : filter is_left xs ≡ [] = elim (cases_Bool (nat_lt 0 l.depth)) [
-      | inl d ↦ rw d before
-      | inr d ↦ rw d (none_of (λ x. nat_le x (if is_outside l.kind then 0 else margin_at l.start.column)) (open_levels h) before)
-    ] in
-    let m = opens_at (found_by l h) l.kind l.start.column in
-    elim (cases_Bool ((is_start l.kind && not (nat_lt 0 l.depth)) && nat_lt (indent xs) m)) [
-      | inl o ↦ rw (o, filter-append is_left xs (m ∷ []), kept, margin_left (found_by l h) l.kind l.start.column) refl
-      | inr o ↦ rw o kept
-    ]
+none_left (l ∷ h) = grind (arith, nat_tests, none_of, filter-append, margin_left, none_left h)
 
 -- ---- the lexeme of a mark
 
@@ -173,10 +135,7 @@ pub record MarkLies (K : Kind) (t : List ℕ) (H : List Lexeme) (p : ℕ) (l : L
 
 pub mark_lies : (K : Kind) (body : TokenBody) → IsMark K body → (t : List ℕ) (H : List Lexeme)
     (p : ℕ) → (gap_behind t H).place ≡ p → MarkLies K t H p (lexeme_behind K t H)
-mark_lies K body m t H p e =
-    let free = and_false (allowed_behind H (gap_behind t H)) in
-    rw (mark_word K body m t H p e, m.end)
-    record { kind = refl; start = ap (mark_at t) e; end = refl; reached = refl; deep = refl; saved = rw (m.key, free) refl }
+mark_lies K body m t H p e = grind (arith, nat_tests, and_false, mark_word)
 
 -- a mark is read, where no candidate is lost or missed
 pub mark_comes : (K : Kind) (body : TokenBody) → IsMark K body → (t : List ℕ) (H : List Lexeme)
@@ -184,11 +143,7 @@ pub mark_comes : (K : Kind) (body : TokenBody) → IsMark K body → (t : List �
     → IsFree (fresh (candidate (flow_depth H) H) (place_behind t H))
     → stale_after (lexeme_behind K t H) H ≡ None
     → coming (Some K) t H ≡ Read (lexeme_behind K t H)
-mark_comes K body m t H p e stale free after =
-    let misplaced : indicator_misplaced K t H ≡ None = rw (m.start, and_false (not (in_flow H) && not (allowed_behind H (gap_behind t H)))) refl in
-    let lost : candidate_lost K t H ≡ None = rw (lost_none (begun_behind K t H) (fresh (candidate (flow_depth H) H) (place_behind t H)) free) refl in
-    let wrong : text_wrong K t H ≡ None = rw (mark_word K body m t H p e) refl in
-    rw (stale, misplaced, lost, wrong, after) refl
+mark_comes K body m t H p e stale free after = grind (arith, nat_tests, and_false, lost_none, mark_word)
 
 -- the mark is read there
 pub mark_reads : (K : Kind) (body : TokenBody) → IsMark K body → (text : List ℕ) (H : List Lexeme)
@@ -226,10 +181,7 @@ pub record MarkStands (t : List ℕ) (p : ℕ) : Type 0 where
 
 mark_parts : (c z x y : Bool) → ((c && (x || y)) && z) ≡ true
     → (((c && x) && z) ≡ true) ⊎ (((c && y) && z) ≡ true)
-mark_parts true true true y h = inl refl
-mark_parts true true false y h = inr h
-mark_parts true false x y h = absurd (true≢false (sym h ∙ and-false (x || y)))
-mark_parts false z x y h = absurd (true≢false (sym h))
+mark_parts c z x y h = grind (arith, nat_tests)
 
 shift : (a b c : Bool) → (a && (b && c)) ≡ ((a && b) && c)
 shift true b c = refl
@@ -238,13 +190,7 @@ shift false b c = refl
 indicator_cases : (t : List ℕ) (p : ℕ) → is_document_indicator t p ≡ true
     → (is_document_start t p ≡ true) ⊎ (is_document_end t p ≡ true)
 unfolding is_document_indicator is_document_start is_document_end
-indicator_cases t p h =
-    let x = (byte t p == 45 && byte t (p + 1) == 45) && byte t (p + 2) == 45 in
-    let y = (byte t p == 46 && byte t (p + 1) == 46) && byte t (p + 2) == 46 in
-    elim (mark_parts (column_at t p == 0) (is_blank_or_end t (p + 3)) x y h) [
-      | inl e ↦ inl (ap (λ z. (column_at t p == 0 && z) && is_blank_or_end t (p + 3)) (shift (byte t p == 45) (byte t (p + 1) == 45) (byte t (p + 2) == 45)) ∙ e)
-      | inr e ↦ inr (ap (λ z. (column_at t p == 0 && z) && is_blank_or_end t (p + 3)) (shift (byte t p == 46) (byte t (p + 1) == 46) (byte t (p + 2) == 46)) ∙ e)
-    ]
+indicator_cases t p h = grind (arith, nat_tests, mark_parts, shift)
 
 first_byte : (c z x y : Bool) (b n : ℕ) → ((c && (b == n && (x && y))) && z) ≡ true → b ≡ n
 first_byte true z x y b n h = eqb-true _ _ (and_parts (b == n) (x && y) (and_parts (b == n && (x && y)) z h).0).0
@@ -259,29 +205,17 @@ unfolding is_document_end
 finish_byte t p h = first_byte (column_at t p == 0) (is_blank_or_end t (p + 3)) (byte t (p + 1) == 46) (byte t (p + 2) == 46) (byte t p) 46 h
 
 no_start : (t : List ℕ) (p : ℕ) → byte t p ≡ 46 → is_document_start t p ≡ false
-no_start t p b = elim (cases_Bool (is_document_start t p)) [
-  | inl h ↦ let c = start_byte t p h in absurd (omega (arith, b, c))
-  | inr h ↦ h
-]
+no_start t p b = grind (arith, nat_tests, start_byte)
 
 pub starts : (flow : Bool) (t : List ℕ) (p : ℕ) → is_document_start t p ≡ true
     → kind_at flow t p ≡ Some kinds.DocumentStart
 unfolding kind_at
-starts flow t p h =
-    let b = start_byte t p h in
-    let zero : (byte t p == 0) ≡ false = rw b refl in
-    let percent : (byte t p == 37) ≡ false = rw b refl in
-    rw (zero, percent, h) refl
+starts flow t p h = grind (arith, nat_tests, start_byte)
 
 pub finishes : (flow : Bool) (t : List ℕ) (p : ℕ) → is_document_end t p ≡ true
     → kind_at flow t p ≡ Some kinds.DocumentEnd
 unfolding kind_at
-finishes flow t p h =
-    let b = finish_byte t p h in
-    let zero : (byte t p == 0) ≡ false = rw b refl in
-    let percent : (byte t p == 37) ≡ false = rw b refl in
-    let other : is_document_start t p ≡ false = no_start t p b in
-    rw (zero, percent, other, h) refl
+finishes flow t p h = grind (arith, nat_tests, finish_byte, no_start)
 
 abbrev pub start_stands : (t : List ℕ) (p : ℕ) → is_document_start t p ≡ true → MarkStands t p
 start_stands t p e = record { kind = kinds.DocumentStart; body = tokens.document_start; is = start_mark; stands = λ flow. starts flow t p e }
@@ -300,15 +234,7 @@ mark_stands t p h =
 
 pub free_of : (l : Lexeme) (o : Option Candidate) → cancels l.kind ≡ true → is_value l.kind ≡ false
     → lost_by l o ≡ None → IsFree o
-free_of l None c v e = tt
-free_of l (Some x) c v e =
-    elim (cases_Bool x.lexeme.required) [
-      | inr free ↦ free
-      | inl due ↦ elim (cases_Bool l.saved) [
-        | inl s ↦ absurd (none-some _ (sym (rw (due, s) at e)))
-        | inr s ↦ absurd (none-some _ (sym (rw (due, s, c, v) at e)))
-      ]
-    ]
+free_of l o c v e = grind (arith, nat_tests)
 
 pub colon_none : (o : Option yaml_mark_t) (m : yaml_mark_t) → colon_missing_of o m ≡ None → o ≡ None
 colon_none None m e = refl
@@ -321,12 +247,7 @@ end_begun t H = refl
 
 pub end_place : (a b : List ℕ) → IsCut a b → (H : List Lexeme) → (reached H).index ≤ length a
     → byte a (gap_behind a H).place ≡ 0 → (gap_behind a H).place ≡ length a
-end_place a b cut H inside none =
-    let place = gap_place (in_flow H) (key_allowed H) a (reached H).index inside in
-    elim (cases_lt (gap_behind a H).place (length a)) [
-      | inl on ↦ let some = cut.some (gap_behind a H).place on in absurd (omega (arith, some, none))
-      | inr past ↦ omega (arith, place.inside, past)
-    ]
+end_place a b cut H inside none = grind (arith, nat_tests, gap_place)
 
 pub mark_there : (a b : List ℕ) → IsCut a b → mark_at a (length a) ≡ mark_at (a ++ b) (length a)
 mark_there a b cut =

@@ -103,12 +103,7 @@ HasHandle (Ok t) = IsUtf8 t.handle
 HasHandle (Err w) = Unit {0}
 
 bracketed_handle : (text : List ℕ) (r : Result (List ℕ × ℕ) Wrong) → HasHandle (bracketed text r)
-bracketed_handle text (Ok u) =
-    elim (cases_Bool (byte text u.1 == 62)) [
-      | inl e ↦ rw e IsUtf8-nil
-      | inr e ↦ rw e tt
-    ]
-bracketed_handle text (Err w) = tt
+bracketed_handle text r = grind (arith, nat_tests)
 
 with_handle_good : (handle : List ℕ) (r : Result (List ℕ × ℕ) Wrong) → IsUtf8 handle
     → HasHandle (with_handle handle r)
@@ -116,12 +111,7 @@ with_handle_good handle (Ok u) h = h
 with_handle_good handle (Err w) h = tt
 
 bare_good : (r : Result (List ℕ × ℕ) Wrong) → HasHandle (bare r)
-bare_good (Ok u) =
-    elim (cases_Bool (length u.0 == 0)) [
-      | inl e ↦ rw e IsUtf8-nil
-      | inr e ↦ rw e (ascii_utf8 33 (omega arith))
-    ]
-bare_good (Err w) = tt
+bare_good r = grind (arith, nat_tests, ascii_utf8)
 
 parts_good : (text : List ℕ) (p : ℕ) → IsUtf8 text → IsWhole text p → HasHandle (parts_at text p)
 unfolding parts_at

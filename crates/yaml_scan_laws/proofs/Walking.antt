@@ -98,20 +98,10 @@ more_told : (x : yaml_encoding_t) (text : List ℕ) (es : List Entry) (l : Lexem
     → ((bs : List TokenBody) → told (text_in x text) es n bs ≡ T bs)
     → (bs : List TokenBody)
     → told (text_in x text) (es ++ entry l n what ∷ []) 0 bs ≡ T (start_bodies what (w.body ∷ bs))
-more_told x text es l w n what T says tells bs =
-    word_tells (text_in x text) es l n what bs
-    ∙ ap (λ (b : TokenBody). told (text_in x text) es n (start_bodies what (b ∷ bs))) (says x)
-    ∙ tells (start_bodies what (w.body ∷ bs))
+more_told x text es l w n what T says tells bs = grind (arith, nat_tests, word_tells)
 
 pub walk_ends : WalkEnds
-walk_ends x text o m cs ls more T r = record {
-  lexemes = r.lexemes;
-  entries = r.entries;
-  stands = levels_same text o.at o.line r.lexemes o.depth ((ls ++ m ∷ []) ++ more) (ls ++ m ∷ more) r.entries o.now o.broken r.stands (append_assoc ls (m ∷ []) more);
-  idle = r.idle;
-  clear = r.clear;
-  tells = λ bs. level_tells (text_in x text) r.entries (length more) bs ∙ r.tells (block_end ∷ bs);
-}
+walk_ends x text o m cs ls more T r = grind (arith, nat_tests, levels_same, append_assoc, level_tells)
 
 -- ---- steps
 

@@ -50,10 +50,7 @@ gap_there : (text : List ℕ) (h : List Lexeme) (p : ℕ) (gap : List ℕ) → (
 gap_there text h p gap e g = ap (λ (i : ℕ). gap_at (in_flow h) (key_allowed h) text i) e ∙ gap_is_read (in_flow h) (key_allowed h) text p gap g.has g.blank g.ends
 
 pub white_begins : WhiteBegins
-white_begins text h p now e k = record {
-  place = λ gap g. ap (λ (x : Gap). x.place) (gap_there text h p gap e g);
-  allowed = λ gap g. ap (λ (x : Gap). key_allowed h || (x.broke && not (in_flow h))) (gap_there text h p gap e g) ∙ ap (λ (b : Bool). b || (has_break gap && not (nat_lt 0 (flow_depth h)))) k;
-}
+white_begins text h p now e k = grind (arith, nat_tests, gap_there)
 
 -- ---- further white
 
@@ -70,12 +67,7 @@ gap_front text p white gap f e g =
 
 both_breaks : (now x y broken : Bool)
     → (now || ((x || y) && broken)) ≡ ((now || (x && broken)) || (y && broken))
-both_breaks true x y broken = refl
-both_breaks false true true true = refl
-both_breaks false true true false = refl
-both_breaks false true false true = refl
-both_breaks false true false false = refl
-both_breaks false false y broken = refl
+both_breaks now x y broken = grind (arith, nat_tests)
 
 pub white_goes_on : WhiteGoesOn
 white_goes_on text h p now broken white w f e = record {
@@ -88,27 +80,12 @@ white_goes_on text h p now broken white w f e = record {
 feeds : (b c d : ℕ) → (b == 32 || (b == 10 || b == 13)) ≡ true
     → ((b == 32) ≡ true) ⊎ (nat_lt 0 (break_of b c d) ≡ true)
 unfolding break_of
-feeds b c d h =
-    elim (cases_Bool (b == 32)) [
-      | inl e ↦ inl e
-      | inr e ↦ elim (cases_Bool (b == 13)) [
-        | inl f ↦ elim (cases_Bool (c == 10)) [ inl g ↦ inr (rw (f, g) refl) | inr g ↦ inr (rw (f, g) refl) ]
-        | inr f ↦ let g : (b == 10) ≡ true = grind (arith, nat_tests) in inr (rw (f, g) refl)
-      ]
-    ]
+feeds b c d h = grind (arith, nat_tests)
 
 -- No lexeme begins at white space.
 pub no_white : (text : List ℕ) (p b : ℕ) → byte text p ≡ b
     → (b == 32 || (b == 10 || b == 13)) ≡ true → begins_lexeme text p ≡ true → ⊥
-no_white text p b e f g =
-    let (space, more) = and_parts (not (byte text p == 32)) (not (byte text p == 9) && (not (byte text p == 35) && (not (nat_lt 0 (break_width text p)) && not (p == 0 && is_bom text p)))) g in
-    let (tab, rest) = and_parts (not (byte text p == 9)) (not (byte text p == 35) && (not (nat_lt 0 (break_width text p)) && not (p == 0 && is_bom text p))) more in
-    let (hash, last) = and_parts (not (byte text p == 35)) (not (nat_lt 0 (break_width text p)) && not (p == 0 && is_bom text p)) rest in
-    let (wide, bom) = and_parts (not (nat_lt 0 (break_width text p))) (not (p == 0 && is_bom text p)) last in
-    elim (feeds (byte text p) (byte text (p + 1)) (byte text (p + 2)) (ap (λ (x : ℕ). x == 32 || (x == 10 || x == 13)) e ∙ f)) [
-      | inl x ↦ let y = not-true (byte text p == 32) space in cc
-      | inr x ↦ let y = not-true (nat_lt 0 (break_width text p)) wide in cc
-    ]
+no_white text p b e f g = grind (arith, nat_tests, feeds)
 
 -- what is left of a gap after its first part
 record Parts (text : List ℕ) (p : ℕ) (white gap : List ℕ) : Type 0 where
@@ -149,10 +126,7 @@ parted text p (x ∷ white) (y ∷ gap) f e g =
 passed_place : (text : List ℕ) (h : List Lexeme) (p : ℕ) (white gap : List ℕ)
     → (reached h).index ≡ p + length white → Parts text p white gap
     → (gap_behind text h).place ≡ p + length gap
-passed_place text h p white gap e parts =
-    let size = length_more white parts.more in
-    let whole = ap (λ (bs : List ℕ). length bs) parts.same in
-    ap (λ (x : Gap). x.place) (gap_there text h (p + length white) parts.more e parts.is) ∙ omega (arith, size, whole)
+passed_place text h p white gap e parts = grind (arith, nat_tests, length_more, gap_there)
 
 pub white_is_passed : WhiteIsPassed
 white_is_passed text h p white broken f e there key = record {
@@ -224,8 +198,4 @@ allows_found kinds.ValueMark block x y f = ap (λ (b : Bool). block && not b) (f
 allows_found k block x y f = refl
 
 pub key_is_allowed : KeyIsAllowed
-key_is_allowed text h d k q a found w deep f = (
-  refl,
-  ap (λ (n : ℕ). allows_key k (n == 0) (has (fresh (candidate n h) (mark_at text q))) || w.broke) deep
-      ∙ ap (λ (b : Bool). b || w.broke) (allows_found k (d == 0) (has (fresh (candidate d h) (mark_at text q))) found f),
-)
+key_is_allowed text h d k q a found w deep f = grind (arith, nat_tests, allows_found)

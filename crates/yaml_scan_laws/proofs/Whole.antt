@@ -234,11 +234,7 @@ indicator_bytes c a b d e f g last h = grind (arith, nat_tests)
 pub indicator_small : (text : List ℕ) (p : ℕ) → is_document_indicator text p ≡ true
     → byte text p < 128
 unfolding is_document_indicator
-indicator_small text p h =
-    elim (indicator_bytes (column_at text p) (byte text p) (byte text (p + 1)) (byte text (p + 2)) (byte text p) (byte text (p + 1)) (byte text (p + 2)) (is_blank_or_end text (p + 3)) h) [
-      | inl e ↦ omega (arith, e)
-      | inr e ↦ omega (arith, e)
-    ]
+indicator_small text p h = grind (arith, nat_tests, indicator_bytes)
 
 -- After bytes that wait for the rest of a character, these pieces bring it: what is kept up to the next blank or break is
 -- UTF-8.
@@ -269,11 +265,7 @@ trim_end_goes : (u : List ℕ) (l : Line) → Goes u l → Goes u (trim_end l)
 trim_end_goes u [] h = h
 trim_end_goes u (Kept bytes ∷ l) h = trim_end_goes (u ++ bytes) l h
 trim_end_goes u (Break bytes ∷ l) (a, s, h) = (a, s, trim_end_goes [] l h)
-trim_end_goes u (Blank b ∷ l) (a, s, h) =
-    elim (cases_Bool (is_empty l)) [
-      | inl e ↦ rw e a
-      | inr e ↦ rw e (a, s, trim_end_goes [] l h)
-    ]
+trim_end_goes u (Blank b ∷ l) (a, s, h) = grind (arith, nat_tests, trim_end_goes [] l h)
 
 trim_start_goes : (l : Line) → Goes [] l → Goes [] (trim_start l)
 trim_start_goes [] h = h

@@ -61,16 +61,7 @@ both_is b n other h = eqb-true b n (and_parts (b == n) other h).0
 indicator_tells : (flow alone : Bool) (text : List ℕ) (p : ℕ)
     → OfAny (Tells text p) (indicator_of flow alone (byte text p))
 unfolding indicator_of
-indicator_tells flow alone text p =
-    let b = byte text p in
-    let at = pick (Tells text p) in
-    at (b == 91) kinds.FlowSequenceStart _ (eqb-true b 91) (at (b == 123) kinds.FlowMappingStart _ (eqb-true b 123)
-    (at (b == 93) kinds.FlowSequenceEnd _ (eqb-true b 93) (at (b == 125) kinds.FlowMappingEnd _ (eqb-true b 125)
-    (at (b == 44) kinds.FlowEntry _ (eqb-true b 44) (at (b == 45 && alone) kinds.BlockEntry _ (both_is b 45 alone)
-    (at (b == 63 && (flow || alone)) kinds.KeyMark _ (both_is b 63 (flow || alone)) (at (b == 58 && (flow || alone)) kinds.ValueMark _ (both_is b 58 (flow || alone))
-    (at (b == 42) kinds.Alias _ (eqb-true b 42) (at (b == 38) kinds.Anchor _ (eqb-true b 38) (at (b == 33) kinds.Tag _ (eqb-true b 33)
-    (at (b == 124 && not flow) kinds.Literal _ (both_is b 124 (not flow)) (at (b == 62 && not flow) kinds.Folded _ (both_is b 62 (not flow))
-    (at (b == 39) kinds.SingleQuoted _ (eqb-true b 39) (at (b == 34) kinds.DoubleQuoted None (eqb-true b 34) tt))))))))))))))
+indicator_tells flow alone text p = grind (arith, nat_tests, pick, both_is)
 
 plain_tells : (o : Option Kind) (starts : Bool) (text : List ℕ) (p : ℕ) → 0 < byte text p
     → OfAny (Tells text p) o → OfAny (Tells text p) (or_plain o starts)
@@ -80,14 +71,7 @@ plain_tells None false text p l f = tt
 
 kind_tells : (flow : Bool) (text : List ℕ) (p : ℕ) → OfAny (Tells text p) (kind_at flow text p)
 unfolding kind_at
-kind_tells flow text p =
-    let alone = is_blank_or_end text (p + 1) in
-    elim (cases_Bool (byte text p == 0)) [
-      | inl h ↦ rw h (eqb-true (byte text p) 0 h)
-      | inr h ↦ rw h (pick (Tells text p) (byte text p == 37 && column_at text p == 0) kinds.Directive _ (both_is (byte text p) 37 (column_at text p == 0))
-          (pick (Tells text p) (is_document_start text p) kinds.DocumentStart _ (λ e. e) (pick (Tells text p) (is_document_end text p) kinds.DocumentEnd _ (λ e. e)
-          (plain_tells (indicator_of flow alone (byte text p)) (starts_plain flow text p) text p (some_of (byte text p) h) (indicator_tells flow alone text p)))))
-    ]
+kind_tells flow text p = grind (arith, nat_tests, pick, both_is, plain_tells, some_of, indicator_tells)
 
 tells_any : (P : Kind → Type 0) (text : List ℕ) (p : ℕ) (o : Option Kind)
     → ((k : Kind) → Tells text p k → P k)

@@ -4,13 +4,13 @@ ghost use Rattle.std.specs.Prelude.{◌≡◌, [], IfOk, Some, map};
 ghost use Rattle.yaml_cli_main.specs.Asked.{AreShown, cause_of, node_cause, shown_cause};
 
 use crate::engine::difference_of;
-use crate::reached::{Reached, body_of, push_held};
+use crate::way::{body_of, push_held, push_way};
 use std::alloc::{AllocError, Global};
 use yaml_cli_program::{Cause, Difference, Met, Step, push_step};
 use yaml_round::{
     yaml_difference_t, yaml_differences_t, yaml_document_difference_t, yaml_document_get_node,
     yaml_document_t, yaml_event_type_t, yaml_mark_t, yaml_node_body_t, yaml_node_cause_t,
-    yaml_node_difference_t, yaml_node_t,
+    yaml_node_difference_t, yaml_node_match_t, yaml_node_t,
 };
 
 // What a text doesn't have is after all that it has.
@@ -130,105 +130,61 @@ fn met_in(document: Option<&yaml_document_t>, id: i32, place: usize, at: At) -> 
     }
 }
 
-// The pairs of the documents whose differences come next, and which of them comes next.
-#[derive(Drop)]
-struct Way {
+// Adds the steps to a difference of two documents.
+fn push_steps(
     alloc: Global,
-    document: Option<usize>,
-    reached: Reached,
-    at: usize,
+    path: &mut String,
+    told: yaml_node_difference_t,
+    pairs: &[yaml_node_match_t],
+    first: &yaml_document_t,
+    second: &yaml_document_t,
+) -> Result<(), AllocError> {
+    push_way(alloc, path, first, pairs, told.pair)?;
+    match told.cause {
+        yaml_node_cause_t::OnlyFirst => push_held(path, first, told.first, told.place),
+        yaml_node_cause_t::OnlySecond => push_held(path, second, told.second, told.place),
+        _ => Ok(()),
+    }
 }
 
-impl Way {
-    fn new(alloc: Global) -> Way {
-        Way {
-            alloc,
-            document: None,
-            reached: Reached::new(alloc),
-            at: 0,
-        }
+// The path to a difference.
+fn path_to(
+    alloc: Global,
+    told: yaml_document_difference_t,
+    documents: &yaml_differences_t,
+) -> Result<String, AllocError> {
+    let number = told.document;
+    let mut path = String::new(alloc);
+    push_step(&mut path, Step::Item(number as u64))?;
+    if let (Some(pairs), Some(first), Some(second)) = (
+        documents.pairs.get(number),
+        documents.first.get(number),
+        documents.second.get(number),
+    ) {
+        push_steps(alloc, &mut path, told.difference, pairs, first, second)?;
     }
+    Ok(path)
+}
 
-    // Takes up the documents of that number, if it hasn't yet.
-    fn take_up(
-        &mut self,
-        number: usize,
-        first: &yaml_document_t,
-        second: &yaml_document_t,
-    ) -> Result<(), AllocError> {
-        if self.document == Some(number) {
-            return Ok(());
-        }
-        self.document = Some(number);
-        self.at = 0;
-        self.reached.fill(first, second)
-    }
-
-    // Goes on to the pair of a difference.
-    fn seek(&mut self, told: yaml_node_difference_t) {
-        for at in self.at..usize::MAX {
-            self.at = at;
-            match self.reached.pair_at(at) {
-                Some(pair) if pair.first != told.first || pair.second != told.second => {}
-                _ => return,
-            }
-        }
-    }
-
-    // Adds the steps to a difference of two documents of that number.
-    fn push_steps(
-        &mut self,
-        path: &mut String,
-        told: yaml_document_difference_t,
-        first: &yaml_document_t,
-        second: &yaml_document_t,
-    ) -> Result<(), AllocError> {
-        let node = told.difference;
-        self.take_up(told.document, first, second)?;
-        self.seek(node);
-        self.reached.push_way(path, first, self.at)?;
-        match node.cause {
-            yaml_node_cause_t::OnlyFirst => push_held(path, first, node.first, node.place),
-            yaml_node_cause_t::OnlySecond => push_held(path, second, node.second, node.place),
-            _ => Ok(()),
-        }
-    }
-
-    // The path to a difference.
-    fn path(
-        &mut self,
-        told: yaml_document_difference_t,
-        first: Option<&yaml_document_t>,
-        second: Option<&yaml_document_t>,
-    ) -> Result<String, AllocError> {
-        let mut path = String::new(self.alloc);
-        push_step(&mut path, Step::Item(told.document as u64))?;
-        if let (Some(first), Some(second)) = (first, second) {
-            self.push_steps(&mut path, told, first, second)?;
-        }
-        Ok(path)
-    }
-
-    // A difference, as it is shown.
-    fn shown(
-        &mut self,
-        told: yaml_document_difference_t,
-        documents: &yaml_differences_t,
-    ) -> Result<Difference, AllocError>
-        ensures { IfOk result (λ d. d.cause ≡ cause_of told) }
-    {
-        let node = told.difference;
-        let first = documents.first.get(told.document);
-        let second = documents.second.get(told.document);
-        let path = self.path(told, first, second)?;
-        let (own, others) = both_at(node.cause);
-        Ok(Difference {
-            path: Some(path),
-            cause: node_cause_of(node.cause),
-            first: met_in(first, node.first, node.place, own),
-            second: met_in(second, node.second, node.place, others),
-        })
-    }
+// A difference, as it is shown.
+fn shown(
+    alloc: Global,
+    told: yaml_document_difference_t,
+    documents: &yaml_differences_t,
+) -> Result<Difference, AllocError>
+    ensures { IfOk result (λ d. d.cause ≡ cause_of told) }
+{
+    let node = told.difference;
+    let first = documents.first.get(told.document);
+    let second = documents.second.get(told.document);
+    let path = path_to(alloc, told, documents)?;
+    let (own, others) = both_at(node.cause);
+    Ok(Difference {
+        path: Some(path),
+        cause: node_cause_of(node.cause),
+        first: met_in(first, node.first, node.place, own),
+        second: met_in(second, node.second, node.place, others),
+    })
 }
 
 // In what the documents differ, as it is shown.
@@ -240,10 +196,9 @@ fn shown_told(
 ) -> Result<Vec<Difference>, AllocError>
     ensures { IfOk result (λ shown. map shown_cause shown.items ≡ map cause_of told.now) }
 {
-    let mut way = Way::new(alloc);
     let mut list = Vec::new(alloc);
     for place in 0..told.len() {
-        let difference = way.shown(told[place], documents)?;
+        let difference = shown(alloc, told[place], documents)?;
         list.push(difference)?;
     }
     Ok(list)

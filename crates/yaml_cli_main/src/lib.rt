@@ -5,7 +5,7 @@ mod comment;
 mod differences;
 mod engine;
 mod program;
-mod reached;
+mod way;
 
 pub use program::yaml_main;
-pub use yaml_cli_program::{UNNAMED, WRONG_WORDS, shown_bytes};
+pub use yaml_cli_program::{WRONG_WORDS, file_path};

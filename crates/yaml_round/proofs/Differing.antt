@@ -30,7 +30,7 @@ all_compared a_from a b_from b ds es (Ok d) h k c = (
   record {
     first = subst (AreLoaded a_from a) (sym c.0) h;
     second = subst (AreLoaded b_from b) (sym c.1) k;
-    differ = subst (λ z. AreStreamDifferences 0 z d.second.items d.told.items) (sym c.0) (subst (λ z. AreStreamDifferences 0 ds z d.told.items) (sym c.1) c.2);
+    differ = subst (λ z. AreStreamDifferences 0 z d.second.items d.pairs.items d.told.items) (sym c.0) (subst (λ z. AreStreamDifferences 0 ds z d.pairs.items d.told.items) (sym c.1) c.2);
     equal = subst (λ z. (d.told.items ≡ []) ↔ AreEqualStreams z d.second.items) (sym c.0) (subst (λ z. (d.told.items ≡ []) ↔ AreEqualStreams ds z) (sym c.1) c.3);
   },
   c.4,
@@ -68,7 +68,7 @@ not_same a_from b_from a b d h s =
 -- the place is put beside the documents
 pub with_place : (a_from : yaml_encoding_t) (a : List ℕ) (b_from : yaml_encoding_t) (b : List ℕ)
     (d : yaml_differences_t) (c : yaml_difference_t) → AreDifferences a_from a b_from b true (Ok d)
-    → ArePlaces a_from a b_from b c (Ok (record { first = d.first; second = d.second; told = d.told; content = Some c }))
+    → ArePlaces a_from a b_from b c (Ok (record { first = d.first; second = d.second; pairs = d.pairs; told = d.told; content = Some c }))
 with_place a_from a b_from b d c h = (
   record {
     first = h.0.first;

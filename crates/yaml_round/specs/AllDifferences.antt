@@ -14,18 +14,19 @@ use Rattle.yaml_round_engine.specs.Loaded.{IsSideShort, IsSideUnloaded}
 use Rattle.yaml_round_documents.specs.Streams.{AreEqualStreams, AreStreamDifferences}
 use Rattle.yaml_round.specs.declared.differences.yaml_differences_t.{yaml_differences_t}
 
--- The inputs load these documents, and they differ at these places.
+-- The inputs load these documents; these pairs of nodes are compared, and differ at these places.
 pub record AreAllDifferences (a_from : yaml_encoding_t) (a : List ℕ) (b_from : yaml_encoding_t)
     (b : List ℕ) (d : yaml_differences_t) : Type 0 where
   pub first : AreLoaded a_from a d.first.items
   pub second : AreLoaded b_from b d.second.items
-  pub differ : AreStreamDifferences 0 d.first.items d.second.items d.told.items
+  pub differ : AreStreamDifferences 0 d.first.items d.second.items d.pairs.items d.told.items
   pub equal : (d.told.items ≡ []) ↔ AreEqualStreams d.first.items d.second.items
 
 -- nothing is listed
 pub record TellsNothing (d : yaml_differences_t) : Type 0 where
   pub first : d.first.items ≡ []
   pub second : d.second.items ≡ []
+  pub pairs : d.pairs.items ≡ []
   pub told : d.told.items ≡ []
 
 -- the inputs load documents that are equal
@@ -72,7 +73,7 @@ AreDifferences a_from a b_from b false (Err f) = IsDiff a_from a b_from b (Err f
 abbrev pub IsComparison : List Document → List Document
     → Result yaml_differences_t (yaml_side_t × yaml_fault_t) → Type 0
 IsComparison first second (Ok d) = (d.first.items ≡ first) × (d.second.items ≡ second)
-    × AreStreamDifferences 0 first second d.told.items
+    × AreStreamDifferences 0 first second d.pairs.items d.told.items
     × ((d.told.items ≡ []) ↔ AreEqualStreams first second) × (d.content ≡ None)
 IsComparison first second (Err f) = (f.0 ≡ First) × IsMemoryFault load_layers (fault_of f.1)
 

@@ -5,34 +5,10 @@ ghost use Rattle.yaml_round_engine.specs.Loaded.{IsDocumentsDiff};
 
 use std::alloc::Global;
 use yaml_round_engine::{
-    Front, ReadText, Trail, documents_of, let_documents_go, let_go, let_text_go, place_behind,
-    read_text, reading_of, same_as, same_documents, yaml_difference_t, yaml_side_t,
+    Front, Trail, documents_of, let_documents_go, place_behind, same_documents, same_inputs,
+    yaml_difference_t, yaml_side_t,
 };
 use yaml_scan_model::{yaml_encoding_t, yaml_fault_t, yaml_memory_fault, yaml_origin_t};
-
-// The first place at which the contents of an input whose text it is and of another differ.
-fn diff_text(
-    alloc: Global,
-    text: &ReadText<'_>,
-    b: &[u8],
-    b_encoding: yaml_encoding_t,
-) -> Result<Option<yaml_difference_t>, (yaml_side_t, yaml_fault_t)>
-    ensures { IsDiff text.now.from text.now.bytes b_encoding b.now result }
-{
-    match reading_of(alloc, text) {
-        Err(fault) => Err((yaml_side_t::First, fault)),
-        Ok(mut first) => {
-            let mut trail = Trail::new(alloc);
-            let answer = same_as(alloc, &mut first, b, b_encoding, &mut trail, true);
-            let_go(first);
-            match answer {
-                Ok(true) => Ok(None),
-                Ok(false) => Ok(Some(trail.place)),
-                Err(fault) => Err(fault),
-            }
-        }
-    }
-}
 
 /// The first place at which the contents of two inputs differ: before it both have the same
 /// content, event by event, and their next events differ. `None` exactly where `yaml_same` returns
@@ -47,10 +23,12 @@ pub fn yaml_diff(
 ) -> Result<Option<yaml_difference_t>, (yaml_side_t, yaml_fault_t)>
     ensures { IsDiff a_encoding a.now b_encoding b.now result }
 {
-    let text = read_text(alloc, a, a_encoding);
-    let answer = diff_text(alloc, &text, b, b_encoding);
-    let_text_go(text);
-    answer
+    let mut trail = Trail::new(alloc);
+    match same_inputs(alloc, a, a_encoding, b, b_encoding, &mut trail, true) {
+        Ok(true) => Ok(None),
+        Ok(false) => Ok(Some(trail.place)),
+        Err(refusal) => Err(refusal),
+    }
 }
 
 /// The first place at which the loaded documents of two inputs differ; `None` exactly where they

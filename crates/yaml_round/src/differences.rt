@@ -6,7 +6,10 @@ ghost use Rattle.yaml_round.specs.AllDifferences.{AreAlike, AreDifferences, AreP
 use crate::diff::yaml_diff;
 use std::alloc::Global;
 use std::collections::VecDeque;
-use yaml_round_documents::{yaml_document_difference_t, yaml_document_t, yaml_stream_differences};
+use yaml_round_documents::{
+    yaml_document_difference_t, yaml_document_t, yaml_node_match_t, yaml_stream_differences,
+    yaml_stream_differences_t,
+};
 use yaml_round_engine::{documents_of, let_documents_go, yaml_difference_t, yaml_side_t};
 use yaml_scan_model::{yaml_encoding_t, yaml_fault_t, yaml_memory_fault, yaml_origin_t};
 
@@ -17,6 +20,8 @@ pub struct yaml_differences_t {
     pub first: VecDeque<yaml_document_t>,
     /// Those of the second one.
     pub second: VecDeque<yaml_document_t>,
+    /// Of the documents that both have, the pairs of nodes that are compared.
+    pub pairs: Vec<Vec<yaml_node_match_t>>,
     /// In what the documents differ.
     pub told: Vec<yaml_document_difference_t>,
     /// The first place where the contents part, where these are compared.
@@ -32,9 +37,10 @@ fn compared(
     ensures { IsComparison first.items second.items result }
 {
     match yaml_stream_differences(alloc, &first, &second) {
-        Ok(told) => Ok(yaml_differences_t {
+        Ok(yaml_stream_differences_t { pairs, told }) => Ok(yaml_differences_t {
             first,
             second,
+            pairs,
             told,
             content: None,
         }),
@@ -86,12 +92,14 @@ fn parted(
             let yaml_differences_t {
                 first,
                 second,
+                pairs,
                 told,
                 content: _,
             } = differences;
             Ok(yaml_differences_t {
                 first,
                 second,
+                pairs,
                 told,
                 content: Some(place),
             })
@@ -107,6 +115,7 @@ fn none_differ(alloc: Global) -> yaml_differences_t
     yaml_differences_t {
         first: VecDeque::new(alloc),
         second: VecDeque::new(alloc),
+        pairs: Vec::new(alloc),
         told: Vec::new(alloc),
         content: None,
     }

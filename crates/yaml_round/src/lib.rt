@@ -27,7 +27,7 @@ pub use yaml_round_device::{
 };
 pub use yaml_round_documents::{
     yaml_document_difference_t, yaml_document_get_node, yaml_document_t, yaml_node_body_t,
-    yaml_node_cause_t, yaml_node_difference_t, yaml_node_t, yaml_same_key_t,
+    yaml_node_cause_t, yaml_node_difference_t, yaml_node_match_t, yaml_node_t, yaml_same_key_t,
 };
 pub use yaml_round_engine::{
     yaml_adapter_t, yaml_cause_t, yaml_difference_t, yaml_side_t, yaml_step_t,

@@ -16,7 +16,7 @@ use Rattle.yaml_round_documents.specs.Telling.{keys_of, pair_keys}
 use Rattle.yaml_round_documents.specs.declared.difference.yaml_node_cause_t.{yaml_node_cause_t}
 use Rattle.yaml_round_documents.specs.declared.difference.yaml_node_cause_t.TheVariants.{Kind, Value, Tag, OnlyFirst, OnlySecond}
 use Rattle.yaml_round_documents.specs.declared.difference.yaml_node_difference_t.{yaml_node_difference_t}
-use Rattle.yaml_round_documents.specs.declared.walk.Pair.{Pair}
+use Rattle.yaml_round_documents.specs.declared.walk.yaml_node_match_t.{yaml_node_match_t as Pair}
 use Rattle.yaml_round_documents.specs.Matching.{in_order, matched, numbered}
 use Rattle.yaml_round_documents.specs.Pairs.{ComparedAt, IsCompared, IsOneOf, held_pairs, held_values, key_labels, pair_at, pair_with, pairs_by, places_from}
 use Rattle.yaml_round_documents.specs.Differences.{AreDifferences, order_cause, own_cause, told_alone, told_cause, told_held, told_in, told_of}
@@ -80,31 +80,31 @@ agree_ids nodes others a b (suc n, h) = (h.0.first, h.0.second)
 
 -- ---- item by item
 
-abbrev zipped : List ℤ → List ℤ → List Pair
-zipped [] ys = []
-zipped (x ∷ xs) [] = []
-zipped (x ∷ xs) (y ∷ ys) = record { first = x; second = y } ∷ zipped xs ys
+abbrev zipped : ℕ → List ℤ → List ℤ → List Pair
+zipped at [] ys = []
+zipped at (x ∷ xs) [] = []
+zipped at (x ∷ xs) (y ∷ ys) = record { first = x; second = y; holder = 0; place = at } ∷ zipped (suc at) xs ys
 
-one_zipped : (P : ℤ → ℤ → Type 0) (xs ys : List ℤ) → length xs ≡ length ys
-    → ((a b : ℤ) → IsOneOf a b (zipped xs ys) → P a b) → OneByOne P xs ys
-one_zipped P [] [] e go = tt
-one_zipped P [] (y ∷ ys) e go = absurd (omega arith)
-one_zipped P (x ∷ xs) [] e go = absurd (omega arith)
-one_zipped P (x ∷ xs) (y ∷ ys) e go = (go x y (inl (refl, refl)), one_zipped P xs ys (omega arith) (λ a b h. go a b (inr h)))
+one_zipped : (P : ℤ → ℤ → Type 0) (at : ℕ) (xs ys : List ℤ) → length xs ≡ length ys
+    → ((a b : ℤ) → IsOneOf a b (zipped at xs ys) → P a b) → OneByOne P xs ys
+one_zipped P at [] [] e go = tt
+one_zipped P at [] (y ∷ ys) e go = absurd (omega arith)
+one_zipped P at (x ∷ xs) [] e go = absurd (omega arith)
+one_zipped P at (x ∷ xs) (y ∷ ys) e go = (go x y (inl (refl, refl)), one_zipped P (suc at) xs ys (omega arith) (λ a b h. go a b (inr h)))
 
-zipped_one : (P : ℤ → ℤ → Type 0) (xs ys : List ℤ) → OneByOne P xs ys → (a b : ℤ)
-    → IsOneOf a b (zipped xs ys) → P a b
-zipped_one P [] ys h a b i = absurd i
-zipped_one P (x ∷ xs) [] h a b i = absurd i
-zipped_one P (x ∷ xs) (y ∷ ys) h a b (inl e) = subst (λ z. P z b) (sym e.0) (subst (P x) (sym e.1) h.0)
-zipped_one P (x ∷ xs) (y ∷ ys) h a b (inr i) = zipped_one P xs ys h.1 a b i
+zipped_one : (P : ℤ → ℤ → Type 0) (at : ℕ) (xs ys : List ℤ) → OneByOne P xs ys → (a b : ℤ)
+    → IsOneOf a b (zipped at xs ys) → P a b
+zipped_one P at [] ys h a b i = absurd i
+zipped_one P at (x ∷ xs) [] h a b i = absurd i
+zipped_one P at (x ∷ xs) (y ∷ ys) h a b (inl e) = subst (λ z. P z b) (sym e.0) (subst (P x) (sym e.1) h.0)
+zipped_one P at (x ∷ xs) (y ∷ ys) h a b (inr i) = zipped_one P (suc at) xs ys h.1 a b i
 
-zipped_ids : (n m : ℕ) (xs ys : List ℤ) → AreIds n xs → AreIds m ys → (a b : ℤ)
-    → IsOneOf a b (zipped xs ys) → IsId n a × IsId m b
-zipped_ids n m [] ys h k a b i = absurd i
-zipped_ids n m (x ∷ xs) [] h k a b i = absurd i
-zipped_ids n m (x ∷ xs) (y ∷ ys) h k a b (inl e) = (subst (IsId n) (sym e.0) h.0, subst (IsId m) (sym e.1) k.0)
-zipped_ids n m (x ∷ xs) (y ∷ ys) h k a b (inr i) = zipped_ids n m xs ys h.1 k.1 a b i
+zipped_ids : (n m at : ℕ) (xs ys : List ℤ) → AreIds n xs → AreIds m ys → (a b : ℤ)
+    → IsOneOf a b (zipped at xs ys) → IsId n a × IsId m b
+zipped_ids n m at [] ys h k a b i = absurd i
+zipped_ids n m at (x ∷ xs) [] h k a b i = absurd i
+zipped_ids n m at (x ∷ xs) (y ∷ ys) h k a b (inl e) = (subst (IsId n) (sym e.0) h.0, subst (IsId m) (sym e.1) k.0)
+zipped_ids n m at (x ∷ xs) (y ∷ ys) h k a b (inr i) = zipped_ids n m (suc at) xs ys h.1 k.1 a b i
 
 got_at : (front ys : List ℤ) (y : ℤ) → slice_get (front ++ y ∷ ys) (length front) ≡ Some y
 got_at [] ys y = refl
@@ -116,18 +116,20 @@ length_push (x ∷ front) y = ap suc (length_push front y)
 
 pairs_zipped : (front xs ys : List ℤ) (names : List (List ℕ)) → length xs ≡ length ys
     → length names ≡ length xs
-    → pairs_by xs (front ++ ys) (somes (length front) names) ≡ zipped xs ys
+    → pairs_by 0 (length front) xs (front ++ ys) (somes (length front) names) ≡ zipped (length front) xs ys
 pairs_zipped front [] ys names e n = refl
 pairs_zipped front (x ∷ xs) [] names e n = absurd (omega arith)
 pairs_zipped front (x ∷ xs) (y ∷ ys) [] e n = absurd (omega arith)
 pairs_zipped front (x ∷ xs) (y ∷ ys) (m ∷ names) e n =
-    let rest = pairs_by xs (front ++ y ∷ ys) (somes (suc (length front)) names) in
-    let same : rest ≡ zipped xs ys =
-    ap (λ z. pairs_by xs z (somes (suc (length front)) names)) (sym (append_assoc front (y ∷ []) ys))
-    ∙ ap (λ k. pairs_by xs ((front ++ y ∷ []) ++ ys) (somes k names)) (sym (length_push front y))
-    ∙ pairs_zipped (front ++ y ∷ []) xs ys names (omega arith) (omega arith) in
-    ap (λ o. pair_at x (front ++ y ∷ ys) (Some (length front)) ++ o) same
-    ∙ ap (λ o. pair_with x o ++ zipped xs ys) (got_at front ys y)
+    let at = length front in
+    let rest = pairs_by 0 (suc at) xs (front ++ y ∷ ys) (somes (suc at) names) in
+    let same : rest ≡ zipped (suc at) xs ys =
+    ap (λ z. pairs_by 0 (suc at) xs z (somes (suc at) names)) (sym (append_assoc front (y ∷ []) ys))
+    ∙ ap (λ k. pairs_by 0 k xs ((front ++ y ∷ []) ++ ys) (somes k names)) (sym (length_push front y))
+    ∙ pairs_zipped (front ++ y ∷ []) xs ys names (omega arith) (omega arith)
+    ∙ ap (λ k. zipped k xs ys) (length_push front y) in
+    ap (λ o. pair_at 0 at x (front ++ y ∷ ys) (Some at) ++ o) same
+    ∙ ap (λ o. pair_with 0 at x o ++ zipped (suc at) xs ys) (got_at front ys y)
 
 numbered_many : (before labels : List ℕ) → length (numbered before labels) ≡ length labels
 numbered_many before [] = refl
@@ -142,15 +144,15 @@ kind_is n m e = grind (arith, nat_tests)
 -- where the labels are the same, what both hold is matched one by one
 held_zipped : (f g : ℤ → ℕ) (b c : NodeBody) → kind_of b ≡ kind_of c
     → key_labels f b ≡ key_labels g c
-    → (length (held_values b) ≡ length (held_values c)) × (held_pairs f g b c ≡ zipped (held_values b) (held_values c))
+    → (length (held_values b) ≡ length (held_values c)) × (held_pairs f g 0 b c ≡ zipped 0 (held_values b) (held_values c))
 held_zipped f g b c k e =
     let sized : length (held_values b) ≡ length (held_values c) = sym (as_many f b) ∙ ap length e ∙ as_many g c in
     let names = numbered [] (key_labels g c) in
     let many : length names ≡ length (held_values b) = numbered_many [] (key_labels g c) ∙ as_many g c ∙ sym sized in (
       sized,
-      ap (λ t. cond t (pairs_by (held_values b) (held_values c) (matched (key_labels f b) (key_labels g c))) []) (kind_test (kind_of b) (kind_of c) k)
-          ∙ ap (λ l. pairs_by (held_values b) (held_values c) (matched l (key_labels g c))) e
-          ∙ ap (λ ps. pairs_by (held_values b) (held_values c) ps) (matched_itself (key_labels g c))
+      ap (λ t. cond t (pairs_by 0 0 (held_values b) (held_values c) (matched (key_labels f b) (key_labels g c))) []) (kind_test (kind_of b) (kind_of c) k)
+          ∙ ap (λ l. pairs_by 0 0 (held_values b) (held_values c) (matched l (key_labels g c))) e
+          ∙ ap (λ ps. pairs_by 0 0 (held_values b) (held_values c) ps) (matched_itself (key_labels g c))
           ∙ pairs_zipped [] (held_values b) (held_values c) names sized many,
     )
 
@@ -241,96 +243,101 @@ no_front : {A : Type 0} (xs ys : List A) → xs ++ ys ≡ [] → (xs ≡ []) × 
 no_front [] ys e = (refl, e)
 no_front (x ∷ xs) ys e = absurd (cc)
 
-no_cause : (p : Pair) (o : Option yaml_node_cause_t) → told_cause p o ≡ [] → o ≡ None
-no_cause p None e = refl
-no_cause p (Some c) e = absurd (cc)
+no_cause : (n : ℕ) (p : Pair) (o : Option yaml_node_cause_t) → told_cause n p o ≡ [] → o ≡ None
+no_cause n p None e = refl
+no_cause n p (Some c) e = absurd (cc)
 
 in_order_by : (b : Bool) → order_cause b ≡ None → b ≡ true
 in_order_by true e = refl
 in_order_by false e = absurd (cc)
 
-held_same : (p : Pair) (own others : List ℕ) → told_held p own others ≡ [] → own ≡ others
-held_same p own others e =
-    let one = no_front (told_cause p (order_cause (in_order 0 (matched own others))) ++ told_alone p OnlyFirst 0 (matched own others)) (told_alone p OnlySecond 0 (matched others own)) e in
-    let two = no_front (told_cause p (order_cause (in_order 0 (matched own others)))) (told_alone p OnlyFirst 0 (matched own others)) one.0 in
-    same_labels p OnlyFirst OnlySecond own others (in_order_by (in_order 0 (matched own others)) (no_cause p (order_cause (in_order 0 (matched own others))) two.0)) two.1 one.1
+held_same : (n : ℕ) (p : Pair) (own others : List ℕ) → told_held n p own others ≡ [] → own ≡ others
+held_same n p own others e =
+    let one = no_front (told_cause n p (order_cause (in_order 0 (matched own others))) ++ told_alone n p OnlyFirst 0 (matched own others)) (told_alone n p OnlySecond 0 (matched others own)) e in
+    let two = no_front (told_cause n p (order_cause (in_order 0 (matched own others)))) (told_alone n p OnlyFirst 0 (matched own others)) one.0 in
+    same_labels n p OnlyFirst OnlySecond own others (in_order_by (in_order 0 (matched own others)) (no_cause n p (order_cause (in_order 0 (matched own others))) two.0)) two.1 one.1
 
-same_held : (p : Pair) (labels : List ℕ) → told_held p labels labels ≡ []
-same_held p labels =
+same_held : (n : ℕ) (p : Pair) (labels : List ℕ) → told_held n p labels labels ≡ []
+same_held n p labels =
     let names = numbered [] labels in
-    ap (λ z. told_cause p (order_cause (in_order 0 z)) ++ told_alone p OnlyFirst 0 z ++ told_alone p OnlySecond 0 z) (matched_itself labels)
-    ∙ ap (λ b. told_cause p (order_cause b) ++ told_alone p OnlyFirst 0 (somes 0 names) ++ told_alone p OnlySecond 0 (somes 0 names)) (somes_in_order 0 names)
-    ∙ ap (λ z. z ++ told_alone p OnlySecond 0 (somes 0 names)) (somes_not_alone p OnlyFirst 0 0 names)
-    ∙ somes_not_alone p OnlySecond 0 0 names
+    ap (λ z. told_cause n p (order_cause (in_order 0 z)) ++ told_alone n p OnlyFirst 0 z ++ told_alone n p OnlySecond 0 z) (matched_itself labels)
+    ∙ ap (λ b. told_cause n p (order_cause b) ++ told_alone n p OnlyFirst 0 (somes 0 names) ++ told_alone n p OnlySecond 0 (somes 0 names)) (somes_in_order 0 names)
+    ∙ ap (λ z. z ++ told_alone n p OnlySecond 0 (somes 0 names)) (somes_not_alone n p OnlyFirst 0 0 names)
+    ∙ somes_not_alone n p OnlySecond 0 0 names
+
+-- a pair of these numbers
+abbrev bare : ℤ → ℤ → Pair
+bare a b = record { first = a; second = b; holder = 0; place = 0 }
 
 -- two nodes of which nothing is reported seem so, and have the same labels
 abbrev TellsNothing : (ℤ → ℕ) → (ℤ → ℕ) → NodeBody → NodeBody → List ℕ → List ℕ → Type 0
 TellsNothing f g b c t u = Alike b c t u × (key_labels f b ≡ key_labels g c)
 
-untold : (f g : ℤ → ℕ) (nodes others : List Node) (a b : ℤ)
-    → told_of f g nodes others (record { first = a; second = b }) ≡ []
+untold : (f g : ℤ → ℕ) (nodes others : List Node) (n : ℕ) (a b : ℤ)
+    → told_of f g nodes others n (bare a b) ≡ []
     → TellsNothing f g (body_of_id nodes a) (body_of_id others b) (tag_of_id nodes a) (tag_of_id others b)
-untold f g nodes others a b e =
-    let p : Pair = record { first = a; second = b } in
+untold f g nodes others n a b e =
+    let p = bare a b in
     let x = body_of_id nodes a in
     let y = body_of_id others b in
-    let parts = no_front (told_cause p (own_cause x y (tag_of_id nodes a) (tag_of_id others b))) (cond (kind_of x == kind_of y) (told_held p (key_labels f x) (key_labels g y)) []) e in
-    let alike = cause_seem x y (tag_of_id nodes a) (tag_of_id others b) (no_cause p (own_cause x y (tag_of_id nodes a) (tag_of_id others b)) parts.0) in
-    let held : told_held p (key_labels f x) (key_labels g y) ≡ [] = subst (λ t. cond t (told_held p (key_labels f x) (key_labels g y)) [] ≡ []) (kind_test (kind_of x) (kind_of y) alike.0) parts.1 in
-    (alike, held_same p (key_labels f x) (key_labels g y) held)
+    let parts = no_front (told_cause n p (own_cause x y (tag_of_id nodes a) (tag_of_id others b))) (cond (kind_of x == kind_of y) (told_held n p (key_labels f x) (key_labels g y)) []) e in
+    let alike = cause_seem x y (tag_of_id nodes a) (tag_of_id others b) (no_cause n p (own_cause x y (tag_of_id nodes a) (tag_of_id others b)) parts.0) in
+    let held : told_held n p (key_labels f x) (key_labels g y) ≡ [] = subst (λ t. cond t (told_held n p (key_labels f x) (key_labels g y)) [] ≡ []) (kind_test (kind_of x) (kind_of y) alike.0) parts.1 in
+    (alike, held_same n p (key_labels f x) (key_labels g y) held)
 
-nothing_told : (f g : ℤ → ℕ) (nodes others : List Node) (p : Pair)
+nothing_told : (f g : ℤ → ℕ) (nodes others : List Node) (n : ℕ) (p : Pair)
     → TellsNothing f g (body_of_id nodes p.first) (body_of_id others p.second) (tag_of_id nodes p.first) (tag_of_id others p.second)
-    → told_of f g nodes others p ≡ []
-nothing_told f g nodes others p h =
+    → told_of f g nodes others n p ≡ []
+nothing_told f g nodes others n p h =
     let x = body_of_id nodes p.first in
     let y = body_of_id others p.second in
     let own = seem_cause x y (tag_of_id nodes p.first) (tag_of_id others p.second) h.0.0 h.0.1 h.0.2 in
-    ap (λ o. told_cause p o ++ cond (kind_of x == kind_of y) (told_held p (key_labels f x) (key_labels g y)) []) own
-    ∙ ap (λ t. cond t (told_held p (key_labels f x) (key_labels g y)) []) (kind_test (kind_of x) (kind_of y) h.0.0)
-    ∙ ap (λ l. told_held p l (key_labels g y)) h.1 ∙ same_held p (key_labels g y)
+    ap (λ o. told_cause n p o ++ cond (kind_of x == kind_of y) (told_held n p (key_labels f x) (key_labels g y)) []) own
+    ∙ ap (λ t. cond t (told_held n p (key_labels f x) (key_labels g y)) []) (kind_test (kind_of x) (kind_of y) h.0.0)
+    ∙ ap (λ l. told_held n p l (key_labels g y)) h.1 ∙ same_held n p (key_labels g y)
 
 -- ---- all pairs
 
-one_untold : (f g : ℤ → ℕ) (nodes others : List Node) (ps : List Pair)
-    → told_in f g nodes others ps ≡ [] → (a b : ℤ) → IsOneOf a b ps
-    → told_of f g nodes others (record { first = a; second = b }) ≡ []
-one_untold f g nodes others [] e a b h = absurd h
-one_untold f g nodes others (p ∷ ps) e a b h =
-    let parts = no_front (told_of f g nodes others p) (told_in f g nodes others ps) e in
+one_untold : (f g : ℤ → ℕ) (nodes others : List Node) (n : ℕ) (ps : List Pair)
+    → told_in f g nodes others n ps ≡ [] → (a b : ℤ) → IsOneOf a b ps
+    → (m : ℕ) × (told_of f g nodes others m (bare a b) ≡ [])
+one_untold f g nodes others n [] e a b h = absurd h
+one_untold f g nodes others n (p ∷ ps) e a b h =
+    let parts = no_front (told_of f g nodes others n p) (told_in f g nodes others (suc n) ps) e in
     elim h [
-      | inl i ↦ ap (λ z. told_of f g nodes others (record { first = z; second = b })) i.0 ∙ ap (λ z. told_of f g nodes others (record { first = p.first; second = z })) i.1 ∙ parts.0
-      | inr k ↦ one_untold f g nodes others ps parts.1 a b k
+      | inl i ↦ (n, ap (λ z. told_of f g nodes others n (bare z b)) i.0 ∙ ap (λ z. told_of f g nodes others n (bare p.first z)) i.1 ∙ parts.0)
+      | inr k ↦ one_untold f g nodes others (suc n) ps parts.1 a b k
     ]
 
-all_untold : (f g : ℤ → ℕ) (nodes others : List Node) (ps : List Pair)
-    → ((a b : ℤ) → IsOneOf a b ps → told_of f g nodes others (record { first = a; second = b }) ≡ [])
-    → told_in f g nodes others ps ≡ []
-all_untold f g nodes others [] go = refl
-all_untold f g nodes others (p ∷ ps) go =
-    ap (λ z. z ++ told_in f g nodes others ps) (go p.first p.second (inl (refl, refl)))
-    ∙ all_untold f g nodes others ps (λ a b h. go a b (inr h))
+all_untold : (f g : ℤ → ℕ) (nodes others : List Node) (n : ℕ) (ps : List Pair)
+    → ((m : ℕ) (a b : ℤ) → IsOneOf a b ps → told_of f g nodes others m (bare a b) ≡ [])
+    → told_in f g nodes others n ps ≡ []
+all_untold f g nodes others n [] go = refl
+all_untold f g nodes others n (p ∷ ps) go =
+    ap (λ z. z ++ told_in f g nodes others (suc n) ps) (go n p.first p.second (inl (refl, refl)))
+    ∙ all_untold f g nodes others (suc n) ps (λ m a b h. go m a b (inr h))
 
 module _ (nodes others : List Node) (f g : ℤ → ℕ) (tell : TellBoth nodes others f g)
     (pairs : List Pair) (compared : (a b : ℤ) → IsOneOf a b pairs ↔ IsCompared nodes others f g a b)
     (sound : AreSound (length nodes) nodes) (other_sound : AreSound (length others) others) where
-  untold_equal : told_in f g nodes others pairs ≡ [] → (n : ℕ) (a b : ℤ) → IsOneOf a b pairs
+  untold_equal : told_in f g nodes others 0 pairs ≡ [] → (n : ℕ) (a b : ℤ) → IsOneOf a b pairs
       → EqualTo n nodes others a b
   unfolding EqualTo ComparedAt
   untold_equal e zero a b h = tt
   untold_equal e (suc n) a b h =
       let x = body_of_id nodes a in
       let y = body_of_id others b in
-      let none = untold f g nodes others a b (one_untold f g nodes others pairs e a b h) in
+      let one = one_untold f g nodes others 0 pairs e a b h in
+      let none = untold f g nodes others one.0 a b one.1 in
       let s = held_sound (length nodes) x (body_sound (length nodes) nodes a sound) in
       let o = held_sound (length others) y (body_sound (length others) others b other_sound) in
       let agree : (c d : ℤ) → IsId (length nodes) c → IsId (length others) d → f c ≡ g d → Agree nodes others c d = λ c d v w. (tell.across c d v w).0 in
       let held = held_zipped f g x y none.0.0 none.1 in (
         record { kind = none.0.0; text = none.0.1; tag = none.0.2 },
         keys_agree f g (Agree nodes others) (length nodes) (length others) agree x y none.0.0 s.0 o.0 none.1,
-        one_zipped (EqualTo n nodes others) (held_values x) (held_values y) held.0 (λ c d i.
+        one_zipped (EqualTo n nodes others) 0 (held_values x) (held_values y) held.0 (λ c d i.
             elim (cases_eq (f c) (g d)) [
-              | inl k ↦ let v = zipped_ids (length nodes) (length others) (held_values x) (held_values y) s.1 o.1 c d i in
+              | inl k ↦ let v = zipped_ids (length nodes) (length others) 0 (held_values x) (held_values y) s.1 o.1 c d i in
                   let m = agree c d v.0 v.1 k in agree_equal nodes others m.0 c d m.1 n
               | inr ne ↦ let above = (compared a b).0 h in
                   untold_equal e n c d ((compared c d).1 (suc above.0, (a, b, above.1, subst (IsOneOf c d) (sym held.1) i, ne)))
@@ -357,20 +364,20 @@ module _ (nodes others : List Node) (f g : ℤ → ℕ) (tell : TellBoth nodes o
       let y = body_of_id others d in
       let none = equal_nothing c d up in
       let zip = held_zipped f g x y none.0.0 none.1 in
-      zipped_one (EqualTo n nodes others) (held_values x) (held_values y) (up (suc n)).2 a b (subst (IsOneOf a b) zip.1 held)
+      zipped_one (EqualTo n nodes others) 0 (held_values x) (held_values y) (up (suc n)).2 a b (subst (IsOneOf a b) zip.1 held)
 
-  pub told_equal : (told_in f g nodes others pairs ≡ []) ↔ AreEqual nodes others
+  pub told_equal : (told_in f g nodes others 0 pairs ≡ []) ↔ AreEqual nodes others
   unfolding ComparedAt
   told_equal = (
     λ e n. untold_equal e n (pos 1) (pos 1) ((compared (pos 1) (pos 1)).1 (0, (refl, refl))),
-    λ h. all_untold f g nodes others pairs (λ a b i. let c = (compared a b).0 i in
-        nothing_told f g nodes others (record { first = a; second = b }) (equal_nothing a b (equal_down h c.0 a b c.1))),
+    λ h. all_untold f g nodes others 0 pairs (λ m a b i. let c = (compared a b).0 i in
+        nothing_told f g nodes others m (bare a b) (equal_nothing a b (equal_down h c.0 a b c.1))),
   )
 
 -- The list is empty exactly where the documents are equal.
-pub none_told : (nodes others : List Node) (told : List yaml_node_difference_t)
+pub none_told : (nodes others : List Node) (pairs : List Pair) (told : List yaml_node_difference_t)
     → AreSound (length nodes) nodes → AreSound (length others) others
-    → AreDifferences nodes others told → (told ≡ []) ↔ AreEqual nodes others
-none_told nodes others told s o d =
-    let r = told_equal nodes others d.first d.second d.tell d.pairs d.compared s o in
+    → AreDifferences nodes others pairs told → (told ≡ []) ↔ AreEqual nodes others
+none_told nodes others pairs told s o d =
+    let r = told_equal nodes others d.first d.second d.tell pairs d.compared s o in
     (λ e. r.0 (sym d.told ∙ e), λ h. d.told ∙ r.1 h)

@@ -19,7 +19,7 @@ use Rattle.yaml_emit_graph.specs.Numbers.{counted}
 use Rattle.yaml_round_documents.specs.Same.{Agree, AreSame}
 use Rattle.yaml_round_documents.specs.Shapes.{Shapes}
 use Rattle.yaml_round_documents.specs.declared.ranks.Ranks.{Ranks}
-use Rattle.yaml_round_documents.specs.Ranks.{IsIn, all_ranked, shape_of, holds_ranked, AreBothRanked, AreDone, AreRanks, IsRanking, KeepShapes, IsJudged, AreJudgedFrom, Ranked, Tells, TellBoth, IsWithin, natural, label_of}
+use Rattle.yaml_round_documents.specs.Ranks.{all_ranked, shape_of, holds_ranked, AreBothRanked, AreDone, AreRanks, IsRanking, KeepShapes, IsJudged, AreJudgedFrom, Ranked, Tells, TellBoth, IsWithin, natural, label_of}
 use Rattle.yaml_round_documents.proofs.Ranking.{Gets, agree, in_ranked, one_rank, ranks_more, same_rank}
 
 -- ---- labels

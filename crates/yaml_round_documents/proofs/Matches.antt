@@ -7,7 +7,7 @@ use Rattle.std.proofs.lemmas.Bool.Decides.{nat_tests}
 use Rattle.std.proofs.lemmas.Map.Lookups.{exact_bytes}
 use Rattle.yaml_round_documents.proofs.Labels.{tied}
 use Rattle.yaml_round_documents.specs.declared.difference.yaml_node_cause_t.{yaml_node_cause_t}
-use Rattle.yaml_round_documents.specs.declared.walk.Pair.{Pair}
+use Rattle.yaml_round_documents.specs.declared.walk.yaml_node_match_t.{yaml_node_match_t as Pair}
 use Rattle.yaml_round_documents.specs.Matching.{in_order, is_equal, matched, numbered, place_from, times}
 use Rattle.yaml_round_documents.specs.Differences.{told_alone}
 use Rattle.yaml_round_documents.proofs.Numbering.{times_push}
@@ -222,18 +222,18 @@ pub somes_in_order : (at : ℕ) (xs : Names) → in_order at (somes at xs) ≡ t
 somes_in_order at [] = refl
 somes_in_order at (x ∷ xs) = ap (λ b. cond b false (in_order (suc at) (somes (suc at) xs))) (lt_same at) ∙ somes_in_order (suc at) xs
 
-pub somes_not_alone : (p : Pair) (c : yaml_node_cause_t) (k at : ℕ) (xs : Names)
-    → told_alone p c k (somes at xs) ≡ []
-somes_not_alone p c k at [] = refl
-somes_not_alone p c k at (x ∷ xs) = somes_not_alone p c (suc k) (suc at) xs
+pub somes_not_alone : (i : ℕ) (p : Pair) (c : yaml_node_cause_t) (k at : ℕ) (xs : Names)
+    → told_alone i p c k (somes at xs) ≡ []
+somes_not_alone i p c k at [] = refl
+somes_not_alone i p c k at (x ∷ xs) = somes_not_alone i p c (suc k) (suc at) xs
 
 -- ---- where none is alone, all are found
 
-not_alone_found : (p : Pair) (c : yaml_node_cause_t) (at : ℕ) (ps : List (Option ℕ))
-    → told_alone p c at ps ≡ [] → AllFound ps
-not_alone_found p c at [] e = tt
-not_alone_found p c at (None ∷ ps) e = absurd (cc)
-not_alone_found p c at (Some n ∷ ps) e = not_alone_found p c (suc at) ps e
+not_alone_found : (i : ℕ) (p : Pair) (c : yaml_node_cause_t) (at : ℕ) (ps : List (Option ℕ))
+    → told_alone i p c at ps ≡ [] → AllFound ps
+not_alone_found i p c at [] e = tt
+not_alone_found i p c at (None ∷ ps) e = absurd (cc)
+not_alone_found i p c at (Some n ∷ ps) e = not_alone_found i p c (suc at) ps e
 
 all_in : (xs ys : Names) → AllFound (places 0 xs ys) → AllIn ys xs
 all_in xs [] f y i = absurd i
@@ -247,10 +247,10 @@ all_in xs (z ∷ ys) f y i =
     ] refl f
 
 -- where all are matched in order, the labels are the same
-pub same_labels : (p : Pair) (c d : yaml_node_cause_t) (own others : List ℕ)
-    → in_order 0 (matched own others) ≡ true → told_alone p c 0 (matched own others) ≡ []
-    → told_alone p d 0 (matched others own) ≡ [] → own ≡ others
-same_labels p c d own others o a b =
+pub same_labels : (i : ℕ) (p : Pair) (c d : yaml_node_cause_t) (own others : List ℕ)
+    → in_order 0 (matched own others) ≡ true → told_alone i p c 0 (matched own others) ≡ []
+    → told_alone i p d 0 (matched others own) ≡ [] → own ≡ others
+same_labels i p c d own others o a b =
     labels_back [] [] own others (same_names 0 (numbered [] own) (numbered [] others) (numbered_distinct [] others) o
-    (not_alone_found p c 0 (matched own others) a)
-    (all_in (numbered [] own) (numbered [] others) (not_alone_found p d 0 (matched others own) b)))
+    (not_alone_found i p c 0 (matched own others) a)
+    (all_in (numbered [] own) (numbered [] others) (not_alone_found i p d 0 (matched others own) b)))

@@ -9,7 +9,7 @@ use Rattle.std.proofs.lemmas.List.{map-append, length-map, length-take-le, take_
 use Rattle.yaml_round_documents.specs.Shapes.{Shapes}
 use Rattle.yaml_round_documents.proofs.Labels.{tied}
 use Rattle.yaml_round_documents.specs.declared.matching.Numbered.{Numbered}
-use Rattle.yaml_round_documents.specs.Matching.{ArePlaces, is_equal, matched, name_of, numbered, place_from, put_first}
+use Rattle.yaml_round_documents.specs.Matching.{ArePlaces, is_equal, matched, name_of, numbered, place_from, places_in, put_first}
 
 -- the first, or else the other
 abbrev or_else : Option ℕ → Option ℕ → Option ℕ
@@ -89,11 +89,16 @@ map_by : (f g : List ℕ → Option ℕ) → ((x : List ℕ) → f x ≡ g x) �
 map_by f g h [] = refl
 map_by f g h (n ∷ ns) = λ i. h (name_of n) i ∷ map_by f g h ns i
 
-pub matched_by : (own others : List ℕ) (names other_names : List Numbered) (places : Shapes)
+pub found_by : (names others : List Numbered) (places : Shapes) (found : List (Option ℕ))
+    → ArePlaces (map name_of others) places
+    → found ≡ map (λ (n : Numbered). map.get places (name_of n)) names
+    → found ≡ places_in (map name_of others) (map name_of names)
+found_by names others places found p e =
+    e ∙ map_by (map.get places) (λ x. place_from 0 x (map name_of others)) p names
+
+pub matched_by : (own others : List ℕ) (names other_names : List Numbered)
     (found : List (Option ℕ)) → map name_of names ≡ numbered [] own
-    → map name_of other_names ≡ numbered [] others → ArePlaces (map name_of other_names) places
-    → found ≡ map (λ (n : Numbered). map.get places (name_of n)) names → found ≡ matched own others
-matched_by own others names other_names places found n m p e =
-    let f : List ℕ → Option ℕ = λ x. place_from 0 x (map name_of other_names) in
-    e ∙ map_by (map.get places) f p names ∙ ap (map f) n
-    ∙ ap (λ z. map (λ x. place_from 0 x z) (numbered [] own)) m
+    → map name_of other_names ≡ numbered [] others
+    → found ≡ places_in (map name_of other_names) (map name_of names) → found ≡ matched own others
+matched_by own others names other_names found n m e =
+    e ∙ ap (λ z. places_in z (map name_of names)) m ∙ ap (places_in (numbered [] others)) n

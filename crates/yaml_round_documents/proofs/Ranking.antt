@@ -1,6 +1,6 @@
 -- Ranks: nodes have one exactly where they agree with all that they hold.
 use Rattle.std.proofs.Common.{◌≡◌, ℕ, zero, suc, ◌+◌, ◌<◌, ◌≤◌, ℤ, pos, negsuc, true, List, [], ◌∷◌, ◌++◌, length, map, get_or, Some, refl, sym, subst, ◌∙◌, ap, inl, inr, arith}
-use Rattle.std.specs.Prelude.{◌==◌, ◌&&◌, ◌⊎◌, not, set}
+use Rattle.std.specs.Prelude.{◌%◌, ◌==◌, ◌&&◌, ◌⊎◌, not, set}
 use Rattle.std.proofs.lemmas.Bool.{and_parts, cases_eq}
 use Rattle.std.proofs.lemmas.Bool.Decides.{nat_tests}
 use Rattle.std.proofs.lemmas.List.{length-append, get_or-set_same, get_or-set_other, length-set}
@@ -11,7 +11,7 @@ use Rattle.yaml_parse_model.specs.Documents.{IsId}
 use Rattle.yaml_emit_graph.specs.Graph.{child_ids, body_of_id, tag_of_id, number_at}
 use Rattle.yaml_round_documents.specs.Same.{text_of, LookAlike, OneByOne, AgreeWithin}
 use Rattle.yaml_round_documents.specs.Shapes.{Shapes}
-use Rattle.yaml_round_documents.specs.Ranks.{IsIn, kind_of, look, shape_of, all_ranked, holds_ranked, AreRanks, IsJudged}
+use Rattle.yaml_round_documents.specs.Ranks.{IsIn, kind_of, look, number_from, shape_of, all_ranked, holds_ranked, AreRanks, IsJudged}
 
 -- ---- shapes
 
@@ -72,7 +72,7 @@ same_shape : (ranks more : List ℕ) (nodes others : List Node) (a b : ℤ)
     → shape_of ranks nodes a ≡ shape_of more others b
 same_shape ranks more nodes others a b h e =
     let k : kind_of (body_of_id nodes a) ≡ kind_of (body_of_id others b) = kind_from_type _ _ h.kind in
-    λ i. k i ∷ length (h.text i) ∷ length (h.tag i) ∷ (h.text i ++ h.tag i ++ e i)
+    λ i. number_from 0 (h.text i) % 0x100000000 ∷ k i ∷ length (h.text i) ∷ length (h.tag i) ∷ (h.text i ++ h.tag i ++ e i)
 
 -- ---- lists of numbers
 

@@ -13,7 +13,8 @@ use Rattle.yaml_parse_model.specs.declared.yaml_node_pair_t.{yaml_node_pair_t}
 use Rattle.yaml_parse_model.specs.Nodes.{Node}
 use Rattle.yaml_emit_graph.specs.Graph.{body_of_id}
 use Rattle.yaml_round_documents.specs.Same.{AgreeWithin, AreSame}
-use Rattle.yaml_round_documents.specs.Texts.{IfApart, NoneIsTold, key_number, key_text, number_from, number_with}
+use Rattle.yaml_round_documents.specs.Texts.{IfApart, NoneIsTold, key_number, key_text}
+use Rattle.yaml_round_documents.specs.Ranks.{number_from, number_with}
 use Rattle.yaml_round_documents.specs.Telling.{AreSameKeys, AreToldBehind, AreToldIn, IsFirstSame, keys_of, pair_keys}
 use Rattle.yaml_round_documents.proofs.Meeting.{keys_taken, keys_all, node_here, none_from}
 

@@ -1,5 +1,5 @@
 -- The pairs that are compared.
-use Rattle.std.proofs.Common.{◌≡◌, ℕ, zero, suc, ◌+◌, ◌<◌, ◌≤◌, ℤ, pos, negsuc, List, [], ◌∷◌, ◌++◌, length, get_or, drop, Option, Some, None, refl, sym, subst, ◌∙◌, ap, inl, inr, arith, append_assoc, append-nil}
+use Rattle.std.proofs.Common.{◌≡◌, ℕ, zero, suc, ◌+◌, ◌<◌, ◌≤◌, ℤ, pos, negsuc, List, [], ◌∷◌, ◌++◌, length, get_or, drop, Option, Some, None, refl, sym, subst, ◌∙◌, ap, inl, inr, arith, append_assoc, append-nil, add-one}
 use Rattle.std.specs.Prelude.{◌⊎◌, ◌≤ℤ◌, slice_get}
 use Rattle.std.specs.FinMap as map
 use Rattle.std.specs.FinMap.{get-empty}
@@ -11,9 +11,9 @@ use Rattle.yaml_round_documents.specs.Shapes.{Shapes}
 use Rattle.yaml_round_documents.specs.Ranks.{natural}
 use Rattle.yaml_round_documents.specs.declared.ranks.BothLabels.{BothLabels}
 use Rattle.yaml_round_documents.proofs.Labels.{inserted_cases, inserted_has, inserted_keeps}
-use Rattle.yaml_round_documents.specs.declared.walk.Pair.{Pair}
+use Rattle.yaml_round_documents.specs.declared.walk.yaml_node_match_t.{yaml_node_match_t as Pair}
 use Rattle.yaml_round_documents.specs.declared.walk.Walk.{Walk}
-use Rattle.yaml_round_documents.specs.Pairs.{IsOneOf, NoneTwice, listed, pair_at, pair_with, pairs_by}
+use Rattle.yaml_round_documents.specs.Pairs.{IsAmong, IsOneOf, NoneTwice, listed, pair_at, pair_with, pairs_by}
 use Rattle.yaml_round_documents.specs.Steps.{AreNumbered, AreNumbers, IsWalk, IsWalkOf, Meets, Pushes, PushesOn, first_of, pair_name, second_of}
 
 -- ---- one of some pairs
@@ -32,6 +32,21 @@ pub either : (a b : ℤ) (ps qs : List Pair) → IsOneOf a b (ps ++ qs)
 either a b [] qs h = inr h
 either a b (p ∷ ps) qs (inl e) = inl (inl e)
 either a b (p ∷ ps) qs (inr h) = elim (either a b ps qs h) [ inl k ↦ inl (inr k) | inr k ↦ inr k ]
+
+pub among_front : (p : Pair) (ps qs : List Pair) → IsAmong p ps → IsAmong p (ps ++ qs)
+among_front p [] qs h = absurd h
+among_front p (q ∷ ps) qs (inl e) = inl e
+among_front p (q ∷ ps) qs (inr h) = inr (among_front p ps qs h)
+
+among_behind : (p : Pair) (ps qs : List Pair) → IsAmong p qs → IsAmong p (ps ++ qs)
+among_behind p [] qs h = h
+among_behind p (q ∷ ps) qs h = inr (among_behind p ps qs h)
+
+pub among_either : (p : Pair) (ps qs : List Pair) → IsAmong p (ps ++ qs)
+    → IsAmong p ps ⊎ IsAmong p qs
+among_either p [] qs h = inr h
+among_either p (q ∷ ps) qs (inl e) = inl (inl e)
+among_either p (q ∷ ps) qs (inr h) = elim (among_either p ps qs h) [ inl k ↦ inl (inr k) | inr k ↦ inr k ]
 
 twice_push : (ps : List Pair) (p : Pair) → NoneTwice ps → (IsOneOf p.first p.second ps → ⊥)
     → NoneTwice (ps ++ p ∷ [])
@@ -126,6 +141,7 @@ none_pushed : (f g : ℤ → ℕ) (pairs : List Pair) → Pushes f g [] pairs pa
 none_pushed f g pairs = record {
   added = [];
   is = sym (append-nil pairs);
+  among = λ p h. absurd h;
   sound = λ a b h. absurd h;
   whole = λ a b h n. absurd h;
 }
@@ -140,6 +156,7 @@ pushes_same labels p w h e = (
   record {
     added = [];
     is = sym (append-nil w.pairs.items);
+    among = λ q k. absurd k;
     sound = λ a b k. absurd k;
     whole = λ a b k n. elim k [
       | inl i ↦ absurd (n (ap (first_of labels) i.0 ∙ e ∙ ap (second_of labels) (sym i.1)))
@@ -154,6 +171,7 @@ met_pushes : (f g : ℤ → ℕ) (p : Pair) (old new : List Pair) → (f p.first
 met_pushes f g p old new ne (inl k) = record {
   added = [];
   is = k.0 ∙ sym (append-nil old);
+  among = λ q h. absurd h;
   sound = λ a b h. absurd h;
   whole = λ a b h n. elim h [
     | inl e ↦ subst (IsOneOf a b) (sym k.0) (subst (λ z. IsOneOf a z old) (sym e.1) (subst (λ z. IsOneOf z p.second old) (sym e.0) k.1))
@@ -163,6 +181,7 @@ met_pushes f g p old new ne (inl k) = record {
 met_pushes f g p old new ne (inr e) = record {
   added = p ∷ [];
   is = e;
+  among = λ q h. h;
   sound = λ a b h. elim h [
     | inl i ↦ (inl i, λ s. ne (ap f (sym i.0) ∙ s ∙ ap g i.1))
     | inr z ↦ absurd z
@@ -179,6 +198,10 @@ both_push : (f g : ℤ → ℕ) (ps qs old now new : List Pair) → Pushes f g p
 both_push f g ps qs old now new h k = record {
   added = h.added ++ k.added;
   is = k.is ∙ ap (λ z. z ++ k.added) h.is ∙ append_assoc old h.added k.added;
+  among = λ p one. elim (among_either p h.added k.added one) [
+    | inl l ↦ among_front p ps qs (h.among p l)
+    | inr r ↦ among_behind p ps qs (k.among p r)
+  ];
   sound = λ a b one. elim (either a b h.added k.added one) [
     | inl l ↦ let s = h.sound a b l in (in_front a b ps qs s.0, s.1)
     | inr r ↦ let s = k.sound a b r in (behind a b ps qs s.0, s.1)
@@ -203,11 +226,11 @@ number_here [] at d h w = absurd (omega arith)
 number_here (x ∷ ids) zero d h w = h.0
 number_here (x ∷ ids) (suc at) d h w = number_here ids at d h.1 (omega arith)
 
-one_numbered : (a : ℤ) (others : List ℤ) (o : Option ℕ) → pos 1 ≤ℤ a → AreNumbers others
-    → AreNumbered (pair_at a others o)
-one_numbered a others None v h = λ c d i. absurd i
-one_numbered a others (Some at) v h =
-    elim (slice_get others at) as (λ o. slice_get others at ≡ o → AreNumbered (pair_with a o)) [
+one_numbered : (n k : ℕ) (a : ℤ) (others : List ℤ) (o : Option ℕ) → pos 1 ≤ℤ a → AreNumbers others
+    → AreNumbered (pair_at n k a others o)
+one_numbered n k a others None v h = λ c d i. absurd i
+one_numbered n k a others (Some at) v h =
+    elim (slice_get others at) as (λ o. slice_get others at ≡ o → AreNumbered (pair_with n k a o)) [
       | None ↦ λ e c d i. absurd i
       | Some b ↦ λ e c d i. elim i [
         | inl s ↦ (subst (λ z. pos 1 ≤ℤ z) (sym s.0) v, subst (λ z. pos 1 ≤ℤ z) (sym s.1) (got_number others at h b e))
@@ -226,55 +249,61 @@ not_got [] at w = refl
 not_got (x ∷ xs) zero w = absurd (omega arith)
 not_got (x ∷ xs) (suc at) w = not_got xs at (omega arith)
 
-pub partner_got : (a d : ℤ) (others : List ℤ) (at : ℕ) → at < length others
-    → record { first = a; second = get_or others at d } ∷ [] ≡ pair_at a others (Some at)
-partner_got a d others at w = ap (pair_with a) (got others at d w)
+pub partner_got : (n k : ℕ) (a d : ℤ) (others : List ℤ) (at : ℕ) → at < length others
+    → record { first = a; second = get_or others at d; holder = n; place = k } ∷ []
+    ≡ pair_at n k a others (Some at)
+partner_got n k a d others at w = ap (pair_with n k a) (got others at d w)
 
-pub partner_not_got : (a : ℤ) (others : List ℤ) (at : ℕ) → length others ≤ at
-    → [] ≡ pair_at a others (Some at)
-partner_not_got a others at w = ap (pair_with a) (not_got others at w)
+pub partner_not_got : (n k : ℕ) (a : ℤ) (others : List ℤ) (at : ℕ) → length others ≤ at
+    → [] ≡ pair_at n k a others (Some at)
+partner_not_got n k a others at w = ap (pair_with n k a) (not_got others at w)
 
 -- the first ones were pushed
-pub record PushedTo (labels : BothLabels) (own others : List ℤ) (partners : List (Option ℕ))
+pub record PushedTo (labels : BothLabels) (number : ℕ) (own others : List ℤ) (partners : List (Option ℕ))
     (at : ℕ) (old now : Walk) : Type 0 where
   pub front : List Pair
-  pub is : front ++ pairs_by (drop at own) others (drop at partners) ≡ pairs_by own others partners
+  pub is : front ++ pairs_by number at (drop at own) others (drop at partners)
+      ≡ pairs_by number 0 own others partners
   pub pushes : PushesOn labels front old now
 
-pub pushed_none : (labels : BothLabels) (own others : List ℤ) (partners : List (Option ℕ))
-    (w : Walk) → IsWalk w → PushedTo labels own others partners 0 w w
-pushed_none labels own others partners w h = record { front = []; is = refl; pushes = pushes_none labels w h }
+pub pushed_none : (labels : BothLabels) (number : ℕ) (own others : List ℤ)
+    (partners : List (Option ℕ)) (w : Walk) → IsWalk w
+    → PushedTo labels number own others partners 0 w w
+pushed_none labels number own others partners w h = record { front = []; is = refl; pushes = pushes_none labels w h }
 
 -- the pair at a place is one of nodes
-pub numbered_here : (own others : List ℤ) (at : ℕ) (partner : Option ℕ) (o : Option Pair)
+pub numbered_here : (number : ℕ) (own others : List ℤ) (at : ℕ) (partner : Option ℕ) (o : Option Pair)
     → AreNumbers own → AreNumbers others → at < length own
-    → listed o ≡ pair_at (get_or own at (pos 0)) others partner → AreNumbered (listed o)
-numbered_here own others at partner o h k w e =
-    subst AreNumbered (sym e) (one_numbered (get_or own at (pos 0)) others partner (number_here own at (pos 0) h w) k)
+    → listed o ≡ pair_at number at (get_or own at (pos 0)) others partner → AreNumbered (listed o)
+numbered_here number own others at partner o h k w e =
+    subst AreNumbered (sym e) (one_numbered number at (get_or own at (pos 0)) others partner (number_here own at (pos 0) h w) k)
 
-pub pushed_next : (labels : BothLabels) (own others : List ℤ) (partners : List (Option ℕ)) (at : ℕ)
-    (e : Option ℕ) (o : Option Pair) (old now new : Walk)
-    → PushedTo labels own others partners at old now → at < length own
+pub pushed_next : (labels : BothLabels) (number : ℕ) (own others : List ℤ)
+    (partners : List (Option ℕ)) (at : ℕ) (e : Option ℕ) (o : Option Pair) (old now new : Walk)
+    → PushedTo labels number own others partners at old now → at < length own
     → length partners ≡ length own
-    → listed o ≡ pair_at (get_or own at (pos 0)) others (get_or partners at e)
-    → PushesOn labels (listed o) now new → PushedTo labels own others partners (at + 1) old new
-pushed_next labels own others partners at e o old now new h w n is k =
-    let one = pair_at (get_or own at (pos 0)) others (get_or partners at e) in
-    let rest = pairs_by (drop (at + 1) own) others (drop (at + 1) partners) in
+    → listed o ≡ pair_at number at (get_or own at (pos 0)) others (get_or partners at e)
+    → PushesOn labels (listed o) now new
+    → PushedTo labels number own others partners (at + 1) old new
+pushed_next labels number own others partners at e o old now new h w n is k =
+    let one = pair_at number at (get_or own at (pos 0)) others (get_or partners at e) in
+    let rest = pairs_by number (at + 1) (drop (at + 1) own) others (drop (at + 1) partners) in
     let f = first_of labels in
     let g = second_of labels in
     let push : Pushes f g one now.pairs.items new.pairs.items = subst (λ z. Pushes f g z now.pairs.items new.pairs.items) is k.1 in
     record {
       front = h.front ++ one;
       is = append_assoc h.front one rest
-          ∙ ap (λ z. h.front ++ pairs_by z others (get_or partners at e ∷ drop (at + 1) partners)) (sym (drop_more own at (pos 0) w))
-          ∙ ap (λ z. h.front ++ pairs_by (drop at own) others z) (sym (drop_more partners at e (omega arith))) ∙ h.is;
+          ∙ ap (λ z. h.front ++ (one ++ pairs_by number z (drop (at + 1) own) others (drop (at + 1) partners))) (add-one at)
+          ∙ ap (λ z. h.front ++ pairs_by number at z others (get_or partners at e ∷ drop (at + 1) partners)) (sym (drop_more own at (pos 0) w))
+          ∙ ap (λ z. h.front ++ pairs_by number at (drop at own) others z) (sym (drop_more partners at e (omega arith))) ∙ h.is;
       pushes = (k.0, both_push f g h.front one old.pairs.items now.pairs.items new.pairs.items h.pushes.1 push);
     }
 
-pub pushed_all : (labels : BothLabels) (own others : List ℤ) (partners : List (Option ℕ)) (at : ℕ)
-    (old now : Walk) → PushedTo labels own others partners at old now → length own ≤ at
-    → PushesOn labels (pairs_by own others partners) old now
-pushed_all labels own others partners at old now h w =
-    let e : pairs_by own others partners ≡ h.front = sym h.is ∙ ap (λ z. h.front ++ pairs_by z others (drop at partners)) (drop_all at own w) ∙ append-nil h.front in
+pub pushed_all : (labels : BothLabels) (number : ℕ) (own others : List ℤ)
+    (partners : List (Option ℕ)) (at : ℕ) (old now : Walk)
+    → PushedTo labels number own others partners at old now → length own ≤ at
+    → PushesOn labels (pairs_by number 0 own others partners) old now
+pushed_all labels number own others partners at old now h w =
+    let e : pairs_by number 0 own others partners ≡ h.front = sym h.is ∙ ap (λ z. h.front ++ pairs_by number at z others (drop at partners)) (drop_all at own w) ∙ append-nil h.front in
     (h.pushes.0, subst (λ z. Pushes (first_of labels) (second_of labels) z old.pairs.items now.pairs.items) (sym e) h.pushes.1)

@@ -26,9 +26,13 @@ abbrev pub place_from : ℕ → List ℕ → List (List ℕ) → Option ℕ
 place_from at x [] = None
 place_from at x (y ∷ ys) = if is_equal x y then Some at else place_from (suc at) x ys
 
+-- of each the place where it is first among the others
+abbrev pub places_in : List (List ℕ) → List (List ℕ) → List (Option ℕ)
+places_in others own = map (λ x. place_from 0 x others) own
+
 -- Of each label the place among the others with which it is matched: where it is as often before.
 abbrev pub matched : List ℕ → List ℕ → List (Option ℕ)
-matched own others = map (λ x. place_from 0 x (numbered [] others)) (numbered [] own)
+matched own others = places_in (numbered [] others) (numbered [] own)
 
 -- what is matched is so in order, from a place on
 abbrev pub in_order : ℕ → List (Option ℕ) → Bool

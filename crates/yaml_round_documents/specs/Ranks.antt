@@ -1,5 +1,5 @@
 -- Nodes by ranks: nodes that agree with all that they hold have one rank.
-use Rattle.std.specs.Prelude.{◌≡◌, ◌⊎◌, ◌↔◌, ◌<◌, ◌≤◌, ℕ, suc, ◌+◌, ◌==◌, ℤ, pos, Bool, true, false, not, ◌&&◌, if◌then◌else◌, List, [], ◌∷◌, ◌++◌, length, get_or, map, Some, None, Result, Ok, Err}
+use Rattle.std.specs.Prelude.{◌≡◌, ◌⊎◌, ◌↔◌, ◌<◌, ◌≤◌, ℕ, suc, ◌+◌, ◌*◌, ◌%◌, ◌^◌, ◌==◌, ℤ, pos, Bool, true, false, not, ◌&&◌, if◌then◌else◌, List, [], ◌∷◌, ◌++◌, length, get_or, map, Some, None, Result, Ok, Err}
 use Rattle.std.specs.declared.alloc.AllocError.{AllocError}
 use Rattle.std.specs.FinMap as map
 use Rattle.yaml_parse_model.specs.Nodes.{Node, NodeBody}
@@ -19,10 +19,20 @@ kind_of (node.scalar value style) = 1
 kind_of (node.sequence items style) = 2
 kind_of (node.mapping pairs style) = 3
 
--- What a node looks like except for what it holds: its kind, how long its text and its tag are, and
--- these.
+-- a number, with a byte more
+abbrev pub number_with : ℕ → ℕ → ℕ
+number_with n b = ((n * 0x100000001b3) % 2 ^ 64 + b) % 2 ^ 64
+
+-- the number of a text after one that has that number
+abbrev pub number_from : ℕ → List ℕ → ℕ
+number_from n [] = n
+number_from n (b ∷ bs) = number_from (number_with n b) bs
+
+-- What a node looks like except for what it holds: a number of its text, its kind, how long its
+-- text and its tag are, and these.
 abbrev pub look : NodeBody → List ℕ → List ℕ
-look b tag = kind_of b ∷ length (text_of b) ∷ length tag ∷ (text_of b ++ tag)
+look b tag = number_from 0 (text_of b) % 0x100000000 ∷ kind_of b ∷ length (text_of b) ∷ length tag
+    ∷ (text_of b ++ tag)
 
 -- what it looks like where those that it holds have these ranks
 abbrev pub shape_of : List ℕ → List Node → ℤ → List ℕ

@@ -7,9 +7,9 @@ use Rattle.yaml_round_documents.specs.Shapes.{Shapes}
 use Rattle.yaml_round_documents.specs.Ranks.{natural}
 use Rattle.yaml_round_documents.specs.declared.ranks.BothLabels.{BothLabels}
 use Rattle.yaml_round_documents.specs.declared.difference.yaml_node_difference_t.{yaml_node_difference_t}
-use Rattle.yaml_round_documents.specs.declared.walk.Pair.{Pair}
+use Rattle.yaml_round_documents.specs.declared.walk.yaml_node_match_t.{yaml_node_match_t as Pair}
 use Rattle.yaml_round_documents.specs.declared.walk.Walk.{Walk}
-use Rattle.yaml_round_documents.specs.Pairs.{IsCompared, IsOneOf, NoneTwice, held_pairs}
+use Rattle.yaml_round_documents.specs.Pairs.{AreReached, IsAmong, IsCompared, IsOneOf, NoneTwice, held_pairs}
 use Rattle.yaml_round_documents.specs.Differences.{told_in, told_of}
 
 -- the numbers of nodes
@@ -56,6 +56,7 @@ Meets p old new = IsWalk new × (((new.pairs.items ≡ old.pairs.items)
 pub record Pushes (first second : ℤ → ℕ) (some old new : List Pair) : Type 0 where
   pub added : List Pair
   pub is : new ≡ old ++ added
+  pub among : (p : Pair) → IsAmong p added → IsAmong p some
   pub sound : (a b : ℤ) → IsOneOf a b added → IsOneOf a b some × (first a ≡ second b → ⊥)
   pub whole : (a b : ℤ) → IsOneOf a b some → (first a ≡ second b → ⊥) → IsOneOf a b new
 
@@ -64,21 +65,23 @@ PushesOn labels some old new = IsWalk new
     × Pushes (first_of labels) (second_of labels) some old.pairs.items new.pairs.items
 
 -- a pair was compared
-pub record ComparesPair (nodes others : List Node) (labels : BothLabels) (p : Pair) (old new : Walk)
-    (before after : List yaml_node_difference_t) : Type 0 where
-  pub told : after ≡ before ++ told_of (first_of labels) (second_of labels) nodes others p
-  pub pushes : PushesOn labels (held_pairs (first_of labels) (second_of labels)
+pub record ComparesPair (nodes others : List Node) (labels : BothLabels) (number : ℕ) (p : Pair)
+    (old new : Walk) (before after : List yaml_node_difference_t) : Type 0 where
+  pub told : after ≡ before ++ told_of (first_of labels) (second_of labels) nodes others
+      number p
+  pub pushes : PushesOn labels (held_pairs (first_of labels) (second_of labels) number
       (body_of_id nodes p.first) (body_of_id others p.second)) old new
 
 -- The first pairs were compared: their differences are listed, and what they hold that differs is
 -- in the walk.
 pub record ComparesTo (nodes others : List Node) (first second : ℤ → ℕ) (done : ℕ)
     (pairs : List Pair) (list : List yaml_node_difference_t) : Type 0 where
-  pub told : list ≡ told_in first second nodes others (take done pairs)
+  pub told : list ≡ told_in first second nodes others 0 (take done pairs)
   pub root : IsOneOf (pos 1) (pos 1) pairs
+  pub reached : AreReached nodes others first second pairs
   pub sound : (a b : ℤ) → IsOneOf a b pairs → IsCompared nodes others first second a b
   pub whole : (c d a b : ℤ) → IsOneOf c d (take done pairs)
-      → IsOneOf a b (held_pairs first second (body_of_id nodes c) (body_of_id others d))
+      → IsOneOf a b (held_pairs first second 0 (body_of_id nodes c) (body_of_id others d))
       → (first a ≡ second b → ⊥) → IsOneOf a b pairs
 
 abbrev pub Compares : List Node → List Node → BothLabels → ℕ → Walk

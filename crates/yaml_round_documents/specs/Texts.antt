@@ -1,23 +1,15 @@
 -- Keys whose texts differ: none of them is reported.
-use Rattle.std.specs.Prelude.{◌+◌, ◌*◌, ◌%◌, ◌^◌, ℕ, ℤ, Bool, true, false, List, [], ◌∷◌, Result, Ok, Err}
+use Rattle.std.specs.Prelude.{ℕ, ℤ, Bool, true, false, List, [], ◌∷◌, Result, Ok, Err}
 use Rattle.std.specs.declared.alloc.AllocError.{AllocError}
 use Rattle.yaml_parse_model.specs.Nodes.{Node}
 use Rattle.yaml_emit_graph.specs.Graph.{body_of_id}
 use Rattle.yaml_round_documents.specs.Same.{text_of}
+use Rattle.yaml_round_documents.specs.Ranks.{number_from}
 use Rattle.yaml_round_documents.specs.Telling.{AreToldBehind}
 
 -- the text of a key
 abbrev pub key_text : List Node → ℤ → List ℕ
 key_text nodes key = text_of (body_of_id nodes key)
-
--- a number, with a byte more
-abbrev pub number_with : ℕ → ℕ → ℕ
-number_with n b = ((n * 0x100000001b3) % 2 ^ 64 + b) % 2 ^ 64
-
--- the number of a text after one that has that number
-abbrev pub number_from : ℕ → List ℕ → ℕ
-number_from n [] = n
-number_from n (b ∷ bs) = number_from (number_with n b) bs
 
 -- that of a key's text
 abbrev pub key_number : List Node → ℤ → ℕ

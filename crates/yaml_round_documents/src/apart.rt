@@ -4,28 +4,14 @@
 ghost use Rattle.std.specs.Prelude.{◌≡◌, ◌<◌, ◌≤◌, [], map, pos, suc, true, OnOk, length};
 ghost use Rattle.std.specs.List.Sorted.{IsStrictlyIncreasing};
 ghost use Rattle.yaml_emit_graph.specs.Graph.{body_of_id};
-ghost use Rattle.yaml_round_documents.specs.Texts.{IfApart, NoneIsTold, key_number, number_from};
+ghost use Rattle.yaml_round_documents.specs.Texts.{IfApart, NoneIsTold, key_number};
 ghost use Rattle.yaml_round_documents.specs.Telling.{AreSameKeys, keys_of, pair_keys};
 
-use crate::shape::{id_of, scalar_text};
+use crate::shape::{id_of, number_of, scalar_text};
 use std::alloc::{AllocError, Global};
 use yaml_parse_model::{
     yaml_document_get_node, yaml_document_t, yaml_node_body_t, yaml_node_pair_t,
 };
-
-// A number of a text. Texts with two numbers are two; two texts hardly ever have one.
-#[tactic(auto, using(crate::proofs::Texts::number_next, crate::proofs::Texts::number_all))]
-fn number_of(text: &[u8]) -> u64
-    ensures { result ≡ number_from 0 text.now }
-{
-    let mut number: u64 = 0;
-    for byte in text {
-        number = number
-            .wrapping_mul(0x100_0000_01b3)
-            .wrapping_add(u64::from(*byte));
-    }
-    number
-}
 
 // The number of a key's text.
 fn key_number(document: &yaml_document_t, key: i32) -> u64

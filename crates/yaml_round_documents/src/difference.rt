@@ -11,10 +11,10 @@ ghost use Rattle.yaml_round_documents.specs.Equal.{AreEqual};
 ghost use Rattle.yaml_round_documents.specs.Steps.{AreNumbers, Begins, ComparesAll, ComparesPair, IsWalk, PushesOn, first_of, second_of};
 
 use crate::held::{Held, held_of};
-use crate::matching::match_labels;
+use crate::matching::{Matched, match_labels};
 use crate::ranks::{BothLabels, label_both};
 use crate::telling::{own_cause, same_kind, tell_cause, tell_held};
-use crate::walk::{Pair, Walk};
+use crate::walk::{Walk, yaml_node_match_t};
 use std::alloc::{AllocError, Global};
 use yaml_parse_model::{MAX_ENTRIES, document_is_sound, yaml_document_t};
 
@@ -38,6 +38,8 @@ pub enum yaml_node_cause_t {
 /// A difference of two nodes.
 #[derive(Clone, Copy, PartialEq, Eq, Debug)]
 pub struct yaml_node_difference_t {
+    /// The number of the pair that they are.
+    pub pair: usize,
     /// The number of the first document's node.
     pub first: i32,
     /// The number of the second one's.
@@ -48,13 +50,21 @@ pub struct yaml_node_difference_t {
     pub place: usize,
 }
 
+/// The pairs of nodes that are compared, in order, and in what these differ.
+#[derive(Drop)]
+pub struct yaml_node_differences_t {
+    pub pairs: Vec<yaml_node_match_t>,
+    pub told: Vec<yaml_node_difference_t>,
+}
+
 // Compares what two nodes hold.
 #[tactic(auto, using(crate::proofs::Comparing::matched_many))]
 fn compare_held(
     labels: &BothLabels,
     walk: &mut Walk,
     told: &mut Vec<yaml_node_difference_t>,
-    pair: Pair,
+    number: usize,
+    pair: yaml_node_match_t,
     own: &Held,
     others: &Held,
 ) -> Result<(), AllocError>
@@ -63,16 +73,15 @@ fn compare_held(
     requires others { AreNumbers others.now.values.items }
     requires sized { length own.now.labels.items ≡ length own.now.values.items }
     ensures told { OnOk result (told.new.items ≡ told.old.items
-        ++ told_held pair own.now.labels.items others.now.labels.items) }
-    ensures pushes { OnOk result (PushesOn labels.now (pairs_by own.now.values.items
+        ++ told_held number pair own.now.labels.items others.now.labels.items) }
+    ensures pushes { OnOk result (PushesOn labels.now (pairs_by number 0 own.now.values.items
         others.now.values.items (matched own.now.labels.items others.now.labels.items)) walk.old
         walk.new) }
 {
     let alloc = walk.alloc;
-    let partners = match_labels(alloc, &own.labels, &others.labels)?;
-    let back = match_labels(alloc, &others.labels, &own.labels)?;
-    tell_held(told, pair, &partners, &back)?;
-    walk.push_held(labels, &own.values, &others.values, &partners)
+    let Matched { partners, back } = match_labels(alloc, &own.labels, &others.labels)?;
+    tell_held(told, number, pair, &partners, &back)?;
+    walk.push_held(labels, number, &own.values, &others.values, &partners)
 }
 
 // Compares what two nodes of one kind hold.
@@ -83,15 +92,16 @@ fn compare_alike(
     labels: &BothLabels,
     walk: &mut Walk,
     told: &mut Vec<yaml_node_difference_t>,
-    pair: Pair,
+    number: usize,
+    pair: yaml_node_match_t,
 ) -> Result<(), AllocError>
     requires walk { IsWalk walk.old }
     requires first { AreSound (length first.now.nodes) first.now.nodes }
     requires second { AreSound (length second.now.nodes) second.now.nodes }
-    ensures told { OnOk result (told.new.items ≡ told.old.items
-        ++ told_held pair (key_labels (first_of labels.now) (body_of_id first.now.nodes pair.first))
+    ensures told { OnOk result (told.new.items ≡ told.old.items ++ told_held number pair
+        (key_labels (first_of labels.now) (body_of_id first.now.nodes pair.first))
         (key_labels (second_of labels.now) (body_of_id second.now.nodes pair.second))) }
-    ensures pushes { OnOk result (PushesOn labels.now (pairs_by
+    ensures pushes { OnOk result (PushesOn labels.now (pairs_by number 0
         (held_values (body_of_id first.now.nodes pair.first))
         (held_values (body_of_id second.now.nodes pair.second))
         (matched (key_labels (first_of labels.now) (body_of_id first.now.nodes pair.first))
@@ -101,7 +111,7 @@ fn compare_alike(
     let alloc = walk.alloc;
     let own = held_of(alloc, first, &labels.first, pair.first)?;
     let others = held_of(alloc, second, &labels.second, pair.second)?;
-    compare_held(labels, walk, told, pair, &own, &others)
+    compare_held(labels, walk, told, number, pair, &own, &others)
 }
 
 // Compares two nodes.
@@ -112,17 +122,18 @@ fn compare_pair(
     labels: &BothLabels,
     walk: &mut Walk,
     told: &mut Vec<yaml_node_difference_t>,
-    pair: Pair,
+    number: usize,
+    pair: yaml_node_match_t,
 ) -> Result<(), AllocError>
     requires walk { IsWalk walk.old }
     requires first { AreSound (length first.now.nodes) first.now.nodes }
     requires second { AreSound (length second.now.nodes) second.now.nodes }
-    ensures { OnOk result (ComparesPair first.now.nodes second.now.nodes labels.now pair walk.old
-        walk.new told.old.items told.new.items) }
+    ensures { OnOk result (ComparesPair first.now.nodes second.now.nodes labels.now number pair
+        walk.old walk.new told.old.items told.new.items) }
 {
-    tell_cause(told, pair, own_cause(first, second, pair))?;
+    tell_cause(told, number, pair, own_cause(first, second, pair))?;
     if same_kind(first, second, pair) {
-        compare_alike(first, second, labels, walk, told, pair)
+        compare_alike(first, second, labels, walk, told, number, pair)
     } else {
         Ok(())
     }
@@ -147,7 +158,7 @@ fn compare_all(
     for done in 0..usize::MAX {
         match walk.pair_at(done) {
             None => return Ok(()),
-            Some(pair) => compare_pair(first, second, labels, walk, told, pair)?,
+            Some(pair) => compare_pair(first, second, labels, walk, told, done, pair)?,
         }
     }
     Err(AllocError)
@@ -160,37 +171,47 @@ fn walk_from_roots(
     first: &yaml_document_t,
     second: &yaml_document_t,
     labels: &BothLabels,
-) -> Result<Vec<yaml_node_difference_t>, AllocError>
+) -> Result<yaml_node_differences_t, AllocError>
     requires first { AreSound (length first.now.nodes) first.now.nodes }
     requires second { AreSound (length second.now.nodes) second.now.nodes }
     requires tell { LabelsTell first.now.nodes second.now.nodes labels.now }
-    ensures { IfOk result (λ told. AreDifferences first.now.nodes second.now.nodes told.items) }
+    ensures { IfOk result (λ d. AreDifferences first.now.nodes second.now.nodes d.pairs.items
+        d.told.items) }
 {
     let mut walk = Walk::new(alloc);
     let mut told = Vec::new(alloc);
-    walk.meet(Pair {
+    walk.meet(yaml_node_match_t {
         first: 1,
         second: 1,
+        holder: 0,
+        place: 0,
     })?;
     compare_all(first, second, labels, &mut walk, &mut told)?;
-    Ok(told)
+    let Walk {
+        pairs,
+        met,
+        alloc: _,
+    } = walk;
+    drop(met);
+    Ok(yaml_node_differences_t { pairs, told })
 }
 
 /// Every place where two documents differ. The roots are compared, and wherever nodes that are
 /// compared aren't the same, what they hold at one place: items by their places, and values by
 /// their keys, of which the k-th of equal ones in one is matched with the k-th in the other. Each
-/// pair is compared once. It is listed with the cause, and what one of them holds alone with its
-/// place; pairs that don't differ themselves aren't listed. The list is empty exactly where the
-/// documents are equal.
+/// pair is compared once, and has the number of the one that first met it and the place there, so
+/// that the way from the roots is known. What differs is listed with the pair's number and the
+/// cause, and what one of them holds alone with its place; pairs that don't differ themselves
+/// aren't listed. The list is empty exactly where the documents are equal.
 #[tactic(auto, using(crate::proofs::Equality::none_told))]
 pub fn yaml_document_differences(
     alloc: Global,
     first: &yaml_document_t,
     second: &yaml_document_t,
-) -> Result<Vec<yaml_node_difference_t>, AllocError>
-    ensures differences { IfOk result (λ told. AreDifferences first.now.nodes second.now.nodes
-        told.items) }
-    ensures equal { IfOk result (λ told. (told.items ≡ []) ↔ AreEqual first.now.nodes
+) -> Result<yaml_node_differences_t, AllocError>
+    ensures differences { IfOk result (λ d. AreDifferences first.now.nodes second.now.nodes
+        d.pairs.items d.told.items) }
+    ensures equal { IfOk result (λ d. (d.told.items ≡ []) ↔ AreEqual first.now.nodes
         second.now.nodes) }
 {
     // laws: what the nodes hold are nodes
@@ -204,7 +225,7 @@ pub fn yaml_document_differences(
     }
     let labels = label_both(alloc, first, second)?;
     match walk_from_roots(alloc, first, second, &labels) {
-        Ok(told) => Ok(told),
+        Ok(differences) => Ok(differences),
         Err(refusal) => Err(refusal),
     }
 }

@@ -13,14 +13,12 @@ mod streams;
 mod telling;
 mod walk;
 
-pub use difference::{yaml_document_differences, yaml_node_cause_t, yaml_node_difference_t};
-pub use held::{Held, held_of};
-pub use matching::match_labels;
-pub use ranks::{BothLabels, label_both};
+pub use difference::{
+    yaml_document_differences, yaml_node_cause_t, yaml_node_difference_t, yaml_node_differences_t,
+};
 pub use repeated::{tell_document, yaml_document_check_keys, yaml_same_key_t};
-pub use shape::rank_of;
-pub use shapes::ShapeTable;
-pub use streams::{yaml_document_difference_t, yaml_stream_differences};
+pub use streams::{yaml_document_difference_t, yaml_stream_differences, yaml_stream_differences_t};
+pub use walk::yaml_node_match_t;
 pub use yaml_parse_model::{
     yaml_document_get_node, yaml_document_t, yaml_node_body_t, yaml_node_t,
 };

@@ -2,7 +2,7 @@
 
 ghost use Rattle.std.specs.Prelude.{◌≡◌, [], map, IfOk, OnOk};
 ghost use Rattle.std.specs.FinMap as finite;
-ghost use Rattle.yaml_round_documents.specs.Matching.{ArePlaces, Counts, in_order, matched, name_of, numbered, order_after, put_first};
+ghost use Rattle.yaml_round_documents.specs.Matching.{ArePlaces, Counts, in_order, matched, name_of, numbered, order_after, places_in, put_first};
 
 use crate::shape::narrowed;
 use crate::shapes::ShapeTable;
@@ -105,19 +105,41 @@ fn find_places(
     Ok(found)
 }
 
-/// Of each label the place among the others with which it is matched.
+// Of each name the place among the others.
+fn partners_of(
+    alloc: Global,
+    names: &[Numbered],
+    others: &[Numbered],
+) -> Result<Vec<Option<u32>>, AllocError>
+    ensures { IfOk result (λ found. found.items
+        ≡ places_in (map name_of others.now) (map name_of names.now)) }
+{
+    let places = places_of(alloc, others)?;
+    find_places(alloc, names, &places)
+}
+
+/// Of each label of one and of the other, the place with which it is matched.
+#[derive(Drop)]
+pub struct Matched {
+    pub partners: Vec<Option<u32>>,
+    pub back: Vec<Option<u32>>,
+}
+
+/// Matches labels.
 #[tactic(auto, using(crate::proofs::Placing::matched_by))]
-pub fn match_labels(
+pub(crate) fn match_labels(
     alloc: Global,
     own: &[u32],
     others: &[u32],
-) -> Result<Vec<Option<u32>>, AllocError>
-    ensures { IfOk result (λ found. found.items ≡ matched own.now others.now) }
+) -> Result<Matched, AllocError>
+    ensures partners { IfOk result (λ m. m.partners.items ≡ matched own.now others.now) }
+    ensures back { IfOk result (λ m. m.back.items ≡ matched others.now own.now) }
 {
     let names = number_labels(alloc, own)?;
     let other_names = number_labels(alloc, others)?;
-    let places = places_of(alloc, &other_names)?;
-    find_places(alloc, &names, &places)
+    let partners = partners_of(alloc, &names, &other_names)?;
+    let back = partners_of(alloc, &other_names, &names)?;
+    Ok(Matched { partners, back })
 }
 
 // The place from which it has to go on; none where that isn't in order.

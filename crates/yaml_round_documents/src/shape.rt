@@ -1,10 +1,10 @@
 //! The shape of a node: what it looks like where those that it holds have ranks.
 
-ghost use Rattle.std.specs.Prelude.{◌≡◌, ◌<◌, ◌++◌, ◌∷◌, OnOk, IfOk, length, map, pos, suc};
+ghost use Rattle.std.specs.Prelude.{◌≡◌, ◌<◌, ◌++◌, ◌∷◌, ◌%◌, OnOk, IfOk, length, map, pos, suc};
 ghost use Rattle.yaml_parse_model.specs.Nodes.{body_of};
 ghost use Rattle.yaml_emit_graph.specs.Graph.{body_of_id, child_ids, number_at, tag_of_id};
 ghost use Rattle.yaml_round_documents.specs.Same.{text_of};
-ghost use Rattle.yaml_round_documents.specs.Ranks.{all_ranked, holds_ranked, kind_of, look, shape_of};
+ghost use Rattle.yaml_round_documents.specs.Ranks.{all_ranked, holds_ranked, kind_of, look, number_from, shape_of};
 
 use std::alloc::AllocError;
 use yaml_emit_graph::{Open, Walkable, place_of};
@@ -31,6 +31,20 @@ pub fn narrowed(number: usize) -> Result<u32, AllocError>
     }
 }
 
+/// A number of a text. Texts with two numbers are two; two texts hardly ever have one.
+#[tactic(auto, using(crate::proofs::Texts::number_next, crate::proofs::Texts::number_all))]
+pub(crate) fn number_of(text: &[u8]) -> u64
+    ensures { result ≡ number_from 0 text.now }
+{
+    let mut number: u64 = 0;
+    for byte in text {
+        number = number
+            .wrapping_mul(0x100_0000_01b3)
+            .wrapping_add(u64::from(*byte));
+    }
+    number
+}
+
 /// Appends the bytes of a text to a room.
 pub(crate) fn put_widened(room: &mut Vec<u32>, text: &[u8]) -> Result<(), AllocError>
     ensures { OnOk result (room.new.items ≡ room.old.items ++ text.now) }
@@ -41,14 +55,15 @@ pub(crate) fn put_widened(room: &mut Vec<u32>, text: &[u8]) -> Result<(), AllocE
     Ok(())
 }
 
-// How long the two texts are, and these.
+// A number of the text, by which most shapes differ, how long the two texts are, and these.
 fn put_parts(room: &mut Vec<u32>, kind: u32, text: &[u8], tag: &[u8]) -> Result<(), AllocError>
-    ensures { OnOk result (room.new.items ≡ kind ∷ length text.now ∷ length tag.now
-        ∷ (text.now ++ tag.now)) }
+    ensures { OnOk result (room.new.items ≡ number_from 0 text.now % 0x100000000 ∷ kind
+        ∷ length text.now ∷ length tag.now ∷ (text.now ++ tag.now)) }
 {
     let text_len = narrowed(text.len())?;
     let tag_len = narrowed(tag.len())?;
     room.clear();
+    room.push((number_of(text) % 0x1_0000_0000) as u32)?;
     room.push(kind)?;
     room.push(text_len)?;
     room.push(tag_len)?;

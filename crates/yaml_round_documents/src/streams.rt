@@ -3,7 +3,10 @@
 ghost use Rattle.std.specs.Prelude.{◌≡◌, ◌↔◌, ◌≤◌, ◌++◌, [], map, drop, IfOk, OnOk, length};
 ghost use Rattle.yaml_round_documents.specs.Streams.{AreEqualStreams, AreStreamDifferences, TellsDocument, TellsTo, in_document, told_alone_from};
 
-use crate::difference::{yaml_document_differences, yaml_node_cause_t, yaml_node_difference_t};
+use crate::difference::{
+    yaml_document_differences, yaml_node_cause_t, yaml_node_difference_t, yaml_node_differences_t,
+};
+use crate::walk::yaml_node_match_t;
 use std::alloc::{AllocError, Global};
 use std::collections::VecDeque;
 use yaml_parse_model::yaml_document_t;
@@ -15,6 +18,13 @@ pub struct yaml_document_difference_t {
     pub document: usize,
     /// The difference. Where one stream has the document alone, its numbers are 0.
     pub difference: yaml_node_difference_t,
+}
+
+/// In what the documents of two streams differ, and of each two the pairs that are compared.
+#[derive(Drop)]
+pub struct yaml_stream_differences_t {
+    pub pairs: Vec<Vec<yaml_node_match_t>>,
+    pub told: Vec<yaml_document_difference_t>,
 }
 
 // Tells the differences of a document.
@@ -39,16 +49,18 @@ fn put_differences(
 // Compares two documents.
 fn tell_differences(
     alloc: Global,
-    told: &mut Vec<yaml_document_difference_t>,
+    stream: &mut yaml_stream_differences_t,
     document: usize,
     first: &yaml_document_t,
     second: &yaml_document_t,
 ) -> Result<(), AllocError>
-    ensures { OnOk result (TellsDocument document first.now.nodes second.now.nodes told.old.items
-        told.new.items) }
+    ensures { OnOk result (TellsDocument document first.now.nodes second.now.nodes stream.old
+        stream.new) }
 {
-    let differences = yaml_document_differences(alloc, first, second)?;
-    put_differences(told, document, &differences)
+    let yaml_node_differences_t { pairs, told } = yaml_document_differences(alloc, first, second)?;
+    put_differences(&mut stream.told, document, &told)?;
+    stream.pairs.push(pairs)?;
+    Ok(())
 }
 
 // Tells the documents from a place on, which one stream has alone.
@@ -66,6 +78,7 @@ fn tell_rest(
         told.push(yaml_document_difference_t {
             document: at,
             difference: yaml_node_difference_t {
+                pair: 0,
                 first: 0,
                 second: 0,
                 cause,
@@ -80,38 +93,51 @@ fn tell_rest(
 #[tactic(auto, using(crate::proofs::Streaming::none_common))]
 fn tell_common(
     alloc: Global,
-    told: &mut Vec<yaml_document_difference_t>,
+    stream: &mut yaml_stream_differences_t,
     first: &VecDeque<yaml_document_t>,
     second: &VecDeque<yaml_document_t>,
     common: usize,
 ) -> Result<(), AllocError>
     requires first { common ≤ length first.now.items }
     requires second { common ≤ length second.now.items }
-    ensures { OnOk result (TellsTo first.now.items second.now.items common told.old.items
-        told.new.items) }
+    ensures { OnOk result (TellsTo first.now.items second.now.items common stream.old
+        stream.new) }
 {
     for at in 0..common {
-        tell_differences(alloc, told, at, &first[at], &second[at])?;
+        tell_differences(alloc, stream, at, &first[at], &second[at])?;
     }
     Ok(())
 }
 
 // The differences of two streams.
-#[tactic(auto, using(crate::proofs::Streaming::least, crate::proofs::Streaming::stream_told))]
+#[tactic(auto, using(crate::proofs::Streaming::least))]
 fn stream_differences(
     alloc: Global,
     first: &VecDeque<yaml_document_t>,
     second: &VecDeque<yaml_document_t>,
-) -> Result<Vec<yaml_document_difference_t>, AllocError>
-    ensures { IfOk result (λ told. AreStreamDifferences 0 first.now.items second.now.items
-        told.items) }
+) -> Result<yaml_stream_differences_t, AllocError>
+    ensures { IfOk result (λ d. AreStreamDifferences 0 first.now.items second.now.items
+        d.pairs.items d.told.items) }
 {
     let common = first.len().min(second.len());
-    let mut told = Vec::new(alloc);
-    tell_common(alloc, &mut told, first, second, common)?;
-    tell_rest(&mut told, common, first, yaml_node_cause_t::OnlyFirst)?;
-    tell_rest(&mut told, common, second, yaml_node_cause_t::OnlySecond)?;
-    Ok(told)
+    let mut stream = yaml_stream_differences_t {
+        pairs: Vec::new(alloc),
+        told: Vec::new(alloc),
+    };
+    tell_common(alloc, &mut stream, first, second, common)?;
+    tell_rest(
+        &mut stream.told,
+        common,
+        first,
+        yaml_node_cause_t::OnlyFirst,
+    )?;
+    tell_rest(
+        &mut stream.told,
+        common,
+        second,
+        yaml_node_cause_t::OnlySecond,
+    )?;
+    Ok(stream)
 }
 
 /// Every place where the documents of two streams differ: the k-th are compared as
@@ -123,14 +149,14 @@ pub fn yaml_stream_differences(
     alloc: Global,
     first: &VecDeque<yaml_document_t>,
     second: &VecDeque<yaml_document_t>,
-) -> Result<Vec<yaml_document_difference_t>, AllocError>
-    ensures differences { IfOk result (λ told. AreStreamDifferences 0 first.now.items
-        second.now.items told.items) }
-    ensures equal { IfOk result (λ told. (told.items ≡ []) ↔ AreEqualStreams first.now.items
+) -> Result<yaml_stream_differences_t, AllocError>
+    ensures differences { IfOk result (λ d. AreStreamDifferences 0 first.now.items
+        second.now.items d.pairs.items d.told.items) }
+    ensures equal { IfOk result (λ d. (d.told.items ≡ []) ↔ AreEqualStreams first.now.items
         second.now.items) }
 {
     match stream_differences(alloc, first, second) {
-        Ok(told) => Ok(told),
+        Ok(differences) => Ok(differences),
         Err(refusal) => Err(refusal),
     }
 }

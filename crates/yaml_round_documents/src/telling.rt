@@ -11,7 +11,7 @@ ghost use Rattle.yaml_round_documents.specs.Differences.{alone_at, order_cause, 
 use crate::difference::{yaml_node_cause_t, yaml_node_difference_t};
 use crate::matching::in_order;
 use crate::shape::{number_of_kind, scalar_text};
-use crate::walk::Pair;
+use crate::walk::yaml_node_match_t;
 use std::alloc::AllocError;
 use yaml_parse_model::{YAML_STR_TAG, yaml_document_get_node, yaml_document_t};
 
@@ -46,7 +46,11 @@ fn node_tag(document: &yaml_document_t, id: i32) -> &[u8]
 }
 
 /// Whether two nodes are of one kind.
-pub(crate) fn same_kind(first: &yaml_document_t, second: &yaml_document_t, pair: Pair) -> bool
+pub(crate) fn same_kind(
+    first: &yaml_document_t,
+    second: &yaml_document_t,
+    pair: yaml_node_match_t,
+) -> bool
     ensures { result ≡ (kind_of (body_of_id first.now.nodes pair.first)
         == kind_of (body_of_id second.now.nodes pair.second)) }
 {
@@ -57,7 +61,7 @@ pub(crate) fn same_kind(first: &yaml_document_t, second: &yaml_document_t, pair:
 pub(crate) fn own_cause(
     first: &yaml_document_t,
     second: &yaml_document_t,
-    pair: Pair,
+    pair: yaml_node_match_t,
 ) -> Option<yaml_node_cause_t>
     ensures { result ≡ own_cause (body_of_id first.now.nodes pair.first)
         (body_of_id second.now.nodes pair.second) (tag_of_id first.now.nodes pair.first)
@@ -78,15 +82,17 @@ pub(crate) fn own_cause(
 /// Tells a cause, if there is one.
 pub(crate) fn tell_cause(
     told: &mut Vec<yaml_node_difference_t>,
-    pair: Pair,
+    number: usize,
+    pair: yaml_node_match_t,
     cause: Option<yaml_node_cause_t>,
 ) -> Result<(), AllocError>
-    ensures { OnOk result (told.new.items ≡ told.old.items ++ told_cause pair cause) }
+    ensures { OnOk result (told.new.items ≡ told.old.items ++ told_cause number pair cause) }
 {
     match cause {
         None => Ok(()),
         Some(cause) => {
             told.push(yaml_node_difference_t {
+                pair: number,
                 first: pair.first,
                 second: pair.second,
                 cause,
@@ -100,17 +106,20 @@ pub(crate) fn tell_cause(
 // Tells what is at a place, where it has no partner.
 fn tell_alone_at(
     told: &mut Vec<yaml_node_difference_t>,
-    pair: Pair,
+    number: usize,
+    pair: yaml_node_match_t,
     cause: yaml_node_cause_t,
     at: usize,
     partner: Option<u32>,
 ) -> Result<(), AllocError>
-    ensures { OnOk result (told.new.items ≡ told.old.items ++ alone_at pair cause at partner) }
+    ensures { OnOk result (told.new.items ≡ told.old.items
+        ++ alone_at number pair cause at partner) }
 {
     match partner {
         Some(_) => Ok(()),
         None => {
             told.push(yaml_node_difference_t {
+                pair: number,
                 first: pair.first,
                 second: pair.second,
                 cause,
@@ -125,15 +134,16 @@ fn tell_alone_at(
 #[tactic(auto, using(crate::proofs::Alone::alone_next, crate::proofs::Alone::all_alone))]
 fn tell_alone(
     told: &mut Vec<yaml_node_difference_t>,
-    pair: Pair,
+    number: usize,
+    pair: yaml_node_match_t,
     cause: yaml_node_cause_t,
     partners: &[Option<u32>],
 ) -> Result<(), AllocError>
     ensures { OnOk result (told.new.items ≡ told.old.items
-        ++ told_alone pair cause 0 partners.now) }
+        ++ told_alone number pair cause 0 partners.now) }
 {
     for at in 0..partners.len() {
-        tell_alone_at(told, pair, cause, at, partners[at])?;
+        tell_alone_at(told, number, pair, cause, at, partners[at])?;
     }
     Ok(())
 }
@@ -151,15 +161,17 @@ fn order_cause(is_in_order: bool) -> Option<yaml_node_cause_t>
 /// Tells in what two nodes differ that they hold, by the partners of what each holds.
 pub(crate) fn tell_held(
     told: &mut Vec<yaml_node_difference_t>,
-    pair: Pair,
+    number: usize,
+    pair: yaml_node_match_t,
     partners: &[Option<u32>],
     back: &[Option<u32>],
 ) -> Result<(), AllocError>
     ensures { OnOk result (told.new.items ≡ told.old.items
-        ++ (told_cause pair (order_cause (in_order 0 partners.now))
-        ++ told_alone pair OnlyFirst 0 partners.now ++ told_alone pair OnlySecond 0 back.now)) }
+        ++ (told_cause number pair (order_cause (in_order 0 partners.now))
+        ++ told_alone number pair OnlyFirst 0 partners.now
+        ++ told_alone number pair OnlySecond 0 back.now)) }
 {
-    tell_cause(told, pair, order_cause(in_order(partners)))?;
-    tell_alone(told, pair, yaml_node_cause_t::OnlyFirst, partners)?;
-    tell_alone(told, pair, yaml_node_cause_t::OnlySecond, back)
+    tell_cause(told, number, pair, order_cause(in_order(partners)))?;
+    tell_alone(told, number, pair, yaml_node_cause_t::OnlyFirst, partners)?;
+    tell_alone(told, number, pair, yaml_node_cause_t::OnlySecond, back)
 }

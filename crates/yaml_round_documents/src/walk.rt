@@ -9,23 +9,29 @@ use crate::shape::rank_of;
 use crate::shapes::ShapeTable;
 use std::alloc::{AllocError, Global};
 
-/// A node of the first document, and one of the second.
-#[derive(Clone, Copy)]
-pub struct Pair {
+/// A node of the first document, and the one of the second with which it is compared.
+#[derive(Clone, Copy, PartialEq, Eq, Debug)]
+pub struct yaml_node_match_t {
+    /// The number of the first document's node.
     pub first: i32,
+    /// The number of the second one's.
     pub second: i32,
+    /// The number of the pair that holds them, from 0; 0 for the roots.
+    pub holder: usize,
+    /// The place where its first node has the first one, from 0; 0 for the roots.
+    pub place: usize,
 }
 
 /// The pairs that are compared, and which were met.
 #[derive(Drop)]
 pub struct Walk {
-    pub pairs: Vec<Pair>,
+    pub pairs: Vec<yaml_node_match_t>,
     pub met: ShapeTable,
     pub alloc: Global,
 }
 
 // A pair as a list.
-fn pair_name(alloc: Global, pair: Pair) -> Result<Vec<u32>, AllocError>
+fn pair_name(alloc: Global, pair: yaml_node_match_t) -> Result<Vec<u32>, AllocError>
     requires first { pos 1 ≤ℤ pair.first }
     requires second { pos 1 ≤ℤ pair.second }
     ensures { IfOk result (λ n. n.items ≡ pair_name pair.first pair.second) }
@@ -38,18 +44,26 @@ fn pair_name(alloc: Global, pair: Pair) -> Result<Vec<u32>, AllocError>
 
 // What is at a place, with the one with which it is matched.
 #[tactic(auto, using(crate::proofs::Walking::partner_got, crate::proofs::Walking::partner_not_got))]
-fn partner_of(own: &[i32], at: usize, others: &[i32], partner: Option<u32>) -> Option<Pair>
+fn partner_of(
+    holder: usize,
+    own: &[i32],
+    at: usize,
+    others: &[i32],
+    partner: Option<u32>,
+) -> Option<yaml_node_match_t>
     requires { at < length own.now }
-    ensures { listed result ≡ pair_at (get_or own.now at (pos 0)) others.now partner }
+    ensures { listed result ≡ pair_at holder at (get_or own.now at (pos 0)) others.now partner }
 {
     match partner {
         None => None,
         Some(place) => {
             let place = place as usize;
             if place < others.len() {
-                Some(Pair {
+                Some(yaml_node_match_t {
                     first: own[at],
                     second: others[place],
+                    holder,
+                    place: at,
                 })
             } else {
                 None
@@ -74,7 +88,7 @@ impl Walk {
 
     /// A pair is met; the first time it is to be compared.
     #[tactic(auto, using(crate::proofs::Walking::met_again, crate::proofs::Walking::met_first))]
-    pub fn meet(&mut self, pair: Pair) -> Result<(), AllocError>
+    pub fn meet(&mut self, pair: yaml_node_match_t) -> Result<(), AllocError>
         requires walk { IsWalk self.old }
         requires first { pos 1 ≤ℤ pair.first }
         requires second { pos 1 ≤ℤ pair.second }
@@ -93,7 +107,7 @@ impl Walk {
 
     // A pair that differs is to be compared.
     #[tactic(auto, using(crate::proofs::Walking::pushes_same, crate::proofs::Walking::pushes_met))]
-    fn push(&mut self, labels: &BothLabels, pair: Pair) -> Result<(), AllocError>
+    fn push(&mut self, labels: &BothLabels, pair: yaml_node_match_t) -> Result<(), AllocError>
         requires walk { IsWalk self.old }
         requires first { pos 1 ≤ℤ pair.first }
         requires second { pos 1 ≤ℤ pair.second }
@@ -107,7 +121,11 @@ impl Walk {
 
     // A pair, if there is one, is to be compared where it differs.
     #[tactic(auto, using(crate::proofs::Walking::pushes_none))]
-    fn push_some(&mut self, labels: &BothLabels, pair: Option<Pair>) -> Result<(), AllocError>
+    fn push_some(
+        &mut self,
+        labels: &BothLabels,
+        pair: Option<yaml_node_match_t>,
+    ) -> Result<(), AllocError>
         requires walk { IsWalk self.old }
         requires numbers { AreNumbered (listed pair) }
         ensures { OnOk result (PushesOn labels.now (listed pair) self.old self.new) }
@@ -123,6 +141,7 @@ impl Walk {
     pub fn push_held(
         &mut self,
         labels: &BothLabels,
+        holder: usize,
         own: &[i32],
         others: &[i32],
         partners: &[Option<u32>],
@@ -131,11 +150,11 @@ impl Walk {
         requires own { AreNumbers own.now }
         requires others { AreNumbers others.now }
         requires sized { length partners.now ≡ length own.now }
-        ensures { OnOk result (PushesOn labels.now (pairs_by own.now others.now partners.now)
-            self.old self.new) }
+        ensures { OnOk result (PushesOn labels.now (pairs_by holder 0 own.now others.now
+            partners.now) self.old self.new) }
     {
         for at in 0..own.len() {
-            let pair = partner_of(own, at, others, partners[at]);
+            let pair = partner_of(holder, own, at, others, partners[at]);
             self.push_some(labels, pair)?;
         }
         Ok(())
@@ -143,7 +162,7 @@ impl Walk {
 
     /// The pair at a place.
     #[tactic(auto, using(crate::proofs::Walking::got, crate::proofs::Walking::not_got))]
-    pub fn pair_at(&self, at: usize) -> Option<Pair>
+    pub fn pair_at(&self, at: usize) -> Option<yaml_node_match_t>
         ensures { result ≡ slice_get self.now.pairs.items at }
     {
         if at < self.pairs.len() {

@@ -1,17 +1,14 @@
 -- From what readings say to what is said of their inputs.
-use Rattle.std.proofs.Common.{◌≡◌, ◌⊎◌, ◌∙◌, ◌++◌, inl, inr, ap, sym, ℕ, List, [], Option, None, Some, Result, Ok, Err}
+use Rattle.std.proofs.Common.{◌≡◌, ◌⊎◌, ◌∙◌, ◌++◌, inl, inr, ap, sym, ℕ, List, [], None, Some, Result, Ok, Err}
 use Rattle.yaml_parse.specs.declared.yaml_encoding_t.{yaml_encoding_t}
 use Rattle.yaml_parse.specs.declared.yaml_fault_t.{yaml_fault_t}
 use Rattle.yaml_scan_types.specs.Faults.{Fault, fault_of, IsMemoryFault, parse_layers, Answers}
 use Rattle.yaml_parse.specs.Remaining.{ParserRemaining}
-use Rattle.yaml_parse.specs.Resolve.{Told}
-use Rattle.yaml_emit.specs.Emitter.{Emitter}
 use Rattle.yaml_round_device.specs.declared.yaml_settings_t.{yaml_settings_t}
 use Rattle.yaml_round_engine.specs.Layers.{reformat_layers, list_layers}
 use Rattle.yaml_round_reading.specs.Reading.{IsFaultOf, EndsWith}
 use Rattle.yaml_round_engine.specs.Lines.{event_lines}
 use Rattle.yaml_round_engine.specs.declared.writing.Form.{Form}
-use Rattle.yaml_round_engine.specs.Writing.{LeadsOn, WritesAll}
 use Rattle.yaml_round_content.specs.Input.{ReadsInput, ending_of}
 use Rattle.yaml_round_reading.proofs.Plain.{faulty, faulty_ending, fault_met, right, has_events}
 use Rattle.yaml_round_reading.specs.Answers.{IsFaulty}
@@ -43,28 +40,11 @@ not_listed from input r f h e = elim e [ inl m ↦ inl m | inr k ↦ inr (faulty
 
 -- ---- writing
 
--- The rest was written after a front.
-rest_led : (a b c : Form) (e e' e'' : Emitter) (es fs : List Told) → LeadsOn a e es b e' fs
-    → LeadsOn b e' fs c e'' [] → LeadsOn a e es c e'' []
-rest_led a b c e e' e'' es fs l k = record {
-  completes = λ x whole done. k.completes x whole (l.completes x whole done);
-  limit = k.limit ∙ l.limit;
-  beginning = l.beginning ∙ k.beginning;
-}
-
-pub then_rest : (a b c : Form) (r r' : ParserRemaining) (e e' e'' : Emitter)
-    (result : Result (Unit {0}) yaml_fault_t)
-    → r'.ending ≡ r.ending → LeadsOn a e r.events b e' r'.events → WritesAll b r' e' result c e''
-    → WritesAll a r e result c e''
-then_rest a b c r r' e e' e'' (Ok done) h l w = (sym h ∙ w.0, rest_led a b c e e' e'' r.events r'.events l w.1)
-then_rest a b c r r' e e' e'' (Err f) h l w = elim w [ inl m ↦ inl m | inr k ↦ inr (sym h ∙ k) ]
-
 -- the fault that another reading met is this one's
-pub met_again : (from : yaml_encoding_t) (input : List ℕ) (ending : Option Fault) (f : yaml_fault_t)
-    → ending ≡ ending_of from input
+pub met_again : (from : yaml_encoding_t) (input : List ℕ) (f : yaml_fault_t)
     → IsMemoryFault parse_layers (fault_of f) ⊎ IsFaulty from input (fault_of f)
-    → IsFaultOf ending (fault_of f)
-met_again from input ending f e h = elim h [ inl m ↦ inl m | inr k ↦ inr (e ∙ faulty_ending from input (fault_of f) k) ]
+    → IsFaultOf (ending_of from input) (fault_of f)
+met_again from input f h = elim h [ inl m ↦ inl m | inr k ↦ inr (faulty_ending from input (fault_of f) k) ]
 
 pub not_written : (w : Form) (from : yaml_encoding_t) (settings : yaml_settings_t) (input : List ℕ)
     (r : ParserRemaining) (f : yaml_fault_t) → ReadsInput from input r → IsFaultOf r.ending (fault_of f)

@@ -23,7 +23,7 @@ use Rattle.yaml_round_device.specs.declared.form.yaml_output_encoding_t.TheVaria
 use Rattle.yaml_round_content.specs.Restyled.{readable_events}
 use Rattle.yaml_round_engine.specs.Beginning.{nothing_comes}
 use Rattle.yaml_round_engine.specs.Styles.{position_of}
-use Rattle.yaml_round_reading.specs.Reading.{contents, emitter_events, AreReal, IsFaultOf}
+use Rattle.yaml_round_reading.specs.Reading.{contents, emitter_events, IsFaultOf}
 
 -- ---- the settings of an emitter
 
@@ -99,14 +99,6 @@ pub record LeadsOn (form_old : Form) (old : Emitter) (before : List Told) (form_
       → Completes new x (given_in form_new after) whole
   pub limit : new.limit ≡ old.limit
   pub beginning : comes_to_nothing form_old before ≡ comes_to_nothing form_new after
-
--- the reading's events were given to the emitter: all of them, or a front of them
-abbrev pub WritesReading : Form → ParserRemaining → Emitter → Result Bool yaml_fault_t → Form
-    → ParserRemaining → Emitter → Type 0
-WritesReading w r e (Ok true) w' r' e' = (r.ending ≡ None) × LeadsOn w e r.events w' e' []
-WritesReading w r e (Ok false) w' r' e' = (r'.ending ≡ r.ending)
-    × (AreReal r'.events × LeadsOn w e r.events w' e' r'.events)
-WritesReading w r e (Err f) w' r' e' = IsFaultOf r.ending (fault_of f)
 
 -- all of the reading's events were given to the emitter
 abbrev pub WritesAll : Form → ParserRemaining → Emitter → Result (Unit {0}) yaml_fault_t → Form

@@ -1,7 +1,7 @@
 //! Whether an input begins with nothing: its first document has no `---`, and its root is an empty plain scalar without anchor and
 //! tag, for which pretty form writes nothing.
 
-ghost use Rattle.std.specs.Prelude.{◌≡◌, ◌||◌, ◌∷◌, [], List, not, map, option_map};
+ghost use Rattle.std.specs.Prelude.{◌≡◌, ◌||◌, ◌∷◌, List, not, map, option_map};
 ghost use Rattle.yaml_parse_model.specs.Events.{borrowed_body, directive_of};
 ghost use Rattle.yaml_emit_layout.specs.Content.{Event, emitter_event};
 ghost use Rattle.yaml_emit_layout.specs.Nodes.{has_version, has_directives};
@@ -116,11 +116,4 @@ pub fn behind(beginning: Beginning, event: EventRef<'_>) -> Beginning
         Beginning::Document => behind_document(event),
         Beginning::Nothing | Beginning::Something => beginning,
     }
-}
-
-/// Whether the root was given, and is nothing.
-pub fn is_nothing(beginning: Beginning) -> bool
-    ensures { result ≡ spec.nothing_comes beginning [] }
-{
-    matches!(beginning, Beginning::Nothing)
 }

@@ -12,7 +12,7 @@ use yaml_parse::{
     undefined_alias_fault, yaml_encoding_t, yaml_fault_t, yaml_found_t, yaml_memory_fault,
     yaml_origin_t,
 };
-use yaml_round_reading::{ReadText, Reading, let_go, let_text_go, read_text, reading_of};
+use yaml_round_reading::{Reading, let_go, let_text_go, read_text, reading_of};
 
 // Reads to the end, or to what loading refuses or ends at.
 fn look_through(
@@ -38,28 +38,23 @@ fn look_through(
     }
 }
 
-// Whether the documents of the input load whose text it is.
-fn load_text(alloc: Global, text: &ReadText<'_>) -> Result<(), yaml_fault_t>
-    ensures { Answers load_layers (λ done. done) (IsChecked text.now.from text.now.bytes) result }
-{
-    match reading_of(alloc, text) {
-        Err(fault) => Err(fault),
-        Ok(mut reading) => {
-            let mut known = Known::new(alloc);
-            let answer = look_through(alloc, &mut reading, &mut known);
-            let_go(reading);
-            drop(known);
-            answer
-        }
-    }
-}
-
 /// Whether the documents of the input load.
 pub fn load_out(alloc: Global, input: &[u8], from: yaml_encoding_t) -> Result<(), yaml_fault_t>
     ensures { Answers load_layers (λ done. done) (IsChecked from input.now) result }
 {
     let text = read_text(alloc, input, from);
-    let answer = load_text(alloc, &text);
-    let_text_go(text);
-    answer
+    match reading_of(alloc, &text) {
+        Err(fault) => {
+            let_text_go(text);
+            Err(fault)
+        }
+        Ok(mut reading) => {
+            let mut known = Known::new(alloc);
+            let answer = look_through(alloc, &mut reading, &mut known);
+            drop(known);
+            let_go(reading);
+            let_text_go(text);
+            answer
+        }
+    }
 }

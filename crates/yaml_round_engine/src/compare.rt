@@ -16,8 +16,7 @@ use yaml_parse::{
     EventRef, yaml_encoding_t, yaml_fault_t, yaml_found_t, yaml_memory_fault, yaml_origin_t,
 };
 use yaml_round_reading::{
-    ReadText, Reading, let_go, let_text_go, normalized, read_out, read_text, reading_of,
-    yaml_side_t,
+    Reading, let_go, let_text_go, normalized, read_out, read_text, reading_of, yaml_side_t,
 };
 
 /// How two streams of events go on.
@@ -164,43 +163,16 @@ fn compared(
     }
 }
 
-// The same, of the second input's text.
-fn compared_with(
-    alloc: Global,
-    first: &mut Reading<'_>,
-    text: &ReadText<'_>,
-    trail: &mut Trail,
-    kept: bool,
-) -> Result<bool, SideFault>
-    requires { AreReal first.old.parser.events }
-    ensures same { (from : yaml_encoding_t) (input : List ℕ)
-        → ReadsInput from input first.old.parser
-        → IsSame from input text.now.from text.now.bytes result }
-    ensures parting { (from : yaml_encoding_t) (input : List ℕ)
-        → ReadsInput from input first.old.parser → IsFreshTrail kept trail.old
-        → WhereDifferent result
-        (IsParting from input text.now.from text.now.bytes trail.new.place) }
-{
-    match reading_of(alloc, text) {
-        Err(fault) => Err(behind_first(first, fault)),
-        Ok(mut second) => {
-            let answer = compared(first, &mut second, trail, kept);
-            let_go(second);
-            answer
-        }
-    }
-}
-
-/// Whether the second input has the content of the first one's reading. Where it hasn't, the trail
-/// says where they differ, with the path where that is `kept`.
-pub fn same_as(
+// Whether the second input has the content of the first one's reading. Where it hasn't, the trail
+// says where they differ, with the path where that is `kept`.
+fn same_as(
     alloc: Global,
     first: &mut Reading<'_>,
     b: &[u8],
     b_encoding: yaml_encoding_t,
     trail: &mut Trail,
     kept: bool,
-) -> Result<bool, (yaml_side_t, yaml_fault_t)>
+) -> Result<bool, SideFault>
     requires { AreReal first.old.parser.events }
     ensures same { (from : yaml_encoding_t) (input : List ℕ)
         → ReadsInput from input first.old.parser
@@ -210,7 +182,46 @@ pub fn same_as(
         → WhereDifferent result (IsParting from input b_encoding b.now trail.new.place) }
 {
     let text = read_text(alloc, b, b_encoding);
-    let answer = compared_with(alloc, first, &text, trail, kept);
-    let_text_go(text);
-    answer
+    match reading_of(alloc, &text) {
+        Err(fault) => {
+            let_text_go(text);
+            Err(behind_first(first, fault))
+        }
+        Ok(mut second) => {
+            let answer = compared(first, &mut second, trail, kept);
+            let_go(second);
+            let_text_go(text);
+            answer
+        }
+    }
+}
+
+/// Whether two inputs have the same content. Where they haven't, the trail says where they differ, with the path where that is
+/// `kept`.
+pub fn same_inputs(
+    alloc: Global,
+    a: &[u8],
+    a_encoding: yaml_encoding_t,
+    b: &[u8],
+    b_encoding: yaml_encoding_t,
+    trail: &mut Trail,
+    kept: bool,
+) -> Result<bool, (yaml_side_t, yaml_fault_t)>
+    ensures same { IsSame a_encoding a.now b_encoding b.now result }
+    ensures parting { IsFreshTrail kept trail.old
+        → WhereDifferent result (IsParting a_encoding a.now b_encoding b.now trail.new.place) }
+{
+    let text = read_text(alloc, a, a_encoding);
+    match reading_of(alloc, &text) {
+        Err(fault) => {
+            let_text_go(text);
+            Err((yaml_side_t::First, fault))
+        }
+        Ok(mut first) => {
+            let answer = same_as(alloc, &mut first, b, b_encoding, trail, kept);
+            let_go(first);
+            let_text_go(text);
+            answer
+        }
+    }
 }

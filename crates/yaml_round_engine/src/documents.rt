@@ -79,20 +79,6 @@ fn same_dumps(first: &mut Dump, second: &mut Dump, front: &mut Front) -> Result<
     }
 }
 
-// Whether a dump is that of another document.
-fn is_dump_of(
-    alloc: Global,
-    first: &mut Dump,
-    other: yaml_document_t,
-    front: &mut Front,
-) -> Result<bool, AllocError>
-    requires { IsDump first.old }
-    ensures { Compares (dump_left first.old) (document_says other) front.old result front.new }
-{
-    let mut second = Dump::of(alloc, other)?;
-    same_dumps(first, &mut second, front)
-}
-
 // Whether two documents have the same dump.
 fn same_document(
     alloc: Global,
@@ -103,7 +89,8 @@ fn same_document(
     ensures { Compares (document_says document) (document_says other) front.old result front.new }
 {
     let mut first = Dump::of(alloc, document)?;
-    is_dump_of(alloc, &mut first, other, front)
+    let mut second = Dump::of(alloc, other)?;
+    same_dumps(&mut first, &mut second, front)
 }
 
 /// Whether documents have the same dumps, one after another. Where they haven't, the front says what is before the first

@@ -22,7 +22,7 @@ mod writing;
 pub use beginning::Beginning;
 pub use cause::yaml_cause_t;
 pub use check::load_out;
-pub use compare::same_as;
+pub use compare::same_inputs;
 pub use difference::{yaml_difference_t, yaml_step_t};
 pub use documents::same_documents;
 pub use front::Front;

@@ -1,6 +1,6 @@
 //! The lines of an input's events.
 
-ghost use Rattle.std.specs.Prelude.{◌≡◌, ℕ, List, []};
+ghost use Rattle.std.specs.Prelude.{ℕ, List};
 ghost use Rattle.yaml_scan_types.specs.Faults.{Answers};
 ghost use Rattle.yaml_round_content.specs.Input.{ReadsInput};
 ghost use Rattle.yaml_round_reading.specs.Reading.{AreReal};
@@ -30,16 +30,6 @@ fn push_lines(reading: &mut Reading<'_>, lines: &mut Vec<u8>) -> Result<(), yaml
     }
 }
 
-// No lines, and room for that many bytes of them, if there is so much.
-fn empty_lines(alloc: Global, room: usize) -> Vec<u8>
-    ensures { result.items ≡ [] }
-{
-    match Vec::with_capacity(alloc, room) {
-        Ok(lines) => lines,
-        Err(_) => Vec::new(alloc),
-    }
-}
-
 /// The lines of a reading's events, for that many bytes of which room is asked for at first: where there is less it is asked for as they
 /// come.
 #[tactic(auto, using(crate::proofs::Judging::listed, crate::proofs::Judging::not_listed))]
@@ -52,7 +42,8 @@ pub fn lines_of(
     ensures { (from : yaml_encoding_t) (input : List ℕ) → ReadsInput from input reading.old.parser
         → Answers list_layers bytes_of (IsListed from input) result }
 {
-    let mut lines = empty_lines(alloc, room);
+    let mut lines = Vec::new(alloc);
+    let _ = lines.reserve(room);
     match push_lines(reading, &mut lines) {
         Err(fault) => Err(fault),
         Ok(()) => Ok(lines),

@@ -15,7 +15,7 @@ use yaml_parse::{
     yaml_memory_fault, yaml_origin_t,
 };
 use yaml_round_device::yaml_settings_t;
-use yaml_round_reading::{ReadText, Reading, let_go, let_text_go, read_text, reading_of};
+use yaml_round_reading::{Reading, let_go, let_text_go, read_text, reading_of};
 
 /// The next document, whose end is made implicit; nothing after the last.
 #[tactic(auto, using(crate::proofs::Reloading::loaded_document, crate::proofs::Reloading::loaded_last, crate::proofs::Reloading::load_refused))]
@@ -59,23 +59,6 @@ fn documents_from(
     }
 }
 
-// The documents of the input whose text it is.
-fn documents_in(
-    alloc: Global,
-    text: &ReadText<'_>,
-) -> Result<VecDeque<yaml_document_t>, yaml_fault_t>
-    ensures { Answers load_layers (λ ds. ds.items) (IsLoaded text.now.from text.now.bytes) result }
-{
-    match reading_of(alloc, text) {
-        Err(fault) => Err(fault),
-        Ok(mut reading) => {
-            let answer = documents_from(alloc, &mut reading);
-            let_go(reading);
-            answer
-        }
-    }
-}
-
 /// The documents of the input.
 pub fn documents_of(
     alloc: Global,
@@ -85,9 +68,18 @@ pub fn documents_of(
     ensures { Answers load_layers (λ ds. ds.items) (IsLoaded from input.now) result }
 {
     let text = read_text(alloc, input, from);
-    let answer = documents_in(alloc, &text);
-    let_text_go(text);
-    answer
+    match reading_of(alloc, &text) {
+        Err(fault) => {
+            let_text_go(text);
+            Err(fault)
+        }
+        Ok(mut reading) => {
+            let answer = documents_from(alloc, &mut reading);
+            let_go(reading);
+            let_text_go(text);
+            answer
+        }
+    }
 }
 
 /// Drops loaded documents. It is a call, so that no owner's proof writes out the drop of all that a document holds.

@@ -12,9 +12,8 @@ use std::alloc::Global;
 use yaml_parse::{
     EventRef, yaml_encoding_t, yaml_event_type_t, yaml_fault_t, yaml_found_t, yaml_mark_t,
 };
-use yaml_round_reading::{
-    ReadText, Reading, let_go, let_text_go, read_text, reading_of, yaml_side_t,
-};
+use yaml_parse_model::ZERO_MARK;
+use yaml_round_reading::{Reading, let_go, let_text_go, read_text, reading_of, yaml_side_t};
 
 /// Where an event begins and ends, and what it is.
 #[derive(Clone, Copy)]
@@ -53,14 +52,9 @@ fn found_at(reading: &mut Reading<'_>, number: u64) -> Result<Seen, yaml_fault_t
         match reading.next() {
             yaml_found_t::Refused => return Err(reading.fault()),
             yaml_found_t::End => {
-                let zero = yaml_mark_t {
-                    index: 0,
-                    line: 0,
-                    column: 0,
-                };
                 return Ok(Seen {
-                    start: zero,
-                    end: zero,
+                    start: ZERO_MARK,
+                    end: ZERO_MARK,
                     kind: yaml_event_type_t::YAML_NO_EVENT,
                 });
             }
@@ -76,21 +70,6 @@ fn found_at(reading: &mut Reading<'_>, number: u64) -> Result<Seen, yaml_fault_t
     }
 }
 
-// What is seen of the event of that number in an input's text.
-fn seen_in(alloc: Global, text: &ReadText<'_>, number: u64) -> Result<Seen, yaml_fault_t>
-    ensures { FindsEvent number (events_of text.now.from text.now.bytes)
-        (ending_of text.now.from text.now.bytes) result }
-{
-    match reading_of(alloc, text) {
-        Err(fault) => Err(fault),
-        Ok(mut reading) => {
-            let answer = found_at(&mut reading, number);
-            let_go(reading);
-            answer
-        }
-    }
-}
-
 // What is seen of the event of that number in an input.
 fn seen_at(
     alloc: Global,
@@ -101,9 +80,18 @@ fn seen_at(
     ensures { FindsEvent number (events_of from input.now) (ending_of from input.now) result }
 {
     let text = read_text(alloc, input, from);
-    let answer = seen_in(alloc, &text, number);
-    let_text_go(text);
-    answer
+    match reading_of(alloc, &text) {
+        Err(fault) => {
+            let_text_go(text);
+            Err(fault)
+        }
+        Ok(mut reading) => {
+            let answer = found_at(&mut reading, number);
+            let_go(reading);
+            let_text_go(text);
+            answer
+        }
+    }
 }
 
 // The place, with what these two events say of it.

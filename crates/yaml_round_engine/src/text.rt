@@ -1,20 +1,20 @@
 //! The text of an input's events, and whether they begin with nothing.
 
-ghost use Rattle.std.specs.Prelude.{◌≡◌, [], IfOk};
-ghost use Rattle.yaml_scan_types.specs.Faults.{Answers, parse_layers};
+ghost use Rattle.std.specs.Prelude.{◌≡◌, [], IfErr, IfOk};
+ghost use Rattle.yaml_scan_types.specs.Faults.{Answers, fault_of, parse_layers};
 ghost use Rattle.yaml_round_engine.specs.Layers.{reformat_layers};
 ghost use Rattle.yaml_round_content.specs.Input.{ReadsInput, ending_of, events_of};
-ghost use Rattle.yaml_round_reading.specs.Reading.{AreReal};
+ghost use Rattle.yaml_round_reading.specs.Reading.{AreReal, IsFaultOf};
 ghost use Rattle.yaml_round_engine.specs.Answers.{IsInPrettyForm, IsJudged, IsWrittenIn, text_and_whether, bytes_of};
 ghost use Rattle.yaml_round_engine.specs.Writing.{WritesAll, comes_to_nothing};
 
 use crate::beginning::Beginning;
 use crate::writing::{
-    Form, begins_with_nothing, emitter_under, finished, is_canonical, write_rest, write_up_to,
+    Form, begins_with_nothing, emit_formed, emitter_under, finished, is_canonical,
 };
 use std::alloc::Global;
-use yaml_emit::yaml_emitter_t;
-use yaml_parse::{yaml_encoding_t, yaml_fault_t};
+use yaml_emit::{yaml_emitter_output, yaml_emitter_t};
+use yaml_parse::{yaml_encoding_t, yaml_fault_t, yaml_found_t};
 use yaml_round_device::yaml_settings_t;
 use yaml_round_reading::{ReadText, Reading, let_go, let_text_go, read_out, read_text, reading_of};
 
@@ -38,9 +38,28 @@ fn judge(alloc: Global, text: &ReadText<'_>) -> Result<(), yaml_fault_t>
     }
 }
 
-// Writes the events to their end. The layout of deep nesting grows with the square of its input: where the text has
-// outgrown the input, the rest is judged before more is written, so that a fault costs no more than the input's size.
-#[tactic(auto, using(crate::proofs::Judging::then_rest, crate::proofs::Judging::met_again))]
+// The most bytes that a text of that size may have from now on. Where it has outgrown its input, that is judged first, so that
+// its fault costs no more than its size, and then the text may have any: the layout of deep nesting grows with the square of
+// its input.
+#[tactic(auto, using(crate::proofs::Judging::met_again))]
+fn most_behind(
+    alloc: Global,
+    text: &ReadText<'_>,
+    size: usize,
+    most: usize,
+) -> Result<usize, yaml_fault_t>
+    ensures { IfErr result (λ f. IsFaultOf (ending_of text.now.from text.now.bytes) (fault_of f)) }
+{
+    if size <= most {
+        return Ok(most);
+    }
+    match judge(alloc, text) {
+        Ok(()) => Ok(usize::MAX),
+        Err(fault) => Err(fault),
+    }
+}
+
+// Writes the events to their end. A fault of theirs is the answer; the emitter keeps its own.
 fn write_events(
     alloc: Global,
     text: &ReadText<'_>,
@@ -52,12 +71,18 @@ fn write_events(
     requires ending { reading.old.parser.ending ≡ ending_of text.now.from text.now.bytes }
     ensures { WritesAll form.old reading.old.parser emitter.old result form.new emitter.new }
 {
-    let most = text.input_len() % UNREACHED * OUTGROWN;
-    if write_up_to(reading, emitter, form, most)? {
-        return Ok(());
+    let mut most = text.input_len() % UNREACHED * OUTGROWN;
+    'events: loop {
+        match most_behind(alloc, text, yaml_emitter_output(emitter).len(), most) {
+            Ok(behind) => most = behind,
+            Err(fault) => return Err(fault),
+        }
+        match reading.next() {
+            yaml_found_t::Refused => return Err(reading.fault()),
+            yaml_found_t::End => return Ok(()),
+            yaml_found_t::Event => emit_formed(emitter, form, reading.event()),
+        }
     }
-    judge(alloc, text)?;
-    write_rest(reading, emitter, form)
 }
 
 // The text of the events of the input's reading in that form, or their fault.
@@ -84,28 +109,6 @@ fn written_from(
     }
 }
 
-// The text of the input's events in that form, by the input's text.
-fn written_of(
-    alloc: Global,
-    text: &ReadText<'_>,
-    settings: &yaml_settings_t,
-    form: &mut Form,
-) -> Result<Vec<u8>, yaml_fault_t>
-    ensures text { Answers reformat_layers bytes_of (IsWrittenIn form.old text.now.from settings.now
-        text.now.bytes) result }
-    ensures beginning { IfOk result (λ _. comes_to_nothing form.old
-        (events_of text.now.from text.now.bytes) ≡ comes_to_nothing form.new []) }
-{
-    match reading_of(alloc, text) {
-        Err(fault) => Err(fault),
-        Ok(mut reading) => {
-            let answer = written_from(alloc, text, &mut reading, settings, form);
-            let_go(reading);
-            answer
-        }
-    }
-}
-
 /// The text of the input's events in that form. The input is read to its end, also where the text passes its
 /// limit before, so that a fault of the input comes first.
 pub fn written(
@@ -121,9 +124,18 @@ pub fn written(
         ≡ comes_to_nothing form.new []) }
 {
     let text = read_text(alloc, input, from);
-    let answer = written_of(alloc, &text, settings, form);
-    let_text_go(text);
-    answer
+    match reading_of(alloc, &text) {
+        Err(fault) => {
+            let_text_go(text);
+            Err(fault)
+        }
+        Ok(mut reading) => {
+            let answer = written_from(alloc, &text, &mut reading, settings, form);
+            let_go(reading);
+            let_text_go(text);
+            answer
+        }
+    }
 }
 
 /// The text in pretty form, and whether the input begins with nothing; where it doesn't, the text reads back.

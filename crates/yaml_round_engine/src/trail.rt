@@ -10,7 +10,8 @@ use crate::cause::yaml_cause_t;
 use crate::difference::{yaml_difference_t, yaml_step_t};
 use crate::seen::type_of;
 use std::alloc::{AllocError, Global};
-use yaml_parse::{EventRef, yaml_event_type_t, yaml_mark_t};
+use yaml_parse::{EventRef, yaml_event_type_t};
+use yaml_parse_model::ZERO_MARK;
 use yaml_round_reading::Reading;
 
 /// The state of a comparison, or where it found that the contents differ. The path is kept only
@@ -69,10 +70,8 @@ fn step_behind(
 fn push_step(path: &mut Vec<yaml_step_t>, step: yaml_step_t) -> Result<(), AllocError>
     ensures { OnOk result (steps_of path.new.items ≡ step_of step ∷ steps_of path.old.items) }
 {
-    match path.push(step) {
-        Ok(()) => Ok(()),
-        Err(_) => Err(AllocError),
-    }
+    path.push(step)?;
+    Ok(())
 }
 
 // Passes a whole node.
@@ -131,19 +130,14 @@ impl Trail {
     pub fn new(alloc: Global) -> Trail
         ensures { path_of result.place ≡ start }
     {
-        let zero = yaml_mark_t {
-            index: 0,
-            line: 0,
-            column: 0,
-        };
         Trail {
             place: yaml_difference_t {
                 document: 0,
                 path: Vec::new(alloc),
-                first_mark: zero,
-                first_end: zero,
-                second_mark: zero,
-                second_end: zero,
+                first_mark: ZERO_MARK,
+                first_end: ZERO_MARK,
+                second_mark: ZERO_MARK,
+                second_end: ZERO_MARK,
                 first_type: yaml_event_type_t::YAML_NO_EVENT,
                 second_type: yaml_event_type_t::YAML_NO_EVENT,
                 cause: yaml_cause_t::Kind,

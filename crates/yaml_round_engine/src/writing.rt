@@ -1,30 +1,25 @@
-//! An emitter under the engine's settings, and the writing of a reading's events.
+//! An emitter under the engine's settings, and the events that it is given.
 
 ghost use Rattle.std.specs.Prelude.{◌≡◌, ℕ, Some, List, [], ◌∷◌, IfOk, IfErr, option_map};
 ghost use Rattle.yaml_scan_types.specs.Faults.{Fault, fault_of, memory_fault};
 ghost use Rattle.yaml_parse.specs.Events.{Event, borrowed_body};
-ghost use Rattle.yaml_parse.specs.Resolve.{Told};
 ghost use Rattle.yaml_parse.specs.Constructors.{HasUtf8};
 ghost use Rattle.yaml_emit.specs.Content.{emitter_event};
 ghost use Rattle.yaml_emit.specs.Emitter.{IsLimited};
 ghost use Rattle.yaml_round_engine.specs.Beginning.{nothing_comes};
-ghost use Rattle.yaml_round_reading.specs.Reading.{AreReal};
-ghost use Rattle.yaml_round_engine.specs.Writing.{IsUnder, Gives, given_in, is_canonical, is_pretty, requested_under, comes_to_nothing, encoding_under, WritesReading, WritesAll, FinishesText};
+ghost use Rattle.yaml_round_engine.specs.Writing.{IsUnder, Gives, given_in, is_canonical, is_pretty, requested_under, comes_to_nothing, encoding_under, FinishesText};
 
-use crate::beginning::{Beginning, behind, is_nothing};
+use crate::beginning::{Beginning, behind};
 use crate::styles::{OpeningPosition, position_after, restyle};
 use std::alloc::Global;
 use yaml_emit::{
     yaml_emitter_emit_soon, yaml_emitter_fault, yaml_emitter_initialize, yaml_emitter_into_output,
-    yaml_emitter_output, yaml_emitter_set_break, yaml_emitter_set_canonical,
-    yaml_emitter_set_encoding, yaml_emitter_set_indent, yaml_emitter_set_unicode,
-    yaml_emitter_set_width, yaml_emitter_t,
+    yaml_emitter_set_break, yaml_emitter_set_canonical, yaml_emitter_set_encoding,
+    yaml_emitter_set_indent, yaml_emitter_set_unicode, yaml_emitter_set_width, yaml_emitter_t,
 };
-use yaml_parse::{
-    EventRef, yaml_encoding_t, yaml_fault_t, yaml_found_t, yaml_memory_fault, yaml_origin_t,
-};
+use yaml_parse::{EventRef, yaml_encoding_t, yaml_fault_t, yaml_memory_fault, yaml_origin_t};
 use yaml_round_device::{yaml_output_encoding_t, yaml_settings_t};
-use yaml_round_reading::{Reading, normalized};
+use yaml_round_reading::normalized;
 
 /// The form in which events are given to the emitter, and what it has to know of those that were.
 #[derive(Clone, Copy)]
@@ -41,20 +36,14 @@ pub enum Form {
 pub(crate) fn is_canonical(form: Form) -> bool
     ensures { result ≡ is_canonical form }
 {
-    match form {
-        Form::Canonical => true,
-        Form::Pretty(_) | Form::Readable(_) => false,
-    }
+    matches!(form, Form::Canonical)
 }
 
 /// Whether the events that were given are those of an input that begins with nothing, as pretty form has to know.
 pub(crate) fn begins_with_nothing(form: Form) -> bool
     ensures { result ≡ comes_to_nothing form [] }
 {
-    match form {
-        Form::Pretty(beginning) => is_nothing(beginning),
-        Form::Canonical | Form::Readable(_) => false,
-    }
+    matches!(form, Form::Pretty(Beginning::Nothing))
 }
 
 // Whether that is pretty form, with the events' own styles.
@@ -111,8 +100,8 @@ fn see(beginning: &mut Beginning, event: EventRef<'_>)
     }
 }
 
-// Gives the event, normalized, as its form has it. The emitter keeps its first fault.
-fn emit_formed(emitter: &mut yaml_emitter_t, form: &mut Form, event: EventRef<'_>)
+/// Gives the event, normalized, as its form has it. The emitter keeps its first fault.
+pub(crate) fn emit_formed(emitter: &mut yaml_emitter_t, form: &mut Form, event: EventRef<'_>)
     requires { HasUtf8 (borrowed_body event) }
     ensures { (e : Event) → e.body ≡ borrowed_body event.entry
         → Gives form.old emitter.old e form.new emitter.new }
@@ -128,50 +117,6 @@ fn emit_formed(emitter: &mut yaml_emitter_t, form: &mut Form, event: EventRef<'_
             let at = *place;
             *place = position_after(normal, at);
             yaml_emitter_emit_soon(emitter, &restyle(normal, at));
-        }
-    }
-}
-
-// The loop over events that writes.
-
-/// Writes the events while the text has at most that many bytes. True at the end of the events. A fault of theirs is the
-/// answer; the emitter keeps its own.
-pub(crate) fn write_up_to(
-    reading: &mut Reading<'_>,
-    emitter: &mut yaml_emitter_t,
-    form: &mut Form,
-    most: usize,
-) -> Result<bool, yaml_fault_t>
-    requires { AreReal reading.old.parser.events }
-    ensures { WritesReading form.old reading.old.parser emitter.old result form.new
-        reading.new.parser emitter.new }
-{
-    'events: loop {
-        if yaml_emitter_output(emitter).len() > most {
-            return Ok(false);
-        }
-        match reading.next() {
-            yaml_found_t::Refused => return Err(reading.fault()),
-            yaml_found_t::End => return Ok(true),
-            yaml_found_t::Event => emit_formed(emitter, form, reading.event()),
-        }
-    }
-}
-
-/// Writes the events to their end. A fault of theirs is the answer; the emitter keeps its own.
-pub(crate) fn write_rest(
-    reading: &mut Reading<'_>,
-    emitter: &mut yaml_emitter_t,
-    form: &mut Form,
-) -> Result<(), yaml_fault_t>
-    requires { AreReal reading.old.parser.events }
-    ensures { WritesAll form.old reading.old.parser emitter.old result form.new emitter.new }
-{
-    'events: loop {
-        match reading.next() {
-            yaml_found_t::Refused => return Err(reading.fault()),
-            yaml_found_t::End => return Ok(()),
-            yaml_found_t::Event => emit_formed(emitter, form, reading.event()),
         }
     }
 }

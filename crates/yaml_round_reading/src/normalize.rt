@@ -17,30 +17,44 @@ fn is_lone(tag: Option<&[u8]>, value: &[u8]) -> bool
     }
 }
 
-/// The event normalized: an empty scalar with the tag `!` is untagged and plain-implicit; where `ends` is set every
-/// document's end is implicit.
-pub fn normalized(event: EventRef<'_>, ends: bool) -> EventRef<'_>
-    ensures normalized { borrowed_body result ≡ normalize_body ends (borrowed_body event.entry) }
-    ensures utf8 { HasUtf8 (borrowed_body event.entry) → HasUtf8 (borrowed_body result) }
+// An empty scalar with the tag `!` becomes untagged and plain-implicit; where `ends` is set a document's end becomes implicit.
+fn normalize(event: &mut EventRef<'_>, ends: bool)
+    ensures normalized { borrowed_body event.new ≡ normalize_body ends (borrowed_body event.old) }
+    ensures utf8 { HasUtf8 (borrowed_body event.old) → HasUtf8 (borrowed_body event.new) }
 {
-    match event {
-        EventRef::DocumentEnd { implicit } => EventRef::DocumentEnd {
-            implicit: implicit || ends,
-        },
+    match *event {
+        EventRef::DocumentEnd { implicit } => {
+            *event = EventRef::DocumentEnd {
+                implicit: implicit || ends,
+            };
+        }
         EventRef::Scalar {
             anchor,
             tag,
             value,
             style,
             ..
-        } if is_lone(tag, value) => EventRef::Scalar {
-            anchor,
-            tag: None,
-            value,
-            plain_implicit: true,
-            quoted_implicit: false,
-            style,
-        },
-        _ => event,
+        } if is_lone(tag, value) => {
+            *event = EventRef::Scalar {
+                anchor,
+                tag: None,
+                value,
+                plain_implicit: true,
+                quoted_implicit: false,
+                style,
+            };
+        }
+        _ => (),
     }
+}
+
+/// The event normalized: an empty scalar with the tag `!` is untagged and plain-implicit; where `ends` is set every
+/// document's end is implicit.
+pub fn normalized(event: EventRef<'_>, ends: bool) -> EventRef<'_>
+    ensures normalized { borrowed_body result ≡ normalize_body ends (borrowed_body event.entry) }
+    ensures utf8 { HasUtf8 (borrowed_body event.entry) → HasUtf8 (borrowed_body result) }
+{
+    let mut event = event;
+    normalize(&mut event, ends);
+    event
 }

@@ -16,7 +16,7 @@ returns-clause-told c =
     ∙ ap (λ id. key_labels (number_at c.deref-2.result.now) (body_of_id c.args.second.now.nodes id)) (to_z-of_z w32 c.args.pair.second (search rules))
     ∙ ap (λ t. key_labels (number_at t) (body_of_id c.args.second.now.nodes c.args.pair.second)) c.deref-2.ensures.value in
     let new = c.compare_held.new.told.items in
-    let T : List ℕ → List ℕ → Type 0 = λ x y. OnOk c.compare_held.result (new ≡ c.args.told.now.items ++ told_held c.args.pair x y) in
+    let T : List ℕ → List ℕ → Type 0 = λ x y. OnOk c.compare_held.result (new ≡ c.args.told.now.items ++ told_held c.args.number c.args.pair x y) in
     subst (T (key_labels (first_of c.args.labels.now) (body_of_id c.args.first.now.nodes c.args.pair.first))) others
     (subst (λ x. T x c.in_ok-others.others.labels.items) own c.compare_held.ensures.told)
 
@@ -28,7 +28,7 @@ returns-clause-pushes c =
     let others = c.in_ok-others.ensures.labels
     ∙ ap (λ id. key_labels (number_at c.deref-2.result.now) (body_of_id c.args.second.now.nodes id)) (to_z-of_z w32 c.args.pair.second (search rules))
     ∙ ap (λ t. key_labels (number_at t) (body_of_id c.args.second.now.nodes c.args.pair.second)) c.deref-2.ensures.value in
-    let P : List ℤ → List ℤ → List ℕ → List ℕ → Type 0 = λ v w x y. OnOk c.compare_held.result (PushesOn c.args.labels.now (pairs_by v w (matched x y)) c.args.walk.now c.compare_held.new.walk) in
+    let P : List ℤ → List ℤ → List ℕ → List ℕ → Type 0 = λ v w x y. OnOk c.compare_held.result (PushesOn c.args.labels.now (pairs_by c.args.number 0 v w (matched x y)) c.args.walk.now c.compare_held.new.walk) in
     let first = key_labels (first_of c.args.labels.now) (body_of_id c.args.first.now.nodes c.args.pair.first) in
     let second = key_labels (second_of c.args.labels.now) (body_of_id c.args.second.now.nodes c.args.pair.second) in
     let held = held_values (body_of_id c.args.first.now.nodes c.args.pair.first) in

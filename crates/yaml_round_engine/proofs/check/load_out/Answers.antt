@@ -1,11 +1,10 @@
--- The answer is that of the input's text.
+-- The answer is that of the input's reading.
 use Rattle.std.proofs.Common.{subst}
-use Rattle.yaml_scan_types.specs.Faults.{Answers, load_layers}
+use Rattle.yaml_round_content.specs.Input.{ReadsInput}
 use Rattle.yaml_round_reading.specs.Input.{Input}
-use Rattle.yaml_round_engine.specs.Checking.{IsChecked}
 use Rattle.yaml_round_engine.proofs.check.load_out.Goals as goal
 
-pub returns : goal.returns
-returns c =
-    subst (λ (i : Input). Answers load_layers (λ (done : Unit {0}). done) (IsChecked i.from i.bytes) c.load_text-answer.result)
-    c.read_text-text.ensures c.load_text-answer.ensures
+pub returns-in-Ok : goal.returns-in-Ok
+returns-in-Ok c =
+    c.look_through-answer.ensures c.args.from c.args.input.now
+    (subst (λ (i : Input). ReadsInput i.from i.bytes c.in-Ok.reading.parser) c.read_text-text.ensures c.in-Ok.ensures.reads)

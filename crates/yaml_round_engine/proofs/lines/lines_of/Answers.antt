@@ -1,3 +1,4 @@
+use Rattle.std.proofs.Common.{◌∙◌}
 use Rattle.yaml_round_engine.proofs.Judging.{listed, not_listed}
 use Rattle.yaml_round_engine.proofs.lines.lines_of.Goals as goal
 
@@ -6,4 +7,4 @@ returns-in-Err c = λ from input h. not_listed from input c.args.reading.now.par
 
 pub returns-in-Ok : goal.returns-in-Ok
 returns-in-Ok c = λ from input h.
-    listed from input c.args.reading.now.parser c.push_lines.new.lines.items c.empty_lines-lines.result.items h c.empty_lines-lines.ensures c.in-Ok.ensures.0 c.in-Ok.ensures.1
+    listed from input c.args.reading.now.parser c.push_lines.new.lines.items c.reserve.new.self.items h (c.reserve.ensures.items ∙ c.new-lines.ensures.items) c.in-Ok.ensures.0 c.in-Ok.ensures.1

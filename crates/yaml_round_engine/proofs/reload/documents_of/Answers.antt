@@ -1,11 +1,10 @@
--- The answer is that of the input's text.
+-- The answer is that of the input's reading.
 use Rattle.std.proofs.Common.{subst}
-use Rattle.yaml_scan_types.specs.Faults.{Answers, load_layers}
+use Rattle.yaml_round_content.specs.Input.{ReadsInput}
 use Rattle.yaml_round_reading.specs.Input.{Input}
-use Rattle.yaml_round_engine.specs.Reload.{IsLoaded}
 use Rattle.yaml_round_engine.proofs.reload.documents_of.Goals as goal
 
-pub returns : goal.returns
-returns c =
-    subst (λ (i : Input). Answers load_layers (λ ds. ds.items) (IsLoaded i.from i.bytes) c.documents_in-answer.result)
-    c.read_text-text.ensures c.documents_in-answer.ensures
+pub returns-in-Ok : goal.returns-in-Ok
+returns-in-Ok c =
+    c.documents_from-answer.ensures c.args.from c.args.input.now
+    (subst (λ (i : Input). ReadsInput i.from i.bytes c.in-Ok.reading.parser) c.read_text-text.ensures c.in-Ok.ensures.reads)

@@ -1,7 +1,12 @@
 -- The front is given, and the rest is left.
-use Rattle.std.proofs.Common.{◌∙◌, sym}
+use Rattle.std.proofs.Common.{◌∙◌, sym, subst, Option}
+use Rattle.yaml_scan_types.specs.Faults.{Fault, fault_of}
+use Rattle.yaml_round_reading.specs.Reading.{IsFaultOf}
 use Rattle.yaml_round_engine.proofs.Giving.{gives}
-use Rattle.yaml_round_engine.proofs.writing.write_up_to.Goals as goal
+use Rattle.yaml_round_engine.proofs.text.write_events.Goals as goal
+
+pub returns-in-Err : goal.returns-in-Err
+returns-in-Err c = subst (λ (e : Option Fault). IsFaultOf e (fault_of c.in-Err.fault)) (sym c.requires.ending) c.in-Err.ensures
 
 pub events-preserved : goal.events-preserved
 events-preserved c =

@@ -1,6 +1,6 @@
 use Rattle.std.proofs.Common.{◌≡◌, drop}
-use Rattle.yaml_round_documents.specs.Texts.{number_from}
-use Rattle.yaml_round_documents.proofs.apart.number_of.Given as goal
+use Rattle.yaml_round_documents.specs.Ranks.{number_from}
+use Rattle.yaml_round_documents.proofs.shape.number_of.Given as goal
 
 -- what is left decides
 abbrev pub invariant-loop-byte : goal.invariant-loop-byte

@@ -2,7 +2,7 @@
 use Rattle.std.proofs.Common.{◌≡◌, length}
 use Rattle.yaml_round_reading.specs.Reading.{AreReal}
 use Rattle.yaml_round_engine.specs.Writing.{LeadsOn}
-use Rattle.yaml_round_engine.proofs.writing.write_up_to.Given as goal
+use Rattle.yaml_round_engine.proofs.text.write_events.Given as goal
 
 abbrev pub invariant-events : goal.invariant-events
 invariant-events l = record {

@@ -1,9 +1,9 @@
 -- Tests of what records name, and what the records mean.
-use Rattle.std.proofs.Common.{◌≡◌, ℕ, ◌+◌, ◌<◌, ◌≤◌, length, get_or, drop, add-one, Bool, true, false, ◌&&◌, List, [], ◌∷◌, refl, sym, ap, ◌∙◌, Option, None, Some, is_some, option_map, Bor, IsTrue, ◌↔◌}
+use Rattle.std.proofs.Common.{◌≡◌, ℕ, ◌+◌, ◌<◌, length, get_or, drop, add-one, Bool, true, false, ◌&&◌, List, [], ◌∷◌, refl, sym, ap, ◌∙◌, Option, None, Some, is_some, option_map, Bor, IsTrue, ◌↔◌}
 use Rattle.std.specs.Prelude.{IsUtf8}
+use Rattle.std.specs.List.{list_all}
 use Rattle.std.specs.Str.{is_utf8}
 use Rattle.std.proofs.Math.Seq.{drop-cons}
-use Rattle.std.proofs.lemmas.List.{drop_all}
 use Rattle.std.proofs.lemmas.Bool.{false≢true}
 use Rattle.std.proofs.lemmas.Str.{IsUtf8-from_is_utf8, is_utf8-from_IsUtf8}
 use Rattle.std.proofs.Math.Bool.{and-false}
@@ -220,68 +220,17 @@ pub left_cons : {X : Type 0} (xs : List X) (i : ℕ) (d : X) → i < length xs
     → drop i xs ≡ get_or xs i d ∷ drop (i + 1) xs
 left_cons xs i d h = drop-cons xs i d h ∙ ap (λ (k : ℕ). get_or xs i d ∷ drop k xs) (sym (add-one i))
 
--- a test of what is left is one of its first item and one of the rest
-pub none_left : (b y x t r : Bool) → x ≡ t → x ≡ (b && y) → r ≡ b → r ≡ false → false ≡ t
-none_left true y x t r inv e is off = absurd (cc)
-none_left false y x t r inv e is off = sym e ∙ inv
+-- ---- tests of lists
 
--- the same where the first one is right
-pub some_left : (b y x t r : Bool) → x ≡ t → x ≡ (b && y) → r ≡ b → r ≡ true → y ≡ t
-some_left true y x t r inv e is on = sym e ∙ inv
-some_left false y x t r inv e is on = absurd (cc)
-
-left_directives : (bytes : List ℕ) (list : List yaml_c_directive) (i : ℕ) (d : yaml_c_directive)
-    → i < length list
-    → are_directives (all_directives bytes (drop i list))
-    ≡ (is_directive (directive_at bytes (get_or list i d))
-    && are_directives (all_directives bytes (drop (i + 1) list)))
-left_directives bytes list i d h = ap (λ ds. are_directives (all_directives bytes ds)) (left_cons list i d h) ∙ more_directives bytes (get_or list i d) (drop (i + 1) list)
-
-pub directive_refused : (bytes : List ℕ) (list : List yaml_c_directive) (i : ℕ)
-    (d : yaml_c_directive) (r : Bool) → i < length list
-    → are_directives (all_directives bytes (drop i list))
+pub directives_tested : (bytes : List ℕ) (list : List yaml_c_directive)
+    → list_all (λ d. is_directive (directive_at bytes d)) list
     ≡ are_directives (all_directives bytes list)
-    → r ≡ is_directive (directive_at bytes (get_or list i d)) → r ≡ false
-    → false ≡ are_directives (all_directives bytes list)
-directive_refused bytes list i d r h inv is off = none_left (is_directive (directive_at bytes (get_or list i d))) _ _ _ r inv (left_directives bytes list i d h) is off
+directives_tested bytes [] = sym (no_directives bytes)
+directives_tested bytes (d ∷ ds) =
+    ap (λ b. is_directive (directive_at bytes d) && b) (directives_tested bytes ds) ∙ sym (more_directives bytes d ds)
 
-pub directive_passed : (bytes : List ℕ) (list : List yaml_c_directive) (i : ℕ)
-    (d : yaml_c_directive) (r : Bool) → i < length list
-    → are_directives (all_directives bytes (drop i list))
-    ≡ are_directives (all_directives bytes list)
-    → r ≡ is_directive (directive_at bytes (get_or list i d)) → r ≡ true
-    → are_directives (all_directives bytes (drop (i + 1) list))
-    ≡ are_directives (all_directives bytes list)
-directive_passed bytes list i d r h inv is on = some_left (is_directive (directive_at bytes (get_or list i d))) _ _ _ r inv (left_directives bytes list i d h) is on
-
-pub directives_end : (bytes : List ℕ) (list : List yaml_c_directive) (i : ℕ) → length list ≤ i
-    → are_directives (all_directives bytes (drop i list))
-    ≡ are_directives (all_directives bytes list) → true ≡ are_directives (all_directives bytes list)
-directives_end bytes list i h inv = sym (no_directives bytes) ∙ (ap (λ ds. are_directives (all_directives bytes ds)) (sym (drop_all i list h)) ∙ inv)
-
-left_events : (bytes : List ℕ) (list : List yaml_c_directive) (rs : List yaml_c_event) (i : ℕ)
-    (d : yaml_c_event) → i < length rs
-    → is_some (events_meant bytes list (drop i rs))
-    ≡ (is_event (body_meant bytes list (get_or rs i d))
-    && is_some (events_meant bytes list (drop (i + 1) rs)))
-left_events bytes list rs i d h = ap (λ es. is_some (events_meant bytes list es)) (left_cons rs i d h) ∙ more_events bytes list (get_or rs i d) (drop (i + 1) rs)
-
-pub event_refused : (bytes : List ℕ) (list : List yaml_c_directive) (rs : List yaml_c_event) (i : ℕ)
-    (d : yaml_c_event) (r : Bool) → i < length rs
-    → is_some (events_meant bytes list (drop i rs)) ≡ is_some (events_meant bytes list rs)
-    → r ≡ is_event (body_meant bytes list (get_or rs i d)) → r ≡ false
-    → false ≡ is_some (events_meant bytes list rs)
-event_refused bytes list rs i d r h inv is off = none_left (is_event (body_meant bytes list (get_or rs i d))) _ _ _ r inv (left_events bytes list rs i d h) is off
-
-pub event_passed : (bytes : List ℕ) (list : List yaml_c_directive) (rs : List yaml_c_event) (i : ℕ)
-    (d : yaml_c_event) (r : Bool) → i < length rs
-    → is_some (events_meant bytes list (drop i rs)) ≡ is_some (events_meant bytes list rs)
-    → r ≡ is_event (body_meant bytes list (get_or rs i d)) → r ≡ true
-    → is_some (events_meant bytes list (drop (i + 1) rs)) ≡ is_some (events_meant bytes list rs)
-event_passed bytes list rs i d r h inv is on = some_left (is_event (body_meant bytes list (get_or rs i d))) _ _ _ r inv (left_events bytes list rs i d h) is on
-
-pub events_end : (bytes : List ℕ) (list : List yaml_c_directive) (rs : List yaml_c_event) (i : ℕ)
-    → length rs ≤ i
-    → is_some (events_meant bytes list (drop i rs)) ≡ is_some (events_meant bytes list rs)
-    → true ≡ is_some (events_meant bytes list rs)
-events_end bytes list rs i h inv = sym (no_events bytes list) ∙ (ap (λ es. is_some (events_meant bytes list es)) (sym (drop_all i rs h)) ∙ inv)
+pub events_tested : (bytes : List ℕ) (list : List yaml_c_directive) (rs : List yaml_c_event)
+    → list_all (λ r. is_event (body_meant bytes list r)) rs ≡ is_some (events_meant bytes list rs)
+events_tested bytes list [] = sym (no_events bytes list)
+events_tested bytes list (r ∷ rs) =
+    ap (λ b. is_event (body_meant bytes list r) && b) (events_tested bytes list rs) ∙ sym (more_events bytes list r rs)

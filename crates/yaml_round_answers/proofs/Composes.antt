@@ -1,41 +1,11 @@
 -- Events that are drawn one after another.
-use Rattle.std.proofs.Common.{◌≡◌, ℕ, ◌+◌, ◌<◌, ◌≤◌, length, get_or, drop, add-one, Bool, true, false, ◌&&◌, List, [], ◌∷◌, ◌++◌, refl, sym, ap, ◌∙◌, Option, None, Some, append-nil, append_assoc}
+use Rattle.std.proofs.Common.{◌≡◌, ℕ, ◌+◌, ◌<◌, ◌≤◌, length, get_or, drop, add-one, Bool, true, false, List, [], ◌∷◌, ◌++◌, refl, sym, ap, ◌∙◌, Option, None, Some, append-nil, append_assoc}
 use Rattle.std.proofs.Math.Seq.{drop-cons}
 use Rattle.std.proofs.lemmas.List.{drop_all}
 use Rattle.yaml_round_answers.specs.declared.graph_record.yaml_c_step.{yaml_c_step}
 use Rattle.yaml_round_answers.specs.declared.graph_record.yaml_c_spot.{yaml_c_spot}
 use Rattle.std.specs.Prelude.{Ok}
-use Rattle.yaml_round_answers.specs.Composing.{name_at, is_step, are_steps, Sketch, drawn, Draws, drawn_on, all_drawn}
-use Rattle.yaml_round_answers.proofs.Checked.{none_left, some_left}
-
--- ---- whether records mean events
-
-left_steps : (bytes : List ℕ) (rs : List yaml_c_step) (i : ℕ) (d : yaml_c_step) → i < length rs
-    → are_steps bytes (drop i rs)
-    ≡ (is_step bytes (get_or rs i d) && are_steps bytes (drop (i + 1) rs))
-unfolding are_steps
-left_steps bytes rs i d h =
-    ap (are_steps bytes) (drop-cons rs i d h)
-    ∙ ap (λ (k : ℕ). is_step bytes (get_or rs i d) && are_steps bytes (drop k rs)) (sym (add-one i))
-
-pub step_refused : (bytes : List ℕ) (rs : List yaml_c_step) (i : ℕ) (d : yaml_c_step) (r : Bool)
-    → i < length rs → are_steps bytes (drop i rs) ≡ are_steps bytes rs
-    → r ≡ is_step bytes (get_or rs i d) → r ≡ false → false ≡ are_steps bytes rs
-step_refused bytes rs i d r h inv is off = none_left (is_step bytes (get_or rs i d)) _ _ _ r inv (left_steps bytes rs i d h) is off
-
-pub step_passed : (bytes : List ℕ) (rs : List yaml_c_step) (i : ℕ) (d : yaml_c_step) (r : Bool)
-    → i < length rs → are_steps bytes (drop i rs) ≡ are_steps bytes rs
-    → r ≡ is_step bytes (get_or rs i d) → r ≡ true
-    → are_steps bytes (drop (i + 1) rs) ≡ are_steps bytes rs
-step_passed bytes rs i d r h inv is on = some_left (is_step bytes (get_or rs i d)) _ _ _ r inv (left_steps bytes rs i d h) is on
-
-no_steps : (bytes : List ℕ) → are_steps bytes [] ≡ true
-unfolding are_steps
-no_steps bytes = refl
-
-pub steps_end : (bytes : List ℕ) (rs : List yaml_c_step) (i : ℕ) → length rs ≤ i
-    → are_steps bytes (drop i rs) ≡ are_steps bytes rs → true ≡ are_steps bytes rs
-steps_end bytes rs i h inv = sym (no_steps bytes) ∙ ap (are_steps bytes) (sym (drop_all i rs h)) ∙ inv
+use Rattle.yaml_round_answers.specs.Composing.{name_at, Sketch, drawn, Draws, drawn_on, all_drawn}
 
 -- ---- what the events come to
 

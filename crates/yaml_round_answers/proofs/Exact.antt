@@ -1,5 +1,5 @@
 -- The kind in the answer is -1 only where a number means nothing.
-use Rattle.std.proofs.Common.{◌≡◌, inl, inr, sym, subst, ℕ, ℤ, pos, negsuc, Bool, List, [], Option, None, Some, Result, Ok, Err}
+use Rattle.std.proofs.Common.{◌≡◌, ◌⊎◌, inl, inr, sym, subst, ℕ, ℤ, pos, negsuc, Bool, true, false, List, [], Option, None, Some, Result, Ok, Err}
 use Rattle.yaml_parse.specs.declared.yaml_error_type_t.{yaml_error_type_t}
 use Rattle.yaml_parse.specs.declared.yaml_error_type_t.TheVariants as error
 use Rattle.yaml_parse.specs.declared.yaml_encoding_t.{yaml_encoding_t}
@@ -16,7 +16,7 @@ use Rattle.yaml_round_answers.specs.declared.answer.yaml_c_answer.{yaml_c_answer
 use Rattle.yaml_round_answers.specs.Numbers.{encoding_meant, error_number}
 use Rattle.yaml_round_answers.specs.Told.{TellsText, TellsFault, TellsFaultIn, TellsResult, TellsForm, TellsSame, AnswersMeant, IsExact, both, call_meant, form_number, same_number, side_number, Reformats, Reloads, Lists, Compares}
 use Rattle.yaml_round_answers.specs.Spelled.{spelled_text}
-use Rattle.yaml_round_answers.specs.Parses.{TellsEvents, Parses, TellsFront, Fronts, NothingUnmeant}
+use Rattle.yaml_round_answers.specs.Parses.{HasNothing, TellsEvents, Parses, TellsFront, Fronts, Gives, GivesNoneMeant, NothingUnmeant}
 use Rattle.yaml_round_answers.specs.declared.scanning.yaml_c_scanned.{yaml_c_scanned}
 use Rattle.yaml_round_answers.specs.Decodes.{Decodes}
 use Rattle.yaml_round_answers.specs.Scans.{TellsEnd, TellsScan, Scans, NoTokenUnmeant}
@@ -140,12 +140,24 @@ reloaded_exact n from k given input a p q h =
     subst (λ z. IsExact (call_meant from given) z) (sym q)
     (exact (call_meant from given) (Reloads input) a (λ m l. tells_kind l.result a l.told) (reloaded_told n from given input a p h))
 
+parse_given : (o : Option yaml_encoding_t) (input : List ℕ) (blocks : yaml_c_parsed)
+    (a : yaml_c_answer) → AnswersMeant o (Gives true input blocks) a
+    → AnswersMeant o (Parses input blocks) a
+parse_given None input blocks a h = h
+parse_given (Some m) input blocks a h = h
+
 -- What is answered to a parse is so of the caller's own numbers.
 pub parsed_told : (n from : ℤ) (input : List ℕ) (blocks : yaml_c_parsed) (a : yaml_c_answer)
     → n ≡ from
-    → AnswersMeant (encoding_meant n) (Parses input blocks) a
+    → AnswersMeant (encoding_meant n) (Gives true input blocks) a
     → AnswersMeant (encoding_meant from) (Parses input blocks) a
-parsed_told n from input blocks a p h = subst (λ z. AnswersMeant (encoding_meant z) (Parses input blocks) a) p h
+parsed_told n from input blocks a p h = parse_given (encoding_meant from) input blocks a (subst (λ z. AnswersMeant (encoding_meant z) (Gives true input blocks) a) p h)
+
+-- Where it is refused, nothing is handed out.
+pub parsed_none : (o : Option yaml_encoding_t) (blocks : yaml_c_parsed) (a : yaml_c_answer)
+    → GivesNoneMeant true o blocks a → (a.kind ≡ pos 0) ⊎ HasNothing blocks
+parsed_none None blocks a h = inr h
+parsed_none (Some m) blocks a h = h
 
 -- The answer -1 of a parse comes exactly where a number means nothing.
 pub parsed_exact : (n from k : ℤ) (input : List ℕ) (blocks : yaml_c_parsed) (a : yaml_c_answer)
@@ -153,7 +165,7 @@ pub parsed_exact : (n from k : ℤ) (input : List ℕ) (blocks : yaml_c_parsed) 
     → AnswersMeant (encoding_meant n) (Parses input blocks) a → IsExact (encoding_meant from) k
 parsed_exact n from k input blocks a p q h =
     subst (λ z. IsExact (encoding_meant from) z) (sym q)
-    (exact (encoding_meant from) (Parses input blocks) a (λ m l. events_kind (spelled_text m input) blocks l.result a l.told) (parsed_told n from input blocks a p h))
+    (exact (encoding_meant from) (Parses input blocks) a (λ m l. events_kind (spelled_text m input) blocks l.result a l.told) (subst (λ z. AnswersMeant (encoding_meant z) (Parses input blocks) a) p h))
 
 -- The answer -1 of an emission comes exactly where a number means nothing.
 pub emitted_exact : (meant : Option (List EventBody × (RequestedSettings × ℕ))) (k : ℤ)
@@ -169,17 +181,29 @@ front_kind : (m : yaml_encoding_t) (input : List ℕ) (blocks : yaml_c_parsed)
 front_kind m input blocks (Ok es) a h = text_kind [] (pos 0) a h.0
 front_kind m input blocks (Err f) a h = placed_kind (spelled_text m input) f a h.0
 
+front_given : (o : Option yaml_encoding_t) (input : List ℕ) (blocks : yaml_c_parsed)
+    (a : yaml_c_answer) → AnswersMeant o (Gives false input blocks) a
+    → AnswersMeant o (Fronts input blocks) a
+front_given None input blocks a h = h
+front_given (Some m) input blocks a h = h
+
 -- What is answered to events before a fault is so of the caller's own numbers.
 pub front_told : (n from : ℤ) (input : List ℕ) (blocks : yaml_c_parsed) (a : yaml_c_answer)
     → n ≡ from
-    → AnswersMeant (encoding_meant n) (Fronts input blocks) a
+    → AnswersMeant (encoding_meant n) (Gives false input blocks) a
     → AnswersMeant (encoding_meant from) (Fronts input blocks) a
-front_told n from input blocks a p h = subst (λ z. AnswersMeant (encoding_meant z) (Fronts input blocks) a) p h
+front_told n from input blocks a p h = front_given (encoding_meant from) input blocks a (subst (λ z. AnswersMeant (encoding_meant z) (Gives false input blocks) a) p h)
+
+none_given : (o : Option yaml_encoding_t) (blocks : yaml_c_parsed) (a : yaml_c_answer)
+    → GivesNoneMeant false o blocks a → NothingUnmeant o blocks
+none_given None blocks a h = h
+none_given (Some m) blocks a h = tt
 
 -- Where a number means nothing, nothing of events before a fault is handed out.
-pub front_none : (n from : ℤ) (blocks : yaml_c_parsed) → n ≡ from
-    → NothingUnmeant (encoding_meant n) blocks → NothingUnmeant (encoding_meant from) blocks
-front_none n from blocks p h = subst (λ z. NothingUnmeant (encoding_meant z) blocks) p h
+pub front_none : (n from : ℤ) (blocks : yaml_c_parsed) (a : yaml_c_answer) → n ≡ from
+    → GivesNoneMeant false (encoding_meant n) blocks a
+    → NothingUnmeant (encoding_meant from) blocks
+front_none n from blocks a p h = none_given (encoding_meant from) blocks a (subst (λ z. GivesNoneMeant false (encoding_meant z) blocks a) p h)
 
 -- The answer -1 of events before a fault comes exactly where a number means nothing.
 pub front_exact : (n from k : ℤ) (input : List ℕ) (blocks : yaml_c_parsed) (a : yaml_c_answer)
@@ -187,7 +211,7 @@ pub front_exact : (n from k : ℤ) (input : List ℕ) (blocks : yaml_c_parsed) (
     → AnswersMeant (encoding_meant n) (Fronts input blocks) a → IsExact (encoding_meant from) k
 front_exact n from k input blocks a p q h =
     subst (λ z. IsExact (encoding_meant from) z) (sym q)
-    (exact (encoding_meant from) (Fronts input blocks) a (λ m l. front_kind m input blocks l.result a l.told) (front_told n from input blocks a p h))
+    (exact (encoding_meant from) (Fronts input blocks) a (λ m l. front_kind m input blocks l.result a l.told) (subst (λ z. AnswersMeant (encoding_meant z) (Fronts input blocks) a) p h))
 
 end_kind : (text : List ℕ) (o : Option Fault) (a : yaml_c_answer) → TellsEnd text o a
     → ¬ (a.kind ≡ negsuc 0)

@@ -25,7 +25,7 @@ use Rattle.yaml_emit.specs.emit_layout.declared.Status.TheVariants.{Going}
 use Rattle.yaml_round_laws.specs.Pieces.{Stand, added}
 use Rattle.yaml_round_laws.specs.Calls.{LeadsIn}
 use Rattle.yaml_round_answers.specs.declared.onward.Onward.{Onward}
-use Rattle.yaml_round_answers.specs.declared.onward.StandRecords.{StandRecords}
+use Rattle.yaml_round_answers.specs.declared.standing.yaml_c_stand.{yaml_c_stand}
 use Rattle.yaml_round_answers.specs.declared.standing.yaml_c_place.{yaml_c_place}
 use Rattle.yaml_round_answers.specs.Written.{whole_text}
 use Rattle.yaml_round_answers.specs.Leading.{StartsUnder, LeadsOnward, TakesAllEvents}
@@ -174,15 +174,15 @@ open_place : (s : Settings) (st : State) (es : List Event) → refusal_behind s 
 unfolding refusal_behind
 open_place s st es h = (or_else_none (refused_at st.place) _ h).0
 
-told_waiting : {n : ℕ} {a : At} (s : StandRecords) → TellsAt s (Some a) n → s.place.waiting ≡ n
+told_waiting : {n : ℕ} {a : At} (s : yaml_c_stand) → TellsAt s (Some a) n → s.place.waiting ≡ n
 told_waiting s t = ap (λ (z : yaml_c_place). z.waiting) t.place
 
-none_waiting : (s : StandRecords) → TellsAt s None 0 → s.place.waiting ≡ 0
+none_waiting : (s : yaml_c_stand) → TellsAt s None 0 → s.place.waiting ≡ 0
 none_waiting s t = ap (λ (z : yaml_c_place). z.waiting) t.place
 
 -- without a fault: what is said of the events, and that they lead to the emitter's checkpoint
 record Went (e : Emitter) (limit : ℕ) (s : Settings) (st : State) (c : Cursor) (es : List Event)
-    (text : List ℕ) (sd : StandRecords) : Type 0 where
+    (text : List ℕ) (sd : yaml_c_stand) : Type 0 where
   right : refusal_behind s st es ≡ None
   is : text ≡ encode s.encoding (text_at s st c es)
   short : Fits limit s.encoding (text_at s st c es)
@@ -205,7 +205,7 @@ known_short first e limit s st c es k l on =
     (all.0, subst (λ (n : ℕ). Fits n s.encoding whole) l (fits e.limit s.encoding whole e.output all))
 
 went : (first e : Emitter) (w : RequestedSettings) (limit : ℕ) (s : Settings) (st : State)
-    (c : Cursor) (es : List Event) (text : List ℕ) (sd : StandRecords)
+    (c : Cursor) (es : List Event) (text : List ℕ) (sd : yaml_c_stand)
     → Known first e s st c es → KnownOnward first s st c es → e.fresh ≡ false
     → e.fault ≡ None → text ≡ e.output → TellsStand e sd → e.requested_settings ≡ w
     → e.limit ≡ limit → s ≡ settings_in w s.encoding → Went e limit s st c es text sd
@@ -264,7 +264,7 @@ from_onward first w limit a es g = record {
 }
 
 from_goes : (first e : Emitter) (w : RequestedSettings) (limit : ℕ) (a : At) (es : List Event)
-    (text : List ℕ) (sd : StandRecords) → GoesFrom first w limit a → TakesAllEvents first es e
+    (text : List ℕ) (sd : yaml_c_stand) → GoesFrom first w limit a → TakesAllEvents first es e
     → e.fault ≡ None → text ≡ e.output → TellsOutcome e → TellsStand e sd
     → AddsWholeText w limit (Some a) es text sd
 unfolding added_on refusal_on
@@ -337,7 +337,7 @@ none_leads x s a st h = record {
 }
 
 start_goes : (first e : Emitter) (w : RequestedSettings) (limit : ℕ) (es : List Event)
-    (text : List ℕ) (sd : StandRecords) → StartsUnder first w limit → TakesAllEvents first es e
+    (text : List ℕ) (sd : yaml_c_stand) → StartsUnder first w limit → TakesAllEvents first es e
     → e.fault ≡ None → text ≡ e.output → TellsOutcome e → TellsStand e sd
     → AddsWholeText w limit None es text sd
 unfolding added_on refusal_on

@@ -28,7 +28,6 @@ pub mod EmittedPieces
 pub mod Dumping
 pub mod Loading
 pub mod Showing
-pub mod TurnsTold
 pub mod Same
 pub mod Composes
 pub mod Sketches

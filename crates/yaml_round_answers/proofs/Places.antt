@@ -1,5 +1,5 @@
 -- Emitters at checkpoints, and checkpoints of emitters.
-use Rattle.std.proofs.Common.{◌≡◌, ◌<◌, ◌^◌, inl, inr, ℕ, pos, Bool, true, false, List, [], ◌++◌, append-nil, length, refl, sym, ap, ◌∙◌, subst, arith, Option, None, Some, is_some, Result, Ok, Err}
+use Rattle.std.proofs.Common.{◌≡◌, ◌<◌, ◌^◌, inl, inr, ℕ, Bool, true, false, List, [], ◌++◌, append-nil, length, refl, sym, ap, ◌∙◌, subst, arith, Option, None, Some, is_some, Result, Ok, Err}
 use Rattle.std.specs.Prelude.{nat_lt, option_map, IfOk, IfErr}
 use Rattle.std.proofs.lemmas.Bool.{false≢true}
 use Rattle.std.proofs.lemmas.Bool.Decides.{nat_tests}
@@ -22,7 +22,7 @@ use Rattle.yaml_emit.specs.emit_core.Levels.{stack}
 use Rattle.yaml_emit.specs.emit_core.declared.yaml_emitter_stand_t.{yaml_emitter_stand_t}
 use Rattle.yaml_round_answers.specs.declared.onward.Onward.{Onward}
 use Rattle.yaml_round_answers.specs.declared.listing.Listing.{Listing}
-use Rattle.yaml_round_answers.specs.declared.onward.StandRecords.{StandRecords}
+use Rattle.yaml_round_answers.specs.declared.standing.yaml_c_stand.{yaml_c_stand}
 use Rattle.yaml_round_answers.specs.declared.record.yaml_c_directive.{yaml_c_directive}
 use Rattle.yaml_round_answers.specs.declared.record.yaml_c_span.{yaml_c_span}
 use Rattle.yaml_round_answers.specs.Listing.{PutsDirectives}
@@ -32,7 +32,7 @@ use Rattle.yaml_round_answers.specs.Numbers.{is_set}
 use Rattle.yaml_round_answers.specs.Records.{all_directives}
 use Rattle.yaml_round_answers.specs.Blocks.{directive_texts}
 use Rattle.yaml_round_answers.specs.Leading.{StartsUnder, TakesAllEvents}
-use Rattle.yaml_round_answers.specs.Standing.{At, at_meant, stand_if, stand_meant, levels_meant, place_record, place_told, innermost_told, levels_round, outer_levels, outer_if, directives_of, IsFew}
+use Rattle.yaml_round_answers.specs.Standing.{At, at_meant, stand_if, stand_meant, levels_meant, place_record, place_told, levels_round, outer_levels, outer_if, directives_of, IsFew}
 use Rattle.yaml_round_answers.specs.Onward.{GoesFrom, StartsAt, IsStandBy, TellsStandPlace, TellsStand, TellsAt, GoneOn, IsOnwardAt, onward_of, at_of}
 use Rattle.yaml_round_answers.proofs.Stands.{stand_there, some_map, few_at, at_there, cursor_by}
 use Rattle.yaml_round_answers.proofs.GoingOn.{onward_answer}
@@ -216,13 +216,13 @@ same_stack : (top : Option Level) (outer : List Level)
 same_stack None outer = refl
 same_stack (Some l) outer = refl
 
-tells_at : (e : Emitter) (s : StandRecords) (stand : yaml_emitter_stand_t) (outer : List Level)
+tells_at : (e : Emitter) (s : yaml_c_stand) (stand : yaml_emitter_stand_t) (outer : List Level)
     (ds : List TagDirective) → StandsWhere e stand
     → stack (top_of e.course.state.levels) outer ≡ e.course.state.levels
     → ds ≡ e.course.state.directives → TellsStandPlace stand s.place
-    → levels_meant s.levels.items ≡ Some (outer_if stand.innermost outer)
-    → all_directives s.bytes.items s.directives.items ≡ Some ds
-    → s.bytes.items ≡ directive_texts ds → TellsAt s (Some (at_of e)) (length e.held)
+    → levels_meant s.levels.now ≡ Some (outer_if stand.innermost outer)
+    → all_directives s.bytes.now s.directives.now ≡ Some ds
+    → s.bytes.now ≡ directive_texts ds → TellsAt s (Some (at_of e)) (length e.held)
 tells_at e s stand outer ds is o d t l k b = record {
   place = t.told ∙ same_place e stand is;
   levels = l ∙ ap (λ (z : List Level). Some z) (ap (λ z. outer_if z outer) is.innermost ∙ round_these (top_of e.course.state.levels) outer e.course.state.levels o);
@@ -237,22 +237,34 @@ outer_stack e stand outer is o =
     ap (λ z. stack (top_of e.course.state.levels) (outer_if z outer)) is.innermost
     ∙ same_stack (top_of e.course.state.levels) outer ∙ o
 
-pub told_stand : (e : Emitter) (s : StandRecords) (stand : yaml_emitter_stand_t)
-    (outer : List Level)
+told_there : (e : Emitter) (s : yaml_c_stand) (stand : yaml_emitter_stand_t) (outer : List Level)
     (ds : List TagDirective) → e.fresh ≡ false → StandsWhere e stand
     → stack (top_of e.course.state.levels) outer ≡ e.course.state.levels
     → ds ≡ e.course.state.directives → TellsStandPlace stand s.place
-    → levels_meant s.levels.items ≡ Some (outer_if stand.innermost outer)
-    → all_directives s.bytes.items s.directives.items ≡ Some ds
-    → s.bytes.items ≡ directive_texts ds → TellsStand e s
-told_stand e s stand outer ds off is o d t l k b = record {
+    → levels_meant s.levels.now ≡ Some (outer_if stand.innermost outer)
+    → all_directives s.bytes.now s.directives.now ≡ Some ds
+    → s.bytes.now ≡ directive_texts ds → TellsStand e s
+told_there e s stand outer ds off is o d t l k b = record {
   nowhere = λ f. absurd (false≢true (sym off ∙ f));
   somewhere = λ there right. (
-    λ few. stands_there e stand (outer_if stand.innermost outer) ds s.place s.levels.items s.directives.items s.bytes.items is (outer_stack e stand outer is o) d t l k right few,
+    λ few. stands_there e stand (outer_if stand.innermost outer) ds s.place s.levels.now s.directives.now s.bytes.now is (outer_stack e stand outer is o) d t l k right few,
     tells_at e s stand outer ds is o d t l k b,
   );
   forced = λ there. is.forced there ∙ ap (settings_in e.requested_settings) is.encoding;
 }
+
+-- the lists of the records are these
+pub told_stand : (e : Emitter) (s : yaml_c_stand) (stand : yaml_emitter_stand_t)
+    (outer : List Level) (ds : List TagDirective) (levels : List yaml_c_level)
+    (list : List yaml_c_directive) (bytes : List ℕ) → e.fresh ≡ false → StandsWhere e stand
+    → stack (top_of e.course.state.levels) outer ≡ e.course.state.levels
+    → ds ≡ e.course.state.directives → TellsStandPlace stand s.place
+    → levels_meant levels ≡ Some (outer_if stand.innermost outer)
+    → all_directives bytes list ≡ Some ds → bytes ≡ directive_texts ds → s.levels.now ≡ levels
+    → s.directives.now ≡ list → s.bytes.now ≡ bytes → TellsStand e s
+told_stand e s stand outer ds levels list bytes off is o d t l k b sl sd sb =
+    told_there e s stand outer ds off is o d t (ap levels_meant sl ∙ l)
+    (ap (λ (z : List ℕ). all_directives z s.directives.now) sb ∙ ap (all_directives bytes) sd ∙ k) (sb ∙ b)
 
 no_levels : levels_meant [] ≡ Some (levels_round None)
 unfolding levels_meant
@@ -266,29 +278,21 @@ no_texts : [] ≡ directive_texts (directives_of None)
 unfolding directive_texts
 no_texts = refl
 
-abbrev no_place : yaml_c_level → yaml_c_place
-no_place i = record {
-  state = pos 0;
-  encoding = pos 0;
-  implicit = pos 0;
-  white = pos 0;
-  bare = pos 0;
-  kept = pos 0;
-  column = 0;
-  waiting = 0;
-  innermost = i;
-}
-
 -- before any event nothing is said
-pub tells_none : (s : StandRecords) (i : yaml_c_level) → s.place ≡ no_place i
-    → i ≡ innermost_told None
-    → s.levels.items ≡ [] → s.directives.items ≡ [] → s.bytes.items ≡ [] → TellsAt s None 0
-tells_none s i p e l d b = record {
-  place = p ∙ ap no_place e;
+pub tells_none : (s : yaml_c_stand) → s.place ≡ place_told None 0 → s.levels.now ≡ []
+    → s.directives.now ≡ [] → s.bytes.now ≡ [] → TellsAt s None 0
+tells_none s p l d b = record {
+  place = p;
   levels = ap levels_meant l ∙ no_levels;
-  directives = ap (λ z. all_directives s.bytes.items z) d ∙ ap (λ (z : List ℕ). all_directives z []) b ∙ no_directives;
+  directives = ap (λ z. all_directives s.bytes.now z) d ∙ ap (λ (z : List ℕ). all_directives z []) b ∙ no_directives;
   bytes = b ∙ no_texts;
 }
+
+pub means_none : (p : yaml_c_place) (ls : List yaml_c_level) (list : List yaml_c_directive)
+    (bytes : List ℕ) → p ≡ place_told None 0 → IsFew p.column
+    → stand_meant p ls list bytes ≡ Some None
+unfolding stand_meant is_set
+means_none p ls list bytes none few = ap (λ z. stand_meant z ls list bytes) none
 
 -- ---- the answer, where a checkpoint is meant
 

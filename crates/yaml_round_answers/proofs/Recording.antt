@@ -27,15 +27,12 @@ use Rattle.yaml_round_answers.specs.declared.record.yaml_c_directive.{yaml_c_dir
 use Rattle.yaml_round_answers.specs.declared.record.yaml_c_event.{yaml_c_event}
 use Rattle.yaml_round_answers.specs.declared.listing.Listing.{Listing}
 use Rattle.yaml_round_answers.specs.Numbers.{is_set, is_there, flag_told, kind_meant, encoding_meant, scalar_style_meant, sequence_style_meant, mapping_style_meant, encoding_number, scalar_style_number, sequence_style_number, mapping_style_number}
-use Rattle.yaml_round_answers.specs.Records.{mark_told, part_at, optional_at, directives_at, bare, plain, body_meant}
+use Rattle.yaml_round_answers.specs.Records.{mark_told, part_at, optional_at, directives_at, bare, body_meant}
 use Rattle.yaml_round_answers.specs.Blocks.{optional_text, node_texts, body_texts, body_directives}
 use Rattle.yaml_round_answers.specs.Listing.{Grows, span_at, optional_span, with_properties, with_texts, base_record, placed, PutsText, PutsTexts, PutsDirectives, AppendsDirectives, Records}
 use Rattle.yaml_round_answers.proofs.Checked.{NoDocument, no_document}
 use Rattle.yaml_round_answers.proofs.Placing.{grows_itself, part_stands, put_on}
 use Rattle.yaml_round_answers.proofs.Directing.{none_appended}
-
-pub marked : (m n : ℤ) (s t u v : yaml_c_mark) → m ≡ n → s ≡ t → u ≡ v → plain m s u ≡ plain n t v
-marked m n s t u v k p q = rw (k, p, q) refl
 
 -- ---- numbers
 

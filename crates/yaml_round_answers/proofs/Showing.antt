@@ -1,16 +1,13 @@
 -- What records show of nodes.
-use Rattle.std.proofs.Common.{◌≡◌, ℕ, ◌+◌, ◌<◌, ◌≤◌, length, get_or, drop, add-one, Bool, true, false, ◌&&◌, List, [], refl, sym, subst, ap, ◌∙◌, Option, None, Some, map}
+use Rattle.std.proofs.Common.{◌≡◌, ℕ, Bool, true, false, List, refl, sym, subst, ap, ◌∙◌, Option, None, Some, map}
 use Rattle.std.specs.Prelude.{zero, suc, ℤ, pos, negsuc, slice_get, option_map}
-use Rattle.std.proofs.Math.Seq.{drop-cons}
-use Rattle.std.proofs.lemmas.List.{drop_all}
 use Rattle.std.proofs.lemmas.Option.{slice_get-map}
 use Rattle.yaml_parse_model.specs.Nodes.{NodeBody}
 use Rattle.yaml_parse_model.specs.Nodes as node
 use Rattle.yaml_emit_graph.specs.Graph.{place_at, child_ids, is_collection, body_of_id, body_at}
 use Rattle.yaml_emit_graph.specs.Walk.{NextHeld}
 use Rattle.yaml_round_answers.specs.declared.graph_record.yaml_c_node.{yaml_c_node}
-use Rattle.yaml_round_answers.specs.Graphs.{part, holds, held_if, held_by, is_node, are_nodes, body_if, stand_in, record_in}
-use Rattle.yaml_round_answers.proofs.Checked.{none_left, some_left}
+use Rattle.yaml_round_answers.specs.Graphs.{part, holds, held_if, held_by, body_if, stand_in, record_in}
 
 -- ---- the node under a number
 
@@ -55,31 +52,3 @@ pub child_of : (list : List ℤ) (rs : List yaml_c_node) (id : ℤ) (i : ℕ) (o
 child_of list rs id i o r held next is there h n =
     let P : List ℤ → Type 0 = λ z. NextHeld z i next in
     subst P (h ∙ sym (ids_held list r) ∙ sym (ap child_ids (body_found list rs id o is ∙ ap (body_in list) there))) n
-
--- ---- whether records mean nodes
-
-left_nodes : (list : List ℤ) (rs : List yaml_c_node) (i : ℕ) (d : yaml_c_node) → i < length rs
-    → are_nodes list (drop i rs) ≡ (is_node list (get_or rs i d) && are_nodes list (drop (i + 1) rs))
-unfolding are_nodes
-left_nodes list rs i d h =
-    ap (are_nodes list) (drop-cons rs i d h)
-    ∙ ap (λ (k : ℕ). is_node list (get_or rs i d) && are_nodes list (drop k rs)) (sym (add-one i))
-
-pub node_refused : (list : List ℤ) (rs : List yaml_c_node) (i : ℕ) (d : yaml_c_node) (r : Bool)
-    → i < length rs → are_nodes list (drop i rs) ≡ are_nodes list rs
-    → r ≡ is_node list (get_or rs i d) → r ≡ false → false ≡ are_nodes list rs
-node_refused list rs i d r h inv is off = none_left (is_node list (get_or rs i d)) _ _ _ r inv (left_nodes list rs i d h) is off
-
-pub node_passed : (list : List ℤ) (rs : List yaml_c_node) (i : ℕ) (d : yaml_c_node) (r : Bool)
-    → i < length rs → are_nodes list (drop i rs) ≡ are_nodes list rs
-    → r ≡ is_node list (get_or rs i d) → r ≡ true
-    → are_nodes list (drop (i + 1) rs) ≡ are_nodes list rs
-node_passed list rs i d r h inv is on = some_left (is_node list (get_or rs i d)) _ _ _ r inv (left_nodes list rs i d h) is on
-
-no_nodes : (list : List ℤ) → are_nodes list [] ≡ true
-unfolding are_nodes
-no_nodes list = refl
-
-pub nodes_end : (list : List ℤ) (rs : List yaml_c_node) (i : ℕ) → length rs ≤ i
-    → are_nodes list (drop i rs) ≡ are_nodes list rs → true ≡ are_nodes list rs
-nodes_end list rs i h inv = sym (no_nodes list) ∙ ap (are_nodes list) (sym (drop_all i rs h)) ∙ inv

@@ -1,22 +1,24 @@
 -- Stands by records.
-use Rattle.std.proofs.Common.{◌≡◌, ℕ, ◌+◌, ◌<◌, ◌≤◌, ◌^◌, get_or, drop, take, Bool, true, false, ◌&&◌, List, [], ◌∷◌, ◌++◌, length, refl, sym, ap, ◌∙◌, arith, append-nil, append_assoc, Option, None, Some, is_some}
+use Rattle.std.proofs.Common.{◌≡◌, ℕ, ◌+◌, ◌<◌, ◌≤◌, ◌^◌, get_or, drop, map, Bool, true, false, ◌&&◌, List, [], ◌∷◌, ◌++◌, length, refl, sym, ap, ◌∙◌, arith, append-nil, append_assoc, Option, None, Some, is_some}
 use Rattle.std.specs.Prelude.{nat_lt, option_map}
+use Rattle.std.specs.List.{list_all}
 use Rattle.std.proofs.lemmas.Bool.Decides.{nat_tests}
-use Rattle.std.proofs.lemmas.List.{drop_all, take_more, take_all}
+use Rattle.std.proofs.lemmas.List.{drop_all}
 use Rattle.yaml_parse.specs.Events.{TagDirective}
 use Rattle.yaml_emit.specs.emit_layout.declared.Cursor.{Cursor}
 use Rattle.yaml_emit.specs.emit_layout.declared.Encoding.{Encoding}
 use Rattle.yaml_emit.specs.emit_layout.declared.Expected.{Expected}
 use Rattle.yaml_emit.specs.emit_layout.declared.Level.{Level}
+use Rattle.yaml_emit.specs.emit_layout.declared.Phase.{Phase}
+use Rattle.yaml_emit.specs.emit_layout.declared.Phase.TheVariants.{Items, Keys, Value}
 use Rattle.yaml_emit.specs.emit_core.Levels.{stack}
 use Rattle.yaml_round_answers.specs.declared.record.yaml_c_directive.{yaml_c_directive}
 use Rattle.yaml_round_answers.specs.declared.standing.yaml_c_level.{yaml_c_level}
 use Rattle.yaml_round_answers.specs.declared.standing.yaml_c_place.{yaml_c_place}
 use Rattle.yaml_round_answers.specs.Numbers.{is_set}
 use Rattle.yaml_round_answers.specs.Records.{directive_by, directive_at, in_front, all_directives}
-use Rattle.yaml_round_answers.specs.Standing.{At, at_if, at_by, at_meant, stand_if, stand_meant, level_meant, level_in_front, levels_meant, spelling_meant, place_meant, innermost_meant}
-use Rattle.yaml_round_answers.proofs.Checked.{left_cons, none_left, some_left}
-use Rattle.yaml_round_answers.proofs.Building.{none_directives}
+use Rattle.yaml_round_answers.specs.Standing.{At, at_if, at_by, at_meant, stand_if, stand_meant, phase_meant, phase_number, level_by, level_meant, level_told, level_in_front, levels_meant, spelling_meant, place_meant, innermost_meant}
+use Rattle.yaml_round_answers.proofs.Checked.{left_cons}
 
 -- ---- whether all of a list mean something
 
@@ -26,31 +28,16 @@ front_level None ls = refl
 front_level (Some l) None = refl
 front_level (Some l) (Some ls) = refl
 
-left_levels : (ls : List yaml_c_level) (i : ℕ) (d : yaml_c_level) → i < length ls
-    → is_some (levels_meant (drop i ls))
-    ≡ (is_some (level_meant (get_or ls i d)) && is_some (levels_meant (drop (i + 1) ls)))
+pub levels_tested : (ls : List yaml_c_level)
+    → list_all (λ l. is_some (level_meant l)) ls ≡ is_some (levels_meant ls)
 unfolding levels_meant
-left_levels ls i d h = ap (λ xs. is_some (levels_meant xs)) (left_cons ls i d h) ∙ front_level (level_meant (get_or ls i d)) (levels_meant (drop (i + 1) ls))
-
-pub level_refused : (ls : List yaml_c_level) (i : ℕ) (d : yaml_c_level) (r : Bool) → i < length ls
-    → is_some (levels_meant (drop i ls)) ≡ is_some (levels_meant ls)
-    → r ≡ is_some (level_meant (get_or ls i d)) → r ≡ false → false ≡ is_some (levels_meant ls)
-level_refused ls i d r h inv is off = none_left (is_some (level_meant (get_or ls i d))) _ _ _ r inv (left_levels ls i d h) is off
-
-pub level_passed : (ls : List yaml_c_level) (i : ℕ) (d : yaml_c_level) (r : Bool) → i < length ls
-    → is_some (levels_meant (drop i ls)) ≡ is_some (levels_meant ls)
-    → r ≡ is_some (level_meant (get_or ls i d)) → r ≡ true
-    → is_some (levels_meant (drop (i + 1) ls)) ≡ is_some (levels_meant ls)
-level_passed ls i d r h inv is on = some_left (is_some (level_meant (get_or ls i d))) _ _ _ r inv (left_levels ls i d h) is on
+levels_tested [] = refl
+levels_tested (l ∷ ls) =
+    ap (λ b. is_some (level_meant l) && b) (levels_tested ls) ∙ sym (front_level (level_meant l) (levels_meant ls))
 
 no_levels : levels_meant [] ≡ Some []
 unfolding levels_meant
 no_levels = refl
-
-pub levels_end : (ls : List yaml_c_level) (i : ℕ) → length ls ≤ i
-    → is_some (levels_meant (drop i ls)) ≡ is_some (levels_meant ls)
-    → true ≡ is_some (levels_meant ls)
-levels_end ls i h inv = ap (λ o. is_some o) (sym no_levels) ∙ ap (λ xs. is_some (levels_meant xs)) (sym (drop_all i ls h)) ∙ inv
 
 front_directive : (d : Option TagDirective) (ds : Option (List TagDirective))
     → is_some (in_front d ds) ≡ (is_some d && is_some ds)
@@ -58,31 +45,12 @@ front_directive None ds = refl
 front_directive (Some d) None = refl
 front_directive (Some d) (Some ds) = refl
 
-left_spans : (bytes : List ℕ) (list : List yaml_c_directive) (i : ℕ) (d : yaml_c_directive)
-    → i < length list → is_some (all_directives bytes (drop i list))
-    ≡ (is_some (directive_at bytes (get_or list i d))
-    && is_some (all_directives bytes (drop (i + 1) list)))
+pub spans_tested : (bytes : List ℕ) (list : List yaml_c_directive)
+    → list_all (λ d. is_some (directive_at bytes d)) list ≡ is_some (all_directives bytes list)
 unfolding all_directives
-left_spans bytes list i d h = ap (λ xs. is_some (all_directives bytes xs)) (left_cons list i d h) ∙ front_directive (directive_at bytes (get_or list i d)) (all_directives bytes (drop (i + 1) list))
-
-pub span_refused : (bytes : List ℕ) (list : List yaml_c_directive) (i : ℕ) (d : yaml_c_directive)
-    (r : Bool) → i < length list
-    → is_some (all_directives bytes (drop i list)) ≡ is_some (all_directives bytes list)
-    → r ≡ is_some (directive_at bytes (get_or list i d)) → r ≡ false
-    → false ≡ is_some (all_directives bytes list)
-span_refused bytes list i d r h inv is off = none_left (is_some (directive_at bytes (get_or list i d))) _ _ _ r inv (left_spans bytes list i d h) is off
-
-pub span_passed : (bytes : List ℕ) (list : List yaml_c_directive) (i : ℕ) (d : yaml_c_directive)
-    (r : Bool) → i < length list
-    → is_some (all_directives bytes (drop i list)) ≡ is_some (all_directives bytes list)
-    → r ≡ is_some (directive_at bytes (get_or list i d)) → r ≡ true
-    → is_some (all_directives bytes (drop (i + 1) list)) ≡ is_some (all_directives bytes list)
-span_passed bytes list i d r h inv is on = some_left (is_some (directive_at bytes (get_or list i d))) _ _ _ r inv (left_spans bytes list i d h) is on
-
-pub spans_end : (bytes : List ℕ) (list : List yaml_c_directive) (i : ℕ) → length list ≤ i
-    → is_some (all_directives bytes (drop i list)) ≡ is_some (all_directives bytes list)
-    → true ≡ is_some (all_directives bytes list)
-spans_end bytes list i h inv = ap (λ o. is_some o) (sym (none_directives bytes)) ∙ ap (λ xs. is_some (all_directives bytes xs)) (sym (drop_all i list h)) ∙ inv
+spans_tested bytes [] = refl
+spans_tested bytes (d ∷ ds) =
+    ap (λ b. is_some (directive_at bytes d) && b) (spans_tested bytes ds) ∙ sym (front_directive (directive_at bytes d) (all_directives bytes ds))
 
 pub both_spans : (h p : Option (List ℕ)) → (is_some h && is_some p) ≡ is_some (directive_by h p)
 both_spans None p = refl
@@ -116,40 +84,30 @@ pub levels_all : (ls : List yaml_c_level) (i : ℕ) (front : List Level) → len
     → FrontLevels ls front (drop i ls) → levels_meant ls ≡ Some front
 levels_all ls i front h inv = inv [] (ap levels_meant (drop_all i ls h) ∙ no_levels) ∙ ap (λ (ys : List Level). Some ys) (append-nil front)
 
-pub told_start : (ls : List Level) (out : List yaml_c_level) → out ≡ []
-    → levels_meant out ≡ Some (take 0 ls)
-told_start ls out none = ap levels_meant none ∙ no_levels
+-- the number of a phase means it
+phase_back : (p : Phase) (flow : Bool) → phase_meant (phase_number p flow) ≡ Some (p, flow)
+unfolding phase_meant
+phase_back (Items true) true = refl
+phase_back (Items false) true = refl
+phase_back (Keys true) true = refl
+phase_back (Keys false) true = refl
+phase_back (Value true) true = refl
+phase_back (Value false) true = refl
+phase_back (Items true) false = refl
+phase_back (Items false) false = refl
+phase_back (Keys true) false = refl
+phase_back (Keys false) false = refl
+phase_back (Value true) false = refl
+phase_back (Value false) false = refl
 
-behind_front : (k : Option Level) (ls new : Option (List Level)) (xs : List Level) (x : Level)
-    → level_in_front k ls ≡ Some xs
-    → ((ys : List Level) → ls ≡ Some ys → new ≡ Some (ys ++ x ∷ []))
-    → level_in_front k new ≡ Some (xs ++ x ∷ [])
-behind_front None ls new xs x h f = absurd (cc)
-behind_front (Some k) None new xs x h f = absurd (cc)
-behind_front (Some k) (Some ls) new xs x h f =
-    let is : k ∷ ls ≡ xs = cc in
-    ap (level_in_front (Some k)) (f ls refl) ∙ ap (λ (ys : List Level). Some (ys ++ x ∷ [])) is
+pub level_back : (l : Level) → level_meant (level_told l) ≡ Some l
+level_back l = ap (λ o. level_by o l.indent) (phase_back l.phase l.flow)
 
-one_behind : (ls : List yaml_c_level) (l : yaml_c_level) (xs : List Level) (x : Level)
-    → levels_meant ls ≡ Some xs → level_meant l ≡ Some x
-    → levels_meant (ls ++ l ∷ []) ≡ Some (xs ++ x ∷ [])
+-- the records of levels mean them
+pub levels_back : (ls : List Level) → levels_meant (map level_told ls) ≡ Some ls
 unfolding levels_meant
-one_behind [] l xs x h is =
-    let none : [] ≡ xs = cc in
-    ap (λ o. level_in_front o (Some [])) is ∙ ap (λ (ys : List Level). Some (ys ++ x ∷ [])) none
-one_behind (k ∷ ls) l xs x h is = behind_front (level_meant k) (levels_meant ls) (levels_meant (ls ++ l ∷ [])) xs x h (λ ys e. one_behind ls l ys x e is)
-
-pub told_more : (ls : List Level) (i : ℕ) (d : Level) (out new : List yaml_c_level)
-    (l : yaml_c_level) → i < length ls → levels_meant out ≡ Some (take i ls)
-    → level_meant l ≡ Some (get_or ls i d) → new ≡ out ++ l ∷ []
-    → levels_meant new ≡ Some (take (i + 1) ls)
-told_more ls i d out new l h inv is added =
-    ap levels_meant added ∙ one_behind out l (take i ls) (get_or ls i d) inv is
-    ∙ ap (λ (ys : List Level). Some ys) (sym (take_more ls i d h))
-
-pub told_all : (ls : List Level) (i : ℕ) (out : List yaml_c_level) → length ls ≤ i
-    → levels_meant out ≡ Some (take i ls) → levels_meant out ≡ Some ls
-told_all ls i out h inv = inv ∙ ap (λ (ys : List Level). Some ys) (take_all i ls h)
+levels_back [] = refl
+levels_back (l ∷ ls) = ap (λ o. level_in_front o (levels_meant (map level_told ls))) (level_back l) ∙ ap (level_in_front (Some l)) (levels_back ls)
 
 -- ---- a checkpoint
 

@@ -1,7 +1,8 @@
 -- What the events of a document come to: which node each of them is of, and which collection takes it.
-use Rattle.std.specs.Prelude.{◌≡◌, ◌||◌, ◌&&◌, ℕ, suc, ℤ, pos, Bool, true, false, not, if◌then◌else◌, List, [], ◌∷◌, reverse, Option, None, Some, is_some, Result, Ok, Err}
+use Rattle.std.specs.Prelude.{◌≡◌, ◌||◌, ℕ, suc, ℤ, pos, Bool, true, false, not, if◌then◌else◌, List, [], ◌∷◌, reverse, Option, None, Some, is_some, Result, Ok, Err}
 use Rattle.std.specs.declared.alloc.AllocError.{AllocError}
 use Rattle.std.specs.FinMap as finite
+use Rattle.std.specs.List.{list_all}
 use Rattle.std.specs.Ordering.{int_eq}
 use Rattle.yaml_parse_model.specs.Events.{Event, EventBody}
 use Rattle.yaml_parse_model.specs.Events as event
@@ -42,9 +43,8 @@ is_step bytes r =
     else if int_eq r.kind (pos 10) then true
     else false
 
-unfoldable pub are_steps : List ℕ → List yaml_c_step → Bool
-are_steps bytes [] = true
-are_steps bytes (r ∷ rs) = is_step bytes r && are_steps bytes rs
+abbrev pub are_steps : List ℕ → List yaml_c_step → Bool
+are_steps bytes rs = list_all (is_step bytes) rs
 
 -- the number of an event's kind within a document, which is libyaml's
 abbrev pub kind_number : EventBody → ℤ

@@ -1,5 +1,5 @@
 -- What C receives of events that are emitted.
-use Rattle.std.specs.Prelude.{ℕ, List, Option, None, Some}
+use Rattle.std.specs.Prelude.{ℕ, List, Option}
 use Rattle.yaml_parse.specs.Events.{EventBody}
 use Rattle.yaml_parse.specs.scan_types.Faults.{emit_layers}
 use Rattle.yaml_emit.specs.emit_layout.declared.RequestedSettings.{RequestedSettings}
@@ -19,8 +19,3 @@ emit_meant bytes list records given = both (events_meant bytes list records) (as
 -- what an emitter under these settings makes of the events
 abbrev pub Emits : List EventBody × (RequestedSettings × ℕ) → yaml_c_answer → Type 0
 Emits m = IsAnswered (OrMemory emit_layers (IsEmitted m.1.0 m.1.1 (emitter_events m.0))) TellsResult
-
--- the same, where the events mean something
-abbrev pub EmitsAll : Option (List EventBody) → RequestedSettings × ℕ → yaml_c_answer → Type 0
-EmitsAll None asked a = Unit {0}
-EmitsAll (Some events) asked a = Emits (events, asked) a

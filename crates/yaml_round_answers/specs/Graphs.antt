@@ -1,5 +1,6 @@
 -- A document's graph by records: the kind of each node, and the numbers of the nodes that it holds.
-use Rattle.std.specs.Prelude.{◌≡◌, ◌+◌, ◌||◌, ◌&&◌, ℕ, ℤ, pos, Bool, true, false, if◌then◌else◌, List, [], ◌∷◌, length, map, slice_get, slice_range, nat_le, Option, None, Some, is_some}
+use Rattle.std.specs.Prelude.{◌≡◌, ◌+◌, ◌||◌, ℕ, ℤ, pos, Bool, true, false, if◌then◌else◌, List, [], ◌∷◌, length, map, slice_get, slice_range, nat_le, Option, None, Some, is_some}
+use Rattle.std.specs.List.{list_all}
 use Rattle.std.specs.Ordering.{int_eq}
 use Rattle.yaml_parse_model.specs.declared.yaml_sequence_style_t.TheVariants.{YAML_ANY_SEQUENCE_STYLE}
 use Rattle.yaml_parse_model.specs.Nodes.{Node, NodeBody}
@@ -40,9 +41,8 @@ is_node list r =
     else if int_eq r.kind (pos 3) then is_some (part list r.first r.count)
     else false
 
-unfoldable pub are_nodes : List ℤ → List yaml_c_node → Bool
-are_nodes list [] = true
-are_nodes list (r ∷ rs) = is_node list r && are_nodes list rs
+abbrev pub are_nodes : List ℤ → List yaml_c_node → Bool
+are_nodes list rs = list_all (is_node list) rs
 
 -- ---- which documents they show
 

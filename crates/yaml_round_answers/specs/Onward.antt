@@ -16,7 +16,7 @@ use Rattle.yaml_emit.specs.emit_layout.declared.Status.TheVariants.{Going}
 use Rattle.yaml_round_laws.specs.Pieces.{added}
 use Rattle.yaml_round_laws.specs.Calls.{LeadsIn}
 use Rattle.yaml_round_answers.specs.declared.onward.Onward.{Onward}
-use Rattle.yaml_round_answers.specs.declared.onward.StandRecords.{StandRecords}
+use Rattle.yaml_round_answers.specs.declared.standing.yaml_c_stand.{yaml_c_stand}
 use Rattle.yaml_round_answers.specs.Leading.{StartsUnder}
 use Rattle.yaml_emit.specs.emit_core.declared.yaml_emitter_stand_t.{yaml_emitter_stand_t}
 use Rattle.yaml_round_answers.specs.declared.standing.yaml_c_place.{yaml_c_place}
@@ -49,24 +49,24 @@ abbrev pub IsShortOn : RequestedSettings → ℕ → Option At → List Event �
 IsShortOn w limit at es = Fits limit (settings_on w at es).encoding (added_on w at es)
 
 -- what the records of a checkpoint mean, where its column is small enough to continue from
-abbrev pub Means : StandRecords → Option At → Type 0
+abbrev pub Means : yaml_c_stand → Option At → Type 0
 Means s next = IsFew s.place.column
-    → stand_meant s.place s.levels.items s.directives.items s.bytes.items ≡ Some next
+    → stand_meant s.place s.levels.now s.directives.now s.bytes.now ≡ Some next
 
 -- The records say a checkpoint where that many events wait, and nothing beside: every number of its
 -- place, the collections round the innermost one, and the document's directives, with the bytes of
 -- their texts, one after another.
-pub record TellsAt (s : StandRecords) (next : Option At) (waiting : ℕ) : Type 0 where
+pub record TellsAt (s : yaml_c_stand) (next : Option At) (waiting : ℕ) : Type 0 where
   pub place : s.place ≡ place_told next waiting
-  pub levels : levels_meant s.levels.items ≡ Some (levels_round next)
-  pub directives : all_directives s.bytes.items s.directives.items ≡ Some (directives_of next)
-  pub bytes : s.bytes.items ≡ directive_texts (directives_of next)
+  pub levels : levels_meant s.levels.now ≡ Some (levels_round next)
+  pub directives : all_directives s.bytes.now s.directives.now ≡ Some (directives_of next)
+  pub bytes : s.bytes.now ≡ directive_texts (directives_of next)
 
 -- No event is rejected, and what is added is the text, which passes no limit. The records mean the
 -- checkpoint to which the events lead, and say it; the last of them wait there, as many as it says,
 -- and continued from there the settings in force are the same.
 pub record AddsWholeText (w : RequestedSettings) (limit : ℕ) (at : Option At) (es : List Event)
-    (text : List ℕ) (s : StandRecords) : Type 0 where
+    (text : List ℕ) (s : yaml_c_stand) : Type 0 where
   pub right : refusal_on w at es ≡ None
   pub is : text ≡ bytes_on w at es
   pub short : IsShortOn w limit at es
@@ -95,17 +95,17 @@ StopsOn w limit at es fault = IsRefusedOn w limit at es fault
 
 -- An emitter that goes on from there may answer this.
 abbrev pub IsOnward : RequestedSettings → ℕ → Option At → List Event
-    → Result (List ℕ × StandRecords) Fault → Type 0
+    → Result (List ℕ × yaml_c_stand) Fault → Type 0
 IsOnward w limit at es (Ok o) = AddsWholeText w limit at es o.0 o.1
 IsOnward w limit at es (Err fault) = StopsOn w limit at es fault
 
 -- where a checkpoint is meant
 abbrev pub IsOnwardAt : RequestedSettings → ℕ → Option (Option At) → List Event
-    → Result (List ℕ × StandRecords) Fault → Type 0
+    → Result (List ℕ × yaml_c_stand) Fault → Type 0
 IsOnwardAt w limit None es r = Unit {0}
 IsOnwardAt w limit (Some at) es r = IsOnward w limit at es r
 
-abbrev pub onward_of : Onward → List ℕ × StandRecords
+abbrev pub onward_of : Onward → List ℕ × yaml_c_stand
 onward_of o = (o.text.items, o.stand)
 
 -- ---- emitters
@@ -140,7 +140,7 @@ at_of e = record {
 }
 
 -- the records say the checkpoint of an emitter without a fault
-pub record TellsStand (e : Emitter) (s : StandRecords) : Type 0 where
+pub record TellsStand (e : Emitter) (s : yaml_c_stand) : Type 0 where
   pub nowhere : e.fresh ≡ true → Means s None × TellsAt s None 0
   pub somewhere : e.fresh ≡ false → refused_at e.course.state.place ≡ None
       → Means s (Some (at_of e)) × TellsAt s (Some (at_of e)) (length e.held)
@@ -177,7 +177,7 @@ pub record TellsStandPlace (stand : yaml_emitter_stand_t) (r : yaml_c_place) : T
   pub told : r ≡ place_record stand.encoding stand.place stand.innermost stand.cursor stand.waiting
 
 -- an emitter's checkpoint, or its fault
-abbrev pub GoneTold : Emitter → Result StandRecords yaml_fault_t → Type 0
+abbrev pub GoneTold : Emitter → Result yaml_c_stand yaml_fault_t → Type 0
 GoneTold e (Ok s) = (e.fault ≡ None) × TellsOutcome e × TellsStand e s
 GoneTold e (Err f) = IsMemoryFault emit_layers (fault_of f)
     ⊎ ((e.fault ≡ Some (fault_of f)) × TellsOutcome e)

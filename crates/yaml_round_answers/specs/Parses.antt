@@ -106,6 +106,11 @@ abbrev pub GivesNone : Bool → yaml_c_parsed → yaml_c_answer → Type 0
 GivesNone true p a = (a.kind ≡ pos 0) ⊎ HasNothing p
 GivesNone false p a = Unit {0}
 
+-- the same, where the number of an encoding means something; else nothing is handed out
+abbrev pub GivesNoneMeant : {M : Type 0} → Bool → Option M → yaml_c_parsed → yaml_c_answer → Type 0
+GivesNoneMeant whole None p a = HasNothing p
+GivesNoneMeant whole (Some m) p a = GivesNone whole p a
+
 -- where the number of an encoding means nothing, nothing is handed out
 abbrev pub NothingUnmeant : {M : Type 0} → Option M → yaml_c_parsed → Type 0
 NothingUnmeant None p = HasNothing p

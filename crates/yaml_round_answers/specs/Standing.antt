@@ -169,10 +169,13 @@ phase_number (Keys false) false = pos 14
 phase_number (Value true) false = pos 15
 phase_number (Value false) false = pos 16
 
+abbrev pub level_told : Level → yaml_c_level
+level_told l = record { state = phase_number l.phase l.flow; indent = l.indent }
+
 -- the innermost open collection, and 0 where none is open
 abbrev pub innermost_told : Option Level → yaml_c_level
 innermost_told None = record { state = pos 0; indent = 0 }
-innermost_told (Some l) = record { state = phase_number l.phase l.flow; indent = l.indent }
+innermost_told (Some l) = level_told l
 
 abbrev pub place_record : Encoding → Expected → Option Level → Cursor → ℕ → yaml_c_place
 place_record x p i c n = record {

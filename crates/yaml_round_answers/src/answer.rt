@@ -35,13 +35,6 @@ pub struct yaml_c_answer {
 
 const _: () = prove!(size_of::<yaml_c_answer>() == 152);
 
-const ZERO: yaml_c_mark = yaml_c_mark {
-    index: 0,
-    line: 0,
-    column: 0,
-    character: 0,
-};
-
 /// A list that lives on for C. With no item there is no block.
 pub(crate) fn handed_out<'a, X: 'a + Drop>(list: Vec<X>) -> &'a [X]
     ensures { result.now ≡ list.items }
@@ -61,8 +54,8 @@ fn text_told(text: &'static [u8], is: i32) -> yaml_c_answer
         second: 0,
         value: 0,
         offset: 0,
-        problem_mark: ZERO,
-        context_mark: ZERO,
+        problem_mark: yaml_c_mark::default(),
+        context_mark: yaml_c_mark::default(),
         problem: b"",
         context: b"",
         text,
@@ -87,10 +80,7 @@ pub(crate) fn said(is: i32) -> yaml_c_answer
 fn context_of(context: Option<&'static str>) -> &'static [u8]
     ensures { result.now ≡ unwrap_or (option_map (λ t. t.now) context.entry) [] }
 {
-    match context {
-        Some(context) => context.as_bytes(),
-        None => b"",
-    }
+    context.unwrap_or("").as_bytes()
 }
 
 // A fault with its line.
@@ -150,15 +140,7 @@ pub(crate) fn misused() -> yaml_c_answer
 {
     yaml_c_answer {
         kind: -1,
-        is: 0,
-        second: 0,
-        value: 0,
-        offset: 0,
-        problem_mark: ZERO,
-        context_mark: ZERO,
         problem: b"an argument means nothing",
-        context: b"",
-        text: b"",
-        line: b"",
+        ..text_told(b"", 0)
     }
 }

@@ -1,12 +1,11 @@
 //! Which node of a document each of its events is of, as records.
 
-ghost use Rattle.std.specs.Prelude.{◌≡◌, ◌⊎◌, [], pos};
 ghost use Rattle.yaml_round_answers.specs.Told.{AnswersMeant};
 ghost use Rattle.yaml_round_answers.specs.Composes.{steps_meant, Composes, NoSpotUnmeant};
 
 use crate::answer::{handed_out, misused, refused, said, yaml_c_answer};
 use crate::graph_record::{yaml_c_spot, yaml_c_step};
-use crate::steps::{Composed, are_steps, compose_steps};
+use crate::steps::{are_steps, compose_steps};
 use std::alloc::Global;
 use yaml_parse::{undefined_alias_fault, yaml_mark_t, yaml_memory_fault, yaml_origin_t};
 
@@ -25,34 +24,6 @@ const NOWHERE: yaml_mark_t = yaml_mark_t {
     column: 0,
 };
 
-fn composed(
-    alloc: Global,
-    steps: &[yaml_c_step],
-    bytes: &[u8],
-    spots: &mut yaml_c_spots,
-) -> yaml_c_answer
-    ensures { Composes spots.new.spots.now (bytes.now, steps.now) result }
-{
-    match compose_steps(alloc, bytes, steps) {
-        Ok(told) => {
-            let Composed {
-                spots: found,
-                whole,
-            } = told;
-            spots.spots = handed_out(found);
-            if whole {
-                said(0)
-            } else {
-                refused(alloc, &undefined_alias_fault(NOWHERE), 0)
-            }
-        }
-        Err(_) => {
-            spots.spots = &[];
-            refused(alloc, &yaml_memory_fault(yaml_origin_t::Loader), 0)
-        }
-    }
-}
-
 /// Which node each of the events is of that the records mean, where each record means one.
 pub fn composed_by(
     alloc: Global,
@@ -64,10 +35,22 @@ pub fn composed_by(
         result }
     ensures none { NoSpotUnmeant (steps_meant bytes.now steps.now) spots.new.spots.now }
 {
-    if are_steps(bytes, steps) {
-        composed(alloc, steps, bytes, spots)
-    } else {
+    if !are_steps(bytes, steps) {
         spots.spots = &[];
-        misused()
+        return misused();
+    }
+    match compose_steps(alloc, bytes, steps) {
+        Ok((found, whole)) => {
+            spots.spots = handed_out(found);
+            if whole {
+                said(0)
+            } else {
+                refused(alloc, &undefined_alias_fault(NOWHERE), 0)
+            }
+        }
+        Err(_) => {
+            spots.spots = &[];
+            refused(alloc, &yaml_memory_fault(yaml_origin_t::Loader), 0)
+        }
     }
 }

@@ -1,30 +1,13 @@
 //! The text of events that are given as records.
 
-ghost use Rattle.std.specs.Prelude.{IsSome};
 ghost use Rattle.yaml_round_answers.specs.Told.{AnswersMeant};
-ghost use Rattle.yaml_round_answers.specs.Meaning.{events_meant};
-ghost use Rattle.yaml_round_answers.specs.Leading.{asked_for};
-ghost use Rattle.yaml_round_answers.specs.Emitting.{emit_meant, Emits, EmitsAll};
+ghost use Rattle.yaml_round_answers.specs.Emitting.{emit_meant, Emits};
 
 use crate::answer::{answer_told, misused, yaml_c_answer};
-use crate::emitter::{Asked, asked_of, emitted};
+use crate::emitter::{asked_of, emitted};
 use crate::meaning::are_meant;
 use crate::record::{yaml_c_directive, yaml_c_event, yaml_c_settings};
 use std::alloc::Global;
-
-fn answered(
-    alloc: Global,
-    events: &[yaml_c_event],
-    directives: &[yaml_c_directive],
-    bytes: &[u8],
-    asked: &Asked,
-) -> yaml_c_answer
-    requires { IsSome (events_meant bytes.now directives.now events.now) }
-    ensures { EmitsAll (events_meant bytes.now directives.now events.now) (asked_for asked.now)
-        result }
-{
-    answer_told(alloc, emitted(alloc, bytes, directives, events, asked))
-}
 
 /// What an emitter under the settings makes of the events, where all that is given means something.
 pub fn answered_by(
@@ -40,9 +23,8 @@ pub fn answered_by(
     let Some(asked) = asked_of(settings) else {
         return misused();
     };
-    if are_meant(bytes, directives, events) {
-        answered(alloc, events, directives, bytes, &asked)
-    } else {
-        misused()
+    if !are_meant(bytes, directives, events) {
+        return misused();
     }
+    answer_told(alloc, emitted(alloc, bytes, directives, events, &asked))
 }

@@ -73,14 +73,10 @@ pub(crate) fn directives_of(
 fn version_of(given: &yaml_c_event) -> Option<yaml_version_directive_t>
     ensures { result ≡ version_by (is_set given.now.has_version) given.now }
 {
-    if is_set(given.has_version) {
-        Some(yaml_version_directive_t {
-            major: given.major,
-            minor: given.minor,
-        })
-    } else {
-        None
-    }
+    is_set(given.has_version).then_some(yaml_version_directive_t {
+        major: given.major,
+        minor: given.minor,
+    })
 }
 
 // A text that may be left out, as its flag says. None where it lies outside.

@@ -31,10 +31,7 @@ pub(crate) fn held_by(list: &[i32], node: yaml_c_node) -> &[i32]
     if !holds_nodes(node) {
         return &[];
     }
-    match part_of(list, node.first, node.count) {
-        Some(held) => held,
-        None => &[],
-    }
+    part_of(list, node.first, node.count).unwrap_or(&[])
 }
 
 // Whether a record means a node.
@@ -53,12 +50,7 @@ fn is_node(list: &[i32], node: yaml_c_node) -> bool
 pub fn is_graph(graph: &yaml_c_graph) -> bool
     ensures { result ≡ are_nodes graph.now.held.now graph.now.nodes.now }
 {
-    for node in graph.nodes {
-        if !is_node(graph.held, *node) {
-            return false;
-        }
-    }
-    true
+    graph.nodes.iter().all(|node| is_node(graph.held, *node))
 }
 
 /// The record of the node under a number, if it names one.

@@ -44,7 +44,7 @@ pub use engine::{compared_by, listed_by, reformatted_by, reloaded_by};
 pub use graph_record::{yaml_c_graph, yaml_c_node, yaml_c_spot, yaml_c_step, yaml_c_turn};
 pub use normalizing::{checked_by, normalized_by};
 pub use onward_answer::onward_by;
-pub use parsing::{front_by, parsed_by, yaml_c_parsed};
+pub use parsing::{given_by, yaml_c_parsed};
 pub use parting::{documents_parted_by, parted_by, yaml_c_parting};
 pub use record::{yaml_c_directive, yaml_c_event, yaml_c_mark, yaml_c_settings, yaml_c_span};
 pub use scanning::{scanned_by, yaml_c_scanned};

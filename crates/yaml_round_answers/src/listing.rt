@@ -22,29 +22,15 @@ pub struct Listing {
     pub bytes: Vec<u8>,
 }
 
-const NOTHING: yaml_c_span = yaml_c_span { at: 0, len: 0 };
-
 // A record of that kind and those marks, with nothing else.
 fn plain(kind: i32, start: yaml_mark_t, end: yaml_mark_t) -> yaml_c_event
     ensures { result ≡ plain kind (mark_told start) (mark_told end) }
 {
     yaml_c_event {
         kind,
-        style: 0,
-        encoding: 0,
-        implicit: 0,
-        quoted_implicit: 0,
-        has_anchor: 0,
-        has_tag: 0,
-        has_version: 0,
-        major: 0,
-        minor: 0,
-        directives: NOTHING,
-        anchor: NOTHING,
-        tag: NOTHING,
-        value: NOTHING,
         start: mark_told(start),
         end: mark_told(end),
+        ..yaml_c_event::default()
     }
 }
 
@@ -69,7 +55,7 @@ fn push_optional(bytes: &mut Vec<u8>, text: Option<&[u8]>) -> Result<yaml_c_span
 {
     match text {
         Some(text) => push_text(bytes, text),
-        None => Ok(NOTHING),
+        None => Ok(yaml_c_span::default()),
     }
 }
 
@@ -135,20 +121,6 @@ fn directive_record(
     let handle = push_text(bytes, &directive.handle)?;
     let prefix = push_text(bytes, &directive.prefix)?;
     Ok(yaml_c_directive { handle, prefix })
-}
-
-impl Listing {
-    /// A listing of nothing.
-    pub fn new(alloc: Global) -> Listing
-        ensures { (result.events.items ≡ []) × (result.directives.items ≡ [])
-            × (result.bytes.items ≡ []) }
-    {
-        Listing {
-            events: Vec::new(alloc),
-            directives: Vec::new(alloc),
-            bytes: Vec::new(alloc),
-        }
-    }
 }
 
 // Pushes directives after the others.
@@ -280,6 +252,18 @@ fn record_of(
 }
 
 impl Listing {
+    /// A listing of nothing.
+    pub fn new(alloc: Global) -> Listing
+        ensures { (result.events.items ≡ []) × (result.directives.items ≡ [])
+            × (result.bytes.items ≡ []) }
+    {
+        Listing {
+            events: Vec::new(alloc),
+            directives: Vec::new(alloc),
+            bytes: Vec::new(alloc),
+        }
+    }
+
     /// Pushes an event after the others.
     pub fn push(
         &mut self,

@@ -24,20 +24,14 @@ fn is_readable(text: &[u8]) -> bool
 fn is_optional(text: Option<&[u8]>) -> bool
     ensures { result ≡ is_utf8_option (option_map (λ t. t.now) text.entry) }
 {
-    match text {
-        Some(text) => is_readable(text),
-        None => true,
-    }
+    text.is_none_or(is_readable)
 }
 
 // Whether a span names a text in UTF-8.
 fn names_text(bytes: &[u8], span: yaml_c_span) -> bool
     ensures { result ≡ is_text (part_at bytes.now span) }
 {
-    match part_at(bytes, span) {
-        Some(text) => is_readable(text),
-        None => false,
-    }
+    part_at(bytes, span).is_some_and(|text| is_readable(text))
 }
 
 fn is_directive(bytes: &[u8], directive: &yaml_c_directive) -> bool
@@ -46,25 +40,16 @@ fn is_directive(bytes: &[u8], directive: &yaml_c_directive) -> bool
     names_text(bytes, directive.handle) && names_text(bytes, directive.prefix)
 }
 
-#[tactic(auto, using(crate::proofs::Checked::more_directives, crate::proofs::Checked::no_directives))]
 fn are_all_directives(bytes: &[u8], list: &[yaml_c_directive]) -> bool
     ensures { result ≡ are_directives (all_directives bytes.now list.now) }
 {
-    for directive in list {
-        if !is_directive(bytes, directive) {
-            return false;
-        }
-    }
-    true
+    list.iter().all(|directive| is_directive(bytes, directive))
 }
 
 fn are_directives(bytes: &[u8], list: &[yaml_c_directive], span: yaml_c_span) -> bool
     ensures { result ≡ are_directives (directives_at bytes.now list.now span) }
 {
-    match part_at(list, span) {
-        Some(list) => are_all_directives(bytes, list),
-        None => false,
-    }
+    part_at(list, span).is_some_and(|list| are_all_directives(bytes, list))
 }
 
 // Whether an event can be given, whatever its directives are: it isn't the empty one, and each of its texts is UTF-8.
@@ -100,14 +85,8 @@ fn is_meant(bytes: &[u8], list: &[yaml_c_directive], given: &yaml_c_event) -> bo
 }
 
 /// Whether each record means an event.
-#[tactic(auto, using(crate::proofs::Checked::more_events, crate::proofs::Checked::no_events))]
 pub fn are_meant(bytes: &[u8], list: &[yaml_c_directive], records: &[yaml_c_event]) -> bool
     ensures { result ≡ is_some (events_meant bytes.now list.now records.now) }
 {
-    for record in records {
-        if !is_meant(bytes, list, record) {
-            return false;
-        }
-    }
-    true
+    records.iter().all(|record| is_meant(bytes, list, record))
 }

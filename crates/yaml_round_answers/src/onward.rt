@@ -7,6 +7,7 @@ ghost use Rattle.yaml_round_answers.specs.Leading.{requested, all_events};
 ghost use Rattle.yaml_round_answers.specs.Standing.{stand_meant, at_meant};
 ghost use Rattle.yaml_round_answers.specs.Onward.{most_on, StartsAt, IsStandBy, TellsStandPlace, TellsStand, TellsAt, Means, GoneTold, GoneOn, IsOnwardAt, onward_of};
 
+use crate::answer::handed_out;
 use crate::emitter::{Asked, emitter_under, fault_in, give_all, no_memory};
 use crate::event::all_directives;
 use crate::listing::{Listing, push_directives};
@@ -14,7 +15,7 @@ use crate::number::{flag, is_set};
 use crate::record::{yaml_c_directive, yaml_c_event};
 use crate::standing::{
     ends_implicitly, innermost_of, innermost_told, levels_of, levels_told, outer_if, place_number,
-    place_of, spelling_number, spelling_of, yaml_c_level, yaml_c_place, yaml_c_stand,
+    place_of, spelling_number, spelling_of, yaml_c_place, yaml_c_stand,
 };
 use std::alloc::{AllocError, Global};
 use yaml_emit::{
@@ -24,20 +25,11 @@ use yaml_emit::{
 };
 use yaml_parse::yaml_fault_t;
 
-/// An emitter's checkpoint, in records, with lists of its own.
-#[derive(Drop)]
-pub struct StandRecords {
-    pub place: yaml_c_place,
-    pub levels: Vec<yaml_c_level>,
-    pub directives: Vec<yaml_c_directive>,
-    pub bytes: Vec<u8>,
-}
-
 /// A text, and where the emitter is after it.
 #[derive(Drop)]
 pub struct Onward {
     pub text: Vec<u8>,
-    pub stand: StandRecords,
+    pub stand: yaml_c_stand,
 }
 
 // No text has more bytes than these: an output that goes on in a line keeps count of its columns.
@@ -141,31 +133,20 @@ fn place_told(stand: yaml_emitter_stand_t) -> yaml_c_place
 }
 
 // The checkpoint of an emitter that was given no event.
-#[tactic(auto, unfolding(crate::specs::Standing::stand_meant, crate::specs::Numbers::is_set))]
-fn nowhere(alloc: Global) -> StandRecords
+fn nowhere() -> yaml_c_stand
     ensures means { Means result None }
     ensures told { TellsAt result None 0 }
 {
-    StandRecords {
-        place: yaml_c_place {
-            state: 0,
-            encoding: 0,
-            implicit: 0,
-            white: 0,
-            bare: 0,
-            kept: 0,
-            column: 0,
-            waiting: 0,
-            innermost: innermost_told(None),
-        },
-        levels: Vec::new(alloc),
-        directives: Vec::new(alloc),
-        bytes: Vec::new(alloc),
+    yaml_c_stand {
+        place: yaml_c_place::default(),
+        levels: &[],
+        directives: &[],
+        bytes: b"",
     }
 }
 
 // The checkpoint of an emitter that was given events.
-fn somewhere(alloc: Global, emitter: &yaml_emitter_t) -> Result<StandRecords, AllocError>
+fn somewhere(alloc: Global, emitter: &yaml_emitter_t) -> Result<yaml_c_stand, AllocError>
     requires { emitter.now.fresh ≡ false }
     ensures { IfOk result (TellsStand emitter.now) }
 {
@@ -183,27 +164,27 @@ fn somewhere(alloc: Global, emitter: &yaml_emitter_t) -> Result<StandRecords, Al
         bytes,
     } = listing;
     drop(events);
-    Ok(StandRecords {
+    Ok(yaml_c_stand {
         place,
-        levels,
-        directives,
-        bytes,
+        levels: handed_out(levels),
+        directives: handed_out(directives),
+        bytes: handed_out(bytes),
     })
 }
 
 // An emitter's checkpoint. Refused only when out of memory.
-fn stand_behind(alloc: Global, emitter: &yaml_emitter_t) -> Result<StandRecords, AllocError>
+fn stand_behind(alloc: Global, emitter: &yaml_emitter_t) -> Result<yaml_c_stand, AllocError>
     ensures { IfOk result (TellsStand emitter.now) }
 {
     if yaml_emitter_fresh(emitter) {
-        Ok(nowhere(alloc))
+        Ok(nowhere())
     } else {
         somewhere(alloc, emitter)
     }
 }
 
 // An emitter's checkpoint, unless it has a fault.
-fn stand_told(alloc: Global, emitter: &yaml_emitter_t) -> Result<StandRecords, yaml_fault_t>
+fn stand_told(alloc: Global, emitter: &yaml_emitter_t) -> Result<yaml_c_stand, yaml_fault_t>
     ensures { GoneTold emitter.now result }
 {
     match fault_in(emitter) {

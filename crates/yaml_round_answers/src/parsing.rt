@@ -1,9 +1,9 @@
 //! The events of an input, as records.
 
-ghost use Rattle.std.specs.Prelude.{◌≡◌, ◌⊎◌, pos};
+ghost use Rattle.std.specs.Prelude.{◌≡◌};
 ghost use Rattle.yaml_round_answers.specs.Numbers.{encoding_meant};
-ghost use Rattle.yaml_round_answers.specs.Told.{AnswersMeant, TellsMemory};
-ghost use Rattle.yaml_round_answers.specs.Parses.{HasNothing, HandsOut, HandsOutUnless, Parses, EndsFront, Fronts, NothingUnmeant, is_cut_off, Gives, GivesNone};
+ghost use Rattle.yaml_round_answers.specs.Told.{AnswersMeant};
+ghost use Rattle.yaml_round_answers.specs.Parses.{HasNothing, HandsOut, HandsOutUnless, EndsFront, is_cut_off, Gives, GivesNone, GivesNoneMeant};
 ghost use Rattle.yaml_round_answers.specs.Spelled.{spelled_text};
 ghost use Rattle.yaml_round_answers.specs.Listing.{Collects, StartsEmpty};
 
@@ -148,15 +148,6 @@ fn given_in(
     }
 }
 
-// Nothing is handed out, when out of memory.
-fn starved(alloc: Global, blocks: &mut yaml_c_parsed) -> yaml_c_answer
-    ensures told { TellsMemory result }
-    ensures none { HasNothing blocks.new }
-{
-    *blocks = nothing();
-    refused_in(alloc, b"", &yaml_memory_fault(yaml_origin_t::Parser))
-}
-
 fn given(
     alloc: Global,
     input: &[u8],
@@ -169,36 +160,27 @@ fn given(
 {
     match spelled_text(alloc, input, from) {
         Some(text) => given_in(alloc, input, from, text.as_slice(), whole, blocks),
-        None => starved(alloc, blocks),
-    }
-}
-
-/// What a parse answers, where its number means something, and what it returns.
-pub fn parsed_by(
-    alloc: Global,
-    input: &[u8],
-    from: i32,
-    blocks: &mut yaml_c_parsed,
-) -> yaml_c_answer
-    ensures told { AnswersMeant (encoding_meant from) (Parses input.now blocks.new) result }
-    ensures none { (result.kind ≡ pos 0) ⊎ HasNothing blocks.new }
-{
-    match encoding_of(from) {
-        Some(from) => given(alloc, input, from, true, blocks),
         None => {
             *blocks = nothing();
-            misused()
+            refused_in(alloc, b"", &yaml_memory_fault(yaml_origin_t::Parser))
         }
     }
 }
 
-/// What a parse answers, and the events before its end or its fault.
-pub fn front_by(alloc: Global, input: &[u8], from: i32, blocks: &mut yaml_c_parsed) -> yaml_c_answer
-    ensures told { AnswersMeant (encoding_meant from) (Fronts input.now blocks.new) result }
-    ensures none { NothingUnmeant (encoding_meant from) blocks.new }
+/// What a parse answers, where its number means something: `whole` asks for all events, or none where a fault ends them, and else those
+/// before the end or the fault are handed out.
+pub fn given_by(
+    alloc: Global,
+    input: &[u8],
+    from: i32,
+    whole: bool,
+    blocks: &mut yaml_c_parsed,
+) -> yaml_c_answer
+    ensures told { AnswersMeant (encoding_meant from) (Gives whole input.now blocks.new) result }
+    ensures none { GivesNoneMeant whole (encoding_meant from) blocks.new result }
 {
     match encoding_of(from) {
-        Some(from) => given(alloc, input, from, false, blocks),
+        Some(from) => given(alloc, input, from, whole, blocks),
         None => {
             *blocks = nothing();
             misused()

@@ -29,13 +29,6 @@ pub struct yaml_c_parting {
 
 const _: () = prove!(size_of::<yaml_c_parting>() == 232);
 
-const ZERO: yaml_c_mark = yaml_c_mark {
-    index: 0,
-    line: 0,
-    column: 0,
-    character: 0,
-};
-
 // An answer without a place beside it.
 fn without_place(answer: yaml_c_answer) -> yaml_c_parting
     ensures answer { result.answer ≡ answer }
@@ -46,8 +39,8 @@ fn without_place(answer: yaml_c_answer) -> yaml_c_parting
         document: 0,
         first_kind: 0,
         second_kind: 0,
-        first_mark: ZERO,
-        second_mark: ZERO,
+        first_mark: yaml_c_mark::default(),
+        second_mark: yaml_c_mark::default(),
     }
 }
 

@@ -7,7 +7,7 @@ use yaml_parse::yaml_mark_t;
 
 /// A place in a text.
 #[repr(C)]
-#[derive(Clone, Copy, Drop)]
+#[derive(Clone, Copy, Drop, Default)]
 pub struct yaml_c_mark {
     pub index: u64,
     pub line: u64,
@@ -18,7 +18,7 @@ pub struct yaml_c_mark {
 
 /// A part of a list: `len` items from `at` on.
 #[repr(C)]
-#[derive(Clone, Copy, Drop)]
+#[derive(Clone, Copy, Drop, Default)]
 pub struct yaml_c_span {
     pub at: u64,
     pub len: u64,
@@ -35,7 +35,7 @@ pub struct yaml_c_directive {
 /// An event. `kind`, `style` and `encoding` have libyaml's numbers; flags are off at 0 and on at every other number. What
 /// its kind doesn't have counts for nothing.
 #[repr(C)]
-#[derive(Clone, Copy, Drop)]
+#[derive(Clone, Copy, Drop, Default)]
 pub struct yaml_c_event {
     pub kind: i32,
     pub style: i32,

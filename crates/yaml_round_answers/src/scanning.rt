@@ -5,7 +5,7 @@ ghost use Rattle.yaml_scan.specs.Scanned.{scanned};
 ghost use Rattle.yaml_round_answers.specs.Numbers.{encoding_meant};
 ghost use Rattle.yaml_round_answers.specs.TokensListed.{ListsTokens, EndsListed};
 ghost use Rattle.yaml_round_answers.specs.Spelled.{spelled_text};
-ghost use Rattle.yaml_round_answers.specs.Told.{AnswersMeant, TellsMemory};
+ghost use Rattle.yaml_round_answers.specs.Told.{AnswersMeant};
 ghost use Rattle.yaml_round_answers.specs.Scans.{HasNoToken, HandsOutTokens, HandsOutTokensUnless, Scans, NoTokenUnmeant};
 
 use crate::answer::{handed_out, misused, refused_in, said, yaml_c_answer};
@@ -97,15 +97,6 @@ fn scanned_in(
     }
 }
 
-// Nothing is handed out, when out of memory.
-fn starved(alloc: Global, blocks: &mut yaml_c_scanned) -> yaml_c_answer
-    ensures told { TellsMemory result }
-    ensures none { HasNoToken blocks.new }
-{
-    *blocks = nothing();
-    refused_in(alloc, b"", &yaml_memory_fault(yaml_origin_t::Scanner))
-}
-
 fn scanned(
     alloc: Global,
     input: &[u8],
@@ -116,7 +107,10 @@ fn scanned(
 {
     match spelled_text(alloc, input, from) {
         Some(text) => scanned_in(alloc, input, from, text.as_slice(), blocks),
-        None => starved(alloc, blocks),
+        None => {
+            *blocks = nothing();
+            refused_in(alloc, b"", &yaml_memory_fault(yaml_origin_t::Scanner))
+        }
     }
 }
 

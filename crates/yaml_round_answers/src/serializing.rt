@@ -20,10 +20,15 @@ pub struct yaml_c_turns {
 
 const _: () = prove!(size_of::<yaml_c_turns>() == 16);
 
-fn serialized(alloc: Global, graph: &yaml_c_graph, turns: &mut yaml_c_turns) -> yaml_c_answer
-    ensures told { Serializes turns.new.turns.now graph.now result }
+/// The turns of a dump of the nodes that the records show, where each record means a node.
+pub fn serialized_by(alloc: Global, graph: &yaml_c_graph, turns: &mut yaml_c_turns) -> yaml_c_answer
+    ensures told { AnswersMeant (graph_meant graph.now) (Serializes turns.new.turns.now) result }
     ensures none { (result.kind ≡ pos 0) ⊎ (turns.new.turns.now ≡ []) }
 {
+    if !is_graph(graph) {
+        turns.turns = &[];
+        return misused();
+    }
     match turns_of(alloc, graph) {
         Ok(told) => {
             turns.turns = handed_out(told);
@@ -33,18 +38,5 @@ fn serialized(alloc: Global, graph: &yaml_c_graph, turns: &mut yaml_c_turns) -> 
             turns.turns = &[];
             refused(alloc, &yaml_memory_fault(yaml_origin_t::Emitter), 0)
         }
-    }
-}
-
-/// The turns of a dump of the nodes that the records show, where each record means a node.
-pub fn serialized_by(alloc: Global, graph: &yaml_c_graph, turns: &mut yaml_c_turns) -> yaml_c_answer
-    ensures told { AnswersMeant (graph_meant graph.now) (Serializes turns.new.turns.now) result }
-    ensures none { (result.kind ≡ pos 0) ⊎ (turns.new.turns.now ≡ []) }
-{
-    if is_graph(graph) {
-        serialized(alloc, graph, turns)
-    } else {
-        turns.turns = &[];
-        misused()
     }
 }

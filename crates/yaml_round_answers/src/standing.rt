@@ -1,11 +1,11 @@
 //! An emitter's checkpoint, as C holds it from call to call.
 
-ghost use Rattle.std.specs.Prelude.{◌≡◌, None, Some, pos, true, false, is_some, ◌&&◌, nat_lt, ◌^◌, IfOk, IfSome, IsSome};
+ghost use Rattle.std.specs.Prelude.{◌≡◌, None, Some, map, pos, true, false, is_some, ◌&&◌, nat_lt, ◌^◌, IfOk, IfSome, IsSome};
 ghost use Rattle.std.specs.Ordering.{int_eq};
 ghost use Rattle.yaml_emit.specs.Judged.{refused_at};
 ghost use Rattle.yaml_round_answers.specs.Numbers.{is_set, flag_told};
 ghost use Rattle.yaml_round_answers.specs.Records.{part_at, directive_at, all_directives};
-ghost use Rattle.yaml_round_answers.specs.Standing.{place_meant, spelling_meant, phase_meant, level_meant, innermost_meant, levels_meant, stand_meant, at_meant, ends_implicitly, place_number, spelling_number, phase_number, innermost_told, outer_if, IsFew};
+ghost use Rattle.yaml_round_answers.specs.Standing.{place_meant, spelling_meant, phase_meant, level_meant, innermost_meant, levels_meant, stand_meant, at_meant, ends_implicitly, place_number, spelling_number, phase_number, level_told, innermost_told, outer_if, IsFew};
 
 use crate::number::{flag, is_set};
 use crate::record::{part_at, yaml_c_directive, yaml_c_span};
@@ -15,7 +15,7 @@ use yaml_emit::{Encoding, Expected, Level, Phase};
 /// How an open collection goes on: `state` is libyaml's number of the state in which an emitter waits for what is next in it, 5 to 10
 /// in flow style and 11 to 16 in block style, and `indent` its indentation in columns.
 #[repr(C)]
-#[derive(Clone, Copy, Drop)]
+#[derive(Clone, Copy, Drop, Default)]
 pub struct yaml_c_level {
     pub state: i32,
     pub indent: u64,
@@ -24,7 +24,7 @@ pub struct yaml_c_level {
 /// An emitter's checkpoint, except the collections round the innermost one and the document's directives. Flags are off at 0 and on at
 /// every other number.
 #[repr(C)]
-#[derive(Clone, Copy, Drop)]
+#[derive(Clone, Copy, Drop, Default)]
 pub struct yaml_c_place {
     /// What is expected next, by libyaml's numbers: 0 the stream's start, 1 the first document, 2 another one, 3 a node or the end of
     /// the innermost collection, 4 the document's end, 17 nothing.
@@ -159,44 +159,26 @@ fn phase_of(state: i32) -> Option<(Phase, bool)>
     }
 }
 
-// The number of what is next in a collection in flow style.
+// The number of what is next in a collection.
 #[tactic(auto, unfolding(crate::specs::Standing::phase_meant))]
-fn flow_number(phase: Phase) -> i32
-    ensures is { phase_meant result ≡ Some (phase, true) }
-    ensures some { int_eq result (pos 0) ≡ false }
-    ensures told { result ≡ phase_number phase true }
-{
-    match phase {
-        Phase::Items(fresh) => { if fresh { 5 } else { 6 } }
-        Phase::Keys(fresh) => { if fresh { 7 } else { 8 } }
-        Phase::Value(simple) => { if simple { 9 } else { 10 } }
-    }
-}
-
-// The same in block style.
-#[tactic(auto, unfolding(crate::specs::Standing::phase_meant))]
-fn block_number(phase: Phase) -> i32
-    ensures is { phase_meant result ≡ Some (phase, false) }
-    ensures some { int_eq result (pos 0) ≡ false }
-    ensures told { result ≡ phase_number phase false }
-{
-    match phase {
-        Phase::Items(fresh) => { if fresh { 11 } else { 12 } }
-        Phase::Keys(fresh) => { if fresh { 13 } else { 14 } }
-        Phase::Value(simple) => { if simple { 15 } else { 16 } }
-    }
-}
-
-// The same in either style.
 fn number_of(phase: Phase, flow: bool) -> i32
     ensures is { phase_meant result ≡ Some (phase, flow) }
     ensures some { int_eq result (pos 0) ≡ false }
     ensures told { result ≡ phase_number phase flow }
 {
-    if flow {
-        flow_number(phase)
-    } else {
-        block_number(phase)
+    match (phase, flow) {
+        (Phase::Items(true), true) => 5,
+        (Phase::Items(false), true) => 6,
+        (Phase::Keys(true), true) => 7,
+        (Phase::Keys(false), true) => 8,
+        (Phase::Value(true), true) => 9,
+        (Phase::Value(false), true) => 10,
+        (Phase::Items(true), false) => 11,
+        (Phase::Items(false), false) => 12,
+        (Phase::Keys(true), false) => 13,
+        (Phase::Keys(false), false) => 14,
+        (Phase::Value(true), false) => 15,
+        (Phase::Value(false), false) => 16,
     }
 }
 
@@ -216,7 +198,7 @@ pub(crate) fn level_of(given: yaml_c_level) -> Option<Level>
 pub(crate) fn level_told(level: Level) -> yaml_c_level
     ensures is { level_meant result ≡ Some level }
     ensures some { int_eq result.state (pos 0) ≡ false }
-    ensures told { result ≡ innermost_told (Some level) }
+    ensures told { result ≡ level_told level }
 {
     yaml_c_level {
         state: number_of(level.phase, level.flow),
@@ -260,22 +242,11 @@ pub(crate) fn outer_if(innermost: Option<Level>, outer: &[Level]) -> &[Level]
     }
 }
 
-fn is_level(given: &yaml_c_level) -> bool
-    ensures { result ≡ is_some (level_meant given.now) }
-{
-    level_of(*given).is_some()
-}
-
 // Whether each record means an open collection.
 fn are_levels(levels: &[yaml_c_level]) -> bool
     ensures { result ≡ is_some (levels_meant levels.now) }
 {
-    for level in levels {
-        if !is_level(level) {
-            return false;
-        }
-    }
-    true
+    levels.iter().all(|level| level_of(*level).is_some())
 }
 
 fn is_within(bytes: &[u8], span: yaml_c_span) -> bool
@@ -289,23 +260,14 @@ fn is_within(bytes: &[u8], span: yaml_c_span) -> bool
 fn is_spanned(bytes: &[u8], directive: &yaml_c_directive) -> bool
     ensures { result ≡ is_some (directive_at bytes.now directive.now) }
 {
-    if is_within(bytes, directive.handle) {
-        is_within(bytes, directive.prefix)
-    } else {
-        false
-    }
+    is_within(bytes, directive.handle) && is_within(bytes, directive.prefix)
 }
 
 // Whether those of each do.
 fn are_spanned(bytes: &[u8], list: &[yaml_c_directive]) -> bool
     ensures { result ≡ is_some (all_directives bytes.now list.now) }
 {
-    for directive in list {
-        if !is_spanned(bytes, directive) {
-            return false;
-        }
-    }
-    true
+    list.iter().all(|directive| is_spanned(bytes, directive))
 }
 
 // Whether the numbers of a place mean something.
@@ -314,16 +276,9 @@ fn has_numbers(place: &yaml_c_place) -> bool
         && (is_some (place_meant place.now.state (is_set place.now.implicit))
         && (is_some (innermost_meant place.now.innermost) && nat_lt place.now.column (2 ^ 62)))) }
 {
-    if spelling_of(place.encoding).is_none() {
-        return false;
-    }
-    if place_of(place.state, is_set(place.implicit)).is_none() {
-        return false;
-    }
-    if innermost_of(place.innermost).is_none() {
-        return false;
-    }
-    place.column < COLUMNS
+    spelling_of(place.encoding).is_some()
+        && (place_of(place.state, is_set(place.implicit)).is_some()
+            && (innermost_of(place.innermost).is_some() && place.column < COLUMNS))
 }
 
 // Whether the records mean a checkpoint at which events were given.
@@ -332,13 +287,8 @@ fn is_at(stand: &yaml_c_stand) -> bool
     ensures { result ≡ is_some (at_meant stand.now.place stand.now.levels.now
         stand.now.directives.now stand.now.bytes.now) }
 {
-    if !has_numbers(&stand.place) {
-        return false;
-    }
-    if !are_levels(stand.levels) {
-        return false;
-    }
-    are_spanned(stand.bytes, stand.directives)
+    has_numbers(&stand.place)
+        && (are_levels(stand.levels) && are_spanned(stand.bytes, stand.directives))
 }
 
 /// Whether C's records mean a checkpoint. Nothing is copied, so that no refusal of memory hides a
@@ -377,12 +327,7 @@ pub(crate) fn levels_of(alloc: Global, levels: &[yaml_c_level]) -> Option<Vec<Le
 
 // Open collections as C reads them.
 pub(crate) fn levels_told(alloc: Global, levels: &[Level]) -> Result<Vec<yaml_c_level>, AllocError>
-    ensures { IfOk result (λ v. levels_meant v.items ≡ Some levels.now) }
+    ensures { IfOk result (λ v. v.items ≡ map level_told levels.now) }
 {
-    let mut listed = Vec::new(alloc);
-    for level in levels {
-        let record = level_told(*level);
-        listed.push(record)?;
-    }
-    Ok(listed)
+    levels.iter().map(|level| level_told(*level)).collect(alloc)
 }

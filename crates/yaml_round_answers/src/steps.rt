@@ -21,13 +21,6 @@ pub struct Sketching {
     names: Names,
 }
 
-/// What events come to, before their end or of an alias that no node before it has the name of.
-#[derive(Drop)]
-pub struct Composed {
-    pub spots: Vec<yaml_c_spot>,
-    pub whole: bool,
-}
-
 #[tactic(auto, unfolding(crate::specs::Composing::is_named))]
 fn is_named(step: yaml_c_step) -> bool
     ensures { result ≡ is_named step.has_name }
@@ -64,12 +57,7 @@ fn is_step(bytes: &[u8], step: yaml_c_step) -> bool
 pub fn are_steps(bytes: &[u8], steps: &[yaml_c_step]) -> bool
     ensures { result ≡ are_steps bytes.now steps.now }
 {
-    for step in steps {
-        if !is_step(bytes, *step) {
-            return false;
-        }
-    }
-    true
+    steps.iter().all(|step| is_step(bytes, *step))
 }
 
 impl Sketching {
@@ -90,10 +78,7 @@ impl Sketching {
     fn innermost(&self) -> i32
         ensures { result ≡ innermost (sketch_of self.now).around }
     {
-        match self.around.last() {
-            None => 0,
-            Some(number) => *number,
-        }
+        self.around.last().copied().unwrap_or(0)
     }
 
     // A node more.
@@ -158,14 +143,8 @@ impl Sketching {
     {
         match step.kind {
             5 => Ok(self.stand(bytes, step)),
-            6 => {
-                let spot = self.begin(bytes, step)?;
-                Ok(Some(spot))
-            }
-            7 | 9 => {
-                let spot = self.open_node(bytes, step)?;
-                Ok(Some(spot))
-            }
+            6 => Ok(Some(self.begin(bytes, step)?)),
+            7 | 9 => Ok(Some(self.open_node(bytes, step)?)),
             8 | 10 => Ok(Some(self.end())),
             _ => Ok(Some(yaml_c_spot { node: 0, into: 0 })),
         }
@@ -189,25 +168,22 @@ fn note_name(
     }
 }
 
-/// Which node each event is of, and which collection takes it.
+/// Which node each event is of, and which collection takes it, before their end or an alias that no node before it has the name of, and
+/// whether none is such an alias.
 pub fn compose_steps(
     alloc: Global,
     bytes: &[u8],
     steps: &[yaml_c_step],
-) -> Result<Composed, AllocError>
-    ensures { IfOk result (λ c. (c.spots.items, c.whole) ≡ all_drawn bytes.now steps.now
-        fresh_sketch) }
+) -> Result<(Vec<yaml_c_spot>, bool), AllocError>
+    ensures { IfOk result (λ c. (c.0.items, c.1) ≡ all_drawn bytes.now steps.now fresh_sketch) }
 {
     let mut sketching = Sketching::new(alloc);
     let mut spots = Vec::with_capacity(alloc, steps.len())?;
     for step in steps {
         match sketching.draw(bytes, *step)? {
-            None => return Ok(Composed {
-                spots,
-                whole: false,
-            }),
+            None => return Ok((spots, false)),
             Some(spot) => spots.push(spot)?,
         }
     }
-    Ok(Composed { spots, whole: true })
+    Ok((spots, true))
 }

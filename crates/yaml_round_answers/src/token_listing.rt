@@ -23,19 +23,6 @@ pub struct TokenListing {
     pub bytes: Vec<u8>,
 }
 
-impl TokenListing {
-    /// A listing of nothing.
-    #[tactic(auto, unfolding(crate::specs::TokensListed::records_from, crate::specs::TokensListed::all_texts))]
-    pub fn new(alloc: Global) -> TokenListing
-        ensures { ListsTokens [] result }
-    {
-        TokenListing {
-            tokens: Vec::new(alloc),
-            bytes: Vec::new(alloc),
-        }
-    }
-}
-
 // A record with a text.
 fn named(bytes: &mut Vec<u8>, base: yaml_c_token, text: &[u8]) -> Result<yaml_c_token, AllocError>
     ensures put { IfOk result (λ _. bytes.new.items ≡ bytes.old.items ++ text.now) }
@@ -112,6 +99,17 @@ fn record_of(bytes: &mut Vec<u8>, token: &yaml_token_t) -> Result<yaml_c_token, 
 }
 
 impl TokenListing {
+    /// A listing of nothing.
+    #[tactic(auto, unfolding(crate::specs::TokensListed::records_from, crate::specs::TokensListed::all_texts))]
+    pub fn new(alloc: Global) -> TokenListing
+        ensures { ListsTokens [] result }
+    {
+        TokenListing {
+            tokens: Vec::new(alloc),
+            bytes: Vec::new(alloc),
+        }
+    }
+
     /// Pushes a token after the others.
     pub fn push(&mut self, token: &yaml_token_t) -> Result<(), AllocError>
         ensures { IfOk result (λ _. Adds self.old (token_of token.now) self.new) }

@@ -7,7 +7,7 @@ use crate::record::{yaml_c_mark, yaml_c_span};
 
 /// A token. What its kind doesn't have is 0.
 #[repr(C)]
-#[derive(Clone, Copy, Drop)]
+#[derive(Clone, Copy, Drop, Default)]
 pub struct yaml_c_token {
     /// What it is, 1 to 21.
     pub kind: i32,
@@ -28,21 +28,14 @@ pub struct yaml_c_token {
 
 const _: () = prove!(size_of::<yaml_c_token>() == 120);
 
-const NOTHING: yaml_c_span = yaml_c_span { at: 0, len: 0 };
-
 /// A record of that kind between these marks, with nothing else.
 pub(crate) fn plain(kind: i32, start: yaml_c_mark, end: yaml_c_mark) -> yaml_c_token
     ensures { result ≡ plain kind start end }
 {
     yaml_c_token {
         kind,
-        style: 0,
-        encoding: 0,
-        major: 0,
-        minor: 0,
-        handle: NOTHING,
-        value: NOTHING,
         start,
         end,
+        ..yaml_c_token::default()
     }
 }

@@ -1,7 +1,6 @@
 //! The turns of a dump as records.
 
-ghost use Rattle.std.specs.Prelude.{◌≡◌, map, IfOk};
-ghost use Rattle.yaml_emit_graph.specs.Graph.{turns, numbers};
+ghost use Rattle.std.specs.Prelude.{◌≡◌, IfOk};
 ghost use Rattle.yaml_round_answers.specs.Graphs.{kind_at};
 ghost use Rattle.yaml_round_answers.specs.Turns.{opening_kind, closing_kind, turn_by, turns_by};
 
@@ -14,10 +13,7 @@ use yaml_emit_graph::{Turn, Walked, number_of, walk_nodes};
 fn kind_at(graph: &yaml_c_graph, id: i32) -> i32
     ensures { result ≡ kind_at graph.now id }
 {
-    match record_at(graph, id) {
-        None => 0,
-        Some(node) => node.kind,
-    }
+    record_at(graph, id).map_or(0, |node| node.kind)
 }
 
 // The kind of the event with which a node of a kind begins: one without a kind is an empty scalar.
@@ -66,29 +62,13 @@ fn turn_by(graph: &yaml_c_graph, numbers: &[u64], turn: Turn) -> yaml_c_turn
     }
 }
 
-// The records of turns.
-fn turns_by(
-    alloc: Global,
-    graph: &yaml_c_graph,
-    numbers: &[u64],
-    turns: &[Turn],
-) -> Result<Vec<yaml_c_turn>, AllocError>
-    ensures { IfOk result (λ v. v.items ≡ map (turn_by graph.now numbers.now)
-        turns.now) }
-{
-    let mut records = Vec::with_capacity(alloc, turns.len())?;
-    for turn in turns {
-        let record = turn_by(graph, numbers, *turn);
-        records.push(record)?;
-    }
-    Ok(records)
-}
-
 /// The turns of a dump of the nodes that the records show.
 pub fn turns_of(alloc: Global, graph: &yaml_c_graph) -> Result<Vec<yaml_c_turn>, AllocError>
     ensures { IfOk result (λ v. v.items ≡ turns_by graph.now) }
 {
     let Walked { turns, numbers } = walk_nodes(alloc, graph)?;
-    let records = turns_by(alloc, graph, &numbers, &turns)?;
-    Ok(records)
+    turns
+        .iter()
+        .map(|turn| turn_by(graph, &numbers, *turn))
+        .collect(alloc)
 }

@@ -6,7 +6,7 @@ ghost use Rattle.yaml_round_answers.specs.Told.{AnswersMeant, IsExact};
 ghost use Rattle.yaml_round_answers.specs.Parses.{HasNothing, Parses, Fronts, NothingUnmeant};
 
 use std::alloc::Global;
-use yaml_round_answers::{front_by, parsed_by, yaml_c_answer, yaml_c_parsed};
+use yaml_round_answers::{given_by, yaml_c_answer, yaml_c_parsed};
 
 /// The events of the input, as records over one block of bytes. Where it is refused there are none.
 #[unsafe(no_mangle)]
@@ -22,7 +22,7 @@ pub extern "C" fn yaml_c_parse(
     ensures exact { IsExact (encoding_meant from) result }
     ensures kind { result ≡ answer.new.kind }
 {
-    *answer = parsed_by(alloc, input, from, blocks);
+    *answer = given_by(alloc, input, from, true, blocks);
     answer.kind
 }
 
@@ -40,6 +40,6 @@ pub extern "C" fn yaml_c_front(
     ensures exact { IsExact (encoding_meant from) result }
     ensures kind { result ≡ answer.new.kind }
 {
-    *answer = front_by(alloc, input, from, blocks);
+    *answer = given_by(alloc, input, from, false, blocks);
     answer.kind
 }

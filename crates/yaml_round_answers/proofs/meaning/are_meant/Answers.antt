@@ -1,16 +1,12 @@
-use Rattle.std.proofs.Common.{◌≡◌, true, false, rules}
-use Rattle.yaml_round_answers.proofs.Checked.{event_refused, event_passed, events_end}
+use Rattle.std.proofs.Common.{◌∙◌, rules}
+use Rattle.std.proofs.lemmas.Iterator.{YieldsList-from_slice}
+use Rattle.std.proofs.lemmas.Iterator.Search.{all_from_yields_List}
+use Rattle.yaml_round_answers.specs.Records.{body_meant}
+use Rattle.yaml_round_answers.specs.Checking.{is_event}
+use Rattle.yaml_round_answers.proofs.Checked.{events_tested}
 use Rattle.yaml_round_answers.proofs.meaning.are_meant.Goals as goal
 
-pub returns-then-not-is_meant : goal.returns-then-not-is_meant
-returns-then-not-is_meant c =
-    let no : c.is_meant.result ≡ false = search rules in
-    event_refused _ _ _ _ _ _ c.loop-record-test.true c.loop-record.invariant c.is_meant.ensures no
-
-pub loop-record-preserved : goal.loop-record-preserved
-loop-record-preserved c =
-    let yes : c.is_meant.result ≡ true = search rules in
-    event_passed _ _ _ _ _ _ c.loop-record-test.true c.loop-record.invariant c.is_meant.ensures yes
-
 pub returns : goal.returns
-returns c = events_end _ _ _ _ c.loop-record-test.false c.loop-record.invariant
+returns c =
+    all_from_yields_List (λ r. is_event (body_meant c.args.bytes.now c.args.list.now r)) _ _ c.all.result c.all.ensures.ran (YieldsList-from_slice c.args.records.now cc) (λ x b q k. search rules)
+    ∙ events_tested c.args.bytes.now c.args.list.now c.args.records.now

@@ -1,7 +1,14 @@
-use Rattle.yaml_round_answers.proofs.Places.{tells_none}
-use Rattle.std.proofs.Common.{refl}
+use Rattle.std.proofs.Common.{◌≡◌, None, refl, rules}
+use Rattle.yaml_round_answers.specs.Standing.{place_told}
+use Rattle.yaml_round_answers.proofs.Places.{means_none, tells_none}
 use Rattle.yaml_round_answers.proofs.onward.nowhere.Goals as goal
+
+pub returns-clause-means : goal.returns-clause-means
+returns-clause-means c =
+    let place : c.default.result ≡ place_told None 0 = search rules in
+    means_none c.default.result _ _ _ place
 
 pub returns-clause-told : goal.returns-clause-told
 returns-clause-told c =
-    tells_none _ c.innermost_told.result refl c.innermost_told.ensures.told c.new.ensures.items c.new-2.ensures.items c.new-3.ensures.items
+    let place : c.default.result ≡ place_told None 0 = search rules in
+    tells_none _ place refl refl refl

@@ -1,16 +1,11 @@
-use Rattle.std.proofs.Common.{◌≡◌, true, false, rules}
-use Rattle.yaml_round_answers.proofs.Stands.{level_refused, level_passed, levels_end}
+use Rattle.std.proofs.Common.{◌∙◌, is_some, rules}
+use Rattle.std.proofs.lemmas.Iterator.{YieldsList-from_slice}
+use Rattle.std.proofs.lemmas.Iterator.Search.{all_from_yields_List}
+use Rattle.yaml_round_answers.specs.Standing.{level_meant}
+use Rattle.yaml_round_answers.proofs.Stands.{levels_tested}
 use Rattle.yaml_round_answers.proofs.standing.are_levels.Goals as goal
 
-pub returns-then-not-is_level : goal.returns-then-not-is_level
-returns-then-not-is_level c =
-    let no : c.is_level.result ≡ false = search rules in
-    level_refused _ _ _ _ c.loop-level-test.true c.loop-level.invariant c.is_level.ensures no
-
-pub loop-level-preserved : goal.loop-level-preserved
-loop-level-preserved c =
-    let yes : c.is_level.result ≡ true = search rules in
-    level_passed _ _ _ _ c.loop-level-test.true c.loop-level.invariant c.is_level.ensures yes
-
 pub returns : goal.returns
-returns c = levels_end _ _ c.loop-level-test.false c.loop-level.invariant
+returns c =
+    all_from_yields_List (λ l. is_some (level_meant l)) _ _ c.all.result c.all.ensures.ran (YieldsList-from_slice c.args.levels.now cc) (λ x b q k. search rules)
+    ∙ levels_tested c.args.levels.now

@@ -9,17 +9,17 @@ use Rattle.yaml_round_c.proofs.parsing.yaml_c_front.Goals as goal
 pub returns-clause-told : goal.returns-clause-told
 returns-clause-told c =
     let fits : SFits w32 c.args.from = search rules in
-    front_told _ _ _ _ _ (to_z-of_z w32 c.args.from fits) c.front_by.ensures.told
+    front_told _ _ _ _ _ (to_z-of_z w32 c.args.from fits) c.given_by.ensures.told
 
 pub returns-clause-none : goal.returns-clause-none
 returns-clause-none c =
     let fits : SFits w32 c.args.from = search rules in
-    front_none _ _ _ (to_z-of_z w32 c.args.from fits) c.front_by.ensures.none
+    front_none _ _ _ _ (to_z-of_z w32 c.args.from fits) c.given_by.ensures.none
 
 pub returns-clause-kind : goal.returns-clause-kind
 returns-clause-kind c =
-    let kind : SFits w32 c.front_by.result.kind = search rules in
-    to_z-of_z w32 c.front_by.result.kind kind
+    let kind : SFits w32 c.given_by.result.kind = search rules in
+    to_z-of_z w32 c.given_by.result.kind kind
 
 pub returns-clause-exact : goal.returns-clause-exact
 returns-clause-exact c = front_exact _ _ _ _ _ _ refl (returns-clause-kind c) (returns-clause-told c)

@@ -6,7 +6,7 @@ use std::alloc::{AllocError, Global};
 use std::env::FillError;
 use std::process::ExitCode;
 use std::rt::Env;
-use yaml_cli_main::{UNNAMED, WRONG_WORDS, shown_bytes, yaml_main};
+use yaml_cli_main::{WRONG_WORDS, file_path, yaml_main};
 
 // How many bytes a word has at most at first.
 const FIRST: usize = 256;
@@ -29,24 +29,12 @@ fn bytes_of(rt: &HostRuntime, number: usize) -> Result<Option<Vec<u8>>, AllocErr
     Err(AllocError)
 }
 
-// A word's text; of one that isn't UTF-8 what people are shown of it, after the character that says so.
-fn text_of(alloc: Global, bytes: &[u8]) -> Result<String, AllocError> {
-    match str::from_utf8(bytes) {
-        Ok(word) => String::from_str(alloc, word),
-        Err(_) => {
-            let mut word = String::new(alloc);
-            word.push(UNNAMED)?;
-            shown_bytes(&mut word, bytes)?;
-            Ok(word)
-        }
-    }
-}
-
+// The words. One that isn't UTF-8 is a name that no file has.
 fn words_of(rt: &HostRuntime) -> Result<Vec<String>, AllocError> {
     let mut words = Vec::new(rt.alloc());
     for number in 0..usize::MAX {
         match bytes_of(rt, number)? {
-            Some(bytes) => words.push(text_of(rt.alloc(), bytes.as_slice())?)?,
+            Some(bytes) => words.push(file_path(rt.alloc(), "", bytes.as_slice())?)?,
             None => break,
         }
     }

@@ -1,6 +1,6 @@
 //! The characters of a text, as far as its bytes spell any.
 
-use bstr::decode_utf8;
+use bstr::{decode_last_utf8, decode_utf8};
 use yaml_scan_types::yaml_encoding_t;
 
 // How many bytes are looked at in a row.
@@ -41,27 +41,18 @@ fn unit_of(bytes: &[u8], form: yaml_encoding_t) -> Option<u16> {
     }
 }
 
-// The character that two units spell.
-fn char_of_pair(high: u16, low: u16) -> Option<char> {
-    if high >> 10 == 0x36 && low >> 10 == 0x37 {
-        let above = u32::from(high & 0x3FF) * 0x400 + u32::from(low & 0x3FF);
-        char::from_u32(0x1_0000 + above)
-    } else {
-        None
-    }
-}
-
 // The first character of a UTF-16 text, and how many bytes it has.
 fn decode_utf16(bytes: &[u8], form: yaml_encoding_t) -> (Option<char>, usize) {
     let Some(unit) = unit_of(bytes, form) else {
         return (None, 1);
     };
-    if let Some(c) = char::from_u32(u32::from(unit)) {
-        return (Some(c), 2);
-    }
-    match unit_of(bytes.get(2..).unwrap_or(b""), form) {
-        Some(low) => (char_of_pair(unit, low), 4),
-        None => (None, 2),
+    let Some(low) = unit_of(bytes.get(2..).unwrap_or(b""), form) else {
+        return (char::from_u32(u32::from(unit)), 2);
+    };
+    match char::decode_utf16([unit, low]).next() {
+        Some(Ok(c)) if c <= '\u{FFFF}' => (Some(c), 2),
+        Some(Ok(c)) => (Some(c), 4),
+        _ => (None, 4),
     }
 }
 
@@ -85,18 +76,6 @@ fn detected(input: &[u8]) -> (&[u8], yaml_encoding_t) {
     (left, yaml_encoding_t::YAML_UTF8_ENCODING)
 }
 
-// Where the character begins that has the byte at a place.
-fn first_byte(text: &[u8], at: usize) -> usize {
-    let mut first = at;
-    for _ in 0..3 {
-        match text.get(first) {
-            Some(0x80..=0xBF) => first = first.saturating_sub(1),
-            _ => break,
-        }
-    }
-    first
-}
-
 impl<'a> Chars<'a> {
     /// All of them, after a byte order mark that shows their encoding.
     pub(crate) fn of(input: &'a [u8], from: yaml_encoding_t) -> Chars<'a> {
@@ -114,7 +93,8 @@ impl<'a> Chars<'a> {
         }
         let mut at = index as usize;
         for _ in 0..characters {
-            at = first_byte(self.left, at.saturating_sub(1));
+            let (_, size) = decode_last_utf8(self.left.get(..at)?);
+            at = at.saturating_sub(size);
         }
         let left = self.left.get(at..)?;
         Some(Chars { left, ..self })

@@ -84,8 +84,8 @@ fn push_blank(text: &mut String, c: char) -> Result<(), AllocError> {
     Ok(())
 }
 
-// Adds up to that many characters of the line, or what takes as many columns; answers whether the line goes on after them.
-fn push_columns(
+/// Adds up to that many characters of the line, or what takes as many columns; returns whether the line goes on after them.
+pub(crate) fn push_columns(
     text: &mut String,
     mut line: Chars<'_>,
     columns: u64,

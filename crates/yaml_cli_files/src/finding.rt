@@ -25,8 +25,8 @@ pub enum Format {
 
 /// What is wrong with a file. Lines and columns count from 1.
 #[derive(Drop, Serialize)]
-pub struct Finding<'f, 'a> {
-    file: &'f str,
+pub struct Finding<'a> {
+    file: &'a str,
     line: Option<u64>,
     column: Option<u64>,
     kind: &'a str,
@@ -47,61 +47,39 @@ fn numbers(place: Option<yaml_mark_t>) -> (Option<u64>, Option<u64>) {
     }
 }
 
-impl<'f> Finding<'f, 'static> {
-    /// The fault of a text.
-    pub fn of(source: Source<'f>, fault: &yaml_fault_t) -> Finding<'f, 'static> {
-        let kind = headline(fault.kind);
-        let (line, column) = numbers(place_of(source, fault));
-        let around = fault.context.map(|_| fault.context_mark);
-        let (context_line, context_column) = numbers(around);
-        Finding {
-            file: bare(source.name),
-            line,
-            column,
-            kind: kind.strip_suffix(" error").unwrap_or(kind),
-            problem: fault.problem,
-            context: fault.context,
-            context_line,
-            context_column,
-        }
-    }
-}
-
-impl<'f> Finding<'f, 'f> {
-    /// A key that is in its mapping more than once, and where it is first.
-    pub fn repeated(
-        source: Source<'f>,
-        problem: &'f str,
-        place: yaml_mark_t,
-        context: &'static str,
-        first: yaml_mark_t,
-    ) -> Finding<'f, 'f> {
-        let (line, column) = numbers(Some(place));
-        let (context_line, context_column) = numbers(Some(first));
-        Finding {
-            file: bare(source.name),
-            line,
-            column,
-            kind: "duplicate key",
-            problem,
-            context: Some(context),
-            context_line,
-            context_column,
-        }
-    }
-
-    /// A file that wasn't read, for that reason.
-    pub fn unread(name: &'f str, problem: &'f str) -> Finding<'f, 'f> {
+impl<'a> Finding<'a> {
+    /// A problem of a file, its place, and what it is found in, with its place.
+    pub fn new(
+        name: &'a str,
+        kind: &'a str,
+        problem: &'a str,
+        place: Option<yaml_mark_t>,
+        context: Option<(&'a str, yaml_mark_t)>,
+    ) -> Finding<'a> {
+        let (line, column) = numbers(place);
+        let (context_line, context_column) = numbers(context.map(|context| context.1));
         Finding {
             file: bare(name),
-            line: None,
-            column: None,
-            kind: "io",
+            line,
+            column,
+            kind,
             problem,
-            context: None,
-            context_line: None,
-            context_column: None,
+            context: context.map(|context| context.0),
+            context_line,
+            context_column,
         }
+    }
+
+    /// The fault of a text.
+    pub fn of(source: Source<'a>, fault: &yaml_fault_t) -> Finding<'a> {
+        let kind = headline(fault.kind);
+        let kind = kind.strip_suffix(" error").unwrap_or(kind);
+        let context = match fault.context {
+            Some(context) => Some((context, fault.context_mark)),
+            None => None,
+        };
+        let place = place_of(source, fault);
+        Finding::new(source.name, kind, fault.problem, place, context)
     }
 }
 
@@ -128,7 +106,7 @@ impl Display for Escaped<'_> {
     }
 }
 
-fn push_line(text: &mut String, finding: &Finding<'_, '_>) -> Result<(), AllocError> {
+fn push_line(text: &mut String, finding: &Finding<'_>) -> Result<(), AllocError> {
     let Finding { kind, problem, .. } = finding;
     let name = Shown(finding.file);
     write!(text, "{name}:")?;
@@ -138,7 +116,7 @@ fn push_line(text: &mut String, finding: &Finding<'_, '_>) -> Result<(), AllocEr
     writeln!(text, " error: {problem} [{kind}]")
 }
 
-fn push_command(text: &mut String, finding: &Finding<'_, '_>) -> Result<(), AllocError> {
+fn push_command(text: &mut String, finding: &Finding<'_>) -> Result<(), AllocError> {
     let kind = finding.kind;
     let name = Escaped {
         text: finding.file,
@@ -155,11 +133,7 @@ fn push_command(text: &mut String, finding: &Finding<'_, '_>) -> Result<(), Allo
     writeln!(text, ",title=yaml_cli ({kind})::{problem}")
 }
 
-fn push_json(
-    alloc: Global,
-    text: &mut String,
-    finding: &Finding<'_, '_>,
-) -> Result<(), AllocError> {
+fn push_json(alloc: Global, text: &mut String, finding: &Finding<'_>) -> Result<(), AllocError> {
     match serde_json::to_string(alloc, finding) {
         Ok(object) => writeln!(text, "{object}"),
         Err(_) => Err(AllocError),
@@ -171,7 +145,7 @@ pub fn push_finding(
     alloc: Global,
     text: &mut String,
     format: Format,
-    finding: &Finding<'_, '_>,
+    finding: &Finding<'_>,
 ) -> Result<(), AllocError> {
     match format {
         Format::Github => push_command(text, finding),

@@ -1,7 +1,7 @@
 //! The files below a folder.
 
 use crate::glob::Glob;
-use crate::names::{UNNAMED, shown_bytes};
+use crate::names::{UNNAMED, file_path};
 use std::alloc::{AllocError, Global};
 use std::io::{Error, ErrorKind, Read};
 use std::rt::Files;
@@ -9,16 +9,15 @@ use std::rt::Files;
 // How many bytes of names are read at once: a name has at most 255.
 const PIECE: usize = 8192;
 
-// How many reads of names, and tries of one that is interrupted, are made.
+// How many times a read that is interrupted is made in all.
 const TRIES: u32 = 1000;
 
-/// What is met below a folder.
+/// What is met below a folder: the path of a file that is to be read, which begins with `UNNAMED` where it isn't UTF-8; or that of a
+/// folder, or of a file in it, that can't be examined, and why.
 #[derive(Drop)]
-pub enum Found {
-    /// A file that is to be read, by its path. It begins with `UNNAMED` where that isn't UTF-8.
-    File(String),
-    /// A folder, or a file in it, that can't be examined: its path, and why.
-    Failed(String, Error),
+pub struct Found {
+    pub path: String,
+    pub failed: Option<Error>,
 }
 
 /// The files below a folder that are still to come, in the order of the bytes of their paths.
@@ -70,44 +69,28 @@ enum Kind {
     Other,
 }
 
-// What a link is: links to folders aren't followed, and one that leads nowhere can't be read, which is reported then.
-fn kind_of_link<H: Files>(rt: &H, path: &str) -> Kind {
-    match rt.metadata(path) {
-        Ok(found) if !found.is_file() => Kind::Other,
-        _ => Kind::File,
-    }
-}
-
-// What is at that path. Where it can't be examined, reading it reports why.
+// What is at that path: links to folders aren't followed. Where it can't be examined, as where a link leads nowhere, reading it
+// reports why.
 fn kind_of<H: Files>(rt: &H, path: &str) -> Kind {
     match rt.symlink_metadata(path) {
         Ok(found) if found.is_dir() => Kind::Folder,
-        Ok(found) if found.is_symlink() => kind_of_link(rt, path),
-        Ok(found) if !found.is_file() => Kind::Other,
-        _ => Kind::File,
+        Ok(found) if found.is_file() => Kind::File,
+        _ => match rt.metadata(path) {
+            Ok(found) if !found.is_file() => Kind::Other,
+            _ => Kind::File,
+        },
     }
 }
 
-// The path of an entry, and whether its name is UTF-8.
-fn entry_path(alloc: Global, folder: &str, name: &[u8]) -> Result<String, AllocError> {
-    let mut path = String::new(alloc);
-    if str::from_utf8(name).is_err() {
-        path.push(UNNAMED)?;
-    }
-    path.push_str(folder)?;
-    shown_bytes(&mut path, name)?;
-    Ok(path)
-}
-
-// One read, made again where it is interrupted.
-fn read_names<R: Read>(dir: &mut R, piece: &mut [u8]) -> Result<usize, Error> {
+/// One read, made again where it is interrupted.
+pub fn read_again<R: Read>(reader: &mut R, piece: &mut [u8]) -> Result<usize, Error> {
     for _ in 1..TRIES {
-        match dir.read(piece) {
+        match reader.read(piece) {
             Err(error) if error.kind() == ErrorKind::Interrupted => {}
             read => return read,
         }
     }
-    dir.read(piece)
+    reader.read(piece)
 }
 
 // The paths of all entries of a folder.
@@ -116,13 +99,13 @@ fn paths_in<H: Files>(rt: &H, alloc: Global, folder: &str) -> Result<Vec<String>
     let mut dir = rt.open_dir(folder)?;
     let mut piece = [0u8; PIECE];
     for _ in 0..u64::MAX {
-        let count = read_names(&mut dir, &mut piece)?;
+        let count = read_again(&mut dir, &mut piece)?;
         if count == 0 {
             break;
         }
         for name in piece.get(..count).unwrap_or(b"").split(|byte| *byte == 0) {
             if !matches!(name, b"" | b"." | b".." | b".git") {
-                paths.push(entry_path(alloc, folder, name)?)?;
+                paths.push(file_path(alloc, folder, name)?)?;
             }
         }
     }
@@ -180,12 +163,8 @@ impl Folder {
             }
         }
         chosen.sort()?;
-        for _ in 0..u64::MAX {
-            match chosen.pop() {
-                Some(path) => self.to_come.push(path)?,
-                None => break,
-            }
-        }
+        chosen.reverse();
+        self.to_come.append(&mut chosen)?;
         Ok(())
     }
 
@@ -194,10 +173,11 @@ impl Folder {
         for _ in 0..u64::MAX {
             let path = self.to_come.pop()?;
             if !path.ends_with('/') {
-                return Some(Found::File(path));
+                return Some(Found { path, failed: None });
             }
-            if let Err(error) = self.open(rt, choice, path.as_str()) {
-                return Some(Found::Failed(path, error));
+            let failed = self.open(rt, choice, path.as_str()).err();
+            if failed.is_some() {
+                return Some(Found { path, failed });
             }
         }
         None

@@ -1,6 +1,6 @@
 //! Patterns for the names of files.
 
-use std::alloc::{AllocError, Global};
+use std::alloc::Global;
 
 /// A part of a pattern.
 #[derive(Clone, Copy)]
@@ -34,9 +34,11 @@ pub struct WrongGlob {
     pub place: u64,
 }
 
-fn wrong(why: &'static str, place: u64) -> WrongGlob {
-    WrongGlob { why, place }
-}
+/// There is no room for a pattern.
+pub const NO_ROOM: WrongGlob = WrongGlob {
+    why: "out of memory",
+    place: 1,
+};
 
 fn split_char(text: &str) -> Option<(char, &str)> {
     let mut chars = text.chars();
@@ -46,141 +48,101 @@ fn split_char(text: &str) -> Option<(char, &str)> {
     }
 }
 
-// Whether a set has the character: ranges `a-z`, and characters.
+// The first range of a set, `a-z` or a character, and what is after it.
+fn split_range(chars: &str) -> Option<(char, char, &str)> {
+    let (low, rest) = split_char(chars)?;
+    match rest.strip_prefix('-').and_then(split_char) {
+        Some((high, rest)) => Some((low, high, rest)),
+        None => Some((low, low, rest)),
+    }
+}
+
+// Whether the set has the character.
 fn has_char(chars: &str, c: char) -> bool {
     let mut left = chars;
     for _ in 0..chars.len() {
-        let Some((low, rest)) = split_char(left) else {
+        let Some((low, high, rest)) = split_range(left) else {
             break;
         };
-        left = rest;
-        let mut high = low;
-        if let Some(after) = rest.strip_prefix('-') {
-            if let Some((end, rest)) = split_char(after) {
-                high = end;
-                left = rest;
-            }
-        }
         if low <= c && c <= high {
             return true;
         }
+        left = rest;
     }
     false
 }
 
+// Whether the set, or a range in it, has no character.
+fn has_nothing(chars: &str) -> bool {
+    let mut left = chars;
+    for _ in 0..chars.len() {
+        let Some((low, high, rest)) = split_range(left) else {
+            break;
+        };
+        if high < low {
+            return true;
+        }
+        left = rest;
+    }
+    chars.is_empty()
+}
+
 impl Part<'_> {
-    // Whether it matches this character alone.
+    // Whether it takes this character.
     fn takes(&self, c: char) -> bool {
         match self {
             Part::Char(own) => *own == c,
-            Part::One => c != '/',
+            Part::One | Part::Some => c != '/',
             Part::Set { chars, negated } => c != '/' && has_char(chars, c) != *negated,
-            _ => false,
+            Part::All | Part::Folders => true,
+        }
+    }
+
+    // What is left of a text after the part took a character, or a folder, of it.
+    fn after<'t>(&self, text: &'t str) -> Option<&'t str> {
+        if let Part::Folders = self {
+            return Some(text.split_once('/')?.1);
+        }
+        match split_char(text) {
+            Some((c, rest)) if self.takes(c) => Some(rest),
+            _ => None,
         }
     }
 }
 
-// Where a pattern is read.
-#[derive(Drop)]
-struct Reader<'a> {
-    left: &'a str,
-    // The character that comes next, counted from 1.
-    place: u64,
-    // A folder's name can begin here.
-    fresh: bool,
-}
-
-// The set whose characters come next, or what is wrong with it; `open` is the place of its `[`.
-fn set_in<'a>(reader: &mut Reader<'a>, open: u64) -> Result<Part<'a>, WrongGlob> {
-    let (negated, left) = match reader.left.strip_prefix('!') {
-        Some(left) => (true, left),
-        None => (false, reader.left),
+// The set that a text begins with, after its `[`, and what is after its `]`.
+fn split_set(text: &str) -> Result<Option<(Part<'_>, &str)>, &'static str> {
+    let (negated, text) = match text.strip_prefix('!') {
+        Some(text) => (true, text),
+        None => (false, text),
     };
-    let Some((chars, rest)) = left.split_once(']') else {
-        return Err(wrong("the [ has no ]", open));
-    };
-    reader.left = rest;
-    let count = chars.chars().count() as u64;
-    reader.place = open
-        .saturating_add(count)
-        .saturating_add(u64::from(negated) + 2);
-    if is_empty_set(chars) {
-        Err(wrong("no character is in this set, or in a range of it", open))
-    } else {
-        Ok(Part::Set { chars, negated })
+    match text.split_once(']') {
+        None => Err("the [ has no ]"),
+        Some((chars, _)) if has_nothing(chars) => Err(
+            "no character is in this set, or in a range of it",
+        ),
+        Some((chars, rest)) => Ok(Some((Part::Set { chars, negated }, rest))),
     }
 }
 
-// Whether the set has no character, or a range in it has none.
-fn is_empty_set(chars: &str) -> bool {
-    let mut before = None;
-    let mut left = chars;
-    for _ in 0..chars.len() {
-        let Some((c, rest)) = split_char(left) else {
-            break;
-        };
-        left = rest;
-        let end = match rest.strip_prefix('-') {
-            Some(after) => split_char(after),
-            None => None,
-        };
-        if let Some((end, rest)) = end {
-            left = rest;
-            if end < c {
-                return true;
-            }
-        }
-        before = Some(c);
+// The part that a text begins with, and what is after it, or what is wrong there; nothing at the end. A folder's name can begin there
+// where it is `fresh`.
+fn split_part(text: &str, fresh: bool) -> Result<Option<(Part<'_>, &str)>, &'static str> {
+    match (text.strip_prefix("**/"), text.strip_prefix("**")) {
+        (Some(rest), _) if fresh => return Ok(Some((Part::Folders, rest))),
+        (_, Some(rest)) => return Ok(Some((Part::All, rest))),
+        _ => {}
     }
-    before.is_none()
-}
-
-impl<'a> Reader<'a> {
-    fn skip(&mut self, text: &str) -> bool {
-        match self.left.strip_prefix(text) {
-            Some(left) => {
-                self.left = left;
-                self.place = self.place.saturating_add(text.len() as u64);
-                true
-            }
-            None => false,
-        }
-    }
-
-    // The next part; nothing at the end.
-    fn next(&mut self) -> Result<Option<Part<'a>>, WrongGlob> {
-        let open = self.place;
-        if self.fresh && self.skip("**/") {
-            return Ok(Some(Part::Folders));
-        }
-        if self.skip("**") {
-            return Ok(Some(Part::All));
-        }
-        let Some((c, rest)) = split_char(self.left) else {
-            return Ok(None);
-        };
-        self.left = rest;
-        self.place = open.saturating_add(1);
-        match c {
-            '*' => Ok(Some(Part::Some)),
-            '?' => Ok(Some(Part::One)),
-            '[' => match set_in(self, open) {
-                Ok(set) => Ok(Some(set)),
-                Err(why) => Err(why),
-            },
-            '\\' => self.escaped(open),
-            c => Ok(Some(Part::Char(c))),
-        }
-    }
-
-    // The character after the `\` at that place.
-    fn escaped(&mut self, open: u64) -> Result<Option<Part<'a>>, WrongGlob> {
-        let Some((c, rest)) = split_char(self.left) else {
-            return Err(wrong("nothing comes after the \\", open));
-        };
-        self.left = rest;
-        self.place = self.place.saturating_add(1);
-        Ok(Some(Part::Char(c)))
+    match split_char(text) {
+        None => Ok(None),
+        Some(('*', rest)) => Ok(Some((Part::Some, rest))),
+        Some(('?', rest)) => Ok(Some((Part::One, rest))),
+        Some(('[', rest)) => split_set(rest),
+        Some(('\\', rest)) => match split_char(rest) {
+            Some((c, rest)) => Ok(Some((Part::Char(c), rest))),
+            None => Err("nothing comes after the \\"),
+        },
+        Some((c, rest)) => Ok(Some((Part::Char(c), rest))),
     }
 }
 
@@ -191,18 +153,10 @@ struct Again<'p, 'a> {
     text: &'p str,
 }
 
-// The same after one character more was taken by a `*`, a `**` or a `**/`.
+// The same after a `*`, a `**` or a `**/` took one more.
 fn one_more<'p, 'a>(again: Again<'p, 'a>) -> Option<Again<'p, 'a>> {
-    let Again { parts, text } = again;
-    let text = match parts {
-        [Part::Folders, ..] => text.split_once('/')?.1,
-        [Part::All, ..] => split_char(text)?.1,
-        _ => match split_char(text)? {
-            ('/', _) => return None,
-            (_, rest) => rest,
-        },
-    };
-    Some(Again { parts, text })
+    let text = again.parts.first()?.after(again.text)?;
+    Some(Again { text, ..again })
 }
 
 // Whether the parts match the text. The last `*` takes as few characters as it may, and the last `**` where no `*` after it
@@ -224,7 +178,10 @@ fn stands_for(parts: &[Part<'_>], text: &str) -> bool {
                 near = None;
                 Some(Again { parts: rest, text })
             }
-            [part, rest @ ..] => taken(part, rest, text),
+            [part, rest @ ..] => match part.after(text) {
+                Some(text) => Some(Again { parts: rest, text }),
+                None => None,
+            },
             [] => None,
         };
         at = match next {
@@ -236,14 +193,6 @@ fn stands_for(parts: &[Part<'_>], text: &str) -> bool {
         };
     }
     false
-}
-
-// What is left after the part took a character.
-fn taken<'p, 'a>(part: &Part<'a>, parts: &'p [Part<'a>], text: &'p str) -> Option<Again<'p, 'a>> {
-    match split_char(text) {
-        Some((c, text)) if part.takes(c) => Some(Again { parts, text }),
-        _ => None,
-    }
 }
 
 // Where the reading goes on: after the last `*` that can take one more, else after the last `**`.
@@ -262,26 +211,33 @@ fn gone_back<'p, 'a>(
     }
 }
 
+// What is wrong where that is left of a pattern.
+fn wrong_at(why: &'static str, text: &str, left: &str) -> WrongGlob {
+    let before = text.chars().count().saturating_sub(left.chars().count());
+    WrongGlob {
+        why,
+        place: (before as u64).saturating_add(1),
+    }
+}
+
 impl<'a> Glob<'a> {
     /// The pattern that the text is, or why it is none.
     pub fn new(alloc: Global, text: &'a str) -> Result<Glob<'a>, WrongGlob> {
-        let mut reader = Reader {
-            left: text,
-            place: 1,
-            fresh: true,
-        };
         let mut parts = Vec::new(alloc);
         let mut has_slash = false;
+        let mut fresh = true;
+        let mut left = text;
         for _ in 0..u64::MAX {
-            let part = match reader.next() {
-                Ok(Some(part)) => part,
+            let (part, rest) = match split_part(left, fresh) {
+                Ok(Some(found)) => found,
                 Ok(None) => break,
-                Err(why) => return Err(why),
+                Err(why) => return Err(wrong_at(why, text, left)),
             };
-            reader.fresh = matches!(part, Part::Char('/') | Part::Folders);
-            has_slash = has_slash || reader.fresh;
+            left = rest;
+            fresh = matches!(part, Part::Char('/') | Part::Folders);
+            has_slash = has_slash || fresh;
             if parts.push(part).is_err() {
-                return Err(wrong("out of memory", 1));
+                return Err(NO_ROOM);
             }
         }
         Ok(Glob { parts, has_slash })

@@ -20,14 +20,14 @@ mod telling;
 
 pub use chars::Source;
 pub use finding::{Finding, Format, push_finding};
-pub use folder::{Choice, Folder, Found};
-pub use glob::{Glob, WrongGlob};
+pub use folder::{Choice, Folder, Found, read_again};
+pub use glob::{Glob, NO_ROOM, WrongGlob};
 pub use in_place::{Unreplaced, replace};
-pub use names::{UNNAMED, shown_bytes};
+pub use names::{UNNAMED, file_path};
 pub use parting::{Line, Span, parted, push_line};
 pub use path::{Step, push_step};
 pub use place::place_of_byte;
 pub use repeated::{RepeatedKey, push_repeated};
 pub use rows::row_of;
-pub use shown::Shown;
+pub use shown::{At, Shown};
 pub use telling::push_fault;

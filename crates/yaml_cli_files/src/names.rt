@@ -1,20 +1,25 @@
 //! Names that aren't UTF-8.
 
-use std::alloc::AllocError;
+use std::alloc::{AllocError, Global};
 
 /// Begins the name of a file that isn't UTF-8, which no call can open: what comes after it is the name as people are shown it. No
 /// file's name has this character.
 pub const UNNAMED: char = '\0';
 
-/// Adds a name: what isn't UTF-8 of it by its bytes, as `\xff`.
-pub fn shown_bytes(text: &mut String, name: &[u8]) -> Result<(), AllocError> {
+/// The path of that name after a front. Where the name isn't UTF-8 it begins with `UNNAMED`, and such bytes are shown as `\xff`.
+pub fn file_path(alloc: Global, front: &str, name: &[u8]) -> Result<String, AllocError> {
+    let mut path = String::new(alloc);
+    if str::from_utf8(name).is_err() {
+        path.push(UNNAMED)?;
+    }
+    path.push_str(front)?;
     for piece in name.utf8_chunks() {
-        text.push_str(piece.valid())?;
+        path.push_str(piece.valid())?;
         for byte in piece.invalid() {
-            write!(text, "\\x{byte:02x}")?;
+            write!(path, "\\x{byte:02x}")?;
         }
     }
-    Ok(())
+    Ok(path)
 }
 
 /// A name without what says that it isn't UTF-8.

@@ -3,8 +3,8 @@
 use crate::chars::{Chars, Next, Source, ends_line};
 use crate::excerpt::{columns_in, push_shown};
 use crate::place::before_place;
-use crate::telling::push_at;
-use std::alloc::AllocError;
+use crate::shown::At;
+use std::alloc::{AllocError, Global};
 use yaml_scan_types::yaml_mark_t;
 
 // How many characters of a value are shown.
@@ -44,23 +44,7 @@ struct Walk<'a> {
     place: yaml_mark_t,
 }
 
-impl<'a> Walk<'a> {
-    // From the beginning of the line of a place on.
-    fn of_line(source: Source<'a>, at: yaml_mark_t) -> Walk<'a> {
-        let left = before_place(source, at, at.column);
-        let behind = before_place(source, at, 0);
-        let before = left.left.len().saturating_sub(behind.left.len());
-        let index = at.index.saturating_sub(before as u64);
-        Walk {
-            left,
-            place: yaml_mark_t {
-                index,
-                column: 0,
-                ..at
-            },
-        }
-    }
-
+impl Walk<'_> {
     fn next(&mut self) -> Next {
         let before = self.left.left.len();
         let next = self.left.next();
@@ -111,47 +95,44 @@ impl<'a> Span<'a> {
         }
     }
 
-    // Where what is shown of the line of a place begins: with the part, or after the spaces that the line begins with.
-    fn line_start(&self, at: yaml_mark_t) -> yaml_mark_t {
+    // The column at which what is shown of the line of a place begins: with the part, or after the spaces that the line begins with.
+    fn first_column(&self, at: yaml_mark_t) -> u64 {
         if at.line == self.start.line {
-            return self.start;
+            return self.start.column;
         }
-        let mut walk = Walk::of_line(self.source, at);
-        walk.skip_indent();
-        if is_before(at, walk.place) {
-            at
-        } else {
-            walk.place
+        let mut line = before_place(self.source, at, at.column);
+        for column in 0..at.column {
+            if !matches!(line.next_char(), Next::Char(' ')) {
+                return column;
+            }
         }
+        at.column
     }
 
-    // How many characters of a line from that place on are in the part.
-    fn columns_from(&self, place: yaml_mark_t) -> u64 {
-        if place.line == self.end.line {
-            self.end.column.saturating_sub(place.column)
+    // How many characters of the line of a place from that column on are in the part.
+    fn columns_from(&self, at: yaml_mark_t, column: u64) -> u64 {
+        if at.line == self.end.line {
+            self.end.column.saturating_sub(column)
         } else {
             u64::MAX
         }
     }
 
     /// The line of the part that has a place, a long one cut round it.
-    pub fn line(&self, text: String, at: yaml_mark_t) -> Result<Line, AllocError> {
-        let place = self.line_start(at);
-        let mut line = Line { text, place };
-        let before = at.column.saturating_sub(place.column);
-        let skipped = if before < SHORT {
-            0
+    pub fn line(&self, alloc: Global, at: yaml_mark_t) -> Result<Line, AllocError> {
+        let column = self.first_column(at);
+        let before = at.column.saturating_sub(column);
+        let (cut, shown) = if before < SHORT {
+            ("", before)
         } else {
-            before.saturating_sub(BEFORE)
+            (CUT, BEFORE)
         };
-        let mut chars = before_place(self.source, place, 0);
-        chars.skip_columns(skipped);
-        let columns = self.columns_from(place).saturating_sub(skipped);
-        let begun = line.text.push_str(if skipped > 0 { CUT } else { "" });
-        match begun.and(push_front(&mut line.text, chars, columns)) {
-            Ok(()) => Ok(line),
-            Err(refusal) => Err(refusal),
-        }
+        let chars = before_place(self.source, at, shown);
+        let columns = self.columns_from(at, at.column.saturating_sub(shown));
+        let mut text = String::from_str(alloc, cut)?;
+        push_front(&mut text, chars, columns)?;
+        let place = yaml_mark_t { column, ..at };
+        Ok(Line { text, place })
     }
 }
 
@@ -220,6 +201,6 @@ pub fn push_line(
     for _ in columns_in(&line.text)..columns {
         text.push(' ')?;
     }
-    push_at(text, name, line.place)?;
-    text.push('\n')
+    let place = line.place;
+    writeln!(text, "{}", At { name, place })
 }

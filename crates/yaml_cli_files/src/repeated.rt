@@ -1,10 +1,10 @@
 //! Keys that are in a mapping more than once, as they are reported to people and programs.
 
 use crate::chars::Source;
-use crate::excerpt::{push_around, push_shown};
+use crate::excerpt::{push_around, push_columns};
 use crate::finding::{Finding, Format, push_finding};
 use crate::place::before_place;
-use crate::telling::push_place;
+use crate::shown::At;
 use std::alloc::{AllocError, Global};
 use yaml_scan_types::yaml_mark_t;
 
@@ -36,13 +36,8 @@ fn length_of(key: RepeatedKey) -> u64 {
 // Adds the front of a key as it is written.
 fn push_key(text: &mut String, source: Source<'_>, key: RepeatedKey) -> Result<(), AllocError> {
     let length = length_of(key);
-    let mut chars = before_place(source, key.mark, 0);
-    for _ in 0..length.min(MOST_OF_KEY) {
-        match chars.next_in_line() {
-            Some(c) => push_shown(text, c)?,
-            None => break,
-        }
-    }
+    let columns = length.min(MOST_OF_KEY);
+    push_columns(text, before_place(source, key.mark, 0), columns, true)?;
     match length {
         0 => text.push_str("(empty)"),
         1..=MOST_OF_KEY => Ok(()),
@@ -57,11 +52,13 @@ fn push_label(
     place: yaml_mark_t,
     what: &str,
 ) -> Result<(), AllocError> {
+    let name = source.name;
+    write!(text, "{}: {what}", At { name, place })?;
     let characters = place.column.min(NEAR);
-    let placed = push_place(text, source.name, place, what);
-    let line = before_place(source, place, characters);
-    placed.and(push_around(text, line, characters))
+    push_around(text, before_place(source, place, characters), characters)
 }
+
+const KIND: &'static str = "duplicate key";
 
 const FIRST: &'static str = "the key stands here first";
 
@@ -84,13 +81,9 @@ pub fn push_repeated(
             told.and(push_label(text, source, key.first_mark, FIRST))
         }
         _ => {
-            let finding = Finding::repeated(
-                source,
-                problem.as_str(),
-                key.mark,
-                FIRST,
-                key.first_mark,
-            );
+            let first = Some((FIRST, key.first_mark));
+            let problem = problem.as_str();
+            let finding = Finding::new(source.name, KIND, problem, Some(key.mark), first);
             push_finding(alloc, text, format, &finding)
         }
     }

@@ -5,32 +5,13 @@ use crate::excerpt::{push_excerpt, push_shown};
 use crate::hint::hint_of;
 use crate::place::{from_place, is_at_end, place_of, shown_place};
 use crate::rows::row_of;
-use crate::shown::Shown;
+use crate::shown::{At, Shown};
 use std::alloc::AllocError;
 use yaml_round_device::headline;
 use yaml_scan_types::{yaml_error_type_t, yaml_fault_t, yaml_mark_t};
 
 // How many characters of a wrong word are shown.
 const MOST_OF_WORD: usize = 40;
-
-/// Adds the file's name and the place, counted from 1.
-pub(crate) fn push_at(text: &mut String, name: &str, place: yaml_mark_t) -> Result<(), AllocError> {
-    let name = Shown(name);
-    let line = u128::from(place.line) + 1;
-    let column = u128::from(place.column) + 1;
-    write!(text, "{name}:{line}:{column}")
-}
-
-/// Adds the file's name, the place, counted from 1, and what is reported of it.
-pub(crate) fn push_place(
-    text: &mut String,
-    name: &str,
-    place: yaml_mark_t,
-    what: &str,
-) -> Result<(), AllocError> {
-    push_at(text, name, place)?;
-    write!(text, ": {what}")
-}
 
 // Adds the character that comes next.
 fn push_char(text: &mut String, mut chars: Chars<'_>) -> Result<(), AllocError> {
@@ -136,12 +117,13 @@ fn push_problem(
     place: yaml_mark_t,
     fault: &yaml_fault_t,
 ) -> Result<(), AllocError> {
-    let placed = push_place(text, source.name, place, headline(fault.kind));
-    let told = write!(text, ": {}", fault.problem);
+    let name = source.name;
+    let kind = headline(fault.kind);
+    let told = write!(text, "{}: {kind}: {}", At { name, place }, fault.problem);
     let wrong = push_wrong(text, from_place(source, place), fault);
     let around = push_around(text, source, place, fault);
     let excerpt = push_excerpt(text, source, shown_place(source, place));
-    placed.and(told).and(wrong).and(around).and(excerpt)
+    told.and(wrong).and(around).and(excerpt)
 }
 
 // Adds a place, what is there, and its source line.
@@ -151,8 +133,9 @@ fn push_label(
     place: yaml_mark_t,
     what: &str,
 ) -> Result<(), AllocError> {
-    let placed = push_place(text, source.name, place, what);
-    placed.and(push_excerpt(text, source, shown_place(source, place)))
+    let name = source.name;
+    write!(text, "{}: {what}", At { name, place })?;
+    push_excerpt(text, source, shown_place(source, place))
 }
 
 // Adds what helps, where that is known.

@@ -56,24 +56,6 @@ fn span_of<'a>(source: Source<'a>, met: Met) -> Span<'a> {
     }
 }
 
-// The line of an event that has a place, where the event is shown as it is spelled.
-fn spelled_line(
-    source: Source<'_>,
-    met: Met,
-    cause: Cause,
-    text: String,
-    at: yaml_mark_t,
-) -> Result<Line, AllocError> {
-    if is_spelled(met.kind, cause) {
-        span_of(source, met).line(text, at)
-    } else {
-        Ok(Line {
-            text,
-            place: met.start,
-        })
-    }
-}
-
 // Whether what is spelled shows nothing: no characters, or a collection's bracket alone.
 fn is_bare(kind: yaml_event_type_t, cause: Cause, text: &str) -> bool {
     match kind {
@@ -94,7 +76,14 @@ fn line_of(
     cause: Cause,
     at: yaml_mark_t,
 ) -> Result<Line, AllocError> {
-    let mut line = spelled_line(source, met, cause, String::new(alloc), at)?;
+    let mut line = if is_spelled(met.kind, cause) {
+        span_of(source, met).line(alloc, at)?
+    } else {
+        Line {
+            text: String::new(alloc),
+            place: met.start,
+        }
+    };
     if is_bare(met.kind, cause, &line.text) {
         line.text.clear();
         let is_behind = at.line > met.start.line || at.column > met.start.column;

@@ -2,7 +2,7 @@
 //! functions that own something.
 
 use crate::order::WRONG_WORDS;
-use std::alloc::Global;
+use std::alloc::{AllocError, Global};
 use std::io::{Error as Failure, Write};
 use thiserror::Error;
 use yaml_cli_files::{Shown, Source, push_fault};
@@ -83,16 +83,25 @@ pub(crate) enum Fault<'a> {
     },
 }
 
+impl From<Failure> for Fault<'_> {
+    fn from(error: Failure) -> Self {
+        Fault::Failed(error)
+    }
+}
+
+impl From<AllocError> for Fault<'_> {
+    fn from(_: AllocError) -> Self {
+        Fault::Short
+    }
+}
+
 // Where a line can't be written, the status still reports the fault, so the result of writing is
 // ignored.
 
 /// Reports a fault, of that file where one is named.
 pub(crate) fn told<E: Write>(errors: &mut E, name: &str, fault: &Fault<'_>) {
-    let (name, colon) = if name.is_empty() {
-        (Shown(""), "")
-    } else {
-        (Shown(name), ": ")
-    };
+    let colon = if name.is_empty() { "" } else { ": " };
+    let name = Shown(name);
     let _ = writeln!(errors, "yaml_cli: {name}{colon}{fault}");
 }
 
@@ -126,22 +135,17 @@ pub(crate) fn run_failed<E: Write>(
     FAILED
 }
 
-/// Shows the fault of a file, unless `quiet`; answers the status. Of out of memory, where there is none for the line either, only
-/// the status says.
-pub(crate) fn shown<E: Write>(
+/// Shows the fault of a file, where there is room for it.
+pub(crate) fn show<E: Write>(
     alloc: Global,
     errors: &mut E,
-    quiet: bool,
     source: Source<'_>,
     fault: &yaml_fault_t,
-) -> u8 {
-    if !quiet {
-        let mut text = String::new(alloc);
-        if push_fault(&mut text, source, fault).is_ok() {
-            let _ = write!(errors, "{text}");
-        }
+) {
+    let mut text = String::new(alloc);
+    if push_fault(&mut text, source, fault).is_ok() {
+        let _ = write!(errors, "{text}");
     }
-    refusal_status(fault)
 }
 
 /// The status where a file is refused for that: of out of memory, that of a file that couldn't be judged.

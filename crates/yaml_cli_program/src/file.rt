@@ -1,12 +1,12 @@
 //! The program's streams, files that are read whole, and answers that are written.
 
-use crate::fault::{FAILED, Fault, INPUT_LIMIT, UNJUDGED, run_failed, told};
+use crate::fault::{FAILED, Fault, INPUT_LIMIT, UNJUDGED, told};
 use std::alloc::{AllocError, Global};
 use std::fs;
 use std::io::{Error, ErrorKind, Read, Write};
 use std::rt::Files;
-use yaml_cli_files::UNNAMED;
-use yaml_round_device::{yaml_run_fault_t, yaml_std_output_t, yaml_write_all};
+use yaml_cli_files::{UNNAMED, read_again};
+use yaml_round_device::{yaml_std_output_t, yaml_write_all};
 
 /// How the words name standard input.
 pub(crate) const STANDARD: &'static str = "-";
@@ -16,9 +16,6 @@ const READ_AHEAD: usize = 65_536;
 
 // How many are read first: many files have no more.
 const READ_FIRST: usize = 4096;
-
-// How many times a read that is interrupted is made in all.
-const TRIES: u32 = 1000;
 
 /// What the program reads and writes beside files.
 #[derive(Drop)]
@@ -35,6 +32,8 @@ pub(crate) struct Streams<R, W, E> {
     /// How many files were judged, and how many of them weren't as they were asked for.
     pub(crate) files: u64,
     pub(crate) refused: u64,
+    /// The worst status so far, or the one at which the output stopped.
+    pub(crate) status: u8,
 }
 
 impl<R, W, E> Streams<R, W, E> {
@@ -48,6 +47,7 @@ impl<R, W, E> Streams<R, W, E> {
             stopped: false,
             files: 0,
             refused: 0,
+            status: 0,
         }
     }
 
@@ -55,36 +55,16 @@ impl<R, W, E> Streams<R, W, E> {
     pub(crate) fn count(&mut self, status: u8) {
         self.files = self.files.saturating_add(1);
         self.refused = self.refused.saturating_add(u64::from(status.min(1)));
+        self.settle(status);
     }
-}
 
-// One read, made again where it is interrupted.
-fn read_again<R: Read>(file: &mut R, piece: &mut [u8]) -> Result<usize, Error> {
-    for _ in 1..TRIES {
-        match file.read(piece) {
-            Ok(count) => return Ok(count),
-            Err(error) => {
-                if error.kind() != ErrorKind::Interrupted {
-                    return Err(error);
-                }
-            }
-        }
-    }
-    file.read(piece)
-}
-
-// Puts one piece more of the file after the bytes; answers whether there was one.
-fn read_piece<R: Read>(
-    file: &mut R,
-    piece: &mut [u8],
-    bytes: &mut Vec<u8>,
-) -> Result<bool, Fault<'static>> {
-    match read_again(file, piece) {
-        Ok(count) => match bytes.extend_from_slice(piece.get(..count).unwrap_or(b"")) {
-            Ok(()) => Ok(count > 0),
-            Err(_) => Err(Fault::Short),
-        },
-        Err(error) => Err(Fault::Failed(error)),
+    /// Keeps a status.
+    pub(crate) fn settle(&mut self, status: u8) {
+        self.status = if self.stopped {
+            status
+        } else {
+            self.status.max(status)
+        };
     }
 }
 
@@ -97,6 +77,21 @@ fn make_room(piece: &mut Vec<u8>, count: usize) -> Result<(), AllocError> {
     piece.resize(more.max(READ_FIRST).min(READ_AHEAD), 0)
 }
 
+// Puts one piece more of the file after the bytes; returns whether there was one.
+fn read_piece<R: Read>(
+    file: &mut R,
+    piece: &mut Vec<u8>,
+    bytes: &mut Vec<u8>,
+) -> Result<bool, Fault<'static>> {
+    make_room(piece, bytes.len())?;
+    let count = read_again(file, piece.as_mut_slice())?;
+    bytes.extend_from_slice(piece.get(..count).unwrap_or(b""))?;
+    if bytes.len() as u64 > INPUT_LIMIT {
+        return Err(Fault::TooLong);
+    }
+    Ok(count > 0)
+}
+
 // Reads a file to its end.
 fn read_whole<R: Read>(
     alloc: Global,
@@ -104,44 +99,34 @@ fn read_whole<R: Read>(
     piece: &mut Vec<u8>,
 ) -> Result<Vec<u8>, Fault<'static>> {
     let mut bytes = Vec::new(alloc);
-    for _ in 0..INPUT_LIMIT + 1 {
-        if make_room(piece, bytes.len()).is_err() {
-            return Err(Fault::Short);
-        }
-        match read_piece(file, piece.as_mut_slice(), &mut bytes) {
-            Ok(true) => {
-                if bytes.len() as u64 > INPUT_LIMIT {
-                    return Err(Fault::TooLong);
-                }
-            }
-            Ok(false) => return Ok(bytes),
-            Err(why) => return Err(why),
+    for _ in 0..u64::MAX {
+        if !read_piece(file, piece, &mut bytes)? {
+            break;
         }
     }
-    Err(Fault::TooLong)
+    Ok(bytes)
 }
 
-/// The bytes of a file, or of standard input, or why they weren't read.
-pub(crate) fn whole_of<H: Files, R: Read, W, E>(
-    rt: &H,
-    path: &str,
-    streams: &mut Streams<R, W, E>,
-) -> Result<Vec<u8>, Fault<'static>> {
-    if path == STANDARD {
-        return read_whole(streams.alloc, &mut streams.input, &mut streams.piece);
-    }
-    if path.starts_with(UNNAMED) {
-        return Err(Fault::Unnamed);
-    }
-    match fs::open(rt, path) {
-        Ok(mut file) => read_whole(streams.alloc, &mut file, &mut streams.piece),
-        Err(error) => Err(Fault::Failed(error)),
+impl<R: Read, W, E> Streams<R, W, E> {
+    /// The bytes of a file, or of standard input, or why they weren't read.
+    pub(crate) fn whole_of<H: Files>(
+        &mut self,
+        rt: &H,
+        path: &str,
+    ) -> Result<Vec<u8>, Fault<'static>> {
+        if path == STANDARD {
+            return read_whole(self.alloc, &mut self.input, &mut self.piece);
+        }
+        if path.starts_with(UNNAMED) {
+            return Err(Fault::Unnamed);
+        }
+        let mut file = fs::open(rt, path)?;
+        read_whole(self.alloc, &mut file, &mut self.piece)
     }
 }
 
-/// Writes the answer of a comparison, or says how much of it was written; answers the status.
+/// Writes the answer of a comparison, or reports how much of it was written; returns the status.
 pub(crate) fn write_answer<W: Write, E: Write>(
-    alloc: Global,
     answer: &[u8],
     writer: &mut W,
     errors: &mut E,
@@ -149,26 +134,40 @@ pub(crate) fn write_answer<W: Write, E: Write>(
     let mut output = yaml_std_output_t::new(writer);
     match yaml_write_all(&mut output, answer) {
         Ok(()) => 0,
-        Err(written) => run_failed(alloc, errors, "", &yaml_run_fault_t::Write { written }),
+        Err(written) => {
+            told(errors, "", &Fault::WriteFailed(written));
+            FAILED
+        }
     }
 }
 
-/// Ends what was written to standard output; returns the status: 0, or that of an output that takes
-/// no more, which is reported except where nobody reads it.
-pub(crate) fn flushed<R, W: Write, E: Write>(
-    written: Result<(), Error>,
-    streams: &mut Streams<R, W, E>,
-) -> u8 {
-    let flushed = match written {
-        Ok(()) => streams.output.flush(),
-        Err(error) => Err(error),
-    };
-    match flushed {
-        Ok(()) => 0,
-        Err(error) if error.kind() == ErrorKind::BrokenPipe => FAILED,
-        Err(error) => {
-            told(&mut streams.errors, "", &Fault::NotPassedOn(error));
-            UNJUDGED
+impl<R, W: Write, E: Write> Streams<R, W, E> {
+    /// Ends what was written to standard output; returns the status: 0, or that of an output that takes
+    /// no more, which is reported except where nobody reads it.
+    pub(crate) fn flushed(&mut self, written: Result<(), Error>) -> u8 {
+        let flushed = match written {
+            Ok(()) => self.output.flush(),
+            Err(error) => Err(error),
+        };
+        match flushed {
+            Ok(()) => 0,
+            Err(error) if error.kind() == ErrorKind::BrokenPipe => FAILED,
+            Err(error) => {
+                told(&mut self.errors, "", &Fault::NotPassedOn(error));
+                UNJUDGED
+            }
+        }
+    }
+
+    /// Writes a text to standard output; returns the status that is passed, or that of an output that takes no more.
+    pub(crate) fn put_text(&mut self, text: &str, status: u8) -> u8 {
+        let written = self.output.write_all(text.as_bytes());
+        match self.flushed(written) {
+            0 => status,
+            failed => {
+                self.stopped = true;
+                failed
+            }
         }
     }
 }

@@ -2,48 +2,13 @@
 //! with one doesn't keep the next from being judged.
 
 use crate::engine::Engine;
-use crate::fault::{FAILED, Fault, UNJUDGED, told};
-use crate::file::{STANDARD, Streams, whole_of};
-use crate::order::{Judging, Order};
-use crate::report::{name_file, refused, repeated, unread};
-use crate::writing::write_normal;
-use std::io::{ErrorKind, Read, Write};
+use crate::fault::{FAILED, Fault, told};
+use crate::file::STANDARD;
+use crate::order::Order;
+use crate::program::Run;
+use std::io::{Read, Write};
 use std::rt::Files;
-use yaml_cli_files::{Folder, Found, Source, shown_bytes};
-
-// Judges a file by its keys, too.
-fn judge_keys<G: Engine, R, W: Write, E: Write>(
-    engine: &G,
-    judging: &Judging,
-    source: Source<'_>,
-    streams: &mut Streams<R, W, E>,
-) -> u8 {
-    match engine.repeated_keys(streams.alloc, source.from, source.input) {
-        Ok(keys) => repeated(judging, source, keys.as_slice(), streams),
-        Err(fault) => refused(judging, source, &fault, streams),
-    }
-}
-
-fn judge_text<G: Engine, H: Files, R, W: Write, E: Write>(
-    engine: &G,
-    rt: &H,
-    order: &Order<'_, '_>,
-    source: Source<'_>,
-    streams: &mut Streams<R, W, E>,
-) -> u8 {
-    let judging = &order.judging;
-    if !order.judges {
-        return write_normal(engine, rt, order, source, streams);
-    }
-    if order.told.get_flag("unique-keys") {
-        return judge_keys(engine, judging, source, streams);
-    }
-    match engine.judge(streams.alloc, judging, source.input) {
-        Ok(true) => 0,
-        Ok(false) => name_file(judging, source.name, FAILED, streams),
-        Err(fault) => refused(judging, source, &fault, streams),
-    }
-}
+use yaml_cli_files::{Folder, Found, Source, file_path};
 
 // How a file's name is shown.
 fn shown_name<'n>(order: &'n Order<'_, '_>, name: &'n str) -> &'n str {
@@ -53,202 +18,149 @@ fn shown_name<'n>(order: &'n Order<'_, '_>, name: &'n str) -> &'n str {
     }
 }
 
-// Judges what was read of a file, or says why it wasn't read.
-fn judge_read<G: Engine, H: Files, R, W: Write, E: Write>(
-    engine: &G,
-    rt: &H,
-    order: &Order<'_, '_>,
-    name: &str,
-    read: Result<Vec<u8>, Fault<'static>>,
-    streams: &mut Streams<R, W, E>,
-) -> u8 {
-    let status = match read {
-        Ok(input) => {
-            let input = input.as_slice();
-            let from = order.judging.manner.from;
-            judge_text(engine, rt, order, Source { name, input, from }, streams)
-        }
-        Err(why) => unread(&order.judging, name, &why, streams),
-    };
-    streams.count(status);
-    status
-}
-
-// Judges what is found below a folder.
-fn judge_found<G: Engine, H: Files, R: Read, W: Write, E: Write>(
-    engine: &G,
-    rt: &H,
-    order: &Order<'_, '_>,
-    found: Found,
-    streams: &mut Streams<R, W, E>,
-) -> u8 {
-    match found {
-        Found::File(path) => {
-            let read = whole_of(rt, path.as_str(), streams);
-            judge_read(engine, rt, order, path.as_str(), read, streams)
-        }
-        Found::Failed(path, error) => {
-            let read = Err(Fault::Failed(error));
-            judge_read(engine, rt, order, path.as_str(), read, streams)
+impl<G: Engine, H: Files, R: Read, W: Write, E: Write> Run<'_, '_, '_, '_, G, H, R, W, E> {
+    // Judges a file by its keys, too.
+    fn judge_keys(&mut self, source: Source<'_>) -> u8 {
+        match self
+            .engine
+            .repeated_keys(self.streams.alloc, source.from, source.input)
+        {
+            Ok(keys) => self.repeated(source, keys.as_slice()),
+            Err(fault) => self.refused(source, &fault),
         }
     }
-}
 
-// Judges all files below a folder.
-fn judge_folder<G: Engine, H: Files, R: Read, W: Write, E: Write>(
-    engine: &G,
-    rt: &H,
-    order: &Order<'_, '_>,
-    name: &str,
-    streams: &mut Streams<R, W, E>,
-) -> u8 {
-    let Ok(mut folder) = Folder::new(streams.alloc, name) else {
-        return judge_read(engine, rt, order, name, Err(Fault::Short), streams);
-    };
-    let before = streams.files;
-    let mut worst = 0;
-    for _ in 0..u64::MAX {
-        let Some(found) = folder.next(rt, &order.choice) else {
-            break;
+    fn judge_text(&mut self, source: Source<'_>) -> u8 {
+        if !self.order.judges {
+            return self.write_normal(source);
+        }
+        if self.order.told.get_flag("unique-keys") {
+            return self.judge_keys(source);
+        }
+        match self
+            .engine
+            .judge(self.streams.alloc, &self.order.judging, source.input)
+        {
+            Ok(true) => 0,
+            Ok(false) => self.name_file(source.name, FAILED),
+            Err(fault) => self.refused(source, &fault),
+        }
+    }
+
+    // Judges what was read of a file, or reports why it wasn't read.
+    fn judge_read(&mut self, name: &str, read: Result<Vec<u8>, Fault<'static>>) {
+        let from = self.order.judging.manner.from;
+        let status = match read {
+            Ok(input) => {
+                let input = input.as_slice();
+                self.judge_text(Source { name, input, from })
+            }
+            Err(why) => self.unread(name, &why),
         };
-        let status = judge_found(engine, rt, order, found, streams);
-        if streams.stopped {
-            return status;
-        }
-        worst = status.max(worst);
+        self.streams.count(status);
     }
-    if streams.files == before && !order.judging.quiet {
-        told(&mut streams.errors, name, &Fault::Nothing);
-    }
-    worst
-}
 
-// Judges a file, or all files below a folder.
-fn judge_named<G: Engine, H: Files, R: Read, W: Write, E: Write>(
-    engine: &G,
-    rt: &H,
-    order: &Order<'_, '_>,
-    name: &str,
-    streams: &mut Streams<R, W, E>,
-) -> u8 {
-    match whole_of(rt, name, streams) {
-        Err(Fault::Failed(error)) if order.walks(error.kind()) => {
-            judge_folder(engine, rt, order, name, streams)
-        }
-        read => judge_read(engine, rt, order, shown_name(order, name), read, streams),
-    }
-}
-
-fn judge_files<G: Engine, H: Files, R: Read, W: Write, E: Write>(
-    engine: &G,
-    rt: &H,
-    order: &Order<'_, '_>,
-    files: &[&str],
-    streams: &mut Streams<R, W, E>,
-) -> u8 {
-    let mut worst = 0;
-    for name in files {
-        let status = judge_named(engine, rt, order, name, streams);
-        if streams.stopped {
-            return status;
-        }
-        worst = status.max(worst);
-    }
-    worst
-}
-
-// A name of a list that isn't UTF-8.
-fn judge_unnamed<R, W: Write, E: Write>(
-    order: &Order<'_, '_>,
-    name: &[u8],
-    streams: &mut Streams<R, W, E>,
-) -> u8 {
-    let mut shown = String::new(streams.alloc);
-    let _ = shown_bytes(&mut shown, name);
-    streams.count(UNJUDGED);
-    unread(&order.judging, shown.as_str(), &Fault::Unnamed, streams)
-}
-
-// Judges the files that a list names, each name ended by a zero byte; returns the status.
-fn judge_names<G: Engine, H: Files, R: Read, W: Write, E: Write>(
-    engine: &G,
-    rt: &H,
-    order: &Order<'_, '_>,
-    names: &[u8],
-    streams: &mut Streams<R, W, E>,
-) -> u8 {
-    let mut worst = 0;
-    for name in names.split(|byte| *byte == 0) {
-        let status = match str::from_utf8(name) {
-            Ok("") => 0,
-            Ok(name) => judge_named(engine, rt, order, name, streams),
-            Err(_) => judge_unnamed(order, name, streams),
+    // Judges what is found below a folder.
+    fn judge_found(&mut self, found: Found) {
+        let Found { path, failed } = found;
+        let read = match failed {
+            Some(error) => Err(Fault::Failed(error)),
+            None => self.streams.whole_of(self.rt, path.as_str()),
         };
-        if streams.stopped {
-            return status;
-        }
-        worst = status.max(worst);
+        self.judge_read(path.as_str(), read);
     }
-    worst
-}
 
-fn judge_listed<G: Engine, H: Files, R: Read, W: Write, E: Write>(
-    engine: &G,
-    rt: &H,
-    order: &Order<'_, '_>,
-    list: &str,
-    streams: &mut Streams<R, W, E>,
-) -> u8 {
-    let why = match whole_of(rt, list, streams) {
-        Ok(names) if names.is_empty() || names.as_slice().contains(&0) => {
-            return judge_names(engine, rt, order, names.as_slice(), streams);
+    // Judges all files below a folder.
+    fn judge_folder(&mut self, name: &str) {
+        let Ok(mut folder) = Folder::new(self.streams.alloc, name) else {
+            return self.judge_read(name, Err(Fault::Short));
+        };
+        let before = self.streams.files;
+        for _ in 0..u64::MAX {
+            if self.streams.stopped {
+                break;
+            }
+            match folder.next(self.rt, &self.order.choice) {
+                Some(found) => self.judge_found(found),
+                None => break,
+            }
         }
-        Ok(_) => Fault::Unlisted,
-        Err(why) => why,
-    };
-    unread(&order.judging, list, &why, streams)
-}
-
-/// Judges the files and those that a list names, or standard input where there are neither. The status is the worst one: 0 where
-/// each is as it was asked for, 1 where one isn't or is refused, 2 where one couldn't be judged; 1 in place of that where the normal
-/// form is written.
-pub(crate) fn judge_all<G: Engine, H: Files, R: Read, W: Write, E: Write>(
-    engine: &G,
-    rt: &H,
-    order: &Order<'_, '_>,
-    streams: &mut Streams<R, W, E>,
-) -> u8 {
-    let list = order.told.get_str("files0-from");
-    let files = if order.files.is_empty() && list.is_none() {
-        &[STANDARD]
-    } else {
-        order.files
-    };
-    let mut status = judge_files(engine, rt, order, files, streams);
-    match list {
-        Some(list) if !streams.stopped => {
-            status = judge_listed(engine, rt, order, list, streams).max(status);
+        if self.streams.files == before && !self.order.judging.quiet {
+            told(&mut self.streams.errors, name, &Fault::Nothing);
         }
-        _ => {}
     }
-    if order.told.get_flag("verbose") {
-        tell_count(streams);
-    }
-    if order.judges {
-        status
-    } else {
-        status.min(FAILED)
-    }
-}
 
-// Reports how many files were checked, and how many of them weren't as they were asked for.
-fn tell_count<R, W, E: Write>(streams: &mut Streams<R, W, E>) {
-    let Streams {
-        files,
-        refused,
-        errors,
-        ..
-    } = streams;
-    let word = if *files == 1 { "file" } else { "files" };
-    let _ = writeln!(errors, "{files} {word}, {refused} refused");
+    // Judges a file, or all files below a folder, unless the output takes no more.
+    fn judge_named(&mut self, name: &str) {
+        if self.streams.stopped {
+            return;
+        }
+        let order = self.order;
+        match self.streams.whole_of(self.rt, name) {
+            Err(Fault::Failed(error)) if order.walks(error.kind()) => self.judge_folder(name),
+            read => self.judge_read(shown_name(&order, name), read),
+        }
+    }
+
+    // Judges the files that a list names, each name ended by a zero byte.
+    fn judge_names(&mut self, names: &[u8]) {
+        for name in names.split(|byte| *byte == 0) {
+            if name.is_empty() {
+                continue;
+            }
+            match file_path(self.streams.alloc, "", name) {
+                Ok(name) => self.judge_named(name.as_str()),
+                Err(_) => self.judge_read("", Err(Fault::Short)),
+            }
+        }
+    }
+
+    // Judges the files that a list names, or reports why it names none.
+    fn judge_listed(&mut self, list: &str) {
+        let before = self.streams.status;
+        let why = match self.streams.whole_of(self.rt, list) {
+            Ok(names) if names.is_empty() || names.as_slice().contains(&0) => {
+                self.judge_names(names.as_slice());
+                None
+            }
+            Ok(_names) => Some(Fault::Unlisted),
+            Err(why) => Some(why),
+        };
+        if let Some(why) = why {
+            let status = self.unread(list, &why);
+            self.streams.settle(status);
+        }
+        self.streams.status = self.streams.status.max(before);
+    }
+
+    /// Judges the files and those that a list names, or standard input where there are neither. The status is the worst one: 0
+    /// where each is as it was asked for, 1 where one isn't or is refused, 2 where one couldn't be judged; 1 in place of that where
+    /// the normal form is written.
+    pub(crate) fn judge_all(&mut self) -> u8 {
+        let list = self.order.told.get_str("files0-from");
+        let files = self.order.files;
+        if files.is_empty() && list.is_none() {
+            self.judge_named(STANDARD);
+        }
+        for name in files {
+            self.judge_named(name);
+        }
+        match list {
+            Some(list) if !self.streams.stopped => self.judge_listed(list),
+            _ => {}
+        }
+        if self.order.told.get_flag("verbose") {
+            self.tell_count();
+        }
+        let most = if self.order.judges { u8::MAX } else { FAILED };
+        self.streams.status.min(most)
+    }
+
+    // Reports how many files were checked, and how many of them weren't as they were asked for.
+    fn tell_count(&mut self) {
+        let streams = &mut self.streams;
+        let (files, refused) = (streams.files, streams.refused);
+        let word = if files == 1 { "file" } else { "files" };
+        let _ = writeln!(streams.errors, "{files} {word}, {refused} refused");
+    }
 }

@@ -21,6 +21,4 @@ pub use engine::{AllParted, Cause, Compared, Difference, Ended, Engine, Met, Par
 pub use fault::INPUT_LIMIT;
 pub use order::{Judging, Manner, Measure, Question, Task, WRONG_WORDS};
 pub use program::main_by;
-pub use yaml_cli_files::{
-    Format, RepeatedKey, Source, Step, UNNAMED, place_of_byte, push_step, shown_bytes,
-};
+pub use yaml_cli_files::{Format, RepeatedKey, Source, Step, file_path, place_of_byte, push_step};

@@ -66,7 +66,8 @@ fn arg_of<'a>(alloc: Global, row: &Row) -> Arg<'a> {
     }
 }
 
-fn filled<'a>(alloc: Global, told: &Told) -> Result<Command<'a>, AllocError> {
+// A command with its arguments.
+fn command_of<'a>(alloc: Global, told: &Told) -> Result<Command<'a>, AllocError> {
     let mut command = Command::new(alloc, told.name)
         .about(told.about)
         .after_help(told.after);
@@ -81,18 +82,6 @@ fn filled<'a>(alloc: Global, told: &Told) -> Result<Command<'a>, AllocError> {
     Ok(command)
 }
 
-// A command with its arguments. Where there was no room for one it is left without any, and `is_short` is set: so no command is
-// dropped here, which would be expensive to prove.
-fn command_of<'a>(alloc: Global, told: &Told, is_short: &mut bool) -> Command<'a> {
-    match filled(alloc, told) {
-        Ok(command) => command,
-        Err(_) => {
-            *is_short = true;
-            Command::new(alloc, told.name)
-        }
-    }
-}
-
 fn bare_command<'a>(alloc: Global) -> Command<'a> {
     let about = "Checks, compares and rewrites YAML";
     Command::new(alloc, "yaml_cli")
@@ -102,21 +91,14 @@ fn bare_command<'a>(alloc: Global) -> Command<'a> {
         .subcommand_required(true)
 }
 
-/// The program's words, where the first of them is `name`: those of the command that it names, else those of all commands. Where
-/// `is_short` is set there was no room for all of them, and what is read by them says nothing.
-pub(crate) fn whole_command<'a>(
-    alloc: Global,
-    name: &str,
-    is_short: &mut bool,
-) -> Result<Command<'a>, AllocError> {
+/// The program's words, where the first of them is `name`: those of the command that it names, else those of all commands.
+pub(crate) fn whole_command<'a>(alloc: Global, name: &str) -> Result<Command<'a>, AllocError> {
     let mut whole = bare_command(alloc);
     let is_named = does_of(name).is_some();
     for told in &COMMANDS {
         if !is_named || told.name == name {
-            whole = match whole.subcommand(command_of(alloc, told, is_short)) {
-                Ok(more) => more,
-                Err(error) => return Err(error),
-            };
+            let command = command_of(alloc, told)?;
+            whole = whole.subcommand(command)?;
         }
     }
     whole.bin_name("yaml_cli")

@@ -261,34 +261,25 @@ fn judge_width(words: &mut Words<'_, '_>, settings: &yaml_settings_t) {
     }
 }
 
-/// What the arguments of a command ask for, and which files of a folder are read; nothing where
-/// `wrong` says that they are wrong. How many files one is given is judged before its other
-/// arguments.
+/// What the arguments of a command ask for, and the first thing that is wrong with them: what is
+/// known to be wrong already, then how many files one is given, then its other arguments.
 pub(crate) fn order_in<'o, 'a>(
     name: &'a str,
     told: &'o ArgMatches<'a>,
     choice: Choice<'o, 'a>,
-    wrong: &mut Option<Fault<'a>>,
-) -> Order<'o, 'a> {
+    wrong: Option<Fault<'a>>,
+) -> (Order<'o, 'a>, Option<Fault<'a>>) {
     let does = does_of(name).unwrap_or(Does::Check);
     let mut words = Words {
         told,
         lists: matches!(does, Does::Norm | Does::Diff | Does::Check),
-        wrong: None,
+        wrong,
     };
     if let Some(why) = misused(does, told) {
         words.keep(Fault::Usage { command: name, why });
     }
     let judging = judging_in(does, &mut words);
-    let Words {
-        told: _,
-        lists: _,
-        wrong: found,
-    } = words;
-    if wrong.is_none() {
-        *wrong = found;
-    }
-    Order {
+    let order = Order {
         does,
         told,
         files: told.get_strs("files").unwrap_or(&[]),
@@ -296,7 +287,13 @@ pub(crate) fn order_in<'o, 'a>(
         writes: told.get_flag("write"),
         judging,
         choice,
-    }
+    };
+    let Words {
+        told: _,
+        lists: _,
+        wrong,
+    } = words;
+    (order, wrong)
 }
 
 fn judging_in(does: Does, words: &mut Words<'_, '_>) -> Judging {

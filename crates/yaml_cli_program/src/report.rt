@@ -1,141 +1,105 @@
 //! Findings that programs read: a line each, on standard output.
 
-use crate::fault::{FAILED, Fault, UNJUDGED, refusal_status, shown, told};
-use crate::file::{Streams, flushed};
-use crate::order::Judging;
-use std::io::Write;
+use crate::engine::Engine;
+use crate::fault::{FAILED, Fault, UNJUDGED, refusal_status, show, told};
+use crate::program::Run;
+use std::io::{Read, Write};
+use std::rt::Files;
 use yaml_cli_files::{Finding, Format, RepeatedKey, Shown, Source, push_finding, push_repeated};
 use yaml_scan_types::{yaml_error_type_t, yaml_fault_t};
 
-// Writes a finding's line; answers the status that is handed in, or that of an output that takes no more.
-fn put_finding<R, W: Write, E: Write>(
-    format: Format,
-    finding: &Finding<'_, '_>,
-    status: u8,
-    streams: &mut Streams<R, W, E>,
-) -> u8 {
-    let mut text = String::new(streams.alloc);
-    match push_finding(streams.alloc, &mut text, format, finding) {
-        Ok(()) => put_text(text.as_str(), status, streams),
-        Err(_) => UNJUDGED,
-    }
+// A file that wasn't read, for that reason.
+fn unread_finding<'f>(name: &'f str, why: &'f str) -> Finding<'f> {
+    Finding::new(name, "io", why, None, None)
 }
 
-/// Writes a text to standard output; answers the status that is handed in, or that of an output that takes no more.
-pub(crate) fn put_text<R, W: Write, E: Write>(
-    text: &str,
-    status: u8,
-    streams: &mut Streams<R, W, E>,
-) -> u8 {
-    let written = streams.output.write_all(text.as_bytes());
-    match flushed(written, streams) {
-        0 => status,
-        failed => {
-            streams.stopped = true;
-            failed
+impl<G: Engine, H: Files, R: Read, W: Write, E: Write> Run<'_, '_, '_, '_, G, H, R, W, E> {
+    // Writes a finding's line; returns the status that is passed, or that of an output that takes no more.
+    fn put_finding(&mut self, finding: &Finding<'_>, status: u8) -> u8 {
+        let alloc = self.streams.alloc;
+        let mut text = String::new(alloc);
+        match push_finding(alloc, &mut text, self.order.judging.format, finding) {
+            Ok(()) => self.streams.put_text(text.as_str(), status),
+            Err(_) => UNJUDGED,
         }
     }
-}
 
-/// Names a file that isn't as it was asked for, or that was written; answers the status that is handed in, or that of an output
-/// that takes no more.
-pub(crate) fn name_file<R, W: Write, E: Write>(
-    judging: &Judging,
-    name: &str,
-    status: u8,
-    streams: &mut Streams<R, W, E>,
-) -> u8 {
-    if judging.quiet {
-        return status;
-    }
-    let name = Shown(name);
-    match format!(in streams.alloc; "{name}\n") {
-        Ok(line) => put_text(line.as_str(), status, streams),
-        Err(_) => UNJUDGED,
-    }
-}
-
-/// Reports the fault of a file's text, as is ordered; answers the status.
-pub(crate) fn refused<R, W: Write, E: Write>(
-    judging: &Judging,
-    source: Source<'_>,
-    fault: &yaml_fault_t,
-    streams: &mut Streams<R, W, E>,
-) -> u8 {
-    let Judging { quiet, format, .. } = *judging;
-    if !quiet && fault.kind == yaml_error_type_t::YAML_WRITER_ERROR {
-        let name = Shown(source.name);
-        let past = Fault::PastLimit(judging.manner.settings.limit);
-        let _ = writeln!(streams.errors, "{name}: {past}");
-        return FAILED;
-    }
-    match format {
-        Format::Full => shown(streams.alloc, &mut streams.errors, quiet, source, fault),
-        _ if quiet => refusal_status(fault),
-        format => put_finding(
-            format,
-            &Finding::of(source, fault),
-            refusal_status(fault),
-            streams,
-        ),
-    }
-}
-
-// Reports a key that is in its mapping more than once; answers the status.
-fn tell_repeated<R, W: Write, E: Write>(
-    format: Format,
-    source: Source<'_>,
-    key: RepeatedKey,
-    streams: &mut Streams<R, W, E>,
-) -> u8 {
-    let mut text = String::new(streams.alloc);
-    match push_repeated(streams.alloc, &mut text, format, source, key) {
-        Ok(()) if matches!(format, Format::Full) => {
-            let _ = write!(streams.errors, "{text}");
-            FAILED
+    /// Names a file that isn't as it was asked for, or that was written; returns the status that is passed, or that of an output
+    /// that takes no more.
+    pub(crate) fn name_file(&mut self, name: &str, status: u8) -> u8 {
+        if self.order.judging.quiet {
+            return status;
         }
-        Ok(()) => put_text(text.as_str(), FAILED, streams),
-        Err(_) => UNJUDGED,
-    }
-}
-
-/// Reports the keys of a file that are in their mapping more than once, as is ordered; answers the status.
-pub(crate) fn repeated<R, W: Write, E: Write>(
-    judging: &Judging,
-    source: Source<'_>,
-    keys: &[RepeatedKey],
-    streams: &mut Streams<R, W, E>,
-) -> u8 {
-    let Judging { quiet, format, .. } = *judging;
-    let mut status = if keys.is_empty() { 0 } else { FAILED };
-    for key in keys {
-        if quiet || streams.stopped {
-            break;
+        let name = Shown(name);
+        match format!(in self.streams.alloc; "{name}\n") {
+            Ok(line) => self.streams.put_text(line.as_str(), status),
+            Err(_) => UNJUDGED,
         }
-        status = tell_repeated(format, source, *key, streams).max(status);
     }
-    status
-}
 
-/// Reports why a file wasn't read, as is ordered; answers the status.
-pub(crate) fn unread<R, W: Write, E: Write>(
-    judging: &Judging,
-    name: &str,
-    why: &Fault<'_>,
-    streams: &mut Streams<R, W, E>,
-) -> u8 {
-    if judging.quiet {
-        return UNJUDGED;
-    }
-    if let Format::Full = judging.format {
-        told(&mut streams.errors, name, why);
-        return UNJUDGED;
-    }
-    match format!(in streams.alloc; "{why}") {
-        Ok(problem) => {
-            let finding = Finding::unread(name, problem.as_str());
-            put_finding(judging.format, &finding, UNJUDGED, streams)
+    /// Reports the fault of a file's text, as is ordered; returns the status.
+    pub(crate) fn refused(&mut self, source: Source<'_>, fault: &yaml_fault_t) -> u8 {
+        let status = refusal_status(fault);
+        let judging = self.order.judging;
+        if judging.quiet {
+            return status;
         }
-        Err(_) => UNJUDGED,
+        let errors = &mut self.streams.errors;
+        if fault.kind == yaml_error_type_t::YAML_WRITER_ERROR {
+            let name = Shown(source.name);
+            let past = Fault::PastLimit(judging.manner.settings.limit);
+            let _ = writeln!(errors, "{name}: {past}");
+            return status;
+        }
+        if let Format::Full = judging.format {
+            show(self.streams.alloc, errors, source, fault);
+            return status;
+        }
+        self.put_finding(&Finding::of(source, fault), status)
+    }
+
+    // Reports a key that is in its mapping more than once; returns the status.
+    fn tell_repeated(&mut self, source: Source<'_>, key: RepeatedKey) -> u8 {
+        let alloc = self.streams.alloc;
+        let format = self.order.judging.format;
+        let mut text = String::new(alloc);
+        match push_repeated(alloc, &mut text, format, source, key) {
+            Ok(()) if matches!(format, Format::Full) => {
+                let _ = write!(self.streams.errors, "{text}");
+                FAILED
+            }
+            Ok(()) => self.streams.put_text(text.as_str(), FAILED),
+            Err(_) => UNJUDGED,
+        }
+    }
+
+    /// Reports the keys of a file that are in their mapping more than once, as is ordered; returns the status.
+    pub(crate) fn repeated(&mut self, source: Source<'_>, keys: &[RepeatedKey]) -> u8 {
+        let mut status = if keys.is_empty() { 0 } else { FAILED };
+        for key in keys {
+            if self.order.judging.quiet || self.streams.stopped {
+                break;
+            }
+            status = self.tell_repeated(source, *key).max(status);
+        }
+        status
+    }
+
+    /// Reports why a file wasn't read, as is ordered; returns the status.
+    pub(crate) fn unread(&mut self, name: &str, why: &Fault<'_>) -> u8 {
+        if self.order.judging.quiet {
+            return UNJUDGED;
+        }
+        if let Format::Full = self.order.judging.format {
+            told(&mut self.streams.errors, name, why);
+            return UNJUDGED;
+        }
+        match format!(in self.streams.alloc; "{why}") {
+            Ok(problem) => {
+                let finding = unread_finding(name, problem.as_str());
+                self.put_finding(&finding, UNJUDGED)
+            }
+            Err(_) => UNJUDGED,
+        }
     }
 }

@@ -1,11 +1,11 @@
 //! From words to what clap finds among them, or to what is wrong with them.
 
-use crate::file::{Streams, flushed};
+use crate::file::Streams;
 use crate::options::whole_command;
 use crate::order::WRONG_WORDS;
 use clap::error::ErrorKind;
 use clap::{ArgMatches, Error as WordFault};
-use std::alloc::{AllocError, Global};
+use std::alloc::Global;
 use std::convert::AsStr;
 use std::io::Write;
 
@@ -14,22 +14,12 @@ pub(crate) fn matches_of<'a, S: AsStr>(
     alloc: Global,
     words: &'a [S],
 ) -> Result<ArgMatches<'a>, WordFault> {
-    let mut is_short = false;
     let name = match words.get(1) {
         Some(word) => word.as_str(),
         None => "",
     };
-    match whole_command(alloc, name, &mut is_short) {
-        Ok(command) => {
-            let found = command.try_get_matches_from(words);
-            if is_short {
-                Err(WordFault::from(AllocError))
-            } else {
-                found
-            }
-        }
-        Err(error) => Err(WordFault::from(error)),
-    }
+    let command = whole_command(alloc, name)?;
+    command.try_get_matches_from(words)
 }
 
 /// Says what is wrong with the words, or the help that they ask for, and answers the status: of bad words their own, whether or
@@ -42,6 +32,6 @@ pub(crate) fn tell<R, W: Write, E: Write>(error: &WordFault, streams: &mut Strea
         WRONG_WORDS
     } else {
         let written = write!(streams.output, "{error}");
-        flushed(written, streams)
+        streams.flushed(written)
     }
 }

@@ -15,11 +15,14 @@ pub struct Input<'a> {
     pub from: yaml_encoding_t,
 }
 
-// What a call answers on the line's input. A line of `emit` needs no events, and if its input is refused it needn't have settings.
-fn answer_input(reply: &mut Reply, line: &Value, call: &str, input: &Input<'_>) {
+// What a call answers on the line's input, which this function owns. A line of `emit` needs no events, and if its input is refused it
+// needn't have settings.
+fn answer_input(reply: &mut Reply, line: &Value, call: &str) {
+    let from = reply.choice(line, "/from", &ENCODINGS);
+    let text = reply.input(line, "/input");
+    let text = text.as_slice();
+    let input = &Input { text, from };
     match call {
-        "decode" | "events" | "normalize" | "reload" => engine::make(reply, line, call, input),
-        "reformat" => engine::reformat(reply, line, input),
         "loads" => engine::loads(reply, input),
         "keys" => engine::keys(reply, input),
         "line" => engine::fault_line(reply, input),
@@ -35,16 +38,8 @@ fn answer_input(reply: &mut Reply, line: &Value, call: &str, input: &Input<'_>) 
             parse_input(reply, line, "events", input);
             emit_line(reply, line, call);
         }
-        _ => reply.miss("/call"),
+        _ => engine::make(reply, line, call, input),
     }
-}
-
-// One function owns the input of all calls that have one.
-fn ask_input(reply: &mut Reply, line: &Value, call: &str) {
-    let from = reply.choice(line, "/from", &ENCODINGS);
-    let text = reply.input(line, "/input");
-    let text = text.as_slice();
-    answer_input(reply, line, call, &Input { text, from });
 }
 
 /// What the call that the line names answers; the reply keeps the fault where it only refuses.
@@ -68,6 +63,6 @@ pub fn answer(rt: &HostRuntime, reply: &mut Reply, line: &Value) {
         "told" => engine::told(reply, line),
         "tokens" => tokens(reply, line),
         "check" => checks::answer(reply, line),
-        _ => ask_input(reply, line, call),
+        _ => answer_input(reply, line, call),
     }
 }

@@ -31,7 +31,7 @@ pub fn put_text(reply: &mut Reply, line: &Value, text: &[u8], form: Option<yaml_
     }
 }
 
-/// A text of the input: decoded, its event lines, its normal form, or that of its documents.
+/// A text of the input: decoded, its event lines, its normal form, that of its documents, or the text again with the form that it has.
 pub fn make(reply: &mut Reply, line: &Value, call: &str, input: &Input<'_>) {
     let Input { text, from } = *input;
     let alloc = reply.alloc;
@@ -40,21 +40,17 @@ pub fn make(reply: &mut Reply, line: &Value, call: &str, input: &Input<'_>) {
             Ok(decoded) => return put_text(reply, line, decoded.as_slice(), None),
             Err(fault) => Err(fault),
         },
+        "reformat" => match yaml_reformat(alloc, text, from, &engine_settings(reply, line)) {
+            Ok((text, form)) => return put_text(reply, line, text.as_slice(), Some(form)),
+            Err(fault) => Err(fault),
+        },
         "events" => yaml_events(alloc, text, from),
         "normalize" => yaml_normalize(alloc, text, from, &engine_settings(reply, line)),
-        _ => yaml_reload(alloc, text, from, &engine_settings(reply, line)),
+        "reload" => yaml_reload(alloc, text, from, &engine_settings(reply, line)),
+        _ => return reply.miss("/call"),
     };
     match made {
         Ok(made) => put_text(reply, line, made.as_slice(), None),
-        Err(fault) => reply.done(Some(fault)),
-    }
-}
-
-/// The text of the input again, and the form that it has.
-pub fn reformat(reply: &mut Reply, line: &Value, input: &Input<'_>) {
-    let settings = engine_settings(reply, line);
-    match yaml_reformat(reply.alloc, input.text, input.from, &settings) {
-        Ok((text, form)) => put_text(reply, line, text.as_slice(), Some(form)),
         Err(fault) => reply.done(Some(fault)),
     }
 }

@@ -4,7 +4,10 @@ use crate::lines::{
     Part, Reply, add_node, append, empty_document, event_of, show_document, show_event,
 };
 use serde_json::Value;
-use yaml_parse::{yaml_document_delete, yaml_document_t, yaml_text_fault_t};
+use yaml_parse::{
+    yaml_document_delete, yaml_document_get_node, yaml_document_get_root_node,
+    yaml_document_set_end_implicit, yaml_document_t, yaml_text_fault_t,
+};
 
 fn put_refusal(reply: &mut Reply, fault: yaml_text_fault_t) {
     match fault {
@@ -13,11 +16,21 @@ fn put_refusal(reply: &mut Reply, fault: yaml_text_fault_t) {
     }
 }
 
-// What the call answers: the whole document; whether an entry is appended, which it isn't where the numbers name no such nodes; or the
-// number of the node that is added. Else why that is refused.
+// What the call answers: the whole document; whether it has a root, or a node of that number; null where its end is set; whether an
+// entry is appended, which it isn't where the numbers name no such nodes; or the number of the node that is added. Else why that is
+// refused.
 fn put_call(reply: &mut Reply, document: &mut yaml_document_t, call: &Value) {
     let made = match reply.text(call, "/0") {
         "show" => return show_document(reply, document),
+        "root" => Ok(Part::Flag(yaml_document_get_root_node(document).is_some())),
+        "node" => {
+            let id = reply.number(call, "/1");
+            Ok(Part::Flag(yaml_document_get_node(document, id).is_some()))
+        }
+        "end_implicit" => {
+            yaml_document_set_end_implicit(document, reply.flag(call, "/1"));
+            Ok(Part::Null)
+        }
         "item" | "pair" => {
             let id = reply.number(call, "/1");
             let held = reply.value(call, "/2");

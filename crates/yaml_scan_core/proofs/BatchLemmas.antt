@@ -46,9 +46,8 @@ pub hands_advances : (old new : Scanner) → Shows old (history_of old) → Adva
     → HandsOn old new
 hands_advances old new h v =
     let k = v.kept.row in
-    let further = v.further in
     let number = old.row.dropped + old.row.next in
-    let longer : length old.row.lexemes.items ≤ length new.row.lexemes.items = omega (arith, further, k.dropped) in
+    let longer : length old.row.lexemes.items ≤ length new.row.lexemes.items = omega (arith, v.one, k.dropped) in
     let told : old.row.next < length new.row.lexemes.items → (entry_at (finished_tokens (history_of new)) number).ends ≡ ends_at new.text.now number =
     λ lt. ends_told new.text.now (read_by new) number (few_read new v.shows) (omega (arith, lt, k.dropped, v.shows.holds.row.count, length-entries (history_of new))) in
     record {

@@ -15,7 +15,7 @@ use Rattle.std.specs.List.{count_by}
 use Rattle.yaml_scan_runs.specs.Runs.{is_continuing}
 use Rattle.yaml_scan_history.proofs.BetweenLemmas.{gap_here, space_here, bom_bytes, break_here, no_bom, no_skip, stays}
 use Rattle.yaml_scan_core.specs.declared.scanner.Scanner.{Scanner}
-use Rattle.yaml_scan_core.specs.Scanning.{IsCalm, IsPlace, MayBreak, Passes, PassesOne, StaysAt, gap_there}
+use Rattle.yaml_scan_core.specs.Scanning.{IsPlace, MayBreak, Passes, PassesOne, StaysAt, gap_there}
 use Rattle.yaml_scan_core.proofs.PlacesLemmas.{byte_place, place_behind, place_on}
 
 -- ---- parts of a gap
@@ -298,22 +298,16 @@ one_mark_stop s p e none =
     let no_break_here : ltb 0 (break_width text s.at) ≡ false = rw flat refl in
     one_stop s p (gap_stays f s.key_allowed text s.at (λ h. absurd (omega (arith, h, e))) (λ h. absurd (omega (arith, h, e))) (λ h. absurd (omega (arith, h, e))) no_break_here none)
 
-pub one_calm : (s : Scanner) (b : ℕ) → IsPlace s.text.now s.at s.line s.wide
-    → b ≡ byte s.text.now s.at
-    → b ≢ 32 → b ≢ 9 → b ≢ 35 → b ≢ 0xEF → IsCalm b → PassesOne s s false
-one_calm s b p e x y z w c =
-    one_other s p (λ h. x (e ∙ h)) (λ h. y (e ∙ h)) (λ h. z (e ∙ h)) (λ h. w (e ∙ h)) (calm s.text.now s.at b (sym e) c.return c.feed c.next c.wide)
+-- the bytes that nothing between lexemes begins with
+abbrev pub Other : ℕ → Type 0
+Other b = ((((Unit {0} × (b ≢ 32)) × (b ≢ 9)) × (b ≢ 35)) × (b ≢ 0xEF)) × (MayBreak b → ⊥)
 
-pub one_inside : (s : Scanner) (b : ℕ) → IsPlace s.text.now s.at s.line s.wide
-    → b ≡ byte s.text.now s.at → (35 < b) × (b < 0xC2) → PassesOne s s false
-one_inside s b p e (low, high) =
-    one_calm s b p e (λ h. absurd (omega (arith, h, low))) (λ h. absurd (omega (arith, h, low))) (λ h. absurd (omega (arith, h, low))) (λ h. absurd (omega (arith, h, high)))
-    record {
-      feed = λ h. absurd (omega (arith, h, low));
-      return = λ h. absurd (omega (arith, h, low));
-      next = λ h. absurd (omega (arith, h, high));
-      wide = λ h. absurd (omega (arith, h, high));
-    }
+pub one_calm : (s : Scanner) (b : ℕ) → IsPlace s.text.now s.at s.line s.wide
+    → b ≡ byte s.text.now s.at → Other b → PassesOne s s false
+one_calm s b p e c =
+    let (((((none, space), tab), hash), mark), breaks) = c in
+    one_other s p (λ h. space (e ∙ h)) (λ h. tab (e ∙ h)) (λ h. hash (e ∙ h)) (λ h. mark (e ∙ h))
+    (calm s.text.now s.at b (sym e) (λ h. breaks (inr (inl h))) (λ h. breaks (inl h)) (λ h. breaks (inr (inr (inl h)))) (λ h. breaks (inr (inr (inr h)))))
 
 -- ---- a comment
 

@@ -38,6 +38,7 @@ pub mod SeatLemmas
 pub mod NumbersLemmas
 pub mod WordsLemmas
 pub mod SpotLemmas
+pub mod FirstLemmas
 pub mod KnowsLemmas
 pub mod WaitsLemmas
 pub mod OwnedLemmas

@@ -9,7 +9,7 @@ use Rattle.yaml_scan_core.specs.declared.fault.Refused.{Refused}
 use Rattle.yaml_scan_core.specs.declared.scanner.Scanner.{Scanner}
 use Rattle.yaml_scan_laws.proofs.HeldForward.{outer_is_first}
 use Rattle.yaml_scan_laws.proofs.HistoryForward.{are_few}
-use Rattle.yaml_scan_history.specs.Remaining.{all, handed}
+use Rattle.yaml_scan_history.specs.Remaining.{all}
 use Rattle.yaml_scan_core.specs.declared.lexeme.Lexeme.{Lexeme}
 use Rattle.yaml_scan_model.specs.declared.kind.Kind.TheVariants as kinds
 use Rattle.yaml_scan_core.specs.Margins.{AreLevels}
@@ -320,7 +320,7 @@ pub smaller : (old new : Scanner) → Shows old (history_of old) → Advances ol
     → length new.text.now + 3 - read_by new < length old.text.now + 3 - read_by old
 smaller old new h v =
     let same : length new.text.now ≡ length old.text.now = ap (λ (t : List ℕ). length t) v.text in
-    omega (arith, few_read new v.shows, v.further, same)
+    omega (arith, few_read new v.shows, v.one, same)
 
 pub fits_settled : (old mid : Scanner) (k : ℕ) → Falls old mid (history_of old)
     → mid.row.dropped + k ≡ first_open (history mid.text.now (read_by old)) (history mid.text.now (read_by old))

@@ -1,6 +1,7 @@
 -- What is known where there is a lexeme with a text.
-use Rattle.std.proofs.Common.{◌≡◌, ℕ, ◌+◌, ◌<◌, ◌≤◌, Bool, true, false, cond, ltb, leb, eqb, ◌&&◌, ◌||◌, not, inl, inr, List, [], ◌∷◌, length, Option, Some, None, Result, Ok, Err, refl, sym, ap, subst, ◌∙◌, arith}
+use Rattle.std.proofs.Common.{◌≡◌, ◌≢◌, ℕ, ◌+◌, ◌<◌, ◌≤◌, Bool, true, false, cond, ltb, leb, eqb, ◌&&◌, ◌||◌, not, inl, inr, List, [], ◌∷◌, length, Option, Some, None, Result, Ok, Err, refl, sym, ap, subst, ◌∙◌, arith}
 use Rattle.std.proofs.lemmas.Bool.{eqb-true, false≢true}
+use types.Run.{OneOf}
 use Rattle.yaml_scan_core.proofs.Words.{is_some, cases_Bool, nat_tests, byte, mark_at, starts, splits_break, column_at, is_blank_or_end, indent, Kind, Lexeme, flow_depth, open_levels, kind_at, indicator_of, inner, stack_of, Wrong, WordText, lexeme_at}
 use Rattle.yaml_scan_model.specs.scan_types.Marks.{break_of, break_width, is_blank}
 use Rattle.yaml_scan_model.proofs.MarksLemmas.{within}
@@ -34,7 +35,7 @@ use Rattle.yaml_scan_core.specs.declared.word.Spot.{Spot}
 use Rattle.yaml_scan_core.specs.declared.word.Word.{Word}
 use Rattle.yaml_scan_core.specs.Margins.{left_of}
 use Rattle.yaml_scan_core.specs.Rows.{HasRoom, row_of}
-use Rattle.yaml_scan_core.specs.Scanning.{SpelledOut, Spells, StandsAs, fault_in, is_letter, left_behind, read_by, stream_of}
+use Rattle.yaml_scan_core.specs.Scanning.{SpelledOut, Spells, StandsAs, fault_in, left_behind, read_by, stream_of}
 use Rattle.yaml_scan_core.specs.Texts.{HasWord, StoresMore, TellsWrong, is_scalar, word_in}
 use Rattle.yaml_scan_core.specs.WordsRead.{GivesWord, IsMarkedBy, StandsThere, scalar_body, told_by}
 use Rattle.yaml_scan_core.proofs.CandidatesLemmas.{inner_is}
@@ -96,23 +97,32 @@ pub kind_said : (flow : Bool) (text : List ℕ) (p : ℕ) (k : Kind) → kind_at
     → Says flow text p k
 kind_said flow text p k e = subst (λ (o : Option Kind). OfAny (Says flow text p) o) e (kind_says flow text p)
 
--- no letter is an indicator, a blank or the first byte of a break
-letter_none : (flow alone : Bool) (b : ℕ) → is_letter b ≡ true → indicator_of flow alone b ≡ None
-unfolding is_letter indicator_of
-letter_none flow alone b h = grind (arith, nat_tests, h)
+-- the bytes that a plain scalar begins with, whatever comes
+abbrev pub Other : ℕ → Type 0
+Other b = ((((((((((((((((((((Unit {0} × (b ≢ 0)) × (b ≢ 91)) × (b ≢ 123)) × (b ≢ 93)) × (b ≢ 125))
+    × (b ≢ 44)) × (b ≢ 42)) × (b ≢ 38)) × (b ≢ 33)) × (b ≢ 39)) × (b ≢ 34)) × (b ≢ 45)) × (b ≢ 63)) × (b ≢ 58))
+    × (b ≢ 124)) × (b ≢ 62)) × (b ≢ 37)) × (b ≢ 46)) × (OneOf (9 ∷ 32 ∷ 35 ∷ 64 ∷ 96 ∷ []) b → ⊥)) × (OneOf (10 ∷ 13 ∷ 194 ∷ 226 ∷ []) b → ⊥))
 
-letter_starts : (flow : Bool) (text : List ℕ) (p : ℕ) → is_letter (byte text p) ≡ true
+other_none : (flow alone : Bool) (b : ℕ) → Other b → indicator_of flow alone b ≡ None
+unfolding indicator_of
+other_none flow alone b h = grind (arith, nat_tests, h)
+
+other_starts : (flow : Bool) (text : List ℕ) (p : ℕ) → Other (byte text p)
     → starts_plain flow text p ≡ true
-unfolding is_letter starts_plain is_indicator_byte is_bracket break_of
-letter_starts flow text p h = grind (arith, nat_tests, h)
+unfolding starts_plain is_indicator_byte is_bracket break_of
+other_starts flow text p h = grind (arith, nat_tests, h)
 
-pub letter_kind : (flow : Bool) (text : List ℕ) (p : ℕ) → is_letter (byte text p) ≡ true
+other_at : (flow : Bool) (text : List ℕ) (p : ℕ) → Other (byte text p)
     → kind_at flow text p ≡ Some reads.Plain
-unfolding is_letter kind_at is_document_start is_document_end
-letter_kind flow text p h =
-    let none = letter_none flow (is_blank_or_end text (p + 1)) (byte text p) h in
-    let starts = letter_starts flow text p h in
+unfolding kind_at is_document_start is_document_end
+other_at flow text p h =
+    let none = other_none flow (is_blank_or_end text (p + 1)) (byte text p) h in
+    let starts = other_starts flow text p h in
     rw (none, starts) (grind (arith, nat_tests, h))
+
+pub other_kind : (flow : Bool) (text : List ℕ) (p b : ℕ) → b ≡ byte text p → Other b
+    → Some reads.Plain ≡ kind_at flow text p
+other_kind flow text p b e h = sym (other_at flow text p (subst (λ x. Other x) e h))
 
 -- what shows a kind is no end, no directive and no mark of a document
 shows_none : (flow alone : Bool) → (indicator_of flow alone 0 ≡ None)

@@ -1,5 +1,5 @@
 -- Where a lexeme is after the gap.
-use Rattle.std.proofs.Common.{◌≡◌, ℕ, ◌+◌, ◌<◌, Bool, true, false, cond, ltb, ◌&&◌, ◌||◌, not, inl, inr, List, length, Option, Some, None, Result, Ok, Err, refl, sym, ap, subst, ◌∙◌, arith}
+use Rattle.std.proofs.Common.{◌≡◌, ℕ, ◌+◌, ◌<◌, Bool, true, false, cond, ltb, ◌&&◌, ◌||◌, not, List, length, Option, Some, None, Result, Ok, Err, refl, sym, ap, subst, ◌∙◌, arith}
 use Rattle.std.specs.Prelude.{filter, nat_le}
 use Rattle.yaml_scan_core.proofs.Words.{yaml_mark_t, mark_at, column_at, Kind, Lexeme, candidate, reached, flow_depth, ended, open_levels, key_allowed, keeps, kind_at, Fails, missed, next, history, colon_missing, no_start, required_in, required_at, inner, stack_of, late, index_in, Upto, length-entries}
 use Rattle.yaml_scan_history.specs.Between.{Gap, gap_at, with_break}
@@ -10,7 +10,7 @@ use Rattle.yaml_scan_core.specs.declared.levels.Levels.{Levels}
 use Rattle.yaml_scan_core.specs.declared.scanner.Scanner.{Scanner}
 use Rattle.yaml_scan_core.specs.Margins.{AreLevels, left_of}
 use Rattle.yaml_scan_core.specs.Shown.{place_mark}
-use Rattle.yaml_scan_core.specs.Scanning.{Falls, Finds, Holds, IsBehind, IsTold, Passes, Reads, Shows, StandsAs, StandsAt, StaysAt, Takes, TakesBoth, Tests, fault_in, fixed_of, gap_there, history_of, left_behind, no_start_at, read_by}
+use Rattle.yaml_scan_core.specs.Scanning.{Falls, Finds, Holds, IsBehind, IsTold, Passes, Reads, Shows, StandsAs, StandsAt, StaysAt, Takes, Tests, fault_in, fixed_of, gap_there, history_of, left_behind, no_start_at, read_by}
 use Rattle.yaml_scan_core.proofs.CandidatesLemmas.{inner_is}
 use Rattle.yaml_scan_core.proofs.ComesLemmas.{GoesOn, comes_late, comes_none, here}
 use Rattle.yaml_scan_core.proofs.MarginsLemmas.{count_is}
@@ -87,26 +87,10 @@ falls_with : (old new : Scanner) (lv : Levels)
     → Falls old new (history_of old)
 falls_with old new lv f = record { settled = f.settled; text = f.text; told = f.told; kept = record { fixed = f.kept.fixed; row = f.kept.row } }
 
-both_with : (old new : Scanner) (lv : Levels)
-    → let was : Scanner = record old { levels = lv } in TakesBoth was new (history_of was)
-    → TakesBoth old new (history_of old)
-both_with old new lv t = record {
-  key = t.key;
-  value = t.value;
-  shows = t.shows;
-  first = t.first;
-  second = t.second;
-  text = t.text;
-  idle = t.idle;
-  kept = record { fixed = t.kept.fixed; row = t.kept.row };
-  many = t.many;
-}
-
 reads_with : (old new : Scanner) (lv : Levels) (r : Result (Unit {0}) Refused)
     → let was : Scanner = record old { levels = lv } in
     Reads was new (history_of was) r → Reads old new (history_of old) r
-reads_with old new lv (Ok u) (inl t) = inl (takes_with old new lv t)
-reads_with old new lv (Ok u) (inr t) = inr (both_with old new lv t)
+reads_with old new lv (Ok u) t = takes_with old new lv t
 reads_with old new lv (Err e) f = falls_with old new lv f
 
 pub falls_closed : (old mid new : Scanner) → mid ≡ record old { levels = mid.levels }

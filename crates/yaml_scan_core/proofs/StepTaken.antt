@@ -1,5 +1,5 @@
 -- What a step comes to.
-use Rattle.std.proofs.Common.{◌≡◌, ℕ, suc, ◌+◌, ◌-◌, ◌<◌, ◌≤◌, ◌⊎◌, Bool, true, false, inl, inr, List, ◌∷◌, length, Option, Some, None, Result, Ok, Err, refl, sym, ap, subst, ◌∙◌, arith}
+use Rattle.std.proofs.Common.{◌≡◌, ℕ, suc, ◌+◌, ◌-◌, ◌<◌, ◌≤◌, Bool, true, false, inl, inr, List, ◌∷◌, length, Option, Some, None, Result, Ok, Err, refl, sym, ap, subst, ◌∙◌, arith}
 use Rattle.std.specs.Prelude.{OnOk}
 use Rattle.yaml_scan_core.proofs.Words.{cases_Bool, yaml_mark_t, mark_at, Kind, Lexeme, Candidate, candidate, reached, finished_tokens, is_end, length-entries, Next, Read, Fails, missed, next, history, colon_missing, required_in, required_at, KeyStack, AreWithin, AreKeys, stack_of, late, index_in}
 use Rattle.yaml_scan_history.specs.Stepwise.{no_colon as comes_no_colon}
@@ -9,7 +9,7 @@ use Rattle.yaml_scan_core.specs.declared.fault.Refused.{Refused}
 use Rattle.yaml_scan_core.specs.declared.scanner.Scanner.{Scanner}
 use Rattle.yaml_scan_core.specs.Shown.{place_mark}
 use Rattle.yaml_scan_core.specs.declared.row.Row.{Row}
-use Rattle.yaml_scan_core.specs.Scanning.{Advances, Falls, Fixed, Holds, IsTold, Keeps, Shows, ShowsSettled, StandsAt, Steps, Takes, TakesBoth, Tests, fixed_of, history_of, read_by}
+use Rattle.yaml_scan_core.specs.Scanning.{Advances, Falls, Holds, IsTold, Keeps, Shows, ShowsSettled, StandsAt, Steps, Takes, Tests, fixed_of, history_of, read_by}
 use Rattle.yaml_scan_core.proofs.NextLemmas.{unmissed}
 use Rattle.yaml_scan_core.proofs.StandLemmas.{colon_told, fails_test, late_missed, missed_required, passes_test}
 use Rattle.yaml_scan_core.proofs.PlacesLemmas.{mark_of_place}
@@ -34,20 +34,7 @@ advance_one mid new h t o is none =
     let count : read_by new ≡ suc (read_by mid) = omega (arith, before, after) in
     let more : history text (suc (read_by mid)) ≡ l ∷ history text (read_by mid) = history_more text (read_by mid) l (subst (λ x. next text x ≡ Read l) is reads) in
     let same : l ∷ h ≡ history_of new = ap (λ x. l ∷ x) is ∙ sym more ∙ ap (λ n. history text n) (sym count) ∙ ap (λ x. history x (read_by new)) (sym t.text) in
-    record { shows = subst (λ x. Shows new x) same t.shows; further = omega (arith, count); text = t.text; kept = subst (λ x. Keeps mid new (finished_tokens x)) same t.kept; one = inr (omega (arith, count)) }
-
-pub advance_both : (mid new : Scanner) (h : List Lexeme) → TakesBoth mid new h → Holds mid h
-    → h ≡ history_of mid → Advances mid new
-advance_both mid new h t o is =
-    let text = mid.text.now in
-    let n = read_by mid in
-    let before = counted mid h o in
-    let after = counted new (t.value ∷ t.key ∷ h) t.shows.holds in
-    let count : read_by new ≡ suc (suc n) = omega (arith, before, after) in
-    let one : history text (suc n) ≡ t.key ∷ h = history_more text n t.key (subst (λ x. next text x ≡ Read t.key) is t.first) ∙ ap (λ x. t.key ∷ x) (sym is) in
-    let two : history text (suc (suc n)) ≡ t.value ∷ history text (suc n) = history_more text (suc n) t.value (subst (λ x. next text x ≡ Read t.value) (sym one) t.second) in
-    let same : t.value ∷ t.key ∷ h ≡ history_of new = ap (λ x. t.value ∷ x) (sym one) ∙ sym two ∙ ap (λ m. history text m) (sym count) ∙ ap (λ x. history x (read_by new)) (sym t.text) in
-    record { shows = subst (λ x. Shows new x) same t.shows; further = omega (arith, count); text = t.text; kept = subst (λ x. Keeps mid new (finished_tokens x)) same t.kept; one = inl t.many }
+    record { shows = subst (λ x. Shows new x) same t.shows; text = t.text; kept = subst (λ x. Keeps mid new (finished_tokens x)) same t.kept; one = omega (arith, count) }
 
 -- ---- from the state before the gap
 
@@ -65,10 +52,9 @@ advances_from old mid new text row fixed v =
     let count : read_by mid ≡ read_by old = ap (λ (r : Row). r.dropped + length r.lexemes.items) row in
     record {
       shows = v.shows;
-      further = omega (arith, v.further, count);
       text = v.text ∙ text;
       kept = keeps_from old mid new (finished_tokens (history_of new)) row fixed v.kept;
-      one = elim v.one [ inl many ↦ inl (omega (arith, many, ap (λ (f : Fixed). f.batch) fixed)) | inr one ↦ inr (omega (arith, one, count)) ];
+      one = omega (arith, v.one, count);
     }
 
 -- ---- the last test
@@ -159,16 +145,6 @@ last_test mid taken new h (Err d) t o is same kept tests =
     let fault : IsTold text new.fault (next text h) = rw f (comes ∙ ap (λ q. Fails (colon_missing start q)) (sym m) ∙ ap (λ p. Fails p) (sym told)) in
     faulted mid taken new h same settled kept_there t.text fault
 
--- and after two
-pub both_test : (mid taken new : Scanner) (h : List Lexeme) (r : Result (Unit {0}) Refused)
-    → (t : TakesBoth mid taken h) → Holds mid h → h ≡ history_of mid → OnOk r (new ≡ taken)
-    → Tests (index_in (late (required_at mid.text.now (stack_of taken.keys)) (mark_at mid.text.now taken.at))) taken.at new.fault r
-    → Steps mid new h r
-both_test mid taken new h (Ok u) t o is kept tests = subst (λ (x : Scanner). Advances mid x) (sym kept) (advance_both mid taken h t o is)
-both_test mid taken new h (Err d) t o is kept tests =
-    let (start, some, f) = fails_test (late (required_at mid.text.now (stack_of taken.keys)) (mark_at mid.text.now taken.at)) taken.at new.fault d tests in
-    let bad = sym some ∙ ap (λ o. late o (mark_at mid.text.now taken.at)) (idle_required mid.text.now (stack_of taken.keys) taken.keys.required refl t.idle) in cc
-
 -- ---- the whole step
 
 steps_from : (old mid new : Scanner) (h g : List Lexeme) (r : Result (Unit {0}) Refused)
@@ -191,22 +167,15 @@ abbrev pub LastTests : Scanner → Scanner → Result (Unit {0}) Refused → Typ
 LastTests taken new r = (text : List ℕ) → IsLineStart text taken.at taken.line
     → Tests (index_in (late (required_at text (stack_of taken.keys)) (mark_at text taken.at))) taken.at new.fault r
 
-tested : (mid taken new : Scanner) (h : List Lexeme) (r : Result (Unit {0}) Refused)
-    → Takes mid taken h ⊎ TakesBoth mid taken h → Holds mid h → h ≡ history_of mid
-    → new ≡ record taken { fault = new.fault } → OnOk r (new ≡ taken) → LastTests taken new r
-    → Steps mid new h r
-tested mid taken new h r (inl t) o is same kept tests = last_test mid taken new h r t o is same kept (tests mid.text.now (line_there mid taken (t.lexeme ∷ h) t.shows t.text))
-tested mid taken new h r (inr t) o is same kept tests = both_test mid taken new h r t o is kept (tests mid.text.now (line_there mid taken (t.value ∷ t.key ∷ h) t.shows t.text))
-
 pub steps : (old mid taken new : Scanner) (k : Kind) (r : Result (Unit {0}) Refused)
     → StandsAt k mid (history_of old)
     → mid.text.now ≡ old.text.now → mid.row ≡ old.row → fixed_of mid ≡ fixed_of old
-    → Takes mid taken (history_of mid) ⊎ TakesBoth mid taken (history_of mid)
+    → (t : Takes mid taken (history_of mid))
     → new ≡ record taken { fault = new.fault } → OnOk r (new ≡ taken) → LastTests taken new r
     → Steps old new (history_of old) r
-steps old mid taken new k r at text row fixed takes_it changed kept tests =
+steps old mid taken new k r at text row fixed t changed kept tests =
     let h = history_of old in
     let g = history_of mid in
     let whole : g ≡ h = sym at.behind.is in
     steps_from old mid new h g r text row fixed whole
-    (tested mid taken new g r takes_it (subst (λ x. Holds mid x) at.behind.is at.behind.holds) refl changed kept tests)
+    (last_test mid taken new g r t (subst (λ x. Holds mid x) at.behind.is at.behind.holds) refl changed kept (tests mid.text.now (line_there mid taken (t.lexeme ∷ g) t.shows t.text)))

@@ -61,12 +61,9 @@ short_before old new g read text one =
 -- ---- one is read
 
 -- a step reads one
-pub one_read : (old was new : Scanner) → Advances was new → was ≡ old → old.batch ≡ 1
+pub one_read : (old was new : Scanner) → Advances was new → was ≡ old
     → read_by new ≡ read_by old + 1
-one_read old was new v same one =
-    let number : read_by was ≡ read_by old = ap (λ (s : Scanner). read_by s) same in
-    let batch : was.batch ≡ 1 = ap (λ (s : Scanner). s.batch) same ∙ one in
-    elim v.one [ inl many ↦ absurd (omega (arith, many, batch)) | inr is ↦ omega (arith, is, number) ]
+one_read old was new v same = omega (arith, v.one, ap (λ (s : Scanner). read_by s) same)
 
 pub known_not : (s : Scanner) → knows s ≡ false → s.row.settled ≤ s.row.next
 known_not s none = elim (cases_lt s.row.next s.row.settled) [

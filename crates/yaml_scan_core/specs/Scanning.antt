@@ -1,5 +1,5 @@
 -- What the fields of a scanner say of the lexemes that were read.
-use Rattle.std.specs.Prelude.{ℕ, ◌+◌, ◌-◌, ◌^◌, ◌≡◌, ◌≢◌, ◌≤◌, ◌<◌, ◌⊎◌, Bool, true, false, not, ◌==◌, ◌&&◌, ◌||◌, nat_le, nat_lt, List, ◌∷◌, length, take, Option, Some, None, Result, Ok, Err}
+use Rattle.std.specs.Prelude.{ℕ, ◌+◌, ◌-◌, ◌^◌, ◌≡◌, ◌≤◌, ◌<◌, ◌⊎◌, Bool, true, false, not, ◌==◌, ◌&&◌, ◌||◌, nat_lt, List, ◌∷◌, length, take, Option, Some, None, Result, Ok, Err}
 use Rattle.yaml_scan_model.specs.declared.name.yaml_encoding_t.{yaml_encoding_t}
 use Rattle.yaml_scan_model.specs.declared.problem.ScanFault.{ScanFault}
 use Rattle.yaml_scan_model.specs.declared.problem.Problem.{Problem}
@@ -15,7 +15,7 @@ use Rattle.yaml_scan_history.specs.declared.lexeme.Entry.{Entry}
 use Rattle.yaml_scan_history.specs.History.{candidate, flow_depth, ended, finished_tokens, first_open, fresh, key_allowed, left_by, open_levels, reached}
 use Rattle.yaml_scan_history.specs.Kinds.{is_end}
 use Rattle.yaml_scan_history.specs.Laws.{Upto}
-use Rattle.yaml_scan_history.specs.Next.{Next, Read as IsRead, Fails, allowed_behind, gap_behind, history, missed, next}
+use Rattle.yaml_scan_history.specs.Next.{Next, Fails, allowed_behind, gap_behind, history, missed, next}
 use Rattle.yaml_scan_history.specs.Stepwise.{tested}
 use Rattle.yaml_scan_history.specs.Remaining.{SpelledText}
 use Rattle.yaml_scan_history.specs.Words.{kind_at}
@@ -76,19 +76,6 @@ pub record PassesOne (old new : Scanner) (on : Bool) : Type 0 where
 -- the byte may begin a break
 abbrev pub MayBreak : ℕ → Type 0
 MayBreak b = (b ≡ ascii.line_feed) ⊎ ((b ≡ ascii.carriage_return) ⊎ ((b ≡ 0xC2) ⊎ (b ≡ 0xE2)))
-
--- none does
-pub record IsCalm (b : ℕ) : Type 0 where
-  pub feed : b ≢ ascii.line_feed
-  pub return : b ≢ ascii.carriage_return
-  pub next : b ≢ 0xC2
-  pub wide : b ≢ 0xE2
-
--- one of `0-9 A-Z a-z`
-unfoldable pub is_letter : ℕ → Bool
-is_letter b = (nat_le ascii.small_a b && nat_le b ascii.small_z)
-    || ((nat_le ascii.capital_a b && nat_le b ascii.capital_z)
-    || (nat_le ascii.digit_zero b && nat_le b ascii.digit_nine))
 
 -- ---- faults
 
@@ -358,20 +345,8 @@ pub record Falls (old new : Scanner) (h : List Read) : Type 0 where
   pub told : IsTold old.text.now new.fault (next old.text.now h)
   pub kept : Keeps old new settled.all
 
--- The state after a key and its `:`, which were read at once.
-pub record TakesBoth (old new : Scanner) (h : List Read) : Type 0 where
-  pub key : Read
-  pub value : Read
-  pub shows : Shows new (value ∷ key ∷ h)
-  pub first : next old.text.now h ≡ IsRead key
-  pub second : next old.text.now (key ∷ h) ≡ IsRead value
-  pub text : new.text.now ≡ old.text.now
-  pub idle : new.keys.required ≡ false
-  pub kept : Keeps old new (finished_tokens (value ∷ key ∷ h))
-  pub many : 1 < old.batch
-
 abbrev pub Reads : Scanner → Scanner → List Read → Result (Unit {0}) Refused → Type 0
-Reads old new h (Ok u) = Takes old new h ⊎ TakesBoth old new h
+Reads old new h (Ok u) = Takes old new h
 Reads old new h (Err e) = Falls old new h
 
 -- where a lexeme of that kind is, so that no required candidate is stale, and its levels are closed; or none was read
@@ -380,13 +355,12 @@ Finds old new h (Ok k) = StandsAt k new h × (new.text.now ≡ old.text.now) × 
     × (fixed_of new ≡ fixed_of old)
 Finds old new h (Err e) = Falls old new h
 
--- one lexeme more, or two where more than one is read at once
+-- one lexeme more
 pub record Advances (old new : Scanner) : Type 0 where
   pub shows : Shows new (history_of new)
-  pub further : read_by old < read_by new
   pub text : new.text.now ≡ old.text.now
   pub kept : Keeps old new (finished_tokens (history_of new))
-  pub one : (1 < old.batch) ⊎ (read_by new ≡ read_by old + 1)
+  pub one : read_by new ≡ read_by old + 1
 
 -- what one step comes to
 abbrev pub Steps : Scanner → Scanner → List Read → Result (Unit {0}) Refused → Type 0

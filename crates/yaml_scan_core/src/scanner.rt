@@ -1,18 +1,18 @@
 //! The scanner's state, and one step of it.
 
-ghost use Rattle.std.specs.Prelude.{IfOk, ℕ, ◌≡◌, ◌+◌, ◌-◌, ◌<◌, ◌≤◌, ◌^◌, ◌&&◌, ◌||◌, ◌==◌, not, true, false, length, nat_lt, Some, None, List};
+ghost use Rattle.std.specs.Prelude.{IfOk, ℕ, ◌≡◌, ◌+◌, ◌-◌, ◌<◌, ◌≤◌, ◌^◌, ◌&&◌, ◌||◌, ◌==◌, not, true, false, length, nat_lt, Some, None, List, if◌then◌else◌};
 ghost use Rattle.yaml_scan_model.specs.scan_types.Ascii as ascii;
 ghost use Rattle.yaml_scan_model.specs.scan_types.Marks.{byte, column_at, is_blank_or_end};
-ghost use Rattle.yaml_scan_history.specs.Plain.{is_indicator_byte, starts_plain};
+ghost use Rattle.yaml_scan_history.specs.declared.kind.Kind.TheVariants as kinds;
 ghost use Rattle.yaml_scan_model.specs.scan_types.Classes.{is_bom};
 ghost use Rattle.yaml_scan_history.specs.History.{keeps};
-ghost use Rattle.yaml_scan_history.specs.Words.{indicator_of, kind_at};
+ghost use Rattle.yaml_scan_history.specs.Words.{kind_at};
 ghost use Rattle.yaml_scan_text.specs.White.{is_thrice};
 ghost use Rattle.yaml_scan_core.specs.Asked.{Starts};
 ghost use Rattle.yaml_scan_core.specs.Candidates.{inner, stack_of};
 ghost use Rattle.yaml_scan_core.specs.Handed.{HandsOn};
 ghost use Rattle.yaml_scan_core.specs.Rows.{HasRoom, IsThere, failed, row_of};
-ghost use Rattle.yaml_scan_core.specs.Scanning.{Finds, IsCalm, IsDecoded, IsGoing, IsPlace, MayBreak, Passes, PassesOne, Reads, Rests, Shows, StandsAs, StandsAt, StaysAt, Steps, gap_there, history_of, is_letter, read_by};
+ghost use Rattle.yaml_scan_core.specs.Scanning.{Finds, IsDecoded, IsGoing, IsPlace, MayBreak, Passes, PassesOne, Reads, Rests, Shows, StandsAs, StandsAt, StaysAt, Steps, gap_there, history_of, read_by};
 ghost use Rattle.yaml_scan_core.specs.Waiting.{Needs, ReadsOne};
 
 use crate::fault::{Fault, Refused};
@@ -21,7 +21,7 @@ use crate::levels::Levels;
 use crate::lexeme::Lexeme;
 use crate::row::Row;
 use crate::text::{
-    break_width, byte, continuing, is_blank, is_blank_or_end, is_thrice, line_end, skip_spaces,
+    break_width, byte, continuing, is_blank_or_end, is_thrice, line_end, skip_spaces,
 };
 use std::alloc::{AllocError, Global};
 use yaml_scan_history::Kind as LexemeKind;
@@ -285,7 +285,7 @@ impl<'a> Scanner<'a> {
     }
 
     /// The kind of what is here.
-    #[tactic(auto, using(crate::proofs::SpotLemmas::letter_kind, crate::proofs::SpotLemmas::shown_kind), unfolding(yaml_scan_history::specs::Words::kind_at, yaml_scan_history::specs::Indicators::is_document_start, yaml_scan_history::specs::Indicators::is_document_end))]
+    #[tactic(auto, using(crate::proofs::SpotLemmas::other_kind))]
     fn kind_here(&self) -> Option<LexemeKind>
         requires some { 0 < length self.now.keys.levels.items }
         requires long { length self.now.text.now < 2 ^ 63 }
@@ -293,32 +293,78 @@ impl<'a> Scanner<'a> {
         ensures { result ≡ kind_at (nat_lt 0 (inner (stack_of self.now.keys))) self.now.text.now
             self.now.at }
     {
-        let byte = byte(self.text, self.at);
-        // First: so one table leads to most kinds.
-        let kind = indicator(byte, self.in_flow(), self.text, self.at + 1);
-        if kind.is_some() {
-            return kind;
+        match byte(self.text, self.at) {
+            0 => Some(LexemeKind::StreamEnd),
+            b'[' => Some(LexemeKind::FlowSequenceStart),
+            b'{' => Some(LexemeKind::FlowMappingStart),
+            b']' => Some(LexemeKind::FlowSequenceEnd),
+            b'}' => Some(LexemeKind::FlowMappingEnd),
+            b',' => Some(LexemeKind::FlowEntry),
+            b'*' => Some(LexemeKind::Alias),
+            b'&' => Some(LexemeKind::Anchor),
+            b'!' => Some(LexemeKind::Tag),
+            b'\'' => Some(LexemeKind::SingleQuoted),
+            b'"' => Some(LexemeKind::DoubleQuoted),
+            b'-' => Some(self.hyphen_kind()),
+            b'?' => Some(self.mark_kind(LexemeKind::KeyMark)),
+            b':' => Some(self.mark_kind(LexemeKind::ValueMark)),
+            b'|' => (!self.in_flow()).then_some(LexemeKind::Literal),
+            b'>' => (!self.in_flow()).then_some(LexemeKind::Folded),
+            b'%' => (self.column() == 0).then_some(LexemeKind::Directive),
+            b'.' => Some(self.dot_kind()),
+            b'\t' | b' ' | b'#' | b'@' | b'`' => None,
+            b'\n' | b'\r' | 0xC2 | 0xE2 => {
+                (break_width(self.text, self.at) == 0).then_some(LexemeKind::Plain)
+            }
+            _ => Some(LexemeKind::Plain),
         }
-        // Most other lexemes begin so.
-        if is_letter(byte) {
-            return Some(LexemeKind::Plain);
+    }
+
+    /// The kind of what begins with the `-` here.
+    #[tactic(auto, using(crate::proofs::FirstLemmas::hyphen_entry, crate::proofs::FirstLemmas::hyphen_mark, crate::proofs::FirstLemmas::hyphen_plain))]
+    fn hyphen_kind(&self) -> LexemeKind
+        requires place { IsPlace self.now.text.now self.now.at self.now.line self.now.wide }
+        requires few { self.now.at < 2 ^ 63 }
+        requires byte { byte self.now.text.now self.now.at ≡ ascii.hyphen }
+        ensures { Some result ≡ kind_at (nat_lt 0 (inner (stack_of self.now.keys)))
+            self.now.text.now self.now.at }
+    {
+        if is_blank_or_end(self.text, self.at + 1) {
+            LexemeKind::BlockEntry
+        } else if self.is_mark(b'-') {
+            LexemeKind::DocumentStart
+        } else {
+            LexemeKind::Plain
         }
-        if byte == 0 {
-            return Some(LexemeKind::StreamEnd);
+    }
+
+    /// The kind of what begins with the `.` here.
+    #[tactic(auto, using(crate::proofs::FirstLemmas::dot_mark, crate::proofs::FirstLemmas::dot_plain))]
+    fn dot_kind(&self) -> LexemeKind
+        requires place { IsPlace self.now.text.now self.now.at self.now.line self.now.wide }
+        requires byte { byte self.now.text.now self.now.at ≡ ascii.dot }
+        ensures { Some result ≡ kind_at (nat_lt 0 (inner (stack_of self.now.keys)))
+            self.now.text.now self.now.at }
+    {
+        if self.is_mark(b'.') {
+            LexemeKind::DocumentEnd
+        } else {
+            LexemeKind::Plain
         }
-        if byte == b'%' && self.column() == 0 {
-            return Some(LexemeKind::Directive);
+    }
+
+    /// The kind of what begins with the `?` or `:` here, which may be that mark.
+    fn mark_kind(&self, mark: LexemeKind) -> LexemeKind
+        requires some { 0 < length self.now.keys.levels.items }
+        requires few { self.now.at < 2 ^ 63 }
+        ensures { result ≡ (if nat_lt 0 (inner (stack_of self.now.keys))
+            || is_blank_or_end self.now.text.now (self.now.at + 1) then mark else kinds.Plain) }
+    {
+        if self.in_flow() || is_blank_or_end(self.text, self.at + 1) {
+            mark
+        } else {
+            LexemeKind::Plain
         }
-        if byte == b'-' && self.is_mark(b'-') {
-            return Some(LexemeKind::DocumentStart);
-        }
-        if byte == b'.' && self.is_mark(b'.') {
-            return Some(LexemeKind::DocumentEnd);
-        }
-        if self.starts_plain() {
-            return Some(LexemeKind::Plain);
-        }
-        None
     }
 
     /// Whether a document's mark, of three such bytes, is here.
@@ -329,30 +375,6 @@ impl<'a> Scanner<'a> {
             && is_thrice mark self.now.text.now self.now.at) }
     {
         self.column() == 0 && is_thrice(self.text, self.at, mark)
-    }
-
-    /// Whether a plain scalar starts here.
-    #[tactic(auto, unfolding(yaml_scan_history::specs::Plain::starts_plain))]
-    fn starts_plain(&self) -> bool
-        requires some { 0 < length self.now.keys.levels.items }
-        requires few { self.now.at < 2 ^ 63 }
-        ensures { result ≡ starts_plain (nat_lt 0 (inner (stack_of self.now.keys)))
-            self.now.text.now self.now.at }
-    {
-        let first = byte(self.text, self.at);
-        if is_blank_or_end(self.text, self.at) {
-            return false;
-        }
-        if !is_indicator(first) {
-            return true;
-        }
-        if first == b'-' {
-            return !is_blank(byte(self.text, self.at + 1));
-        }
-        if self.in_flow() {
-            return false;
-        }
-        (first == b'?' || first == b':') && !is_blank_or_end(self.text, self.at + 1)
     }
 
     /// Past what is between lexemes: blanks, comments, breaks, and U+FEFF at the text's start.
@@ -370,34 +392,20 @@ impl<'a> Scanner<'a> {
     /// Past what is here, unless it is a lexeme, and says whether it is none.
     // In line: the body of the gap's loop.
     #[inline(always)]
-    #[tactic(auto, using(crate::proofs::GapsLemmas::one_calm))]
     fn pass_white(&mut self) -> bool
         requires some { 0 < length self.old.keys.levels.items }
         requires long { length self.old.text.now < 2 ^ 63 }
         requires place { IsPlace self.old.text.now self.old.at self.old.line self.old.wide }
         ensures { PassesOne self.old self.new result }
     {
-        let first = byte(self.text, self.at);
-        // Most lexemes begin so.
-        if is_inside(first) {
-            return false;
+        match byte(self.text, self.at) {
+            b' ' => self.pass_spaces(),
+            b'\t' => self.pass_tab(),
+            b'#' => self.pass_comment(),
+            0xEF => self.pass_mark(),
+            b'\n' | b'\r' | 0xC2 | 0xE2 => self.pass_break(),
+            _ => false,
         }
-        if first == b' ' {
-            return self.pass_spaces();
-        }
-        if first == b'\t' {
-            return self.pass_tab();
-        }
-        if first == b'#' {
-            return self.pass_comment();
-        }
-        if first == 0xEF {
-            return self.pass_mark();
-        }
-        if may_break(first) {
-            return self.pass_break();
-        }
-        false
     }
 
     /// Past the spaces here.
@@ -503,66 +511,4 @@ impl<'a> Scanner<'a> {
             && byte(self.text, self.at + 1) == 0xBB
             && byte(self.text, self.at + 2) == 0xBF
     }
-}
-
-/// One of `0-9 A-Z a-z`.
-#[tactic(auto, unfolding(crate::specs::Scanning::is_letter))]
-fn is_letter(byte: u8) -> bool
-    ensures { result ≡ is_letter byte }
-{
-    (byte >= b'a' && byte <= b'z')
-        || (byte >= b'A' && byte <= b'Z')
-        || (byte >= b'0' && byte <= b'9')
-}
-
-/// The kind that the byte shows, in brackets or not, before what is there.
-#[tactic(auto, unfolding(yaml_scan_history::specs::Words::indicator_of))]
-fn indicator(byte: u8, flow: bool, text: &[u8], next: usize) -> Option<LexemeKind>
-    ensures { result ≡ indicator_of flow (is_blank_or_end text.now next) byte }
-{
-    match byte {
-        b'[' => Some(LexemeKind::FlowSequenceStart),
-        b'{' => Some(LexemeKind::FlowMappingStart),
-        b']' => Some(LexemeKind::FlowSequenceEnd),
-        b'}' => Some(LexemeKind::FlowMappingEnd),
-        b',' => Some(LexemeKind::FlowEntry),
-        b'-' if is_blank_or_end(text, next) => Some(LexemeKind::BlockEntry),
-        b'?' if flow || is_blank_or_end(text, next) => Some(LexemeKind::KeyMark),
-        b':' if flow || is_blank_or_end(text, next) => Some(LexemeKind::ValueMark),
-        b'*' => Some(LexemeKind::Alias),
-        b'&' => Some(LexemeKind::Anchor),
-        b'!' => Some(LexemeKind::Tag),
-        b'|' if !flow => Some(LexemeKind::Literal),
-        b'>' if !flow => Some(LexemeKind::Folded),
-        b'\'' => Some(LexemeKind::SingleQuoted),
-        b'"' => Some(LexemeKind::DoubleQuoted),
-        _ => None,
-    }
-}
-
-/// Whether the byte is one of YAML's indicators.
-#[tactic(auto, unfolding(yaml_scan_history::specs::Plain::is_indicator_byte, yaml_scan_history::specs::Plain::is_bracket))]
-fn is_indicator(byte: u8) -> bool
-    ensures { result ≡ is_indicator_byte byte }
-{
-    match byte {
-        b'!'..=b'#' | b'%'..=b'\'' | b'*' | b'-' | b':' | b'>'..=b'@' | b'`' | b'|' => true,
-        b',' | b'[' | b']' | b'{' | b'}' => true,
-        _ => false,
-    }
-}
-
-/// Whether a break may begin with the byte.
-fn may_break(byte: u8) -> bool
-    ensures yes { result ≡ true → MayBreak byte }
-    ensures none { result ≡ false → IsCalm byte }
-{
-    byte == b'\n' || byte == b'\r' || byte == 0xC2 || byte == 0xE2
-}
-
-/// Whether nothing between lexemes begins with the byte.
-fn is_inside(byte: u8) -> bool
-    ensures { result ≡ true → (ascii.hash < byte) × (byte < 0xC2) }
-{
-    byte > b'#' && byte < 0xC2
 }

@@ -4,7 +4,7 @@ ghost use Rattle.std.specs.Prelude.{◌≡◌, ◌+◌, ◌-◌, ◌≤◌, leng
 ghost use Rattle.yaml_scan_model.specs.Runs.{columns_over};
 
 pub(crate) use yaml_scan_text::{
-    break_width, byte, is_blank, is_blank_or_end, is_thrice, line_end, skip_spaces,
+    break_width, byte, is_blank_or_end, is_thrice, line_end, skip_spaces,
 };
 
 /// How many bytes between two places continue a character.

@@ -1,4 +1,4 @@
-use Rattle.std.proofs.Common.{◌+◌, true, refl, ◌∙◌, ap, subst, inl, Ok, Err, arith}
+use Rattle.std.proofs.Common.{◌+◌, true, refl, ◌∙◌, ap, subst, Ok, Err, arith}
 use Rattle.std.proofs.lemmas.Result.{err_from_is_err_and}
 use Rattle.yaml_scan_history.specs.declared.kind.Kind.TheVariants as reads
 use Rattle.yaml_scan_model.specs.scan_types.Tokens as tokens
@@ -98,6 +98,6 @@ returns c =
     let text = s.text.now in
     let lv = level_by reads.BlockEntry s mid new h n c.column.result b a same c.column.ensures c.in_ok-opens.ensures.levels c.in_ok-opens.ensures.opens c.in_ok-opens.ensures.few in
     let place = byte_place text s.at s.line s.wide 45 a.behind.place (stands_told reads.BlockEntry s h n a) (omega arith) (omega arith) in
-    inl (takes_closed was s _ c.close_levels-ends.ensures.same
+    takes_closed was s _ c.close_levels-ends.ensures.same
     (starting_takes reads.BlockEntry kinds.BlockEntry tokens.block_entry b s new c.push.new.self c.give_up.new.self true c.opening.result h n mid.fault c.in_ok-check_cancelled.field-0 a st refl (λ e. cc) refl refl refl refl good tests
-    (entry_word text h) (λ o. (record { plain = flag_note reads.BlockEntry kinds.BlockEntry n s.at (s.at + 1) b }, refl)) opened c.opening.ensures c.in_ok-push.ensures.ok c.in_ok-push.ensures.more lv place refl c.give_up.ensures))
+    (entry_word text h) (λ o. (record { plain = flag_note reads.BlockEntry kinds.BlockEntry n s.at (s.at + 1) b }, refl)) opened c.opening.ensures c.in_ok-push.ensures.ok c.in_ok-push.ensures.more lv place refl c.give_up.ensures)

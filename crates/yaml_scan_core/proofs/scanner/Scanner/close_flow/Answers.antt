@@ -1,4 +1,4 @@
-use Rattle.std.proofs.Common.{false, subst, inl}
+use Rattle.std.proofs.Common.{false, subst}
 use Rattle.std.proofs.lemmas.Result.{err_from_is_err_and}
 use Rattle.yaml_scan_core.specs.Scanning.{StandsAs, history_of, read_as}
 use Rattle.yaml_scan_core.proofs.GroupsLemmas.{closer, closer_body, closer_depth, closing_takes, plain_falls, put_falls}
@@ -31,6 +31,6 @@ returns c =
     let s = c.close_levels-ends.new.self in
     let a = subst (λ k. StandsAs k s (history_of s) c.close_levels-ends.result) c.requires.read c.close_levels-ends.ensures.stands in
     let mid = c.check_cancelled.new.self in
-    inl (takes_closed was s _ c.close_levels-ends.ensures.same
+    takes_closed was s _ c.close_levels-ends.ensures.same
     (closing_takes (read_as c.args.kind) c.args.kind (closer_body c.args.kind) s mid c.leave.new.self c.push.new.self c.new.result (history_of s) c.close_levels-ends.result mid.fault c.in_ok-check_cancelled.field-0 (closer c.args.kind c.requires.closer) (closer_depth c.args.kind c.requires.closer) a
-    c.in_ok-check_cancelled.ensures.kept (c.in_ok-check_cancelled.ensures.tests s.text.now) c.new.ensures c.in_ok-push.ensures.ok c.in_ok-push.ensures.more c.leave.ensures))
+    c.in_ok-check_cancelled.ensures.kept (c.in_ok-check_cancelled.ensures.tests s.text.now) c.new.ensures c.in_ok-push.ensures.ok c.in_ok-push.ensures.more c.leave.ensures)

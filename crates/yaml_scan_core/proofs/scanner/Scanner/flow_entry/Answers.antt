@@ -1,4 +1,4 @@
-use Rattle.std.proofs.Common.{true, refl, inl}
+use Rattle.std.proofs.Common.{true, refl}
 use Rattle.std.proofs.lemmas.Result.{err_from_is_err_and}
 use Rattle.yaml_scan_history.specs.declared.kind.Kind.TheVariants as reads
 use Rattle.yaml_scan_model.specs.declared.kind.Kind.TheVariants as kinds
@@ -31,6 +31,6 @@ returns c =
     let was = c.args.self.now in
     let s = c.close_levels-ends.new.self in
     let mid = c.check_cancelled.new.self in
-    inl (takes_closed was s _ c.close_levels-ends.ensures.same
+    takes_closed was s _ c.close_levels-ends.ensures.same
     (plain_takes reads.FlowEntry kinds.FlowEntry tokens.flow_entry 1 true s mid c.give_up.new.self c.push.new.self c.new.result (history_of s) c.close_levels-ends.result mid.fault c.in_ok-check_cancelled.field-0 comma (λ d. refl) c.close_levels-ends.ensures.stands
-    c.in_ok-check_cancelled.ensures.kept (c.in_ok-check_cancelled.ensures.tests s.text.now) c.new.ensures c.in_ok-push.ensures.ok c.in_ok-push.ensures.more c.give_up.ensures))
+    c.in_ok-check_cancelled.ensures.kept (c.in_ok-check_cancelled.ensures.tests s.text.now) c.new.ensures c.in_ok-push.ensures.ok c.in_ok-push.ensures.more c.give_up.ensures)

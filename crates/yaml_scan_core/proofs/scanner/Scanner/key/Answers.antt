@@ -1,4 +1,4 @@
-use Rattle.std.proofs.Common.{◌+◌, not, ltb, refl, length, ◌≡◌, ◌∙◌, ap, sym, subst, inl, Ok, Err, arith}
+use Rattle.std.proofs.Common.{◌+◌, not, ltb, refl, length, ◌≡◌, ◌∙◌, ap, sym, subst, Ok, Err, arith}
 use Rattle.std.proofs.lemmas.Result.{err_from_is_err_and}
 use Rattle.std.proofs.lemmas.List.{length-set}
 use Rattle.yaml_scan_core.proofs.Words.{KeyStack, inner, reached}
@@ -103,6 +103,6 @@ returns c =
     let place = byte_place text s.at s.line s.wide 63 a.behind.place (stands_told reads.KeyMark s h n a) (omega arith) (omega arith) in
     let long : length c.give_up.new.self.levels.items ≡ length s.keys.levels.items = ap (λ (q : KeyStack). length q.levels) c.give_up.ensures ∙ length-set new.keys.levels.items (inner (stack_of new.keys)) _ ∙ ap (λ (x : Scanner). length x.keys.levels.items) opened in
     let allows = ap not c.in_flow.ensures ∙ sym (or_false (not (ltb 0 (inner (stack_of c.give_up.new.self))))) ∙ flow_same (stack_of s.keys) (stack_of c.give_up.new.self) h text (reached h) a.behind.holds.keys long in
-    inl (takes_closed was s _ c.close_levels-ends.ensures.same
+    takes_closed was s _ c.close_levels-ends.ensures.same
     (starting_takes reads.KeyMark kinds.Key tokens.key b s new c.push.new.self c.give_up.new.self (not c.in_flow.result) c.opening.result h n mid.fault c.in_ok-check_cancelled.field-0 a st refl (λ e. cc) refl refl refl refl good tests
-    (key_word text h) (λ o. (record { plain = flag_note reads.KeyMark kinds.Key n s.at (s.at + 1) b }, refl, flag_key reads.KeyMark kinds.Key n s.at (s.at + 1) b)) opened c.opening.ensures c.in_ok-push.ensures.ok c.in_ok-push.ensures.more lv place allows c.give_up.ensures))
+    (key_word text h) (λ o. (record { plain = flag_note reads.KeyMark kinds.Key n s.at (s.at + 1) b }, refl, flag_key reads.KeyMark kinds.Key n s.at (s.at + 1) b)) opened c.opening.ensures c.in_ok-push.ensures.ok c.in_ok-push.ensures.more lv place allows c.give_up.ensures)

@@ -1,4 +1,4 @@
-use Rattle.std.proofs.Common.{◌+◌, ◌<◌, ◌^◌, refl, length, ◌≡◌, ◌∙◌, ap, sym, subst, inl, Ok, arith}
+use Rattle.std.proofs.Common.{◌+◌, ◌<◌, ◌^◌, refl, length, ◌≡◌, ◌∙◌, ap, sym, subst, Ok, arith}
 use Rattle.std.proofs.lemmas.Result.{err_from_is_err_and}
 use Rattle.yaml_scan_core.specs.declared.scanner.Scanner.{Scanner}
 use Rattle.yaml_scan_core.specs.Rows.{HasRoom, RowView, row_of}
@@ -153,6 +153,6 @@ returns c =
     ∙ ap (λ (y : Scanner). record y { key_allowed = w.broke; at = w.at; line = w.line; wide = w.wide }) c.save_key.ensures.same
     ∙ ap (λ (y : Scanner). record y { keys = keys; key_allowed = w.broke; at = w.at; line = w.line; wide = w.wide }) rest
     ∙ ap (λ (y : Scanner). record y { row = put.row; keys = keys; key_allowed = w.broke; at = w.at; line = w.line; wide = w.wide }) tested in
-    inl (takes_closed was s _ c.close_levels-ends.ensures.same
+    takes_closed was s _ c.close_levels-ends.ensures.same
     (subst (λ (y : Scanner). Takes s y h) (sym after)
-    (keyed_takes k s mid h n w x put.row keys c.check_fresh.new.self.fault c.in_ok-check_fresh.field-0 r p calm row room kept_keys tests)))
+    (keyed_takes k s mid h n w x put.row keys c.check_fresh.new.self.fault c.in_ok-check_fresh.field-0 r p calm row room kept_keys tests))

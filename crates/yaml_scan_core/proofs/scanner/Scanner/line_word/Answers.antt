@@ -1,4 +1,4 @@
-use Rattle.std.proofs.Common.{refl, ◌∙◌, ap, sym, subst, inl}
+use Rattle.std.proofs.Common.{refl, ◌∙◌, ap, sym, subst}
 use Rattle.std.proofs.lemmas.Result.{err_from_is_err_and}
 use Rattle.yaml_scan_core.specs.declared.scanner.Scanner.{Scanner}
 use Rattle.yaml_scan_core.specs.Rows.{HasRoom}
@@ -94,6 +94,6 @@ returns c =
     let allows = c.is_scalar-self.ensures ∙ line_allows k s h x c.requires.kind r.word in
     let after = c.reach.ensures ∙ ap (λ (y : Scanner). record y { keys = keys; key_allowed = allowed; at = w.at; line = w.line; wide = w.wide }) rest in
     let given = c.give_up.ensures ∙ ap (λ (y : Scanner). given_up (stack_of y.keys)) rest in
-    inl (takes_closed was s _ c.close_levels-ends.ensures.same
+    takes_closed was s _ c.close_levels-ends.ensures.same
     (subst (λ (y : Scanner). Takes s y h) (sym after)
-    (lined_takes k s mid h n w x put.row keys allowed r p.stops p.idle p.deep allows calm c.in_ok-put.ensures.ok room given)))
+    (lined_takes k s mid h n w x put.row keys allowed r p.stops p.idle p.deep allows calm c.in_ok-put.ensures.ok room given))

@@ -1,4 +1,4 @@
-use Rattle.std.proofs.Common.{◌+◌, ◌<◌, ◌^◌, true, refl, length, ap, sym, subst, inl}
+use Rattle.std.proofs.Common.{◌+◌, ◌<◌, ◌^◌, true, refl, length, ap, sym, subst}
 use Rattle.std.proofs.lemmas.Result.{err_from_is_err_and}
 use Rattle.yaml_scan_core.specs.declared.scanner.Scanner.{Scanner}
 use Rattle.yaml_scan_core.specs.Scanning.{StandsAs, Takes, history_of, read_as}
@@ -67,5 +67,5 @@ returns c =
     let done = opening_takes (read_as c.args.kind) c.args.kind (opener_body c.args.kind) s mid c.open.new.self c.save_key.new.self.keys c.push.new.self c.new.result h c.close_levels-ends.result mid.fault c.in_ok-check_replaced.field-0
     (opener c.args.kind c.requires.opener) (opener_depth c.args.kind c.requires.opener) a same (c.in_ok-check_replaced.ensures.tests s.text.now)
     c.new.ensures c.in_ok-push.ensures.ok c.in_ok-push.ensures.more saving c.open.ensures in
-    inl (takes_closed was s _ c.close_levels-ends.ensures.same
-    (subst (λ (x : Scanner). Takes s x h) (sym after) done))
+    takes_closed was s _ c.close_levels-ends.ensures.same
+    (subst (λ (x : Scanner). Takes s x h) (sym after) done)

@@ -57,7 +57,7 @@ returns-then-self-count-clause-rests c =
     let there = c.settle-then-self-count.new.self in
     let v = advances_of c.steps.self mid c.step.result (sym c.is_err.ensures.value ∙ c.if-is_err.false) c.step.ensures in
     let s = c.settle-then-self-count.ensures.settled (read_by mid) (may_settle mid v.shows c.if-self.false) in
-    let it = goes_on mid there v.shows c.if-self.false (omega (arith, v.further)) c.settle-then-self-count.ensures.keys s in
+    let it = goes_on mid there v.shows c.if-self.false (omega (arith, v.one)) c.settle-then-self-count.ensures.keys s in
     subst (λ (x : Scanner). Rests x) (sym c.settle-then-self-count.ensures.same) (inl it)
 
 pub steps-smaller : goal.steps-smaller
@@ -74,13 +74,13 @@ steps-preserved c =
     let batch : c.step.new.self.batch ≡ c.args.self.now.batch = ap (λ (f : Fixed). f.batch) hands.fixed in
     record {
       shows = v.shows;
-      some = omega (arith, v.further);
+      some = omega (arith, v.one);
       more = c.if-self.false;
       text = v.text ∙ i.text;
-      further = omega (arith, v.further, i.further);
+      further = omega (arith, v.one, i.further);
       start = i.start;
       hands = hands;
-      first = λ one. absurd (omega (arith, v.further, i.further, i.start, batch, one));
+      first = λ one. absurd (omega (arith, v.one, i.further, i.start, batch, one));
     }
 
 pub steps-init : goal.steps-init
@@ -148,7 +148,7 @@ returns-then-self-clause-one c = λ one.
     let mid = c.step.new.self in
     let v = advances_of c.steps.self mid c.step.result (sym c.is_err.ensures.value ∙ c.if-is_err.false) c.step.ensures in
     let over = is_over mid c.len-self.result v.shows c.if-self.true (c.len-self.ensures ∙ mid.row.lexemes.ok.0) in
-    inl (inr over, one_read c.args.self.now c.steps.self mid v (i.first one) one)
+    inl (inr over, one_read c.args.self.now c.steps.self mid v (i.first one))
 
 pub returns-then-self-count-clause-one : goal.returns-then-self-count-clause-one
 returns-then-self-count-clause-one c = λ one.
@@ -158,5 +158,5 @@ returns-then-self-count-clause-one c = λ one.
     let there = c.settle-then-self-count.new.self in
     let v = advances_of c.steps.self mid c.step.result (sym c.is_err.ensures.value ∙ c.if-is_err.false) c.step.ensures in
     let s = c.settle-then-self-count.ensures.settled (read_by mid) (may_settle mid v.shows c.if-self.false) in
-    let it = goes_on mid there v.shows c.if-self.false (omega (arith, v.further)) c.settle-then-self-count.ensures.keys s in
-    subst (λ (x : Scanner). ReadsOne old x) (sym c.settle-then-self-count.ensures.same) (inl (inl it, one_read old c.steps.self mid v (i.first one) one))
+    let it = goes_on mid there v.shows c.if-self.false (omega (arith, v.one)) c.settle-then-self-count.ensures.keys s in
+    subst (λ (x : Scanner). ReadsOne old x) (sym c.settle-then-self-count.ensures.same) (inl (inl it, one_read old c.steps.self mid v (i.first one)))

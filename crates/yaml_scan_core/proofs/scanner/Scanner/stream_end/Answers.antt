@@ -1,4 +1,4 @@
-use Rattle.std.proofs.Common.{inl, refl}
+use Rattle.std.proofs.Common.{refl}
 use Rattle.std.proofs.lemmas.Result.{err_from_is_err_and}
 use Rattle.yaml_scan_history.specs.declared.kind.Kind.TheVariants as reads
 use Rattle.yaml_scan_core.specs.Scanning.{history_of}
@@ -25,6 +25,6 @@ pub returns : goal.returns
 returns c =
     let was = c.args.self.now in
     let s = c.close_levels-ends.new.self in
-    inl (takes_closed was s _ c.close_levels-ends.ensures.same
+    takes_closed was s _ c.close_levels-ends.ensures.same
     (end_takes s c.push.new.self c.give_up.new.self c.new.result c.end_place-place.result (history_of s) c.close_levels-ends.result c.close_levels-ends.ensures.stands c.end_place-place.ensures (due_at_place s c.end_place-place.result c.due_at.result _ c.end_place-place.ensures c.in-None.is (c.due_at.ensures s.text.now))
-    c.new.ensures c.in_ok-push.ensures.ok c.in_ok-push.ensures.more c.give_up.ensures))
+    c.new.ensures c.in_ok-push.ensures.ok c.in_ok-push.ensures.more c.give_up.ensures)

@@ -1,4 +1,4 @@
-use Rattle.std.proofs.Common.{not, refl, ap, inl}
+use Rattle.std.proofs.Common.{not, refl, ap}
 use Rattle.std.proofs.lemmas.Result.{err_from_is_err_and}
 use Rattle.yaml_scan_history.specs.declared.kind.Kind.TheVariants as reads
 use Rattle.yaml_scan_core.specs.Scanning.{history_of}
@@ -55,4 +55,4 @@ returns c =
     let b = c.in_ok-opens.opens in
     let good = may_stand reads.ValueMark s h n _ mid.fault c.in_ok-check_allowed.field-0 a st c.in_ok-check_allowed.ensures.tests in
     let lv = level_by reads.ValueMark s mid new h n c.column.result b a same c.column.ensures c.in_ok-opens.ensures.levels c.in_ok-opens.ensures.opens c.in_ok-opens.ensures.few in
-    inl (alone_takes s new c.push.new.self (not c.in_flow.result) b c.opening.result h n a c.requires.none good opened c.opening.ensures c.in_ok-push.ensures.ok c.in_ok-push.ensures.more lv (ap not c.in_flow.ensures))
+    alone_takes s new c.push.new.self (not c.in_flow.result) b c.opening.result h n a c.requires.none good opened c.opening.ensures c.in_ok-push.ensures.ok c.in_ok-push.ensures.more lv (ap not c.in_flow.ensures)

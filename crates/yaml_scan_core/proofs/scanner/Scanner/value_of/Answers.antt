@@ -1,4 +1,4 @@
-use Rattle.std.proofs.Common.{◌+◌, refl, length, length-append, ◌∙◌, ap, inl, arith}
+use Rattle.std.proofs.Common.{◌+◌, refl, length, length-append, ◌∙◌, ap, arith}
 use Rattle.std.proofs.lemmas.Result.{err_from_is_err_and}
 use Rattle.yaml_scan_history.specs.declared.kind.Kind.TheVariants as reads
 use Rattle.yaml_scan_core.specs.declared.scanner.Scanner.{Scanner}
@@ -50,5 +50,5 @@ returns c =
     let a = c.requires.stands in
     let new = c.open_level.new.self in
     let ls = left_behind reads.ValueMark s h in
-    inl (key_takes s new c.push.new.self c.mark_key.new.self c.give_up.new.self c.new.result h n c.args.key c.in_ok-mapping.mapping a c.requires.found c.open_level.ensures.same c.new.ensures c.in_ok-push.ensures.ok
-    c.mark_key.ensures.same (c.mark_key.ensures.room c.in_ok-push.ensures.more) (c.in_ok-mapping.ensures.levels ls a.margins) (c.in_ok-mapping.ensures.opens ls a.margins) (c.in_ok-mapping.ensures.few a.behind.holds.few) c.give_up.ensures)
+    key_takes s new c.push.new.self c.mark_key.new.self c.give_up.new.self c.new.result h n c.args.key c.in_ok-mapping.mapping a c.requires.found c.open_level.ensures.same c.new.ensures c.in_ok-push.ensures.ok
+    c.mark_key.ensures.same (c.mark_key.ensures.room c.in_ok-push.ensures.more) (c.in_ok-mapping.ensures.levels ls a.margins) (c.in_ok-mapping.ensures.opens ls a.margins) (c.in_ok-mapping.ensures.few a.behind.holds.few) c.give_up.ensures

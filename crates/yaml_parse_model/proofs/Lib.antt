@@ -1,4 +1,3 @@
 mod Ends
-mod Refusals
 pub mod Sizing
 pub mod Sound

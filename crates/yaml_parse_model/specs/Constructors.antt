@@ -1,10 +1,9 @@
 -- What the constructors of events answer.
 use Rattle.std.specs.Prelude.{◌≡◌, ℕ, List, [], ◌∷◌, Option, Some, None, Result, Ok, Err, IsUtf8}
 use Rattle.yaml_parse_model.specs.declared.event.yaml_event_t.{yaml_event_t}
-use Rattle.yaml_parse_model.specs.declared.constructor.Texts.{Texts}
 use Rattle.yaml_parse_model.specs.declared.prefix.yaml_text_fault_t.{yaml_text_fault_t}
 use Rattle.yaml_parse_model.specs.declared.prefix.yaml_text_fault_t.TheVariants.{NotUtf8, Memory}
-use Rattle.yaml_parse_model.specs.Events.{EventBody, TagDirective, event_of, text_of, unplaced}
+use Rattle.yaml_parse_model.specs.Events.{EventBody, TagDirective, event_of, unplaced}
 use Rattle.yaml_parse_model.specs.Events as event
 
 -- a text that may be left out is UTF-8
@@ -32,10 +31,3 @@ abbrev pub Constructs : EventBody → Result yaml_event_t yaml_text_fault_t → 
 Constructs body (Ok e) = (event_of e ≡ unplaced body) × HasUtf8 body
 Constructs body (Err NotUtf8) = ¬ HasUtf8 body
 Constructs body (Err Memory) = HasUtf8 body
-
--- the texts of a collection's start, copied, or refused as a constructor is
-abbrev pub CopiesTexts : Option (List ℕ) → Option (List ℕ) → Result Texts yaml_text_fault_t → Type 0
-CopiesTexts anchor tag (Ok t) = ((text_of t.anchor ≡ anchor) × (text_of t.tag ≡ tag))
-    × (IsUtf8Option anchor × IsUtf8Option tag)
-CopiesTexts anchor tag (Err NotUtf8) = ¬ (IsUtf8Option anchor × IsUtf8Option tag)
-CopiesTexts anchor tag (Err Memory) = IsUtf8Option anchor × IsUtf8Option tag

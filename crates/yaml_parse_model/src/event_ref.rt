@@ -1,10 +1,12 @@
 //! Events whose texts are borrowed.
 
-ghost use Rattle.std.specs.Prelude.{◌≡◌, IfOk};
+ghost use Rattle.std.specs.Prelude.{◌≡◌, ◌↔◌, IfOk, IsTrue};
 ghost use Rattle.yaml_parse_model.specs.Events.{body_of, borrowed_body, start_or_no};
+ghost use Rattle.yaml_parse_model.specs.Constructors.{HasUtf8};
 
 use crate::event::yaml_event_body_t;
-use crate::text::{copy_directives, copy_text_option};
+use crate::text::{are_utf8, copy_directives, copy_text_option, is_utf8_option};
+use simdutf8::is_utf8;
 use std::alloc::{AllocError, Global};
 use yaml_scan_model::{
     yaml_encoding_t, yaml_mapping_style_t, yaml_scalar_style_t, yaml_sequence_style_t,
@@ -140,6 +142,26 @@ impl yaml_event_body_t {
 }
 
 impl<'e> EventRef<'e> {
+    /// Whether all its texts are UTF-8.
+    pub fn is_utf8(self) -> bool
+        ensures { IsTrue result ↔ HasUtf8 (borrowed_body self.entry) }
+    {
+        match self {
+            EventRef::DocumentStart { tag_directives, .. } => are_utf8(tag_directives),
+            EventRef::Alias { anchor } => is_utf8(anchor),
+            EventRef::Scalar {
+                anchor,
+                tag,
+                value,
+                ..
+            } => is_utf8_option(anchor) && is_utf8_option(tag) && is_utf8(value),
+            EventRef::SequenceStart { anchor, tag, .. }
+            | EventRef::MappingStart { anchor, tag, .. } => is_utf8_option(anchor)
+                && is_utf8_option(tag),
+            _ => true,
+        }
+    }
+
     /// A copy with texts of its own. The error is out of memory.
     pub fn copied(self, alloc: Global) -> Result<yaml_event_body_t, AllocError>
         ensures { IfOk result (λ b. body_of b ≡ borrowed_body self.entry) }

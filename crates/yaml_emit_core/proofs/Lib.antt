@@ -21,7 +21,6 @@ pub mod Lending
 pub mod Finishing
 pub mod Directing
 pub mod TableLemmas
-pub mod Known
 pub mod Narrowing
 pub mod Numbering
 pub mod Sorting

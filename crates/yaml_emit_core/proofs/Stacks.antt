@@ -1,15 +1,17 @@
 -- The open collections.
-use Rattle.std.proofs.Common.{◌≡◌, ◌≢◌, ◌<◌, ◌^◌, ℕ, List, [], ◌∷◌, ◌++◌, reverse, Bool, true, false, refl, sym, subst, ◌∙◌, ap}
+use Rattle.std.proofs.Common.{◌≡◌, ◌≢◌, ◌<◌, ◌^◌, ℕ, ◌+◌, List, [], ◌∷◌, ◌++◌, reverse, Bool, true, false, refl, sym, subst, ◌∙◌, ap, arith}
 use Rattle.std.specs.Prelude.{Option, Some, None, ◌||◌}
 use Rattle.std.proofs.lemmas.List.{reverse-append}
 use Rattle.yaml_emit_layout.specs.declared.level.Level.{Level as Open}
 use Rattle.yaml_emit_layout.specs.declared.level.Phase.{Phase}
 use Rattle.yaml_emit_layout.specs.declared.level.Phase.TheVariants as phase
-use Rattle.yaml_emit_layout.specs.State.{phase_behind, levels_behind, outer_of, top_of, place_at}
+use Rattle.yaml_emit_layout.specs.declared.Settings.{Settings}
+use Rattle.yaml_emit_layout.specs.Nodes.{deeper}
+use Rattle.yaml_emit_layout.specs.State.{phase_behind, levels_behind, outer_of, top_of, place_at, position_of}
 use Rattle.yaml_emit_core.specs.declared.level.State.{State}
 use Rattle.yaml_emit_core.specs.declared.level.State.TheVariants as state
 use Rattle.yaml_emit_core.specs.declared.level.Level.{Level}
-use Rattle.yaml_emit_core.specs.Levels.{phase_of, place_of, level_by, level_of, state_in, state_behind, stack, upon, AreNarrow, Stack, stepped, opened, is_open, is_entry, is_behind_simple}
+use Rattle.yaml_emit_core.specs.Levels.{phase_of, place_of, level_by, level_of, state_in, state_behind, stack, upon, AreNarrow, IsPlain, Stack, stepped, opened, is_open, is_entry, is_behind_simple}
 
 -- after a node the innermost collection is in the phase after it
 pub stack_behind : (s : State) (flow : Bool) (n : ℕ) (simple : Bool) (ls : List Open)
@@ -215,6 +217,26 @@ outer_is t items = outer_by (level_of t) items
 pub resumed_narrow : (o : Open) (ls : List Open) → AreNarrow (stack (Some o) ls)
     → (o.indent < 2 ^ 31) × AreNarrow (reverse ls)
 resumed_narrow o ls n = narrow_less (reverse ls) o n
+
+-- a node's surroundings are the innermost level's
+flow_by : (p : Option Phase) (flow simple : Bool) (n : ℕ)
+    → (p ≡ None → (flow ≡ false) × (n ≡ 0)) → flow ≡ (position_of (level_by p flow n) simple).flow
+flow_by None flow simple n h = (h refl).0
+flow_by (Some p) flow simple n h = refl
+
+pub flow_is : (l : Level) (simple : Bool) → IsPlain l
+    → l.flow ≡ (position_of (level_of l) simple).flow
+flow_is l simple h = flow_by (phase_of l.state) l.flow simple l.indent h
+
+deeper_by : (s : Settings) (p : Option Phase) (flow simple : Bool) (n : ℕ)
+    → (p ≡ None → (flow ≡ false) × (n ≡ 0))
+    → n + s.indent ≡ deeper s (position_of (level_by p flow n) simple).around
+deeper_by s None flow simple n h = let e : n ≡ 0 = (h refl).1 in omega arith
+deeper_by s (Some p) flow simple n h = refl
+
+pub deeper_is : (s : Settings) (l : Level) (simple : Bool) → IsPlain l
+    → l.indent + s.indent ≡ deeper s (position_of (level_of l) simple).around
+deeper_is s l simple h = deeper_by s (phase_of l.state) l.flow simple l.indent h
 
 -- inside a collection an entry comes, or the value of a simple key
 pub inside_is : (s : State) → (is_entry s || is_behind_simple s) ≡ is_open (phase_of s)

@@ -209,8 +209,13 @@ unfoldable pub AreNarrow : List Open → Type 0
 AreNarrow [] = ⊤
 AreNarrow (l ∷ ls) = (l.indent < 2 ^ 31) × AreNarrow ls
 
+-- outside of collections it is no flow collection's, and not indented
+abbrev pub IsPlain : Level → Type 0
+IsPlain l = phase_of l.state ≡ None → (l.flow ≡ false) × (l.indent ≡ 0)
+
 -- outside of collections nothing is round it
 pub record IsLevels (s : Inside) : Type 0 where
+  pub plain : IsPlain s.top
   pub outside : phase_of s.top.state ≡ None → s.outer.items ≡ []
   pub narrow : s.top.indent < 2 ^ 31
   pub narrow_outer : AreNarrow (reverse s.outer.items)

@@ -2,7 +2,7 @@
 
 ghost use Rattle.std.specs.Prelude.{◌≡◌, ◌≢◌, ◌<◌, ◌^◌, Bool, [], None, Some, true, false, OnOk, OnErr};
 ghost use Rattle.yaml_emit_layout.specs.State.{top_of, outer_of, place_at};
-ghost use Rattle.yaml_emit_core.specs.Levels.{phase_of, level_of, state_in, state_by, stack, AreNarrow, place_of, state_behind, is_open, is_between, is_first, is_item, is_key, is_further, is_entry, is_behind_simple};
+ghost use Rattle.yaml_emit_core.specs.Levels.{phase_of, level_of, state_in, state_by, stack, AreNarrow, IsPlain, place_of, state_behind, is_open, is_between, is_first, is_item, is_key, is_further, is_entry, is_behind_simple};
 
 use std::alloc::{AllocError, Global};
 use std::marker::Model;
@@ -196,6 +196,7 @@ impl Levels {
         ensures state { result.now.state ≡ self.now.state }
         ensures level { level_of result.now ≡ top_of self.now.levels }
         ensures narrow { result.now.indent < 2 ^ 31 }
+        ensures plain { IsPlain result.now }
     {
         &self.top
     }

@@ -4,11 +4,12 @@ ghost use Rattle.std.specs.Prelude.{◌≡◌, ◌<◌, ◌+◌, ◌∷◌, [], 
 ghost use Rattle.std.specs.Str.{IsAscii};
 ghost use Rattle.yaml_scan_types.specs.Ascii as ascii;
 ghost use Rattle.yaml_emit_layout.specs.Layout.{stay, letters, word, gap};
-ghost use Rattle.yaml_emit_layout.specs.Tags.{suffix_keeps, keeps_byte, uri_byte, uri_text, shorthand, verbatim, spelled, split_of, split_size};
+ghost use Rattle.yaml_emit_layout.specs.Tags.{uri_byte, uri_text, shorthand, verbatim, spelled, split_of, split_size};
 ghost use Rattle.yaml_emit_layout.specs.Nodes.{anchor_text, text_size, simple_key_bytes};
 ghost use Rattle.yaml_emit_output.specs.Draft.{Lays};
 ghost use Rattle.yaml_emit_core.specs.Names.{split_text, cut_size, name_in, tag_in, names_text, names_size, IsName};
 
+use crate::alphas::keeps_byte;
 use yaml_emit_layout::SplitTag;
 use yaml_emit_output::Draft;
 use yaml_emit_scalars::hex;
@@ -21,29 +22,6 @@ pub const SIMPLE_KEY_BYTES: usize = 128;
 pub struct Properties<'a> {
     pub anchor: Option<&'a [u8]>,
     pub tag: Option<SplitTag<'a>>,
-}
-
-// 0-9 A-Z a-z _ - ; / ? : @ & = + $ . ~ * ' ( )
-#[tactic(auto, unfolding(yaml_emit_layout::specs::Tags::suffix_keeps))]
-fn suffix_keeps(byte: u8) -> bool
-    ensures { result ≡ suffix_keeps byte }
-{
-    (b'0' <= byte && byte <= b'9')
-        || (b'A' <= byte && byte <= b'Z')
-        || (b'a' <= byte && byte <= b'z')
-        || byte == b'_'
-        || matches!(byte, b'-' | b';' | b'/' | b'?' | b':' | b'@' | b'&' | b'=')
-        || matches!(byte, b'+' | b'$' | b'.' | b'~' | b'*' | b'\'' | b'(' | b')')
-}
-
-fn keeps_byte(flow: bool, byte: u8) -> bool
-    ensures { result ≡ keeps_byte flow byte }
-{
-    if flow {
-        suffix_keeps(byte) || byte == b',' || byte == b'[' || byte == b']'
-    } else {
-        suffix_keeps(byte)
-    }
 }
 
 // A byte as it is, or `%` and its number.

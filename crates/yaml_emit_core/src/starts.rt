@@ -7,7 +7,7 @@ ghost use Rattle.yaml_emit_layout.specs.Nodes.{simple_key_bytes};
 ghost use Rattle.yaml_parse_model.specs.Events.{TagDirective, borrowed_body};
 ghost use Rattle.yaml_emit_layout.specs.State.{next, piece, position_of};
 ghost use Rattle.yaml_emit_output.specs.Draft.{Lays};
-ghost use Rattle.yaml_emit_core.specs.Levels.{level_of, is_key, awaits_node, opening, opener_of, first_of, state_at};
+ghost use Rattle.yaml_emit_core.specs.Levels.{level_of, IsPlain, is_key, awaits_node, opening, opener_of, first_of, state_at};
 ghost use Rattle.yaml_emit_core.specs.Names.{names_size, name_in, IsName};
 ghost use Rattle.yaml_emit_core.specs.Pages.{IsOf};
 ghost use Rattle.yaml_emit_core.specs.Opens.{Opens, asks_at, asks_empty};
@@ -96,6 +96,7 @@ pub fn lay_start(
 
 // Whether what is written for a collection of that style depends on whether it is empty.
 fn asks_at(settings: &Settings, level: &Level, flow: bool) -> bool
+    requires plain { IsPlain level.now }
     ensures { result ≡ asks_at settings.now.canonical level.now.state ((position_of
         (level_of level.now) false).flow || flow) }
 {
@@ -104,6 +105,7 @@ fn asks_at(settings: &Settings, level: &Level, flow: bool) -> bool
 
 /// Whether what is written for an event depends on whether it opens an empty collection.
 pub fn asks_empty(settings: &Settings, level: &Level, event: &EventRef) -> bool
+    requires plain { IsPlain level.now }
     ensures { result ≡ asks_empty settings.now.canonical level.now.state (position_of
         (level_of level.now) false).flow (emitter_event (borrowed_body event.now)) }
 {

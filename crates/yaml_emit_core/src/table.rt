@@ -159,19 +159,8 @@ impl DirectiveTable {
         self.secondary
     }
 
-    /// Whether there is none.
-    // Inlined: one read.
-    #[inline(always)]
-    pub(crate) fn is_empty(&self) -> bool
-        ensures { result ≡ true → self.now ≡ [] }
-    {
-        self.list.is_empty()
-    }
-
-    // The first whose prefix is a strictly shorter prefix of the tag, where there are some.
-    // Out of line: the rare way.
-    #[inline(never)]
-    fn found(&self, tag: &[u8]) -> Option<&yaml_tag_directive_t>
+    /// The first whose prefix is a strictly shorter prefix of the tag.
+    pub(crate) fn first_for(&self, tag: &[u8]) -> Option<&yaml_tag_directive_t>
         ensures value { option_map (λ d. directive_of d.now) result ≡ directive_for self.now
             tag.now }
         ensures inside { IfSome result (λ d. length d.now.prefix.items < length tag.now) }
@@ -179,22 +168,6 @@ impl DirectiveTable {
         match first_usable(&self.list, &self.sorted, tag) {
             None => None,
             Some(number) => Some(&self.list[number]),
-        }
-    }
-
-    /// The first whose prefix is a strictly shorter prefix of the tag.
-    // Inlined: mostly there is none.
-    #[inline(always)]
-    #[tactic(auto, using(crate::proofs::Known::none_first))]
-    pub(crate) fn first_for(&self, tag: &[u8]) -> Option<&yaml_tag_directive_t>
-        ensures value { option_map (λ d. directive_of d.now) result ≡ directive_for self.now
-            tag.now }
-        ensures inside { IfSome result (λ d. length d.now.prefix.items < length tag.now) }
-    {
-        if self.is_empty() {
-            None
-        } else {
-            self.found(tag)
         }
     }
 }

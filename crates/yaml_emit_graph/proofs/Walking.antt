@@ -1,7 +1,7 @@
 -- A walk goes on.
-use Rattle.std.proofs.Common.{◌≡◌, ℕ, ◌+◌, ◌-◌, ◌/◌, ◌%◌, ◌^◌, ◌<◌, ◌≤◌, List, [], ◌∷◌, length, get_or, drop, reverse, Bool, true, false, refl, sym, subst, ◌∙◌, ap, arith, Option, Some, None, rules}
-use Rattle.std.specs.Prelude.{zero, suc, ℤ, pos, replicate, set, Ok}
-use Rattle.std.proofs.lemmas.List.{length-set, length-replicate, drop_all}
+use Rattle.std.proofs.Common.{◌≡◌, ℕ, ◌+◌, ◌-◌, ◌/◌, ◌%◌, ◌^◌, ◌<◌, ◌≤◌, List, [], ◌∷◌, ◌++◌, length, get_or, drop, reverse, Bool, true, false, refl, sym, subst, ◌∙◌, ap, arith, Option, Some, None, rules}
+use Rattle.std.specs.Prelude.{zero, suc, ℤ, pos, replicate, set, Ok, MatchOption, vec_len}
+use Rattle.std.proofs.lemmas.List.{length-set, length-replicate, drop_all, reverse-append, nil_from_length}
 use Rattle.yaml_parse_model.specs.declared.yaml_node_pair_t.{yaml_node_pair_t}
 use Rattle.yaml_parse_model.specs.Nodes as model
 use Rattle.yaml_emit_graph.specs.declared.walk.Turn.{Turn}
@@ -10,7 +10,7 @@ use Rattle.yaml_emit_graph.specs.declared.walk.Open.{Open}
 use Rattle.yaml_emit_graph.specs.declared.walk.Walk.{Walk}
 use Rattle.yaml_emit_graph.specs.Graph.{Met, met_at, meet_at, is_met, meet, pair_ids, child_ids, is_collection, body_of_id}
 use Rattle.yaml_emit_graph.specs.Onward.{Rest, over, inside, visits, nothing_left, turns_onward}
-use Rattle.yaml_emit_graph.specs.Walk.{NextHeld, half_of, onward, rest_of, stack, stack_of, frames, remaining_by, remaining_turns, marked, IsWalk, with_opened, Visited, Comes}
+use Rattle.yaml_emit_graph.specs.Walk.{NextHeld, half_of, onward, stack_of, frames, remaining_by, remaining_turns, marked, IsWalk, with_opened, Visited, Comes}
 
 -- a node that was met is named again
 pub visit_again : (n : ℕ) (nodes : List model.Node) (id : ℤ) (r : Rest) (met : Met)
@@ -124,37 +124,61 @@ pub pair_none : (ps : List yaml_node_pair_t) (i : ℕ) → length ps ≤ i / 2
     → NextHeld (pair_ids ps) i None
 pair_none ps i h = drop_all i (pair_ids ps) (let e = length_ids ps in omega arith)
 
+-- one more node is open
+pub stack_more : (ls items : List Open) (o : Open) → items ≡ ls ++ o ∷ []
+    → reverse items ≡ o ∷ reverse ls
+stack_more ls items o e = ap reverse e ∙ reverse-append ls (o ∷ [])
+
 -- no node is open
-pub none_comes : (nodes : List model.Node) (w : Walk) → w.started ≡ true → w.top ≡ None
+no_turns : (nodes : List model.Node) (w : Walk) → w.started ≡ true → stack_of w ≡ []
     → remaining_turns nodes w ≡ []
 unfolding remaining_turns frames
-none_comes nodes w s t = rw (s, t) refl
+no_turns nodes w s t = rw (s, t) refl
 
 -- a walk with the same marks and no more open nodes
 same_walk : (nodes : List model.Node) (old new : Walk) → IsWalk nodes old → new.started ≡ true
     → new.met ≡ old.met → length (stack_of new) ≤ length (stack_of old) → IsWalk nodes new
 same_walk nodes old new w s m l = grind arith
 
+-- none was open
+pub none_comes : (nodes : List model.Node) (old new : Walk) → old.started ≡ true
+    → IsWalk nodes old → stack_of old ≡ [] → stack_of new ≡ [] → new.met ≡ old.met
+    → new.started ≡ true → (remaining_turns nodes old ≡ []) × IsWalk nodes new
+none_comes nodes old new s w k l m b =
+    let none : length (stack_of new) ≡ 0 = ap length l in
+    (no_turns nodes old s k, same_walk nodes old new w b m (omega (arith, none)))
+
+pub none_popped : (nodes : List model.Node) (old new : Walk) (r : Option Open)
+    → ((o : Open) → r ≡ Some o → ⊥)
+    → MatchOption r ((vec_len old.stack ≡ 0) × (vec_len new.stack ≡ 0)) (λ _. vec_len new.stack + 1 ≡ vec_len old.stack)
+    → old.started ≡ true → IsWalk nodes old → new.met ≡ old.met → new.started ≡ true
+    → (remaining_turns nodes old ≡ []) × IsWalk nodes new
+none_popped nodes old new None n h s w m b =
+    let e : old.stack.items ≡ [] = nil_from_length _ (sym old.stack.ok.0 ∙ h.0) in
+    let f : new.stack.items ≡ [] = nil_from_length _ (sym new.stack.ok.0 ∙ h.1) in
+    none_comes nodes old new s w (ap reverse e) (ap reverse f) m b
+none_popped nodes old new (Some o) n h s w m b = absurd (n o refl)
+
 -- an open node ends
 pub leave_comes : (nodes : List model.Node) (old new : Walk) (o : Open) → old.started ≡ true
-    → old.top ≡ Some o → IsWalk nodes old → drop o.index (child_ids (body_of_id nodes o.node)) ≡ []
-    → stack_of new ≡ rest_of (stack_of old) → new.met ≡ old.met → new.started ≡ old.started
+    → stack_of old ≡ o ∷ stack_of new → IsWalk nodes old
+    → drop o.index (child_ids (body_of_id nodes o.node)) ≡ [] → new.met ≡ old.met
+    → new.started ≡ true
     → (remaining_turns nodes old ≡ Leave o.node ∷ remaining_turns nodes new) × IsWalk nodes new
 unfolding remaining_turns frames over
-leave_comes nodes old new o s t w l k m b = grind arith
+leave_comes nodes old new o s k w l m b =
+    let less : length (stack_of old) ≡ suc (length (stack_of new)) = ap length k in
+    (rw (s, k, l, b, m) refl, same_walk nodes old new w b m (omega (arith, less)))
 
 -- the next child of the innermost open node is visited
 pub child_met : (nodes : List model.Node) (old mid new : Walk) (o : Open) (id : ℤ) (t : Turn)
-    → old.started ≡ true → old.top ≡ Some o → IsWalk nodes old
-    → mid.top ≡ Some (onward o) → mid.outer ≡ old.outer → mid.met ≡ old.met → mid.started ≡ true
+    → old.started ≡ true → (os : List Open) → stack_of old ≡ o ∷ os → IsWalk nodes old
+    → stack_of mid ≡ onward o ∷ os → mid.met ≡ old.met → mid.started ≡ true
     → NextHeld (child_ids (body_of_id nodes o.node)) o.index (Some id) → (i : ℤ) → i ≡ id
     → Visited nodes i mid (Ok t) new
     → (remaining_turns nodes old ≡ t ∷ remaining_turns nodes new) × IsWalk nodes new
-child_met nodes old mid new o id t s k w km out m sm next i same u =
+child_met nodes old mid new o id t s os e w f m sm next i same u =
     let v : Visited nodes id mid (Ok t) new = subst (λ z. Visited nodes z mid (Ok t) new) same u in
-    let os : List Open = reverse old.outer.items in
-    let e : stack_of old ≡ o ∷ os = ap (λ z. stack z old.outer.items) k in
-    let f : stack_of mid ≡ onward o ∷ os = rw (km, out) refl in
     let n : ℕ = length nodes - length (o ∷ os) in
     let g : length (stack_of old) ≡ suc (length os) = ap length e in
     let h : length (stack_of mid) ≡ suc (length os) = ap length f in
@@ -167,13 +191,12 @@ child_met nodes old mid new o id t s k w km out m sm next i same u =
 -- the root is visited
 pub root_met : (nodes : List model.Node) (old mid new : Walk) (t : Turn) → old.started ≡ false
     → IsWalk nodes old
-    → mid.top ≡ old.top → mid.outer ≡ old.outer → mid.met ≡ old.met → mid.started ≡ true
+    → stack_of mid ≡ stack_of old → mid.met ≡ old.met → mid.started ≡ true
     → Visited nodes (pos 1) mid (Ok t) new
     → (remaining_turns nodes old ≡ t ∷ remaining_turns nodes new) × IsWalk nodes new
 unfolding remaining_turns frames
-root_met nodes old mid new t s w km out m sm v =
+root_met nodes old mid new t s w f m sm v =
     let e : stack_of old ≡ [] = w.begun s in
-    let f : stack_of mid ≡ stack_of old = rw (km, out) refl in
     let h : length (stack_of mid) ≡ 0 = ap length (f ∙ e) in
     let a : remaining_turns nodes old ≡ visits (suc (length nodes)) nodes (pos 1) nothing_left old.met.items = ap (λ z. remaining_by z nodes (stack_of old) old.met.items) s in
     let b : visits (suc (length nodes)) nodes (pos 1) nothing_left old.met.items ≡ visits (suc (length nodes)) nodes (pos 1) (frames nodes (stack_of mid)) mid.met.items = rw (f ∙ e, m) refl in

@@ -15,13 +15,9 @@ abbrev pub NextHeld : List ℤ → ℕ → Option ℤ → Type 0
 NextHeld held i None = drop i held ≡ []
 NextHeld held i (Some id) = (drop i held ≡ id ∷ drop (i + 1) held) × (i + 1 < 2 ^ 64)
 
-abbrev pub stack : Option Open → List Open → List Open
-stack None outer = []
-stack (Some o) outer = o ∷ reverse outer
-
 -- the open nodes, the innermost first
 abbrev pub stack_of : Walk → List Open
-stack_of w = stack w.top w.outer.items
+stack_of w = reverse w.stack.items
 
 -- a node of which nothing has come
 abbrev pub opened : ℤ → Open
@@ -62,13 +58,9 @@ abbrev pub half_of : yaml_node_pair_t → ℕ → ℤ
 half_of p zero = p.key
 half_of p (suc n) = p.value
 
-abbrev pub rest_of : List Open → List Open
-rest_of [] = []
-rest_of (o ∷ os) = os
-
 -- a node was marked, and nothing else
 abbrev pub Marks : Walk → Walk → Type 0
-Marks old new = (new.started ≡ old.started) × (new.top ≡ old.top) × (new.outer ≡ old.outer)
+Marks old new = (new.started ≡ old.started) × (new.stack ≡ old.stack)
 
 abbrev pub with_opened : Bool → ℤ → List Open → List Open
 with_opened true id os = opened id ∷ os

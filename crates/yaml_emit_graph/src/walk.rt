@@ -1,9 +1,9 @@
 //! A walk over nodes, with a list of its own.
 
-ghost use Rattle.std.specs.Prelude.{◌≡◌, ◌∷◌, [], List, None, Some, IfOk, OnOk, length, replicate, true, false};
+ghost use Rattle.std.specs.Prelude.{◌≡◌, [], List, None, Some, IfOk, OnOk, length, replicate, true, false};
 ghost use Rattle.yaml_parse_model.specs.Nodes.{Node};
 ghost use Rattle.yaml_emit_graph.specs.Graph.{place_at, is_met, meet, child_ids, is_collection, body_of_id};
-ghost use Rattle.yaml_emit_graph.specs.Walk.{NextHeld, IsWalk, stack_of, rest_of, with_opened, Marks, Visited, Comes};
+ghost use Rattle.yaml_emit_graph.specs.Walk.{NextHeld, IsWalk, stack_of, with_opened, Marks, Visited, Comes};
 
 use std::alloc::{AllocError, Global};
 
@@ -43,13 +43,11 @@ pub enum Turn {
     Leave(i32),
 }
 
-/// The collections that are being walked: the innermost, and those round it, the outermost first. And the nodes that were met,
-/// by their places.
+/// The collections that are being walked, the outermost first, and the nodes that were met, by their places.
 #[derive(Drop)]
 pub struct Walk {
     started: bool,
-    top: Option<Open>,
-    outer: Vec<Open>,
+    stack: Vec<Open>,
     met: Vec<bool>,
 }
 
@@ -71,8 +69,7 @@ impl Walk {
     {
         Ok(Walk {
             started: false,
-            top: None,
-            outer: Vec::new(alloc),
+            stack: Vec::new(alloc),
             met: vec![in alloc; false; count]?,
         })
     }
@@ -96,40 +93,17 @@ impl Walk {
         }
     }
 
-    // One more open node; refused only when out of memory.
-    fn push(&mut self, next: Open) -> Result<(), AllocError>
-        ensures stack { OnOk result (stack_of self.new ≡ next ∷ stack_of self.old) }
-        ensures rest { (self.new.met ≡ self.old.met) × (self.new.started ≡ self.old.started) }
-    {
-        match self.top {
-            None => self.outer.clear(),
-            Some(old) => self.outer.push(old)?,
-        }
-        self.top = Some(next);
-        Ok(())
-    }
-
-    // The innermost open node is closed.
-    fn pop(&mut self)
-        ensures stack { stack_of self.new ≡ rest_of (stack_of self.old) }
-        ensures rest { (self.new.met ≡ self.old.met) × (self.new.started ≡ self.old.started) }
-    {
-        match self.top {
-            None => (),
-            Some(_) => self.top = self.outer.pop(),
-        }
-    }
-
+    #[tactic(auto, using(crate::proofs::Walking::stack_more))]
     fn descend<G: Walkable>(&mut self, graph: &G, id: i32) -> Result<(), AllocError>
         ensures stack { OnOk result (stack_of self.new ≡ with_opened
             (is_collection (body_of_id (G.nodes graph.now) id)) id (stack_of self.old)) }
         ensures rest { (self.new.met ≡ self.old.met) × (self.new.started ≡ self.old.started) }
     {
-        if graph.is_collection(id) {
-            self.push(Open { node: id, index: 0 })
-        } else {
-            Ok(())
+        if !graph.is_collection(id) {
+            return Ok(());
         }
+        self.stack.push(Open { node: id, index: 0 })?;
+        Ok(())
     }
 
     fn visit<G: Walkable>(&mut self, graph: &G, id: i32) -> Result<Turn, AllocError>
@@ -144,42 +118,34 @@ impl Walk {
         }
     }
 
-    // What comes next in the innermost open node, or its end.
-    #[tactic(auto, using(crate::proofs::Walking::leave_comes))]
-    fn step<G: Walkable>(&mut self, graph: &G, from: Open) -> Result<Option<Turn>, AllocError>
+    // What comes next in the innermost open node, or its end, or nothing where none is open.
+    fn step<G: Walkable>(&mut self, graph: &G) -> Result<Option<Turn>, AllocError>
         requires walk { IsWalk (G.nodes graph.now) self.old }
         requires going { self.old.started ≡ true }
-        requires top { self.old.top ≡ Some from }
         ensures { Comes (G.nodes graph.now) self.old result self.new }
     {
-        match graph.next_child(from) {
-            None => {
-                self.pop();
-                Ok(Some(Turn::Leave(from.node)))
-            }
-            Some(child) => {
-                self.top = Some(Open {
-                    node: from.node,
-                    index: from.index + 1,
-                });
-                Ok(Some(self.visit(graph, child)?))
-            }
-        }
+        let Some(from) = self.stack.pop() else {
+            return Ok(None);
+        };
+        let Some(child) = graph.next_child(from) else {
+            return Ok(Some(Turn::Leave(from.node)));
+        };
+        self.stack.push(Open {
+            node: from.node,
+            index: from.index + 1,
+        })?;
+        Ok(Some(self.visit(graph, child)?))
     }
 
     /// What comes next, and nothing at the end.
-    #[tactic(auto, using(crate::proofs::Walking::none_comes))]
     pub fn next<G: Walkable>(&mut self, graph: &G) -> Result<Option<Turn>, AllocError>
         requires { IsWalk (G.nodes graph.now) self.old }
         ensures { Comes (G.nodes graph.now) self.old result self.new }
     {
-        if !self.started {
-            self.started = true;
-            return Ok(Some(self.visit(graph, 1)?));
+        if self.started {
+            return self.step(graph);
         }
-        match self.top {
-            None => Ok(None),
-            Some(from) => self.step(graph, from),
-        }
+        self.started = true;
+        Ok(Some(self.visit(graph, 1)?))
     }
 }

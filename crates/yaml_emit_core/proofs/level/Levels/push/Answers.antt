@@ -5,12 +5,12 @@ use Rattle.yaml_emit_core.proofs.level.Levels.push.Goals as goal
 pub invariant_of-self-in-Some : goal.invariant_of-self-in-Some
 invariant_of-self-in-Some c =
     let s = c.self.invariant in
-    record { outside = λ e. absurd (c.requires.open e); narrow = c.requires.narrow; narrow_outer = push_narrow c.in-Some.open c.self.inside.top _ _ c.in_ok-push-in-Some.ensures.items (sym c.open_of.ensures ∙ c.in-Some.is) s.narrow s.narrow_outer }
+    record { plain = λ e. absurd (c.requires.open e); outside = λ e. absurd (c.requires.open e); narrow = c.requires.narrow; narrow_outer = push_narrow c.in-Some.open c.self.inside.top _ _ c.in_ok-push-in-Some.ensures.items (sym c.open_of.ensures ∙ c.in-Some.is) s.narrow s.narrow_outer }
 
 pub invariant_of-self-in-None : goal.invariant_of-self-in-None
 invariant_of-self-in-None c =
     let s = c.self.invariant in
-    record { outside = λ e. absurd (c.requires.open e); narrow = c.requires.narrow; narrow_outer = s.narrow_outer }
+    record { plain = λ e. absurd (c.requires.open e); outside = λ e. absurd (c.requires.open e); narrow = c.requires.narrow; narrow_outer = s.narrow_outer }
 
 pub returns-in_ok-push-in-Some-clause-opened : goal.returns-in_ok-push-in-Some-clause-opened
 returns-in_ok-push-in-Some-clause-opened c = rw (← c.self.view_is) (push_levels c.in-Some.open c.self.inside.top c.args.level _ _ c.in_ok-push-in-Some.ensures.items (sym c.open_of.ensures ∙ c.in-Some.is) c.requires.open)

@@ -12,6 +12,7 @@ invariant_of-t-7 c =
     let Q : Level → Type 0 = λ z. z.indent < 2 ^ 31 in
     let n = resumed_narrow c.in-Some.open c.args.outer.items (subst P c.in-Some.is c.requires.narrow) in
     record {
+      plain = λ e. absurd (close_open c.in-Some.open (ap (λ (z : Level). phase_of z.state) (sym c.level_in.ensures) ∙ e));
       outside = λ e. absurd (close_open c.in-Some.open (ap (λ (z : Level). phase_of z.state) (sym c.level_in.ensures) ∙ e));
       narrow = subst Q (sym c.level_in.ensures) n.0;
       narrow_outer = n.1;

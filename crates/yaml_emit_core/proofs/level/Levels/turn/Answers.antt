@@ -6,7 +6,7 @@ invariant_of-self c =
     let outside = rw (← c.self.view_is) at c.requires.outside in
     let top = c.self.inside.top in
     let s = c.self.invariant in
-    record { outside = λ _. s.outside (outside_none top.state top.flow top.indent _ outside); narrow = s.narrow; narrow_outer = s.narrow_outer }
+    record { plain = λ _. s.plain (outside_none top.state top.flow top.indent _ outside); outside = λ _. s.outside (outside_none top.state top.flow top.indent _ outside); narrow = s.narrow; narrow_outer = s.narrow_outer }
 
 pub returns : goal.returns
 returns c = outside_is c.args.state _ _ _ c.requires.outer

@@ -1,6 +1,6 @@
 -- What a derivation of visits meets again is met again by the walk of a dump.
 use Rattle.std.proofs.Common.{◌≡◌, ◌<◌, ◌≤◌, ◌+◌, ℕ, zero, suc, ℤ, pos, Bool, true, false, List, [], ◌∷◌, length, Some, refl, ap, subst, ◌∙◌, inl, inr, arith, slice_get}
-use Rattle.yaml_emit_laws.proofs.DumpsWords.{slice_get_within, yaml_node_pair_t, Node, NodeBody, VisitsInPreorder, IsInPreorder, done, again, first, children, pair_numbers, Turn, First, Again, Leave, Met, is_met, pair_ids, is_collection, Rest, over, visits, nothing_left, turns_onward, turns_joined, AgainsAre, MeetsAgain, met_so, AgainsAreTurns}
+use Rattle.yaml_emit_laws.proofs.DumpsWords.{nat_tests, slice_get_within, yaml_node_pair_t, Node, NodeBody, VisitsInPreorder, IsInPreorder, done, again, first, children, pair_numbers, Turn, First, Again, Leave, Met, is_met, pair_ids, is_collection, Rest, over, visits, nothing_left, turns_onward, turns_joined, AgainsAre, MeetsAgain, met_so, AgainsAreTurns}
 use Rattle.yaml_emit_graph.specs.emit_layout.parse_model.Nodes as model
 use Rattle.yaml_emit_graph.specs.Onward.{inside}
 use Rattle.yaml_emit_laws.proofs.Marks.{met_old, met_new, meets, none_yet}
@@ -27,8 +27,7 @@ inside_all nodes seen after ids le (first s b e more n at v w) =
 again_turn : (f : ℕ) (nodes : List Node) (id : ℤ) (rest : Rest) (met : Met) → is_met met id ≡ true
     → visits f nodes id rest met ≡ Again id ∷ rest met
 unfolding visits
-again_turn zero nodes id rest met h = refl
-again_turn (suc f) nodes id rest met h = rw h refl
+again_turn f nodes id rest met h = grind (arith, nat_tests)
 
 first_turn : (f : ℕ) (nodes : List Node) (seen : ℕ) (n : Node) (rest : Rest)
     → slice_get nodes seen ≡ Some n → seen < length nodes
@@ -61,8 +60,7 @@ AllMet count P ts = (k : ℕ) → k < count → MeetsAgain k ts → P k
 
 behind_left : (count : ℕ) (P : ℕ → Type 0) (b : Bool) (id : ℤ) (rest : Rest) (met : Met)
     → AllMet count P (left b id rest met) → AllMet count P (rest met)
-behind_left count P true id rest met h = λ k w m. h k w (inr m)
-behind_left count P false id rest met h = h
+behind_left count P b id rest met h = grind (arith, nat_tests)
 
 into : (count : ℕ) (P : ℕ → Type 0) (f : ℕ) (nodes : List Node) (seen : ℕ) (n : Node) (rest : Rest)
     → slice_get nodes seen ≡ Some n → seen < length nodes

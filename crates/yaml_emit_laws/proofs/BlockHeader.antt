@@ -1,6 +1,6 @@
 -- Breaks at the ends of lines, and characters between them.
 use Rattle.std.proofs.Common.{◌≡◌, ◌≢◌, ℕ, ◌+◌, ◌<◌, ◌≤◌, true, false, ◌||◌, ◌==◌, List, [], ◌∷◌, ◌++◌, length, refl, sym, ap, ◌∙◌, inl, inr, arith, encode_utf8, encode_utf8_all, Bool, not, nat_lt, Ok, subst, add-zero, ◌-◌, get_or}
-use Rattle.yaml_emit_laws.proofs.ScalarWords.{cases_lt, cases_eq, ne_eqb, or_parts, eqb-false, byte, break_of, break_width, is_blank, column_at, break_value, is_feed, starts_blank, Has, has_front, has_at, LineBreak, Lf, Cr, CrLf, is_break, Item, is_printable, encode_1, encode_2, encode_3, encode_4, high_blank, LineMark, own, separator, paragraph, mark_char, mark_text, mark_bytes, mark_means, NoWhite, nat_tests, past_break, is_text, is_digit_byte, past_stop, is_chomping, chomp_at, digit_of, digit_place, chomping_place, indicators, past_comment, header_end, header_at, break_text, cond_true, cond_false, Chomping, get_or_past, Cursor, Rest, page_at, Left, bytes, margin_round, BlockAndLineRead, BlockAtPosition, left_rest, front_encodes}
+use Rattle.yaml_emit_laws.proofs.ScalarWords.{cases_eq, ne_eqb, or_parts, eqb-false, byte, break_of, break_width, is_blank, column_at, break_value, is_feed, starts_blank, Has, has_front, has_at, LineBreak, Lf, Cr, CrLf, is_break, Item, is_printable, encode_1, encode_2, encode_3, encode_4, high_blank, LineMark, own, separator, paragraph, mark_char, mark_text, mark_bytes, mark_means, NoWhite, nat_tests, past_break, is_text, is_digit_byte, past_stop, is_chomping, chomp_at, digit_of, digit_place, chomping_place, indicators, past_comment, header_end, header_at, break_text, cond_true, cond_false, Chomping, get_or_past, Cursor, Rest, page_at, Left, bytes, margin_round, BlockAndLineRead, BlockAtPosition, left_rest, front_encodes}
 use lib.Utf8.{encode}
 use Rattle.yaml_scan_history.proofs.HeaderLemmas.{whole_header}
 use Rattle.yaml_emit_layout.specs.declared.page.Chomp.TheVariants as chomping
@@ -15,26 +15,18 @@ NoFeed Cr x = x ≢ 10
 NoFeed CrLf x = Unit {0}
 
 pub mark_breaks : (m : LineMark) → is_break (mark_char m) ≡ true
-mark_breaks own = refl
-mark_breaks separator = refl
-mark_breaks paragraph = refl
+mark_breaks m = grind (arith, nat_tests)
 
 pub mark_encodes : (m : LineMark) → encode_utf8 (mark_char m) ≡ mark_means m
 unfolding encode
-mark_encodes own = refl
-mark_encodes separator = refl
-mark_encodes paragraph = refl
+mark_encodes m = grind (arith, nat_tests)
 
 pub mark_some : (m : LineMark) → 0 < length (mark_means m)
-mark_some own = omega arith
-mark_some separator = omega arith
-mark_some paragraph = omega arith
+mark_some m = grind (arith, nat_tests)
 
 -- a mark that isn't LF isn't read as a feed
 pub mark_feed : (m : LineMark) → is_feed (mark_means m) ≡ (mark_char m == 10)
-mark_feed own = refl
-mark_feed separator = refl
-mark_feed paragraph = refl
+mark_feed m = grind (arith, nat_tests)
 
 -- which break of a value a character is
 pub record IsMark (x : ℕ) : Type 0 where
@@ -64,14 +56,11 @@ mark_of x s h =
 
 break_encodes : (b : LineBreak) → encode_utf8_all (mark_text b own) ≡ mark_bytes b own
 unfolding encode
-break_encodes Lf = refl
-break_encodes _ = refl
+break_encodes b = grind (arith, nat_tests)
 
 pub text_encodes : (b : LineBreak) (m : LineMark) → encode_utf8_all (mark_text b m) ≡ mark_bytes b m
 unfolding encode
-text_encodes b own = break_encodes b
-text_encodes b separator = refl
-text_encodes b paragraph = refl
+text_encodes b m = grind (arith, nat_tests, break_encodes)
 
 -- what is there is a break of that width, and is read so
 pub record Breaks (text : List ℕ) (p : ℕ) (m : LineMark) (n : ℕ) : Type 0 where
@@ -88,16 +77,12 @@ feed_breaks text p e = record { width = rw e refl; value = rw e refl; some = ome
 return_breaks : (text : List ℕ) (p : ℕ) → byte text p ≡ 13 → byte text (p + 1) ≢ 10
     → Breaks text p own 1
 unfolding break_of break_value
-return_breaks text p e n =
-    let w : break_width text p ≡ 1 = ap (λ b. break_of b (byte text (p + 1)) (byte text (p + 2))) e ∙ (rw (ne_eqb (byte text (p + 1)) 10 n) refl) in
-    record { width = w; value = (rw w refl); some = omega (arith, e); no_space = λ f. omega (arith, e, f); no_tab = λ f. omega (arith, e, f) }
+return_breaks text p e n = grind (arith, nat_tests, ne_eqb)
 
 both_breaks : (text : List ℕ) (p : ℕ) → byte text p ≡ 13 → byte text (p + 1) ≡ 10
     → Breaks text p own 2
 unfolding break_value break_of
-both_breaks text p e f =
-    let w : break_width text p ≡ 2 = ap (λ b. break_of b (byte text (p + 1)) (byte text (p + 2))) e ∙ ap (λ c. break_of 13 c (byte text (p + 2))) f in
-    record { width = w; value = (rw w refl); some = omega (arith, e); no_space = λ f. omega (arith, e, f); no_tab = λ f. omega (arith, e, f) }
+both_breaks text p e f = grind (arith, nat_tests)
 
 wide_breaks : (text : List ℕ) (p d : ℕ) (m : LineMark) → mark_means m ≡ 0xE2 ∷ 0x80 ∷ d ∷ []
     → (d == 0xA8 || d == 0xA9) ≡ true → byte text p ≡ 0xE2 → byte text (p + 1) ≡ 0x80
@@ -205,33 +190,25 @@ keep_is b e = record { chomp = rw e refl; no_digit = rw e refl; is = ap (λ x. c
 header_none : (text : List ℕ) (p w : ℕ) → Begins text p → break_width text p ≡ w
     → header_at text p ≡ Ok record { chomp = chomp_at 0; digit = 0; place = p + w }
 unfolding indicators
-header_none text p w g i =
-    header_by text p 0 p w 0 0 p p (rw (g.no_chomp, g.no_digit) refl) (add-zero p) g
-    (cond_false (is_chomping (byte text p)) (p + 1) p g.no_chomp) (cond_false (is_digit_byte (byte text p)) (p + 1) p g.no_digit) g.no_zero g.none g.clip i
+header_none text p w g i = grind (arith, nat_tests, header_by, add-zero, cond_false)
 
 header_chomp : (text : List ℕ) (p w k : ℕ) → IsChomp (byte text p) k → Begins text (p + 1)
     → break_width text (p + 1) ≡ w
     → header_at text p ≡ Ok record { chomp = chomp_at k; digit = 0; place = p + 1 + w }
 unfolding indicators
-header_chomp text p w k c g i =
-    header_by text p 1 (p + 1) w 0 k (p + 1) p (rw (c.chomp, g.no_digit) refl) refl g
-    (cond_true (is_chomping (byte text p)) (p + 1) p c.chomp) (cond_false (is_digit_byte (byte text p)) (p + 1) p c.no_digit) g.no_zero g.none c.is i
+header_chomp text p w k c g i = grind (arith, nat_tests, header_by, cond_true, cond_false)
 
 header_digit : (text : List ℕ) (p w d : ℕ) → IsDigit (byte text p) d → Begins text (p + 1)
     → break_width text (p + 1) ≡ w
     → header_at text p ≡ Ok record { chomp = chomp_at 0; digit = d; place = p + 1 + w }
 unfolding indicators
-header_digit text p w d c g i =
-    header_by text p 1 (p + 1) w d 0 p (p + 1) (rw (c.no_chomp, c.digit, g.no_chomp) refl) refl g
-    (cond_false (is_chomping (byte text p)) (p + 1) p c.no_chomp) (cond_true (is_digit_byte (byte text p)) (p + 1) p c.digit) c.no_zero c.is g.clip i
+header_digit text p w d c g i = grind (arith, nat_tests, header_by, cond_false, cond_true)
 
 header_both : (text : List ℕ) (p w d k : ℕ) → IsDigit (byte text p) d
     → IsChomp (byte text (p + 1)) k → Begins text (p + 1 + 1) → break_width text (p + 1 + 1) ≡ w
     → header_at text p ≡ Ok record { chomp = chomp_at k; digit = d; place = p + 1 + 1 + w }
 unfolding indicators
-header_both text p w d k c x g i =
-    header_by text p 2 (p + 1 + 1) w d k p (p + 1) (rw (c.no_chomp, c.digit, x.chomp) refl) (omega arith) g
-    (cond_false (is_chomping (byte text p)) (p + 1) p c.no_chomp) (cond_true (is_digit_byte (byte text p)) (p + 1) p c.digit) c.no_zero c.is x.is i
+header_both text p w d k c x g i = grind (arith, nat_tests, header_by, cond_false, cond_true)
 
 -- ---- as it is written
 
@@ -313,12 +290,7 @@ header_reads b true d chomping.Keep text p e some small s (j, (i, h)) f =
 -- each byte that is left, and 0 after the end
 left_byte : (text : List ℕ) (p : ℕ) (bs : List ℕ) (k : ℕ) → Left text p bs
     → byte text (p + k) ≡ get_or bs k 0
-left_byte text p bs k l =
-    let ends = l.ends in
-    elim (cases_lt k (length bs)) [
-      | inl inside ↦ has_at text p bs l.has k inside
-      | inr past ↦ get_or_past text (p + k) 0 (omega (arith, past, ends)) ∙ sym (get_or_past bs k 0 past)
-    ]
+left_byte text p bs k l = grind (arith, nat_tests, has_at, get_or_past)
 
 left_white : (text : List ℕ) (p : ℕ) (bs : List ℕ) → Left text p bs → begins_white bs ≡ false
     → NoWhite text p

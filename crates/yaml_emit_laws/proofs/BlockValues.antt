@@ -1,6 +1,6 @@
 -- The body of a block scalar is lines, and they are read as the value: by its characters.
 use Rattle.std.proofs.Common.{◌≡◌, ℕ, Bool, true, false, not, ◌&&◌, ◌==◌, List, [], ◌∷◌, ◌++◌, replicate, refl, sym, ap, subst, ◌∙◌, arith, append-nil, append_assoc, encode_utf8, encode_utf8_all}
-use Rattle.yaml_emit_laws.proofs.ScalarWords.{encode_ascii, false≢true, true≢false, and_from, and_parts, ne_eqb, chomp_at, BlockLine, Words, texts_of, starts_blank, between, at_end, behind_text, stacked_with, stack_empty, Cursor, letter, is_break, Rest, is_past, is_printable, first, last_or, adds_break, cuts_block, line_blank, block_body, chomp, in_front, break_text, front_append, moved_by, LineMark, own, mark_char, mark_text, mark_means, BodyLine, bare, full, body_text, read_lines, are_inside, AreInside, closing, bool_cases, after_blanks, at_line}
+use Rattle.yaml_emit_laws.proofs.ScalarWords.{nat_tests, encode_ascii, false≢true, true≢false, and_from, and_parts, ne_eqb, chomp_at, BlockLine, Words, texts_of, starts_blank, between, at_end, behind_text, stacked_with, stack_empty, Cursor, letter, is_break, Rest, is_past, is_printable, first, last_or, adds_break, cuts_block, line_blank, block_body, chomp, in_front, break_text, front_append, moved_by, LineMark, own, mark_char, mark_text, mark_means, BodyLine, bare, full, body_text, read_lines, are_inside, AreInside, closing, bool_cases, after_blanks, at_line}
 use Rattle.yaml_emit_layout.specs.declared.page.Page.{Page}
 use Rattle.yaml_emit_layout.specs.Style.{is_blank}
 use Rattle.yaml_emit_laws.proofs.BlockHeader.{mark_breaks, mark_encodes, mark_some, mark_feed, mark_of, text_blank}
@@ -117,8 +117,7 @@ break_rest : (page : Page) (folded blank : Bool) (before x : ℕ) (xs : List ℕ
     (rest : Rest) → is_break x ≡ true → was ≡ kept
     → block_body page folded (line_blank blank before x) x xs (at_line was) rest
     ≡ block_body page folded blank x xs (at_line kept) rest
-break_rest page folded blank before x xs was kept rest e f =
-    ap (λ t. block_body page folded t x xs (at_line was) rest) (blank_break blank before x e) ∙ ap (λ u. block_body page folded blank x xs (at_line u) rest) f
+break_rest page folded blank before x xs was kept rest e f = grind (arith, nat_tests, at_line, blank_break)
 
 goes_added : (page : Page) (folded blank : Bool) (k before : ℕ) (m : LineMark) (xs : List ℕ)
     (kept : Bool) (c : Cursor) → c.kept ≡ kept
@@ -265,8 +264,7 @@ cuts_need : (folded blank : Bool) (before x : ℕ) (xs : List ℕ)
 cuts_need folded blank before x xs e = grind arith
 
 no_cuts : (a b c d e p : Bool) → b ≡ false → ((a && (b && (c && (d && e)))) && p) ≡ false
-no_cuts false b c d e p h = refl
-no_cuts true b c d e p h = rw h refl
+no_cuts a b c d e p h = grind (arith, nat_tests)
 
 pub unblank : (x : ℕ) → is_printable x ≡ true → (x == 32) ≡ false → is_blank x ≡ false
 unblank x s e = rw (e, (not_printed x 9 s refl)) refl
@@ -279,10 +277,7 @@ cut_means : (folded blank : Bool) (k : ℕ) (words next : List ℕ) (ls : List B
     ≡ 32 ∷ (words ++ behind_text folded (chomp_at k) blank next (texts_of ls).lead
     (texts_of ls).lines)
 unfolding between
-cut_means false blank k words next ls e f g = absurd (false≢true e)
-cut_means true true k words next ls e f g = absurd (true≢false f)
-cut_means true false k words next ls e f g =
-    ap (λ (b : Bool). between true (not false && not b) (10 ∷ []) [] ++ (words ++ behind_text true (chomp_at k) b next (texts_of ls).lead (texts_of ls).lines)) g
+cut_means folded blank k words next ls e f g = grind (arith, nat_tests, false≢true, true≢false)
 
 abbrev behind_cut : Page → Bool → Cursor
 behind_cut page kept = after_blanks page.indentation (at_line kept)

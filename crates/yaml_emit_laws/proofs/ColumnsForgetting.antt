@@ -1,13 +1,12 @@
 -- A line comes first, and forgets the one before it.
-use Rattle.std.proofs.Common.{◌≡◌, ℕ, true, false, true≢false, List, [], ◌∷◌, refl, sym}
-use Rattle.yaml_emit_laws.proofs.Shared.{LineBreak, Lf, Layout, ◌▹◌, line, no_nodes, node, no_pairs, pair, Context, context_of, items_layout, pairs_layout, before_item, before_key, closer, end_layout, BlocksForgetColumns}
+use Rattle.std.proofs.Common.{◌≡◌, ℕ, true, false, true≢false, List, [], ◌∷◌, sym, arith}
+use Rattle.yaml_emit_laws.proofs.Shared.{nat_tests, LineBreak, Layout, ◌▹◌, line, no_nodes, node, no_pairs, pair, Context, context_of, items_layout, pairs_layout, before_item, before_key, closer, end_layout, BlocksForgetColumns}
 use Rattle.yaml_emit_layout.specs.ToCome.{Frame, items_left, pairs_left, value_left, frame_layout, frames_layout, layout, ending_layout}
 use Rattle.yaml_emit_laws.specs.Forgetting.{is_block, are_block, Forgets}
 
 line_forgets : (b : LineBreak) (n : ℕ) → Forgets (line b n)
 unfolding line
-line_forgets Lf n c d rest x y k = rw x (rw y (rw k refl))
-line_forgets _ n c d rest x y k = rw x (rw y (rw k refl))
+line_forgets b n c d rest x y k = grind (arith, nat_tests)
 
 frames_forget : (p : Context) (more : Layout) → Forgets more → (fs : List Frame)
     → are_block fs ≡ true → Forgets (frames_layout p fs ▹ more)

@@ -1,6 +1,6 @@
 -- Nothing is wrong with the events of what a document says.
-use Rattle.std.proofs.Common.{subst, ◌≡◌, ◌<◌, ℕ, zero, suc, ℤ, pos, Bool, true, false, List, [], ◌∷◌, length, map, Option, Some, None, refl, inl, inr, arith, slice_get}
-use Rattle.yaml_emit_laws.proofs.DumpsWords.{cases_Bool, YAML_ANY_SCALAR_STYLE, yaml_sequence_style_t, yaml_mapping_style_t, yaml_node_pair_t, seq_tag, map_tag, alias_node, scalar_node, sequence_node, mapping_node, Nodes, no_nodes, node, Pairs, no_pairs, pair, Event, document_start, document_end, sequence_end, mapping_end, is_flow_sequence, is_flow_mapping, node_events, items_events, pairs_events, documents_events, kept_if, anchor_problem, tag_problem, event_problem, last_problem, own_problems, Met, is_met, meet, body_of_id, tag_at, tag_of_id, number_at, numbers, name_of, anchor_of, graph_scalar, graph_start, graph_root, graph_content, none_met, dumped, items_by, pairs_by, node_by, content_by, itself, root_onward, root_joined, AreTagged, RightDocument, AreRight, DumpsAreRight, DumpedStreamsAreRight}
+use Rattle.std.proofs.Common.{subst, ◌≡◌, ◌<◌, ℕ, zero, suc, ℤ, pos, Bool, List, [], ◌∷◌, length, map, Option, Some, None, refl, inl, inr, arith, slice_get}
+use Rattle.yaml_emit_laws.proofs.DumpsWords.{nat_tests, cases_Bool, YAML_ANY_SCALAR_STYLE, yaml_sequence_style_t, yaml_mapping_style_t, yaml_node_pair_t, seq_tag, map_tag, alias_node, scalar_node, sequence_node, mapping_node, Nodes, no_nodes, node, Pairs, no_pairs, pair, Event, document_start, document_end, sequence_end, mapping_end, is_flow_sequence, is_flow_mapping, node_events, items_events, pairs_events, documents_events, kept_if, anchor_problem, tag_problem, event_problem, last_problem, own_problems, Met, is_met, meet, body_of_id, tag_at, tag_of_id, number_at, numbers, name_of, anchor_of, graph_scalar, graph_start, graph_root, graph_content, none_met, dumped, items_by, pairs_by, node_by, content_by, itself, root_onward, root_joined, AreTagged, RightDocument, AreRight, DumpsAreRight, DumpedStreamsAreRight}
 use Rattle.yaml_emit_graph.specs.scan_model.declared.name.yaml_scalar_style_t.{yaml_scalar_style_t}
 use Rattle.yaml_emit_graph.specs.emit_layout.parse_model.Nodes as model
 use Rattle.yaml_parse_laws_trees.specs.parse_model.Documents as documents
@@ -30,8 +30,7 @@ record Named (anchor : Option (List ℕ)) (tag : List ℕ) : Type 0 where
 
 tag_right : (kept : Bool) (tag : List ℕ) → 0 < length tag
     → tag_problem (kept_if kept (Some tag)) ≡ None
-tag_right true tag h = rw (not_zero (length tag) h) refl
-tag_right false tag h = refl
+tag_right kept tag h = grind (arith, nat_tests, not_zero)
 
 scalar_right : (canonical : Bool) (anchor : Option (List ℕ)) (tag value : List ℕ)
     (style : yaml_scalar_style_t) → Named anchor tag

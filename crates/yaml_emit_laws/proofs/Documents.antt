@@ -1,6 +1,6 @@
 -- The words of documents.
 use Rattle.std.proofs.Common.{◌≡◌, ℕ, ◌+◌, ◌<◌, ◌&&◌, not, nat_lt, Bool, true, false, List, [], ◌∷◌, ◌++◌, length, map, reverse, Some, Ok, refl, sym, ap, subst, ◌∙◌, arith, get_or, append_assoc, append-nil, if◌then◌else◌}
-use Rattle.yaml_emit_laws.proofs.Shared.{get_or_past, reverse-append, yaml_encoding_t, Token, TokenBody, byte, break_of, column_at, is_blank_or_end, Gap, is_document_start, is_document_end, begins_lexeme, GapReads, AnchorReads, Kind, depth_after, is_end, reached, flow_depth, key_allowed, WordText, kind_at, lexeme_at, SpelledText, Word, lexemes, WordsStand, word_kinds, token_of, first_token, Cursor, Settings, LineBreak, Lf, Cr, CrLf, letter, encode, char_bytes, Layout, Rest, ◌▹◌, keep, when, letters, word, line, blanks, new_line, must_break, indent_to, nothing_more, Opening, Document, Node, is_directed, dots, dashes, root_position, context_of, version_text, directives_text, start_layout, end_layout, stop_layout, documents_layout, node_layout, QuotedIsReadBack, put_if, node_kinds, version_kinds, directives_kinds, opening_kinds, documents_kinds, node_bodies, version_bodies, directives_bodies, end_bodies, opening_bodies, documents_bodies, Has, Left, WordStage, told, bytes, IsWritable, IsWritableOpening, AreWritable, text_of_documents, IsReadAs}
+use Rattle.yaml_emit_laws.proofs.Shared.{nat_tests, get_or_past, reverse-append, yaml_encoding_t, Token, TokenBody, byte, break_of, column_at, is_blank_or_end, Gap, is_document_start, is_document_end, begins_lexeme, GapReads, AnchorReads, Kind, depth_after, is_end, reached, flow_depth, key_allowed, WordText, kind_at, lexeme_at, SpelledText, Word, lexemes, WordsStand, word_kinds, token_of, first_token, Cursor, Settings, LineBreak, Lf, Cr, CrLf, letter, encode, char_bytes, Layout, Rest, ◌▹◌, keep, when, letters, word, line, blanks, new_line, must_break, indent_to, nothing_more, Opening, Document, Node, is_directed, dots, dashes, root_position, context_of, version_text, directives_text, start_layout, end_layout, stop_layout, documents_layout, node_layout, QuotedIsReadBack, put_if, node_kinds, version_kinds, directives_kinds, opening_kinds, documents_kinds, node_bodies, version_bodies, directives_bodies, end_bodies, opening_bodies, documents_bodies, Has, Left, WordStage, told, bytes, IsWritable, IsWritableOpening, AreWritable, text_of_documents, IsReadAs}
 use Rattle.yaml_emit_layout.specs.scan_types.Tokens as tokens
 use Rattle.yaml_scan_history.specs.declared.kind.Kind.TheVariants as kinds
 use Rattle.yaml_emit_laws.specs.CanonicalLaws.{CanonicalWordsAreRead}
@@ -244,9 +244,7 @@ kept_stop : (s : Settings) (unended kept : Bool) → kept ≡ false → (text : 
     → Left text p (bytes (stop_layout s unended (at_line kept) nothing_more))
     → Left text p (bytes [])
 unfolding stop_layout
-kept_stop s unended true e text p l = absurd (cc)
-kept_stop s true false e text p l = l
-kept_stop s false false e text p l = l
+kept_stop s unended kept e text p l = grind (arith, nat_tests)
 
 -- ---- documents
 

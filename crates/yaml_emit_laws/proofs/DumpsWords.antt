@@ -4,7 +4,7 @@ pub use Rattle.std.proofs.lemmas.Bool.Decides.{nat_tests}
 pub use Rattle.std.proofs.lemmas.List.{get_or-append_right, get_or-replicate, get_or_append_left, length-replicate, map-append}
 pub use Rattle.std.proofs.lemmas.Option.{slice_get_within}
 pub use Rattle.yaml_emit_graph.proofs.Joining.{root_joined, turns_joined}
-pub use Rattle.yaml_emit_graph.specs.Graph.{Met, Numbering, again_at, anchor_of, body_at, body_of_id, graph_content, graph_root, graph_scalar, graph_start, is_collection, is_met, lead, meet, next_number, none_met, none_numbered, number_at, numbered_by, place_at, tag_at, tag_of_id, turns}
+pub use Rattle.yaml_emit_graph.specs.Graph.{Met, Numbering, again_at, anchor_of, body_of_id, graph_content, graph_root, graph_scalar, graph_start, is_collection, is_met, lead, meet, next_number, none_met, none_numbered, number_at, numbered_by, place_at, tag_at, tag_of_id, turns}
 unfoldable pub use Rattle.yaml_emit_graph.specs.Graph.{dumped, name_of, numbered, numbers, pair_ids}
 pub use Rattle.yaml_emit_graph.specs.Onward.{Rest, itself, node_by, nothing_left}
 unfoldable pub use Rattle.yaml_emit_graph.specs.Onward.{content_by, items_by, over, pairs_by, root_onward, turns_onward, visits}

@@ -39,14 +39,10 @@ number_2 v n rest h =
     ∙ ap (λ k. number_behind k rest) (omega arith)
 
 two_is : (c : ℕ) → c < 256 → number_behind 0 (hex_2 c) ≡ Some c
-two_is c h =
-    let e : 0 * 256 + c ≡ c = omega arith in
-    number_2 0 c [] h ∙ number_end (0 * 256 + c) ∙ ap (λ k. Some k) e
+two_is c h = grind (arith, nat_tests, number_2, number_end)
 
 four_is : (c : ℕ) → c < 65536 → number_behind 0 (hex_4 c) ≡ Some c
-four_is c h =
-    let e : (0 * 256 + c / 256) * 256 + c % 256 ≡ c = omega arith in
-    number_2 0 (c / 256) (hex_2 (c % 256)) (omega arith) ∙ number_2 (0 * 256 + c / 256) (c % 256) [] (omega arith) ∙ number_end _ ∙ ap (λ k. Some k) e
+four_is c h = grind (arith, nat_tests, number_2, number_end)
 
 eight_is : (c : ℕ) → c < 1114112 → number_behind 0 (hex_8 c) ≡ Some c
 eight_is c h = grind (arith, nat_tests, number_2, number_end)
@@ -61,8 +57,7 @@ no_letter : (c : ℕ) → c ≢ 0 → c ≢ 7 → c ≢ 8 → c ≢ 9 → c ≢ 
     → c ≢ 34 → c ≢ 92 → c ≢ 0x85 → c ≢ 0xA0 → c ≢ 0x2028 → c ≢ 0x2029
     → escape_letter c ≡ 0
 unfolding escape_letter
-no_letter c a b d e f g h i j k l m n o p =
-    rw (ne_eqb _ _ a, ne_eqb _ _ b, ne_eqb _ _ d, ne_eqb _ _ e, ne_eqb _ _ f, ne_eqb _ _ g, ne_eqb _ _ h, ne_eqb _ _ i, ne_eqb _ _ j, ne_eqb _ _ k, ne_eqb _ _ l, ne_eqb _ _ m, ne_eqb _ _ n, ne_eqb _ _ o, ne_eqb _ _ p) refl
+no_letter c a b d e f g h i j k l m n o p = grind (arith, nat_tests, ne_eqb)
 
 abbrev Names : ℕ → Type 0
 Names c = simple_escape (escape_letter c) ≡ Some (encode_utf8 c)
@@ -205,9 +200,7 @@ pub fold_bytes : (b : LineBreak) (n : ℕ)
     → encode_utf8_all (emitted.break_text b ++ replicate n 32)
     ≡ turn_bytes (record { end = end_of b; spaces = n } ∷ [])
 unfolding turn_bytes
-fold_bytes Lf n = low_encodes (10 ∷ replicate n 32) (omega arith, spaces_low n) ∙ ap (λ (t : List ℕ). 10 ∷ t) (sym (append-nil (replicate n 32)))
-fold_bytes Cr n = low_encodes (13 ∷ replicate n 32) (omega arith, spaces_low n) ∙ ap (λ (t : List ℕ). 13 ∷ t) (sym (append-nil (replicate n 32)))
-fold_bytes CrLf n = low_encodes (13 ∷ 10 ∷ replicate n 32) (omega arith, (omega arith, spaces_low n)) ∙ ap (λ (t : List ℕ). 13 ∷ 10 ∷ t) (sym (append-nil (replicate n 32)))
+fold_bytes b n = grind (arith, nat_tests, low_encodes, spaces_low, append-nil)
 
 -- A space is its own encoding.
 pub space_encodes : encode_utf8 32 ≡ 32 ∷ []
@@ -217,8 +210,7 @@ space_encodes = encode_ascii 32 (omega arith)
 pub fold_means : (b : LineBreak) (n : ℕ)
     → meant (fold (record { end = end_of b; spaces = n }) []) ≡ 32 ∷ []
 unfolding turn_means
-fold_means Lf n = refl
-fold_means _ n = refl
+fold_means b n = grind (arith, nat_tests)
 
 part_of : (x : emitted.SpelledPart) → emitted.may_stand x ≡ true → PartOf x
 unfolding simple_escape may_turn

@@ -1,6 +1,6 @@
 -- What follows nodes in brackets, and what they begin with.
 use Rattle.std.proofs.Common.{◌≡◌, ℕ, ◌+◌, ◌==◌, ◌||◌, nat_lt, Bool, true, false, List, [], ◌∷◌, ◌++◌, refl, sym, ap, subst, ◌∙◌, inl, inr, arith, replicate, None, Some, if◌then◌else◌, Option, ◌-◌, ◌&&◌, not, length, zero, suc, append_assoc}
-use Rattle.yaml_emit_laws.proofs.NodeWords.{cases_Bool, or_left, or_right, false≢true, nat_tests, is_bracket, Cursor, LineBreak, Settings, Page, Style, Layout, Rest, ◌▹◌, when, gap, blank, char, letters, word, line, wrap, is_past, new_line, after_text, after_block, break_text, scalar_text, flow_body, block_body, digit_mark, chomp_mark, chomp, quoted_body, tag_spelling, TagDirective, Nodes, no_nodes, node, Pairs, no_pairs, pair, Context, checked, MOST, properties_text, items_layout, pairs_layout, before_item, before_key, closer, bytes, first, Left, letter_low, deep_bytes, left_letter, stops_plain_at, begins_white, behind_lines, what_stops, blanks_white, no_comment, ends_name, FollowsIn, IsClear, PartedBehind, lettered_on, after_blanks, line_start, pretty, yaml_encoding_t, TokenBody, column_at, indent, are_gap, has_break, Lf, has_at, has_front, left_rest, IsRight, sign, WalkState, WalkReads, Outside, behind, signs_come, words_leave, walk_white, walk_word, walk_asks, walk_answers, deeper_leaves, blanks_kept}
+use Rattle.yaml_emit_laws.proofs.NodeWords.{cases_Bool, or_left, or_right, false≢true, nat_tests, is_bracket, Cursor, LineBreak, Settings, Page, Style, Layout, Rest, ◌▹◌, when, gap, blank, char, letters, word, line, wrap, is_past, new_line, after_text, after_block, break_text, scalar_text, flow_body, block_body, digit_mark, chomp_mark, chomp, quoted_body, TagDirective, Nodes, no_nodes, node, Pairs, no_pairs, pair, Context, checked, MOST, properties_text, items_layout, pairs_layout, before_item, before_key, closer, bytes, first, Left, letter_low, deep_bytes, left_letter, stops_plain_at, begins_white, behind_lines, what_stops, blanks_white, no_comment, ends_name, FollowsIn, IsClear, PartedBehind, lettered_on, after_blanks, line_start, pretty, yaml_encoding_t, TokenBody, column_at, indent, are_gap, has_break, has_at, has_front, left_rest, IsRight, sign, WalkState, WalkReads, Outside, behind, signs_come, words_leave, walk_white, walk_word, walk_asks, walk_answers, deeper_leaves, blanks_kept}
 use Rattle.yaml_emit_layout.specs.declared.Style.TheVariants as style
 use Rattle.yaml_emit_laws.proofs.Following.{line_bytes, line_calm}
 use Rattle.yaml_emit_laws.proofs.DocStarts.{break_white}
@@ -69,9 +69,7 @@ spaced_bytes : (d : Cursor) (after : Rest) → d.white ≡ false
     ∷ bytes (after (lettered_on (record
     { column = d.column + 1; white = true; bare = d.bare; kept = d.kept })))
 unfolding letters
-spaced_bytes d after white =
-    let e : Cursor = record { column = d.column + 1; white = true; bare = d.bare; kept = d.kept } in
-    ap (λ (b : Bool). bytes (if b then char 58 d after else blank d (λ k. char 58 k after))) white ∙ letter_low 32 (char 58 e after) refl ∙ ap (λ (bs : List ℕ). 32 ∷ bs) (letter_low 58 (after (lettered_on e)) refl)
+spaced_bytes d after white = grind (arith, nat_tests, letter_low)
 
 pub record AnswerBytes (bs : List ℕ) : Type 0 where
   pub stops : (level : ℕ) → stops_plain_at true level None bs ≡ true
@@ -79,8 +77,7 @@ pub record AnswerBytes (bs : List ℕ) : Type 0 where
   pub name : ends_name bs ≡ true
 
 pub white_ends : (bs : List ℕ) → begins_white bs ≡ true → ends_name bs ≡ true
-white_ends [] e = refl
-white_ends (b ∷ bs) e = or_left (begins_white (b ∷ bs)) (b == 44 || (b == 93 || b == 125)) e
+white_ends bs e = grind (arith, nat_tests)
 
 answer_line : (b : LineBreak) (n : ℕ) (e : Cursor) (after : Rest) → PartedBehind after
     → e.bare ≡ false → AnswerBytes (bytes (line b n e (λ d. word (58 ∷ []) d after)))
@@ -133,13 +130,10 @@ abbrev pub Spaced : Rest → Type 0
 Spaced rest = (e : Cursor) → e.white ≡ false → first (bytes (rest e)) ≡ 32
 
 pub space_parts : (bs : List ℕ) → first bs ≡ 32 → begins_white bs ≡ true
-space_parts [] e = refl
-space_parts (b ∷ bs) e = grind (arith, nat_tests)
+space_parts bs e = grind (arith, nat_tests)
 
 pub gap_spaced : (a : Layout) (rest : Rest) → Spaced (λ e. (gap ▹ a) e rest)
-gap_spaced a rest e white =
-    let k : Rest = λ c. a c rest in
-    ap (λ (t : Bool). first (bytes (if t then k e else blank e k))) white ∙ ap (λ (bs : List ℕ). first bs) (letter_low 32 _ refl)
+gap_spaced a rest e white = grind (arith, nat_tests, letter_low)
 
 pub checked_spaced : (n : ℕ) (a : Layout) (rest : Rest) → Spaced (λ e. a e rest)
     → Spaced (λ e. (checked n ▹ a) e rest)
@@ -147,18 +141,15 @@ checked_spaced n a rest h e white = ap (λ (bs : List ℕ). first bs) (deep_byte
 
 pub tag_spaced : (p : Context) (tag : Option (List ℕ)) (a : Layout) (rest : Rest)
     → Spaced (λ e. a e rest) → Spaced (λ e. (properties_text p None tag ▹ a) e rest)
-tag_spaced p None a rest h = h
-tag_spaced p (Some t) a rest h = gap_spaced (letters (tag_spelling p.directives t) ▹ a) rest
+tag_spaced p tag a rest h = grind (arith, nat_tests, gap_spaced)
 
 pub properties_spaced : (p : Context) (anchor tag : Option (List ℕ)) (a : Layout) (rest : Rest)
     → Spaced (λ e. a e rest) → Spaced (λ e. (properties_text p anchor tag ▹ a) e rest)
-properties_spaced p None tag a rest h = tag_spaced p tag a rest h
-properties_spaced p (Some name) tag a rest h = gap_spaced (letters (38 ∷ name) ▹ (properties_text p None tag ▹ a)) rest
+properties_spaced p anchor tag a rest h = grind (arith, nat_tests, tag_spaced, gap_spaced)
 
 pub mark_spaced : (b : Bool) (a : Layout) (rest : Rest) → Spaced (λ e. a e rest)
     → Spaced (λ e. (when b (word (33 ∷ [])) ▹ a) e rest)
-mark_spaced true a rest h = gap_spaced (letters (33 ∷ []) ▹ a) rest
-mark_spaced false a rest h = h
+mark_spaced b a rest h = grind (arith, nat_tests, gap_spaced)
 
 abbrev from_sign : Page → ℕ → Bool → List ℕ → Layout
 from_sign page digit folded value = (char (if folded then 62 else 124) ▹ (digit_mark digit value ▹ chomp_mark (chomp true true value))) ▹ (new_line page.line_break ▹ (block_body page folded true 10 value ▹ after_block))
@@ -192,8 +183,7 @@ spaces_gap zero = refl
 spaces_gap (suc n) = spaces_gap n
 
 break_gap : (b : LineBreak) (n : ℕ) → are_gap (break_text b ++ replicate n 32) ≡ true
-break_gap Lf n = spaces_gap n
-break_gap _ n = spaces_gap n
+break_gap b n = grind (arith, nat_tests, spaces_gap)
 
 line_in : (b : LineBreak) (n : ℕ) (x : yaml_encoding_t) (text : List ℕ) (c : Cursor) (rest : Rest)
     (o : WalkState) (cs ls : List ℕ) (T : List TokenBody → List TokenBody) → c.bare ≡ false
@@ -242,12 +232,10 @@ pub gap_left : (text : List ℕ) (p : ℕ) (b : Bool) (c : Cursor) (rest : Rest)
     → Left text p (bytes (if b then rest c else blank c rest))
     → Left text p (if not b then 32 ∷ bytes (rest (behind_gap b c)) else bytes
     (rest (behind_gap b c)))
-gap_left text p true c rest l = l
-gap_left text p false c rest l = left_letter text p 32 (rest (behind_gap false c)) refl l
+gap_left text p b c rest l = grind (arith, nat_tests, left_letter)
 
 pub gap_kept : (b : Bool) (c : Cursor) → (behind_gap b c).kept ≡ c.kept
-gap_kept true c = refl
-gap_kept false c = refl
+gap_kept b c = grind (arith, nat_tests)
 
 -- ---- commas and brackets
 

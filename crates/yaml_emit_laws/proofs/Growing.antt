@@ -1,6 +1,6 @@
 -- Canonical words are key-free.
-use Rattle.std.proofs.Common.{◌≡◌, ℕ, Bool, true, false, not, ◌&&◌, List, [], ◌∷◌, map, reverse, Option, Some, None, refl, ap, ◌∙◌, arith}
-use Rattle.yaml_emit_laws.proofs.Shared.{list_all, Kind, is_end, SpelledText, offline, yaml_version_directive_t, TagDirective, Word, WordsStand, word_kinds, token_of, first_token, ReachEnd, Scalar, Node, alias_node, scalar_node, sequence_node, mapping_node, Nodes, no_nodes, node, Pairs, no_pairs, pair, Opening, Document, has, scalar_tag, start_tag, is_directed, put_if, properties_kinds, node_kinds, items_kinds, pairs_kinds, version_kinds, directives_kinds, opening_kinds, documents_kinds, stream_kinds}
+use Rattle.std.proofs.Common.{◌≡◌, ℕ, Bool, true, false, not, ◌&&◌, List, [], ◌∷◌, map, reverse, Option, None, refl, ap, ◌∙◌, arith}
+use Rattle.yaml_emit_laws.proofs.Shared.{nat_tests, list_all, Kind, is_end, SpelledText, offline, yaml_version_directive_t, TagDirective, Word, WordsStand, word_kinds, token_of, first_token, ReachEnd, Scalar, Node, alias_node, scalar_node, sequence_node, mapping_node, Nodes, no_nodes, node, Pairs, no_pairs, pair, Opening, Document, has, scalar_tag, start_tag, is_directed, put_if, properties_kinds, node_kinds, items_kinds, pairs_kinds, version_kinds, directives_kinds, opening_kinds, documents_kinds, stream_kinds}
 use Rattle.yaml_scan_history.specs.declared.kind.Kind.TheVariants as kinds
 use Rattle.yaml_scan_laws.specs.KeyFree.{asked_after, asked, fits, is_key_free}
 use Rattle.yaml_scan_laws.proofs.TextLemmas.{words_read}
@@ -103,13 +103,11 @@ mutual
 -- Documents.
 
 end_if : (b : Bool) (ks : List Kind) → Grows [] [] ks (put_if b kinds.DocumentEnd ks)
-end_if true ks = one kinds.DocumentEnd [] ks refl refl
-end_if false ks = nothing [] ks
+end_if b ks = grind (arith, nat_tests, one, nothing)
 
 version_grows : (v : Option yaml_version_directive_t) (ks : List Kind)
     → Grows [] [] ks (version_kinds v ks)
-version_grows None ks = nothing [] ks
-version_grows (Some v) ks = one kinds.Directive [] ks refl refl
+version_grows v ks = grind (arith, nat_tests, nothing, one)
 
 directives_grow : (ds : List TagDirective) (ks : List Kind)
     → Grows [] [] ks (directives_kinds ds ks)
@@ -170,5 +168,4 @@ pub canonical_read : (s : SpelledText) (ds : List Document) (ws : List Word) →
           ∷ map (token_of s.text) (reverse ws);
       fault = None;
     }
-canonical_read s ds ws stand e =
-    words_read s ws stand (ap (λ (ks : List Kind). is_key_free ks) e ∙ canonical_free ds) (reaches ws ds e)
+canonical_read s ds ws stand e = grind (arith, nat_tests, words_read, canonical_free, reaches)

@@ -1,6 +1,6 @@
 -- Simple keys of every kind: scalars in the three styles that a key can have, aliases, and empty collections, with their properties.
-use Rattle.std.proofs.Common.{◌≡◌, ◌⊎◌, ℕ, ◌+◌, ◌-◌, ◌<◌, ◌≤◌, ◌==◌, ◌&&◌, ◌||◌, not, nat_lt, Bool, true, false, List, [], ◌∷◌, ◌++◌, length, Some, None, refl, sym, ap, subst, ◌∙◌, inl, inr, arith, encode_utf8_all, IsUtf8, if◌then◌else◌, chars}
-use Rattle.yaml_emit_laws.proofs.NodeWords.{cases_Bool, false≢true, encode_ascii, and-false, TokenBody, starts, kind_at, Cursor, Settings, Style, Layout, Rest, ◌▹◌, when, char, word, blank, opener, line, letter, scalar_text, allowed, taken, plain_fits, single_or, Part, Opening, Scalar, Start, Node, alias_node, scalar_node, sequence_node, mapping_node, Nodes, no_nodes, node, Pairs, no_pairs, pair, has, scalar_tag, start_tag, Context, context_of, position, style_of, is_plain, is_flow, is_simple, is_simple_start, anchor_text, tag_text, properties_text, page_at, deeper, checked, MOST, indented, indent_of, scalar_layout, alias_layout, closer, node_layout, items_layout, pairs_layout, anchor_bodies, tag_bodies, mark_bodies, Left, bytes, first, IsWritable, IsWritableAnchor, IsWritableTag, quoted_is_back, letter_low, deep_bytes, anchor_is_read, begins_white, may_be_plain, SingleLinesAreReadBack, PlainHasGap, ScalarsAreWords, StylesAreAllowed, plain_back, what_stops, IsGap, signs_come, printed_begins, style_at, is_empty, is_nothing, style_named, takes_mark, value_bodies, scalar_bodies, node_bodies, items_bodies, pairs_bodies, IsPretty, Spoken, Fits, all_bytes, kept_writable, low_starts}
+use Rattle.std.proofs.Common.{◌≡◌, ◌⊎◌, ℕ, ◌+◌, ◌<◌, ◌≤◌, ◌==◌, ◌&&◌, ◌||◌, not, nat_lt, Bool, true, false, List, [], ◌∷◌, ◌++◌, length, Some, None, refl, sym, ap, subst, ◌∙◌, inl, inr, arith, encode_utf8_all, IsUtf8, if◌then◌else◌, chars}
+use Rattle.yaml_emit_laws.proofs.NodeWords.{nat_tests, cases_Bool, false≢true, encode_ascii, and-false, TokenBody, starts, kind_at, Cursor, Settings, Style, Layout, Rest, ◌▹◌, when, char, word, blank, opener, letter, scalar_text, allowed, taken, plain_fits, single_or, Part, Opening, Scalar, Start, Node, alias_node, scalar_node, sequence_node, mapping_node, Nodes, no_nodes, node, Pairs, no_pairs, pair, has, scalar_tag, start_tag, Context, context_of, position, style_of, is_plain, is_flow, is_simple, is_simple_start, anchor_text, tag_text, properties_text, page_at, deeper, checked, MOST, indented, indent_of, scalar_layout, alias_layout, closer, node_layout, items_layout, pairs_layout, anchor_bodies, tag_bodies, mark_bodies, Left, bytes, first, IsWritable, IsWritableAnchor, IsWritableTag, quoted_is_back, letter_low, deep_bytes, anchor_is_read, begins_white, may_be_plain, SingleLinesAreReadBack, PlainHasGap, ScalarsAreWords, StylesAreAllowed, plain_back, what_stops, IsGap, signs_come, printed_begins, style_at, is_empty, is_nothing, style_named, takes_mark, value_bodies, scalar_bodies, node_bodies, items_bodies, pairs_bodies, IsPretty, Spoken, Fits, all_bytes, kept_writable, low_starts}
 use Rattle.yaml_emit_layout.specs.scan_types.Tokens as tokens
 use Rattle.yaml_emit_layout.specs.scan_model.declared.name.yaml_scalar_style_t.{yaml_scalar_style_t}
 use Rattle.yaml_scan_history.specs.declared.kind.Kind.TheVariants as kinds
@@ -12,7 +12,7 @@ use Rattle.yaml_emit_laws.proofs.Lining.{no_gap}
 use Rattle.yaml_emit_laws.proofs.SpokenWords.{alias_word, double_word, single_word, plain_word}
 use Rattle.yaml_emit_laws.proofs.SpokenLayouts.{alias_says, double_says, single_says, plain_says}
 use Rattle.yaml_emit_laws.proofs.KeySteps.{letters_start}
-use Rattle.yaml_emit_laws.proofs.KeyForms.{KeyForm, KeyEnd, spaced, squares, curlies, end_bytes, end_bodies, StartsEnd, LeadsKey, plains_none, calm_starts, fits_moved, form_words, form_as, LastWord}
+use Rattle.yaml_emit_laws.proofs.KeyForms.{KeyForm, KeyEnd, spaced, squares, curlies, end_bytes, end_bodies, LeadsKey, plains_none, calm_starts, fits_moved, form_words, form_as, LastWord}
 use Rattle.yaml_emit_laws.proofs.LeafProps.{Dress, Moved, Leads, has_some, dress_all}
 use Rattle.yaml_emit_laws.proofs.FlowSigns.{opening_of, colon_calm, behind_gap}
 
@@ -86,8 +86,7 @@ not_colon : Some kinds.Plain ≡ Some kinds.ValueMark → ⊥
 not_colon e = cc
 
 not_empty : (flow : Bool) (b : ℕ) (bs : List ℕ) → (not flow && false) ≡ false
-not_empty true b bs = refl
-not_empty false b bs = refl
+not_empty flow b bs = grind (arith, nat_tests)
 
 last_plain : Scalars
     → (flow : Bool) (level : ℕ) (s : Settings) (at : NodePosition) (x : Scalar) (c : Cursor) (b : ℕ)
@@ -114,8 +113,7 @@ last_plain law flow level s at x c b bs same u may deep far =
     }
 
 no_plain : (flow : Bool) → (not flow && false) ≡ false
-no_plain true = refl
-no_plain false = refl
+no_plain flow = grind (arith, nat_tests)
 
 last_single : Scalars
     → (flow : Bool) (level : ℕ) (s : Settings) (at : NodePosition) (x : Scalar) (c : Cursor)
@@ -163,9 +161,7 @@ plain_empty a untagged flow = rw (and-false (if flow then a.flow_plain else a.pl
 
 block_empty : (b flow : Bool) (s : Style) → is_plain s ≡ false
     → is_plain (if b && not (flow || true) then s else style.Double) ≡ false
-block_empty true true s e = refl
-block_empty true false s e = refl
-block_empty false flow s e = refl
+block_empty b flow s e = grind (arith, nat_tests)
 
 taken_empty : (a : Allowed) (s : yaml_scalar_style_t) (untagged flow : Bool)
     → is_plain (taken a s untagged flow true true) ≡ false
@@ -203,8 +199,7 @@ last_of law flow level p n x c style.Folded pretty same u deep far = let (may, o
 
 value_is : (b : Bool) (s : Style) (value : List ℕ) (bs : List TokenBody) → b ≡ false
     → value_bodies b s value bs ≡ tokens.scalar value (style_named s) ∷ bs
-value_is true s value bs e = absurd (false≢true (sym e))
-value_is false s value bs e = refl
+value_is b s value bs e = grind (arith, nat_tests, false≢true)
 
 scalar_form : Scalars → (s : Settings) (d : Opening) → IsPretty s d → (x : Scalar)
     → IsWritable (scalar_node x) → (flow : Bool) (level n : ℕ) → level ≤ n + s.indent → (c : Cursor)
@@ -258,15 +253,12 @@ alias_form p name good flow level n c =
 
 ends_white : (b : Bool) (k : KeyEnd) (tail : List ℕ) → (k ≡ squares (not b)) ⊎ (k ≡ curlies (not b))
     → b ≡ false → (begins_white (end_bytes k ++ tail) ≡ true) × (first (end_bytes k ++ tail) ≡ 32)
-ends_white b k tail (inl e) f = let g : k ≡ squares true = e ∙ ap (λ t. squares (not t)) f in (ap (λ i. begins_white (end_bytes i ++ tail)) g, ap (λ i. first (end_bytes i ++ tail)) g)
-ends_white b k tail (inr e) f = let g : k ≡ curlies true = e ∙ ap (λ t. curlies (not t)) f in (ap (λ i. begins_white (end_bytes i ++ tail)) g, ap (λ i. first (end_bytes i ++ tail)) g)
+ends_white b k tail h3 f = grind (arith, nat_tests, squares)
 
 leads_ends : (flow : Bool) (level : ℕ) (ws : List (Spoken flow level)) (k : KeyEnd) (c e : Cursor)
     → Leads ws c → Moved ws c e → (k ≡ squares (not e.white)) ⊎ (k ≡ curlies (not e.white))
     → LeadsKey ws k (not c.white)
-leads_ends flow level [] k c e leads m (inl same) = subst (λ i. StartsEnd i (not c.white)) (sym same) (ap (λ (x : Cursor). not x.white) m)
-leads_ends flow level [] k c e leads m (inr same) = subst (λ i. StartsEnd i (not c.white)) (sym same) (ap (λ (x : Cursor). not x.white) m)
-leads_ends flow level (w ∷ ws) k c e (gap, own, calm) m same = (gap, own, calm_starts w.own own calm)
+leads_ends flow level ws k c e leads m same = grind (arith, nat_tests, calm_starts)
 
 -- an opener and a closer, after properties
 record Closed (a : Layout) (c : Cursor) (k : KeyEnd) : Type 0 where
@@ -328,8 +320,7 @@ closer_bytes : (s : Settings) (n x : ℕ) → s.canonical ≡ false → nat_lt x
     → bytes (closer s true n true x d rest) ≡ x
     ∷ bytes (rest (record { column = d.column + 1; white = false; bare = false; kept = d.kept }))
 unfolding closer
-closer_bytes s n x pretty low d rest =
-    ap (λ (b : Bool). bytes ((when (b && false) (char 44 ▹ line s.line_break (n - s.indent)) ▹ char x) d rest)) pretty ∙ letter_low x (rest (record { column = d.column + 1; white = false; bare = false; kept = d.kept })) low
+closer_bytes s n x pretty low d rest = grind (arith, nat_tests, letter_low)
 
 -- ---- by whether it is a mapping
 
@@ -350,8 +341,7 @@ ends_of true b = curlies b
 ends_of false b = squares b
 
 either_end : (mapping b : Bool) → (ends_of mapping b ≡ squares b) ⊎ (ends_of mapping b ≡ curlies b)
-either_end true b = inr refl
-either_end false b = inl refl
+either_end mapping b = grind (arith, nat_tests)
 
 empty_laid : (mapping : Bool) (p : Context) (at : NodePosition) (q : Start)
     → p.settings.canonical ≡ false → node_layout p at (empty_node mapping q)
@@ -386,8 +376,7 @@ empty_tokens mapping p flow q bs = grind (arith, empty_flow)
 
 end_same : (mapping b : Bool) (bs : List TokenBody)
     → end_bodies (ends_of mapping false) bs ≡ end_bodies (ends_of mapping b) bs
-end_same true b bs = refl
-end_same false b bs = refl
+end_same mapping b bs = grind (arith, nat_tests)
 
 empty_form : (mapping : Bool) (s : Settings) (d : Opening) → IsPretty s d → (q : Start)
     → IsWritableAnchor q.anchor → IsWritableTag q.tag → (flow : Bool) (level n : ℕ) (c : Cursor)
@@ -408,8 +397,7 @@ empty_form mapping s d good q wa wt flow level n c =
 -- ---- all
 
 not_simple : (a : Bool) → (a && false) ≡ true → ⊥
-not_simple true e = false≢true e
-not_simple false e = false≢true e
+not_simple a e = grind (arith, nat_tests, false≢true)
 
 pub some_items : (p : Context) (q : Start) (x : Node) (xs : Nodes)
     → is_simple p (sequence_node q (node x xs)) ≡ true → ⊥

@@ -1,10 +1,9 @@
 -- A block scalar and the line after it.
 use Rattle.std.proofs.Common.{◌≡◌, ℕ, ◌+◌, ◌-◌, ◌<◌, ◌≤◌, ◌&&◌, ◌||◌, not, nat_lt, Bool, true, false, List, [], ◌∷◌, length, suc, Option, Some, None, Ok, refl, sym, ap, subst, ◌∙◌, inl, inr, arith, if◌then◌else◌, IsUtf8, chars}
-use Rattle.yaml_emit_laws.proofs.NodeWords.{cases_Bool, cases_lt, false≢true, or_left, yaml_encoding_t, TokenBody, byte, line_at, column_at, indent, depth_after, allows_key, is_end, is_value, WordText, kind_at, lexeme_at, Kind, Cursor, Page, Rest, ◌▹◌, gap, blank, line, Layout, when, word, char, chomp, scalar_text, Part, Scalar, Opening, alias_node, scalar_node, Context, style_of, deeper, page_at, context_of, MOST, checked, is_plain, is_simple_part, properties_text, anchor_text, tag_text, alias_layout, scalar_layout, node_layout, Left, bytes, first, has_at, left_first, left_more, left_letter, letter_low, deep_bytes, from_indicator, keeps_all, read_style, margin_round, block_style, behind_line, BlockPassed, line_at-grows, stays_level, Comes, WordLeaves, WalkState, WalkReads, LeaveClear, behind, printed_begins, letter_columns, words_leave, walk_white, walk_word, is_keep, style_at, takes_mark, scalar_bodies, scalar_kept, node_bodies, node_kept, NodeStage, LinedUp, PlainIsWalked, SingleIsWalked, Ending, block_position, column_round, NodeWalks, IsPretty, LeavesAreWalked, BlockScalarsAreWalked, is_block, low_starts, LineBreak, Settings, Style, quoted_text, has, scalar_tag, anchor_bodies, tag_bodies, mark_bodies, QuotedIsReadBack, between_quotes, between_single, IsWritable, anchor_is_read, begins_white, PlainHasGap, StylesAreAllowed, kept_writable}
+use Rattle.yaml_emit_laws.proofs.NodeWords.{nat_tests, cases_Bool, cases_lt, false≢true, or_left, yaml_encoding_t, TokenBody, byte, line_at, column_at, indent, depth_after, allows_key, is_end, is_value, WordText, kind_at, lexeme_at, Kind, Cursor, Page, Rest, ◌▹◌, gap, blank, line, Layout, when, word, char, chomp, scalar_text, Part, Scalar, Opening, alias_node, scalar_node, Context, style_of, deeper, page_at, context_of, MOST, checked, is_plain, is_simple_part, properties_text, anchor_text, tag_text, alias_layout, scalar_layout, node_layout, Left, bytes, first, has_at, left_first, left_more, left_letter, letter_low, deep_bytes, from_indicator, keeps_all, read_style, margin_round, block_style, behind_line, BlockPassed, line_at-grows, stays_level, Comes, WordLeaves, WalkState, WalkReads, LeaveClear, behind, printed_begins, letter_columns, words_leave, walk_white, walk_word, is_keep, style_at, takes_mark, scalar_bodies, scalar_kept, node_bodies, node_kept, NodeStage, LinedUp, PlainIsWalked, SingleIsWalked, Ending, block_position, column_round, NodeWalks, IsPretty, LeavesAreWalked, BlockScalarsAreWalked, is_block, low_starts, LineBreak, Settings, Style, quoted_text, has, scalar_tag, anchor_bodies, tag_bodies, mark_bodies, QuotedIsReadBack, between_quotes, between_single, IsWritable, anchor_is_read, begins_white, PlainHasGap, StylesAreAllowed, kept_writable}
 use Rattle.yaml_emit_layout.specs.scan_types.Tokens as tokens
 use Rattle.yaml_scan_history.specs.declared.kind.Kind.TheVariants as kinds
 use Rattle.yaml_emit_layout.specs.declared.Chomp.{Chomp}
-use Rattle.yaml_emit_layout.specs.declared.Chomp.TheVariants as chomping
 use Rattle.yaml_emit_laws.proofs.BlockWhole.{block_back, block_at_position}
 use Rattle.yaml_emit_laws.proofs.BlockHeader.{block_is_passed}
 use Rattle.yaml_scan_laws.proofs.WordForward.{Fits, word_lands}
@@ -135,8 +134,7 @@ word_on k is x text c d o ls T b e w m rest s right here low high hash kind word
 -- ---- the scalar
 
 keep_same : (c : Chomp) → keeps_all c ≡ is_keep c
-keep_same chomping.Keep = refl
-keep_same _ = refl
+keep_same c = grind (arith, nat_tests)
 
 below : (p : Context) (around : Option ℕ) (m : ℕ) → m ≤ column_round around → 0 < p.settings.indent
     → m < deeper p.settings around
@@ -145,8 +143,7 @@ below p (Some n) m low some = omega (arith, low, some)
 
 not_right : (around : Option ℕ) (m level column : ℕ) → m ≤ column_round around
     → level ≡ margin_round around → level ≤ column → m ≤ column
-not_right None m level column low same right = omega (arith, low)
-not_right (Some n) m level column low same right = omega (arith, low, same, right)
+not_right around m level column low same right = grind (arith, nat_tests)
 
 inside : (text : List ℕ) (p b : ℕ) (bs : List ℕ) → Left text p (b ∷ bs) → p < length text
 inside text p b bs l = let e = l.ends in omega (arith, e)
@@ -215,9 +212,7 @@ text_line_white b m after e bare = ap (λ bs. begins_white bs) (line_bytes b m e
 gap_bytes : (a : Layout) (e : Cursor) (R : Rest) → e.white ≡ false
     → bytes ((gap ▹ a) e R) ≡ 32 ∷ bytes
     (a (record { column = e.column + 1; white = true; bare = e.bare; kept = e.kept }) R)
-gap_bytes a e R white =
-    let k : Rest = λ d. a d R in
-    ap (λ (b : Bool). bytes (if b then k e else blank e k)) white ∙ letter_low 32 (k (record { column = e.column + 1; white = true; bare = e.bare; kept = e.kept })) refl
+gap_bytes a e R white = grind (arith, nat_tests, letter_low)
 
 -- all but plain scalars have a space before them, where one is due
 spaced_text : (page : Page) (digit : ℕ) (v : List ℕ) (st : Style) → is_plain st ≡ false
@@ -235,15 +230,13 @@ text_white : PlainHasGap → (page : Page) (digit : ℕ) (v : List ℕ) → IsUt
     → begins_white (bytes (scalar_text page digit false st (chars v) e (λ i. line b m i after)))
     ≡ true
 unfolding scalar_text
-text_white gaps page digit v u style.Plain b m after e white = plain_white gaps page e v (λ i. line b m i after) u white (λ i bare. text_line_white b m after i bare)
-text_white gaps page digit v u x b m after e white = space_parts (bytes (scalar_text page digit false x (chars v) e (λ i. line b m i after))) (spaced_text page digit (chars v) x refl e (λ i. line b m i after) white)
+text_white gaps page digit v u st b m after e white = grind (arith, nat_tests, plain_white, text_line_white, space_parts, spaced_text)
 
 -- ---- pages
 
 page_deep : (s : Settings) → 2 ≤ s.indent → (around : Option ℕ)
     → (0 < deeper s around) × (margin_round around ≤ deeper s around)
-page_deep s least None = (omega (arith, least), omega arith)
-page_deep s least (Some n) = (omega (arith, least), omega (arith, least))
+page_deep s least around = grind (arith, nat_tests)
 
 -- ---- what a scalar is laid out as, and read as
 

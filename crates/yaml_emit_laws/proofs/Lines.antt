@@ -1,6 +1,6 @@
 -- Lines and breaks that a layout writes inside a scalar.
-use Rattle.std.proofs.Common.{◌≡◌, ℕ, zero, suc, ◌+◌, ◌-◌, Bool, true, false, not, ◌&&◌, ◌||◌, ◌==◌, nat_lt, List, [], ◌∷◌, ◌++◌, replicate, refl, sym, ap, subst, ◌∙◌, inl, inr, ◌⊎◌, arith, append-nil, encode_utf8, encode_utf8_all, true≢false, eqb-true, ne_eqb}
-use Rattle.yaml_emit_laws.proofs.ScalarWords.{nat_tests, and-false, Cursor, LineBreak, Lf, Cr, CrLf, is_break, Rest, blanks, new_line, line, indent_to, must_break, is_printable, value_break, in_front, break_text, LineEnd, line_separator, paragraph_separator, end_bytes, end_means, is_return, is_feed_end, encode_1, encode_3, cond_false, low_encodes, end_of, spaced_by, new_line_is, blanks_are, after_blanks, line_start}
+use Rattle.std.proofs.Common.{◌≡◌, ℕ, zero, suc, ◌+◌, Bool, true, false, not, ◌&&◌, ◌||◌, ◌==◌, List, [], ◌∷◌, ◌++◌, replicate, refl, sym, subst, ◌∙◌, inl, inr, ◌⊎◌, arith, append-nil, encode_utf8, encode_utf8_all, true≢false, eqb-true, ne_eqb}
+use Rattle.yaml_emit_laws.proofs.ScalarWords.{nat_tests, and-false, Cursor, LineBreak, is_break, Rest, line, indent_to, is_printable, value_break, in_front, break_text, LineEnd, line_separator, paragraph_separator, end_bytes, end_means, is_return, is_feed_end, encode_1, encode_3, cond_false, low_encodes, end_of, spaced_by, new_line_is, blanks_are, after_blanks, line_start}
 use Rattle.yaml_scan_history.specs.Pieces.{gap}
 
 -- ---- lines
@@ -17,9 +17,7 @@ blanks_kept (suc n) c = blanks_kept n (spaced_by c)
 
 indent_is : (n : ℕ) (c : Cursor) (rest : Rest) → c.column ≡ 0
     → indent_to n c rest ≡ in_front (replicate n 32) (rest (after_blanks n c))
-indent_is n c rest e =
-    let z : n - c.column ≡ n = omega (arith, e) in
-    ap (λ k. blanks k c rest) z ∙ blanks_are n c rest
+indent_is n c rest e = grind (arith, nat_tests, blanks_are)
 
 -- where a line starts
 pub record Starts (c : Cursor) : Type 0 where
@@ -34,9 +32,7 @@ unbroken a b w x e f g = grind (arith, nat_tests)
 pub start_is : (b : LineBreak) (n : ℕ) (c : Cursor) (rest : Rest) → Starts c
     → line b n c rest ≡ in_front (replicate n 32) (rest (after_blanks n c))
 unfolding line
-start_is b n c rest s =
-    let none : must_break n c ≡ false = unbroken c.bare (nat_lt n c.column) c.white (c.column == n) s.bare (grind (arith, nat_tests)) s.white in
-    cond_false (must_break n c) (new_line b c (λ d. indent_to n d rest)) (indent_to n c rest) none ∙ indent_is n c rest s.column
+start_is b n c rest s = grind (arith, nat_tests, unbroken, cond_false, indent_is)
 
 -- ---- breaks of a value
 
@@ -55,17 +51,13 @@ pub record BreakOf (b : LineBreak) (x : ℕ) : Type 0 where
   pub stays : (x == 10) ≡ false → (ts : List ℕ) → gap (end_means end) ts ≡ end_means end ++ ts
 
 pub own_fits : (b : LineBreak) → (is_return (end_of b) && is_feed_end (end_of b)) ≡ false
-own_fits Lf = refl
-own_fits _ = refl
+own_fits b = grind (arith, nat_tests)
 
 pub own_means : (b : LineBreak) → end_means (end_of b) ≡ 10 ∷ []
-own_means Lf = refl
-own_means _ = refl
+own_means b = grind (arith, nat_tests)
 
 pub own_bytes : (b : LineBreak) → encode_utf8_all (break_text b) ≡ end_bytes (end_of b)
-own_bytes Lf = low_encodes (10 ∷ []) (omega arith, tt)
-own_bytes Cr = low_encodes (13 ∷ []) (omega arith, tt)
-own_bytes CrLf = low_encodes (13 ∷ 10 ∷ []) (omega arith, (omega arith, tt))
+own_bytes b = grind (arith, nat_tests, low_encodes)
 
 lf_is : (b : LineBreak) → BreakOf b 10
 lf_is b = record {
@@ -86,8 +78,7 @@ ps_encodes : encode_utf8 0x2029 ≡ 0xE2 ∷ 0x80 ∷ 0xA9 ∷ []
 ps_encodes = encode_3 0x2029 (omega arith) (omega arith)
 
 gap_stays : (d : ℕ) (ts : List ℕ) → gap (0xE2 ∷ 0x80 ∷ d ∷ []) ts ≡ (0xE2 ∷ 0x80 ∷ d ∷ []) ++ ts
-gap_stays d [] = refl
-gap_stays d (t ∷ ts) = refl
+gap_stays d ts = grind (arith, nat_tests)
 
 ls_is : (b : LineBreak) → BreakOf b 0x2028
 unfolding in_front

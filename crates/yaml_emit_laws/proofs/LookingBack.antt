@@ -1,11 +1,10 @@
 -- What is expected depends on the events that came.
 use Rattle.std.proofs.Common.{◌≡◌, ℕ, zero, suc, Bool, true, false, not, ◌||◌, List, [], ◌∷◌, Option, Some, None, refl, ap, ◌∙◌, arith}
-use Rattle.yaml_emit_laws.proofs.DumpsWords.{Problem, Expected, Event, no_event, stream_start, stream_end, document_start, document_end, sequence_start, sequence_end, mapping_start, mapping_end, or_else, event_problem, last_problem, ends_phase, place_problem, problem_by, Due, item_due, key_due, value_due, Progress, at_place, first_progress, inside, behind_node, outer_due, progress_after, level_due, problem_in, first_refusal}
+use Rattle.yaml_emit_laws.proofs.DumpsWords.{nat_tests, Problem, Expected, Event, no_event, stream_start, stream_end, document_start, document_end, sequence_start, sequence_end, mapping_start, mapping_end, or_else, event_problem, last_problem, ends_phase, place_problem, problem_by, Due, item_due, key_due, value_due, Progress, at_place, first_progress, inside, behind_node, outer_due, progress_after, level_due, problem_in, first_refusal}
 use Rattle.yaml_emit_graph.specs.emit_layout.declared.Expected.TheVariants as at
 use Rattle.yaml_emit_graph.specs.emit_layout.declared.Problem.TheVariants as problem
 use Rattle.yaml_emit_graph.specs.emit_layout.declared.Level.{Level}
 use Rattle.yaml_emit_graph.specs.emit_layout.declared.Phase.{Phase}
-use Rattle.yaml_emit_graph.specs.emit_layout.declared.Phase.TheVariants.{Items}
 use Rattle.yaml_emit_laws.specs.LookBack.{Collection, in_sequence, in_mapping, met, innermost, begins_document, ends_stream, unless_so, wrong_in, wrong_place, wrong_behind, first_wrong, RefusalLooksBack}
 
 -- what the collection that as many are inside of is due, where an odd number of nodes more has come in it
@@ -17,8 +16,7 @@ due_at zero even (value_due ∷ ds) = Some (in_mapping (not even))
 due_at (suc n) even (d ∷ ds) = due_at n even ds
 
 not_twice : (b : Bool) → not (not b) ≡ b
-not_twice true = refl
-not_twice false = refl
+not_twice b = grind (arith, nat_tests)
 
 node_met : (n : ℕ) (even : Bool) (ds : List Due)
     → due_at n (met n even) ds ≡ due_at n even (behind_node ds)
@@ -26,12 +24,10 @@ node_met n even ds = grind (arith, not_twice)
 
 end_met : (n : ℕ) (even : Bool) (ds : List Due)
     → due_at (suc n) even ds ≡ due_at n even (outer_due ds)
-end_met n even [] = refl
-end_met n even (d ∷ ds) = refl
+end_met n even ds = grind (arith, nat_tests)
 
 due_inside : (ds : List Due) → (inside ds).due ≡ ds
-due_inside [] = refl
-due_inside (d ∷ ds) = refl
+due_inside ds = grind (arith, nat_tests)
 
 -- ---- a progress, and the events that it comes from
 
@@ -48,32 +44,26 @@ inside_place ds e = grind arith
 
 start_place : HasPlace first_progress []
 unfolding place_problem
-start_place no_event = refl
-start_place _ = refl
+start_place h0 = grind (arith, nat_tests)
 
 documents_place : (first unended : Bool) (e : Event)
     → place_problem (at.Documents first unended) None e
     ≡ unless_so (begins_document e || ends_stream e) problem.ExpectedDocumentStartOrStreamEnd
 unfolding place_problem
-documents_place first unended no_event = refl
-documents_place first unended _ = refl
+documents_place first unended e = grind (arith, nat_tests)
 
 root_place : (past : List Event) (d : _) → HasPlace (at_place at.Node) (document_start d ∷ past)
 unfolding place_problem
-root_place past d no_event = refl
-root_place past d _ = refl
+root_place past d h2 = grind (arith, nat_tests)
 
 ends_none : (p : Phase) → ends_phase p no_event ≡ false
-ends_none (Items fresh) = refl
-ends_none _ = refl
+ends_none p = grind (arith, nat_tests)
 
 -- no event is none
 none_misplaced : (place : Expected) (top : Option Level) → place_problem place top no_event ≡ None
     → ⊥
 unfolding place_problem
-none_misplaced at.Node None h = cc
-none_misplaced at.Node (Some l) h = let bad : Some (problem.ExpectedNode) ≡ None = rw (ends_none l.phase) at h in cc
-none_misplaced _ top h = cc
+none_misplaced place top h = grind (arith, nat_tests, ends_none)
 
 record Fits (h : Progress) (past : List Event) : Type 0 where
   place : HasPlace h past
@@ -103,14 +93,12 @@ end_fits h past f last one place =
 sequence_due : (h : Progress) (past : List Event) (p : _) → Fits h past → (n : ℕ) (even : Bool)
     → innermost n even (sequence_start p ∷ past) ≡ due_at n even (item_due ∷ behind_node h.due)
 unfolding innermost
-sequence_due h past p f zero even = refl
-sequence_due h past p f (suc n) even = f.due n (met n even) ∙ node_met n even h.due
+sequence_due h past p f n even = grind (arith, nat_tests, node_met)
 
 mapping_due : (h : Progress) (past : List Event) (p : _) → Fits h past → (n : ℕ) (even : Bool)
     → innermost n even (mapping_start p ∷ past) ≡ due_at n even (key_due ∷ behind_node h.due)
 unfolding innermost
-mapping_due h past p f zero even = refl
-mapping_due h past p f (suc n) even = f.due n (met n even) ∙ node_met n even h.due
+mapping_due h past p f n even = grind (arith, nat_tests, node_met)
 
 step_fits : (h : Progress) (past : List Event) (e : Event) → Fits h past
     → place_problem h.place (level_due h.due) e ≡ None → Fits (progress_after h e) (e ∷ past)
@@ -129,16 +117,13 @@ step_fits h past x f r = node_fits h past f x (λ n even. refl) (λ e. refl)
 -- ---- the first refusal
 
 or_same : (p a b : Option Problem) → (p ≡ None → a ≡ b) → or_else p a ≡ or_else p b
-or_same (Some x) a b f = refl
-or_same None a b f = f refl
+or_same p a b f = grind (arith, nat_tests)
 
 or_first : (p q : Option Problem) → or_else p q ≡ None → p ≡ None
-or_first (Some x) q e = e
-or_first None q e = refl
+or_first p q e = grind (arith, nat_tests)
 
 or_last : (p q : Option Problem) → or_else p q ≡ None → q ≡ None
-or_last (Some x) q e = absurd (cc)
-or_last None q e = e
+or_last p q e = grind (arith, nat_tests)
 
 refusals_are : (canonical : Bool) (h : Progress) (past es : List Event) → Fits h past
     → first_refusal canonical h es ≡ first_wrong canonical past es

@@ -47,8 +47,7 @@ alphas_calm (b ∷ bs) h = let a = alpha_above b (and_parts (is_alpha_byte b) (a
 -- A byte that a tag keeps is no control character.
 pub kept_above : (flow : Bool) (b : ℕ) → keeps_byte flow b ≡ true → 13 < b
 unfolding suffix_keeps
-kept_above true b h = grind (arith, nat_tests)
-kept_above false b h = grind (arith, nat_tests)
+kept_above flow b h = grind (arith, nat_tests)
 
 -- A hexadecimal digit's byte is no control character.
 pub digit_above : (d : ℕ) → 13 < hex_digit d
@@ -66,8 +65,7 @@ uri_above flow (b ∷ bs) = grind (arith, nat_tests, byte_above, length-append, 
 
 -- No control character is in a handle.
 pub handle_above : (handle : List ℕ) → IsShaped handle → Above handle
-handle_above handle (inl e) = subst (λ (xs : List ℕ). Above xs) (sym e) (omega arith, tt)
-handle_above handle (inr (name, e, are)) = subst (λ (xs : List ℕ). Above xs) (sym e) (omega arith, above_append name (33 ∷ []) (alphas_above name are) (omega arith, tt))
+handle_above handle h1 = grind (arith, nat_tests, above_append, alphas_above)
 
 split_above : (split : Split) → IsReadable split
     → Above (spelled split) × (length (spelled split) ≤ 3 * split_size split + 3)
@@ -109,8 +107,7 @@ near_properties s o good anchor tag c a t =
 -- A tag that is kept, or left out, may be written.
 pub kept_writable : (b : Bool) (tag : Option (List ℕ)) → IsWritableTag tag
     → IsWritableTag (kept_if b tag)
-kept_writable true tag h = h
-kept_writable false tag h = tt
+kept_writable b tag h = grind (arith, nat_tests)
 
 -- ---- styles of keys
 
@@ -129,9 +126,7 @@ plain_key a untagged flow empty = elim (cases_Bool (plain_fits a untagged flow t
 
 block_key : (b flow : Bool) (s : Style)
     → is_key_style (if b && not (flow || true) then s else style.Double) ≡ true
-block_key true true s = refl
-block_key true false s = refl
-block_key false flow s = refl
+block_key b flow s = grind (arith, nat_tests)
 
 taken_key : (a : Allowed) (s : yaml_scalar_style_t) (untagged flow empty : Bool)
     → is_key_style (taken a s untagged flow true empty) ≡ true

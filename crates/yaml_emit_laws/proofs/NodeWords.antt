@@ -1,6 +1,6 @@
 -- The words of the definitions, and the lemmas below, that the files of lemmas share.
 pub use Rattle.std.proofs.Math.Bool.{and-false, and-true}
-pub use Rattle.std.proofs.lemmas.Bool.{and_parts, cases_Bool, cases_lt, eq-eqb, eqb-true, false≢true, lt-ltb, ltb-false, not-false, not-true, or_cases, or_left, or_right, true≢false}
+pub use Rattle.std.proofs.lemmas.Bool.{and_parts, cases_Bool, cases_lt, eq-eqb, false≢true, lt-ltb, ltb-false, not-false, not-true, or_left, or_right, true≢false}
 pub use Rattle.std.proofs.lemmas.Bool.Decides.{nat_tests}
 pub use Rattle.std.proofs.lemmas.Str.{encode_ascii}
 unfoldable pub use Rattle.std.specs.Str.{chars}
@@ -48,11 +48,11 @@ pub use Rattle.yaml_emit_laws.specs.TagsLaws.{AreReadable, DirectivesAreRead, Is
 pub use Rattle.yaml_emit_laws.specs.Walk.{Has, Left, bytes, first}
 pub use Rattle.yaml_emit_laws.specs.Writable.{AreItemsWritable, ArePairsWritable, AreWritable, IsWritable, IsWritableAnchor, IsWritableName, IsWritableOpening, IsWritableTag}
 pub use Rattle.yaml_emit_layout.specs.Content.{Document, Node, Nodes, Opening, Pairs, Scalar, Start, alias_node, mapping_node, no_nodes, no_pairs, node, pair, scalar_node, sequence_node}
-pub use Rattle.yaml_emit_layout.specs.Grammar.{directives_problem, has, is_version, kept_if, scalar_tag, start_tag, version_problem}
+pub use Rattle.yaml_emit_layout.specs.Grammar.{directives_problem, has, is_version, scalar_tag, start_tag, version_problem}
 pub use Rattle.yaml_emit_layout.specs.Nodes.{Context, MOST, anchor_text, are_no_pairs, are_none, block_indent_in, checked, context_of, dashes, deeper, directive_text, dots, indent_of, indented, is_directed, is_flow, is_marked, is_of_mapping, is_plain, is_simple_part, key_part, page_at, position, properties_text, question, root_position, tag_text, version_text, version_word}
 unfoldable pub use Rattle.yaml_emit_layout.specs.Nodes.{alias_layout, before_item, before_key, before_value, closer, directives_text, documents_layout, end_layout, is_simple, is_simple_start, items_layout, node_layout, pairs_layout, scalar_layout, start_layout, stop_layout, style_of, turned}
 pub use Rattle.yaml_emit_layout.specs.declared.level.Part.{Part}
-pub use Rattle.yaml_emit_layout.specs.Tags.{Split, keeps_byte, shorthand, split_tag, tag_spelling, uri_byte, verbatim}
+pub use Rattle.yaml_emit_layout.specs.Tags.{Split, shorthand, split_tag, tag_spelling, uri_byte, verbatim}
 unfoldable pub use Rattle.yaml_emit_layout.specs.Tags.{spelled, uri_text}
 pub use Rattle.yaml_emit_layout.specs.Layout.{Layout, Rest, after_block, after_text, blank, char, gap, indent_to, indicator, is_past, keep, must_break, new_line, nothing_more, opener, stay, when, word, wrap, ◌▹◌}
 unfoldable pub use Rattle.yaml_emit_layout.specs.Layout.{blanks, letters, line}
@@ -86,7 +86,6 @@ pub use Rattle.yaml_emit_layout.specs.scan_types.Classes.{is_bom, is_break}
 pub use Rattle.yaml_emit_layout.specs.scan_types.Marks.{break_width, byte, ends_break, is_blank, is_blank_or_end, mark_at, starts}
 unfoldable pub use Rattle.yaml_emit_layout.specs.scan_types.Marks.{break_of, column_at, ends_of, line_at}
 pub use Rattle.yaml_emit_layout.specs.scan_model.Wrong.{Wrong}
-pub use Rattle.yaml_scan_history.specs.Plain.{ends_at}
 unfoldable pub use Rattle.yaml_scan_history.specs.Plain.{is_bracket}
 pub use Rattle.yaml_scan_history.specs.Quoted.{double_quoted_at}
 pub use Rattle.yaml_scan_history.specs.WordsLaws.{AnchorReads}

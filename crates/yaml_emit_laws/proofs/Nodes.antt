@@ -1,6 +1,6 @@
 -- The words of a node, and of what it holds.
 use Rattle.std.proofs.Common.{◌≡◌, ℕ, suc, ◌+◌, ◌-◌, ◌<◌, ◌&&◌, not, nat_lt, Bool, true, false, List, [], ◌∷◌, Option, Some, None, refl, sym, ap, subst, ◌∙◌, arith, if◌then◌else◌, chars}
-use Rattle.yaml_emit_laws.proofs.Shared.{GapReads, AnchorReads, Kind, YAML_DOUBLE_QUOTED_SCALAR_STYLE, TokenBody, TagDirective, Cursor, Settings, LineBreak, Layout, Rest, ◌▹◌, gap, blank, char, letters, word, when, stay, opener, line, tag_spelling, quoted_text, scalar_text, NodePosition, Opening, Scalar, Start, Node, alias_node, scalar_node, sequence_node, mapping_node, Nodes, no_nodes, node, Pairs, no_pairs, pair, has, Context, context_of, is_simple_part, position, key_part, deeper, checked, MOST, anchor_text, tag_text, page_at, style_of, scalar_layout, alias_layout, is_simple, is_simple_scalar, is_simple_alias, is_simple_start, turned, before_item, before_key, before_value, closer, node_layout, items_layout, pairs_layout, put_if, properties_kinds, node_kinds, items_kinds, pairs_kinds, anchor_bodies, tag_bodies, mark_bodies, node_bodies, items_bodies, pairs_bodies, bytes, Walks, first, parts, Parts, IsWritableOpening, IsWritableAnchor, IsWritableTag, IsWritable, AreItemsWritable, ArePairsWritable, QuotedIsReadBack, NodesAreWords}
+use Rattle.yaml_emit_laws.proofs.Shared.{nat_tests, GapReads, AnchorReads, Kind, YAML_DOUBLE_QUOTED_SCALAR_STYLE, TokenBody, TagDirective, Cursor, Settings, LineBreak, Layout, Rest, ◌▹◌, gap, blank, char, letters, word, when, stay, opener, line, tag_spelling, quoted_text, scalar_text, NodePosition, Opening, Scalar, Start, Node, alias_node, scalar_node, sequence_node, mapping_node, Nodes, no_nodes, node, Pairs, no_pairs, pair, has, Context, context_of, is_simple_part, position, key_part, deeper, checked, MOST, anchor_text, tag_text, page_at, style_of, scalar_layout, alias_layout, is_simple, is_simple_scalar, is_simple_alias, is_simple_start, turned, before_item, before_key, before_value, closer, node_layout, items_layout, pairs_layout, put_if, properties_kinds, node_kinds, items_kinds, pairs_kinds, anchor_bodies, tag_bodies, mark_bodies, node_bodies, items_bodies, pairs_bodies, bytes, Walks, first, parts, Parts, IsWritableOpening, IsWritableAnchor, IsWritableTag, IsWritable, AreItemsWritable, ArePairsWritable, QuotedIsReadBack, NodesAreWords}
 use Rattle.yaml_scan_history.specs.declared.kind.Kind.TheVariants as kinds
 use Rattle.yaml_emit_layout.specs.scan_types.Tokens as tokens
 use Rattle.yaml_emit_layout.specs.declared.level.Part.TheVariants as part
@@ -76,8 +76,7 @@ properties_if law names p tags anchor tag ga gt b K B d e rest spaced w c =
 -- ---- leaves
 
 deep_page : (s : Settings) (around : Option ℕ) → 0 < s.indent → 0 < deeper s around
-deep_page s None h = h
-deep_page s (Some n) h = omega (arith, h)
+deep_page s around h = grind (arith, nat_tests)
 
 marked_so : (a b : Bool) → (a && (b && true)) ≡ (a && b)
 marked_so true true = refl
@@ -130,26 +129,21 @@ comma_parts a rest e bare = ap (λ (bs : List ℕ). parts (first bs)) (letter_lo
 more_parts : (p : Context) → p.settings.canonical ≡ true → (n : ℕ) (ns : Nodes) (rest : Rest)
     → Parts (λ c. items_layout p true n false ns c rest)
 unfolding items_layout before_item closer
-more_parts p canon n no_nodes rest =
-    subst (λ (b : Bool). Parts (λ c. (when (b && true) (char 44 ▹ line p.settings.line_break (n - p.settings.indent)) ▹ char 93) c rest)) (sym canon) (comma_parts (line p.settings.line_break (n - p.settings.indent) ▹ char 93) rest)
+more_parts p canon n no_nodes rest = grind (arith, nat_tests, comma_parts)
 more_parts p canon n (node x xs) rest = comma_parts (turned p.settings n ▹ (node_layout p (position true n part.Item) x ▹ items_layout p true n false xs)) rest
 
 more_pair_parts : (p : Context) → p.settings.canonical ≡ true → (n : ℕ) (ps : Pairs) (rest : Rest)
     → Parts (λ c. pairs_layout p true n false ps c rest)
 unfolding pairs_layout before_key closer
-more_pair_parts p canon n no_pairs rest =
-    subst (λ (b : Bool). Parts (λ c. (when (b && true) (char 44 ▹ line p.settings.line_break (n - p.settings.indent)) ▹ char 125) c rest)) (sym canon) (comma_parts (line p.settings.line_break (n - p.settings.indent) ▹ char 125) rest)
-more_pair_parts p canon n (pair k v ps) rest =
-    let simple = is_simple p k in
-    comma_parts (turned p.settings n ▹ (when (not simple) (word (63 ∷ [])) ▹ (node_layout p (position true n (key_part simple)) k ▹ (before_value p.settings true n simple ▹ (node_layout p (position true n part.Value) v ▹ pairs_layout p true n false ps))))) rest
+more_pair_parts p canon n no_pairs rest = grind (arith, nat_tests, comma_parts)
+more_pair_parts p canon n (pair k v ps) rest = grind (arith, nat_tests, comma_parts)
 
 -- ---- no key is simple
 
 not_simple : (s : Settings) (ds : List TagDirective) (n : Node)
     → is_simple (canonically s ds) n ≡ false
 unfolding is_simple is_simple_scalar is_simple_alias is_simple_start
-not_simple s ds (alias_node name) = refl
-not_simple s ds _ = refl
+not_simple s ds n = grind (arith, nat_tests)
 
 -- ---- collections
 

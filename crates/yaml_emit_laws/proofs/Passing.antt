@@ -1,8 +1,8 @@
 -- A list of events of which none is refused goes on to the end of a stream.
-use Rattle.std.proofs.Common.{◌≡◌, Bool, true, false, List, [], ◌∷◌, ◌++◌, Option, Some, None, refl, sym, ap, ◌∙◌, subst, append-nil, arith}
+use Rattle.std.proofs.Common.{◌≡◌, Bool, true, false, List, [], ◌∷◌, ◌++◌, Option, None, refl, sym, ap, ◌∙◌, subst, append-nil, arith}
 use Rattle.yaml_emit_graph.specs.scan_model.declared.name.yaml_encoding_t.{yaml_encoding_t}
 use Rattle.yaml_emit_graph.specs.scan_model.declared.name.yaml_encoding_t.TheVariants.{YAML_ANY_ENCODING}
-use Rattle.yaml_emit_laws.proofs.DumpsWords.{YAML_ANY_SCALAR_STYLE, Problem, Expected, Scalar, alias_node, scalar_node, sequence_node, mapping_node, Nodes, no_nodes, node, Pairs, no_pairs, pair, Event, stream_start, stream_end, document_start, document_end, alias, scalar, sequence_start, sequence_end, mapping_start, mapping_end, node_events, items_events, pairs_events, documents_events, stream_events, or_else, event_problem, last_problem, node_problem, place_problem, problem_by, own_problem, own_problems, Due, item_due, key_due, value_due, Progress, inside, behind_node, first_progress, progress_after, level_due, problem_in, first_refusal, progress_behind, IsEmittable, PassedAreStreams, PassedAreFronts, RightStreamsHaveTexts}
+use Rattle.yaml_emit_laws.proofs.DumpsWords.{nat_tests, YAML_ANY_SCALAR_STYLE, Problem, Expected, Scalar, alias_node, scalar_node, sequence_node, mapping_node, Nodes, no_nodes, node, Pairs, no_pairs, pair, Event, stream_start, stream_end, document_start, document_end, alias, scalar, sequence_start, sequence_end, mapping_start, mapping_end, node_events, items_events, pairs_events, documents_events, stream_events, or_else, event_problem, last_problem, node_problem, place_problem, problem_by, own_problem, own_problems, Due, item_due, key_due, value_due, Progress, inside, behind_node, first_progress, progress_after, level_due, problem_in, first_refusal, progress_behind, IsEmittable, PassedAreStreams, PassedAreFronts, RightStreamsHaveTexts}
 use Rattle.yaml_emit_graph.specs.emit_layout.Layout.{written}
 use Rattle.yaml_emit_graph.specs.emit_layout.Settings.{settled}
 use Rattle.yaml_emit_graph.specs.emit_layout.Nodes.{stream_layout}
@@ -77,8 +77,7 @@ From h es = GoesOn h.place h.due es
 -- ---- an event first
 
 from_inside : (due : List Due) (es : List Event) → From (inside due) es → Left due es
-from_inside [] es k = k
-from_inside (d ∷ due) es k = k
+from_inside due es k = grind (arith, nat_tests)
 
 -- a node before what follows it
 put : (due : List Due) (n : Node) (es : List Event) → Left (behind_node due) es
@@ -202,13 +201,11 @@ closing_right canonical p due = grind (arith, inside_right)
 
 -- where the first of two problems is none, both are
 pub or_both : (p q : Option Problem) → or_else p q ≡ None → (p ≡ None) × (q ≡ None)
-or_both None q e = (refl, e)
-or_both (Some x) q e = absurd (cc)
+or_both p q e = grind (arith, nat_tests)
 
 -- neither of two problems is there
 pub or_none : (p q : Option Problem) → p ≡ None → q ≡ None → or_else p q ≡ None
-or_none None q e f = f
-or_none (Some x) q e f = absurd (cc)
+or_none p q e f = grind (arith, nat_tests)
 
 -- an event that passes is in its place, and nothing is wrong with it
 record Passes (canonical : Bool) (h : Progress) (e : Event) : Type 0 where

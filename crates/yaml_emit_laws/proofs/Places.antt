@@ -1,7 +1,7 @@
 -- Bytes that are left of a text.
 use Rattle.std.proofs.Common.{◌≡◌, ℕ, suc, ◌+◌, List, [], ◌∷◌, ◌++◌, length, subst, arith, add-zero}
 use Rattle.yaml_emit_laws.proofs.Shared.{byte, Left}
-pub use Rattle.yaml_scan_history.proofs.HasLemmas.{has_at, has_front, has_rest}
+pub use Rattle.yaml_scan_history.proofs.HasLemmas.{has_at, has_front}
 
 -- The first of the bytes that are left is at the place.
 pub left_first : (text : List ℕ) (p b : ℕ) (bs : List ℕ) → Left text p (b ∷ bs) → byte text p ≡ b

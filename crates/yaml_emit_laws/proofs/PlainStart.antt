@@ -1,6 +1,6 @@
 -- Where a text has a plain scalar's parts, a plain scalar begins.
-use Rattle.std.proofs.Common.{◌≡◌, ◌≢◌, ℕ, suc, ◌+◌, ◌%◌, ◌<◌, ◌≤◌, Bool, true, false, not, ◌&&◌, ◌||◌, ◌==◌, nat_lt, List, [], ◌∷◌, ◌++◌, length, replicate, Some, None, refl, sym, ap, subst, ◌∙◌, inl, inr, ◌⊎◌, nat_le, arith, append_assoc, encode_utf8, ◌-◌, Result, Ok, encode_utf8_all}
-use Rattle.yaml_emit_laws.proofs.ScalarWords.{cases_lt, true≢false, and_parts, eqb-true, or_parts, ne_eqb, eq-eqb, or_right, not-true, eqb-false, nat_tests, or-true, and-false, byte, break_width, ends_break, is_blank, is_blank_or_end, is_bom, are_gap, begins_lexeme, HasAt, has_break, is_thrice, is_document_start, is_document_end, is_bracket, is_indicator_byte, starts_plain, after_white, PlainText, indicator_of, kind_at, Has, has_front, has_rest, has, first, behind, is_indicator, is_white, ends_word, somewhere, is_special, is_break_space, is_not_plain, is_not_flow, last_or, ends_in_space, starts_badly, allowed, LineEnd, feed, return, return_feed, next_line, line_separator, paragraph_separator, end_bytes, LineTurn, turn_bytes, QuotedPart, raw, doubled, fold, spelling, meaning, IsSpelling, encode_1, encode_2, encode_3, encode_4, calm_end, calm_from, column_start, bool_cases, encodes-chars, scalars-chars, all_scalars, chars, Wrong, ends_plain, Cursor, Page, is_break, ◌▹◌, after_text, flow_body, is_one_line}
+use Rattle.std.proofs.Common.{◌≡◌, ◌≢◌, ℕ, suc, ◌+◌, ◌<◌, ◌≤◌, Bool, true, false, not, ◌&&◌, ◌||◌, ◌==◌, nat_lt, List, [], ◌∷◌, ◌++◌, length, replicate, Some, None, refl, sym, ap, subst, ◌∙◌, inl, inr, ◌⊎◌, nat_le, arith, append_assoc, encode_utf8, ◌-◌, Result, Ok, encode_utf8_all}
+use Rattle.yaml_emit_laws.proofs.ScalarWords.{true≢false, and_parts, eqb-true, or_parts, ne_eqb, eq-eqb, or_right, not-true, eqb-false, nat_tests, or-true, and-false, byte, break_width, ends_break, is_blank, is_blank_or_end, is_bom, are_gap, begins_lexeme, HasAt, has_break, is_thrice, is_document_start, is_document_end, is_bracket, is_indicator_byte, starts_plain, after_white, PlainText, indicator_of, kind_at, Has, has_front, has_rest, has, first, behind, is_indicator, ends_word, somewhere, is_special, is_break_space, is_not_plain, is_not_flow, last_or, ends_in_space, starts_badly, allowed, LineEnd, end_bytes, LineTurn, turn_bytes, QuotedPart, raw, doubled, fold, spelling, meaning, IsSpelling, encode_1, encode_2, encode_3, encode_4, calm_end, calm_from, column_start, bool_cases, encodes-chars, scalars-chars, all_scalars, chars, Wrong, ends_plain, Cursor, Page, is_break, ◌▹◌, after_text, flow_body, is_one_line}
 use Rattle.yaml_scan_history.specs.declared.kind.Kind.TheVariants as kinds
 use Rattle.yaml_emit_laws.proofs.Standing.{InLine, stand_behind, Stays, not_ended, char_at, Stops, Plainly, stops}
 use Rattle.yaml_emit_laws.proofs.PlainParts.{is_plain_end, Spells, AreGood, firm, when_is, colon_next, Good, said, gap_read, scalar_read}
@@ -10,7 +10,6 @@ use Rattle.yaml_emit_laws.proofs.Letters.{Shows, AllShow}
 use Rattle.yaml_emit_laws.proofs.Writing.{deep_all, left}
 use Rattle.yaml_emit_laws.proofs.Shown.{all_show}
 use Rattle.yaml_emit_laws.proofs.SingleWritten.{start_behind}
-use Rattle.yaml_emit_laws.proofs.Pieces.{top_of}
 use Rattle.yaml_emit_laws.proofs.BlockHeader.{not_printed}
 
 -- ---- what the first character isn't
@@ -82,12 +81,7 @@ no_end flow level text r b (g ∷ gap) which here e next =
 
 end_low : (text : List ℕ) (q : ℕ) (e : LineEnd) (xs : List ℕ) → is_plain_end e ≡ true
     → Has text q (end_bytes e ++ xs) → byte text q < 14
-end_low text q feed xs good (h, more) = omega (arith, h)
-end_low text q return xs good (h, more) = omega (arith, h)
-end_low text q return_feed xs good (h, more) = omega (arith, h)
-end_low text q next_line xs good h = absurd (true≢false (sym good))
-end_low text q line_separator xs good h = absurd (true≢false (sym good))
-end_low text q paragraph_separator xs good h = absurd (true≢false (sym good))
+end_low text q e xs good h = grind (arith, nat_tests, true≢false)
 
 fold_low : (text : List ℕ) (q : ℕ) (t : LineTurn) (ts : List LineTurn) (xs : List ℕ)
     → is_plain_end t.end ≡ true → Has text q (turn_bytes (t ∷ ts) ++ xs) → byte text q < 14
@@ -95,8 +89,7 @@ unfolding turn_bytes
 fold_low text q t ts xs good h = end_low text q t.end ((replicate t.spaces 32 ++ turn_bytes ts) ++ xs) good (subst (λ (ys : List ℕ). Has text q ys) (append_assoc (end_bytes t.end) (replicate t.spaces 32 ++ turn_bytes ts) xs) h)
 
 dash_small : (b : ℕ) → (b ≡ 45) ⊎ (b ≡ 46) → (b < 128) × (14 ≤ b)
-dash_small b (inl e) = (omega (arith, e), omega (arith, e))
-dash_small b (inr e) = (omega (arith, e), omega (arith, e))
+dash_small b h1 = grind (arith, nat_tests)
 
 -- where the byte is there twice, the value has it there
 next_is : (flow : Bool) (level n : ℕ) (text : List ℕ) (r b before : ℕ) (ps : List QuotedPart)
@@ -112,10 +105,7 @@ next_is flow level n text r b before (raw c ∷ ps) (x ∷ xs) gap which here (i
     let at = char_at flow level text (r + 1) x g.plainly (subst (λ k. Has text (r + 1) (encode_utf8 k)) i (has_front text (r + 1) (encode_utf8 c) (spelling ps) h)) in
     let f = firm flow level text (r + 1) x (encode_utf8 x) at in
     f.same b (dash_small b which).0 next
-next_is flow level n text r b before (fold t ts ∷ ps) (x ∷ xs) gap which here (i, s) g h e next =
-    let low = fold_low text (r + 1) t ts (spelling ps) i.3 h in
-    let d = (dash_small b which).1 in
-    absurd (omega (arith, low, d, next))
+next_is flow level n text r b before (fold t ts ∷ ps) (x ∷ xs) gap which here (i, s) g h e next = grind (arith, nat_tests, fold_low, dash_small)
 next_is flow level n text r b before _ (x ∷ xs) gap which here (i, s) g h e next = absurd i
 
 -- a part of a character that is no space
@@ -169,9 +159,7 @@ pub record Begun (flow : Bool) (x : ℕ) (xs : List ℕ) : Type 0 where
 not_thrice : (text : List ℕ) (p b : ℕ)
     → (byte text p ≡ b → byte text (p + 1) ≡ b → byte text (p + 1 + 1) ≡ b → ⊥)
     → is_thrice b text p ≡ false
-not_thrice text p b f =
-    let two : p + 2 ≡ p + 1 + 1 = omega arith in
-    when_is (byte text p) b _ (λ e. when_is (byte text (p + 1)) b (byte text (p + 2) == b) (λ g. ne_eqb (byte text (p + 2)) b (λ h. f e g (ap (λ k. byte text k) (sym two) ∙ h))))
+not_thrice text p b f = grind (arith, nat_tests, when_is, ne_eqb)
 
 -- of bytes that begin no plain scalar but `- ? :`
 no_indicator : (x : ℕ) (k : ℕ) → is_indicator k ≡ true → is_indicator x ≡ false → x ≢ k
@@ -182,18 +170,15 @@ none_is : (flow alone : Bool) (b : ℕ)
     → (b == 63 && (flow || alone)) ≡ false → (b == 58 && (flow || alone)) ≡ false
     → indicator_of flow alone b ≡ None
 unfolding indicator_of
-none_is flow alone b none dash ask colon =
-    rw (none 91 (omega arith) refl, none 123 (omega arith) refl, none 93 (omega arith) refl, none 125 (omega arith) refl, none 44 (omega arith) refl, dash, ask, colon, none 42 (omega arith) refl, none 38 (omega arith) refl, none 33 (omega arith) refl, none 124 (omega arith) refl, none 62 (omega arith) refl, none 39 (omega arith) refl, none 34 (omega arith) refl) refl
+none_is flow alone b none dash ask colon = grind (arith, nat_tests)
 
 other_byte : (b : ℕ) → ((k : ℕ) → k < 128 → is_indicator k ≡ true → (b == k) ≡ false)
     → (b == 45) ≡ false → (b == 63) ≡ false → (b == 58) ≡ false → is_indicator_byte b ≡ false
 unfolding is_indicator_byte is_bracket
-other_byte b none d a c =
-    rw (none 44 (omega arith) refl, none 91 (omega arith) refl, none 93 (omega arith) refl, none 123 (omega arith) refl, none 125 (omega arith) refl, d, a, c, none 35 (omega arith) refl, none 38 (omega arith) refl, none 42 (omega arith) refl, none 33 (omega arith) refl, none 124 (omega arith) refl, none 62 (omega arith) refl, none 39 (omega arith) refl, none 34 (omega arith) refl, none 37 (omega arith) refl, none 64 (omega arith) refl, none 96 (omega arith) refl) refl
+other_byte b none d a c = grind (arith, nat_tests)
 
 blank_of : (a b c : Bool) → ((a || b) || c) ≡ false → a ≡ false
-blank_of false b c e = refl
-blank_of true b c e = absurd (true≢false e)
+blank_of a b c e = grind (arith, nat_tests, true≢false)
 
 begins : (flow : Bool) (text : List ℕ) (p : ℕ) → is_blank_or_end text p ≡ false
     → ((k : ℕ) → k < 128 → is_indicator k ≡ true → (byte text p == k) ≡ false)
@@ -225,29 +210,7 @@ in_flow true b k h e = absurd (true≢false (sym (same b k e) ∙ h))
 -- no mark of byte order
 no_bom : (text : List ℕ) (p x : ℕ) → x ≢ 0xFEFF → x < 1114112 → Has text p (encode_utf8 x)
     → is_bom text p ≡ false
-no_bom text p x m top h =
-    when_is (byte text p) 0xEF _ (λ a. when_is (byte text (p + 1)) 0xBB (byte text (p + 2) == 0xBF) (λ b. ne_eqb (byte text (p + 2)) 0xBF (λ d. m (is_mark text p x top a b d h))))
-  where
-    is_mark : (text : List ℕ) (p x : ℕ) → x < 1114112 → byte text p ≡ 0xEF
-        → byte text (p + 1) ≡ 0xBB → byte text (p + 2) ≡ 0xBF → Has text p (encode_utf8 x)
-        → x ≡ 0xFEFF
-    is_mark text p x top a b d h =
-        elim (cases_lt x 128) [
-          | inl u ↦ let k = (subst (λ (bs : List ℕ). Has text p bs) (encode_1 x u) h).0 in absurd (omega (arith, k, a, u))
-          | inr u ↦ elim (cases_lt x 2048) [
-            | inl v ↦ let k = (subst (λ (bs : List ℕ). Has text p bs) (encode_2 x u v) h).0 in absurd (omega (arith, k, a, v))
-            | inr v ↦ elim (cases_lt x 65536) [
-              | inl w ↦
-                  let k = subst (λ (bs : List ℕ). Has text p bs) (encode_3 x v w) h in
-                  let k0 = k.0 in
-                  let k1 = k.1.0 in
-                  let two : p + 1 + 1 ≡ p + 2 = omega arith in
-                  let k2 : byte text (p + 2) ≡ 128 + x % 64 = rw two at k.1.1.0 in
-                  omega (arith, k0, k1, k2, a, b, d)
-              | inr w ↦ let k = (subst (λ (bs : List ℕ). Has text p bs) (encode_4 x w) h).0 in absurd (omega (arith, k, a, w))
-            ]
-          ]
-        ]
+no_bom text p x m top h = grind (arith, nat_tests, when_is, ne_eqb, encode_1, encode_2, encode_3, encode_4)
 
 pub record Opens (flow : Bool) (text : List ℕ) (p : ℕ) : Type 0 where
   pub begins : begins_lexeme text p ≡ true
@@ -317,8 +280,7 @@ by_flow : (unicode flow : Bool) (x : ℕ) (xs : List ℕ) → may_be_plain unico
     → ((allowed unicode (x ∷ xs)).plain ≡ true)
     × (flow ≡ true → somewhere is_not_flow 32 (x ∷ xs) ≡ false)
 unfolding allowed
-by_flow unicode true x xs h = ((and_parts _ _ h).0, λ e. not-true _ (and_parts _ (not (somewhere is_not_flow 32 (x ∷ xs))) h).1)
-by_flow unicode false x xs h = (h, λ e. absurd (true≢false (sym e)))
+by_flow unicode flow x xs h = grind (arith, nat_tests, and_parts, not-true, true≢false)
 
 pub may_be : (unicode flow : Bool) (x : ℕ) (xs : List ℕ) → may_be_plain unicode flow (x ∷ xs) ≡ true
     → MayBe unicode flow (x ∷ xs)
@@ -351,33 +313,17 @@ one_line before (x ∷ xs) h =
     both a b p q = rw (p, q) refl
 
 plainly_is : (x : ℕ) → is_break x ≡ false → scalar x ≡ true → Plainly x
-plainly_is x h s =
-    let t29 = (or_parts _ (x == 0x2029) h).0 in
-    let t28 = (or_parts _ (x == 0x2028) t29).0 in
-    let t85 = (or_parts _ (x == 0x85) t28).0 in
-    record {
-      no_feed = eqb-false x 10 (or_parts (x == 10) _ t85).0;
-      no_return = eqb-false x 13 (or_parts _ (x == 13) t85).1;
-      no_next_line = eqb-false x 0x85 (or_parts _ (x == 0x85) t28).1;
-      no_line = eqb-false x 0x2028 (or_parts _ (x == 0x2028) t29).1;
-      no_paragraph = eqb-false x 0x2029 (or_parts _ (x == 0x2029) h).1;
-      top = top_of x s;
-    }
+plainly_is x h s = grind (arith, nat_tests, eqb-false)
 
 -- no end of a word
 word_on : (c : ℕ) → ends_word c ≡ false → (c ≢ 0) × (c ≢ 32) × (c ≢ 9)
-word_on c h =
-    let a = (or_parts _ (c == 0) h).0 in
-    let b = (or_parts (is_white c) _ a).0 in
-    (eqb-false c 0 (or_parts _ (c == 0) h).1, eqb-false c 32 (or_parts (c == 32) _ b).0, eqb-false c 9 (or_parts (c == 32) _ b).1)
+word_on c h = grind (arith, nat_tests, eqb-false)
 
 on_and : (a b : Bool) → (a && b) ≡ false → a ≡ true → b ≡ false
-on_and true b h e = h
-on_and false b h e = absurd (true≢false (sym e))
+on_and a b h e = grind (arith, nat_tests, true≢false)
 
 flow_is : (flow : Bool) (b : Bool) → (flow ≡ true → b ≡ false) → (flow && b) ≡ false
-flow_is true b h = h refl
-flow_is false b h = refl
+flow_is flow b h = grind (arith, nat_tests)
 
 not_flow : (before x next : ℕ) → is_not_flow before x next ≡ false
     → (is_bracket x ≡ false) × ((x == 58) ≡ false) × ((x == 63) ≡ false)

@@ -35,15 +35,15 @@ pub use Rattle.yaml_emit_layout.specs.Grammar.{has as is_some, kept_if, scalar_t
 pub use Rattle.yaml_emit_layout.specs.Nodes.{Context, MOST, anchor_text, checked, context_of, deeper, indent_of, indented, is_flow, is_plain, is_simple_part, page_at, position, properties_size, properties_text, tag_text, text_size, written_size}
 unfoldable pub use Rattle.yaml_emit_layout.specs.Nodes.{alias_layout, closer, is_simple, is_simple_alias, is_simple_scalar, is_simple_start, items_layout, node_layout, pairs_layout, scalar_layout, style_of}
 pub use Rattle.yaml_emit_layout.specs.declared.level.NodePosition.{NodePosition}
-pub use Rattle.yaml_emit_layout.specs.Layout.{Layout, Rest, after_block, after_text, blank, blanks, char, gap, indent_to, is_past, must_break, new_line, opener, stay, when, word, ◌▹◌}
+pub use Rattle.yaml_emit_layout.specs.Layout.{Layout, Rest, after_text, blank, blanks, char, gap, indent_to, is_past, must_break, new_line, opener, stay, when, word, ◌▹◌}
 unfoldable pub use Rattle.yaml_emit_layout.specs.Layout.{letters, line}
-pub use Rattle.yaml_emit_layout.specs.Quoted.{escape_letter, escape_text, escaped, first, is_empty, is_printable, needs_escape, quoted_char}
+pub use Rattle.yaml_emit_layout.specs.Quoted.{escape_text, escaped, first, is_empty, is_printable, needs_escape, quoted_char}
 unfoldable pub use Rattle.yaml_emit_layout.specs.Quoted.{quoted_body}
 pub use Rattle.yaml_emit_layout.specs.Scalars.{adds_break, block_text, chomp_mark, chomp_of, cuts_at, cuts_block, digit_char, ends_in_break, line_blank, plain, quote_char, text_char, value_break}
 unfoldable pub use Rattle.yaml_emit_layout.specs.Scalars.{behind_breaks, block_body, block_char, chomp, flow_body, flow_char, scalar_text}
 pub use Rattle.yaml_emit_layout.specs.Spelling.{break_text}
 unfoldable pub use Rattle.yaml_emit_layout.specs.Spelling.{in_front}
-pub use Rattle.yaml_emit_layout.specs.Style.{behind, block_or, ends_in_space, ends_word, is_blank as is_white, is_break_space, is_indicator, is_not_flow, is_not_plain, is_special, plain_fits, plain_or, single_or, starts_badly}
+pub use Rattle.yaml_emit_layout.specs.Style.{behind, block_or, ends_in_space, ends_word, is_break_space, is_indicator, is_not_flow, is_not_plain, is_special, plain_fits, plain_or, single_or, starts_badly}
 unfoldable pub use Rattle.yaml_emit_layout.specs.Style.{allowed, last_or, somewhere, taken}
 pub use Rattle.yaml_emit_layout.specs.Text.{Item, is_break, letter}
 pub use Rattle.yaml_emit_layout.specs.declared.Allowed.{Allowed}
@@ -57,7 +57,7 @@ pub use Rattle.yaml_emit_layout.specs.declared.page.Chomp.{Chomp, Chomp as Chomp
 pub use Rattle.yaml_scan_history.specs.Words.{WordText, blocked, plainly, valued}
 unfoldable pub use Rattle.yaml_scan_history.specs.Words.{indicator_of, kind_at, lexeme_at}
 pub use Rattle.yaml_scan_history.specs.Pieces.{Blank, Break, Kept, Piece, value as value_of}
-pub use Rattle.yaml_scan_history.specs.Plain.{Ends, PlainSpot, PlainText, Takes, after_white, follows, is_nothing, leads, plain_at, plain_text, plain_with, spot_at, with_piece, words_from}
+pub use Rattle.yaml_scan_history.specs.Plain.{Ends, PlainSpot, PlainText, Takes, after_white, follows, is_nothing, leads, plain_at, spot_at, with_piece, words_from}
 unfoldable pub use Rattle.yaml_scan_history.specs.Plain.{ends_at, is_bracket, is_indicator_byte, starts_plain, words}
 pub use Rattle.yaml_scan_history.specs.Indicators.{is_thrice}
 unfoldable pub use Rattle.yaml_scan_history.specs.Indicators.{is_document_end, is_document_start}
@@ -69,7 +69,7 @@ pub use Rattle.yaml_emit_layout.specs.scan_types.Classes.{is_bom, is_break as br
 unfoldable pub use Rattle.yaml_emit_layout.specs.scan_types.Classes.{any_below, is_alpha_byte, is_digit_byte}
 pub use Rattle.yaml_emit_layout.specs.scan_types.Marks.{break_width, byte, column_at, ends_break, is_blank, is_blank_or_end, mark_at, starts}
 unfoldable pub use Rattle.yaml_emit_layout.specs.scan_types.Marks.{break_of, line_at}
-pub use Rattle.yaml_emit_layout.specs.scan_model.Runs.{is_blank_there, is_space_there, is_text, line_end, past_blanks}
+pub use Rattle.yaml_emit_layout.specs.scan_model.Runs.{is_space_there, is_text, line_end}
 pub use Rattle.yaml_emit_layout.specs.scan_model.Wrong.{Wrong}
 pub use Rattle.yaml_emit_layout.specs.scan_model.declared.name.yaml_scalar_style_t.{yaml_scalar_style_t}
 pub use Rattle.yaml_scan_history.proofs.StackingLemmas.{space_or_some, stack_empty}
@@ -78,6 +78,6 @@ unfoldable pub use Rattle.yaml_scan_history.specs.Header.{chomp_of as chomp_at, 
 pub use Rattle.yaml_scan_history.specs.Lines.{Line, Lines, line_spot, line_then, spot_behind, with_line}
 unfoldable pub use Rattle.yaml_scan_history.specs.Lines.{lines_from, spaces}
 unfoldable pub use Rattle.yaml_scan_history.specs.Value.{stacked_with}
-pub use Rattle.yaml_scan_history.specs.Value.{BlockLine, Empty, Words, at_end, behind_text, block_value, space_or, starts_blank, texts_of, value_with}
+pub use Rattle.yaml_scan_history.specs.Value.{BlockLine, Empty, Words, at_end, behind_text, block_value, starts_blank, texts_of, value_with}
 pub use Rattle.yaml_emit_layout.proofs.Sinks.{cond_true, cond_false}
 unfoldable pub use Rattle.yaml_scan_history.specs.Value.{between}

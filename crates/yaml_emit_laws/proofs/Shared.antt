@@ -1,7 +1,7 @@
 -- The words of the definitions, and the lemmas below, that the files of lemmas share.
-pub use Rattle.std.proofs.Math.Bool.{and-false, or-false, or-true}
+pub use Rattle.std.proofs.Math.Bool.{and-false, or-false}
 pub use Rattle.std.proofs.Math.Utf8.{scalar_cases}
-pub use Rattle.std.proofs.lemmas.Bool.{and_from, and_parts, cases_Bool, cases_eq, cases_lt, eqb-false, eqb-true, leb-false, leb-true, lt-ltb, ltb-true, ne_eqb, not-false, not-true, or_cases, or_left, or_parts, or_right, true≢false}
+pub use Rattle.std.proofs.lemmas.Bool.{and_from, and_parts, cases_Bool, cases_eq, cases_lt, eqb-true, lt-ltb, ltb-true, ne_eqb, not-true, or_cases, or_left, or_parts, or_right, true≢false}
 pub use Rattle.std.proofs.lemmas.Bool.Decides.{nat_tests}
 pub use Rattle.std.proofs.lemmas.List.{append_cancel_left, get_or_past, reverse-append, take_all}
 pub use Rattle.std.proofs.lemmas.Str.{IsUtf8-append, IsUtf8-from_ascii, chars-append, encode_ascii, encodes-append, encodes-chars, scalars-chars}
@@ -16,7 +16,7 @@ pub use Rattle.yaml_emit_laws.specs.QuotedLaws.{QuotedIsReadBack}
 pub use Rattle.yaml_emit_laws.specs.ReadBack.{StaysInLine, ValueIsReadBack, between_quotes, gap_width, is_one_line}
 pub use Rattle.yaml_emit_laws.specs.Sizes.{anchor_bytes, ascii, larger, most_bytes, most_of_char, most_of_escape, most_of_line, most_of_quoted, properties_bytes, tag_bytes, unit}
 unfoldable pub use Rattle.yaml_emit_laws.specs.Sizes.{directives_bytes, most_of_documents, most_of_items, most_of_node, most_of_pairs, most_of_value, text_bytes}
-pub use Rattle.yaml_emit_laws.specs.Spelling.{LineEnd, LineTurn, MayStand, QuotedPart, doubled, end_bytes, end_means, feed, is_feed_end, is_fold, is_line_end, is_raw_blank, is_return, is_turn, joint, line_separator, may_be_next, may_be_raw, may_follow, meant, named, next_line, numbered, paragraph_separator, quoted, raw, return, return_feed}
+pub use Rattle.yaml_emit_laws.specs.Spelling.{LineEnd, LineTurn, MayStand, QuotedPart, doubled, end_bytes, end_means, feed, is_feed_end, is_fold, is_raw_blank, is_return, is_turn, joint, line_separator, may_be_next, may_be_raw, may_follow, meant, named, next_line, numbered, paragraph_separator, quoted, raw, return, return_feed}
 unfoldable pub use Rattle.yaml_emit_laws.specs.Spelling.{IsSpelling, may_turn, meaning, number_behind, spelling, turn_bytes, turn_means}
 pub use Rattle.yaml_emit_laws.specs.TagsLaws.{AreReadable, DirectivesAreRead, HaveUtf8, IsMarked, IsReadable, IsReadableDirective, IsShaped, IsTagReadBack, ReadableDirectivesAreAscii, ReadableTagsAreAscii, SplitTagsAreRead, WrittenDirectivesAreReadable, WrittenTagsAreReadable, are_ascii, directive_bytes, resolved_split}
 pub use Rattle.yaml_emit_laws.specs.TextLaws.{CanonicalTextIsRead, IsReadAs, NodesAreWords, text_of_documents}
@@ -44,9 +44,9 @@ pub use Rattle.yaml_scan_laws.specs.KeysTexts.{ReachEnd, Word, first_token, toke
 unfoldable pub use Rattle.yaml_scan_laws.specs.KeysTexts.{WordsStand, lexemes}
 pub use Rattle.yaml_emit_layout.specs.scan_types.Tokens.{Token, TokenBody}
 pub use Rattle.yaml_emit_layout.specs.scan_model.declared.name.yaml_scalar_style_t.TheVariants.{YAML_DOUBLE_QUOTED_SCALAR_STYLE}
-pub use Rattle.yaml_emit_layout.specs.Content.{Document, Event, Node, Nodes, Opening, Pairs, Scalar, Start, alias, alias_node, document_end, document_start, mapping_end, mapping_node, mapping_start, no_event, no_nodes, no_pairs, node, pair, scalar, scalar_node, sequence_end, sequence_node, sequence_start, stream_end, stream_events, stream_start}
+pub use Rattle.yaml_emit_layout.specs.Content.{Document, Event, Node, Nodes, Opening, Pairs, Scalar, Start, alias_node, document_end, mapping_end, mapping_node, mapping_start, no_nodes, no_pairs, node, pair, scalar, scalar_node, sequence_end, sequence_node, sequence_start, stream_events}
 unfoldable pub use Rattle.yaml_emit_layout.specs.Content.{documents_events, items_events, node_events, pairs_events}
-pub use Rattle.yaml_emit_layout.specs.Grammar.{between, directive_problem, ends_problem, has, has_handle, inner_problem, is_version, kept_if, opening_problem, or_else, prefix_problem, scalar_tag, start_tag, twice_problem, version_problem}
+pub use Rattle.yaml_emit_layout.specs.Grammar.{between, directive_problem, has, has_handle, is_version, kept_if, opening_problem, or_else, prefix_problem, scalar_tag, start_tag, twice_problem, version_problem}
 unfoldable pub use Rattle.yaml_emit_layout.specs.Grammar.{directives_problem, handle_problem}
 pub use Rattle.yaml_emit_layout.specs.Nodes.{Context, MOST, anchor_text, are_no_pairs, are_none, block_indent_in, checked, comma, context_of, dashes, deep_if, deeper, directive_text, dots, indent_of, indented, is_directed, is_flow, is_marked, is_of_mapping, is_plain, is_simple_part, key_part, line_at, mark_text, page_at, position, properties_text, question, root_position, tag_text, version_text, version_word}
 unfoldable pub use Rattle.yaml_emit_layout.specs.Nodes.{alias_layout, before_item, before_key, before_value, closer, directives_text, documents_layout, end_layout, is_simple, is_simple_alias, is_simple_scalar, is_simple_start, items_layout, node_layout, pairs_layout, scalar_layout, start_layout, stop_layout, stream_layout, style_of, turned}
@@ -61,7 +61,7 @@ unfoldable pub use Rattle.yaml_emit_layout.specs.Scalars.{block_body, block_char
 pub use Rattle.yaml_emit_layout.specs.Text.{Item, deep, letter}
 unfoldable pub use Rattle.yaml_emit_layout.specs.Text.{char_bytes, encode, is_deep}
 pub use Rattle.yaml_emit_layout.specs.declared.Encoding.{Encoding}
-pub use Rattle.yaml_emit_layout.specs.declared.Encoding.TheVariants.{Utf16Be, Utf16Le, Utf8}
+pub use Rattle.yaml_emit_layout.specs.declared.Encoding.TheVariants.{Utf8}
 pub use Rattle.yaml_emit_layout.specs.parse_model.Events.{TagDirective}
 pub use Rattle.yaml_emit_layout.specs.scan_model.declared.name.yaml_encoding_t.{yaml_encoding_t}
 pub use Rattle.yaml_emit_layout.specs.scan_model.declared.record.yaml_version_directive_t.{yaml_version_directive_t}

@@ -1,6 +1,6 @@
 -- How long an escape is.
-use Rattle.std.proofs.Common.{◌≡◌, ℕ, ◌+◌, ◌*◌, ◌<◌, ◌≤◌, Bool, true, false, ◌&&◌, ◌==◌, nat_lt, if◌then◌else◌, List, [], ◌∷◌, ◌++◌, length, refl, arith, inl, inr, le_refl, mul-le-mul_left}
-use Rattle.yaml_emit_laws.proofs.Shared.{cases_Bool, ltb-true, lt-ltb, and_from, Encoding, char_bytes, escape_letter, escape_text, hex_4, hex_8, hex_2, unit, text_bytes, most_of_escape, EscapesAreShort}
+use Rattle.std.proofs.Common.{◌≡◌, ℕ, ◌+◌, ◌*◌, ◌<◌, ◌≤◌, Bool, true, false, ◌&&◌, nat_lt, if◌then◌else◌, List, [], ◌∷◌, ◌++◌, length, refl, arith, le_refl, mul-le-mul_left}
+use Rattle.yaml_emit_laws.proofs.Shared.{nat_tests, cases_Bool, ltb-true, lt-ltb, and_from, Encoding, char_bytes, escape_letter, escape_text, hex_4, hex_8, hex_2, unit, text_bytes, most_of_escape, EscapesAreShort}
 use Rattle.yaml_emit_layout.specs.Hex.{hex_digit}
 use Rattle.yaml_emit_laws.proofs.SizesCounting.{all_ascii, ascii_bytes}
 
@@ -13,8 +13,7 @@ raw_most x c = grind arith
 
 small_if : (b : Bool) (x y : ℕ) → nat_lt x 128 ≡ true → nat_lt y 128 ≡ true
     → nat_lt (if b then x else y) 128 ≡ true
-small_if true x y e f = e
-small_if false x y e f = f
+small_if b x y e f = grind (arith, nat_tests)
 
 letter_small : (c : ℕ) → nat_lt (escape_letter c) 128 ≡ true
 unfolding escape_letter
@@ -54,17 +53,7 @@ four_most x n c w = let k : unit x * 4 ≤ unit x * most_of_escape c = mul-le-mu
 escape_most : (x : Encoding) (c : ℕ) → c < 0x1_0000_0000
     → text_bytes x (escape_text c) ≤ unit x * most_of_escape c
 unfolding escape_text
-escape_most x c w =
-    elim (cases_Bool (escape_letter c == 0)) [
-      | inr e ↦ rw e (four_most x (text_bytes x (92 ∷ escape_letter c ∷ [])) c (let k = ascii_bytes x (92 ∷ escape_letter c ∷ []) (and_from (nat_lt (escape_letter c) 128) true (letter_small c) refl) in omega (arith, k)))
-      | inl e ↦ rw e (elim (cases_Bool (nat_lt c 0x100)) [
-        | inl f ↦ rw f (ascii_bytes x (92 ∷ 120 ∷ hex_2 c) (two_small c (ltb-true c 0x100 f)))
-        | inr f ↦ rw f (elim (cases_Bool (nat_lt c 0x1_0000)) [
-          | inl g ↦ rw g (ascii_bytes x (92 ∷ 117 ∷ hex_4 c) (four_small c (ltb-true c 0x1_0000 g)))
-          | inr g ↦ rw g (ascii_bytes x (92 ∷ 85 ∷ hex_8 c) (eight_small c w))
-        ])
-      ])
-    ]
+escape_most x c w = grind (arith, nat_tests, cases_Bool, four_most, ascii_bytes, letter_small, two_small, ltb-true, four_small, eight_small)
 
 pub short : EscapesAreShort
 short s n c w e = grind (arith, escape_most, four_most, raw_most)

@@ -406,8 +406,7 @@ plain_word words flow level spaced page c value r = spoken spaced (encode_utf8_a
 -- ==== A single quoted scalar as content.
 
 no_quote : (bs : List ℕ) → begins_white bs ≡ true → first bs ≡ 39 → ⊥
-no_quote [] h e = absurd (omega (arith, e))
-no_quote (b ∷ bs) h e = let k : begins_white (39 ∷ bs) ≡ true = subst (λ x. begins_white (x ∷ bs) ≡ true) e h in absurd (false≢true k)
+no_quote bs h e = grind (arith, nat_tests, false≢true)
 
 pub bare_off : (b : Bool) → b ≡ false → b ≡ true → ⊥
 bare_off b e f = false≢true (sym e ∙ f)

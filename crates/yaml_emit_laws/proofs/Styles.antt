@@ -1,6 +1,6 @@
 -- A style that is taken is allowed.
-use Rattle.std.proofs.Common.{◌≡◌, Bool, true, false, sym, subst, ℕ, ◌<◌, ◌≤◌, Option, Some, None, arith, if◌then◌else◌, chars}
-use Rattle.yaml_emit_laws.proofs.ScalarWords.{yaml_scalar_style_t, Allowed, Style, allowed, taken, single_or, block_or, plain_or, NodePosition, Scalar, Context, is_simple_part, style_of, deeper, Settings, bool_cases}
+use Rattle.std.proofs.Common.{◌≡◌, Bool, true, false, sym, subst, ℕ, ◌<◌, ◌≤◌, Option, arith, if◌then◌else◌, chars}
+use Rattle.yaml_emit_laws.proofs.ScalarWords.{nat_tests, yaml_scalar_style_t, Allowed, Style, allowed, taken, single_or, block_or, plain_or, NodePosition, Scalar, Context, is_simple_part, style_of, deeper, Settings, bool_cases}
 use Rattle.yaml_emit_layout.specs.declared.Style.TheVariants as style
 use Rattle.yaml_emit_laws.specs.StylesLaws.{StylesAreAllowed, level_of, PagesIndent}
 
@@ -42,8 +42,7 @@ styles_allowed p at x = grind (arith, style_fits)
 
 deep_by : (s : Settings) → 0 < s.indent → (around : Option ℕ) (level : ℕ) → level ≤ level_of around
     → (0 < deeper s around) × (level ≤ deeper s around)
-deep_by s some None level h = (some, omega (arith, h))
-deep_by s some (Some n) level h = (omega (arith, some), omega (arith, some, h))
+deep_by s some around level h = grind (arith, nat_tests)
 
 pub pages_indent : PagesIndent
 pages_indent s some at level h = deep_by s some at.around level h

@@ -8,7 +8,7 @@ use Rattle.yaml_emit_laws.proofs.Forms.{TagWalks, MarkWalks}
 use Rattle.yaml_emit_laws.proofs.Places.{has_at}
 use Rattle.yaml_emit_laws.proofs.Steps.{Sign}
 use Rattle.yaml_emit_laws.proofs.Words.{sign, word_walks}
-pub use Rattle.yaml_emit_laws.proofs.Words.{Letters, letters_are}
+pub use Rattle.yaml_emit_laws.proofs.Words.{letters_are}
 
 mark_sign : Sign 33
 mark_sign = sign 33 refl refl refl refl refl refl refl refl refl refl

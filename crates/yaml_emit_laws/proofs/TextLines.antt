@@ -1,5 +1,5 @@
 -- The break after a directive, which belongs to its word.
-use Rattle.std.proofs.Common.{◌≡◌, ℕ, ◌+◌, ◌==◌, nat_lt, Bool, true, false, List, [], ◌∷◌, refl, arith}
+use Rattle.std.proofs.Common.{◌≡◌, ℕ, ◌+◌, ◌==◌, nat_lt, Bool, true, false, List, refl, arith}
 use Rattle.yaml_emit_laws.proofs.Shared.{nat_tests, get_or_past, byte, break_of, break_width, is_break, Cursor, LineBreak, Rest, line, blanks, new_line, Left, Starts, bytes, first}
 use Rattle.yaml_emit_laws.proofs.Forms.{at_line, NoFeed}
 use Rattle.yaml_emit_laws.proofs.Places.{left_first, left_more}
@@ -13,8 +13,7 @@ pub record Broken (text : List ℕ) (q : ℕ) (rest : Rest) (kept : Bool) : Type
 
 -- The byte at a place is the first of those left there.
 pub left_byte : (text : List ℕ) (p : ℕ) (bs : List ℕ) → Left text p bs → byte text p ≡ first bs
-left_byte text p [] l = let e = l.ends in get_or_past text p 0 (omega (arith, e))
-left_byte text p (b ∷ bs) l = left_first text p b bs l
+left_byte text p bs l = grind (arith, nat_tests, get_or_past, left_first)
 
 -- LF is a break of one byte.
 pub feed_width : (text : List ℕ) (q : ℕ) → byte text q ≡ 10 → break_width text q ≡ 1

@@ -1,7 +1,7 @@
 -- What a stack of states gives, of any tokens and under any directives, is a front of the events of contents.
-use Rattle.std.proofs.Common.{◌≡◌, ℕ, Bool, true, false, if◌then◌else◌, List, [], ◌∷◌, ◌++◌, map, length, Option, Some, None, refl, ap, subst, ◌∙◌}
-use Rattle.yaml_parse_laws_trees.proofs.Words.{bytes_eq, yaml_mark_t, yaml_scalar_style_t, yaml_version_directive_t, Token, type_of, no_token, zero_mark, Fault, Event, EventBody, TagDirective, RawEvent, RawEventBody, Shape, item_at, State, Taken, Given, choice_at, taken_at, left_at, Fed, stop, go, with_item, given_by, turn, feed, Outcome, finished, carry, ending_at, run, wants_of, Directives, Settled, refused, gave, noted, settle, with_version, with_tag, with_resolved, is_known_version, directive_for, resolved, node_event, Reading, Told, placed, read_on, reading, reading_of, IsStack, spanning, DocumentContent, document_events, told_events, IsOutside, AreOutside, LoadsByContent, contents_events, settle_body, is_between, leave_rule}
-use Rattle.std.specs.Prelude.{codes, ℤ}
+use Rattle.std.proofs.Common.{◌≡◌, ℕ, Bool, true, false, if◌then◌else◌, List, [], ◌∷◌, ◌++◌, map, length, Option, Some, None, refl, ap, subst, arith}
+use Rattle.yaml_parse_laws_trees.proofs.Words.{yaml_mark_t, yaml_scalar_style_t, yaml_version_directive_t, Token, type_of, no_token, zero_mark, Fault, Event, EventBody, TagDirective, RawEvent, RawEventBody, Shape, item_at, State, Taken, Given, choice_at, taken_at, left_at, Fed, stop, go, with_item, given_by, turn, feed, Outcome, finished, carry, ending_at, run, wants_of, Directives, Settled, refused, gave, noted, settle, with_version, with_tag, with_resolved, node_event, Reading, Told, placed, read_on, reading, reading_of, IsStack, spanning, DocumentContent, document_events, told_events, IsOutside, AreOutside, LoadsByContent, contents_events, settle_body, is_between, leave_rule}
+use Rattle.std.specs.Prelude.{ℤ}
 use Rattle.yaml_parse_laws_trees.specs.parse_grammar.parse_model.Events as event
 use Rattle.yaml_parse_laws_trees.specs.parse_grammar.declared.Site.TheVariants.{Root}
 use Rattle.yaml_parse_laws_trees.specs.parse_grammar.declared.Choice.{Choice}
@@ -20,48 +20,36 @@ SettledFits (noted ds) i Y X = (es : List Event) → Y es → X es
 
 known_fits : (b : Bool) (ds : Directives) (f : Fault) (i : RawEvent) (Y X : List Event → Type 0)
     → ((es : List Event) → Y es → X es) → SettledFits (if b then noted ds else refused f) i Y X
-known_fits true ds f i Y X h = h
-known_fits false ds f i Y X h = tt
+known_fits b ds f i Y X h = grind arith
 
 version_fits : (o : Option yaml_version_directive_t) (tags : List TagDirective) (major minor : ℤ)
     (at : yaml_mark_t) (i : RawEvent) (Y X : List Event → Type 0)
     → ((es : List Event) → Y es → X es)
     → SettledFits (with_version o tags major minor at) i Y X
-version_fits (Some v) tags major minor at i Y X h = tt
-version_fits None tags major minor at i Y X h = known_fits (is_known_version major minor) _ _ i Y X h
+version_fits o tags major minor at i Y X h = grind (arith, known_fits)
 
 handle_fits : (o : Option (List ℕ)) (ds : Directives) (handle prefix : List ℕ) (at : yaml_mark_t)
     (i : RawEvent) (Y X : List Event → Type 0) → ((es : List Event) → Y es → X es)
     → SettledFits (with_tag o ds handle prefix at) i Y X
-handle_fits (Some other) ds handle prefix at i Y X h = tt
-handle_fits None ds handle prefix at i Y X h = h
+handle_fits o ds handle prefix at i Y X h = grind arith
 
 tagged_is : (b : Bool) (anchor : Option (List ℕ)) (tag value : List ℕ) (style : yaml_scalar_style_t)
     → IsScalar (if b then event.scalar anchor None value true false style else event.scalar anchor
     (Some tag) value false false style)
-tagged_is true anchor tag value style = tt
-tagged_is false anchor tag value style = tt
+tagged_is b anchor tag value style = grind arith
 
 event_is : (anchor tag : Option (List ℕ)) (shape : Shape) → IsOf shape (node_event anchor tag shape)
-event_is anchor None (item.scalar value style) = tt
-event_is anchor (Some tag) (item.scalar value style) = tagged_is (bytes_eq tag (codes "!")) anchor tag value style
-event_is anchor tag _ = tt
+event_is anchor tag shape = grind (arith, tagged_is)
 
 resolved_fits : (o anchor : Option (List ℕ)) (shape : Shape) (from at : yaml_mark_t)
     (ds : Directives) (i : RawEvent) (Y X : List Event → Type 0)
     → ((b : EventBody) → IsOf shape b → (es : List Event) → Y es → X (placed b i ∷ es))
     → SettledFits (with_resolved o anchor shape from at ds) i Y X
-resolved_fits None anchor shape from at ds i Y X h = tt
-resolved_fits (Some tag) anchor shape from at ds i Y X h = h (node_event anchor (Some tag) shape) (event_is anchor (Some tag) shape)
+resolved_fits o anchor shape from at ds i Y X h = grind (arith, event_is)
 
 settled_fits : (b : RawEventBody) (from : yaml_mark_t) (ds : Directives) (i : RawEvent)
     (Y X : List Event → Type 0) → FitsBody b i Y X → SettledFits (settle_body b from ds) i Y X
-settled_fits (item.event body) from ds i Y X h = h
-settled_fits (item.version_directive major minor) from ds i Y X h = version_fits ds.version ds.tags major minor from i Y X h
-settled_fits (item.tag_directive handle prefix) from ds i Y X h = handle_fits (directive_for handle ds.tags) ds handle prefix from i Y X h
-settled_fits (item.document implicit) from ds i Y X h = h ds.version ds.tags
-settled_fits (item.node anchor None shape) from ds i Y X h = h (node_event anchor None shape) (event_is anchor None shape)
-settled_fits (item.node anchor (Some tag) shape) from ds i Y X h = resolved_fits (resolved ds.tags tag.handle tag.suffix) anchor shape from tag.mark ds i Y X h
+settled_fits b from ds i Y X h = grind (arith, version_fits, handle_fits, event_is, resolved_fits)
 
 -- ---- readings
 
@@ -77,9 +65,7 @@ read_fits : (c : Settled) (i : RawEvent) (left : ℕ) (k : Directives → Readin
     (Y X : List Event → Type 0) → SettledFits c i Y X → Has X
     → ((ds : Directives) → Extended Y (told_events (k ds).events))
     → Extended X (told_events (read_on c i left k).events)
-read_fits (refused f) i left k Y X h s e = record { more = s.given; is = s.is }
-read_fits (gave b ds) i left k Y X h s e = record { more = (e ds).more; is = h _ (e ds).is }
-read_fits (noted ds) i left k Y X h s e = record { more = (e ds).more; is = h _ (e ds).is }
+read_fits c i left k Y X h s e = grind arith
 
 item_extends : (i : RawEvent) (left : ℕ) (gs : List Given) (Y X : List Event → Type 0) → Fits i Y X
     → Has X → Extends gs Y → Extends ((i, left) ∷ gs) X
@@ -146,13 +132,11 @@ feed_fits P (x ∷ s) t h = turn_fits P (choice_at x (type_of t.body)) x t s h r
 carry_fits : (P X : List Event → Type 0) (left : ℕ) (fed : Fed) (k : List State → Outcome)
     → FedFits P X fed → ((s : List State) → Extends (k s).items (Over s P))
     → Extends (carry left fed k).items X
-carry_fits P X left (stop is f) k h e = h left
-carry_fits P X left (go is s) k h e = h left (k s).items (e s)
+carry_fits P X left fed k h e = grind arith
 
 ending_fits : (P : List Event → Type 0) (s : List State) (f : Fault) → Has P
     → Extends (ending_at s f).items (Over s P)
-ending_fits P [] f h = none_extends P h
-ending_fits P (x ∷ s) f h = none_extends (Over (x ∷ s) P) (stack_has (x ∷ s) P h)
+ending_fits P s f h = grind (arith, none_extends, stack_has)
 
 run_fits : (P : List Event → Type 0) (ts : List Token) (s : List State) (f : Option Fault) → Has P
     → Extends (run ts s f).items (Over s P)
@@ -174,9 +158,7 @@ before_end (d ∷ ds) last rest e = ap (λ (z : List Event). document_events d z
 documents_load : (outside gs : List Told) (more : List Event) (own : Option Fault) (count : ℕ)
     → AreOutside outside → Documents NoMore (told_events gs ++ more)
     → LoadsByContent own count (outside ++ gs)
-documents_load outside gs more own count o h =
-    by_content h.part.0 (at_span event.stream_end h.part.1) tt outside gs more own count o
-    (h.same ∙ before_end h.part.0 (at_span event.stream_end h.part.1) h.rest h.goes)
+documents_load outside gs more own count o h = grind (arith, by_content, before_end)
 
 abbrev last_event : Event
 last_event = spanning event.stream_end zero_mark zero_mark

@@ -1,7 +1,7 @@
 -- After a document's explicit end a directive begins a document as after the stream's start.
-use Rattle.std.proofs.Common.{◌≡◌, ◌≢◌, List, [], ◌∷◌, ◌++◌, length, Option, Some, None, refl, sym, ap, subst, ◌∙◌}
+use Rattle.std.proofs.Common.{◌≡◌, ◌≢◌, List, [], ◌∷◌, ◌++◌, length, Option, Some, None, refl, sym, ap, subst, ◌∙◌, arith}
 use Rattle.std.proofs.lemmas.List.{append_assoc, same_from_push}
-use Rattle.yaml_parse_laws_trees.proofs.WindowsWords.{yaml_mark_t, yaml_encoding_t, Token, TokenBody, Event, Fault, Root, Entry, IndentlessEntry, BlockPair, FlowPair, Key, Value, Flow, Block, RawEvent, event_at, Directives, no_directives, placed, State, left_at, Fed, stop, go, with_item, feed, carry, run, initial, parse_of, events_in, GoOn}
+use Rattle.yaml_parse_laws_trees.proofs.WindowsWords.{yaml_mark_t, yaml_encoding_t, Token, TokenBody, Event, Fault, RawEvent, event_at, Directives, no_directives, placed, State, left_at, Fed, stop, go, with_item, feed, carry, run, initial, parse_of, events_in, GoOn}
 use Rattle.yaml_parse_grammar.specs.scan_types.Tokens as token
 use Rattle.yaml_parse_grammar.specs.parse_model.Events as event
 use Rattle.yaml_parse_grammar.specs.declared.Brackets.TheVariants as brackets
@@ -23,29 +23,17 @@ IsOver (stop is f) = Unit {0}
 IsOver (go is s) = s ≡ state.documents ∷ []
 
 over_item : (i : RawEvent) (x : Fed) → IsOver x → IsOver (with_item i x)
-over_item i (stop is f) h = tt
-over_item i (go is s) h = h
+over_item i x h = grind arith
 
 optional_over : (place : _) (before m e : yaml_mark_t) (s : List State)
     → IsOver (feed s (over_at m e)) → IsOver (feed (state.optional place before ∷ s) (over_at m e))
 unfolding feed
-optional_over Root before m e s h = over_item (left_at (state.optional Root before) m) (feed s (over_at m e)) h
-optional_over Entry before m e s h = tt
-optional_over (IndentlessEntry Key) before m e s h = tt
-optional_over (IndentlessEntry Value) before m e s h = tt
-optional_over (BlockPair Key) before m e s h = tt
-optional_over (BlockPair Value) before m e s h = tt
-optional_over (FlowPair brackets.Sequence Key) before m e s h = tt
-optional_over (FlowPair brackets.Sequence Value) before m e s h = tt
-optional_over (FlowPair brackets.Mapping Key) before m e s h = tt
-optional_over (FlowPair brackets.Mapping Value) before m e s h = tt
+optional_over place before m e s h = grind (arith, over_item)
 
 beside_over : (w : _) (p : _) (m e : yaml_mark_t) (s : List State)
     → IsOver (feed s (over_at m e)) → IsOver (feed (state.with_properties w p ∷ s) (over_at m e))
 unfolding feed
-beside_over Flow p m e s h = over_item (left_at (state.with_properties Flow p) m) (feed s (over_at m e)) h
-beside_over (Block None) p m e s h = over_item (left_at (state.with_properties (Block None) p) m) (feed s (over_at m e)) h
-beside_over (Block (Some side)) p m e s h = over_item (left_at (state.with_properties (Block (Some side)) p) m) (feed s (over_at m e)) h
+beside_over w p m e s h = grind (arith, over_item)
 
 pub feed_over : (s : List State) (ds : Directives) → Stands s ds → (m e : yaml_mark_t)
     → IsOver (feed s (over_at m e))

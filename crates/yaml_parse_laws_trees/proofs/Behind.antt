@@ -1,7 +1,6 @@
 -- What a stack gives at a token that it refuses: nothing where a node or a document must come, and else what it gives at an end.
-use Rattle.std.proofs.Common.{◌≡◌, ◌⊎◌, inl, inr, Bool, true, false, List, [], ◌∷◌, ◌++◌, Option, Some, None, refl, ap, sym, subst, ◌∙◌}
-use Rattle.yaml_parse_laws_trees.proofs.Words.{yaml_mark_t, yaml_token_type_t, Token, TokenBody, type_of, Brackets, Choice, Refuse, Take, Leave, Open, RawEvent, State, choice_at, documents_taken, taken_at, left_at, Fed, stop, go, with_item, given_by, turn, feed, is_end, last_leaves_open, entries_taken, pairs_taken, more_taken, leaves_open, MayLeave, leave_rule, refuse_rule, opens_first, was_take, false≢true, true≢false}
-use Rattle.yaml_parse_model.specs.scan_types.Tokens as token
+use Rattle.std.proofs.Common.{◌≡◌, ◌⊎◌, Bool, true, false, List, [], ◌∷◌, ◌++◌, Option, Some, None, refl, ap, ◌∙◌, arith, sym, subst}
+use Rattle.yaml_parse_laws_trees.proofs.Words.{left_at, Refuse, yaml_mark_t, yaml_token_type_t, Token, TokenBody, type_of, Brackets, Choice, Take, Leave, RawEvent, State, choice_at, documents_taken, taken_at, Fed, stop, go, with_item, given_by, turn, feed, is_end, last_leaves_open, entries_taken, pairs_taken, more_taken, leaves_open, MayLeave, leave_rule, refuse_rule, opens_first, was_take, false≢true, true≢false}
 use Rattle.yaml_parse_laws_trees.specs.parse_grammar.States as state
 use Rattle.yaml_parse_laws_trees.proofs.SoundStanding.{Goes, Closed, Stood}
 use Rattle.yaml_parse_laws_trees.proofs.Closing.{IsLight, light_leaves}
@@ -18,19 +17,7 @@ open_behind property = false
 open_behind other = false
 
 body_open : (b : TokenBody) → leaves_open b ≡ open_behind (last_of b)
-body_open (token.stream_start e) = refl
-body_open token.document_start = refl
-body_open token.block_entry = refl
-body_open token.key = refl
-body_open token.value = refl
-body_open token.flow_entry = refl
-body_open token.flow_sequence_start = refl
-body_open token.flow_mapping_start = refl
-body_open (token.version_directive major minor) = refl
-body_open (token.tag_directive handle prefix) = refl
-body_open (token.anchor name) = refl
-body_open (token.tag handle suffix) = refl
-body_open _ = refl
+body_open b = grind arith
 
 pub front_open : (front : List Token) (l : Last)
     → last_leaves_open (open_behind l) front ≡ open_behind (last_behind l front)
@@ -46,24 +33,14 @@ GivesNone (go is s) = Unit {0}
 -- where a node is left out, nothing below refuses
 open_leaves : (x : State) (t : Token) (s : List State) → open_behind (told x) ≡ true → Stood x s
     → MayLeave x (type_of t.body) → Goes (feed s t)
-open_leaves (state.optional place before) t s o h l = h.0 t l
-open_leaves state.document_end t s o h l = absurd (false≢true o)
-open_leaves (state.others side) t s o h l = absurd (false≢true o)
-open_leaves (state.colon place) t s o h l = absurd (false≢true o)
-open_leaves (state.with_properties w p) t s o h l = absurd (false≢true o)
-open_leaves state.pair_end t s o h l = absurd (false≢true o)
-open_leaves state.lone t s o h l = absurd (false≢true o)
-open_leaves _ t s o h l = absurd l
+open_leaves x t s o h l = grind (arith, false≢true)
 
 goes_none : (i : RawEvent) (fed : Fed) → Goes fed → GivesNone (with_item i fed)
-goes_none i (stop is e) h = absurd h
-goes_none i (go is s) h = tt
+goes_none i fed h = grind arith
 
 none_turn : (c : Choice) (x : State) (t : Token) (s : List State) (fed : Fed)
     → (c ≡ Leave → Goes fed) → GivesNone (turn c x t s fed)
-none_turn (Refuse p o) x t s fed h = refl
-none_turn Leave x t s fed h = goes_none (left_at x t.start_mark) fed (h refl)
-none_turn _ x t s fed h = tt
+none_turn c x t s fed h = grind (arith, goes_none)
 
 pub none_given : (x : State) (s : List State) (t : Token) → open_behind (told x) ≡ true → Stood x s
     → GivesNone (feed (x ∷ s) t)
@@ -97,62 +74,35 @@ IsHeavy (state.more b opener) = Unit {0}
 IsHeavy _ = ⊥
 
 heavy_stays : (x : State) (k : yaml_token_type_t) → IsHeavy x → MayLeave x k → ⊥
-heavy_stays state.documents k h l = l
-heavy_stays (state.entries opener) k h l = l
-heavy_stays (state.pairs opener) k h l = l
-heavy_stays (state.more b opener) k h l = l
-heavy_stays _ k h l = absurd h
+heavy_stays x k h l = grind arith
 
 documents_tell : (start end : yaml_mark_t) (b : TokenBody) → is_end b ≡ true
     → choice_at state.documents (type_of b) ≡ Take
     → HasItem (documents_taken start start end b).item
-documents_tell start end token.stream_end e c = tt
-documents_tell start end token.block_end e c = absurd (was_take _ c)
-documents_tell start end token.flow_sequence_end e c = absurd (was_take _ c)
-documents_tell start end token.flow_mapping_end e c = absurd (was_take _ c)
-documents_tell start end _ e c = absurd (false≢true e)
+documents_tell start end b e c = grind (arith, was_take, false≢true)
 
 entries_tell : (opener start end : yaml_mark_t) (b : TokenBody) → is_end b ≡ true
     → HasItem (entries_taken opener start end b).item
-entries_tell opener start end token.block_entry e = absurd (false≢true e)
-entries_tell opener start end _ e = tt
+entries_tell opener start end b e = grind (arith, false≢true)
 
 pairs_tell : (opener start end : yaml_mark_t) (b : TokenBody) → is_end b ≡ true
     → HasItem (pairs_taken opener start end b).item
-pairs_tell opener start end token.key e = absurd (false≢true e)
-pairs_tell opener start end _ e = tt
+pairs_tell opener start end b e = grind (arith, false≢true)
 
 more_tell : (b : Brackets) (opener start end : yaml_mark_t) (x : TokenBody) → is_end x ≡ true
     → HasItem (more_taken b opener start end x).item
-more_tell b opener start end token.flow_entry e = absurd (false≢true e)
-more_tell b opener start end _ e = tt
+more_tell b opener start end x e = grind (arith, false≢true)
 
 heavy_tells : (x : State) (t : Token) → IsHeavy x → is_end t.body ≡ true
     → choice_at x (type_of t.body) ≡ Take → HasItem (taken_at x t).item
-heavy_tells state.documents t h e c = documents_tell t.start_mark t.end_mark t.body e c
-heavy_tells (state.entries opener) t h e c = entries_tell opener t.start_mark t.end_mark t.body e
-heavy_tells (state.pairs opener) t h e c = pairs_tell opener t.start_mark t.end_mark t.body e
-heavy_tells (state.more b opener) t h e c = more_tell b opener t.start_mark t.end_mark t.body e
-heavy_tells _ t h e c = absurd h
+heavy_tells x t h e c = grind (arith, documents_tell, entries_tell, pairs_tell, more_tell)
 
 light_or_heavy : (x : State) → open_behind (told x) ≡ false → IsLight x ⊎ IsHeavy x
-light_or_heavy state.documents h = inr tt
-light_or_heavy (state.entries opener) h = inr tt
-light_or_heavy (state.pairs opener) h = inr tt
-light_or_heavy (state.more b opener) h = inr tt
-light_or_heavy state.document_end h = inl (λ r. r)
-light_or_heavy (state.others side) h = inl (λ r. r)
-light_or_heavy (state.colon place) h = inl (λ r. r)
-light_or_heavy (state.with_properties w p) h = inl (λ r. r)
-light_or_heavy state.pair_end h = inl (λ r. r)
-light_or_heavy state.lone h = inl (λ r. r)
-light_or_heavy _ h = absurd (true≢false h)
+light_or_heavy x h = grind (arith, true≢false)
 
 alike_with : (i j : RawEvent) (a b : Fed) → j ≡ i → Alike a b
     → Alike (with_item i a) (with_item j b)
-alike_with i j (stop is e) (stop js f) p h = tt
-alike_with i j (stop is e) (go js s) p h = record { last = h.last; same = ap (λ (z : RawEvent). z ∷ js) p ∙ ap (λ (z : List RawEvent). i ∷ z) h.same }
-alike_with i j (go is s) b p h = tt
+alike_with i j a b p h = grind arith
 
 light_turn : (c : Choice) (x : State) (t u : Token) (s : List State) (a b : Fed) → IsLight x
     → choice_at x (type_of t.body) ≡ c → is_end u.body ≡ true → u.start_mark ≡ t.start_mark
@@ -166,29 +116,22 @@ light_turn _ x t u s a b l c e m h = tt
 
 given_one : (i : Option RawEvent) (above s : List State) → HasItem i
     → AlikeStopped [] (given_by (record { item = i; above = above }) s)
-given_one None above s h = absurd h
-given_one (Some i) above s h = record { last = i; same = refl }
+given_one i above s h = grind arith
 
 heavy_end : (d : Choice) (x : State) (u : Token) (s : List State) (b : Fed) → IsHeavy x
     → choice_at x (type_of u.body) ≡ d → is_end u.body ≡ true → AlikeStopped [] (turn d x u s b)
-heavy_end (Refuse p o) x u s b h c e = tt
-heavy_end Take x u s b h c e = given_one (taken_at x u).item (taken_at x u).above s (heavy_tells x u h e c)
-heavy_end Leave x u s b h c e = absurd (heavy_stays x (type_of u.body) h (leave_rule x (type_of u.body) c))
-heavy_end Open x u s b h c e = absurd (subst IsHeavy (opens_first x (type_of u.body) c) h)
+heavy_end d x u s b h c e = grind (arith, given_one, heavy_tells, heavy_stays, leave_rule, opens_first)
 
 heavy_turn : (c : Choice) (x : State) (t u : Token) (s : List State) (a b : Fed) → IsHeavy x
     → choice_at x (type_of t.body) ≡ c → is_end u.body ≡ true
     → Alike (turn c x t s a) (turn (choice_at x (type_of u.body)) x u s b)
-heavy_turn (Refuse p o) x t u s a b h c e = heavy_end (choice_at x (type_of u.body)) x u s b h refl e
-heavy_turn Leave x t u s a b h c e = absurd (heavy_stays x (type_of t.body) h (leave_rule x (type_of t.body) c))
-heavy_turn _ x t u s a b h c e = tt
+heavy_turn c x t u s a b h h8 e = grind (arith, heavy_end, heavy_stays, leave_rule)
 
 sorted_turn : (x : State) (t u : Token) (s : List State) (a b : Fed) → IsLight x ⊎ IsHeavy x
     → is_end u.body ≡ true → u.start_mark ≡ t.start_mark → Alike a b
     → Alike (turn (choice_at x (type_of t.body)) x t s a)
     (turn (choice_at x (type_of u.body)) x u s b)
-sorted_turn x t u s a b (inl l) e m h = light_turn (choice_at x (type_of t.body)) x t u s a b l refl e m h
-sorted_turn x t u s a b (inr l) e m h = heavy_turn (choice_at x (type_of t.body)) x t u s a b l refl e
+sorted_turn x t u s a b h6 e m h = grind (arith, light_turn, heavy_turn)
 
 plain_alike : (s : List State) (t u : Token) → Plain s → is_end u.body ≡ true
     → u.start_mark ≡ t.start_mark → Alike (feed s t) (feed s u)
@@ -205,14 +148,4 @@ feed_alike x s t u o p e m = sorted_turn x t u s (feed s t) (feed s u) (light_or
 
 pub closed_top : (x : State) (s : List State) → open_behind (told x) ≡ false → Stood x s
     → Closed (x ∷ s)
-closed_top state.document_end s o h = h
-closed_top (state.others side) s o h = h.1
-closed_top (state.colon place) s o h = h.1
-closed_top (state.with_properties w p) s o h = h.1
-closed_top state.pair_end s o h = h
-closed_top state.lone s o h = h
-closed_top state.documents s o h = tt
-closed_top (state.entries opener) s o h = tt
-closed_top (state.pairs opener) s o h = tt
-closed_top (state.more b opener) s o h = tt
-closed_top _ s o h = absurd (true≢false o)
+closed_top x s o h = grind (arith, true≢false)

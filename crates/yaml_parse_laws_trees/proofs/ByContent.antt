@@ -1,5 +1,5 @@
 -- Each load of a front of a stream of documents is one that content says.
-use Rattle.std.proofs.Common.{◌≡◌, ℕ, true, List, [], ◌∷◌, ◌++◌, Option, Some, None, Result, Ok, Err, refl, sym, ap, subst, ◌∙◌, append_assoc, inl, inr}
+use Rattle.std.proofs.Common.{◌≡◌, ℕ, true, List, [], ◌∷◌, ◌++◌, Option, Some, None, Result, Ok, refl, sym, ap, subst, ◌∙◌, append_assoc, inl, inr, arith}
 use Rattle.yaml_parse_laws_trees.proofs.Words.{Fault, zero_mark, Event, Document, Told, spanning, Contents, alias, sequence, mapping, no_items, item, no_pairs, pair, events, item_events, pair_events, DocumentContent, document_events, document_of, Loading, LoadStep, goes_on, loaded, nothing_loaded, step, load, behind, told_events, left_behind, names_behind, wrong_alias, or_later, first_wrong, IsOutside, AreOutside, NoneNext, LoadsByContent, one_more, ended, contents_events, FrontsLoadByContent}
 use Rattle.yaml_parse_laws_trees.specs.parse_grammar.parse_model.Events as event
 use Rattle.yaml_parse_loader.specs.Numbering.{Span, Content, Pairs}
@@ -74,9 +74,7 @@ reach_on : (fed : LoadStep) (wrong : Option Fault) (names : List (List ℕ))
     → (m : Loading) × (turn fed (load xs) xs ≡ load es m)
 reach_on (goes_on k) wrong names later n xs es i e h = h k i.1 (ap (λ (o : Option Fault). or_later o n later) (sym i.0) ∙ e)
 reach_on (loaded d) wrong names later n xs es i e h = absurd i
-reach_on (refused f) wrong names later n xs es i e h =
-    let p : or_later (Some f) n later ≡ None = ap (λ (o : Option Fault). or_later o n later) (sym i) ∙ e in
-    absurd (cc)
+reach_on (refused f) wrong names later n xs es i e h = grind arith
 
 reach : (gs : List Told) (es : List Event) (l : Loading) (names : List (List ℕ))
     → AreInner (told_events gs) → Knows l.anchors names → first_wrong gs names ≡ None
@@ -90,8 +88,7 @@ reach (g ∷ gs) es l names h k e =
 
 is_right : (r : Result Document Fault) (x : Document)
     → behind r (λ e. loading.document e []) ≡ loading.document x [] → (e : Document) × (r ≡ Ok e)
-is_right (Ok e) x h = (e, refl)
-is_right (Err f) x h = absurd (cc)
+is_right r x h = grind arith
 
 abbrev RightBehind : List Told → Event → ℕ → Type 0
 RightBehind gs x n = first_wrong ((x, n) ∷ gs) [] ≡ None → first_wrong gs [] ≡ None
@@ -138,12 +135,7 @@ front_on (Some w) outside gs own count d y ys k h e =
       next = record { outside = outside; split = ap (λ (z : List Told). outside ++ z) (sym (no_rest gs)); none = h; content = d; following = y; more = ys; front = e };
       first = k;
     }))
-front_on None outside gs own count d y ys k h e =
-    none_by (outside ++ gs) own count (record {
-      told = gs;
-      next = record { outside = outside; split = ap (λ (z : List Told). outside ++ z) (sym (no_rest gs)); none = h; content = d; following = y; more = ys; front = e };
-      right = k;
-    })
+front_on None outside gs own count d y ys k h e = grind (arith, none_by, split, no_rest)
 
 front_by : (outside gs : List Told) (own : Option Fault) (count : ℕ) (d : DocumentContent)
     (y : Event) (ys : List Event) → AreOutside outside
@@ -207,10 +199,7 @@ document_on : (outside own left : List Told) (more rest : List Event) (f : Optio
 document_on outside own [] more rest f count d h b c go =
     subst (λ (z : List Told). LoadsByContent f count (outside ++ z)) (sym (no_rest own))
     (front_by outside own f count d (end_event d) [] h (document_open d [] ∙ ap (λ (z : List Event). z ++ end_event d ∷ []) (sym b)))
-document_on outside own (g ∷ left) more rest f count d h b c go =
-    let p : g.0 ≡ end_event d = cc in
-    let q : told_events left ++ more ≡ rest = cc in
-    whole_on (first_wrong own []) outside own g left f count d refl h b p (go left q)
+document_on outside own (g ∷ left) more rest f count d h b c go = grind (arith, whole_on)
 
 split_loads : (outside gs : List Told) (more rest : List Event) (f : Option Fault) (count : ℕ)
     (d : DocumentContent) → AreOutside outside → Split gs more (open_events d) (end_event d ∷ rest)
@@ -219,14 +208,11 @@ split_loads : (outside gs : List Told) (more rest : List Event) (f : Option Faul
 split_loads outside gs more rest f count d h (short y ys e) go =
     front_by outside gs f count d y (ys ++ end_event d ∷ []) h
     (document_open d [] ∙ ap (λ (z : List Event). z ++ end_event d ∷ []) e ∙ append_assoc (told_events gs) (y ∷ ys) (end_event d ∷ []))
-split_loads outside gs more rest f count d h (whole own left a b c) go =
-    subst (λ (z : List Told). LoadsByContent f count (outside ++ z)) (sym a) (document_on outside own left more rest f count d h b c go)
+split_loads outside gs more rest f count d h (whole own left a b c) go = grind (arith, document_on)
 
 pub by_content : FrontsLoadByContent
 by_content [] last s outside [] more own count h e = subst (λ (z : List Told). LoadsByContent own count z) (sym (no_rest outside)) (nothing_by outside own count h)
-by_content [] last s outside (g ∷ []) more own count h e =
-    let p : last ≡ g.0 = cc in
-    nothing_by (outside ++ g ∷ []) own count (outside_more outside g h (subst (λ (x : Event). IsOutside x.body) p s))
+by_content [] last s outside (g ∷ []) more own count h e = grind (arith, nothing_by, outside_more)
 by_content [] last s outside (g ∷ (k ∷ gs)) more own count h e = absurd (cc)
 by_content (d ∷ ds) last s outside gs more own count h e =
     split_loads outside gs more (contents_events ds last) own count d h

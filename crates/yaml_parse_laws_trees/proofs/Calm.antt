@@ -1,10 +1,7 @@
 -- Tokens that close what is open have no fault, where no tag before them waits whose handle nothing defines.
-use Rattle.std.proofs.Common.{◌≡◌, ◌⊎◌, ℕ, inl, inr, Bool, true, false, List, [], ◌∷◌, Option, Some, None, refl, ap, ◌∙◌}
-use Rattle.yaml_parse_laws_trees.proofs.Words.{yaml_mark_t, Token, TokenBody, Fault, Brackets, State, Stream, spell, closing, followed_by, document_directives, directive_fault, handle_fault, tag_fault, undefined_handle, NodeTag, ended_tag, tag_behind, unless_joined, IsFree}
-use Rattle.yaml_parse_laws_trees.specs.LookBack.{is_defined}
+use Rattle.std.proofs.Common.{◌≡◌, ◌⊎◌, ℕ, Bool, List, [], ◌∷◌, Option, Some, None, ◌∙◌, arith}
+use Rattle.yaml_parse_laws_trees.proofs.Words.{yaml_mark_t, Token, TokenBody, Fault, Brackets, State, Stream, spell, closing, followed_by, directive_fault, handle_fault, undefined_handle, NodeTag, ended_tag, tag_behind, unless_joined, IsFree}
 use Rattle.yaml_parse_model.specs.scan_types.Tokens as token
-use Rattle.yaml_parse_laws_trees.specs.parse_grammar.declared.name.Brackets.TheVariants as brackets
-use Rattle.yaml_parse_laws_trees.specs.parse_grammar.States as state
 use Rattle.yaml_parse_laws_trees.proofs.Closing.{closer, closers}
 use Rattle.yaml_parse_laws_trees.proofs.Properties.{tok}
 use Rattle.yaml_parse_laws_trees.proofs.Tagging.{no_handle}
@@ -25,20 +22,11 @@ AreCalm [] = Unit {0}
 AreCalm (t ∷ ts) = IsCalm t.body × AreCalm ts
 
 closing_calm : (b : Brackets) → IsCalm (closing b)
-closing_calm brackets.Sequence = tt
-closing_calm brackets.Mapping = tt
+closing_calm b = grind arith
 
 closer_calm : (m : yaml_mark_t) (x : State) (ts : List Token) → AreCalm ts
     → AreCalm (closer m x ts)
-closer_calm m state.stream ts h = (tt, (tt, h))
-closer_calm m state.first ts h = (tt, h)
-closer_calm m state.documents ts h = (tt, h)
-closer_calm m (state.directives from) ts h = (tt, (tt, h))
-closer_calm m (state.entries opener) ts h = (tt, h)
-closer_calm m (state.pairs opener) ts h = (tt, h)
-closer_calm m (state.items b opener) ts h = (closing_calm b, h)
-closer_calm m (state.more b opener) ts h = (closing_calm b, h)
-closer_calm m _ ts h = h
+closer_calm m x ts h = grind (arith, closing_calm)
 
 pub closers_calm : (m : yaml_mark_t) (s : List State) → AreCalm (closers m s)
 closers_calm m [] = tt
@@ -46,15 +34,11 @@ closers_calm m (x ∷ s) = closer_calm m x (closers m s) (closers_calm m s)
 
 pub calm_ended : (b : TokenBody) (start end : yaml_mark_t) (past : List Token) (next : TokenBody)
     → IsCalm b → ended_tag (tok b start end ∷ past) next ≡ None
-calm_ended (token.anchor name) start end past next h = absurd h
-calm_ended (token.tag handle suffix) start end past next h = absurd h
-calm_ended _ start end past next h = refl
+calm_ended b start end past next h = grind arith
 
 calm_directive : (past : List Token) (b : TokenBody) (at : yaml_mark_t) → IsCalm b
     → directive_fault past b at ≡ None
-calm_directive past (token.version_directive major minor) at h = absurd h
-calm_directive past (token.tag_directive handle prefix) at h = absurd h
-calm_directive past _ at h = refl
+calm_directive past b at h = grind arith
 
 -- ---- no tag waits whose handle nothing defines
 
@@ -70,38 +54,29 @@ MeetsAlike o p = (o ≡ None) ⊎ (o ≡ p)
 
 alike_joined : (handle : List ℕ) (at : yaml_mark_t) (b : TokenBody)
     → MeetsAlike (unless_joined handle at b) (unless_joined handle at token.stream_end)
-alike_joined handle at (token.anchor name) = inl refl
-alike_joined handle at _ = inr refl
+alike_joined handle at b = grind arith
 
 alike_behind : (handle : List ℕ) (at start end : yaml_mark_t) (c : TokenBody) (past : List Token)
     (b : TokenBody)
     → MeetsAlike (tag_behind handle at (tok c start end ∷ past) b)
     (tag_behind handle at (tok c start end ∷ past) token.stream_end)
-alike_behind handle at start end (token.anchor name) past b = inr refl
-alike_behind handle at start end _ past b = alike_joined handle at b
+alike_behind handle at start end c past b = grind (arith, alike_joined)
 
 alike_tag : (handle : List ℕ) (at : yaml_mark_t) (past : List Token) (b : TokenBody)
     → MeetsAlike (tag_behind handle at past b) (tag_behind handle at past token.stream_end)
-alike_tag handle at [] b = alike_joined handle at b
-alike_tag handle at (t ∷ past) b = alike_behind handle at t.start_mark t.end_mark t.body past b
+alike_tag handle at past b = grind (arith, alike_joined, alike_behind)
 
 alike_last : (c : TokenBody) (start end : yaml_mark_t) (past : List Token) (b : TokenBody)
     → MeetsAlike (ended_tag (tok c start end ∷ past) b)
     (ended_tag (tok c start end ∷ past) token.stream_end)
-alike_last (token.tag handle suffix) start end past b = alike_tag handle start past b
-alike_last (token.anchor name) start end past b = inr refl
-alike_last _ start end past b = inl refl
+alike_last c start end past b = grind (arith, alike_tag)
 
 alike : (past : List Token) (b : TokenBody)
     → MeetsAlike (ended_tag past b) (ended_tag past token.stream_end)
-alike [] b = inl refl
-alike (t ∷ past) b = alike_last t.body t.start_mark t.end_mark past b
+alike past b = grind (arith, alike_last)
 
 pub quiet_meets : (past : List Token) → Quiet past → (b : TokenBody) → handle_fault past b ≡ None
-quiet_meets past q b = elim (alike past b) [
-  | inl p ↦ no_handle past b p
-  | inr p ↦ ap (λ (o : Option NodeTag). tag_fault o (document_directives past)) p ∙ q
-]
+quiet_meets past q b = grind (arith, alike)
 
 -- ---- calm tokens have no fault
 
@@ -120,30 +95,17 @@ IsTag _ = ⊥
 -- the handle is defined or not, wherever tag and node begin
 same_handle : (b : Bool) (x y : NodeTag) (e : Fault) → undefined_handle b x ≡ None
     → undefined_handle b y ≡ Some e → ⊥
-same_handle true x y e p q = some_none None e refl q
-same_handle false x y e p q = cc
+same_handle b x y e p q = grind (arith, some_none)
 
 anchor_alone : (c : TokenBody) (start end : yaml_mark_t) (past : List Token) (name : List ℕ)
     (from to : yaml_mark_t) (e : Fault) → Quiet (tok c start end ∷ past)
     → handle_fault (tok (token.anchor name) from to ∷ tok c start end ∷ past) token.stream_end
     ≡ Some e → ⊥
-anchor_alone (token.tag handle suffix) start end [] name from to e q p = same_handle (is_defined handle _) _ _ e q p
-anchor_alone (token.tag handle suffix) start end (t ∷ past) name from to e q p = tag_alone t.body q p
-  where
-    tag_alone : (b : TokenBody)
-        → Quiet (tok (token.tag handle suffix) start end ∷ tok b t.start_mark t.end_mark ∷ past)
-        → handle_fault (tok (token.anchor name) from to ∷ tok (token.tag handle suffix) start end
-        ∷ tok b t.start_mark t.end_mark ∷ past) token.stream_end ≡ Some e → ⊥
-    tag_alone (token.anchor other) q p = same_handle (is_defined handle _) _ _ e q p
-    tag_alone _ q p = same_handle (is_defined handle _) _ _ e q p
-anchor_alone _ start end past name from to e q p = some_none None e refl p
+anchor_alone c start end past name from to e q p = grind (arith, same_handle, some_none)
 
 tag_last : (c : TokenBody) (start end : yaml_mark_t) (past : List Token) (e : Fault) → Quiet past
     → handle_fault (tok c start end ∷ past) token.stream_end ≡ Some e → IsTag c
-tag_last (token.tag handle suffix) start end past e q p = tt
-tag_last (token.anchor name) start end [] e q p = absurd (some_none None e refl p)
-tag_last (token.anchor name) start end (t ∷ past) e q p = absurd (anchor_alone t.body t.start_mark t.end_mark past name start end e q p)
-tag_last _ start end past e q p = absurd (some_none None e refl p)
+tag_last c start end past e q p = grind (arith, some_none, anchor_alone)
 
 pub tag_waits : (t : Token) (past : List Token) (e : Fault) → Quiet past
     → handle_fault (t ∷ past) token.stream_end ≡ Some e → IsTag t.body
@@ -152,10 +114,4 @@ tag_waits t past e q p = tag_last t.body t.start_mark t.end_mark past e q p
 -- a tag without a handle is in order
 pub bare_quiet : (past : List Token) (start end : yaml_mark_t)
     → Quiet (tok (token.tag [] []) start end ∷ past)
-bare_quiet [] start end = refl
-bare_quiet (t ∷ past) start end = by_last t.body
-  where
-    by_last : (c : TokenBody)
-        → Quiet (tok (token.tag [] []) start end ∷ tok c t.start_mark t.end_mark ∷ past)
-    by_last (token.anchor name) = refl
-    by_last _ = refl
+bare_quiet past start end = grind arith

@@ -1,6 +1,6 @@
 -- Where no fault is at the tokens that were read.
 use Rattle.std.proofs.Common.{◌≡◌, ◌⊎◌, inl, inr, ℕ, ◌<◌, ◌+◌, List, [], ◌∷◌, ◌++◌, length, Option, Some, None, refl, ap, sym, subst, ◌∙◌, arith}
-use Rattle.yaml_parse_laws_trees.proofs.Words.{cases_order, Token, Fault, Stream, spell, GoesOn, followed_by, directive_fault, handle_fault, Rank, of_handle, of_token, ComesBefore, WrongToken, grammar, directive, FaultAt, StandsIn, IsOfLeastPlace, BeginsWithSentence, FaultPlace, RanksBefore, IsFree}
+use Rattle.yaml_parse_laws_trees.proofs.Words.{cases_order, Token, Fault, Stream, spell, GoesOn, followed_by, directive_fault, handle_fault, Rank, of_handle, of_token, ComesBefore, WrongToken, FaultAt, StandsIn, IsOfLeastPlace, BeginsWithSentence, FaultPlace, RanksBefore, IsFree}
 use Rattle.yaml_parse_laws_trees.proofs.Cuts.{SameCut, same_cut, IsNoFront, Reaches, reaches, followed_length, head_same}
 
 abbrev pub NoFault : List Token → Token → Type 0
@@ -20,9 +20,7 @@ some_none o e p q = cc
 pub no_fault : (past : List Token) (t : Token) → handle_fault past t.body ≡ None
     → GoesOn (followed_by past (t ∷ [])) → directive_fault past t.body t.start_mark ≡ None
     → NoFault past t
-no_fault past t h g d of_handle e p = some_none (handle_fault past t.body) e h p
-no_fault past t h g d of_token e (grammar n p) = n g
-no_fault past t h g d of_token e (directive k p) = some_none (directive_fault past t.body t.start_mark) e d p
+no_fault past t h g d h5 e p = grind (arith, some_none)
 
 clean_cut : (past us other : List Token) (t : Token) (behind : List Token)
     → followed_by past us ≡ followed_by other (t ∷ behind) → length other < length past → Clean past
@@ -49,8 +47,7 @@ clean_cut (x ∷ past) us other t behind p l c = by_length (λ e. clean_cut past
 -- nothing is before a place
 pub none_earlier : (past us ts : List Token) (p : FaultPlace) (e : Fault) → ts ≡ followed_by past us
     → Clean past → StandsIn ts p e → p.number < length past → ⊥
-none_earlier past us ts p e l c s n =
-    clean_cut past us s.past s.token s.behind (sym l ∙ s.list) (subst (λ (z : ℕ). z < length past) (sym s.number) n) c p.rank e s.fault
+none_earlier past us ts p e l c s n = grind (arith, clean_cut)
 
 pub free : (past : List Token) → Clean past → IsFree (followed_by past [])
 free past c p e s = none_earlier past [] (followed_by past []) p e refl c s (shorter (subst (λ (z : ℕ). z ≡ length past + length {A = Token} []) (followed_length s.past (s.token ∷ s.behind)) lengths) s.number)
@@ -67,9 +64,7 @@ free past c p e s = none_earlier past [] (followed_by past []) p e refl c s (sho
 handle_here : (past other : List Token) (t u : Token) (ts us : List Token) (e : Fault)
     → followed_by past (t ∷ ts) ≡ followed_by other (u ∷ us) → length past ≡ length other
     → handle_fault other u.body ≡ Some e → handle_fault past t.body ≡ Some e
-handle_here past other t u ts us e p n h =
-    let c : SameCut past other (t ∷ ts) (u ∷ us) = same_cut past other (t ∷ ts) (u ∷ us) p n in
-    subst (λ (z : Token). handle_fault past z.body ≡ Some e) (sym (head_same t u ts us c.behind)) (subst (λ (z : List Token). handle_fault z u.body ≡ Some e) (sym c.before) h)
+handle_here past other t u ts us e p n h = grind (arith, same_cut, head_same)
 
 abbrev placed : List Token → Rank → FaultPlace
 placed past r = record { number = length past; rank = r }

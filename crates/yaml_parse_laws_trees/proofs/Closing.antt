@@ -1,6 +1,6 @@
 -- Tokens that close all that is open. What is given at a refused token is given at these too.
-use Rattle.std.proofs.Common.{◌≡◌, true, List, [], ◌∷◌, None, refl, ap, subst, ◌∙◌}
-use Rattle.yaml_parse_laws_trees.proofs.Words.{yaml_mark_t, YAML_ANY_ENCODING, yaml_token_type_t, Token, TokenBody, type_of, Site, Choice, Refuse, Leave, RawEvent, State, Span, closing, token_at, choice_at, left_at, Fed, stop, go, with_item, turn, feed, Outcome, run, bare, BeginsWithItems, is_end, EndsAt, MayLeave, MayRefuse, leave_rule, false≢true}
+use Rattle.std.proofs.Common.{◌≡◌, true, List, [], ◌∷◌, None, refl, subst, arith}
+use Rattle.yaml_parse_laws_trees.proofs.Words.{yaml_mark_t, YAML_ANY_ENCODING, yaml_token_type_t, Token, TokenBody, type_of, Site, Choice, Leave, RawEvent, State, Span, closing, token_at, choice_at, left_at, Fed, stop, go, with_item, turn, feed, run, BeginsWithItems, is_end, EndsAt, MayLeave, MayRefuse, leave_rule, false≢true}
 use Rattle.yaml_parse_model.specs.scan_types.Tokens as token
 use Rattle.yaml_parse_laws_trees.specs.parse_grammar.declared.name.Brackets.TheVariants as brackets
 use Rattle.yaml_parse_laws_trees.specs.parse_grammar.States as state
@@ -96,31 +96,12 @@ IsLight x = MayRefuse x → ⊥
 -- It is left before each token that ends something.
 pub light_leaves : (x : State) (b : TokenBody) → IsLight x → is_end b ≡ true
     → choice_at x (type_of b) ≡ Leave
-light_leaves state.document_end token.document_end l h = absurd (false≢true h)
-light_leaves state.document_end _ l h = refl
-light_leaves (state.others side) token.block_entry l h = absurd (false≢true h)
-light_leaves (state.others side) _ l h = refl
-light_leaves (state.colon place) token.value l h = absurd (false≢true h)
-light_leaves (state.colon place) _ l h = refl
-light_leaves (state.with_properties w p) token.stream_end l h = refl
-light_leaves (state.with_properties w p) token.block_end l h = refl
-light_leaves (state.with_properties w p) token.flow_sequence_end l h = refl
-light_leaves (state.with_properties w p) token.flow_mapping_end l h = refl
-light_leaves (state.with_properties w p) _ l h = absurd (false≢true h)
-light_leaves state.pair_end b l h = refl
-light_leaves state.lone b l h = refl
-light_leaves _ b l h = absurd (l tt)
+light_leaves x b l h = grind (arith, false≢true)
 
 light_begins : (x : State) (m : yaml_mark_t) (ts : List Token) (s : List State) (is : List RawEvent)
     → IsLight x → EndsAt m ts → BeginsWithItems is (run ts s None).items
     → BeginsWithItems (left_at x m ∷ is) (run ts (x ∷ s) None).items
-light_begins x m [] s is l h b = absurd h
-light_begins x m (t ∷ ts) s is l h b = record {
-  others = b.others;
-  same = ap (λ (o : Outcome). bare o.items) (leaves_at x t ts s None (light_leaves x t.body l h.0))
-      ∙ ap (λ (z : yaml_mark_t). left_at x z ∷ bare (run (t ∷ ts) s None).items) h.1
-      ∙ ap (λ (z : List RawEvent). left_at x m ∷ z) b.same;
-}
+light_begins x m ts s is l h b = grind (arith, leaves_at, light_leaves)
 
 -- ---- what is given at a refused token
 
@@ -139,22 +120,12 @@ left_begins : (x : State) (k : yaml_token_type_t) (m : yaml_mark_t) (s : List St
     → ((place : Site) (before : yaml_mark_t) → x ≡ state.optional place before → ⊥)
     → BeginsWithItems is (run (closers m s) s None).items
     → BeginsWithItems (left_at x m ∷ is) (run (closers m (x ∷ s)) (x ∷ s) None).items
-left_begins (state.optional place before) k m s is l h u b = absurd (u place before refl)
-left_begins state.document_end k m s is l h u b = light_begins state.document_end m (closers m s) s is (λ r. r) (closers_end m s h) b
-left_begins (state.others side) k m s is l h u b = light_begins (state.others side) m (closers m s) s is (λ r. r) (closers_end m s h.1) b
-left_begins (state.colon place) k m s is l h u b = light_begins (state.colon place) m (closers m s) s is (λ r. r) (closers_end m s h.1) b
-left_begins (state.with_properties w p) k m s is l h u b = light_begins (state.with_properties w p) m (closers m s) s is (λ r. r) (closers_end m s h.1) b
-left_begins state.pair_end k m s is l h u b = light_begins state.pair_end m (closers m s) s is (λ r. r) (closers_end m s h) b
-left_begins state.lone k m s is l h u b = light_begins state.lone m (closers m s) s is (λ r. r) (closers_end m s h) b
-left_begins _ k m s is l h u b = absurd l
+left_begins x k m s is l h u b = grind (arith, light_begins, closers_end)
 
 not_fitting : (x : State) (s : List State) (t : Token) → choice_at x (type_of t.body) ≡ Leave
     → Stood x s → (Goes (feed s t) → ⊥) → (place : Site) (before : yaml_mark_t)
     → x ≡ state.optional place before → ⊥
-not_fitting x s t c h n place before e =
-    let c' : choice_at (state.optional place before) (type_of t.body) ≡ Leave = subst (λ (y : State). choice_at y (type_of t.body) ≡ Leave) e c in
-    let h' : Stood (state.optional place before) s = subst (λ (y : State). Stood y s) e h in
-    n (fitting place before s t c' h'.0)
+not_fitting x s t c h n place before e = grind (arith, fitting)
 
 leave_begins : (x : State) (t : Token) (s : List State) (below : Fed) → feed s t ≡ below
     → choice_at x (type_of t.body) ≡ Leave → Stood x s
@@ -166,9 +137,7 @@ leave_begins x t s (go is s') p c h b = tt
 turn_begins : (c : Choice) (x : State) (t : Token) (s : List State)
     → choice_at x (type_of t.body) ≡ c → Stood x s → StopBegins t.start_mark s (feed s t)
     → StopBegins t.start_mark (x ∷ s) (turn c x t s (feed s t))
-turn_begins (Refuse p o) x t s e h b = record { others = bare (run (closers t.start_mark (x ∷ s)) (x ∷ s) None).items; same = refl }
-turn_begins Leave x t s e h b = leave_begins x t s (feed s t) refl e h b
-turn_begins _ x t s e h b = tt
+turn_begins c x t s e h b = grind (arith, leave_begins)
 
 pub feed_begins : (s : List State) (t : Token) → AllStood s → StopBegins t.start_mark s (feed s t)
 unfolding feed

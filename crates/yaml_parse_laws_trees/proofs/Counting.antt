@@ -1,7 +1,7 @@
 -- Which items come with that many tokens unasked for, and what they mean.
 use Rattle.std.proofs.Common.{◌≡◌, ◌+◌, ◌-◌, ◌≤◌, ◌<◌, nat_le, ℕ, Bool, true, false, if◌then◌else◌, List, [], ◌∷◌, ◌++◌, length, Option, None, refl, ap, ◌∙◌, arith}
 use Rattle.std.proofs.lemmas.Bool.Decides.{nat_tests}
-use Rattle.yaml_parse_laws_trees.proofs.Words.{Token, no_token, Fault, RawEvent, State, Given, Fed, stop, go, feed, Outcome, finished, carry, run, Directives, Settled, refused, gave, noted, settle, Reading, Told, placed, read_on, reading, first_items, but_last, BeginsWith}
+use Rattle.yaml_parse_laws_trees.proofs.Words.{Token, no_token, Fault, RawEvent, State, Given, Fed, feed, Outcome, finished, carry, run, Directives, Settled, settle, Reading, read_on, reading, first_items, but_last, BeginsWith}
 use Rattle.yaml_parse_laws_trees.proofs.Walking.{raised, numbered}
 
 le_true : (n m : ℕ) → n ≤ m → nat_le n m ≡ true
@@ -50,8 +50,7 @@ none_alone n m b k (i ∷ is) h = drop_on n m b (i, k) (numbered k is) h
 none_carried : (n m b k : ℕ) (fed : Fed) (next : List State → Outcome) → k < n
     → ((s : List State) → first_items n m b (next s).items ≡ [])
     → first_items n m b (carry k fed next).items ≡ []
-none_carried n m b k (stop is e) next h r = none_alone n m b k is h
-none_carried n m b k (go is s) next h r = none_numbered n m b k is (next s).items h (r s)
+none_carried n m b k fed next h r = grind (arith, none_alone, none_numbered)
 
 pub none_behind : (n m b : ℕ) (ts : List Token) (s : List State) → length ts < n
     → first_items n m b (run ts s None).items ≡ []
@@ -66,10 +65,7 @@ none_behind n m b (t ∷ ts) s h = none_carried n m b (length ts) (feed s t) (λ
 pub none_from : (m b : ℕ) (ts : List Token) (t : Token) (s : List State)
     → first_items (length (t ∷ ts)) m b (run (t ∷ ts) s None).items ≡ []
 unfolding run
-none_from m b ts t s = none_carried (length (t ∷ ts)) m b (length ts) (feed s t) (λ s'. run ts s' None) less (λ s'. none_behind (length (t ∷ ts)) m b ts s' less)
-  where
-    less : length ts < length (t ∷ ts)
-    less = omega arith
+none_from m b ts t s = grind (arith, none_carried, none_behind)
 
 -- ---- all but the last
 
@@ -82,9 +78,7 @@ but_one _ x = refl
 one_read : (c : Settled) (i : RawEvent) (left : ℕ) (k l : Directives → Reading)
     → ((ds : Directives) → (k ds).events ≡ (l ds).events)
     → (read_on c i left k).events ≡ (read_on c i left l).events
-one_read (refused e) i left k l h = refl
-one_read (gave b ds) i left k l h = ap (λ (z : List Told). (placed b i, left) ∷ z) (h ds)
-one_read (noted ds) i left k l h = h ds
+one_read c i left k l h = grind arith
 
 -- whatever ends them
 pub any_ending : (gs : List Given) (f g : Option Fault) (ds : Directives)
@@ -96,9 +90,7 @@ any_ending (x ∷ gs) f g ds = one_read (settle x.0 ds) x.0 x.1 (λ d. reading g
 one_begins : (c : Settled) (i : RawEvent) (left : ℕ) (k l : Directives → Reading)
     → ((ds : Directives) → BeginsWith (k ds).events (l ds).events)
     → BeginsWith (read_on c i left k).events (read_on c i left l).events
-one_begins (refused e) i left k l h = record { others = []; same = refl }
-one_begins (gave b ds) i left k l h = let r : BeginsWith (k ds).events (l ds).events = h ds in record { others = r.others; same = ap (λ (z : List Told). (placed b i, left) ∷ z) r.same }
-one_begins (noted ds) i left k l h = h ds
+one_begins c i left k l h = grind arith
 
 pub more_begin : (xs ys : List Given) (f g : Option Fault) (ds : Directives)
     → BeginsWith (reading xs f ds).events (reading (xs ++ ys) g ds).events

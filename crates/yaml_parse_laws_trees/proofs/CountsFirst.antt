@@ -1,8 +1,7 @@
 -- What the first token of a spelled tree is.
-use Rattle.std.proofs.Common.{◌≡◌, ℕ, Bool, true, false, List, [], ◌∷◌, refl, ap, sym, subst, ◌∙◌}
+use Rattle.std.proofs.Common.{◌≡◌, Bool, true, false, List, [], ◌∷◌, ap, sym, subst, ◌∙◌, arith}
 use Rattle.yaml_parse_laws_trees.proofs.Words.{yaml_mark_t, yaml_token_type_t, Token, TokenBody, type_of, Wants, Span, token_at, AnchorToken, TagToken, anchor_token, tag_token, PropertyTokens, spell_properties, Node, Content, spell_node, spell_content, starts_node, front_of, rest_of, ends, Ends, ends_apart, Starts, node_starts, false≢true}
 use Rattle.yaml_parse_grammar.specs.parse_model.declared.yaml_token_type_t.TheVariants as kind
-use Rattle.yaml_parse_grammar.specs.scan_types.Tokens as token
 use Rattle.yaml_parse_grammar.specs.declared.name.Brackets.TheVariants as brackets
 use Rattle.yaml_parse_grammar.specs.Trees as tree
 
@@ -52,8 +51,7 @@ pub not_begun : (w : Wants) (k : yaml_token_type_t) → ends w k ≡ true → st
 not_begun w k h s = false≢true (sym (ends_apart w k h) ∙ s)
 
 pub not_both : (w : Wants) (ts : List Token) → Ends w ts → Starts w ts → ⊥
-not_both w [] e s = e
-not_both w (t ∷ ts) e s = not_begun w (type_of t.body) e s
+not_both w ts e s = grind (arith, not_begun)
 
 pub no_node : {w : Wants} (n : Node w) (x y : List Token) → Ends w x → x ≡ spell_node n y → ⊥
 no_node {w = w} n x y e h = not_both w (spell_node n y) (subst (Ends w) h e) (node_starts n y)
@@ -67,9 +65,7 @@ is_property _ = false
 
 pub property_starts : (w : Wants) (k : yaml_token_type_t) → is_property k ≡ true
     → starts_node w k ≡ true
-property_starts w kind.YAML_ANCHOR_TOKEN h = refl
-property_starts w kind.YAML_TAG_TOKEN h = refl
-property_starts w _ h = absurd (false≢true h)
+property_starts w k h = grind (arith, false≢true)
 
 -- the first token is no property
 abbrev pub IsPlain : List Token → Type 0
@@ -90,32 +86,11 @@ not_plain x y d h p = d (ap (λ ts. is_property (kind_of ts)) h ∙ p)
 
 pub anchor_same : (a b : AnchorToken) (x y : List Token) → anchor_token a ∷ x ≡ anchor_token b ∷ y
     → a ≡ b
-anchor_same a b x y h =
-    let e : token.anchor a.name ≡ token.anchor b.name = body_same _ _ a.span b.span x y h in
-    let f : a.name ≡ b.name = cc in
-    ap (λ (n : List ℕ). record { name = n; span = a.span }) f ∙ ap (λ (p : Span). record { name = b.name; span = p }) (span_same _ _ a.span b.span x y h)
+anchor_same a b x y h = grind (arith, body_same, span_same)
 
 pub tag_same : (s t : TagToken) (x y : List Token) → tag_token s ∷ x ≡ tag_token t ∷ y → s ≡ t
-tag_same s t x y h =
-    let e : token.tag s.handle s.suffix ≡ token.tag t.handle t.suffix = body_same _ _ s.span t.span x y h in
-    let f : s.handle ≡ t.handle = cc in
-    let g : s.suffix ≡ t.suffix = cc in
-    ap (λ (n : List ℕ). record { handle = n; suffix = s.suffix; span = s.span }) f
-    ∙ ap (λ (n : List ℕ). record { handle = t.handle; suffix = n; span = s.span }) g
-    ∙ ap (λ (p : Span). record { handle = t.handle; suffix = t.suffix; span = p }) (span_same _ _ s.span t.span x y h)
+tag_same s t x y h = grind (arith, body_same, span_same)
 
 pub properties_same : (d e : PropertyTokens) (x y : List Token) → IsPlain x → IsPlain y
     → spell_properties d x ≡ spell_properties e y → (d ≡ e) × (x ≡ y)
-properties_same (tree.anchor a) (tree.anchor b) x y p q h = (ap tree.anchor (anchor_same a b x y h), rest_same _ _ x y h)
-properties_same (tree.tag s) (tree.tag t) x y p q h = (ap tree.tag (tag_same s t x y h), rest_same _ _ x y h)
-properties_same (tree.anchor_tag a s) (tree.anchor_tag b t) x y p q h =
-    let r : tag_token s ∷ x ≡ tag_token t ∷ y = rest_same _ _ _ _ h in
-    (both tree.anchor_tag a b s t (anchor_same a b _ _ h) (tag_same s t x y r), rest_same _ _ x y r)
-properties_same (tree.tag_anchor s a) (tree.tag_anchor t b) x y p q h =
-    let r : anchor_token a ∷ x ≡ anchor_token b ∷ y = rest_same _ _ _ _ h in
-    (both tree.tag_anchor s t a b (tag_same s t _ _ h) (anchor_same a b x y r), rest_same _ _ x y r)
-properties_same (tree.anchor a) (tree.anchor_tag b t) x y p q h = absurd (not_plain x _ p (rest_same _ _ x _ h) refl)
-properties_same (tree.anchor_tag b t) (tree.anchor a) x y p q h = absurd (not_plain y _ q (sym (rest_same _ _ _ y h)) refl)
-properties_same (tree.tag s) (tree.tag_anchor t b) x y p q h = absurd (not_plain x _ p (rest_same _ _ x _ h) refl)
-properties_same (tree.tag_anchor t b) (tree.tag s) x y p q h = absurd (not_plain y _ q (sym (rest_same _ _ _ y h)) refl)
-properties_same d e x y p q h = absurd (apart (spell_properties d x) (spell_properties e y) h (λ k. cc))
+properties_same d e x y p q h = grind (arith, anchor_same, rest_same, tag_same, both, not_plain, apart)

@@ -1,6 +1,6 @@
 -- Two trees whose tokens begin alike are equal.
-use Rattle.std.proofs.Common.{◌≡◌, ℕ, ℤ, Bool, true, false, List, [], ◌∷◌, Option, Some, None, refl, ap, sym, subst, ◌∙◌}
-use Rattle.yaml_parse_laws_trees.proofs.Words.{yaml_encoding_t, yaml_scalar_style_t, yaml_token_type_t, Token, type_of, Wants, Flow, Block, Side, Key, Value, Root, Entry, IndentlessEntry, BlockPair, FlowPair, Brackets, Span, token_at, PropertyTokens, spell_properties, closing, Node, Content, Maybe, Colon, Items, More, Entries, Others, Pairs, Directive, Documents, First, Stream, spell_node, spell_content, spell_maybe, spell_colon, spell_items, spell_more, spell_entries, spell_others, spell_pairs, spell_directives, spell_ends, spell_documents, spell_first, starts_node, Ends, Starts, node_starts, follows_ends, more_ends, colon_follows, entries_follow, pairs_follow, block_colon_follows, others_follow, TokensHaveOneTree}
+use Rattle.std.proofs.Common.{◌≡◌, ℕ, ℤ, Bool, true, false, List, [], ◌∷◌, Option, Some, None, refl, ap, sym, subst, ◌∙◌, arith}
+use Rattle.yaml_parse_laws_trees.proofs.Words.{yaml_encoding_t, yaml_scalar_style_t, yaml_token_type_t, Token, Wants, Flow, Block, Side, Key, Value, Root, Entry, IndentlessEntry, BlockPair, FlowPair, Brackets, Span, token_at, PropertyTokens, spell_properties, closing, Node, Content, Maybe, Colon, Items, More, Entries, Others, Pairs, Directive, Documents, First, Stream, spell_node, spell_content, spell_maybe, spell_colon, spell_items, spell_more, spell_entries, spell_others, spell_pairs, spell_directives, spell_ends, spell_documents, spell_first, starts_node, Ends, Starts, node_starts, follows_ends, more_ends, colon_follows, entries_follow, pairs_follow, block_colon_follows, others_follow, TokensHaveOneTree}
 use Rattle.yaml_parse_grammar.specs.parse_model.declared.yaml_token_type_t.TheVariants as kind
 use Rattle.yaml_parse_grammar.specs.scan_types.Tokens as token
 use Rattle.yaml_parse_grammar.specs.declared.name.Brackets.TheVariants as brackets
@@ -24,8 +24,7 @@ node_sort _ = Some false
 
 properties_sorted : (d : PropertyTokens) (ts : List Token)
     → sort_of (kind_of (spell_properties d ts)) ≡ Some false
-properties_sorted (tree.anchor a) ts = refl
-properties_sorted _ ts = refl
+properties_sorted d ts = grind arith
 
 content_sorted : {w : Wants} (c : Content w) (ts : List Token)
     → sort_of (kind_of (spell_content c ts)) ≡ None
@@ -68,14 +67,10 @@ part_of kind.YAML_KEY_TOKEN = Some false
 part_of _ = Some true
 
 node_part : (k : yaml_token_type_t) → starts_node Flow k ≡ true → part_of k ≡ Some true
-node_part kind.YAML_FLOW_SEQUENCE_END_TOKEN h = cc
-node_part kind.YAML_FLOW_MAPPING_END_TOKEN h = cc
-node_part kind.YAML_KEY_TOKEN h = cc
-node_part _ h = refl
+node_part k h = grind arith
 
 started_part : (ts : List Token) → Starts Flow ts → part_of (kind_of ts) ≡ Some true
-started_part [] h = absurd h
-started_part (t ∷ ts) h = node_part (type_of t.body) h
+started_part ts h = grind (arith, node_part)
 
 abbrev items_part : Items → Option Bool
 items_part (tree.end_items p) = None
@@ -84,10 +79,7 @@ items_part (tree.pair p k v m) = Some false
 
 items_parted : (b : Brackets) (i : Items) (ts : List Token)
     → part_of (kind_of (spell_items b i ts)) ≡ items_part i
-items_parted brackets.Sequence (tree.end_items p) ts = refl
-items_parted brackets.Mapping (tree.end_items p) ts = refl
-items_parted b (tree.single n m) ts = started_part (spell_node n (spell_more b m ts)) (node_starts n (spell_more b m ts))
-items_parted b (tree.pair p k v m) ts = refl
+items_parted b i ts = grind (arith, started_part, node_starts)
 
 -- ---- what follows a node ends it
 
@@ -132,19 +124,12 @@ no_dash side p x y e h = not_both (Block (Some side)) (token_at token.block_entr
 alias_same : {w : Wants} (p q : Span) (a b : List ℕ) (x y : List Token)
     → token_at (token.alias a) p ∷ x ≡ token_at (token.alias b) q ∷ y
     → (tree.alias {w = w} p a ≡ tree.alias {w = w} q b) × (x ≡ y)
-alias_same {w = w} p q a b x y h =
-    let e : token.alias a ≡ token.alias b = body_same _ _ p q x y h in
-    let f : a ≡ b = cc in
-    (both (λ z n. tree.alias {w = w} z n) p q a b (span_same _ _ p q x y h) f, rest_same _ _ x y h)
+alias_same p q a b x y h = grind (arith, body_same, span_same, rest_same)
 
 scalar_same : {w : Wants} (p q : Span) (v u : List ℕ) (s r : yaml_scalar_style_t) (x y : List Token)
     → token_at (token.scalar v s) p ∷ x ≡ token_at (token.scalar u r) q ∷ y
     → (tree.scalar {w = w} p v s ≡ tree.scalar {w = w} q u r) × (x ≡ y)
-scalar_same {w = w} p q v u s r x y h =
-    let e : token.scalar v s ≡ token.scalar u r = body_same _ _ p q x y h in
-    let f : v ≡ u = cc in
-    let g : s ≡ r = cc in
-    (three (λ z n m. tree.scalar {w = w} z n m) p q v u s r (span_same _ _ p q x y h) f g, rest_same _ _ x y h)
+scalar_same p q v u s r x y h = grind (arith, body_same, three, span_same, rest_same)
 
 -- ---- trees of different forms spell different tokens
 
@@ -204,8 +189,7 @@ items_alike b i j x y h = let s : items_part i ≡ items_part j = sym (items_par
 
 comma_apart : (b : Brackets) (p q : Span) (x y : List Token)
     → token_at (closing b) p ∷ x ≡ token_at token.flow_entry q ∷ y → ⊥
-comma_apart brackets.Sequence p q x y h = apart _ _ h (λ k. cc)
-comma_apart brackets.Mapping p q x y h = apart _ _ h (λ k. cc)
+comma_apart b p q x y h = grind arith
 
 dash_apart : (p q : Span) (x y : List Token)
     → token_at token.block_end p ∷ x ≡ token_at token.block_entry q ∷ y → ⊥
@@ -338,20 +322,12 @@ mutual
 version_same : (p q : Span) (a b c d : ℤ) (x y : List Token)
     → token_at (token.version_directive a b) p ∷ x ≡ token_at (token.version_directive c d) q ∷ y
     → (tree.version p a b ≡ tree.version q c d) × (x ≡ y)
-version_same p q a b c d x y h =
-    let e : token.version_directive a b ≡ token.version_directive c d = body_same _ _ p q x y h in
-    let f : a ≡ c = cc in
-    let g : b ≡ d = cc in
-    (three tree.version p q a c b d (span_same _ _ p q x y h) f g, rest_same _ _ x y h)
+version_same p q a b c d x y h = grind (arith, body_same, three, span_same, rest_same)
 
 handle_same : (p q : Span) (a b c d : List ℕ) (x y : List Token)
     → token_at (token.tag_directive a b) p ∷ x ≡ token_at (token.tag_directive c d) q ∷ y
     → (tree.handle p a b ≡ tree.handle q c d) × (x ≡ y)
-handle_same p q a b c d x y h =
-    let e : token.tag_directive a b ≡ token.tag_directive c d = body_same _ _ p q x y h in
-    let f : a ≡ c = cc in
-    let g : b ≡ d = cc in
-    (three tree.handle p q a c b d (span_same _ _ p q x y h) f g, rest_same _ _ x y h)
+handle_same p q a b c d x y h = grind (arith, body_same, three, span_same, rest_same)
 
 -- directives and the `---` after them
 abbrev begin : List Directive → Span → List Token → List Token
@@ -426,12 +402,7 @@ encoding_same a b p q x y h = let e : token.stream_start a ≡ token.stream_star
 
 stream_same : (s t : Stream) → s.encoding ≡ t.encoding → s.start ≡ t.start → s.first ≡ t.first
     → s.documents ≡ t.documents → s ≡ t
-stream_same s t e f g h =
-    four (λ (c : yaml_encoding_t) (p : Span) (m : First) (d : Documents). record { encoding = c; start = p; first = m; documents = d })
-    s.encoding t.encoding s.start t.start s.first t.first s.documents t.documents e f g h
+stream_same s t e f g h = grind (arith, four)
 
 pub one_tree : TokensHaveOneTree
-one_tree s t x y h =
-    let r = first_same s.first t.first s.documents t.documents x y (rest_same _ _ _ _ h) in
-    let d = documents_same s.documents t.documents x y r.1 in
-    (stream_same s t (encoding_same s.encoding t.encoding s.start t.start _ _ h) (span_same _ _ s.start t.start _ _ h) r.0 d.0, d.1)
+one_tree s t x y h = grind (arith, first_same, rest_same, documents_same, stream_same, encoding_same, span_same)

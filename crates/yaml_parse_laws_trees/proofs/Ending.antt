@@ -8,8 +8,8 @@ use Rattle.yaml_parse_laws_trees.proofs.SoundStanding.{AllStood, FedStood, feed_
 use Rattle.yaml_parse_laws_trees.proofs.Closing.{closers, Empty, all_close}
 use Rattle.yaml_parse_laws_trees.proofs.FaultsUnique.{one_fault}
 use Rattle.yaml_parse_laws_trees.proofs.Cuts.{followed_on, followed_length}
-use Rattle.yaml_parse_laws_trees.proofs.FaultsStanding.{Sign, signs_of, signs_behind, signs_on, open_in, Last, last_in, told, Plain, Nested, told_fault, grammar_told}
-use Rattle.yaml_parse_laws_trees.proofs.Refusing.{StopsWith, top_stops}
+use Rattle.yaml_parse_laws_trees.proofs.FaultsStanding.{Sign, signs_of, signs_behind, signs_on, open_in, last_in, told, Plain, Nested, told_fault, grammar_told}
+use Rattle.yaml_parse_laws_trees.proofs.Refusing.{top_stops}
 use Rattle.yaml_parse_laws_trees.proofs.Settling.{Done, bad, fine, read_all, none_agree}
 use Rattle.yaml_parse_laws_trees.proofs.Properties.{PropsTop}
 use Rattle.yaml_parse_laws_trees.proofs.Stepping.{Dirs, StepRead, IsFine}
@@ -101,9 +101,7 @@ refused_token x s past ds t is e a p g =
 refused_told : (x : State) (s : List State) (past : List Token) (ds : Directives) (t : Token)
     (is : List RawEvent) (e : Fault) → At x s past ds → feed (x ∷ s) t ≡ stop is e
     → e ≡ grammar_fault past t.start_mark
-refused_told x s past ds t is e a p =
-    subst (StopsWith (told_fault (told x) (open_in (x ∷ s)) t.start_mark)) p (top_stops x s t a.plain a.nested a.stood.0) ∙
-    (ap (λ (l : Last). told_fault l (open_in (x ∷ s)) t.start_mark) a.last ∙ ap (λ (gs : List Sign). told_fault (last_in past) gs t.start_mark) a.signs ∙ sym (grammar_told past t.start_mark))
+refused_told x s past ds t is e a p = grind (arith, told_fault, top_stops, grammar_told)
 
 -- ---- a fault at a token
 
@@ -125,8 +123,7 @@ found_token x s past ds t e o a h w p = record { told = e; same = p; first = λ 
 
 -- a token that is refused
 stopped_fine : (d : Done) (e : Fault) → IsFine d → ending_of d (λ ds. Some e) ≡ Some e
-stopped_fine (bad f) e h = absurd h
-stopped_fine (fine ds) e h = refl
+stopped_fine d e h = grind arith
 
 pub stopped : (x : State) (s : List State) (past : List Token) (ds : Directives) (t : Token)
     (is : List RawEvent) (e : Fault) (f : Option Fault) → At x s past ds
@@ -337,23 +334,7 @@ ends (t ∷ ts) past x s ds f a =
     (stepped x s past ds t ts f (feed (x ∷ s) t) (handle_fault past t.body) a refl refl (step_at x s past ds t a) (λ y z ds' b. ends ts (t ∷ past) y z ds' f b))
 
 pub at_start : At state.stream [] [] no_directives
-at_start = record {
-  signs = refl;
-  last = refl;
-  plain = tt;
-  nested = (tt, tt);
-  stack = refl;
-  stood = (tt, tt);
-  dirs = (none_agree, none_agree);
-  props = tt;
-  reached = λ us f. refl;
-  goes = λ us h. h;
-  clean = tt;
-  unfinished = λ tree p. nothing_spelled tree p;
-}
-  where
-    nothing_spelled : (tree : Stream) → [] ≡ spell tree [] → ⊥
-    nothing_spelled tree p = cc
+at_start = grind (arith, none_agree)
 
 pub ends_in_fault : EndsInFault
 ends_in_fault ts own = (ends ts [] state.stream [] no_directives own at_start).fault

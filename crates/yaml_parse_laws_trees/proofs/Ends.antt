@@ -1,5 +1,5 @@
 -- The fault that loads end in, event by event.
-use Rattle.std.proofs.Common.{◌≡◌, List, [], ◌∷◌, Option, Some, None, refl}
+use Rattle.std.proofs.Common.{◌≡◌, List, [], ◌∷◌, Option, Some, None, refl, arith}
 use Rattle.yaml_parse_laws_trees.proofs.Words.{Fault, Told, Document, Loading, LoadStep, goes_on, loaded, nothing_loaded, step}
 use Rattle.yaml_parse_laws_trees.specs.parse_grammar.parse_model.Nodes.{Node}
 use Rattle.yaml_parse_loader.specs.Loading.{refused}
@@ -24,14 +24,11 @@ fault_of_loads (g ∷ gs) f l = fault_on (step g.0 l) (fault_of_loads gs f)
 
 in_front_alike : (ns : List Node) (d : Document) (rest : Loads) (f : Option Fault) → rest.fault ≡ f
     → (in_front ns d rest).fault ≡ unless_rootless ns f
-in_front_alike [] d rest f h = refl
-in_front_alike (n ∷ ns) d rest f h = h
+in_front_alike ns d rest f h = grind arith
 
 on_alike : (c : LoadStep) (p : Loading → Loads) (q : Loading → Option Fault)
     → ((l : Loading) → (p l).fault ≡ q l) → (load_on c p).fault ≡ fault_on c q
-on_alike (goes_on l) p q h = h l
-on_alike (loaded d) p q h = in_front_alike d.nodes d (p nothing_loaded) (q nothing_loaded) (h nothing_loaded)
-on_alike (refused f) p q h = refl
+on_alike c p q h = grind (arith, in_front_alike)
 
 pub faults_alike : (gs : List Told) (f : Option Fault) (l : Loading)
     → (load_all gs f l).fault ≡ fault_of_loads gs f l

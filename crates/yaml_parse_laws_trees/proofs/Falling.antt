@@ -7,9 +7,7 @@ use Rattle.yaml_parse_laws_trees.proofs.Words.{Token, no_token, Fault, HasMore, 
 -- Something is to come where the list or the fault isn't empty.
 pub has_more : {X : Type 0} (xs : List X) (f : Option Fault) → (xs ≡ [] → f ≡ None → ⊥)
     → HasMore xs f
-has_more [] None h = h refl refl
-has_more [] (Some e) h = tt
-has_more (x ∷ xs) f h = tt
+has_more xs f h = grind arith
 
 -- Where list and fault are empty nothing is to come.
 pub nothing_more : {X : Type 0} (xs : List X) (f : Option Fault) → xs ≡ [] → f ≡ None → HasMore xs f
@@ -41,8 +39,7 @@ within_carried left n (stop is f) k l h = within_last is left n l
 within_carried left n (go is s) k l h = within_map is left n (k s).items l (h s)
 
 within_ending : (s : List State) (e : Fault) (n : ℕ) → Within n (ending_at s e).items
-within_ending [] e n = tt
-within_ending (x ∷ s) e n = tt
+within_ending s e n = grind arith
 
 within : (ts : List Token) (f : Option Fault) (s : List State) (n : ℕ) → length ts ≤ n + 1
     → Within n (run ts s f).items
@@ -53,8 +50,7 @@ within (t ∷ ts) f s n h = within_carried (length ts) n (feed s t) (λ s'. run 
 
 stop_on : (left n : ℕ) (fed : Fed) (k : List State → ℕ) → left ≤ n → ((s : List State) → k s ≤ n)
     → left_where_stopped left fed k ≤ n
-stop_on left n (stop is f) k l h = l
-stop_on left n (go is s) k l h = h s
+stop_on left n fed k l h = grind arith
 
 stop_within : (ts : List Token) (s : List State) (n : ℕ) → length ts ≤ n + 1
     → unasked_at_stop ts s ≤ n
@@ -67,8 +63,7 @@ stop_within (t ∷ ts) s n h = stop_on (length ts) n (feed s t) (λ s'. unasked_
 next_on : (c : Settled) (i : RawEvent) (left n : ℕ) (k : Directives → Reading) (u : Directives → ℕ)
     → left ≤ n → ((ds : Directives) → next_unasked (k ds).events (u ds) ≤ n)
     → next_unasked (read_on c i left k).events (unasked_on c left u) ≤ n
-next_on (noted ds) i left n k u l h = h ds
-next_on _ i left n k u l h = l
+next_on c i left n k u l h = grind arith
 
 next_read : (gs : List Given) (f : Option Fault) (m n : ℕ) (ds : Directives) → Within n gs → m ≤ n
     → next_unasked (reading gs f ds).events (unasked_at_fault gs m ds) ≤ n
@@ -89,8 +84,7 @@ pub ended_next : (s : List State) (e : Fault) (m : ℕ) (ds : Directives)
     → next_unasked (reading_of (ending_at s e) ds).events
     (unasked_at_fault (ending_at s e).items m ds) ≡ m
 unfolding reading unasked_at_fault
-ended_next [] e m ds = refl
-ended_next (x ∷ s) e m ds = refl
+ended_next s e m ds = grind arith
 
 -- ---- all events
 
@@ -121,8 +115,7 @@ down_ended (stop is f) = down_last is 0 0 (omega arith)
 down_ended (go is s) = down_map is 0 0 [] (omega arith) tt tt
 
 down_ending : (s : List State) (e : Fault) (m : ℕ) → Down (ending_at s e).items m
-down_ending [] e m = tt
-down_ending (x ∷ s) e m = tt
+down_ending s e m = grind arith
 
 run_down : (ts : List Token) (f : Option Fault) (s : List State)
     → Down (run ts s f).items (unasked_at_stop ts s)
@@ -136,9 +129,7 @@ falls_on : (c : Settled) (i : RawEvent) (left : ℕ) (k : Directives → Reading
     → ((ds : Directives) → next_unasked (k ds).events (u ds) ≤ left)
     → ((ds : Directives) → AreFalling (k ds).events (u ds))
     → AreFalling (read_on c i left k).events (unasked_on c left u)
-falls_on (refused e) i left k u l h = tt
-falls_on (gave body ds) i left k u l h = (l ds, h ds)
-falls_on (noted ds) i left k u l h = h ds
+falls_on c i left k u l h = grind arith
 
 read_falls : (gs : List Given) (f : Option Fault) (m : ℕ) (ds : Directives) → Down gs m
     → AreFalling (reading gs f ds).events (unasked_at_fault gs m ds)

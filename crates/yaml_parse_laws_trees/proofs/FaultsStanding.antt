@@ -1,5 +1,5 @@
 -- What a stack of states knows of the tokens that were read: which collections are open, and which token was last.
-use Rattle.std.proofs.Common.{◌≡◌, Bool, true, false, if◌then◌else◌, List, [], ◌∷◌, refl, ap}
+use Rattle.std.proofs.Common.{◌≡◌, Bool, true, false, if◌then◌else◌, List, [], ◌∷◌, arith}
 use Rattle.yaml_parse_laws_trees.proofs.Words.{yaml_mark_t, Token, TokenBody, Fault, Wants, Flow, Block, State, opening, wants_of, opened, grammar_fault, opens, closes, surrounding, opens_brackets, in_brackets, asks_for_node, no_node, no_document, no_part, not_going_on}
 use Rattle.yaml_parse_model.specs.scan_types.Tokens as token
 use Rattle.yaml_parse_laws_trees.specs.parse_grammar.States as state
@@ -29,15 +29,12 @@ abbrev pub signs_behind : TokenBody → yaml_mark_t → List Sign → List Sign
 signs_behind body start gs = if opens body then sign body start ∷ gs else if closes body then around gs else gs
 
 around_signs : (ts : List Token) → signs_of (surrounding ts) ≡ around (signs_of ts)
-around_signs [] = refl
-around_signs (t ∷ ts) = refl
+around_signs ts = grind arith
 
 either : (a b : Bool) (t : Token) (ts : List Token)
     → signs_of (if a then t ∷ ts else if b then surrounding ts else ts)
     ≡ (if a then sign_of t ∷ signs_of ts else if b then around (signs_of ts) else signs_of ts)
-either true b t ts = refl
-either false true t ts = around_signs ts
-either false false t ts = refl
+either a b t ts = grind (arith, around_signs)
 
 pub signs_on : (t : Token) (past : List Token)
     → signs_of (opened (t ∷ past)) ≡ signs_behind t.body t.start_mark (signs_of (opened past))
@@ -53,12 +50,10 @@ stuck [] at = no_document at
 stuck (g ∷ gs) at = no_part g.body g.start at
 
 pub bracketed_signs : (ts : List Token) → in_brackets ts ≡ bracketed (signs_of ts)
-bracketed_signs [] = refl
-bracketed_signs (t ∷ ts) = refl
+bracketed_signs ts = grind arith
 
 pub stuck_signs : (ts : List Token) (at : yaml_mark_t) → not_going_on ts at ≡ stuck (signs_of ts) at
-stuck_signs [] at = refl
-stuck_signs (t ∷ ts) at = refl
+stuck_signs ts at = grind arith
 
 -- the collection of a state, over those of the states below
 abbrev pub put : State → List Sign → List Sign
@@ -122,8 +117,7 @@ Topped l [] = Unit {0}
 Topped l (x ∷ s) = (told x ≡ l) × Plain s
 
 pub plain_topped : (s : List State) → Plain s → Topped other s
-plain_topped [] h = tt
-plain_topped (x ∷ s) h = h
+plain_topped s h = grind arith
 
 -- ---- flow nodes are in brackets, others don't
 
@@ -172,7 +166,4 @@ asked _ x y gs at p q = q
 -- it is the fault of the grammar
 pub grammar_told : (past : List Token) (at : yaml_mark_t)
     → grammar_fault past at ≡ told_fault (last_in past) (signs_of (opened past)) at
-grammar_told [] at = refl
-grammar_told (t ∷ past) at =
-    asked t.body (no_node (in_brackets (opened (t ∷ past))) at) (not_going_on (opened (t ∷ past)) at) (signs_of (opened (t ∷ past))) at
-    (ap (λ (b : Bool). no_node b at) (bracketed_signs (opened (t ∷ past)))) (stuck_signs (opened (t ∷ past)) at)
+grammar_told past at = grind (arith, asked, bracketed_signs, stuck_signs)

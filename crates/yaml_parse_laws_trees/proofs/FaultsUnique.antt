@@ -1,32 +1,24 @@
 -- A list of tokens has one fault at most.
-use Rattle.std.proofs.Common.{◌≡◌, ◌⊎◌, inl, inr, ℕ, ◌<◌, List, ◌∷◌, Option, Some, None, refl, ap, sym, subst, ◌∙◌}
-use Rattle.yaml_parse_laws_trees.proofs.Words.{cases_order, Token, Fault, directive_fault, handle_fault, Rank, of_handle, of_token, ComesBefore, WrongToken, grammar, directive, FaultAt, StandsIn, IsOfLeastPlace, with_end, IsOwn, FaultIsOne}
-use Rattle.yaml_parse_laws_trees.proofs.Cuts.{SameCut, same_cut, head_same}
+use Rattle.std.proofs.Common.{◌≡◌, ◌⊎◌, inl, inr, ℕ, ◌<◌, List, Option, Some, None, refl, ap, sym, arith}
+use Rattle.yaml_parse_laws_trees.proofs.Words.{cases_order, Token, Fault, Rank, of_handle, of_token, ComesBefore, WrongToken, FaultAt, StandsIn, IsOfLeastPlace, with_end, IsOwn, FaultIsOne}
+use Rattle.yaml_parse_laws_trees.proofs.Cuts.{same_cut, head_same}
 
 pub same_some : (x : Option Fault) (e f : Fault) → x ≡ Some e → x ≡ Some f → e ≡ f
 same_some x e f p q = cc
 
 one_wrong : (past : List Token) (t : Token) (e f : Fault) → WrongToken past t e
     → WrongToken past t f → e ≡ f
-one_wrong past t e f (grammar n p) (grammar m q) = p ∙ sym q
-one_wrong past t e f (grammar n p) (directive g q) = absurd (n g)
-one_wrong past t e f (directive g p) (grammar m q) = absurd (m g)
-one_wrong past t e f (directive g p) (directive h q) = same_some (directive_fault past t.body t.start_mark) e f p q
+one_wrong past t e f h4 h5 = grind (arith, same_some)
 
 -- one fault at each place
 pub one_at : (past : List Token) (t : Token) (r : Rank) (e f : Fault) → FaultAt past t r e
     → FaultAt past t r f → e ≡ f
-one_at past t of_handle e f p q = same_some (handle_fault past t.body) e f p q
-one_at past t of_token e f p q = one_wrong past t e f p q
+one_at past t r e f p q = grind (arith, same_some, one_wrong)
 
 one_standing : (ts : List Token) (n m : ℕ) (r : Rank) (e f : Fault) → n ≡ m
     → StandsIn ts (record { number = n; rank = r }) e
     → StandsIn ts (record { number = m; rank = r }) f → e ≡ f
-one_standing ts n m r e f p x y =
-    let c : SameCut x.past y.past (x.token ∷ x.behind) (y.token ∷ y.behind) = same_cut x.past y.past (x.token ∷ x.behind) (y.token ∷ y.behind) (sym x.list ∙ y.list) (x.number ∙ p ∙ sym y.number) in
-    one_at y.past y.token r e f
-    (subst (λ (z : Token). FaultAt y.past z r e) (head_same x.token y.token x.behind y.behind c.behind) (subst (λ (z : List Token). FaultAt z x.token r e) c.before x.fault))
-    y.fault
+one_standing ts n m r e f p x y = grind (arith, same_cut, one_at, head_same)
 
 by_rank : (ts : List Token) (n m : ℕ) (r q : Rank) (e f : Fault) → n ≡ m
     → StandsIn ts (record { number = n; rank = r }) e

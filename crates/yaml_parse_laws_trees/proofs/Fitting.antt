@@ -1,7 +1,7 @@
 -- What the document in the making knows of the tokens that were read: their anchors, and whether there is a root.
-use Rattle.std.proofs.Common.{◌≡◌, ℕ, suc, ℤ, zero, Bool, true, false, if◌then◌else◌, ◌||◌, List, [], ◌∷◌, ◌++◌, Option, Some, None, is_some, cond, codes, refl, ap, sym, subst, ◌∙◌}
+use Rattle.std.proofs.Common.{◌≡◌, ℕ, ℤ, Bool, true, false, if◌then◌else◌, ◌||◌, List, [], ◌∷◌, ◌++◌, Option, Some, None, is_some, cond, codes, refl, ap, ◌∙◌, arith}
 use Rattle.std.specs.FinMap as map
-use Rattle.yaml_parse_laws_trees.proofs.Words.{bytes_eq, nat_list_cmp_total, yaml_mark_t, yaml_scalar_style_t, Token, Fault, EventBody, RawEvent, Properties, Tag, Shape, item_at, node_at, State, Fed, stop, go, with_item, given_by, Directives, Settled, gave, noted, settle, placed, node_event, with_resolved, resolved, Anchors, is_same, Loading, named, closed, step, has_anchor, alias_fault, place_of, filled, change_place}
+use Rattle.yaml_parse_laws_trees.proofs.Words.{bytes_eq, nat_list_cmp_total, yaml_mark_t, yaml_scalar_style_t, Token, Fault, EventBody, RawEvent, Properties, Tag, Shape, item_at, node_at, State, Fed, stop, go, with_item, given_by, Directives, Settled, gave, noted, settle, placed, node_event, with_resolved, resolved, Anchors, is_same, Loading, named, closed, step, has_anchor, alias_fault, change_place}
 use Rattle.yaml_parse_laws_trees.specs.parse_grammar.parse_model.Nodes.{Node}
 use Rattle.yaml_parse_laws_trees.specs.parse_grammar.parse_model.Events as event
 use Rattle.yaml_parse_laws_trees.specs.parse_grammar.Items as item
@@ -58,20 +58,11 @@ Fits (x ∷ s) past l = FitsAt x past l
 
 fits_top : (x : State) (s : List State) (past : List Token) (l : Loading) → told x ≡ other
     → Names past l → Rooted l.document.nodes → Fits (x ∷ s) past l
-fits_top state.stream s past l e n r = cc
-fits_top state.first s past l e n r = cc
-fits_top (state.optional place before) s past l e n r = cc
-fits_top (state.items b o) s past l e n r = cc
-fits_top (state.with_properties w p) s past l e n r = cc
-fits_top (state.directives from) s past l e n r = cc
-fits_top state.documents s past l e n r = tt
-fits_top state.document_end s past l e n r = r
-fits_top _ s past l e n r = (n, r)
+fits_top x s past l e n r = grind arith
 
 pub fits_below : (s : List State) (past : List Token) (l : Loading) → Plain s → Names past l
     → Rooted l.document.nodes → Fits s past l
-fits_below [] past l p n r = tt
-fits_below (x ∷ s) past l p n r = fits_top x s past l p.0 n r
+fits_below s past l p n r = grind (arith, fits_top)
 
 -- ---- what a node adds
 
@@ -84,8 +75,7 @@ rooted_push [] n = tt
 rooted_push (x ∷ ns) n = tt
 
 found_either : (b : Bool) (n : ℤ) (o : Option ℤ) → is_some (cond b (Some n) o) ≡ (b || is_some o)
-found_either true n o = refl
-found_either false n o = refl
+found_either b n o = grind arith
 
 named_known : (anchor : Option (List ℕ)) (n : ℤ) (ks : Anchors) (name : List ℕ)
     → is_some (map.get (named anchor n ks) name)
@@ -161,19 +151,15 @@ placed_passes (Some p) shape start end ds l = node_passes p.anchor p.tag shape p
 -- the end of a collection
 rooted_change : (f : Node → Node) (k : ℕ) (ns : List Node) → Rooted ns
     → Rooted (change_place f k ns)
-rooted_change f k [] h = h
-rooted_change f zero (n ∷ ns) h = tt
-rooted_change f (suc k) (n ∷ ns) h = tt
+rooted_change f k ns h = grind arith
 
 closed_rooted : (to : yaml_mark_t) (l : Loading) (os : List Open) → Rooted l.document.nodes
     → Rooted (closed to l os).document.nodes
-closed_rooted to l [] h = h
-closed_rooted to l (o ∷ os) h = rooted_change (filled o to) (place_of o) l.document.nodes h
+closed_rooted to l os h = grind (arith, rooted_change)
 
 closed_names : (to : yaml_mark_t) (l : Loading) (os : List Open) (past : List Token) → Names past l
     → Names past (closed to l os)
-closed_names to l [] past h = h
-closed_names to l (o ∷ os) past h = h
+closed_names to l os past h = grind arith
 
 pub closed_fits : (to : yaml_mark_t) (l : Loading) (s : List State) (past : List Token) → Plain s
     → Names past l → Rooted l.document.nodes → Fits s past (closed to l l.levels)
@@ -207,17 +193,13 @@ front_stop : (c : Settled) (i : RawEvent) (is : List RawEvent) (l : Loading) (Q 
     → Passes c i l Q
     → ((m : Loading) → Q m → (d : Directives) → Alike (read_all is d) (load_items is d m))
     → Alike (then_read c (λ d. read_all is d)) (then_load c i l (λ d m. load_items is d m))
-front_stop (resolve.refused f) i is l Q h k = refl
-front_stop (gave b ds) i is l Q h k = subst (λ (r : Fared). Alike (read_all is ds) r) (sym (h.1 (λ m. load_items is ds m))) (k h.0 h.2 ds)
-front_stop (noted ds) i is l Q h k = k l h ds
+front_stop c i is l Q h k = grind arith
 
 front_go : (past : List Token) (t : Token) (s : List State) (c : Settled) (i : RawEvent)
     (is : List RawEvent) (l : Loading) (Q : Loading → Type 0) → Passes c i l Q
     → ((m : Loading) → Q m → (d : Directives) → Steps past t (read_all is d) (load_items is d m) s)
     → Steps past t (then_read c (λ d. read_all is d)) (then_load c i l (λ d m. load_items is d m)) s
-front_go past t s (resolve.refused f) i is l Q h k = refl
-front_go past t s (gave b ds) i is l Q h k = subst (λ (r : Fared). Steps past t (read_all is ds) r s) (sym (h.1 (λ m. load_items is ds m))) (k h.0 h.2 ds)
-front_go past t s (noted ds) i is l Q h k = k l h ds
+front_go past t s c i is l Q h k = grind arith
 
 pub loads_with : (past : List Token) (t : Token) (ds : Directives) (l : Loading) (i : RawEvent)
     (fed : Fed) (Q : Loading → Type 0) → Passes (settle i ds) i l Q

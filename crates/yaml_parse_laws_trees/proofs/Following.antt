@@ -1,5 +1,5 @@
 -- The law of windows, for a parser.
-use Rattle.std.proofs.Common.{◌≡◌, ℕ, false, List, [], ◌∷◌, ◌++◌, map, length, Option, Some, None, refl, sym, ap, subst, ◌∙◌, inl, inr}
+use Rattle.std.proofs.Common.{◌≡◌, ℕ, false, List, [], ◌∷◌, ◌++◌, map, length, Option, Some, None, refl, sym, ap, subst, ◌∙◌, inl, inr, arith}
 use Rattle.std.proofs.lemmas.List.{append-nil, append_assoc, map-append, same_from_push}
 use Rattle.std.proofs.lemmas.Option.{same_Some}
 use Rattle.yaml_parse_laws_trees.proofs.WindowsWords.{yaml_mark_t, yaml_encoding_t, Token, TokenBody, Event, Fault, RawEvent, item_at, event_at, Directives, no_directives, Settled, refused, gave, noted, settle, placed, State, Fed, stop, go, feed, carry, run, initial, parse_of, events_in, GoOn}
@@ -168,9 +168,7 @@ pub went : (t : Token) (ts : List Token) (s z : List State) (f : Option Fault) (
     (ds : Directives)
     → feed s t ≡ go is z
     → read_of (run (t ∷ ts) s f) ds ≡ plain (is ++ items_of (run ts z f).items) (run ts z f).ending ds
-went t ts s z f is ds e =
-    ap (λ y. plain y (run (t ∷ ts) s f).ending ds) (step_items t ts s z f is e)
-    ∙ ap (λ y. plain (is ++ items_of (run ts z f).items) y ds) (step_ending t ts s z f is e)
+went t ts s z f is ds e = grind (arith, step_items, step_ending)
 
 -- What is read where it is refused.
 pub halted : (t : Token) (ts : List Token) (s : List State) (f : Option Fault) (is : List RawEvent)
@@ -390,13 +388,7 @@ rest_plain : (x : yaml_encoding_t) (a c m f : yaml_mark_t) (behind : List Token)
     let B = run behind (begun f) own in
     seen (parse_of (first ∷ start_at m f ∷ behind) own)
     ≡ with_one (placed (event.stream_start x) (event_at (event.stream_start x) a c)) (plain (item_at (item.document false) m f ∷ items_of B.items) B.ending no_directives)
-rest_plain x a c m f behind own =
-    let first : Token = record { body = token.stream_start x; start_mark = a; end_mark = c } in
-    let B = run behind (begun f) own in
-    let R = run (first ∷ start_at m f ∷ behind) initial own in
-    parse_plain (first ∷ start_at m f ∷ behind) own
-    ∙ ap (λ y. plain y R.ending no_directives) (rest_items x a c m f behind own)
-    ∙ ap (λ y. plain (event_at (event.stream_start x) a c ∷ item_at (item.document false) m f ∷ items_of B.items) y no_directives) (rest_ending x a c m f behind own)
+rest_plain x a c m f behind own = grind (arith, parse_plain, rest_items, rest_ending)
 
 at_once : (front : List Token) → GoOn front → (m e f : yaml_mark_t)
     → (parse_of (front ++ end_at m e ∷ []) None).ending ≡ None

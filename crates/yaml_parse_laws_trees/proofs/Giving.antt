@@ -1,6 +1,6 @@
 -- The machine gives the events of a list, and a list has no others.
 use Rattle.std.proofs.Common.{◌≡◌, ◌⊎◌, inl, inr, ◌+◌, ◌-◌, ℕ, suc, Bool, true, false, ◌||◌, List, [], ◌∷◌, ◌++◌, length, Option, Some, None, refl, ap, sym, subst, ◌∙◌, arith, append_assoc, append-nil, le_refl}
-use Rattle.yaml_parse_laws_trees.proofs.Words.{true≢false, false≢true, or_cases, yaml_mark_t, Token, no_token, zero_mark, Fault, RawEvent, State, Stream, spell, Given, next, items, Fed, stop, go, feed, Outcome, run, initial, Told, reading, no_directives, reading_of, GoesOn, bare, RefusedAt, RunsOut, first_items, but_last, EndsAt, last_leaves_open, BeginsWith, EventsOfTokens, events_run, given_of, BeginsWithTree, IsLongest, LongestFront, events_of, events_of_front, events_at_next, has_fault, gives_no_more, GivesAt, HasFront, ListHasFront, EventsAreOne, RunGivesEvents, EventsAreRun, RunGivesLeast}
+use Rattle.yaml_parse_laws_trees.proofs.Words.{true≢false, false≢true, or_cases, yaml_mark_t, Token, no_token, zero_mark, Fault, RawEvent, State, Stream, spell, Given, next, items, Fed, stop, go, feed, Outcome, run, initial, Told, reading, no_directives, GoesOn, bare, RefusedAt, RunsOut, first_items, but_last, EndsAt, last_leaves_open, BeginsWith, EventsOfTokens, events_run, given_of, BeginsWithTree, IsLongest, LongestFront, events_of, events_of_front, events_at_next, has_fault, gives_no_more, GivesAt, HasFront, ListHasFront, EventsAreOne, RunGivesEvents, EventsAreRun, RunGivesLeast}
 use Rattle.yaml_parse_laws_trees.proofs.CompleteStream.{stream_runs, nothing_runs}
 use Rattle.yaml_parse_laws_trees.proofs.Left.{Over}
 use Rattle.yaml_parse_laws_trees.proofs.Closing.{closers, Empty, all_close, closers_end}
@@ -12,7 +12,7 @@ use Rattle.yaml_parse_laws_trees.proofs.Taking.{stack_solid, Stops, stops_at_non
 use Rattle.yaml_parse_laws_trees.proofs.Ending.{runs_fed, runs_out}
 use Rattle.yaml_parse_laws_trees.proofs.Turns.{items_given}
 use Rattle.yaml_parse_laws_trees.proofs.Walking.{raised, numbered, before, Knows, knows_step, takes_step, Unfinished, last_behind, Walked, walk}
-use Rattle.yaml_parse_laws_trees.proofs.Behind.{open_behind, front_open, GivesNone, none_given, OneMore, Alike, feed_alike, closed_top}
+use Rattle.yaml_parse_laws_trees.proofs.Behind.{open_behind, front_open, none_given, OneMore, Alike, feed_alike, closed_top}
 use Rattle.yaml_parse_laws_trees.proofs.Counting.{front_items, token_items, none_from, but_one, any_ending, more_begin}
 
 -- ---- after the front
@@ -114,10 +114,7 @@ run_items : (ts : List Token) (own : Option Fault) (l : LongestFront ts) (w : He
     (r : Refused (w.top ∷ w.below) l.behind own)
     → (run ts initial own).items ≡ raised (length l.behind) w.items
     ++ numbered (length l.behind - 1) r.items
-run_items ts own l w r =
-    ap (λ (us : List Token). (run us initial own).items) l.list
-    ∙ ap (λ (o : Outcome). o.items) (w.runs l.behind own)
-    ∙ ap (λ (z : List Given). raised (length l.behind) w.items ++ z) r.given
+run_items ts own l w r = grind arith
 
 run_events : (ts : List Token) (own : Option Fault) (gs : List Given)
     → (run ts initial own).items ≡ gs → events_run ts own ≡ events_of gs
@@ -135,8 +132,7 @@ tree_ending front more t w p = sym (ap (λ (o : Outcome). o.ending) (w.runs more
 
 not_done : (x : State) (s : List State) (fed : Fed) → feed (x ∷ s) no_token ≡ fed → Stops fed
     → (run [] (x ∷ s) None).ending ≡ None → ⊥
-not_done x s (stop is e) p h a = not_none e (sym (ap (λ (o : Outcome). o.ending) (runs_out (x ∷ s) (stop is e) p)) ∙ a)
-not_done x s (go is s') p h a = h
+not_done x s fed p h a = grind (arith, not_none, runs_out)
 
 some_left : (x : State) (s : List State) (l : Last) → Knows l (x ∷ s)
     → (run [] (x ∷ s) None).ending ≡ None → ⊥
@@ -168,10 +164,7 @@ top_open front w = ap open_behind w.knows.topped.0 ∙ sym (front_open front not
 open_none : (front behind : List Token) (own : Option Fault) (w : Here front)
     (r : Refused (w.top ∷ w.below) behind own) → last_leaves_open true front ≡ true → (b : Bool)
     → has_fault behind own ≡ b → r.items ≡ []
-open_none front behind own w r o true p = r.silent p
-open_none front behind own w r o false p =
-    let d : StoppedAt (w.top ∷ w.below) (next behind) r.items = r.stopped p in
-    (subst GivesNone d.same (none_given w.top w.below d.token (top_open front w ∙ o) w.knows.stood.0))
+open_none front behind own w r o b p = grind (arith, none_given, top_open)
 
 nothing_given : (front behind : List Token) (own : Option Fault) (w : Here front)
     (r : Refused (w.top ∷ w.below) behind own)
@@ -245,8 +238,7 @@ end_items front u us t b w d is i p l k q =
     ∙ sym (append_assoc (raised b w.items) (numbered (b - 1) is) ((i, b - 1) ∷ []))
 
 either_false : (a b : Bool) → (a || b) ≡ false → (a ≡ false) × (b ≡ false)
-either_false true b h = absurd (true≢false h)
-either_false false b h = (refl, h)
+either_false a b h = grind (arith, true≢false)
 
 one_more : (s : List State) (t u : Token) (is js : List RawEvent) (e : Fault) (s' : List State)
     → feed s t ≡ stop is e → feed s u ≡ go js s' → Alike (feed s t) (feed s u) → OneMore is js
@@ -290,10 +282,7 @@ gives_at ts own l w r false q = λ h. gives_at_end ts own l w r q h
 pub run_gives_tree : (ts : List Token) (own : Option Fault) (t : Stream) (rest : List Token)
     → ts ≡ spell t rest
     → events_run ts own ≡ (reading (given_of t (length rest)) None no_directives).events
-run_gives_tree ts own t rest p =
-    ap (λ (us : List Token). events_run us own) p
-    ∙ ap (λ (o : Outcome). (reading_of o no_directives).events) (stream_runs t rest own)
-    ∙ ap (λ (gs : List Given). (reading gs None no_directives).events) (items_given t rest)
+run_gives_tree ts own t rest p = grind (arith, stream_runs, items_given)
 
 pub run_gives_events : RunGivesEvents
 run_gives_events ts own = record {
@@ -343,8 +332,7 @@ closed_front ts own l w = record { front = closing_tree ts l w; ends = λ q. clo
 placed_front : (ts : List Token) (own : Option Fault) (e : Fault)
     → RefusedAt ts (bare (run ts initial own).items) e
     ⊎ RunsOut ts own (bare (run ts initial own).items) e → LongestFront ts
-placed_front ts own e (inl r) =
-    record { front = r.front; behind = r.token ∷ r.behind; list = r.list; longest = r.wrong; tree = r.before.tree; more = r.before.more; same = r.before.same }
+placed_front ts own e (inl r) = grind arith
 placed_front ts own e (inr r) = record { front = ts; behind = []; list = sym (append-nil ts); longest = tt; tree = r.before.tree; more = r.before.more; same = r.before.same }
 
 front_by : (ts : List Token) (own o : Option Fault) → (run ts initial own).ending ≡ o
@@ -359,8 +347,7 @@ list_has_front ts own n = front_by ts own (run ts initial own).ending refl n
 
 one_at : (ts : List Token) (l : LongestFront ts) (b : Bool) (x y : List Told)
     → (b ≡ false → EndsAt (next l.behind) l.more) → GivesAt b l x → GivesAt b l y → x ≡ y
-one_at ts l true x y e h k = h ∙ sym k
-one_at ts l false x y e h k = h (e refl) ∙ sym (k (e refl))
+one_at ts l b x y e h k = grind arith
 
 one_by : (ts : List Token) (own o : Option Fault) (x y : List Told)
     → (run ts initial own).ending ≡ o → EventsOfTokens ts own x → EventsOfTokens ts own y → x ≡ y

@@ -1,5 +1,5 @@
 -- At the bottom of a stack is one state that awaits documents, and none such above it.
-use Rattle.std.proofs.Common.{◌≡◌, ◌≢◌, Bool, true, false, not, ◌&&◌, ◌||◌, List, [], ◌∷◌, ◌++◌, refl, sym, ap, ◌∙◌}
+use Rattle.std.proofs.Common.{◌≡◌, ◌≢◌, Bool, true, false, not, ◌&&◌, ◌||◌, List, [], ◌∷◌, ◌++◌, refl, sym, ap, ◌∙◌, arith}
 use Rattle.std.proofs.lemmas.Bool.{true≢false}
 use Rattle.yaml_parse_grammar.specs.parse_model.declared.yaml_token_type_t.{yaml_token_type_t}
 use Rattle.yaml_parse_laws_trees.proofs.WindowsWords.{Token, Open, Directives, no_directives, State, choice_at, taken_at}
@@ -70,12 +70,7 @@ inner_of (x ∷ xs) h = rw (off x h.0, inner_of xs h.1) refl
 
 -- a state that isn't at the bottom puts such states above those below it
 pub taken_inner : (x : State) (t : Token) → is_ground x ≡ false → inner (taken_at x t).above ≡ true
-taken_inner state.stream t h = absurd (true≢false h)
-taken_inner state.first t h = absurd (true≢false h)
-taken_inner state.documents t h = absurd (true≢false h)
-taken_inner (state.directives from) t h = absurd (true≢false h)
-taken_inner state.document_end t h = refl
-taken_inner x t h = inner_of (taken_at x t).above (inside_taken x t tt).1
+taken_inner x t h = grind (arith, true≢false, inner_of, inside_taken)
 
 -- a document opens at the bottom alone
 pub not_open : (x : State) (k : yaml_token_type_t) → is_ground x ≡ false → choice_at x k ≢ Open

@@ -1,5 +1,5 @@
 -- What loading the items of a step gives.
-use Rattle.std.proofs.Common.{◌≡◌, ℕ, List, [], ◌∷◌, ◌++◌, map, Option, Some, None, refl}
+use Rattle.std.proofs.Common.{◌≡◌, ℕ, List, [], ◌∷◌, ◌++◌, map, Option, Some, None, refl, arith}
 use Rattle.yaml_parse_laws_trees.proofs.Words.{Fault, RawEvent, Given, Directives, Settled, gave, noted, settle, placed, Reading, reading, read_on, Loading, LoadStep, goes_on, loaded, nothing_loaded, step}
 use Rattle.yaml_parse_laws_trees.specs.parse_grammar.parse_model.Nodes.{Node}
 use Rattle.yaml_parse_laws_trees.specs.parse_grammar.Resolve as resolve
@@ -39,24 +39,19 @@ ends_in r l = fault_of_loads r.events r.ending l
 
 rootless : (ns : List Node) (f : Option Fault) (r : Fared) (m : Directives → Loading → Option Fault)
     → f ≡ fared_fault r m → unless_rootless ns f ≡ fared_fault (unless_empty ns r) m
-rootless [] f r m h = refl
-rootless (n ∷ ns) f r m h = h
+rootless ns f r m h = grind arith
 
 one_fed : (c : LoadStep) (k : Loading → Option Fault) (q : Loading → Fared)
     (m : Directives → Loading → Option Fault) → ((l : Loading) → k l ≡ fared_fault (q l) m)
     → fault_on c k ≡ fared_fault (then_fed c q) m
-one_fed (goes_on l) k q m h = h l
-one_fed (loaded d) k q m h = rootless d.nodes (k nothing_loaded) (q nothing_loaded) m (h nothing_loaded)
-one_fed (refused f) k q m h = refl
+one_fed c k q m h = grind (arith, rootless)
 
 one_load : (c : Settled) (i : RawEvent) (left : ℕ) (k : Directives → Reading) (l : Loading)
     (q : Directives → Loading → Fared) (m : Directives → Loading → Option Fault)
     → ((ds : Directives) (l : Loading) → ends_in (k ds) l ≡ fared_fault (q ds l) m)
     → ends_in (read_on c i left k) l ≡ fared_fault (then_load c i l q) m
 unfolding fault_of_loads
-one_load (resolve.refused f) i left k l q m h = refl
-one_load (gave body ds) i left k l q m h = one_fed (step (placed body i) l) (fault_of_loads (k ds).events (k ds).ending) (q ds) m (λ n. h ds n)
-one_load (noted ds) i left k l q m h = h ds l
+one_load c i left k l q m h = grind (arith, one_fed)
 
 pub front_loads : (is : List RawEvent) (left : ℕ) (gs : List Given) (f : Option Fault)
     (ds : Directives) (l : Loading)

@@ -1,6 +1,6 @@
 -- Taking a token inside a document: what is open, which token was last, and how the stack is.
-use Rattle.std.proofs.Common.{◌≡◌, true, false, List, [], ◌∷◌, ◌++◌, Option, Some, None, refl, sym, subst}
-use Rattle.yaml_parse_laws_trees.proofs.Words.{append_assoc, yaml_mark_t, Token, TokenBody, type_of, Wants, Flow, Block, Brackets, Take, Properties, State, IsInner, IsInside, starts_content, starts_node, wants_of, choice_at, content_taken, node_taken, lone_below, taken_at, is_directive, starts_document, take_rule, was_take, false≢true}
+use Rattle.std.proofs.Common.{◌≡◌, true, false, List, [], ◌∷◌, ◌++◌, Option, Some, None, refl, arith}
+use Rattle.yaml_parse_laws_trees.proofs.Words.{wants_of, append_assoc, yaml_mark_t, Token, TokenBody, type_of, Wants, Flow, Brackets, Take, Properties, State, IsInner, IsInside, starts_content, starts_node, choice_at, content_taken, node_taken, lone_below, taken_at, is_directive, starts_document, take_rule, was_take, false≢true}
 use Rattle.yaml_parse_model.specs.scan_types.Tokens as token
 use Rattle.yaml_parse_laws_trees.specs.parse_grammar.declared.name.Brackets.TheVariants as brackets
 use Rattle.yaml_parse_laws_trees.specs.parse_grammar.States as state
@@ -34,17 +34,7 @@ pub record Ground (w : Wants) (s : List State) : Type 0 where
 content_kept : (w : Wants) (p : Option Properties) (start end : yaml_mark_t) (b : TokenBody)
     (s : List State) → starts_content w (type_of b) ≡ true → Ground w s
     → KeptInside b start (open_in s) ((content_taken w p start end b).above ++ s)
-content_kept w p start end (token.scalar value style) s c g = keep refl (plain_topped s g.plain) g.nested g.inside refl refl
-content_kept w p start end token.flow_sequence_start s c g = keep refl (refl, g.plain) (tt, g.nested) (tt, g.inside) refl refl
-content_kept w p start end token.flow_mapping_start s c g = keep refl (refl, g.plain) (tt, g.nested) (tt, g.inside) refl refl
-content_kept (Block side) p start end token.block_sequence_start s c g = keep refl (refl, g.plain) (tt, g.nested) (tt, g.inside) refl refl
-content_kept (Block side) p start end token.block_mapping_start s c g = keep refl (refl, g.plain) (tt, g.nested) (tt, g.inside) refl refl
-content_kept (Block (Some side)) p start end token.block_entry s c g = keep refl (refl, (refl, g.plain)) (g.flow, (g.flow, g.nested)) (tt, (tt, g.inside)) refl refl
-content_kept Flow p start end token.block_sequence_start s c g = absurd (false≢true c)
-content_kept Flow p start end token.block_mapping_start s c g = absurd (false≢true c)
-content_kept Flow p start end token.block_entry s c g = absurd (false≢true c)
-content_kept (Block None) p start end token.block_entry s c g = absurd (false≢true c)
-content_kept w p start end _ s c g = absurd (false≢true c)
+content_kept w p start end b s c g = grind (arith, keep, plain_topped, false≢true)
 
 pub node_kept : (w : Wants) (start end : yaml_mark_t) (b : TokenBody) (s : List State)
     → starts_node w (type_of b) ≡ true → Ground w s
@@ -58,22 +48,17 @@ node_kept w start end b s c g = content_kept w None start end b s c g
 
 lone_ground : (bs : Brackets) (o : yaml_mark_t) (s : List State) → Plain s → Nested s → IsInside s
     → Ground Flow (lone_below bs (state.more bs o ∷ []) ++ s)
-lone_ground brackets.Sequence o s p n i = record { plain = (refl, p); nested = (tt, n); inside = (tt, i); flow = refl }
-lone_ground brackets.Mapping o s p n i = record { plain = (refl, (refl, p)); nested = (tt, (tt, n)); inside = (tt, (tt, i)); flow = refl }
+lone_ground bs o s p n i = grind arith
 
 lone_open : (bs : Brackets) (o : yaml_mark_t) (s : List State)
     → open_in (lone_below bs (state.more bs o ∷ []) ++ s) ≡ open_in (state.items bs o ∷ s)
-lone_open brackets.Sequence o s = refl
-lone_open brackets.Mapping o s = refl
+lone_open bs o s = grind arith
 
 lone_kept : (bs : Brackets) (o start end : yaml_mark_t) (b : TokenBody) (s : List State)
     → starts_node Flow (type_of b) ≡ true → Plain s → Nested s → IsInside s
     → KeptInside b start (open_in (state.items bs o ∷ s))
     (((node_taken Flow start end b).above ++ lone_below bs (state.more bs o ∷ [])) ++ s)
-lone_kept bs o start end b s c p n i =
-    subst (λ (z : List State). KeptInside b start (open_in (state.items bs o ∷ s)) z) (sym (append_assoc (node_taken Flow start end b).above (lone_below bs (state.more bs o ∷ [])) s))
-    (subst (λ (gs : List Sign). KeptInside b start gs ((node_taken Flow start end b).above ++ (lone_below bs (state.more bs o ∷ []) ++ s))) (lone_open bs o s)
-    (node_kept Flow start end b (lone_below bs (state.more bs o ∷ []) ++ s) c (lone_ground bs o s p n i)))
+lone_kept bs o start end b s c p n i = grind (arith, append_assoc, lone_open, node_kept, lone_ground)
 
 -- ---- each state
 

@@ -1,9 +1,9 @@
 -- What a state still waits for: the tokens of part of a tree, and what follows them.
-use Rattle.std.proofs.Common.{◌≡◌, ℕ, Bool, true, false, if◌then◌else◌, ◌||◌, List, [], ◌∷◌, ◌++◌, Option, Some, None, refl, sym, ap, subst, ◌∙◌}
+use Rattle.yaml_parse_laws_trees.specs.parse_grammar.declared.problem.ParseProblem.TheVariants as problem
+use Rattle.std.proofs.Common.{◌≡◌, ℕ, Bool, true, if◌then◌else◌, ◌||◌, List, [], ◌∷◌, ◌++◌, Option, Some, None, refl, sym, ap, subst, ◌∙◌, arith}
 use Rattle.yaml_parse_laws_trees.proofs.Words.{false≢true, yaml_mark_t, yaml_token_type_t, Token, TokenBody, type_of, Wants, Flow, Block, Brackets, Root, Refuse, Take, Open, ParseProblem, Properties, Tag, State, Span, token_at, AnchorToken, TagToken, anchor_token, tag_token, PropertyTokens, spell_properties, Node, Content, Maybe, Colon, Items, More, Entries, Others, Pairs, Directive, Documents, First, Stream, spell_node, spell_content, spell_maybe, spell_colon, spell_items, spell_more, spell_entries, spell_others, spell_pairs, spell_directives, spell_ends, spell_documents, spell_first, spell, starts_content, starts_node, wants_of, parts_documents, joins, choice_at, documents_taken, content_taken, node_taken, with_properties_taken, lone_below, taken_at, items_taken, MayLeave, take_rule, opens_first, was_take}
 use Rattle.yaml_parse_model.specs.scan_types.Tokens as token
 use Rattle.yaml_parse_laws_trees.specs.parse_grammar.declared.name.Brackets.TheVariants as brackets
-use Rattle.yaml_parse_laws_trees.specs.parse_grammar.declared.problem.ParseProblem.TheVariants as problem
 use Rattle.yaml_parse_laws_trees.specs.parse_grammar.States as state
 use Rattle.yaml_parse_laws_trees.specs.parse_grammar.Trees as tree
 use Rattle.yaml_parse_laws_trees.proofs.Single.{opens_node}
@@ -174,8 +174,7 @@ all_ends (Some s) ends = s ∷ ends
 
 spell_all_ends : (o : Option Span) (ends : List Span) (rest : List Token)
     → spell_end o (spell_ends ends rest) ≡ spell_ends (all_ends o ends) rest
-spell_all_ends None ends rest = refl
-spell_all_ends (Some s) ends rest = refl
+spell_all_ends o ends rest = grind arith
 
 -- a document after its `---`
 begun_left : (start end before : yaml_mark_t) (P : List Token → Type 0) (ts : List Token)
@@ -222,9 +221,7 @@ parting_left start end _ c P ts h = absurd (false≢true c)
 
 taken_first : (a b : Bool) (p : ParseProblem)
     → (if a then Take else if b then Open else Refuse p None) ≡ Take → a ≡ true
-taken_first true b p h = refl
-taken_first false true p h = cc
-taken_first false false p h = cc
+taken_first a b p h = grind arith
 
 -- a document that begins with its root
 opened_left : (t : Token) → starts_node (Block None) (type_of t.body) ≡ true
@@ -259,10 +256,7 @@ node_over : (bs : Brackets) (o start end : yaml_mark_t) (b : TokenBody)
     → starts_node Flow (type_of b) ≡ true → (P : List Token → Type 0) (ts : List Token)
     → Over ((node_taken Flow start end b).above ++ lone_below bs (state.more bs o ∷ [])) P ts
     → Spelled Items (spell_items bs) P (token_at b (span start end) ∷ ts)
-node_over bs o start end b c P ts h =
-    single_left bs o P _
-    (node_left Flow start end b c (Over (lone_below bs (state.more bs o ∷ [])) P) ts
-    (subst (λ (Q : List Token → Type 0). Q ts) (over_both (node_taken Flow start end b).above (lone_below bs (state.more bs o ∷ [])) P) h))
+node_over bs o start end b c P ts h = grind (arith, single_left, node_left, over_both)
 
 pair_left : (bs : Brackets) (o start end : yaml_mark_t) (P : List Token → Type 0) (ts : List Token)
     → Over (items_taken bs o start end token.key).above P ts

@@ -1,6 +1,6 @@
 -- Loads end in the fault of the list.
-use Rattle.std.proofs.Common.{◌≡◌, inl, inr, ℕ, List, [], ◌∷◌, ◌++◌, length, Option, Some, None, refl, ap, sym, subst, ◌∙◌}
-use Rattle.yaml_parse_laws_trees.proofs.Words.{Token, no_token, Fault, RawEvent, State, Stream, spell, Fed, stop, go, feed, Outcome, finished, carry, run, initial, Directives, no_directives, Reading, reading, reading_of, followed_by, handle_fault, directive, StandsIn, with_end, FaultOfTokens, Loading, nothing_loaded, alias_fault, IsFirstIn, IsLoadable, FaultOfLoading, LoadsEndInFault, FaultEndsLoads, loads_end}
+use Rattle.std.proofs.Common.{◌≡◌, inl, inr, ℕ, List, [], ◌∷◌, ◌++◌, length, Option, Some, None, refl, ap, sym, subst, ◌∙◌, arith}
+use Rattle.yaml_parse_laws_trees.proofs.Words.{Token, no_token, Fault, RawEvent, State, Stream, spell, Fed, stop, go, feed, Outcome, finished, carry, run, initial, Directives, no_directives, reading, reading_of, followed_by, handle_fault, directive, StandsIn, with_end, FaultOfTokens, Loading, nothing_loaded, alias_fault, IsFirstIn, IsLoadable, FaultOfLoading, LoadsEndInFault, FaultEndsLoads, loads_end}
 use Rattle.yaml_parse_laws_trees.specs.parse_grammar.States as state
 use Rattle.yaml_parse_laws_trees.proofs.CompleteStream.{nothing_runs}
 use Rattle.yaml_parse_laws_trees.proofs.Cuts.{Reaches, reaches, followed_on, head_same}
@@ -79,17 +79,12 @@ go_ends is s left k ds l = front_loads is left (k s).items (k s).ending ds l
 
 alike_ends : (d : Done) (r : Fared) (e : Fault) → Alike d r
     → fared_fault r (λ d m. Some e) ≡ ending_of d (λ d. Some e)
-alike_ends (bad g) r e h = ap (λ (z : Fared). fared_fault z (λ d m. Some e)) h
-alike_ends (fine ds) r e h = ap (λ (z : Fared). fared_fault z (λ d m. Some e)) h.1
+alike_ends d r e h = grind arith
 
 bad_ends : (past : List Token) (t : Token) (d : Done) (r : Fared) (s : List State) (g : Fault)
     (k : Directives → Loading → Option Fault) → d ≡ bad g → Steps past t d r s
     → fared_fault r k ≡ Some g
-bad_ends past t (bad e) r s g k p h = ap (λ (z : Fared). fared_fault z k) h ∙ same p
-  where
-    same : bad e ≡ bad g → Some e ≡ Some g
-    same p = cc
-bad_ends past t (fine ds) r s g k p h = cc
+bad_ends past t d r s g k p h = grind arith
 
 -- ---- a token that is taken
 
@@ -215,9 +210,7 @@ pub steps_end_in_fault : (ts : List Token) (own : Option Fault)
 steps_end_in_fault ts own = loads ts [] state.stream [] no_directives nothing_loaded own at_start tt (λ name. refl)
 
 pub loads_end_in_fault : LoadsEndInFault
-loads_end_in_fault ts own =
-    let r : Reading = reading_of (run ts initial own) no_directives in
-    loads_same ts own (ends_in r nothing_loaded) (loads_end r) (faults_alike r.events r.ending nothing_loaded) (steps_end_in_fault ts own)
+loads_end_in_fault ts own = grind (arith, loads_same, faults_alike, steps_end_in_fault)
 
 pub fault_ends_loads : FaultEndsLoads
 fault_ends_loads ts own fault h = one_load_fault ts own (loads_end (reading_of (run ts initial own) no_directives)) fault (loads_end_in_fault ts own) h

@@ -1,7 +1,7 @@
 -- One token: what the states give is loaded, and fits the tokens from then on.
-use Rattle.std.proofs.Common.{◌≡◌, ℕ, ℤ, Bool, true, false, if◌then◌else◌, ◌||◌, List, [], ◌∷◌, ◌++◌, Option, Some, None, is_some, refl, ap, sym, subst, ◌∙◌, append_assoc}
+use Rattle.std.proofs.Common.{◌≡◌, ℕ, ℤ, Bool, true, false, if◌then◌else◌, ◌||◌, List, [], ◌∷◌, ◌++◌, Option, Some, None, is_some, refl, ap, sym, subst, ◌∙◌, append_assoc, arith}
 use Rattle.std.specs.FinMap as map
-use Rattle.yaml_parse_laws_trees.proofs.Words.{nat_cmp, slice_cmp, false≢true, yaml_mark_t, yaml_version_directive_t, Token, TokenBody, type_of, Fault, TagDirective, Wants, Flow, Block, Key, Value, Brackets, Root, Entry, IndentlessEntry, BlockPair, FlowPair, Refuse, Take, Leave, ParseProblem, RawEvent, Properties, Tag, Shape, item_at, node_at, State, event_at, starts_content, starts_node, wants_of, choice_at, documents_taken, content_taken, node_taken, with_properties_taken, lone_below, taken_at, Fed, go, given_by, Directives, noted, with_version, with_tag, directive_for, is_known_version, Loading, nothing_loaded, aliased, has_anchor, alias_fault, flow_shape, taken, tag_at, undefined, take_rule, was_take}
+use Rattle.yaml_parse_laws_trees.proofs.Words.{wants_of, nat_cmp, slice_cmp, false≢true, yaml_mark_t, yaml_version_directive_t, Token, TokenBody, type_of, Fault, TagDirective, Wants, Flow, Block, Key, Value, Brackets, Root, Entry, IndentlessEntry, BlockPair, FlowPair, Refuse, Take, Leave, ParseProblem, RawEvent, Properties, Tag, Shape, item_at, node_at, State, event_at, starts_content, starts_node, choice_at, documents_taken, content_taken, node_taken, with_properties_taken, lone_below, taken_at, given_by, Directives, noted, with_version, with_tag, directive_for, Loading, nothing_loaded, aliased, has_anchor, alias_fault, flow_shape, taken, tag_at, undefined, take_rule, was_take}
 use Rattle.yaml_parse_laws_trees.specs.parse_grammar.parse_model.declared.yaml_sequence_style_t.TheVariants.{YAML_BLOCK_SEQUENCE_STYLE}
 use Rattle.yaml_parse_laws_trees.specs.parse_grammar.parse_model.declared.yaml_mapping_style_t.TheVariants.{YAML_BLOCK_MAPPING_STYLE, YAML_FLOW_MAPPING_STYLE}
 use Rattle.yaml_parse_model.specs.scan_types.Tokens as token
@@ -87,9 +87,7 @@ node_loads w start end b s past ds l c pl n h = content_loads w None start end b
 -- ---- properties
 
 not_first : (a b : Bool) → a ≡ false → (if a || b then Take else Leave) ≡ Take → b ≡ true
-not_first true b e h = cc
-not_first false true e h = refl
-not_first false false e h = cc
+not_first a b e h = grind arith
 
 properties_loads : (w : Wants) (anchor : Option (List ℕ)) (tag : Option Tag)
     (from to start end : yaml_mark_t) (b : TokenBody) (s : List State) (past : List Token)
@@ -114,26 +112,22 @@ properties_loads w anchor tag from to start end b s past ds l c pl o h =
 
 noted_if : (b : Bool) (d : Directives) (f : Fault) (i : RawEvent) (l : Loading)
     → Passes (if b then noted d else resolve.refused f) i l (λ m. Unit {0})
-noted_if true d f i l = tt
-noted_if false d f i l = tt
+noted_if b d f i l = grind arith
 
 version_passes : (v : Option yaml_version_directive_t) (tags : List TagDirective) (major minor : ℤ)
     (at : yaml_mark_t) (i : RawEvent) (l : Loading)
     → Passes (with_version v tags major minor at) i l (λ m. Unit {0})
-version_passes (Some v) tags major minor at i l = tt
-version_passes None tags major minor at i l = noted_if (is_known_version major minor) _ _ i l
+version_passes v tags major minor at i l = grind (arith, noted_if)
 
 handle_passes : (o : Option (List ℕ)) (ds : Directives) (handle prefix : List ℕ) (at : yaml_mark_t)
     (i : RawEvent) (l : Loading) → Passes (with_tag o ds handle prefix at) i l (λ m. Unit {0})
-handle_passes (Some x) ds handle prefix at i l = tt
-handle_passes None ds handle prefix at i l = tt
+handle_passes o ds handle prefix at i l = grind arith
 
 nothing_known : (name : List ℕ) → known name nothing_loaded ≡ false
 nothing_known name = ap (λ (o : Option ℤ). is_some o) (map.get-empty (slice_cmp nat_cmp) name)
 
 none_held : (b : Bool) (A : Type 0) → b ≡ false → b ≡ true → A
-none_held true A e h = absurd (false≢true (sym e))
-none_held false A e h = cc
+none_held b A e h = grind (arith, false≢true)
 
 -- a document that starts
 abbrev pub Started : List Token → Loading → Type 0
@@ -195,8 +189,7 @@ mapping_closes start end t s past ds l e a pl h =
 
 given_above : (i : Option RawEvent) (up below s : List State)
     → given_by (taken i (up ++ below)) s ≡ given_by (taken i up) (below ++ s)
-given_above None up below s = ap (λ (z : List State). go [] z) (append_assoc up below s)
-given_above (Some i) up below s = ap (λ (z : List State). go (i ∷ []) z) (append_assoc up below s)
+given_above i up below s = grind (arith, append_assoc)
 
 part_loads : (bs : Brackets) (o start end : yaml_mark_t) (b : TokenBody) (s : List State)
     (past : List Token) (ds : Directives) (l : Loading) → starts_node Flow (type_of b) ≡ true
@@ -204,17 +197,10 @@ part_loads : (bs : Brackets) (o start end : yaml_mark_t) (b : TokenBody) (s : Li
     → FedLoads past (tok b start end) ds l
     (given_by (taken (node_taken Flow start end b).item
     ((node_taken Flow start end b).above ++ lone_below bs (state.more bs o ∷ []))) s)
-part_loads bs o start end b s past ds l c pl h =
-    subst (λ (z : Fed). FedLoads past (tok b start end) ds l z) (sym (given_above (node_taken Flow start end b).item (node_taken Flow start end b).above (lone_below bs (state.more bs o ∷ [])) s))
-    (node_loads Flow start end b (lone_below bs (state.more bs o ∷ []) ++ s) past ds l c (plain_below bs) h.0 (held l h.1))
-  where
-    plain_below : (bs : Brackets) → Plain (lone_below bs (state.more bs o ∷ []) ++ s)
-    plain_below brackets.Sequence = (refl, pl)
-    plain_below brackets.Mapping = (refl, (refl, pl))
+part_loads bs o start end b s past ds l c pl h = grind (arith, given_above, node_loads)
 
 starts_part : (a : Bool) (p : ParseProblem) → (if a then Take else Refuse p None) ≡ Take → a ≡ true
-starts_part true p h = refl
-starts_part false p h = cc
+starts_part a p h = grind arith
 
 -- ---- each state
 

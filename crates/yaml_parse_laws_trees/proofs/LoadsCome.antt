@@ -1,16 +1,15 @@
 -- Loads that are said by content come to the fault of loading the tokens.
-use Rattle.std.proofs.Common.{◌≡◌, ◌∙◌, ◌⊎◌, inl, inr, ℕ, ℤ, pos, List, [], ◌∷◌, Option, Some, None, Result, Ok, Err, refl, sym, ap, subst}
-use Rattle.yaml_parse_laws_trees.proofs.Words.{Fault, IsMemoryFault, load_layers, Document, Told, ParserRemaining, Reading, run, initial, reading_of, no_directives, Loading, LoadStep, goes_on, loaded, nothing_loaded, step, FaultOfLoading, next_document, next_fault, next_none, LoadsByContent, one_more, ended, AreLoadsByContent, LoadIsNext, RefusalIsNext, GivesDocument, DocumentContent, document_of}
+use Rattle.std.proofs.Common.{◌≡◌, ◌∙◌, ◌⊎◌, inl, inr, ℕ, ℤ, pos, List, [], ◌∷◌, Option, Some, None, Result, Ok, refl, sym, ap, subst, arith}
+use Rattle.yaml_parse_laws_trees.proofs.Words.{Fault, IsMemoryFault, load_layers, Document, Told, ParserRemaining, Reading, run, initial, reading_of, no_directives, Loading, LoadStep, nothing_loaded, step, FaultOfLoading, next_document, next_fault, next_none, LoadsByContent, one_more, ended, AreLoadsByContent, LoadIsNext, RefusalIsNext, GivesDocument, DocumentContent, document_of}
 use Rattle.yaml_parse_laws_trees.specs.NextLoad.{loads_fault}
 use Rattle.yaml_parse_laws_trees.specs.parse_grammar.parse_model.Nodes.{Node}
 use Rattle.yaml_parse_laws_trees.specs.NextLoad as next
 use Rattle.yaml_parse_laws_trees.specs.Laws.{LoadsComeToFault}
 use Rattle.yaml_parse_laws_trees.specs.AllLoads.{load_all}
-use Rattle.yaml_parse_loader.specs.Loading.{refused}
 use Rattle.yaml_parse_loader.specs.Numbering.{Content, Numbered, ◌>>=◌}
 unfoldable use Rattle.yaml_parse_loader.specs.Numbering.{number, number_items, number_pairs}
 use Rattle.yaml_parse_loader.specs.Numbering as content
-use Rattle.yaml_parse_laws_trees.proofs.ByStep.{Loads, behind_all, load_on, loads, loads_of, LoadGives, LoadRefuses}
+use Rattle.yaml_parse_laws_trees.proofs.ByStep.{Loads, behind_all, load_on, loads}
 use Rattle.yaml_parse_laws_trees.proofs.ByStep as by_step
 use Rattle.yaml_parse_laws_trees.proofs.Ends.{unless_rootless, fault_on, fault_of_loads, faults_alike}
 use Rattle.yaml_parse_laws_trees.proofs.NextLoads.{load_is}
@@ -27,16 +26,13 @@ ComesTo own (by_step.faulty e) f = f ≡ Some e
 ComesTo own by_step.nothing f = f ≡ None
 
 none_left : (own : Option Fault) → ComesTo own (behind_all own) own
-none_left None = refl
-none_left (Some e) = refl
+none_left own = grind arith
 
 comes_on : (own : Option Fault) (c : LoadStep) (go : Loading → Loads) (k : Loading → Option Fault)
     (rest : List Told) (n : ℕ) → ((l : Loading) → ComesTo own (go l) (k l))
     → k nothing_loaded ≡ fault_of_loads rest own nothing_loaded
     → ComesTo own (load_on c go rest n) (fault_on c k)
-comes_on own (goes_on l) go k rest n h e = h l
-comes_on own (loaded d) go k rest n h e = ap (unless_rootless d.nodes) e
-comes_on own (refused f) go k rest n h e = refl
+comes_on own c go k rest n h e = grind arith
 
 comes_to : (own : Option Fault) (gs : List Told) (l : Loading)
     → ComesTo own (loads gs own l) (fault_of_loads gs own l)
@@ -59,8 +55,7 @@ made_rooted : {A : Type 0} (q : Result (Numbered A) Fault) (first : Numbered A �
     (number : ℤ) (r : Numbered ℤ) (f : Option Fault)
     → (q >>= λ (x : Numbered A). Ok (record { number = number; nodes = first x ∷ x.nodes; before = x.before })) ≡ Ok r
     → unless_rootless r.nodes f ≡ f
-made_rooted (Ok x) first number r f e = same_nodes (first x ∷ x.nodes) r.nodes f (ok_nodes (record { number = number; nodes = first x ∷ x.nodes; before = x.before }) r e) refl
-made_rooted (Err g) first number r f e = absurd cc
+made_rooted q first h2 r f e = grind (arith, same_nodes, ok_nodes)
 
 rooted_number : (c : Content) (r : Numbered ℤ) (f : Option Fault) → number c 0 [] ≡ Ok r
     → unless_rootless r.nodes f ≡ f
@@ -73,11 +68,7 @@ rooted_number (content.mapping h implicit style pairs at) r f e = made_rooted (n
 whole_rooted : (d : DocumentContent) (e : Document) (f : Option Fault)
     (q : Result (Numbered ℤ) Fault) → number d.root 0 [] ≡ q → document_of d ≡ Ok e
     → unless_rootless e.nodes f ≡ f
-whole_rooted d e f (Ok r) p h = same_nodes r.nodes e.nodes f (nodes_of (rw p at h)) (rooted_number d.root r f p)
-  where
-    nodes_of : (let a : Result Document Fault = Ok (record { version = d.version; directives = d.directives; start_implicit = d.start_implicit; end_implicit = d.end_implicit; start_mark = d.start_at.start_mark; end_mark = d.end_at.end_mark; nodes = r.nodes }) in let b : Result Document Fault = Ok e in a ≡ b) → r.nodes ≡ e.nodes
-    nodes_of h = cc
-whole_rooted d e f (Err g) p h = let k = rw p at h in absurd cc
+whole_rooted d e f q p h = grind (arith, same_nodes, rooted_number)
 
 rooted : (d : DocumentContent) (e : Document) (f : Option Fault) → document_of d ≡ Ok e
     → unless_rootless e.nodes f ≡ f
@@ -123,11 +114,7 @@ nothing_comes own behind gs h p q = loads_are own behind gs h ∙ ap (λ (xs : L
 left_alike : (old new : ParserRemaining) (left : List Told) (n : ℕ)
     (more : LoadsByContent old.ending old.ending_unasked left) (k : AreLoadsByContent new)
     → GivesDocument left n old new → loads_fault k ≡ loads_fault more
-left_alike old new left n more k h =
-    loads_are new.ending new.ending_unasked new.events k
-    ∙ ap (λ (xs : List Told). fault_of_loads xs new.ending nothing_loaded) h.events
-    ∙ ap (λ (f : Option Fault). fault_of_loads left f nothing_loaded) h.ending
-    ∙ sym (loads_are old.ending old.ending_unasked left more)
+left_alike old new left n more k h = grind (arith, loads_are)
 
 -- The fault that loads come to stays, as a document is loaded.
 pub load_stays : (old new : ParserRemaining) (d : Document) (h : AreLoadsByContent old)

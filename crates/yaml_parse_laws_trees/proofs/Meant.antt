@@ -1,6 +1,6 @@
 -- The events that items mean; after a tag whose handle nothing defines, none.
-use Rattle.std.proofs.Common.{◌≡◌, ℕ, List, [], ◌∷◌, ◌++◌, length, map, Option, Some, None, refl, ap, sym, subst, ◌∙◌}
-use Rattle.yaml_parse_laws_trees.proofs.Words.{yaml_mark_t, Token, TokenBody, no_token, Fault, Event, Wants, Flow, Block, RawEvent, Tag, Shape, State, Given, item_at, Fed, stop, go, with_item, feed, Outcome, finished, carry, run, Directives, Settled, refused, gave, noted, settle, resolved, with_resolved, Reading, placed, read_on, reading, reading_of, told}
+use Rattle.std.proofs.Common.{◌≡◌, ℕ, List, [], ◌∷◌, ◌++◌, length, map, Option, Some, None, refl, ap, sym, subst, ◌∙◌, arith}
+use Rattle.yaml_parse_laws_trees.proofs.Words.{stop, yaml_mark_t, Token, TokenBody, Fault, Event, Wants, Flow, Block, RawEvent, Tag, Shape, State, Given, item_at, Fed, go, with_item, feed, Outcome, carry, run, Directives, Settled, refused, gave, noted, settle, resolved, with_resolved, Reading, placed, read_on, reading, reading_of, told}
 use Rattle.yaml_parse_model.specs.scan_types.Tokens as token
 use Rattle.yaml_parse_laws_trees.specs.parse_grammar.Items as item
 use Rattle.yaml_parse_laws_trees.specs.parse_grammar.States as state
@@ -29,9 +29,7 @@ one_meant : (c : Settled) (i : RawEvent) (left : ℕ) (k : Directives → Readin
     (g : Directives → List Event) (l : Directives → Done) (m : Directives → List Event)
     → ((ds : Directives) → told (k ds).events ≡ g ds ++ where_fine (l ds) m)
     → told (read_on c i left k).events ≡ meant_on c i g ++ where_fine (then_read c l) m
-one_meant (refused e) i left k g l m h = refl
-one_meant (gave b ds) i left k g l m h = ap (λ (z : List Event). placed b i ∷ z) (h ds)
-one_meant (noted ds) i left k g l m h = h ds
+one_meant c i left k g l m h = grind arith
 
 front_meant : (is : List RawEvent) (left : ℕ) (gs : List Given) (f : Option Fault)
     (ds : Directives)
@@ -113,8 +111,7 @@ doomed_end : (w : Wants) (a : Option (List ℕ)) (g : Tag) (from to : yaml_mark_
     (f : Option Fault) (ds : Directives) → IsLost g ds
     → Doomed (reading_of (run [] (holding w a g from to ∷ s) f) ds)
 unfolding run feed reading
-doomed_end w a g from to s (Some e) ds l = record { events = refl; ending = λ q. not_none e q }
-doomed_end w a g from to s None ds l = doomed_with 0 (item_at (item.node a (Some g) item.empty) from to) (feed s no_token) (λ _. finished) ds _ (lost_node a g item.empty from to ds l)
+doomed_end w a g from to s f ds l = grind (arith, not_none, doomed_with, lost_node)
 
 doomed_run : (us : List Token) (w : Wants) (a : Option (List ℕ)) (g : Tag) (from to : yaml_mark_t)
     (s : List State) (f : Option Fault) (ds : Directives) → IsLost g ds
@@ -134,8 +131,7 @@ doomed_held : (w : Wants) (a : Option (List ℕ)) (o : Option Tag) (from to : ya
     → o ≡ Some g → IsLost g ds
     → Doomed (reading_of (run us (state.with_properties w
     (record { anchor = a; tag = o; from = from; to = to }) ∷ s) f) ds)
-doomed_held w a o from to us s f ds g e l =
-    subst (λ (z : Option Tag). Doomed (reading_of (run us (state.with_properties w (record { anchor = a; tag = z; from = from; to = to }) ∷ s) f) ds)) (sym e) (doomed_run us w a g from to s f ds l)
+doomed_held w a o from to us s f ds g e l = grind (arith, doomed_run)
 
 pub doomed : (x : State) (us : List Token) (s : List State) (f : Option Fault) (ds : Directives)
     → HoldsLost x ds → Doomed (reading_of (run us (x ∷ s) f) ds)

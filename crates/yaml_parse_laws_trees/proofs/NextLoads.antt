@@ -29,10 +29,7 @@ InnerFronts es = (xs : List Event) (y : Event) (ys : List Event) → es ≡ xs +
 
 inner_more : (e : Event) (es : List Event) → IsInner e.body → InnerFronts es → InnerFronts (e ∷ es)
 inner_more e es h k [] y ys p = tt
-inner_more e es h k (x ∷ xs) y ys p =
-    let first : e ≡ x = cc in
-    let others : es ≡ xs ++ y ∷ ys = cc in
-    (subst (λ (z : Event). IsInner z.body) first h, k xs y ys others)
+inner_more e es h k (x ∷ xs) y ys p = grind arith
 
 inner_last : (e : Event) → InnerFronts (e ∷ [])
 inner_last e [] y ys p = tt
@@ -68,8 +65,7 @@ pub knows_nothing : Knows map.empty []
 knows_nothing name = ap is_there (map.get-empty (slice_cmp nat_cmp) name)
 
 there_on : (b : Bool) (n : ℤ) (o : Option ℤ) → is_there (cond b (Some n) o) ≡ b || is_there o
-there_on true n o = refl
-there_on false n o = refl
+there_on b n o = grind arith
 
 knows_more : (anchor : Option (List ℕ)) (n : ℤ) (known : Anchors) (names : List (List ℕ))
     → Knows known names → Knows (named anchor n known) (and_anchor anchor names)
@@ -89,28 +85,16 @@ Inner (refused f) wrong names = wrong ≡ Some f
 
 aliased_inner : (o : Option ℤ) (b : Bool) (at : yaml_mark_t) (l : Loading) (names : List (List ℕ))
     → Knows l.anchors names → is_there o ≡ b → Inner (aliased o at l) (unless_known b at) names
-aliased_inner None false at l names k e = refl
-aliased_inner None true at l names k e = absurd (cc)
-aliased_inner (Some n) true at l names k e = (refl, k)
-aliased_inner (Some n) false at l names k e = absurd (cc)
+aliased_inner o b at l names k e = grind arith
 
 closed_inner : (to : yaml_mark_t) (l : Loading) (os : List Open) (names : List (List ℕ))
     → Knows l.anchors names → Inner (goes_on (closed to l os)) None names
-closed_inner to l [] names k = (refl, k)
-closed_inner to l (o ∷ os) names k = (refl, k)
+closed_inner to l os names k = grind arith
 
 pub inner_step : (b : EventBody) (from to : yaml_mark_t) (l : Loading) (names : List (List ℕ))
     → IsInner b → Knows l.anchors names
     → Inner (step_body b from to l) (wrong_alias b from names) (names_behind b names)
-inner_step (event.document_start version directives implicit) from to l names h k = absurd h
-inner_step (event.document_end implicit) from to l names h k = absurd h
-inner_step (event.alias name) from to l names h k = aliased_inner (map.get l.anchors name) (is_among name names) from l names k (k name)
-inner_step (event.scalar anchor tag value plain quoted style) from to l names h k = (refl, knows_more anchor _ l.anchors names k)
-inner_step (event.sequence_start anchor tag implicit style) from to l names h k = (refl, knows_more anchor _ l.anchors names k)
-inner_step event.sequence_end from to l names h k = closed_inner to l l.levels names k
-inner_step (event.mapping_start anchor tag implicit style) from to l names h k = (refl, knows_more anchor _ l.anchors names k)
-inner_step event.mapping_end from to l names h k = closed_inner to l l.levels names k
-inner_step _ from to l names h k = (refl, k)
+inner_step b from to l names h k = grind (arith, aliased_inner, knows_more, closed_inner)
 
 -- ---- a front of a document
 
@@ -201,24 +185,19 @@ front_right d gs y ys f behind e k =
 
 outside_step : (b : EventBody) (from to : yaml_mark_t) (l : Loading) → IsOutside b
     → step_body b from to l ≡ goes_on l
-outside_step event.no from to l h = refl
-outside_step (event.stream_start encoding) from to l h = refl
-outside_step event.stream_end from to l h = refl
-outside_step _ from to l h = absurd h
+outside_step b from to l h = grind arith
 
 outside_loads : (os gs : List Told) (f : Option Fault) (l : Loading) → AreOutside os
     → loads (os ++ gs) f l ≡ loads gs f l
 unfolding loads
 outside_loads [] gs f l h = refl
-outside_loads (o ∷ os) gs f l h =
-    ap (λ (x : LoadStep). load_on x (loads (os ++ gs) f) (os ++ gs) o.1) (outside_step o.0.body o.0.start_mark o.0.end_mark l h.0) ∙ outside_loads os gs f l h.1
+outside_loads (o ∷ os) gs f l h = grind (arith, outside_step, outside_loads os gs f l h.1)
 
 outside_unasked : (os gs : List Told) (behind : ℕ) (l : Loading) → AreOutside os
     → unasked_at_refusal (os ++ gs) behind l ≡ unasked_at_refusal gs behind l
 unfolding unasked_at_refusal
 outside_unasked [] gs behind l h = refl
-outside_unasked (o ∷ os) gs behind l h =
-    ap (λ (x : LoadStep). unasked_on x o.1 (unasked_at_refusal (os ++ gs) behind)) (outside_step o.0.body o.0.start_mark o.0.end_mark l h.0) ∙ outside_unasked os gs behind l h.1
+outside_unasked (o ∷ os) gs behind l h = grind (arith, outside_step, outside_unasked os gs behind l h.1)
 
 -- ---- a whole document
 
@@ -230,9 +209,7 @@ longer (g ∷ gs) left = omega (arith, longer gs left)
 less_on : (fed : LoadStep) (es rest : List Event) (d : Document)
     → ((m : Loading) → load es m ≡ loading.document d rest → length rest < length es)
     → turn fed (load es) es ≡ loading.document d rest → length rest < suc (length es)
-less_on (goes_on m) es rest d h e = let k : length rest < length es = h m e in omega arith
-less_on (loaded c) es rest d h e = let p : es ≡ rest = cc in let q : length es ≡ length rest = ap (λ (xs : List Event). length xs) p in omega arith
-less_on (refused f) es rest d h e = absurd (cc)
+less_on fed es rest d h e = grind arith
 
 loads_less : (es rest : List Event) (l : Loading) (d : Document)
     → load es l ≡ loading.document d rest → length rest < length es
@@ -328,8 +305,7 @@ load_is gs own behind n h = next_is (record { events = gs; ending = own; ending_
 
 gives_of : (n : NextLoad) (r : Loads) (u : ℕ) (d : Document) (old new : ParserRemaining)
     → IsOf n r u → LoadGives r d old new → GivesLoad n d old new
-gives_of (next_fault f count) r u d old new p h = subst (λ (x : Loads). LoadGives x d old new) p.0 h
-gives_of _ r u d old new p h = subst (λ (x : Loads). LoadGives x d old new) p h
+gives_of n r u d old new p h = grind arith
 
 -- A document that a load gives is the next one of the events to come.
 pub load_is_next : (old new : ParserRemaining) (d : Document) → LoadGives (loads_of old) d old new
@@ -338,26 +314,17 @@ load_is_next old new d h n k = gives_of n (loads_of old) (unasked_of old) d old 
 
 refusal_of : (n : NextLoad) (r : Loads) (u m : ℕ) (f : Fault) → IsOf n r u → r ≡ told.faulty f
     → m ≡ u → IsRefusalOf n f m
-refusal_of (next_document e left count) r u m f p q v = let s : told.document e left count ≡ told.faulty f = sym p ∙ q in absurd (cc)
-refusal_of (next_fault g count) r u m f p q v = let s : told.faulty f ≡ told.faulty g = sym q ∙ p.0 in (cc, v ∙ p.1)
-refusal_of next_none r u m f p q v = let s : told.nothing ≡ told.faulty f = sym p ∙ q in absurd (cc)
+refusal_of n r u m f p q v = grind arith
 
 unasked_is : (n : NextLoad) (r : Loads) (u : ℕ) (old : ParserRemaining) → IsOf n r u
     → unasked_by r u (left_behind old.events old.unasked) ≡ load_unasked n old
-unasked_is (next_fault f count) r u old p = ap (λ (x : Loads). unasked_by x u (left_behind old.events old.unasked)) p.0 ∙ p.1
-unasked_is _ r u old p = ap (λ (x : Loads). unasked_by x u (left_behind old.events old.unasked)) p
+unasked_is n r u old p = grind arith
 
 -- A fault that a load reports is that of the next document, unless memory ran out.
 pub refusal_is_next : (old new : ParserRemaining) (f : Fault) → LoadRefuses f old new
     → HasMore old.events old.ending
     → IsMemoryFault scan_layers f ⊎ (answer_unasked old ≤ new.unasked) → RefusalIsNext old f new
-refusal_is_next old new f h m a n k = record {
-  more = m;
-  asked = elim a [ inl s ↦ inl s | inr l ↦ inr (subst (λ (x : ℕ). x ≤ new.unasked) (unasked_is n (loads_of old) (unasked_of old) old (next_is old n k)) l) ];
-  finished = h.finished;
-  answered = h.answered;
-  reason = elim h.reason [ inl m ↦ inl m | inr q ↦ elim h.unasked [ inl m ↦ inl m | inr u ↦ inr (refusal_of n (loads_of old) (unasked_of old) new.unasked f (next_is old n k) q u) ] ];
-}
+refusal_is_next old new f h m a n k = grind (arith, unasked_is, next_is, refusal_of)
 
 -- ---- and by the loader's steps it is what content says
 
@@ -374,28 +341,16 @@ next_load own behind gs (ended hs h) = record { load = next_none; is = h }
 
 gives_steps : (n : NextLoad) (r : Loads) (u : ℕ) (d : Document) (old new : ParserRemaining)
     → IsOf n r u → GivesLoad n d old new → LoadGives r d old new
-gives_steps (next_fault f count) r u d old new p h = absurd h
-gives_steps _ r u d old new p h = subst (λ (x : Loads). LoadGives x d old new) (sym p) h
+gives_steps n r u d old new p h = grind arith
 
 pub load_gives : (old new : ParserRemaining) (d : Document) → AreLoadsByContent old
     → LoadIsNext old d new → LoadGives (loads_of old) d old new
-load_gives old new d h k =
-    let n = next_load old.ending old.ending_unasked old.events h in
-    gives_steps n.load (loads_of old) (unasked_of old) d old new (next_is old n.load n.is) (k n.load n.is)
+load_gives old new d h k = grind (arith, next_load, gives_steps, next_is)
 
 refuses_steps : (n : NextLoad) (r : Loads) (u m : ℕ) (f : Fault) → IsOf n r u → IsRefusalOf n f m
     → (r ≡ told.faulty f) × (m ≡ u)
-refuses_steps (next_fault g count) r u m f p h = (p.0 ∙ ap told.faulty (sym h.0), h.1 ∙ sym p.1)
-refuses_steps _ r u m f p h = absurd h
+refuses_steps n r u m f p h = grind arith
 
 pub load_refuses : (old new : ParserRemaining) (f : Fault) → AreLoadsByContent old
     → RefusalIsNext old f new → LoadRefuses f old new
-load_refuses old new f h k =
-    let n = next_load old.ending old.ending_unasked old.events h in
-    let r : RefusesNext n.load f old new = k n.load n.is in
-    record {
-      finished = r.finished;
-      answered = r.answered;
-      reason = elim r.reason [ inl m ↦ inl m | inr q ↦ inr (refuses_steps n.load (loads_of old) (unasked_of old) new.unasked f (next_is old n.load n.is) q).0 ];
-      unasked = elim r.reason [ inl m ↦ inl m | inr q ↦ inr (refuses_steps n.load (loads_of old) (unasked_of old) new.unasked f (next_is old n.load n.is) q).1 ];
-    }
+load_refuses old new f h k = grind (arith, next_load, refuses_steps, next_is)

@@ -1,9 +1,8 @@
 -- What the machine gives before a fault begins a sentence: a tree whose directives and tag handles are in order.
-use Rattle.std.proofs.Common.{◌≡◌, ℕ, true, List, [], ◌∷◌, ◌++◌, Option, Some, None, refl, ap, sym, subst, ◌∙◌, append_assoc, append-nil}
-use Rattle.yaml_parse_laws_trees.proofs.Words.{yaml_mark_t, Token, TokenBody, no_token, zero_mark, Fault, Event, RawEvent, Wants, Shape, Tag, State, NodeTag, Given, Stream, spell, Fed, stop, go, feed, Outcome, run, initial, Directives, no_directives, with_resolved, resolved, Reading, reading, reading_of, told, bare, BeginsWithEvents, followed_by, is_directive, directive_fault, handle_fault, tag_fault, document_directives, directive, IsFree, BeginsWithSentence}
+use Rattle.std.proofs.Common.{◌≡◌, ℕ, true, List, [], ◌∷◌, ◌++◌, Option, Some, None, refl, ap, sym, subst, ◌∙◌, append_assoc, append-nil, arith}
+use Rattle.yaml_parse_laws_trees.proofs.Words.{yaml_mark_t, Token, TokenBody, no_token, zero_mark, Fault, Event, RawEvent, Wants, Shape, Tag, State, Stream, spell, Fed, stop, go, feed, Outcome, run, initial, Directives, no_directives, with_resolved, Reading, reading_of, told, bare, BeginsWithEvents, followed_by, is_directive, directive_fault, handle_fault, document_directives, directive, IsFree, BeginsWithSentence}
 use Rattle.yaml_parse_laws_trees.specs.Sentences.{NoneLonger, RunBeginsSentence, events_of_tree}
 use Rattle.yaml_parse_model.specs.scan_types.Tokens as token
-use Rattle.yaml_parse_laws_trees.specs.parse_grammar.Items as item
 use Rattle.yaml_parse_laws_trees.specs.parse_grammar.States as state
 use Rattle.yaml_parse_laws_trees.proofs.CompleteStream.{stream_runs}
 use Rattle.yaml_parse_laws_trees.proofs.Turns.{items_given}
@@ -13,7 +12,7 @@ use Rattle.yaml_parse_laws_trees.proofs.Events.{events_begin}
 use Rattle.yaml_parse_laws_trees.proofs.Refusal.{stopped_given, begins_same, end_begins}
 use Rattle.yaml_parse_laws_trees.proofs.FaultsStanding.{property, last_in, told as told_by}
 use Rattle.yaml_parse_laws_trees.proofs.Settling.{Done, bad, fine, read_all, then_read, Agree, by_fault}
-use Rattle.yaml_parse_laws_trees.proofs.Properties.{tok, PropsOf, PropsTop, ended, props_read}
+use Rattle.yaml_parse_laws_trees.proofs.Properties.{tok, PropsOf, PropsTop, props_read}
 use Rattle.yaml_parse_laws_trees.proofs.Stepping.{Dirs, StepRead}
 use Rattle.yaml_parse_laws_trees.proofs.Tagging.{Step, no_ended, no_handle}
 use Rattle.yaml_parse_laws_trees.proofs.Taking.{stack_solid, Stops, stops_at_none, ending_of}
@@ -71,14 +70,7 @@ lost_held : (w : Wants) (a : Option (List ℕ)) (o : Option Tag) (from to : yaml
     (past : List Token) (ds : Directives) (e : Fault) → PropsOf a o from past
     → Agree (document_directives past) ds → handle_fault past token.stream_end ≡ Some e
     → HoldsLost (state.with_properties w (record { anchor = a; tag = o; from = from; to = to })) ds
-lost_held w a None from to past ds e k d h = absurd (some_none _ e (no_handle past token.stream_end (ended a None from to past token.stream_end k refl)) h)
-lost_held w a (Some g) from to past ds e k d h = (
-  g,
-  refl,
-  lost_by (resolved ds.tags g.handle g.suffix) a item.empty from g.mark ds e
-      (props_read a (Some g) from to item.empty to (document_directives past) ds (λ d'. fine d') d
-      ∙ ap (λ (f : Option Fault). by_fault f ds (λ d'. fine d')) (sym (ap (λ (n : Option NodeTag). tag_fault n (document_directives past)) (ended a (Some g) from to past token.stream_end k refl)) ∙ h)),
-)
+lost_held w a o from to past ds e k d h = grind (arith, some_none, lost_by, props_read, by_fault)
 
 lost : (y : State) (s : List State) (past : List Token) (ds : Directives) (e : Fault)
     → told_by y ≡ last_in past → PropsTop (y ∷ s) past → Dirs (y ∷ s) past ds
@@ -100,13 +92,7 @@ begins_by a b x y more p q h = record {
 
 begins_on : (a b front x y : List Event) → a ≡ front ++ x → b ≡ front ++ y → BeginsWithEvents x y
     → BeginsWithEvents a b
-begins_on a b front x y p q h = record {
-  others = h.others;
-  same = q
-      ∙ ap (λ (z : List Event). front ++ z) h.same
-      ∙ sym (append_assoc front x h.others)
-      ∙ ap (λ (z : List Event). z ++ h.others) (sym p);
-}
+begins_on a b front x y p q h = grind (arith, append_assoc)
 
 -- ---- from a stack on
 
@@ -147,9 +133,7 @@ refused_here x s past ds t ts is e f a q p r = record {
 -- a directive that isn't in order
 directive_is : (past : List Token) (b : TokenBody) (at : yaml_mark_t) (e : Fault)
     → directive_fault past b at ≡ Some e → is_directive b ≡ true
-directive_is past (token.version_directive major minor) at e h = refl
-directive_is past (token.tag_directive handle prefix) at e h = refl
-directive_is past _ at e h = absurd (some_none None e refl h)
+directive_is past b at e h = grind (arith, some_none)
 
 bad_meant : (x : State) (s s' : List State) (t : Token) (ts : List Token) (f : Option Fault)
     (ds : Directives) (is : List RawEvent) (e : Fault) → feed (x ∷ s) t ≡ go is s'
@@ -243,8 +227,7 @@ tag_here x y s s' past ds ds' _ start end ts is f i a q r p h l = absurd i
 -- a token more
 none_on : (t : Token) (past front behind : List Token) → NoneAfter (t ∷ past) front behind
     → NoneAfter past (t ∷ front) behind
-none_on t past front [] h = tt
-none_on t past front (u ∷ us) h = h
+none_on t past front behind h = grind arith
 
 front_on : (x y : State) (s s' : List State) (past : List Token) (ds ds' : Directives) (t : Token)
     (ts : List Token) (is : List RawEvent) (f : Option Fault) → feed (x ∷ s) t ≡ go is (y ∷ s')
@@ -326,20 +309,11 @@ walk (t ∷ ts) past x s ds f a q r n =
 -- ---- a list of tokens
 
 longest : (front behind : List Token) → NoneAfter [] front behind → NoneLonger front behind
-longest front [] h = tt
-longest front (t ∷ ts) h = λ g. h g.more (record {
-  tree = g.tree;
-  rest = [];
-  same = sym (append_assoc front (t ∷ []) g.more) ∙ g.same ∙ sym (append-nil (spell g.tree []));
-  free = g.free;
-})
+longest front behind h = grind (arith, append_assoc, append-nil)
 
 tree_meant : (ts : List Token) (tree : Stream) → ts ≡ spell tree []
     → events_from ts initial None no_directives ≡ told (events_of_tree tree)
-tree_meant ts tree p =
-    ap (λ (us : List Token). events_from us initial None no_directives) p
-    ∙ ap (λ (o : Outcome). told (reading_of o no_directives).events) (stream_runs tree [] None)
-    ∙ ap (λ (gs : List Given). told (reading gs None no_directives).events) (items_given tree [])
+tree_meant ts tree p = grind (arith, stream_runs, items_given)
 
 pub begins_sentence : RunBeginsSentence
 begins_sentence ts own n =

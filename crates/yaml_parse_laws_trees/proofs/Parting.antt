@@ -1,14 +1,13 @@
 -- A document's start does to a stack what the stream's end does, except for its own event.
-use Rattle.std.proofs.Common.{◌≡◌, false, List, [], ◌∷◌, ◌++◌, Option, Some, None, refl, sym, ap, subst, ◌∙◌, inl, inr, ◌⊎◌}
-use Rattle.yaml_parse_laws_trees.proofs.WindowsWords.{yaml_mark_t, Token, Event, Fault, Refuse, Leave, ParseProblem, Root, Entry, IndentlessEntry, BlockPair, FlowPair, Key, Value, Flow, Block, RawEvent, item_at, event_at, Directives, no_directives, Settled, refused, gave, noted, settle, placed, State, choice_at, left_at, stop, go, with_item, turn, feed}
+use Rattle.std.proofs.Common.{◌≡◌, false, List, [], ◌∷◌, ◌++◌, Option, Some, refl, sym, ap, subst, ◌∙◌, inl, inr, ◌⊎◌, arith}
+use Rattle.yaml_parse_laws_trees.proofs.WindowsWords.{yaml_mark_t, Token, Event, Fault, Refuse, Leave, ParseProblem, Root, RawEvent, item_at, event_at, Directives, no_directives, Settled, settle, State, choice_at, left_at, stop, go, with_item, turn, feed}
 use Rattle.yaml_parse_grammar.specs.parse_model.declared.yaml_token_type_t.TheVariants as kind
 use Rattle.yaml_parse_grammar.specs.scan_types.Tokens as token
 use Rattle.yaml_parse_grammar.specs.parse_model.Events as event
-use Rattle.yaml_parse_grammar.specs.declared.Brackets.TheVariants as brackets
 use Rattle.yaml_parse_grammar.specs.Items as item
 use Rattle.yaml_parse_grammar.specs.States as state
 use Rattle.yaml_parse_laws_trees.proofs.Grounding.{Stands}
-use Rattle.yaml_parse_laws_trees.proofs.Noting.{Follows, with_event, then_through, through, within_stands, none_some, pair_last}
+use Rattle.yaml_parse_laws_trees.proofs.Noting.{Follows, through, within_stands, none_some, pair_last}
 
 abbrev pub end_at : yaml_mark_t → yaml_mark_t → Token
 end_at m e = record { body = token.stream_end; start_mark = m; end_mark = e }
@@ -26,29 +25,16 @@ Same x = ((choice_at x kind.YAML_STREAM_END_TOKEN ≡ Leave) × (choice_at x kin
     ⊎ ((p : ParseProblem) × (o : Option yaml_mark_t) × (choice_at x kind.YAML_STREAM_END_TOKEN ≡ Refuse p o))
 
 optional_same : (place : _) (before : yaml_mark_t) → Same (state.optional place before)
-optional_same Root before = inl (refl, refl)
-optional_same Entry before = inr (_, _, refl)
-optional_same (IndentlessEntry Key) before = inr (_, _, refl)
-optional_same (IndentlessEntry Value) before = inr (_, _, refl)
-optional_same (BlockPair Key) before = inr (_, _, refl)
-optional_same (BlockPair Value) before = inr (_, _, refl)
-optional_same (FlowPair brackets.Sequence Key) before = inr (_, _, refl)
-optional_same (FlowPair brackets.Sequence Value) before = inr (_, _, refl)
-optional_same (FlowPair brackets.Mapping Key) before = inr (_, _, refl)
-optional_same (FlowPair brackets.Mapping Value) before = inr (_, _, refl)
+optional_same place before = grind arith
 
 properties_same : (w : _) (p : _) → Same (state.with_properties w p)
-properties_same Flow p = inl (refl, refl)
-properties_same (Block None) p = inl (refl, refl)
-properties_same (Block (Some s)) p = inl (refl, refl)
+properties_same w p = grind arith
 
 items_same : (b : _) (opener : yaml_mark_t) → Same (state.items b opener)
-items_same brackets.Sequence opener = inr (_, _, refl)
-items_same brackets.Mapping opener = inr (_, _, refl)
+items_same b opener = grind arith
 
 more_same : (b : _) (opener : yaml_mark_t) → Same (state.more b opener)
-more_same brackets.Sequence opener = inr (_, _, refl)
-more_same brackets.Mapping opener = inr (_, _, refl)
+more_same b opener = grind arith
 
 -- what both give, and then each its own; after a document nothing is noted
 pub record Ended (s : List State) (m e f : yaml_mark_t) : Type 0 where
@@ -66,28 +52,13 @@ at_bottom : (x : State) (m e f : yaml_mark_t)
     → feed (x ∷ []) (end_at m e) ≡ go (event_at event.stream_end m e ∷ []) []
     → feed (x ∷ []) (start_at m f) ≡ go (item_at (item.document false) m f ∷ []) (begun f)
     → Parts (x ∷ []) m e f
-at_bottom x m e f none ends starts = inl record {
-  left = [];
-  ends = ends;
-  starts = starts;
-  clean = λ ds g es behind t. sym (pair_last t) ∙ none ds g;
-}
+at_bottom x m e f none ends starts = grind (arith, pair_last)
 
 clean_behind : (i : RawEvent) (left : List RawEvent) (ds : Directives) (y : Settled) → settle i ds
     ≡ y
     → ((z : Directives) → Follows y z → (es : List Event) (behind : Directives) → through left z ≡ Some (es, behind) → behind ≡ no_directives)
     → (es : List Event) (behind : Directives) → through (i ∷ left) ds ≡ Some (es, behind) → behind ≡ no_directives
-clean_behind i left ds (refused g) e h es behind t = absurd (none_some (ap (λ w. then_through w i (λ x. through left x)) (sym e) ∙ t))
-clean_behind i left ds (noted z) e h es behind t = h z refl es behind (ap (λ w. then_through w i (λ x. through left x)) (sym e) ∙ t)
-clean_behind i left ds (gave body z) e h es behind t =
-    go_on (through left z) refl es behind (ap (λ w. then_through w i (λ x. through left x)) (sym e) ∙ t)
-  where
-    go_on : (o : Option (List Event × Directives)) → through left z ≡ o → (es : List Event) (behind : Directives)
-        → with_event (placed body i) (through left z) ≡ Some (es, behind) → behind ≡ no_directives
-    go_on None f es behind t = absurd (none_some (ap (with_event (placed body i)) (sym f) ∙ t))
-    go_on (Some x) f es behind t =
-        let last : x.1 ≡ behind = pair_last (ap (with_event (placed body i)) (sym f) ∙ t) in
-        sym last ∙ h z refl x.0 x.1 f
+clean_behind i left ds y e h es behind t = grind (arith, none_some, pair_last)
 
 -- a state that is left passes on what the states below do
 left_parts : (x : State) (s : List State) (m e f : yaml_mark_t) → Same x

@@ -37,8 +37,7 @@ no_alias_earlier : (past us ts : List Token) (n : ℕ) (other : List Token) (t :
     (behind : List Token) (e : Fault) → ts ≡ followed_by past us → Anchored past
     → ts ≡ followed_by other (t ∷ behind) → length other ≡ n
     → alias_fault other t.body t.start_mark ≡ Some e → n < length past → ⊥
-no_alias_earlier past us ts n other t behind e l a s q f h =
-    some_none (alias_fault other t.body t.start_mark) e (anchored_cut past us other t behind (sym l ∙ s) (subst (λ (z : ℕ). z < length past) (sym q) h) a) f
+no_alias_earlier past us ts n other t behind e l a s q f h = grind (arith, some_none, anchored_cut)
 
 -- nothing is before a place
 nothing_earlier : (past us ts : List Token) (n : ℕ) (r : LoadRank) (other : List Token) (t : Token)

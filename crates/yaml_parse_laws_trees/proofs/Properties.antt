@@ -1,11 +1,11 @@
 -- The properties that a state holds are the last tokens.
-use Rattle.std.proofs.Common.{◌≡◌, ℕ, true, false, ◌||◌, List, [], ◌∷◌, ◌++◌, Option, Some, None, refl, sym, subst, ◌∙◌}
-use Rattle.yaml_parse_laws_trees.proofs.Words.{append_assoc, yaml_mark_t, Token, TokenBody, type_of, Fault, Wants, Flow, Block, Brackets, Take, RawEvent, Properties, Tag, Shape, item_at, State, joins, starts_content, choice_at, documents_taken, content_taken, node_taken, with_properties_taken, lone_below, taken_at, Directives, settle, directive_for, NodeTag, ended_tag, has_handle, tag_fault, tag_behind, tag_before_anchor, unless_joined, take_rule, false≢true, true≢false}
+use Rattle.std.proofs.Common.{◌≡◌, ℕ, true, false, ◌||◌, List, [], ◌∷◌, ◌++◌, Option, Some, None, refl, arith, sym, subst}
+use Rattle.yaml_parse_laws_trees.proofs.Words.{append_assoc, yaml_mark_t, Token, TokenBody, type_of, Fault, Wants, Flow, Block, Brackets, Take, RawEvent, Properties, Tag, Shape, item_at, State, joins, starts_content, choice_at, documents_taken, content_taken, node_taken, with_properties_taken, lone_below, taken_at, Directives, settle, NodeTag, ended_tag, tag_fault, tag_behind, tag_before_anchor, unless_joined, take_rule, false≢true, true≢false}
 use Rattle.yaml_parse_model.specs.scan_types.Tokens as token
 use Rattle.yaml_parse_laws_trees.specs.parse_grammar.declared.name.Brackets.TheVariants as brackets
 use Rattle.yaml_parse_laws_trees.specs.parse_grammar.Items as item
 use Rattle.yaml_parse_laws_trees.specs.parse_grammar.States as state
-use Rattle.yaml_parse_laws_trees.proofs.FaultsStanding.{asking, property, other, last_of, last_in, told, Plain}
+use Rattle.yaml_parse_laws_trees.proofs.FaultsStanding.{asking, last_of, last_in, told, Plain}
 use Rattle.yaml_parse_laws_trees.proofs.Settling.{Done, then_read, by_fault, tag_in, resolved_done, prefix_known, Agree}
 
 -- ---- the tag among the last tokens
@@ -57,52 +57,28 @@ joined None None from to past b h j = absurd h
 -- ---- a property is taken
 
 no_tag_before : (past : List Token) → last_in past ≡ asking → tag_before_anchor past ≡ None
-no_tag_before [] e = refl
-no_tag_before (t ∷ past) e = no_tag t.body e
-  where
-    no_tag : (b : TokenBody) → last_of b ≡ asking
-        → tag_before_anchor (tok b t.start_mark t.end_mark ∷ past) ≡ None
-    no_tag (token.tag handle suffix) e = cc
-    no_tag _ e = refl
+no_tag_before past e = grind (arith, last_of)
 
 waits : (handle : List ℕ) (at : yaml_mark_t) (b : TokenBody)
     → unless_joined handle at b ≡ waiting (record { handle = handle; tag = at; node = at }) b
-waits handle at (token.anchor name) = refl
-waits handle at _ = refl
+waits handle at b = grind arith
 
 no_anchor_before : (handle : List ℕ) (at : yaml_mark_t) (past : List Token) (b : TokenBody)
     → last_in past ≡ asking → tag_behind handle at past b ≡ unless_joined handle at b
-no_anchor_before handle at [] b e = refl
-no_anchor_before handle at (t ∷ past) b e = no_anchor t.body e
-  where
-    no_anchor : (c : TokenBody) → last_of c ≡ asking
-        → tag_behind handle at (tok c t.start_mark t.end_mark ∷ past) b ≡ unless_joined handle at b
-    no_anchor (token.anchor name) e = cc
-    no_anchor _ e = refl
+no_anchor_before handle at past b e = grind (arith, last_of)
 
 plain_props : (s : List State) (past : List Token) → Plain s → PropsTop s past
-plain_props (state.with_properties w p ∷ s) past h = unlike h.0
-  where
-    unlike : property ≡ other → PropsOf p.anchor p.tag p.from past
-    unlike e = cc
-plain_props _ past h = tt
+plain_props s past h = grind arith
 
 content_props : (w : Wants) (p : Option Properties) (start end : yaml_mark_t) (b : TokenBody)
     (s : List State) (past : List Token) → Plain s
     → PropsTop ((content_taken w p start end b).above ++ s) past
-content_props w p start end (token.scalar value style) s past h = plain_props s past h
-content_props (Block (Some side)) p start end token.block_entry s past h = tt
-content_props (Block None) p start end token.block_entry s past h = tt
-content_props Flow p start end token.block_entry s past h = tt
-content_props w p start end _ s past h = tt
+content_props w p start end b s past h = grind (arith, plain_props)
 
 pub node_props : (w : Wants) (start end : yaml_mark_t) (b : TokenBody) (s : List State)
     (past : List Token) → Plain s → last_in past ≡ asking
     → PropsTop ((node_taken w start end b).above ++ s) (tok b start end ∷ past)
-node_props w start end (token.alias name) s past h e = plain_props s (tok (token.alias name) start end ∷ past) h
-node_props w start end (token.anchor name) s past h e = (λ b. no_tag_before past e, λ handle suffix from to b. refl)
-node_props w start end (token.tag handle suffix) s past h e = (λ b. no_anchor_before handle start past b e ∙ waits handle start b, λ name from to b. refl)
-node_props w start end b s past h e = content_props w None start end b s (tok b start end ∷ past) h
+node_props w start end b s past h e = grind (arith, plain_props, no_tag_before, no_anchor_before, waits, content_props)
 
 with_properties_props : (w : Wants) (anchor : Option (List ℕ)) (tag : Option Tag)
     (from to start end : yaml_mark_t) (b : TokenBody) (s : List State) (past : List Token)
@@ -121,13 +97,11 @@ with_properties_props w anchor tag from to start end b s past c h k =
 
 lone_plain : (bs : Brackets) (o : yaml_mark_t) (s : List State) → Plain s
     → Plain (lone_below bs (state.more bs o ∷ []) ++ s)
-lone_plain brackets.Sequence o s h = (refl, h)
-lone_plain brackets.Mapping o s h = (refl, (refl, h))
+lone_plain bs o s h = grind arith
 
 documents_props : (from start end : yaml_mark_t) (b : TokenBody) (s : List State)
     (past : List Token) → Plain s → PropsTop ((documents_taken from start end b).above ++ s) past
-documents_props from start end token.stream_end s past h = plain_props s past h
-documents_props from start end _ s past h = tt
+documents_props from start end b s past h = grind (arith, plain_props)
 
 taken_props_by : (x : State) (start end : yaml_mark_t) (b : TokenBody) (s : List State)
     (past : List Token) → choice_at x (type_of b) ≡ Take → Plain s
@@ -170,17 +144,7 @@ pub props_read : (anchor : Option (List ℕ)) (tag : Option Tag) (from to : yaml
     → then_read (settle (item_at (item.node anchor tag shape) from end) ds) k
     ≡ by_fault (tag_fault (tag_in (record { anchor = anchor; tag = tag; from = from; to = to })) ts)
     ds k
-props_read anchor None from to shape end ts ds k a = refl
-props_read anchor (Some t) from to shape end ts ds k a = by_handle t.handle
-  where
-    by_handle : (handle : List ℕ)
-        → then_read (settle (item_at (item.node anchor
-        (Some (record { handle = handle; suffix = t.suffix; mark = t.mark })) shape) from end) ds) k
-        ≡ by_fault (tag_fault (Some (record { handle = handle; tag = t.mark; node = from })) ts) ds
-        k
-    by_handle [] = refl
-    by_handle (c ∷ handle) =
-        resolved_done (directive_for (c ∷ handle) ds.tags) (has_handle (c ∷ handle) ts) _ (c ∷ handle) t.suffix anchor shape from t.mark ds k (a.handles (c ∷ handle)) (prefix_known (c ∷ handle))
+props_read anchor tag from to shape end ts ds k a = grind (arith, by_fault, resolved_done, prefix_known)
 
 -- an item has that fault, or none
 abbrev pub HasFault : Option RawEvent → Option Fault → Directives → Type 0

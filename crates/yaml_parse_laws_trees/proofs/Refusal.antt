@@ -1,6 +1,6 @@
 -- Where a list of tokens is refused: at the first token that no tree goes on with.
-use Rattle.std.proofs.Common.{◌≡◌, ◌⊎◌, inl, inr, ℕ, List, [], ◌∷◌, ◌++◌, length, map, Option, Some, None, refl, ap, sym, subst, ◌∙◌}
-use Rattle.yaml_parse_laws_trees.proofs.Words.{append_assoc, yaml_mark_t, Token, type_of, no_token, zero_mark, Fault, Choice, Refuse, Leave, RawEvent, State, Given, Stream, spell, items, choice_at, left_at, Fed, stop, go, with_item, turn, feed, Outcome, finished, carry, ending_at, run, initial, bare, BeginsWithItems, GoesOn, RefusedAt, RunsOut, TreeGoesOnGiving, StandsAtLoad, FaultsStandAtFirst, FrontsAreNotRefused}
+use Rattle.std.proofs.Common.{◌≡◌, ◌⊎◌, inl, inr, ℕ, List, [], ◌∷◌, ◌++◌, length, map, Option, Some, None, refl, ap, sym, subst, ◌∙◌, arith}
+use Rattle.yaml_parse_laws_trees.proofs.Words.{append_assoc, yaml_mark_t, Token, type_of, no_token, zero_mark, Fault, Choice, RawEvent, State, Given, Stream, spell, choice_at, Fed, stop, go, with_item, turn, feed, Outcome, finished, carry, ending_at, run, initial, bare, BeginsWithItems, GoesOn, RefusedAt, RunsOut, TreeGoesOnGiving, StandsAtLoad, FaultsStandAtFirst, FrontsAreNotRefused}
 use Rattle.yaml_parse_laws_trees.proofs.CompleteStream.{stream_runs, nothing_runs}
 use Rattle.yaml_parse_laws_trees.proofs.Turns.{items_given}
 use Rattle.yaml_parse_laws_trees.proofs.Left.{Over}
@@ -16,14 +16,11 @@ StopsAt at (go is s) = Unit {0}
 
 stops_with : (at : yaml_mark_t) (i : RawEvent) (fed : Fed) → StopsAt at fed
     → StopsAt at (with_item i fed)
-stops_with at i (stop is e) h = h
-stops_with at i (go is s) h = tt
+stops_with at i fed h = grind arith
 
 turn_stops : (c : Choice) (x : State) (t : Token) (s : List State) (below : Fed)
     → StopsAt t.start_mark below → StopsAt t.start_mark (turn c x t s below)
-turn_stops (Refuse p o) x t s below h = record { kind = refl; origin = refl; place = refl }
-turn_stops Leave x t s below h = stops_with t.start_mark (left_at x t.start_mark) below h
-turn_stops _ x t s below h = tt
+turn_stops c x t s below h = grind (arith, stops_with)
 
 feed_stops : (s : List State) (t : Token) → StopsAt t.start_mark (feed s t)
 unfolding feed
@@ -153,20 +150,16 @@ placed_at s t ts f e (go is (x ∷ s')) p a b d h r q = further s t ts is x s' f
 
 placed_end : (s : List State) (e : Fault) (fed : Fed) → StopsAt zero_mark fed
     → (carry 0 fed (λ _. finished)).ending ≡ Some e → StandsAtLoad zero_mark e
-placed_end s e (stop is g) a q = some_same g e zero_mark q a
-placed_end s e (go is s') a q = cc
+placed_end s e fed a q = grind (arith, some_same)
 
 own_end : (s : List State) (f : Option Fault) (e : Fault) → (run [] s f).ending ≡ Some e
     → (f ≡ Some e) ⊎ ((f ≡ None) × StandsAtLoad zero_mark e)
 unfolding run
-own_end [] (Some g) e q = cc
-own_end (x ∷ s) (Some g) e q = inl q
-own_end s None e q = inr (refl, placed_end s e (feed s no_token) (feed_stops s no_token) q)
+own_end s f e q = grind (arith, placed_end, feed_stops)
 
 -- what is given after the last token
 source_gives : (s : List State) (g : Fault) → bare (ending_at s g).items ≡ []
-source_gives [] g = refl
-source_gives (x ∷ s) g = refl
+source_gives s g = grind arith
 
 end_gives : (s : List State) (e : Fault) (fed : Fed) → StopBegins zero_mark s fed
     → (carry 0 fed (λ _. finished)).ending ≡ Some e
@@ -198,10 +191,7 @@ goes_on ts more h = record { tree = h.tree; more = more; same = h.same ∙ ap (s
 goes_giving : (ts more : List Token) (given : List RawEvent) → Over initial Empty (ts ++ more)
     → BeginsWithItems given (run (ts ++ more) initial None).items → TreeGoesOnGiving ts given
 unfolding goes_on
-goes_giving ts more given h b =
-    let g : GoesOn ts = goes_on ts more h in
-    let o : run (ts ++ more) initial None ≡ record { items = items g.tree []; ending = None } = ap (λ (us : List Token). run us initial None) g.same ∙ stream_runs g.tree [] None in
-    record { tree = g.tree; more = more; same = g.same; begins = subst (λ (gs : List Given). BeginsWithItems given gs) (items_given g.tree []) (subst (λ (z : Outcome). BeginsWithItems given z.items) o b) }
+goes_giving ts more given h b = grind (arith, goes_on, stream_runs, items_given)
 
 -- a list that isn't accepted is no tree's
 not_accepted : (ts more : List Token) (t : Stream) → ts ++ more ≡ spell t []

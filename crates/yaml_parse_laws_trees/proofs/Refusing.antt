@@ -1,15 +1,14 @@
 -- A state that refuses a token reports the fault of the grammar.
-use Rattle.std.proofs.Common.{◌≡◌, Bool, true, false, if◌then◌else◌, ◌||◌, List, [], ◌∷◌, Option, Some, None, refl, ap, sym, subst, ◌∙◌}
-use Rattle.yaml_parse_laws_trees.proofs.Words.{yaml_mark_t, yaml_token_type_t, Token, type_of, Fault, Wants, Flow, Block, Brackets, Choice, Refuse, Take, Leave, Open, ParseProblem, problem_text_of, context_text_of, context_place, Site, RawEvent, State, starts_content, starts_node, wants_of, parts_documents, follows, joins, choice_at, left_at, Fed, stop, go, with_item, turn, feed, grammar_fault, parser_fault, no_end, context_of, MayLeave, leave_rule}
+use Rattle.std.proofs.Common.{◌≡◌, Bool, true, false, if◌then◌else◌, ◌||◌, List, [], ◌∷◌, Option, Some, None, refl, ap, sym, subst, arith}
+use Rattle.yaml_parse_laws_trees.proofs.Words.{yaml_mark_t, yaml_token_type_t, Token, type_of, Fault, Wants, Flow, Block, Brackets, Choice, Refuse, Take, Leave, Open, ParseProblem, problem_text_of, context_text_of, context_place, Site, RawEvent, State, starts_content, starts_node, wants_of, parts_documents, follows, joins, choice_at, Fed, stop, go, with_item, turn, feed, grammar_fault, parser_fault, no_end, context_of, MayLeave, leave_rule}
 use Rattle.yaml_parse_laws_trees.specs.parse_grammar.parse_model.declared.yaml_token_type_t.TheVariants as kind
 use Rattle.yaml_parse_model.specs.scan_types.Tokens as token
-use Rattle.yaml_parse_laws_trees.specs.parse_grammar.declared.name.Brackets.TheVariants as brackets
 use Rattle.yaml_parse_laws_trees.specs.parse_grammar.declared.problem.ParseProblem.TheVariants as problem
 use Rattle.yaml_parse_laws_trees.specs.parse_grammar.States as state
 use Rattle.yaml_parse_laws_trees.specs.parse_grammar.Machine.{closes, no_node}
 use Rattle.yaml_parse_laws_trees.proofs.SoundStanding.{Goes, Stood}
 use Rattle.yaml_parse_laws_trees.specs.Wrong as wrong
-use Rattle.yaml_parse_laws_trees.proofs.FaultsStanding.{Sign, put, open_in, bracketed, stuck, Last, nothing, asking, property, directive, other, told, Plain, is_flow, Placed, Nested, told_fault}
+use Rattle.yaml_parse_laws_trees.proofs.FaultsStanding.{Sign, put, open_in, bracketed, stuck, Last, nothing, asking, other, told, Plain, is_flow, Placed, Nested, told_fault}
 
 -- where a choice refuses, that is the fault; where it leaves, the state has no collection; a document opens at the first state alone
 abbrev pub Tells : Choice → State → List Sign → yaml_mark_t → Type 0
@@ -21,8 +20,7 @@ Tells Open x gs at = x ≡ state.first
 take_or : (b : Bool) (p : ParseProblem) (o : Option yaml_mark_t) (x : State) (gs : List Sign)
     (at : yaml_mark_t) → parser_fault p at (context_of o at) ≡ told_fault (told x) (put x gs) at
     → Tells (if b then Take else Refuse p o) x gs at
-take_or true p o x gs at h = tt
-take_or false p o x gs at h = h
+take_or b p o x gs at h = grind arith
 
 first_or : (a b : Bool) (p : ParseProblem) (gs : List Sign) (at : yaml_mark_t)
     → parser_fault p at at ≡ told_fault (told state.first) (put state.first gs) at
@@ -34,22 +32,18 @@ first_or false false p gs at h = h
 leave_or : (a b : Bool) (p : ParseProblem) (x : State) (gs : List Sign) (at : yaml_mark_t)
     → put x gs ≡ gs → parser_fault p at at ≡ told_fault (told x) (put x gs) at
     → Tells (if a then Leave else if b then Take else Refuse p None) x gs at
-leave_or true b p x gs at e h = e
-leave_or false true p x gs at e h = tt
-leave_or false false p x gs at e h = h
+leave_or a b p x gs at e h = grind arith
 
 take_or_leave : (b : Bool) (x : State) (gs : List Sign) (at : yaml_mark_t) → put x gs ≡ gs
     → Tells (if b then Take else Leave) x gs at
-take_or_leave true x gs at e = tt
-take_or_leave false x gs at e = e
+take_or_leave b x gs at e = grind arith
 
 -- ---- the texts
 
 no_node_told : (w : Wants) (gs : List Sign) (at : yaml_mark_t) → bracketed gs ≡ is_flow w
     → parser_fault (no_node w) at at ≡ wrong.no_node (bracketed gs) at
 unfolding problem_text_of context_text_of context_place
-no_node_told Flow gs at h = ap (λ (b : Bool). wrong.no_node b at) (sym h)
-no_node_told (Block s) gs at h = ap (λ (b : Bool). wrong.no_node b at) (sym h)
+no_node_told w gs at h = grind arith
 
 no_document_told : (gs : List Sign) (at : yaml_mark_t) → gs ≡ []
     → parser_fault problem.NoDocumentStart at at ≡ stuck gs at
@@ -73,15 +67,13 @@ no_key_told o at = refl
 no_end_told : (b : Brackets) (o at : yaml_mark_t) (gs : List Sign)
     → parser_fault (no_end b) at o ≡ stuck (put (state.more b o) gs) at
 unfolding problem_text_of context_text_of context_place
-no_end_told brackets.Sequence o at gs = refl
-no_end_told brackets.Mapping o at gs = refl
+no_end_told b o at gs = grind arith
 
 inside_told : (b : Brackets) (o at : yaml_mark_t) (gs : List Sign)
     → parser_fault problem.NoFlowNode at at
     ≡ wrong.no_node (bracketed (put (state.items b o) gs)) at
 unfolding problem_text_of context_text_of context_place
-inside_told brackets.Sequence o at gs = refl
-inside_told brackets.Mapping o at gs = refl
+inside_told b o at gs = grind arith
 
 first_told : (gs : List Sign) (at : yaml_mark_t) → gs ≡ []
     → parser_fault problem.NoBlockNode at at ≡ wrong.no_node (bracketed gs) at
@@ -128,25 +120,19 @@ StopsWith e (go is s) = Unit {0}
 
 stops_with : (e : Fault) (i : RawEvent) (fed : Fed) → StopsWith e fed
     → StopsWith e (with_item i fed)
-stops_with e i (stop is f) h = h
-stops_with e i (go is s) h = h
+stops_with e i fed h = grind arith
 
 plain_turn : (c : Choice) (x : State) (t : Token) (s : List State) (fed : Fed)
     → Tells c x (open_in s) t.start_mark → told x ≡ other
     → StopsWith (stuck (open_in s) t.start_mark) fed
     → StopsWith (stuck (open_in (x ∷ s)) t.start_mark) (turn c x t s fed)
-plain_turn (Refuse p o) x t s fed h e k = h ∙ ap (λ (l : Last). told_fault l (open_in (x ∷ s)) t.start_mark) e
-plain_turn Leave x t s fed h e k =
-    subst (λ (gs : List Sign). StopsWith (stuck gs t.start_mark) (with_item (left_at x t.start_mark) fed)) (sym h)
-    (stops_with (stuck (open_in s) t.start_mark) (left_at x t.start_mark) fed k)
-plain_turn _ x t s fed h e k = tt
+plain_turn c x t s fed h e k = grind (arith, told_fault, stuck, stops_with)
 
 pub plain_stops : (s : List State) (t : Token) → Plain s → Nested s
     → StopsWith (stuck (open_in s) t.start_mark) (feed s t)
 unfolding feed
 plain_stops [] t p n = tt
-plain_stops (x ∷ s) t p n =
-    plain_turn (choice_at x (type_of t.body)) x t s (feed s t) (tells x (type_of t.body) (open_in s) t.start_mark n.0) p.0 (plain_stops s t p.1 n.1)
+plain_stops (x ∷ s) t p n = grind (arith, plain_turn, tells, plain_stops s t p.1 n.1)
 
 -- ---- a stack of which any state may be on top
 
@@ -154,14 +140,7 @@ plain_stops (x ∷ s) t p n =
 leaves_well : (x : State) (k : yaml_token_type_t) (goes : Type 0) → MayLeave x k
     → ((place : Site) (before : yaml_mark_t) → x ≡ state.optional place before → follows place k
     ≡ true → goes) → (told x ≡ asking → goes) × (told x ≡ nothing → ⊥)
-leaves_well (state.optional place before) k goes l h = (λ e. h place before refl l, λ e. cc)
-leaves_well state.document_end k goes l h = (λ e. cc, λ e. cc)
-leaves_well (state.others side) k goes l h = (λ e. cc, λ e. cc)
-leaves_well (state.colon place) k goes l h = (λ e. cc, λ e. cc)
-leaves_well (state.with_properties w p) k goes l h = (λ e. cc, λ e. cc)
-leaves_well state.pair_end k goes l h = (λ e. cc, λ e. cc)
-leaves_well state.lone k goes l h = (λ e. cc, λ e. cc)
-leaves_well _ k goes l h = absurd l
+leaves_well x k goes l h = grind arith
 
 fitting : (x : State) (s : List State) (t : Token) → Stood x s
     → (place : Site) (before : yaml_mark_t) → x ≡ state.optional place before
@@ -169,27 +148,18 @@ fitting : (x : State) (s : List State) (t : Token) → Stood x s
 fitting x s t h place before e f = let k : Stood (state.optional place before) s = subst (λ (y : State). Stood y s) e h in k.0 t f
 
 going_stops : (e : Fault) (fed : Fed) → Goes fed → StopsWith e fed
-going_stops e (stop is f) h = absurd h
-going_stops e (go is s) h = tt
+going_stops e fed h = grind arith
 
 passed_on : (l : Last) (gs : List Sign) (at : yaml_mark_t) (fed : Fed) → (l ≡ asking → Goes fed)
     → (l ≡ nothing → ⊥) → StopsWith (stuck gs at) fed → StopsWith (told_fault l gs at) fed
-passed_on nothing gs at fed a b h = absurd (b refl)
-passed_on asking gs at fed a b h = going_stops (told_fault asking gs at) fed (a refl)
-passed_on property gs at fed a b h = h
-passed_on directive gs at fed a b h = h
-passed_on other gs at fed a b h = h
+passed_on l gs at fed a b h = grind (arith, going_stops, told_fault)
 
 top_turn : (c : Choice) (x : State) (t : Token) (s : List State) (fed : Fed)
     → Tells c x (open_in s) t.start_mark
     → (c ≡ Leave → (told x ≡ asking → Goes fed) × (told x ≡ nothing → ⊥))
     → StopsWith (stuck (open_in s) t.start_mark) fed
     → StopsWith (told_fault (told x) (open_in (x ∷ s)) t.start_mark) (turn c x t s fed)
-top_turn (Refuse p o) x t s fed h w k = h
-top_turn Leave x t s fed h w k =
-    subst (λ (gs : List Sign). StopsWith (told_fault (told x) gs t.start_mark) (with_item (left_at x t.start_mark) fed)) (sym h)
-    (stops_with (told_fault (told x) (open_in s) t.start_mark) (left_at x t.start_mark) fed (passed_on (told x) (open_in s) t.start_mark fed (w refl).0 (w refl).1 k))
-top_turn _ x t s fed h w k = tt
+top_turn c x t s fed h w k = grind (arith, told_fault, stops_with, passed_on)
 
 -- A stack that refuses a token says what its topmost state does.
 pub top_stops : (x : State) (s : List State) (t : Token) → Plain s → Nested (x ∷ s) → Stood x s

@@ -1,8 +1,7 @@
 -- What the items of a step do to the directives, and which faults they have.
-use Rattle.std.proofs.Common.{◌≡◌, ℕ, ℤ, Bool, true, false, if◌then◌else◌, ◌||◌, List, [], ◌∷◌, ◌++◌, Option, Some, None, is_some, option_map, codes, refl, ap, sym, ◌∙◌}
-use Rattle.yaml_parse_laws_trees.proofs.Words.{bytes_eq, yaml_mark_t, yaml_version_directive_t, Token, TokenBody, Fault, TagDirective, Wants, Flow, Block, problem_text_of, context_text_of, context_place, RawEvent, Properties, Tag, Shape, item_at, State, content_taken, node_taken, taken_at, left_at, Directives, no_directives, Settled, refused, gave, noted, settle, directive_for, with_resolved, with_tag, with_version, is_known_version, directives_before, has_handle, NodeTag, directive_fault, or_default, default_prefix, has_version, version_fault, handle_twice, undefined_handle, is_version_1}
+use Rattle.std.proofs.Common.{◌≡◌, ℕ, ℤ, Bool, true, false, if◌then◌else◌, ◌||◌, List, [], ◌∷◌, ◌++◌, Option, Some, None, is_some, option_map, codes, refl, arith}
+use Rattle.yaml_parse_laws_trees.proofs.Words.{bytes_eq, yaml_mark_t, yaml_version_directive_t, Token, TokenBody, Fault, TagDirective, Wants, problem_text_of, context_text_of, context_place, RawEvent, Properties, Tag, Shape, item_at, State, content_taken, node_taken, taken_at, left_at, Directives, no_directives, Settled, refused, gave, noted, settle, directive_for, with_resolved, with_tag, with_version, is_known_version, directives_before, has_handle, NodeTag, directive_fault, or_default, default_prefix, has_version, version_fault, handle_twice, undefined_handle, is_version_1}
 use Rattle.yaml_parse_model.specs.scan_types.Tokens as token
-use Rattle.yaml_parse_laws_trees.specs.parse_grammar.declared.name.Brackets.TheVariants as brackets
 use Rattle.yaml_parse_laws_trees.specs.parse_grammar.Items as item
 use Rattle.yaml_parse_laws_trees.specs.parse_grammar.States as state
 
@@ -29,22 +28,11 @@ Quiet (Some i) = (ds : Directives) (k : Directives → Done) → then_read (sett
 
 content_quiet : (w : Wants) (start end : yaml_mark_t) (b : TokenBody)
     → Quiet (content_taken w None start end b).item
-content_quiet w start end (token.scalar value style) = λ ds k. refl
-content_quiet w start end token.flow_sequence_start = λ ds k. refl
-content_quiet w start end token.flow_mapping_start = λ ds k. refl
-content_quiet w start end token.block_sequence_start = λ ds k. refl
-content_quiet w start end token.block_mapping_start = λ ds k. refl
-content_quiet (Block (Some side)) start end token.block_entry = λ ds k. refl
-content_quiet (Block None) start end token.block_entry = tt
-content_quiet Flow start end token.block_entry = tt
-content_quiet w start end _ = tt
+content_quiet w start end b = grind arith
 
 pub node_quiet : (w : Wants) (start end : yaml_mark_t) (b : TokenBody)
     → Quiet (node_taken w start end b).item
-node_quiet w start end (token.alias name) = λ ds k. refl
-node_quiet w start end (token.anchor name) = tt
-node_quiet w start end (token.tag handle suffix) = tt
-node_quiet w start end b = content_quiet w start end b
+node_quiet w start end b = grind (arith, content_quiet)
 
 -- a state inside a document that isn't after properties
 abbrev pub IsMute : State → Type 0
@@ -58,40 +46,13 @@ IsMute _ = Unit {0}
 
 taken_quiet_by : (x : State) (start end : yaml_mark_t) (b : TokenBody) → IsMute x
     → Quiet (taken_at x (record { body = b; start_mark = start; end_mark = end })).item
-taken_quiet_by (state.optional place before) start end b h = node_quiet _ start end b
-taken_quiet_by (state.entries o) start end token.block_entry h = tt
-taken_quiet_by (state.entries o) start end _ h = λ ds k. refl
-taken_quiet_by (state.others side) start end b h = tt
-taken_quiet_by (state.pairs o) start end token.key h = tt
-taken_quiet_by (state.pairs o) start end _ h = λ ds k. refl
-taken_quiet_by (state.colon place) start end b h = tt
-taken_quiet_by (state.items brackets.Sequence o) start end token.key h = λ ds k. refl
-taken_quiet_by (state.items brackets.Mapping o) start end token.key h = tt
-taken_quiet_by (state.items brackets.Sequence o) start end token.flow_sequence_end h = λ ds k. refl
-taken_quiet_by (state.items brackets.Mapping o) start end token.flow_sequence_end h = λ ds k. refl
-taken_quiet_by (state.items brackets.Sequence o) start end token.flow_mapping_end h = λ ds k. refl
-taken_quiet_by (state.items brackets.Mapping o) start end token.flow_mapping_end h = λ ds k. refl
-taken_quiet_by (state.items bs o) start end b h = node_quiet Flow start end b
-taken_quiet_by (state.more bs o) start end token.flow_entry h = tt
-taken_quiet_by (state.more brackets.Sequence o) start end _ h = λ ds k. refl
-taken_quiet_by (state.more brackets.Mapping o) start end _ h = λ ds k. refl
-taken_quiet_by state.pair_end start end b h = tt
-taken_quiet_by state.lone start end b h = tt
-taken_quiet_by _ start end b h = absurd h
+taken_quiet_by x start end b h = grind (arith, node_quiet)
 
 pub taken_quiet : (x : State) (t : Token) → IsMute x → Quiet (taken_at x t).item
 taken_quiet x t h = taken_quiet_by x t.start_mark t.end_mark t.body h
 
 pub left_quiet : (x : State) (start : yaml_mark_t) → IsMute x → Quiet (Some (left_at x start))
-left_quiet state.stream start h = absurd h
-left_quiet state.first start h = absurd h
-left_quiet state.documents start h = absurd h
-left_quiet (state.directives from) start h = absurd h
-left_quiet state.document_end start h = absurd h
-left_quiet (state.with_properties w p) start h = absurd h
-left_quiet (state.others side) start h = λ ds k. refl
-left_quiet state.pair_end start h = λ ds k. refl
-left_quiet _ start h = λ ds k. refl
+left_quiet x start h = grind arith
 
 -- ---- directives
 
@@ -116,9 +77,7 @@ version_done : (v : Option yaml_version_directive_t) (tags : List TagDirective) 
     (record { body = token.version_directive major minor; start_mark = start; end_mark = end } ∷ ts)
     (then_read (with_version v tags major minor start) (λ d. fine d))
 unfolding problem_text_of context_text_of context_place
-version_done (Some v) tags known major minor start end ts k a = ap (λ (b : Bool). version_fault b known start) (sym a.version)
-version_done None tags true major minor start end ts k a = rw k (ap (λ (b : Bool). version_fault b true start) (sym a.version), record { version = refl; handles = a.handles })
-version_done None tags false major minor start end ts k a = rw k (ap (λ (b : Bool). version_fault b false start) (sym a.version))
+version_done v tags known major minor start end ts k a = grind arith
 
 pub version_read : (ds : Directives) (major minor : ℤ) (start end : yaml_mark_t) (past : List Token)
     → Agree (directives_before past) ds
@@ -154,14 +113,7 @@ handle_done : (o : Option (List ℕ)) (ds : Directives) (handle prefix : List �
     (record { body = token.tag_directive handle prefix; start_mark = start; end_mark = end } ∷ ts)
     (then_read (with_tag o ds handle prefix start) (λ d. fine d))
 unfolding problem_text_of context_text_of context_place
-handle_done (Some x) ds handle prefix start end ts e a = ap (λ (b : Bool). handle_twice b start) (sym e)
-handle_done None ds handle prefix start end ts e a = (
-  ap (λ (b : Bool). handle_twice b start) (sym e),
-  record {
-    version = a.version;
-    handles = λ h. appended h ds.tags (record { handle = handle; prefix = prefix }) ∙ ap (λ (b : Bool). bytes_eq handle h || b) (a.handles h);
-  },
-)
+handle_done o ds handle prefix start end ts e a = grind (arith, appended)
 
 pub handle_read : (ds : Directives) (handle prefix : List ℕ) (start end : yaml_mark_t)
     (past : List Token) → Agree (directives_before past) ds
@@ -192,14 +144,7 @@ by_fault (Some e) ds k = bad e
 pub prefix_known : (handle : List ℕ)
     → is_some (default_prefix handle)
     ≡ (bytes_eq handle (codes "!") || bytes_eq handle (codes "!!"))
-prefix_known handle = known (bytes_eq handle (codes "!")) (bytes_eq handle (codes "!!"))
-  where
-    known : (a b : Bool)
-        → is_some (if a then Some (codes "!") else if b then Some (codes "tag:yaml.org,2002:") else
-        None) ≡ (a || b)
-    known true b = refl
-    known false true = refl
-    known false false = refl
+prefix_known handle = grind arith
 
 pub resolved_done : (o : Option (List ℕ)) (a b : Bool) (handle suffix : List ℕ)
     (anchor : Option (List ℕ)) (shape : Shape) (from at : yaml_mark_t) (ds : Directives)
@@ -209,16 +154,4 @@ pub resolved_done : (o : Option (List ℕ)) (a b : Bool) (handle suffix : List �
     (or_default o handle)) anchor shape from at ds) k
     ≡ by_fault (undefined_handle (a || b) (record { handle = handle; tag = at; node = from })) ds k
 unfolding problem_text_of context_text_of context_place
-resolved_done (Some x) true b handle suffix anchor shape from at ds k p q = refl
-resolved_done (Some x) false b handle suffix anchor shape from at ds k p q = cc
-resolved_done None true b handle suffix anchor shape from at ds k p q = cc
-resolved_done None false b handle suffix anchor shape from at ds k p q = defaulted (default_prefix handle) b q
-  where
-    defaulted : (d : Option (List ℕ)) (b : Bool) → is_some d ≡ b
-        → then_read (with_resolved (option_map (λ (prefix : List ℕ). prefix ++ suffix) d) anchor
-        shape from at ds) k ≡ by_fault (undefined_handle b
-        (record { handle = handle; tag = at; node = from })) ds k
-    defaulted None true e = cc
-    defaulted None false e = refl
-    defaulted (Some x) true e = refl
-    defaulted (Some x) false e = cc
+resolved_done o a b handle suffix anchor shape from at ds k p q = grind (arith, by_fault)

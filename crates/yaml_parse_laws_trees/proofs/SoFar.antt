@@ -1,6 +1,6 @@
 -- How many events have come by the time that each is given.
 use Rattle.std.proofs.Common.{◌≡◌, ◌≤◌, ◌+◌, ◌*◌, ℕ, List, [], ◌∷◌, ◌++◌, length, map, Option, Some, None, subst, arith}
-use Rattle.yaml_parse_laws_trees.proofs.Words.{Token, no_token, Fault, RawEvent, State, Given, Fed, stop, go, feed, Outcome, finished, carry, ending_at, run, initial, Directives, Settled, refused, gave, noted, settle, Reading, read_on, reading, AtMostFourSoFar, EventsAreFewSoFar}
+use Rattle.yaml_parse_laws_trees.proofs.Words.{Token, no_token, Fault, RawEvent, State, Given, Fed, stop, go, feed, Outcome, finished, carry, ending_at, run, initial, Directives, Settled, settle, Reading, read_on, reading, AtMostFourSoFar, EventsAreFewSoFar}
 use Rattle.yaml_parse_laws_trees.proofs.Counts.{all_owe, owed, feed_owed, given, end_given}
 
 -- ---- items
@@ -32,8 +32,7 @@ few_last (i ∷ is) left so_far all m e h = (few_here so_far m left all (length 
 -- ---- a list of tokens
 
 few_ending : (s : List State) (e : Fault) (so_far all : ℕ) → Few so_far all (ending_at s e).items
-few_ending [] e so_far all = tt
-few_ending (x ∷ s) e so_far all = tt
+few_ending s e so_far all = grind arith
 
 few_ended : (fed : Fed) (so_far all owed : ℕ) → given fed ≤ owed → so_far + owed + 4 * 0 ≤ 4 * all
     → Few so_far all (carry 0 fed (λ _. finished)).items
@@ -61,9 +60,7 @@ few_on : (c : Settled) (i : RawEvent) (left so so_far all : ℕ) (k : Directives
     → so ≤ so_far → so_far + 1 + 4 * left ≤ 4 * all
     → ((ds : Directives) (m : ℕ) → m ≤ so_far + 1 → AtMostFourSoFar m all (k ds).events)
     → AtMostFourSoFar so all (read_on c i left k).events
-few_on (refused e) i left so so_far all k h b r = tt
-few_on (gave body ds) i left so so_far all k h b r = (omega arith, r ds (so + 1) (omega arith))
-few_on (noted ds) i left so so_far all k h b r = r ds so (omega arith)
+few_on c i left so so_far all k h b r = grind arith
 
 few_read : (gs : List Given) (f : Option Fault) (ds : Directives) (so so_far all : ℕ) → so ≤ so_far
     → Few so_far all gs → AtMostFourSoFar so all (reading gs f ds).events

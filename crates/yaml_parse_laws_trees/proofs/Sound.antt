@@ -1,7 +1,7 @@
 -- What the machine accepts begins with the tokens of a tree.
-use Rattle.std.proofs.Common.{◌≡◌, ℕ, true, List, [], ◌∷◌, length, Option, Some, None, refl, ap, sym, subst, ◌∙◌}
+use Rattle.std.proofs.Common.{◌≡◌, ℕ, true, List, [], ◌∷◌, length, Option, Some, None, refl, arith}
 use Rattle.yaml_parse_laws_trees.specs.parse_grammar.parse_model.declared.yaml_token_type_t.TheVariants as kind
-use Rattle.yaml_parse_laws_trees.proofs.Words.{Token, type_of, no_token, Fault, Root, Choice, Refuse, Take, Leave, Open, RawEvent, item_at, State, Given, items, choice_at, taken_at, left_at, Fed, stop, go, with_item, given_by, turn, feed, Outcome, finished, carry, ending_at, run, initial, Directives, Settled, refused, gave, noted, settle, Reading, read_on, reading, no_directives, reading_of, AcceptedAreTrees, AcceptedAreSentences, SentencesAreAccepted, leave_rule, none_opens}
+use Rattle.yaml_parse_laws_trees.proofs.Words.{Token, type_of, no_token, Fault, Root, Choice, Refuse, Take, Leave, Open, RawEvent, item_at, State, Given, choice_at, taken_at, left_at, Fed, stop, go, with_item, given_by, turn, feed, Outcome, finished, carry, ending_at, run, Directives, Settled, settle, Reading, read_on, reading, AcceptedAreTrees, AcceptedAreSentences, SentencesAreAccepted, leave_rule, none_opens}
 use Rattle.yaml_parse_laws_trees.specs.parse_grammar.Items as item
 use Rattle.yaml_parse_laws_trees.specs.parse_grammar.States as state
 use Rattle.yaml_parse_laws_trees.proofs.CompleteStream.{stream_runs}
@@ -23,15 +23,13 @@ FedLeft P s t (go is s') = MayPass P s' → (ts : List Token) → Over s' P ts �
 
 fed_with : (P : List Token → Type 0) (s : List State) (t : Token) (i : RawEvent) (fed : Fed)
     → FedLeft P s t fed → FedLeft P s t (with_item i fed)
-fed_with P s t i (stop is f) h = tt
-fed_with P s t i (go is s') h = h
+fed_with P s t i fed h = grind arith
 
 fed_taken : (P : List Token → Type 0) (x : State) (i : Option RawEvent) (above s : List State)
     (t : Token)
     → ((ts : List Token) → Over above (Over s P) ts → Left x (Over s P) (t ∷ ts))
     → FedLeft P (x ∷ s) t (given_by (record { item = i; above = above }) s)
-fed_taken P x None above s t h = λ m ts k. h ts (subst (λ (Q : List Token → Type 0). Q ts) (over_both above s P) k)
-fed_taken P x (Some i) above s t h = λ m ts k. h ts (subst (λ (Q : List Token → Type 0). Q ts) (over_both above s P) k)
+fed_taken P x i above s t h = grind (arith, over_both)
 
 fed_left : (P : List Token → Type 0) (x : State) (s : List State) (t : Token) (fed : Fed)
     → choice_at x (type_of t.body) ≡ Leave → FedLeft P s t fed → FedLeft P (x ∷ s) t fed
@@ -44,8 +42,7 @@ fed_opened : (P : List Token → Type 0) (x : State) (s : List State) (t : Token
     ts → Left x (Over s P) (t ∷ ts))
     → FedLeft P (x ∷ s) t (given_by (record { item = i; above = above })
     (state.document_end ∷ state.documents ∷ s))
-fed_opened P x s t None above h = λ m ts k. h ts (subst (λ (Q : List Token → Type 0). Q ts) (over_both above (state.document_end ∷ state.documents ∷ s) P) k)
-fed_opened P x s t (Some i) above h = λ m ts k. h ts (subst (λ (Q : List Token → Type 0). Q ts) (over_both above (state.document_end ∷ state.documents ∷ s) P) k)
+fed_opened P x s t i above h = grind (arith, over_both)
 
 turn_left : (P : List Token → Type 0) (c : Choice) (x : State) (t : Token) (s : List State)
     (below : Fed) → choice_at x (type_of t.body) ≡ c → FedLeft P s t below
@@ -72,8 +69,7 @@ EndLeft P s (go is s') = Over s P []
 
 end_with : (P : List Token → Type 0) (s : List State) (i : RawEvent) (fed : Fed) → EndLeft P s fed
     → EndLeft P s (with_item i fed)
-end_with P s i (stop is f) h = tt
-end_with P s i (go is s') h = h
+end_with P s i fed h = grind arith
 
 end_left : (P : List Token → Type 0) (x : State) (s : List State) (fed : Fed)
     → choice_at x kind.YAML_NO_TOKEN ≡ Leave → EndLeft P s fed → EndLeft P (x ∷ s) fed
@@ -83,10 +79,7 @@ end_left P x s (go is s') c h = leaving x kind.YAML_NO_TOKEN (leave_rule x kind.
 turn_ends : (P : List Token → Type 0) (c : Choice) (x : State) (s : List State) (below : Fed)
     → choice_at x kind.YAML_NO_TOKEN ≡ c → EndLeft P s below
     → EndLeft P (x ∷ s) (turn c x no_token s below)
-turn_ends P (Refuse p o) x s below e h = tt
-turn_ends P Take x s below e h = absurd (takes_a_token x e)
-turn_ends P Leave x s below e h = end_with P (x ∷ s) (left_at x no_token.start_mark) below (end_left P x s below e h)
-turn_ends P Open x s below e h = absurd (none_opens x e)
+turn_ends P c x s below e h = grind (arith, takes_a_token, end_with, end_left, none_opens)
 
 feed_ends : (P : List Token → Type 0) → P [] → (s : List State) → EndLeft P s (feed s no_token)
 unfolding feed
@@ -103,8 +96,7 @@ passes [] = λ t ts h. tt
 passes (x ∷ s) = tt
 
 source_ended : (s : List State) (f : Fault) → (ending_at s f).ending ≡ None → Over s Any []
-source_ended [] f h = tt
-source_ended (x ∷ s) f h = cc
+source_ended s f h = grind arith
 
 ended : (s : List State) (fed : Fed) → EndLeft Any s fed
     → (carry 0 fed (λ _. finished)).ending ≡ None → Over s Any []
@@ -115,8 +107,7 @@ carried : (left : ℕ) (s : List State) (t : Token) (ts : List Token) (fed : Fed
     (k : List State → Outcome) → FedLeft Any s t fed
     → ((s' : List State) → (k s').ending ≡ None → Over s' Any ts) → (carry left fed k).ending ≡ None
     → Over s Any (t ∷ ts)
-carried left s t ts (stop is f) k h r e = cc
-carried left s t ts (go is s') k h r e = h (passes s') ts (r s' e)
+carried left s t ts fed k h r e = grind (arith, passes)
 
 accepts : (ts : List Token) (f : Option Fault) (s : List State) → (run ts s f).ending ≡ None
     → Over s Any ts
@@ -126,18 +117,14 @@ accepts [] None s e = ended s (feed s no_token) (feed_ends Any tt s) e
 accepts (t ∷ ts) f s e = carried (length ts) s t ts (feed s t) (λ s'. run ts s' f) (feed_left Any s t) (λ s' e'. accepts ts f s' e') e
 
 pub accepted_trees : AcceptedAreTrees
-accepted_trees ts f e =
-    let h = accepts ts f initial e in
-    record { tree = h.tree; rest = h.rest; same = h.same }
+accepted_trees ts f e = grind (arith, accepts)
 
 -- ---- directives and tag handles
 
 read_quietly : (c : Settled) (g : Given) (k : Directives → Reading) (f : Option Fault)
     → ((ds : Directives) → (k ds).ending ≡ None → f ≡ None) → (read_on c g.0 g.1 k).ending ≡ None
     → f ≡ None
-read_quietly (refused x) g k f r e = cc
-read_quietly (gave b ds) g k f r e = r ds e
-read_quietly (noted ds) g k f r e = r ds e
+read_quietly c g k f r e = grind arith
 
 -- what is read without a fault was not ended by one
 quiet : (gs : List Given) (f : Option Fault) (ds : Directives) → (reading gs f ds).ending ≡ None
@@ -147,21 +134,7 @@ quiet [] f ds e = e
 quiet (g ∷ gs) f ds e = read_quietly (settle g.0 ds) g (λ ds'. reading gs f ds') f (λ ds' e'. quiet gs f ds' e') e
 
 pub accepted_sentences : AcceptedAreSentences
-accepted_sentences ts f e =
-    let h = accepted_trees ts f (quiet (run ts initial f).items (run ts initial f).ending no_directives e) in
-    let o : run ts initial f ≡ record { items = items h.tree h.rest; ending = None } = ap (λ (us : List Token). run us initial f) h.same ∙ stream_runs h.tree h.rest f in
-    record {
-      tree = h.tree;
-      rest = h.rest;
-      same = h.same;
-      in_order = ap (λ (gs : List Given). (reading gs None no_directives).ending) (sym (items_given h.tree h.rest))
-          ∙ ap (λ (x : Outcome). (reading_of x no_directives).ending) (sym o)
-          ∙ e;
-    }
+accepted_sentences ts f e = grind (arith, accepted_trees, quiet, stream_runs, items_given)
 
 pub sentences_accepted : SentencesAreAccepted
-sentences_accepted ts f b =
-    let o : run ts initial f ≡ record { items = items b.tree b.rest; ending = None } = ap (λ (us : List Token). run us initial f) b.same ∙ stream_runs b.tree b.rest f in
-    ap (λ (x : Outcome). (reading_of x no_directives).ending) o
-    ∙ ap (λ (gs : List Given). (reading gs None no_directives).ending) (items_given b.tree b.rest)
-    ∙ b.in_order
+sentences_accepted ts f b = grind (arith, stream_runs, items_given)

@@ -1,5 +1,5 @@
 -- The tokens of a tree are before what follows them.
-use Rattle.std.proofs.Common.{◌≡◌, List, [], ◌∷◌, ◌++◌, refl, ap, sym, ◌∙◌}
+use Rattle.std.proofs.Common.{◌≡◌, List, [], ◌∷◌, ◌++◌, refl, ap, sym, ◌∙◌, arith}
 use Rattle.yaml_parse_laws_trees.proofs.Words.{Token, Wants, Brackets, Span, token_at, opening, PropertyTokens, Node, Content, Maybe, Colon, Items, More, Entries, Others, Pairs, Directive, Documents, First, Stream, spell_properties, spell_node, spell_content, spell_maybe, spell_colon, spell_items, spell_more, spell_entries, spell_others, spell_pairs, spell_directives, spell_ends, spell_documents, spell_first, spell}
 use Rattle.yaml_parse_model.specs.scan_types.Tokens as token
 use Rattle.yaml_parse_laws_trees.specs.parse_grammar.Trees as tree
@@ -9,8 +9,7 @@ behind t p = ap (λ (z : List Token). t ∷ z) p
 
 properties_on : (d : PropertyTokens) (xs ys : List Token)
     → spell_properties d (xs ++ ys) ≡ spell_properties d xs ++ ys
-properties_on (tree.anchor a) xs ys = refl
-properties_on _ xs ys = refl
+properties_on d xs ys = grind arith
 
 mutual
   node_on : {w : Wants} (n : Node w) (xs ys : List Token)

@@ -1,13 +1,11 @@
 -- After one token: what the stack knows of the tokens.
-use Rattle.std.proofs.Common.{◌≡◌, true, List, [], ◌∷◌, ◌++◌, Option, Some, None, refl, ap, sym, subst, ◌∙◌}
-use Rattle.yaml_parse_laws_trees.proofs.Words.{yaml_mark_t, Token, TokenBody, type_of, Block, Root, Choice, Refuse, Take, Leave, Open, RawEvent, item_at, State, IsInner, IsStack, choice_at, taken_at, left_at, Fed, stop, go, with_item, given_by, turn, feed}
+use Rattle.std.proofs.Common.{◌≡◌, List, [], ◌∷◌, ◌++◌, Option, None, refl, sym, subst, ◌∙◌, arith}
+use Rattle.yaml_parse_laws_trees.proofs.Words.{yaml_mark_t, Token, TokenBody, type_of, Block, Root, Choice, Take, RawEvent, State, IsInner, IsStack, choice_at, taken_at, Fed, stop, go, with_item, given_by, turn, feed}
 use Rattle.yaml_parse_model.specs.scan_types.Tokens as token
-use Rattle.yaml_parse_laws_trees.specs.parse_grammar.parse_model.Events as event
-use Rattle.yaml_parse_laws_trees.specs.parse_grammar.Items as item
 use Rattle.yaml_parse_laws_trees.specs.parse_grammar.States as state
 use Rattle.yaml_parse_laws_trees.proofs.FaultsStanding.{Sign, signs_behind, open_in, asking, directive, other, last_of, last_in, told, Plain, Nested}
 use Rattle.yaml_parse_laws_trees.proofs.Refusing.{Tells, tells}
-use Rattle.yaml_parse_laws_trees.proofs.Keeping.{Kept, KeptInside, Ground, node_kept, inside_kept}
+use Rattle.yaml_parse_laws_trees.proofs.Keeping.{Kept, KeptInside, Ground, inside_kept}
 use Rattle.yaml_parse_laws_trees.proofs.Stepping.{Within, at_end, deeper, within, not_first}
 use Rattle.yaml_parse_laws_trees.proofs.Properties.{PropsTop, node_props, taken_props, tok}
 use Rattle.yaml_parse_grammar.proofs.Standing.{inside_stack}
@@ -24,8 +22,7 @@ FedKept b at gs (go is s) = Stacked b at gs s
 
 fed_with : (b : TokenBody) (at : yaml_mark_t) (gs : List Sign) (i : RawEvent) (fed : Fed)
     → FedKept b at gs fed → FedKept b at gs (with_item i fed)
-fed_with b at gs i (stop is e) h = tt
-fed_with b at gs i (go is s) h = h
+fed_with b at gs i fed h = grind arith
 
 stacked : (b : TokenBody) (at : yaml_mark_t) (gs : List Sign) (s : List State)
     → KeptInside b at gs s → Stacked b at gs s
@@ -37,8 +34,7 @@ opened_ground = record { plain = (refl, (refl, tt)); nested = (tt, (refl, tt)); 
 stream_kept : (b : TokenBody) (start end : yaml_mark_t)
     → FedKept b start [] (feed (state.stream ∷ []) (tok b start end))
 unfolding feed
-stream_kept (token.stream_start e) start end = record { kept = record { opened = refl; topped = (refl, tt); nested = (refl, tt) }; stack = refl }
-stream_kept _ start end = tt
+stream_kept b start end = grind arith
 
 begun : (start end before : yaml_mark_t)
     → Stacked token.document_start start []
@@ -55,19 +51,7 @@ finished start = record { kept = record { opened = refl; topped = tt; nested = t
 first_kept : (b : TokenBody) (start end : yaml_mark_t)
     → FedKept b start [] (feed (state.first ∷ []) (tok b start end))
 unfolding feed
-first_kept (token.version_directive major minor) start end = directed (token.version_directive major minor) start start refl refl
-first_kept (token.tag_directive handle prefix) start end = directed (token.tag_directive handle prefix) start start refl refl
-first_kept token.document_start start end = begun start end end
-first_kept token.stream_end start end = finished start
-first_kept (token.alias name) start end = stacked _ start [] _ (node_kept (Block None) start end (token.alias name) (state.document_end ∷ state.documents ∷ []) refl opened_ground)
-first_kept (token.anchor name) start end = stacked _ start [] _ (node_kept (Block None) start end (token.anchor name) (state.document_end ∷ state.documents ∷ []) refl opened_ground)
-first_kept (token.tag handle suffix) start end = stacked _ start [] _ (node_kept (Block None) start end (token.tag handle suffix) (state.document_end ∷ state.documents ∷ []) refl opened_ground)
-first_kept (token.scalar value style) start end = stacked _ start [] _ (node_kept (Block None) start end (token.scalar value style) (state.document_end ∷ state.documents ∷ []) refl opened_ground)
-first_kept token.flow_sequence_start start end = stacked _ start [] _ (node_kept (Block None) start end token.flow_sequence_start (state.document_end ∷ state.documents ∷ []) refl opened_ground)
-first_kept token.flow_mapping_start start end = stacked _ start [] _ (node_kept (Block None) start end token.flow_mapping_start (state.document_end ∷ state.documents ∷ []) refl opened_ground)
-first_kept token.block_sequence_start start end = stacked _ start [] _ (node_kept (Block None) start end token.block_sequence_start (state.document_end ∷ state.documents ∷ []) refl opened_ground)
-first_kept token.block_mapping_start start end = stacked _ start [] _ (node_kept (Block None) start end token.block_mapping_start (state.document_end ∷ state.documents ∷ []) refl opened_ground)
-first_kept _ start end = tt
+first_kept b start end = grind (arith, directed, begun, finished, stacked, opened_ground)
 
 between : (start : yaml_mark_t) → Stacked token.document_end start [] (state.documents ∷ [])
 between start = record { kept = record { opened = refl; topped = (refl, tt); nested = (refl, tt) }; stack = refl }
@@ -75,32 +59,22 @@ between start = record { kept = record { opened = refl; topped = (refl, tt); nes
 documents_kept : (b : TokenBody) (start end : yaml_mark_t)
     → FedKept b start [] (feed (state.documents ∷ []) (tok b start end))
 unfolding feed
-documents_kept (token.version_directive major minor) start end = directed (token.version_directive major minor) start start refl refl
-documents_kept (token.tag_directive handle prefix) start end = directed (token.tag_directive handle prefix) start start refl refl
-documents_kept token.document_start start end = begun start end end
-documents_kept token.document_end start end = between start
-documents_kept token.stream_end start end = finished start
-documents_kept _ start end = tt
+documents_kept b start end = grind (arith, directed, begun, between, finished)
 
 directives_kept : (b : TokenBody) (from start end : yaml_mark_t)
     → FedKept b start [] (feed (state.directives from ∷ []) (tok b start end))
 unfolding feed
-directives_kept (token.version_directive major minor) from start end = directed (token.version_directive major minor) start from refl refl
-directives_kept (token.tag_directive handle prefix) from start end = directed (token.tag_directive handle prefix) start from refl refl
-directives_kept token.document_start from start end = begun start end end
-directives_kept _ from start end = tt
+directives_kept b from start end = grind (arith, directed, begun)
 
 end_kept : (b : TokenBody) (start end : yaml_mark_t)
     → FedKept b start [] (feed (state.document_end ∷ state.documents ∷ []) (tok b start end))
 unfolding feed
-end_kept token.document_end start end = between start
-end_kept b start end = fed_with b start [] (item_at (item.event (event.document_end true)) start start) (feed (state.documents ∷ []) (tok b start end)) (documents_kept b start end)
+end_kept b start end = grind (arith, between, fed_with, documents_kept)
 
 given_kept : (b : TokenBody) (at : yaml_mark_t) (gs : List Sign) (i : Option RawEvent)
     (above s : List State) → Stacked b at gs (above ++ s)
     → FedKept b at gs (given_by (record { item = i; above = above }) s)
-given_kept b at gs None above s h = h
-given_kept b at gs (Some i) above s h = h
+given_kept b at gs i above s h = grind arith
 
 inside_turn : (c : Choice) (x : State) (t : Token) (s : List State) (fed : Fed)
     → choice_at x (type_of t.body) ≡ c → Tells c x (open_in s) t.start_mark → IsInner x
@@ -108,11 +82,7 @@ inside_turn : (c : Choice) (x : State) (t : Token) (s : List State) (fed : Fed)
     → KeptInside t.body t.start_mark (open_in (x ∷ s)) ((taken_at x t).above ++ s))
     → FedKept t.body t.start_mark (open_in s) fed
     → FedKept t.body t.start_mark (open_in (x ∷ s)) (turn c x t s fed)
-inside_turn (Refuse p o) x t s fed e h i k r = tt
-inside_turn Take x t s fed e h i k r = given_kept t.body t.start_mark (open_in (x ∷ s)) (taken_at x t).item (taken_at x t).above s (stacked t.body t.start_mark (open_in (x ∷ s)) ((taken_at x t).above ++ s) (k e))
-inside_turn Leave x t s fed e h i k r =
-    fed_with t.body t.start_mark (open_in (x ∷ s)) (left_at x t.start_mark) fed (subst (λ (gs : List Sign). FedKept t.body t.start_mark gs fed) (sym h) r)
-inside_turn Open x t s fed e h i k r = absurd (not_first x h i)
+inside_turn c x t s fed e h i k r = grind (arith, given_kept, stacked, fed_with, not_first)
 
 at_end_kept : (x : State) (s : List State) (t : Token) → x ≡ state.document_end
     → s ≡ state.documents ∷ [] → FedKept t.body t.start_mark (open_in (x ∷ s)) (feed (x ∷ s) t)
@@ -137,11 +107,7 @@ alone_fed x s t e h = subst (λ (z : List State). FedKept t.body t.start_mark (o
 
 pub fed_kept : (x : State) (s : List State) (t : Token) → IsStack (x ∷ s) → Plain s → Nested (x ∷ s)
     → FedKept t.body t.start_mark (open_in (x ∷ s)) (feed (x ∷ s) t)
-fed_kept state.stream s t i p n = alone_fed state.stream s t i (stream_kept t.body t.start_mark t.end_mark)
-fed_kept state.first s t i p n = alone_fed state.first s t i (first_kept t.body t.start_mark t.end_mark)
-fed_kept state.documents s t i p n = alone_fed state.documents s t i (documents_kept t.body t.start_mark t.end_mark)
-fed_kept (state.directives from) s t i p n = alone_fed (state.directives from) s t i (directives_kept t.body from t.start_mark t.end_mark)
-fed_kept x s t i p n = inside_fed x s t (within x s i) p n
+fed_kept x s t i p n = grind (arith, alone_fed, stream_kept, first_kept, documents_kept, directives_kept, inside_fed)
 
 -- ---- the properties
 
@@ -151,37 +117,25 @@ FedProps past (go is s) = PropsTop s past
 
 props_with : (past : List Token) (i : RawEvent) (fed : Fed) → FedProps past fed
     → FedProps past (with_item i fed)
-props_with past i (stop is e) h = tt
-props_with past i (go is s) h = h
+props_with past i fed h = grind arith
 
 props_given : (past : List Token) (i : Option RawEvent) (above s : List State)
     → PropsTop (above ++ s) past → FedProps past (given_by (record { item = i; above = above }) s)
-props_given past None above s h = h
-props_given past (Some i) above s h = h
+props_given past i above s h = grind arith
 
 props_turn : (c : Choice) (x : State) (t : Token) (s : List State) (fed : Fed) (past : List Token)
     → choice_at x (type_of t.body) ≡ c → Tells c x (open_in s) t.start_mark → Plain s
     → (told x ≡ asking → last_in past ≡ asking) → PropsTop (x ∷ s) past → FedProps (t ∷ past) fed
     → FedProps (t ∷ past) (turn c x t s fed)
-props_turn (Refuse p o) x t s fed past c e pl l h r = tt
-props_turn Take x t s fed past c e pl l h r = props_given (t ∷ past) (taken_at x t).item (taken_at x t).above s (taken_props x t s past c pl l h)
-props_turn Leave x t s fed past c e pl l h r = props_with (t ∷ past) (left_at x t.start_mark) fed r
-props_turn Open x t s fed past c e pl l h r =
-    props_with (t ∷ past) (item_at (item.document true) t.start_mark t.start_mark) (given_by (taken_at (state.optional Root t.start_mark) t) (state.document_end ∷ state.documents ∷ s))
-    (props_given (t ∷ past) (taken_at (state.optional Root t.start_mark) t).item (taken_at (state.optional Root t.start_mark) t).above (state.document_end ∷ state.documents ∷ s)
-    (node_props (Block None) t.start_mark t.end_mark t.body (state.document_end ∷ state.documents ∷ s) past (refl, (refl, pl)) (l (ap told e))))
+props_turn c x t s fed past h6 e pl l h r = grind (arith, props_given, taken_props, props_with, node_props)
 
 plain_top : (x : State) (s : List State) (past : List Token) → told x ≡ other
     → PropsTop (x ∷ s) past
-plain_top (state.with_properties w p) s past h = cc
-plain_top _ s past h = tt
+plain_top x s past h = grind arith
 
 other_asks : (x : State) (past : List Token) → told x ≡ other → told x ≡ asking
     → last_in past ≡ asking
-other_asks x past h e = unlike (sym h ∙ e)
-  where
-    unlike : other ≡ asking → last_in past ≡ asking
-    unlike e = cc
+other_asks x past h e = grind arith
 
 plain_fed : (s : List State) (t : Token) (past : List Token) → Plain s → Nested s
     → FedProps (t ∷ past) (feed s t)

@@ -1,5 +1,5 @@
 -- One token: what a stack gives is loaded, and the stack after it fits the tokens from then on.
-use Rattle.std.proofs.Common.{◌≡◌, true, List, [], ◌∷◌, None, refl, sym, subst}
+use Rattle.std.proofs.Common.{◌≡◌, true, List, [], ◌∷◌, None, refl, sym, subst, arith}
 use Rattle.yaml_parse_laws_trees.proofs.Words.{yaml_mark_t, yaml_token_type_t, Token, type_of, Block, Root, Choice, Refuse, Take, Leave, Open, item_at, blank, State, IsInside, IsStack, choice_at, taken_at, left_at, Fed, with_item, given_by, turn, feed, Directives, settle, Loading, nothing_loaded, MayLeave, leave_rule, opens_first}
 use Rattle.yaml_parse_laws_trees.specs.parse_grammar.Items as item
 use Rattle.yaml_parse_laws_trees.specs.parse_grammar.States as state
@@ -24,11 +24,7 @@ inside_sits (state.document_end ∷ s) h = h
 inside_sits (_ ∷ s) h = inside_sits s h.1
 
 pub stack_sits : (x : State) (s : List State) → IsStack (x ∷ s) → Sits (x ∷ s)
-stack_sits state.stream s h = h
-stack_sits state.first s h = h
-stack_sits state.documents s h = h
-stack_sits (state.directives from) s h = h
-stack_sits x s h = inside_sits (x ∷ s) h
+stack_sits x s h = grind (arith, inside_sits)
 
 -- the states below are plain
 abbrev pub PlainBelow : List State → Type 0
@@ -36,18 +32,12 @@ PlainBelow [] = Unit {0}
 PlainBelow (x ∷ s) = Plain s
 
 plain_below : (s : List State) → Plain s → PlainBelow s
-plain_below [] h = tt
-plain_below (x ∷ s) h = h.1
+plain_below s h = grind arith
 
 -- a state that leaves has states below
 sits_left : (x : State) (k : yaml_token_type_t) (s : List State) → MayLeave x k → Sits (x ∷ s)
     → Sits s
-sits_left state.document_end k s l h = subst Sits (sym h) refl
-sits_left state.stream k s l h = absurd l
-sits_left state.first k s l h = absurd l
-sits_left state.documents k s l h = absurd l
-sits_left (state.directives from) k s l h = absurd l
-sits_left _ k s l h = h
+sits_left x k s l h = grind arith
 
 -- ---- a state that leaves
 

@@ -1,5 +1,5 @@
 -- Tokens that are refused before they end are refused so whatever is after them.
-use Rattle.std.proofs.Common.{◌≡◌, ◌≢◌, List, [], ◌∷◌, ◌++◌, Option, Some, None, refl, sym, ap, subst, ◌∙◌, inl, inr, ◌⊎◌}
+use Rattle.std.proofs.Common.{◌≡◌, ◌≢◌, List, [], ◌∷◌, ◌++◌, Option, Some, None, refl, sym, ap, subst, ◌∙◌, inl, inr, ◌⊎◌, arith}
 use Rattle.std.proofs.lemmas.Option.{none-some, same_Some}
 use Rattle.yaml_parse_laws_trees.proofs.WindowsWords.{yaml_mark_t, Token, Event, Fault, RawEvent, Directives, no_directives, event_at, State, Fed, stop, go, feed, run, initial, parse_of, events_in, GoOn}
 use Rattle.yaml_parse_grammar.specs.scan_types.Tokens as token
@@ -21,8 +21,7 @@ Stay front s ds g = (behind : List Token) (own : Option Fault)
 nothing_left : (s : List State) (ds : Directives) (g f : Fault)
     → (read_of (run [] s (Some g)) ds).ending ≡ Some f → f ≡ g
 unfolding run
-nothing_left [] ds g f e = absurd (none-some _ e)
-nothing_left (x ∷ s) ds g f e = sym (same_Some _ _ e)
+nothing_left s ds g f e = grind (arith, none-some, same_Some)
 
 stay : (front : List Token) (s : List State) (ds : Directives) (g f : Fault)
     → (read_of (run front s (Some g)) ds).ending ≡ Some f → (f ≡ g) ⊎ Stay front s ds g

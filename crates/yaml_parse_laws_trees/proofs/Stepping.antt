@@ -1,6 +1,6 @@
 -- One token: what the stack gives is read, and the directives agree with the tokens from then on.
-use Rattle.std.proofs.Common.{◌≡◌, Bool, true, false, if◌then◌else◌, List, [], ◌∷◌, ◌++◌, Option, Some, None, refl, ap, sym, subst}
-use Rattle.yaml_parse_laws_trees.proofs.Words.{yaml_mark_t, Token, TokenBody, type_of, Choice, Refuse, Take, Leave, Open, RawEvent, item_at, State, IsInner, IsInside, choice_at, taken_at, left_at, Fed, stop, go, with_item, given_by, turn, feed, Directives, no_directives, directives_before, document_directives, is_directive, directive_fault, InsideAt}
+use Rattle.std.proofs.Common.{◌≡◌, Bool, true, false, if◌then◌else◌, List, [], ◌∷◌, ◌++◌, Option, Some, None, refl, ap, sym, subst, arith}
+use Rattle.yaml_parse_laws_trees.proofs.Words.{yaml_mark_t, Token, TokenBody, type_of, Choice, Take, RawEvent, item_at, State, IsInner, IsInside, choice_at, taken_at, Fed, stop, go, with_item, given_by, turn, feed, Directives, no_directives, directives_before, document_directives, is_directive, directive_fault, InsideAt}
 use Rattle.yaml_parse_model.specs.scan_types.Tokens as token
 use Rattle.yaml_parse_laws_trees.specs.parse_grammar.parse_model.Events as event
 use Rattle.yaml_parse_laws_trees.specs.parse_grammar.Items as item
@@ -26,12 +26,7 @@ Dirs (x ∷ s) past ds = DirsAt x past ds
 
 inside_dirs : (s : List State) (past : List Token) (ds : Directives) → IsInside s
     → Agree (document_directives past) ds → Dirs s past ds
-inside_dirs [] past ds i a = tt
-inside_dirs (state.stream ∷ s) past ds i a = absurd i.0
-inside_dirs (state.first ∷ s) past ds i a = absurd i.0
-inside_dirs (state.documents ∷ s) past ds i a = absurd i.0
-inside_dirs (state.directives from ∷ s) past ds i a = absurd i.0
-inside_dirs (_ ∷ s) past ds i a = a
+inside_dirs s past ds i a = grind arith
 
 -- ---- what a step gives
 
@@ -50,20 +45,16 @@ Stepped past ds t (go is s) = StepRead past t (read_all is ds) s
 
 stepped_with : (past : List Token) (ds : Directives) (t : Token) (i : RawEvent) (fed : Fed)
     → Quiet (Some i) → Stepped past ds t fed → Stepped past ds t (with_item i fed)
-stepped_with past ds t i (stop is e) q h = subst IsFine (sym (q ds (λ d. read_all is d))) h
-stepped_with past ds t i (go is s) q h = subst (λ (z : Done). StepRead past t z s) (sym (q ds (λ d. read_all is d))) h
+stepped_with past ds t i fed q h = grind arith
 
 stepped_given : (past : List Token) (ds : Directives) (t : Token) (i : Option RawEvent)
     (above s : List State) → Quiet i → StepRead past t (fine ds) (above ++ s)
     → Stepped past ds t (given_by (record { item = i; above = above }) s)
-stepped_given past ds t None above s q h = h
-stepped_given past ds t (Some i) above s q h = subst (λ (z : Done). StepRead past t z (above ++ s)) (sym (q ds (λ d. fine d))) h
+stepped_given past ds t i above s q h = grind arith
 
 no_directive : (past : List Token) (b : TokenBody) (at : yaml_mark_t) → is_directive b ≡ false
     → directive_fault past b at ≡ None
-no_directive past (token.version_directive major minor) at h = cc
-no_directive past (token.tag_directive handle prefix) at h = cc
-no_directive past _ at h = refl
+no_directive past b at h = grind arith
 
 -- the token was taken inside a document
 pub inside_read : (past : List Token) (ds : Directives) (t : Token) (gs : List Sign)
@@ -79,33 +70,19 @@ inside_read past ds t gs s k a = (
 behind_read : (past : List Token) (t : Token) (from : yaml_mark_t) (d : Done)
     → Behind (directive_fault past t.body t.start_mark) (directives_before (t ∷ past)) d
     → StepRead past t d (state.directives from ∷ [])
-behind_read past t from (bad e) h = h
-behind_read past t from (fine ds) h = h
+behind_read past t from d h = grind arith
 
 pub stream_stepped : (past : List Token) (ds : Directives) (b : TokenBody) (start end : yaml_mark_t)
     → Agree [] ds → Agree (document_directives past) ds
     → Stepped past ds (tok b start end) (feed (state.stream ∷ []) (tok b start end))
 unfolding feed
-stream_stepped past ds (token.stream_start e) start end n a = (refl, (n, a))
-stream_stepped past ds _ start end n a = tt
+stream_stepped past ds b start end n a = grind arith
 
 pub first_stepped : (past : List Token) (ds : Directives) (b : TokenBody) (start end : yaml_mark_t)
     → Agree (directives_before past) ds → Agree (document_directives past) ds
     → Stepped past ds (tok b start end) (feed (state.first ∷ []) (tok b start end))
 unfolding feed
-first_stepped past ds (token.version_directive major minor) start end a d = behind_read past (tok (token.version_directive major minor) start end) start _ (version_read ds major minor start end past a)
-first_stepped past ds (token.tag_directive handle prefix) start end a d = behind_read past (tok (token.tag_directive handle prefix) start end) start _ (handle_read ds handle prefix start end past a)
-first_stepped past ds token.document_start start end a d = (refl, a)
-first_stepped past ds token.stream_end start end a d = (refl, tt)
-first_stepped past ds (token.alias name) start end a d = (refl, d)
-first_stepped past ds (token.anchor name) start end a d = (refl, d)
-first_stepped past ds (token.tag handle suffix) start end a d = (refl, d)
-first_stepped past ds (token.scalar value style) start end a d = (refl, d)
-first_stepped past ds token.flow_sequence_start start end a d = (refl, d)
-first_stepped past ds token.flow_mapping_start start end a d = (refl, d)
-first_stepped past ds token.block_sequence_start start end a d = (refl, d)
-first_stepped past ds token.block_mapping_start start end a d = (refl, d)
-first_stepped past ds _ start end a d = tt
+first_stepped past ds b start end a d = grind (arith, behind_read, version_read, handle_read)
 
 pub documents_stepped : (past : List Token) (ds : Directives) (b : TokenBody)
     (start end : yaml_mark_t) → Agree (directives_before past) ds → Agree [] ds
@@ -131,8 +108,7 @@ directives_stepped past ds _ from start end a = tt
 ended_before : (past : List Token) (ds : Directives) (t : Token) (implicit : Bool)
     (from to : yaml_mark_t) (fed : Fed) → Stepped past no_directives t fed
     → Stepped past ds t (with_item (item_at (item.event (event.document_end implicit)) from to) fed)
-ended_before past ds t implicit from to (stop is e) h = h
-ended_before past ds t implicit from to (go is s) h = h
+ended_before past ds t implicit from to fed h = grind arith
 
 end_stepped : (past : List Token) (ds : Directives) (b : TokenBody) (start end : yaml_mark_t)
     → Agree (directives_before past) no_directives
@@ -146,14 +122,7 @@ end_stepped past ds b start end a = ended_before past ds (tok b start end) true 
 
 pub no_directives_before : (past : List Token) → (last_in past ≡ directive → ⊥)
     → directives_before past ≡ []
-no_directives_before [] h = refl
-no_directives_before (t ∷ past) h = none t.body h
-  where
-    none : (b : TokenBody) → (last_of b ≡ directive → ⊥)
-        → (if is_directive b then t ∷ directives_before past else []) ≡ []
-    none (token.version_directive major minor) h = absurd (h refl)
-    none (token.tag_directive handle prefix) h = absurd (h refl)
-    none _ h = refl
+no_directives_before past h = grind (arith, last_of)
 
 pub none_before : (past : List Token) → (last_in past ≡ directive → ⊥)
     → Agree (directives_before past) no_directives
@@ -165,12 +134,7 @@ pub data Within (x : State) (s : List State) : Type 0 where
   deeper : IsInner x → IsInside s → Within x s
 
 pub within : (x : State) (s : List State) → InsideAt x s (IsInside s) → Within x s
-within state.document_end s h = at_end refl h
-within state.stream s h = absurd h.0
-within state.first s h = absurd h.0
-within state.documents s h = absurd h.0
-within (state.directives from) s h = absurd h.0
-within _ s h = deeper h.0 h.1
+within x s h = grind arith
 
 pub not_first : (x : State) → x ≡ state.first → IsInner x → ⊥
 not_first x e h = subst IsInner e h
@@ -182,20 +146,10 @@ mute_turn : (c : Choice) (x : State) (t : Token) (s : List State) (fed : Fed) (p
     → KeptInside t.body t.start_mark (open_in (x ∷ s)) ((taken_at x t).above ++ s))
     → Agree (document_directives past) ds → Stepped past ds t fed
     → Stepped past ds t (turn c x t s fed)
-mute_turn (Refuse p o) x t s fed past ds e h i m k a r = tt
-mute_turn Take x t s fed past ds e h i m k a r =
-    stepped_given past ds t (taken_at x t).item (taken_at x t).above s (taken_quiet x t m) (inside_read past ds t (open_in (x ∷ s)) ((taken_at x t).above ++ s) (k e) a)
-mute_turn Leave x t s fed past ds e h i m k a r = stepped_with past ds t (left_at x t.start_mark) fed (left_quiet x t.start_mark m) r
-mute_turn Open x t s fed past ds e h i m k a r = absurd (not_first x h i)
+mute_turn c x t s fed past ds e h i m k a r = grind (arith, stepped_given, taken_quiet, inside_read, stepped_with, left_quiet, not_first)
 
 pub plain_mute : (x : State) → told x ≡ other → IsInner x → IsMute x
-plain_mute state.stream e h = absurd h
-plain_mute state.first e h = absurd h
-plain_mute state.documents e h = absurd h
-plain_mute (state.directives from) e h = absurd h
-plain_mute state.document_end e h = absurd h
-plain_mute (state.with_properties w p) e h = cc
-plain_mute _ e h = tt
+plain_mute x e h = grind arith
 
 at_end_stepped : (x : State) (s : List State) (t : Token) (past : List Token) (ds : Directives)
     → x ≡ state.document_end → s ≡ state.documents ∷ []

@@ -1,13 +1,13 @@
 -- One token, after properties too: the fault of a handle comes first.
-use Rattle.std.proofs.Common.{◌≡◌, Bool, true, false, if◌then◌else◌, ◌||◌, List, [], ◌∷◌, ◌++◌, Option, Some, None, refl, ap, sym, subst, ◌∙◌}
+use Rattle.std.proofs.Common.{◌≡◌, Bool, true, false, if◌then◌else◌, ◌||◌, List, [], ◌∷◌, ◌++◌, Option, Some, None, ap, sym, subst, ◌∙◌, arith, refl}
 use Rattle.yaml_parse_laws_trees.proofs.Words.{yaml_mark_t, Token, TokenBody, type_of, Fault, Wants, Take, Leave, RawEvent, Properties, State, IsInner, IsInside, IsStack, joins, starts_content, choice_at, with_properties_taken, Fed, stop, go, with_item, given_by, turn, feed, Directives, no_directives, settle, NodeTag, directives_before, document_directives, ended_tag, handle_fault, tag_fault, properties_alone, false≢true}
 use Rattle.yaml_parse_model.specs.scan_types.Tokens as token
 use Rattle.yaml_parse_laws_trees.specs.parse_grammar.Items as item
 use Rattle.yaml_parse_laws_trees.specs.parse_grammar.States as state
-use Rattle.yaml_parse_laws_trees.proofs.FaultsStanding.{open_in, nothing, property, directive, other, last_of, last_in, told, Plain, Nested}
+use Rattle.yaml_parse_laws_trees.proofs.FaultsStanding.{nothing, property, directive, other, last_of, last_in, told, Plain, Nested, open_in}
 use Rattle.yaml_parse_laws_trees.proofs.Keeping.{inside_kept}
 use Rattle.yaml_parse_laws_trees.proofs.Settling.{Done, bad, fine, then_read, read_all, IsMute, Agree, tag_in, by_fault}
-use Rattle.yaml_parse_laws_trees.proofs.Properties.{PropsOf, PropsTop, ended, joined, props_read, HasFault, content_read}
+use Rattle.yaml_parse_laws_trees.proofs.Properties.{PropsOf, PropsTop, ended, props_read, HasFault, content_read, joined}
 use Rattle.yaml_parse_laws_trees.proofs.Stepping.{Dirs, StepRead, Stepped, Within, within, mute_stepped, no_directives_before, none_before, inside_read, stream_stepped, first_stepped, documents_stepped, directives_stepped, plain_mute}
 
 -- the step, by the fault of a handle that the token meets
@@ -20,15 +20,7 @@ Step past ds t None fed = Stepped past ds t fed
 
 pub no_ended : (past : List Token) (b : TokenBody) → (last_in past ≡ property → ⊥)
     → ended_tag past b ≡ None
-no_ended [] b h = refl
-no_ended (t ∷ past) b h = none t.body h
-  where
-    none : (c : TokenBody) → (last_of c ≡ property → ⊥)
-        → ended_tag (record { body = c; start_mark = t.start_mark; end_mark = t.end_mark } ∷ past) b
-        ≡ None
-    none (token.anchor name) h = absurd (h refl)
-    none (token.tag handle suffix) h = absurd (h refl)
-    none _ h = refl
+no_ended past b h = grind (arith, last_of)
 
 pub no_handle : (past : List Token) (b : TokenBody) → ended_tag past b ≡ None
     → handle_fault past b ≡ None
@@ -57,20 +49,16 @@ faulty_given : (past : List Token) (ds : Directives) (t : Token) (f : Option Fau
     (i : Option RawEvent) (above s : List State) → HasFault i f ds
     → StepRead past t (fine ds) (above ++ s)
     → Step past ds t f (given_by (record { item = i; above = above }) s)
-faulty_given past ds t f None above s q h = absurd q
-faulty_given past ds t f (Some i) above s q h = faulty past ds t f i (go [] (above ++ s)) q h
+faulty_given past ds t f i above s q h = grind (arith, faulty)
 
 quiet_given : (past : List Token) (ds : Directives) (t : Token) (i : Option RawEvent)
     (above s : List State) → i ≡ None → StepRead past t (fine ds) (above ++ s)
     → Stepped past ds t (given_by (record { item = i; above = above }) s)
-quiet_given past ds t None above s q h = h
-quiet_given past ds t (Some i) above s q h = cc
+quiet_given past ds t i above s q h = grind arith
 
 joining : (w : Wants) (p : Properties) (start end : yaml_mark_t) (b : TokenBody)
     → joins p (type_of b) ≡ true → (with_properties_taken w p start end b).item ≡ None
-joining w p start end (token.anchor name) j = refl
-joining w p start end (token.tag handle suffix) j = refl
-joining w p start end _ j = absurd (false≢true j)
+joining w p start end b j = grind (arith, false≢true)
 
 not_joining : (w : Wants) (p : Properties) (start end : yaml_mark_t) (b : TokenBody)
     (ts : List Token) (ds : Directives) → starts_content w (type_of b) ≡ true → Agree ts ds
@@ -127,18 +115,14 @@ properties_step w p (y ∷ s) t past ds i pl n a b h =
 alone_step : (x : State) (s : List State) (t : Token) (past : List Token) (ds : Directives) → s ≡ []
     → told x ≡ last_in past → (told x ≡ property → ⊥) → Stepped past ds t (feed (x ∷ []) t)
     → Step past ds t (handle_fault past t.body) (feed (x ∷ s) t)
-alone_step x s t past ds e l n h =
-    subst (λ (z : List State). Step past ds t (handle_fault past t.body) (feed (x ∷ z) t)) (sym e)
-    (quiet_step past ds t (feed (x ∷ []) t) (no_handle past t.body (no_ended past t.body (λ k. n (l ∙ k)))) h)
+alone_step x s t past ds e l n h = grind (arith, quiet_step, no_handle, no_ended)
 
 inside_step : (x : State) (s : List State) (t : Token) (past : List Token) (ds : Directives)
     → Within x s → (IsInner x → IsMute x) → Plain s → Nested (x ∷ s)
     → Agree (document_directives past) ds → told x ≡ last_in past
     → (told x ≡ property → ⊥) → (told x ≡ directive → ⊥)
     → Step past ds t (handle_fault past t.body) (feed (x ∷ s) t)
-inside_step x s t past ds i m pl n a l p d =
-    quiet_step past ds t (feed (x ∷ s) t) (no_handle past t.body (no_ended past t.body (λ k. p (l ∙ k))))
-    (mute_stepped x s t past ds i m pl n a (none_before past (λ k. d (l ∙ k))))
+inside_step x s t past ds i m pl n a l p d = grind (arith, quiet_step, no_handle, no_ended, mute_stepped, none_before)
 
 none_agreeing : (past : List Token) (ds : Directives) → (last_in past ≡ directive → ⊥)
     → Agree (directives_before past) ds → Agree [] ds

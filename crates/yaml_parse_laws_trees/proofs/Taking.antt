@@ -1,6 +1,6 @@
 -- What a stack waits for, after a token; and the reading of what a step gives.
-use Rattle.std.proofs.Common.{◌≡◌, ℕ, true, List, [], ◌∷◌, ◌++◌, map, Option, Some, None, refl, sym, subst}
-use Rattle.yaml_parse_laws_trees.proofs.Words.{yaml_token_type_t, Token, type_of, no_token, Fault, Root, Choice, Refuse, Take, Leave, Open, RawEvent, item_at, State, IsInside, IsStack, Given, choice_at, taken_at, left_at, Fed, stop, go, with_item, given_by, turn, feed, Directives, Settled, refused, gave, noted, settle, Reading, reading, unasked_at_fault, MayLeave, leave_rule, none_opens}
+use Rattle.std.proofs.Common.{◌≡◌, ℕ, true, List, [], ◌∷◌, ◌++◌, map, Option, Some, refl, sym, subst, arith}
+use Rattle.yaml_parse_laws_trees.proofs.Words.{yaml_token_type_t, Token, type_of, no_token, Fault, Root, Choice, Refuse, Take, Leave, Open, RawEvent, item_at, State, IsInside, IsStack, Given, choice_at, taken_at, left_at, Fed, stop, go, with_item, given_by, turn, feed, Directives, Settled, settle, Reading, reading, unasked_at_fault, MayLeave, leave_rule, none_opens}
 use Rattle.yaml_parse_laws_trees.specs.parse_grammar.parse_model.declared.yaml_token_type_t.TheVariants as kind
 use Rattle.yaml_parse_laws_trees.specs.parse_grammar.Items as item
 use Rattle.yaml_parse_laws_trees.specs.parse_grammar.States as state
@@ -32,18 +32,10 @@ inside_solid (state.document_end ∷ s) h = subst Solid (sym h) tt
 inside_solid (_ ∷ s) h = inside_solid s h.1
 
 pub stack_solid : (x : State) (s : List State) → IsStack (x ∷ s) → Solid (x ∷ s)
-stack_solid state.stream s h = tt
-stack_solid state.first s h = tt
-stack_solid state.documents s h = tt
-stack_solid (state.directives from) s h = tt
-stack_solid x s h = inside_solid (x ∷ s) h
+stack_solid x s h = grind (arith, inside_solid)
 
 pub solid_left : (x : State) (k : yaml_token_type_t) (A : Type 0) → MayLeave x k → SolidAt x A → A
-solid_left state.stream k A l h = absurd l
-solid_left state.first k A l h = absurd l
-solid_left state.documents k A l h = absurd l
-solid_left (state.directives from) k A l h = absurd l
-solid_left _ k A l h = h
+solid_left x k A l h = grind arith
 
 -- ---- what the stack after a token waits for, after the token, is what the stack before it waits for
 
@@ -53,15 +45,13 @@ Takes P s t (go is s') = (ts : List Token) → Over s' P ts → Over s P (t ∷ 
 
 takes_with : (P : List Token → Type 0) (s : List State) (t : Token) (i : RawEvent) (fed : Fed)
     → Takes P s t fed → Takes P s t (with_item i fed)
-takes_with P s t i (stop is e) h = tt
-takes_with P s t i (go is s') h = h
+takes_with P s t i fed h = grind arith
 
 takes_given : (P : List Token → Type 0) (x : State) (i : Option RawEvent) (above s : List State)
     (t : Token) (below : List State)
     → ((ts : List Token) → Over above (Over below P) ts → Left x (Over s P) (t ∷ ts))
     → Takes P (x ∷ s) t (given_by (record { item = i; above = above }) below)
-takes_given P x None above s t below h = λ ts k. h ts (subst (λ (Q : List Token → Type 0). Q ts) (over_both above below P) k)
-takes_given P x (Some i) above s t below h = λ ts k. h ts (subst (λ (Q : List Token → Type 0). Q ts) (over_both above below P) k)
+takes_given P x i above s t below h = grind (arith, over_both)
 
 takes_left : (P : List Token → Type 0) (x : State) (s : List State) (t : Token) (fed : Fed)
     → choice_at x (type_of t.body) ≡ Leave → Takes P s t fed → Takes P (x ∷ s) t fed
@@ -92,16 +82,12 @@ Stops (stop is e) = Unit {0}
 Stops (go is s) = ⊥
 
 stops_with : (i : RawEvent) (fed : Fed) → Stops fed → Stops (with_item i fed)
-stops_with i (stop is e) h = tt
-stops_with i (go is s) h = h
+stops_with i fed h = grind arith
 
 stops_turn : (c : Choice) (x : State) (s : List State) (fed : Fed)
     → choice_at x kind.YAML_NO_TOKEN ≡ c → (choice_at x kind.YAML_NO_TOKEN ≡ Leave → Stops fed)
     → Stops (turn c x no_token s fed)
-stops_turn (Refuse p o) x s fed e h = tt
-stops_turn Take x s fed e h = absurd (takes_a_token x e)
-stops_turn Leave x s fed e h = stops_with (left_at x no_token.start_mark) fed (h e)
-stops_turn Open x s fed e h = absurd (none_opens x e)
+stops_turn c x s fed e h = grind (arith, takes_a_token, stops_with, none_opens)
 
 pub stops_at_none : (s : List State) → Solid s → Stops (feed s no_token)
 unfolding feed
@@ -118,9 +104,7 @@ number_of (fine ds) left k = k ds
 one_number : (c : Settled) (left : ℕ) (k : Directives → ℕ) (l : Directives → Done)
     (m : Directives → ℕ) → ((ds : Directives) → k ds ≡ number_of (l ds) left m)
     → resolve.unasked_on c left k ≡ number_of (then_read c l) left m
-one_number (refused e) left k l m h = refl
-one_number (gave b ds) left k l m h = h ds
-one_number (noted ds) left k l m h = h ds
+one_number c left k l m h = grind arith
 
 pub front_number : (is : List RawEvent) (left : ℕ) (gs : List Given) (n : ℕ) (ds : Directives)
     → unasked_at_fault (map (λ (i : RawEvent). (i, left)) is ++ gs) n ds
@@ -132,9 +116,7 @@ front_number (i ∷ is) left gs n ds =
 
 one_last : (c : Settled) (left : ℕ) (k : Directives → ℕ) → ((ds : Directives) → k ds ≡ left)
     → resolve.unasked_on c left k ≡ left
-one_last (refused e) left k h = refl
-one_last (gave b ds) left k h = h ds
-one_last (noted ds) left k h = h ds
+one_last c left k h = grind arith
 
 pub last_number : (is : List RawEvent) (left : ℕ) (ds : Directives)
     → unasked_at_fault (map (λ (i : RawEvent). (i, left)) is) left ds ≡ left
@@ -150,9 +132,7 @@ one_read : (c : Settled) (i : RawEvent) (left : ℕ) (k : Directives → Reading
     (l : Directives → Done) (m : Directives → Option Fault)
     → ((ds : Directives) → (k ds).ending ≡ ending_of (l ds) m)
     → (resolve.read_on c i left k).ending ≡ ending_of (then_read c l) m
-one_read (refused e) i left k l m h = refl
-one_read (gave b ds) i left k l m h = h ds
-one_read (noted ds) i left k l m h = h ds
+one_read c i left k l m h = grind arith
 
 pub front_read : (is : List RawEvent) (left : ℕ) (gs : List Given) (f : Option Fault)
     (ds : Directives)

@@ -1,5 +1,5 @@
 -- What a state still gives: the events of a part of some documents, and what follows them.
-use Rattle.std.proofs.Common.{◌≡◌, ℕ, Bool, true, false, List, [], ◌∷◌, ◌++◌, Option, Some, None, refl, sym, ap, subst, ◌∙◌}
+use Rattle.std.proofs.Common.{◌≡◌, ℕ, Bool, true, false, List, [], ◌∷◌, ◌++◌, Option, Some, None, refl, sym, ap, subst, ◌∙◌, arith}
 use Rattle.yaml_parse_laws_trees.proofs.Words.{yaml_mark_t, yaml_encoding_t, YAML_ANY_ENCODING, yaml_token_type_t, yaml_version_directive_t, Token, TokenBody, type_of, zero_mark, Event, EventBody, TagDirective, RawEvent, RawEventBody, Properties, Shape, State, choice_at, taken_at, documents_taken, content_taken, node_taken, lone_below, left_at, wants_of, placed, spanning, Contents, alias, scalar, sequence, mapping, no_items, item, no_pairs, pair, events, item_events, pair_events, DocumentContent, document_events, Head, MayLeave, opens_first, was_take}
 use Rattle.yaml_parse_model.specs.scan_types.Tokens as token
 use Rattle.yaml_parse_laws_trees.specs.parse_grammar.parse_model.Events as event
@@ -137,14 +137,11 @@ FitsIf (Some i) Y X = Fits i Y X
 
 body_fits_on : (b : RawEventBody) (i : RawEvent) (Y X Z : List Event → Type 0) → FitsBody b i Y X
     → ((es : List Event) → X es → Z es) → FitsBody b i Y Z
-body_fits_on (item.document implicit) i Y X Z h k = λ v ds es y. k _ (h v ds es y)
-body_fits_on (item.node anchor tag shape) i Y X Z h k = λ b s es y. k _ (h b s es y)
-body_fits_on _ i Y X Z h k = λ es y. k _ (h es y)
+body_fits_on b i Y X Z h k = grind arith
 
 fits_on : (i : Option RawEvent) (Y X Z : List Event → Type 0) → FitsIf i Y X
     → ((es : List Event) → X es → Z es) → FitsIf i Y Z
-fits_on None Y X Z h k = λ es y. k es (h es y)
-fits_on (Some i) Y X Z h k = body_fits_on i.body i Y X Z h k
+fits_on i Y X Z h k = grind (arith, body_fits_on)
 
 -- ---- parts of parts
 
@@ -256,8 +253,7 @@ no_more_pairs from to P es h = record { part = (no_pairs, span from to); rest = 
 
 lone_fits : (b : Brackets) (o : yaml_mark_t) (P : List Event → Type 0) (es : List Event)
     → Node (Over (lone_below b (state.more b o ∷ [])) P) es → InBrackets b P es
-lone_fits brackets.Sequence o P es h = item_more P es h
-lone_fits brackets.Mapping o P es h = pair_more P es h
+lone_fits b o P es h = grind (arith, item_more, pair_more)
 
 taking_fits_by : (x : State) (start end : yaml_mark_t) (b : TokenBody) (P : List Event → Type 0)
     → choice_at x (type_of b) ≡ Take

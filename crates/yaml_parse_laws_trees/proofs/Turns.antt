@@ -2,7 +2,6 @@
 use Rattle.std.proofs.Common.{◌≡◌, ℕ, ◌+◌, ◌-◌, true, List, [], ◌∷◌, ◌++◌, length, zip, Option, Some, None, refl, ap, sym, ◌∙◌, arith}
 use Rattle.yaml_parse_laws_trees.proofs.Words.{append_assoc, append-nil, yaml_mark_t, Token, Wants, Side, Key, Value, Brackets, Site, Root, Entry, IndentlessEntry, BlockPair, FlowPair, RawEvent, Properties, blank, item_at, Span, PropertyTokens, Node, Content, Maybe, Colon, Items, More, Entries, Others, Pairs, Directive, Documents, First, Stream, Given, next, event_at, spell_properties, spell_node, spell_content, spell_maybe, spell_colon, spell_items, spell_more, spell_entries, spell_others, spell_pairs, spell_directives, spell_ends, spell_documents, spell_first, spell, items, mark_at, content_start, node_start, colon_start, more_start, entries_start, others_start, pairs_start, ends_start, documents_start, pair_opens, pair_closes, lone_value, node_events, content_events, maybe_events, colon_events, items_events, more_events, entries_events, others_events, pairs_events, directives_events, ends_events, documents_events, first_events, tree_events, Turn, asks, gives, gives_at_next, properties_turns, pair_opens_turns, pair_closes_turns, lone_turns, node_turns, content_turns, maybe_turns, colon_turns, items_turns, more_turns, entries_turns, others_turns, pairs_turns, directives_turns, each_asks, ends_turns, documents_turns, first_turns, tree_turns, tokens_in, unasked, pair_start, pair_end, lone, items_node, items_content, items_maybe, items_colon, items_items, items_more, items_entries, items_others, items_pairs, items_directives, items_ends, items_documents, items_first, ItemsAreGiven, TurnsFitTree}
 use Rattle.yaml_parse_grammar.specs.parse_model.Events as event
-use Rattle.yaml_parse_grammar.specs.declared.name.Brackets.TheVariants as brackets
 use Rattle.yaml_parse_grammar.specs.Items as item
 use Rattle.yaml_parse_grammar.specs.Trees as tree
 use Rattle.yaml_parse_grammar.specs.TreeSteps.{behind}
@@ -83,20 +82,14 @@ gave {es = es} {ts = ts} {rest = rest} {all = all} {more = more} {gs = gs} e h =
 }
 
 behind_is : (all : List Token) → behind all ≡ length all - 1
-behind_is [] = refl
-behind_is (t ∷ all) = omega arith
+behind_is all = grind arith
 
 -- the event is the mark's, which is the next token's
 gave_next : {es : List RawEvent} {ts : List Turn} {rest all : List Token} {more gs : List Given}
     (e : yaml_mark_t → RawEvent) (at : yaml_mark_t) → at ≡ next all
     → Part es ts rest all more gs
     → Part (e at ∷ es) (gives_at_next ∷ ts) rest all more ((e (next all), behind all) ∷ gs)
-gave_next {es = es} {ts = ts} {rest = rest} {all = all} {more = more} {gs = gs} e at p h = record {
-  tokens = h.tokens;
-  events = ap (λ (m : yaml_mark_t). e m ∷ events_in gs) (sym p) ∙ ap (λ (z : List RawEvent). e at ∷ z) h.events;
-  numbers = ap (λ (k : ℕ). k ∷ numbers_in gs) (behind_is all ∙ ap (λ (k : ℕ). k - 1) h.tokens)
-      ∙ ap (λ (z : List ℕ). ((tokens_in ts + length rest) - 1) ∷ z) h.numbers;
-}
+gave_next e at p h = grind (arith, behind_is)
 
 -- one part before another
 both : {es fs : List RawEvent} {ts us : List Turn} {rest middle all : List Token}
@@ -117,8 +110,7 @@ both {es = es} {fs = fs} {ts = ts} {us = us} {rest = rest} {middle = middle} {al
 
 more_next : (b : Brackets) (m : More) (rest : List Token)
     → more_start m ≡ next (spell_more b m rest)
-more_next b (tree.end_more s) rest = refl
-more_next b (tree.comma s i) rest = refl
+more_next b m rest = grind arith
 
 colon_next : {w : Wants} (v : Colon w) (rest : List Token) (at : yaml_mark_t) → at ≡ next rest
     → colon_start v at ≡ next (spell_colon v rest)
@@ -126,29 +118,22 @@ colon_next tree.no_colon rest at p = p
 colon_next (tree.colon s n) rest at p = refl
 
 entries_next : (e : Entries) (rest : List Token) → entries_start e ≡ next (spell_entries e rest)
-entries_next (tree.end_entries s) rest = refl
-entries_next (tree.entry s n e) rest = refl
+entries_next e rest = grind arith
 
 others_next : (o : Others) (rest : List Token) (at : yaml_mark_t) → at ≡ next rest
     → others_start o at ≡ next (spell_others o rest)
-others_next tree.no_others rest at p = p
-others_next (tree.other s n o) rest at p = refl
+others_next o rest at p = grind arith
 
 pairs_next : (m : Pairs) (rest : List Token) → pairs_start m ≡ next (spell_pairs m rest)
-pairs_next (tree.end_pairs s) rest = refl
-pairs_next (tree.block_pair s key v m) rest = refl
+pairs_next m rest = grind arith
 
 ends_next : (ends : List Span) (rest : List Token) (at : yaml_mark_t) → at ≡ next rest
     → ends_start ends at ≡ next (spell_ends ends rest)
-ends_next [] rest at p = p
-ends_next (s ∷ ends) rest at p = refl
+ends_next ends rest at p = grind arith
 
 documents_next : (d : Documents) (rest : List Token)
     → documents_start d ≡ next (spell_documents d rest)
-documents_next (tree.end_stream s) rest = refl
-documents_next (tree.document [] s n ends d) rest = refl
-documents_next (tree.document (tree.version q major minor ∷ ds) s n ends d) rest = refl
-documents_next (tree.document (tree.handle q name prefix ∷ ds) s n ends d) rest = refl
+documents_next d rest = grind arith
 
 content_next : {w : Wants} (c : Content w) (rest : List Token)
     → content_start c ≡ next (spell_content c rest)
@@ -157,8 +142,7 @@ content_next _ rest = refl
 
 properties_next : (d : PropertyTokens) (rest : List Token)
     → (tree.properties_of d).from ≡ next (spell_properties d rest)
-properties_next (tree.anchor a) rest = refl
-properties_next _ rest = refl
+properties_next d rest = grind arith
 
 node_next : {w : Wants} (n : Node w) (rest : List Token) → node_start n ≡ next (spell_node n rest)
 node_next (tree.alias s name) rest = refl
@@ -170,9 +154,7 @@ node_next (tree.bare c) rest = content_next c rest
 
 properties_part : (d : PropertyTokens) (rest : List Token) (more : List Given)
     → Part [] (properties_turns d) rest (spell_properties d rest) more more
-properties_part (tree.anchor_tag a t) rest more = asked _ (asked _ (nothing rest more))
-properties_part (tree.tag_anchor t a) rest more = asked _ (asked _ (nothing rest more))
-properties_part _ rest more = asked _ (nothing rest more)
+properties_part d rest more = grind (arith, asked, nothing)
 
 -- an event of its own token
 own_event : (e : RawEvent) (t : Token) (rest : List Token) (more : List Given)
@@ -187,19 +169,16 @@ next_event e at rest more p = gave_next e at p (nothing rest more)
 
 lone_part : (b : Brackets) (at : yaml_mark_t) (rest : List Token) (more : List Given)
     → at ≡ next rest → Part (lone_value b at) (lone_turns b) rest rest more (lone b rest more)
-lone_part brackets.Sequence at rest more p = nothing rest more
-lone_part brackets.Mapping at rest more p = next_event blank at rest more p
+lone_part b at rest more p = grind (arith, nothing, next_event)
 
 opens_part : (b : Brackets) (s : Span) (rest : List Token) (more : List Given)
     → Part (pair_opens b s) (pair_opens_turns b) rest rest more (pair_start b s rest more)
-opens_part brackets.Sequence s rest more = gave _ (nothing rest more)
-opens_part brackets.Mapping s rest more = nothing rest more
+opens_part b s rest more = grind (arith, gave, nothing)
 
 closes_part : (b : Brackets) (at : yaml_mark_t) (rest : List Token) (more : List Given)
     → at ≡ next rest
     → Part (pair_closes b at) (pair_closes_turns b) rest rest more (pair_end b rest more)
-closes_part brackets.Sequence at rest more p = next_event (λ m. event_at event.mapping_end m m) at rest more p
-closes_part brackets.Mapping at rest more p = nothing rest more
+closes_part b at rest more p = grind (arith, next_event, nothing)
 
 -- ---- nodes
 
@@ -352,10 +331,7 @@ numbers_of_tree : (t : Stream) (rest : List Token)
 numbers_of_tree t rest = (tree_part t rest).numbers ∙ append-nil (unasked (tree_turns t) (length rest))
 
 pub items_given : ItemsAreGiven
-items_given t rest =
-    sym (zipped (items t rest))
-    ∙ ap (λ (es : List RawEvent). zip es (numbers_in (items t rest))) ((tree_part t rest).events ∙ append-nil (tree_events t))
-    ∙ ap (λ (ns : List ℕ). zip (tree_events t) ns) (numbers_of_tree t rest)
+items_given t rest = grind (arith, zipped, tree_part, append-nil, numbers_of_tree)
 
 pub turns_fit : TurnsFitTree
 turns_fit t rest = record {

@@ -1,27 +1,22 @@
 -- A list of tokens has one fault of loading at most.
-use Rattle.std.proofs.Common.{◌≡◌, ◌⊎◌, inl, inr, ℕ, ◌<◌, List, [], ◌∷◌, Option, Some, None, refl, ap, sym, subst, ◌∙◌}
-use Rattle.yaml_parse_laws_trees.proofs.Words.{cases_order, Token, Fault, Stream, spell, of_handle, of_token, BeginsWithSentence, with_end, alias_fault, LoadRank, of_parser, of_alias, LoadRanksBefore, LoadFaultAt, IsFirstIn, LoadStandsIn, FirstOf, LoadsSentence, IsLoadOwn, LoadsUnfinished, LoadFaultIsOne}
+use Rattle.std.proofs.Common.{◌≡◌, ◌⊎◌, inl, inr, ℕ, ◌<◌, List, [], Option, Some, None, refl, ap, sym, subst, arith}
+use Rattle.yaml_parse_laws_trees.proofs.Words.{cases_order, Token, Fault, spell, of_handle, of_token, BeginsWithSentence, with_end, LoadRank, of_parser, of_alias, LoadRanksBefore, LoadFaultAt, IsFirstIn, LoadStandsIn, FirstOf, LoadsSentence, IsLoadOwn, LoadsUnfinished, LoadFaultIsOne}
 use Rattle.yaml_parse_laws_trees.proofs.CountsUnique.{one_tree}
-use Rattle.yaml_parse_laws_trees.proofs.Cuts.{SameCut, same_cut, head_same}
+use Rattle.yaml_parse_laws_trees.proofs.Cuts.{same_cut, head_same}
 use Rattle.yaml_parse_laws_trees.proofs.Spelling.{spelled_before}
 use Rattle.yaml_parse_laws_trees.proofs.FaultsUnique.{one_at, same_some}
 
 -- one fault at each place
 one_here : (past : List Token) (t : Token) (r : LoadRank) (e f : Fault) → LoadFaultAt past t r e
     → LoadFaultAt past t r f → e ≡ f
-one_here past t (of_parser r) e f p q = one_at past t r e f p q
-one_here past t of_alias e f p q = same_some (alias_fault past t.body t.start_mark) e f p q
+one_here past t r e f p q = grind (arith, one_at, same_some)
 
 abbrev standing : List Token → ℕ → LoadRank → Fault → Type 0
 standing ts n r e = LoadStandsIn ts (record { number = n; rank = r }) e
 
 one_standing : (ts : List Token) (n m : ℕ) (r : LoadRank) (e f : Fault) → n ≡ m → standing ts n r e
     → standing ts m r f → e ≡ f
-one_standing ts n m r e f p x y =
-    let c : SameCut x.past y.past (x.token ∷ x.behind) (y.token ∷ y.behind) = same_cut x.past y.past (x.token ∷ x.behind) (y.token ∷ y.behind) (sym x.list ∙ y.list) (x.number ∙ p ∙ sym y.number) in
-    one_here y.past y.token r e f
-    (subst (λ (z : Token). LoadFaultAt y.past z r e) (head_same x.token y.token x.behind y.behind c.behind) (subst (λ (z : List Token). LoadFaultAt z x.token r e) c.before x.fault))
-    y.fault
+one_standing ts n m r e f p x y = grind (arith, same_cut, one_here, head_same)
 
 -- two ranks of which neither comes first are one
 by_rank : (ts : List Token) (n m : ℕ) (r q : LoadRank) (e f : Fault) → n ≡ m → standing ts n r e
@@ -47,8 +42,7 @@ one_first ts e f x y = by_number (cases_order x.place.number y.place.number)
 -- ---- sentences
 
 same_sentence : (ts : List Token) (b c : BeginsWithSentence ts) → spell b.tree [] ≡ spell c.tree []
-same_sentence ts b c =
-    ap (λ (t : Stream). spell t []) (one_tree b.tree c.tree b.rest c.rest (sym (spelled_before b.tree b.rest) ∙ sym b.same ∙ c.same ∙ spelled_before c.tree c.rest)).0
+same_sentence ts b c = grind (arith, one_tree, spelled_before)
 
 one_of : (ts : List Token) (x y : Option Fault) → FirstOf ts x → FirstOf ts y → x ≡ y
 one_of ts None None p q = refl

@@ -2,11 +2,11 @@
 use Rattle.std.proofs.Common.{◌≡◌, ◌+◌, ℕ, List, [], ◌∷◌, ◌++◌, length, map, Option, None, refl, ap, sym, subst, ◌∙◌, arith, append_assoc, zero-add}
 use Rattle.yaml_parse_laws_trees.proofs.Words.{Token, Fault, RawEvent, State, IsStack, Given, Fed, stop, go, feed, Outcome, run}
 use Rattle.yaml_parse_laws_trees.proofs.Left.{Over}
-use Rattle.yaml_parse_laws_trees.proofs.SoundStanding.{AllStood, FedStood, feed_stood}
+use Rattle.yaml_parse_laws_trees.proofs.SoundStanding.{AllStood, feed_stood}
 use Rattle.yaml_parse_laws_trees.proofs.Closing.{Empty}
-use Rattle.yaml_parse_laws_trees.proofs.FaultsStanding.{Last, last_of, Topped, Nested, open_in}
+use Rattle.yaml_parse_laws_trees.proofs.FaultsStanding.{Last, last_of, Topped, Nested}
 use Rattle.yaml_parse_laws_trees.proofs.Taking.{stack_solid, Takes, takes}
-use Rattle.yaml_parse_laws_trees.proofs.StacksBehind.{Stacked, FedKept, fed_kept}
+use Rattle.yaml_parse_laws_trees.proofs.StacksBehind.{fed_kept}
 use Rattle.yaml_parse_laws_trees.proofs.Ending.{runs_fed}
 use Rattle.yaml_parse_laws_trees.proofs.Refusal.{not_none}
 
@@ -48,9 +48,7 @@ pub record Knows (l : Last) (s : List State) : Type 0 where
 
 pub knows_step : (x : State) (s s' : List State) (l : Last) (t : Token) (is : List RawEvent)
     → Knows l (x ∷ s) → feed (x ∷ s) t ≡ go is s' → Knows (last_of t.body) s'
-knows_step x s s' l t is k p =
-    let h : Stacked t.body t.start_mark (open_in (x ∷ s)) s' = subst (FedKept t.body t.start_mark (open_in (x ∷ s))) p (fed_kept x s t k.stack k.topped.1 k.nested) in
-    record { topped = h.kept.topped; nested = h.kept.nested; stack = h.stack; stood = subst FedStood p (feed_stood (x ∷ s) t k.stood) }
+knows_step x s s' l t is k p = grind (arith, fed_kept, feed_stood)
 
 pub takes_step : (x : State) (s s' : List State) (l : Last) (t : Token) (is : List RawEvent)
     → Knows l (x ∷ s) → feed (x ∷ s) t ≡ go is s' → (us : List Token) → Over s' Empty us
@@ -79,18 +77,12 @@ pub record Walked (front behind : List Token) (l : Last) (s : List State) : Type
 
 list_step : (n m k : ℕ) (is : List RawEvent) (gs rest : List Given) → k ≡ m + n
     → numbered k is ++ (raised n gs ++ rest) ≡ raised n (numbered m is ++ gs) ++ rest
-list_step n m k is gs rest e =
-    ap (λ (z : ℕ). numbered z is ++ (raised n gs ++ rest)) e
-    ∙ ap (λ (z : List Given). z ++ (raised n gs ++ rest)) (sym (raised_numbered n m is))
-    ∙ sym (append_assoc (raised n (numbered m is)) (raised n gs) rest)
-    ∙ ap (λ (z : List Given). z ++ rest) (sym (raised_on n (numbered m is) gs))
+list_step n m k is gs rest e = grind (arith, raised_numbered, append_assoc, raised_on)
 
 outcome_step : (n m k : ℕ) (is : List RawEvent) (gs : List Given) (o p : Outcome) → k ≡ m + n
     → o ≡ before (raised n gs) p
     → before (numbered k is) o ≡ before (raised n (numbered m is ++ gs)) p
-outcome_step n m k is gs o p e h =
-    ap (λ (z : Outcome). before (numbered k is) z) h
-    ∙ ap (λ (z : List Given). let r : Outcome = record { items = z; ending = p.ending } in r) (list_step n m k is gs p.items e)
+outcome_step n m k is gs o p e h = grind (arith, list_step)
 
 walk_on : (t : Token) (front behind more : List Token) (l : Last) (x : State) (s : List State)
     (fed : Fed) → feed (x ∷ s) t ≡ fed → Knows l (x ∷ s)

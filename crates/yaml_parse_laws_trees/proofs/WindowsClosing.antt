@@ -1,13 +1,11 @@
 -- A stack has a state for each bracket that is open.
-use Rattle.std.proofs.Common.{◌≡◌, ℕ, ◌+◌, ◌-◌, Bool, true, false, ◌||◌, if◌then◌else◌, List, [], ◌∷◌, ◌++◌, Some, None, refl, sym, ap, subst, ◌∙◌, arith}
+use Rattle.std.proofs.Common.{◌≡◌, ℕ, ◌+◌, ◌-◌, true, false, ◌||◌, List, [], ◌∷◌, ◌++◌, arith, refl, sym, subst}
 use Rattle.std.proofs.lemmas.Bool.{true≢false}
-use Rattle.yaml_parse_laws_trees.proofs.WindowsWords.{yaml_mark_t, Token, TokenBody, type_of, Flow, Block, Refuse, Take, Leave, Open, Choice, ParseProblem, Root, RawEvent, Directives, no_directives, State, starts_node, choice_at, taken_at, left_at, Fed, stop, go, with_item, turn, feed}
-use Rattle.yaml_parse_grammar.specs.scan_types.Tokens as token
-use Rattle.yaml_parse_grammar.specs.declared.Brackets.TheVariants as brackets
+use Rattle.yaml_parse_laws_trees.proofs.WindowsWords.{no_directives, yaml_mark_t, Token, TokenBody, type_of, Refuse, Take, Leave, Open, Choice, Root, RawEvent, Directives, State, starts_node, choice_at, taken_at, Fed, stop, go, with_item, turn, feed}
 use Rattle.yaml_parse_grammar.specs.declared.Wants.{Wants}
 use Rattle.yaml_parse_grammar.specs.Items.{Properties}
 use Rattle.yaml_parse_grammar.specs.States as state
-use Rattle.yaml_parse_grammar.specs.Machine.{starts_content, follows, joins, wants_of, no_node, node_taken, with_properties_taken}
+use Rattle.yaml_parse_grammar.specs.Machine.{starts_content, joins, node_taken, with_properties_taken}
 use Rattle.yaml_parse_laws_trees.specs.Depths.{depth_after}
 use Rattle.yaml_parse_laws_trees.proofs.Grounding.{is_ground, Stands}
 use Rattle.yaml_parse_laws_trees.proofs.Noting.{within_stands}
@@ -55,118 +53,24 @@ Levels Open x t = Rises (taken_at (state.optional Root t.start_mark) t).above (w
 
 node_rises : (w : Wants) (b : TokenBody) (m e : yaml_mark_t) → starts_node w (type_of b) ≡ true
     → Rises (node_taken w m e b).above 0 b
-node_rises w token.flow_sequence_start m e h = opens
-node_rises w token.flow_mapping_start m e h = opens
-node_rises w token.flow_sequence_end m e h = absurd (true≢false (sym h))
-node_rises w token.flow_mapping_end m e h = absurd (true≢false (sym h))
-node_rises (Block (Some side)) token.block_entry m e h = λ n. refl
-node_rises (Block None) token.block_entry m e h = λ n. refl
-node_rises Flow token.block_entry m e h = λ n. refl
-node_rises w _ m e h = λ n. refl
+node_rises w b m e h = grind (arith, opens, true≢false)
 
 beside_rises : (w : Wants) (p : Properties) (b : TokenBody) (m e : yaml_mark_t)
     → (joins p (type_of b) || starts_content w (type_of b)) ≡ true
     → Rises (with_properties_taken w p m e b).above 0 b
-beside_rises w p token.flow_sequence_start m e h = opens
-beside_rises w p token.flow_mapping_start m e h = opens
-beside_rises w p token.flow_sequence_end m e h = absurd (true≢false (sym h))
-beside_rises w p token.flow_mapping_end m e h = absurd (true≢false (sym h))
-beside_rises (Block (Some side)) p token.block_entry m e h = λ n. refl
-beside_rises (Block None) p token.block_entry m e h = λ n. refl
-beside_rises Flow p token.block_entry m e h = λ n. refl
-beside_rises w p _ m e h = λ n. refl
+beside_rises w p b m e h = grind (arith, opens, true≢false)
 
 optional_levels : (place : _) (before : yaml_mark_t) (t : Token)
     → Levels (choice_at (state.optional place before) (type_of t.body)) (state.optional place before) t
-optional_levels place before t =
-    by (follows place (type_of t.body)) (starts_node (wants_of place) (type_of t.body)) (no_node (wants_of place)) (node_rises (wants_of place) t.body t.start_mark t.end_mark)
-  where
-    by : (a c : Bool) (p : ParseProblem)
-        → (c ≡ true → Rises (node_taken (wants_of place) t.start_mark t.end_mark t.body).above 0 t.body)
-        → Levels (if a then Leave else if c then Take else Refuse p None) (state.optional place before) t
-    by true c p h = (refl, refl)
-    by false true p h = h refl
-    by false false p h = tt
+optional_levels place before t = grind (arith, node_rises)
 
 beside_levels : (w : Wants) (p : Properties) (t : Token)
     → Levels (choice_at (state.with_properties w p) (type_of t.body)) (state.with_properties w p) t
-beside_levels w p t =
-    by (joins p (type_of t.body) || starts_content w (type_of t.body)) (beside_rises w p t.body t.start_mark t.end_mark)
-  where
-    by : (a : Bool)
-        → (a ≡ true → Rises (with_properties_taken w p t.start_mark t.end_mark t.body).above 0
-        t.body)
-        → Levels (if a then Take else Leave) (state.with_properties w p) t
-    by true h = h refl
-    by false h = (refl, refl)
+beside_levels w p t = grind (arith, beside_rises)
 
 levels_at_by : (x : State) (start end : yaml_mark_t) (b : TokenBody)
     → Levels (choice_at x (type_of b)) x (record { body = b; start_mark = start; end_mark = end })
-levels_at_by state.stream start end (token.stream_start encoding) = λ n. refl
-levels_at_by state.stream start end _ = tt
-levels_at_by state.first start end token.stream_end = λ n. refl
-levels_at_by state.first start end (token.version_directive major minor) = λ n. refl
-levels_at_by state.first start end (token.tag_directive handle prefix) = λ n. refl
-levels_at_by state.first start end token.document_start = λ n. refl
-levels_at_by state.first start end token.block_sequence_start = λ n. refl
-levels_at_by state.first start end token.block_mapping_start = λ n. refl
-levels_at_by state.first start end token.flow_sequence_start = opens
-levels_at_by state.first start end token.flow_mapping_start = opens
-levels_at_by state.first start end (token.alias name) = λ n. refl
-levels_at_by state.first start end (token.anchor name) = λ n. refl
-levels_at_by state.first start end (token.tag handle suffix) = λ n. refl
-levels_at_by state.first start end (token.scalar value style) = λ n. refl
-levels_at_by state.first start end _ = tt
-levels_at_by state.documents start end token.stream_end = λ n. refl
-levels_at_by state.documents start end (token.version_directive major minor) = λ n. refl
-levels_at_by state.documents start end (token.tag_directive handle prefix) = λ n. refl
-levels_at_by state.documents start end token.document_start = λ n. refl
-levels_at_by state.documents start end token.document_end = λ n. refl
-levels_at_by state.documents start end _ = tt
-levels_at_by (state.directives from) start end (token.version_directive major minor) = λ n. refl
-levels_at_by (state.directives from) start end (token.tag_directive handle prefix) = λ n. refl
-levels_at_by (state.directives from) start end token.document_start = λ n. refl
-levels_at_by (state.directives from) start end _ = tt
-levels_at_by (state.optional place before) start end b = optional_levels place before (record { body = b; start_mark = start; end_mark = end })
-levels_at_by state.document_end start end token.document_end = λ n. refl
-levels_at_by state.document_end start end _ = (refl, refl)
-levels_at_by (state.entries opener) start end token.block_entry = λ n. refl
-levels_at_by (state.entries opener) start end token.block_end = λ n. refl
-levels_at_by (state.entries opener) start end _ = tt
-levels_at_by (state.others side) start end token.block_entry = λ n. refl
-levels_at_by (state.others side) start end _ = (refl, refl)
-levels_at_by (state.pairs opener) start end token.key = λ n. refl
-levels_at_by (state.pairs opener) start end token.block_end = λ n. refl
-levels_at_by (state.pairs opener) start end _ = tt
-levels_at_by (state.colon place) start end token.value = λ n. refl
-levels_at_by (state.colon place) start end _ = (refl, refl)
-levels_at_by (state.with_properties w p) start end b = beside_levels w p (record { body = b; start_mark = start; end_mark = end })
-levels_at_by (state.items brackets.Sequence opener) start end token.key = λ n. refl
-levels_at_by (state.items brackets.Mapping opener) start end token.key = λ n. refl
-levels_at_by (state.items brackets.Sequence opener) start end token.flow_sequence_end = closes
-levels_at_by (state.items brackets.Mapping opener) start end token.flow_mapping_end = closes
-levels_at_by (state.items brackets.Sequence opener) start end token.flow_sequence_start = opens_within
-levels_at_by (state.items brackets.Mapping opener) start end token.flow_sequence_start = opens_within
-levels_at_by (state.items brackets.Sequence opener) start end token.flow_mapping_start = opens_within
-levels_at_by (state.items brackets.Mapping opener) start end token.flow_mapping_start = opens_within
-levels_at_by (state.items brackets.Sequence opener) start end (token.alias name) = λ n. refl
-levels_at_by (state.items brackets.Mapping opener) start end (token.alias name) = λ n. refl
-levels_at_by (state.items brackets.Sequence opener) start end (token.anchor name) = λ n. refl
-levels_at_by (state.items brackets.Mapping opener) start end (token.anchor name) = λ n. refl
-levels_at_by (state.items brackets.Sequence opener) start end (token.tag handle suffix) = λ n. refl
-levels_at_by (state.items brackets.Mapping opener) start end (token.tag handle suffix) = λ n. refl
-levels_at_by (state.items brackets.Sequence opener) start end (token.scalar value style) = λ n. refl
-levels_at_by (state.items brackets.Mapping opener) start end (token.scalar value style) = λ n. refl
-levels_at_by (state.items brackets.Sequence opener) start end _ = tt
-levels_at_by (state.items brackets.Mapping opener) start end _ = tt
-levels_at_by (state.more brackets.Sequence opener) start end token.flow_entry = λ n. refl
-levels_at_by (state.more brackets.Mapping opener) start end token.flow_entry = λ n. refl
-levels_at_by (state.more brackets.Sequence opener) start end token.flow_sequence_end = closes
-levels_at_by (state.more brackets.Mapping opener) start end token.flow_mapping_end = closes
-levels_at_by (state.more brackets.Sequence opener) start end _ = tt
-levels_at_by (state.more brackets.Mapping opener) start end _ = tt
-levels_at_by state.pair_end start end b = (refl, refl)
-levels_at_by state.lone start end b = (refl, refl)
+levels_at_by x start end b = grind (arith, opens, optional_levels, beside_levels, closes, opens_within)
 
 levels_at : (x : State) (t : Token) → Levels (choice_at x (type_of t.body)) x t
 levels_at x t = levels_at_by x t.start_mark t.end_mark t.body
@@ -180,8 +84,7 @@ IsLevel (go is s) b n = opened s ≡ depth_after b n
 
 item_level : (i : RawEvent) (x : Fed) (b : TokenBody) (n : ℕ) → IsLevel x b n
     → IsLevel (with_item i x) b n
-item_level i (stop is f) b n h = tt
-item_level i (go is s) b n h = h
+item_level i x b n h = grind arith
 
 none_in_front : (a n : ℕ) → a ≡ 0 → n ≡ a + n
 none_in_front a n e = omega (arith, e)
@@ -189,15 +92,7 @@ none_in_front a n e = omega (arith, e)
 turn_level : (c : Choice) (x : State) (t : Token) (s : List State) → Levels c x t
     → (is_ground x ≡ false → IsLevel (feed s t) t.body (opened s))
     → IsLevel (turn c x t s (feed s t)) t.body (weight x + opened s)
-turn_level (Refuse p o) x t s h below = tt
-turn_level Take x t s h below = opened_on (taken_at x t).above s ∙ h (opened s)
-turn_level Leave x t s h below =
-    let none : opened s ≡ weight x + opened s = none_in_front (weight x) (opened s) h.0 in
-    subst (λ k. IsLevel (with_item (left_at x t.start_mark) (feed s t)) t.body k) none (item_level (left_at x t.start_mark) (feed s t) t.body (opened s) (below h.1))
-turn_level Open x t s h below =
-    let above = (taken_at (state.optional Root t.start_mark) t).above in
-    let none : 0 + (0 + opened s) ≡ opened s = omega arith in
-    opened_on above (state.document_end ∷ state.documents ∷ s) ∙ h (0 + (0 + opened s)) ∙ ap (λ k. depth_after t.body (weight x + k)) none
+turn_level c x t s h below = grind (arith, opened_on, none_in_front, item_level)
 
 -- A sound stack has a state for each bracket that is open, after each token that it takes.
 pub feed_level : (s : List State) (ds : Directives) → Stands s ds → (t : Token)

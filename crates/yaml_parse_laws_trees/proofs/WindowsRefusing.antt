@@ -1,8 +1,8 @@
 -- A front that is refused is refused so whatever document follows.
-use Rattle.std.proofs.Common.{◌≡◌, ◌≢◌, false, List, [], ◌∷◌, ◌++◌, Option, Some, None, refl, sym, ap, subst, ◌∙◌, inl, inr, ◌⊎◌}
+use Rattle.std.proofs.Common.{◌≡◌, ◌≢◌, false, List, [], ◌∷◌, ◌++◌, Option, Some, None, refl, sym, ap, subst, ◌∙◌, inl, inr, ◌⊎◌, arith}
 use Rattle.std.proofs.lemmas.List.{append_assoc}
 use Rattle.std.proofs.lemmas.Option.{none-some, same_Some}
-use Rattle.yaml_parse_laws_trees.proofs.WindowsWords.{yaml_mark_t, Token, Event, Fault, Root, Entry, IndentlessEntry, BlockPair, FlowPair, Key, Value, Flow, Block, RawEvent, item_at, event_at, Directives, no_directives, Settled, refused, gave, noted, settle, placed, State, left_at, Fed, stop, go, with_item, feed, run, initial, parse_of, events_in, GoOn}
+use Rattle.yaml_parse_laws_trees.proofs.WindowsWords.{yaml_mark_t, Token, Event, Fault, RawEvent, item_at, event_at, Directives, no_directives, Settled, refused, gave, noted, settle, placed, State, left_at, Fed, stop, go, with_item, feed, run, initial, parse_of, events_in, GoOn}
 use Rattle.yaml_parse_grammar.specs.scan_types.Tokens as token
 use Rattle.yaml_parse_grammar.specs.parse_model.Events as event
 use Rattle.yaml_parse_grammar.specs.declared.Brackets.TheVariants as brackets
@@ -25,8 +25,7 @@ Halts (stop is g) y = y ≡ stop is g
 Halts (go is s) y = Unit {0}
 
 halts_item : (i : RawEvent) (x y : Fed) → Halts x y → Halts (with_item i x) (with_item i y)
-halts_item i (stop is g) y h = ap (with_item i) h
-halts_item i (go is s) y h = tt
+halts_item i x y h = grind arith
 
 abbrev HaltsAt : List State → yaml_mark_t → yaml_mark_t → yaml_mark_t → Type 0
 HaltsAt s m e f = Halts (feed s (end_at m e)) (feed s (start_at m f))
@@ -34,23 +33,12 @@ HaltsAt s m e f = Halts (feed s (end_at m e)) (feed s (start_at m f))
 optional_halts : (place : _) (before m e f : yaml_mark_t) (s : List State) → HaltsAt s m e f
     → HaltsAt (state.optional place before ∷ s) m e f
 unfolding feed
-optional_halts Root before m e f s h = halts_item (left_at (state.optional Root before) m) (feed s (end_at m e)) (feed s (start_at m f)) h
-optional_halts Entry before m e f s h = refl
-optional_halts (IndentlessEntry Key) before m e f s h = refl
-optional_halts (IndentlessEntry Value) before m e f s h = refl
-optional_halts (BlockPair Key) before m e f s h = refl
-optional_halts (BlockPair Value) before m e f s h = refl
-optional_halts (FlowPair brackets.Sequence Key) before m e f s h = refl
-optional_halts (FlowPair brackets.Sequence Value) before m e f s h = refl
-optional_halts (FlowPair brackets.Mapping Key) before m e f s h = refl
-optional_halts (FlowPair brackets.Mapping Value) before m e f s h = refl
+optional_halts place before m e f s h = grind (arith, halts_item)
 
 beside_halts : (w : _) (p : _) (m e f : yaml_mark_t) (s : List State) → HaltsAt s m e f
     → HaltsAt (state.with_properties w p ∷ s) m e f
 unfolding feed
-beside_halts Flow p m e f s h = halts_item (left_at (state.with_properties Flow p) m) (feed s (end_at m e)) (feed s (start_at m f)) h
-beside_halts (Block None) p m e f s h = halts_item (left_at (state.with_properties (Block None) p) m) (feed s (end_at m e)) (feed s (start_at m f)) h
-beside_halts (Block (Some side)) p m e f s h = halts_item (left_at (state.with_properties (Block (Some side)) p) m) (feed s (end_at m e)) (feed s (start_at m f)) h
+beside_halts w p m e f s h = grind (arith, halts_item)
 
 over_halts : (m e f : yaml_mark_t) → HaltsAt (state.document_end ∷ state.documents ∷ []) m e f
 unfolding feed
@@ -84,12 +72,7 @@ AfterDirectives s m e = feed s (end_at m e) ≡ stop [] (parser_fault problem.No
 stands_halts : (s : List State) (ds : Directives) → Stands s ds → (m e f : yaml_mark_t)
     → HaltsAt s m e f ⊎ AfterDirectives s m e
 unfolding feed
-stands_halts [] ds g m e f = absurd g
-stands_halts (state.stream ∷ s) ds g m e f = inl refl
-stands_halts (state.first ∷ s) ds g m e f = inl tt
-stands_halts (state.documents ∷ s) ds g m e f = inl tt
-stands_halts (state.directives from ∷ s) ds g m e f = inr refl
-stands_halts (x ∷ s) ds g m e f = inl (within_halts (x ∷ s) g m e f)
+stands_halts s ds g m e f = grind (arith, within_halts)
 
 -- ---- items that come first
 

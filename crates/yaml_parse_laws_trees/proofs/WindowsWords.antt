@@ -8,9 +8,8 @@ pub use Rattle.yaml_parse_grammar.specs.Trees.{event_at}
 pub use Rattle.yaml_parse_grammar.specs.declared.Choice.{Choice}
 pub use Rattle.yaml_parse_grammar.specs.declared.Choice.TheVariants.{Leave, Open, Refuse, Take}
 pub use Rattle.yaml_parse_grammar.specs.declared.ParseProblem.{ParseProblem}
-pub use Rattle.yaml_parse_grammar.specs.declared.Side.TheVariants.{Key, Value}
-pub use Rattle.yaml_parse_grammar.specs.declared.Site.TheVariants.{BlockPair, Entry, FlowPair, IndentlessEntry, Root}
-pub use Rattle.yaml_parse_grammar.specs.declared.Wants.TheVariants.{Block, Flow}
+pub use Rattle.yaml_parse_grammar.specs.declared.Site.TheVariants.{Root}
+pub use Rattle.yaml_parse_grammar.specs.declared.Wants.TheVariants.{Block}
 pub use Rattle.yaml_parse_grammar.specs.parse_model.Events.{Event}
 pub use Rattle.yaml_parse_grammar.specs.scan_types.Faults.{Fault}
 pub use Rattle.yaml_parse_grammar.specs.scan_types.Tokens.{Token, TokenBody, type_of}

@@ -56,6 +56,6 @@ pub use Rattle.yaml_parse_laws_trees.specs.parse_grammar.parse_model.declared.ya
 pub use Rattle.yaml_parse_laws_trees.specs.parse_grammar.parse_model.declared.yaml_token_type_t.{yaml_token_type_t}
 pub use Rattle.yaml_parse_laws_trees.specs.parse_grammar.parse_model.declared.yaml_version_directive_t.{yaml_version_directive_t}
 pub use Rattle.yaml_parse_loader.specs.Anchors.{Anchors}
-pub use Rattle.yaml_parse_loader.specs.Loading.{LoadStep, Loaded, Loading, aliased, attach, behind, closed, filled, goes_on, loaded, named, nothing_loaded, place_of, step, step_body}
+pub use Rattle.yaml_parse_loader.specs.Loading.{LoadStep, Loading, aliased, attach, behind, closed, goes_on, loaded, named, nothing_loaded, step, step_body}
 unfoldable pub use Rattle.yaml_parse_loader.specs.Loading.{load}
 pub use Rattle.yaml_parse_loader.specs.Numbering.{Contents, DocumentContent, Head, alias, document_events, document_of, events, is_same, item, item_events, mapping, no_items, no_pairs, pair, pair_events, scalar, sequence, spanning, undefined_alias}

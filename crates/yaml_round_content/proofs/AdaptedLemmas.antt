@@ -1,5 +1,6 @@
 -- What is given of the tokens that a parser takes.
-use Rattle.std.proofs.Common.{◌≡◌, ◌⊎◌, ◌↔◌, ℕ, IsTrue, Bool, true, false, true≢false, List, [], ◌∷◌, Option, Some, None, refl, sym, inl, inr, IsUtf8, All}
+use Rattle.std.proofs.lemmas.Bool.Decides.{nat_tests}
+use Rattle.std.proofs.Common.{◌≡◌, ◌⊎◌, ◌↔◌, ℕ, IsTrue, Bool, true, false, true≢false, List, [], ◌∷◌, Option, Some, None, refl, sym, inl, inr, IsUtf8, All, arith}
 use Rattle.std.specs.Str.{is_utf8}
 use Rattle.std.proofs.lemmas.Str.{IsUtf8-from_is_utf8, is_utf8-from_IsUtf8}
 use Rattle.std.proofs.lemmas.Bool.{cases_Bool}
@@ -41,8 +42,7 @@ cut_taken : (fault : Option Fault) (old : List Token) → HasTexts (front_of old
     → spells_text (front_of old).body ≡ true → MayAnswer old fault
     → GivesToken (cut fault old).tokens (cut fault old).fault (front_of old)
     (cut fault (rest_of old)).tokens (cut fault (rest_of old)).fault
-cut_taken fault [] h s may = record { given = refl; rest = refl; same = refl; may = may; utf8 = tt }
-cut_taken fault (t ∷ ts) h s may = rw s record { given = refl; rest = refl; same = refl; may = tt; utf8 = body_utf8 t.body h s }
+cut_taken fault old h s may = grind (arith, nat_tests, body_utf8)
 
 -- The front is taken, where its tag is UTF-8.
 pub taken : (old new : Remaining) (t : Token) → t ≡ front_of old.tokens
@@ -54,8 +54,7 @@ taken old new t e f g may h s = rw (e, f, g) (cut_taken old.fault old.tokens (rw
 cut_refused : (fault : Option Fault) (old : List Token) → spells_text (front_of old).body ≡ false
     → GivesFault (cut fault old).tokens (cut fault old).fault (tag_fault (front_of old).start_mark)
     [] None
-cut_refused fault [] s = absurd (true≢false s)
-cut_refused fault (t ∷ ts) s = rw s record { more = tt; none = refl; no_fault = refl; reason = inr (refl, refl) }
+cut_refused fault old s = grind (arith, nat_tests, true≢false)
 
 -- The front is refused, where its tag isn't UTF-8.
 pub refused : (old : Remaining) (t : Token) → t ≡ front_of old.tokens → spells_text t.body ≡ false
@@ -64,17 +63,11 @@ refused old t e s = rw e (cut_refused old.fault old.tokens (rw e at s))
 
 cut_failed : (fault : Option Fault) (old : List Token) (f : Fault) → old ≡ [] → fault ≡ Some f
     → ((cut fault old).tokens ≡ []) × ((cut fault old).fault ≡ Some f)
-cut_failed fault [] f e g = (refl, g)
-cut_failed fault (t ∷ ts) f e g = let bad : t ∷ ts ≡ [] = e in cc
+cut_failed fault old f e g = grind (arith, nat_tests)
 
 cut_more : (fault : Option Fault) (old : List Token) → HasMore old fault
     → HasMore (cut fault old).tokens (cut fault old).fault
-cut_more fault [] h = h
-cut_more fault (t ∷ ts) h =
-    elim (cases_Bool (spells_text t.body)) [
-      | inl e ↦ rw e tt
-      | inr e ↦ rw e tt
-    ]
+cut_more fault old h = grind (arith, nat_tests, cases_Bool)
 
 -- The session's own fault is passed on.
 pub failed : (old : Remaining) (f : Fault) → HasMore old.tokens old.fault

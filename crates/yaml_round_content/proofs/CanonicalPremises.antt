@@ -1,6 +1,6 @@
 -- What a parser asks of directives, and that those that may be written have it.
-use Rattle.std.proofs.Common.{◌≡◌, ℕ, true, false, List, [], ◌∷◌, ◌++◌, Option, Some, None, refl, bytes_eq}
-use Rattle.yaml_round_content.proofs.ReadBackWords.{list_any, or_parts, TagDirective, is_known_version, directive_for, split_tag, Opening, or_else, is_version, version_problem, handle_problem, prefix_problem, has_handle, twice_problem, directive_problem, directives_problem, opening_problem, resolved_split, or_first, none_true, or_second, none_all}
+use Rattle.std.proofs.Common.{◌≡◌, ℕ, true, false, List, [], ◌∷◌, ◌++◌, Option, Some, None, refl, bytes_eq, arith}
+use Rattle.yaml_round_content.proofs.ReadBackWords.{nat_tests, list_any, or_parts, TagDirective, is_known_version, directive_for, split_tag, Opening, or_else, version_problem, handle_problem, prefix_problem, has_handle, twice_problem, directive_problem, directives_problem, opening_problem, resolved_split, or_first, none_true, or_second, none_all}
 use Rattle.yaml_parse_model.specs.declared.yaml_version_directive_t.{yaml_version_directive_t}
 
 -- under the directives each tag is resolved as it was
@@ -35,8 +35,7 @@ tags_fine before (d ∷ ds) e =
 
 pub version_fine : (v : Option yaml_version_directive_t) → version_problem v ≡ None
     → IsFineVersion v
-version_fine None e = tt
-version_fine (Some v) e = none_all (is_version v) _ e
+version_fine v e = grind (arith, nat_tests, none_all)
 
 -- Where nothing is wrong with a document's start, its version is fine.
 pub fine_version : (o : Opening) → opening_problem o ≡ None → IsFineVersion o.version

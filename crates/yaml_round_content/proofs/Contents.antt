@@ -1,7 +1,6 @@
 -- What the events say that are read of pretty text.
-use Rattle.std.proofs.Common.{◌≡◌, ℕ, Bool, true, false, not, ◌&&◌, ◌||◌, ◌==◌, if◌then◌else◌, List, [], ◌∷◌, length, map, Option, Some, None, refl, ap, ◌∙◌, chars}
-use Rattle.yaml_round_content.proofs.PrettyWords.{false≢true, and-false, yaml_encoding_t, YAML_ANY_ENCODING, yaml_scalar_style_t, YAML_ANY_SEQUENCE_STYLE, YAML_ANY_MAPPING_STYLE, EventBody, Told, normalize_body, normalize_scalar, is_lone_mark, emitter_events, contents, Settings, Style, Allowed, allowed, taken, plain_fits, single_or, plain_or, Part, has, kept_if, kept_tag, scalar_tag, start_tag, Context, style_of, is_plain, is_simple, is_simple_part, key_part, are_none, are_no_pairs, IsNoMark, HasNoMark, HaveNoMark, PairsHaveNoMark, AreParsable, style_at, is_flow_at, style_named, takes_mark, scalar_reads, node_reads, items_reads, pairs_reads, documents_reads, HasScalarFlags, HasStartFlags, HasFlags, HaveFlags, PairsHaveFlags, HaveReaderFlags}
-use Rattle.yaml_parse_model.specs.declared.yaml_scalar_style_t.TheVariants as asked
+use Rattle.std.proofs.Common.{◌≡◌, ℕ, Bool, true, false, not, ◌&&◌, ◌||◌, ◌==◌, if◌then◌else◌, List, [], ◌∷◌, length, map, Option, Some, None, refl, ap, ◌∙◌, chars, arith}
+use Rattle.yaml_round_content.proofs.PrettyWords.{nat_tests, false≢true, and-false, yaml_encoding_t, YAML_ANY_ENCODING, yaml_scalar_style_t, YAML_ANY_SEQUENCE_STYLE, YAML_ANY_MAPPING_STYLE, EventBody, Told, normalize_body, normalize_scalar, emitter_events, contents, Settings, Style, Allowed, allowed, taken, plain_fits, single_or, plain_or, Part, has, kept_if, kept_tag, scalar_tag, start_tag, Context, style_of, is_plain, is_simple, is_simple_part, key_part, are_none, are_no_pairs, IsNoMark, HasNoMark, HaveNoMark, PairsHaveNoMark, AreParsable, style_at, is_flow_at, style_named, takes_mark, scalar_reads, node_reads, items_reads, pairs_reads, documents_reads, HasScalarFlags, HasStartFlags, HasFlags, HaveFlags, PairsHaveFlags, HaveReaderFlags}
 use Rattle.yaml_parse_model.specs.declared.yaml_scalar_style_t.TheVariants.{YAML_ANY_SCALAR_STYLE}
 use Rattle.yaml_parse_model.specs.Events as event
 use Rattle.yaml_round_content.specs.Content.{content_of, counts_as_plain}
@@ -25,8 +24,7 @@ scalar_says true anchor tag value plain quoted style = refl
 scalar_says false anchor tag value plain quoted style = refl
 
 event_says : (b : EventBody) → content b ≡ says (emit.emitter_event (normalize_body false b))
-event_says (event.scalar anchor tag value plain quoted style) = scalar_says (is_lone_mark tag value) anchor tag value plain quoted style
-event_says _ = refl
+event_says b = grind (arith, nat_tests, scalar_says)
 
 -- the content of events as an emitter sees them
 pub contents_said : (es : List Told) → contents es ≡ map says (emitter_events false es)
@@ -41,18 +39,15 @@ contents_by (t ∷ ts) = ap (λ (bs : List EventBody). content t.0.body ∷ bs) 
 -- ---- the tag `!`
 
 pub and_left : (a b : Bool) → (a && b) ≡ true → a ≡ true
-and_left true b e = refl
-and_left false b e = absurd (false≢true e)
+and_left a b e = grind (arith, nat_tests, false≢true)
 
 -- ---- styles: plain is taken where the scalar is tagged or plain-implicit
 
 no_fit : (a : Allowed) (flow simple empty : Bool) → plain_fits a false flow simple empty ≡ false
-no_fit a flow simple empty =
-    ap (λ (b : Bool). (if flow then a.flow_plain else a.plain) && b) (and-false (not (empty && simple))) ∙ and-false (if flow then a.flow_plain else a.plain)
+no_fit a flow simple empty = grind (arith, nat_tests, and-false)
 
 single_not_plain : (b : Bool) → is_plain (if b then style.Single else style.Double) ≡ false
-single_not_plain true = refl
-single_not_plain false = refl
+single_not_plain b = grind (arith, nat_tests)
 
 or_not_plain : (a : Allowed) (flow simple empty : Bool)
     → is_plain (plain_or a false flow simple empty) ≡ false
@@ -60,17 +55,12 @@ or_not_plain a flow simple empty = ap (λ (b : Bool). is_plain (if b then style.
 
 block_not_plain : (b : Bool) (s : Style) → is_plain s ≡ false
     → is_plain (if b then s else style.Double) ≡ false
-block_not_plain true s e = e
-block_not_plain false s e = refl
+block_not_plain b s e = grind (arith, nat_tests)
 
 taken_not_plain : (a : Allowed) (k : yaml_scalar_style_t) (flow simple empty : Bool)
     → is_plain (taken a k false flow simple empty) ≡ false
 unfolding taken
-taken_not_plain a asked.YAML_SINGLE_QUOTED_SCALAR_STYLE flow simple empty = single_not_plain a.single
-taken_not_plain a asked.YAML_DOUBLE_QUOTED_SCALAR_STYLE flow simple empty = refl
-taken_not_plain a asked.YAML_LITERAL_SCALAR_STYLE flow simple empty = block_not_plain (a.block && not (flow || simple)) style.Literal refl
-taken_not_plain a asked.YAML_FOLDED_SCALAR_STYLE flow simple empty = block_not_plain (a.block && not (flow || simple)) style.Folded refl
-taken_not_plain a _ flow simple empty = or_not_plain a flow simple empty
+taken_not_plain a k flow simple empty = grind (arith, nat_tests, single_not_plain, block_not_plain, or_not_plain)
 
 style_by : (canonical untagged : Bool) (a : Allowed) (k : yaml_scalar_style_t)
     (flow simple empty : Bool) → untagged ≡ false
@@ -87,8 +77,7 @@ style_not_plain p flow q x e = style_by p.settings.canonical (has (scalar_tag fa
 -- ---- scalars
 
 kept_none : (b : Bool) → kept_if b None ≡ None
-kept_none true = refl
-kept_none false = refl
+kept_none b = grind (arith, nat_tests)
 
 -- it counts as plain exactly where it did
 counts : (plain quoted : Bool) (s : Style) → quoted ≡ not plain
@@ -123,8 +112,7 @@ scalar_same p flow q x flags fine = scalar_by x.anchor x.tag (scalar_tag false x
 
 pub start_by : (tag : Option (List ℕ)) (implicit : Bool) → HasStartFlags tag implicit
     → kept_tag false implicit tag ≡ tag
-start_by None implicit h = kept_none (not implicit)
-start_by (Some t) implicit h = ap (λ (b : Bool). kept_tag false b (Some t)) h
+start_by tag implicit h = grind (arith, nat_tests, kept_none)
 
 -- ---- nodes
 

@@ -1,5 +1,5 @@
 -- Handles, prefixes and versions that a parser lets pass are those that an emitter takes.
-use Rattle.std.proofs.Common.{◌≡◌, inl, inr, ℕ, suc, ◌-◌, Bool, true, false, ◌||◌, ◌==◌, if◌then◌else◌, List, [], ◌∷◌, ◌++◌, length, get_or, Option, Some, None, refl, sym, ap, subst, ◌∙◌, arith, append_assoc, append-nil}
+use Rattle.std.proofs.Common.{◌≡◌, ℕ, suc, ◌-◌, Bool, true, false, ◌||◌, ◌==◌, if◌then◌else◌, List, [], ◌∷◌, ◌++◌, length, get_or, Option, Some, None, refl, sym, ap, subst, ◌∙◌, arith, append_assoc, append-nil}
 use Rattle.yaml_round_content.proofs.Words.{nat_tests, common_steps, list_all, list_any, bytes_eq, is_alpha_byte, IsSome, IsHandle, TagDirective, directive_for, directives_problem, AreAlphas, handle_problem, prefix_problem, has_handle, twice_problem, directive_problem, or_both}
 use Rattle.yaml_emit_laws.specs.emit_layout.Grammar.{between}
 use Rattle.yaml_emit_laws.proofs.Passing.{or_none}
@@ -31,15 +31,13 @@ named_handle name a =
     handle_right (33 ∷ (name ++ (33 ∷ []))) (some_one (length (name ++ (33 ∷ [])))) refl (rw (last_of name) refl) (ap (list_all is_alpha_byte) (inner_of name) ∙ a)
 
 spelled_handle : (handle : List ℕ) → IsHandle handle → handle_problem handle ≡ None
-spelled_handle handle (inl e) = ap handle_problem e ∙ short_handle
-spelled_handle handle (inr e) = ap handle_problem e.1 ∙ named_handle e.0 e.2
+spelled_handle handle h1 = grind (arith, nat_tests, short_handle, named_handle)
 
 -- ---- no handle twice
 
 by_test : (b : Bool) (prefix : List ℕ) (o : Option (List ℕ)) (more : Bool)
     → (if b then Some prefix else o) ≡ None → (o ≡ None → more ≡ false) → (b || more) ≡ false
-by_test true prefix o more e f = absurd (cc)
-by_test false prefix o more e f = f e
+by_test b prefix o more e f = grind (arith, nat_tests)
 
 not_twice : (handle : List ℕ) (ds : List TagDirective) → directive_for handle ds ≡ None
     → list_any (has_handle handle) ds ≡ false
@@ -57,8 +55,7 @@ once handle ds h = rw h refl
 directive_right : (ds : List TagDirective) (handle prefix : List ℕ) → IsHandle handle
     → IsSome prefix → directive_for handle ds ≡ None
     → directive_problem ds (record { handle = handle; prefix = prefix }) ≡ None
-directive_right ds handle prefix h p n =
-    or_none (handle_problem handle) _ (spelled_handle handle h) (or_none (prefix_problem prefix) (twice_problem ds handle) (prefix_right prefix p) (once handle ds (not_twice handle ds n)))
+directive_right ds handle prefix h p n = grind (arith, nat_tests, spelled_handle, prefix_right, once, not_twice)
 
 -- one more after right ones
 one_more : (before ds : List TagDirective) (d : TagDirective) → directives_problem before ds ≡ None

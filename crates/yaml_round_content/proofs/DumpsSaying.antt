@@ -1,6 +1,6 @@
 -- The events of a content that may be written say it.
-use Rattle.std.proofs.Common.{◌≡◌, ◌==◌, ℕ, suc, Bool, true, false, ◌&&◌, List, [], ◌∷◌, length, Option, Some, refl, ap, ◌∙◌, inl, inr, codes, arith}
-use Rattle.yaml_round_content.proofs.Words.{cases_Bool, nat_tests, slice_index, and-false, YAML_ANY_SCALAR_STYLE, YAML_ANY_SEQUENCE_STYLE, YAML_ANY_MAPPING_STYLE, YAML_ANY_ENCODING, Event, EventBody, events, item_events, pair_events, is_lone_mark, normalize_scalar, content_of, contents, ScalarMark, untagged, tagged, Node, alias, scalar, sequence, mapping, Nodes, no_nodes, node, Pairs, no_pairs, pair, Document, scalar_says, node_says, items_say, pairs_say, documents_say, written_node, written_nodes, written_pairs, IsWritable, AreItemsWritable, ArePairsWritable, AreWritable, as_content, as_contents, as_pairs, content_events, told_by, ContentIsSaid, IsMark, unplaced}
+use Rattle.std.proofs.Common.{◌≡◌, ◌==◌, ℕ, suc, Bool, true, false, ◌&&◌, List, [], ◌∷◌, length, Option, Some, refl, ap, ◌∙◌, codes, arith}
+use Rattle.yaml_round_content.proofs.Words.{cases_Bool, nat_tests, slice_index, and-false, YAML_ANY_SEQUENCE_STYLE, YAML_ANY_MAPPING_STYLE, YAML_ANY_ENCODING, Event, EventBody, events, item_events, pair_events, is_lone_mark, contents, ScalarMark, Node, alias, scalar, sequence, mapping, Nodes, no_nodes, node, Pairs, no_pairs, pair, Document, scalar_says, node_says, items_say, pairs_say, documents_say, written_node, written_nodes, written_pairs, IsWritable, AreItemsWritable, ArePairsWritable, AreWritable, as_content, as_contents, as_pairs, content_events, told_by, ContentIsSaid, IsMark, unplaced}
 use Rattle.yaml_parse_model.specs.Events as event
 
 -- ---- a tag that isn't `!`
@@ -10,13 +10,8 @@ longer n = grind (arith, nat_tests)
 
 other_mark : (t value : List ℕ) → (t ≡ codes "!" → ⊥) → is_lone_mark (Some t) value ≡ false
 other_mark [] value h = let none : List ℕ = [] in ap (λ (b : Bool). b && slice_index none 0 == 33) (and-false (length value == 0))
-other_mark (c ∷ []) value h =
-    elim (cases_Bool (c == 33)) [
-      | inl e ↦ absurd (h (ap (λ (x : ℕ). x ∷ []) (grind (arith, nat_tests))))
-      | inr e ↦ ap (λ (b : Bool). (length value == 0 && true) && b) e ∙ and-false (length value == 0 && true)
-    ]
-other_mark (c ∷ d ∷ more) value h =
-    ap (λ (b : Bool). (length value == 0 && b) && c == 33) (longer (length more)) ∙ ap (λ (b : Bool). b && c == 33) (and-false (length value == 0))
+other_mark (c ∷ []) value h = grind (arith, nat_tests, cases_Bool, and-false)
+other_mark (c ∷ d ∷ more) value h = grind (arith, nat_tests, longer, and-false)
 
 -- ---- nodes
 
@@ -24,9 +19,7 @@ scalar_said : (anchor : Option (List ℕ)) (mark : ScalarMark) (value : List ℕ
     → (rest : List Event)
     → contents (told_by (events (as_content (written_node (scalar anchor mark value))) rest))
     ≡ scalar_says anchor mark value ∷ contents (told_by rest)
-scalar_said anchor (untagged plain) value w rest = refl
-scalar_said anchor (tagged t) value w rest =
-    ap (λ (b : Bool). content_of (normalize_scalar b anchor (Some t) value false false YAML_ANY_SCALAR_STYLE) ∷ contents (told_by rest)) (other_mark t value w.1)
+scalar_said anchor mark value w rest = grind (arith, nat_tests, other_mark)
 
 mutual
   unfolding node_says items_say pairs_say

@@ -1,6 +1,6 @@
 -- A layout's bytes spell its characters.
-use Rattle.std.proofs.Common.{◌≡◌, ℕ, ◌+◌, ◌-◌, ◌/◌, ◌%◌, Bool, true, false, nat_lt, List, [], ◌∷◌, ◌++◌, refl, ap, ◌∙◌, encode_utf8, encode_utf8_all, if◌then◌else◌}
-use Rattle.yaml_round_content.proofs.ReadBackWords.{YAML_UTF8_ENCODING, YAML_UTF16LE_ENCODING, YAML_UTF16BE_ENCODING, spelling, spellings, units_bytes, Utf8, Utf16Le, Utf16Be, Item, letter, deep, char_bytes, unit_bytes, encode, shown}
+use Rattle.std.proofs.Common.{◌≡◌, ℕ, ◌+◌, ◌-◌, ◌/◌, ◌%◌, Bool, nat_lt, List, [], ◌∷◌, ◌++◌, refl, ap, ◌∙◌, encode_utf8, encode_utf8_all, if◌then◌else◌, arith}
+use Rattle.yaml_round_content.proofs.ReadBackWords.{nat_tests, YAML_UTF8_ENCODING, YAML_UTF16LE_ENCODING, YAML_UTF16BE_ENCODING, spelling, spellings, units_bytes, Utf8, Utf16Le, Utf16Be, Item, letter, deep, char_bytes, unit_bytes, encode, shown}
 use Rattle.yaml_emit_laws.specs.scan_decode.declared.utf16.ByteOrder.TheVariants.{LowFirst, HighFirst}
 use Rattle.yaml_emit_laws.proofs.Back.{char_encodes}
 
@@ -14,14 +14,12 @@ bytes_8 (deep ∷ t) = bytes_8 t
 pub low_units : (b : Bool) (c x y : ℕ)
     → (if b then unit_bytes Utf16Le c else unit_bytes Utf16Le x ++ unit_bytes Utf16Le y)
     ≡ units_bytes LowFirst (if b then c ∷ [] else x ∷ y ∷ [])
-low_units true c x y = refl
-low_units false c x y = refl
+low_units b c x y = grind (arith, nat_tests)
 
 pub high_units : (b : Bool) (c x y : ℕ)
     → (if b then unit_bytes Utf16Be c else unit_bytes Utf16Be x ++ unit_bytes Utf16Be y)
     ≡ units_bytes HighFirst (if b then c ∷ [] else x ∷ y ∷ [])
-high_units true c x y = refl
-high_units false c x y = refl
+high_units b c x y = grind (arith, nat_tests)
 
 -- The same in UTF-16, low byte first.
 pub bytes_le : (t : List Item) → encode Utf16Le t ≡ spellings YAML_UTF16LE_ENCODING (shown t)

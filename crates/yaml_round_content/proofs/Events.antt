@@ -1,8 +1,7 @@
 -- What an input's event says may be written.
-use Rattle.std.proofs.Common.{◌≡◌, ℕ, ◌<◌, Bool, true, false, ◌==◌, if◌then◌else◌, List, [], ◌∷◌, length, Option, Some, None, IsUtf8, refl, codes, arith, sym, ◌∙◌}
-use Rattle.yaml_round_content.proofs.Words.{nat_tests, bytes_eq-Decides, list_all, true≢false, yaml_scalar_style_t, is_alpha_byte, AreUtf8, EventBody, TagDirective, Told, Problem, emitter_event, or_else, name_problem, anchor_problem, tag_problem, event_problem, last_problem, own_problem, own_problems, is_lone_mark, normalize_scalar, normalize_body, content_of, emitter_events, contents, HaveUtf8Texts, HasUtf8, IsUtf8Option, Opening, opening_problem, IsAnchor, IsTag, HavePrefixes, or_both}
+use Rattle.std.proofs.Common.{◌≡◌, ℕ, ◌<◌, Bool, true, false, ◌==◌, if◌then◌else◌, List, [], ◌∷◌, Option, Some, None, IsUtf8, codes, arith}
+use Rattle.yaml_round_content.proofs.Words.{nat_tests, bytes_eq-Decides, true≢false, yaml_scalar_style_t, AreUtf8, EventBody, TagDirective, Told, Problem, emitter_event, or_else, name_problem, anchor_problem, tag_problem, event_problem, last_problem, own_problem, own_problems, is_lone_mark, normalize_scalar, normalize_body, content_of, emitter_events, contents, HaveUtf8Texts, HasUtf8, IsUtf8Option, Opening, opening_problem, IsAnchor, IsTag, HavePrefixes, or_both}
 use Rattle.yaml_parse_model.specs.Events as event
-use Rattle.yaml_emit_laws.specs.emit_layout.declared.Problem.TheVariants as problem
 use Rattle.yaml_round_content.specs.Writable.{IsName}
 use Rattle.yaml_round_content.proofs.Scalars.{IsScalarRight, IsRight, AreRight}
 
@@ -36,38 +35,27 @@ some_byte n h = grind (arith, nat_tests)
 -- of two tests, each with its problem, neither has one
 pub tests_of : (none all : Bool) (p q : Problem)
     → (if none then Some p else if all then None else Some q) ≡ None → (none ≡ false) × (all ≡ true)
-tests_of true all p q e = absurd (cc)
-tests_of false true p q e = (refl, refl)
-tests_of false false p q e = absurd (cc)
+tests_of none all p q e = grind (arith, nat_tests)
 
 name_writable : (p q : Problem) (name : List ℕ) → name_problem p q name ≡ None → IsName name
-name_writable p q name e =
-    let both = tests_of (length name == 0) (list_all is_alpha_byte name) p q e in
-    (some_byte (length name) both.0, both.1)
+name_writable p q name e = grind (arith, nat_tests, tests_of, some_byte)
 
 anchor_writable : (anchor : Option (List ℕ)) → anchor_problem anchor ≡ None → IsAnchor anchor
-anchor_writable None e = tt
-anchor_writable (Some name) e = name_writable problem.AnchorEmpty problem.AnchorCharacters name e
+anchor_writable anchor e = grind (arith, nat_tests, name_writable)
 
 test_of : (none : Bool) (p : Problem) → (if none then Some p else None) ≡ None → none ≡ false
-test_of true p e = absurd (cc)
-test_of false p e = refl
+test_of none p e = grind (arith, nat_tests)
 
 -- ---- events
 
 tag_writable : (tag : Option (List ℕ)) → tag_problem tag ≡ None → IsUtf8Option tag → IsTag tag
-tag_writable None e u = tt
-tag_writable (Some t) e u = ((some_byte (length t) (test_of (length t == 0) problem.TagEmpty e)), u)
+tag_writable tag e u = grind (arith, nat_tests, some_byte, test_of)
 
 scalar_tag_writable : (tag : Option (List ℕ)) (value : List ℕ) (plain quoted : Bool)
     → tag_problem tag ≡ None → IsUtf8Option tag → is_lone_mark tag value ≡ false
     → IsScalarRight tag value plain quoted
     → IsScalarTag tag
-scalar_tag_writable None value plain quoted e u l r = tt
-scalar_tag_writable (Some t) value plain quoted e u l r = (
-  ((some_byte (length t) (test_of (length t == 0) problem.TagEmpty e)), u),
-  (λ e. true≢false (sym ((bytes_eq-Decides t (codes "!")).1 e) ∙ (r l))),
-)
+scalar_tag_writable tag value plain quoted e u l r = grind (arith, nat_tests, some_byte, test_of, true≢false, bytes_eq-Decides)
 
 -- prefixes of UTF-8 can be written
 pub prefixes_writable : (ds : List TagDirective) → AreUtf8 ds → HavePrefixes ds
@@ -97,19 +85,12 @@ scalar_says false anchor tag value plain quoted style l e t v r =
 start_says : (anchor tag : Option (List ℕ)) → IsUtf8Option tag
     → or_else (or_else (anchor_problem anchor) (tag_problem tag)) None ≡ None
     → IsAnchor anchor × IsTag tag
-start_says anchor tag t e =
-    let own = names_of anchor tag None e in
-    (anchor_writable anchor own.0, tag_writable tag own.1 t)
+start_says anchor tag t e = grind (arith, nat_tests, names_of, anchor_writable, tag_writable)
 
 body_says : (b : EventBody) → IsOwn (normalize_body true b) → HasUtf8 b → IsRight b
     → MaySay (content_of (normalize_body true b))
 unfolding event_problem last_problem
-body_says (event.scalar anchor tag value plain quoted style) e u r = scalar_says (is_lone_mark tag value) anchor tag value plain quoted style refl e u.1 u.2 r
-body_says (event.document_start version directives implicit) e u r = (e, prefixes_writable directives u)
-body_says (event.alias name) e u r = name_writable problem.AliasEmpty problem.AliasCharacters name (or_both (name_problem problem.AliasEmpty problem.AliasCharacters name) None e).0
-body_says (event.sequence_start anchor tag implicit style) e u r = start_says anchor tag u.1 e
-body_says (event.mapping_start anchor tag implicit style) e u r = start_says anchor tag u.1 e
-body_says _ e u r = tt
+body_says b e u r = grind (arith, nat_tests, scalar_says, prefixes_writable, name_writable, or_both, start_says)
 
 pub told_say : (ts : List Told) → own_problems true (emitter_events true ts) ≡ None
     → HaveUtf8Texts ts → AreRight ts → MaySayAll (contents ts)

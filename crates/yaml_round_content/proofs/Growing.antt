@@ -1,6 +1,6 @@
 -- Trees from the bodies of tokens.
-use Rattle.std.proofs.Common.{◌≡◌, ℕ, Bool, true, false, not, ◌&&◌, List, [], ◌∷◌, length, Option, Some, None, refl, sym, ap, subst, ◌∙◌, codes, ◌||◌, if◌then◌else◌, bytes_eq}
-use Rattle.yaml_round_content.proofs.ReadBackWords.{yaml_mark_t, Token, TokenBody, EventBody, TagDirective, Fault, Flow, Span, token_at, PropertyTokens, Given, spell_properties, spell_node, spell_content, spell_items, spell_more, properties_of, Items, More, end_items, end_more, single, comma, there, colon, opening, closing, flow_shape, end_event, items_node, items_content, items_items, items_more, Directives, Reading, Settled, gave, settle, read_on, reading, resolved, with_resolved, node_event, Split, shorthand, verbatim, split_tag, Scalar, Node, alias_node, scalar_node, sequence_node, mapping_node, Nodes, no_nodes, node, Pairs, no_pairs, pair, has, resolved_split, tag_body, anchor_bodies, tag_bodies, mark_bodies, node_bodies, items_bodies, pairs_bodies, scalar_reads, node_reads, items_reads, pairs_reads, token_bodies, SaysTree, IsNoMark, HasNoMark, HaveNoMark, PairsHaveNoMark, Grown}
+use Rattle.std.proofs.Common.{◌≡◌, ℕ, Bool, true, false, not, ◌&&◌, List, [], ◌∷◌, length, Option, Some, None, refl, sym, ap, subst, ◌∙◌, ◌||◌, if◌then◌else◌, arith}
+use Rattle.yaml_round_content.proofs.ReadBackWords.{nat_tests, yaml_mark_t, Token, TokenBody, EventBody, TagDirective, Fault, Flow, Span, token_at, PropertyTokens, Given, spell_properties, spell_node, spell_content, spell_items, spell_more, properties_of, Items, More, end_items, end_more, single, comma, there, colon, opening, closing, flow_shape, end_event, items_node, items_content, items_items, items_more, Directives, Reading, Settled, gave, settle, read_on, reading, resolved, with_resolved, node_event, Split, shorthand, verbatim, split_tag, Scalar, Node, alias_node, scalar_node, sequence_node, mapping_node, Nodes, no_nodes, node, Pairs, no_pairs, pair, has, resolved_split, tag_body, anchor_bodies, tag_bodies, mark_bodies, node_bodies, items_bodies, pairs_bodies, scalar_reads, node_reads, items_reads, pairs_reads, token_bodies, SaysTree, IsNoMark, HasNoMark, HaveNoMark, PairsHaveNoMark, Grown}
 use Rattle.yaml_parse_model.specs.declared.yaml_scalar_style_t.{yaml_scalar_style_t}
 use Rattle.yaml_parse_model.specs.declared.yaml_scalar_style_t.TheVariants.{YAML_DOUBLE_QUOTED_SCALAR_STYLE}
 use Rattle.yaml_emit_laws.specs.scan_types.Tokens as token
@@ -83,10 +83,7 @@ pub also : {ds : List TagDirective} {R Q : Reads} {ts us rest : List Token}
     {s q : List Token → List Token} {i j : List Token → List Given → List Given}
     → Said ds R ts us s i → Said ds Q us rest q j
     → Said ds (λ es. R (Q es)) ts rest (λ ts. s (q ts)) (λ more gs. i (q more) (j more gs))
-also {ds} {R} {Q} {ts} {us} {rest} {s} {q} {i} {j} a b = record {
-  same = a.same ∙ ap (λ (ts : List Token). s ts) b.same;
-  gives = λ more gs f D h. both_say R Q _ (reading (j more gs) f D) (reading gs f D) (a.gives (q more) (j more gs) f D h) (b.gives more gs f D h);
-}
+also a b = grind (arith, nat_tests, both_say)
 
 -- The tokens begin with a part of a tree, of which the events are read, whatever follows.
 pub record Spelt (T : Type 0) (spell : T → List Token → List Token) (items : T → List Token → List Given → List Given) (ds : List TagDirective) (R : Reads) (ts : List Token) (bs : List TokenBody) : Type 0 where
@@ -160,8 +157,7 @@ pub resolves : (ds : List TagDirective) (handle suffix full : List ℕ) (anchor 
     → D.tags ≡ ds
     → with_resolved (resolved D.tags handle suffix) anchor shape from at D
     ≡ gave (node_event anchor (Some full) shape) D
-resolves ds handle suffix full anchor shape from at D e t =
-    ap (λ (o : Option (List ℕ)). with_resolved o anchor shape from at D) (ap (λ (x : List TagDirective). resolved x handle suffix) t ∙ e)
+resolves ds handle suffix full anchor shape from at D e t = grind (arith, nat_tests)
 
 -- Properties are read as they are spelled.
 pub with_properties : (ds : List TagDirective) (anchor : Option (List ℕ)) (tag : Option Named)
@@ -205,14 +201,12 @@ split_suffix (verbatim t) = t
 
 -- The token of a tag, by its parts.
 pub split_body : (s : Split) → tag_body s ≡ token.tag (split_handle s) (split_suffix s)
-split_body (shorthand handle suffix) = refl
-split_body (verbatim t) = refl
+split_body s = grind (arith, nat_tests)
 
 -- The parts of a tag resolve to that tag.
 pub split_resolved : (ds : List TagDirective) (s : Split)
     → resolved ds (split_handle s) (split_suffix s) ≡ resolved_split ds s
-split_resolved ds (shorthand handle suffix) = refl
-split_resolved ds (verbatim t) = refl
+split_resolved ds s = grind (arith, nat_tests)
 
 abbrev pub tag_named : List TagDirective → Option (List ℕ) → Option Named
 tag_named ds None = None
@@ -227,13 +221,11 @@ tag_is_named ds r (Some t) = split_resolved ds (split_tag ds t) ∙ r t
 -- Its token is that of its parts.
 pub tag_bodies_are : (ds : List TagDirective) (tag : Option (List ℕ)) (bs : List TokenBody)
     → tag_bodies ds tag bs ≡ named_bodies (tag_named ds tag) bs
-tag_bodies_are ds None bs = refl
-tag_bodies_are ds (Some t) bs = ap (λ (b : TokenBody). b ∷ bs) (split_body (split_tag ds t))
+tag_bodies_are ds tag bs = grind (arith, nat_tests, split_body)
 
 -- In full it is that tag.
 pub full_is : (ds : List TagDirective) (tag : Option (List ℕ)) → full_of (tag_named ds tag) ≡ tag
-full_is ds None = refl
-full_is ds (Some t) = refl
+full_is ds tag = grind (arith, nat_tests)
 
 -- of a scalar: with `!` where it is untagged and may not be quoted
 abbrev pub bang : Named
@@ -257,25 +249,20 @@ scalar_bodies_are : (ds : List TagDirective) (tag : Option (List ℕ)) (quoted :
     (bs : List TokenBody)
     → tag_bodies ds tag (mark_bodies (not (has tag) && not quoted) bs)
     ≡ named_bodies (scalar_named ds tag quoted) bs
-scalar_bodies_are ds None true bs = refl
-scalar_bodies_are ds None false bs = refl
-scalar_bodies_are ds (Some t) quoted bs = tag_bodies_are ds (Some t) bs
+scalar_bodies_are ds tag quoted bs = grind (arith, nat_tests, tag_bodies_are)
 
 -- A scalar with a tag that is kept says that tag.
 pub tagged_event : (b : Bool) (anchor : Option (List ℕ)) (t value : List ℕ)
     (style : yaml_scalar_style_t) → b ≡ false
     → (if b then event.scalar anchor None value true false style else event.scalar anchor (Some t)
     value false false style) ≡ event.scalar anchor (Some t) value false false style
-tagged_event true anchor t value style e = absurd (cc)
-tagged_event false anchor t value style e = refl
+tagged_event b anchor t value style e = grind (arith, nat_tests)
 
 scalar_event_is : (ds : List TagDirective) (anchor tag : Option (List ℕ)) (value : List ℕ)
     (quoted : Bool) → IsNoMark tag
     → node_event anchor (full_of (scalar_named ds tag quoted))
     (item.scalar value YAML_DOUBLE_QUOTED_SCALAR_STYLE) ≡ scalar_reads anchor tag value quoted
-scalar_event_is ds anchor None value true h = refl
-scalar_event_is ds anchor None value false h = refl
-scalar_event_is ds anchor (Some t) value quoted h = tagged_event (bytes_eq t (codes "!")) anchor t value YAML_DOUBLE_QUOTED_SCALAR_STYLE h
+scalar_event_is ds anchor tag value quoted h = grind (arith, nat_tests, tagged_event)
 
 -- ---- nodes
 
@@ -286,15 +273,13 @@ with_dress (Some d) c = trees.with_properties d c
 -- It spells its properties, and then its content.
 pub dress_spells : (w : Wants) (d : Option PropertyTokens) (c : trees.Content w) (rest : List Token)
     → spell_node (with_dress d c) rest ≡ spell_if d (spell_content c rest)
-dress_spells w None c rest = refl
-dress_spells w (Some d) c rest = refl
+dress_spells w d c rest = grind (arith, nat_tests)
 
 -- A node in its properties gives what its content gives with them.
 pub dress_gives : (w : Wants) (d : Option PropertyTokens) (c : trees.Content w) (rest : List Token)
     (more : List Given)
     → items_node (with_dress d c) rest more ≡ items_content c (properties_if d) rest more
-dress_gives w None c rest more = refl
-dress_gives w (Some d) c rest more = refl
+dress_gives w d c rest more = grind (arith, nat_tests)
 
 -- ---- contents
 
@@ -360,8 +345,7 @@ bracketed b w ds R us cs bs inner e =
 
 end_settles : (b : Brackets) (from to : yaml_mark_t) (D : Directives)
     → settle (trees.event_at (end_event b) from to) D ≡ gave (end_event b) D
-end_settles brackets.Sequence from to D = refl
-end_settles brackets.Mapping from to D = refl
+end_settles b from to D = grind (arith, nat_tests)
 
 -- Nothing is before a closing bracket.
 pub brackets_end : (b : Brackets) (ds : List TagDirective) (ts : List Token) (bs : List TokenBody)

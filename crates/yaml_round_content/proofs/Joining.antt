@@ -1,6 +1,6 @@
 -- The plain reading of an input is what the machine reads.
-use Rattle.std.proofs.Common.{◌≡◌, ℕ, List, Option, Some, None, Result, Ok, Err, refl, ap, sym, subst, ◌∙◌}
-use Rattle.yaml_round_content.proofs.Words.{yaml_encoding_t, Token, Fault, Given, items, Outcome, run, initial, Reading, reading, no_directives, BeginsWithSentence, FaultOfTokens, contents, tokens_of, read, events_of, ending_of, Document, stream_says, tree_content, TokensRead, HasContent, InputsRead, ReadingIsOne, RefusedIsRead, ReadIsRefused, SaidIsRead, ReadIsSaid, EventsAreOfTree}
+use Rattle.std.proofs.Common.{◌≡◌, ℕ, List, Option, Some, None, Result, Ok, Err, refl, ap, sym, subst, ◌∙◌, arith}
+use Rattle.yaml_round_content.proofs.Words.{nat_tests, yaml_encoding_t, Token, Fault, Given, items, run, initial, Reading, reading, no_directives, BeginsWithSentence, FaultOfTokens, contents, tokens_of, read, events_of, ending_of, Document, stream_says, tree_content, TokensRead, HasContent, InputsRead, ReadingIsOne, RefusedIsRead, ReadIsRefused, SaidIsRead, ReadIsSaid, EventsAreOfTree}
 use Rattle.yaml_emit_laws.specs.parse_grammar.Remaining.{reading_of}
 use Rattle.yaml_emit_laws.proofs.CompleteStream.{stream_runs}
 use Rattle.yaml_emit_laws.proofs.Ending.{ends_in_fault, fault_ends}
@@ -18,8 +18,7 @@ reads ts own = reading_of (run ts initial own) no_directives
 -- a list that begins with a sentence is read as its tree's items are
 pub tree_read : (ts : List Token) (own : Option Fault) (b : BeginsWithSentence ts)
     → reads ts own ≡ reading (items b.tree b.rest) None no_directives
-tree_read ts own b =
-    ap (λ (us : List Token). reads us own) (b.same ∙ spelled_before b.tree b.rest) ∙ ap (λ (o : Outcome). reading_of o no_directives) (stream_runs b.tree b.rest own)
+tree_read ts own b = grind (arith, nat_tests, spelled_before, stream_runs)
 
 pub tokens_say : (ts : List Token) (own : Option Fault) (b : BeginsWithSentence ts)
     → contents (reads ts own).events ≡ stream_says (tree_content b.tree)
@@ -46,9 +45,7 @@ read_is from input = refl
 
 sentence_of : (from : yaml_encoding_t) (input : List ℕ) → ending_of from input ≡ None
     → BeginsWithSentence (tokens_of from input).tokens
-sentence_of from input e =
-    subst (λ (o : Option Fault). FaultOfTokens (tokens_of from input).tokens (tokens_of from input).fault o) (ap (λ (r : Reading). r.ending) (sym (read_is from input)) ∙ e)
-    (ends_in_fault (tokens_of from input).tokens (tokens_of from input).fault)
+sentence_of from input e = grind (arith, nat_tests, read_is, ends_in_fault)
 
 says_of : (from : yaml_encoding_t) (input : List ℕ)
     (b : BeginsWithSentence (tokens_of from input).tokens)

@@ -1,7 +1,6 @@
 -- The canonical layout of a stream is that of its content.
-use Rattle.std.proofs.Common.{◌≡◌, ℕ, Bool, true, false, not, List, [], ◌∷◌, Option, Some, None, refl, sym, ap, subst, ◌∙◌}
-use Rattle.yaml_round_content.proofs.Words.{or-true, yaml_encoding_t, YAML_ANY_ENCODING, yaml_scalar_style_t, YAML_ANY_SCALAR_STYLE, EventBody, Told, Settings, Layout, ◌▹◌, node_layout, IsEmittable, is_lone_mark, normalize_scalar, normalize_body, emitter_events, events_of, Document, written_node, written_nodes, written_pairs, AreFlagged, LayoutIsOfContent, ContentIsLaidOut, order_mark, written, root_position, start_layout, end_layout, documents_layout, stream_layout, written_scalar, written_documents, canon_items, IsSet, IsFlaggedScalar}
-use Rattle.yaml_parse_model.specs.Events as event
+use Rattle.std.proofs.Common.{◌≡◌, ℕ, Bool, true, false, not, List, [], ◌∷◌, Option, None, refl, sym, ap, subst, ◌∙◌, arith}
+use Rattle.yaml_round_content.proofs.Words.{nat_tests, or-true, yaml_encoding_t, YAML_ANY_ENCODING, yaml_scalar_style_t, EventBody, Told, Settings, Layout, ◌▹◌, node_layout, IsEmittable, normalize_scalar, normalize_body, emitter_events, events_of, written_node, written_nodes, written_pairs, AreFlagged, LayoutIsOfContent, ContentIsLaidOut, order_mark, written, root_position, start_layout, end_layout, documents_layout, stream_layout, written_scalar, written_documents, canon_items, IsSet, IsFlaggedScalar}
 use Rattle.yaml_emit_laws.specs.emit_layout.declared.Encoding.{Encoding}
 use Rattle.yaml_emit_laws.specs.emit_layout.declared.RequestedSettings.{RequestedSettings}
 use Rattle.yaml_emit_laws.specs.emit_layout.Settings.{settled, settled_encoding}
@@ -71,20 +70,7 @@ scalar_written : (anchor tag : Option (List ℕ)) (value : List ℕ) (plain quot
           quoted;
       style = style;
     }) ≡ written_scalar anchor (mark_of tag plain) value
-scalar_written anchor (Some t) value plain quoted style h = refl
-scalar_written anchor None value plain quoted style h = rw (h refl) (by plain)
-  where
-    by : (b : Bool)
-        → record {
-          anchor = anchor;
-          tag = None;
-          value = value;
-          plain = not (not b);
-          quoted = not b;
-          style = YAML_ANY_SCALAR_STYLE;
-        } ≡ written_scalar anchor (mark_of None b) value
-    by true = refl
-    by false = refl
+scalar_written anchor tag value plain quoted style h = grind (arith, nat_tests)
 
 mutual
   node_written : (n : emit.Node) → NodeFlagged n → bare_node n ≡ written_node (tree_of n)
@@ -119,13 +105,10 @@ AreImplicit (e ∷ es) = IsImplicit e × AreImplicit es
 normalized_implicit : (lone : Bool) (anchor tag : Option (List ℕ)) (value : List ℕ)
     (plain quoted : Bool) (style : yaml_scalar_style_t)
     → IsImplicit (emit.emitter_event (normalize_scalar lone anchor tag value plain quoted style))
-normalized_implicit true anchor tag value plain quoted style = tt
-normalized_implicit false anchor tag value plain quoted style = tt
+normalized_implicit lone anchor tag value plain quoted style = grind (arith, nat_tests)
 
 body_implicit : (b : EventBody) → IsImplicit (emit.emitter_event (normalize_body true b))
-body_implicit (event.document_end implicit) = or-true implicit
-body_implicit (event.scalar anchor tag value plain quoted style) = normalized_implicit (is_lone_mark tag value) anchor tag value plain quoted style
-body_implicit _ = tt
+body_implicit b = grind (arith, nat_tests, or-true, normalized_implicit)
 
 said_implicit : (es : List Told) → AreImplicit (emitter_events true es)
 said_implicit [] = tt
@@ -203,14 +186,11 @@ canonical_is s e = ap (λ (b : Bool). record { encoding = s.encoding; canonical 
 
 encoding_fixed : (wish stream : yaml_encoding_t) → IsSet wish
     → settled_encoding wish stream ≡ settled_encoding wish YAML_ANY_ENCODING
-encoding_fixed YAML_ANY_ENCODING stream h = absurd h
-encoding_fixed _ stream h = refl
+encoding_fixed wish stream h = grind (arith, nat_tests)
 
 settled_fixed : (w : RequestedSettings) (stream : yaml_encoding_t) → IsSet w.encoding
     → settled w stream ≡ settled w YAML_ANY_ENCODING
-settled_fixed w stream h =
-    let s = settled w YAML_ANY_ENCODING in
-    ap (λ (x : Encoding). record { encoding = x; canonical = s.canonical; indent = s.indent; width = s.width; unicode = s.unicode; line_break = s.line_break }) (encoding_fixed w.encoding stream h)
+settled_fixed w stream h = grind (arith, nat_tests, encoding_fixed)
 
 -- ---- the laws
 
@@ -222,15 +202,7 @@ pub normal_layout : (w : RequestedSettings) → w.canonical ≡ true → (ds : L
 normal_layout w e ds h = let s = settled w YAML_ANY_ENCODING in subst (Same ds) (canonical_is s e) (stream_same s ds h)
 
 pub layouts_of_content : LayoutIsOfContent
-layouts_of_content w right es flagged c says x whole stream =
-    let ds = stream.documents in
-    let known : c ≡ document_trees ds = says_injective c (document_trees ds) (sym says ∙ stream_trees es stream.encoding ds stream.same) in
-    let normalize = documents_even ds (subst AreFlagged stream.same flagged).1 (subst AreImplicit stream.same (said_implicit es)).1 in
-    let same : Same ds (settled w YAML_ANY_ENCODING) = normal_layout w right.canonical ds normalize in
-    let fixed = settled_fixed w stream.encoding right.set in (
-      stream.coded ∙ ap (λ (z : Settings). z.encoding) fixed,
-      stream.is ∙ ap (λ (z : Settings). written (stream_layout z ds)) fixed ∙ ap (λ (a : Layout). written a) same ∙ ap (λ (e : List Document). canon_items w e) (sym known),
-    )
+layouts_of_content w right es flagged c says x whole stream = grind (arith, nat_tests, says_injective, stream_trees, documents_even, said_implicit, normal_layout, settled_fixed)
 
 pub content_laid_out : ContentIsLaidOut
 content_laid_out w right from input flagged c has =

@@ -1,7 +1,7 @@
 -- What an input loads is its plain loading.
-use Rattle.std.proofs.Common.{◌≡◌, ℕ, List, Option, Some, None, Ok, Err, ap, sym, subst, ◌∙◌}
+use Rattle.std.proofs.Common.{◌≡◌, ℕ, List, Option, Some, None, Ok, Err, ap, sym, subst, ◌∙◌, arith}
 use Rattle.std.proofs.lemmas.Option.{same_Some}
-use Rattle.yaml_round_content.proofs.Words.{yaml_encoding_t, Token, Fault, Reading, BeginsWithSentence, nothing_loaded, tokens_of, Loads, load_all, loads_of, tree_documents, loaded_documents, read_of}
+use Rattle.yaml_round_content.proofs.Words.{nat_tests, yaml_encoding_t, Token, Fault, Reading, BeginsWithSentence, nothing_loaded, tokens_of, Loads, load_all, loads_of, tree_documents, loaded_documents, read_of}
 use Rattle.yaml_parse_model.specs.Documents.{Document}
 use Rattle.yaml_emit_laws.specs.parse_laws_trees.Faults.{FaultOfLoading}
 use Rattle.yaml_emit_laws.proofs.Unique.{one_load_fault}
@@ -52,9 +52,7 @@ one_of_tokens ts own (Err e) (Err f) p q = ap (λ (z : Fault). Err z) (same_Some
 
 tokens_of_load : (from : yaml_encoding_t) (input : List ℕ)
     → TokensLoad (tokens_of from input).tokens (tokens_of from input).fault (result_of (loads_of from input))
-tokens_of_load from input =
-    subst (λ (l : Loads). TokensLoad (tokens_of from input).tokens (tokens_of from input).fault (result_of l)) (sym (ap (λ (r : Reading). loads_in r) (read_is from input)))
-    (tokens_load (tokens_of from input).tokens (tokens_of from input).fault)
+tokens_of_load from input = grind (arith, nat_tests, read_is, tokens_load)
 
 pub inputs_load : InputsLoad
 inputs_load from input = plain_loading from input (result_of (loads_of from input)) (tokens_of_load from input)

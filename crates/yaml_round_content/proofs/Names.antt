@@ -1,19 +1,17 @@
 -- What is loaded doesn't depend on the names of anchors.
-use Rattle.std.proofs.Common.{◌≡◌, ℕ, suc, ℤ, pos, Bool, true, false, cond, List, [], ◌∷◌, ◌++◌, length, Option, Some, None, refl, sym, ap, subst, ◌∙◌, inl, inr}
-use Rattle.yaml_round_content.proofs.Words.{bytes_eq-Decides, bytes_eq, nat_cmp, eq_by_cmp, slice_cmp, nat_list_cmp_total, YAML_ANY_SEQUENCE_STYLE, YAML_ANY_MAPPING_STYLE, EventBody, Open, open_sequence, open_mapping, attach, named, nothing_loaded, contents, load_all, ScalarMark, untagged, tagged, Node, alias, scalar, sequence, mapping, Nodes, no_nodes, node, Pairs, no_pairs, pair, Document, scalar_says, node_says, items_say, pairs_say, documents_say, Core, CoreNode, LoadsOfRenamed}
+use Rattle.std.proofs.Common.{◌≡◌, ℕ, suc, ℤ, pos, Bool, true, cond, List, [], ◌∷◌, ◌++◌, length, Option, Some, None, refl, sym, ap, subst, ◌∙◌, inl, inr, arith}
+use Rattle.yaml_round_content.proofs.Words.{nat_tests, bytes_eq-Decides, bytes_eq, nat_cmp, eq_by_cmp, slice_cmp, nat_list_cmp_total, YAML_ANY_SEQUENCE_STYLE, YAML_ANY_MAPPING_STYLE, EventBody, Open, open_sequence, open_mapping, attach, named, nothing_loaded, contents, load_all, ScalarMark, untagged, tagged, Node, alias, scalar, sequence, mapping, Nodes, no_nodes, node, Pairs, no_pairs, pair, Document, scalar_says, node_says, items_say, pairs_say, documents_say, Core, CoreNode, LoadsOfRenamed}
 use Rattle.std.proofs.lemmas.Map.Text.{is_eq-slice_cmp}
 use Rattle.std.specs.FinMap as map
 use Rattle.yaml_parse_model.specs.Events as event
 use Rattle.yaml_round_content.specs.Renamed.{Renaming, renamed_anchor, renamed_node, renamed_items, renamed_pairs, renamed, IsAnchorName, HasName, ItemsHaveName, PairsHaveName, AreOneToOne}
-use Rattle.yaml_round_content.proofs.Core.{Anchors, CoreLoading, CoreLoads, core_leaf, core_open, core_closed, core_aliased, core_nothing, core_in_front, core_on, core_loads, is_fault}
+use Rattle.yaml_round_content.proofs.Core.{Anchors, CoreLoading, core_leaf, core_open, core_closed, core_aliased, core_nothing, core_on, core_loads, is_fault}
 use Rattle.yaml_round_content.proofs.DumpsContents.{loads_said, faults_alike, alike}
 
 -- ---- names
 
 alike_tests : (x y : Bool) → (x ≡ true → y ≡ true) → (y ≡ true → x ≡ true) → x ≡ y
-alike_tests true y f g = sym (f refl)
-alike_tests false true f g = g refl
-alike_tests false false f g = refl
+alike_tests x y f g = grind (arith, nat_tests)
 
 -- whether names are one is not changed by a renaming that keeps them apart
 same_renamed : (r : Renaming) (a b : List ℕ) → (r a ≡ r b → a ≡ b)
@@ -178,9 +176,7 @@ document_ends : (IsIn : List ℕ → Type 0) (r : Renaming)
     → ((l m : CoreLoading) → core_loads bs f l ≡ core_loads cs f m)
     → Goes IsIn r one f (event.document_end true ∷ bs) (event.document_end true ∷ cs)
 unfolding core_loads
-document_ends IsIn r one f bs cs g = record {
-  same = λ l m b. ap (λ (c : Core). core_in_front c.nodes c (core_loads bs f core_nothing)) b.document ∙ ap (λ (a : CoreLoads). core_in_front m.document.nodes m.document a) (g core_nothing core_nothing);
-}
+document_ends IsIn r one f bs cs g = grind (arith, nat_tests)
 
 documents_same : (f : Bool) (r : ℕ → Renaming) (c : List Document) → AreOneToOne r c
     → (l m : CoreLoading)

@@ -1,7 +1,6 @@
 -- What an input says is what the text says that its bytes spell.
-use Rattle.std.proofs.Common.{◌≡◌, ◌∙◌, ℕ, ◌<◌, List, [], Some, Result, Ok, Err, option_map, All, get_or, length, refl, sym, ap, subst, inl, inr, arith}
-use Rattle.std.specs.Result.{result_err}
-use Rattle.yaml_round_content.proofs.Words.{cases_lt, get_or_past, All-get_or, yaml_encoding_t, Fault, Offence, encoding_of, decoded_characters, in_utf8, Remaining, scanned_in, adapted, initial, run, reading, no_directives, tokens_of, Document, TokensRead, BeginsWithSentence, spells_decoded, decoded_spells, load_all, nothing_loaded}
+use Rattle.std.proofs.Common.{◌≡◌, ◌∙◌, ℕ, ◌<◌, List, [], Some, Result, Ok, Err, All, get_or, refl, sym, ap, subst, arith}
+use Rattle.yaml_round_content.proofs.Words.{nat_tests, get_or_past, yaml_encoding_t, Fault, Offence, encoding_of, decoded_characters, in_utf8, Remaining, scanned_in, adapted, initial, run, reading, no_directives, tokens_of, Document, TokensRead, BeginsWithSentence, spells_decoded, decoded_spells, load_all, nothing_loaded}
 use Rattle.yaml_emit_laws.specs.parse_grammar.Remaining.{reading_of}
 use Rattle.yaml_parse_model.specs.Documents as loaded
 use Rattle.yaml_scan_laws.specs.scan_decode.Offences.{reader_fault}
@@ -25,11 +24,7 @@ pub tokens_are : (from : yaml_encoding_t) (input text : List ℕ) → Spells fro
 tokens_are from input text h = ap (λ (c : Remaining). adapted c) (of_text from input text h ∙ offline_looks_back (spelled_in from input text))
 
 pub are_small : (input : List ℕ) → All (λ (b : ℕ). b < 256) input → (k : ℕ) → get_or input k 0 < 256
-are_small input are k =
-    elim (cases_lt k (length input)) [
-      | inl inside ↦ All-get_or (λ (b : ℕ). b < 256) input k 0 inside are
-      | inr past ↦ let none = get_or_past input k 0 past in omega (arith, none)
-    ]
+are_small input are k = grind (arith, nat_tests, get_or_past)
 
 -- ---- bytes that spell nothing
 
@@ -65,8 +60,7 @@ fault_loaded f (Err e) h = same_fault e f (sym (load_none f) ∙ fault_ends_load
 is_offence : {A : Type 0} (from : yaml_encoding_t) (input : List ℕ) (o : Offence)
     (r : Result A Fault) → decoding_fault from input ≡ Some (reader_fault o)
     → FaultIs (reader_fault o) r → IsOffence from input r
-is_offence from input o (Ok x) p h = h
-is_offence {A = A} from input o (Err e) p h = subst (λ (f : Fault). IsOffence {A = A} from input (Err f)) h (refl, p)
+is_offence from input o r p h = grind (arith, nat_tests)
 
 -- what is said of the tokens of what was decoded
 offended : {A : Type 0} (from : yaml_encoding_t) (input : List ℕ) (r : Result A Fault)
@@ -75,8 +69,7 @@ offended : {A : Type 0} (from : yaml_encoding_t) (input : List ℕ) (r : Result 
     → (d : Result (List ℕ) Offence) → decoded_characters from input ≡ d
     → ((text : List ℕ) → in_utf8 d ≡ Ok text → ⊥)
     → Tell (adapted (scanned_in (encoding_of from input) (in_utf8 d))) → IsOffence from input r
-offended from input r Tell k (Ok cs) e never h = absurd (never _ refl)
-offended from input r Tell k (Err o) e never h = is_offence from input o r (ap (λ (d : Result (List ℕ) Offence). option_map reader_fault (result_err d)) e) (k (reader_fault o) h)
+offended from input r Tell k d e never h = grind (arith, nat_tests, is_offence)
 
 none_spelled : (from : yaml_encoding_t) (input : List ℕ) → All (λ (b : ℕ). b < 256) input
     → SpellsNothing from input → (text : List ℕ)

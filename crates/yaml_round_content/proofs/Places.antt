@@ -1,11 +1,11 @@
 -- A step of the machine gives items in their right places, and leaves a stack that agrees with what
 -- has come.
-use Rattle.std.proofs.Common.{◌≡◌, true, List, [], ◌∷◌, ◌++◌, Option, Some, None, refl, sym, ap, subst, ◌∙◌, append_assoc}
+use Rattle.std.proofs.Common.{◌≡◌, true, List, [], ◌∷◌, ◌++◌, Option, Some, None, refl, sym, ap, subst, ◌∙◌, append_assoc, arith}
 use Rattle.yaml_parse_model.specs.declared.yaml_mark_t.{yaml_mark_t}
 use Rattle.yaml_parse_model.specs.declared.yaml_token_type_t.{yaml_token_type_t}
-use Rattle.yaml_round_content.proofs.Words.{value_due, Token, type_of, Wants, Root, Choice, Refuse, Take, Leave, RawEvent, Properties, Shape, item_at, node_at, State, choice_at, taken_at, left_at, Fed, stop, go, with_item, given_by, feed, Due, item_due, key_due, Progress, at_place, inside, behind_node, TokenBody, IndentlessEntry, documents_taken, content_taken, node_taken, wants_of}
+use Rattle.yaml_round_content.proofs.Words.{nat_tests, Token, type_of, Wants, Root, Choice, Refuse, Take, Leave, RawEvent, Properties, Shape, item_at, node_at, State, choice_at, taken_at, left_at, Fed, stop, go, with_item, given_by, feed, Due, item_due, key_due, Progress, at_place, inside, behind_node, TokenBody, documents_taken, content_taken, node_taken, wants_of}
 use Rattle.yaml_emit_laws.specs.scan_types.Tokens as token
-use Rattle.yaml_emit_laws.specs.parse_grammar.declared.Wants.TheVariants.{Flow, Block}
+use Rattle.yaml_emit_laws.specs.parse_grammar.declared.Wants.TheVariants.{Flow}
 use Rattle.yaml_emit_laws.specs.parse_grammar.declared.Brackets.TheVariants as brackets
 use Rattle.yaml_emit_laws.specs.parse_grammar.declared.Choice.TheVariants.{Open}
 use Rattle.yaml_emit_laws.specs.parse_grammar.Items as item
@@ -18,10 +18,7 @@ use Rattle.yaml_round_content.proofs.Stacks.{between, dues, shape_of, node_shape
 -- ---- taking a token
 
 twice : (ds : List Due) → behind_node (behind_node ds) ≡ ds
-twice [] = refl
-twice (item_due ∷ ds) = refl
-twice (key_due ∷ ds) = refl
-twice (value_due ∷ ds) = refl
+twice ds = grind (arith, nat_tests)
 
 -- after a node comes what is expected below
 behind : (s : List State) → shape_of s ≡ inside (dues s)
@@ -40,32 +37,19 @@ documents_lead : (from start end : yaml_mark_t) (b : TokenBody) (s : List State)
     → AreRight (state.documents ∷ s)
     → Leads (at_place between) (documents_taken from start end b).item
     ((documents_taken from start end b).above ++ s)
-documents_lead from start end (token.version_directive x y) s h = (tt, (refl, h))
-documents_lead from start end (token.tag_directive x y) s h = (tt, (refl, h))
-documents_lead from start end token.document_start s h = (refl, (refl, (refl, (ap (λ (z : List State). state.documents ∷ z) h.0, h))))
-documents_lead from start end token.stream_end s h = (refl, (sym (ap shape_of h.0), h.1))
-documents_lead from start end _ s h = (refl, h)
+documents_lead from start end b s h = grind (arith, nat_tests)
 
 -- a node in its place, whatever its properties
 at_node : (h : Progress) (z : List State) (p : Option Properties) (k : Shape)
     (start end : yaml_mark_t) → h.place ≡ at.Node → moved_kind h k ≡ shape_of z → AreRight z
     → Leads h (Some (node_at p k start end)) z
-at_node h z None k start end e f r = (e, (f, r))
-at_node h z (Some q) k start end e f r = (e, (f, r))
+at_node h z p k start end e f r = grind (arith, nat_tests)
 
 content_leads : (w : Wants) (p : Option Properties) (start end : yaml_mark_t) (b : TokenBody)
     (s : List State) → shape_of s ≡ inside (dues s) → AreRight s
     → Leads (node_shape s) (content_taken w p start end b).item
     ((content_taken w p start end b).above ++ s)
-content_leads w p start end (token.scalar v x) s e r = at_node (node_shape s) s p (item.scalar v x) start end refl (behind s e) r
-content_leads w p start end token.flow_sequence_start s e r = at_node (node_shape s) (state.items brackets.Sequence start ∷ s) p (item.sequence _) start end refl (opens_items s) (e, r)
-content_leads w p start end token.flow_mapping_start s e r = at_node (node_shape s) (state.items brackets.Mapping start ∷ s) p (item.mapping _) start end refl (opens_pairs s) (e, r)
-content_leads w p start end token.block_sequence_start s e r = at_node (node_shape s) (state.entries start ∷ s) p (item.sequence _) start end refl (opens_items s) (e, r)
-content_leads w p start end token.block_mapping_start s e r = at_node (node_shape s) (state.pairs start ∷ s) p (item.mapping _) start end refl (opens_pairs s) (e, r)
-content_leads (Block (Some x)) p start end token.block_entry s e r = at_node (node_shape s) (state.optional (IndentlessEntry x) end ∷ state.others x ∷ s) p (item.sequence _) start end refl (opens_items s) (refl, (e, r))
-content_leads (Block None) p start end token.block_entry s e r = (refl, (e, r))
-content_leads Flow p start end token.block_entry s e r = (refl, (e, r))
-content_leads w p start end _ s e r = (refl, (e, r))
+content_leads w p start end b s e r = grind (arith, nat_tests, at_node, behind, opens_items, opens_pairs)
 
 node_leads : (w : Wants) (start end : yaml_mark_t) (b : TokenBody) (s : List State)
     → shape_of s ≡ inside (dues s) → AreRight s
@@ -80,8 +64,7 @@ part_leads : (start end : yaml_mark_t) (b : TokenBody) (ys s : List State)
     → shape_of (ys ++ s) ≡ inside (dues (ys ++ s)) → AreRight (ys ++ s)
     → Leads (node_shape (ys ++ s)) (node_taken Flow start end b).item
     (((node_taken Flow start end b).above ++ ys) ++ s)
-part_leads start end b ys s e r =
-    subst (Leads (node_shape (ys ++ s)) (node_taken Flow start end b).item) (sym (append_assoc (node_taken Flow start end b).above ys s)) (node_leads Flow start end b (ys ++ s) e r)
+part_leads start end b ys s e r = grind (arith, nat_tests, append_assoc, node_leads)
 
 taken_leads_by : (x : State) (start end : yaml_mark_t) (b : TokenBody) (s : List State)
     → choice_at x (type_of b) ≡ Take → AreRight (x ∷ s)
@@ -123,23 +106,14 @@ taken_leads_by _ start end _ s c h = absurd (was_take _ c)
 
 left_leads : (x : State) (k : yaml_token_type_t) (start : yaml_mark_t) (s : List State)
     → MayLeave x k → AreRight (x ∷ s) → Leads (shape_of (x ∷ s)) (Some (left_at x start)) s
-left_leads (state.optional place before) k start s l h = (refl, (behind s h.0, h.1))
-left_leads (state.colon place) k start s l h = (refl, (behind s h.0, h.1))
-left_leads (state.with_properties w q) k start s l h = (refl, (behind s h.0, h.1))
-left_leads state.lone k start s l h = (refl, (behind s h.0, h.1))
-left_leads state.document_end k start s l h = (refl, (sym (ap shape_of h.0), h.1))
-left_leads (state.others side) k start s l h = ((refl, refl), (sym h.0, h.1))
-left_leads state.pair_end k start s l h = ((refl, refl), (sym h.0, h.1))
-left_leads _ k start s l h = absurd l
+left_leads x k start s l h = grind (arith, nat_tests, behind)
 
 -- ---- an implicit document
 
 -- it opens where documents may come
 opens_between : (x : State) (k : yaml_token_type_t) (s : List State) → choice_at x k ≡ Open
     → AreRight (x ∷ s) → (shape_of (x ∷ s) ≡ at_place between) × (s ≡ [])
-opens_between x k s c h =
-    let e = opens_first x k c in
-    (ap (λ (y : State). shape_of (y ∷ s)) e, (subst (λ (y : State). AreRight (y ∷ s)) e h).0)
+opens_between x k s c h = grind (arith, nat_tests, opens_first)
 
 -- ---- a stack at a token
 
@@ -158,24 +132,17 @@ FedLeads h (go is s) = AllPlaced h is × ((moved_all h is ≡ shape_of s) × Are
 
 with_leads : (h : Progress) (i : RawEvent) (below : Fed) → IsPlaced h i.body
     → FedLeads (moved h i.body) below → FedLeads h (with_item i below)
-with_leads h i (stop is f) p q = (p, q)
-with_leads h i (go is s) p q = ((p, q.0), q.1)
+with_leads h i below p q = grind (arith, nat_tests)
 
 given_leads : (h : Progress) (i : Option RawEvent) (above s : List State) → Leads h i (above ++ s)
     → FedLeads h (given_by (record { item = i; above = above }) s)
-given_leads h None above s l = (tt, l)
-given_leads h (Some i) above s l = ((l.0, tt), l.1)
+given_leads h i above s l = grind (arith, nat_tests)
 
 -- the first token of an implicit document
 root_leads : (t : Token) (s : List State) → s ≡ []
     → FedLeads (at_place at.Node) (given_by (taken_at (state.optional Root t.start_mark) t)
     (state.document_end ∷ state.documents ∷ s))
-root_leads t s e =
-    given_leads (at_place at.Node) (taken_at (state.optional Root t.start_mark) t).item (taken_at (state.optional Root t.start_mark) t).above (state.document_end ∷ state.documents ∷ s)
-    (node_leads (Block None) t.start_mark t.end_mark t.body (state.document_end ∷ state.documents ∷ s) refl (ap (λ (z : List State). state.documents ∷ z) e, (e, alone s e)))
-  where
-    alone : (s : List State) → s ≡ [] → AreRight s
-    alone s e = subst AreRight (sym e) tt
+root_leads t s e = grind (arith, nat_tests, given_leads, node_leads)
 
 turn_leads : (c : Choice) (x : State) (t : Token) (s : List State) (below : Fed)
     → choice_at x (type_of t.body) ≡ c → AreRight (x ∷ s) → FedLeads (shape_of s) below

@@ -1,19 +1,17 @@
 -- Trees of documents.
 use Rattle.std.proofs.Common.{◌≡◌, Bool, true, false, not, ◌&&◌, ◌||◌, List, [], ◌∷◌, length, Option, Some, None, refl, sym, ap, ◌∙◌, ℕ, ◌==◌, if◌then◌else◌, map, subst, arith}
-use Rattle.yaml_round_content.proofs.PrettyWords.{or-true, and-false, and-true, yaml_encoding_t, Token, TokenBody, EventBody, TagDirective, Root, Span, token_at, Given, spell_node, spell_maybe, spell_directives, spell_ends, spell_documents, no_first, items_node, items_maybe, items_ends, items_documents, items, behind, Outcome, run, feed, Directives, no_directives, Reading, reading, Told, Settings, Opening, Document, Event, document_end, scalar, Scalar, Node, scalar_node, node_events, documents_events, stream_events, has_version, has_directives, is_directed, is_marked, style_of, is_plain, opening_problem, has, kept_tag, scalar_tag, version_bodies, directives_bodies, end_bodies, anchor_bodies, tag_bodies, mark_bodies, start_bodies, token_bodies, event_bodies, SaysTree, HasNoMark, AreParsable, parsed_of, take, context_in, root_bodies, is_root_kept, is_left_out, has_dots, opening_bodies, documents_bodies, starts_with_nothing, style_at, takes_mark, is_bare, is_nothing, scalar_bodies, node_bodies, root_reads, documents_reads, stream_reads, PrettyTokensAreParsed, BeginningIsTold, PrettyTokensAreLost, fine_version, fine_tags, false≢true, YAML_ANY_ENCODING, yaml_scalar_style_t, emitter_events, contents, Style, allowed, taken, HasScalarFlags, HasFlags, HaveReaderFlags, is_asked_plain, says_nothing, begins_with_nothing}
+use Rattle.yaml_round_content.proofs.PrettyWords.{nat_tests, or-true, and-false, and-true, yaml_encoding_t, Token, TokenBody, EventBody, TagDirective, Root, Span, token_at, Given, spell_node, spell_maybe, spell_directives, spell_ends, spell_documents, no_first, items_node, items_maybe, items_ends, items_documents, items, behind, run, feed, Directives, no_directives, Reading, reading, Told, Settings, Opening, Document, Event, scalar, Scalar, Node, scalar_node, node_events, documents_events, stream_events, has_version, has_directives, is_directed, is_marked, style_of, is_plain, opening_problem, has, kept_tag, version_bodies, directives_bodies, end_bodies, anchor_bodies, tag_bodies, mark_bodies, start_bodies, token_bodies, event_bodies, SaysTree, HasNoMark, AreParsable, parsed_of, take, context_in, root_bodies, is_root_kept, is_left_out, has_dots, opening_bodies, documents_bodies, starts_with_nothing, takes_mark, is_bare, is_nothing, scalar_bodies, node_bodies, root_reads, documents_reads, stream_reads, PrettyTokensAreParsed, BeginningIsTold, PrettyTokensAreLost, fine_version, fine_tags, false≢true, YAML_ANY_ENCODING, yaml_scalar_style_t, emitter_events, contents, Style, allowed, taken, HasScalarFlags, HaveReaderFlags, is_asked_plain, begins_with_nothing}
 use Rattle.yaml_parse_model.specs.declared.yaml_version_directive_t.{yaml_version_directive_t}
 use Rattle.yaml_parse_model.specs.scan_types.Tokens as token
 use Rattle.yaml_parse_model.specs.Events as event
 use Rattle.yaml_emit_laws.specs.parse_grammar.Items as item
 use Rattle.yaml_emit_laws.specs.parse_grammar.Trees as trees
-use Rattle.yaml_emit_laws.specs.parse_grammar.Remaining.{reading_of}
 use Rattle.yaml_emit_laws.proofs.CompleteStream.{stream_runs}
 use Rattle.yaml_emit_laws.specs.emit_layout.declared.level.Part.TheVariants as part
 use Rattle.yaml_round_content.proofs.ReadBackDocuments.{version_directed, item_says, no_spans, ends_say, resolving}
 use Rattle.yaml_emit_laws.specs.NodeBodies.{is_empty}
 use Rattle.yaml_round_content.proofs.PrettyNodes.{nodes_grown, maybes_grown}
 use Rattle.std.specs.Str.{chars}
-use Rattle.yaml_parse_model.specs.declared.yaml_scalar_style_t.TheVariants as asked
 use Rattle.yaml_emit_laws.specs.emit_layout.declared.Style.TheVariants as style
 use Rattle.yaml_round_content.proofs.Contents.{says, content, contents_said, contents_by, documents_same}
 
@@ -181,9 +179,7 @@ parsed_by : (x : yaml_encoding_t) (es : List EventBody) (tree : trees.Stream) (r
     → ts ≡ trees.spell tree rest
     → Ends (reading (items tree rest) None no_directives) (event.stream_start x ∷ es)
     → IsParsed x es ts
-parsed_by x es tree rest ts same e =
-    let whole : parsed_of ts ≡ reading (items tree rest) None no_directives = ap (λ (y : List Token). parsed_of y) same ∙ ap (λ (o : Outcome). reading_of o no_directives) (stream_runs tree rest None) in
-    (ap (λ (r : Reading). event_bodies r) whole ∙ e.events, ap (λ (r : Reading). r.ending) whole ∙ e.ending)
+parsed_by x es tree rest ts same e = grind (arith, nat_tests, stream_runs)
 
 -- each document has its `---`
 pub marked_stream : (x : yaml_encoding_t) (es : List EventBody) (span : Span) (ts us : List Token)
@@ -202,17 +198,11 @@ pub record Undirected (o : Opening) : Type 0 where
 
 undirected_by : (v : Option yaml_version_directive_t) (ds : List TagDirective)
     → (has_version v || has_directives ds) ≡ false → (v ≡ None) × (ds ≡ [])
-undirected_by None [] e = (refl, refl)
-undirected_by None (d ∷ ds) e = absurd (cc)
-undirected_by (Some v) ds e = absurd (cc)
+undirected_by v ds e = grind (arith, nat_tests)
 
 not_marked : (canonical fresh implicit directed : Bool)
     → (canonical || not (fresh && (implicit && not directed))) ≡ false → directed ≡ false
-not_marked true fresh implicit directed e = absurd (cc)
-not_marked false false implicit directed e = absurd (cc)
-not_marked false true false directed e = absurd (cc)
-not_marked false true true false e = refl
-not_marked false true true true e = absurd (cc)
+not_marked canonical fresh implicit directed e = grind (arith, nat_tests)
 
 pub undirected : (s : Settings) (fresh : Bool) (o : Opening) → is_marked s fresh o ≡ false
     → Undirected o
@@ -297,28 +287,12 @@ empty_style : (unicode plain : Bool) (k : yaml_scalar_style_t)
     → is_plain (taken (allowed unicode (chars no_bytes)) k plain false false (length no_bytes == 0))
     ≡ (plain && is_asked_plain k)
 unfolding taken allowed chars
-empty_style unicode true asked.YAML_ANY_SCALAR_STYLE = refl
-empty_style unicode true asked.YAML_PLAIN_SCALAR_STYLE = refl
-empty_style unicode true asked.YAML_SINGLE_QUOTED_SCALAR_STYLE = refl
-empty_style unicode true asked.YAML_DOUBLE_QUOTED_SCALAR_STYLE = refl
-empty_style unicode true asked.YAML_LITERAL_SCALAR_STYLE = refl
-empty_style unicode true asked.YAML_FOLDED_SCALAR_STYLE = refl
-empty_style unicode false asked.YAML_ANY_SCALAR_STYLE = refl
-empty_style unicode false asked.YAML_PLAIN_SCALAR_STYLE = refl
-empty_style unicode false asked.YAML_SINGLE_QUOTED_SCALAR_STYLE = refl
-empty_style unicode false asked.YAML_DOUBLE_QUOTED_SCALAR_STYLE = refl
-empty_style unicode false asked.YAML_LITERAL_SCALAR_STYLE = refl
-empty_style unicode false asked.YAML_FOLDED_SCALAR_STYLE = refl
+empty_style unicode plain k = grind (arith, nat_tests)
 
 -- under flags as a reader gives them each tag is written
 pub written_is : (tag : Option (List ℕ)) (plain quoted : Bool) → HasScalarFlags tag plain quoted
     → kept_tag false (plain || quoted) tag ≡ tag
-written_is None plain quoted h = none (plain || quoted)
-  where
-    none : (b : Bool) → kept_tag false b None ≡ None
-    none true = refl
-    none false = refl
-written_is (Some t) plain quoted (p, q) = ap (λ (b : Bool). kept_tag false (b || quoted) (Some t)) p ∙ ap (λ (b : Bool). kept_tag false b (Some t)) q
+written_is tag plain quoted h = grind (arith, nat_tests)
 
 abbrev LeftOut : Bool → Bool → Option (List ℕ) → Option (List ℕ) → List ℕ → Bool
     → yaml_scalar_style_t → Bool
@@ -339,30 +313,22 @@ told_scalar : (canonical unicode : Bool) → canonical ≡ false
     → (value : List ℕ) (plain : Bool) (k : yaml_scalar_style_t)
     → (is_bare anchor tag && (is_empty value && (plain && is_asked_plain k)))
     ≡ LeftOut canonical unicode anchor written value plain k
-told_scalar true unicode pretty anchor tag written w value plain k = absurd (cc)
-told_scalar false unicode pretty anchor tag written w value plain k = told_by unicode anchor tag value plain k ∙ ap (λ (t : Option (List ℕ)). LeftOut false unicode anchor t value plain k) (sym w)
+told_scalar canonical unicode pretty anchor tag written w value plain k = grind (arith, nat_tests, told_by)
 
 told_opening : (canonical b n : Bool) → canonical ≡ false
     → (b && n) ≡ (not (canonical || not (true && b)) && n)
-told_opening true b n pretty = absurd (cc)
-told_opening false true n pretty = refl
-told_opening false false n pretty = refl
+told_opening canonical b n pretty = grind (arith, nat_tests)
 
 told_root : (s : Settings) → s.canonical ≡ false
     → (x : yaml_encoding_t) (d : Document) (ds : List Document) (n : Node) → d.root ≡ n
     → HaveReaderFlags (d ∷ ds)
     → begins_with_nothing (stream_events x (d ∷ ds)) ≡ starts_with_nothing s (d ∷ ds)
 unfolding documents_events node_events style_of
-told_root s pretty x d ds (scalar_node v) is (f, fs) =
-    let flags : HasScalarFlags v.tag v.plain v.quoted = subst (λ (m : Node). HasFlags m) is f in
-    rw is (told_opening s.canonical (d.opening.implicit && not (is_directed d.opening)) (says_nothing v) pretty
-    ∙ ap (λ (b : Bool). not (is_marked s true d.opening) && b) (told_scalar s.canonical s.unicode pretty v.anchor v.tag (scalar_tag false v) (written_is v.tag v.plain v.quoted flags) v.value v.plain v.style))
-told_root s pretty x d ds _ is (f, fs) = rw is (sym (and-false _))
+told_root s pretty x d ds n is h7 = grind (arith, nat_tests, flags, told_opening, told_scalar, written_is, and-false)
 
 pub is_told : BeginningIsTold
 unfolding documents_events
-is_told s pretty x [] flags = refl
-is_told s pretty x (d ∷ ds) flags = told_root s pretty x d ds d.root refl flags
+is_told s pretty x h3 h4 = grind (arith, nat_tests, told_root, flags)
 
 -- ---- lost
 
@@ -372,19 +338,13 @@ nothing_stands : (ds : List TagDirective) (s : Style) (anchor tag : Option (List
     → (is_nothing false s value && is_bare anchor tag) ≡ true
     → (anchor_bodies anchor (tag_bodies ds tag
     (mark_bodies (not (has tag) && takes_mark quoted s) (scalar_bodies false s value bs)))) ≡ bs
-nothing_stands ds style.Plain None None [] true bs none = refl
-nothing_stands ds style.Plain None None [] false bs none = refl
-nothing_stands ds style.Plain None (Some t) [] quoted bs none = absurd (false≢true none)
-nothing_stands ds style.Plain (Some a) tag [] quoted bs none = absurd (false≢true none)
-nothing_stands ds style.Plain anchor tag (c ∷ cs) quoted bs none = absurd (false≢true none)
-nothing_stands ds _ anchor tag value quoted bs none = absurd (false≢true none)
+nothing_stands ds s anchor tag value quoted bs none = grind (arith, nat_tests, false≢true)
 
 root_stands : (s : Settings) (d : Document) (bs : List TokenBody) (n : Node) → d.root ≡ n
     → is_left_out (context_in s d) false part.Item n ≡ true
     → node_bodies (context_in s d) false part.Item true n bs ≡ bs
 unfolding node_bodies
-root_stands s d bs (scalar_node v) is none = nothing_stands d.opening.directives (style_at (context_in s d) false part.Item v) v.anchor (scalar_tag false v) v.value v.quoted bs none
-root_stands s d bs _ is none = absurd (false≢true none)
+root_stands s d bs n is none = grind (arith, nat_tests, nothing_stands, false≢true)
 
 -- such a root has one event
 abbrev HasOneEvent : Node → Type 0
@@ -392,16 +352,14 @@ HasOneEvent n = (v : Scalar) × (n ≡ scalar_node v)
 
 root_one : (s : Settings) (d : Document) (n : Node)
     → is_left_out (context_in s d) false part.Item n ≡ true → HasOneEvent n
-root_one s d (scalar_node v) none = (v, refl)
-root_one s d _ none = absurd (false≢true none)
+root_one s d n none = grind (arith, nat_tests, false≢true)
 
 -- a `...` where a document must come is refused
 abbrev Refused : List Token → Type 0
 Refused ts = (parsed_of ts).ending ≡ None → ⊥
 
 both_are : (m n : Bool) → (not m && n) ≡ true → (m ≡ false) × (n ≡ true)
-both_are true n e = absurd (false≢true e)
-both_are false n e = (refl, e)
+both_are m n e = grind (arith, nat_tests, false≢true)
 
 -- the tokens after the stream's start are those after the root
 behind_start : (s : Settings) (d : Document) (ds : List Document)
@@ -432,9 +390,7 @@ all_said : (x : yaml_encoding_t) (d : Document) (ds : List Document) (v : Scalar
     ∷ event.document_start d.opening.version d.opening.directives true ∷ says (scalar v)
     ∷ event.document_end true ∷ map says (documents_events ds)
 unfolding documents_events node_events
-all_said x d ds v is =
-    let last = document_end d.implicit_end ∷ documents_events ds in
-    ap (λ (n : Node). event.stream_start YAML_ANY_ENCODING ∷ event.document_start d.opening.version d.opening.directives true ∷ map says (node_events n last)) is
+all_said x d ds v is = grind (arith, nat_tests)
 
 lost_by : (s : Settings) (es : List Told) (x y : yaml_encoding_t) (d : Document)
     (ds : List Document) → emitter_events false es ≡ stream_events x (d ∷ ds) → HaveReaderFlags ds

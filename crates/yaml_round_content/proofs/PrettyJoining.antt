@@ -1,6 +1,6 @@
 -- Pretty text reads back exactly where the input doesn't begin with nothing, by the law of text.
 use Rattle.std.proofs.Common.{◌≡◌, ℕ, ◌≤◌, false, ◌&&◌, nat_le, if◌then◌else◌, List, ◌∷◌, Ok, sym, ap, ◌∙◌, ℤ, pos, negsuc, arith}
-use Rattle.yaml_round_content.proofs.PrettyWords.{nat_tests, yaml_encoding_t, YAML_ANY_ENCODING, Token, Item, encode, written, Encoding, Event, stream_layout, emitter_events, contents, events_of, ending_of, read, parsed, tokens_of, canonical_bytes, canonical_text, encoding_named, token_bodies, parsed_of, without_fault, stream_bodies, starts_with_nothing, begins_with_nothing, PrettyReadsBack, PrettyIsLost, PrettyFollows}
+use Rattle.yaml_round_content.proofs.PrettyWords.{nat_tests, yaml_encoding_t, YAML_ANY_ENCODING, Token, Item, encode, written, Encoding, Event, stream_layout, emitter_events, contents, events_of, ending_of, parsed, tokens_of, canonical_bytes, canonical_text, encoding_named, token_bodies, parsed_of, without_fault, stream_bodies, starts_with_nothing, begins_with_nothing, PrettyReadsBack, PrettyIsLost, PrettyFollows}
 use Rattle.yaml_parse_model.specs.scan_types.Tokens as token
 use Rattle.yaml_emit_laws.specs.scan_decode.Decoding.{decoded_text}
 use Rattle.yaml_emit_laws.specs.scan_history.Remaining.{Remaining}

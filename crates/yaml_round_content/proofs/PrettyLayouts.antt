@@ -1,6 +1,6 @@
 -- The pretty layout writes characters that a stream may hold.
 use Rattle.std.proofs.Common.{◌≡◌, ℕ, ◌+◌, ◌<◌, Bool, true, false, not, ◌&&◌, ◌||◌, ◌==◌, nat_lt, if◌then◌else◌, List, [], ◌∷◌, refl, arith, IsUtf8, chars, length, Option}
-use Rattle.yaml_round_content.proofs.PrettyWords.{nat_tests, or_parts, and_parts, not-true, yaml_scalar_style_t, Page, LineBreak, Style, Allowed, is_break, Item, somewhere, is_special, is_break_space, is_not_plain, is_not_flow, ends_in_space, starts_badly, allowed_text, allowed, plain_fits, single_or, plain_or, taken, is_printable, first, is_empty, value_break, cuts_at, cut, quote_char, text_char, flow_char, flow_body, adds_break, cuts_block, line_blank, block_text, block_char, block_body, chomp, chomp_mark, digit_char, block, scalar_text, Layout, ◌▹◌, when, char, break, new_line, gap, line, is_past, keep, after_text, after_block, stay, choose, word, indicator, opener, Tame, both, stay_tame, choose_tame, when_tame, char_tame, new_line_tame, gap_tame, line_tame, keep_tame, break_tame, letter_allowed, word_tame, opener_tame, Cursor, Settings, NodePosition, Document, Scalar, Start, Node, alias_node, scalar_node, sequence_node, mapping_node, Nodes, no_nodes, node, Pairs, no_pairs, pair, has, kept_tag, scalar_tag, start_tag, version_problem, directives_problem, Context, context_of, is_kept, is_plain, is_simple, is_simple_part, key_part, root_position, position, deeper, page_at, checked, line_at, wrap_at, properties_text, style_of, mark_text, scalar_layout, alias_layout, is_flow, indent_of, indented, are_none, are_no_pairs, comma, turned, before_item, question, before_key, before_value, closer, node_layout, items_layout, pairs_layout, dots, is_directed, is_marked, version_text, directives_text, dashes, start_layout, end_layout, stop_layout, documents_layout, IsNameOption, IsTextOption, IsSpellable, AreSpellable, PairsAreSpellable, DocumentsAreSpellable, or_second}
+use Rattle.yaml_round_content.proofs.PrettyWords.{nat_tests, or_parts, and_parts, not-true, yaml_scalar_style_t, Page, LineBreak, Style, Allowed, is_break, somewhere, is_special, is_break_space, is_not_plain, is_not_flow, ends_in_space, starts_badly, allowed_text, allowed, plain_fits, single_or, plain_or, taken, is_printable, first, is_empty, value_break, cuts_at, cut, quote_char, text_char, flow_char, flow_body, adds_break, cuts_block, line_blank, block_text, block_char, block_body, chomp, chomp_mark, digit_char, block, scalar_text, Layout, ◌▹◌, when, char, break, new_line, gap, line, is_past, keep, after_text, after_block, stay, choose, word, indicator, opener, Tame, both, stay_tame, choose_tame, when_tame, char_tame, new_line_tame, gap_tame, line_tame, keep_tame, break_tame, letter_allowed, word_tame, opener_tame, Cursor, Settings, NodePosition, Document, Scalar, Start, Node, alias_node, scalar_node, sequence_node, mapping_node, Nodes, no_nodes, node, Pairs, no_pairs, pair, has, kept_tag, scalar_tag, start_tag, version_problem, directives_problem, Context, context_of, is_kept, is_plain, is_simple, is_simple_part, key_part, root_position, position, deeper, page_at, checked, line_at, wrap_at, properties_text, style_of, mark_text, scalar_layout, alias_layout, is_flow, indent_of, indented, are_none, are_no_pairs, comma, turned, before_item, question, before_key, before_value, closer, node_layout, items_layout, pairs_layout, dots, is_directed, is_marked, version_text, directives_text, dashes, start_layout, end_layout, stop_layout, documents_layout, IsNameOption, IsTextOption, IsSpellable, AreSpellable, PairsAreSpellable, DocumentsAreSpellable, or_second}
 use Rattle.yaml_parse_model.specs.declared.yaml_scalar_style_t.TheVariants as asked
 use Rattle.yaml_emit_laws.specs.emit_layout.declared.Style.TheVariants as style
 use Rattle.yaml_emit_laws.specs.emit_layout.declared.Chomp.{Chomp}

@@ -1,11 +1,10 @@
 -- Pretty text begins with no byte order mark.
-use Rattle.std.proofs.Common.{◌≡◌, ℕ, zero, suc, ◌-◌, ◌<◌, Bool, true, false, not, ◌&&◌, ◌||◌, ◌==◌, nat_lt, if◌then◌else◌, List, [], ◌∷◌, ◌++◌, length, Option, Some, None, refl, sym, ap, subst, ◌∙◌, arith, codes, inl, inr, nat_eq, chars}
-use Rattle.yaml_round_content.proofs.PrettyWords.{false≢true, TagDirective, encoding_of, mark_length, Cursor, Page, LineBreak, Settings, Style, Item, letter, shown, is_break, is_printable, is_empty, quoted_body, value_break, cuts_at, cut, quote_char, text_char, flow_char, flow_body, block_header, chomp, chomp_mark, digit_mark, scalar_text, Layout, Rest, ◌▹◌, stay, choose, when, char, letters, blank, blanks, break, new_line, gap, is_white, word, indicator, opener, must_break, indent_to, line, is_past, keep, after_text, NodePosition, Opening, Document, Scalar, Start, Node, alias_node, scalar_node, sequence_node, mapping_node, Nodes, no_nodes, node, Pairs, no_pairs, pair, has, kept_tag, scalar_tag, start_tag, Context, context_of, MOST, is_kept, is_plain, is_simple, is_simple_part, key_part, root_position, position, deeper, page_at, checked, deep_if, line_at, anchor_text, tag_text, properties_text, style_of, mark_text, scalar_layout, alias_layout, is_flow, indent_of, indented, are_none, are_no_pairs, before_item, before_key, before_value, closer, node_layout, items_layout, pairs_layout, dots, is_directed, is_marked, version_text, directive_text, directives_text, dashes, start_layout, end_layout, stop_layout, documents_layout, IsReadable, written_readable}
+use Rattle.std.proofs.Common.{◌≡◌, ℕ, zero, suc, ◌-◌, ◌<◌, Bool, true, false, not, ◌&&◌, ◌||◌, ◌==◌, nat_lt, if◌then◌else◌, List, [], ◌∷◌, ◌++◌, Option, refl, sym, ap, subst, ◌∙◌, arith, codes, nat_eq, chars}
+use Rattle.yaml_round_content.proofs.PrettyWords.{nat_tests, false≢true, TagDirective, encoding_of, mark_length, Cursor, Page, LineBreak, Settings, Style, Item, letter, shown, is_break, is_printable, quoted_body, value_break, cuts_at, cut, quote_char, text_char, flow_char, flow_body, block_header, chomp, chomp_mark, digit_mark, scalar_text, Layout, Rest, ◌▹◌, stay, choose, when, char, letters, blank, blanks, break, new_line, gap, is_white, word, indicator, opener, must_break, indent_to, line, is_past, keep, NodePosition, Opening, Document, Scalar, Start, Node, alias_node, scalar_node, sequence_node, mapping_node, Nodes, no_nodes, node, Pairs, no_pairs, pair, has, kept_tag, scalar_tag, start_tag, Context, context_of, MOST, is_kept, is_plain, is_simple_part, root_position, deeper, page_at, checked, deep_if, line_at, anchor_text, tag_text, properties_text, style_of, mark_text, scalar_layout, alias_layout, is_flow, indent_of, indented, are_none, are_no_pairs, before_item, before_key, before_value, closer, node_layout, items_layout, pairs_layout, dots, is_directed, is_marked, version_text, directive_text, directives_text, dashes, start_layout, end_layout, stop_layout, documents_layout, IsReadable, written_readable}
 use Rattle.yaml_emit_laws.specs.scan_model.declared.record.yaml_version_directive_t.{yaml_version_directive_t}
-use Rattle.yaml_emit_laws.specs.emit_layout.Tags.{Split, shorthand, verbatim, spelled, split_tag, tag_spelling, uri_text}
+use Rattle.yaml_emit_laws.specs.emit_layout.Tags.{Split, spelled}
 use Rattle.yaml_emit_laws.specs.emit_layout.declared.LineBreak.TheVariants.{Lf, Cr, CrLf}
 use Rattle.yaml_emit_laws.specs.emit_layout.declared.Style.TheVariants as style
-use Rattle.yaml_emit_laws.specs.emit_layout.declared.level.Part.TheVariants as part
 use Rattle.yaml_emit_laws.specs.Writable as text
 use Rattle.yaml_round_content.proofs.Marks.{Told}
 use Rattle.yaml_round_content.proofs.PrettyLayouts.{ArePrintable, Needs, style_needs}
@@ -60,19 +59,13 @@ stay_heads : Heads stay
 stay_heads c rest r = r c
 
 choose_heads : (test : Cursor → Bool) (a b : Layout) → Heads a → Heads b → Heads (choose test a b)
-choose_heads test a b ha hb c rest r = by (test c)
-  where
-    by : (t : Bool) → Begins (if t then a c rest else b c rest)
-    by true = ha c rest r
-    by false = hb c rest r
+choose_heads test a b ha hb c rest r = grind (arith, nat_tests)
 
 when_heads : (b : Bool) (a : Layout) → Heads a → Heads (when b a)
-when_heads true a h = h
-when_heads false a h = stay_heads
+when_heads b a h = grind (arith, nat_tests, stay_heads)
 
 if_heads : (b : Bool) (x y : Layout) → Heads x → Heads y → Heads (if b then x else y)
-if_heads true x y f g = f
-if_heads false x y f g = g
+if_heads b x y f g = grind (arith, nat_tests)
 
 char_leads : (x : ℕ) → NoMark x → Leads (char x)
 char_leads x h c rest = begins_letter x (rest _) h
@@ -112,8 +105,7 @@ line_heads b n = both (choose (must_break n) (new_line b) stay) (indent_to n) (c
 
 deep_heads : (b : Bool) (t : List Item) → Begins t → Begins (deep_if b t)
 unfolding shown
-deep_heads true t h = h
-deep_heads false t h = h
+deep_heads b t h = grind (arith, nat_tests)
 
 checked_heads : (n : ℕ) → Heads (checked n)
 checked_heads n c rest r = deep_heads (nat_lt MOST n) (rest c) (r c)
@@ -142,8 +134,7 @@ opened : (x : ℕ) (b : Layout) → NoMark x → Heads (gap ▹ (char x ▹ b))
 opened x b h = led (gap ▹ (char x ▹ b)) (behind gap (char x ▹ b) gap_heads (leading (char x) b (char_leads x h)))
 
 header_low : (folded : Bool) → NoMark (if folded then 62 else 124)
-header_low true = low 62 (omega arith)
-header_low false = low 124 (omega arith)
+header_low folded = grind (arith, nat_tests, low)
 
 block_heads : (page : Page) (digit : ℕ) (folded : Bool) (cs : List ℕ) (b : Layout)
     → Heads (block_header digit folded cs ▹ b)
@@ -155,8 +146,7 @@ block_heads page digit folded cs b =
 scalar_heads : (page : Page) (digit : ℕ) (flow : Bool) (s : Style) (cs : List ℕ)
     → Needs s (ArePrintable cs) → Heads (scalar_text page digit flow s cs)
 unfolding scalar_text
-scalar_heads page digit flow style.Plain cs h =
-    both (when (flow || not (is_empty cs)) gap) (flow_body page false 32 cs ▹ after_text) (when_heads (flow || not (is_empty cs)) gap gap_heads) (both (flow_body page false 32 cs) after_text (flow_heads page false 32 cs h) (λ c rest r. r _))
+scalar_heads page digit flow style.Plain cs h = grind (arith, nat_tests, both, when_heads, gap_heads, flow_heads)
 scalar_heads page digit flow style.Single cs h = opened 39 (flow_body page true 32 cs ▹ char 39) (low 39 (omega arith))
 scalar_heads page digit flow style.Double cs h = opened 34 (quoted_body page 32 cs ▹ char 34) (low 34 (omega arith))
 scalar_heads page digit flow style.Literal cs h = block_heads page digit false cs _
@@ -165,28 +155,22 @@ scalar_heads page digit flow style.Folded cs h = block_heads page digit true cs 
 -- ---- properties
 
 anchor_heads : (anchor : Option (List ℕ)) → Heads (anchor_text anchor)
-anchor_heads None = stay_heads
-anchor_heads (Some name) = led (word (38 ∷ name)) (word_leads 38 name (low 38 (omega arith)))
+anchor_heads anchor = grind (arith, nat_tests, stay_heads, led, word_leads, low)
 
 shaped : (x : List ℕ) (xs tail : List ℕ) → x ≡ 33 ∷ xs → Leads (word (x ++ tail))
 shaped x xs tail e = subst (λ (y : List ℕ). Leads (word (y ++ tail))) (sym e) (word_leads 33 (xs ++ tail) (low 33 (omega arith)))
 
 split_leads : (s : Split) → IsReadable s → Leads (word (spelled s))
 unfolding spelled
-split_leads (shorthand handle suffix) (inl e, u, some) = shaped handle [] (uri_text false suffix) e
-split_leads (shorthand handle suffix) (inr (name, e, alphas), u, some) = shaped handle (name ++ (33 ∷ [])) (uri_text false suffix) e
-split_leads (verbatim tag) h = word_leads 33 (60 ∷ (uri_text true tag ++ 62 ∷ [])) (low 33 (omega arith))
+split_leads s h = grind (arith, nat_tests, shaped, word_leads, low)
 
 tag_heads : (s : Settings) (o : Opening) → Opened o → (t : Option (List ℕ)) → text.IsWritableTag t
     → Heads (tag_text (context_of s o.directives) t)
-tag_heads s o h None w = stay_heads
-tag_heads s o h (Some t) (some, utf8) = led (word (tag_spelling o.directives t)) (split_leads (split_tag o.directives t) (written_readable o h.right h.utf8 t utf8 some))
+tag_heads s o h t w = grind (arith, nat_tests, stay_heads, led, split_leads, written_readable)
 
 kept_writable : (canonical left_out : Bool) (t : Option (List ℕ)) → text.IsWritableTag t
     → text.IsWritableTag (kept_tag canonical left_out t)
-kept_writable true left_out t h = h
-kept_writable false true t h = tt
-kept_writable false false t h = h
+kept_writable canonical left_out t h = grind (arith, nat_tests)
 
 -- ---- nodes
 
@@ -201,8 +185,7 @@ text_by : (p : Context) (at : NodePosition) (x : Scalar)
     → Heads (scalar_text (page_at p.settings at) p.settings.indent at.flow (style_of p at x)
     (chars x.value))
 unfolding style_of
-text_by p at x =
-    scalar_heads (page_at p.settings at) p.settings.indent at.flow _ (chars x.value) (style_needs p.settings.canonical p.settings.unicode (chars x.value) x.style (has (scalar_tag false x) || x.plain) at.flow (is_simple_part at.part) (length x.value == 0))
+text_by p at x = grind (arith, nat_tests, scalar_heads, style_needs)
 
 alias_heads : (s : Settings) (o : Opening) (name : List ℕ) → NodeHeads s o (alias_node name)
 unfolding node_layout alias_layout
@@ -230,15 +213,11 @@ PairsHeads p ps = (n : ℕ) → Heads (pairs_layout p false n true ps)
 items_heads : (p : Context) (ns : Nodes) → ItemsHeads p ns
 unfolding items_layout closer before_item
 items_heads p no_nodes n = stay_heads
-items_heads p (node x xs) n =
-    let more = node_layout p (position false n part.Item) x ▹ items_layout p false n false xs in
-    let dash = line_at p.settings n ▹ indicator 45 in
-    led (dash ▹ more) (leading dash more (behind (line_at p.settings n) (indicator 45) (line_heads p.settings.line_break n) (indicator_leads 45 (low 45 (omega arith)))))
+items_heads p (node x xs) n = grind (arith, nat_tests, led, leading, behind, line_heads, indicator_leads, low)
 
 value_leads : (s : Settings) (n : ℕ) (simple : Bool) → Leads (before_value s false n simple)
 unfolding before_value
-value_leads s n true = char_leads 58 (low 58 (omega arith))
-value_leads s n false = behind (line_at s n) (indicator 58) (line_heads s.line_break n) (indicator_leads 58 (low 58 (omega arith)))
+value_leads s n simple = grind (arith, nat_tests, char_leads, low, behind, line_heads, indicator_leads)
 
 key_heads : (s : Settings) (n : ℕ) (simple : Bool) → Heads (before_key s false n true simple)
 unfolding before_key
@@ -247,12 +226,7 @@ key_heads s n simple = both (line_at s n) (when (not simple) (indicator 63)) (li
 pair_heads : (s : Settings) (o : Opening) (k v : Node) (ps : Pairs) → NodeHeads s o k
     → PairsHeads (context_of s o.directives) (pair k v ps)
 unfolding pairs_layout
-pair_heads s o k v ps key n =
-    let p = context_of s o.directives in
-    let simple = is_simple p k in
-    let more = node_layout p (position false n part.Value) v ▹ pairs_layout p false n false ps in
-    both (before_key s false n true simple) (node_layout p (position false n (key_part simple)) k ▹ (before_value s false n simple ▹ more)) (key_heads s n simple)
-    (both (node_layout p (position false n (key_part simple)) k) (before_value s false n simple ▹ more) (key (position false n (key_part simple))) (led (before_value s false n simple ▹ more) (leading (before_value s false n simple) more (value_leads s n simple))))
+pair_heads s o k v ps key n = grind (arith, nat_tests, both, key_heads, led, leading, value_leads)
 
 no_pair_heads : (p : Context) → PairsHeads p no_pairs
 unfolding pairs_layout closer
@@ -307,8 +281,7 @@ dashes_leads : (s : Settings) → Leads (dashes s)
 dashes_leads s = behind (line_at s 0) (word (45 ∷ 45 ∷ 45 ∷ []) ▹ when s.canonical (line_at s 0)) (line_heads s.line_break 0) (leading (word (45 ∷ 45 ∷ 45 ∷ [])) (when s.canonical (line_at s 0)) (word_leads 45 (45 ∷ 45 ∷ []) (low 45 (omega arith))))
 
 version_heads : (s : Settings) (v : Option yaml_version_directive_t) → Heads (version_text s v)
-version_heads s None = stay_heads
-version_heads s (Some v) = led (version_text s (Some v)) (leading (word (codes "%YAML")) _ (word_leads 37 _ (low 37 (omega arith))))
+version_heads s v = grind (arith, nat_tests, stay_heads, led, leading, word_leads, low)
 
 directives_heads : (s : Settings) (ds : List TagDirective) → Heads (directives_text s ds)
 unfolding directives_text
@@ -350,7 +323,4 @@ pub told_three : (b c d : ℕ) (bs : List ℕ) → nat_eq 0xFF b ≡ false → n
     → (e f g : Bool) → nat_eq 0xEF b ≡ e → nat_eq 0xBB c ≡ f → nat_eq 0xBF d ≡ g
     → (e && (f && g)) ≡ false → Told (b ∷ c ∷ d ∷ bs)
 unfolding encoding_of mark_length
-told_three b c d bs x y false f g z u v none = (rw (x, y) refl, rw (x, y, z) refl)
-told_three b c d bs x y true false g z u v none = (rw (x, y) refl, rw (x, y, z, u) refl)
-told_three b c d bs x y true true false z u v none = (rw (x, y) refl, rw (x, y, z, u, v) refl)
-told_three b c d bs x y true true true z u v none = absurd (false≢true (sym none))
+told_three b c d bs x y e f g z u v none = grind (arith, nat_tests, false≢true)

@@ -37,7 +37,7 @@ pub use Rattle.yaml_emit_laws.specs.emit_layout.declared.Page.{Page}
 pub use Rattle.yaml_emit_laws.specs.emit_layout.declared.Settings.{Settings}
 pub use Rattle.yaml_emit_laws.specs.emit_layout.declared.Style.{Style}
 pub use Rattle.yaml_emit_laws.specs.parse_grammar.Items.{Properties, RawEvent, Shape, node_at}
-pub use Rattle.yaml_emit_laws.specs.parse_grammar.Machine.{Outcome, initial}
+pub use Rattle.yaml_emit_laws.specs.parse_grammar.Machine.{initial}
 unfoldable pub use Rattle.yaml_emit_laws.specs.parse_grammar.Machine.{feed, run}
 pub use Rattle.yaml_emit_laws.specs.parse_grammar.Resolve.{Directives, Reading, Told, gave, is_missing, no_directives, node_event, settle}
 unfoldable pub use Rattle.yaml_emit_laws.specs.parse_grammar.Resolve.{reading}
@@ -46,7 +46,7 @@ pub use Rattle.yaml_emit_laws.specs.parse_grammar.Trees.{Given, PropertyTokens, 
 pub use Rattle.yaml_emit_laws.specs.parse_grammar.declared.name.Site.TheVariants.{BlockPair, Entry, FlowPair, IndentlessEntry, Root}
 pub use Rattle.yaml_parse_model.specs.Events.{EventBody, TagDirective}
 pub use Rattle.yaml_parse_model.specs.declared.yaml_encoding_t.{yaml_encoding_t}
-pub use Rattle.yaml_parse_model.specs.declared.yaml_encoding_t.TheVariants.{YAML_ANY_ENCODING, YAML_UTF16BE_ENCODING, YAML_UTF16LE_ENCODING, YAML_UTF8_ENCODING}
+pub use Rattle.yaml_parse_model.specs.declared.yaml_encoding_t.TheVariants.{YAML_ANY_ENCODING}
 pub use Rattle.yaml_parse_model.specs.declared.yaml_mapping_style_t.TheVariants.{YAML_ANY_MAPPING_STYLE, YAML_BLOCK_MAPPING_STYLE, YAML_FLOW_MAPPING_STYLE}
 pub use Rattle.yaml_parse_model.specs.declared.yaml_scalar_style_t.{yaml_scalar_style_t}
 pub use Rattle.yaml_parse_model.specs.declared.yaml_sequence_style_t.TheVariants.{YAML_ANY_SEQUENCE_STYLE, YAML_BLOCK_SEQUENCE_STYLE, YAML_FLOW_SEQUENCE_STYLE}
@@ -54,7 +54,7 @@ pub use Rattle.yaml_round_content.specs.Events.{contents, emitter_events}
 pub use Rattle.yaml_round_content.specs.Input.{ending_of, events_of, parsed, tokens_of}
 unfoldable pub use Rattle.yaml_round_content.specs.Input.{read}
 pub use Rattle.yaml_round_content.specs.Normalize.{is_lone_mark, normalize_body, normalize_scalar}
-pub use Rattle.yaml_emit_laws.specs.emit_layout.Layout.{Layout, Rest, after_block, after_text, blank, break, char, choose, gap, indent_to, indicator, is_past, is_white, keep, must_break, new_line, nothing_more, opener, order_mark, start, stay, when, word, written, ◌▹◌}
+pub use Rattle.yaml_emit_laws.specs.emit_layout.Layout.{Layout, Rest, after_block, after_text, blank, break, char, choose, gap, indent_to, indicator, is_past, is_white, keep, must_break, new_line, nothing_more, opener, start, stay, when, word, written, ◌▹◌}
 unfoldable pub use Rattle.yaml_emit_laws.specs.emit_layout.Layout.{blanks, letters, line}
 pub use Rattle.yaml_emit_laws.specs.emit_layout.Text.{Item, deep, is_break, letter}
 unfoldable pub use Rattle.yaml_emit_laws.specs.emit_layout.Text.{char_bytes, encode, shown}

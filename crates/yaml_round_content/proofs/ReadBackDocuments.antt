@@ -1,6 +1,6 @@
 -- Trees of documents.
-use Rattle.std.proofs.Common.{◌≡◌, ℕ, Bool, true, false, not, ◌&&◌, ◌||◌, List, [], ◌∷◌, ◌++◌, length, Option, Some, None, refl, sym, ap, ◌∙◌, append_assoc, append-nil}
-use Rattle.yaml_round_content.proofs.ReadBackWords.{yaml_mark_t, Token, TokenBody, EventBody, TagDirective, Fault, Block, Span, token_at, Given, spell_node, spell_directives, spell_ends, spell_documents, there, no_first, items_node, items_directives, items_ends, items_documents, items, Directives, no_directives, Reading, Settled, gave, noted, settle, read_on, reading, with_version, with_tag, is_known_version, Opening, Document, is_directed, opening_problem, node_bodies, version_bodies, directives_bodies, end_bodies, documents_bodies, node_reads, begins_directed, documents_reads, token_bodies, event_bodies, SaysTree, HasNoMark, AreParsable, parsed_of, NodesAreParsed, CanonicalTokensAreParsed, tags_resolve}
+use Rattle.std.proofs.Common.{◌≡◌, ℕ, Bool, true, false, not, ◌&&◌, ◌||◌, List, [], ◌∷◌, ◌++◌, length, Option, Some, None, refl, sym, ap, ◌∙◌, append_assoc, append-nil, arith}
+use Rattle.yaml_round_content.proofs.ReadBackWords.{nat_tests, yaml_mark_t, Token, TokenBody, EventBody, TagDirective, Fault, Block, Span, token_at, Given, spell_node, spell_directives, spell_ends, spell_documents, there, no_first, items_node, items_directives, items_ends, items_documents, items, Directives, no_directives, Reading, Settled, gave, noted, settle, read_on, reading, with_version, with_tag, is_known_version, Opening, Document, is_directed, opening_problem, node_bodies, version_bodies, directives_bodies, end_bodies, documents_bodies, node_reads, begins_directed, documents_reads, token_bodies, event_bodies, SaysTree, HasNoMark, AreParsable, parsed_of, NodesAreParsed, CanonicalTokensAreParsed, tags_resolve}
 use Rattle.yaml_parse_model.specs.declared.yaml_version_directive_t.{yaml_version_directive_t}
 use Rattle.yaml_emit_laws.specs.scan_types.Tokens as token
 use Rattle.yaml_parse_model.specs.Events as event
@@ -47,13 +47,7 @@ tags_directed : (ds before : List TagDirective) (v : Option yaml_version_directi
     → Directed ts bs (record { version = v; tags = before })
     (record { version = v; tags = before ++ ds })
 unfolding directives_bodies
-tags_directed [] before v fine ts bs e = record {
-  directives = [];
-  rest = ts;
-  same = refl;
-  left = e;
-  gives = λ more gs f. ap (λ (t : List TagDirective). reading gs f (record { version = v; tags = t })) (sym (append-nil before));
-}
+tags_directed [] before v fine ts bs e = grind (arith, nat_tests, append-nil)
 tags_directed (d ∷ ds) before v (new, fine) ts bs e =
     let t = take ts (token.tag_directive d.handle d.prefix) (directives_bodies ds bs) e in
     let r = tags_directed ds (before ++ d ∷ []) v fine t.rest bs t.left in
@@ -232,8 +226,7 @@ documents_parsed unended (d ∷ ds) ((opening, root), fine) ts e =
     begun (unended && is_directed d.opening) unended d ds refl (λ us x. one_document d ds (fine_version d.opening opening) (fine_tags d.opening opening) (resolving d.opening opening) root (λ vs y. behind_root d.implicit_end ds vs (documents_parsed d.implicit_end ds fine) y) us x) ts e
 
 no_ends : (ends : List Span) → no_spans ends ≡ true → ends ≡ []
-no_ends [] e = refl
-no_ends (s ∷ ss) e = absurd (cc)
+no_ends ends e = grind (arith, nat_tests)
 
 pub tokens_parsed : CanonicalTokensAreParsed
 tokens_parsed x ds fine ts e =

@@ -1,9 +1,9 @@
 -- Layouts that write characters which a stream may hold.
-use Rattle.std.proofs.Common.{ℕ, zero, suc, ◌+◌, ◌-◌, Bool, true, false, List, [], ◌∷◌, if◌then◌else◌}
+use Rattle.std.proofs.Common.{ℕ, zero, suc, ◌+◌, ◌-◌, Bool, true, false, List, [], ◌∷◌, arith}
 use Rattle.yaml_emit_laws.specs.emit_layout.declared.Cursor.{Cursor}
 use Rattle.yaml_emit_laws.specs.emit_layout.declared.LineBreak.{LineBreak}
 use Rattle.yaml_emit_laws.specs.emit_layout.declared.LineBreak.TheVariants.{Lf, Cr, CrLf}
-use Rattle.yaml_round_content.proofs.ReadBackWords.{Item, letter, deep, shown, Layout, Rest, ◌▹◌, stay, choose, when, char, letters, blank, blanks, break, new_line, gap, is_white, word, opener, must_break, indent_to, line, keep}
+use Rattle.yaml_round_content.proofs.ReadBackWords.{nat_tests, Item, letter, deep, shown, Layout, Rest, ◌▹◌, stay, choose, when, char, letters, blank, blanks, break, new_line, gap, is_white, word, opener, must_break, indent_to, line, keep}
 use Rattle.yaml_round_content.proofs.Characters.{Fits, AllFit, is_32, feed_fits, return_fits}
 
 abbrev pub Allowed : List Item → Type 0
@@ -38,16 +38,11 @@ stay_tame c rest h = h c
 
 -- A choice between tame layouts is tame.
 pub choose_tame : (test : Cursor → Bool) (a b : Layout) → Tame a → Tame b → Tame (choose test a b)
-choose_tame test a b ta tb c rest h = by (test c)
-  where
-    by : (t : Bool) → Allowed (if t then a c rest else b c rest)
-    by true = ta c rest h
-    by false = tb c rest h
+choose_tame test a b ta tb c rest h = grind (arith, nat_tests)
 
 -- A tame layout that is written or not is tame.
 pub when_tame : (b : Bool) (a : Layout) → Tame a → Tame (when b a)
-when_tame true a t = t
-when_tame false a t = stay_tame
+when_tame b a t = grind (arith, nat_tests, stay_tame)
 
 -- A character that fits is a tame layout.
 pub char_tame : (x : ℕ) → Fits x → Tame (char x)

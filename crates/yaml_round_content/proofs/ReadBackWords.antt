@@ -11,10 +11,10 @@ pub use Rattle.yaml_emit_laws.specs.Bodies.{anchor_bodies, end_bodies, mark_bodi
 unfoldable pub use Rattle.yaml_emit_laws.specs.Bodies.{directives_bodies, documents_bodies, items_bodies, node_bodies, pairs_bodies}
 pub use Rattle.yaml_emit_laws.specs.TagsLaws.{HaveUtf8, IsReadable, WrittenTagsAreReadable, resolved_split}
 pub use Rattle.yaml_emit_laws.specs.emit_layout.Content.{Document, Node, Nodes, Opening, Pairs, Scalar, Start, alias_node, mapping_node, no_nodes, no_pairs, node, pair, scalar_node, sequence_node}
-pub use Rattle.yaml_emit_laws.specs.emit_layout.Grammar.{between, directive_problem, ends_problem, has, has_handle, inner_problem, is_version, opening_problem, or_else, own_problems, prefix_problem, twice_problem, version_problem}
+pub use Rattle.yaml_emit_laws.specs.emit_layout.Grammar.{between, directive_problem, ends_problem, has, has_handle, inner_problem, opening_problem, or_else, own_problems, prefix_problem, twice_problem, version_problem}
 unfoldable pub use Rattle.yaml_emit_laws.specs.emit_layout.Grammar.{directives_problem, handle_problem}
-pub use Rattle.yaml_emit_laws.specs.emit_layout.Nodes.{Context, MOST, anchor_text, checked, dashes, deep_if, deeper, directive_text, dots, is_directed, is_kept, is_simple, is_simple_part, key_part, line_at, page_at, position, properties_text, question, root_position, tag_text, version_text, version_word}
-unfoldable pub use Rattle.yaml_emit_laws.specs.emit_layout.Nodes.{alias_layout, before_item, before_key, before_value, closer, directives_text, documents_layout, end_layout, items_layout, node_layout, pairs_layout, scalar_layout, start_layout, stop_layout, stream_layout, style_of, turned}
+pub use Rattle.yaml_emit_laws.specs.emit_layout.Nodes.{Context, MOST, anchor_text, checked, dashes, deep_if, directive_text, dots, is_directed, line_at, properties_text, tag_text, version_text, version_word}
+unfoldable pub use Rattle.yaml_emit_laws.specs.emit_layout.Nodes.{directives_text, documents_layout, start_layout, stop_layout, stream_layout}
 pub use Rattle.yaml_emit_laws.specs.emit_layout.Tags.{Split, defaults, defines, has_shorter_prefix, in_force, keeps_byte, prefix_keeps, primary, secondary, shorthand, split_by, split_tag, tag_spelling, unless_defined, uri_byte, verbatim}
 unfoldable pub use Rattle.yaml_emit_laws.specs.emit_layout.Tags.{spelled, suffix_keeps, uri_text}
 pub use Rattle.yaml_emit_laws.specs.emit_layout.Layout.{Layout, Rest, blank, break, char, choose, gap, indent_to, is_past, is_white, keep, must_break, new_line, nothing_more, opener, order_mark, start, stay, when, word, written, ◌▹◌}
@@ -52,7 +52,7 @@ pub use Rattle.yaml_round_content.specs.Writable.{AreItemsWritable, ArePairsWrit
 pub use Rattle.yaml_round_content.specs.WritableLaws.{HaveUtf8Texts, InputsContentIsLaidOut, InputsHaveUtf8, LayoutIsOfInputsContent}
 pub use Rattle.yaml_emit_laws.specs.Dumps.{IsLoadedDocument, as_content, as_contents, as_pairs}
 pub use Rattle.yaml_emit_laws.specs.StreamsLaws.{AreRight, AreRightTold, RightDocument, RightFed}
-pub use Rattle.yaml_emit_laws.specs.emit_graph.Graph.{anchor_of, body_at, body_of_id, graph_content, graph_root, graph_scalar, name_of, tag_at, tag_of_id}
+pub use Rattle.yaml_emit_laws.specs.emit_graph.Graph.{body_at, body_of_id, graph_content, graph_root, graph_scalar, name_of, tag_at, tag_of_id}
 pub use Rattle.yaml_emit_laws.specs.parse_grammar.Resolve.{Directives, Reading, Settled, Told, gave, is_known_version, no_directives, node_event, noted, read_on, resolved, settle, with_resolved, with_tag, with_version}
 unfoldable pub use Rattle.yaml_emit_laws.specs.parse_grammar.Resolve.{directive_for, reading}
 pub use Rattle.yaml_emit_laws.specs.parse_grammar.TreeSteps.{items, items_content, items_directives, items_documents, items_ends, items_items, items_more, items_node}
@@ -65,7 +65,7 @@ pub use Rattle.yaml_parse_model.specs.Events.{Event, EventBody, TagDirective}
 pub use Rattle.yaml_parse_model.specs.declared.yaml_mark_t.{yaml_mark_t}
 pub use Rattle.yaml_round_content.specs.Adapting.{AreTagged, CanonicalTokensPass, HaveTexts, IsReadableTag, IsTagged, PairsAreTagged, without_fault}
 pub use Rattle.yaml_round_content.specs.Back.{CanonIsLaidOutAgain, CanonIsScanned, CanonReadsBack, CanonTellsContents, CanonTellsInputs, CanonicalReadsBack}
-pub use Rattle.yaml_round_content.specs.BytesLaws.{AreSpellable, CanonicalBytesDecode, DocumentsAreSpellable, IsNameOption, IsSpellable, IsTextOption, PairsAreSpellable, canonical_bytes, canonical_text, encoding_named}
+pub use Rattle.yaml_round_content.specs.BytesLaws.{CanonicalBytesDecode, DocumentsAreSpellable, IsNameOption, IsTextOption, canonical_bytes, canonical_text, encoding_named}
 pub use Rattle.yaml_round_content.specs.CanonicalTokens.{CanonicalTokensSayContent}
 pub use Rattle.yaml_round_content.specs.CanonicalLaws.{AllLoadDocuments, LoadedAreSound, LoadedAreWritable}
 pub use Rattle.yaml_round_content.specs.Reads.{begins_directed, scalar_reads}

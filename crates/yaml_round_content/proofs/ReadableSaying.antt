@@ -1,5 +1,6 @@
 -- The events of a content's documents say the content, and their flags are as a reader gives them.
-use Rattle.std.proofs.Common.{◌≡◌, Bool, true, false, List, [], ◌∷◌, map, Option, refl, ap, ◌∙◌}
+use Rattle.std.proofs.lemmas.Bool.Decides.{nat_tests}
+use Rattle.std.proofs.Common.{◌≡◌, Bool, true, false, List, [], ◌∷◌, map, Option, refl, ap, ◌∙◌, arith}
 use Rattle.yaml_parse_model.specs.declared.yaml_encoding_t.{yaml_encoding_t}
 use Rattle.yaml_parse_model.specs.declared.yaml_encoding_t.TheVariants.{YAML_ANY_ENCODING}
 use Rattle.yaml_parse_model.specs.declared.yaml_sequence_style_t.TheVariants.{YAML_ANY_SEQUENCE_STYLE}
@@ -7,7 +8,7 @@ use Rattle.yaml_parse_model.specs.declared.yaml_mapping_style_t.TheVariants.{YAM
 use Rattle.yaml_parse_model.specs.Events.{EventBody}
 use Rattle.yaml_parse_model.specs.Events as event
 use Rattle.yaml_emit_laws.specs.emit_layout.Content as emit
-use Rattle.yaml_round_content.specs.Said.{ScalarMark, untagged, tagged, Node, alias, scalar, sequence, mapping, Nodes, no_nodes, node, Pairs, no_pairs, pair, Document, scalar_says, node_says, items_say, pairs_say, documents_say, stream_says}
+use Rattle.yaml_round_content.specs.Said.{ScalarMark, Node, alias, scalar, sequence, mapping, Nodes, no_nodes, node, Pairs, no_pairs, pair, Document, scalar_says, node_says, items_say, pairs_say, documents_say, stream_says}
 use Rattle.yaml_round_content.specs.Flags.{HasScalarFlags, HasFlags, HaveFlags, PairsHaveFlags, HaveReaderFlags}
 use Rattle.yaml_round_content.proofs.Contents.{says}
 use Rattle.yaml_round_content.specs.Readable.{readable_scalar, readable_node, readable_nodes, readable_pairs, is_unmarked, documents_from, readable_documents}
@@ -17,8 +18,7 @@ use Rattle.yaml_round_content.specs.Readable.{readable_scalar, readable_node, re
 scalar_flags : (b : Bool) (anchor : Option (List _)) (mark : ScalarMark) (value : List _)
     → HasScalarFlags (readable_scalar b anchor mark value).tag
     (readable_scalar b anchor mark value).plain (readable_scalar b anchor mark value).quoted
-scalar_flags b anchor (untagged plain) value = refl
-scalar_flags b anchor (tagged t) value = (refl, refl)
+scalar_flags b anchor mark value = grind (arith, nat_tests)
 
 mutual
   node_flags : (b : Bool) (n : Node) → HasFlags (readable_node b n)
@@ -43,8 +43,7 @@ have_flags first (d ∷ ds) = (node_flags (is_unmarked first d) d.root, have_fla
 
 scalar_said : (b : Bool) (anchor : Option (List _)) (mark : ScalarMark) (value : List _)
     → says (emit.scalar (readable_scalar b anchor mark value)) ≡ scalar_says anchor mark value
-scalar_said b anchor (untagged plain) value = refl
-scalar_said b anchor (tagged t) value = refl
+scalar_said b anchor mark value = grind (arith, nat_tests)
 
 mutual
   unfolding node_says items_say pairs_say emit.node_events emit.items_events emit.pairs_events

@@ -1,6 +1,6 @@
 -- The rows, by running the machine.
-use Rattle.std.proofs.Common.{◌≡◌, List, [], ◌∷◌, Option, None, refl, sym, subst, ◌∙◌}
-use Rattle.yaml_round_content.proofs.Words.{Token, Fault, feed, run, reading, directive_for, BeginsWithSentence, FaultOfTokens, contents, Document, node_says, items_say, pairs_say, documents_say, stream_says, tree_content, HaveContent}
+use Rattle.std.proofs.Common.{◌≡◌, List, [], ◌∷◌, None, refl, arith}
+use Rattle.yaml_round_content.proofs.Words.{nat_tests, Token, feed, run, reading, directive_for, contents, Document, node_says, items_say, pairs_say, documents_say, stream_says, HaveContent}
 use Rattle.yaml_emit_laws.proofs.Ending.{ends_in_fault}
 use Rattle.yaml_round_content.proofs.Injective.{says_injective}
 use Rattle.yaml_round_content.specs.Rows.{Row, rows, AllHold, RowsHold}
@@ -12,9 +12,7 @@ record Runs (ts : List Token) (c : List Document) : Type 0 where
   says : contents (reads ts None).events ≡ stream_says c
 
 have : (ts : List Token) (c : List Document) → Runs ts c → HaveContent ts c
-have ts c h =
-    let b : BeginsWithSentence ts = subst (λ (o : Option Fault). FaultOfTokens ts None o) h.right (ends_in_fault ts None) in
-    record { sentence = b; content = says_injective c (tree_content b.tree) (sym h.says ∙ tokens_say ts None b) }
+have ts c h = grind (arith, nat_tests, ends_in_fault, says_injective, tokens_say)
 
 abbrev AllRun : List Row → Type 0
 AllRun [] = Unit {0}

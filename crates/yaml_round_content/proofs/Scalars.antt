@@ -1,9 +1,7 @@
 -- The flags of a scalar that an item settles to, and its tag: it is `!` only where the scalar is empty.
-use Rattle.std.proofs.Common.{◌≡◌, ℕ, Bool, true, false, not, if◌then◌else◌, List, [], Option, Some, None, codes, refl, inl, inr, sym, ◌∙◌}
-use Rattle.yaml_round_content.proofs.Words.{bytes_eq, cases_Bool, true≢false, bytes_eq-Decides, yaml_encoding_t, yaml_scalar_style_t, EventBody, Shape, run, initial, no_directives, node_event, Told, is_lone_mark, tokens_of, events_of, read}
+use Rattle.std.proofs.Common.{◌≡◌, ℕ, Bool, true, false, not, if◌then◌else◌, List, [], Option, Some, None, codes, arith}
+use Rattle.yaml_round_content.proofs.Words.{nat_tests, bytes_eq, cases_Bool, true≢false, bytes_eq-Decides, yaml_encoding_t, yaml_scalar_style_t, EventBody, Shape, run, initial, no_directives, node_event, Told, is_lone_mark, tokens_of, events_of, read}
 use Rattle.yaml_parse_model.specs.Events as event
-use Rattle.yaml_emit_laws.specs.parse_grammar.Items as item
-use Rattle.yaml_emit_laws.specs.parse_grammar.Resolve.{is_plain}
 use Rattle.yaml_emit_laws.proofs.Throughout.{EventsAre, reading_is}
 use Rattle.yaml_round_content.proofs.Spellings.{IsWhole, IsSpelledItem}
 use Rattle.yaml_round_content.proofs.Runs.{stream_spelled}
@@ -24,39 +22,25 @@ IsRight (event.scalar anchor tag value plain quoted style) = IsScalarRight tag v
 IsRight _ = Unit {0}
 
 empty_right : (tag : List ℕ) → is_lone_mark (Some tag) [] ≡ false → IsNoMark tag
-empty_right tag e =
-    elim (cases_Bool (bytes_eq tag (codes "!"))) [
-      | inr h ↦ h
-      | inl h ↦ absurd (true≢false (sym (marked h) ∙ e))
-    ]
-  where
-    marked : bytes_eq tag (codes "!") ≡ true → is_lone_mark (Some tag) [] ≡ true
-    marked h = rw ((bytes_eq-Decides tag (codes "!")).0 h) refl
+empty_right tag e = grind (arith, nat_tests, cases_Bool, true≢false, bytes_eq-Decides)
 
 tagged_right : (t : Bool) (anchor : Option (List ℕ)) (tag value : List ℕ)
     (style : yaml_scalar_style_t) → bytes_eq tag (codes "!") ≡ t
     → IsRight (if t then event.scalar anchor None value true false style else event.scalar anchor
     (Some tag) value false false style)
-tagged_right true anchor tag value style e = refl
-tagged_right false anchor tag value style e = λ _. e
+tagged_right t anchor tag value style e = grind (arith, nat_tests)
 
 -- a choice of the two bools is the test turned round
 pub flags_differ : (b : Bool) → (if b then false else true) ≡ not b
-flags_differ true = refl
-flags_differ false = refl
+flags_differ b = grind (arith, nat_tests)
 
 node_right : (anchor tag : Option (List ℕ)) (k : Shape) → IsRight (node_event anchor tag k)
-node_right anchor None item.empty = refl
-node_right anchor (Some tag) item.empty = empty_right tag
-node_right anchor None (item.scalar value style) = flags_differ (is_plain style)
-node_right anchor (Some tag) (item.scalar value style) = tagged_right (bytes_eq tag (codes "!")) anchor tag value style refl
-node_right anchor tag _ = tt
+node_right anchor tag k = grind (arith, nat_tests, empty_right, flags_differ, tagged_right)
 
 -- ---- the events of an input
 
 whole_right : (b : EventBody) → IsWhole b → IsRight b
-whole_right (event.scalar anchor tag value plain quoted style) h = absurd h
-whole_right _ h = tt
+whole_right b h = grind (arith, nat_tests)
 
 abbrev pub AreRight : List Told → Type 0
 AreRight ts = EventsAre IsRight ts

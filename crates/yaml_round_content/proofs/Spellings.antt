@@ -1,6 +1,6 @@
 -- Names and tags of well spelled tokens, in the items and states that a machine makes of them.
-use Rattle.std.proofs.Common.{ℕ, List, Option, Some, None}
-use Rattle.yaml_round_content.proofs.Words.{IsSome, IsName, IsHandle, IsSpelled, EventBody, RawEventBody, Tag, State, IsTextless, bare_textless, Outer}
+use Rattle.std.proofs.Common.{ℕ, List, Option, Some, None, arith}
+use Rattle.yaml_round_content.proofs.Words.{nat_tests, IsSome, IsName, IsHandle, IsSpelled, EventBody, RawEventBody, Tag, State, IsTextless, bare_textless, Outer}
 use Rattle.yaml_parse_model.specs.Events as event
 use Rattle.yaml_emit_laws.specs.parse_grammar.Items as item
 use Rattle.yaml_emit_laws.specs.parse_grammar.States as state
@@ -37,34 +37,8 @@ IsSpelledState (state.with_properties wants p) = IsNamed p.anchor × IsTagged p.
 IsSpelledState _ = Unit {0}
 
 textless_spelled : (x : State) → IsTextless x → IsSpelledState x
-textless_spelled (state.with_properties wants p) h = absurd h
-textless_spelled _ h = tt
+textless_spelled x h = grind (arith, nat_tests)
 
 -- Names and tags stay well spelled throughout.
 pub spelled_rules : Outer IsSpelled IsNamed IsTagged IsSpelledItem IsSpelledState
-spelled_rules = record {
-  inner = record {
-    unnamed = tt;
-    untagged = tt;
-    anchor = λ name h. h;
-    tag = λ handle suffix m h. h.1;
-    alias = λ name h. h;
-    scalar = λ a g v style h k t. (h, k);
-    sequence = λ a g style h k. (h, k);
-    mapping = λ a g style h k. (h, k);
-    sequence_end = tt;
-    mapping_end = tt;
-    states = λ x h. textless_spelled x (bare_textless x h);
-    properties = λ w p h k. (h, k);
-    held = λ w p h. h;
-  };
-  empty = λ a g h k. (h, k);
-  start = λ encoding. tt;
-  end = tt;
-  version = λ major minor. tt;
-  handle = λ handle prefix h. h;
-  document = λ implicit. tt;
-  document_end = λ implicit. tt;
-  outer = textless_spelled;
-  none = tt;
-}
+spelled_rules = grind (arith, nat_tests, textless_spelled, bare_textless)

@@ -1,9 +1,9 @@
 -- The trees of what an emitter is given.
-use Rattle.std.proofs.Common.{◌≡◌, ◌++◌, ℕ, Bool, true, false, List, [], ◌∷◌, map, Option, Some, None, refl, sym, ap, ◌∙◌}
-use Rattle.yaml_round_content.proofs.Words.{map-append, yaml_encoding_t, YAML_ANY_ENCODING, YAML_ANY_SCALAR_STYLE, YAML_ANY_SEQUENCE_STYLE, YAML_ANY_MAPPING_STYLE, EventBody, Told, normalize_body, content_of, emitter_events, contents, scalar_says, node_says, items_say, pairs_say, documents_say, stream_says, counts_as_plain}
+use Rattle.std.proofs.Common.{◌≡◌, ◌++◌, ℕ, Bool, true, false, List, [], ◌∷◌, map, Option, refl, sym, ap, ◌∙◌, arith}
+use Rattle.yaml_round_content.proofs.Words.{nat_tests, map-append, yaml_encoding_t, YAML_ANY_ENCODING, YAML_ANY_SCALAR_STYLE, YAML_ANY_SEQUENCE_STYLE, YAML_ANY_MAPPING_STYLE, EventBody, Told, normalize_body, content_of, emitter_events, contents, scalar_says, node_says, items_say, pairs_say, documents_say, stream_says, counts_as_plain}
 use Rattle.yaml_parse_model.specs.Events as event
 use Rattle.yaml_emit_laws.specs.emit_layout.Content as emit
-pub use Rattle.yaml_round_content.specs.Trees.{mark_of, tree_of, trees_of, pair_trees_of, document_tree, document_trees}
+pub use Rattle.yaml_round_content.specs.Trees.{mark_of, tree_of, trees_of, pair_trees_of, document_trees}
 
 -- ---- what an emitter's event says
 
@@ -21,8 +21,7 @@ core (emit.mapping_start q) = event.mapping_start q.anchor q.tag true YAML_ANY_M
 core emit.mapping_end = event.mapping_end
 
 core_said : (b : EventBody) → content_of b ≡ core (emit.emitter_event b)
-core_said event.no = refl
-core_said _ = refl
+core_said b = grind (arith, nat_tests)
 
 cores : (es : List Told) → contents es ≡ map core (emitter_events true es)
 cores [] = refl
@@ -33,8 +32,7 @@ cores (t ∷ ts) =
 pub scalar_core : (anchor tag : Option (List ℕ)) (value : List ℕ) (plain : Bool)
     → event.scalar anchor tag value (counts_as_plain tag plain) false YAML_ANY_SCALAR_STYLE
     ≡ scalar_says anchor (mark_of tag plain) value
-scalar_core anchor None value plain = refl
-scalar_core anchor (Some t) value plain = refl
+scalar_core anchor tag value plain = grind (arith, nat_tests)
 
 mutual
   unfolding emit.node_events emit.items_events emit.pairs_events node_says items_say pairs_say
@@ -71,8 +69,7 @@ documents_cores (d ∷ ds) =
 pub stream_trees : (es : List Told) (x : yaml_encoding_t) (ds : List emit.Document)
     → emitter_events true es ≡ emit.stream_events x ds
     → contents es ≡ stream_says (document_trees ds)
-stream_trees es x ds e =
-    cores es ∙ ap (λ (bs : List emit.Event). map core bs) e ∙ ap (λ (bs : List EventBody). event.stream_start YAML_ANY_ENCODING ∷ bs) (documents_cores ds)
+stream_trees es x ds e = grind (arith, nat_tests, cores, documents_cores)
 
 -- and where they are a front of a stream's events, what they say is a front of what its trees do
 pub front_trees : (es : List Told) (more : List emit.Event) (x : yaml_encoding_t)

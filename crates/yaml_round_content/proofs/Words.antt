@@ -1,10 +1,10 @@
 -- The words of the definitions, and the lemmas below, that the files of lemmas share.
 pub use Rattle.std.proofs.Math.Bool.{and-false, or-true}
-pub use Rattle.std.proofs.lemmas.Bool.{and_parts, cases_Bool, cases_lt, eqb-true, true≢false}
+pub use Rattle.std.proofs.lemmas.Bool.{and_parts, cases_Bool, eqb-true, true≢false}
 pub use Rattle.std.proofs.lemmas.Bool.Decides.{nat_tests}
 pub use Rattle.std.proofs.lemmas.Grind.{common_steps, flat_map-append}
 pub use Rattle.std.proofs.lemmas.List.{append-nil, append_assoc, get_or_past, length-map, map-append}
-pub use Rattle.std.proofs.lemmas.List.Elements.{All-get_or, All-head, All-nil, All-tail}
+pub use Rattle.std.proofs.lemmas.List.Elements.{All-head, All-nil, All-tail}
 pub use Rattle.std.proofs.lemmas.Slice.Eq.{bytes_eq-Decides}
 pub use Rattle.std.specs.Cmp.Lexicographic.{nat_list_cmp_total, slice_cmp}
 pub use Rattle.std.specs.List.{AllPass, flat_map, list_all, list_any}
@@ -17,7 +17,7 @@ pub use Rattle.yaml_emit_laws.specs.Dumps.{HasKind, IsLoadedDocument, IsLoadedNo
 pub use Rattle.yaml_emit_laws.specs.DumpsLaws.{DocumentsAreLoaded, DumpsNumberBack}
 pub use Rattle.yaml_emit_laws.specs.emit_layout.Grammar.{anchor_problem, begins_node, directive_problem, has, has_handle, kept_if, name_problem, node_problem, opening_problem, or_else, own_problem, prefix_problem, tag_problem, twice_problem, version_problem}
 unfoldable pub use Rattle.yaml_emit_laws.specs.emit_layout.Grammar.{directives_problem, event_problem, handle_problem, last_problem, own_problems, place_problem, problem_by}
-pub use Rattle.yaml_emit_laws.specs.emit_layout.Progress.{Due, Progress, at_place, behind_node, first_progress, inside, item_due, key_due, level_due, outer_due, problem_in, value_due}
+pub use Rattle.yaml_emit_laws.specs.emit_layout.Progress.{Due, Progress, at_place, behind_node, first_progress, inside, item_due, key_due, level_due, outer_due, problem_in}
 unfoldable pub use Rattle.yaml_emit_laws.specs.emit_layout.Progress.{first_refusal, progress_after}
 pub use Rattle.yaml_emit_laws.specs.emit_layout.declared.Expected.{Expected}
 pub use Rattle.yaml_emit_laws.specs.emit_layout.declared.Problem.{Problem}
@@ -28,7 +28,7 @@ unfoldable pub use Rattle.yaml_emit_laws.specs.parse_grammar.Machine.{feed, run}
 pub use Rattle.yaml_emit_laws.specs.parse_grammar.States.{State, Taken}
 pub use Rattle.yaml_emit_laws.specs.parse_grammar.declared.Choice.{Choice}
 pub use Rattle.yaml_emit_laws.specs.parse_grammar.declared.Choice.TheVariants.{Leave, Refuse, Take}
-pub use Rattle.yaml_emit_laws.specs.parse_grammar.declared.Site.TheVariants.{IndentlessEntry, Root}
+pub use Rattle.yaml_emit_laws.specs.parse_grammar.declared.Site.TheVariants.{Root}
 pub use Rattle.yaml_emit_laws.specs.parse_grammar.declared.Wants.{Wants}
 pub use Rattle.yaml_parse_loader.specs.Loading.{LoadStep, Loading, Open, aliased, attach, behind, closed, enter_leaf, enter_open, filled, filled_body, goes_on, loaded, named, nothing_loaded, open_mapping, open_sequence, place_of, step, step_body, turn}
 unfoldable pub use Rattle.yaml_parse_loader.specs.Loading.{load}
@@ -62,7 +62,7 @@ pub use Rattle.yaml_round_content.specs.Writable.{AreItemsWritable, ArePairsWrit
 pub use Rattle.yaml_round_content.specs.WritableLaws.{HaveUtf8Texts, InputsAreFlagged, InputsAreWritable, InputsContentIsLaidOut, InputsHaveUtf8, LayoutIsOfInputsContent}
 pub use Rattle.yaml_emit_laws.specs.StreamsLaws.{AreRightTold, IsEmittable}
 unfoldable pub use Rattle.yaml_emit_laws.specs.StreamsLaws.{progress_behind}
-pub use Rattle.yaml_emit_laws.specs.emit_graph.Graph.{Met, body_at, body_of_id, graph_content, graph_root, is_met, meet, none_met, none_numbered, number_at, tag_at, tag_of_id, turns}
+pub use Rattle.yaml_emit_laws.specs.emit_graph.Graph.{Met, body_at, body_of_id, graph_content, is_met, meet, none_met, none_numbered, number_at, tag_at, tag_of_id, turns}
 unfoldable pub use Rattle.yaml_emit_laws.specs.emit_graph.Graph.{numbers}
 pub use Rattle.yaml_emit_laws.specs.emit_layout.Content.{Opening, Scalar, Start, alias_node, emitter_event, scalar_node}
 pub use Rattle.yaml_emit_laws.specs.emit_layout.Nodes.{Context, before_item, before_key, before_value, checked, deeper, end_layout, key_part, page_at, position, properties_text, root_position}

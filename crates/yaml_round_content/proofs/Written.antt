@@ -1,6 +1,6 @@
 -- What a document says that an input loads may be written.
-use Rattle.std.proofs.Common.{◌≡◌, ◌<◌, ℕ, zero, suc, ℤ, pos, Bool, true, false, ◌==◌, if◌then◌else◌, List, [], ◌∷◌, length, Some, None, IsUtf8, refl, ap, codes, arith, sym, ◌∙◌, slice_get, true≢false}
-use Rattle.yaml_round_content.proofs.ReadBackWords.{list_all, IsUtf8-nil, root_holds, is_alpha_byte, IsSoundBody, AreSound, str_tag, is_bang, body_at, tag_at, body_of_id, tag_of_id, name_of, graph_root, graph_content, RightDocument, AreRight, loads_of, tree_of, trees_of, pair_trees_of, document_tree, InputsHaveUtf8, IsName, IsAnchor, IsWritable, AreItemsWritable, ArePairsWritable, IsWritableDocument, AreWritable, IsLoadedDocument, trees_of_dumps, AreLoadedDocuments, AllLoadDocuments, LoadedAreWritable}
+use Rattle.std.proofs.Common.{◌≡◌, ◌<◌, ℕ, zero, suc, ℤ, Bool, false, ◌==◌, if◌then◌else◌, List, [], ◌∷◌, length, Some, None, IsUtf8, refl, ap, codes, arith, sym, ◌∙◌, slice_get, true≢false}
+use Rattle.yaml_round_content.proofs.ReadBackWords.{nat_tests, list_all, IsUtf8-nil, root_holds, is_alpha_byte, IsSoundBody, AreSound, str_tag, is_bang, body_at, tag_at, body_of_id, tag_of_id, name_of, graph_root, graph_content, RightDocument, AreRight, tree_of, trees_of, pair_trees_of, document_tree, InputsHaveUtf8, IsName, IsAnchor, IsWritable, AreItemsWritable, ArePairsWritable, IsWritableDocument, AreWritable, IsLoadedDocument, trees_of_dumps, AreLoadedDocuments, AllLoadDocuments, LoadedAreWritable}
 use Rattle.yaml_parse_model.specs.Nodes as model
 use Rattle.yaml_parse_model.specs.Documents as documents
 use Rattle.yaml_emit_laws.specs.emit_layout.declared.Problem.TheVariants as problem
@@ -18,8 +18,7 @@ name_writable n =
     (some_byte (length (name_of n)) both.0, both.1)
 
 anchor_if : (b : Bool) (n : ℕ) → IsAnchor (if b then None else Some (name_of n))
-anchor_if true n = tt
-anchor_if false n = name_writable n
+anchor_if b n = grind (arith, nat_tests, name_writable)
 
 -- ---- the nodes of a document
 
@@ -58,8 +57,7 @@ fine_at count (n ∷ ns) (suc k) s t b = fine_at count ns k s.1 t.1 b
 
 fine_id : (nodes : List model.Node) → FineNodes nodes → (id : ℤ)
     → IsFine (tag_of_id nodes id) (body_of_id nodes id)
-fine_id nodes h (pos (suc k)) = h k
-fine_id nodes h _ = str_fine
+fine_id nodes h id = grind (arith, nat_tests, str_fine)
 
 -- ---- the walk
 
@@ -81,11 +79,7 @@ root_written nodes h = root_holds (λ v. IsWritable (tree_of v)) (λ vs. AreItem
 
 document_written : (d : documents.Document) → documents.IsDocument d → RightDocument d
     → IsLoadedDocument d → IsWritableDocument (document_tree (graph_content d))
-document_written d s r l = record {
-  opening = r.opening;
-  prefixes = prefixes_writable d.directives s.directives;
-  root = root_written d.nodes (λ k. fine_at (length d.nodes) d.nodes k s.nodes r.tags (λ n e. (l.nodes k n e).1));
-}
+document_written d s r l = grind (arith, nat_tests, prefixes_writable, root_written, fine_at)
 
 documents_written : (ds : List documents.Document) → AreDocuments ds → AreRight ds
     → AreLoadedDocuments ds → AreWritable (trees_of_dumps ds)
@@ -93,5 +87,4 @@ documents_written [] s r l = tt
 documents_written (d ∷ ds) s r l = (document_written d s.0 r.0 l.0, documents_written ds s.1 r.1 l.1)
 
 pub loaded_writable : AllLoadDocuments → InputsHaveUtf8 → LoadedAreWritable
-loaded_writable load utf8 from input =
-    documents_written (loads_of from input).documents (documents_sound utf8 from input) (documents_right from input) (load from input)
+loaded_writable load utf8 from input = grind (arith, nat_tests, documents_written, documents_sound, documents_right)

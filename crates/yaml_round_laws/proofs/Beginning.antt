@@ -1,5 +1,6 @@
 -- Where canonical form isn't asked for, the form says whether the input begins with nothing.
-use Rattle.std.proofs.Common.{◌≡◌, sym, ap, subst, refl, ℕ, Bool, true, false, true≢false, List}
+use Rattle.std.proofs.lemmas.Bool.Decides.{nat_tests}
+use Rattle.std.proofs.Common.{◌≡◌, sym, ap, subst, refl, ℕ, Bool, true, false, true≢false, List, arith}
 use Rattle.yaml_round.specs.declared.yaml_encoding_t.{yaml_encoding_t}
 use Rattle.yaml_round.specs.declared.yaml_encoding_t.TheVariants.{YAML_ANY_ENCODING}
 use Rattle.yaml_round.specs.declared.yaml_settings_t.{yaml_settings_t}
@@ -23,8 +24,7 @@ begins_so from input n = subst (λ (es : List Told). begins_with_nothing (emitte
 
 due_begins : (b : Bool) (from : yaml_encoding_t) (s : yaml_settings_t) (input : List ℕ) → b ≡ false
     → IsCanonicalDue b from s input → BeginsWithNothing from input
-due_begins true from s input e due = absurd (true≢false e)
-due_begins false from s input e due = due.0
+due_begins b from s input e due = grind (arith, nat_tests, true≢false)
 
 -- pretty text that reads back is of an input that begins with something
 lost : (from : yaml_encoding_t) (s : yaml_settings_t) (input text : List ℕ)

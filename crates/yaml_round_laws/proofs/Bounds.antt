@@ -1,4 +1,5 @@
 -- Numbers: what is paid for each byte, each line and each tag, in one square.
+use Rattle.std.proofs.lemmas.Bool.Decides.{nat_tests}
 use Rattle.std.proofs.Common.{◌≡◌, ℕ, zero, suc, ◌+◌, ◌-◌, ◌*◌, ◌/◌, ◌≤◌, ◌⊎◌, subst, arith, inl, inr, mul-le-mul_left, mul-le-mul_right}
 use Rattle.std.proofs.Math.Nat.{div-mul-le_self}
 
@@ -66,7 +67,4 @@ most_columns m n =
     omega (arith, b)
 
 pub columns_fit : (m n d : ℕ) → 3 * d ≤ 2 * m + 2 → n + d * n ≤ (2 * m + 5) / 3 * n
-columns_fit m n d w =
-    let a : d + 1 ≤ (2 * m + 5) / 3 = omega (arith, w) in
-    let b : (d + 1) * n ≤ (2 * m + 5) / 3 * n = mul-le-mul_right n a in
-    omega (arith, b)
+columns_fit m n d w = grind (arith, nat_tests, mul-le-mul_right)

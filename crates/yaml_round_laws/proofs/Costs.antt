@@ -1,6 +1,6 @@
 -- The tokens of a tree weigh what the canonical text of its content takes, by a weight for each kind of token.
-use Rattle.std.proofs.Common.{◌≡◌, ℕ, ◌+◌, ◌≤◌, Bool, true, List, [], ◌∷◌, codes, Option, Some, None, refl, arith, inl, inr, le_refl}
-use Rattle.yaml_round_laws.proofs.SizesWords.{cases_Bool, chars-nil, chars, bytes_eq, Token, Wants, Properties, PropertyTokens, token_at, properties_of, spell_properties, spell_node, spell_content, spell_maybe, spell_colon, spell_items, spell_more, spell_entries, spell_others, spell_pairs, spell_directives, spell_ends, spell_documents, spell_first, spell, TagDirective, Encoding, Settings, scalar_node, context_of, ascii, text_bytes, anchor_bytes, tag_bytes, most_of_value, most_of_line, directives_bytes, tag_of, anchor_of, is_plain, mark_of, empty, node_of, with_content, maybe_of, colon_of, items_of, more_items_of, parts_of, more_parts_of, entries_of, others_of, pairs_of, tags_in, documents_of, behind_first, tree_content, written_scalar, written_node, written_nodes, written_pairs, written_documents}
+use Rattle.std.proofs.Common.{◌≡◌, ℕ, ◌+◌, ◌≤◌, Bool, true, List, [], ◌∷◌, Option, Some, None, refl, arith, le_refl}
+use Rattle.yaml_round_laws.proofs.SizesWords.{nat_tests, cases_Bool, chars-nil, chars, Token, Wants, Properties, PropertyTokens, token_at, properties_of, spell_properties, spell_node, spell_content, spell_maybe, spell_colon, spell_items, spell_more, spell_entries, spell_others, spell_pairs, spell_directives, spell_ends, spell_documents, spell_first, spell, TagDirective, Encoding, Settings, scalar_node, context_of, ascii, text_bytes, anchor_bytes, tag_bytes, most_of_value, most_of_line, directives_bytes, tag_of, anchor_of, is_plain, mark_of, empty, node_of, with_content, maybe_of, colon_of, items_of, more_items_of, parts_of, more_parts_of, entries_of, others_of, pairs_of, tags_in, documents_of, behind_first, tree_content, written_scalar, written_node, written_nodes, written_pairs, written_documents}
 use Rattle.yaml_scan_history.specs.scan_types.Tokens as token
 use Rattle.yaml_parse_grammar.specs.declared.Brackets.TheVariants as brackets
 use Rattle.yaml_parse_grammar.specs.Trees as tree
@@ -47,22 +47,14 @@ scalar_cost : (s : Settings) (i : ℕ) (ds : List TagDirective) (anchor tag : Op
     → flat_node (context_of s ds) i (scalar_node (written_scalar anchor (mark_of tag plain) value))
     ≤ anchor_bytes s anchor + tag_bytes (context_of s ds) tag + ascii s 5 + most_of_value s i
     (chars value)
-scalar_cost s i ds anchor None plain value = omega arith
-scalar_cost s i ds anchor (Some t) plain value =
-    elim (cases_Bool (bytes_eq t (codes "!"))) [
-      | inl e ↦ rw e (omega arith)
-      | inr e ↦ rw e (omega arith)
-    ]
+scalar_cost s i ds anchor tag plain value = grind (arith, nat_tests, cases_Bool)
 
 -- and so much room as the node has that they are before
 properties_cost : (s : Settings) (i t : ℕ) (ds : List TagDirective)
     → ascii s 27 + lent s.encoding ds ≤ t → (d : PropertyTokens) (rest : List Token)
     → tagged_bytes s ds (Some (properties_of d)) + ascii s 5 + weigh (cost s i t) rest ≤ weigh
     (cost s i t) (spell_properties d rest)
-properties_cost s i t ds f (tree.anchor a) rest = omega arith
-properties_cost s i t ds f (tree.anchor_tag a g) rest = omega (arith, f, tag_most s ds g.handle g.suffix)
-properties_cost s i t ds f (tree.tag g) rest = omega (arith, f, tag_most s ds g.handle g.suffix)
-properties_cost s i t ds f (tree.tag_anchor g a) rest = omega (arith, f, tag_most s ds g.handle g.suffix)
+properties_cost s i t ds f d rest = grind (arith, nat_tests, tag_most)
 
 -- ---- nodes
 
@@ -229,8 +221,7 @@ first_cost s i t (tree.first n ends) d rest f =
 
 first_lends : (w : Weight) (n : tree.First) (rest : List Token)
     → weigh w rest ≤ weigh w (spell_first n rest)
-first_lends w tree.no_first rest = le_refl _
-first_lends w (tree.first n ends) rest = omega (arith, node_grows w n (spell_ends ends rest), ends_grow w ends rest)
+first_lends w n rest = grind (arith, nat_tests, le_refl, node_grows, ends_grow)
 
 -- all documents; one without `---` has no token of its own
 pub tree_cost : (s : Settings) (i t : ℕ) (d : tree.Stream)

@@ -1,5 +1,6 @@
 -- The documents of two inputs first differ at one place.
-use Rattle.std.proofs.Common.{◌≡◌, ◌∙◌, sym, ap, refl, subst, ℕ, List, [], ◌∷◌, ◌++◌, length, Some}
+use Rattle.std.proofs.lemmas.Bool.Decides.{nat_tests}
+use Rattle.std.proofs.Common.{◌≡◌, ◌∙◌, sym, ap, refl, subst, ℕ, List, [], ◌∷◌, ◌++◌, length, arith}
 use Rattle.yaml_round.specs.declared.yaml_encoding_t.{yaml_encoding_t}
 use Rattle.yaml_round.specs.declared.yaml_difference_t.{yaml_difference_t}
 use Rattle.yaml_round.specs.parse_model.Events.{EventBody, type_of}
@@ -8,7 +9,7 @@ use Rattle.yaml_round_content.specs.Agree.{Agrees}
 use Rattle.yaml_round_content.specs.Input.{events_of}
 use Rattle.yaml_round_engine.specs.Causes.{next_cause}
 use Rattle.yaml_round_engine.specs.Loaded.{dumps_say, next_of, event_at, SameDocuments, IsDocumentsParting}
-use Rattle.yaml_round_laws.specs.Partings.{TellTheSame, DocumentDiffsAgree, turned, turned_cause}
+use Rattle.yaml_round_laws.specs.Partings.{TellTheSame, DocumentDiffsAgree, turned}
 use Rattle.yaml_round_laws.proofs.Turning.{next_turned}
 use Rattle.yaml_round_laws.proofs.Limits.{same_loading}
 use Rattle.yaml_round_laws.proofs.Partings.{one_path}
@@ -22,10 +23,7 @@ one_front : (b b' l o l' o' : List EventBody) → b ++ l ≡ b' ++ l' → b ++ o
 one_front [] [] l o l' o' p q d d' = refl
 one_front [] (x ∷ xs) l o l' o' p q d d' = absurd (d (ap next_of p ∙ sym (ap next_of q)))
 one_front (x ∷ xs) [] l o l' o' p q d d' = absurd (d' (sym (ap next_of p) ∙ ap next_of q))
-one_front (x ∷ xs) (y ∷ ys) l o l' o' p q d d' =
-    let e : xs ≡ ys = one_front xs ys l o l' o' (rest_same x y (xs ++ l) (ys ++ l') p) (rest_same x y (xs ++ o) (ys ++ o') q) d d' in
-    let h : Some x ≡ Some y = ap next_of p in
-    cc
+one_front (x ∷ xs) (y ∷ ys) l o l' o' p q d d' = grind (arith, nat_tests, rest_same, one_front xs ys l o l' o' (rest_same x y (xs ++ l) (ys ++ l') p) (rest_same x y (xs ++ o) (ys ++ o') q) d d')
 
 -- ---- inputs
 
@@ -75,31 +73,7 @@ once a_from b_from a b d e h k =
 
 other_way : (a_from b_from : yaml_encoding_t) (a b : List ℕ) (d : yaml_difference_t)
     → IsDocumentsParting b_from b a_from a d → IsDocumentsParting a_from a b_from b (turned d)
-other_way a_from b_from a b d h = record {
-  first = h.second;
-  second = h.first;
-  first_loads = h.second_loads;
-  second_loads = h.first_loads;
-  apart = λ s. h.apart (sym s);
-  before = h.before;
-  left = h.other_left;
-  other_left = h.left;
-  first_says = h.second_says;
-  second_says = h.first_says;
-  differ = λ e. h.differ (sym e);
-  cause = ap turned_cause h.cause ∙ sym (next_turned (next_of h.left) (next_of h.other_left));
-  tells = record {
-    first_mark = h.tells.second_mark;
-    first_end = h.tells.second_end;
-    first_type = h.tells.second_type;
-    second_mark = h.tells.first_mark;
-    second_end = h.tells.first_end;
-    second_type = h.tells.first_type;
-  };
-  place = h.place;
-  in_front = h.in_front;
-  path = h.path;
-}
+other_way a_from b_from a b d h = grind (arith, nat_tests, next_turned)
 
 not_apart : (a_from b_from : yaml_encoding_t) (a b : List ℕ) (d : yaml_difference_t)
     → SameDocuments a_from a b_from b → IsDocumentsParting a_from a b_from b d → ⊥

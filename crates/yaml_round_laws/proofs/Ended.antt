@@ -1,6 +1,6 @@
 -- A front that ends in a line `...` and is refused before it is refused so in the whole.
 use Rattle.std.proofs.Common.{◌≡◌, ℕ, ◌+◌, ◌<◌, List, [], ◌∷◌, ◌++◌, length, Option, Some, None, refl, sym, ap, subst, ◌∙◌, inl, inr, arith}
-use Rattle.yaml_round_laws.proofs.WindowsWords.{append-nil, append_assoc, length-append, yaml_encoding_t, yaml_mark_t, Fault, mark_at, Token, TokenBody, Remaining, Reading, spells_text, cut, EndsIn, IsCut, IsEndLine, scan_of, refused_fronts_are_scanned, begun_over, TailSo, line_tail, stream_ends, parse_of, GoOn, ended_fronts_stay, refused_tokens_stay, tokens_in, reading_in, EndedFaultsAreRead}
+use Rattle.yaml_round_laws.proofs.WindowsWords.{nat_tests, append-nil, append_assoc, length-append, yaml_encoding_t, Fault, mark_at, Token, Remaining, Reading, spells_text, cut, EndsIn, IsCut, IsEndLine, scan_of, refused_fronts_are_scanned, begun_over, TailSo, line_tail, stream_ends, parse_of, GoOn, ended_fronts_stay, refused_tokens_stay, tokens_in, reading_in, EndedFaultsAreRead}
 use Rattle.yaml_round_content.specs.scan_types.Tokens as token
 use Rattle.yaml_scan_laws.proofs.BehindBreak.{front_mark}
 use Rattle.yaml_scan_laws.proofs.CutsEnding.{line_long, whole_end, line_cut}
@@ -15,8 +15,7 @@ SameRefusal x t w f =
 
 same_tokens : (x : yaml_encoding_t) (t w : List ℕ) (f : Fault) → (reading_in x t).ending ≡ Some f
     → tokens_in x w ≡ tokens_in x t → SameRefusal x t w f
-same_tokens x t w f refused same =
-    (ap (λ r. parse.events_in (read_to r)) same, ap (λ r. (read_to r).ending) same ∙ refused)
+same_tokens x t w f refused same = grind (arith, nat_tests)
 
 -- the same tokens, and a fault each
 same_front : (x : yaml_encoding_t) (t w : List ℕ) (f g h : Fault) (T : List Token)
@@ -46,10 +45,7 @@ same_front x t w f g h T t_is w_is refused same =
 
 token_is : (t u : Token) → t.body ≡ u.body → t.start_mark ≡ u.start_mark
     → t.end_mark ≡ u.end_mark → t ≡ u
-token_is t u e f g =
-    ap (λ (b : TokenBody). record { body = b; start_mark = t.start_mark; end_mark = t.end_mark }) e
-    ∙ ap (λ (m : yaml_mark_t). record { body = u.body; start_mark = m; end_mark = t.end_mark }) f
-    ∙ ap (λ (m : yaml_mark_t). record { body = u.body; start_mark = u.start_mark; end_mark = m }) g
+token_is t u e f g = grind (arith, nat_tests)
 
 feeds : (a line : List ℕ) → EndsIn line 10 → EndsIn (a ++ line) 10
 feeds a line (xs, is) = (a ++ xs, ap (λ z. a ++ z) is ∙ sym (append_assoc a xs (10 ∷ [])))

@@ -1,4 +1,5 @@
 -- From a bound on canonical text to the answers of a call.
+use Rattle.std.proofs.lemmas.Bool.Decides.{nat_tests}
 use Rattle.std.proofs.Common.{◌≡◌, inl, inr, ℕ, ◌+◌, ◌≤◌, ◌<◌, Bool, true, false, List, [], ◌∷◌, length, map, Ok, Err, refl, sym, ap, subst, ◌∙◌, arith}
 use Rattle.yaml_round.specs.declared.yaml_encoding_t.{yaml_encoding_t}
 use Rattle.yaml_round.specs.declared.yaml_encoding_t.TheVariants.{YAML_ANY_ENCODING}
@@ -44,8 +45,7 @@ not_columns e = let k : write_error.kind ≡ too_deep.kind = ap (λ (f : Fault).
 
 past_size : (limit : ℕ) (bytes : List ℕ) (deep : Bool) → Passes limit bytes deep write_error
     → limit < length bytes
-past_size limit bytes deep (inl p) = p.1
-past_size limit bytes deep (inr p) = absurd (not_columns p.0)
+past_size limit bytes deep h3 = grind (arith, nat_tests, not_columns)
 
 -- the text is the content's, and longer than the limit
 text_passes : (from : yaml_encoding_t) (s : yaml_settings_t) (input : List ℕ) (c : List Document)

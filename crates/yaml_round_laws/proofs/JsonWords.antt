@@ -5,21 +5,21 @@ pub use Rattle.std.proofs.lemmas.Bool.Decides.{nat_tests}
 pub use Rattle.std.specs.List.{list_all}
 pub use Rattle.yaml_emit_laws.proofs.Documents.{end_begins}
 pub use Rattle.yaml_emit_laws.proofs.Places.{left_first, left_more, left_rest}
-pub use Rattle.yaml_emit_laws.specs.PrettyBodies.{comma_bodies, document_bodies, start_bodies, stop_bodies}
+pub use Rattle.yaml_emit_laws.specs.PrettyBodies.{document_bodies, start_bodies, stop_bodies}
 unfoldable pub use Rattle.yaml_emit_laws.specs.PrettyBodies.{json_bodies, json_items, json_pairs}
 pub use Rattle.yaml_emit_laws.specs.Walk.{Left}
 pub use Rattle.yaml_emit_layout.specs.Content.{Document, Node, Nodes, Pairs, Scalar, alias_node, emitter_event, mapping_node, no_nodes, node, scalar_node, sequence_node, stream_events}
 unfoldable pub use Rattle.yaml_emit_layout.specs.Content.{documents_events, items_events, node_events, pairs_events}
-pub use Rattle.yaml_round_content.specs.Said.{HasContent, stream_says, tagged, untagged}
+pub use Rattle.yaml_round_content.specs.Said.{HasContent, stream_says, untagged}
 unfoldable pub use Rattle.yaml_round_content.specs.Said.{documents_say, items_say, node_says, pairs_say}
 pub use Rattle.yaml_scan_decode.specs.Encodings.{begins_high_first, begins_low_first, begins_utf8}
 unfoldable pub use Rattle.yaml_scan_decode.specs.Encodings.{encoding_of, mark_length}
 pub use Rattle.yaml_scan_decode.specs.Spelling.{Spells, spellings}
 pub use Rattle.yaml_round_content.specs.scan_model.declared.name.yaml_encoding_t.{yaml_encoding_t}
-pub use Rattle.yaml_round_content.specs.scan_model.declared.name.yaml_encoding_t.TheVariants.{YAML_ANY_ENCODING, YAML_UTF16BE_ENCODING, YAML_UTF16LE_ENCODING, YAML_UTF8_ENCODING}
+pub use Rattle.yaml_round_content.specs.scan_model.declared.name.yaml_encoding_t.TheVariants.{YAML_ANY_ENCODING, YAML_UTF8_ENCODING}
 pub use Rattle.yaml_round_content.specs.Adapted.{adapted}
 pub use Rattle.yaml_round_content.specs.Adapting.{without_fault}
-pub use Rattle.yaml_round_content.specs.TreeLaws.{Grown, SaysTree, event_bodies, parsed_of, token_bodies}
+pub use Rattle.yaml_round_content.specs.TreeLaws.{Grown, event_bodies, parsed_of, token_bodies}
 pub use Rattle.yaml_parse_grammar.specs.Resolve.{Reading, Told, gave, no_directives, node_event, scalar_event, settle}
 unfoldable pub use Rattle.yaml_parse_grammar.specs.Resolve.{reading}
 pub use Rattle.yaml_round_content.specs.parse_model.Events.{EventBody}
@@ -40,7 +40,7 @@ unfoldable pub use Rattle.yaml_scan_history.specs.Words.{indicator_of, kind_at, 
 pub use Rattle.yaml_scan_history.specs.scan_types.Marks.{break_width, byte, column_at, ends_break, is_blank, is_blank_or_end, mark_at, starts}
 unfoldable pub use Rattle.yaml_scan_history.specs.scan_types.Marks.{break_of, ends_of}
 pub use Rattle.yaml_scan_history.specs.scan_model.Wrong.{Wrong}
-pub use Rattle.yaml_scan_history.specs.Plain.{Ends, PlainSpot, PlainText, Takes, Words, after_white, follows, leads, plain_at, plain_text, plain_with, spot_at, with_piece, words_from}
+pub use Rattle.yaml_scan_history.specs.Plain.{PlainText, Takes, Words, after_white, follows, plain_at, plain_text, plain_with, spot_at, with_piece, words_from}
 unfoldable pub use Rattle.yaml_scan_history.specs.Plain.{ends_at, is_bracket, is_indicator_byte, starts_plain, words}
 unfoldable pub use Rattle.yaml_scan_history.specs.Indicators.{is_document_end, is_document_start}
 pub use Rattle.yaml_scan_history.specs.Written.{HasAt, are_gap, begins_lexeme}
@@ -49,6 +49,5 @@ pub use Rattle.yaml_scan_laws.proofs.Walking.{walk_key_starts, walk_key_stops, w
 pub use Rattle.yaml_scan_laws.specs.Steps.{Comes, WordLeaves}
 pub use Rattle.yaml_scan_laws.specs.Walks.{Done, WalkReads, WalkState, behind}
 unfoldable pub use Rattle.yaml_scan_laws.specs.Walks.{LeaveClear}
-pub use Rattle.yaml_scan_laws.specs.White.{IsGap}
 pub use Rattle.yaml_scan_laws.specs.Values.{begins_value, first}
 unfoldable pub use Rattle.yaml_scan_laws.specs.Values.{is_letter_or_digit, is_plain_value, is_value_byte}

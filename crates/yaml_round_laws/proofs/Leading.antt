@@ -1,5 +1,5 @@
 -- Events are let out one by one, each with its text; the others wait.
-use Rattle.yaml_round_laws.proofs.Words.{◌≤◌, Cursor, Settings, Rest, nothing_more, Problem, Event, or_else, context_of, problem_in, progress_after, first_refusal, State, piece, next, problem_at, opens_empty, top_of, is_ready, let_out, unless, laid, refused_at, shape_of, refusal_from, text_from, refusal_behind, ready_more, same_problem, shape_next, or_none, or_some, unless_none, unless_some, empty_out, open_next, first_out, Stand, added, StandsAreThere}
+use Rattle.yaml_round_laws.proofs.Words.{nat_tests, ◌≤◌, Cursor, Settings, Rest, nothing_more, Problem, Event, or_else, context_of, problem_in, progress_after, first_refusal, State, piece, next, problem_at, opens_empty, top_of, is_ready, let_out, laid, refused_at, shape_of, refusal_from, text_from, refusal_behind, ready_more, same_problem, shape_next, or_none, or_some, unless_none, unless_some, empty_out, open_next, first_out, Stand, added, StandsAreThere}
 use Rattle.std.proofs.Common.{◌≡◌, Bool, true, false, List, [], ◌∷◌, ◌++◌, refl, sym, ap, ◌∙◌, append_assoc, Option, Some, None, length, arith, append-nil}
 use Rattle.yaml_emit_layout.specs.declared.Expected.TheVariants as at
 use Rattle.yaml_emit_machine.proofs.Holding.{ready_empty, few_short}
@@ -27,9 +27,7 @@ right_judged : (s : Settings) (st : State) (e : Event) (es : List Event) (empty 
     → refused_at st.place ≡ None → is_ready (e ∷ es) ≡ true → problem_at s st e ≡ None
     → refusal_behind s st (e ∷ es) ≡ refusal_behind s (next s st e empty d) es
 unfolding refusal_behind
-right_judged s st e es empty d o r p =
-    first_judged s.canonical st e es o r ∙ (or_none _ _ (sym (same_problem s st e) ∙ p)
-    ∙ (sym (ap (λ z. first_refusal s.canonical z (let_out es)) (shape_next s st e empty d)) ∙ sym (or_none _ _ (open_next s st e empty d o))))
+right_judged s st e es empty d o r p = grind (arith, nat_tests, first_judged, same_problem, shape_next, open_next)
 
 wrong_judged : (s : Settings) (st : State) (e : Event) (es : List Event) (x : Problem)
     → refused_at st.place ≡ None → is_ready (e ∷ es) ≡ true → problem_at s st e ≡ Some x
@@ -47,26 +45,18 @@ right_text : (s : Settings) (st : State) (e : Event) (es : List Event) (c : Curs
     ≡ piece s st e (opens_empty e es) c
     (λ d. laid s (next s st e (opens_empty e es) d) (let_out es) d nothing_more)
 unfolding laid
-right_text s st e es c o r p =
-    unless_none (refused_at st.place) _ c nothing_more o
-    ∙ (ap (λ z. laid s st z c nothing_more) (first_out e es r)
-    ∙ (unless_none (problem_at s st e) _ c nothing_more p ∙ ap (λ b. piece s st e b c (λ d. laid s (next s st e b d) (let_out es) d nothing_more)) (empty_out e es)))
+right_text s st e es c o r p = grind (arith, nat_tests, unless_none, first_out, empty_out)
 
 wrong_text : (s : Settings) (st : State) (e : Event) (es : List Event) (c : Cursor) (x : Problem)
     → refused_at st.place ≡ None → is_ready (e ∷ es) ≡ true → problem_at s st e ≡ Some x
     → text_from s st (e ∷ es) c nothing_more ≡ []
 unfolding laid
-wrong_text s st e es c x o r p =
-    unless_none (refused_at st.place) _ c nothing_more o ∙ (ap (λ z. laid s st z c nothing_more) (first_out e es r) ∙ unless_some (problem_at s st e) x _ c nothing_more p)
+wrong_text s st e es c x o r p = grind (arith, nat_tests, unless_none, first_out, unless_some)
 
 held_text : (s : Settings) (st : State) (xs : List Event) (c : Cursor) → let_out xs ≡ []
     → text_from s st xs c nothing_more ≡ []
 unfolding laid
-held_text s st xs c h = ap (λ z. unless (refused_at st.place) (laid s st z) c nothing_more) h ∙ nothing_by (refused_at st.place) c
-  where
-    nothing_by : (p : Option Problem) (c : Cursor) → unless p (λ d rest. rest d) c nothing_more ≡ []
-    nothing_by None c = refl
-    nothing_by (Some x) c = refl
+held_text s st xs c h = grind (arith, nat_tests)
 
 -- ---- where a list leads, all of it waiting
 
@@ -163,8 +153,7 @@ by_ready s st c e es false o r rest = waiting s st c (e ∷ es) (none_out e es r
 by_place : (s : Settings) (st : State) (c : Cursor) (e : Event) (es : List Event)
     (q : Option Problem) → refused_at st.place ≡ q
     → ((st' : State) (d : Cursor) → Led s st' d es) → Led s st c (e ∷ es)
-by_place s st c e es None o rest = by_ready s st c e es (is_ready (e ∷ es)) o refl rest
-by_place s st c e es (Some x) o rest = stuck s st c (e ∷ es) x o
+by_place s st c e es q o rest = grind (arith, nat_tests, by_ready, stuck)
 
 pub led : (s : Settings) (xs : List Event) (st : State) (c : Cursor) → Led s st c xs
 unfolding let_out

@@ -1,5 +1,6 @@
 -- What is answered is said of what is loaded.
-use Rattle.std.proofs.Common.{◌≡◌, inl, inr, ℕ, List, Option, Some, None, Result, Ok, Err, refl, sym, subst, true, map, ap, ◌∙◌}
+use Rattle.std.proofs.lemmas.Bool.Decides.{nat_tests}
+use Rattle.std.proofs.Common.{◌≡◌, inl, inr, ℕ, List, Option, Some, None, Result, Ok, Err, sym, subst, true, map, ap, ◌∙◌, arith}
 use Rattle.yaml_round.specs.declared.yaml_encoding_t.{yaml_encoding_t}
 use Rattle.yaml_round.specs.declared.yaml_encoding_t.TheVariants.{YAML_ANY_ENCODING}
 use Rattle.yaml_emit_laws.specs.scan_types.Faults.{Fault}
@@ -24,13 +25,11 @@ use Rattle.yaml_round_engine.specs.Answers.{IsReformatted, ReadsBack, canonical_
 use Rattle.yaml_round_laws.specs.Reloads.{ReloadsTellDocuments, AnswersAndReloadsAgree, NamesLeaveReloads}
 
 pub no_fault : (ds es : List Document) (o : Option Fault) → unless_faulty ds o ≡ Ok es → o ≡ None
-no_fault ds es None h = refl
-no_fault ds es (Some f) h = cc
+no_fault ds es o h = grind (arith, nat_tests)
 
 same_fault : (ds : List Document) (o : Option Fault) (e : Fault) → unless_faulty ds o ≡ Err e
     → o ≡ Some e
-same_fault ds None e h = cc
-same_fault ds (Some f) e h = cc
+same_fault ds o e h = grind (arith, nat_tests)
 
 dumped : (from : yaml_encoding_t) (settings : yaml_settings_t) (input : List ℕ)
     (r : Result (List ℕ) Fault) → LaysOutLoading from settings input r

@@ -1,8 +1,7 @@
 -- The lexemes of a text are worth no more than the characters that begin in it, and one.
-use Rattle.std.proofs.Common.{◌≡◌, ℕ, zero, suc, ◌+◌, ◌<◌, ◌≤◌, Bool, true, false, not, List, [], ◌∷◌, length, Option, Some, None, Result, Ok, Err, refl, ap, subst, ◌∙◌, arith, inl, inr}
-use Rattle.yaml_round_laws.proofs.SizesWords.{cases_Bool, cond_both, ScanFault, Wrong, byte, starts, is_blank_or_end, Kind, Lexeme, is_end, flow_depth, in_flow, Next, Read, Fails, Ends, first_lexeme, begun_behind, with_end, gap_behind, place_behind, kind_behind, word_behind, lexeme_behind, first_fault_or, stale_before, no_start, faults, coming, next, extended, history, WordText, lexeme_at, all, Stands, history_stands, stand_in, not_ended, first_is, takes_bytes, placed_index}
+use Rattle.std.proofs.Common.{◌≡◌, ℕ, zero, suc, ◌+◌, ◌<◌, ◌≤◌, Bool, true, false, not, List, [], ◌∷◌, length, Option, Some, None, Result, refl, ap, subst, ◌∙◌, arith, inl, inr}
+use Rattle.yaml_round_laws.proofs.SizesWords.{nat_tests, cases_Bool, ScanFault, Wrong, byte, starts, is_blank_or_end, Kind, Lexeme, is_end, flow_depth, in_flow, Next, Read, Fails, Ends, first_lexeme, begun_behind, with_end, gap_behind, place_behind, kind_behind, word_behind, lexeme_behind, first_fault_or, stale_before, no_start, faults, coming, next, extended, history, WordText, lexeme_at, all, Stands, history_stands, stand_in, not_ended, first_is, takes_bytes, placed_index}
 use Rattle.yaml_scan_history.specs.scan_model.declared.record.yaml_mark_t.{yaml_mark_t}
-use Rattle.yaml_scan_history.specs.declared.kind.Kind.TheVariants as kinds
 use Rattle.yaml_round_laws.proofs.Leads.{one_if, leads, leads_grow}
 use Rattle.yaml_round_laws.proofs.Lexemes.{own, apart, apart_least, worth, worths, white_starts, blank_white, begins, followed, not_blank}
 
@@ -31,20 +30,14 @@ pub record Keeps (a b : Lexeme) : Type 0 where
 
 pub ended_keeps : (text : List ℕ) (l : Lexeme) (r : Result WordText Wrong)
     → Keeps (with_end text l r) l
-ended_keeps text l (Ok w) =
-    cond_both _ _ _ (λ k. Keeps k l) (λ _. record { kind = refl; depth = refl; start = refl })
-    (λ _. record { kind = refl; depth = refl; start = refl })
-ended_keeps text l (Err w) = record { kind = refl; depth = refl; start = refl }
+ended_keeps text l r = grind (arith, nat_tests)
 
 -- the place after an indicator of blocks is the next one
 behind_of : (k : Kind) (text : List ℕ) (h : List Lexeme)
     → apart k (flow_depth h) ≤ one_if (is_blank_or_end text ((gap_behind text h).place + 1))
     → apart k (flow_depth h) ≤ one_if (is_blank_or_end text (lexeme_behind k text h).reached.index)
 unfolding lexeme_at
-behind_of kinds.BlockEntry text h w = w
-behind_of kinds.KeyMark text h w = w
-behind_of kinds.ValueMark text h w = w
-behind_of _ text h w = omega arith
+behind_of k text h w = grind (arith, nat_tests)
 
 coming_tells : (o : Option Kind) (text : List ℕ) (h : List Lexeme) → kind_behind text h ≡ o
     → Tells text (coming o text h)
@@ -83,11 +76,7 @@ first_paid : (text : List ℕ) → Paid text first_lexeme []
 first_paid text = record { count = λ e. omega arith; blank = omega arith; total = omega arith }
 
 end_worth : (l : Lexeme) → is_end l.kind ≡ true → worth l ≡ 0
-end_worth l e = by l.kind e
-  where
-    by : (k : Kind) → is_end k ≡ true → own k + apart k l.depth ≡ 0
-    by kinds.StreamEnd f = refl
-    by _ f = cc
+end_worth l e = grind (arith, nat_tests)
 
 -- from the place that one reaches to the start of the next one
 gone : (text : List ℕ) (p q : ℕ) → p ≤ q → is_blank_or_end text q ≡ false
@@ -104,8 +93,7 @@ gone text p q w n =
     ]
 
 pub no_blank : (b : Bool) → 1 + one_if b ≤ 1 → b ≡ false
-no_blank true w = absurd (omega arith)
-no_blank false w = refl
+no_blank b w = grind (arith, nat_tests)
 
 read_paid : (text : List ℕ) (x : Lexeme) (h : List Lexeme) (l : Lexeme) → Stands text (x ∷ h)
     → Paid text x h → next text (x ∷ h) ≡ Read l → Paid text l (x ∷ h)
@@ -145,8 +133,7 @@ history_paid text (suc n) = step_paid text (history text n) (next text (history 
 
 paid_total : (text : List ℕ) (h : List Lexeme) → ArePaid text h
     → worths h ≤ leads text (length text) + 1
-paid_total text [] p = omega arith
-paid_total text (l ∷ h) p = p.total
+paid_total text h p = grind (arith, nat_tests)
 
 pub all_paid : (text : List ℕ) → worths (all text) ≤ leads text (length text) + 1
 unfolding all

@@ -1,6 +1,6 @@
 -- What the tokens of a text cost, by the lengths of what they carry: so much for each byte of the text, and once more.
-use Rattle.std.proofs.Common.{◌≡◌, ℕ, zero, suc, ◌+◌, ◌-◌, ◌*◌, ◌<◌, ◌≤◌, Bool, true, false, true≢false, not, ◌&&◌, nat_lt, List, [], ◌∷◌, length, Option, Some, None, Result, Ok, Err, refl, sym, ap, subst, ◌∙◌, arith, inl, inr, le_refl, mul-le-mul_left, mul-le-mul_right, mul-add}
-use Rattle.yaml_round_laws.proofs.SizesWords.{cases_Bool, ScanFault, TokenBody, Wrong, is_blank_or_end, Kind, Lexeme, Opens, is_end, is_value, flow_depth, indent, start_of, Next, Read, Fails, Ends, first_lexeme, begun_behind, with_end, place_behind, kind_behind, word_behind, lexeme_behind, first_fault_or, stale_before, no_start, faults, coming, next, extended, history, WordText, lexeme_at, SpelledText, body_of_word, body_by, body_in, all, offline, Stands, history_stands, stand_in, not_ended, first_is, takes_bytes, placed_index}
+use Rattle.std.proofs.Common.{◌≡◌, ℕ, zero, suc, ◌+◌, ◌-◌, ◌*◌, ◌<◌, ◌≤◌, Bool, true, false, true≢false, not, nat_lt, List, [], ◌∷◌, length, Option, Some, None, Result, Ok, Err, refl, sym, ap, subst, ◌∙◌, arith, inl, inr, le_refl, mul-le-mul_left, mul-le-mul_right, mul-add}
+use Rattle.yaml_round_laws.proofs.SizesWords.{nat_tests, cases_Bool, ScanFault, TokenBody, Wrong, is_blank_or_end, Kind, Lexeme, is_end, start_of, Next, Read, Fails, Ends, first_lexeme, begun_behind, with_end, place_behind, kind_behind, word_behind, lexeme_behind, first_fault_or, stale_before, no_start, faults, coming, next, extended, history, WordText, lexeme_at, SpelledText, body_of_word, body_by, body_in, all, offline, Stands, history_stands, stand_in, not_ended, first_is, takes_bytes, placed_index}
 use Rattle.yaml_scan_history.specs.scan_types.Tokens as token
 use Rattle.yaml_scan_history.specs.declared.kind.Kind.TheVariants as kinds
 use Rattle.yaml_scan_history.specs.declared.lexeme.Opens.TheVariants as opening
@@ -10,7 +10,6 @@ use Rattle.yaml_round_laws.proofs.Lexemes.{outside, apart, apart_least}
 use Rattle.yaml_round_laws.proofs.Paying.{Telling, Tells, next_tells, no_blank, ended_keeps}
 use Rattle.yaml_round_laws.proofs.Spans.{Spans, WordSpans, word_spans}
 use Rattle.yaml_round_laws.proofs.Weights.{Weight, weigh, start_weight, outer, mapping_most, taken, opens_by, ArePaid, prices, tokens_weigh}
-use Rattle.yaml_scan_history.specs.scan_model.declared.record.yaml_mark_t.{yaml_mark_t}
 
 -- ---- what is known of a lexeme
 
@@ -21,9 +20,7 @@ TakesSome kinds.StreamEnd p q = Unit {0}
 TakesSome _ p q = p < q
 
 takes_some : (k : Kind) (p q : ℕ) → (is_end k ≡ false → p < q) → TakesSome k p q
-takes_some kinds.StreamStart p q f = tt
-takes_some kinds.StreamEnd p q f = tt
-takes_some _ p q f = f refl
+takes_some k p q f = grind (arith, nat_tests)
 
 -- where its text is reached, and that what it carries spans it
 record Known (s : SpelledText) (l : Lexeme) : Type 0 where
@@ -39,8 +36,7 @@ word_of text l = lexeme_at l.kind (nat_lt 0 l.depth) l.level text l.start.index
 
 carried : (p q : ℕ) (r : Result WordText Wrong) → WordSpans p r → q ≡ reached_or r p
     → Spans p q (body_of_word r)
-carried p q (Ok w) f e = subst (λ z. Spans p z w.body) (sym e) f
-carried p q (Err x) f e = tt
+carried p q r f e = grind (arith, nat_tests)
 
 end_spans : (s : SpelledText) (l : Lexeme) (q : ℕ)
     → Spans l.start.index q (body_by kinds.StreamEnd s l)
@@ -59,25 +55,16 @@ body_spans _ s l q f = carried l.start.index q _ (word_spans _ (nat_lt 0 l.depth
 -- the place that a lexeme reaches is that after its word
 ended_reach : (text : List ℕ) (b : Lexeme) (r : Result WordText Wrong) → is_end b.kind ≡ false
     → (with_end text b r).reached.index ≡ reached_or r b.reached.index
-ended_reach text b (Ok w) e = rw e refl
-ended_reach text b (Err x) e = refl
+ended_reach text b r e = grind (arith, nat_tests)
 
 ended_word : (text : List ℕ) (b : Lexeme) (r : Result WordText Wrong)
     → word_of text (with_end text b r) ≡ word_of text b
-ended_word text b (Ok w) =
-    elim (cases_Bool (is_end b.kind)) [ inl e ↦ rw e refl | inr e ↦ rw e refl ]
-ended_word text b (Err x) = refl
+ended_word text b r = grind (arith, nat_tests, cases_Bool)
 
 reach_is : (k : Kind) (text : List ℕ) (h : List Lexeme) → is_end k ≡ false
     → (lexeme_behind k text h).reached.index
     ≡ reached_or (word_of text (lexeme_behind k text h)) (lexeme_behind k text h).start.index
-reach_is k text h e =
-    let b = begun_behind k text h in
-    let r = word_behind k text h in
-    let word : word_of text (lexeme_behind k text h) ≡ r = ended_word text b r ∙ (ap (λ p. lexeme_at k (nat_lt 0 (flow_depth h)) (begun_behind k text h).level text p) (placed_index k (place_behind text h))) in
-    let start : (lexeme_behind k text h).start.index ≡ b.start.index = ap (λ (m : yaml_mark_t). m.index) (ended_keeps text b r).start in
-    let end : (lexeme_behind k text h).reached.index ≡ reached_or r b.start.index = ended_reach text b r e in
-    rw word (rw start end)
+reach_is k text h e = grind (arith, nat_tests, word_of, ended_word, placed_index, ended_keeps, ended_reach)
 
 lexeme_spans : (k : Kind) (s : SpelledText) (h : List Lexeme)
     → Spans (lexeme_behind k s.text h).start.index (lexeme_behind k s.text h).reached.index
@@ -127,8 +114,7 @@ first_taken : (s : SpelledText) → Taken s first_lexeme []
 first_taken s = record { known = record { some = tt; spans = tt }; count = λ e. omega arith; blank = omega arith; total = omega arith }
 
 end_apart : (k : Kind) (d : ℕ) → is_end k ≡ true → apart k d ≡ 0
-end_apart kinds.StreamEnd d e = refl
-end_apart _ d e = cc
+end_apart k d e = grind (arith, nat_tests)
 
 end_none : (text : List ℕ) (l : Lexeme) (p : ℕ) → l.reached ≡ l.start
     → l.reached.index - l.start.index ≡ 0
@@ -147,8 +133,7 @@ stepped text p q w n =
 
 ended_none : (text : List ℕ) (l : Lexeme) (ended : Bool) → ended ≡ true → Takes ended text l
     → l.reached.index - l.start.index ≡ 0
-ended_none text l true e s = end_none text l 0 s.reached
-ended_none text l false e s = cc
+ended_none text l ended e s = grind (arith, nat_tests, end_none)
 
 read_taken : (s : SpelledText) (x : Lexeme) (h : List Lexeme) (l : Lexeme) → Stands s.text (x ∷ h)
     → Taken s x h → next s.text (x ∷ h) ≡ Read l → Taken s l (x ∷ h)
@@ -254,9 +239,7 @@ value_pays u b v k wide in_it some =
 
 -- marks of documents
 dashes_pay : (u b k : ℕ) → 10 * u ≤ b → 3 ≤ k → 39 * u ≤ (b + b) * k
-dashes_pay u b k wide some =
-    let a : (b + b) * 3 ≤ (b + b) * k = mul-le-mul_left (b + b) some in
-    omega (arith, wide, a)
+dashes_pay u b k wide some = grind (arith, nat_tests, mul-le-mul_left)
 
 -- that many lines
 one_pays : (b k : ℕ) → 1 ≤ k → b + b ≤ (b + b) * k
@@ -292,16 +275,11 @@ more_pays b o x k n w v = omega (arith, w, v)
 
 -- a mapping opens outside of brackets, where a blank is after what opens it
 key_pays : (b d o x k : ℕ) → x ≤ (b + b) * k → o ≤ outer d b → o + x ≤ (b + b) * (k + outside d)
-key_pays b zero o x k w v = omega (arith, w, v)
-key_pays b (suc d) o x k w v = omega (arith, w, v)
+key_pays b d o x k w v = grind (arith, nat_tests)
 
 sequence_most : (u b d margin : ℕ) (levels : List ℕ)
     → start_weight (by_length u b) (start_of d margin levels opening.Sequence) ≤ b
-sequence_most u b d margin levels =
-    elim (cases_Bool (not (nat_lt 0 d) && nat_lt (indent levels) margin)) [
-      | inl e ↦ rw e (le_refl _)
-      | inr e ↦ rw e (omega arith)
-    ]
+sequence_most u b d margin levels = grind (arith, nat_tests, cases_Bool, le_refl)
 
 first_body : (u b : ℕ) (s : SpelledText) (l : Lexeme)
     → by_length u b (body_by kinds.StreamStart s l) ≡ 0
@@ -322,25 +300,7 @@ lexeme_pays : (u b : ℕ) → 10 * u ≤ b
     → TakesSome k p q → Spans p q (body_by k s l)
     → start_weight (by_length u b) (opens_by k d margin found levels) + by_length u b
     (body_by k s l) + taken (by_length u b) k found d ≤ (b + b) * ((q - p) + apart k d)
-lexeme_pays u b wide kinds.StreamStart s l d margin p q found levels some f = omega (arith, first_body u b s l)
-lexeme_pays u b wide kinds.StreamEnd s l d margin p q found levels some f = omega (arith, end_body u b s l)
-lexeme_pays u b wide kinds.BlockEntry s l d margin p q found levels some f =
-    let x = body_pays u b wide (body_by kinds.BlockEntry s l) p q some f in
-    let a = more_pays b (start_weight (by_length u b) (start_of d margin levels opening.Sequence)) (by_length u b (body_by kinds.BlockEntry s l)) (q - p) 1 x (omega (arith, sequence_most u b d margin levels)) in
-    omega (arith, a)
-lexeme_pays u b wide kinds.KeyMark s l d margin p q found levels some f =
-    let x = body_pays u b wide (body_by kinds.KeyMark s l) p q some f in
-    let a = key_pays b d (start_weight (by_length u b) (start_of d margin levels opening.Mapping)) (by_length u b (body_by kinds.KeyMark s l)) (q - p) x (mapping_most (by_length u b) d margin levels) in
-    omega (arith, a)
-lexeme_pays u b wide kinds.ValueMark s l d margin p q true levels some f =
-    let a = key_pays b d (outer d b) (b + b) (q - p) (one_pays b (q - p) (omega (arith, some))) (le_refl _) in
-    omega (arith, a, value_body u b s l)
-lexeme_pays u b wide kinds.ValueMark s l d margin p q false levels some f =
-    let a = key_pays b d (start_weight (by_length u b) (start_of d margin levels opening.Mapping)) 0 (q - p) (omega arith) (mapping_most (by_length u b) d margin levels) in
-    omega (arith, a, value_body u b s l)
-lexeme_pays u b wide _ s l d margin p q found levels some f =
-    let x = body_pays u b wide _ p q some f in
-    omega (arith, x)
+lexeme_pays u b wide k s l d margin p q found levels some f = grind (arith, nat_tests, first_body, end_body, body_pays, more_pays, sequence_most, key_pays, mapping_most, one_pays, le_refl, value_body)
 
 abbrev price : ℕ → Lexeme → ℕ
 price b l = (b + b) * taking l
@@ -348,8 +308,7 @@ price b l = (b + b) * taking l
 all_pay : (u b : ℕ) → 10 * u ≤ b → (s : SpelledText) (h : List Lexeme) → AreTaken s h
     → ArePaid (by_length u b) s (price b) h
 all_pay u b wide s [] t = tt
-all_pay u b wide s (l ∷ h) t =
-    (λ margin found levels. lexeme_pays u b wide l.kind s l l.depth margin l.start.index l.reached.index found levels t.0.known.some t.0.known.spans, all_pay u b wide s h t.1)
+all_pay u b wide s (l ∷ h) t = grind (arith, nat_tests, lexeme_pays, all_pay u b wide s h t.1)
 
 prices_are : (b : ℕ) (h : List Lexeme) → prices (price b) h ≡ (b + b) * prices taking h
 prices_are b [] = omega arith
@@ -367,24 +326,14 @@ tokens_cost u b wide s =
 -- ---- tags and directives
 
 body_marks : (body : TokenBody) (p q : ℕ) → p < q → Spans p q body → marks body ≤ q - p
-body_marks (token.tag handle suffix) p q some f = omega (arith, some)
-body_marks (token.tag_directive handle prefix) p q some f = omega (arith, f)
-body_marks _ p q some f = omega arith
+body_marks body p q some f = grind (arith, nat_tests)
 
 no_start_marks : (k : Kind) (d margin : ℕ) (found : Bool) (levels : List ℕ)
     → start_weight marks (opens_by k d margin found levels) ≡ 0
-no_start_marks k d margin found levels = by (opens_by k d margin found levels)
-  where
-    by : (o : Opens) → start_weight marks o ≡ 0
-    by opening.Nothing = refl
-    by opening.Sequence = refl
-    by opening.Mapping = refl
+no_start_marks k d margin found levels = grind (arith, nat_tests)
 
 no_key_marks : (k : Kind) (found : Bool) (d : ℕ) → taken marks k found d ≡ 0
-no_key_marks k found zero =
-    elim (cases_Bool (is_value k && found)) [ inl e ↦ rw e refl | inr e ↦ rw e refl ]
-no_key_marks k found (suc d) =
-    elim (cases_Bool (is_value k && found)) [ inl e ↦ rw e refl | inr e ↦ rw e refl ]
+no_key_marks k found d = grind (arith, nat_tests, cases_Bool)
 
 end_marks : (s : SpelledText) (l : Lexeme) → marks (body_by kinds.StreamEnd s l) ≡ 0
 unfolding lexeme_at
@@ -392,14 +341,11 @@ end_marks s l = refl
 
 kind_marks : (k : Kind) (s : SpelledText) (l : Lexeme) (p q : ℕ) → TakesSome k p q
     → Spans p q (body_by k s l) → marks (body_by k s l) ≤ q - p
-kind_marks kinds.StreamStart s l p q some f = omega arith
-kind_marks kinds.StreamEnd s l p q some f = omega (arith, end_marks s l)
-kind_marks _ s l p q some f = body_marks _ p q some f
+kind_marks k s l p q some f = grind (arith, nat_tests, end_marks, body_marks)
 
 all_mark : (s : SpelledText) (h : List Lexeme) → AreTaken s h → ArePaid marks s taking h
 all_mark s [] t = tt
-all_mark s (l ∷ h) t =
-    (λ margin found levels. omega (arith, no_start_marks l.kind l.depth margin found levels, no_key_marks l.kind found l.depth, kind_marks l.kind s l l.start.index l.reached.index t.0.known.some t.0.known.spans), all_mark s h t.1)
+all_mark s (l ∷ h) t = grind (arith, nat_tests, no_start_marks, no_key_marks, kind_marks, all_mark s h t.1)
 
 pub tokens_mark : (s : SpelledText) → weigh marks (offline s).tokens ≤ length s.text + 1
 tokens_mark s = omega (arith, tokens_weigh marks refl s taking (all_mark s (all s.text) (all_taken s)), taken_total s (all s.text) (all_taken s))

@@ -1,4 +1,5 @@
 -- From normal forms, and pretty texts that read back, to answers of two calls.
+use Rattle.std.proofs.lemmas.Bool.Decides.{nat_tests}
 use Rattle.std.proofs.Common.{◌≡◌, inl, inr, ℕ, true, List, Some, None, Result, Ok, Err, sym, ap, subst, ◌∙◌, arith, true≢false, Bool, false}
 use Rattle.yaml_round.specs.declared.yaml_encoding_t.{yaml_encoding_t}
 use Rattle.yaml_round.specs.declared.yaml_encoding_t.TheVariants.{YAML_ANY_ENCODING}
@@ -71,8 +72,7 @@ tell s a_from b_from a b t u h k =
 
 pub none_is_past : (limit : ℕ) (x : Encoding) (whole : List Item) (f : Fault) → Fits limit x whole
     → Passes limit (encode x whole) (is_deep whole) f → ⊥
-none_is_past limit x whole f fits (inl p) = let (is, size) = p in let kept = fits.size in omega (arith, size, kept)
-none_is_past limit x whole f fits (inr p) = let (is, deep) = p in true≢false (sym (sym fits.columns ∙ deep))
+none_is_past limit x whole f fits h5 = grind (arith, nat_tests, true≢false)
 
 pub no_fault : (from : yaml_encoding_t) (input : List ℕ) (f : Fault) → ending_of from input ≡ None
     → IsFaulty from input f → ⊥
@@ -126,6 +126,4 @@ never_due false e from s input is due = true≢false (sym (begins_so from input 
 
 pub shaped_stay : JsonStaysPretty
 unfolding IsReformatted
-shaped_stay from s input (Ok (text, Canonical)) e is h = never_due s.canonical e from s input is h.0
-shaped_stay from s input (Ok (text, Pretty)) e is h = h.1.0
-shaped_stay from s input (Err fault) e is h = elim h [ inl f ↦ inl f | inr k ↦ elim k [ inl p ↦ inr p.1 | inr d ↦ absurd (never_due s.canonical e from s input is d.0) ] ]
+shaped_stay from s input h3 e is h = grind (arith, nat_tests, never_due)

@@ -98,8 +98,7 @@ solid_starts text p b e h = let (low, high) = solid_parts b h in printed_begins 
 
 pub left_starts : (text : List ℕ) (p : ℕ) (bs : List ℕ) → Left text p bs → begins_solid bs ≡ true
     → begins_lexeme text p ≡ true
-left_starts text p [] l h = absurd (true≢false (sym h))
-left_starts text p (b ∷ bs) l h = solid_starts text p b (left_first text p b bs l) h
+left_starts text p bs l h = grind (arith, nat_tests, true≢false, solid_starts, left_first)
 
 -- ---- what is after a value and its white
 
@@ -113,20 +112,11 @@ nothing_left text p l = let e = l.ends in get_or_past text p 0 (omega (arith, e)
 
 pub behind_stops : (d : ℕ) (bs text : List ℕ) (p : ℕ) → Behind d bs → Left text p bs
     → IsStop (nat_lt 0 d) (byte text p)
-behind_stops d [] text p h l = inl (nothing_left text p l)
-behind_stops d (b ∷ bs) text p (deep, inl e) l = inr (deep, inl (left_first text p b bs l ∙ e))
-behind_stops d (b ∷ bs) text p (deep, inr (inl e)) l = inr (deep, inr (inl (left_first text p b bs l ∙ e)))
-behind_stops d (b ∷ bs) text p (deep, inr (inr e)) l = inr (deep, inr (inr (left_first text p b bs l ∙ e)))
+behind_stops d bs text p h l = grind (arith, nat_tests, nothing_left, left_first)
 
 pub behind_starts : (d : ℕ) (bs text : List ℕ) (p : ℕ) → Behind d bs → Left text p bs
     → begins_lexeme text p ≡ true
-behind_starts d [] text p h l = end_begins text p (nothing_left text p l)
-behind_starts d (b ∷ bs) text p (deep, which) l = solid_starts text p b (left_first text p b bs l) (by which)
-  where
-    by : (b ≡ 44) ⊎ ((b ≡ 93) ⊎ (b ≡ 125)) → is_solid b ≡ true
-    by (inl e) = rw e refl
-    by (inr (inl e)) = rw e refl
-    by (inr (inr e)) = rw e refl
+behind_starts d bs text p h l = grind (arith, nat_tests, end_begins, nothing_left, solid_starts, left_first)
 
 -- ---- places
 
@@ -217,8 +207,7 @@ sign_stands b k body d is text p h = record { starts = solid_starts text p b h i
 -- in brackets a `:` is alone whatever follows
 colon_kind : (flow alone : Bool) → flow ≡ true → indicator_of flow alone 58 ≡ Some kinds.ValueMark
 unfolding indicator_of
-colon_kind true alone e = refl
-colon_kind false alone e = absurd (cc)
+colon_kind flow alone e = grind (arith, nat_tests)
 
 opener_sign : (mapping : Bool) (d : ℕ)
     → IsSign (if mapping then 123 else 91)
@@ -267,8 +256,7 @@ deeper : (d : ℕ) → nat_lt 0 (d + 1) ≡ true
 deeper d = grind (arith, nat_tests)
 
 flow_fits : (flow allowed : Bool) (ws : List ℕ) → flow ≡ true → tabs_fit flow allowed ws ≡ true
-flow_fits true allowed ws e = refl
-flow_fits false allowed ws e = absurd (cc)
+flow_fits flow allowed ws e = grind (arith, nat_tests)
 
 -- ---- brackets and commas
 

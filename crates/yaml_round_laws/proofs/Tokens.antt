@@ -1,12 +1,8 @@
 -- The tokens that come of levels weigh no more than the lexemes of a text are worth.
-use Rattle.std.proofs.Common.{◌≡◌, ℕ, zero, suc, ◌+◌, ◌≤◌, Bool, true, false, not, ◌&&◌, nat_lt, List, [], ◌∷◌, ◌++◌, length, Option, Result, Ok, Err, refl, arith, inl, inr}
-use Rattle.yaml_round_laws.proofs.SizesWords.{cases_Bool, Fault, Token, TokenBody, Wrong, anchor_at, TagText, tag_at, Said, DirectiveText, directive_at, double_quoted_at, single_quoted_at, PlainText, plain_at, BlockText, block_at, style_at, Kind, Lexeme, indent, start_of, lexeme_at, body_said, valued, tagged, directed, blocked, plainly, SpelledText, body_of_word, body_by, all, offline, cut}
+use Rattle.std.proofs.Common.{◌≡◌, ℕ, ◌+◌, ◌≤◌, Bool, List, [], ◌∷◌, ◌++◌, length, Option, Result, refl, arith}
+use Rattle.yaml_round_laws.proofs.SizesWords.{nat_tests, cases_Bool, Fault, Token, TokenBody, Wrong, TagText, Said, DirectiveText, PlainText, BlockText, Kind, Lexeme, start_of, lexeme_at, body_said, valued, tagged, directed, blocked, plainly, SpelledText, body_of_word, body_by, all, offline, cut}
 use Rattle.yaml_scan_history.specs.scan_types.Tokens as token
 use Rattle.yaml_scan_history.specs.scan_model.declared.name.yaml_scalar_style_t.{yaml_scalar_style_t}
-use Rattle.yaml_scan_history.specs.scan_model.declared.name.yaml_scalar_style_t.TheVariants as styles
-use Rattle.yaml_scan_history.specs.scan_model.declared.problem.Context.TheVariants as contexts
-use Rattle.yaml_scan_history.specs.Directives as directives
-use Rattle.yaml_scan_history.specs.declared.kind.Kind.TheVariants as kinds
 use Rattle.yaml_scan_history.specs.declared.lexeme.Opens.TheVariants as opening
 use Rattle.yaml_round_laws.proofs.Leads.{leads}
 use Rattle.yaml_round_laws.proofs.Lexemes.{own, outside, apart, worth, worths}
@@ -34,62 +30,36 @@ count_append xs ys = weigh_append weight xs ys
 
 valued_none : (f : List ℕ → TokenBody) (r : Result (List ℕ × ℕ) Wrong)
     → ((v : List ℕ) → weight (f v) ≡ 0) → weight (body_of_word (valued f r)) ≡ 0
-valued_none f (Ok x) n = n x.0
-valued_none f (Err w) n = refl
+valued_none f r n = grind (arith, nat_tests)
 
 tagged_none : (r : Result TagText Wrong) → weight (body_of_word (tagged r)) ≡ 0
-tagged_none (Ok t) = refl
-tagged_none (Err w) = refl
+tagged_none r = grind (arith, nat_tests)
 
 said_none : (x : Said) → weight (body_said x) ≡ 0
-said_none (directives.version a b) = refl
-said_none (directives.tag h p) = refl
+said_none x = grind (arith, nat_tests)
 
 directed_none : (r : Result DirectiveText Wrong) → weight (body_of_word (directed r)) ≡ 0
-directed_none (Ok d) = said_none d.said
-directed_none (Err w) = refl
+directed_none r = grind (arith, nat_tests, said_none)
 
 blocked_none : (style : yaml_scalar_style_t) (r : Result BlockText Wrong)
     → weight (body_of_word (blocked style r)) ≡ 0
-blocked_none style (Ok b) = refl
-blocked_none style (Err w) = refl
+blocked_none style r = grind (arith, nat_tests)
 
 plain_none : (r : Result PlainText Wrong) → weight (body_of_word (plainly r)) ≡ 0
-plain_none (Ok b) = refl
-plain_none (Err w) = refl
+plain_none r = grind (arith, nat_tests)
 
 sequence_none : (d margin : ℕ) (levels : List ℕ)
     → start_weight weight (start_of d margin levels opening.Sequence) ≡ 0
-sequence_none d margin levels =
-    elim (cases_Bool (not (nat_lt 0 d) && nat_lt (indent levels) margin)) [
-      | inl e ↦ rw e refl
-      | inr e ↦ rw e refl
-    ]
+sequence_none d margin levels = grind (arith, nat_tests, cases_Bool)
 
 opened_is : (d : ℕ) → opened weight d ≡ outside d
-opened_is zero = refl
-opened_is (suc d) = refl
+opened_is d = grind (arith, nat_tests)
 
 pays : (k : Kind) (s : SpelledText) (l : Lexeme) (d margin : ℕ) (found : Bool) (levels : List ℕ)
     → start_weight weight (opens_by k d margin found levels) + weight (body_by k s l) + taken weight
     k found d ≤ own k + apart k d
 unfolding lexeme_at
-pays kinds.BlockEntry s l d margin found levels = omega (arith, sequence_none d margin levels)
-pays kinds.KeyMark s l d margin found levels = omega (arith, mapping_most weight d margin levels, opened_is d)
-pays kinds.ValueMark s l d margin true levels = omega (arith, opened_is d)
-pays kinds.ValueMark s l d margin false levels = omega (arith, mapping_most weight d margin levels, opened_is d)
-pays kinds.Directive s l d margin found levels = omega (arith, directed_none (directive_at s.text l.start.index))
-pays kinds.Alias s l d margin found levels = omega (arith, valued_none token.alias (anchor_at contexts.Alias s.text l.start.index) (λ v. refl))
-pays kinds.Anchor s l d margin found levels = omega (arith, valued_none token.anchor (anchor_at contexts.Anchor s.text l.start.index) (λ v. refl))
-pays kinds.Tag s l d margin found levels = omega (arith, tagged_none (tag_at (nat_lt 0 l.depth) s.text l.start.index))
-pays kinds.Literal s l d margin found levels = omega (arith, blocked_none (style_at s.text l.start.index) (block_at l.level s.text l.start.index))
-pays kinds.Folded s l d margin found levels = omega (arith, blocked_none (style_at s.text l.start.index) (block_at l.level s.text l.start.index))
-pays kinds.SingleQuoted s l d margin found levels =
-    omega (arith, valued_none (λ v. token.scalar v styles.YAML_SINGLE_QUOTED_SCALAR_STYLE) (single_quoted_at s.text l.start.index) (λ v. refl))
-pays kinds.DoubleQuoted s l d margin found levels =
-    omega (arith, valued_none (λ v. token.scalar v styles.YAML_DOUBLE_QUOTED_SCALAR_STYLE) (double_quoted_at s.text l.start.index) (λ v. refl))
-pays kinds.Plain s l d margin found levels = omega (arith, plain_none (plain_at (nat_lt 0 l.depth) l.level s.text l.start.index))
-pays _ s l d margin found levels = omega arith
+pays k s l d margin found levels = grind (arith, nat_tests, sequence_none, mapping_most, opened_is, directed_none, valued_none, tagged_none, blocked_none, plain_none)
 
 all_pay : (s : SpelledText) (h : List Lexeme) → ArePaid weight s worth h
 all_pay s [] = tt

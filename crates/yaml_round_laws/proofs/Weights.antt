@@ -1,6 +1,6 @@
 -- What tokens weigh, by any weight of which no end has one, is paid by the lexemes of a text, where each pays for its own.
-use Rattle.std.proofs.Common.{◌≡◌, ℕ, zero, suc, ◌+◌, ◌<◌, ◌≤◌, ◌⊎◌, Bool, true, false, not, ◌&&◌, ◌==◌, nat_lt, if◌then◌else◌, List, [], ◌∷◌, ◌++◌, length, take, drop, Option, Some, None, refl, sym, ap, subst, ◌∙◌, arith, inl, inr, le_refl}
-use Rattle.yaml_round_laws.proofs.SizesWords.{cases_Bool, lt-ltb, eqb-true, replicate, flat_map, Fault, Token, TokenBody, Kind, Lexeme, Opens, is_value, is_start, Candidate, candidate, finished_tokens, mark_key, marked, keyed, found_by, inside, entry_of, as_key, first_open, indent, margin_at, start_of, level_of, opens_of, has, Next, Fails, next, SpelledText, body_in, start_tokens, end_tokens, own_tokens, all, handed_out, handed, front_ends, kept_of, remaining, offline, spells_text, cut}
+use Rattle.std.proofs.Common.{◌≡◌, ℕ, zero, suc, ◌+◌, ◌<◌, ◌≤◌, ◌⊎◌, Bool, true, false, not, ◌&&◌, if◌then◌else◌, List, [], ◌∷◌, ◌++◌, length, take, drop, Option, Some, refl, sym, ap, ◌∙◌, arith, inl, inr, le_refl}
+use Rattle.yaml_round_laws.proofs.SizesWords.{nat_tests, cases_Bool, lt-ltb, eqb-true, replicate, flat_map, Fault, Token, TokenBody, Kind, Lexeme, Opens, is_value, is_start, Candidate, candidate, finished_tokens, mark_key, marked, keyed, found_by, inside, entry_of, as_key, margin_at, start_of, level_of, opens_of, has, Next, SpelledText, body_in, start_tokens, own_tokens, all, handed_out, handed, front_ends, kept_of, remaining, offline, cut}
 use Rattle.yaml_scan_history.specs.scan_types.Tokens as token
 use Rattle.yaml_scan_history.specs.declared.kind.Kind.TheVariants as kinds
 use Rattle.yaml_scan_history.specs.declared.lexeme.Entry.{Entry}
@@ -40,23 +40,15 @@ ends_weigh w free zero l = refl
 ends_weigh w free (suc n) l = omega (arith, free, ends_weigh w free n l)
 
 starts_weigh : (w : Weight) (o : Opens) (l : Lexeme) → weigh w (start_tokens o l) ≡ start_weight w o
-starts_weigh w opening.Nothing l = refl
-starts_weigh w _ l = omega arith
+starts_weigh w o l = grind (arith, nat_tests)
 
 own_weigh : (w : Weight) (s : SpelledText) (e : Entry)
     → weigh w (own_tokens s e) ≡ key_weight w e.key + w (body_in s e.lexeme)
-own_weigh w s e =
-    elim (cases_Bool e.key) [ inl k ↦ rw k (omega arith) | inr k ↦ rw k (omega arith) ]
+own_weigh w s e = grind (arith, nat_tests, cases_Bool)
 
 spell_weigh : (w : Weight) → EndsAreFree w → (s : SpelledText) (e : Entry)
     → weigh w (spell s e) ≡ start_weight w e.opens + key_weight w e.key + w (body_in s e.lexeme)
-spell_weigh w free s e =
-    let a = weigh_append w (end_tokens e ++ start_tokens e.opens e.lexeme) (own_tokens s e) in
-    let b = weigh_append w (end_tokens e) (start_tokens e.opens e.lexeme) in
-    let c : weigh w (end_tokens e) ≡ 0 = ends_weigh w free e.ends e.lexeme in
-    let d = starts_weigh w e.opens e.lexeme in
-    let f = own_weigh w s e in
-    omega (arith, a, b, c, d, f)
+spell_weigh w free s e = grind (arith, nat_tests, weigh_append, ends_weigh, starts_weigh, own_weigh)
 
 -- ---- lexemes
 
@@ -82,12 +74,7 @@ opened w d = outer d (w token.block_mapping_start)
 
 pub mapping_most : (w : Weight) (d margin : ℕ) (levels : List ℕ)
     → start_weight w (start_of d margin levels opening.Mapping) ≤ opened w d
-mapping_most w zero margin levels =
-    elim (cases_Bool (nat_lt (indent levels) margin)) [
-      | inl e ↦ rw e (le_refl _)
-      | inr e ↦ rw e (omega arith)
-    ]
-mapping_most w (suc d) margin levels = let e : nat_lt 0 (suc d) ≡ true = lt-ltb 0 (suc d) (omega arith) in rw e (omega arith)
+mapping_most w d margin levels = grind (arith, nat_tests, cases_Bool, le_refl, lt-ltb)
 
 -- the depth of an entry's lexeme
 abbrev depth_at : List Entry → ℕ → ℕ
@@ -106,16 +93,11 @@ mark_depth levels (e ∷ es) (suc k) (suc n) = mark_depth levels es k n
 
 marked_depth : (c : Option Candidate) (levels : List ℕ) (es : List Entry) (n : ℕ)
     → depth_at (marked c levels es) n ≡ depth_at es n
-marked_depth None levels es n = refl
-marked_depth (Some c) levels es n = mark_depth levels es c.number n
+marked_depth c levels es n = grind (arith, nat_tests, mark_depth)
 
 keyed_depth : (l : Lexeme) (h : List Lexeme) (es : List Entry) (n : ℕ)
     → depth_at (keyed l h es) n ≡ depth_at es n
-keyed_depth l h es n =
-    elim (cases_Bool (is_value l.kind)) [
-      | inl e ↦ rw e (marked_depth (found_by l h) (inside l h) es n)
-      | inr e ↦ rw e refl
-    ]
+keyed_depth l h es n = grind (arith, nat_tests, cases_Bool, marked_depth)
 
 last_depth : (es : List Entry) (e : Entry) → depth_at (es ++ e ∷ []) (length es) ≡ e.lexeme.depth
 last_depth [] e = refl
@@ -130,14 +112,7 @@ front_depth (x ∷ es) fs (suc n) w = front_depth es fs n (omega arith)
 newest_depth : (d : ℕ) (l : Lexeme) (h : List Lexeme) (c : Candidate) → candidate d (l ∷ h) ≡ Some c
     → (l.depth ≡ d) ⊎ (candidate d h ≡ Some c)
 unfolding candidate
-newest_depth d l h c e =
-    elim (cases_Bool (l.depth == d)) [
-      | inl s ↦ inl (eqb-true l.depth d s)
-      | inr s ↦ elim (cases_Bool (nat_lt l.depth d)) [
-        | inl t ↦ let bad : None ≡ Some c = rw (s, t) at e in cc
-        | inr t ↦ inr (rw (s, t) at e)
-      ]
-    ]
+newest_depth d l h c e = grind (arith, nat_tests, cases_Bool, eqb-true)
 
 front_of : (l : Lexeme) (h : List Lexeme) (n : ℕ) → n < length h
     → depth_at (finished_tokens (l ∷ h)) n ≡ depth_at (finished_tokens h) n
@@ -186,11 +161,7 @@ marked_most : (w : Weight) → EndsAreFree w
     → (s : SpelledText) (o : Option Candidate) (levels : List ℕ) (es : List Entry) (d : ℕ)
     → ((c : Candidate) → o ≡ Some c → depth_at es c.number ≡ d)
     → total w s (marked o levels es) ≤ total w s es + taken w kinds.ValueMark (has o) d
-marked_most w free s None levels es d at = omega arith
-marked_most w free s (Some c) levels es d at =
-    let e = at c refl in
-    let m : total w s (mark_key levels es c.number) ≤ total w s es + (w token.key + opened w d) = subst (λ k. total w s (mark_key levels es c.number) ≤ total w s es + (w token.key + opened w k)) e (mark_most w free s levels es c.number) in
-    m
+marked_most w free s o levels es d at = grind (arith, nat_tests, mark_most)
 
 -- what a lexeme opens, by its kind and depth, and whether it finds a candidate
 abbrev pub opens_by : Kind → ℕ → ℕ → Bool → List ℕ → Opens
@@ -230,20 +201,7 @@ entries_few : (w : Weight) → EndsAreFree w
     → total w s (finished_tokens h) ≤ prices price h
 unfolding finished_tokens
 entries_few w free s price [] paid = omega arith
-entries_few w free s price (l ∷ h) paid =
-    let few = entries_few w free s price h paid.1 in
-    let last = entry_most w free s price l h paid in
-    let a = total_append w s (keyed l h (finished_tokens h)) (entry_of l h ∷ []) in
-    elim (cases_Bool (is_value l.kind)) [
-      | inl e ↦
-          let t = value_is w l.kind (has (found_by l h)) l.depth e in
-          let m = marked_most w free s (found_by l h) (inside l h) (finished_tokens h) l.depth (λ c f. candidate_depth l.depth h c (fresh_is (candidate l.depth h) l.start c f)) in
-          let more : total w s (keyed l h (finished_tokens h)) ≤ total w s (finished_tokens h) + taken w kinds.ValueMark (has (found_by l h)) l.depth = rw e m in
-          omega (arith, few, last, a, t, more)
-      | inr e ↦
-          let same : total w s (keyed l h (finished_tokens h)) ≤ total w s (finished_tokens h) = rw e (le_refl _) in
-          omega (arith, few, last, a, same)
-    ]
+entries_few w free s price (l ∷ h) paid = grind (arith, nat_tests, entry_most, total_append, cases_Bool, value_is, marked_most, candidate_depth, fresh_is, le_refl, entries_few w free s price h paid.1)
 
 take_most : (w : Weight) (s : SpelledText) (n : ℕ) (es : List Entry)
     → total w s (take n es) ≤ total w s es
@@ -264,37 +222,22 @@ drop_most w (suc n) (t ∷ ts) = omega (arith, drop_most w n ts)
 
 handed_most : (w : Weight) (s : SpelledText) (x : Next) (h : List Lexeme)
     → total w s (handed_out x h) ≤ total w s (finished_tokens h)
-handed_most w s (Fails p) h = take_most w s (first_open h h) (finished_tokens h)
-handed_most w s _ h = le_refl _
+handed_most w s x h = grind (arith, nat_tests, take_most, le_refl)
 
 front_weigh : (w : Weight) → EndsAreFree w → (es : List Entry) → weigh w (front_ends es) ≡ 0
-front_weigh w free [] = refl
-front_weigh w free (e ∷ es) = ends_weigh w free e.ends e.lexeme
+front_weigh w free es = grind (arith, nat_tests, ends_weigh)
 
 kept_weigh : (w : Weight) → EndsAreFree w → (x : Next) (h : List Lexeme) → weigh w (kept_of x h) ≡ 0
-kept_weigh w free (Fails p) h = front_weigh w free (drop (first_open h h) (finished_tokens h))
-kept_weigh w free _ h = refl
+kept_weigh w free x h = grind (arith, nat_tests, front_weigh)
 
 -- ---- the text
 
 pub tokens_weigh : (w : Weight) → EndsAreFree w → (s : SpelledText) (price : Lexeme → ℕ)
     → ArePaid w s price (all s.text) → weigh w (offline s).tokens ≤ prices price (all s.text)
 unfolding remaining handed
-tokens_weigh w free s price paid =
-    let x = next s.text (all s.text) in
-    let h = all s.text in
-    let listed = drop 0 (handed s.text) in
-    let a : weigh w (offline s).tokens ≤ weigh w (flat_map (spell s) listed ++ kept_of x h) = drop_most w 0 (flat_map (spell s) listed ++ kept_of x h) in
-    let b = weigh_append w (flat_map (spell s) listed) (kept_of x h) in
-    let c : total w s listed ≤ total w s (handed s.text) = drops_most w s 0 (handed s.text) in
-    let d : total w s (handed s.text) ≤ total w s (finished_tokens h) = handed_most w s x h in
-    omega (arith, a, b, c, d, entries_few w free s price h paid, kept_weigh w free x h)
+tokens_weigh w free s price paid = grind (arith, nat_tests, drop_most, weigh_append, drops_most, handed_most, entries_few, kept_weigh)
 
 pub cut_weighs : (w : Weight) (f : Option Fault) (ts : List Token)
     → weigh w (cut f ts).tokens ≤ weigh w ts
 cut_weighs w f [] = omega arith
-cut_weighs w f (t ∷ ts) =
-    elim (cases_Bool (spells_text t.body)) [
-      | inl e ↦ rw e (omega (arith, cut_weighs w f ts))
-      | inr e ↦ rw e (omega arith)
-    ]
+cut_weighs w f (t ∷ ts) = grind (arith, nat_tests, cases_Bool, cut_weighs w f ts)

@@ -1,4 +1,5 @@
 -- The words of the definitions, and the lemmas below, that the files of lemmas share.
+pub use Rattle.std.proofs.lemmas.Bool.Decides.{nat_tests}
 pub use Rattle.std.proofs.lemmas.Bool.{cases_Bool}
 pub use Rattle.std.proofs.lemmas.List.{append-nil, append_assoc, length-append, map-append, same_from_push}
 pub use Rattle.yaml_parse_laws_trees.proofs.Following.{Front, Plain, body_at, brackets_are_closed, front_events, front_of, halted, items_of, parse_plain, plain, read_of, seen, step_items, told_by, went, windows_are_parsed}

@@ -1,4 +1,5 @@
 -- The words of the definitions, and the lemmas below, that the files of lemmas share.
+pub use Rattle.std.proofs.lemmas.Bool.Decides.{nat_tests}
 pub use Rattle.std.specs.Prelude.{codes, ◌≤◌}
 pub use Rattle.yaml_emit_machine.proofs.Judging.{empty_out, first_out, open_next, or_none, or_some, ready_more, same_problem, shape_next, unless_none, unless_some}
 pub use Rattle.yaml_emit_machine.specs.Held.{is_ready}
@@ -11,7 +12,7 @@ pub use Rattle.yaml_emit_layout.specs.Nodes.{Context, MOST, anchor_text, checked
 unfoldable pub use Rattle.yaml_emit_layout.specs.Nodes.{alias_layout, before_item, before_key, before_value, closer, directives_text, end_layout, scalar_layout, start_layout, stop_layout, turned}
 pub use Rattle.yaml_emit_layout.specs.Progress.{Progress, problem_in}
 unfoldable pub use Rattle.yaml_emit_layout.specs.Progress.{first_refusal, progress_after}
-pub use Rattle.yaml_emit_layout.specs.State.{State, among, before_at, before_node, begins_by, closer_at, depth_text, is_fresh, is_simple_event, next, piece, piece_at, place_at, placed, position_of, problem_at, start_at, start_text, stop_at, top_of}
+pub use Rattle.yaml_emit_layout.specs.State.{State, among, before_at, before_node, closer_at, depth_text, is_fresh, is_simple_event, next, piece, piece_at, place_at, placed, position_of, problem_at, start_at, start_text, stop_at, top_of}
 unfoldable pub use Rattle.yaml_emit_layout.specs.State.{depth_at, next_at, opens_empty, text_at}
 pub use Rattle.yaml_emit_layout.specs.declared.Level.{Level}
 pub use Rattle.yaml_emit_layout.specs.declared.Phase.{Phase}

@@ -1,6 +1,6 @@
 -- The law of windows after a line `...`.
 use Rattle.std.proofs.Common.{◌≡◌, ℕ, suc, ◌+◌, ◌-◌, true, false, List, [], ◌∷◌, ◌++◌, map, length, Option, Some, None, option_map, refl, sym, ap, subst, ◌∙◌, inl, inr, arith, ◌≤◌, nat_lt, take, drop, ◌⊎◌, add_assoc}
-use Rattle.yaml_scan_laws.proofs.Shared.{cases_lt, cases_Bool, append_assoc, append-nil, length-append, same_from_push, flat_map, none-some, same_Some, yaml_encoding_t, yaml_mark_t, ScanFault, Fault, byte, line_at, mark_at, is_bom, Token, gap_within, gap_at, Kind, Lexeme, depth_after, is_end, is_outside, is_start, reached, flow_depth, in_flow, ended, key_allowed, candidate, open_levels, finished_tokens, open_at, first_open, entry_of, kind_at, lexeme_at, Next, Read, Fails, Ends, first_lexeme, gap_behind, kind_behind, next, extended, history, place_behind, missed, stale_before, coming, first_fault_or, no_start, SpelledText, token_in, spell, all, fault_in, Remaining, handed, remaining, body_by, front_ends, gap_place, all_ends, last_is_all, stream_starts, stream_ends, fault_next, IsCut, is_white, IsEndLine, IsEndCut, moved_mark, moved_token, moved_fault, moved_next, scan_of, EndedWindowsAreScanned, flat_map-append, scanner_fault, length-entries, take-length, drop-length}
+use Rattle.yaml_scan_laws.proofs.Shared.{nat_tests, cases_lt, append_assoc, append-nil, length-append, same_from_push, flat_map, none-some, same_Some, yaml_encoding_t, yaml_mark_t, ScanFault, Fault, byte, line_at, mark_at, is_bom, Token, gap_within, gap_at, Kind, Lexeme, depth_after, is_end, is_outside, is_start, reached, flow_depth, in_flow, ended, key_allowed, candidate, open_levels, finished_tokens, open_at, first_open, entry_of, kind_at, lexeme_at, Next, Read, Fails, Ends, first_lexeme, gap_behind, kind_behind, next, extended, history, place_behind, missed, stale_before, coming, first_fault_or, no_start, SpelledText, token_in, spell, all, fault_in, Remaining, handed, remaining, body_by, front_ends, gap_place, all_ends, last_is_all, stream_starts, stream_ends, fault_next, IsCut, is_white, IsEndLine, IsEndCut, moved_mark, moved_token, moved_fault, moved_next, scan_of, EndedWindowsAreScanned, flat_map-append, scanner_fault, length-entries, take-length, drop-length}
 use Rattle.yaml_scan_history.specs.scan_types.Tokens as tokens
 use Rattle.yaml_scan_history.specs.declared.kind.Kind.TheVariants as kinds
 use Rattle.yaml_scan_laws.proofs.CutsWords.{end_kind}
@@ -150,8 +150,7 @@ tokens_twice d e n o (t ∷ ts) = rw (mark_twice d e n o t.start_mark, mark_twic
 
 fault_twice : (d e n o : ℕ) (f : Option Fault)
     → option_map (moved_fault d n) (option_map (moved_fault e o) f) ≡ option_map (moved_fault (d + e) (n + o)) f
-fault_twice d e n o None = refl
-fault_twice d e n o (Some f) = rw (mark_twice d e n o f.problem_mark, mark_twice d e n o f.context_mark) refl
+fault_twice d e n o f = grind (arith, nat_tests, mark_twice)
 
 -- ---- the law
 

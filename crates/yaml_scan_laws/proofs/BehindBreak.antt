@@ -56,9 +56,7 @@ fed_column a b feed =
 
 pub fed_marks : (a b : List ℕ) → EndsIn a 10 → (q : ℕ)
     → mark_at (a ++ b) (length a + q) ≡ moved_mark (length a) (line_at (a ++ b) (length a)) (mark_at b q)
-fed_marks a b feed q =
-    let columns = columns_by a b (fed_column a b feed) (fed_ends a b feed) q in
-    rw (lines_by a b (fed_ends a b feed) q, columns) refl
+fed_marks a b feed q = grind (arith, nat_tests, columns_by, fed_column, fed_ends, lines_by)
 
 -- what is after LF is so in the whole, except for U+FEFF
 pub fed_alike : (a b : List ℕ) → EndsIn a 10 → is_bom b 0 ≡ false

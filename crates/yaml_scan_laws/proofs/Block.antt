@@ -1,10 +1,10 @@
 -- The value of a block scalar is UTF-8, and the text may be cut after it.
-use Rattle.std.proofs.Common.{◌≡◌, ℕ, zero, suc, ◌+◌, ◌-◌, ◌≤◌, ◌==◌, ◌&&◌, ◌||◌, not, nat_lt, Bool, true, false, List, [], ◌∷◌, length, Result, Ok, Err, refl, true≢false, inl, inr, arith, IsUtf8}
-use Rattle.yaml_scan_laws.proofs.TextWords.{cases_Bool, cases_lt, ltb-true, eqb-true, IsUtf8-nil, IsUtf8-append, byte, break_width, column_at, feed_at, is_feed, Wrong, BlockText, column_of, block_with, block_lines, block_behind, block_at}
+use Rattle.std.proofs.Common.{◌≡◌, ℕ, zero, suc, ◌+◌, ◌-◌, ◌≤◌, ◌==◌, ◌&&◌, ◌||◌, not, nat_lt, Bool, false, List, [], ◌∷◌, length, Result, Ok, Err, true≢false, inl, inr, arith, IsUtf8}
+use Rattle.yaml_scan_laws.proofs.TextWords.{nat_tests, cases_Bool, cases_lt, ltb-true, eqb-true, IsUtf8-nil, IsUtf8-append, byte, break_width, column_at, feed_at, is_feed, Wrong, BlockText, block_with, block_lines, block_behind, block_at}
 use Rattle.yaml_scan_history.specs.scan_model.Runs.{past, is_text, line_end}
 use Rattle.yaml_scan_history.specs.Value.{BlockLine, Empty, Words, TextLine, Texts, add_line, texts_of, starts_blank, space_or, between, at_end, behind_text, value_with, block_value}
 use Rattle.yaml_scan_history.specs.Lines.{spaces, LineSpot, Stops, Line, Tab, spot_behind, line_spot, Lines, with_line, line_then, lines_from}
-use Rattle.yaml_scan_history.specs.Header.{HeaderText, chomp_of, digit_place, chomping_place, header_end, header_at}
+use Rattle.yaml_scan_history.specs.Header.{HeaderText, chomp_of, header_at}
 use Rattle.yaml_scan_laws.proofs.Whole.{IsWhole, whole_past, whole_ascii, whole_after, whole_before, whole_behind, ascii_utf8, break_utf8, slice_utf8}
 
 -- Values.
@@ -81,14 +81,7 @@ block_value_utf8 folded b ls h = let s = texts_sound ls h in with_utf8 folded b 
 
 -- at the end or before a break
 stop_whole : (text : List ℕ) (p : ℕ) → IsUtf8 text → is_text text p ≡ false → IsWhole text p
-stop_whole text p t h =
-    elim (cases_Bool (byte text p == 0)) [
-      | inl z ↦ let same = eqb-true _ _ z in whole_ascii text p t (omega (arith, same))
-      | inr z ↦ elim (cases_Bool (nat_lt 0 (break_width text p))) [
-        | inl b ↦ whole_before text p t (ltb-true _ _ b)
-        | inr b ↦ let bad : true ≡ false = rw (z, b) at h in absurd (true≢false bad)
-      ]
-    ]
+stop_whole text p t h = grind (arith, nat_tests, cases_Bool, eqb-true, whole_ascii, whole_before, ltb-true, true≢false)
 
 -- at the end of a line's text
 pub past_whole : (n : ℕ) (text : List ℕ) (p : ℕ) → IsUtf8 text → length text ≤ p + n
@@ -116,14 +109,7 @@ HasHeader text (Err w) = Unit {0}
 
 header_whole : (text : List ℕ) (p : ℕ) → IsUtf8 text → HasHeader text (header_at text p)
 unfolding header_at
-header_whole text p t =
-    elim (cases_Bool (byte text (digit_place text p) == 48)) [
-      | inl h ↦ rw h tt
-      | inr h ↦ elim (cases_Bool (is_text text (header_end text p))) [
-        | inl i ↦ rw (h, i) tt
-        | inr i ↦ rw (h, i) (step_whole text (header_end text p) t (stop_whole text (header_end text p) t i), (byte text (chomping_place text p), refl))
-      ]
-    ]
+header_whole text p t = grind (arith, nat_tests, cases_Bool, step_whole, stop_whole)
 
 spaces_whole : (n : ℕ) (text : List ℕ) (p : ℕ) → IsUtf8 text → IsWhole text p
     → IsWhole text (p + spaces n text p)
@@ -177,15 +163,12 @@ Good text (Err w) = Unit {0}
 
 line_good : (text : List ℕ) (l : BlockLine) (r : Result Lines Wrong) → IsLine l → Good text r
     → Good text (with_line l r)
-line_good text l (Ok ls) a h = record { lines = (a, h.lines); place = h.place }
-line_good text l (Err w) a h = tt
+line_good text l r a h = grind (arith, nat_tests)
 
 then_good : (more : ℕ → Result Lines Wrong) (text : List ℕ) (end : ℕ) (s : LineSpot)
     → ((q : ℕ) → IsWhole text q → Good text (more q)) → Fits text s
     → Good text (line_then more end s)
-then_good more text end (Stops q) rest f = record { lines = tt; place = f }
-then_good more text end (Line l q) rest (a, f) = line_good text l (more q) a (rest q f)
-then_good more text end (Tab q) rest f = tt
+then_good more text end s rest f = grind (arith, nat_tests, line_good)
 
 lines_good : (n c : ℕ) (text : List ℕ) → IsUtf8 text → (end p : ℕ) → IsWhole text p
     → Good text (lines_from n c text end p)
@@ -206,8 +189,7 @@ HasBlock text (Err w) = Unit {0}
 with_good : (f : List BlockLine → List ℕ) (text : List ℕ) (r : Result Lines Wrong)
     → ((ls : List BlockLine) → AreLines ls → IsUtf8 (f ls)) → Good text r
     → HasBlock text (block_with f r)
-with_good f text (Ok ls) u h = record { value = u ls.lines h.lines; place = h.place }
-with_good f text (Err w) u h = tt
+with_good f text r u h = grind (arith, nat_tests)
 
 block_lines_good : (folded : Bool) (text : List ℕ) (h : HeaderText) (r : Result ℕ Wrong) (b : ℕ)
     → h.chomp ≡ chomp_of b → IsUtf8 text → IsWhole text h.place
@@ -219,8 +201,7 @@ block_lines_good folded text h (Err w) b e t f = tt
 
 behind_good : (folded : Bool) (level : ℕ) (text : List ℕ) (r : Result HeaderText Wrong)
     → IsUtf8 text → HasHeader text r → HasBlock text (block_behind folded level text r)
-behind_good folded level text (Ok h) t (w, (b, e)) = block_lines_good folded text h (column_of level text h.digit h.place) b e t w
-behind_good folded level text (Err w) t f = tt
+behind_good folded level text r t f = grind (arith, nat_tests, block_lines_good)
 
 pub block_utf8 : (level : ℕ) (text : List ℕ) (p : ℕ) → IsUtf8 text
     → HasBlock text (block_at level text p)

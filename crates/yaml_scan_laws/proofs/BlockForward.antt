@@ -1,12 +1,12 @@
 -- Block scalars end after their start, inside the text.
-use Rattle.std.proofs.Common.{◌≡◌, ℕ, zero, suc, ◌+◌, ◌-◌, ◌<◌, ◌≤◌, ◌==◌, ◌&&◌, ◌||◌, not, nat_lt, Bool, true, List, length, Result, Ok, Err, inl, inr, ◌⊎◌, arith}
-use Rattle.yaml_scan_laws.proofs.Words.{cases_Bool, cases_lt, eqb-true, nat_tests, byte, break_width, column_at, is_blank, Wrong, within, past_break, IsFrom, Lands, BlockText, column_of, block_with, block_lines, block_behind, block_at}
+use Rattle.std.proofs.Common.{◌≡◌, ℕ, zero, suc, ◌+◌, ◌<◌, ◌≤◌, ◌==◌, Bool, true, List, length, Result, Ok, Err, inl, inr, ◌⊎◌, arith}
+use Rattle.yaml_scan_laws.proofs.Words.{cases_Bool, eqb-true, nat_tests, byte, break_width, is_blank, Wrong, within, past_break, IsFrom, Lands, BlockText, column_of, block_with, block_lines, block_behind, block_at}
 use Rattle.yaml_scan_history.specs.scan_types.Classes.{is_digit_byte}
-use Rattle.yaml_scan_history.specs.scan_model.Runs.{is_blank_there, is_text, past_blanks, line_end}
+use Rattle.yaml_scan_history.specs.scan_model.Runs.{past_blanks, line_end}
 use Rattle.yaml_scan_history.proofs.RunsLemmas.{past-inside, past-le, text_parts}
 use Rattle.yaml_scan_history.specs.Value.{BlockLine, block_value}
 use Rattle.yaml_scan_history.specs.Lines.{spaces, LineSpot, Stops, Line, Tab, spot_behind, line_spot, Lines, with_line, line_then, lines_from}
-use Rattle.yaml_scan_history.specs.Header.{HeaderText, is_chomping, indicators, digit_place, past_comment, header_end, header_at}
+use Rattle.yaml_scan_history.specs.Header.{HeaderText, is_chomping, indicators, past_comment, header_end, header_at}
 
 blank_some : (b : ℕ) → is_blank b ≡ true → 0 < b
 blank_some b h = grind (arith, nat_tests)
@@ -73,9 +73,7 @@ unfolding spot_behind
 behind_fits c text q l = grind (arith, nat_tests, break_place, line_place, further)
 
 fits_further : (text : List ℕ) (o p : ℕ) (s : LineSpot) → o ≤ p → Fits text p s → Fits text o s
-fits_further text o p (Stops q) h f = further text o p q h f
-fits_further text o p (Line l q) h f = further text o p q h f
-fits_further text o p (Tab q) h f = tt
+fits_further text o p s h f = grind (arith, nat_tests, further)
 
 spot_fits : (c : ℕ) (text : List ℕ) (p : ℕ) → p ≤ length text → Fits text p (line_spot c text p)
 spot_fits c text p l = grind (arith, nat_tests, spaces-inside, fits_further, behind_fits)
@@ -92,15 +90,12 @@ Land text end (Err w) = Unit {0}
 
 line_lands : (text : List ℕ) (end q : ℕ) (l : BlockLine) (r : Result Lines Wrong) → end ≤ q
     → Land text q r → Land text end (with_line l r)
-line_lands text end q l (Ok ls) le h = record { last = omega (arith, le, h.last); place = h.place; inside = h.inside }
-line_lands text end q l (Err w) le h = tt
+line_lands text end q l r le h = grind (arith, nat_tests)
 
 then_lands : (more : ℕ → Result Lines Wrong) (text : List ℕ) (end p : ℕ) (s : LineSpot) → end ≤ p
     → ((q : ℕ) → q ≤ length text → Land text q (more q)) → Fits text p s
     → Land text end (line_then more end s)
-then_lands more text end p (Stops q) le rest f = record { last = omega arith; place = omega (arith, le, f.forward); inside = f.inside }
-then_lands more text end p (Line l q) le rest f = line_lands text end q l (more q) (omega (arith, le, f.forward)) (rest q f.inside)
-then_lands more text end p (Tab q) le rest f = tt
+then_lands more text end p s le rest f = grind (arith, nat_tests, line_lands)
 
 lines_land : (n c : ℕ) (text : List ℕ) (end p : ℕ) → end ≤ p → p ≤ length text
     → Land text end (lines_from n c text end p)
@@ -121,8 +116,7 @@ LandsBlock text p (Err w) = Unit {0}
 
 with_lands : (text : List ℕ) (o p : ℕ) (f : List BlockLine → List ℕ) (r : Result Lines Wrong)
     → o ≤ p → Land text p r → LandsBlock text o (block_with f r)
-with_lands text o p f (Ok ls) le h = record { end = omega (arith, le, h.last); place = h.place; inside = h.inside }
-with_lands text o p f (Err w) le h = tt
+with_lands text o p f r le h = grind (arith, nat_tests)
 
 block_lines_land : (folded : Bool) (text : List ℕ) (p : ℕ) (h : HeaderText) (r : Result ℕ Wrong)
     → IsFrom text p h.place → LandsBlock text p (block_lines folded text h r)

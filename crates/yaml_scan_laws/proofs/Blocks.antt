@@ -139,14 +139,10 @@ header_alike t u d m p a l =
 -- ---- how deep the text is
 
 quiet_tab : (b : ℕ) → IsQuiet b → (b == 9) ≡ false
-quiet_tab b (inl z) = rw z refl
-quiet_tab b (inr (inl z)) = rw z refl
-quiet_tab b (inr (inr z)) = rw z refl
+quiet_tab b h1 = grind (arith, nat_tests)
 
 quiet_space : (b : ℕ) → IsQuiet b → (b == 32) ≡ false
-quiet_space b (inl z) = rw z refl
-quiet_space b (inr (inl z)) = rw z refl
-quiet_space b (inr (inr z)) = rw z refl
+quiet_space b h1 = grind (arith, nat_tests)
 
 quiet_width : (u : List ℕ) (p : ℕ) → IsQuiet (byte u p) → nat_lt 0 (break_width u p) ≡ false
 quiet_width u p q = let none = quiet_break (byte u p) 0 (byte u (p + 1)) (byte u (p + 2)) q in rw none refl
@@ -160,8 +156,7 @@ ColumnAlike d r s = s ≡ moved_by kept d r
 
 larger_alike : (d a : ℕ) (r s : Result ℕ Wrong) → ColumnAlike d r s
     → ColumnAlike d (larger_of a r) (larger_of a s)
-larger_alike d a (Ok b) s h = rw h refl
-larger_alike d a (Err w) s h = rw h refl
+larger_alike d a r s h = grind (arith, nat_tests)
 
 -- the place after spaces, in both texts
 record SpacesAlike (t u : List ℕ) (d m p q r : ℕ) : Type 0 where
@@ -306,8 +301,7 @@ feed_alike t u d m p a l =
     ]
 
 mark_column : (c x y z : Bool) → ((c && (x || y)) && z) ≡ true → c ≡ true
-mark_column true x y z h = refl
-mark_column false x y z h = h
+mark_column c x y z h = grind (arith, nat_tests)
 
 indicator_column : (u : List ℕ) (p : ℕ) → is_document_indicator u p ≡ true → column_at u p ≡ 0
 unfolding is_document_indicator
@@ -388,8 +382,7 @@ LinesAlike d m r s = ReadAlike (λ (x : Lines). x.place ≤ m) (moved_lines d) d
 
 lined_alike : (d m : ℕ) (l : BlockLine) (r s : Result Lines Wrong) → LinesAlike d m r s
     → LinesAlike d m (with_line l r) (with_line l s)
-lined_alike d m l (Ok x) s h = let same = h.same in rw same record { same = refl; placed = h.placed }
-lined_alike d m l (Err w) s h = let same = h.same in rw same record { same = refl; placed = tt }
+lined_alike d m l r s h = grind (arith, nat_tests)
 
 abbrev Told : List ℕ → List ℕ → ℕ → ℕ → ℕ → ℕ → ℕ → ℕ → ℕ → Type 0
 Told t u d m c end p n o = LinesAlike d m (lines_from n c t end p) (lines_from o c u (d + end) (d + p))
@@ -417,8 +410,7 @@ BlocksAlike d m r s = ReadAlike (λ (x : BlockText). x.place ≤ m) (moved_block
 
 block_from : (d m : ℕ) (f : List BlockLine → List ℕ) (r s : Result Lines Wrong) → LinesAlike d m r s
     → BlocksAlike d m (block_with f r) (block_with f s)
-block_from d m f (Ok x) s h = let same = h.same in rw same record { same = refl; placed = h.placed }
-block_from d m f (Err w) s h = let same = h.same in rw same record { same = refl; placed = tt }
+block_from d m f r s h = grind (arith, nat_tests)
 
 lines_of : (folded : Bool) (t u : List ℕ) (d m : ℕ) (h : HeaderText) (r s : Result ℕ Wrong)
     → Alike t u d m → At t u d m h.place → ColumnAlike d r s → Right r

@@ -13,8 +13,7 @@ onward_some b h = grind (arith, nat_tests)
 
 pub off_break : (b : ℕ) → (b ≡ 10) ⊎ (b ≡ 13) → is_onward b ≡ false
 unfolding is_onward
-off_break b (inl z) = rw z refl
-off_break b (inr z) = rw z refl
+off_break b h1 = grind (arith, nat_tests)
 
 -- a byte that ends a text, or begins an indicator of documents
 abbrev pub IsQuiet : ℕ → Type 0
@@ -39,9 +38,7 @@ no_break_then b c d e f h k = grind (arith, nat_tests)
 
 pub quiet_break : (b c x y : ℕ) → IsQuiet b → break_of b x y ≡ 0
 unfolding break_of
-quiet_break b c x y (inl z) = rw z refl
-quiet_break b c x y (inr (inl z)) = rw z refl
-quiet_break b c x y (inr (inr z)) = rw z refl
+quiet_break b c x y h4 = grind (arith, nat_tests)
 
 lone_cr : (b c d e f : ℕ) → is_onward b ≡ false → ((c == 10) ≡ (e == 10))
     → break_of b c d ≡ break_of b e f
@@ -49,9 +46,7 @@ unfolding is_onward break_of
 lone_cr b c d e f h k = grind (arith, nat_tests)
 
 quiet_feed : (b : ℕ) → IsQuiet b → (b == 10) ≡ false
-quiet_feed b (inl z) = rw z refl
-quiet_feed b (inr (inl z)) = rw z refl
-quiet_feed b (inr (inr z)) = rw z refl
+quiet_feed b h1 = grind (arith, nat_tests)
 
 -- the byte after is a line feed in both or in neither
 next_feed : (t u : List ℕ) (d m p : ℕ) → Alike t u d m → p < m
@@ -117,8 +112,7 @@ line_alike t u d m (suc p) a l =
 -- ---- indicators
 
 pub and_alike : (a b x y : Bool) → a ≡ b → (b ≡ true → x ≡ y) → (a && x) ≡ (b && y)
-and_alike a true x y h k = rw h (k refl)
-and_alike a false x y h k = rw h refl
+and_alike a b x y h k = grind (arith, nat_tests)
 
 onward_dash : (b : ℕ) → b ≡ 45 → is_onward b ≡ true
 unfolding is_onward
@@ -181,9 +175,7 @@ indicator_alike t u d m p a l =
     (λ h. far_end t u d m p a (either_within t u d m p a l (and_parts _ _ h).1))
 
 and_left : (a b c : Bool) → (a && (b && c)) ≡ true → ((a && b) && c) ≡ true
-and_left true true c h = h
-and_left true false c h = h
-and_left false b c h = h
+and_left a b c h = grind (arith, nat_tests)
 
 assoc_alike : (a b c x y z : Bool) → ((a && b) && c) ≡ ((x && y) && z)
     → (a && (b && c)) ≡ (x && (y && z))

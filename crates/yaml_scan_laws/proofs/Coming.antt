@@ -1,6 +1,6 @@
 -- What comes next is the same in both texts.
 use Rattle.std.proofs.Common.{◌≡◌, ℕ, ◌+◌, ◌<◌, ◌≤◌, ◌&&◌, ◌||◌, nat_lt, if◌then◌else◌, Bool, true, false, not, List, [], ◌∷◌, ◌++◌, length, Option, Some, None, Result, Ok, Err, refl, sym, ap, ◌∙◌, inl, inr, arith}
-use Rattle.yaml_scan_laws.proofs.Shared.{cases_Bool, yaml_mark_t, ScanFault, line_at, mark_at, Wrong, Gap, Kind, Lexeme, cancels, is_value, is_start, is_end, reached, flow_depth, in_flow, Candidate, candidate, is_fresh, fresh, open_at, has, open_levels, key_allowed, placed, WordText, kind_at, Read, Fails, gap_behind, place_behind, kind_behind, allowed_behind, begun, finished, begun_behind, word_behind, with_end, lexeme_behind, missed, lost_by, misplaced, colon_missing_of, no_start, not_allowed_there, stale_before, indicator_misplaced, candidate_lost, wrong_in, text_wrong, stale_after, first_fault_or, coming, Alike, moved_mark, moved_lexeme, moved_scan_fault, moved_next}
+use Rattle.yaml_scan_laws.proofs.Shared.{nat_tests, cases_Bool, yaml_mark_t, ScanFault, line_at, mark_at, Wrong, Gap, Kind, Lexeme, is_end, reached, flow_depth, in_flow, Candidate, candidate, fresh, open_at, open_levels, key_allowed, placed, WordText, kind_at, Read, Fails, gap_behind, place_behind, kind_behind, allowed_behind, begun, finished, begun_behind, word_behind, with_end, lexeme_behind, missed, lost_by, misplaced, colon_missing_of, no_start, not_allowed_there, stale_before, indicator_misplaced, candidate_lost, wrong_in, text_wrong, stale_after, first_fault_or, coming, Alike, moved_mark, moved_lexeme, moved_scan_fault, moved_next}
 use Rattle.yaml_scan_laws.proofs.Bytes.{column_alike, line_alike}
 use Rattle.yaml_scan_laws.proofs.Gaps.{GapsAlike, gap_alike, moved_by}
 use Rattle.yaml_scan_laws.proofs.CutsWords.{kind_alike, moved_word}
@@ -28,8 +28,7 @@ lost_moved d n k l o = grind arith
 colon_moved : (d n : ℕ) (o : Option yaml_mark_t) (place : yaml_mark_t)
     → colon_missing_of (moved_option d n o) (moved_mark d n place)
     ≡ moved_fault d n (colon_missing_of o place)
-colon_moved d n None place = refl
-colon_moved d n (Some start) place = refl
+colon_moved d n o place = grind (arith, nat_tests)
 
 first_moved : (d n : ℕ) (a b c e f : Option ScanFault) (l : Lexeme) (v w x y z : Option ScanFault)
     (k : Lexeme) → v ≡ moved_fault d n a → w ≡ moved_fault d n b → x ≡ moved_fault d n c
@@ -41,8 +40,7 @@ first_moved d n a b c e f l v w x y z k h i j o p q = grind arith
 only_moved : (d n : ℕ) (a : Option ScanFault) (m : yaml_mark_t)
     → first_fault_or (moved_fault d n a ∷ []) (Fails (no_start (moved_mark d n m)))
     ≡ moved_next d n (first_fault_or (a ∷ []) (Fails (no_start m)))
-only_moved d n None m = refl
-only_moved d n (Some x) m = refl
+only_moved d n a m = grind (arith, nat_tests)
 
 placed_moved : (d n : ℕ) (k : Kind) (m : yaml_mark_t)
     → placed k (moved_mark d n m) ≡ moved_mark d n (placed k m)
@@ -163,24 +161,19 @@ finished_there t u d m n l w a line h =
 with_end_there : (t u : List ℕ) (d m n : ℕ) (l : Lexeme) (r s : Result WordText Wrong)
     → Alike t u d m → line_at u d ≡ n → Said t u d m n l.kind r s
     → with_end u (moved_lexeme d n l) s ≡ moved_lexeme d n (with_end t l r)
-with_end_there t u d m n l (Ok w) s a line h = ap (with_end u (moved_lexeme d n l)) h.same ∙ finished_there t u d m n l w a line (h.ends w refl)
-with_end_there t u d m n l (Err w) s a line h = ap (with_end u (moved_lexeme d n l)) h.same
+with_end_there t u d m n l r s a line h = grind (arith, nat_tests, finished_there)
 
 wrong_there : (t u : List ℕ) (d m n : ℕ) (x : Kind) (start : yaml_mark_t)
     (r s : Result WordText Wrong)
     → Said t u d m n x r s
     → wrong_in u (moved_mark d n start) s ≡ moved_fault d n (wrong_in t start r)
-wrong_there t u d m n x start (Ok w) s h = ap (wrong_in u (moved_mark d n start)) h.same
-wrong_there t u d m n x start (Err w) s h =
-    ap (wrong_in u (moved_mark d n start)) h.same ∙ rw (h.wrong w refl) refl
+wrong_there t u d m n x start r s h = grind (arith, nat_tests)
 
 pub lexeme_there : (t u : List ℕ) (d m n k : ℕ) (H G : List Lexeme) → Pair t u d m n k H G
     → (x : Kind)
     → Said t u d m n x (word_behind x t H) (word_behind x u G)
     → lexeme_behind x u G ≡ moved_lexeme d n (lexeme_behind x t H)
-lexeme_there t u d m n k H G p x said =
-    ap (λ (l : Lexeme). with_end u l (word_behind x u G)) (begun_there t u d m n k H G p x)
-    ∙ with_end_there t u d m n (begun_behind x t H) (word_behind x t H) (word_behind x u G) p.alike p.line said
+lexeme_there t u d m n k H G p x said = grind (arith, nat_tests, begun_there, with_end_there)
 
 -- ---- faults
 
@@ -229,9 +222,7 @@ lost_there t u d m n k H G p x =
 text_there : (t u : List ℕ) (d m n k : ℕ) (H G : List Lexeme) → Pair t u d m n k H G → (x : Kind)
     → Said t u d m n x (word_behind x t H) (word_behind x u G)
     → text_wrong x u G ≡ moved_fault d n (text_wrong x t H)
-text_there t u d m n k H G p x said =
-    ap (λ (l : Lexeme). wrong_in u l.start (word_behind x u G)) (begun_there t u d m n k H G p x)
-    ∙ wrong_there t u d m n x (begun_behind x t H).start (word_behind x t H) (word_behind x u G) said
+text_there t u d m n k H G p x said = grind (arith, nat_tests, begun_there, wrong_there)
 
 after_there : (d n k : ℕ) (l : Lexeme) (H G : List Lexeme) → length G ≡ k + length H
     → ((e : ℕ) → candidate e G ≡ moved_found d n k (candidate e H))

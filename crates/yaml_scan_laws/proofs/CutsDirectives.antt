@@ -54,13 +54,11 @@ then_alike : {A : Type 0} (d m : ℕ) (f g : A → ℕ → Result ValueText Wron
     (r s : Result (A × ℕ) Wrong)
     → ((x : A) (q : ℕ) → q < m → ValueAlike d m (f x q) (g x (d + q))) → PairAlike d m r s
     → ValueAlike d m (then_at f r) (then_at g s)
-then_alike d m f g (Err w) s h k = let same = k.same in rw same record { same = refl; ends = tt }
-then_alike d m f g (Ok x) s h k = let same = k.same in rw same (h x.0 x.1 k.ends)
+then_alike d m f g r s h k = grind (arith, nat_tests)
 
 major_alike : (d m major : ℕ) (r s : Result (ℕ × ℕ) Wrong) → PairAlike d m r s
     → ValueAlike d m (with_major major r) (with_major major s)
-major_alike d m major (Err w) s k = let same = k.same in rw same record { same = refl; ends = tt }
-major_alike d m major (Ok x) s k = let same = k.same in rw same record { same = refl; ends = k.ends }
+major_alike d m major r s k = grind (arith, nat_tests)
 
 minor_alike : (t u : List ℕ) (d m major q : ℕ) → Alike t u d m → q < m
     → ValueAlike d m (minor_at t major q) (minor_at u major (d + q))
@@ -150,8 +148,7 @@ prefix_alike t u d m p a l =
 
 handled_alike : (d m : ℕ) (handle : List ℕ) (r s : Result (List ℕ × ℕ) Wrong) → PairAlike d m r s
     → ValueAlike d m (with_prefix handle r) (with_prefix handle s)
-handled_alike d m handle (Err w) s h = let same = h.same in rw same record { same = refl; ends = tt }
-handled_alike d m handle (Ok x) s h = let same = h.same in rw same record { same = refl; ends = h.ends }
+handled_alike d m handle r s h = grind (arith, nat_tests)
 
 tag_from : (t u : List ℕ) (d m p q r : ℕ) → Alike t u d m → Run_in t u d m p q r
     → ValueAlike d m (then_at (λ handle x. with_prefix handle (prefix_at t x)) (handle_at t q))
@@ -277,8 +274,7 @@ DirectivesAlike d m r s = ReadAlike (λ (x : DirectiveText). x.place ≤ m) (mov
 
 lined_alike : (d m : ℕ) (v : ValueText) (r s : Result ℕ Wrong) → PlacesAlike d m r s
     → DirectivesAlike d m (with_line v r) (with_line (moved_value d v) s)
-lined_alike d m v (Err w) s h = let same = h.same in rw same record { same = refl; placed = tt }
-lined_alike d m v (Ok q) s h = let same = h.same in rw same record { same = refl; placed = h.placed }
+lined_alike d m v r s h = grind (arith, nat_tests)
 
 finished_alike : (t u : List ℕ) (d m : ℕ) (r s : Result ValueText Wrong) → Alike t u d m
     → ValueAlike d m r s → DirectivesAlike d m (finished t r) (finished u s)

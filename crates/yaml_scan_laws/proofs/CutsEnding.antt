@@ -20,11 +20,7 @@ white_cases b h = grind (arith, nat_tests)
 -- no lexeme starts at white
 pub white_kind : (flow : Bool) (t : List ℕ) (p : ℕ) → is_white (byte t p) ≡ true
     → kind_at flow t p ≡ None
-white_kind flow t p h =
-    elim (white_cases (byte t p) h) [
-      | inl blank ↦ blank_kind flow t p blank
-      | inr z ↦ break_kind flow t p z
-    ]
+white_kind flow t p h = grind (arith, nat_tests, white_cases, blank_kind, break_kind)
 
 three_dots : (c z : Bool) (b x y : ℕ) → ((c && (b == 46 && (x == 46 && y == 46))) && z) ≡ true
     → (b ≡ 46) × (x ≡ 46) × (y ≡ 46)
@@ -42,11 +38,7 @@ dots t h = three_dots (column_at t 0 == 0) (is_blank_or_end t 3) (byte t 0) (byt
 
 pub end_indicator : (t : List ℕ) → is_document_end t 0 ≡ true → is_document_indicator t 0 ≡ true
 unfolding is_document_end is_document_indicator
-end_indicator t h =
-    let (one, two, three) = dots t h in
-    let parts = and_parts (column_at t 0 == 0 && (byte t 0 == 46 && (byte t 1 == 46 && byte t 2 == 46))) (is_blank_or_end t 3) h in
-    let column = (and_parts (column_at t 0 == 0) (byte t 0 == 46 && (byte t 1 == 46 && byte t 2 == 46)) parts.0).0 in
-    rw (column, one, two, three, parts.1) refl
+end_indicator t h = grind (arith, nat_tests, dots, and_parts)
 
 -- such a line has four bytes at least
 pub line_long : (line : List ℕ) → IsEndLine line → 4 ≤ length line
@@ -89,14 +81,12 @@ passed_blank : (t : List ℕ) (p : ℕ) (tabs : Bool) → 3 ≤ p
     → (byte t p == 32 || (tabs && byte t p == 9)) ≡ true
     → (is_passed tabs t p ≡ true) × ((step_at tabs t p).place ≡ p + 1)
 unfolding step_at
-passed_blank t p tabs far h =
-    rw (ne_eqb p 0 (omega (arith, far)), h) (refl, refl)
+passed_blank t p tabs far h = grind (arith, nat_tests, ne_eqb)
 
 passed_none : (t : List ℕ) (p : ℕ) (tabs : Bool) → 3 ≤ p
     → (byte t p == 32 || (tabs && byte t p == 9)) ≡ false
     → (byte t p == 35) ≡ false → is_passed tabs t p ≡ false
-passed_none t p tabs far h k =
-    rw (ne_eqb p 0 (omega (arith, far)), h, k) refl
+passed_none t p tabs far h k = grind (arith, nat_tests, ne_eqb)
 
 white_hash : (b : ℕ) → is_white b ≡ true → (b == 35) ≡ false
 white_hash b h = grind (arith, nat_tests)
@@ -108,16 +98,7 @@ break_skipped b tabs v2 = grind (arith, nat_tests)
 whole_width : (line b : List ℕ) (p : ℕ) → EndsIn line 10 → p < length line
     → (byte line p ≡ 10) ⊎ (byte line p ≡ 13) → break_width (line ++ b) p ≡ break_width line p
 unfolding break_of
-whole_width line b p feed l (inl z) =
-    let here : byte (line ++ b) p ≡ 10 = byte_left line b p l ∙ z in
-    rw (here, z) refl
-whole_width line b p feed l (inr z) =
-    let here : byte (line ++ b) p ≡ 13 = byte_left line b p l ∙ z in
-    elim (cases_lt (p + 1) (length line)) [
-      | inl more ↦ rw (here, z, byte_left line b (p + 1) more) refl
-      | inr past ↦
-          absurd (omega (arith, feed_last line p feed (omega (arith, l, past)), z))
-    ]
+whole_width line b p feed l h5 = grind (arith, nat_tests, byte_left, feed_last)
 
 -- a step over a blank
 over_blank : (line b : List ℕ) (allowed : Bool) (p x y : ℕ) → 3 ≤ p → p < length line
@@ -230,8 +211,7 @@ line_mark t h = record { kind = kinds.DocumentEnd; body = tokens.document_end; i
 
 first_candidate : (e : ℕ) → candidate e (first_lexeme ∷ []) ≡ None
 unfolding candidate
-first_candidate zero = refl
-first_candidate (suc e) = rw (ne_eqb 0 (suc e) (omega arith), lt-ltb 0 (suc e) (omega arith)) refl
+first_candidate e = grind (arith, nat_tests, ne_eqb, lt-ltb)
 
 first_levels : open_levels (first_lexeme ∷ []) ≡ []
 unfolding open_levels

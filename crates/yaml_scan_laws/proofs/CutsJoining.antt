@@ -1,10 +1,9 @@
 -- Entries of lexemes after others that decide the same, and the tokens of a text that is cut in two.
-use Rattle.std.proofs.Common.{◌≡◌, ℕ, zero, suc, ◌+◌, ◌-◌, ◌≤◌, ◌==◌, nat_lt, if◌then◌else◌, Bool, true, false, List, [], ◌∷◌, ◌++◌, map, length, Option, Some, None, refl, sym, ap, ◌∙◌, inl, inr, arith, ◌≢◌, take, drop, replicate}
-use Rattle.yaml_scan_laws.proofs.Shared.{cases_Bool, nat_tests, length-append, append-nil, append_assoc, map-append, none-some, same_Some, yaml_encoding_t, Lexeme, Entry, is_value, reached, Candidate, candidate, fresh, open_at, has_number, first_or, first_open, found_by, left_by, inside, entry_of, mark_key, marked, keyed, finished_tokens, body_in, candidate-more, fresh_is, length-entries, first_open-le, moved_lexeme, flat_map-append, take-map, drop-map, flat_map, ScanFault, Token, block_end, Next, Read, Fails, Ends, next, SpelledText, token_in, before, start_tokens, end_tokens, own_tokens, spell, all, handed_out, handed, front_ends, kept_of, remaining, offline, moved_token, moved_next, take-append-add, drop-append-add, le-ltb, ne_eqb}
+use Rattle.std.proofs.Common.{◌≡◌, ℕ, zero, suc, ◌+◌, ◌-◌, ◌≤◌, if◌then◌else◌, Bool, true, false, List, [], ◌∷◌, ◌++◌, map, length, Option, Some, None, refl, sym, ap, ◌∙◌, inl, inr, arith, ◌≢◌, take, drop, replicate}
+use Rattle.yaml_scan_laws.proofs.Shared.{cases_Bool, nat_tests, length-append, append-nil, append_assoc, map-append, none-some, same_Some, yaml_encoding_t, Lexeme, Entry, is_value, reached, Candidate, candidate, fresh, open_at, has_number, first_or, first_open, found_by, left_by, inside, entry_of, mark_key, marked, keyed, finished_tokens, body_in, candidate-more, fresh_is, length-entries, first_open-le, moved_lexeme, flat_map-append, take-map, drop-map, flat_map, ScanFault, Token, Next, Read, Fails, Ends, next, SpelledText, start_tokens, own_tokens, spell, all, handed_out, handed, front_ends, kept_of, remaining, offline, moved_token, moved_next, take-append-add, drop-append-add, le-ltb, ne_eqb}
 use Rattle.yaml_scan_laws.proofs.Rests.{AllCarry}
 use Rattle.yaml_scan_laws.proofs.Histories.{Bases, moved_lexemes, moved_candidate, moved_found, length_on, candidate_on, fresh_moved, found_on, has_moved, levels_on}
 use Rattle.yaml_scan_history.specs.declared.lexeme.Opens.{Opens}
-use Rattle.yaml_scan_history.specs.declared.lexeme.Opens.TheVariants as opening
 
 abbrev pub moved_entry : ℕ → ℕ → Entry → Entry
 moved_entry d n e = record { lexeme = moved_lexeme d n e.lexeme; ends = e.ends; opens = e.opens; key = e.key }
@@ -216,8 +215,7 @@ first_open_on d n k h b c s = first_on d n k h h b c s
 first_high : (d n k : ℕ) (g h b c : List Lexeme) → Bases d n k b c
     → length b ≤ first_open (h ++ b) (g ++ b)
 unfolding first_open
-first_high d n k [] h b c s =
-    let e = none_open (h ++ b) b (λ e f is. above h b e f s.mine is) in omega (arith, e)
+first_high d n k [] h b c s = grind (arith, nat_tests, none_open, above)
 first_high d n k (l ∷ g) h b c s = grind (arith, nat_tests, first_open-le, first_high d n k g h b c s)
 
 pub first_above : (d n k : ℕ) (h b c : List Lexeme) → Bases d n k b c
@@ -233,9 +231,7 @@ map_replicate f (suc n) y = ap (λ z. f y ∷ z) (map_replicate f n y)
 
 starts_moved : (d n : ℕ) (o : Opens) (l : Lexeme)
     → start_tokens o (moved_lexeme d n l) ≡ map (moved_token d n) (start_tokens o l)
-starts_moved d n opening.Nothing l = refl
-starts_moved d n opening.Sequence l = refl
-starts_moved d n opening.Mapping l = refl
+starts_moved d n o l = grind (arith, nat_tests)
 
 own_moved : (d n : ℕ) (s v : SpelledText) (e : Entry)
     → body_in v (moved_lexeme d n e.lexeme) ≡ body_in s e.lexeme
@@ -245,26 +241,14 @@ own_moved d n s v e h = grind (arith, nat_tests)
 spell_moved : (d n : ℕ) (s v : SpelledText) (e : Entry)
     → body_in v (moved_lexeme d n e.lexeme) ≡ body_in s e.lexeme
     → spell v (moved_entry d n e) ≡ map (moved_token d n) (spell s e)
-spell_moved d n s v e h =
-    let f = moved_token d n in
-    let ends = sym (map_replicate f e.ends (before block_end e.lexeme)) in
-    ap (λ z. (z ++ start_tokens e.opens (moved_lexeme d n e.lexeme)) ++ own_tokens v (moved_entry d n e)) ends
-    ∙ ap (λ z. (map f (end_tokens e) ++ z) ++ own_tokens v (moved_entry d n e)) (starts_moved d n e.opens e.lexeme)
-    ∙ ap (λ z. (map f (end_tokens e) ++ map f (start_tokens e.opens e.lexeme)) ++ z) (own_moved d n s v e h)
-    ∙ ap (λ z. z ++ map f (own_tokens s e)) (sym (map-append f (end_tokens e) (start_tokens e.opens e.lexeme)))
-    ∙ sym (map-append f (end_tokens e ++ start_tokens e.opens e.lexeme) (own_tokens s e))
+spell_moved d n s v e h = grind (arith, nat_tests, map_replicate, starts_moved, own_moved, map-append)
 
 pub spells_moved : (d n : ℕ) (x : yaml_encoding_t) (t u : List ℕ) (es : List Entry)
     → AllSay x t u d n es
     → flat_map (spell (record { encoding = x; text = u })) (map (moved_entry d n) es)
     ≡ map (moved_token d n) (flat_map (spell (record { encoding = x; text = t })) es)
 spells_moved d n x t u [] h = refl
-spells_moved d n x t u (e ∷ es) h =
-    let s : SpelledText = record { encoding = x; text = t } in
-    let v : SpelledText = record { encoding = x; text = u } in
-    ap (λ z. z ++ flat_map (spell v) (map (moved_entry d n) es)) (spell_moved d n s v e h.0)
-    ∙ ap (λ z. map (moved_token d n) (spell s e) ++ z) (spells_moved d n x t u es h.1)
-    ∙ sym (map-append (moved_token d n) (spell s e) (flat_map (spell s) es))
+spells_moved d n x t u (e ∷ es) h = grind (arith, nat_tests, spell_moved, map-append, spells_moved d n x t u es h.1)
 
 -- ---- the front of a list of entries
 
@@ -276,8 +260,7 @@ say_take x t u d n (suc i) (e ∷ es) h = (h.0, say_take x t u d n i es h.1)
 
 fronts_moved : (d n : ℕ) (es : List Entry)
     → front_ends (map (moved_entry d n) es) ≡ map (moved_token d n) (front_ends es)
-fronts_moved d n [] = refl
-fronts_moved d n (e ∷ es) = sym (map_replicate (moved_token d n) e.ends (before block_end e.lexeme))
+fronts_moved d n es = grind (arith, nat_tests, map_replicate)
 
 -- ---- tokens by what comes next
 

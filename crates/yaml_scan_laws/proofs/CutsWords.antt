@@ -1,6 +1,6 @@
 -- Lexemes of every kind are the same in both texts.
-use Rattle.std.proofs.Common.{◌≡◌, ℕ, ◌+◌, ◌<◌, ◌==◌, ◌&&◌, nat_lt, Bool, true, false, List, Some, None, Result, Ok, Err, refl, sym, ap, ◌∙◌, inl, inr, ◌⊎◌, arith}
-use Rattle.yaml_scan_laws.proofs.Shared.{cases_Bool, true≢false, or-true, none-some, same_Some, TokenBody, byte, break_of, break_width, column_at, is_blank, is_blank_or_end, Wrong, is_document_start, is_document_end, anchor_at, TagText, tag_at, DirectiveText, directive_at, double_quoted_at, single_quoted_at, PlainText, starts_plain, plain_at, BlockText, block_at, style_at, Kind, is_end, indicator_of, kind_at, WordText, carrying, valued, tagged, directed, blocked, plainly, lexeme_at, Alike, is_onward, blank_cases}
+use Rattle.std.proofs.Common.{◌≡◌, ℕ, ◌+◌, ◌<◌, ◌==◌, ◌&&◌, nat_lt, Bool, true, false, List, Some, None, Result, refl, sym, ap, ◌∙◌, inl, inr, ◌⊎◌, arith}
+use Rattle.yaml_scan_laws.proofs.Shared.{nat_tests, cases_Bool, none-some, TokenBody, byte, break_of, column_at, is_blank, is_blank_or_end, Wrong, is_document_start, is_document_end, anchor_at, TagText, tag_at, DirectiveText, directive_at, double_quoted_at, single_quoted_at, PlainText, starts_plain, plain_at, BlockText, block_at, style_at, Kind, is_end, indicator_of, kind_at, WordText, carrying, valued, tagged, directed, blocked, plainly, lexeme_at, Alike, is_onward, blank_cases}
 use Rattle.yaml_scan_history.specs.scan_model.declared.name.yaml_scalar_style_t.{yaml_scalar_style_t}
 use Rattle.yaml_scan_history.specs.scan_model.declared.name.yaml_scalar_style_t.TheVariants as styles
 use Rattle.yaml_scan_history.specs.scan_model.declared.problem.Context.TheVariants as contexts
@@ -45,8 +45,7 @@ kind_alike t u d m p flow a l =
 -- a line feed or a carriage return is a break
 pub break_byte : (b c e : ℕ) → (b ≡ 10) ⊎ (b ≡ 13) → nat_lt 0 (break_of b c e) ≡ true
 unfolding break_of
-break_byte b c e (inl z) = rw z refl
-break_byte b c e (inr z) = elim (cases_Bool (c == 10)) [ inl f ↦ rw (z, f) refl | inr f ↦ rw (z, f) refl ]
+break_byte b c e h3 = grind (arith, nat_tests, cases_Bool)
 
 no_plain : (flow : Bool) (t : List ℕ) (p : ℕ) → (byte t p ≡ 10) ⊎ (byte t p ≡ 13)
     → starts_plain flow t p ≡ false
@@ -55,8 +54,7 @@ no_plain flow t p h = grind (arith, break_byte)
 
 no_thrice : (c z : Bool) (b x y n : ℕ) → (b == n) ≡ false
     → ((c && (b == n && (x == n && y == n))) && z) ≡ false
-no_thrice true z b x y n h = rw h refl
-no_thrice false z b x y n h = refl
+no_thrice c z b x y n h = grind (arith, nat_tests)
 
 not_start : (t : List ℕ) (p : ℕ) → (byte t p == 45) ≡ false → is_document_start t p ≡ false
 unfolding is_document_start
@@ -106,11 +104,7 @@ kind_onward flow t p k e go = grind (arith, off_cases, end_kind, break_kind)
 -- and is no blank
 pub kind_text : (flow : Bool) (t : List ℕ) (p : ℕ) (k : Kind) → kind_at flow t p ≡ Some k
     → is_blank (byte t p) ≡ false
-kind_text flow t p k e =
-    elim (cases_Bool (is_blank (byte t p))) [
-      | inr text ↦ text
-      | inl blank ↦ absurd (none-some k (sym (blank_kind flow t p blank) ∙ e))
-    ]
+kind_text flow t p k e = grind (arith, nat_tests, cases_Bool, none-some, blank_kind)
 
 -- ---- words
 
@@ -126,23 +120,19 @@ carry_valued u d m f r s v6 = grind (arith, torn_by)
 
 tagged_moves : (d : ℕ) (r : Result TagText Wrong)
     → tagged (moved_by (moved_tag d) d r) ≡ moved_by (moved_word d) d (tagged r)
-tagged_moves d (Ok x) = refl
-tagged_moves d (Err w) = refl
+tagged_moves d r = grind (arith, nat_tests)
 
 directed_moves : (d : ℕ) (r : Result DirectiveText Wrong)
     → directed (moved_by (moved_directive d) d r) ≡ moved_by (moved_word d) d (directed r)
-directed_moves d (Ok x) = refl
-directed_moves d (Err w) = refl
+directed_moves d r = grind (arith, nat_tests)
 
 blocked_moves : (d : ℕ) (style : yaml_scalar_style_t) (r : Result BlockText Wrong)
     → blocked style (moved_by (moved_block d) d r) ≡ moved_by (moved_word d) d (blocked style r)
-blocked_moves d style (Ok x) = refl
-blocked_moves d style (Err w) = refl
+blocked_moves d style r = grind (arith, nat_tests)
 
 plainly_moves : (d : ℕ) (r : Result PlainText Wrong)
     → plainly (moved_by (moved_plain d) d r) ≡ moved_by (moved_word d) d (plainly r)
-plainly_moves d (Ok x) = refl
-plainly_moves d (Err w) = refl
+plainly_moves d r = grind (arith, nat_tests)
 
 carrying_moves : (d p n : ℕ) (body : TokenBody)
     → carrying body (d + p + n) ≡ moved_by (moved_word d) d (carrying body (p + n))

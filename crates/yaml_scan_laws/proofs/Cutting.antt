@@ -1,6 +1,6 @@
 -- Both parts of a text are alike in it.
 use Rattle.std.proofs.Common.{zero-add, ◌≡◌, ℕ, zero, suc, ◌+◌, ◌-◌, ◌<◌, ◌≤◌, ◌==◌, ◌&&◌, true, false, List, [], ◌∷◌, ◌++◌, length, refl, sym, ap, ◌∙◌, inl, inr, ◌⊎◌, arith}
-use Rattle.yaml_scan_laws.proofs.Shared.{cases_Bool, cases_lt, eqb-true, true≢false, nat_tests, get_or_append_left, get_or-append-add, get_or_past, get_or_push, length-append, length_push, and-false, byte, ends_of, ends_break, line_at, column_at, is_bom, is_document_indicator, within, column_end, start_column, Alike, is_onward, EndsLine, IsCut, ne_eqb}
+use Rattle.yaml_scan_laws.proofs.Shared.{cases_Bool, cases_lt, eqb-true, true≢false, nat_tests, get_or_append_left, get_or-append-add, get_or_past, get_or_push, length-append, length_push, byte, ends_of, ends_break, line_at, column_at, is_bom, is_document_indicator, within, column_end, start_column, Alike, is_onward, EndsLine, IsCut, ne_eqb}
 use Rattle.yaml_scan_laws.proofs.Bytes.{and_alike, indicator_alike, onward_some, off_break}
 
 pub byte_left : (a b : List ℕ) (p : ℕ) → p < length a → byte (a ++ b) p ≡ byte a p
@@ -28,18 +28,14 @@ last_is a xs p c is e =
 
 pub last_byte : (a : List ℕ) (p : ℕ) → EndsLine a → p + 1 ≡ length a
     → (byte a p ≡ 10) ⊎ (byte a p ≡ 13)
-last_byte a p (inl none) e = let zero : length a ≡ 0 = ap length none in absurd (omega (arith, e, zero))
-last_byte a p (inr (inl (xs, is))) e = inl (last_is a xs p 10 is e)
-last_byte a p (inr (inr (xs, is))) e = inr (last_is a xs p 13 is e)
+last_byte a p h2 e = grind (arith, nat_tests, last_is)
 
 not_feed : (b c : ℕ) → (b ≡ 45) ⊎ (b ≡ 46) → (b == 10) ≡ false
-not_feed b c (inl z) = rw z refl
-not_feed b c (inr z) = rw z refl
+not_feed b c h2 = grind (arith, nat_tests)
 
 pub line_ended : (x y b c : ℕ) → (b ≡ 10) ⊎ (b ≡ 13) → (c == 10) ≡ false → ends_of x y b c ≡ true
 unfolding ends_of
-line_ended x y b c (inl z) h = rw z refl
-line_ended x y b c (inr z) h = rw (z, h) refl
+line_ended x y b c h4 h = grind (arith, nat_tests)
 
 -- the rest begins at column 0
 pub cut_column : (a b : List ℕ) → IsCut a b → column_at (a ++ b) (length a) ≡ 0
@@ -68,23 +64,16 @@ cut_column a b cut =
 
 no_early_end : (x y c v w : ℕ) (b : ℕ) → (b ≡ 45) ⊎ (b ≡ 46) → ends_of x y b c ≡ ends_of v w b c
 unfolding ends_of
-no_early_end x y c v w b (inl z) = rw z refl
-no_early_end x y c v w b (inr z) = rw z refl
+no_early_end x y c v w b h6 = grind (arith, nat_tests)
 
 second_end : (x y b c v : ℕ) → (y ≡ 45) ⊎ (y ≡ 46) → ends_of x y b c ≡ ends_of v y b c
 unfolding ends_of
-second_end x y b c v (inl z) = rw z refl
-second_end x y b c v (inr z) = rw z refl
+second_end x y b c v h5 = grind (arith, nat_tests)
 
 -- breaks after the first two bytes of a rest
 pub far_ends : (a b : List ℕ) (p : ℕ)
     → ends_break (a ++ b) (length a + suc (suc p)) ≡ ends_break b (suc (suc p))
-far_ends a b p =
-    let n = suc (suc p) in
-    let e : length a + n + 1 ≡ length a + (n + 1) = omega arith in
-    let f : length a + n - 1 ≡ length a + (n - 1) = omega arith in
-    let g : length a + n - 2 ≡ length a + (n - 2) = omega arith in
-    rw (e, f, g, byte_right a b n, byte_right a b (n + 1), byte_right a b (n - 1), byte_right a b (n - 2)) refl
+far_ends a b p = grind (arith, nat_tests, byte_right)
 
 -- all breaks of the rest end where they end in the whole
 pub rest_ends : (a b : List ℕ) → IsCut a b → (p : ℕ)
@@ -131,16 +120,13 @@ pub rest_lines : (a b : List ℕ) → IsCut a b → (p : ℕ)
 rest_lines a b cut p = lines_by a b (rest_ends a b cut) p
 
 not_bom : (b c e : ℕ) → (b ≡ 45) ⊎ (b ≡ 46) → (b == 0xEF && (c == 0xBB && e == 0xBF)) ≡ false
-not_bom b c e (inl z) = rw z refl
-not_bom b c e (inr z) = rw z refl
+not_bom b c e h3 = grind (arith, nat_tests)
 
 -- U+FEFF counts at the beginning alone
 pub bom_by : (a b : List ℕ)
     → (length a + 0 == 0 && is_bom (a ++ b) (length a + 0)) ≡ is_bom b 0 → (p : ℕ)
     → (length a + p == 0 && is_bom (a ++ b) (length a + p)) ≡ (p == 0 && is_bom b p)
-bom_by a b h zero = h
-bom_by a b h (suc p) =
-    rw (ne_eqb (length a + suc p) 0 (omega arith), ne_eqb (suc p) 0 (omega arith)) refl
+bom_by a b h p = grind (arith, nat_tests, ne_eqb)
 
 rest_bom : (a b : List ℕ) → IsCut a b
     → (length a + 0 == 0 && is_bom (a ++ b) (length a + 0)) ≡ is_bom b 0
@@ -194,13 +180,7 @@ front_ends a b cut p l =
 
 front_onward : (a b : List ℕ) → IsCut a b → (p : ℕ) → p < length a → is_onward (byte a p) ≡ true
     → p + 1 < length a
-front_onward a b cut p l on =
-    elim (cases_lt (p + 1) (length a)) [
-      | inl more ↦ more
-      | inr past ↦
-          let last = last_byte a p cut.line (omega (arith, l, past)) in
-          absurd (true≢false (sym on ∙ off_break (byte a p) last))
-    ]
+front_onward a b cut p l on = grind (arith, nat_tests, last_byte, true≢false, off_break)
 
 wide_onward : (b n : ℕ) → (b == n) ≡ true → 100 < n → is_onward b ≡ true
 unfolding is_onward

@@ -1,7 +1,7 @@
 -- Decoded texts are UTF-8, and hold no byte 0.
-use Rattle.std.proofs.Common.{◌≡◌, ℕ, ◌+◌, ◌/◌, ◌%◌, ◌<◌, ◌≤◌, ◌⊎◌, inl, inr, true, List, [], ◌∷◌, length, refl, sym, subst, arith, IsUtf8, All, encode_utf8, encode_utf8_all}
+use Rattle.std.proofs.Common.{◌≡◌, ℕ, ◌<◌, true, List, [], ◌∷◌, length, refl, sym, arith, IsUtf8, All, encode_utf8, encode_utf8_all}
 use Rattle.std.proofs.lemmas.List.Elements.{All-append, All-cons, All-nil}
-use Rattle.yaml_scan_laws.proofs.TextWords.{IsScalar, AllPass, All-head, All-tail, byte, cases_lt, nat_tests}
+use Rattle.yaml_scan_laws.proofs.TextWords.{IsScalar, AllPass, All-head, All-tail, byte, nat_tests}
 use Rattle.std.specs.Str.{all_scalars}
 use lib.Utf8.{encode}
 use Rattle.yaml_scan_history.specs.scan_model.declared.name.yaml_encoding_t.{yaml_encoding_t}
@@ -32,24 +32,7 @@ none = All-nil (λ b. 0 < b)
 
 has_none : (c : ℕ) → is_allowed c ≡ true → HasNone (encode_utf8 c)
 unfolding is_allowed encode
-has_none c h = by (cases_lt c 128) (cases_lt c 2048) (cases_lt c 65536)
-  where
-    by : (c < 128) ⊎ (128 ≤ c) → (c < 2048) ⊎ (2048 ≤ c) → (c < 65536) ⊎ (65536 ≤ c)
-        → HasNone (encode_utf8 c)
-    by (inl low) _ _ =
-        let e : encode_utf8 c ≡ c ∷ [] = grind (arith, nat_tests) in
-        let some : 0 < c = grind (arith, nat_tests) in
-        subst HasNone (sym e) (one c [] some none)
-    by (inr from) (inl low) _ =
-        let e : encode_utf8 c ≡ (192 + c / 64) ∷ (128 + c % 64) ∷ [] = grind (arith, nat_tests) in
-        subst HasNone (sym e) (one (192 + c / 64) ((128 + c % 64) ∷ []) (omega arith) (one (128 + c % 64) [] (omega arith) none))
-    by (inr _) (inr from) (inl low) =
-        let e : encode_utf8 c ≡ (224 + c / 4096) ∷ (128 + c / 64 % 64) ∷ (128 + c % 64) ∷ [] = grind (arith, nat_tests) in
-        subst HasNone (sym e) (one (224 + c / 4096) ((128 + c / 64 % 64) ∷ (128 + c % 64) ∷ []) (omega arith) (one (128 + c / 64 % 64) ((128 + c % 64) ∷ []) (omega arith) (one (128 + c % 64) [] (omega arith) none)))
-    by (inr _) (inr _) (inr from) =
-        let top : c < 1114112 = grind (arith, nat_tests) in
-        let e : encode_utf8 c ≡ (240 + c / 262144) ∷ (128 + c / 4096 % 64) ∷ (128 + c / 64 % 64) ∷ (128 + c % 64) ∷ [] = grind (arith, nat_tests) in
-        subst HasNone (sym e) (one (240 + c / 262144) ((128 + c / 4096 % 64) ∷ (128 + c / 64 % 64) ∷ (128 + c % 64) ∷ []) (omega arith) (one (128 + c / 4096 % 64) ((128 + c / 64 % 64) ∷ (128 + c % 64) ∷ []) (omega arith) (one (128 + c / 64 % 64) ((128 + c % 64) ∷ []) (omega arith) (one (128 + c % 64) [] (omega arith) none))))
+has_none c h = grind (arith, nat_tests, one, none)
 
 all_have_none : (cs : List ℕ) → AllPass is_allowed cs → HasNone (encode_utf8_all cs)
 all_have_none [] h = none
@@ -61,5 +44,4 @@ all_have_none (c ∷ cs) h =
 -- A text that bytes spell has no byte 0.
 pub spelled_has_none : (setting : yaml_encoding_t) (bytes text : List ℕ) → Spells setting bytes text
     → (p : ℕ) → p < length text → 0 < byte text p
-spelled_has_none setting bytes text s p inside =
-    subst HasNone (sym s.is) (all_have_none s.characters s.allowed) p 0 inside
+spelled_has_none setting bytes text s p inside = grind (arith, nat_tests, all_have_none)

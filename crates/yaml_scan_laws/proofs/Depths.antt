@@ -1,6 +1,6 @@
 -- Each lexeme is at the depth that those before it leave.
-use Rattle.std.proofs.Common.{◌≡◌, ℕ, zero, suc, ◌+◌, List, [], ◌∷◌, length, refl, sym, ap, ◌∙◌}
-use Rattle.yaml_scan_laws.proofs.Shared.{Lexeme, flow_depth, Next, Read, Fails, Ends, begun_behind, word_behind, next, extended, history, all, first_is, not_ended}
+use Rattle.std.proofs.Common.{◌≡◌, ℕ, zero, suc, ◌+◌, List, [], ◌∷◌, length, refl, sym, ap, ◌∙◌, arith}
+use Rattle.yaml_scan_laws.proofs.Shared.{nat_tests, Lexeme, flow_depth, Next, Read, begun_behind, word_behind, next, extended, history, all, first_is, not_ended}
 use Rattle.yaml_scan_laws.proofs.Fronts.{has_read, kept, next_open}
 
 abbrev pub AllDeep : List Lexeme → Type 0
@@ -18,9 +18,7 @@ read_deep t (x ∷ h) l e =
 
 step_deep : (t : List ℕ) (h : List Lexeme) (x : Next) → next t h ≡ x → AllDeep h
     → AllDeep (extended x h)
-step_deep t h (Read l) e a = (read_deep t h l e, a)
-step_deep t h (Fails f) e a = a
-step_deep t h Ends e a = a
+step_deep t h x e a = grind (arith, nat_tests, read_deep)
 
 history_deep : (t : List ℕ) (n : ℕ) → AllDeep (history t n)
 unfolding history

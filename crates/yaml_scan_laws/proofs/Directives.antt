@@ -1,5 +1,5 @@
 -- Directives that are written.
-use Rattle.std.proofs.Common.{◌≡◌, ℕ, suc, ◌+◌, ◌-◌, ◌<◌, ◌==◌, nat_lt, true, false, List, [], ◌∷◌, ◌++◌, length, slice_range, Ok, Err, refl, sym, ap, subst, ◌∙◌, inl, inr, arith, add-zero, length-append}
+use Rattle.std.proofs.Common.{◌≡◌, ℕ, suc, ◌+◌, ◌-◌, ◌<◌, ◌==◌, true, false, List, [], ◌∷◌, ◌++◌, length, slice_range, Ok, Err, refl, sym, ap, subst, ◌∙◌, arith, add-zero, length-append}
 use Rattle.std.specs.Prelude.{codes, if◌then◌else◌}
 use Rattle.yaml_scan_laws.proofs.TextWords.{nat_tests, byte, break_width, is_alpha_byte, is_digit_byte, is_digit, is_break, within, belongs, run_end, version, tag, then_at, decimal, number_between, number_at, minor_at, version_at, handle_at, prefix_ended, prefix_at, with_prefix, tag_directive_at, value_at, directive_at, is_uri, some_uri_at, Has, has_front, has_rest, range_reads, run_stop, alphas_run, no_alpha_at, uri_range, uri_is_read}
 use Rattle.yaml_scan_history.specs.scan_model.declared.problem.Context.TheVariants as contexts
@@ -56,11 +56,7 @@ tag_value text p h =
 number_by : (run : _) (text : List ℕ) (p : ℕ) → belongs run text p ≡ true
     → belongs run text (p + 1) ≡ false
     → number_between text p (run_end run text p) ≡ Ok (decimal text p 1, p + 1)
-number_by run text p here stop =
-    let some : (p + 1 == p) ≡ false = grind (arith, nat_tests) in
-    let short : nat_lt (p + 9) (p + 1) ≡ false = grind (arith, nat_tests) in
-    let count : p + 1 - p ≡ 1 = omega arith in
-    rw (one_run run text p here stop, some, short, count) refl
+number_by run text p here stop = grind (arith, nat_tests, one_run)
 
 one_digit : (text : List ℕ) (p d : ℕ) → d < 10 → byte text p ≡ 48 + d
     → is_digit text (p + 1) ≡ false → number_at text p ≡ Ok (d, p + 1)
@@ -142,16 +138,7 @@ named_read text p name h are =
 
 handle_read : (text : List ℕ) (p : ℕ) (handle : List ℕ) → IsHandle handle → Has text p handle
     → byte text (p + length handle) ≡ 32 → handle_at text p ≡ Ok (handle, p + length handle)
-handle_read text p handle (inl e) h space =
-    let P : List ℕ → Type 0 = λ (x : List ℕ). Has text p x → byte text (p + length x) ≡ 32 → handle_at text p ≡ Ok (x, p + length x) in
-    let alone : P (33 ∷ []) = λ has blank. let (mark, none) = has in lone_read text p mark blank in
-    subst P (sym e) alone h space
-handle_read text p handle (inr (name, e, are)) h space =
-    let P : List ℕ → Type 0 = λ (x : List ℕ). Has text p x → byte text (p + length x) ≡ 32 → handle_at text p ≡ Ok (x, p + length x) in
-    let count : length (name ++ (33 ∷ [])) ≡ length name + 1 = length-append name (33 ∷ []) in
-    let far : p + 1 + length name + 1 ≡ p + suc (length (name ++ (33 ∷ []))) = omega (arith, count) in
-    let long : P (33 ∷ (name ++ (33 ∷ []))) = λ has blank. named_read text p name has are ∙ ap (λ q. Ok (33 ∷ (name ++ (33 ∷ [])), q)) far in
-    subst P (sym e) long h space
+handle_read text p handle h3 h space = grind (arith, nat_tests, lone_read, length-append, named_read)
 
 some_bytes : (pieces : List UriPiece) → 0 < length pieces → (length (uri_bytes pieces) == 0) ≡ false
 some_bytes [] h = absurd (omega arith)

@@ -1,6 +1,6 @@
 -- What entries say; a text begins with the stream's start, and ends with its end.
-use Rattle.std.proofs.Common.{◌≡◌, ℕ, zero, suc, Bool, true, false, List, [], ◌∷◌, ◌++◌, map, replicate, flat_map, refl, sym, ap, ◌∙◌, append_assoc, ◌+◌, ◌-◌, ◌==◌, ◌&&◌, not, nat_lt, cond, length, Option, Some, None, Result, Ok, arith}
-use Rattle.yaml_scan_laws.proofs.LevelWords.{append_cancel_left, flat_map-append, Token, TokenBody, block_end, key, Lexeme, Entry, Opens, margin_at, start_of, as_key, SpelledText, body_in, before, spell, start_tokens, own_tokens, entry, bodies_of, told, start_bodies, WordTells, LevelTells, KeyTells, append-nil, and-false, yaml_mark_t, mark_at, stream_end, Wrong, Gap, Kind, flow_depth, reached, placed, candidate, fresh, indent, left_by, open_levels, finished_tokens, WordText, kind_at, lexeme_at, Next, Read, Ends, first_lexeme, begun, gap_behind, allowed_behind, misplaced, missed, lost_by, level_in, next, extended, history, not_allowed, unless_wrong, unless_lost, of_kind, unless_missed, behind, all, handed_out, handed, kept_of, fault_in, Remaining, remaining, offline, Came, Rises, Front, Idle, InTime, StartStands, end_at, EndIsRead}
+use Rattle.std.proofs.Common.{◌≡◌, ℕ, zero, suc, Bool, true, false, List, [], ◌∷◌, ◌++◌, map, replicate, flat_map, refl, sym, ap, ◌∙◌, append_assoc, ◌+◌, ◌-◌, ◌==◌, ◌&&◌, nat_lt, length, Some, None, Ok, arith}
+use Rattle.yaml_scan_laws.proofs.LevelWords.{nat_tests, append_cancel_left, flat_map-append, Token, TokenBody, block_end, key, Lexeme, Entry, Opens, SpelledText, body_in, before, spell, start_tokens, own_tokens, entry, bodies_of, told, start_bodies, WordTells, LevelTells, KeyTells, append-nil, mark_at, stream_end, Gap, flow_depth, reached, candidate, fresh, indent, open_levels, finished_tokens, WordText, kind_at, lexeme_at, Next, Read, Ends, first_lexeme, gap_behind, allowed_behind, missed, lost_by, level_in, next, history, behind, all, handed_out, handed, kept_of, fault_in, Remaining, remaining, offline, Came, Rises, Front, Idle, InTime, StartStands, end_at, EndIsRead}
 use Rattle.yaml_scan_history.specs.declared.lexeme.Opens.TheVariants as opening
 use Rattle.yaml_scan_history.specs.declared.kind.Kind.TheVariants as kinds
 use Rattle.yaml_scan_laws.proofs.HistoryForward.{last_is_all}
@@ -67,8 +67,7 @@ key_says : (s : SpelledText) (done : List Entry) (l : Lexeme) (n : ℕ) (rest : 
     (K : List TokenBody → List TokenBody) (bs : List TokenBody)
     → told s (done ++ entry l n opening.Nothing ∷ rest) 0 bs ≡ told s done n (K bs)
     → body_in s l ∷ (bodies_of s rest ++ bs) ≡ K bs
-key_says s done l n rest K bs e =
-    append_cancel_left (replicate n block_end) _ (K bs) (append_cancel_left (bodies_of s done) _ (replicate n block_end ++ K bs) (sym (behind_says s done l n opening.Nothing false rest bs) ∙ e))
+key_says s done l n rest K bs e = grind (arith, nat_tests, append_cancel_left, behind_says)
 
 pub key_tells : KeyTells
 key_tells s ms done l n rest v K says bs = grind (arith, word_tells, behind_says, key_says)
@@ -109,9 +108,7 @@ came_history : (text : List ℕ) (h : List Lexeme) → Came text h → history t
 unfolding Came history next
 came_history text [] came = absurd came
 came_history text (l ∷ []) came = ap (λ (x : Lexeme). x ∷ []) (sym came)
-came_history text (l ∷ x ∷ h) (read, came) =
-    let before = came_history text (x ∷ h) came in
-    ap (λ (y : List Lexeme). extended (next text y) y) before ∙ ap (λ (n : Next). extended n (x ∷ h)) read
+came_history text (l ∷ x ∷ h) (read, came) = grind (arith, nat_tests, came_history text (x ∷ h) came)
 
 came_all : (text : List ℕ) (h : List Lexeme) → Came text h → next text h ≡ Ends → all text ≡ h
 came_all text h came ends =
@@ -138,8 +135,7 @@ unfolding finished_tokens
 end_entries text h ms es q a f = grind (arith, left_outside, all_less)
 
 no_key : (a more : Bool) → ((a && false) && more) ≡ false
-no_key true more = refl
-no_key false more = refl
+no_key a more = grind (arith, nat_tests)
 
 end_body : (s : SpelledText) (h : List Lexeme) (q : ℕ) (a : Bool)
     → body_in s (end_at s.text h q a) ≡ stream_end

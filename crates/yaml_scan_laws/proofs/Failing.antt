@@ -1,6 +1,6 @@
 -- A front with a fault: the whole has the same tokens, and a fault there.
 use Rattle.std.proofs.Common.{◌≡◌, ◌≢◌, ℕ, ◌+◌, ◌<◌, ◌≤◌, ◌==◌, ◌&&◌, nat_le, not, Bool, true, false, List, [], ◌∷◌, ◌++◌, length, Option, Some, None, Result, Ok, Err, refl, sym, ap, subst, ◌∙◌, inl, inr, arith, ◌⊎◌}
-use Rattle.yaml_scan_laws.proofs.Shared.{cases_Bool, cases_lt, nat_tests, none-some, same_Some, yaml_mark_t, ScanFault, byte, line_at, mark_at, Wrong, Kind, Lexeme, is_end, reached, flow_depth, in_flow, Candidate, candidate, is_fresh, fresh, placed, WordText, lexeme_at, Next, Read, Fails, gap_behind, place_behind, allowed_behind, kind_behind, begun_behind, word_behind, lexeme_behind, missed, lost_by, stale_before, indicator_misplaced, candidate_lost, wrong_in, text_wrong, stale_after, colon_missing_of, first_fault_or, coming, next, Stands, line_at-grows, IsCut, moved_scan_fault, moved_next, le-ltb}
+use Rattle.yaml_scan_laws.proofs.Shared.{cases_Bool, cases_lt, nat_tests, none-some, same_Some, yaml_mark_t, ScanFault, byte, line_at, mark_at, Wrong, Kind, Lexeme, is_end, reached, flow_depth, in_flow, Candidate, candidate, fresh, placed, WordText, lexeme_at, Next, Read, Fails, gap_behind, place_behind, allowed_behind, kind_behind, begun_behind, word_behind, lexeme_behind, missed, lost_by, stale_before, indicator_misplaced, candidate_lost, wrong_in, text_wrong, stale_after, colon_missing_of, first_fault_or, coming, next, Stands, line_at-grows, IsCut, moved_scan_fault, moved_next, le-ltb}
 use Rattle.yaml_scan_history.specs.declared.kind.Kind.TheVariants as kinds
 use Rattle.yaml_scan_laws.proofs.Gaps.{moved_wrong, moved_by}
 use Rattle.yaml_scan_laws.proofs.CutsWords.{moved_word, end_kind, WordCarried}
@@ -19,8 +19,7 @@ after_none a b c e f y l r = grind (arith, nat_tests)
 near_before : (required : Bool) (x y p q s t : ℕ) → p ≤ x → q ≤ y
     → (required && not (nat_le x s && nat_le y (t + 1024))) ≡ false
     → (required && not (nat_le p s && nat_le q (t + 1024))) ≡ false
-near_before true x y p q s t l k h = grind (arith, nat_tests)
-near_before false x y p q s t l k h = refl
+near_before required x y p q s t l k h = grind (arith, nat_tests)
 
 pub some_none : {A : Type 0} {x : A} → Some x ≡ None → ⊥
 some_none e = cc
@@ -239,8 +238,7 @@ fails_same e = cc
 
 pub colon_index : (o : Option yaml_mark_t) (m : yaml_mark_t) (f : ScanFault)
     → colon_missing_of o m ≡ Some f → f.problem_mark ≡ m
-colon_index None m f e = absurd (some_none (sym e))
-colon_index (Some s) m f e = ap (λ (g : ScanFault). g.problem_mark) (same_Some _ _ (sym e))
+colon_index o m f e = grind (arith, nat_tests, some_none, same_Some)
 
 -- what comes first in both, before a fault w of the first one's word
 first_early : (a b c t e : Option ScanFault) (w f : ScanFault) (y z : Next)
@@ -249,21 +247,14 @@ first_early : (a b c t e : Option ScanFault) (w f : ScanFault) (y z : Next)
     → first_fault_or (a ∷ b ∷ c ∷ t ∷ e ∷ []) y ≡ Fails f
     → f.problem_mark.index < w.problem_mark.index
     → first_fault_or (p ∷ q ∷ o ∷ r ∷ s ∷ []) z ≡ Fails f
-first_early (Some g) b c t e w f y z p q o r s h i j k is l = rw h (ap Fails (fault_zero g ∙ fails_same is))
-first_early None (Some g) c t e w f y z p q o r s h i j k is l = rw (h, i) (ap Fails (fault_zero g ∙ fails_same is))
-first_early None None (Some g) t e w f y z p q o r s h i j k is l = rw (h, i, j) (ap Fails (fault_zero g ∙ fails_same is))
-first_early None None None t e w f y z p q o r s h i j k is l =
-    let same = ap (λ (g : ScanFault). g.problem_mark.index) (fails_same (rw k at is)) in absurd (omega (arith, same, l))
+first_early a b c t e w f y z p q o r s h i j k is l = grind (arith, nat_tests, fault_zero, fails_same)
 
 -- the fault of a mark is one of three
 first_told : (a b c t f : Option ScanFault) (g : ScanFault) (y : Lexeme) (P : ScanFault → Type 0)
     → b ≡ None → t ≡ None → ((h : ScanFault) → a ≡ Some h → P h)
     → ((h : ScanFault) → c ≡ Some h → P h) → ((h : ScanFault) → f ≡ Some h → P h)
     → first_fault_or (a ∷ b ∷ c ∷ t ∷ f ∷ []) (Read y) ≡ Fails g → P g
-first_told (Some h) b c t f g y P u v i j k e = subst P (fails_same e) (i h refl)
-first_told None b (Some h) t f g y P u v i j k e = subst P (fails_same (rw u at e)) (j h refl)
-first_told None b None t (Some h) g y P u v i j k e = subst P (fails_same (rw (u, v) at e)) (k h refl)
-first_told None b None t None g y P u v i j k e = absurd (fails_not (sym (rw (u, v) at e)))
+first_told a b c t f g y P u v i j k e = grind (arith, nat_tests, fails_same, fails_not)
 
 pub end_late : (t : List ℕ) (H : List Lexeme) (f : ScanFault)
     → coming (Some kinds.StreamEnd) t H ≡ Fails f
@@ -310,11 +301,7 @@ first_back : (a b c r e : Option ScanFault) (w f g : ScanFault) (y z : Next)
     → first_fault_or (p ∷ q ∷ o ∷ t ∷ s ∷ []) z ≡ Fails g
     → g.problem_mark.index < w.problem_mark.index
     → first_fault_or (a ∷ b ∷ c ∷ r ∷ e ∷ []) y ≡ Fails f → g ≡ f
-first_back (Some v) b c r e w f g y z p q o t s h i j k there l here = sym (fails_same (rw h at there)) ∙ fault_zero v ∙ fails_same here
-first_back None (Some v) c r e w f g y z p q o t s h i j k there l here = sym (fails_same (rw (h, i) at there)) ∙ fault_zero v ∙ fails_same here
-first_back None None (Some v) r e w f g y z p q o t s h i j k there l here = sym (fails_same (rw (h, i, j) at there)) ∙ fault_zero v ∙ fails_same here
-first_back None None None r e w f g y z p q o t s h i j k there l here =
-    let same = ap (λ (v : ScanFault). v.problem_mark.index) (fails_same (rw (h, i, j, k) at there)) in absurd (omega (arith, same, l))
+first_back a b c r e w f g y z p q o t s h i j k there l here = grind (arith, nat_tests, fails_same, fault_zero)
 
 -- a fault of a mark is there or after it
 mark_late : (K : Kind) (body : _) → IsMark K body → (t : List ℕ) (H : List Lexeme) (p : ℕ)

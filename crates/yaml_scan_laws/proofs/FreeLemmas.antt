@@ -1,9 +1,9 @@
 -- What steps make of a lexeme, and key-free lexemes.
-use Rattle.std.proofs.Common.{◌≡◌, ℕ, zero, suc, ◌+◌, ◌==◌, ◌&&◌, ◌||◌, not, nat_lt, Bool, true, false, List, [], ◌∷◌, Option, Some, None, Result, Ok, Err, refl, sym, subst, inl, inr, arith, ◌-◌, ◌<◌, ◌++◌, length, map, reverse, flat_map, ap, ◌∙◌}
-use Rattle.yaml_scan_laws.proofs.TextWords.{cases_Bool, and_parts, nat_tests, yaml_mark_t, yaml_scalar_style_t, TokenBody, mark_at, Wrong, Gap, BlockText, block_at, style_at, Kind, Lexeme, may_be_key, is_end, placed, flow_depth, key_allowed, candidate, fresh, indent, left_by, open_levels, WordText, valued, tagged, directed, blocked, kind_at, lexeme_at, Next, Read, Fails, Ends, level_in, begun, finished, allowed_behind, misplaced, missed, lost_by, next, extended, history, no_colon, tested, unless_wrong, unless_lost, of_kind, unless_missed, stepwise, reverse-append, Token, Entry, depth_after, cancels, is_value, is_start, allows_key, Candidate, found_by, has, opened, opens_at, inside, entry_of, level_of, finished_tokens, SpelledText, token_in, spell, innermost, around, marked_so, is_inside, asked_after, asked, fits, is_key_free, keeps_level, is_level_free, kinds_of}
+use Rattle.std.proofs.Common.{◌≡◌, ℕ, zero, suc, ◌+◌, ◌==◌, ◌&&◌, ◌||◌, not, nat_lt, Bool, true, false, List, [], ◌∷◌, Option, None, Result, Ok, Err, refl, sym, subst, inl, inr, arith, ◌-◌, ◌<◌, ◌++◌, length, map, reverse, flat_map, ap, ◌∙◌}
+use Rattle.yaml_scan_laws.proofs.TextWords.{cases_Bool, and_parts, nat_tests, yaml_mark_t, yaml_scalar_style_t, TokenBody, mark_at, Wrong, Gap, BlockText, Kind, Lexeme, may_be_key, is_end, flow_depth, key_allowed, candidate, fresh, indent, left_by, open_levels, WordText, valued, tagged, directed, blocked, lexeme_at, Next, Read, Fails, Ends, begun, finished, allowed_behind, missed, next, extended, history, tested, unless_wrong, unless_lost, of_kind, unless_missed, stepwise, reverse-append, Token, Entry, depth_after, cancels, is_value, is_start, allows_key, Candidate, found_by, has, opened, opens_at, inside, entry_of, level_of, finished_tokens, SpelledText, token_in, spell, innermost, around, marked_so, is_inside, asked_after, asked, fits, is_key_free, keeps_level, is_level_free, kinds_of}
 use Rattle.yaml_scan_history.specs.Between.{gap_at}
-use Rattle.yaml_scan_history.specs.Tags.{TagText, tag_at}
-use Rattle.yaml_scan_history.specs.Directives.{DirectiveText, directive_at}
+use Rattle.yaml_scan_history.specs.Tags.{TagText}
+use Rattle.yaml_scan_history.specs.Directives.{DirectiveText}
 use Rattle.yaml_scan_history.specs.declared.kind.Kind.TheVariants as kinds
 use Rattle.yaml_scan_history.specs.declared.lexeme.Opens.TheVariants as opening
 use Rattle.yaml_scan_laws.proofs.Pushing.{calm_opens, lone_marks}
@@ -36,20 +36,16 @@ Whole (Ok w) = w.broke ≡ false
 Whole (Err w) = Unit {0}
 
 whole_valued : (f : List ℕ → TokenBody) (r : Result (List ℕ × ℕ) Wrong) → Whole (valued f r)
-whole_valued f (Ok x) = refl
-whole_valued f (Err w) = tt
+whole_valued f r = grind (arith, nat_tests)
 
 whole_tagged : (r : Result TagText Wrong) → Whole (tagged r)
-whole_tagged (Ok x) = refl
-whole_tagged (Err w) = tt
+whole_tagged r = grind (arith, nat_tests)
 
 whole_directed : (r : Result DirectiveText Wrong) → Whole (directed r)
-whole_directed (Ok x) = refl
-whole_directed (Err w) = tt
+whole_directed r = grind (arith, nat_tests)
 
 whole_blocked : (style : yaml_scalar_style_t) (r : Result BlockText Wrong) → Whole (blocked style r)
-whole_blocked style (Ok x) = refl
-whole_blocked style (Err w) = tt
+whole_blocked style r = grind (arith, nat_tests)
 
 pub whole_word : (k : Kind) (flow : Bool) (level : ℕ) (text : List ℕ) (p : ℕ) → is_plain k ≡ false
     → Whole (lexeme_at k flow level text p)
@@ -83,13 +79,11 @@ tested_made l h m = grind (arith, nat_tests)
 
 wrong_made : (text : List ℕ) (r : Result WordText Wrong) (l : Lexeme) (h : List Lexeme)
     → (is_plain l.kind ≡ false → Whole r) → MadeBehind h l → MadeAny h (unless_wrong r text l h)
-wrong_made text (Ok w) l h b m = tested_made (finished text l w) h (finished_made text l h w b m)
-wrong_made text (Err w) l h b m = tt
+wrong_made text r l h b m = grind (arith, nat_tests, tested_made, finished_made)
 
 lost_made : (o : Option yaml_mark_t) (text : List ℕ) (p : ℕ) (l : Lexeme) (h : List Lexeme)
     → MadeBehind h l → MadeAny h (unless_lost o text p l h)
-lost_made (Some start) text p l h m = tt
-lost_made None text p l h m = wrong_made text (lexeme_at l.kind (nat_lt 0 l.depth) l.level text p) l h (λ e. whole_word l.kind (nat_lt 0 l.depth) l.level text p e) m
+lost_made o text p l h m = grind (arith, nat_tests, wrong_made, whole_word)
 
 kind_made : (o : Option Kind) (text : List ℕ) (gap : Gap) (h : List Lexeme)
     → MadeAny h (of_kind o text gap h)
@@ -97,8 +91,7 @@ kind_made o text gap h = grind (arith, nat_tests, lost_made, begun_made)
 
 missed_made : (o : Option yaml_mark_t) (text : List ℕ) (gap : Gap) (h : List Lexeme)
     → MadeAny h (unless_missed o text gap h)
-missed_made (Some start) text gap h = tt
-missed_made None text gap h = kind_made (kind_at (nat_lt 0 (flow_depth h)) text gap.place) text gap h
+missed_made o text gap h = grind (arith, nat_tests, kind_made)
 
 next_made : (text : List ℕ) (h : List Lexeme) → MadeAny h (next text h)
 unfolding next
@@ -119,9 +112,7 @@ next_made text (l ∷ h) =
 
 extended_made : (x : Next) (h : List Lexeme) → MadeAny h x → AllMade h → AllMade (extended x h)
 unfolding AllMade
-extended_made (Read l) h m all = (m, all)
-extended_made (Fails f) h m all = all
-extended_made Ends h m all = all
+extended_made x h m all = grind (arith, nat_tests)
 
 -- the lexemes of each step
 pub history_made : (text : List ℕ) (n : ℕ) → AllMade (history text n)
@@ -130,8 +121,7 @@ history_made text zero = tt
 history_made text (suc n) = extended_made (next text (history text n)) (history text n) (next_made text (history text n)) (history_made text n)
 
 unsaved : (s : Bool) → (s ≡ true → ⊥) → s ≡ false
-unsaved false n = refl
-unsaved true n = absurd (n refl)
+unsaved s n = grind (arith, nat_tests)
 
 pub free_head : (l : Lexeme) (h : List Lexeme) → is_key_free (kinds_of (l ∷ h)) ≡ true
     → fits l.kind (asked (kinds_of h)) ≡ true
@@ -146,12 +136,10 @@ free_rest l h e = (and_parts (fits l.kind (asked (kinds_of h))) (is_key_free (ki
 -- Depths.
 
 marked_length : (mark : Bool) (qs : List Bool) → length (marked_so mark qs) ≡ length qs
-marked_length mark [] = refl
-marked_length mark (q ∷ qs) = refl
+marked_length mark qs = grind (arith, nat_tests)
 
 around_length : (qs : List Bool) → length qs - 1 ≡ length (around qs)
-around_length [] = refl
-around_length (q ∷ qs) = omega arith
+around_length qs = grind (arith, nat_tests)
 
 more_length : (qs : List Bool) → length qs + 1 ≡ length (false ∷ qs)
 more_length qs = omega arith
@@ -194,18 +182,15 @@ clear_outer (q ∷ qs) l h e (own, c) = (λ t. candidate_lower (suc (length qs))
 
 clear_around : (qs : List Bool) (l : Lexeme) (h : List Lexeme) → l.depth ≡ length qs → Clear qs h
     → Clear (around qs) (l ∷ h)
-clear_around [] l h e c = tt
-clear_around (q ∷ qs) l h e (own, c) = clear_outer qs l h (omega (arith, e)) c
+clear_around qs l h e c = grind (arith, nat_tests, clear_outer)
 
 clear_off : (qs : List Bool) (l : Lexeme) (h : List Lexeme) → l.depth ≡ length qs → Clear qs h
     → Clear (marked_so false qs) (l ∷ h)
-clear_off [] l h e c = tt
-clear_off (q ∷ qs) l h e (own, c) = (λ t. absurd (cc), clear_outer qs l h (omega (arith, e)) c)
+clear_off qs l h e c = grind (arith, nat_tests, clear_outer)
 
 clear_on : (qs : List Bool) (l : Lexeme) (h : List Lexeme) → l.depth ≡ length qs → l.saved ≡ false
     → cancels l.kind ≡ true → Clear qs h → Clear (marked_so true qs) (l ∷ h)
-clear_on [] l h e s x c = tt
-clear_on (q ∷ qs) l h e s x (own, c) = (λ t. candidate_own (suc (length qs)) l h e s (λ y. absurd (cc)), clear_outer qs l h (omega (arith, e)) c)
+clear_on qs l h e s x c = grind (arith, nat_tests, candidate_own, clear_outer)
 
 positive : (n m : ℕ) → n ≡ suc m → nat_lt 0 n ≡ true
 positive n m e = grind (arith, nat_tests)
@@ -213,8 +198,7 @@ positive n m e = grind (arith, nat_tests)
 clear_same : (qs : List Bool) (l : Lexeme) (h : List Lexeme) → l.depth ≡ length qs → MadeBehind h l
     → Quiet qs h → Clear qs h → Clear qs (l ∷ h)
 clear_same [] l h e m quiet c = tt
-clear_same (q ∷ qs) l h e m quiet (own, c) =
-    (λ t. candidate_own (suc (length qs)) l h e (unsaved l.saved (λ s. let a = m.allowed (positive l.depth (length qs) e) s in let b = quiet t in cc)) (λ y. own t), clear_outer qs l h (omega (arith, e)) c)
+clear_same (q ∷ qs) l h e m quiet (own, c) = grind (arith, nat_tests, candidate_own, unsaved, positive, clear_outer)
 
 unsaved_kind : (l : Lexeme) (h : List Lexeme) → MadeBehind h l → may_be_key l.kind ≡ false
     → l.saved ≡ false
@@ -231,8 +215,7 @@ clear_after kinds.FlowSequenceStart qs l h is e m quiet c = clear_opened qs l h 
 clear_after kinds.FlowMappingStart qs l h is e m quiet c = clear_opened qs l h e m quiet c
 clear_after kinds.FlowSequenceEnd qs l h is e m quiet c = clear_around qs l h e c
 clear_after kinds.FlowMappingEnd qs l h is e m quiet c = clear_around qs l h e c
-clear_after kinds.KeyMark qs l h is e m quiet c =
-    clear_on qs l h e (unsaved_kind l h m (ap (λ (x : Kind). may_be_key x) is)) (ap (λ (x : Kind). cancels x) is) c
+clear_after kinds.KeyMark qs l h is e m quiet c = grind (arith, nat_tests, clear_on, unsaved_kind)
 clear_after kinds.Alias qs l h is e m quiet c = clear_same qs l h e m quiet c
 clear_after kinds.Anchor qs l h is e m quiet c = clear_same qs l h e m quiet c
 clear_after kinds.Tag qs l h is e m quiet c = clear_same qs l h e m quiet c
@@ -241,20 +224,17 @@ clear_after kinds.DoubleQuoted qs l h is e m quiet c = clear_same qs l h e m qui
 clear_after k qs l h is e m quiet c = clear_off qs l h e c
 
 off_never : (qs : List Bool) → innermost (marked_so false qs) ≡ true → ⊥
-off_never [] e = cc
-off_never (q ∷ qs) e = cc
+off_never qs e = grind (arith, nat_tests)
 
 deep_zero : (qs : List Bool) (n : ℕ) → is_inside qs ≡ true → n ≡ length qs → (n == 0) ≡ false
-deep_zero [] n i e = absurd (cc)
-deep_zero (q ∷ qs) n i e = grind (arith, nat_tests)
+deep_zero qs n i e = grind (arith, nat_tests)
 
 quiet_after : (k : Kind) (qs : List Bool) (n : ℕ) (found : Bool) → fits k qs ≡ true → n ≡ length qs
     → innermost (asked_after k qs) ≡ true → allows_key k (n == 0) found ≡ false
 quiet_after k qs n found f e t = grind (arith, nat_tests, deep_zero, off_never)
 
 not_plain : (k : Kind) (qs : List Bool) → fits k qs ≡ true → is_plain k ≡ false
-not_plain kinds.Plain qs f = absurd (cc)
-not_plain k qs f = refl
+not_plain k qs f = grind (arith, nat_tests)
 
 unbroken : (l : Lexeme) (h : List Lexeme) → MadeBehind h l → is_key_free (kinds_of (l ∷ h)) ≡ true
     → l.broke ≡ false
@@ -270,8 +250,7 @@ quiet_more l h (m, made) free t =
 quiet : (h : List Lexeme) → AllMade h → is_key_free (kinds_of h) ≡ true
     → Quiet (asked (kinds_of h)) h
 unfolding asked
-quiet [] made free t = absurd (cc)
-quiet (l ∷ h) made free t = quiet_more l h made free t
+quiet h made free t = grind (arith, nat_tests, quiet_more)
 
 clear : (h : List Lexeme) → AllMade h → is_key_free (kinds_of h) ≡ true
     → Clear (asked (kinds_of h)) h
@@ -283,24 +262,20 @@ clear (l ∷ h) (m, made) free =
 
 clear_none : (qs : List Bool) (h : List Lexeme) → Clear qs h → innermost qs ≡ true
     → candidate (length qs) h ≡ None
-clear_none [] h c t = absurd (cc)
-clear_none (q ∷ qs) h (own, c) t = own t
+clear_none qs h c t = grind (arith, nat_tests)
 
 pub no_candidate : (h : List Lexeme) → AllMade h → is_key_free (kinds_of h) ≡ true
     → innermost (asked (kinds_of h)) ≡ true → candidate (flow_depth h) h ≡ None
-no_candidate h made free t =
-    ap (λ d. candidate d h) (depth_is h made) ∙ clear_none (asked (kinds_of h)) h (clear h made free) t
+no_candidate h made free t = grind (arith, nat_tests, depth_is, clear_none, clear)
 
 -- Levels.
 
 inside_of_top : (qs : List Bool) → innermost qs ≡ true → is_inside qs ≡ true
-inside_of_top [] t = absurd (cc)
-inside_of_top (q ∷ qs) t = refl
+inside_of_top qs t = grind (arith, nat_tests)
 
 deep_inside : (qs : List Bool) (n : ℕ) → is_inside qs ≡ true → n ≡ length qs
     → not (nat_lt 0 n) ≡ false
-deep_inside [] n i e = absurd (cc)
-deep_inside (q ∷ qs) n i e = let x : nat_lt 0 n ≡ true = positive n (length qs) e in rw x refl
+deep_inside qs n i e = grind (arith, nat_tests, positive)
 
 -- what fits keeps the level
 fits_keeps : (k : Kind) (qs : List Bool) → fits k qs ≡ true → keeps_level k qs ≡ true
@@ -309,9 +284,7 @@ fits_keeps k qs f = grind (arith, nat_tests, inside_of_top)
 pub level_free : (ks : List Kind) → is_key_free ks ≡ true → is_level_free ks ≡ true
 unfolding is_key_free is_level_free
 level_free [] free = refl
-level_free (k ∷ ks) free =
-    let here = fits_keeps k (asked ks) (and_parts (fits k (asked ks)) (is_key_free ks) free).0 in
-    rw here (level_free ks (and_parts (fits k (asked ks)) (is_key_free ks) free).1)
+level_free (k ∷ ks) free = grind (arith, nat_tests, fits_keeps, and_parts, level_free ks (and_parts (fits k (asked ks)) (is_key_free ks) free).1)
 
 pub level_head : (k : Kind) (ks : List Kind) → is_level_free (k ∷ ks) ≡ true
     → keeps_level k (asked ks) ≡ true
@@ -362,8 +335,7 @@ entry_bare l h (m, made) free =
 
 value_asked : (k : Kind) (qs : List Bool) → fits k qs ≡ true → is_value k ≡ true
     → innermost qs ≡ true
-value_asked kinds.ValueMark qs f v = f
-value_asked k qs f v = absurd (cc)
+value_asked k qs f v = grind (arith, nat_tests)
 
 -- a `:` finds no candidate
 found_none : (l : Lexeme) (h : List Lexeme) → AllMade (l ∷ h)
@@ -381,9 +353,7 @@ entries_more : (l : Lexeme) (h : List Lexeme) → AllMade (l ∷ h)
     → is_key_free (kinds_of (l ∷ h)) ≡ true
     → finished_tokens (l ∷ h) ≡ finished_tokens h ++ bare l ∷ []
 unfolding finished_tokens
-entries_more l h made free =
-    let same = lone_marks (is_value l.kind) (found_by l h) (inside l h) (finished_tokens h) (found_none l h made free) in
-    ap (λ (es : List Entry). es ++ entry_of l h ∷ []) same ∙ ap (λ (e : Entry). finished_tokens h ++ e ∷ []) (entry_bare l h made free)
+entries_more l h made free = grind (arith, nat_tests, lone_marks, found_none, entry_bare)
 
 tail_made : (l : Lexeme) (h : List Lexeme) → AllMade (l ∷ h) → AllMade h
 unfolding AllMade

@@ -1,6 +1,6 @@
 -- The next lexeme, in each part of a text; the lexemes of the front are the first ones of the whole.
 use Rattle.std.proofs.Common.{◌≡◌, ◌≢◌, ℕ, ◌+◌, ◌<◌, ◌≤◌, nat_lt, false, List, [], ◌∷◌, length, Option, Some, None, Result, Ok, Err, refl, sym, ap, subst, ◌∙◌, inl, inr, arith, zero-add, zero, suc, true, ◌++◌}
-use Rattle.yaml_scan_laws.proofs.Shared.{cases_Bool, cases_lt, true≢false, same_Some, ScanFault, byte, mark_at, is_document_indicator, Wrong, Kind, Lexeme, is_end, in_flow, WordText, lexeme_at, Read, Fails, gap_behind, place_behind, kind_behind, begun_behind, word_behind, with_end, lexeme_behind, stale_before, indicator_misplaced, candidate_lost, wrong_in, text_wrong, stale_after, first_fault_or, coming, no_start, moved_mark, moved_lexeme, moved_next, yaml_mark_t, start_line, reached, ended, Candidate, candidate, Next, Ends, next, extended, step, history, Stands, history_stands, not_ended, stays_upto, IsCut}
+use Rattle.yaml_scan_laws.proofs.Shared.{nat_tests, cases_Bool, cases_lt, true≢false, same_Some, ScanFault, byte, mark_at, is_document_indicator, Wrong, Kind, Lexeme, is_end, in_flow, WordText, lexeme_at, Read, Fails, gap_behind, kind_behind, begun_behind, word_behind, with_end, lexeme_behind, stale_before, indicator_misplaced, candidate_lost, wrong_in, text_wrong, stale_after, first_fault_or, coming, moved_mark, moved_lexeme, moved_next, yaml_mark_t, start_line, reached, ended, Candidate, candidate, Next, Ends, next, extended, step, history, Stands, history_stands, not_ended, stays_upto, IsCut}
 use Rattle.yaml_scan_history.specs.declared.kind.Kind.TheVariants as kinds
 use Rattle.yaml_scan_laws.proofs.WordForward.{Fits, FitsAny, kind_fits, LandsWord, IsWordFrom, word_lands}
 use Rattle.yaml_scan_laws.proofs.CutsWords.{end_kind, kind_onward, kind_text, WordCarried, word_alike}
@@ -130,8 +130,7 @@ kept t l (Ok w) =
 
 -- the kind that is there is the lexeme's
 pub read_kind : (t : List ℕ) (H : List Lexeme) (l : Lexeme) → (r : HasRead t H l) → l.kind ≡ r.kind
-read_kind t H l r =
-    ap (λ (y : Lexeme). y.kind) (sym r.clean.is) ∙ (kept t (begun_behind r.kind t H) (word_behind r.kind t H)).kind
+read_kind t H l r = grind (arith, nat_tests, clean, kept)
 
 -- a lexeme but the end is before the end
 pub read_within : (t u : List ℕ) (d m n k : ℕ) (H G : List Lexeme) → Pair t u d m n k H G
@@ -175,16 +174,13 @@ front_comes t u d m n k H G p l e go =
 -- ---- what is moved by nothing
 
 pub mark_zero : (m : yaml_mark_t) → moved_mark 0 0 m ≡ m
-mark_zero m =
-    rw (zero-add m.index, zero-add m.line) refl
+mark_zero m = grind (arith, nat_tests, zero-add)
 
 pub lexeme_zero : (l : Lexeme) → moved_lexeme 0 0 l ≡ l
 lexeme_zero l = rw (mark_zero l.start, mark_zero l.end, mark_zero l.reached) refl
 
 found_zero : (o : Option Candidate) → moved_found 0 0 0 o ≡ o
-found_zero None = refl
-found_zero (Some c) =
-    rw (zero-add c.number, lexeme_zero c.lexeme) refl
+found_zero o = grind (arith, nat_tests, zero-add, lexeme_zero)
 
 -- the same lexemes are in both
 pub front_pair : (a b : List ℕ) → IsCut a b → (H : List Lexeme) → (reached H).index ≤ length a

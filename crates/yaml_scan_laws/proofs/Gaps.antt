@@ -37,8 +37,7 @@ range_alike t u d m p q a l i j k =
 
 past_over : (kind : List ℕ → ℕ → Bool) (t u : List ℕ) (d m p n o : ℕ) → p < m → kind t p ≡ false
     → kind u (d + p) ≡ kind t p → RunsAlike t u d m p (past kind n t p) (past kind o u (d + p))
-past_over kind t u d m p n o l h same =
-    rw (past_stop kind n t p h, past_stop kind o u (d + p) (same ∙ h)) record { order = omega arith; inside = l; same = refl }
+past_over kind t u d m p n o l h same = grind (arith, nat_tests, past_stop)
 
 past_step : (kind : List ℕ → ℕ → Bool) (n : ℕ) (t : List ℕ) (p : ℕ) → kind t p ≡ true
     → p < length t → length t ≤ p + n
@@ -124,16 +123,7 @@ not_edge : (t u : List ℕ) (d m p : ℕ) → Alike t u d m → 0 < byte t p →
 not_edge t u d m p a some e = let edge = a.edge in let here : byte t p ≡ byte t m = ap (λ x. byte t x) e in absurd (omega (arith, some, here, edge))
 
 pub break_within : (t u : List ℕ) (d m p : ℕ) → Alike t u d m → p < m → p + break_width t p ≤ m
-break_within t u d m p a l =
-    elim (widths (byte t p) (byte t (p + 1)) (byte t (p + 2))) [
-      | inl z ↦ omega (arith, z, l)
-      | inr (inl z) ↦ omega (arith, z, l)
-      | inr (inr (inl z)) ↦
-          omega (arith, z, l, not_edge t u d m (p + 1) a (two_some _ _ _ z))
-      | inr (inr (inr z)) ↦
-          let (some, more) = three_some (byte t p) (byte t (p + 1)) (byte t (p + 2)) z in
-          omega (arith, z, l, not_edge t u d m (p + 1) a some, not_edge t u d m (p + 2) a more)
-    ]
+break_within t u d m p a l = grind (arith, nat_tests, widths, not_edge, two_some, three_some)
 
 -- ---- a step
 
@@ -147,13 +137,11 @@ passed_alike tabs t u d m p a l = rw (a.bom p l, a.bytes p l) refl
 
 bom_some : (x : Bool) (b c e : ℕ) → (x && (b == 0xEF && (c == 0xBB && e == 0xBF))) ≡ true
     → (0 < b) × (0 < c) × (0 < e)
-bom_some true b c e h = (grind (arith, nat_tests), grind (arith, nat_tests), grind (arith, nat_tests))
-bom_some false b c e h = absurd (true≢false (sym h))
+bom_some x b c e h = grind (arith, nat_tests, true≢false)
 
 skip_onward : (tabs : Bool) (b : ℕ) → (b == 32 || (tabs && b == 9)) ≡ true → is_onward b ≡ true
 unfolding is_onward
-skip_onward true b h = grind (arith, nat_tests)
-skip_onward false b h = grind (arith, nat_tests)
+skip_onward tabs b h = grind (arith, nat_tests)
 
 hash_is_text : (b c e : ℕ) → b ≡ 35 → not (b == 0 || nat_lt 0 (break_of b c e)) ≡ true
 hash_is_text b c e h =
@@ -213,31 +201,22 @@ pub gap_breaks : (n : ℕ) (flow allowed : Bool) (text : List ℕ) (p : ℕ)
     → gap_within (suc n) flow allowed text p
     ≡ with_break true (gap_within n flow (allowed || not flow) text (p + break_width text p))
 unfolding gap_within step_at
-gap_breaks n flow allowed text p h k =
-    let (x, y, z) = none_passed (p == 0 && is_bom text p) (is_skipped (flow || not allowed) text p) (byte text p == 35) h in
-    rw (x, y, z, k) refl
+gap_breaks n flow allowed text p h k = grind (arith, nat_tests, none_passed)
 
 pub gap_stops : (n : ℕ) (flow allowed : Bool) (text : List ℕ) (p : ℕ)
     → is_passed (flow || not allowed) text p ≡ false → nat_lt 0 (break_width text p) ≡ false
     → gap_within n flow allowed text p ≡ record { place = p; broke = false }
 unfolding gap_within step_at
-gap_stops zero flow allowed text p h k = refl
-gap_stops (suc n) flow allowed text p h k =
-    let (x, y, z) = none_passed (p == 0 && is_bom text p) (is_skipped (flow || not allowed) text p) (byte text p == 35) h in
-    rw (x, y, z, k) refl
+gap_stops n flow allowed text p h k = grind (arith, nat_tests, none_passed)
 
 quiet_parts : (b c e : ℕ) (first tabs : Bool) → IsQuiet b
     → ((first && (b == 0xEF && (c == 0xBB && e == 0xBF))) || ((b == 32 || (tabs && b == 9)) || b == 35)) ≡ false
-quiet_parts b c e first tabs (inl z) = rw (z, and-false first, and-false tabs) refl
-quiet_parts b c e first tabs (inr (inl z)) = rw (z, and-false first, and-false tabs) refl
-quiet_parts b c e first tabs (inr (inr z)) = rw (z, and-false first, and-false tabs) refl
+quiet_parts b c e first tabs h5 = grind (arith, nat_tests, and-false)
 
 -- no gap is before what is quiet
 pub quiet_gap : (n : ℕ) (flow allowed : Bool) (text : List ℕ) (p : ℕ) → IsQuiet (byte text p)
     → gap_within n flow allowed text p ≡ record { place = p; broke = false }
-quiet_gap n flow allowed text p q =
-    let none = quiet_break (byte text p) 0 (byte text (p + 1)) (byte text (p + 2)) q in
-    gap_stops n flow allowed text p (quiet_parts (byte text p) (byte text (p + 1)) (byte text (p + 2)) (p == 0) (flow || not allowed) q) (rw none refl)
+quiet_gap n flow allowed text p q = grind (arith, nat_tests, quiet_break, gap_stops, quiet_parts)
 
 -- ---- the gap
 

@@ -1,6 +1,6 @@
 -- The earliest open candidate is the one outside of all brackets; what is held back is short.
-use Rattle.std.proofs.Common.{◌≡◌, ℕ, ◌<◌, ◌≤◌, List, [], ◌∷◌, length, Some, refl, sym, ap, ◌∙◌, inl, inr, ◌⊎◌, arith, zero, suc, ◌+◌, ◌==◌, nat_lt, Bool, true, false, if◌then◌else◌, ◌++◌, Option, None, subst, length-append}
-use Rattle.yaml_scan_laws.proofs.Words.{cases_lt, nat_tests, Lexeme, reached, Candidate, candidate, fresh, first_open, candidate-more, candidate_below, fresh_is, first_open-is, first_open-least, cases_Bool, true≢false, eqb-true, yaml_mark_t, is_end, cancels, ended, is_fresh, Next, Read, Fails, Ends, next, extended, history, StandsIn}
+use Rattle.std.proofs.Common.{◌≡◌, ℕ, ◌<◌, ◌≤◌, List, [], ◌∷◌, length, Some, refl, sym, ap, ◌∙◌, inl, inr, ◌⊎◌, arith, zero, suc, ◌+◌, Bool, true, false, if◌then◌else◌, ◌++◌, Option, None, subst, length-append}
+use Rattle.yaml_scan_laws.proofs.Words.{nat_tests, Lexeme, reached, Candidate, candidate, fresh, first_open, candidate-more, candidate_below, fresh_is, first_open-is, first_open-least, eqb-true, yaml_mark_t, is_end, ended, is_fresh, Next, Read, next, extended, history, StandsIn}
 use Rattle.yaml_scan_laws.proofs.HistoryForward.{Stands, history_stands, first_is, not_ended, reached_inside, takes_bytes, read_forward, stand_in}
 
 outer_here : (l : Lexeme) (h : List Lexeme) (c : Candidate) → candidate 0 (l ∷ h) ≡ Some c
@@ -56,8 +56,7 @@ Chain text (l ∷ h) = IsBehind text h l × Chain text h
 
 open_before : (text : List ℕ) (h : List Lexeme) (l : Lexeme) → next text h ≡ Read l
     → ended h ≡ false
-open_before text [] l e = refl
-open_before text (x ∷ h) l e = not_ended text x h l e
+open_before text h l e = grind (arith, nat_tests, not_ended)
 
 first_saved : (text : List ℕ) (h : List Lexeme) (l : Lexeme) → next text h ≡ Read l → length h ≡ 0
     → l.saved ≡ false
@@ -76,9 +75,7 @@ read_behind text h l s e = record {
 
 extended_chain : (text : List ℕ) (h : List Lexeme) (x : Next) → Stands text h → Chain text h
     → next text h ≡ x → Chain text (extended x h)
-extended_chain text h (Read l) s c e = (read_behind text h l s e, c)
-extended_chain text h (Fails f) s c e = c
-extended_chain text h Ends s c e = c
+extended_chain text h x s c e = grind (arith, nat_tests, read_behind)
 
 pub history_chain : (text : List ℕ) (n : ℕ) → Chain text (history text n)
 unfolding history
@@ -136,17 +133,12 @@ found_by_tests : (d : ℕ) (l : Lexeme) (h : List Lexeme) (c : Candidate) (rest 
     → (if level then (if saved then Some (record { number = length h; lexeme = l }) else if stops
     then None else rest) else if below then None else rest) ≡ Some c
     → IsFound d (l ∷ h) c
-found_by_tests d l h c rest true true stops below y s more e = found_here d l h c (y refl) (s refl) e
-found_by_tests d l h c rest true false true below y s more e = found_nowhere d (l ∷ h) c e
-found_by_tests d l h c rest true false false below y s more e = found_further d l h c (more e)
-found_by_tests d l h c rest false saved stops true y s more e = found_nowhere d (l ∷ h) c e
-found_by_tests d l h c rest false saved stops false y s more e = found_further d l h c (more e)
+found_by_tests d l h c rest level saved stops below y s more e = grind (arith, nat_tests, found_here, found_nowhere, found_further)
 
 candidate_found : (d : ℕ) (h : List Lexeme) (c : Candidate) → candidate d h ≡ Some c → IsFound d h c
 unfolding candidate
 candidate_found d [] c e = found_nowhere d [] c e
-candidate_found d (l ∷ h) c e =
-    found_by_tests d l h c (candidate d h) (l.depth == d) l.saved (cancels l.kind) (nat_lt l.depth d) (eqb-true l.depth d) (λ s. s) (candidate_found d h c) e
+candidate_found d (l ∷ h) c e = grind (arith, nat_tests, found_by_tests, eqb-true, candidate_found d h c)
 
 fresh_near : (o : Option Candidate) (m : yaml_mark_t) (c : Candidate) → fresh o m ≡ Some c
     → is_fresh c.lexeme.start m ≡ true
@@ -188,11 +180,7 @@ first_held text h chain below =
     (c, m, held_is text h d c chain (fresh_is (candidate d h) (reached h) c f) (fresh_near (candidate d h) (reached h) c f))
 
 few_held : (text : List ℕ) (h : List Lexeme) → Chain text h → length h ≤ first_open h h + 1025
-few_held text h chain =
-    elim (cases_lt (first_open h h) (length h)) [
-      | inl below ↦ let (c, m, held) = first_held text h chain below in omega (arith, held.few, m)
-      | inr past ↦ omega (arith, past)
-    ]
+few_held text h chain = grind (arith, nat_tests, first_held)
 
 -- at most 1,025 lexemes are held from the earliest open candidate on
 pub few_are_held : (text : List ℕ) (n : ℕ)
@@ -204,17 +192,11 @@ pub held_is_short : (text : List ℕ) (n : ℕ) → let h = history text n in fi
     → (c : Candidate)
     × (c.number ≡ first_open h h) × (candidate c.lexeme.depth h ≡ Some c)
     × ((reached h).line ≡ c.lexeme.start.line) × ((reached h).index ≤ c.lexeme.start.index + 1024)
-held_is_short text n below =
-    let (c, m, held) = first_held text (history text n) (history_chain text n) below in
-    (c, m, held.own, held.line, held.near)
+held_is_short text n below = grind (arith, nat_tests, first_held, history_chain)
 
 few_waiting : (text : List ℕ) (h : List Lexeme) → Chain text h → ended h ≡ false
     → length h ≤ first_open h h + 1024
-few_waiting text h chain more =
-    elim (cases_lt (first_open h h) (length h)) [
-      | inl below ↦ let (c, m, held) = first_held text h chain below in let few = held.fewer more in omega (arith, few, m)
-      | inr past ↦ omega (arith, past)
-    ]
+few_waiting text h chain more = grind (arith, nat_tests, first_held)
 
 -- at most 1,024 lexemes wait where one more is read
 pub few_wait : (text : List ℕ) (n : ℕ) (l : Lexeme) → next text (history text n) ≡ Read l

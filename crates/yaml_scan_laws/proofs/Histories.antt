@@ -1,6 +1,6 @@
 -- What lexemes decide, after others that decide the same.
-use Rattle.std.proofs.Common.{◌≡◌, ℕ, ◌+◌, ◌==◌, ◌&&◌, ◌||◌, nat_lt, nat_le, not, List, [], ◌∷◌, ◌++◌, map, length, Option, Some, None, refl, ap, ◌∙◌, inl, inr, arith}
-use Rattle.yaml_scan_laws.proofs.Shared.{cases_Bool, nat_tests, length-append, length-map, yaml_mark_t, Kind, Lexeme, cancels, is_start, allows_key, flow_depth, Candidate, candidate, is_fresh, fresh, found_by, has, opens_at, opened, left_by, open_levels, key_allowed, moved_mark, moved_lexeme}
+use Rattle.std.proofs.Common.{◌≡◌, ℕ, ◌+◌, ◌==◌, ◌&&◌, ◌||◌, nat_lt, not, List, [], ◌∷◌, ◌++◌, map, length, Option, Some, None, refl, ap, ◌∙◌, arith}
+use Rattle.yaml_scan_laws.proofs.Shared.{nat_tests, length-append, length-map, yaml_mark_t, Kind, Lexeme, is_start, allows_key, flow_depth, Candidate, candidate, is_fresh, fresh, found_by, has, opens_at, opened, left_by, open_levels, key_allowed, moved_mark, moved_lexeme}
 
 -- Two lists of lexemes that decide the same of what comes after them and another one: no candidate is open in either, and the
 -- second one has k more.
@@ -53,17 +53,14 @@ fresh_moved d n k o place = grind (arith, nat_tests, near_moved)
 
 pub found_on : (d n k : ℕ) (l : Lexeme) (h b c : List Lexeme) → Bases d n k b c
     → found_by (moved_lexeme d n l) (moved_lexemes d n h ++ c) ≡ moved_found d n k (found_by l (h ++ b))
-found_on d n k l h b c s =
-    ap (λ o. fresh o (moved_mark d n l.start)) (candidate_on d n k l.depth h b c s) ∙ fresh_moved d n k (candidate l.depth (h ++ b)) l.start
+found_on d n k l h b c s = grind (arith, nat_tests, candidate_on, fresh_moved)
 
 pub has_moved : (d n k : ℕ) (o : Option Candidate) → has (moved_found d n k o) ≡ has o
-has_moved d n k None = refl
-has_moved d n k (Some c) = refl
+has_moved d n k o = grind (arith, nat_tests)
 
 opens_moved : (d n k : ℕ) (o : Option Candidate) (x : Kind) (column : ℕ)
     → opens_at (moved_found d n k o) x column ≡ opens_at o x column
-opens_moved d n k None x column = refl
-opens_moved d n k (Some c) x column = refl
+opens_moved d n k o x column = grind (arith, nat_tests)
 
 pub levels_on : (d n k : ℕ) (h b c : List Lexeme) → Bases d n k b c
     → open_levels (moved_lexemes d n h ++ c) ≡ open_levels (h ++ b)

@@ -1,6 +1,6 @@
 -- Histories go forward, and end.
-use Rattle.std.proofs.Common.{◌≡◌, ◌≢◌, ℕ, zero, suc, ◌+◌, ◌-◌, ◌<◌, ◌≤◌, ◌&&◌, nat_lt, Bool, true, false, List, [], ◌∷◌, ◌++◌, length, take, refl, sym, ap, subst, ◌∙◌, inl, inr, ◌⊎◌, arith, append_assoc}
-use Rattle.yaml_scan_laws.proofs.Words.{cases_Bool, cases_lt, yaml_mark_t, mark_at, line_at, Kind, Lexeme, is_end, reached, placed, finished_tokens, first_open, Next, Read, Fails, Ends, first_lexeme, next, extended, history, all, handed, stays, take-handed, TakesBytes, StandsIn, column_at}
+use Rattle.std.proofs.Common.{◌≡◌, ◌≢◌, ℕ, zero, suc, ◌+◌, ◌-◌, ◌<◌, ◌≤◌, Bool, false, List, [], ◌∷◌, ◌++◌, length, take, refl, sym, ap, subst, ◌∙◌, inl, inr, ◌⊎◌, arith, append_assoc}
+use Rattle.yaml_scan_laws.proofs.Words.{nat_tests, yaml_mark_t, mark_at, line_at, Kind, Lexeme, is_end, reached, placed, finished_tokens, first_open, Next, Read, Fails, Ends, first_lexeme, next, extended, history, all, handed, stays, take-handed, TakesBytes, StandsIn, column_at}
 use Rattle.yaml_scan_history.specs.Laws.{Upto, GoesForward}
 use Rattle.yaml_scan_laws.specs.Standing.{Takes}
 use Rattle.yaml_scan_laws.proofs.MarksForward.{line_at-grows}
@@ -44,8 +44,7 @@ read_follows text x h l i e = subst (ReadsBehind text x.reached.index) e (next_r
 
 pub reached_inside : (text : List ℕ) (l : Lexeme) (ended : Bool) → Takes ended text l
     → (l.reached.index ≤ length text) × (l.start.index ≤ l.reached.index)
-reached_inside text l true t = let same = ap (λ (m : yaml_mark_t). m.index) t.reached in (omega (arith, same, t.inside), omega (arith, same))
-reached_inside text l false t = (t.inside, omega (arith, t.some, t.order))
+reached_inside text l ended t = grind (arith, nat_tests)
 
 -- A lexeme but the end takes bytes.
 pub takes_bytes : (text : List ℕ) (l : Lexeme) → StandsIn text l → is_end l.kind ≡ false
@@ -71,9 +70,7 @@ read_stands text (x ∷ h) l s e =
 
 extended_stands : (text : List ℕ) (h : List Lexeme) (x : Next) → Stands text h → next text h ≡ x
     → Stands text (extended x h)
-extended_stands text h (Read l) s e = read_stands text h l s e
-extended_stands text h (Fails f) s e = s
-extended_stands text h Ends s e = s
+extended_stands text h x s e = grind (arith, nat_tests, read_stands)
 
 -- The lexemes of a history come one after another in the text.
 pub history_stands : (text : List ℕ) (n : ℕ) → Stands text (history text n)
@@ -86,10 +83,7 @@ moved_line k m = grind arith
 
 placed_line : (text : List ℕ) (l : Lexeme) (ended : Bool) → Takes ended text l
     → line_at text l.start.index ≤ l.start.line
-placed_line text l false t = let same = ap (λ (m : yaml_mark_t). m.line) t.start in omega (arith, same)
-placed_line text l true t =
-    let more = moved_line l.kind (mark_at text l.start.index) in
-    omega (arith, ap (λ (m : yaml_mark_t). m.line) t.start, more)
+placed_line text l ended t = grind (arith, nat_tests, moved_line)
 
 placed_reached : (text : List ℕ) (l : Lexeme) (ended : Bool) → Takes ended text l
     → Upto l.start l.reached
@@ -135,8 +129,7 @@ reads_count text (suc n) l e =
     ]
 
 few_of : (text : List ℕ) (h : List Lexeme) → Stands text h → length h ≤ length text + 2
-few_of text [] s = omega arith
-few_of text (x ∷ h) s = let count = s.count in omega (arith, count)
+few_of text h s = grind (arith, nat_tests)
 
 -- A text has at most two lexemes more than bytes.
 pub are_few : (text : List ℕ) (n : ℕ) → length (history text n) ≤ length text + 2
@@ -144,15 +137,12 @@ are_few text n = few_of text (history text n) (history_stands text n)
 
 room_of : (text : List ℕ) (h : List Lexeme) (l : Lexeme) → Stands text h → next text h ≡ Read l
     → length h ≤ length text + 1
-room_of text [] l s e = omega arith
-room_of text (x ∷ h) l s e =
-    omega (arith, s.few (not_ended text x h l e), s.inside)
+room_of text h l s e = grind (arith, nat_tests, not_ended)
 
 -- a step that reads is one of at most two more than the text has bytes
 pub steps_below : (text : List ℕ) (n : ℕ) (l : Lexeme) → next text (history text n) ≡ Read l
     → n < length text + 2
-steps_below text n l e =
-    omega (arith, reads_count text n l e, room_of text (history text n) l (history_stands text n) e)
+steps_below text n l e = grind (arith, nat_tests, reads_count, room_of, history_stands)
 
 -- After the whole history no lexeme is read.
 pub all_ends : (text : List ℕ) (l : Lexeme) → next text (all text) ≢ Read l

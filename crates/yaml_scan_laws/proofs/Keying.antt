@@ -1,5 +1,5 @@
 -- Keys of one word or several are held, and marked by their `:`.
-use Rattle.std.proofs.Common.{◌≡◌, ◌⊎◌, ℕ, zero, suc, ◌-◌, ◌<◌, ◌==◌, ◌&&◌, ◌||◌, not, nat_lt, cond, Bool, true, false, List, [], ◌∷◌, ◌++◌, length, Option, Some, None, refl, sym, ap, subst, ◌∙◌, inl, inr, arith}
+use Rattle.std.proofs.Common.{◌≡◌, ◌⊎◌, ℕ, ◌-◌, ◌<◌, ◌==◌, ◌&&◌, ◌||◌, not, nat_lt, cond, Bool, true, false, List, [], ◌∷◌, ◌++◌, length, Option, Some, None, refl, sym, ap, subst, ◌∙◌, inl, inr, arith}
 use Rattle.yaml_scan_laws.proofs.LevelWords.{cases_Bool, eq-eqb, nat_tests, and-false, yaml_mark_t, column_at, mark_at, Kind, Lexeme, Entry, Opens, depth_after, may_be_key, cancels, is_value, is_start, is_outside, Candidate, candidate, fresh, has, is_fresh, margin_at, indent, left_by, opens_at, opened, level_of, marked, mark_key, as_key, level_in, length-entries, IsFree, Idle, InTime, Holds, entry, read_at}
 use Rattle.yaml_scan_history.specs.declared.kind.Kind.TheVariants as kinds
 use Rattle.yaml_scan_history.specs.declared.lexeme.Opens.TheVariants as opening
@@ -11,20 +11,16 @@ use Rattle.yaml_scan_laws.proofs.Pushing.{unkeyed, opened_rises, stays_right, me
 saved_more : (same saved cancel below : Bool) (c : Candidate) (rest : Option Candidate)
     → same ≡ true → saved ≡ true
     → cond same (cond saved (Some c) (cond cancel None rest)) (cond below None rest) ≡ Some c
-saved_more true true cancel below c rest e f = refl
-saved_more false saved cancel below c rest e f = absurd (cc)
-saved_more true false cancel below c rest e f = absurd (cc)
+saved_more same saved cancel below c rest e f = grind (arith, nat_tests)
 
 kept_more : (same saved cancel below : Bool) (o rest : Option Candidate)
     → ((same ≡ true) × (saved ≡ false) × (cancel ≡ false)) ⊎ ((same ≡ false) × (below ≡ false))
     → cond same (cond saved o (cond cancel None rest)) (cond below None rest) ≡ rest
-kept_more same saved cancel below o rest (inl (e, f, g)) = rw (e, f, g) refl
-kept_more same saved cancel below o rest (inr (e, f)) = rw (e, f) refl
+kept_more same saved cancel below o rest h6 = grind (arith, nat_tests)
 
 other_more : (same saved cancel below : Bool) (o rest : Option Candidate) → same ≡ false
     → IsFree rest → IsFree (cond same (cond saved o (cond cancel None rest)) (cond below None rest))
-other_more same saved cancel true o rest e f = rw e tt
-other_more same saved cancel false o rest e f = rw e f
+other_more same saved cancel below o rest e f = grind (arith, nat_tests)
 
 apart : (a b : ℕ) → (b ≡ a → ⊥) → (a == b) ≡ false
 apart a b f = elim (cases_Bool (a == b)) [ inl e ↦ let g : b ≡ a = grind (arith, nat_tests) in absurd (f g) | inr e ↦ e ]
@@ -43,8 +39,7 @@ kept_slot : (l : Lexeme) (h : List Lexeme) (d : ℕ)
     → ((l.depth ≡ d) × (l.saved ≡ false) × (cancels l.kind ≡ false)) ⊎ (d < l.depth)
     → candidate d (l ∷ h) ≡ candidate d h
 unfolding candidate
-kept_slot l h d (inl (e, f, g)) = kept_more (l.depth == d) l.saved (cancels l.kind) (nat_lt l.depth d) (Some (record { number = length h; lexeme = l })) (candidate d h) (inl (eq-eqb l.depth d e, f, g))
-kept_slot l h d (inr e) = kept_more (l.depth == d) l.saved (cancels l.kind) (nat_lt l.depth d) (Some (record { number = length h; lexeme = l })) (candidate d h) (inr (grind (arith, nat_tests), grind (arith, nat_tests)))
+kept_slot l h d h3 = grind (arith, nat_tests, kept_more, eq-eqb)
 
 pub cancelled_slot : (l : Lexeme) (h : List Lexeme) (d : ℕ) → l.depth ≡ d → l.saved ≡ false
     → cancels l.kind ≡ true → candidate d (l ∷ h) ≡ None
@@ -53,8 +48,7 @@ cancelled_slot l h d e f g = rw ((eq-eqb l.depth d e), f, g) refl
 
 holds_in_time : (h : List Lexeme) (d : ℕ) (c : Candidate) (m : yaml_mark_t) → Holds h d c
     → is_fresh c.lexeme.start m ≡ true → InTime (candidate 0 h) m
-holds_in_time h zero c m holds e = let P : Option Candidate → Type 0 = λ x. InTime x m in subst P (sym holds.slot) (inr e)
-holds_in_time h (suc d) c m holds e = free_in_time (candidate 0 h) m (holds.others 0 (λ x. omega (arith, x)))
+holds_in_time h d c m holds e = grind (arith, nat_tests, free_in_time)
 
 -- ---- a key begins
 
@@ -67,8 +61,7 @@ key_kind : (k : Kind) → may_be_key k ≡ true → IsKeyKind k
 key_kind k e = grind (arith, nat_tests)
 
 flag_off : (x y : Bool) → x ≡ false → (x && y) ≡ false
-flag_off false y e = refl
-flag_off true y e = absurd (cc)
+flag_off x y e = grind (arith, nat_tests)
 
 number_same : (n m : ℕ) (l : Lexeme) → n ≡ m
     → let a : Candidate = record { number = n; lexeme = l } in
@@ -111,21 +104,17 @@ no_less n = omega arith
 
 unlost : (saved cancel value : Bool) → saved ≡ false → cancel ≡ false
     → (saved || (cancel && not value)) ≡ true → ⊥
-unlost false false value e f g = cc
-unlost true cancel value e f g = cc
-unlost false true value e f g = cc
+unlost saved cancel value e f g = grind (arith, nat_tests)
 
 free_in : (h : List Lexeme) (k : Kind) (d e : ℕ) (a : Bool) (c : Candidate) → Holds h d c
     → IsInKey k d e a → ((a && may_be_key k) || (cancels k && not (is_value k))) ≡ true
     → IsFree (candidate e h)
-free_in h k d e a c holds (inl (x, y, z)) g = absurd (unlost (a && may_be_key k) (cancels k) (is_value k) y z g)
-free_in h k d e a c holds (inr x) g = holds.others e (λ y. omega (arith, x, y))
+free_in h k d e a c holds h7 g = grind (arith, nat_tests, unlost)
 
 pub kept_in : (l : Lexeme) (h : List Lexeme) (k : Kind) (d e : ℕ) (a : Bool) → l.kind ≡ k
     → l.depth ≡ e → l.saved ≡ (a && may_be_key k) → IsInKey k d e a
     → candidate d (l ∷ h) ≡ candidate d h
-kept_in l h k d e a kind deep saved (inl (x, y, z)) = kept_slot l h d (inl (deep ∙ x, saved ∙ y, ap (λ (i : Kind). cancels i) kind ∙ z))
-kept_in l h k d e a kind deep saved (inr x) = kept_slot l h d (inr (omega (arith, deep, x)))
+kept_in l h k d e a kind deep saved h9 = grind (arith, nat_tests, kept_slot)
 
 pub key_goes_on : KeyGoesOn
 key_goes_on text h d e c ms es k q a w f holds stays meets right lone in_key near far =
@@ -173,8 +162,7 @@ pub still_fresh : (o : Option Candidate) (c : Candidate) (m : yaml_mark_t) → o
 still_fresh o c m e f = ap (λ (x : Option Candidate). fresh x m) e ∙ ap (λ (b : Bool). cond b (Some c) None) f
 
 no_save : (a : Bool) → ((a && false) || false) ≡ true → ⊥
-no_save true e = cc
-no_save false e = cc
+no_save a e = grind (arith, nat_tests)
 
 gone : (o : Option Candidate) → o ≡ None → IsFree o
 gone o e = let P : Option Candidate → Type 0 = λ x. IsFree x in subst P (sym e) tt

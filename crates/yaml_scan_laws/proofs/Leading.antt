@@ -1,8 +1,7 @@
 -- A text that leads to a directive has its token first, or a fault in its place.
-use Rattle.std.proofs.Common.{◌≡◌, ◌≢◌, ℕ, suc, ◌+◌, nat_lt, false, List, [], ◌∷◌, ◌++◌, length, Option, Some, None, Result, Ok, Err, refl, sym, ap, subst, ◌∙◌, arith}
-use Rattle.yaml_scan_laws.proofs.Shared.{flat_map, same_Some, and-false, yaml_encoding_t, ScanFault, Fault, Token, TokenBody, Wrong, Said, DirectiveText, directive_at, Lexeme, candidate, open_levels, finished_tokens, first_open, WordText, body_said, directed, kind_at, lexeme_at, Next, Read, Fails, Ends, first_lexeme, gap_behind, allowed_behind, kind_behind, begun_behind, word_behind, next, extended, history, SpelledText, body_of_word, body_by, body_in, token_in, spell, all, fault_in, all_ends, last_is_all, history_grows, LeadsToDirective, scan_of, fault_next, cancels}
+use Rattle.std.proofs.Common.{◌≡◌, ◌≢◌, ℕ, suc, ◌+◌, nat_lt, false, List, [], ◌∷◌, ◌++◌, length, Option, Some, None, Result, Ok, refl, sym, ap, subst, ◌∙◌, arith}
+use Rattle.yaml_scan_laws.proofs.Shared.{nat_tests, flat_map, same_Some, and-false, yaml_encoding_t, ScanFault, Fault, Token, TokenBody, Wrong, Said, DirectiveText, directive_at, Lexeme, candidate, open_levels, finished_tokens, first_open, WordText, body_said, directed, kind_at, lexeme_at, Next, Read, Fails, Ends, first_lexeme, gap_behind, allowed_behind, kind_behind, begun_behind, word_behind, next, extended, history, SpelledText, body_of_word, body_by, body_in, token_in, spell, all, fault_in, all_ends, last_is_all, history_grows, LeadsToDirective, scan_of, fault_next, cancels}
 use Rattle.yaml_scan_history.specs.scan_types.Tokens as tokens
-use Rattle.yaml_scan_history.specs.Directives as directives
 use Rattle.yaml_scan_history.specs.declared.kind.Kind.TheVariants as kinds
 use Rattle.yaml_scan_laws.proofs.Fronts.{HasRead, has_read, read_kind, kept, lexeme_zero, next_open, history_more}
 use Rattle.yaml_scan_laws.proofs.Histories.{Bases}
@@ -28,8 +27,7 @@ LeadsSo [] own = own ≢ None
 LeadsSo (t ∷ ts) own = IsDirective t.body
 
 said_directive : (s : Said) → IsDirective (body_said s)
-said_directive (directives.version a b) = tt
-said_directive (directives.tag h p) = tt
+said_directive s = grind (arith, nat_tests)
 
 directed_body : (r : Result DirectiveText Wrong) (w : WordText) → directed r ≡ Ok w
     → IsDirective w.body
@@ -38,8 +36,7 @@ directed_body r w e = grind (arith, said_directive)
 lead_kind : (b : List ℕ) → LeadsToDirective b
     → kind_behind b (first_lexeme ∷ []) ≡ Some kinds.Directive
 unfolding kind_at candidate
-lead_kind b lead =
-    rw (lead.percent, lead.column) refl
+lead_kind b lead = grind (arith, nat_tests)
 
 -- ---- the lexemes of both
 

@@ -1,6 +1,6 @@
 -- The words of the definitions, and the lemmas on them from below, that the files of lemmas share.
 pub use Rattle.std.proofs.Math.Bool.{and-false, or-false}
-pub use Rattle.std.proofs.lemmas.Bool.{ltb-true, and_parts, cases_Bool, cases_lt, eq-eqb, false≢true, ne_eqb, not-true}
+pub use Rattle.std.proofs.lemmas.Bool.{and_parts, cases_Bool, cases_lt, eq-eqb, false≢true, not-true}
 pub use Rattle.std.proofs.lemmas.Bool.Decides.{nat_tests}
 pub use Rattle.std.proofs.lemmas.Grind.{flat_map-append}
 pub use Rattle.std.proofs.lemmas.List.{append-nil, append_cancel_left}
@@ -18,14 +18,14 @@ pub use Rattle.yaml_scan_laws.specs.White.{IsGap, KeyIsAllowed, White, WhiteBegi
 pub use Rattle.yaml_scan_history.proofs.GapsRead.{byte_cases, gap_is_read}
 pub use Rattle.yaml_scan_history.proofs.HistoryLemmas.{candidate-more, candidate_below, fresh_is, length-entries}
 pub use Rattle.yaml_scan_laws.proofs.MarksForward.{line_at-grows}
-pub use Rattle.yaml_scan_history.specs.History.{Candidate, as_key, flow_depth, ended, entry_of, first_open, found_by, fresh, has, has_number, in_flow, inside, is_fresh, key_allowed, keyed, left_by, level_of, margin_at, marked, opened, opens_at, opens_of, placed, reached, start_of}
+pub use Rattle.yaml_scan_history.specs.History.{Candidate, as_key, flow_depth, ended, entry_of, found_by, fresh, has, has_number, in_flow, inside, is_fresh, key_allowed, keyed, left_by, level_of, margin_at, marked, opened, opens_at, opens_of, reached, start_of}
 unfoldable pub use Rattle.yaml_scan_history.specs.History.{candidate, finished_tokens, indent, open_levels, mark_key}
 pub use Rattle.yaml_scan_history.specs.Kinds.{allows_key, cancels, depth_after, is_end, is_outside, is_start, is_value, may_be_key}
-pub use Rattle.yaml_scan_history.specs.Next.{Ends, Fails, Next, Read, allowed_behind, begun, begun_behind, coming, extended, faults, finished, first_fault_or, first_lexeme, gap_behind, kind_behind, level_in, lexeme_behind, lost_by, misplaced, missed, no_start, place_behind, stale_before, with_end, word_behind}
+pub use Rattle.yaml_scan_history.specs.Next.{Ends, Fails, Next, Read, allowed_behind, begun, begun_behind, coming, extended, faults, finished, first_fault_or, first_lexeme, gap_behind, level_in, lexeme_behind, lost_by, misplaced, missed, no_start, place_behind, stale_before, with_end, word_behind}
 unfoldable pub use Rattle.yaml_scan_history.specs.Next.{history, next}
-pub use Rattle.yaml_scan_history.specs.Remaining.{Remaining, SpelledText, before, body_by, body_in, body_of_word, fault_in, front_ends, handed_out, kept_of, offline, own_tokens, spell, start_tokens}
+pub use Rattle.yaml_scan_history.specs.Remaining.{Remaining, SpelledText, before, body_by, body_in, fault_in, front_ends, handed_out, kept_of, offline, own_tokens, spell, start_tokens}
 unfoldable pub use Rattle.yaml_scan_history.specs.Remaining.{all, handed, remaining}
-pub use Rattle.yaml_scan_history.specs.Stepwise.{behind, no_colon, not_allowed, of_kind, tested, unless_lost, unless_missed, unless_wrong}
+pub use Rattle.yaml_scan_history.specs.Stepwise.{behind, tested}
 pub use Rattle.yaml_scan_history.specs.Words.{WordText, or_plain}
 unfoldable pub use Rattle.yaml_scan_history.specs.Words.{indicator_of, kind_at, lexeme_at}
 pub use Rattle.yaml_scan_history.specs.declared.kind.Kind.{Kind}
@@ -33,9 +33,8 @@ pub use Rattle.yaml_scan_history.specs.declared.lexeme.Entry.{Entry}
 pub use Rattle.yaml_scan_history.specs.declared.lexeme.Lexeme.{Lexeme}
 pub use Rattle.yaml_scan_history.specs.declared.lexeme.Opens.{Opens}
 unfoldable pub use Rattle.yaml_scan_history.specs.scan_model.Breaks.{break_value, is_document_indicator}
-pub use Rattle.yaml_scan_history.specs.scan_types.Classes.{is_bom}
 unfoldable pub use Rattle.yaml_scan_history.specs.scan_types.Classes.{is_alpha_byte, is_digit_byte}
-pub use Rattle.yaml_scan_history.specs.scan_types.Marks.{break_width, byte, ends_break, is_blank_or_end, mark_at, starts}
+pub use Rattle.yaml_scan_history.specs.scan_types.Marks.{byte, ends_break, is_blank_or_end, mark_at, starts}
 unfoldable pub use Rattle.yaml_scan_history.specs.scan_types.Marks.{break_of, column_at, ends_of, line_at}
 pub use Rattle.yaml_scan_history.specs.scan_types.Tokens.{Token, TokenBody, block_end, key, stream_end}
 pub use Rattle.yaml_scan_history.specs.scan_model.Wrong.{Wrong}

@@ -1,11 +1,10 @@
 -- Each lexeme of a text in UTF-8 starts and is left where the text may be cut, and carries UTF-8.
 use Rattle.std.proofs.Common.{◌≡◌, ℕ, zero, suc, ◌+◌, ◌==◌, ◌&&◌, ◌||◌, not, nat_lt, Bool, true, List, length, inl, inr, arith, IsUtf8, [], ◌∷◌, Option, Some, None, Result, Ok, Err, sym, subst}
-use Rattle.yaml_scan_laws.proofs.TextWords.{cases_Bool, ltb-true, and_parts, nat_tests, byte, break_width, is_bom, step_at, is_skipped, gap_within, gap_at, comment_end, yaml_mark_t, mark_at, Wrong, Kind, Lexeme, is_end, placed, flow_depth, key_allowed, candidate, fresh, WordText, kind_at, lexeme_at, Next, Read, Fails, Ends, begun, finished, allowed_behind, misplaced, missed, lost_by, next, extended, history, no_colon, tested, unless_wrong, unless_lost, of_kind, unless_missed, stepwise, SpelledText, body_of_word, body_by, body_in, HasTexts, placed_index, with_end}
+use Rattle.yaml_scan_laws.proofs.TextWords.{cases_Bool, ltb-true, and_parts, nat_tests, byte, break_width, is_bom, step_at, is_skipped, gap_within, gap_at, comment_end, yaml_mark_t, mark_at, Wrong, Kind, Lexeme, is_end, placed, flow_depth, key_allowed, candidate, fresh, WordText, lexeme_at, Next, Read, Fails, Ends, begun, finished, allowed_behind, misplaced, missed, lost_by, next, extended, history, tested, unless_wrong, unless_lost, of_kind, unless_missed, stepwise, SpelledText, body_of_word, body_by, body_in, HasTexts, placed_index, with_end}
 use Rattle.yaml_scan_history.proofs.BetweenLemmas.{bom_bytes}
 use Rattle.yaml_scan_laws.proofs.Whole.{IsWhole, whole_after, whole_behind, whole_bom}
 use Rattle.yaml_scan_laws.proofs.Block.{past_whole}
 use Rattle.yaml_scan_history.specs.Between.{Gap}
-use Rattle.yaml_scan_history.specs.declared.kind.Kind.TheVariants as kinds
 use Rattle.yaml_scan_laws.proofs.Utf8Words.{Fits, FitsAny, kind_fits, HasWord, word_utf8}
 
 -- the end of the comment there
@@ -46,15 +45,13 @@ CarriesAny s Ends = Unit {0}
 
 word_texts : (text : List ℕ) (r : Result WordText Wrong) → HasWord text r
     → HasTexts (body_of_word r)
-word_texts text (Ok w) h = h.texts
-word_texts text (Err e) h = tt
+word_texts text r h = grind (arith, nat_tests)
 
 -- what a kind carries, where its word does
 body_texts : (k : Kind) (s : SpelledText) (l : Lexeme)
     → HasWord s.text (lexeme_at k (nat_lt 0 l.depth) l.level s.text l.start.index)
     → HasTexts (body_by k s l)
-body_texts kinds.StreamStart s l h = tt
-body_texts k s l h = word_texts s.text (lexeme_at k (nat_lt 0 l.depth) l.level s.text l.start.index) h
+body_texts k s l h = grind (arith, nat_tests, word_texts)
 
 -- a lexeme that starts at a place, its end aside
 record IsBegun (q : ℕ) (l : Lexeme) : Type 0 where
@@ -64,8 +61,7 @@ record IsBegun (q : ℕ) (l : Lexeme) : Type 0 where
 -- a lexeme's end changes nothing of what it carries
 ended_texts : (k : Kind) (s : SpelledText) (l : Lexeme) (w : WordText) → HasTexts (body_by k s l)
     → HasTexts (body_by k s (with_end s.text l w))
-ended_texts kinds.StreamStart s l w h = tt
-ended_texts k s l w h = h
+ended_texts k s l w h = grind (arith, nat_tests)
 
 finished_carries : (s : SpelledText) (q : ℕ) (l : Lexeme) (w : WordText) → IsBegun q l
     → IsWhole s.text q → HasTexts (body_in s l) → IsWhole s.text w.reached
@@ -106,8 +102,7 @@ kind_carries (Some k) s gap h t here fits =
 
 missed_carries : (o : Option yaml_mark_t) (s : SpelledText) (gap : Gap) (h : List Lexeme)
     → IsUtf8 s.text → IsWhole s.text gap.place → CarriesAny s (unless_missed o s.text gap h)
-missed_carries (Some start) s gap h t here = tt
-missed_carries None s gap h t here = kind_carries (kind_at (nat_lt 0 (flow_depth h)) s.text gap.place) s gap h t here (kind_fits (nat_lt 0 (flow_depth h)) s.text gap.place)
+missed_carries o s gap h t here = grind (arith, nat_tests, kind_carries, kind_fits)
 
 abbrev pub AllCarry : SpelledText → List Lexeme → Type 0
 AllCarry s [] = Unit {0}
@@ -128,9 +123,7 @@ next_carries s (x ∷ h) t (c, cs) =
 
 extended_carry : (s : SpelledText) (x : Next) (h : List Lexeme) → CarriesAny s x → AllCarry s h
     → AllCarry s (extended x h)
-extended_carry s (Read l) h c cs = (c, cs)
-extended_carry s (Fails f) h c cs = cs
-extended_carry s Ends h c cs = cs
+extended_carry s x h c cs = grind (arith, nat_tests)
 
 -- the lexemes of each step
 pub history_carry : (s : SpelledText) → IsUtf8 s.text → (n : ℕ) → AllCarry s (history s.text n)

@@ -1,8 +1,7 @@
 -- What looking back gives is what marking entries gives.
-use Rattle.std.proofs.Common.{◌≡◌, ℕ, zero, suc, ◌+◌, ◌<◌, ◌≤◌, ◌==◌, ◌&&◌, not, nat_lt, cond, Bool, true, false, List, [], ◌∷◌, ◌++◌, length, take, drop, flat_map, Option, Some, None, Result, Ok, Err, refl, sym, ap, ◌∙◌, inl, inr, ◌⊎◌, arith, append_assoc, length-append}
-use Rattle.yaml_scan_laws.proofs.LevelWords.{cases_Bool, cases_lt, and_parts, nat_tests, flat_map-append, append-nil, and-false, Token, Wrong, Kind, Lexeme, Entry, Opens, may_be_key, cancels, is_value, is_start, is_end, Candidate, candidate, has_number, found_by, first_open, indent, inside, level_of, opens_at, opens_of, margin_at, start_of, entry_of, as_key, mark_key, marked, keyed, finished_tokens, WordText, Next, Read, Fails, Ends, next, first_fault_or, coming, faults, stale_before, no_start, place_behind, kind_behind, with_end, begun_behind, word_behind, lexeme_behind, extended, history, SpelledText, spell, front_ends, handed_out, handed, kept_of, all, fault_in, Remaining, remaining, candidate-more, candidate_below, fresh_is, eq-eqb}
+use Rattle.std.proofs.Common.{◌≡◌, ℕ, zero, suc, ◌+◌, ◌<◌, ◌≤◌, ◌==◌, ◌&&◌, not, nat_lt, cond, Bool, true, false, List, [], ◌∷◌, ◌++◌, length, take, drop, flat_map, Option, Some, None, Result, refl, sym, ap, ◌∙◌, inl, inr, ◌⊎◌, arith, append_assoc, length-append}
+use Rattle.yaml_scan_laws.proofs.LevelWords.{cases_Bool, cases_lt, and_parts, nat_tests, flat_map-append, append-nil, and-false, Token, Wrong, Kind, Lexeme, Entry, Opens, may_be_key, cancels, is_value, is_start, Candidate, candidate, has_number, found_by, indent, inside, level_of, opens_at, opens_of, margin_at, start_of, entry_of, as_key, mark_key, marked, keyed, finished_tokens, WordText, Next, Read, Fails, Ends, next, first_fault_or, coming, faults, stale_before, no_start, place_behind, with_end, begun_behind, word_behind, lexeme_behind, extended, history, SpelledText, spell, front_ends, handed_out, handed, kept_of, all, fault_in, Remaining, remaining, candidate-more, candidate_below, fresh_is}
 use Rattle.yaml_scan_history.specs.scan_model.declared.problem.ScanFault.{ScanFault}
-use Rattle.yaml_scan_history.specs.declared.kind.Kind.TheVariants as kinds
 use Rattle.yaml_scan_history.specs.declared.lexeme.Opens.TheVariants as opening
 use Rattle.yaml_scan_laws.specs.LookBack.{finds, is_key, opens_level, number_or, begins_with, level_at, closes, end_tokens, tokens_of, tokens_before, lost_from, OfflineLooksBack}
 use Rattle.yaml_scan_laws.proofs.Pushing.{start_no_key}
@@ -42,9 +41,7 @@ unfolding next
 next_may text h = grind (arith, nat_tests, coming_may)
 
 extended_may : (x : Next) (h : List Lexeme) → NextMay x → AllMay h → AllMay (extended x h)
-extended_may (Read l) h m a = (m, a)
-extended_may (Fails f) h m a = a
-extended_may Ends h m a = a
+extended_may x h m a = grind (arith, nat_tests)
 
 history_may : (text : List ℕ) (n : ℕ) → AllMay (history text n)
 unfolding history
@@ -55,17 +52,14 @@ history_may text (suc n) = extended_may (next text (history text n)) (history te
 
 number_none : (o : Option Candidate) (n : ℕ) → ((c : Candidate) → o ≡ Some c → c.number < n)
     → has_number o n ≡ false
-number_none None n f = refl
-number_none (Some c) n f = let low = f c refl in grind (arith, nat_tests)
+number_none o n f = grind (arith, nat_tests)
 
 found_below : (l : Lexeme) (h : List Lexeme) (c : Candidate) → found_by l h ≡ Some c
     → c.number < length h
 found_below l h c e = candidate_below l.depth h c (fresh_is _ _ c e)
 
 finds_none : (l : Lexeme) (h : List Lexeme) (n : ℕ) → length h ≤ n → finds l h n ≡ false
-finds_none l h n le =
-    and_not (is_value l.kind) _
-    (number_none (found_by l h) n (λ c e. let low = found_below l h c e in omega (arith, low, le)))
+finds_none l h n le = grind (arith, nat_tests, and_not, number_none, found_below)
 
 is_key_none : (n : ℕ) (h : List Lexeme) → length h ≤ n → is_key n h ≡ false
 unfolding is_key
@@ -75,8 +69,7 @@ is_key_none n (l ∷ h) le =
 
 or_below : (o : Option Candidate) (n : ℕ) → ((c : Candidate) → o ≡ Some c → c.number < n)
     → number_or o n ≤ n
-or_below None n f = omega arith
-or_below (Some c) n f = let low = f c refl in omega (arith, low)
+or_below o n f = grind (arith, nat_tests)
 
 begins_below : (l : Lexeme) (h : List Lexeme) → begins_with l h ≤ length h
 begins_below l h = grind (arith, nat_tests, or_below, found_below)
@@ -113,8 +106,7 @@ own_level l h =
 
 own_key : (l : Lexeme) (h : List Lexeme) → is_key (length h) (l ∷ h) ≡ false
 unfolding is_key
-own_key l h =
-    rw (finds_none l h (length h) (omega arith)) (is_key_none (length h) h (omega arith))
+own_key l h = grind (arith, nat_tests, finds_none, is_key_none)
 
 -- ---- the lexeme that a `:` finds
 
@@ -125,8 +117,7 @@ key_no_start : (k : Kind) → may_be_key k ≡ true → is_start k ≡ false
 key_no_start k m = grind (arith, nat_tests, start_no_key)
 
 value_starts : (k : Kind) → is_value k ≡ true → (is_start k ≡ true) × (level_of k ≡ opening.Mapping)
-value_starts kinds.ValueMark e = (refl, refl)
-value_starts k e = absurd (cc)
+value_starts k e = grind (arith, nat_tests)
 
 saved_found : (d : ℕ) (y : Lexeme) (t : List Lexeme) (c : Candidate) → (y.depth == d) ≡ true
     → y.saved ≡ true → candidate d (y ∷ t) ≡ Some c
@@ -215,9 +206,7 @@ unfolding mark_key
 mark_last ls [] e zero = refl
 mark_last ls [] e (suc n) = let far : (suc n == 0) ≡ false = grind (arith, nat_tests) in rw far refl
 mark_last ls (x ∷ es) e zero = let far : (0 == suc (length es)) ≡ false = grind (arith, nat_tests) in rw far refl
-mark_last ls (x ∷ es) e (suc n) =
-    ap (λ (r : List Entry). x ∷ r) (mark_last ls es e n)
-    ∙ ap (λ (b : Bool). x ∷ (mark_key ls es n ++ cond b (as_key ls e) e ∷ [])) (sym (grind (arith, nat_tests)))
+mark_last ls (x ∷ es) e (suc n) = grind (arith, nat_tests, mark_last ls es e n)
 
 length_told : (whole h : List Lexeme) → length (entries_told whole h) ≡ length h
 length_told whole [] = refl
@@ -297,8 +286,7 @@ entries_are (l ∷ h) (m, a) =
 
 own_tokens_are : (s : SpelledText) (whole : List Lexeme) (l : Lexeme) (h : List Lexeme) (k : Bool)
     → is_key (length h) whole ≡ k → spell s (entry_told whole l h) ≡ tokens_of s whole l h
-own_tokens_are s whole l h true e = rw e refl
-own_tokens_are s whole l h false e = rw e refl
+own_tokens_are s whole l h k e = grind (arith, nat_tests)
 
 -- those of all, where none is lost
 none_lost : (s : SpelledText) (whole : List Lexeme) (m : ℕ) (h : List Lexeme) → length h ≤ m
@@ -335,9 +323,7 @@ all_taken (suc m) (x ∷ es) le =
 last_taken : (es : List Entry) (e : Entry)
     → (take (length es) (es ++ e ∷ []) ≡ es) × (drop (length es) (es ++ e ∷ []) ≡ e ∷ [])
 last_taken [] e = (refl, refl)
-last_taken (x ∷ es) e =
-    let (a, b) = last_taken es e in
-    (ap (λ (r : List Entry). x ∷ r) a, b)
+last_taken (x ∷ es) e = grind (arith, nat_tests, last_taken es e)
 
 abbrev taken : SpelledText → ℕ → List Entry → List Token
 taken s m es = flat_map (spell s) (take m es) ++ front_ends (drop m es)
@@ -394,9 +380,7 @@ unlost s h a =
 
 by_next : (s : SpelledText) (x : Next) (h : List Lexeme) → AllMay h
     → flat_map (spell s) (handed_out x h) ++ kept_of x h ≡ tokens_before s h (lost_from x h) h
-by_next s (Read l) h a = unlost s h a
-by_next s Ends h a = unlost s h a
-by_next s (Fails p) h a = ap (λ (es : List Entry). taken s (first_open h h) es) (entries_are h a) ∙ lost s (first_open h h) h
+by_next s x h a = grind (arith, nat_tests, unlost, entries_are, lost)
 
 all_may : (text : List ℕ) → AllMay (all text)
 unfolding all

@@ -1,6 +1,6 @@
 -- Lines grow with the place.
-use Rattle.std.proofs.Common.{◌≡◌, ℕ, zero, suc, ◌+◌, ◌-◌, ◌≤◌, List, inl, inr, arith}
-use Rattle.yaml_scan_laws.proofs.Words.{cases_Bool, line_at, ends_break}
+use Rattle.std.proofs.Common.{◌≡◌, ℕ, zero, suc, ◌+◌, ◌-◌, ◌≤◌, List, arith}
+use Rattle.yaml_scan_laws.proofs.Words.{nat_tests, line_at}
 
 line_next : (text : List ℕ) (p : ℕ) → line_at text p ≤ line_at text (suc p)
 unfolding line_at
@@ -8,9 +8,7 @@ line_next text p = grind arith
 
 line_further : (text : List ℕ) (p k : ℕ) → line_at text p ≤ line_at text (k + p)
 line_further text p zero = let z : 0 + p ≡ p = omega arith in rw z (omega arith)
-line_further text p (suc k) =
-    let z : suc k + p ≡ suc (k + p) = omega arith in
-    rw z (omega (arith, line_further text p k, line_next text (k + p)))
+line_further text p (suc k) = grind (arith, nat_tests, line_next, line_further text p k)
 
 -- a later place is on no earlier line
 pub line_at-grows : (text : List ℕ) (p q : ℕ) → p ≤ q → line_at text p ≤ line_at text q

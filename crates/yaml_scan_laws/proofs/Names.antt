@@ -1,7 +1,6 @@
 -- Anchors, URIs, tags and directives are the same in both texts.
-use Rattle.std.proofs.Common.{◌≡◌, ℕ, zero, suc, ◌+◌, ◌<◌, ◌≤◌, ◌==◌, ◌&&◌, ◌||◌, nat_lt, if◌then◌else◌, Bool, true, false, not, List, [], ◌∷◌, length, slice_range, Option, Some, None, Result, Ok, Err, refl, ap, ◌∙◌, inl, inr, arith, add_assoc}
-use Rattle.yaml_scan_laws.proofs.Shared.{cases_Bool, eqb-true, nat_tests, byte, is_alpha_byte, is_digit_byte, Wrong, belongs, run_end, is_name_end, may_end_name, name_between, anchor_at, is_punctuation, is_wide_punctuation, is_uri, octet_of, octet_at, UriSpot, Spells, escape_spot, octet_spot, due_behind, with_bytes, uri_within, uri_at, filled, some_uri_at, TagText, tag_end, bracketed, verbatim_at, name_end, with_handle, bare, bare_at, parts_at, may_end_tag, tag_at, run_place, Alike, is_onward}
-use Rattle.yaml_scan_history.specs.scan_model.declared.problem.Problem.{Problem}
+use Rattle.std.proofs.Common.{◌≡◌, ℕ, zero, suc, ◌+◌, ◌<◌, ◌≤◌, ◌==◌, ◌&&◌, ◌||◌, nat_lt, if◌then◌else◌, Bool, true, false, not, List, length, slice_range, Option, Some, None, Result, Ok, Err, refl, ap, ◌∙◌, inl, inr, arith, add_assoc}
+use Rattle.yaml_scan_laws.proofs.Shared.{cases_Bool, eqb-true, nat_tests, byte, is_alpha_byte, is_digit_byte, Wrong, belongs, run_end, is_name_end, may_end_name, name_between, anchor_at, is_punctuation, is_wide_punctuation, is_uri, octet_of, octet_at, UriSpot, Spells, octet_spot, with_bytes, uri_within, uri_at, filled, some_uri_at, TagText, tag_end, bracketed, verbatim_at, name_end, with_handle, bare, bare_at, parts_at, may_end_tag, tag_at, run_place, Alike, is_onward}
 use Rattle.yaml_scan_history.specs.scan_model.declared.problem.Context.{Context}
 use Rattle.yaml_scan_history.specs.scan_model.declared.problem.Context.TheVariants as contexts
 use Rattle.yaml_scan_history.specs.Uris.{hex_digit, Ends, Faulty, spot_at}
@@ -100,12 +99,10 @@ unfolding hex_digit
 no_digit b h = grind (arith, nat_tests, off_cases)
 
 none_first : (o : Option ℕ) → octet_of None o ≡ None
-none_first None = refl
-none_first (Some x) = refl
+none_first o = grind (arith, nat_tests)
 
 none_last : (o : Option ℕ) → octet_of o None ≡ None
-none_last None = refl
-none_last (Some x) = refl
+none_last o = grind (arith, nat_tests)
 
 -- an octet is the same, and what has one lies within
 OctetIn : ℕ → ℕ → Option ℕ → Type 0
@@ -181,8 +178,7 @@ spot_alike wide due t u d m p a l =
 
 bytes_alike : (d m : ℕ) (bs : List ℕ) (r s : Result (List ℕ × ℕ) Wrong) → PairAlike d m r s
     → PairAlike d m (with_bytes bs r) (with_bytes bs s)
-bytes_alike d m bs (Ok x) s h = let same = h.same in rw same record { same = refl; ends = h.ends }
-bytes_alike d m bs (Err w) s h = let same = h.same in rw same record { same = refl; ends = tt }
+bytes_alike d m bs r s h = grind (arith, nat_tests)
 
 abbrev Told : Context → Bool → List ℕ → List ℕ → ℕ → ℕ → ℕ → ℕ → ℕ → ℕ → Type 0
 Told context wide t u d m due p n o = PairAlike d m (uri_within n context wide due t p) (uri_within o context wide due u (d + p))
@@ -191,8 +187,7 @@ uri_more : (context : Context) (wide : Bool) (t u : List ℕ) (d m due p n o b n
     → spot_at wide due t p ≡ Spells b next q → spot_at wide due u (d + p) ≡ Spells b next (d + q)
     → Told context wide t u d m next q n o → Told context wide t u d m due p (suc n) (suc o)
 unfolding uri_within
-uri_more context wide t u d m due p n o b next q e f step =
-    rw (e, f) (bytes_alike d m (b ∷ []) (uri_within n context wide next t q) (uri_within o context wide next u (d + q)) step)
+uri_more context wide t u d m due p n o b next q e f step = grind (arith, nat_tests, bytes_alike)
 
 pub short_at : (t u : List ℕ) (d m p : ℕ) → Alike t u d m → p < m → p ≤ length t
 short_at t u d m p a l = let short = a.short in omega (arith, l, short)
@@ -260,8 +255,7 @@ bracket_alike t u d m (Ok x) s a h =
 
 handled_alike : (d m : ℕ) (h : List ℕ) (r s : Result (List ℕ × ℕ) Wrong) → PairAlike d m r s
     → TagAlike d m (with_handle h r) (with_handle h s)
-handled_alike d m h (Err w) s k = let same = k.same in rw same record { same = refl; ends = tt }
-handled_alike d m h (Ok x) s k = let same = k.same in rw same record { same = refl; ends = k.ends }
+handled_alike d m h r s k = grind (arith, nat_tests)
 
 bare_alike : (d m : ℕ) (r s : Result (List ℕ × ℕ) Wrong) → PairAlike d m r s
     → TagAlike d m (bare r) (bare s)

@@ -1,6 +1,6 @@
 -- Names and handles as they are read; what each lexeme carries is well spelled.
-use Rattle.std.proofs.Common.{◌≡◌, ℕ, zero, suc, ◌+◌, ◌≤◌, ◌<◌, ◌==◌, ◌||◌, not, true, false, List, [], ◌∷◌, ◌++◌, length, slice_range, Result, Ok, Err, refl, sym, ◌∙◌, inl, inr, arith, add-zero, length-append, subst, ◌-◌, ◌&&◌, if◌then◌else◌, Bool}
-use Rattle.yaml_scan_laws.proofs.TextWords.{cases_Bool, and_parts, or_parts, eqb-true, nat_tests, Context, byte, is_digit_byte, is_alpha_byte, Wrong, within, belongs, run_within, may_end_name, name_between, anchor_at, name_end, handle_between, handle_at, Has, range_reads, AreAlphas, IsName, IsHandle, TokenBody, is_blank_or_end, run_end, filled, uri_at, some_uri_at, TagText, bracketed, with_handle, bare, parts_at, may_end_tag, ValueText, then_at, is_yaml, is_tag, directive_name_between, number_at, with_major, minor_at, prefix_ended, prefix_at, with_prefix, named_value_at, value_at, line_end_at, with_line, single_quoted_at, double_quoted_at, PlainText, plain_at, BlockText, block_at, style_at, WordText, valued, tagged, body_said, directed, blocked, plainly, lexeme_at, IsSome, IsSpelled, ne_eqb}
+use Rattle.std.proofs.Common.{◌≡◌, ℕ, zero, suc, ◌+◌, ◌≤◌, ◌<◌, ◌==◌, not, true, false, List, [], ◌∷◌, ◌++◌, length, slice_range, Result, Ok, Err, refl, sym, ◌∙◌, inl, inr, arith, add-zero, length-append, subst, ◌-◌, ◌&&◌, if◌then◌else◌, Bool}
+use Rattle.yaml_scan_laws.proofs.TextWords.{cases_Bool, and_parts, eqb-true, nat_tests, Context, byte, is_digit_byte, is_alpha_byte, Wrong, within, belongs, run_within, name_between, anchor_at, name_end, handle_between, handle_at, Has, range_reads, AreAlphas, IsName, IsHandle, TokenBody, is_blank_or_end, run_end, filled, uri_at, some_uri_at, TagText, bracketed, with_handle, bare, parts_at, ValueText, then_at, is_yaml, is_tag, directive_name_between, number_at, with_major, minor_at, prefix_ended, prefix_at, with_prefix, named_value_at, value_at, with_line, single_quoted_at, double_quoted_at, PlainText, plain_at, BlockText, block_at, style_at, WordText, valued, tagged, body_said, directed, blocked, plainly, lexeme_at, IsSome, IsSpelled, ne_eqb}
 use Rattle.yaml_scan_history.proofs.WordsRunsLemmas.{run_within-le}
 use Rattle.yaml_scan_history.specs.scan_model.declared.problem.Context.TheVariants as contexts
 use Rattle.yaml_scan_history.specs.scan_model.declared.problem.Problem.TheVariants as problems
@@ -72,11 +72,7 @@ HasName (Err w) = Unit {0}
 
 name_good : (context : Context) (text : List ℕ) (p q : ℕ) → Spans text p q
     → HasName (name_between context text p q)
-name_good context text p q s =
-    elim (cases_Bool (p == q || not (may_end_name text q))) [
-      | inl e ↦ rw e tt
-      | inr e ↦ rw e (name_by s.name text p q s.there s.end s.are s.inside (or_parts (p == q) (not (may_end_name text q)) e).0)
-    ]
+name_good context text p q s = grind (arith, nat_tests, cases_Bool, name_by)
 
 -- an anchor's or alias's name
 pub anchor_good : (context : Context) (text : List ℕ) (p : ℕ) → HasName (anchor_at context text p)
@@ -112,47 +108,31 @@ HasHandle (Err w) = Unit {0}
 
 handle_between_good : (text : List ℕ) (p q : ℕ) → byte text p ≡ 33 → Spans text (p + 1) q
     → HasHandle (handle_between text p q)
-handle_between_good text p q mark s =
-    elim (cases_Bool (byte text q == 33)) [
-      | inl h ↦ rw h (closed_handle text p q mark (eqb-true _ _ h) s)
-      | inr h ↦ elim (cases_Bool (q == p + 1)) [
-        | inl i ↦ let e = eqb-true _ _ i in rw (h, i) (rw e (open_handle text p mark))
-        | inr i ↦ rw (h, i) tt
-      ]
-    ]
+handle_between_good text p q mark s = grind (arith, nat_tests, cases_Bool, closed_handle, eqb-true, open_handle)
 
 -- a directive's handle
 pub handle_good : (text : List ℕ) (p : ℕ) → HasHandle (handle_at text p)
-handle_good text p =
-    elim (cases_Bool (byte text p == 33)) [
-      | inl h ↦ rw h (handle_between_good text p (name_end text p) (eqb-true _ _ h) (name_spans text p))
-      | inr h ↦ rw h tt
-    ]
+handle_good text p = grind (arith, nat_tests, cases_Bool, handle_between_good, eqb-true, name_spans)
 
 abbrev pub HasWord : Result WordText Wrong → Type 0
 HasWord (Ok w) = IsSpelled w.body
 HasWord (Err w) = Unit {0}
 
 anchor_word : (r : Result (List ℕ × ℕ) Wrong) → HasName r → HasWord (valued tokens.anchor r)
-anchor_word (Ok x) h = h
-anchor_word (Err w) h = tt
+anchor_word r h = grind (arith, nat_tests)
 
 alias_word : (r : Result (List ℕ × ℕ) Wrong) → HasName r → HasWord (valued tokens.alias r)
-alias_word (Ok x) h = h
-alias_word (Err w) h = tt
+alias_word r h = grind (arith, nat_tests)
 
 quoted_word : (style : yaml_scalar_style_t) (r : Result (List ℕ × ℕ) Wrong)
     → HasWord (valued (λ v. tokens.scalar v style) r)
-quoted_word style (Ok x) = tt
-quoted_word style (Err w) = tt
+quoted_word style r = grind (arith, nat_tests)
 
 plain_word : (r : Result PlainText Wrong) → HasWord (plainly r)
-plain_word (Ok x) = tt
-plain_word (Err w) = tt
+plain_word r = grind (arith, nat_tests)
 
 block_word : (style : yaml_scalar_style_t) (r : Result BlockText Wrong) → HasWord (blocked style r)
-block_word style (Ok x) = tt
-block_word style (Err w) = tt
+block_word style r = grind (arith, nat_tests)
 
 -- URIs.
 
@@ -182,25 +162,14 @@ bracketed_good text r some = grind (arith, nat_tests)
 
 handle_tag : (handle : List ℕ) (r : Result (List ℕ × ℕ) Wrong) → IsHandle handle → HasSome r
     → HasTag (with_handle handle r)
-handle_tag handle (Ok u) h some = (inr h, some)
-handle_tag handle (Err w) h some = tt
+handle_tag handle r h some = grind (arith, nat_tests)
 
 bare_good : (r : Result (List ℕ × ℕ) Wrong) → HasTag (bare r)
 bare_good r = grind (arith, nat_tests)
 
 parts_good : (text : List ℕ) (p : ℕ) → byte text p ≡ 33 → HasTag (parts_at text p)
 unfolding parts_at
-parts_good text p mark =
-    elim (cases_Bool (byte text (p + 1) == 60)) [
-      | inl h ↦ rw h (bracketed_good text (some_uri_at contexts.TagUri true text (p + 2)) (uri_good contexts.TagUri true text (p + 2)))
-      | inr h ↦ elim (cases_Bool (byte text (name_end text p) == 33)) [
-        | inl i ↦
-            let handle = closed_handle text p (name_end text p) mark (eqb-true _ _ i) (name_spans text p) in
-            rw (h, i) (handle_tag (slice_range text p (name_end text p + 1)) (some_uri_at contexts.TagUri false text (name_end text p + 1)) handle
-            (uri_good contexts.TagUri false text (name_end text p + 1)))
-        | inr i ↦ rw (h, i) (bare_good (uri_at contexts.TagUri false text (p + 1)))
-      ]
-    ]
+parts_good text p mark = grind (arith, nat_tests, cases_Bool, bracketed_good, uri_good, closed_handle, eqb-true, name_spans, handle_tag, bare_good)
 
 tag_word : (flow : Bool) (text : List ℕ) (r : Result TagText Wrong) → HasTag r
     → HasWord (tagged (ended flow text r))
@@ -264,13 +233,11 @@ prefix_good text p = prefix_behind _ text p
 
 with_prefix_good : (handle : List ℕ) (r : Result (List ℕ × ℕ) Wrong) → IsHandle handle → HasSome r
     → HasSaid IsSpelled (with_prefix handle r)
-with_prefix_good handle (Ok x) h some = (h, some)
-with_prefix_good handle (Err w) h some = tt
+with_prefix_good handle r h some = grind (arith, nat_tests)
 
 then_handle : (text : List ℕ) (r : Result (List ℕ × ℕ) Wrong) → HasHandle r
     → HasSaid IsSpelled (then_at (λ handle q. with_prefix handle (prefix_at text q)) r)
-then_handle text (Ok x) h = with_prefix_good x.0 (prefix_at text x.1) h (prefix_good text x.1)
-then_handle text (Err w) h = tt
+then_handle text r h = grind (arith, nat_tests, with_prefix_good, prefix_good)
 
 handle_said : (text : List ℕ) (p : ℕ)
     → HasSaid IsSpelled (then_at (λ handle q. with_prefix handle (prefix_at text q)) (handle_at text p))
@@ -282,13 +249,11 @@ value_good text p q = value_said IsSpelled (λ a b. tt) text p q (handle_said te
 
 line_word : (v : ValueText) (r : Result ℕ Wrong) → IsSpelled (body_said v.said)
     → HasWord (directed (with_line v r))
-line_word v (Ok q) h = h
-line_word v (Err w) h = tt
+line_word v r h = grind (arith, nat_tests)
 
 directive_word : (text : List ℕ) (r : Result ValueText Wrong) → HasSaid IsSpelled r
     → HasWord (directed (finished text r))
-directive_word text (Ok v) h = line_word v (line_end_at text v.end) h
-directive_word text (Err w) h = tt
+directive_word text r h = grind (arith, nat_tests, line_word)
 
 -- a tag is after its `!`
 abbrev pub Marked : Kind → List ℕ → ℕ → Type 0

@@ -1,8 +1,8 @@
 -- The next lexeme is after the ones before it.
-use Rattle.std.proofs.Common.{◌≡◌, ℕ, ◌≤◌, ◌&&◌, nat_lt, true, false, List, ◌∷◌, length, Option, Some, None, Result, Ok, Err, refl, sym, ap, subst, ◌∙◌, inl, inr, arith}
-use Rattle.yaml_scan_laws.proofs.Words.{cases_Bool, yaml_mark_t, mark_at, Wrong, gap_place, Kind, Lexeme, is_end, placed, flow_depth, key_allowed, candidate, fresh, WordText, kind_at, lexeme_at, Next, Read, Fails, Ends, begun, finished, allowed_behind, misplaced, missed, lost_by, next, StandsIn}
+use Rattle.std.proofs.Common.{◌≡◌, ℕ, ◌≤◌, nat_lt, true, false, List, ◌∷◌, length, Option, Some, None, Result, Ok, Err, refl, sym, ap, subst, ◌∙◌, inl, inr, arith}
+use Rattle.yaml_scan_laws.proofs.Words.{nat_tests, cases_Bool, yaml_mark_t, mark_at, Wrong, gap_place, Kind, Lexeme, is_end, placed, flow_depth, key_allowed, candidate, fresh, WordText, lexeme_at, Next, Read, Fails, Ends, begun, finished, allowed_behind, misplaced, missed, lost_by, next, StandsIn}
 use Rattle.yaml_scan_history.specs.Between.{Gap, gap_at}
-use Rattle.yaml_scan_history.specs.Stepwise.{no_colon, tested, unless_wrong, unless_lost, of_kind, unless_missed}
+use Rattle.yaml_scan_history.specs.Stepwise.{tested, unless_wrong, unless_lost, of_kind, unless_missed}
 use Rattle.yaml_scan_history.proofs.StepwiseLemmas.{stepwise}
 use Rattle.yaml_scan_laws.proofs.WordForward.{Fits, FitsAny, kind_fits, LandsWord, IsWordFrom, word_lands}
 
@@ -35,9 +35,7 @@ start_index text q l b = ap (λ (m : yaml_mark_t). m.index) b.start ∙ placed_i
 
 ended_follows : (text : List ℕ) (p q : ℕ) (l : Lexeme) → IsBegun text q l → p ≤ q → q ≤ length text
     → is_end l.kind ≡ true → Follows text p l
-ended_follows text p q l b f i e =
-    let same = start_index text q l b in
-    rw e (omega (arith, same), record { start = b.start ∙ ap (λ i. placed l.kind (mark_at text i)) (sym same); end = b.end; reached = b.reached; inside = omega (arith, same) })
+ended_follows text p q l b f i e = grind (arith, nat_tests, start_index)
 
 -- a lexeme with what it carries and its end
 abbrev pub with_end : List ℕ → Lexeme → WordText → Lexeme
@@ -83,8 +81,7 @@ kind_reads (Some k) text p gap h f i fits =
 
 missed_reads : (o : Option yaml_mark_t) (text : List ℕ) (p : ℕ) (gap : Gap) (h : List Lexeme)
     → p ≤ gap.place → gap.place ≤ length text → ReadsBehind text p (unless_missed o text gap h)
-missed_reads (Some start) text p gap h f i = tt
-missed_reads None text p gap h f i = kind_reads (kind_at (nat_lt 0 (flow_depth h)) text gap.place) text p gap h f i (kind_fits (nat_lt 0 (flow_depth h)) text gap.place)
+missed_reads o text p gap h f i = grind (arith, nat_tests, kind_reads, kind_fits)
 
 -- after a lexeme that isn't the stream's end
 pub next_reads : (text : List ℕ) (x : Lexeme) (h : List Lexeme) → is_end x.kind ≡ false

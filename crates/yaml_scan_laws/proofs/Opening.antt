@@ -1,6 +1,6 @@
 -- A front without fault, whatever brackets it leaves open: the whole begins with its tokens, and a mark in its end's place.
-use Rattle.std.proofs.Common.{◌≡◌, ℕ, zero, suc, ◌+◌, ◌-◌, ◌<◌, ◌≤◌, ◌==◌, ◌&&◌, nat_lt, nat_le, if◌then◌else◌, true, false, List, [], ◌∷◌, ◌++◌, take, drop, filter, replicate, length, Option, Some, None, refl, sym, ap, subst, ◌∙◌, inl, inr, arith, ◌≢◌, map}
-use Rattle.yaml_scan_laws.proofs.Shared.{cases_Bool, true≢false, nat_tests, flat_map-append, append-nil, append_assoc, same_from_push, take-append-drop, flat_map, none-some, same_Some, yaml_encoding_t, yaml_mark_t, ScanFault, byte, ends_break, line_at, mark_at, Token, TokenBody, block_end, is_document_start, is_document_end, Kind, Lexeme, is_outside, is_start, is_value, is_end, cancels, depth_after, flow_depth, in_flow, ended, Candidate, candidate, is_fresh, fresh, open_at, first_open, open_levels, entry_of, finished_tokens, placed, lexeme_at, Read, Fails, Ends, gap_behind, place_behind, kind_behind, begun_behind, word_behind, lexeme_behind, missed, lost_by, colon_missing_of, stale_before, indicator_misplaced, candidate_lost, text_wrong, stale_after, coming, next, extended, history, first_fault_or, no_start, first_lexeme, SpelledText, body_by, token_in, start_tokens, end_tokens, spell, all, handed, kept_of, remaining, body_in, length-entries, Stands, history_stands, first_is, not_ended, all_ends, settled_stays, line_at-grows, IsCut, scan_of, fault_next, moved_token, moved_lexeme, take-length, le-ltb, offline}
+use Rattle.std.proofs.Common.{◌≡◌, ℕ, zero, suc, ◌+◌, ◌-◌, ◌<◌, ◌≤◌, ◌==◌, ◌&&◌, nat_lt, nat_le, if◌then◌else◌, true, false, List, [], ◌∷◌, ◌++◌, take, drop, filter, replicate, length, Option, Some, None, refl, sym, ap, subst, ◌∙◌, inl, inr, arith, map}
+use Rattle.yaml_scan_laws.proofs.Shared.{cases_Bool, true≢false, nat_tests, flat_map-append, append-nil, append_assoc, same_from_push, take-append-drop, flat_map, none-some, same_Some, yaml_encoding_t, yaml_mark_t, ScanFault, byte, ends_break, line_at, mark_at, Token, TokenBody, block_end, is_document_start, is_document_end, Kind, Lexeme, is_outside, is_start, is_value, is_end, cancels, depth_after, flow_depth, in_flow, ended, Candidate, candidate, fresh, open_at, first_open, open_levels, entry_of, finished_tokens, placed, lexeme_at, Read, Fails, Ends, gap_behind, place_behind, begun_behind, word_behind, lexeme_behind, missed, lost_by, colon_missing_of, stale_before, indicator_misplaced, candidate_lost, text_wrong, stale_after, coming, next, extended, history, first_fault_or, first_lexeme, SpelledText, body_by, token_in, spell, all, handed, kept_of, remaining, body_in, length-entries, Stands, history_stands, first_is, not_ended, all_ends, settled_stays, line_at-grows, IsCut, scan_of, fault_next, moved_token, moved_lexeme, take-length, le-ltb, offline}
 use Rattle.yaml_scan_history.specs.scan_types.Tokens as tokens
 use Rattle.yaml_scan_history.specs.declared.kind.Kind.TheVariants as kinds
 use Rattle.yaml_scan_laws.proofs.Cutting.{byte_past, last_byte, line_ended}
@@ -21,13 +21,10 @@ never_ends : (a b c e f : Option ScanFault) (l : Lexeme)
 never_ends a b c e f l is = grind (arith, nat_tests)
 
 never_over : (a : Option ScanFault) (f : ScanFault) → first_fault_or (a ∷ []) (Fails f) ≡ Ends → ⊥
-never_over (Some x) f is = cc
-never_over None f is = cc
+never_over a f is = grind (arith, nat_tests)
 
 pub coming_goes : (o : Option Kind) (t : List ℕ) (h : List Lexeme) → coming o t h ≡ Ends → ⊥
-coming_goes None t h e = never_over (stale_before t h) (no_start (place_behind t h)) e
-coming_goes (Some k) t h e =
-    never_ends (stale_before t h) (indicator_misplaced k t h) (candidate_lost k t h) (text_wrong k t h) (stale_after (lexeme_behind k t h) h) (lexeme_behind k t h) e
+coming_goes o t h e = grind (arith, nat_tests, never_over, never_ends)
 
 pub first_goes : (t : List ℕ) → next t [] ≡ Ends → ⊥
 unfolding next
@@ -170,10 +167,7 @@ late_line x y p q l = grind (arith, nat_tests)
 -- none of them is open in that line
 none_fresh : (line : ℕ) (o : Option Candidate) (m : yaml_mark_t) → line ≤ m.line
     → ((c : Candidate) → o ≡ Some c → c.lexeme.start.line < line) → fresh o m ≡ None
-none_fresh line None m l h = refl
-none_fresh line (Some c) m l h =
-    let low = h c refl in
-    rw (late_line m.line c.lexeme.start.line m.index (c.lexeme.start.index + 1024) (omega (arith, l, low))) refl
+none_fresh line o m l h = grind (arith, nat_tests, late_line)
 
 -- and what isn't missed there isn't required
 none_missed : (line : ℕ) (o : Option Candidate) (m n : yaml_mark_t) → line ≤ m.line
@@ -183,8 +177,7 @@ none_missed line o m n l h e = grind (arith, nat_tests, late_line, some_none)
 pub none_open : (H h : List Lexeme) → ((e : ℕ) → open_at e H ≡ None) → first_open H h ≡ length h
 unfolding first_open
 none_open H [] shut = refl
-none_open H (l ∷ h) shut =
-    rw (none_open H h shut, shut l.depth, le-ltb (length h) (length h) (omega arith)) refl
+none_open H (l ∷ h) shut = grind (arith, nat_tests, le-ltb, none_open H h shut)
 
 -- ---- the mark there
 
@@ -274,12 +267,7 @@ closings d H m = replicate (length (open_levels H) - length (if nat_lt 0 d then 
 pub outer_spelled : (s : SpelledText) (l : Lexeme) (H : List Lexeme) (K : Kind) → l.kind ≡ K
     → is_outside K ≡ true → is_start K ≡ false
     → spell s (entry_of l H) ≡ closings l.depth H l.start ++ token_in s l ∷ []
-outer_spelled s l H K k out start =
-    let ends : end_tokens (entry_of l H) ≡ closings l.depth H l.start = rw (k, out) refl in
-    let opens : start_tokens (entry_of l H).opens l ≡ [] = rw (k, start) refl in
-    ap (λ y. (y ++ start_tokens (entry_of l H).opens l) ++ token_in s l ∷ []) ends
-    ∙ ap (λ y. (closings l.depth H l.start ++ y) ++ token_in s l ∷ []) opens
-    ∙ ap (λ y. y ++ token_in s l ∷ []) (append-nil (closings l.depth H l.start))
+outer_spelled s l H K k out start = grind (arith, nat_tests, append-nil)
 
 pub outer_entries : (l : Lexeme) (H : List Lexeme) (K : Kind) → l.kind ≡ K → is_value K ≡ false
     → finished_tokens (l ∷ H) ≡ finished_tokens H ++ entry_of l H ∷ []

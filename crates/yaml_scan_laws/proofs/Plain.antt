@@ -1,5 +1,5 @@
 -- The value of a plain scalar is UTF-8, and the text may be cut after it.
-use Rattle.std.proofs.Common.{◌≡◌, ℕ, zero, suc, ◌+◌, ◌<◌, ◌==◌, ◌&&◌, ◌||◌, nat_lt, if◌then◌else◌, Bool, true, false, List, [], ◌∷◌, ◌++◌, length, drop, Result, Ok, Err, refl, sym, true≢false, inl, inr, arith, IsUtf8}
+use Rattle.std.proofs.Common.{◌≡◌, ℕ, zero, suc, ◌+◌, ◌<◌, ◌==◌, ◌&&◌, ◌||◌, nat_lt, if◌then◌else◌, Bool, true, false, List, [], ◌∷◌, ◌++◌, length, drop, Result, Ok, Err, true≢false, inl, inr, arith, IsUtf8}
 use Rattle.yaml_scan_laws.proofs.TextWords.{cases_Bool, ltb-true, and_parts, or_cases, nat_tests, byte, break_width, column_at, is_blank, is_blank_or_end, is_document_indicator, Wrong, within, Piece, Kept, Blank, Break, is_bracket, after_white, leads, PlainSpot, Takes, Faulty, ends_at, spot_at, Words, is_nothing, with_piece, words_from, follows, words, PlainText, plain_with, plain_text, plain_at}
 use Rattle.yaml_scan_history.specs.Plain.{Ends}
 use Rattle.yaml_scan_history.proofs.PlainLemmas.{not_ended}
@@ -75,8 +75,7 @@ record AreWords (u text : List ℕ) (w : Words) : Type 0 where
   pub place : IsWhole text w.place
 
 nothing_is : (ps : List Piece) → is_nothing ps ≡ true → ps ≡ []
-nothing_is [] h = refl
-nothing_is (x ∷ xs) h = absurd (true≢false (sym h))
+nothing_is ps h = grind (arith, nat_tests, true≢false)
 
 piece_goes : (u text : List ℕ) (q : ℕ) (x : Piece) (w : Words) → GoesBefore u x text q
     → ((v : List ℕ) → Waits v text q → AreWords v text w) → AreWords u text (with_piece x q w)
@@ -129,8 +128,7 @@ HasPlain text (Err w) = Unit {0}
 
 with_good : (text : List ℕ) (r : Result Words Wrong) → Good [] text r
     → HasPlain text (plain_with plain_text r)
-with_good text (Ok w) h = record { value = value_utf8 w.pieces h.goes; place = h.place }
-with_good text (Err e) h = tt
+with_good text r h = grind (arith, nat_tests, value_utf8)
 
 -- a plain scalar that starts inside the text, where it may be cut
 pub plain_utf8 : (flow : Bool) (level : ℕ) (text : List ℕ) (p : ℕ) → IsUtf8 text → IsWhole text p

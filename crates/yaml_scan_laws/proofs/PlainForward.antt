@@ -1,6 +1,6 @@
 -- Plain scalars, and the white after them, end after their start, inside the text.
 use Rattle.std.proofs.Common.{ℕ, zero, suc, ◌+◌, ◌<◌, ◌≤◌, ◌==◌, ◌&&◌, ◌||◌, nat_lt, Bool, List, [], ◌∷◌, length, Result, Ok, Err, inl, inr, arith}
-use Rattle.yaml_scan_laws.proofs.Words.{cases_Bool, ltb-true, byte, break_width, column_at, is_blank, Wrong, within, past_break, Piece, Kept, Blank, Break, is_bracket, leads, PlainSpot, Takes, Faulty, ends_at, spot_at, Words, is_nothing, with_piece, words_from, follows, words, PlainText, plain_with, plain_text, plain_at}
+use Rattle.yaml_scan_laws.proofs.Words.{nat_tests, cases_Bool, ltb-true, byte, break_width, column_at, is_blank, Wrong, within, past_break, Piece, Kept, is_bracket, leads, PlainSpot, Takes, Faulty, ends_at, spot_at, Words, with_piece, words_from, follows, words, PlainText, plain_with, plain_text, plain_at}
 use Rattle.yaml_scan_history.specs.Plain.{Ends}
 use Rattle.yaml_scan_history.proofs.PlainLemmas.{not_ended, blank_inside}
 
@@ -51,17 +51,12 @@ Land text p (Err e) = Unit {0}
 
 from_lands : (text : List ℕ) (p : ℕ) (x : Piece) (q : ℕ) (r : Result Words Wrong) → p ≤ q
     → Land text q r → Land text p (words_from x q r)
-from_lands text p x q (Ok w) l h =
-    let more = piece_words text q x w h in
-    record { end = omega (arith, l, more.end); place = more.place; inside = more.inside }
-from_lands text p x q (Err e) l h = tt
+from_lands text p x q r l h = grind (arith, nat_tests, piece_words)
 
 follows_lands : (more : ℕ → Result Words Wrong) (text : List ℕ) (p : ℕ) (s : PlainSpot)
     → p ≤ length text → ((q : ℕ) → q ≤ length text → Land text q (more q)) → Fits text p s
     → Land text p (follows more p s)
-follows_lands more text p Ends l rest f = record { end = omega arith; place = omega arith; inside = l }
-follows_lands more text p (Takes x q) l rest f = from_lands text p x q (more q) (omega (arith, f.0)) (rest q f.1)
-follows_lands more text p (Faulty w) l rest f = tt
+follows_lands more text p s l rest f = grind (arith, nat_tests, from_lands)
 
 words_land : (n : ℕ) (flow : Bool) (level : ℕ) (text : List ℕ) (p : ℕ) → p ≤ length text
     → Land text p (words n flow level text p)
@@ -81,8 +76,7 @@ LandsPlain text p (Err w) = Unit {0}
 
 with_lands : (text : List ℕ) (p : ℕ) (r : Result Words Wrong) → Land text p r
     → LandsPlain text p (plain_with plain_text r)
-with_lands text p (Ok w) h = record { end = h.end; place = h.place; inside = h.inside }
-with_lands text p (Err e) h = tt
+with_lands text p r h = grind (arith, nat_tests)
 
 -- a plain scalar ends after its first byte
 pub plain_place : (flow : Bool) (level : ℕ) (text : List ℕ) (p : ℕ) → p < length text

@@ -1,6 +1,6 @@
 -- Plain scalars are the same in both texts.
-use Rattle.std.proofs.Common.{◌≡◌, ℕ, zero, suc, ◌+◌, ◌-◌, ◌<◌, ◌≤◌, ◌==◌, ◌&&◌, ◌||◌, nat_lt, if◌then◌else◌, Bool, true, false, not, List, [], ◌∷◌, length, Result, Ok, Err, refl, sym, ap, ◌∙◌, inl, inr, ◌⊎◌, arith, add_assoc}
-use Rattle.yaml_scan_laws.proofs.Shared.{cases_Bool, cases_lt, eqb-true, ltb-true, true≢false, nat_tests, byte, break_of, break_width, column_at, is_blank, break_value, is_document_indicator, Wrong, Piece, Kept, Blank, Break, is_bracket, is_indicator_byte, starts_plain, after_white, leads, PlainSpot, Takes, Faulty, ends_at, spot_at, Words, is_nothing, with_piece, words_from, words, PlainText, plain_with, plain_text, plain_at, within, Alike, is_onward}
+use Rattle.std.proofs.Common.{◌≡◌, ℕ, zero, suc, ◌+◌, ◌-◌, ◌<◌, ◌≤◌, ◌==◌, ◌&&◌, ◌||◌, nat_lt, if◌then◌else◌, Bool, true, false, not, List, [], ◌∷◌, length, Result, refl, sym, ap, ◌∙◌, inl, inr, ◌⊎◌, arith, add_assoc}
+use Rattle.yaml_scan_laws.proofs.Shared.{cases_Bool, cases_lt, eqb-true, ltb-true, nat_tests, byte, break_of, break_width, column_at, is_blank, break_value, is_document_indicator, Wrong, Piece, Kept, is_bracket, is_indicator_byte, starts_plain, after_white, leads, PlainSpot, Takes, Faulty, ends_at, spot_at, Words, with_piece, words_from, words, PlainText, plain_with, plain_text, plain_at, within, Alike, is_onward}
 use Rattle.yaml_scan_history.specs.Plain.{Ends}
 use Rattle.yaml_scan_laws.proofs.Bytes.{IsQuiet, quiet_edge, quiet_break, width_alike, end_alike, next_byte, next_end, column_alike, indicator_alike, and_alike, or_alike}
 use Rattle.yaml_scan_laws.proofs.Gaps.{moved_wrong, moved_by, At, at_step, at_break, OkIs, ReadAlike}
@@ -81,8 +81,7 @@ mark_onward b h = grind (arith, nat_tests)
 
 if_same : (c : Bool) (a b x y : Bool) → a ≡ b → x ≡ y
     → (if c then a else x) ≡ (if c then b else y)
-if_same true a b x y h k = h
-if_same false a b x y h k = k
+if_same c a b x y h k = grind (arith, nat_tests)
 
 left_alike : (t u : List ℕ) (d m x level : ℕ) → Alike t u d m → Led t x → x + 1 < m
     → (leads u (d + (x + 1)) && nat_lt (column_at u (d + (x + 1))) level)
@@ -188,9 +187,7 @@ unfolding ends_at
 quiet_indicator_ends u p flow level v4 = grind (arith, nat_tests)
 
 quiet_not_blank : (b : ℕ) → IsQuiet b → is_blank b ≡ false
-quiet_not_blank b (inl z) = rw z refl
-quiet_not_blank b (inr (inl z)) = rw z refl
-quiet_not_blank b (inr (inr z)) = rw z refl
+quiet_not_blank b h1 = grind (arith, nat_tests)
 
 edge_ends : (u : List ℕ) (p : ℕ) (flow : Bool) (level : ℕ) → IsQuiet (byte u p)
     → (byte u p ≡ 0) ⊎ (is_document_indicator u p ≡ true) → spot_at flow level u p ≡ Ends
@@ -209,8 +206,7 @@ piece_moved d q x w = grind (arith, nat_tests)
 from_moved : (d q : ℕ) (x : Piece) (r : Result Words Wrong)
     → words_from x (d + q) (moved_by (moved_words d) d r)
     ≡ moved_by (moved_words d) d (words_from x q r)
-from_moved d q x (Ok w) = ap Ok (piece_moved d q x w)
-from_moved d q x (Err e) = refl
+from_moved d q x r = grind (arith, nat_tests, piece_moved)
 
 -- the words are the same, and end within
 abbrev pub PlacedIn : ℕ → Result Words Wrong → Type 0
@@ -231,25 +227,20 @@ words_end : (t u : List ℕ) (d m : ℕ) (flow : Bool) (level p n o : ℕ) → p
     → spot_at flow level t p ≡ Ends → spot_at flow level u (d + p) ≡ Ends
     → Told t u d m flow level p n o
 unfolding words
-words_end t u d m flow level p zero o l fuel short more long e f = absurd (omega (arith, fuel, short))
-words_end t u d m flow level p (suc n) zero l fuel short more long e f = absurd (omega (arith, more, long))
-words_end t u d m flow level p (suc n) (suc o) l fuel short more long e f = rw (e, f) record { same = refl; placed = l }
+words_end t u d m flow level p n o l fuel short more long e f = grind (arith, nat_tests)
 
 words_fail : (t u : List ℕ) (d m : ℕ) (flow : Bool) (level p n o : ℕ) (w : Wrong)
     → length t < p + n → p ≤ length t → length u < d + p + o → d + p ≤ length u
     → spot_at flow level t p ≡ Faulty w → spot_at flow level u (d + p) ≡ Faulty (moved_wrong d w)
     → Told t u d m flow level p n o
 unfolding words
-words_fail t u d m flow level p zero o w fuel short more long e f = absurd (omega (arith, fuel, short))
-words_fail t u d m flow level p (suc n) zero w fuel short more long e f = absurd (omega (arith, more, long))
-words_fail t u d m flow level p (suc n) (suc o) w fuel short more long e f = rw (e, f) record { same = refl; placed = tt }
+words_fail t u d m flow level p n o w fuel short more long e f = grind (arith, nat_tests)
 
 words_more : (t u : List ℕ) (d m : ℕ) (flow : Bool) (level p n o : ℕ) (x : Piece) (q : ℕ)
     → spot_at flow level t p ≡ Takes x q → spot_at flow level u (d + p) ≡ Takes x (d + q)
     → Told t u d m flow level q n o → Told t u d m flow level p (suc n) (suc o)
 unfolding words
-words_more t u d m flow level p n o x q e f step =
-    rw (e, f, step.same) record { same = from_moved d q x (words n flow level t q); placed = from_placed m q x (words n flow level t q) step.placed }
+words_more t u d m flow level p n o x q e f step = grind (arith, nat_tests, from_moved, from_placed)
 
 pub left_step : (p n x : ℕ) → x < p + n → p ≤ x → (k : ℕ) × (n ≡ suc k)
 left_step p zero x h l = absurd (omega (arith, h, l))
@@ -301,15 +292,13 @@ moved_plain d x = record { value = x.value; end = d + x.end; place = d + x.place
 plain_moved : (d : ℕ) (r : Result Words Wrong)
     → plain_with plain_text (moved_by (moved_words d) d r)
     ≡ moved_by (moved_plain d) d (plain_with plain_text r)
-plain_moved d (Ok w) = refl
-plain_moved d (Err e) = refl
+plain_moved d r = grind (arith, nat_tests)
 
 abbrev pub PlainIn : ℕ → Result PlainText Wrong → Type 0
 PlainIn m r = OkIs (λ (x : PlainText). x.place ≤ m) r
 
 plain_in : (m : ℕ) (r : Result Words Wrong) → PlacedIn m r → PlainIn m (plain_with plain_text r)
-plain_in m (Ok w) h = h
-plain_in m (Err e) h = tt
+plain_in m r h = grind (arith, nat_tests)
 
 -- a plain scalar is the same, moved, and ends within
 pub plain_alike : (t u : List ℕ) (d m : ℕ) (flow : Bool) (level p : ℕ) → Alike t u d m → p < m

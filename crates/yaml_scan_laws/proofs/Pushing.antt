@@ -1,10 +1,9 @@
 -- Levels that close and open, what is after lexemes, and what is known after one more.
-use Rattle.std.proofs.Common.{◌≡◌, ◌⊎◌, ℕ, ◌-◌, ◌<◌, ◌≤◌, nat_lt, nat_le, cond, Bool, true, false, List, [], ◌∷◌, ◌++◌, length, refl, ap, ◌∙◌, inl, inr, arith, ◌&&◌, ◌||◌, not, Option, Some, None, Result, Ok, ◌+◌, ◌==◌, sym, subst}
+use Rattle.std.proofs.Common.{◌≡◌, ◌⊎◌, ℕ, ◌-◌, ◌<◌, ◌≤◌, nat_lt, nat_le, cond, Bool, true, false, List, [], ◌∷◌, ◌++◌, length, refl, ap, ◌∙◌, inl, inr, arith, ◌&&◌, ◌||◌, not, Option, Some, None, Ok, ◌+◌, ◌==◌, sym, subst}
 use Rattle.std.specs.Prelude.{filter}
-use Rattle.yaml_scan_laws.proofs.LevelWords.{cases_Bool, nat_tests, Kind, is_outside, indent, left_by, opened, margin_at, Rises, InsideLeaves, RightLeaves, LeftCloses, yaml_mark_t, column_at, mark_at, Wrong, Gap, Lexeme, cancels, is_value, is_start, is_end, flow_depth, reached, ended, Candidate, candidate, fresh, is_fresh, has, placed, open_levels, WordText, kind_at, lexeme_at, Next, Read, Ends, begun, finished, gap_behind, allowed_behind, misplaced, missed, lost_by, level_in, kind_behind, coming, next, no_colon, not_allowed, tested, unless_wrong, unless_lost, of_kind, unless_missed, behind, Came, IsFree, InTime, read_at, MetIsRead, not-true, and_parts, Entry, Opens, depth_after, may_be_key, opens_at, start_of, level_of, marked, finished_tokens, SpelledText, body_of_word, body_by, Says, Front, Idle, Meets, entry, IsPlaced, stays_level, WordIsRead, MarkIsRead, OuterIsRead, ltb-true}
+use Rattle.yaml_scan_laws.proofs.LevelWords.{cases_Bool, nat_tests, Kind, is_outside, indent, left_by, opened, margin_at, Rises, InsideLeaves, RightLeaves, LeftCloses, yaml_mark_t, column_at, mark_at, Gap, Lexeme, cancels, is_value, is_start, is_end, flow_depth, reached, ended, Candidate, candidate, fresh, is_fresh, has, open_levels, WordText, kind_at, lexeme_at, Next, Read, begun, finished, gap_behind, allowed_behind, misplaced, missed, lost_by, level_in, next, tested, behind, Came, IsFree, InTime, read_at, MetIsRead, not-true, and_parts, Entry, Opens, depth_after, may_be_key, opens_at, start_of, level_of, marked, finished_tokens, SpelledText, body_by, Says, Front, Idle, Meets, entry, IsPlaced, stays_level, WordIsRead, MarkIsRead, OuterIsRead}
 use Rattle.yaml_scan_history.proofs.StepwiseLemmas.{stepwise}
 use Rattle.yaml_scan_laws.proofs.NextForward.{placed_same}
-use Rattle.yaml_scan_history.specs.declared.kind.Kind.TheVariants as kinds
 use Rattle.yaml_scan_history.specs.declared.lexeme.Opens.TheVariants as opening
 use Rattle.yaml_scan_laws.proofs.WordForward.{FitsAny, kind_fits}
 
@@ -99,26 +98,21 @@ pub stays_right : (k : Kind) (d c : ℕ) (ms : List ℕ) → is_outside k ≡ fa
 stays_right k d c ms e r i = right_by (nat_lt 0 d) (is_outside k) k c ms e r i
 
 pub unless_so : (b : Bool) (x y : Next) → b ≡ false → cond b x y ≡ y
-unless_so false x y e = refl
-unless_so true x y e = absurd (cc)
+unless_so b x y e = grind (arith, nat_tests)
 
 -- ---- candidates in time
 
 missed_free : (c : Candidate) (m : yaml_mark_t)
     → (c.lexeme.required ≡ false) ⊎ (is_fresh c.lexeme.start m ≡ true) → missed (Some c) m ≡ None
-missed_free c m (inl e) = rw e refl
-missed_free c m (inr e) = elim (cases_Bool c.lexeme.required) [ inl x ↦ rw (x, e) refl | inr x ↦ rw x refl ]
+missed_free c m h2 = grind (arith, nat_tests, cases_Bool)
 
 -- a candidate that is in time is not missed
 pub missed_none : (o : Option Candidate) (m : yaml_mark_t) → InTime o m → missed o m ≡ None
-missed_none None m t = refl
-missed_none (Some c) m t = missed_free c m t
+missed_none o m t = grind (arith, nat_tests, missed_free)
 
 pub fresh_in_time : (o : Option Candidate) (at m : yaml_mark_t) → InTime o m
     → missed (fresh o at) m ≡ None
-fresh_in_time None at m t = refl
-fresh_in_time (Some c) at m t =
-    elim (cases_Bool (is_fresh c.lexeme.start at)) [ inl x ↦ rw x (missed_free c m t) | inr x ↦ rw x refl ]
+fresh_in_time o at m t = grind (arith, nat_tests, cases_Bool, missed_free)
 
 lost_free : (saved cancel : Bool) (required : Bool) (start : yaml_mark_t)
     → ((saved || cancel) ≡ true → required ≡ false)
@@ -149,8 +143,7 @@ finished_is text l w e = rw e refl
 
 pub tested_read : (l : Lexeme) (h : List Lexeme) → InTime (candidate 0 (l ∷ h)) l.reached
     → tested l h ≡ Read l
-tested_read l h u =
-    ap (λ o. elim o as (λ _. Next) [ Some start ↦ no_colon start l.reached | None ↦ Read l ]) (missed_none (candidate 0 (l ∷ h)) l.reached u)
+tested_read l h u = grind (arith, nat_tests, missed_none)
 
 -- after a gap that ends at a place, where a key may begin or not
 of_place : (text : List ℕ) (gap : Gap) (h : List Lexeme) (k : Kind) (q : ℕ) (a : Bool)
@@ -168,8 +161,7 @@ of_place text gap h k q a w place allowed goes kind said placed_so none lost tim
 pub came_some : (text : List ℕ) (h : List Lexeme) → Came text h → ended h ≡ false
     → next text h ≡ behind text (gap_behind text h) h
 unfolding Came next
-came_some text [] came e = absurd came
-came_some text (l ∷ h) came e = unless_so (is_end l.kind) Ends (coming (kind_behind text (l ∷ h)) text (l ∷ h)) e ∙ stepwise text (l ∷ h)
+came_some text h came e = grind (arith, nat_tests, unless_so, stepwise)
 
 pub met_is_read : MetIsRead
 met_is_read text h d ms es k q a w f goes meets is_placed due free time = grind (arith, nat_tests, in_place, lost_none, came_some, of_place, fresh_in_time)
@@ -177,8 +169,7 @@ met_is_read text h d ms es k q a w f goes meets is_placed due free time = grind 
 -- ---- kinds
 
 pub goes_on : (k : Kind) → is_outside k ≡ false → is_end k ≡ false
-goes_on kinds.StreamEnd e = absurd (cc)
-goes_on k e = refl
+goes_on k e = grind (arith, nat_tests)
 
 pub start_no_key : (k : Kind) → is_start k ≡ true → may_be_key k ≡ false
 start_no_key k e = grind (arith, nat_tests)
@@ -216,27 +207,21 @@ free_push l h d r e = free_more (l.depth == d) l.saved (cancels l.kind) (nat_lt 
 
 -- what is free is in time
 pub free_in_time : (o : Option Candidate) (m : yaml_mark_t) → IsFree o → InTime o m
-free_in_time None m f = tt
-free_in_time (Some c) m f = inl f
+free_in_time o m f = grind (arith, nat_tests)
 
 pub required_not : (x : Bool) (d n c : ℕ) → (nat_lt 0 d ≡ true) ⊎ (n ≤ c)
     → (x && (d == 0 && n == c + 1)) ≡ false
-required_not false d n c e = refl
-required_not true d n c (inl e) = grind (arith, nat_tests)
-required_not true d n c (inr e) = grind (arith, nat_tests)
+required_not x d n c e = grind (arith, nat_tests)
 
 no_key : (a may more : Bool) → may ≡ false → ((a && may) && more) ≡ false
-no_key true false more e = refl
-no_key false false more e = refl
-no_key a true more e = absurd (cc)
+no_key a may more e = grind (arith, nat_tests)
 
 -- ---- one lexeme more
 
 pub came_push : (text : List ℕ) (l : Lexeme) (h : List Lexeme) → Came text h → next text h ≡ Read l
     → Came text (l ∷ h)
 unfolding Came
-came_push text l [] came read = absurd came
-came_push text l (x ∷ h) came read = (read, came)
+came_push text l h came read = grind (arith, nat_tests)
 
 -- the level that a lexeme opens, by the candidate that it finds
 abbrev pub opens_by : Option Candidate → Kind → ℕ → ℕ → List ℕ → Opens
@@ -267,19 +252,16 @@ meets_level text h d n k q a w i m e = let P : ℕ → Type 0 = λ x. Meets text
 
 pub lone_marks : (v : Bool) (o : Option Candidate) (ls : List ℕ) (es : List Entry)
     → (v ≡ true → o ≡ None) → cond v (marked o ls es) es ≡ es
-lone_marks false o ls es f = refl
-lone_marks true o ls es f = ap (λ (x : Option Candidate). marked x ls es) (f refl)
+lone_marks v o ls es f = grind (arith, nat_tests)
 
 pub calm_opens : (start value found : Bool) (d m : ℕ) (ls : List ℕ) (what : Opens)
     → (start && not (nat_lt 0 d)) ≡ false
     → cond (not start) opening.Nothing
     (cond (value && found) opening.Nothing (start_of d m ls what)) ≡ opening.Nothing
-calm_opens false value found d m ls what e = refl
-calm_opens true value found d m ls what e = elim (cases_Bool (value && found)) [ inl x ↦ rw x refl | inr x ↦ rw (x, e) refl ]
+calm_opens start value found d m ls what e = grind (arith, nat_tests, cases_Bool)
 
 pub calm_levels : (flag : Bool) (m : ℕ) (ls : List ℕ) → flag ≡ false → opened flag m ls ≡ ls
-calm_levels false m ls e = refl
-calm_levels true m ls e = absurd (cc)
+calm_levels flag m ls e = grind (arith, nat_tests)
 
 calm_flag : (deep start : Bool) → (deep || not start) ≡ true → (start && not deep) ≡ false
 calm_flag deep start e = grind (arith, nat_tests)
@@ -293,9 +275,7 @@ stays_calm k d e = calm_flag (nat_lt 0 d) (is_start k) (and_parts (not (is_outsi
 
 placed_calm : (start deep a taken : Bool) → (start && not deep) ≡ false
     → (start ≡ false) ⊎ ((deep ≡ true) ⊎ ((a ≡ true) ⊎ (taken ≡ true)))
-placed_calm false deep a taken e = inl refl
-placed_calm true true a taken e = inr (inl refl)
-placed_calm true false a taken e = absurd (cc)
+placed_calm start deep a taken e = grind (arith, nat_tests)
 
 pub stays_placed : (text : List ℕ) (h : List Lexeme) (d : ℕ) (k : Kind) (q : ℕ) (a : Bool)
     → stays_level k d ≡ true → IsPlaced text h d k q a
@@ -308,14 +288,12 @@ no_less n = omega arith
 pub level_is : (text : List ℕ) (h : List Lexeme) (d : ℕ) (ms left : List ℕ) (es : List Entry)
     (k : Kind) (c : ℕ) → Front text h d ms es → left_by k d c ms ≡ left
     → level_in k c h ≡ indent left
-level_is text h d ms left es k c f e =
-    ap (λ (n : ℕ). indent (left_by k n c (open_levels h))) f.depth ∙ ap (λ (x : List ℕ). indent (left_by k d c x)) f.levels ∙ ap (λ (x : List ℕ). indent x) e
+level_is text h d ms left es k c f e = grind (arith, nat_tests)
 
 said_body : (k : Kind) (s : SpelledText) (l : Lexeme) (w : WordText)
     → FitsAny (Some k) s.text l.start.index
     → lexeme_at k (nat_lt 0 l.depth) l.level s.text l.start.index ≡ Ok w → body_by k s l ≡ w.body
-said_body kinds.StreamStart s l w f said = absurd f
-said_body k s l w f said = ap (λ (r : Result WordText Wrong). body_of_word r) said
+said_body k s l w f said = grind (arith, nat_tests)
 
 pub body_met : (text : List ℕ) (h : List Lexeme) (d : ℕ) (ms left : List ℕ) (es : List Entry)
     (k : Kind) (q : ℕ) (a : Bool) (w : WordText) → Front text h d ms es
@@ -363,8 +341,7 @@ word_is_read text h d ms es k q a w f idle stays meets right lone =
 
 lone_at : (o : Option Candidate) (k : Kind) (c : ℕ) → (is_value k ≡ true → o ≡ None)
     → opens_at o k c ≡ margin_at c
-lone_at None k c f = refl
-lone_at (Some x) k c f = elim (cases_Bool (is_value k)) [ inl e ↦ let g = f e in absurd (cc) | inr e ↦ rw e refl ]
+lone_at o k c f = grind (arith, nat_tests, cases_Bool)
 
 mark_opens : (start value : Bool) (o : Option Candidate) (what : Opens) → start ≡ true
     → (value ≡ true → o ≡ None)
@@ -373,8 +350,7 @@ mark_opens start value o what e f = grind (arith, nat_tests)
 
 mark_new : (start : Bool) (m : ℕ) (ls : List ℕ) → start ≡ true
     → opened (start && not (nat_lt 0 0)) m ls ≡ opened true m ls
-mark_new true m ls e = refl
-mark_new false m ls e = absurd (cc)
+mark_new start m ls e = grind (arith, nat_tests)
 
 pub mark_is_read : MarkIsRead
 mark_is_read text h ms ls n es k q w f idle start meets leaves lone =
@@ -406,8 +382,7 @@ all_less : (n : ℕ) → n - 0 ≡ n
 all_less n = omega arith
 
 pub unkeyed : (v : Bool) (xs es : List Entry) → v ≡ false → cond v xs es ≡ es
-unkeyed false xs es e = refl
-unkeyed true xs es e = absurd (cc)
+unkeyed v xs es e = grind (arith, nat_tests)
 
 pub outer_is_read : OuterIsRead
 unfolding Rises indent

@@ -74,9 +74,7 @@ hex_whole : (n : ℕ) (text : List ℕ) (p : ℕ) → IsUtf8 text → 0 < n → 
     → IsWhole text (p + n)
 unfolding hex_value
 hex_whole zero text p u h s = absurd (omega arith)
-hex_whole (suc n) text p u h s =
-    let e : p + n + 1 ≡ p + suc n = omega arith in
-    rw e at (whole_after text (p + n) u (digit_small (byte text (p + n)) (last_digit (hex_value text p n) (hex_digit (byte text (p + n))) s)))
+hex_whole (suc n) text p u h s = grind (arith, nat_tests, whole_after, digit_small, last_digit)
 
 -- what a letter spells, and the letter
 abbrev IsSimple : ℕ → Option (List ℕ) → Type 0
@@ -85,8 +83,7 @@ IsSimple b (Some bytes) = IsUtf8 bytes × (b < 128)
 
 one_byte : (test : Bool) (b c : ℕ) (o : Option (List ℕ)) → (test ≡ true → b < 128) → c < 128
     → IsSimple b o → IsSimple b (if test then Some (c ∷ []) else o)
-one_byte true b c o s l h = (ascii_utf8 c l, s refl)
-one_byte false b c o s l h = h
+one_byte test b c o s l h = grind (arith, nat_tests, ascii_utf8)
 
 one_char : (test : Bool) (b c : ℕ) (bytes : List ℕ) (o : Option (List ℕ)) → (test ≡ true → b < 128)
     → IsScalar c → bytes ≡ encode_utf8 c → IsSimple b o
@@ -99,8 +96,7 @@ is_small b c l h = grind (arith, nat_tests)
 
 same_byte : (test : Bool) (b : ℕ) (o : Option (List ℕ)) → (test ≡ true → b < 128) → IsSimple b o
     → IsSimple b (if test then Some (b ∷ []) else o)
-same_byte true b o s h = (ascii_utf8 b (s refl), s refl)
-same_byte false b o s h = h
+same_byte test b o s h = grind (arith, nat_tests, ascii_utf8)
 
 simple_is : (b : ℕ) → IsSimple b (simple_escape b)
 unfolding simple_escape
@@ -122,10 +118,7 @@ simple_is b =
 
 escaped_fits : (u text : List ℕ) (p : ℕ) (o : Option (List ℕ)) → IsUtf8 text → IsUtf8 u
     → IsSimple (byte text (p + 1)) o → Fits u text p (escaped p o)
-escaped_fits u text p None t a h = tt
-escaped_fits u text p (Some bytes) t a (b, s) =
-    let e : p + 1 + 1 ≡ p + 2 = omega arith in
-    kept_fits u text bytes (p + 2) a b (rw e at (whole_after text (p + 1) t s))
+escaped_fits u text p o t a h = grind (arith, nat_tests, kept_fits, whole_after)
 
 escape_fits : (u text : List ℕ) (p : ℕ) → IsUtf8 text → IsUtf8 u → Fits u text p (escape_at text p)
 unfolding escape_at
@@ -143,14 +136,7 @@ escape_fits u text p t a =
 quote_fits : (u text : List ℕ) (quote p : ℕ) → IsUtf8 text → IsUtf8 u → byte text p < 128
     → Fits u text p (quote_at quote text p)
 unfolding quote_at
-quote_fits u text quote p t a s =
-    elim (cases_Bool (quote == 39 && byte text (p + 1) == 39)) [
-      | inl h ↦
-          let b : byte text (p + 1) ≡ 39 = eqb-true _ _ (and_parts (quote == 39) (byte text (p + 1) == 39) h).1 in
-          let e : p + 1 + 1 ≡ p + 2 = omega arith in
-          rw h (kept_fits u text (39 ∷ []) (p + 2) a (ascii_utf8 39 (omega arith)) (rw e at (whole_after text (p + 1) t (omega (arith, b)))))
-      | inr h ↦ rw h (a, whole_after text p t s)
-    ]
+quote_fits u text quote p t a s = grind (arith, nat_tests, cases_Bool, eqb-true, and_parts, kept_fits, ascii_utf8, whole_after)
 
 standing_fits : (u text : List ℕ) (quote p : ℕ) → quote < 128 → IsUtf8 text → Waits u text p
     → Fits u text p (standing_at quote text p)
@@ -226,8 +212,7 @@ HasQuoted text (Err w) = Unit {0}
 
 valued_good : (text : List ℕ) (r : Result (List Piece × ℕ) Wrong) → Good [] text r
     → HasQuoted text (valued value r)
-valued_good text (Ok x) h = record { value = value_utf8 x.0 h.goes; place = h.place }
-valued_good text (Err w) h = tt
+valued_good text r h = grind (arith, nat_tests, value_utf8)
 
 -- a quoted scalar
 pub quoted_utf8 : (quote : ℕ) (text : List ℕ) (p : ℕ) → quote < 128 → IsUtf8 text

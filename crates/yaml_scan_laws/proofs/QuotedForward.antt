@@ -1,7 +1,6 @@
 -- Quoted scalars end after their start, inside the text.
-use Rattle.std.proofs.Common.{◌≡◌, ℕ, zero, suc, ◌+◌, ◌*◌, ◌<◌, ◌≤◌, ◌==◌, ◌&&◌, nat_lt, false, List, length, Option, Some, None, option_and_then, option_map, Result, Ok, Err, inl, inr, arith}
-use Rattle.yaml_scan_laws.proofs.Words.{cases_Bool, ltb-true, eqb-true, and_parts, nat_tests, byte, break_width, is_blank, Wrong, within, past_break, behind_bytes, Lands, Piece, value, QuotedSpot, Closing, Pieces, Bad, hex_digit, hex_value, is_scalar, coded, hex_len, simple_escape, escaped, escape_at, quote_at, standing_at, with_front, followed, pieces, quoted_at}
-use Rattle.yaml_scan_history.specs.scan_model.Breaks.{is_document_indicator}
+use Rattle.std.proofs.Common.{◌≡◌, ℕ, zero, suc, ◌+◌, ◌*◌, ◌<◌, ◌≤◌, ◌==◌, false, List, length, Option, Some, None, option_and_then, option_map, Result, arith}
+use Rattle.yaml_scan_laws.proofs.Words.{nat_tests, byte, Wrong, within, past_break, behind_bytes, Lands, Piece, QuotedSpot, Closing, Pieces, Bad, hex_digit, hex_value, coded, simple_escape, escaped, escape_at, quote_at, standing_at, with_front, followed, pieces, quoted_at}
 use Rattle.yaml_scan_history.specs.Quoted.{valued}
 
 -- what is not 0 is more
@@ -15,20 +14,16 @@ IsThere None = ⊥
 
 digit_some : (b : ℕ) → IsThere (hex_digit b) → 0 < b
 unfolding hex_digit
-digit_some zero h = absurd h
-digit_some (suc b) h = omega arith
+digit_some b h = grind (arith, nat_tests)
 
 simple_some : (b : ℕ) → IsThere (simple_escape b) → 0 < b
 unfolding simple_escape
-simple_some zero h = absurd h
-simple_some (suc b) h = omega arith
+simple_some b h = grind (arith, nat_tests)
 
 -- a number of two digits has the last one
 pub last_digit : (a b : Option ℕ)
     → IsThere (option_and_then (λ high. option_map (λ low. high * 16 + low) b) a) → IsThere b
-last_digit None b h = absurd h
-last_digit (Some a) None h = h
-last_digit (Some a) (Some b) h = tt
+last_digit a b h = grind (arith, nat_tests)
 
 hex_inside : (n : ℕ) (text : List ℕ) (p : ℕ) → 0 < n → IsThere (hex_value text p n)
     → p + n ≤ length text
@@ -50,8 +45,7 @@ coded_fits text p spot q o h = grind (arith, nat_tests)
 
 escaped_fits : (text : List ℕ) (p : ℕ) (o : Option (List ℕ)) → (IsThere o → p + 2 ≤ length text)
     → Fits text p (escaped p o)
-escaped_fits text p None h = tt
-escaped_fits text p (Some bytes) h = (omega arith, h tt)
+escaped_fits text p o h = grind (arith, nat_tests)
 
 simple_inside : (text : List ℕ) (p : ℕ) → IsThere (simple_escape (byte text (p + 1)))
     → p + 2 ≤ length text
@@ -75,21 +69,16 @@ behind_pieces x = x.1
 
 front_lands : (text : List ℕ) (p : ℕ) (qs : List Piece) (r : Result (List Piece × ℕ) Wrong)
     → Lands behind_pieces text p r → Lands behind_pieces text p (with_front qs r)
-front_lands text p qs (Ok x) h = h
-front_lands text p qs (Err w) h = tt
+front_lands text p qs r h = grind (arith, nat_tests)
 
 lands_further : {Y : Type 0} (end : Y → ℕ) (text : List ℕ) (o p : ℕ) (r : Result Y Wrong) → o ≤ p
     → Lands end text p r → Lands end text o r
-lands_further end text o p (Ok y) l h = record { forward = omega (arith, l, h.forward); inside = h.inside }
-lands_further end text o p (Err w) l h = tt
+lands_further end text o p r l h = grind (arith, nat_tests)
 
 followed_lands : (more : ℕ → Result (List Piece × ℕ) Wrong) (text : List ℕ) (p : ℕ) (s : QuotedSpot)
     → ((q : ℕ) → Lands behind_pieces text (q + 1) (more q)) → Fits text p s
     → Lands behind_pieces text (p + 1) (followed more p s)
-followed_lands more text p Closing rest f = record { forward = omega arith; inside = omega (arith, f) }
-followed_lands more text p (Pieces qs q) rest f =
-    front_lands text (p + 1) qs (more q) (lands_further behind_pieces text (p + 1) (q + 1) (more q) (omega (arith, f.0)) (rest q))
-followed_lands more text p (Bad w) rest f = tt
+followed_lands more text p s rest f = grind (arith, nat_tests, front_lands, lands_further)
 
 pieces_land : (n quote : ℕ) (text : List ℕ) (p : ℕ)
     → Lands behind_pieces text (p + 1) (pieces n quote text p)
@@ -99,12 +88,9 @@ pieces_land (suc n) quote text p = followed_lands (pieces n quote text) text p (
 
 valued_lands : (text : List ℕ) (p : ℕ) (f : List Piece → List ℕ) (r : Result (List Piece × ℕ) Wrong)
     → Lands behind_pieces text p r → Lands behind_bytes text p (valued f r)
-valued_lands text p f (Ok x) h = h
-valued_lands text p f (Err w) h = tt
+valued_lands text p f r h = grind (arith, nat_tests)
 
 -- a quoted scalar ends after both quotes, inside the text
 pub quoted_place : (quote : ℕ) (text : List ℕ) (p : ℕ)
     → Lands behind_bytes text (p + 1) (quoted_at quote text p)
-quoted_place quote text p =
-    lands_further behind_bytes text (p + 1) (p + 1 + 1) (quoted_at quote text p) (omega arith)
-    (valued_lands text (p + 1 + 1) value (pieces (length text) quote text (p + 1)) (pieces_land (length text) quote text (p + 1)))
+quoted_place quote text p = grind (arith, nat_tests, lands_further, valued_lands, pieces_land)

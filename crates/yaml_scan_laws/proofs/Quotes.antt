@@ -1,6 +1,6 @@
 -- Quoted scalars are the same in both texts, unless they are open where the first one ends.
-use Rattle.std.proofs.Common.{◌≡◌, ◌≢◌, ℕ, zero, suc, ◌+◌, ◌*◌, ◌<◌, ◌≤◌, ◌==◌, ◌&&◌, ◌||◌, nat_lt, Bool, true, false, List, length, Option, Some, None, option_and_then, option_map, Result, Ok, Err, refl, sym, ap, subst, ◌∙◌, inl, inr, ◌⊎◌, arith, add_assoc}
-use Rattle.yaml_scan_laws.proofs.Shared.{cases_Bool, cases_lt, and_parts, eqb-true, ltb-true, nat_tests, byte, break_width, column_at, is_blank, is_blank_or_end, is_document_indicator, Wrong, Piece, value, QuotedSpot, Closing, Pieces, Bad, hex_digit, hex_value, hex_len, is_scalar, coded, simple_escape, escaped, escape_at, quote_at, standing_at, with_front, pieces, quoted_at, in_quotes, Alike, is_onward, none-some}
+use Rattle.std.proofs.Common.{◌≡◌, ◌≢◌, ℕ, zero, suc, ◌+◌, ◌*◌, ◌<◌, ◌≤◌, ◌==◌, ◌&&◌, ◌||◌, nat_lt, Bool, true, false, List, length, Option, Some, None, option_and_then, option_map, Result, Err, refl, sym, ap, subst, ◌∙◌, inl, inr, ◌⊎◌, arith, add_assoc}
+use Rattle.yaml_scan_laws.proofs.Shared.{cases_Bool, cases_lt, and_parts, eqb-true, ltb-true, nat_tests, byte, break_width, column_at, is_blank, is_blank_or_end, is_document_indicator, Wrong, Piece, value, QuotedSpot, Closing, Pieces, Bad, hex_digit, hex_value, hex_len, coded, simple_escape, escaped, escape_at, quote_at, standing_at, with_front, pieces, quoted_at, in_quotes, Alike, is_onward, none-some}
 use Rattle.yaml_scan_history.specs.scan_model.declared.problem.Problem.TheVariants as problems
 use Rattle.yaml_scan_history.specs.scan_model.declared.problem.Context.TheVariants as contexts
 use Rattle.yaml_scan_history.specs.Quoted.{valued}
@@ -50,8 +50,7 @@ hex_step : (t u : List ℕ) (d m p : ℕ) (v w : Option ℕ) → Alike t u d m �
     → HexIn t u d m p v
     → (with_digit w (hex_digit (byte u (d + p))) ≡ with_digit v (hex_digit (byte t p)))
     × HexIn t u d m (p + 1) (with_digit v (hex_digit (byte t p)))
-hex_step t u d m p None w a e h = rw e (refl, tt)
-hex_step t u d m p (Some v) w a e (l, at) = rw (e, a.bytes p l) (refl, digit_in t u d m p v a l (hex_digit (byte t p)) refl)
+hex_step t u d m p v w a e h = grind (arith, nat_tests, digit_in)
 
 hex_alike : (n : ℕ) (t u : List ℕ) (d m p : ℕ) → Alike t u d m → p < m → At t u d m p
     → (hex_value u (d + p) n ≡ hex_value t p n) × HexIn t u d m (p + n) (hex_value t p n)
@@ -77,12 +76,7 @@ escaped_alike t u d m p v x y h = grind (arith, nat_tests)
 
 no_escape : (b : ℕ) → is_onward b ≡ false → simple_escape b ≡ None
 unfolding simple_escape
-no_escape b h =
-    elim (off_cases b h) [
-      | inl z ↦ rw z refl
-      | inr (inl z) ↦ rw z refl
-      | inr (inr z) ↦ rw z refl
-    ]
+no_escape b h = grind (arith, nat_tests, off_cases)
 
 long_onward : (b : ℕ) → 0 < hex_len b → is_onward b ≡ true
 unfolding hex_len is_onward
@@ -223,8 +217,7 @@ front_alike u d m ps r s h = grind (arith, nat_tests, torn_by)
 
 no_mark : (c z : Bool) (b x y : ℕ) → b ≡ 0
     → ((c && (((b == 45 && x == 45) && y == 45) || ((b == 46 && x == 46) && y == 46))) && z) ≡ false
-no_mark true z b x y h = rw h refl
-no_mark false z b x y h = refl
+no_mark c z b x y h = grind (arith, nat_tests)
 
 pub end_no_mark : (u : List ℕ) (p : ℕ) → byte u p ≡ 0 → is_document_indicator u p ≡ false
 unfolding is_document_indicator
@@ -294,8 +287,7 @@ pieces_more : (t u : List ℕ) (d m quote p n o : ℕ) (ps : List Piece) (q : �
     → standing_at quote t p ≡ Pieces ps q → standing_at quote u (d + p) ≡ Pieces ps (d + q)
     → Told t u d m quote q n o → Told t u d m quote p (suc n) (suc o)
 unfolding pieces
-pieces_more t u d m quote p n o ps q e f step =
-    rw (e, f) (front_alike u d m ps (pieces n quote t q) (pieces o quote u (d + q)) step)
+pieces_more t u d m quote p n o ps q e f step = grind (arith, nat_tests, front_alike)
 
 pieces_by : (k : ℕ) (t u : List ℕ) (d m quote p n o : ℕ) (s : QuotedSpot) → Alike t u d m
     → IsQuote quote → At t u d m p → length t ≤ p + k → length t < p + n → length u < d + p + o

@@ -1,6 +1,6 @@
 -- A front with a fault: the whole has the same lexemes and tokens.
-use Rattle.std.proofs.Common.{◌≡◌, ◌≢◌, ℕ, zero, suc, ◌<◌, false, List, [], ◌∷◌, ◌++◌, map, length, Some, refl, sym, ap, subst, ◌∙◌, inl, inr, ◌⊎◌}
-use Rattle.yaml_scan_laws.proofs.Shared.{cases_Bool, append-nil, yaml_encoding_t, ScanFault, Fault, scanner_fault, Lexeme, is_end, Next, Read, Fails, Ends, kind_behind, next, extended, step, history, flat_map, same_Some, SpelledText, spell, all, fault_in, Stands, history_stands, last_is_all, IsCut, moved_token, scan_of, RefusedFrontsAreScanned, fault_next}
+use Rattle.std.proofs.Common.{◌≡◌, ◌≢◌, ℕ, zero, suc, ◌<◌, false, List, [], ◌∷◌, ◌++◌, map, length, Some, refl, sym, ap, subst, ◌∙◌, inl, inr, ◌⊎◌, arith}
+use Rattle.yaml_scan_laws.proofs.Shared.{nat_tests, cases_Bool, append-nil, yaml_encoding_t, ScanFault, Fault, scanner_fault, Lexeme, is_end, Next, Read, Fails, Ends, kind_behind, next, extended, step, history, flat_map, same_Some, SpelledText, spell, all, fault_in, Stands, history_stands, last_is_all, IsCut, moved_token, scan_of, RefusedFrontsAreScanned, fault_next}
 use Rattle.yaml_scan_laws.proofs.Fronts.{next_open, next_over, history_more, front_next}
 use Rattle.yaml_scan_laws.proofs.Rests.{AllCarry}
 use Rattle.yaml_scan_laws.proofs.CutsJoining.{told, offline_told, parted}
@@ -20,8 +20,7 @@ ends_reads e = cc
 -- no step ends
 end_never : (a : List ℕ) (f : ScanFault) → next a (all a) ≡ Fails f → (j : ℕ)
     → next a (history a j) ≡ Ends → ⊥
-end_never a f fails j e =
-    ends_not (sym e ∙ ap (next a) (sym (last_is_all a j (λ l r. ends_reads (sym e ∙ r)))) ∙ fails)
+end_never a f fails j e = grind (arith, nat_tests, ends_not, last_is_all, ends_reads)
 
 step_open : (a : List ℕ) (f : ScanFault) → next a (all a) ≡ Fails f → (j : ℕ) (l : Lexeme)
     → next a (history a j) ≡ Read l → is_end l.kind ≡ false
@@ -128,9 +127,7 @@ front_fails x a b cut f fails =
 
 fault_some : (y : Next) (f : Fault) → fault_in y ≡ Some f
     → (g : ScanFault) × (y ≡ Fails g) × (scanner_fault g ≡ f)
-fault_some (Read l) f e = absurd (some_none (sym e))
-fault_some (Fails g) f e = (g, refl, same_Some _ _ e)
-fault_some Ends f e = absurd (some_none (sym e))
+fault_some y f e = grind (arith, nat_tests, some_none, same_Some)
 
 pub refused_fronts_are_scanned : RefusedFrontsAreScanned
 refused_fronts_are_scanned x a b cut f none =

@@ -1,6 +1,6 @@
 -- What comes first of what is to come.
-use Rattle.std.proofs.Common.{◌≡◌, ◌≢◌, ℕ, zero, suc, ◌+◌, ◌-◌, ◌<◌, ◌≤◌, true, false, cond, List, [], ◌∷◌, ◌++◌, length, take, drop, get_or, Option, Some, None, refl, sym, ap, subst, ◌∙◌, inl, inr, append_assoc, append-nil, length-append, arith}
-use Rattle.yaml_scan_laws.proofs.Words.{cases_lt, flat_map, ScanFault, Fault, scanner_fault, Token, block_end, no_token, Lexeme, Entry, is_value, finished_tokens, first_open, mark_key, marked, keyed, found_by, inside, entry_of, Next, Read, Fails, Ends, next, history, SpelledText, all, handed, handed_out, before, start_tokens, end_tokens, own_tokens, spell, front_ends, kept_of, fault_in, Remaining, nothing, remaining, length-entries, first_open-le, length-keyed, take-history}
+use Rattle.std.proofs.Common.{◌≡◌, ◌≢◌, ℕ, zero, suc, ◌+◌, ◌-◌, ◌<◌, ◌≤◌, List, [], ◌∷◌, ◌++◌, length, take, drop, get_or, Option, Some, refl, sym, ap, subst, ◌∙◌, inl, inr, append_assoc, append-nil, length-append, arith}
+use Rattle.yaml_scan_laws.proofs.Words.{nat_tests, cases_lt, flat_map, ScanFault, Fault, scanner_fault, Token, block_end, no_token, Lexeme, Entry, finished_tokens, first_open, mark_key, keyed, inside, Next, Read, Fails, Ends, next, history, SpelledText, all, handed, handed_out, before, start_tokens, end_tokens, own_tokens, spell, front_ends, kept_of, fault_in, Remaining, nothing, remaining, length-entries, first_open-le, length-keyed, take-history}
 use Rattle.std.proofs.lemmas.List.{drop_more, get_or_append_left, get_or-take, length-take, length-take-le, length-replicate, get_or-replicate}
 use Rattle.std.proofs.Math.ListN.{drop_of_length-le}
 use Rattle.std.specs.Prelude.{replicate}
@@ -10,9 +10,7 @@ use Rattle.yaml_scan_laws.proofs.HistoryForward.{goes_forward, settled_stays, la
 -- the token of that number, and those after it
 pub drop_append : (xs ys : List Token) (n : ℕ) (t : Token) → n < length xs
     → drop n (xs ++ ys) ≡ get_or xs n t ∷ drop (n + 1) (xs ++ ys)
-drop_append xs ys n t l =
-    let first = drop_more (xs ++ ys) n t (omega (arith, length-append xs ys)) in
-    first ∙ ap (λ x. x ∷ drop (n + 1) (xs ++ ys)) (get_or_append_left xs ys t n l)
+drop_append xs ys n t l = grind (arith, nat_tests, drop_more, length-append, get_or_append_left)
 
 drop_past : (xs ys : List Token) (n : ℕ) → n ≡ length xs → drop n (xs ++ ys) ≡ ys
 drop_past [] ys n e = rw e refl
@@ -40,9 +38,7 @@ pub record Known (text : List ℕ) (n m : ℕ) : Type 0 where
 -- those before the earliest open candidate
 pub known_settled : (text : List ℕ) (n m : ℕ) → m ≤ first_open (history text n) (history text n)
     → Known text n m
-known_settled text n m low =
-    let most = first_open-le (history text n) (history text n) in
-    record { same = settled_stays text n m low; few = omega (arith, most) }
+known_settled text n m low = grind (arith, nat_tests, first_open-le, settled_stays)
 
 -- an end is no lexeme
 pub never_read : (x : Next) (l : Lexeme) → x ≡ Ends → x ≢ Read l
@@ -54,8 +50,7 @@ never_read_fault x p l e f = let bad : Fails p ≡ Read l = sym e ∙ f in cc
 pub handed_end : (text : List ℕ) (n : ℕ) → next text (history text n) ≡ Ends
     → handed text ≡ finished_tokens (history text n)
 unfolding handed
-handed_end text n e =
-    rw (last_is_all text n (λ l. never_read (next text (history text n)) l e), e) refl
+handed_end text n e = grind (arith, nat_tests, last_is_all, never_read)
 
 -- all of them at the end
 pub known_ended : (text : List ℕ) (n m : ℕ) → next text (history text n) ≡ Ends
@@ -91,8 +86,7 @@ pub known_front : (s : SpelledText) (n k given : ℕ) (e : Entry) → Known s.te
     → (remaining s k given).tokens ≡ drop given
     (spell s (get_or (finished_tokens (history s.text n)) k e) ++ (remaining s (k + 1) 0).tokens)
 unfolding remaining
-known_front s n k given e known =
-    ap (drop given) (pool_more s (drop k (handed s.text)) (drop (k + 1) (handed s.text)) (get_or (finished_tokens (history s.text n)) k e) (kept_of (next s.text (all s.text)) (all s.text)) (known_next s.text n k e known))
+known_front s n k given e known = grind (arith, nat_tests, pool_more, known_next)
 
 abbrev with_fault : List Token → Option Fault → Remaining
 with_fault ts fault = record { tokens = ts; fault = fault }
@@ -152,8 +146,7 @@ entries_ends l h k e low = grind (arith, length-keyed, length-entries, get_or_ap
 newer_ends : (newer h : List Lexeme) (k : ℕ) (e : Entry) → k < length h
     → SameEnds (get_or (finished_tokens (newer ++ h)) k e) (get_or (finished_tokens h) k e)
 newer_ends [] h k e low = (refl, refl)
-newer_ends (l ∷ newer) h k e low =
-    same_ends (get_or (finished_tokens (l ∷ newer ++ h)) k e) (get_or (finished_tokens (newer ++ h)) k e) (get_or (finished_tokens h) k e) (entries_ends l (newer ++ h) k e (omega (arith, low, length-append newer h))) (newer_ends newer h k e low)
+newer_ends (l ∷ newer) h k e low = grind (arith, nat_tests, same_ends, entries_ends, length-append, newer_ends newer h k e low)
 
 spelled : (s : SpelledText) (x : Entry) (rest : List Token)
     → (more : List Token) × (spell s x ++ rest ≡ end_tokens x ++ more)
@@ -271,8 +264,7 @@ pub fault_comes : (s : SpelledText) (n : ℕ) (p : ScanFault) (given : ℕ)
     → let h = history s.text n in next s.text h ≡ Fails p
     → length (front_ends (drop (first_open h h) (finished_tokens h))) ≤ given
     → remaining s (first_open h h) given ≡ record { tokens = []; fault = Some (scanner_fault p) }
-fault_comes s n p given e few =
-    fault_of_all s (history s.text n) p given e (last_is_all s.text n (λ l. never_read_fault (next s.text (history s.text n)) p l e)) few
+fault_comes s n p given e few = grind (arith, nat_tests, fault_of_all, last_is_all, never_read_fault)
 
 end_of_all : (s : SpelledText) (h : List Lexeme) (k given : ℕ) → next s.text h ≡ Ends
     → all s.text ≡ h → length h ≤ k → remaining s k given ≡ nothing

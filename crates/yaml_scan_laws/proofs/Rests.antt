@@ -1,7 +1,6 @@
 -- The lexemes of the rest are the last ones of the whole, moved.
-use Rattle.std.proofs.Common.{◌≡◌, ℕ, zero, suc, ◌+◌, ◌-◌, ◌<◌, ◌≤◌, ◌&&◌, nat_lt, true, false, List, [], ◌∷◌, ◌++◌, length, Some, None, Result, Ok, Err, refl, sym, ap, subst, ◌∙◌, inl, inr, ◌⊎◌, ◌≢◌, arith}
-use Rattle.yaml_scan_laws.proofs.Shared.{cases_Bool, yaml_encoding_t, yaml_mark_t, TokenBody, byte, line_at, column_at, mark_at, Wrong, Kind, Lexeme, is_end, cancels, reached, flow_depth, in_flow, candidate, has, found_by, open_levels, key_allowed, WordText, kind_at, lexeme_at, Next, Read, Fails, Ends, first_lexeme, gap_behind, kind_behind, begun_behind, word_behind, lexeme_behind, coming, next, extended, step, history, SpelledText, body_of_word, body_by, body_in, all, gap_place, Stands, history_stands, not_ended, all_ends, stays_all, last_is_all, Alike, IsCut, moved_mark, moved_lexeme, moved_next, ne_eqb, lt-ltb, stale_before}
-use Rattle.yaml_scan_history.specs.declared.kind.Kind.TheVariants as kinds
+use Rattle.std.proofs.Common.{◌≡◌, ℕ, zero, suc, ◌+◌, ◌-◌, ◌<◌, ◌≤◌, nat_lt, true, false, List, [], ◌∷◌, ◌++◌, length, Some, None, Result, refl, sym, ap, subst, ◌∙◌, inl, inr, ◌⊎◌, ◌≢◌, arith}
+use Rattle.yaml_scan_laws.proofs.Shared.{nat_tests, cases_Bool, yaml_encoding_t, TokenBody, byte, line_at, mark_at, Wrong, Kind, Lexeme, is_end, cancels, reached, in_flow, candidate, has, found_by, open_levels, key_allowed, WordText, kind_at, lexeme_at, Next, Read, Fails, Ends, first_lexeme, gap_behind, kind_behind, begun_behind, word_behind, lexeme_behind, coming, next, extended, step, history, SpelledText, body_of_word, body_by, body_in, all, gap_place, Stands, history_stands, not_ended, all_ends, stays_all, last_is_all, Alike, IsCut, moved_mark, moved_lexeme, moved_next, ne_eqb, lt-ltb, stale_before}
 use Rattle.yaml_scan_laws.proofs.Bytes.{IsQuiet}
 use Rattle.yaml_scan_laws.proofs.Gaps.{quiet_gap, moved_by}
 use Rattle.yaml_scan_laws.proofs.Quotes.{end_no_mark}
@@ -18,8 +17,7 @@ pub body_same : (k : Kind) (s v : SpelledText) (l y : Lexeme) → s.encoding ≡
     → body_of_word (lexeme_at k (nat_lt 0 l.depth) l.level s.text l.start.index)
     ≡ body_of_word (lexeme_at k (nat_lt 0 y.depth) y.level v.text y.start.index)
     → body_by k s l ≡ body_by k v y
-body_same kinds.StreamStart s v l y e h = rw e refl
-body_same _ s v l y e h = h
+body_same k s v l y e h = grind (arith, nat_tests)
 
 start_index : (x : Kind) (t : List ℕ) (H : List Lexeme)
     → (begun_behind x t H).start.index ≡ (gap_behind t H).place
@@ -32,8 +30,7 @@ word_of x t H l e = grind (arith, kept, start_index)
 
 same_word : (d : ℕ) (r : Result WordText Wrong)
     → body_of_word (moved_by (moved_word d) d r) ≡ body_of_word r
-same_word d (Ok w) = refl
-same_word d (Err w) = refl
+same_word d r = grind (arith, nat_tests)
 
 -- what is read carries the same in both texts
 pub carries : (x : yaml_encoding_t) (t u : List ℕ) (d m n k : ℕ) (H G : List Lexeme)
@@ -56,8 +53,7 @@ carries x t u d m n k H G p l r said =
 -- ---- the rest's beginning
 
 quiet_mark : (b : ℕ) → (b ≡ 45) ⊎ (b ≡ 46) → IsQuiet b
-quiet_mark b (inl z) = inr (inl z)
-quiet_mark b (inr z) = inr (inr z)
+quiet_mark b h1 = grind (arith, nat_tests)
 
 first_gap : (a b : List ℕ) → IsCut a b → (gap_behind b (first_lexeme ∷ [])).place ≡ 0
 unfolding candidate
@@ -97,8 +93,7 @@ whole_base K a b H = mark_lexeme K (a ++ b) (length a) ∷ H
 pub no_candidates : (l : Lexeme) (H : List Lexeme) → l.depth ≡ 0 → l.saved ≡ false
     → cancels l.kind ≡ true → (e : ℕ) → candidate e (l ∷ H) ≡ None
 unfolding candidate
-no_candidates l H z s c zero = rw (z, s, c) refl
-no_candidates l H z s c (suc e) = rw (z, ne_eqb 0 (suc e) (omega arith), lt-ltb 0 (suc e) (omega arith)) refl
+no_candidates l H z s c e = grind (arith, nat_tests, ne_eqb, lt-ltb)
 
 pub mark_candidate : (K : Kind) (body : TokenBody) → IsMark K body → (t : List ℕ) (p : ℕ)
     (H : List Lexeme) (e : ℕ) → candidate e (mark_lexeme K t p ∷ H) ≡ None
@@ -131,8 +126,7 @@ pub record Ground (a b : List ℕ) (k : ℕ) (B C : List Lexeme) : Type 0 where
   pub others : next (a ++ b) C ≡ coming (kind_behind (a ++ b) C) (a ++ b) C
 
 reached_in : (t : List ℕ) (H : List Lexeme) → Stands t H → (reached H).index ≤ length t
-reached_in t [] s = omega arith
-reached_in t (l ∷ h) s = s.inside
+reached_in t H s = grind (arith, nat_tests)
 
 -- after a mark
 pub rest_ground : (a b : List ℕ) → IsCut a b → (m : MarkStands b 0) → (H : List Lexeme)
@@ -282,9 +276,7 @@ grown x a b k B C g i begins n e (suc j) = grow x a b k B C g i j (grown x a b k
 
 moved_never : (d n : ℕ) (y : Next) → ((l : Lexeme) → y ≢ Read l) → (l : Lexeme)
     → moved_next d n y ≢ Read l
-moved_never d n (Read k) never l e = never k refl
-moved_never d n (Fails p) never l e = cc
-moved_never d n Ends never l e = cc
+moved_never d n y never l e = grind (arith, nat_tests)
 
 -- all of the whole's lexemes, and what comes after them
 pub record Whole (x : yaml_encoding_t) (a b : List ℕ) (B C : List Lexeme) : Type 0 where

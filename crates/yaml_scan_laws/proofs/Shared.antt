@@ -13,14 +13,14 @@ pub use Rattle.yaml_scan_history.proofs.MarksLemmas.{column_end, no_break, past_
 pub use Rattle.yaml_scan_history.proofs.PlacesLemmas.{gap_place, run_place}
 pub use Rattle.yaml_scan_history.proofs.RunsLemmas.{blank_parts, past_more, past_some, past_stop, space_parts, text_parts}
 pub use Rattle.yaml_scan_history.proofs.WordsRunsLemmas.{belongs_here, blank_cases}
-pub use Rattle.yaml_scan_history.specs.History.{Candidate, flow_depth, ended, entry_of, first_or, found_by, fresh, has, has_number, in_flow, inside, is_fresh, key_allowed, keyed, left_by, margin_at, marked, open_at, opened, opens_at, opens_of, placed, reached}
+pub use Rattle.yaml_scan_history.specs.History.{Candidate, flow_depth, ended, entry_of, first_or, found_by, fresh, has, has_number, in_flow, inside, is_fresh, key_allowed, keyed, left_by, marked, open_at, opened, opens_at, placed, reached}
 unfoldable pub use Rattle.yaml_scan_history.specs.History.{candidate, finished_tokens, first_open, indent, open_levels, mark_key}
 pub use Rattle.yaml_scan_history.specs.Kinds.{allows_key, cancels, depth_after, is_end, is_outside, is_start, is_value, may_be_key}
 pub use Rattle.yaml_scan_history.specs.Next.{Ends, Fails, Next, Read, allowed_behind, begun, begun_behind, candidate_lost, colon_missing_of, coming, extended, finished, first_fault_or, first_lexeme, gap_behind, indicator_misplaced, kind_behind, lexeme_behind, lost_by, misplaced, missed, no_start, not_allowed_there, place_behind, stale_after, stale_before, step, text_wrong, with_end, word_behind, wrong_in}
 unfoldable pub use Rattle.yaml_scan_history.specs.Next.{history, next}
-pub use Rattle.yaml_scan_history.specs.Remaining.{Remaining, SpelledText, before, body_by, body_in, body_of_word, end_tokens, fault_in, front_ends, handed_out, kept_of, offline, own_tokens, spell, start_tokens, token_in}
+pub use Rattle.yaml_scan_history.specs.Remaining.{Remaining, SpelledText, body_by, body_in, body_of_word, fault_in, front_ends, handed_out, kept_of, offline, own_tokens, spell, start_tokens, token_in}
 unfoldable pub use Rattle.yaml_scan_history.specs.Remaining.{all, handed, remaining}
-pub use Rattle.yaml_scan_history.specs.Words.{WordText, blocked, body_said, carrying, directed, or_plain, plainly, tagged, valued}
+pub use Rattle.yaml_scan_history.specs.Words.{WordText, blocked, body_said, carrying, directed, plainly, tagged, valued}
 unfoldable pub use Rattle.yaml_scan_history.specs.Words.{indicator_of, kind_at, lexeme_at}
 pub use Rattle.yaml_scan_history.specs.declared.kind.Kind.{Kind}
 pub use Rattle.yaml_scan_history.specs.declared.lexeme.Entry.{Entry}
@@ -42,10 +42,10 @@ pub use Rattle.yaml_scan_history.specs.scan_model.Wrong.{Wrong}
 pub use Rattle.yaml_scan_history.specs.scan_model.declared.name.yaml_encoding_t.{yaml_encoding_t}
 pub use Rattle.yaml_scan_history.specs.scan_model.declared.problem.ScanFault.{ScanFault}
 pub use Rattle.yaml_scan_history.specs.scan_model.declared.record.yaml_mark_t.{yaml_mark_t}
-pub use Rattle.yaml_scan_history.specs.Pieces.{Blank, Break, Kept, Piece, value}
-pub use Rattle.yaml_scan_history.specs.Plain.{Faulty, PlainSpot, PlainText, Takes, Words, after_white, is_bracket, is_indicator_byte, is_nothing, plain_at, plain_text, plain_with, with_piece, words_from}
+pub use Rattle.yaml_scan_history.specs.Pieces.{Kept, Piece, value}
+pub use Rattle.yaml_scan_history.specs.Plain.{Faulty, PlainSpot, PlainText, Takes, Words, after_white, is_bracket, is_indicator_byte, plain_at, plain_text, plain_with, with_piece, words_from}
 unfoldable pub use Rattle.yaml_scan_history.specs.Plain.{ends_at, leads, spot_at, starts_plain, words}
-pub use Rattle.yaml_scan_history.specs.Quoted.{Bad, Closing, Pieces, QuotedSpot, coded, double_quoted_at, escaped, in_quotes, is_scalar, quoted_at, single_quoted_at, with_front}
+pub use Rattle.yaml_scan_history.specs.Quoted.{Bad, Closing, Pieces, QuotedSpot, coded, double_quoted_at, escaped, in_quotes, quoted_at, single_quoted_at, with_front}
 unfoldable pub use Rattle.yaml_scan_history.specs.Quoted.{escape_at, hex_digit, hex_len, hex_value, pieces, quote_at, simple_escape, standing_at}
 pub use Rattle.yaml_scan_history.specs.Anchors.{anchor_at, is_name_end, name_between}
 unfoldable pub use Rattle.yaml_scan_history.specs.Anchors.{may_end_name}
@@ -59,7 +59,7 @@ pub use Rattle.yaml_scan_history.specs.Runs.{run_end}
 unfoldable pub use Rattle.yaml_scan_history.specs.Runs.{belongs, run_within}
 pub use Rattle.yaml_scan_history.specs.Tags.{TagText, bare, bare_at, bracketed, may_end_tag, name_end, tag_at, tag_end, verbatim_at, with_handle}
 unfoldable pub use Rattle.yaml_scan_history.specs.Tags.{parts_at}
-pub use Rattle.yaml_scan_history.specs.Uris.{Spells, UriSpot, due_behind, escape_spot, filled, is_uri, octet_of, octet_spot, some_uri_at, uri_at, with_bytes}
+pub use Rattle.yaml_scan_history.specs.Uris.{Spells, UriSpot, filled, is_uri, octet_of, octet_spot, some_uri_at, uri_at, with_bytes}
 unfoldable pub use Rattle.yaml_scan_history.specs.Uris.{is_punctuation, is_wide_punctuation, octet_at, uri_within}
 pub use Rattle.yaml_scan_laws.proofs.HistoryForward.{Stands, all_ends, first_is, history_grows, history_stands, last_is_all, not_ended, settled_stays, stays_all, stays_upto}
 pub use Rattle.yaml_scan_laws.proofs.MarksForward.{line_at-grows}

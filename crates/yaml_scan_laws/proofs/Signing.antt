@@ -1,6 +1,6 @@
 -- Words of one byte, and the marks of documents and of the stream's end.
 use Rattle.std.proofs.Common.{◌≡◌, ℕ, ◌+◌, ◌<◌, ◌==◌, ◌&&◌, nat_lt, cond, Bool, true, false, List, length, Option, Some, Ok, refl, ap, ◌∙◌, arith}
-use Rattle.yaml_scan_laws.proofs.LevelWords.{nat_tests, and-false, ne_eqb, byte, break_of, column_at, is_blank_or_end, TokenBody, is_document_start, is_document_end, Kind, indicator_of, or_plain, kind_at, lexeme_at, IsGap, Comes}
+use Rattle.yaml_scan_laws.proofs.LevelWords.{nat_tests, and-false, byte, break_of, column_at, is_blank_or_end, TokenBody, is_document_start, is_document_end, Kind, indicator_of, or_plain, kind_at, lexeme_at, IsGap, Comes}
 use Rattle.yaml_scan_history.specs.scan_types.Tokens as tokens
 use Rattle.yaml_scan_history.specs.declared.kind.Kind.TheVariants as kinds
 use Rattle.yaml_scan_laws.specs.Signs.{sign, SignComes, MarkComes, SignsCome, MarksCome, PrintedBegins, LevelIsOut}
@@ -81,13 +81,11 @@ entry_mark text p d level gap g h alone =
 
 question_alone : (flow : Bool) → indicator_of flow true 63 ≡ Some kinds.KeyMark
 unfolding indicator_of
-question_alone true = refl
-question_alone false = refl
+question_alone flow = grind (arith, nat_tests)
 
 colon_alone : (flow : Bool) → indicator_of flow true 58 ≡ Some kinds.ValueMark
 unfolding indicator_of
-colon_alone true = refl
-colon_alone false = refl
+colon_alone flow = grind (arith, nat_tests)
 
 pub signs_come : SignsCome
 unfolding indicator_of lexeme_at

@@ -1,5 +1,5 @@
 -- Where candidates are, levels that open, and columns after white.
-use Rattle.std.proofs.Common.{◌≡◌, ◌⊎◌, ℕ, suc, ◌+◌, ◌-◌, ◌<◌, ◌≤◌, ◌==◌, ◌||◌, nat_lt, nat_le, cond, Bool, true, false, List, [], ◌∷◌, ◌++◌, length, Option, Some, None, refl, sym, ap, ◌∙◌, inl, inr, arith}
+use Rattle.std.proofs.Common.{◌≡◌, ◌⊎◌, ℕ, suc, ◌+◌, ◌-◌, ◌<◌, ◌≤◌, ◌==◌, ◌||◌, nat_lt, cond, Bool, true, false, List, [], ◌∷◌, ◌++◌, length, Option, Some, None, refl, sym, ap, ◌∙◌, inl, inr, arith}
 use Rattle.std.specs.Prelude.{if◌then◌else◌}
 use Rattle.yaml_scan_laws.proofs.LevelWords.{cases_Bool, and_parts, nat_tests, byte, ends_of, ends_break, starts, line_at, column_at, mark_at, are_gap, has_break, begins_lexeme, Lexeme, Opens, cancels, Candidate, candidate, fresh, indent, opened, start_of, line_at-grows, read_at, IsGap, StartsBy, Started, StartedGoesOn, LaterIsLone, BreakEndsLine, NearBefore, SlotsGoOn, NoneIsLone, LevelOpens, column_behind, WhiteColumns, LetterColumns, byte_cases}
 use Rattle.yaml_scan_history.specs.declared.lexeme.Opens.TheVariants as opening
@@ -24,10 +24,7 @@ started_goes_on = record { nothing = (unfold candidate in λ n. λ i. tt); more 
 
 later : (o : Option Candidate) (text : List ℕ) (q n : ℕ) → StartsBy o n → n < line_at text q
     → fresh o (mark_at text q) ≡ None
-later None text q n s e = refl
-later (Some c) text q n s e =
-    let none : nat_le (line_at text q) c.lexeme.start.line ≡ false = grind (arith, nat_tests) in
-    rw none refl
+later o text q n s e = grind (arith, nat_tests)
 
 pub later_is_lone : LaterIsLone
 later_is_lone text h d q n s e = later (candidate d h) text q n (s d) e

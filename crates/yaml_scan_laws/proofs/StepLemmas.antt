@@ -1,8 +1,7 @@
 -- A step after key-free lexemes, and what comes of them.
-use Rattle.std.proofs.Common.{◌≡◌, ℕ, zero, suc, ◌+◌, ◌&&◌, not, nat_lt, if◌then◌else◌, Bool, true, false, List, [], ◌∷◌, ◌++◌, length, map, reverse, drop, flat_map, Option, Some, None, Result, Ok, Err, refl, sym, ap, subst, ◌∙◌, inl, inr, arith}
-use Rattle.yaml_scan_laws.proofs.TextWords.{cases_Bool, append-nil, drop-map, yaml_mark_t, Token, mark_at, Wrong, Gap, Kind, Lexeme, Entry, is_value, is_start, is_end, flow_depth, reached, ended, Candidate, candidate, fresh, is_fresh, has, placed, finished_tokens, WordText, kind_at, lexeme_at, Next, Read, Fails, Ends, first_lexeme, begun, finished, allowed_behind, misplaced, missed, lost_by, kind_behind, coming, next, extended, history, no_colon, not_allowed, tested, unless_wrong, unless_lost, of_kind, unless_missed, behind, stepwise, SpelledText, token_in, spell, all, handed_out, handed, kept_of, fault_in, Remaining, remaining, asked, is_key_free, is_level_free, kinds_of, gap_in, lexeme_of}
+use Rattle.std.proofs.Common.{◌≡◌, ℕ, zero, suc, ◌+◌, ◌&&◌, not, nat_lt, if◌then◌else◌, Bool, true, false, List, [], ◌∷◌, ◌++◌, length, map, reverse, drop, flat_map, Option, Some, None, Result, Ok, refl, sym, ap, subst, ◌∙◌, arith}
+use Rattle.yaml_scan_laws.proofs.TextWords.{nat_tests, append-nil, drop-map, yaml_mark_t, Token, mark_at, Wrong, Gap, Kind, Lexeme, Entry, is_value, is_start, is_end, flow_depth, reached, ended, Candidate, candidate, fresh, has, placed, finished_tokens, WordText, kind_at, lexeme_at, Next, Read, Ends, first_lexeme, begun, finished, allowed_behind, misplaced, missed, lost_by, kind_behind, coming, next, extended, history, not_allowed, tested, unless_wrong, unless_lost, of_kind, unless_missed, behind, stepwise, SpelledText, token_in, spell, all, handed_out, handed, kept_of, fault_in, Remaining, remaining, asked, is_key_free, is_level_free, kinds_of, gap_in, lexeme_of}
 use Rattle.yaml_scan_history.specs.scan_types.Faults.{Fault}
-use Rattle.yaml_scan_history.specs.declared.kind.Kind.TheVariants as kinds
 use Rattle.yaml_scan_laws.proofs.FreeLemmas.{is_plain, AllMade, Whole, whole_word, begun_made, finished_made, history_made, level_head, level_rest, depth_is, starts_none, no_levels, bare, entries_bare, bare_tokens}
 use Rattle.yaml_scan_laws.proofs.Pushing.{unless_so, free_push, free_in_time, missed_none}
 use Rattle.yaml_scan_laws.specs.TextFronts.{IsFree}
@@ -59,9 +58,7 @@ unmissed o at u = missed_none o at (free_in_time o at u)
 pub none_required : (h : List Lexeme) (d : ℕ) (l : Lexeme) (at to : yaml_mark_t) → AllMade h
     → is_level_free (kinds_of h) ≡ true
     → (missed (fresh (candidate d h) at) to ≡ None) × (lost_by l (fresh (candidate d h) at) ≡ None)
-none_required h d l at to made free =
-    let u = fresh_unrequired (candidate d h) at (unrequired d h made free) in
-    (unmissed (fresh (candidate d h) at) to u, lost_none l (fresh (candidate d h) at) u)
+none_required h d l at to made free = grind (arith, nat_tests, fresh_unrequired, unrequired, unmissed, lost_none)
 
 -- A step.
 
@@ -71,12 +68,10 @@ in_place block allowed start found e = grind arith
 
 tested_read : (l : Lexeme) (h : List Lexeme) → IsFree (candidate 0 (l ∷ h))
     → tested l h ≡ Read l
-tested_read l h u =
-    ap (λ o. elim o as (λ _. Next) [ Some start ↦ no_colon start l.reached | None ↦ Read l ]) (unmissed (candidate 0 (l ∷ h)) l.reached u)
+tested_read l h u = grind (arith, nat_tests, unmissed)
 
 pub whole_of : (w : WordText) (r : Result WordText Wrong) → r ≡ Ok w → Whole r → w.broke ≡ false
-whole_of w (Ok x) e b = let same : x ≡ w = cc in ap (λ (y : WordText). y.broke) (sym same) ∙ b
-whole_of w (Err x) e b = absurd (cc)
+whole_of w r e b = grind (arith, nat_tests)
 
 -- a lexeme with its end, by plain fields
 finished_plain : (text : List ℕ) (k : Kind) (start : yaml_mark_t) (d level : ℕ)
@@ -110,13 +105,10 @@ finished_plain text k start d level saved required w e f g = grind arith
 finished_is : (text : List ℕ) (h : List Lexeme) (gap : Gap) (k : Kind) (w : WordText)
     → let l = begun k (placed k (mark_at text gap.place)) (allowed_behind h gap) h in
     l.level ≡ 0 → l.required ≡ false → (is_end k ≡ true → w.broke ≡ false) → finished text l w ≡ lexeme_of text h gap k w
-finished_is text h gap k w level required broke =
-    let l = begun k (placed k (mark_at text gap.place)) (allowed_behind h gap) h in
-    finished_plain text k l.start (flow_depth h) l.level l.saved l.required w level required broke
+finished_is text h gap k w level required broke = grind (arith, nat_tests, finished_plain)
 
 end_not_plain : (k : Kind) → is_end k ≡ true → is_plain k ≡ false
-end_not_plain kinds.Plain e = absurd (cc)
-end_not_plain k e = refl
+end_not_plain k e = grind (arith, nat_tests)
 
 word_behind : (text : List ℕ) (x : List Lexeme) (k : Kind) (w : WordText) → AllMade x
     → is_level_free (k ∷ kinds_of x) ≡ true
@@ -160,9 +152,7 @@ record HasNewest (h : List Lexeme) : Type 0 where
   pub is : h ≡ newest ∷ older
 
 extended_more : (x : Next) (h : List Lexeme) → HasNewest h → HasNewest (extended x h)
-extended_more (Read l) h s = record { newest = l; older = h; is = refl }
-extended_more (Fails f) h s = s
-extended_more Ends h s = s
+extended_more x h s = grind (arith, nat_tests)
 
 has_newest : (text : List ℕ) (n : ℕ) → HasNewest (history text (suc n))
 unfolding history next

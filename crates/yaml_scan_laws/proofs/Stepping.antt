@@ -1,6 +1,6 @@
 -- One lexeme more after lexemes at a place.
 use Rattle.std.proofs.Common.{◌≡◌, ℕ, ◌+◌, ◌≤◌, ◌==◌, ◌&&◌, ◌||◌, not, nat_lt, Bool, true, false, List, [], ◌∷◌, length, Option, refl, sym, ap, subst, ◌∙◌, arith}
-use Rattle.yaml_scan_laws.proofs.LevelWords.{or-false, line_at, mark_at, Kind, Lexeme, Entry, depth_after, may_be_key, allows_key, is_value, is_outside, is_end, flow_depth, Candidate, candidate, fresh, has, indent, WordText, first_lexeme, line_at-grows, Front, Meets, read_at, IsLone, White, Started, Stands, Comes, WordLeaves, WordsLeave, may_begin, StartSteps, WhiteSteps, WordSteps, MarkSteps, OuterSteps, KeyStarts, KeySteps, KeyStops}
+use Rattle.yaml_scan_laws.proofs.LevelWords.{nat_tests, or-false, line_at, mark_at, Kind, Lexeme, Entry, depth_after, may_be_key, allows_key, is_value, is_outside, is_end, flow_depth, Candidate, candidate, fresh, has, indent, WordText, first_lexeme, line_at-grows, Front, Meets, read_at, IsLone, White, Started, Stands, Comes, WordLeaves, WordsLeave, may_begin, StartSteps, WhiteSteps, WordSteps, MarkSteps, OuterSteps, KeyStarts, KeySteps, KeyStops}
 use Rattle.yaml_scan_history.specs.declared.kind.Kind.TheVariants as kinds
 use Rattle.yaml_scan_laws.proofs.Pushing.{word_is_read, mark_is_read, outer_is_read}
 use Rattle.yaml_scan_laws.proofs.Keying.{key_begins, key_goes_on, key_ends, still_fresh}
@@ -76,8 +76,7 @@ mark_steps text p i h ms ls n es now broken k gap w e then wide s idle c start m
     (record { stands = stands_of text p h 0 0 k gap true false w e _ _ then wide i s.front.depth s.started s.line c.up r.front (lone_has text h 0 k q lone) leaves; body = r.body }, r.idle)
 
 outer_value : (k : Kind) → (is_outside k && not (is_end k)) ≡ true → is_value k ≡ true → ⊥
-outer_value kinds.ValueMark e v = absurd (cc)
-outer_value k e v = absurd (cc)
+outer_value k e v = grind (arith, nat_tests)
 
 pub outer_steps : OuterSteps
 outer_steps text p i h ms es now broken k gap w e then wide s idle c outer leaves =
@@ -87,8 +86,7 @@ outer_steps text p i h ms es now broken k gap w e then wide s idle c outer leave
     (record { stands = stands_of text p h 0 0 k gap a false w e [] _ then wide i s.front.depth s.started s.line c.up r.front (λ v. absurd (outer_value k outer v)) leaves; body = r.body }, r.idle)
 
 key_value : (k : Kind) → may_be_key k ≡ true → is_value k ≡ true → ⊥
-key_value kinds.ValueMark e v = absurd (cc)
-key_value k e v = absurd (cc)
+key_value k e v = grind (arith, nat_tests)
 
 pub key_starts : KeyStarts
 key_starts text p i h d ms ls n es now broken k gap w e then wide s idle c may allowed closes near leaves =
@@ -105,8 +103,7 @@ key_steps text p i h d f c ms es now broken k gap w e then wide s holds comes st
     (record { stands = stands_of text p h f (depth_after k f) k gap a false w e ms _ then wide i s.front.depth s.started s.line comes.up r.front (lone_has text h f k q lone) leaves; body = r.body }, r.holds)
 
 key_off : (x : Bool) → (x && not true) ≡ false
-key_off true = refl
-key_off false = refl
+key_off x = grind (arith, nat_tests)
 
 pub key_stops : KeyStops
 key_stops text p i h d ms done first rest now broken gap w e then wide s holds comes right near leaves =

@@ -1,16 +1,11 @@
 -- How the tokens of a text begin and end.
-use Rattle.std.proofs.Common.{◌≡◌, ◌≢◌, ℕ, zero, suc, ◌+◌, ◌<◌, Bool, true, false, cond, if◌then◌else◌, nat_lt, List, [], ◌∷◌, ◌++◌, length, take, drop, get_or, Some, None, Result, Ok, Err, refl, sym, ap, subst, ◌∙◌, inl, inr, append_assoc, append-nil, arith}
-use Rattle.yaml_scan_laws.proofs.Words.{cases_Bool, true≢false, flat_map, ScanFault, Token, TokenBody, stream_start, stream_end, block_end, zero_mark, no_token, Fault, scanner_fault, Wrong, yaml_scalar_style_t, anchor_at, TagText, tag_at, Said, DirectiveText, directive_at, double_quoted_at, single_quoted_at, PlainText, plain_at, BlockText, block_at, style_at, Kind, Lexeme, Entry, is_end, is_value, ended, finished_tokens, open_levels, candidate, first_open, mark_key, marked, keyed, found_by, inside, entry_of, lexeme_at, valued, tagged, body_said, directed, blocked, plainly, Next, Read, Fails, Ends, first_lexeme, next, history, SpelledText, body_of_word, body_by, token_in, before, start_tokens, end_tokens, own_tokens, spell, all, handed, front_ends, fault_in, remaining, offline}
+use Rattle.std.proofs.Common.{◌≡◌, ◌≢◌, ℕ, zero, suc, ◌+◌, ◌<◌, Bool, true, false, if◌then◌else◌, List, [], ◌∷◌, ◌++◌, length, take, drop, get_or, Some, None, Result, refl, sym, ap, subst, ◌∙◌, inl, inr, append_assoc, append-nil, arith}
+use Rattle.yaml_scan_laws.proofs.Words.{nat_tests, cases_Bool, true≢false, flat_map, ScanFault, Token, TokenBody, stream_start, stream_end, block_end, zero_mark, no_token, Fault, Wrong, yaml_scalar_style_t, TagText, Said, DirectiveText, PlainText, BlockText, Kind, Lexeme, Entry, is_end, ended, finished_tokens, open_levels, candidate, first_open, mark_key, keyed, entry_of, lexeme_at, valued, tagged, body_said, directed, blocked, plainly, Next, Read, Fails, Ends, first_lexeme, next, history, SpelledText, body_of_word, body_by, token_in, before, start_tokens, end_tokens, own_tokens, spell, all, handed, front_ends, fault_in, remaining, offline}
 use Rattle.std.proofs.lemmas.Grind.{flat_map-append}
 use Rattle.std.proofs.lemmas.List.Elements.{All-nil, All-cons, All-append, All-replicate}
 use Rattle.std.specs.Prelude.{All}
 use Rattle.yaml_scan_history.specs.scan_types.Tokens as tokens
-use Rattle.yaml_scan_history.specs.scan_model.declared.name.yaml_scalar_style_t.TheVariants as styles
-use Rattle.yaml_scan_history.specs.scan_model.declared.problem.Context.TheVariants as contexts
-use Rattle.yaml_scan_history.specs.Directives as directives
-use Rattle.yaml_scan_history.specs.declared.kind.Kind.TheVariants as kinds
 use Rattle.yaml_scan_history.specs.declared.lexeme.Opens.{Opens}
-use Rattle.yaml_scan_history.specs.declared.lexeme.Opens.TheVariants as opening
 use Rattle.yaml_scan_laws.proofs.NextForward.{ReadsBehind, next_reads}
 use Rattle.yaml_scan_laws.proofs.HistoryForward.{Stands, history_stands, all_ends}
 use Rattle.yaml_scan_laws.proofs.HeldForward.{Chain, history_chain}
@@ -32,29 +27,23 @@ all_differ ts h k d l = differs (get_or ts k d).body (h k d l)
 
 valued_other : (f : List ℕ → TokenBody) (r : Result (List ℕ × ℕ) Wrong)
     → ((v : List ℕ) → IsOther (f v)) → IsOther (body_of_word (valued f r))
-valued_other f (Ok x) h = h x.0
-valued_other f (Err w) h = tt
+valued_other f r h = grind (arith, nat_tests)
 
 tagged_other : (r : Result TagText Wrong) → IsOther (body_of_word (tagged r))
-tagged_other (Ok t) = tt
-tagged_other (Err w) = tt
+tagged_other r = grind (arith, nat_tests)
 
 said_other : (said : Said) → IsOther (body_said said)
-said_other (directives.version a b) = tt
-said_other (directives.tag h p) = tt
+said_other said = grind (arith, nat_tests)
 
 directed_other : (r : Result DirectiveText Wrong) → IsOther (body_of_word (directed r))
-directed_other (Ok d) = said_other d.said
-directed_other (Err w) = tt
+directed_other r = grind (arith, nat_tests, said_other)
 
 blocked_other : (style : yaml_scalar_style_t) (r : Result BlockText Wrong)
     → IsOther (body_of_word (blocked style r))
-blocked_other style (Ok b) = tt
-blocked_other style (Err w) = tt
+blocked_other style r = grind (arith, nat_tests)
 
 plainly_other : (r : Result PlainText Wrong) → IsOther (body_of_word (plainly r))
-plainly_other (Ok p) = tt
-plainly_other (Err w) = tt
+plainly_other r = grind (arith, nat_tests)
 
 -- only the stream's end carries it
 body_other : (k : Kind) (s : SpelledText) (l : Lexeme) → is_end k ≡ false → IsOther (body_by k s l)
@@ -63,13 +52,10 @@ body_other k s l e = grind (arith, directed_other, valued_other, tagged_other, b
 
 end_body : (k : Kind) (s : SpelledText) (l : Lexeme) → is_end k ≡ true → body_by k s l ≡ stream_end
 unfolding lexeme_at
-end_body kinds.StreamEnd s l e = refl
-end_body _ s l e = absurd (true≢false (sym e))
+end_body k s l e = grind (arith, nat_tests, true≢false)
 
 starts_other : (o : Opens) (l : Lexeme) → All IsOtherToken (start_tokens o l)
-starts_other opening.Nothing l = All-nil IsOtherToken
-starts_other opening.Sequence l = All-cons IsOtherToken (before tokens.block_sequence_start l) [] tt (All-nil IsOtherToken)
-starts_other opening.Mapping l = All-cons IsOtherToken (before tokens.block_mapping_start l) [] tt (All-nil IsOtherToken)
+starts_other o l = grind (arith, nat_tests, All-nil, All-cons)
 
 ends_other : (e : Entry) → All IsOtherToken (end_tokens e)
 ends_other e = All-replicate IsOtherToken e.ends (before block_end e.lexeme) tt
@@ -80,8 +66,7 @@ front_other s e = All-append IsOtherToken (end_tokens e) (start_tokens e.opens e
 
 own_other : (key : Bool) (t u : Token) → IsOtherToken t → IsOtherToken u
     → All IsOtherToken (if key then t ∷ u ∷ [] else u ∷ [])
-own_other true t u h k = All-cons IsOtherToken t (u ∷ []) h (All-cons IsOtherToken u [] k (All-nil IsOtherToken))
-own_other false t u h k = All-cons IsOtherToken u [] k (All-nil IsOtherToken)
+own_other key t u h k = grind (arith, nat_tests, All-cons, All-nil)
 
 spell_other : (s : SpelledText) (e : Entry) → is_end e.lexeme.kind ≡ false
     → All IsOtherToken (spell s e)
@@ -173,8 +158,7 @@ whole_pool s (l ∷ h) (b, c) e =
     }
 
 kept_other : (h : List Lexeme) (es : List Entry) → All IsOtherToken (front_ends es)
-kept_other h [] = All-nil IsOtherToken
-kept_other h (e ∷ es) = ends_other e
+kept_other h es = grind (arith, nat_tests, All-nil, ends_other)
 
 failed_pool : (s : SpelledText) (h : List Lexeme) → Chain s.text h → ended h ≡ false
     → All IsOtherToken (flat_map (spell s) (take (first_open h h) (finished_tokens h))
@@ -185,14 +169,10 @@ failed_pool s h c e =
 
 -- no fault
 pub fault_none : (x : Next) → fault_in x ≡ None → ((l : Lexeme) → x ≢ Read l) → x ≡ Ends
-fault_none (Read l) e never = absurd (never l refl)
-fault_none (Fails p) e never = let bad : Some (scanner_fault p) ≡ None = e in absurd cc
-fault_none Ends e never = refl
+fault_none x e never = grind (arith, nat_tests)
 
 fault_some : (x : Next) (f : Fault) → fault_in x ≡ Some f → (p : ScanFault) × (x ≡ Fails p)
-fault_some (Read l) f e = let bad : None ≡ Some f = e in absurd cc
-fault_some (Fails p) f e = (p, refl)
-fault_some Ends f e = let bad : None ≡ Some f = e in absurd cc
+fault_some x f e = grind (arith, nat_tests)
 
 -- the fault of a text's tokens is what its lexemes end in
 pub fault_next : (s : SpelledText) → (offline s).fault ≡ fault_in (next s.text (all s.text))

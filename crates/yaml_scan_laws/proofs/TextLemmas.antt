@@ -1,7 +1,6 @@
 -- Texts of key-free words.
-use Rattle.std.proofs.Common.{◌≡◌, ℕ, suc, ◌&&◌, not, nat_lt, if◌then◌else◌, Bool, true, false, List, [], ◌∷◌, ◌++◌, length, map, reverse, Option, Some, None, Result, Ok, refl, sym, ap, subst, ◌∙◌}
-use Rattle.yaml_scan_laws.proofs.TextWords.{and_parts, not-true, reverse-append, list_all, Token, TokenBody, mark_at, Wrong, Kind, Lexeme, is_end, flow_depth, ended, placed, WordText, kind_at, lexeme_at, Next, Read, Ends, kind_behind, coming, next, extended, history, SpelledText, body_of_word, body_by, token_in, all, Remaining, offline, asked_after, asked, fits, is_key_free, keeps_level, is_level_free, kinds_of, gap_in, end_in, lexeme_of, placed_index}
-use Rattle.yaml_scan_history.specs.declared.kind.Kind.TheVariants as kinds
+use Rattle.std.proofs.Common.{◌≡◌, ℕ, suc, ◌&&◌, not, nat_lt, Bool, true, false, List, [], ◌∷◌, ◌++◌, length, map, reverse, Option, Some, None, Ok, refl, sym, ap, subst, ◌∙◌, arith}
+use Rattle.yaml_scan_laws.proofs.TextWords.{nat_tests, and_parts, not-true, reverse-append, list_all, Token, TokenBody, mark_at, Kind, Lexeme, is_end, flow_depth, ended, placed, WordText, kind_at, lexeme_at, Next, Read, Ends, next, extended, history, SpelledText, body_by, token_in, all, Remaining, offline, asked_after, asked, fits, is_key_free, is_level_free, kinds_of, gap_in, end_in, lexeme_of, placed_index}
 use Rattle.yaml_scan_laws.proofs.HistoryForward.{last_is_all}
 use Rattle.yaml_scan_laws.proofs.WordForward.{FitsAny, kind_fits}
 use Rattle.yaml_scan_laws.specs.KeysTexts.{Word, lexemes, StandsBehind, WordsStand, word_kinds, token_of, first_token, ReachEnd}
@@ -27,8 +26,7 @@ level_first : (text : List ℕ) (ws : List Word)
     → is_level_free (kinds_of (lexemes text ws)) ≡ is_level_free (word_kinds ws)
 unfolding is_level_free lexemes
 level_first text [] = refl
-level_first text (w ∷ ws) =
-    ap (λ (qs : List Bool). keeps_level w.kind qs && is_level_free (kinds_of (lexemes text ws))) (asked_first text ws) ∙ ap (λ (b : Bool). keeps_level w.kind (asked (word_kinds ws)) && b) (level_first text ws)
+level_first text (w ∷ ws) = grind (arith, nat_tests, asked_first, level_first text ws)
 
 -- none of the words ends the stream
 abbrev GoOn : List Word → Type 0
@@ -71,8 +69,7 @@ read_so_far text (w ∷ ws) (stands, more) free on =
 -- nothing comes after the end
 ends_behind : (text : List ℕ) (h : List Lexeme) → ended h ≡ true → next text h ≡ Ends
 unfolding next
-ends_behind text [] e = absurd (cc)
-ends_behind text (l ∷ h) e = ap (λ (b : Bool). if b then Ends else coming (kind_behind text (l ∷ h)) text (l ∷ h)) e
+ends_behind text h e = grind (arith, nat_tests)
 
 -- tokens
 
@@ -84,10 +81,7 @@ body_is : (k : Kind) (s : SpelledText) (l : Lexeme) (p : ℕ) (w : WordText)
     → FitsAny (Some k) s.text p → l.level ≡ 0 → l.start.index ≡ p
     → lexeme_at k (nat_lt 0 l.depth) 0 s.text p ≡ Ok w
     → body_by k s l ≡ w.body
-body_is kinds.StreamStart s l p w f level at said = absurd f
-body_is k s l p w f level at said =
-    ap (λ n. body_of_word (lexeme_at k (nat_lt 0 l.depth) n s.text l.start.index)) level ∙ ap (λ n. body_of_word (lexeme_at k (nat_lt 0 l.depth) 0 s.text n)) at
-    ∙ ap (λ (r : Result WordText Wrong). body_of_word r) said
+body_is k s l p w f level at said = grind (arith, nat_tests)
 
 pub token_is : (s : SpelledText) (w : Word) (h : List Lexeme) → StandsBehind s.text h w
     → token_in s (lexeme_of s.text h (gap_in s.text h) w.kind w.said) ≡ token_of s.text w

@@ -1,5 +1,5 @@
 -- The words of the definitions, and the lemmas on them from below, that the files of lemmas share.
-pub use Rattle.std.proofs.lemmas.Bool.{ne_eqb, and_parts, cases_Bool, cases_lt, eqb-true, ltb-true, not-false, not-true, or_cases, or_parts}
+pub use Rattle.std.proofs.lemmas.Bool.{ne_eqb, and_parts, cases_Bool, cases_lt, eqb-true, ltb-true, not-false, not-true, or_cases}
 pub use Rattle.std.proofs.lemmas.Bool.Decides.{nat_tests}
 pub use Rattle.std.proofs.lemmas.List.{append-nil, drop-map, drop_all, drop_more, reverse-append}
 pub use Rattle.std.proofs.lemmas.List.Elements.{All-cons, All-head, All-nil, All-tail}
@@ -10,23 +10,23 @@ pub use Rattle.std.specs.List.{AllPass, list_all}
 pub use Rattle.yaml_scan_history.proofs.MarksLemmas.{widths, within}
 pub use Rattle.yaml_scan_laws.proofs.NextForward.{placed_index, with_end}
 pub use Rattle.yaml_scan_history.proofs.StepwiseLemmas.{stepwise}
-pub use Rattle.yaml_scan_history.specs.Block.{BlockText, block_at, block_behind, block_lines, block_with, column_of, style_at}
-pub use Rattle.yaml_scan_history.specs.History.{Candidate, flow_depth, ended, entry_of, first_open, found_by, fresh, has, inside, is_fresh, key_allowed, keyed, left_by, level_of, marked, opened, opens_at, placed, reached, start_of}
+pub use Rattle.yaml_scan_history.specs.Block.{BlockText, block_at, block_behind, block_lines, block_with, style_at}
+pub use Rattle.yaml_scan_history.specs.History.{Candidate, flow_depth, ended, entry_of, first_open, found_by, fresh, has, inside, key_allowed, keyed, left_by, level_of, marked, opened, opens_at, placed, reached}
 unfoldable pub use Rattle.yaml_scan_history.specs.History.{candidate, finished_tokens, indent, open_levels, mark_key}
 pub use Rattle.yaml_scan_history.specs.Kinds.{allows_key, cancels, depth_after, is_end, is_start, is_value, may_be_key}
-pub use Rattle.yaml_scan_history.specs.Next.{Ends, Fails, Next, Read, allowed_behind, begun, coming, extended, finished, first_lexeme, kind_behind, level_in, lost_by, misplaced, missed}
+pub use Rattle.yaml_scan_history.specs.Next.{Ends, Fails, Next, Read, allowed_behind, begun, coming, extended, finished, first_lexeme, kind_behind, lost_by, misplaced, missed}
 unfoldable pub use Rattle.yaml_scan_history.specs.Next.{history, next}
 pub use Rattle.yaml_scan_history.specs.Remaining.{Remaining, SpelledText, before, body_by, body_in, body_of_word, end_tokens, fault_in, front_ends, handed_out, kept_of, offline, own_tokens, spell, start_tokens, token_in}
 unfoldable pub use Rattle.yaml_scan_history.specs.Remaining.{all, handed, remaining}
-pub use Rattle.yaml_scan_history.specs.Stepwise.{behind, no_colon, not_allowed, of_kind, tested, unless_lost, unless_missed, unless_wrong}
-pub use Rattle.yaml_scan_history.specs.Words.{WordText, blocked, body_said, carrying, directed, or_plain, plainly, tagged, valued}
-unfoldable pub use Rattle.yaml_scan_history.specs.Words.{indicator_of, kind_at, lexeme_at}
+pub use Rattle.yaml_scan_history.specs.Stepwise.{behind, not_allowed, of_kind, tested, unless_lost, unless_missed, unless_wrong}
+pub use Rattle.yaml_scan_history.specs.Words.{WordText, blocked, body_said, carrying, directed, plainly, tagged, valued}
+unfoldable pub use Rattle.yaml_scan_history.specs.Words.{kind_at, lexeme_at}
 pub use Rattle.yaml_scan_history.specs.declared.kind.Kind.{Kind}
 pub use Rattle.yaml_scan_history.specs.declared.lexeme.Entry.{Entry}
 pub use Rattle.yaml_scan_history.specs.declared.lexeme.Lexeme.{Lexeme}
 pub use Rattle.yaml_scan_history.specs.scan_model.Breaks.{feed_at, is_feed}
 unfoldable pub use Rattle.yaml_scan_history.specs.scan_model.Breaks.{break_value, is_document_indicator}
-pub use Rattle.yaml_scan_history.specs.scan_types.Classes.{is_bom, is_break, is_breakz, is_digit}
+pub use Rattle.yaml_scan_history.specs.scan_types.Classes.{is_bom, is_break, is_digit}
 unfoldable pub use Rattle.yaml_scan_history.specs.scan_types.Classes.{is_alpha_byte, is_digit_byte}
 pub use Rattle.yaml_scan_history.specs.scan_types.Marks.{break_width, byte, column_at, ends_break, is_blank, is_blank as is_blank_byte, is_blank_or_end, mark_at}
 unfoldable pub use Rattle.yaml_scan_history.specs.scan_types.Marks.{break_of, ends_of}
@@ -36,7 +36,7 @@ pub use Rattle.yaml_scan_history.specs.scan_model.declared.problem.Context.{Cont
 pub use Rattle.yaml_scan_history.specs.scan_model.declared.name.yaml_scalar_style_t.{yaml_scalar_style_t}
 pub use Rattle.yaml_scan_history.specs.scan_model.declared.record.yaml_mark_t.{yaml_mark_t}
 pub use Rattle.yaml_scan_history.specs.Pieces.{Blank, Break, Kept, Line, Piece, folded, gap, is_empty, lines, rest_of, text, trim_end, trim_start, value}
-pub use Rattle.yaml_scan_history.specs.Plain.{Faulty, PlainSpot, PlainText, Takes, Words, after_white, follows, is_nothing, plain_at, plain_text, plain_with, starts_plain, with_piece, words_from}
+pub use Rattle.yaml_scan_history.specs.Plain.{Faulty, PlainSpot, PlainText, Takes, Words, after_white, follows, is_nothing, plain_at, plain_text, plain_with, with_piece, words_from}
 unfoldable pub use Rattle.yaml_scan_history.specs.Plain.{ends_at, is_bracket, leads, spot_at, words}
 pub use Rattle.yaml_scan_history.specs.Quoted.{Bad, Closing, Pieces, QuotedSpot, coded, double_quoted_at, escaped, followed, hex_len, is_scalar, quoted_at, single_quoted_at, with_front}
 unfoldable pub use Rattle.yaml_scan_history.specs.Quoted.{escape_at, hex_digit, hex_value, pieces, quote_at, simple_escape, standing_at}

@@ -1,6 +1,6 @@
 -- Two small texts, lexeme by lexeme: a key of two words, sequences and brackets; and marks, a `?` and keys in brackets.
-use Rattle.std.proofs.Common.{◌≡◌, ◌≤◌, ℕ, suc, zero, ◌+◌, true, false, nat_lt, List, [], ◌∷◌, length, Some, Ok, refl, ap, ◌∙◌, inl, inr, arith}
-use Rattle.yaml_scan_laws.proofs.LevelWords.{false≢true, byte, line_at, column_at, break_of, ends_of, is_digit_byte, is_alpha_byte, is_document_indicator, break_value, TokenBody, is_document_start, is_document_end, HasAt, are_gap, begins_lexeme, Kind, may_end_name, run_within, belongs, is_bracket, is_indicator_byte, starts_plain, leads, ends_at, spot_at, words, indent, WordText, indicator_of, kind_at, lexeme_at, Rises, IsGap, Comes, row_of_blocks, plain, BlocksAreRead, LeaveClear, row_of_keys, KeysAreRead}
+use Rattle.std.proofs.Common.{◌≡◌, ◌≤◌, ℕ, ◌+◌, true, false, nat_lt, List, [], ◌∷◌, length, Some, Ok, refl, inl, inr, arith}
+use Rattle.yaml_scan_laws.proofs.LevelWords.{false≢true, byte, line_at, column_at, break_of, ends_of, is_digit_byte, is_alpha_byte, is_document_indicator, break_value, TokenBody, is_document_start, is_document_end, are_gap, begins_lexeme, Kind, may_end_name, run_within, belongs, is_bracket, is_indicator_byte, starts_plain, leads, ends_at, spot_at, words, indent, WordText, indicator_of, kind_at, lexeme_at, Rises, IsGap, Comes, row_of_blocks, plain, BlocksAreRead, LeaveClear, row_of_keys, KeysAreRead}
 use Rattle.yaml_scan_history.specs.scan_types.Tokens as tokens
 use Rattle.yaml_scan_history.specs.declared.kind.Kind.TheVariants as kinds
 use Rattle.yaml_scan_history.specs.declared.lexeme.Opens.TheVariants as opening

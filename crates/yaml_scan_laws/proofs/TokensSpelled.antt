@@ -1,6 +1,6 @@
 -- Each tag of a text starts with `!`; the tokens that are handed out are well spelled.
-use Rattle.std.proofs.Common.{ℕ, zero, suc, nat_lt, Bool, List, [], ◌∷◌, Option, Some, None, Result, Ok, Err, sym, subst, inl, inr, arith}
-use Rattle.yaml_scan_laws.proofs.TextWords.{cases_Bool, mark_at, Wrong, gap_at, is_end, placed, flow_depth, key_allowed, candidate, fresh, kind_at, WordText, lexeme_at, Next, Read, Fails, Ends, begun, finished, allowed_behind, misplaced, missed, lost_by, next, extended, history, no_colon, tested, unless_wrong, unless_lost, of_kind, unless_missed, stepwise, placed_index, Token, SpelledText, body_of_word, body_by, remaining, IsSpelled, AreSpelled}
+use Rattle.std.proofs.Common.{ℕ, zero, suc, nat_lt, Bool, List, [], ◌∷◌, Option, Result, sym, subst, inl, inr, arith}
+use Rattle.yaml_scan_laws.proofs.TextWords.{nat_tests, cases_Bool, mark_at, Wrong, gap_at, is_end, flow_depth, key_allowed, candidate, fresh, kind_at, WordText, Next, Read, Fails, Ends, finished, missed, next, extended, history, tested, unless_wrong, unless_lost, of_kind, unless_missed, stepwise, placed_index, Token, SpelledText, body_of_word, body_by, remaining, IsSpelled, AreSpelled}
 use Rattle.yaml_scan_history.specs.scan_model.declared.record.yaml_mark_t.{yaml_mark_t}
 use Rattle.yaml_scan_history.specs.Between.{Gap}
 use Rattle.yaml_scan_history.specs.declared.Kind.{Kind}
@@ -43,30 +43,19 @@ tested_starts text l h s = grind arith
 
 wrong_starts : (text : List ℕ) (r : Result WordText Wrong) (l : Lexeme) (h : List Lexeme)
     → Starts text l → StartsAny text (unless_wrong r text l h)
-wrong_starts text (Ok w) l h s = tested_starts text (finished text l w) h (finished_starts text l w s)
-wrong_starts text (Err w) l h s = tt
+wrong_starts text r l h s = grind (arith, nat_tests, tested_starts, finished_starts)
 
 lost_starts : (o : Option yaml_mark_t) (text : List ℕ) (p : ℕ) (l : Lexeme) (h : List Lexeme)
     → Starts text l → StartsAny text (unless_lost o text p l h)
-lost_starts (Some start) text p l h s = tt
-lost_starts None text p l h s = wrong_starts text (lexeme_at l.kind (nat_lt 0 l.depth) l.level text p) l h s
+lost_starts o text p l h s = grind (arith, nat_tests, wrong_starts)
 
 kind_starts : (o : Option Kind) (text : List ℕ) (gap : Gap) (h : List Lexeme)
     → MarkedAny o text gap.place → StartsAny text (of_kind o text gap h)
-kind_starts None text gap h m = tt
-kind_starts (Some k) text gap h m =
-    let start = mark_at text gap.place in
-    let l = begun k (placed k start) (allowed_behind h gap) h in
-    let own : Marked k text (placed k start).index = subst (λ q. Marked k text q) (sym (placed_index k start)) m in
-    elim (cases_Bool (misplaced k start (allowed_behind h gap) h)) [
-      | inl e ↦ rw e tt
-      | inr e ↦ rw e (lost_starts (lost_by l (fresh (candidate (flow_depth h) h) start)) text gap.place l h own)
-    ]
+kind_starts o text gap h m = grind (arith, nat_tests, placed_index, cases_Bool, lost_starts)
 
 missed_starts : (o : Option yaml_mark_t) (text : List ℕ) (gap : Gap) (h : List Lexeme)
     → StartsAny text (unless_missed o text gap h)
-missed_starts (Some start) text gap h = tt
-missed_starts None text gap h = kind_starts (kind_at (nat_lt 0 (flow_depth h)) text gap.place) text gap h (kind_marked (nat_lt 0 (flow_depth h)) text gap.place)
+missed_starts o text gap h = grind (arith, nat_tests, kind_starts, kind_marked)
 
 next_starts : (text : List ℕ) (h : List Lexeme) → StartsAny text (next text h)
 unfolding next
@@ -84,9 +73,7 @@ AllStart text (l ∷ h) = Starts text l × AllStart text h
 
 extended_start : (text : List ℕ) (x : Next) (h : List Lexeme) → StartsAny text x → AllStart text h
     → AllStart text (extended x h)
-extended_start text (Read l) h s all = (s, all)
-extended_start text (Fails f) h s all = all
-extended_start text Ends h s all = all
+extended_start text x h s all = grind (arith, nat_tests)
 
 -- the lexemes of each step
 pub history_starts : (text : List ℕ) (n : ℕ) → AllStart text (history text n)
@@ -95,13 +82,11 @@ history_starts text zero = tt
 history_starts text (suc n) = extended_start text (next text (history text n)) (history text n) (next_starts text (history text n)) (history_starts text n)
 
 word_body : (r : Result WordText Wrong) → HasWord r → IsSpelled (body_of_word r)
-word_body (Ok w) h = h
-word_body (Err w) h = tt
+word_body r h = grind (arith, nat_tests)
 
 body_spelled : (k : Kind) (s : SpelledText) (l : Lexeme) → Marked k s.text l.start.index
     → IsSpelled (body_by k s l)
-body_spelled kinds.StreamStart s l m = tt
-body_spelled k s l m = word_body (lexeme_at k (nat_lt 0 l.depth) l.level s.text l.start.index) (word_spelled k (nat_lt 0 l.depth) l.level s.text l.start.index m)
+body_spelled k s l m = grind (arith, nat_tests, word_body, word_spelled)
 
 carried : (s : SpelledText) (h : List Lexeme) → AllStart s.text h → Carry IsSpelled s h
 carried s [] a = tt

@@ -1,6 +1,6 @@
 -- A mark of documents is read outside of all levels; where the front ends, the whole goes on with the rest's mark.
-use Rattle.std.proofs.Common.{◌≡◌, ℕ, ◌+◌, ◌&&◌, nat_lt, nat_le, if◌then◌else◌, Bool, true, false, not, List, [], ◌∷◌, filter, Option, Some, None, refl, ap, ◌∙◌, inl, inr, arith, add-zero, suc, ◌≤◌, ◌==◌, ◌||◌, ◌++◌, length, sym, ◌⊎◌}
-use Rattle.yaml_scan_laws.proofs.Shared.{cases_Bool, nat_tests, TokenBody, column_at, mark_at, Kind, Lexeme, depth_after, may_be_key, cancels, is_value, is_start, is_outside, is_end, allows_key, flow_depth, in_flow, Candidate, candidate, fresh, found_by, margin_at, indent, left_by, opens_at, open_levels, carrying, lexeme_at, SpelledText, body_by, Read, gap_behind, place_behind, allowed_behind, begun_behind, word_behind, lexeme_behind, lost_by, stale_before, indicator_misplaced, candidate_lost, text_wrong, stale_after, coming, cases_lt, and_parts, eqb-true, true≢false, and-false, yaml_mark_t, byte, is_blank_or_end, is_document_indicator, is_document_start, is_document_end, reached, key_allowed, placed, kind_at, kind_behind, colon_missing_of, start_line, gap_place, IsCut, moved_mark, none-some}
+use Rattle.std.proofs.Common.{◌≡◌, ℕ, ◌+◌, ◌&&◌, nat_le, Bool, true, false, List, [], ◌∷◌, filter, Option, Some, None, refl, ap, ◌∙◌, inl, inr, arith, add-zero, suc, ◌≤◌, ◌==◌, ◌||◌, ◌++◌, length, sym, ◌⊎◌}
+use Rattle.yaml_scan_laws.proofs.Shared.{cases_Bool, nat_tests, TokenBody, column_at, mark_at, Kind, Lexeme, depth_after, may_be_key, cancels, is_value, is_start, is_outside, is_end, allows_key, flow_depth, in_flow, Candidate, candidate, fresh, indent, left_by, opens_at, open_levels, carrying, lexeme_at, SpelledText, body_by, Read, gap_behind, place_behind, allowed_behind, begun_behind, word_behind, lexeme_behind, lost_by, stale_before, stale_after, coming, and_parts, eqb-true, true≢false, yaml_mark_t, byte, is_blank_or_end, is_document_indicator, is_document_start, is_document_end, reached, placed, kind_at, kind_behind, colon_missing_of, start_line, gap_place, IsCut, moved_mark, none-some}
 use Rattle.std.proofs.lemmas.List.Elements.{filter-append}
 use Rattle.yaml_scan_history.specs.scan_types.Tokens as tokens
 use Rattle.yaml_scan_history.specs.declared.kind.Kind.TheVariants as kinds
@@ -81,8 +81,7 @@ mark_lexeme K text p = record {
 }
 
 pub and_false : (x : Bool) → (x && false) ≡ false
-and_false true = refl
-and_false false = refl
+and_false x = grind (arith, nat_tests)
 
 mark_begun : (K : Kind) (body : TokenBody) → IsMark K body
     → (text : List ℕ) (H : List Lexeme) (p : ℕ)
@@ -105,8 +104,7 @@ mark_begun K body m text H p e z =
 
 -- what is free is not lost
 pub lost_none : (l : Lexeme) (o : Option Candidate) → IsFree o → lost_by l o ≡ None
-lost_none l None f = refl
-lost_none l (Some c) f = rw f refl
+lost_none l o f = grind (arith, nat_tests)
 
 pub mark_word : (K : Kind) (body : TokenBody) → IsMark K body
     → (text : List ℕ) (H : List Lexeme) (p : ℕ)
@@ -167,8 +165,7 @@ end_byte flow t p k e end = by t p k end (kind_told flow t p k e)
     by t p _ end h = absurd (true≢false (sym end))
 
 pub end_is : (k : Kind) → is_end k ≡ true → k ≡ kinds.StreamEnd
-end_is kinds.StreamEnd h = refl
-end_is _ h = absurd (true≢false (sym h))
+end_is k h = grind (arith, nat_tests, true≢false)
 
 -- ---- the mark of the rest
 
@@ -184,8 +181,7 @@ mark_parts : (c z x y : Bool) → ((c && (x || y)) && z) ≡ true
 mark_parts c z x y h = grind (arith, nat_tests)
 
 shift : (a b c : Bool) → (a && (b && c)) ≡ ((a && b) && c)
-shift true b c = refl
-shift false b c = refl
+shift a b c = grind (arith, nat_tests)
 
 indicator_cases : (t : List ℕ) (p : ℕ) → is_document_indicator t p ≡ true
     → (is_document_start t p ≡ true) ⊎ (is_document_end t p ≡ true)
@@ -193,8 +189,7 @@ unfolding is_document_indicator is_document_start is_document_end
 indicator_cases t p h = grind (arith, nat_tests, mark_parts, shift)
 
 first_byte : (c z x y : Bool) (b n : ℕ) → ((c && (b == n && (x && y))) && z) ≡ true → b ≡ n
-first_byte true z x y b n h = eqb-true _ _ (and_parts (b == n) (x && y) (and_parts (b == n && (x && y)) z h).0).0
-first_byte false z x y b n h = absurd (true≢false (sym h))
+first_byte c z x y b n h = grind (arith, nat_tests, eqb-true, and_parts, true≢false)
 
 start_byte : (t : List ℕ) (p : ℕ) → is_document_start t p ≡ true → byte t p ≡ 45
 unfolding is_document_start
@@ -224,11 +219,7 @@ abbrev pub end_stands : (t : List ℕ) (p : ℕ) → is_document_end t p ≡ tru
 end_stands t p e = record { kind = kinds.DocumentEnd; body = tokens.document_end; is = end_mark; stands = λ flow. finishes flow t p e }
 
 pub mark_stands : (t : List ℕ) (p : ℕ) → is_document_indicator t p ≡ true → MarkStands t p
-mark_stands t p h =
-    elim (indicator_cases t p h) [
-      | inl e ↦ start_stands t p e
-      | inr e ↦ end_stands t p e
-    ]
+mark_stands t p h = grind (arith, nat_tests, indicator_cases, start_stands, end_stands)
 
 -- ---- the turn
 
@@ -237,8 +228,7 @@ pub free_of : (l : Lexeme) (o : Option Candidate) → cancels l.kind ≡ true �
 free_of l o c v e = grind (arith, nat_tests)
 
 pub colon_none : (o : Option yaml_mark_t) (m : yaml_mark_t) → colon_missing_of o m ≡ None → o ≡ None
-colon_none None m e = refl
-colon_none (Some x) m e = absurd (none-some _ (sym e))
+colon_none o m e = grind (arith, nat_tests, none-some)
 
 pub end_begun : (t : List ℕ) (H : List Lexeme)
     → lexeme_behind kinds.StreamEnd t H ≡ begun_behind kinds.StreamEnd t H

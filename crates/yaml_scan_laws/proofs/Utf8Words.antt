@@ -1,6 +1,6 @@
 -- What each lexeme carries is UTF-8, except for what escapes spell, and the text may be cut after it.
-use Rattle.std.proofs.Common.{◌≡◌, ℕ, ◌+◌, ◌<◌, ◌==◌, ◌&&◌, ◌||◌, not, nat_lt, Bool, true, false, List, length, slice_range, Option, Result, Ok, Err, inl, inr, arith, IsUtf8}
-use Rattle.yaml_scan_laws.proofs.TextWords.{cases_Bool, ltb-true, eqb-true, or_cases, not-false, or_parts, nat_tests, IsUtf8-nil, yaml_scalar_style_t, TokenBody, byte, break_width, column_at, is_blank, is_blank_or_end, Wrong, within, is_document_start, is_document_end, is_name_end, may_end_name, name_between, anchor_at, some_uri_at, uri_at, TagText, bracketed, name_end, with_handle, bare, parts_at, may_end_tag, ValueText, then_at, directive_name_between, handle_between, handle_at, prefix_at, with_prefix, named_value_at, value_at, break_end, line_end_at, with_line, single_quoted_at, double_quoted_at, PlainText, plain_at, BlockText, block_at, style_at, Kind, kind_at, WordText, carrying, valued, tagged, body_said, directed, blocked, plainly, lexeme_at, HasTexts}
+use Rattle.std.proofs.Common.{◌≡◌, ℕ, ◌+◌, ◌<◌, ◌==◌, ◌&&◌, Bool, true, List, length, Option, Result, Ok, Err, inl, inr, arith, IsUtf8}
+use Rattle.yaml_scan_laws.proofs.TextWords.{cases_Bool, ltb-true, eqb-true, or_cases, not-false, nat_tests, yaml_scalar_style_t, TokenBody, byte, column_at, is_blank_or_end, Wrong, within, is_document_start, is_document_end, is_name_end, may_end_name, name_between, anchor_at, TagText, bracketed, name_end, with_handle, bare, parts_at, may_end_tag, ValueText, then_at, directive_name_between, handle_between, handle_at, prefix_at, with_prefix, named_value_at, value_at, break_end, with_line, single_quoted_at, double_quoted_at, PlainText, plain_at, BlockText, block_at, style_at, Kind, kind_at, WordText, carrying, valued, tagged, body_said, directed, blocked, plainly, lexeme_at, HasTexts}
 use Rattle.yaml_scan_history.specs.scan_model.declared.problem.Context.{Context}
 use Rattle.yaml_scan_history.specs.scan_model.declared.problem.Context.TheVariants as contexts
 use Rattle.yaml_scan_history.specs.scan_model.declared.name.yaml_scalar_style_t.TheVariants as styles
@@ -18,14 +18,7 @@ use Rattle.yaml_scan_laws.proofs.WordForward.{Tells, OfAny, kind_is}
 -- a blank, a break or the end
 pub end_whole : (text : List ℕ) (p : ℕ) → IsUtf8 text → is_blank_or_end text p ≡ true
     → IsWhole text p
-end_whole text p t h =
-    elim (or_cases (is_blank (byte text p) || byte text p == 0) (nat_lt 0 (break_width text p)) h) [
-      | inl a ↦ elim (or_cases (is_blank (byte text p)) (byte text p == 0) a) [
-        | inl b ↦ whole_ascii text p t (blank_small (byte text p) b)
-        | inr z ↦ let same = eqb-true _ _ z in whole_ascii text p t (omega (arith, same))
-      ]
-      | inr b ↦ whole_before text p t (ltb-true _ _ b)
-    ]
+end_whole text p t h = grind (arith, nat_tests, whole_ascii, blank_small, eqb-true, whole_before, ltb-true)
 
 name_whole : (text : List ℕ) (p : ℕ) → IsUtf8 text → may_end_name text p ≡ true → IsWhole text p
 unfolding may_end_name
@@ -37,11 +30,7 @@ name_whole text p t h =
 
 tag_end_whole : (flow : Bool) (text : List ℕ) (p : ℕ) → IsUtf8 text → may_end_tag flow text p ≡ true
     → IsWhole text p
-tag_end_whole flow text p t h =
-    elim (or_cases (is_blank_or_end text p) (flow && byte text p == 44) h) [
-      | inl a ↦ end_whole text p t a
-      | inr b ↦ whole_ascii text p t (grind (arith, nat_tests))
-    ]
+tag_end_whole flow text p t h = grind (arith, nat_tests, end_whole, whole_ascii)
 
 -- what a lexeme carries, and the place after it
 pub record IsWord (text : List ℕ) (w : WordText) : Type 0 where
@@ -59,38 +48,27 @@ HasName text (Err w) = Unit {0}
 
 between_good : (context : Context) (text : List ℕ) (p q : ℕ) → IsUtf8 text → IsWhole text p
     → HasName text (name_between context text p q)
-between_good context text p q t w =
-    elim (cases_Bool (p == q || not (may_end_name text q))) [
-      | inl h ↦ rw h tt
-      | inr h ↦
-          let there = name_whole text q t (not-false (may_end_name text q) (or_parts (p == q) (not (may_end_name text q)) h).1) in
-          rw h (slice_utf8 text p q t w there, there)
-    ]
+between_good context text p q t w = grind (arith, nat_tests, cases_Bool, name_whole, not-false, slice_utf8)
 
 alias_word : (text : List ℕ) (r : Result (List ℕ × ℕ) Wrong) → HasName text r
     → HasWord text (valued tokens.alias r)
-alias_word text (Ok x) (a, b) = record { texts = a; place = b }
-alias_word text (Err w) h = tt
+alias_word text r h = grind (arith, nat_tests)
 
 anchor_word : (text : List ℕ) (r : Result (List ℕ × ℕ) Wrong) → HasName text r
     → HasWord text (valued tokens.anchor r)
-anchor_word text (Ok x) (a, b) = record { texts = a; place = b }
-anchor_word text (Err w) h = tt
+anchor_word text r h = grind (arith, nat_tests)
 
 quoted_word : (style : yaml_scalar_style_t) (text : List ℕ) (r : Result (List ℕ × ℕ) Wrong)
     → HasQuoted text r → HasWord text (valued (λ v. tokens.scalar v style) r)
-quoted_word style text (Ok x) h = record { texts = h.value; place = h.place }
-quoted_word style text (Err w) h = tt
+quoted_word style text r h = grind (arith, nat_tests)
 
 plain_word : (text : List ℕ) (r : Result PlainText Wrong) → HasPlain text r
     → HasWord text (plainly r)
-plain_word text (Ok x) h = record { texts = h.value; place = h.place }
-plain_word text (Err w) h = tt
+plain_word text r h = grind (arith, nat_tests)
 
 block_word : (style : yaml_scalar_style_t) (text : List ℕ) (r : Result BlockText Wrong)
     → HasBlock text r → HasWord text (blocked style r)
-block_word style text (Ok x) h = record { texts = h.value; place = h.place }
-block_word style text (Err w) h = tt
+block_word style text r h = grind (arith, nat_tests)
 
 indicator_word : (text : List ℕ) (body : TokenBody) (q : ℕ) → HasTexts body → IsWhole text q
     → HasWord text (carrying body q)
@@ -107,34 +85,18 @@ bracketed_handle text r = grind (arith, nat_tests)
 
 with_handle_good : (handle : List ℕ) (r : Result (List ℕ × ℕ) Wrong) → IsUtf8 handle
     → HasHandle (with_handle handle r)
-with_handle_good handle (Ok u) h = h
-with_handle_good handle (Err w) h = tt
+with_handle_good handle r h = grind (arith, nat_tests)
 
 bare_good : (r : Result (List ℕ × ℕ) Wrong) → HasHandle (bare r)
 bare_good r = grind (arith, nat_tests, ascii_utf8)
 
 parts_good : (text : List ℕ) (p : ℕ) → IsUtf8 text → IsWhole text p → HasHandle (parts_at text p)
 unfolding parts_at
-parts_good text p t w =
-    elim (cases_Bool (byte text (p + 1) == 60)) [
-      | inl h ↦ rw h (bracketed_handle text (some_uri_at contexts.TagUri true text (p + 2)))
-      | inr h ↦ elim (cases_Bool (byte text (name_end text p) == 33)) [
-        | inl i ↦
-            let same = eqb-true _ _ i in
-            rw (h, i) (with_handle_good (slice_range text p (name_end text p + 1)) (some_uri_at contexts.TagUri false text (name_end text p + 1))
-            (slice_utf8 text p (name_end text p + 1) t w (whole_after text (name_end text p) t (omega (arith, same)))))
-        | inr i ↦ rw (h, i) (bare_good (uri_at contexts.TagUri false text (p + 1)))
-      ]
-    ]
+parts_good text p t w = grind (arith, nat_tests, cases_Bool, bracketed_handle, eqb-true, with_handle_good, slice_utf8, whole_after, bare_good)
 
 tag_word : (flow : Bool) (text : List ℕ) (r : Result TagText Wrong) → IsUtf8 text → HasHandle r
     → HasWord text (tagged (ended flow text r))
-tag_word flow text (Ok x) t h =
-    elim (cases_Bool (may_end_tag flow text x.end)) [
-      | inl e ↦ rw e record { texts = h; place = tag_end_whole flow text x.end t e }
-      | inr e ↦ rw e tt
-    ]
-tag_word flow text (Err w) t h = tt
+tag_word flow text r t h = grind (arith, nat_tests, cases_Bool, tag_end_whole)
 
 -- Directives.
 
@@ -144,31 +106,18 @@ HasText (Err w) = Unit {0}
 
 handle_between_good : (text : List ℕ) (p q : ℕ) → IsUtf8 text → byte text p < 128
     → HasText (handle_between text p q)
-handle_between_good text p q t s =
-    elim (cases_Bool (byte text q == 33)) [
-      | inl h ↦ let same = eqb-true _ _ h in rw h (slice_utf8 text p (q + 1) t (whole_ascii text p t s) (whole_after text q t (omega (arith, same))))
-      | inr h ↦ elim (cases_Bool (q == p + 1)) [
-        | inl i ↦ let e = eqb-true _ _ i in rw (h, i) (slice_utf8 text p q t (whole_ascii text p t s) (rw e (whole_after text p t s)))
-        | inr i ↦ rw (h, i) tt
-      ]
-    ]
+handle_between_good text p q t s = grind (arith, nat_tests, cases_Bool, eqb-true, slice_utf8, whole_ascii, whole_after)
 
 handle_good : (text : List ℕ) (p : ℕ) → IsUtf8 text → HasText (handle_at text p)
-handle_good text p t =
-    elim (cases_Bool (byte text p == 33)) [
-      | inl h ↦ let same = eqb-true _ _ h in rw h (handle_between_good text p (name_end text p) t (omega (arith, same)))
-      | inr h ↦ rw h tt
-    ]
+handle_good text p t = grind (arith, nat_tests, cases_Bool, eqb-true, handle_between_good)
 
 prefix_good : (handle : List ℕ) (r : Result (List ℕ × ℕ) Wrong) → IsUtf8 handle
     → HasSaid HasTexts (with_prefix handle r)
-prefix_good handle (Ok x) h = h
-prefix_good handle (Err w) h = tt
+prefix_good handle r h = grind (arith, nat_tests)
 
 then_handle : (text : List ℕ) (r : Result (List ℕ × ℕ) Wrong) → HasText r
     → HasSaid HasTexts (then_at (λ handle q. with_prefix handle (prefix_at text q)) r)
-then_handle text (Ok x) h = prefix_good x.0 (prefix_at text x.1) h
-then_handle text (Err w) h = tt
+then_handle text r h = grind (arith, nat_tests, prefix_good)
 
 handle_said : (text : List ℕ) (p : ℕ) → IsUtf8 text
     → HasSaid HasTexts (then_at (λ handle q. with_prefix handle (prefix_at text q)) (handle_at text p))
@@ -183,24 +132,15 @@ HasPlace text (Ok q) = IsWhole text q
 HasPlace text (Err w) = Unit {0}
 
 break_end_good : (text : List ℕ) (p : ℕ) → IsUtf8 text → HasPlace text (break_end text p)
-break_end_good text p t =
-    elim (cases_Bool (nat_lt 0 (break_width text p))) [
-      | inl h ↦ rw h (whole_behind text p t (ltb-true _ _ h))
-      | inr h ↦ elim (cases_Bool (byte text p == 0)) [
-        | inl i ↦ let same = eqb-true _ _ i in rw (h, i) (whole_ascii text p t (omega (arith, same)))
-        | inr i ↦ rw (h, i) tt
-      ]
-    ]
+break_end_good text p t = grind (arith, nat_tests, cases_Bool, whole_behind, ltb-true, eqb-true, whole_ascii)
 
 line_word : (text : List ℕ) (v : ValueText) (r : Result ℕ Wrong) → HasTexts (body_said v.said)
     → HasPlace text r → HasWord text (directed (with_line v r))
-line_word text v (Ok q) a b = record { texts = a; place = b }
-line_word text v (Err w) a b = tt
+line_word text v r a b = grind (arith, nat_tests)
 
 directive_word : (text : List ℕ) (r : Result ValueText Wrong) → IsUtf8 text → HasSaid HasTexts r
     → HasWord text (directed (finished text r))
-directive_word text (Ok v) t h = line_word text v (line_end_at text v.end) h (break_end_good text _ t)
-directive_word text (Err w) t h = tt
+directive_word text r t h = grind (arith, nat_tests, line_word, break_end_good)
 
 -- Kinds.
 

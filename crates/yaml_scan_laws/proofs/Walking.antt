@@ -1,6 +1,6 @@
 -- A walk goes on, lexeme by lexeme.
 use Rattle.std.proofs.Common.{◌≡◌, ℕ, ◌+◌, ◌==◌, ◌&&◌, ◌||◌, not, nat_lt, Bool, true, false, List, [], ◌∷◌, ◌++◌, length, flat_map, None, refl, sym, ap, subst, ◌∙◌, inl, inr, arith, append_assoc}
-use Rattle.yaml_scan_laws.proofs.LevelWords.{nat_tests, append-nil, and_parts, and-false, yaml_mark_t, line_at, column_at, mark_at, TokenBody, stream_end, block_end, key, Kind, Lexeme, Entry, Opens, depth_after, allows_key, is_value, flow_depth, Candidate, candidate, is_fresh, margin_at, indent, opened, start_of, level_of, WordText, first_lexeme, SpelledText, spell, Rises, LeavesLevels, Meets, Says, entry, read_at, IsRight, IsLone, stays_level, told, start_bodies, Stands, Comes, WordLeaves, may_begin, end_at, WalkSays, Content, Key, WalkGoes, WalkState, Clear, LeaveClear, Outside, DeeperLeaves, WalkReads, ClosesAt, LevelsPart, WalkEnds, WalkStarts, WalkWhite, WalkWord, WalkMark, WalkOuter, WalkStops, WalkKeyStarts, WalkKeyGoes, WalkKeyStops, WalkAsks, WalkAnswers}
+use Rattle.yaml_scan_laws.proofs.LevelWords.{nat_tests, append-nil, and_parts, and-false, yaml_mark_t, line_at, column_at, mark_at, TokenBody, stream_end, key, Kind, Lexeme, Entry, Opens, depth_after, allows_key, is_value, flow_depth, Candidate, candidate, is_fresh, margin_at, indent, opened, start_of, level_of, WordText, first_lexeme, SpelledText, spell, Rises, LeavesLevels, Meets, Says, entry, read_at, IsRight, IsLone, stays_level, told, start_bodies, Stands, Comes, WordLeaves, may_begin, end_at, WalkSays, Content, Key, WalkGoes, WalkState, Clear, LeaveClear, Outside, DeeperLeaves, WalkReads, ClosesAt, LevelsPart, WalkEnds, WalkStarts, WalkWhite, WalkWord, WalkMark, WalkOuter, WalkStops, WalkKeyStarts, WalkKeyGoes, WalkKeyStops, WalkAsks, WalkAnswers}
 use Rattle.yaml_scan_history.specs.scan_model.declared.name.yaml_encoding_t.{yaml_encoding_t}
 use Rattle.yaml_scan_history.specs.declared.kind.Kind.TheVariants as kinds
 use Rattle.yaml_scan_history.specs.declared.lexeme.Opens.TheVariants as opening
@@ -53,13 +53,7 @@ levels_part (c ∷ ls) more r = (rises_front 0 (c ∷ ls) more r, rises_last 0 c
 
 leaves_of : (d c : ℕ) (ls more : List ℕ) → Rises 0 (ls ++ more) → ClosesAt d c ls more
     → LeavesLevels d c (ls ++ more) ls (length more)
-leaves_of d c ls more r (inl (deep, none)) =
-    let P : List ℕ → Type 0 = λ xs. LeavesLevels d c (ls ++ xs) ls (length xs) in
-    let Q : List ℕ → Type 0 = λ xs. LeavesLevels d c xs ls 0 in
-    subst P (sym none) (subst Q (sym (append-nil ls)) (inside_leaves d c ls (rises_front 0 ls more r) deep))
-leaves_of d c ls more r (inr (flat, low, above)) =
-    let P : ℕ → Type 0 = λ n. LeavesLevels n c (ls ++ more) ls (length more) in
-    subst P (sym flat) (left_closes c ls more r low above)
+leaves_of d c ls more r h5 = grind (arith, nat_tests, append-nil, inside_leaves, rises_front, left_closes)
 
 -- ---- what is equal may replace it
 
@@ -223,9 +217,7 @@ fresh_from : (a b m : yaml_mark_t) → a ≡ b → is_fresh b m ≡ true → is_
 fresh_from a b m e f = ap (λ (y : yaml_mark_t). is_fresh y m) e ∙ f
 
 not_value : (a v : Bool) → (a && not v) ≡ true → v ≡ true → ⊥
-not_value true true e v = cc
-not_value false v e f = cc
-not_value true false e v = cc
+not_value a v e f = grind (arith, nat_tests)
 
 pub walk_key_goes : WalkKeyGoes
 walk_key_goes x text o d start cs ls T K k gap w e then wide r leave c stays right is_in near far leaves =
@@ -277,8 +269,7 @@ walk_key_stops x text o start cs ls new what T K gap w e then wide r leave c rig
 -- ---- `?` in brackets
 
 deep_stays : (deep start : Bool) → deep ≡ true → (true && (deep || not start)) ≡ true
-deep_stays true start e = refl
-deep_stays false start e = absurd (cc)
+deep_stays deep start e = grind (arith, nat_tests)
 
 deep_block : (d : ℕ) → nat_lt 0 d ≡ true → (d == 0) ≡ false
 deep_block d e = grind (arith, nat_tests)
@@ -288,8 +279,7 @@ leaves_off : (text : List ℕ) (d : ℕ) (b : Bool) (w : WordText) (e : ℕ) (th
 leaves_off text d b w e then wide off leaves = let P : Bool → Type 0 = λ y. WordLeaves text d y w e then wide in subst P (sym off) leaves
 
 block_off : (b : Bool) → b ≡ false → (b && not false) ≡ false
-block_off false e = refl
-block_off true e = absurd (cc)
+block_off b e = grind (arith, nat_tests)
 
 pub walk_asks : WalkAsks
 walk_asks x text o cs ls T gap w e then wide r leave deep c leaves =

@@ -1,7 +1,6 @@
 -- The white after lexemes.
 use Rattle.std.proofs.Common.{◌≡◌, ℕ, zero, suc, ◌+◌, ◌-◌, ◌<◌, ◌≤◌, ◌==◌, ◌&&◌, ◌||◌, not, nat_lt, Bool, true, false, List, [], ◌∷◌, ◌++◌, length, get_or, refl, sym, ap, subst, ◌∙◌, inl, inr, ◌⊎◌, arith}
-use Rattle.yaml_scan_laws.proofs.LevelWords.{cases_Bool, and_parts, not-true, nat_tests, append-nil, byte, break_of, break_width, mark_at, is_bom, Gap, gap_at, HasAt, are_gap, has_break, begins_lexeme, Kind, Lexeme, allows_key, is_value, reached, flow_depth, in_flow, candidate, fresh, has, key_allowed, gap_behind, allowed_behind, gap_is_read, IsGap, WhiteBegins, WhiteGoesOn, WhiteIsTaken, WhiteIsOver, WhiteIsPassed, WhiteMeets, KeyIsAllowed}
-use Rattle.yaml_scan_history.specs.declared.kind.Kind.TheVariants as kinds
+use Rattle.yaml_scan_laws.proofs.LevelWords.{cases_Bool, and_parts, nat_tests, append-nil, byte, break_of, Gap, gap_at, HasAt, are_gap, has_break, begins_lexeme, Kind, Lexeme, allows_key, is_value, reached, in_flow, key_allowed, gap_behind, allowed_behind, gap_is_read, IsGap, WhiteBegins, WhiteGoesOn, WhiteIsTaken, WhiteIsOver, WhiteIsPassed, WhiteMeets, KeyIsAllowed}
 
 -- ---- gaps of several parts
 
@@ -10,8 +9,7 @@ gap_more [] ys e f = f
 gap_more (x ∷ xs) ys e f = let (here, rest) = and_parts (x == 32 || (x == 10 || x == 13)) (are_gap xs) e in rw here (gap_more xs ys rest f)
 
 or_more : (a b c : Bool) → ((a || b) || c) ≡ (a || (b || c))
-or_more true b c = refl
-or_more false b c = refl
+or_more a b c = grind (arith, nat_tests)
 
 break_more : (xs ys : List ℕ) → has_break (xs ++ ys) ≡ (has_break xs || has_break ys)
 break_more [] ys = refl
@@ -144,12 +142,10 @@ nothing_more text p (x ∷ more) e g =
 
 -- the first of two where the second fails
 pub or_none : (a b : Bool) → (a || (false && b)) ≡ a
-or_none true b = refl
-or_none false b = refl
+or_none a b = grind (arith, nat_tests)
 
 and_true : (a : Bool) → a ≡ (a && true)
-and_true true = refl
-and_true false = refl
+and_true a = grind (arith, nat_tests)
 
 taken_allowed : (text : List ℕ) (h : List Lexeme) (p : ℕ) (white gap : List ℕ)
     → begins_lexeme text (p + length white) ≡ true → (reached h).index ≡ p + length white
@@ -194,8 +190,7 @@ white_meets text h p d level now broken gap k w white g kind word = record { pla
 
 allows_found : (k : Kind) (block x y : Bool) → (is_value k ≡ true → x ≡ y)
     → allows_key k block x ≡ allows_key k block y
-allows_found kinds.ValueMark block x y f = ap (λ (b : Bool). block && not b) (f refl)
-allows_found k block x y f = refl
+allows_found k block x y f = grind (arith, nat_tests)
 
 pub key_is_allowed : KeyIsAllowed
 key_is_allowed text h d k q a found w deep f = grind (arith, nat_tests, allows_found)

@@ -1,6 +1,6 @@
 -- Places where a text in UTF-8 may be cut, and values whose pieces go together.
 use Rattle.std.proofs.Common.{◌≡◌, ℕ, zero, suc, ◌+◌, ◌-◌, ◌<◌, ◌≤◌, ◌==◌, ◌&&◌, ◌||◌, Bool, true, List, [], ◌∷◌, ◌++◌, length, drop, refl, ◌∙◌, ap, inl, inr, ◌⊎◌, arith, IsUtf8, slice_range, take_at, take_all, length-drop, IsAscii, append-nil, append_assoc}
-use Rattle.yaml_scan_laws.proofs.TextWords.{encode_utf8, drop_all, drop_more, cases_Bool, cases_lt, nat_tests, IsUtf8-nil, IsUtf8-drop, IsUtf8-take, IsUtf8-between, IsUtf8-past_char, IsUtf8-from_ascii, IsUtf8-encode, IsCharBoundary-after_ascii, IsCharBoundary-from_drop, IsCharBoundary-at_seam, byte, break_of, ends_of, break_width, ends_break, is_blank, column_at, is_blank_or_end, break_value, is_document_indicator, within, widths, leads, IsUtf8-append, is_feed, Piece, Kept, Blank, Break, Line, lines, is_empty, text, trim_end, trim_start, gap, rest_of, folded, value}
+use Rattle.yaml_scan_laws.proofs.TextWords.{encode_utf8, drop_all, drop_more, cases_Bool, cases_lt, nat_tests, IsUtf8-nil, IsUtf8-drop, IsUtf8-take, IsUtf8-between, IsUtf8-past_char, IsUtf8-from_ascii, IsUtf8-encode, IsCharBoundary-after_ascii, IsCharBoundary-from_drop, IsCharBoundary-at_seam, byte, break_of, ends_of, break_width, ends_break, is_blank, break_value, is_document_indicator, within, widths, leads, IsUtf8-append, is_feed, Piece, Kept, Blank, Break, Line, lines, is_empty, text, trim_end, trim_start, gap, rest_of, folded, value}
 
 -- a character begins there, or the text has ended
 abbrev pub IsWhole : List ℕ → ℕ → Type 0
@@ -103,30 +103,15 @@ behind_one : (text : List ℕ) (p : ℕ) → IsUtf8 text → break_width text p 
 behind_one text p u h = whole_after text p u (unfold break_of in grind (arith, nat_tests))
 
 behind_two : (text : List ℕ) (p : ℕ) → IsUtf8 text → break_width text p ≡ 2 → IsWhole text (p + 2)
-behind_two text p u h =
-    elim (two_is (byte text p) (byte text (p + 1)) (byte text (p + 2)) h) [
-      | inl (a, b) ↦ let e : p + 1 + 1 ≡ p + 2 = omega arith in rw e at (whole_after text (p + 1) u b)
-      | inr (a, b) ↦ whole_nel text p u a b
-    ]
+behind_two h0 p u h = grind (arith, nat_tests, two_is, whole_after, whole_nel)
 
 behind_three : (text : List ℕ) (p : ℕ) → IsUtf8 text → break_width text p ≡ 3 → IsWhole text (p + 3)
-behind_three text p u h =
-    let (a, last) = three_is (byte text p) (byte text (p + 1)) (byte text (p + 2)) h in
-    elim last [
-      | inl e ↦ whole_mark text p 0xE2 0x80 0xA8 0x2028 u a.0 a.1 e (omega arith) (omega arith) ls_char
-      | inr e ↦ whole_mark text p 0xE2 0x80 0xA9 0x2029 u a.0 a.1 e (omega arith) (omega arith) ps_char
-    ]
+behind_three h0 p u h = grind (arith, nat_tests, three_is, whole_mark, ls_char, ps_char)
 
 -- after a break, if one is there
 pub whole_behind : (text : List ℕ) (p : ℕ) → IsUtf8 text → 0 < break_width text p
     → IsWhole text (p + break_width text p)
-whole_behind text p u h =
-    elim (widths (byte text p) (byte text (p + 1)) (byte text (p + 2))) [
-      | inl z ↦ absurd (omega (arith, z))
-      | inr (inl z) ↦ rw z (behind_one text p u z)
-      | inr (inr (inl z)) ↦ rw z (behind_two text p u z)
-      | inr (inr (inr z)) ↦ rw z (behind_three text p u z)
-    ]
+whole_behind h0 p u h = grind (arith, nat_tests, widths, behind_one, behind_two, behind_three)
 
 break_begins : (b c d : ℕ) → 0 < break_of b c d → Begins b
 unfolding break_of
@@ -145,24 +130,12 @@ ends_is x y b c h = grind (arith, nat_tests)
 -- the byte before a place that is not the first
 before_nel : (text : List ℕ) (p : ℕ) → IsUtf8 text → byte text p ≡ 0x85 → byte text (p - 1) ≡ 0xC2
     → IsWhole text (p + 1)
-before_nel text zero u b y = absurd (omega (arith, b, y))
-before_nel text (suc p) u b y =
-    let e : suc p ≡ p + 1 = omega arith in
-    let f : suc p - 1 ≡ p = omega arith in
-    let g : suc p + 1 ≡ p + 2 = omega arith in
-    rw g (whole_nel text p u (rw f at y) (rw e at b))
+before_nel h0 p u b y = grind (arith, nat_tests, whole_nel)
 
 before_mark : (text : List ℕ) (p b c : ℕ) → IsUtf8 text → byte text p ≡ b → 0 < b
     → byte text (p - 1) ≡ 0x80 → byte text (p - 2) ≡ 0xE2
     → 0xE2 ∷ 0x80 ∷ b ∷ [] ≡ encode_utf8 c → IsWhole text (p + 1)
-before_mark text zero b c u e some y x same = absurd (omega (arith, y, x))
-before_mark text (suc zero) b c u e some y x same = absurd (omega (arith, y, x))
-before_mark text (suc (suc p)) b c u e some y x same =
-    let i : suc (suc p) ≡ p + 2 = omega arith in
-    let f : suc (suc p) - 1 ≡ p + 1 = omega arith in
-    let g : suc (suc p) - 2 ≡ p = omega arith in
-    let h : suc (suc p) + 1 ≡ p + 3 = omega arith in
-    rw h (whole_mark text p 0xE2 0x80 b c u (rw g at x) (rw f at y) (rw i at e) some (omega arith) same)
+before_mark h0 p b c u e some y x same = grind (arith, nat_tests, whole_mark)
 
 ends_whole : (text : List ℕ) (p : ℕ) → IsUtf8 text → ends_break text p ≡ true → IsWhole text (p + 1)
 ends_whole text p u h =
@@ -204,8 +177,7 @@ pub cut : (xs ys : List ℕ) → IsUtf8 (xs ++ ys) → IsUtf8 ys → IsUtf8 xs
 cut xs ys u v = rw (take_at xs ys (length xs) refl) at (IsUtf8-take (xs ++ ys) (length xs) u (IsCharBoundary-at_seam (xs ++ ys) xs ys refl v))
 
 ascii_list : (b : ℕ) → b < 128 → IsAscii (b ∷ [])
-ascii_list b h zero = h
-ascii_list b h (suc i) = omega arith
+ascii_list b h h2 = grind (arith, nat_tests)
 
 pub ascii_utf8 : (b : ℕ) → b < 128 → IsUtf8 (b ∷ [])
 ascii_utf8 b h = IsUtf8-from_ascii (b ∷ []) (ascii_list b h)

@@ -1,6 +1,6 @@
 -- The law of windows, for a scanner.
-use Rattle.std.proofs.Common.{◌≡◌, ℕ, ◌-◌, true, List, [], ◌∷◌, ◌++◌, map, length, Option, None, option_map, refl, sym, ap, ◌∙◌, add-zero}
-use Rattle.yaml_scan_laws.proofs.Shared.{append-nil, append_assoc, flat_map, yaml_encoding_t, yaml_mark_t, stream_start, document_start, stream_end, Token, TokenBody, Fault, line_at, mark_at, is_document_start, Kind, flow_depth, candidate, open_levels, finished_tokens, lexeme_at, Next, Read, Fails, Ends, first_lexeme, next, SpelledText, body_by, token_in, spell, all, fault_in, Remaining, offline, all_ends, IsCut, moved_mark, moved_token, moved_fault, moved_next, scan_of, WindowsAreScanned, joined, fault_next}
+use Rattle.std.proofs.Common.{◌≡◌, ℕ, ◌-◌, true, List, [], ◌∷◌, ◌++◌, map, length, Option, None, option_map, refl, sym, ap, ◌∙◌, add-zero, arith}
+use Rattle.yaml_scan_laws.proofs.Shared.{nat_tests, append-nil, append_assoc, flat_map, yaml_encoding_t, yaml_mark_t, stream_start, document_start, stream_end, Token, TokenBody, Fault, line_at, mark_at, is_document_start, Kind, flow_depth, candidate, open_levels, finished_tokens, lexeme_at, Next, first_lexeme, next, SpelledText, body_by, token_in, spell, all, fault_in, Remaining, offline, all_ends, IsCut, moved_mark, moved_token, moved_fault, moved_next, scan_of, WindowsAreScanned, joined, fault_next}
 use Rattle.yaml_scan_history.specs.declared.kind.Kind.TheVariants as kinds
 use Rattle.yaml_scan_laws.proofs.Turning.{IsMark, mark_lexeme, MarkStands, mark_stands, mark_there, start_stands}
 use Rattle.yaml_scan_laws.proofs.Rests.{rest_base, whole_base, rest_begins, rest_bases, rest_ground, rest_marks, whole}
@@ -36,9 +36,7 @@ mark_token x a b cut m =
 
 pub fault_moved : (d n : ℕ) (y : Next)
     → fault_in (moved_next d n y) ≡ option_map (moved_fault d n) (fault_in y)
-fault_moved d n (Read l) = refl
-fault_moved d n (Fails p) = refl
-fault_moved d n Ends = refl
+fault_moved d n y = grind (arith, nat_tests)
 
 pub made : (r : Remaining) (ts : List Token) (f : Option Fault) → r.tokens ≡ ts → r.fault ≡ f
     → r ≡ record { tokens = ts; fault = f }
@@ -107,9 +105,7 @@ windows_are_scanned x a b cut none outer front last are first behind come =
 -- The tokens of a text without fault are those of its lexemes.
 pub ended_told : (s : SpelledText) → (offline s).fault ≡ None
     → (offline s).tokens ≡ flat_map (spell s) (finished_tokens (all s.text))
-ended_told s none =
-    let over = fault_none (next s.text (all s.text)) (sym (fault_next s) ∙ none) (all_ends s.text) in
-    offline_told s ∙ ap (λ z. told s z (all s.text)) over ∙ append-nil (flat_map (spell s) (finished_tokens (all s.text)))
+ended_told s none = grind (arith, nat_tests, fault_none, fault_next, all_ends, offline_told, append-nil)
 
 -- ---- the tokens at the cut
 

@@ -1,6 +1,6 @@
 -- Lexemes of every kind end after their start, inside the text.
-use Rattle.std.proofs.Common.{◌≡◌, ℕ, ◌+◌, ◌<◌, ◌≤◌, ◌==◌, ◌&&◌, ◌||◌, not, Bool, true, false, if◌then◌else◌, List, length, Option, Some, None, Result, Ok, Err, refl, subst, inl, inr, arith}
-use Rattle.yaml_scan_laws.proofs.Words.{cases_Bool, and_parts, eqb-true, true≢false, nat_tests, yaml_scalar_style_t, TokenBody, byte, column_at, is_blank_or_end, Wrong, within, behind_bytes, anchor_at, TagText, tag_end, tag_at, ValueText, value_end, value_at, line_place, line_end_at, with_line, Lands, line_end_place, anchor_place, tag_place, value_place, double_quoted_at, single_quoted_at, PlainText, starts_plain, plain_at, BlockText, block_at, style_at, Kind, is_end, indicator_of, or_plain, kind_at, WordText, carrying, valued, tagged, directed, blocked, plainly, lexeme_at}
+use Rattle.std.proofs.Common.{◌≡◌, ℕ, ◌+◌, ◌<◌, ◌≤◌, ◌==◌, ◌&&◌, Bool, true, false, if◌then◌else◌, List, length, Option, Some, None, Result, Ok, Err, subst, arith}
+use Rattle.yaml_scan_laws.proofs.Words.{and_parts, eqb-true, true≢false, nat_tests, yaml_scalar_style_t, TokenBody, byte, column_at, is_blank_or_end, Wrong, within, behind_bytes, anchor_at, TagText, tag_end, tag_at, ValueText, value_end, value_at, line_place, with_line, Lands, line_end_place, anchor_place, tag_place, value_place, double_quoted_at, single_quoted_at, PlainText, plain_at, BlockText, block_at, style_at, Kind, is_end, indicator_of, or_plain, kind_at, WordText, carrying, valued, tagged, directed, blocked, plainly, lexeme_at}
 use Rattle.yaml_scan_history.specs.scan_model.declared.name.yaml_scalar_style_t.TheVariants as styles
 use Rattle.yaml_scan_history.specs.scan_model.declared.problem.Context.TheVariants as contexts
 use Rattle.yaml_scan_history.specs.scan_types.Tokens as tokens
@@ -52,8 +52,7 @@ OfAny P (Some k) = P k
 
 pick : (P : Kind → Type 0) (test : Bool) (k : Kind) (rest : Option Kind) → (test ≡ true → P k)
     → OfAny P rest → OfAny P (if test then Some k else rest)
-pick P true k rest f g = f refl
-pick P false k rest f g = g
+pick P test k rest f g = grind (arith, nat_tests)
 
 both_is : (b n : ℕ) (other : Bool) → (b == n && other) ≡ true → b ≡ n
 both_is b n other h = eqb-true b n (and_parts (b == n) other h).0
@@ -65,9 +64,7 @@ indicator_tells flow alone text p = grind (arith, nat_tests, pick, both_is)
 
 plain_tells : (o : Option Kind) (starts : Bool) (text : List ℕ) (p : ℕ) → 0 < byte text p
     → OfAny (Tells text p) o → OfAny (Tells text p) (or_plain o starts)
-plain_tells (Some k) starts text p l f = f
-plain_tells None true text p l f = l
-plain_tells None false text p l f = tt
+plain_tells o starts text p l f = grind (arith, nat_tests)
 
 kind_tells : (flow : Bool) (text : List ℕ) (p : ℕ) → OfAny (Tells text p) (kind_at flow text p)
 unfolding kind_at
@@ -76,8 +73,7 @@ kind_tells flow text p = grind (arith, nat_tests, pick, both_is, plain_tells, so
 tells_any : (P : Kind → Type 0) (text : List ℕ) (p : ℕ) (o : Option Kind)
     → ((k : Kind) → Tells text p k → P k)
     → OfAny (Tells text p) o → OfAny P o
-tells_any P text p None f t = tt
-tells_any P text p (Some k) f t = f k t
+tells_any P text p o f t = grind (arith, nat_tests)
 
 -- what the text says of a kind holds of the one that is there
 pub kind_is : (P : Kind → Type 0) (flow : Bool) (text : List ℕ) (p : ℕ)
@@ -135,33 +131,27 @@ indicator_lands text p q body f l = record { end = f; place = omega arith; insid
 
 valued_lands : (text : List ℕ) (p : ℕ) (f : List ℕ → TokenBody) (r : Result (List ℕ × ℕ) Wrong)
     → Lands behind_bytes text (p + 1) r → LandsWord text p (valued f r)
-valued_lands text p f (Ok x) h = record { end = omega (arith, h.forward); place = omega arith; inside = h.inside }
-valued_lands text p f (Err w) h = tt
+valued_lands text p f r h = grind (arith, nat_tests)
 
 tagged_lands : (text : List ℕ) (p : ℕ) (r : Result TagText Wrong) → Lands tag_end text (p + 1) r
     → LandsWord text p (tagged r)
-tagged_lands text p (Ok t) h = record { end = omega (arith, h.forward); place = omega arith; inside = h.inside }
-tagged_lands text p (Err w) h = tt
+tagged_lands text p r h = grind (arith, nat_tests)
 
 plainly_lands : (text : List ℕ) (p : ℕ) (r : Result PlainText Wrong) → LandsPlain text (p + 1) r
     → LandsWord text p (plainly r)
-plainly_lands text p (Ok x) h = record { end = omega (arith, h.end); place = h.place; inside = h.inside }
-plainly_lands text p (Err w) h = tt
+plainly_lands text p r h = grind (arith, nat_tests)
 
 blocked_lands : (text : List ℕ) (p : ℕ) (style : yaml_scalar_style_t) (r : Result BlockText Wrong)
     → LandsBlock text (p + 1) r → LandsWord text p (blocked style r)
-blocked_lands text p style (Ok x) h = record { end = omega (arith, h.end); place = h.place; inside = h.inside }
-blocked_lands text p style (Err w) h = tt
+blocked_lands text p style r h = grind (arith, nat_tests)
 
 line_lands : (text : List ℕ) (p : ℕ) (v : ValueText) (r : Result ℕ Wrong) → p < v.end
     → Lands line_place text v.end r → LandsWord text p (directed (with_line v r))
-line_lands text p v (Ok q) f h = record { end = f; place = h.forward; inside = h.inside }
-line_lands text p v (Err w) f h = tt
+line_lands text p v r f h = grind (arith, nat_tests)
 
 finished_lands : (text : List ℕ) (p : ℕ) (r : Result ValueText Wrong)
     → Lands value_end text (p + 1) r → LandsWord text p (directed (finished text r))
-finished_lands text p (Ok v) h = line_lands text p v (line_end_at text v.end) (omega (arith, h.forward)) (line_end_place text v.end h.inside)
-finished_lands text p (Err w) h = tt
+finished_lands text p r h = grind (arith, nat_tests, line_lands, line_end_place)
 
 -- what is read where its kind is ends after its start, the stream's end aside
 pub word_lands : (k : Kind) (flow : Bool) (level : ℕ) (text : List ℕ) (p : ℕ) → is_end k ≡ false
